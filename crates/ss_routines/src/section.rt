@@ -1,0 +1,37 @@
+use crate::place::Spot;
+use std::marker::Model;
+
+/// What a section is.
+#[derive(Clone, Copy, Debug, PartialEq, Eq)]
+pub enum SectionKind {
+    Main,
+}
+
+/// A section: its head and the list of its places, of which END is the last.
+#[derive(Debug, Drop)]
+pub struct Section {
+    /// The line of the head's first plain word.
+    pub line: usize,
+    pub kind: SectionKind,
+    /// In upper case; that of the main section is `MAIN`.
+    pub name: Vec<u8>,
+    pub parameters: Vec<Vec<u8>>,
+    pub places: Vec<Spot>,
+}
+
+/// The sections of a program, in order. Contracts see the list of them as pure data.
+#[derive(Debug, Drop)]
+pub struct Sections {
+    pub list: Vec<Section>,
+}
+
+impl Model for Sections {
+    ghost use Rattle.std.specs.Prelude.{List};
+    ghost use Rattle.ss_routines.specs.Places as places;
+
+    ghost Value = { List places.Section };
+
+    ghost use Rattle.ss_routines.specs.View.{sections_view};
+
+    ghost view = { λ a. sections_view a.list.items };
+}
