@@ -2,11 +2,11 @@
 use Rattle.std.specs.Prelude.{ℕ, List, [], ◌∷◌, map, Option, Some, None}
 use Rattle.ss_words.specs.Reading.{prepend}
 use Rattle.ss_routines.specs.declared.expr.TermSign.{TermSign}
-use Rattle.ss_routines.specs.declared.ast.Expr.{Expr as CodeExpr, fold-Expr}
-use Rattle.ss_routines.specs.declared.ast.Term.{Term as CodeTerm, fold-Term}
-use Rattle.ss_routines.specs.declared.ast.Added.{Added as CodeAdded, fold-Added}
-use Rattle.ss_routines.specs.declared.ast.Factor.{Factor as CodeFactor, fold-Factor}
-use Rattle.ss_routines.specs.declared.ast.Factor.TheOpen.{Factor-F, Added-F, Expr-F, Term-F}
+use Rattle.ss_routines.specs.declared.expr.Expr.{Expr as CodeExpr, fold-Expr}
+use Rattle.ss_routines.specs.declared.expr.Term.{Term as CodeTerm, fold-Term}
+use Rattle.ss_routines.specs.declared.expr.Added.{Added as CodeAdded, fold-Added}
+use Rattle.ss_routines.specs.declared.expr.Factor.{Factor as CodeFactor, fold-Factor}
+use Rattle.ss_routines.specs.declared.expr.Factor.TheOpen.{Factor-F, Added-F, Expr-F, Term-F}
 use Rattle.ss_routines.specs.declared.place.Reference.{Reference as CodeReference}
 use Rattle.ss_routines.specs.declared.place.Assign.{Assign as CodeAssign}
 use Rattle.ss_routines.specs.declared.place.Assign.TheVariants as a
@@ -18,6 +18,7 @@ use Rattle.ss_routines.specs.declared.place.Place.{Place as CodePlace}
 use Rattle.ss_routines.specs.declared.place.Place.TheVariants as p
 use Rattle.ss_routines.specs.declared.place.Spot.{Spot as CodeSpot}
 use Rattle.ss_routines.specs.declared.section.Section.{Section as CodeSection}
+use Rattle.ss_routines.specs.declared.section.Sections.{Sections}
 use Rattle.ss_routines.specs.Expr.{Expr, expr, Sums, no_sums, sum, Term, term, Products, no_products, product, Factor, digits, variable, within}
 use Rattle.ss_routines.specs.Places.{Reference, Assign, lets, adds, subtracts, Output, prints, Control, stops, ends, Place, assign, output, control, Spot, Section}
 
@@ -83,5 +84,6 @@ spots xs = map spot_view xs
 abbrev pub section_view : CodeSection → Section
 section_view s = record { line = s.line; kind = s.kind; name = s.name.items; parameters = map (λ n. n.items) s.parameters.items; places = spots s.places.items }
 
-abbrev pub sections_view : List CodeSection → List Section
-sections_view xs = map section_view xs
+-- the sections as pure data
+abbrev pub sections_of : Sections → List Section
+sections_of s = map section_view s.list.items

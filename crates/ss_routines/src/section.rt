@@ -1,5 +1,4 @@
 use crate::place::Spot;
-use std::marker::Model;
 
 /// What a section is.
 #[derive(Clone, Copy, Debug, PartialEq, Eq)]
@@ -19,19 +18,8 @@ pub struct Section {
     pub places: Vec<Spot>,
 }
 
-/// The sections of a program, in order. Contracts see the list of them as pure data.
+/// The sections of a program, in order. Contracts speak of them as pure data, by `sections_of` of specs/View.
 #[derive(Debug, Drop)]
 pub struct Sections {
     pub list: Vec<Section>,
-}
-
-impl Model for Sections {
-    ghost use Rattle.std.specs.Prelude.{List};
-    ghost use Rattle.ss_routines.specs.Places as places;
-
-    ghost Value = { List places.Section };
-
-    ghost use Rattle.ss_routines.specs.View.{sections_view};
-
-    ghost view = { λ a. sections_view a.list.items };
 }
