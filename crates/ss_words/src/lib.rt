@@ -4,11 +4,13 @@
 mod fault;
 mod mark;
 mod plain_word;
+mod refusal;
 mod reserved;
 mod word;
 
 pub use fault::{RunFault, StepFault, TextFault, TextRule};
 pub use mark::Mark;
 pub use plain_word::{Plain, PlainWord};
+pub use refusal::Refusal;
 pub use reserved::Reserved;
 pub use word::{Sign, Word, WordKind, Words};

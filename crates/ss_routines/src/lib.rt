@@ -1,0 +1,10 @@
+//! The sections of a program: their grammar, their trees and the flat lists of their places.
+#![tactic(auto)]
+
+mod expr;
+mod place;
+mod section;
+
+pub use expr::{Added, Expr, Factor, Term, TermSign};
+pub use place::{Assign, Control, Output, Place, Reference, Spot};
+pub use section::{Section, SectionKind, Sections};
