@@ -1,0 +1,37 @@
+-- Plain words without where they lie in memory.
+use Rattle.std.specs.Prelude.{ℕ, List, [], ◌∷◌, map, Option, Some, None}
+use Rattle.ss_words.specs.declared.mark.Mark.{Mark}
+use Rattle.ss_words.specs.declared.plain_word.Plain.{Plain as Code}
+use Rattle.ss_words.specs.declared.plain_word.Plain.TheVariants as c
+use Rattle.ss_words.specs.declared.plain_word.PlainWord.{PlainWord}
+
+-- a name that is not reserved, a number, a reserved word or sign, or the lines of a picture
+pub data Plain : Type 0 where
+  name : List ℕ → Plain
+  number : ℕ → Plain
+  mark : Mark → Plain
+  picture : List (List ℕ) → Plain
+
+-- a plain word with its line and the place of its word in the list of words, from 0
+pub record PlainAt : Type 0 where
+  pub line : ℕ
+  pub index : ℕ
+  pub word : Plain
+
+abbrev pub plain_of : Code → Plain
+plain_of (c.Name n) = name n.items
+plain_of (c.Number n) = number n
+plain_of (c.Mark m) = mark m
+plain_of (c.Picture ls) = picture (map (λ l. l.items) ls.items)
+
+abbrev pub plain_at : PlainWord → PlainAt
+plain_at a = record { line = a.line; index = a.index; word = plain_of a.kind }
+
+-- the words alone
+abbrev pub plains : List PlainAt → List Plain
+plains ws = map (λ w. w.word) ws
+
+-- the next word, or none at the text's end
+abbrev pub first : List Plain → Option Plain
+first [] = None
+first (w ∷ ws) = Some w

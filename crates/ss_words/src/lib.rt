@@ -1,0 +1,14 @@
+//! The words of a model's text, its plain words, and what its refusals and faults are called.
+#![tactic(auto)]
+
+mod fault;
+mod mark;
+mod plain_word;
+mod reserved;
+mod word;
+
+pub use fault::{RunFault, StepFault, TextFault, TextRule};
+pub use mark::Mark;
+pub use plain_word::{Plain, PlainWord};
+pub use reserved::Reserved;
+pub use word::{Sign, Word, WordKind, Words};

@@ -1,0 +1,21 @@
+use crate::mark::Mark;
+
+/// What a plain word is (docs/LANGUAGE.md, "Plain words").
+#[derive(Debug, Drop)]
+pub enum Plain {
+    /// A name that is no reserved word, in upper case.
+    Name(Vec<u8>),
+    /// From 0 to 2^63 - 1.
+    Number(u64),
+    Mark(Mark),
+    /// The lines of a picture.
+    Picture(Vec<Vec<u8>>),
+}
+
+/// A plain word, the line on which it stands, and the place of the word from which it comes in the list of words.
+#[derive(Debug, Drop)]
+pub struct PlainWord {
+    pub line: usize,
+    pub index: usize,
+    pub kind: Plain,
+}
