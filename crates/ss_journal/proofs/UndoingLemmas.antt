@@ -64,7 +64,7 @@ past-Kept fits unapply state_at (step ∷ earlier) s kept =
     let before = unapply_all unapply step s in
     let first : past unapply before earlier ≡ map state_at (range_with_len 0 n) = past-Kept fits unapply state_at earlier before kept.2 in
     let more : map state_at (range_with_len 0 (n + 1)) ≡ map state_at (range_with_len 0 n) ++ state_at n ∷ [] =
-        map-range_with_len_more state_at 0 n n (omega arith) in
+    map-range_with_len_more state_at 0 n n (omega arith) in
     rw (first, kept.1) (rw add-one at (sym more))
 
 -- a step that fits and leads back to the last state is kept
@@ -75,82 +75,87 @@ Kept-close fits unapply state_at s s' step earlier kept here fit back =
     (fit, back ∙ here, subst (Kept fits unapply state_at earlier) (sym back) kept)
 
 -- work that does nothing
-pub goes_on-none : {S C : Type 0} (fits : C → S → Type 0) (unapply : C → S → S) (s : S) (j : Log C) → GoesOn fits unapply 0 s j s j
-goes_on-none fits unapply s j = record {
-  origin = refl; fitting = λ fit. fit; steps = refl; closes = omega arith; noted = omega arith; room = omega arith
+pub GoesOn-none : {S C : Type 0} (fits : C → S → Type 0) (unapply : C → S → S) (s : S) (j : Log C) → GoesOn fits unapply 0 s j s j
+GoesOn-none fits unapply s j = record {
+  origin = refl;
+  fitting = λ fit. fit;
+  steps = refl;
+  closes = omega arith;
+  noted = omega arith;
+  room = omega arith;
 }
 
 -- work that makes room alone
-pub goes_on-reserve : {S C : Type 0} (fits : C → S → Type 0) (unapply : C → S → S) (s : S) (j j' : Log C) →
+pub GoesOn-reserve : {S C : Type 0} (fits : C → S → Type 0) (unapply : C → S → S) (s : S) (j j' : Log C) →
     j'.steps ≡ j.steps → j'.current ≡ j.current → j.notes ≤ j'.notes → j.closes ≤ j'.closes → GoesOn fits unapply 0 s j s j'
-goes_on-reserve fits unapply s j j' steps current notes closes = record {
+GoesOn-reserve fits unapply s j j' steps current notes closes = record {
   origin = ap (λ (cs : List _). unapply_all unapply cs s) current;
   fitting = λ fit. subst (λ (cs : List _). FitsAll fits unapply cs s) (sym current) fit;
   steps = steps;
   closes = closes;
   noted = omega (arith, ap length current);
-  room = omega arith
+  room = omega arith;
 }
 
 -- one noted change, which fits and leads back to the state before
-pub goes_on-note : {S C : Type 0} (fits : C → S → Type 0) (unapply : C → S → S) (c : C) (s s' : S) (j j' : Log C) →
+pub GoesOn-note : {S C : Type 0} (fits : C → S → Type 0) (unapply : C → S → S) (c : C) (s s' : S) (j j' : Log C) →
     fits c s' → unapply c s' ≡ s →
     j'.steps ≡ j.steps → j'.current ≡ c ∷ j.current → j'.notes + 1 ≡ j.notes → j'.closes ≡ j.closes → GoesOn fits unapply 1 s j s' j'
-goes_on-note fits unapply c s s' j j' fit back steps current notes closes = record {
+GoesOn-note fits unapply c s s' j j' fit back steps current notes closes = record {
   origin = ap (λ (cs : List _). unapply_all unapply cs s') current ∙ ap (unapply_all unapply j.current) back;
   fitting = λ before. subst (λ (cs : List _). FitsAll fits unapply cs s') (sym current) (fit, subst (FitsAll fits unapply j.current) (sym back) before);
   steps = steps;
   closes = omega (arith, closes);
   noted = omega (arith, ap length current);
-  room = omega (arith, notes)
+  room = omega (arith, notes);
 }
 
 -- one piece of work after another
-pub goes_on-both : {S C : Type 0} (fits : C → S → Type 0) (unapply : C → S → S) (n m : ℕ) (s s' s'' : S) (j j' j'' : Log C) →
+pub GoesOn-both : {S C : Type 0} (fits : C → S → Type 0) (unapply : C → S → S) (n m : ℕ) (s s' s'' : S) (j j' j'' : Log C) →
     GoesOn fits unapply n s j s' j' → GoesOn fits unapply m s' j' s'' j'' → GoesOn fits unapply (n + m) s j s'' j''
-goes_on-both fits unapply n m s s' s'' j j' j'' first second = record {
+GoesOn-both fits unapply n m s s' s'' j j' j'' first second = record {
   origin = second.origin ∙ first.origin;
   fitting = λ fit. second.fitting (first.fitting fit);
   steps = second.steps ∙ first.steps;
   closes = omega (arith, first.closes, second.closes);
   noted = omega (arith, first.noted, second.noted);
-  room = omega (arith, first.room, second.room)
+  room = omega (arith, first.room, second.room);
 }
 
 -- at most n is at most m, where n is not above m
-pub goes_on-more : {S C : Type 0} (fits : C → S → Type 0) (unapply : C → S → S) (n m : ℕ) (s s' : S) (j j' : Log C) →
+pub GoesOn-more : {S C : Type 0} (fits : C → S → Type 0) (unapply : C → S → S) (n m : ℕ) (s s' : S) (j j' : Log C) →
     n ≤ m → GoesOn fits unapply n s j s' j' → GoesOn fits unapply m s j s' j'
-goes_on-more fits unapply n m s s' j j' below work = record {
+GoesOn-more fits unapply n m s s' j j' below work = record {
   origin = work.origin;
   fitting = work.fitting;
   steps = work.steps;
   closes = work.closes;
   noted = omega (arith, work.noted);
-  room = omega (arith, work.room)
+  room = omega (arith, work.room);
 }
 
 -- work that began with an empty open step can be taken back to its beginning
-pub goes_on-origin : {S C : Type 0} (fits : C → S → Type 0) (unapply : C → S → S) (n : ℕ) (s s' : S) (j j' : Log C) →
+pub GoesOn-origin : {S C : Type 0} (fits : C → S → Type 0) (unapply : C → S → S) (n : ℕ) (s s' : S) (j j' : Log C) →
     j.current ≡ [] → GoesOn fits unapply n s j s' j' → unapply_all unapply j'.current s' ≡ s
-goes_on-origin fits unapply n s s' j j' none work = work.origin ∙ ap (λ (cs : List _). unapply_all unapply cs s) none
+GoesOn-origin fits unapply n s s' j j' none work = work.origin ∙ ap (λ (cs : List _). unapply_all unapply cs s) none
 
 -- and all that it noted fits
-pub goes_on-fitting : {S C : Type 0} (fits : C → S → Type 0) (unapply : C → S → S) (n : ℕ) (s s' : S) (j j' : Log C) →
+pub GoesOn-fitting : {S C : Type 0} (fits : C → S → Type 0) (unapply : C → S → S) (n : ℕ) (s s' : S) (j j' : Log C) →
     j.current ≡ [] → GoesOn fits unapply n s j s' j' → FitsAll fits unapply j'.current s'
-goes_on-fitting fits unapply n s s' j j' none work = work.fitting (subst (λ (cs : List _). FitsAll fits unapply cs s) (sym none) tt)
+GoesOn-fitting fits unapply n s s' j j' none work = work.fitting (subst (λ (cs : List _). FitsAll fits unapply cs s) (sym none) tt)
 
 -- such work, closed, puts the state before it at the end of the past
-pub past-goes_on : {S C : Type 0} (fits : C → S → Type 0) (unapply : C → S → S) (n : ℕ) (s s' : S) (j j' : Log C) →
+pub past-GoesOn : {S C : Type 0} (fits : C → S → Type 0) (unapply : C → S → S) (n : ℕ) (s s' : S) (j j' : Log C) →
     j.current ≡ [] → GoesOn fits unapply n s j s' j' → past unapply s' (j'.current ∷ j'.steps) ≡ past unapply s j.steps ++ s ∷ []
-past-goes_on fits unapply n s s' j j' none work =
-    past-close unapply s s' j'.current j'.steps (goes_on-origin fits unapply n s s' j j' none work)
+past-GoesOn fits unapply n s s' j j' none work =
+    past-close unapply s s' j'.current j'.steps (GoesOn-origin fits unapply n s s' j j' none work)
     ∙ ap (λ (steps : List (List _)). past unapply s steps ++ s ∷ []) work.steps
 
 -- and is kept, where the state before it was the last one
-pub Kept-goes_on : {S C : Type 0} (fits : C → S → Type 0) (unapply : C → S → S) (state_at : ℕ → S) (n : ℕ) (s s' : S) (j j' : Log C) →
+pub Kept-GoesOn : {S C : Type 0} (fits : C → S → Type 0) (unapply : C → S → S) (state_at : ℕ → S) (n : ℕ) (s s' : S) (j j' : Log C) →
     Kept fits unapply state_at j.steps s → s ≡ state_at (length j.steps) →
     j.current ≡ [] → GoesOn fits unapply n s j s' j' → Kept fits unapply state_at (j'.current ∷ j'.steps) s'
-Kept-goes_on fits unapply state_at n s s' j j' kept here none work =
+Kept-GoesOn fits unapply state_at n s s' j j' kept here none work =
     let closed : Kept fits unapply state_at (j'.current ∷ j.steps) s' =
-        Kept-close fits unapply state_at s s' j'.current j.steps kept here (goes_on-fitting fits unapply n s s' j j' none work) (goes_on-origin fits unapply n s s' j j' none work) in
+    Kept-close fits unapply state_at s s' j'.current j.steps kept here (GoesOn-fitting fits unapply n s s' j j' none work) (GoesOn-origin fits unapply n s s' j j' none work) in
     subst (λ (steps : List (List _)). Kept fits unapply state_at (j'.current ∷ steps) s') (sym work.steps) closed

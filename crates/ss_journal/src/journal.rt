@@ -24,10 +24,10 @@ impl<C> Model for Journal<C> {
     ghost Value = { Log C };
 
     ghost view = { λ a. record {
-        steps = pieces (reverse a.sizes.items) (drop a.unclosed (reverse a.changes.items));
-        current = take a.unclosed (reverse a.changes.items);
-        notes = vec_capacity a.changes - vec_len a.changes;
-        closes = vec_capacity a.sizes - vec_len a.sizes
+      steps = pieces (reverse a.sizes.items) (drop a.unclosed (reverse a.changes.items));
+      current = take a.unclosed (reverse a.changes.items);
+      notes = vec_capacity a.changes - vec_len a.changes;
+      closes = vec_capacity a.sizes - vec_len a.sizes;
     } };
 
     ghost invariant = { λ a. a.unclosed + sum a.sizes.items ≡ vec_len a.changes };

@@ -6,10 +6,9 @@
 #![tactic(auto)]
 
 mod journal;
-mod undo;
-
 #[cfg(test)]
 mod tests;
+mod undo;
 
 pub use journal::Journal;
 pub use undo::{Undo, roll_back};

@@ -12,7 +12,7 @@ invariant-loop-change g l =
       fit : FitsAll fits unapply l.journal.current l.target;
       steps : l.journal.steps ≡ l.initial.journal.steps;
       notes : l.journal.notes + length l.journal.current ≡ l.initial.journal.notes + length l.initial.journal.current;
-      closes : l.journal.closes ≡ l.initial.journal.closes
+      closes : l.journal.closes ≡ l.initial.journal.closes;
     }
 
 abbrev pub decreases-loop-change : goal.decreases-loop-change
