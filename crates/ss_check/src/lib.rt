@@ -2,6 +2,7 @@
 #![tactic(auto)]
 
 mod expr;
+mod fault;
 mod kinds;
 mod name;
 mod place;
@@ -12,6 +13,7 @@ mod tables;
 mod variable;
 
 pub use expr::{Expr, Values};
+pub use fault::{CheckFault, CheckRule};
 pub use kinds::{ClassKind, Discipline};
 pub use name::Name;
 pub use place::{Assign, Control, Output, Place, Spot};
