@@ -1,0 +1,12 @@
+//! What a model prints: pictures with values in their fields, and the report that they are appended to.
+#![tactic(auto)]
+
+mod append;
+mod picture;
+mod piece;
+mod report;
+#[cfg(test)]
+mod tests;
+
+pub use picture::{Picture, PictureFault};
+pub use report::Report;
