@@ -37,10 +37,11 @@ place_statement s = record {
   line = s.line;
   breaks = broken WrongCount (lacks_arguments s.place) ++ broken FixedTarget (assigns_fixed s.place) ++ broken WrongPicture (has_wrong_picture s.place) }
 
+abbrev pub is_main_kind : SectionKind → Bool
+is_main_kind Main = true
+
 abbrev pub is_main_section : Section → Bool
-is_main_section s = is_main_kind s.kind where
-  abbrev is_main_kind : SectionKind → Bool
-  is_main_kind Main = true
+is_main_section s = is_main_kind s.kind
 
 -- C11 at a head: a second MAIN
 abbrev pub head_statement : Bool → Section → Statement
