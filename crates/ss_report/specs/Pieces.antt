@@ -1,5 +1,5 @@
 -- The lines that the pieces of a compiled picture stand for.
-use Rattle.std.specs.Prelude.{ℕ, ◌+◌, List, [], ◌∷◌, ◌++◌, map, replicate, length, sum_by}
+use Rattle.std.specs.Prelude.{ℕ, ◌+◌, Bool, true, false, List, [], ◌∷◌, ◌++◌, map, replicate, length, sum_by}
 use Rattle.std.specs.List.{flat_map}
 use Rattle.ss_report.specs.Pictures.{Part, field, byte, line_end}
 use Rattle.ss_report.specs.declared.piece.Piece.{Piece}
@@ -11,7 +11,13 @@ piece_parts (p.Text t) = map (λ b. byte b) t.items
 piece_parts (p.Field n) = field n ∷ []
 piece_parts p.LineEnd = line_end ∷ []
 
--- those of pieces, in order
+-- whether a piece is a field
+abbrev pub is_field_piece : Piece → Bool
+is_field_piece (p.Text t) = false
+is_field_piece (p.Field n) = true
+is_field_piece p.LineEnd = false
+
+-- the parts of pieces, in order
 abbrev pub parts_of : List Piece → List Part
 parts_of ps = flat_map piece_parts ps
 

@@ -1,4 +1,5 @@
 ghost use Rattle.std.specs.Prelude.{◌≡◌, ℤ, ◌+◌, ◌≤◌, ◌↔◌, ◌++◌, [], List, length, map, min, IfOk, IsTrue, vec_len, vec_capacity};
+ghost use Rattle.std.specs.List.{list_any};
 ghost use Rattle.ss_report.specs.Pictures.{field_count, has_decimal, has_decimal_field, picture_text};
 
 use crate::piece::{Piece, count_fields, pieces_of, text_len, write_pieces};
@@ -72,7 +73,7 @@ impl Picture {
         ensures decimal_field { (result ≡ Err PictureFault.DecimalField)
             ↔ IsTrue (has_decimal_field (map (λ l. l.items) lines.items)) }
     {
-        if lines.iter().any(|line| is_decimal(line)) {
+        if is_any_decimal(&lines) {
             return Err(PictureFault::DecimalField);
         }
         let pieces = pieces_of(alloc, &lines)?;
@@ -109,6 +110,13 @@ impl Picture {
     {
         write_pieces(bytes, &self.pieces, values);
     }
+}
+
+/// Whether a stop stands directly between two asterisks of a line.
+fn is_any_decimal(lines: &[Vec<u8>]) -> bool
+    ensures { result ≡ list_any (λ l. has_decimal l.items) lines.now }
+{
+    lines.iter().any(|line| is_decimal(line))
 }
 
 /// Whether a stop stands directly between two asterisks.

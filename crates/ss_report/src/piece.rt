@@ -1,7 +1,7 @@
 ghost use Rattle.std.specs.Prelude.{◌≡◌, ◌==◌, ◌+◌, ◌-◌, ◌^◌, ◌<◌, ◌≤◌, ◌++◌, ◌∷◌, [], length, map, min, count_by, IfOk, OnOk, vec_len, vec_capacity};
 ghost use Rattle.std.specs.List.{position_or_len, prefix_len};
 ghost use Rattle.ss_report.specs.Pictures.{line_end, field_text, filled, is_field, line_parts, picture_parts};
-ghost use Rattle.ss_report.specs.Pieces.{parts_len, parts_of, piece_parts};
+ghost use Rattle.ss_report.specs.Pieces.{is_field_piece, parts_len, parts_of, piece_parts};
 
 use crate::append::{append, append_times};
 use itoa::Buffer;
@@ -53,7 +53,8 @@ fn first_piece(alloc: Global, line: &[u8]) -> Result<(Piece, &[u8]), AllocError>
 {
     let width = leading_asterisks(line);
     if width > 0 {
-        return Ok((Piece::Field(width), &line[width..]));
+        let (_, behind) = line.split_at(width);
+        return Ok((Piece::Field(width), behind));
     }
     let (text, behind) = line.split_at(leading_others(line));
     Ok((Piece::Text(Vec::from_slice(alloc, text)?), behind))
@@ -61,21 +62,23 @@ fn first_piece(alloc: Global, line: &[u8]) -> Result<(Piece, &[u8]), AllocError>
 
 /// How many asterisks the line begins with.
 fn leading_asterisks(line: &[u8]) -> usize
-    ensures { result ≡ prefix_len (λ b. b == 42) line.now }
+    ensures value { result ≡ prefix_len (λ b. b == 42) line.now }
+    ensures within { result ≤ length line.now }
 {
     line.iter().take_while(|b| **b == b'*').count()
 }
 
 /// How many other bytes the line begins with.
 fn leading_others(line: &[u8]) -> usize
-    ensures { result ≡ position_or_len (λ b. b == 42) line.now }
+    ensures value { result ≡ position_or_len (λ b. b == 42) line.now }
+    ensures within { result ≤ length line.now }
 {
     line.iter().take_while(|b| **b != b'*').count()
 }
 
 /// How many fields there are.
 pub(crate) fn count_fields(pieces: &[Piece]) -> usize
-    ensures { result ≡ count_by is_field (parts_of pieces.now) }
+    ensures { result ≡ count_by is_field_piece pieces.now }
 {
     pieces
         .iter()
@@ -89,14 +92,20 @@ pub(crate) fn text_len(pieces: &[Piece]) -> usize
 {
     let mut len = 0usize;
     for piece in pieces {
-        let added = match piece {
-            Piece::Text(text) => text.len(),
-            Piece::Field(width) => *width,
-            Piece::LineEnd => 1,
-        };
-        len = len.saturating_add(added);
+        len = len.saturating_add(piece_len(piece));
     }
     len
+}
+
+/// How many bytes of the text a piece stands for.
+fn piece_len(piece: &Piece) -> usize
+    ensures { result ≡ parts_len (piece_parts piece.now) }
+{
+    match piece {
+        Piece::Text(text) => text.len(),
+        Piece::Field(width) => *width,
+        Piece::LineEnd => 1,
+    }
 }
 
 /// Appends the text with these values, for which there is room.
@@ -105,13 +114,13 @@ pub(crate) fn write_pieces(bytes: &mut Vec<u8>, pieces: &[Piece], values: &[i64]
     requires room { vec_len bytes.old + parts_len (parts_of pieces.now) ≤ vec_capacity bytes.old }
     ensures { bytes.new.items ≡ bytes.old.items ++ filled (parts_of pieces.now) values.now }
 {
-    let mut values = values;
+    let mut next = 0;
     for piece in pieces {
         match piece {
             Piece::Text(text) => append(bytes, text),
             Piece::Field(width) => {
-                append_value(bytes, *width, values[0]);
-                values = &values[1..];
+                append_value(bytes, *width, values[next]);
+                next += 1;
             }
             Piece::LineEnd => bytes.push_reserved(b'\n'),
         }

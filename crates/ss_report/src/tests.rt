@@ -1,0 +1,131 @@
+use crate::{Picture, PictureFault, Report};
+use ss_words::{RunFault, StepFault};
+use std::alloc::Global;
+use std::process::Abort;
+use std::test::Fail;
+
+/// The picture with the lines that stand between the bars of a text.
+fn picture(alloc: Global, text: &[u8]) -> Result<Picture, PictureFault> {
+    let mut lines = Vec::new(alloc);
+    for line in text.split(|b| *b == b'|') {
+        lines.push(Vec::from_slice(alloc, line)?)?;
+    }
+    Picture::new(alloc, lines)
+}
+
+/// The report of one print, whose values are as many as the fields.
+fn printed(rt: &impl Abort, alloc: Global, text: &[u8], values: &[i64]) -> Result<Report, Fail> {
+    let picture = picture(alloc, text)?;
+    assert_eq!(rt; picture.fields(), values.len());
+    let mut report = Report::new(alloc);
+    report.print(&picture, values)?;
+    Ok(report)
+}
+
+#[test]
+fn values_stand_right_in_their_fields(rt: HostRuntime) -> Result<(), Fail> {
+    let table: [(&[u8], &[i64], &[u8]); 9] = [
+        (b"[**][**][**]", &[100, -9, -10], b"[**][-9][**]\n"),
+        (b"X = ***", &[5], b"X =   5\n"),
+        (b"*** IDLE", &[1], b"  1 IDLE\n"),
+        (
+            b"** ** **|*|no field|****",
+            &[4, 0, 1, 7, -12],
+            b" 4  0  1\n7\nno field\n -12\n",
+        ),
+        (b"X***Y**Z", &[-1, 0], b"X -1Y 0Z\n"),
+        (b"*.|.*|* .*", &[1, 2, 3, 4], b"1.\n.2\n3 .4\n"),
+        (b"", &[], b"\n"),
+        (
+            b"********************|********************",
+            &[i64::MIN, i64::MAX],
+            b"-9223372036854775808\n 9223372036854775807\n",
+        ),
+        (
+            b"*******************|******************",
+            &[i64::MIN, i64::MAX],
+            b"*******************\n******************\n",
+        ),
+    ];
+    for (text, values, wanted) in table {
+        let report = printed(&rt, rt.alloc(), text, values)?;
+        assert_eq!(rt; report.bytes(), wanted);
+    }
+    Ok(())
+}
+
+#[test]
+fn a_field_has_132_asterisks(rt: HostRuntime) -> Result<(), Fail> {
+    let report = printed(&rt, rt.alloc(), &[b'*'; 132], &[-5])?;
+    let mut wanted = [b' '; 133];
+    wanted[130] = b'-';
+    wanted[131] = b'5';
+    wanted[132] = b'\n';
+    assert_eq!(rt; report.bytes(), wanted.as_slice());
+    Ok(())
+}
+
+#[test]
+fn a_decimal_field_is_refused(rt: HostRuntime) -> Result<(), Fail> {
+    for text in [b"*.*".as_slice(), b"**.**", b"A|B *.*.", b"..*.*"] {
+        assert_eq!(rt;
+            picture(rt.alloc(), text).err(),
+            Some(PictureFault::DecimalField)
+        );
+    }
+    for text in [
+        b"*..*".as_slice(),
+        b"*. *",
+        b"*.",
+        b".*",
+        b"*|.|*",
+        b"*. |*",
+    ] {
+        let picture = picture(rt.alloc(), text)?;
+        assert!(rt; picture.fields() <= 2);
+    }
+    Ok(())
+}
+
+#[test]
+fn a_report_ends_at_its_limit(rt: HostRuntime) -> Result<(), Fail> {
+    let full = Err(StepFault::Fault(RunFault::ReportFull));
+    let line = picture(rt.alloc(), b"")?;
+    let two_lines = picture(rt.alloc(), b"|")?;
+    assert!(rt; line.fields() == 0 && two_lines.fields() == 0);
+    let mut report = Report::new(rt.alloc());
+    assert_eq!(rt; report.skip(16_777_217), full);
+    report.skip(16_777_215)?;
+    assert_eq!(rt; report.skip(2), full);
+    assert_eq!(rt; report.print(&two_lines, &[]), full);
+    assert_eq!(rt; report.len(), 16_777_215);
+    report.print(&line, &[])?;
+    assert_eq!(rt; report.len(), 16_777_216);
+    report.skip(0)?;
+    assert_eq!(rt; report.skip(1), full);
+    assert_eq!(rt; report.print(&line, &[]), full);
+    report.cut(3);
+    assert_eq!(rt; report.bytes(), b"\n\n\n".as_slice());
+    Ok(())
+}
+
+// `rt try --test --fail-alloc N` refuses a growth: N is 1 for the first print, 2 for the skip.
+#[test]
+fn a_refused_growth_leaves_the_report(rt: HostRuntime) -> Result<(), Fail> {
+    let Ok(picture) = picture(rt.alloc(), b"***") else {
+        return Ok(());
+    };
+    assert_eq!(rt; picture.fields(), 1);
+    let mut report = Report::new(rt.alloc());
+    let mut wanted = b"".as_slice();
+    match report.print(&picture, &[7]) {
+        Ok(()) => wanted = b"  7\n",
+        Err(fault) => assert_eq!(rt; fault, StepFault::Memory),
+    }
+    assert_eq!(rt; report.bytes(), wanted);
+    if let Err(fault) = report.skip(1000) {
+        assert_eq!(rt; fault, StepFault::Memory);
+        assert_eq!(rt; report.bytes(), wanted);
+    }
+    Ok(())
+}
