@@ -50,6 +50,11 @@ abbrev pub places_of : Option SectionTable → List Spot
 places_of (Some s) = s.places
 places_of None = []
 
+-- the names of the locals of section number i
+abbrev pub locals_of : Option SectionTable → List (List ℕ)
+locals_of (Some s) = s.locals
+locals_of None = []
+
 -- place number `place` of section number `section`
 abbrev pub spot_at : ProgramTable → ℕ → ℕ → Option Spot
 spot_at p section place = slice_get (places_of (slice_get p.sections section)) place
