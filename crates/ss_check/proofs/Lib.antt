@@ -1,1 +1,3 @@
 pub mod Mains
+pub mod Terms
+pub mod Breaches

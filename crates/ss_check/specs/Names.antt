@@ -1,8 +1,8 @@
 -- The names that the language declares, and the names of a place in the order in which they are written.
-use Rattle.std.specs.Prelude.{ℕ, Bool, true, false, ◌||◌, List, [], ◌∷◌, ◌++◌, Option, codes, bytes_eq}
-use Rattle.std.specs.List.{list_any, flat_map, filter}
+use Rattle.std.specs.Prelude.{ℕ, Bool, List, [], ◌∷◌, ◌++◌, codes, bytes_eq}
+use Rattle.std.specs.List.{list_any, flat_map}
 use Rattle.ss_routines.specs.Expr.{Expr, expr, Sums, no_sums, sum, Term, term, Products, no_products, product, Factor, digits, variable, within}
-use Rattle.ss_routines.specs.Places.{Assign, lets, adds, subtracts, Output, prints, Control, Place, assign, output, control}
+use Rattle.ss_routines.specs.Places.{Assign, lets, adds, subtracts, prints, Place, assign, output, control}
 
 -- the functions of the language
 abbrev pub functions : List (List ℕ)
@@ -32,19 +32,26 @@ abbrev mutual
   names_of_factor (variable n) = n ∷ []
   names_of_factor (within e) = names_of_expr e
 
+-- what an assignment evaluates, and the name that it assigns to
+abbrev pub value_of : Assign → Expr
+value_of (lets b v e) = e
+value_of (adds e v) = e
+value_of (subtracts e v) = e
+
+abbrev pub target_of : Assign → List ℕ
+target_of (lets b v e) = v.name
+target_of (adds e v) = v.name
+target_of (subtracts e v) = v.name
+
 -- the names that a place evaluates
 abbrev pub names_read : Place → List (List ℕ)
-names_read (assign (lets b v e)) = names_of_expr e
-names_read (assign (adds e v)) = names_of_expr e
-names_read (assign (subtracts e v)) = names_of_expr e
+names_read (assign a) = names_of_expr (value_of a)
 names_read (output (prints n es ls)) = flat_map names_of_expr es
 names_read (control c) = []
 
 -- the names that a place assigns to
 abbrev pub names_assigned : Place → List (List ℕ)
-names_assigned (assign (lets b v e)) = v.name ∷ []
-names_assigned (assign (adds e v)) = v.name ∷ []
-names_assigned (assign (subtracts e v)) = v.name ∷ []
+names_assigned (assign a) = target_of a ∷ []
 names_assigned (output o) = []
 names_assigned (control c) = []
 

@@ -98,3 +98,4 @@ pub record IsSound (p : ProgramTable) : Type 0 where
   pub main : count_by is_main p.sections ≡ 1
   pub sections : AreSoundSections (length p.globals) p.sections
   pub few : length p.sections < 2 ^ 60
+  pub few_names : length p.globals + length p.classes + length p.sets < 2 ^ 32

@@ -1,6 +1,6 @@
 -- The program that sections without a breach stand for: each name replaced by its place in its table.
-use Rattle.std.specs.Prelude.{ℕ, Bool, true, false, not, ◌||◌, List, [], ◌∷◌, ◌++◌, map, Option, Some, None, if◌then◌else◌, bytes_eq}
-use Rattle.std.specs.List.{list_any, flat_map, filter, position_or_len}
+use Rattle.std.specs.Prelude.{ℕ, Bool, ◌||◌, List, [], ◌∷◌, ◌++◌, map, if◌then◌else◌, bytes_eq}
+use Rattle.std.specs.List.{list_any, flat_map, fold, position_or_len}
 use Rattle.ss_routines.specs.Expr.{Expr, expr, Sums, no_sums, sum, Term, term, Products, no_products, product, Factor, digits, variable, within}
 use Rattle.ss_routines.specs.Places.{Assign, lets, adds, subtracts, Output, prints, Control, stops, ends, Place, assign, output, control, Spot, Section}
 use Rattle.ss_check.specs.declared.variable.Variable.{Variable}
@@ -18,14 +18,13 @@ use Rattle.ss_check.specs.ProgramExpr as checked
 use Rattle.ss_check.specs.Program.{SectionTable, ProgramTable}
 use Rattle.ss_check.specs.Names.{is_clock, names_written}
 
--- each name once, where it stands first; names that are seen already are left out
-abbrev pub distinct_from : List (List ℕ) → List (List ℕ) → List (List ℕ)
-distinct_from seen [] = []
-distinct_from seen (n ∷ ns) = if list_any (bytes_eq n) seen then distinct_from seen ns else n ∷ distinct_from (seen ++ n ∷ []) ns
+-- a table of local variables with a name put at its end, unless the name is TIME.V or stands there already
+abbrev pub with_local : List (List ℕ) → List ℕ → List (List ℕ)
+with_local table n = if is_clock n || list_any (bytes_eq n) table then table else table ++ n ∷ []
 
--- the local variables of a section: the names of its places but TIME.V, each once, in the order in which they are written
+-- the local variables of a section: the names of its places but TIME.V, each once, in the order in which they are first written
 abbrev pub locals_of : List Spot → List (List ℕ)
-locals_of spots = distinct_from [] (filter (λ n. not (is_clock n)) (flat_map (λ s. names_written s.place) spots))
+locals_of spots = fold with_local [] (flat_map (λ s. names_written s.place) spots)
 
 -- with the local variables of its section, what a name stands for
 module _ (locals : List (List ℕ)) where
