@@ -1,3 +1,7 @@
 pub mod Mains
 pub mod Terms
 pub mod Breaches
+pub mod Known
+pub mod Few
+pub mod SoundResolved
+pub mod LookedUpAgain

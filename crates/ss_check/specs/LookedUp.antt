@@ -1,5 +1,5 @@
 -- The sections of a program with each number looked up in its table again.
-use Rattle.std.specs.Prelude.{ℕ, List, [], ◌∷◌, map, codes, slice_index_or}
+use Rattle.std.specs.Prelude.{◌≡◌, ℕ, List, [], ◌∷◌, map, codes, slice_index_or}
 use Rattle.ss_check.specs.declared.variable.Variable.{Variable}
 use Rattle.ss_check.specs.declared.variable.Variable.TheVariants.{Global, Local, Clock}
 use Rattle.ss_check.specs.declared.place.Assign.{Assign}
@@ -13,6 +13,7 @@ use Rattle.ss_check.specs.declared.place.Place.TheVariants as p
 use Rattle.ss_check.specs.declared.place.Spot.{Spot}
 use Rattle.ss_check.specs.ProgramExpr.{Expr, expr, Sums, no_sums, sum, Term, term, Products, no_products, product, Factor, digits, variable, within}
 use Rattle.ss_check.specs.Program.{SectionTable, ProgramTable}
+use Rattle.ss_check.specs.Resolved.{resolved}
 use Rattle.ss_routines.specs.Expr as written
 use Rattle.ss_routines.specs.Places as w
 
@@ -62,7 +63,7 @@ module _ (globals locals : List (List ℕ)) where
   abbrev pub written_spot : Spot → w.Spot
   written_spot s = record { line = s.line; place = written_place s.place }
 
--- no section has parameters yet
+-- a section, which has no parameters
 abbrev pub looked_up_section : List (List ℕ) → SectionTable → w.Section
 looked_up_section globals s = record {
   line = s.line;
@@ -74,3 +75,12 @@ looked_up_section globals s = record {
 -- the sections that a program stands for
 abbrev pub looked_up : ProgramTable → List w.Section
 looked_up p = map (looked_up_section p.globals) p.sections
+
+-- no section has parameters
+abbrev pub HaveNoParameters : List w.Section → Type 0
+HaveNoParameters [] = Unit {0}
+HaveNoParameters (s ∷ ss) = (s.parameters ≡ []) × HaveNoParameters ss
+
+-- each name is found again: the program of sections, with its numbers looked up, is the sections
+abbrev pub IsLookedUpAgain : Type 0
+IsLookedUpAgain = (ss : List w.Section) → HaveNoParameters ss → looked_up (resolved ss) ≡ ss

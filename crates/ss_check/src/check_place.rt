@@ -49,7 +49,7 @@ pub(crate) fn check_place(
 }
 
 /// The lowest rule that an assignment breaks.
-fn assign_rule(assign: &Assign) -> Option<CheckRule>
+pub(crate) fn assign_rule(assign: &Assign) -> Option<CheckRule>
     ensures { result ≡ lowest (place_rules (written.assign (assign_view assign.now))) }
 {
     if names_function(value_of(assign)) {

@@ -1,9 +1,9 @@
-ghost use Rattle.std.specs.Prelude.{◌≡◌, ◌&&◌, nat_lt, length, map, None, IfOk, IfErr};
-ghost use Rattle.std.specs.List.{list_all};
+ghost use Rattle.std.specs.Prelude.{◌≡◌, map, None, IfOk, IfErr, OnOk};
 ghost use Rattle.ss_routines.specs.View.{section_view, sections_of, spots};
-ghost use Rattle.ss_check.specs.Breach.{IsBreach, breach, first_breach, place_statement};
+ghost use Rattle.ss_check.specs.Breach.{IsBreach, breach, breach_of, first_breach, head_statement, is_main_section, place_statement};
 ghost use Rattle.ss_check.specs.Breach as rules;
 ghost use Rattle.ss_check.specs.Ended.{AreEnded};
+ghost use Rattle.ss_check.specs.LookedUp.{IsLookedUpAgain};
 ghost use Rattle.ss_check.specs.Resolved.{resolved, resolved_section, resolved_spot};
 
 use crate::check_place::check_place;
@@ -16,9 +16,6 @@ use crate::section::Section;
 use ss_routines::{SectionKind, Sections};
 use std::alloc::Global;
 
-/// More sections or places than memory holds.
-const MANY: usize = 1 << 60;
-
 /// The checked program of these sections: each name is a number in its table, and each picture has its fields
 /// (docs/LANGUAGE.md, "Rules of the checker").
 ///
@@ -30,9 +27,6 @@ pub fn check(alloc: Global, sections: Sections) -> Result<Program, CheckFault>
     ensures ok { IfOk result (λ program. program ≡ resolved (sections_of sections)) }
     ensures err { IfErr result (λ f. IsBreach f (breach (sections_of sections))) }
 {
-    if !are_few(&sections.list) {
-        return Err(CheckFault::Memory);
-    }
     let checked = check_sections(alloc, sections.list)?;
     Ok(Program::new(
         Vec::new(alloc),
@@ -42,12 +36,10 @@ pub fn check(alloc: Global, sections: Sections) -> Result<Program, CheckFault>
     ))
 }
 
-/// Whether there are fewer sections than memory holds, and fewer places in each.
-fn are_few(sections: &[ss_routines::Section]) -> bool
-    ensures { result ≡ (nat_lt (length sections.now) MANY
-        && list_all (λ s. nat_lt (length s.places.items) MANY) sections.now) }
+/// Each number of a program, looked up in its table, is the name that the text has there.
+pub fn looks_up_again()
+    ensures { IsLookedUpAgain }
 {
-    sections.len() < MANY && sections.iter().all(|s| s.places.len() < MANY)
 }
 
 fn check_sections(
@@ -58,29 +50,45 @@ fn check_sections(
     ensures ok { IfOk result (λ v. v.items ≡ map resolved_section (map section_view sections.items)) }
     ensures err { IfErr result (λ f. IsBreach f (breach (map section_view sections.items))) }
 {
-    let rule = CheckRule::WrongMain;
     let mut checked = Vec::new(alloc);
     let mut has_main = false;
     let mut line = 1;
     for section in sections {
-        let is_main = section.kind == SectionKind::Main;
-        if has_main && is_main {
-            return Err(CheckFault::Broken {
-                rule,
-                line: section.line,
-            });
-        }
-        has_main = has_main || is_main;
+        check_head(has_main, &section)?;
+        has_main |= is_main(&section);
         line = last_line(&section);
         checked.push(check_section(alloc, section)?)?;
     }
     if !has_main {
+        let rule = CheckRule::WrongMain;
         return Err(CheckFault::Broken { rule, line });
     }
     Ok(checked)
 }
 
+/// Whether the head of a section breaks no rule, with a MAIN before it or none.
+fn check_head(has_main: bool, section: &ss_routines::Section) -> Result<(), CheckFault>
+    ensures ok { OnOk result (breach_of (head_statement has_main (section_view section.now)) ≡ None) }
+    ensures err { IfErr result
+        (λ f. IsBreach f (breach_of (head_statement has_main (section_view section.now)))) }
+{
+    if has_main && is_main(section) {
+        return Err(CheckFault::Broken {
+            rule: CheckRule::WrongMain,
+            line: section.line,
+        });
+    }
+    Ok(())
+}
+
+fn is_main(section: &ss_routines::Section) -> bool
+    ensures { result ≡ is_main_section (section_view section.now) }
+{
+    section.kind == SectionKind::Main
+}
+
 /// The line of the last statement of a section.
+#[tactic(auto, using(crate::proofs::Breaches::last_line_last, crate::proofs::Breaches::last_line_none))]
 fn last_line(section: &ss_routines::Section) -> usize
     ensures { result ≡ rules.last_line section.now.line (map place_statement (spots section.now.places.items)) }
 {

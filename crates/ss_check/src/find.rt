@@ -1,10 +1,12 @@
-ghost use Rattle.std.specs.Prelude.{◌≡◌, ◌<◌, length, position, bytes_eq, slice_get, is_some};
+ghost use Rattle.std.specs.Prelude.{◌≡◌, ◌<◌, ◌^◌, length, position, bytes_eq, slice_get, is_some, IfSome};
+ghost use Rattle.std.specs.Option.{ForSome};
 ghost use Rattle.ss_check.specs.Program.{locals_of};
-ghost use Rattle.ss_check.specs.Found.{is_any, named};
+ghost use Rattle.ss_check.specs.Found.{is_any, named, numbers_of};
 
 use crate::names::is_clock;
 use crate::program::Program;
-use crate::resolve::local_number;
+use crate::resolve::variable_number;
+use crate::tables::{Class, Set};
 
 /// What a name is: its number in the table of the global variables, of the classes and of the sets.
 /// The name of a class has the first two.
@@ -31,12 +33,18 @@ impl Program {
         if is_clock(name) {
             return None;
         }
-        let named = Named {
-            variable: self.variable_number(name),
-            class: self.class_number(name),
-            set: self.set_number(name),
-        };
-        if named.is_any() { Some(named) } else { None }
+        let numbers = self.numbers(name);
+        if numbers.is_any() { Some(numbers) } else { None }
+    }
+
+    fn numbers(&self, name: &[u8]) -> Named
+        ensures { result ≡ numbers_of self.now name.now }
+    {
+        Named {
+            variable: number(variable_number(&self.globals, name)),
+            class: number(class_number(&self.classes, name)),
+            set: number(set_number(&self.sets, name)),
+        }
     }
 
     /// The place of this name, in upper case, in the table of the local variables of the section with this number.
@@ -45,36 +53,36 @@ impl Program {
         requires { section < length self.now.sections }
         ensures { result ≡ position (bytes_eq name.now) (locals_of (slice_get self.now.sections section)) }
     {
-        local_number(&self.sections[section].locals, name)
+        variable_number(&self.sections[section].locals, name)
     }
+}
 
-    fn variable_number(&self, name: &[u8]) -> Option<u32>
-        ensures { result ≡ position (bytes_eq name.now) self.now.globals }
-    {
-        let number = self
-            .globals
-            .iter()
-            .position(|global| name == global.bytes.as_slice())?;
-        Some(number as u32)
-    }
+/// The place of a class in their table.
+fn class_number(classes: &[Class], name: &[u8]) -> Option<usize>
+    ensures value { result ≡ position (λ c. bytes_eq name.now c.name) classes.now }
+    ensures within { IfSome result (λ i. i < length classes.now) }
+{
+    classes
+        .iter()
+        .position(|class| name == class.name.bytes.as_slice())
+}
 
-    fn class_number(&self, name: &[u8]) -> Option<u32>
-        ensures { result ≡ position (λ c. bytes_eq name.now c.name) self.now.classes }
-    {
-        let number = self
-            .classes
-            .iter()
-            .position(|class| name == class.name.bytes.as_slice())?;
-        Some(number as u32)
-    }
+/// The place of a set in their table.
+fn set_number(sets: &[Set], name: &[u8]) -> Option<usize>
+    ensures value { result ≡ position (λ s. bytes_eq name.now s.name) sets.now }
+    ensures within { IfSome result (λ i. i < length sets.now) }
+{
+    sets.iter()
+        .position(|set| name == set.name.bytes.as_slice())
+}
 
-    fn set_number(&self, name: &[u8]) -> Option<u32>
-        ensures { result ≡ position (λ s. bytes_eq name.now s.name) self.now.sets }
-    {
-        let number = self
-            .sets
-            .iter()
-            .position(|set| name == set.name.bytes.as_slice())?;
-        Some(number as u32)
+/// A place in a table of fewer than 2^32 names.
+fn number(place: Option<usize>) -> Option<u32>
+    requires { ForSome place (λ i. i < 2 ^ 32) }
+    ensures { result ≡ place }
+{
+    match place {
+        Some(i) => Some(i as u32),
+        None => None,
     }
 }

@@ -17,9 +17,11 @@ mod resolve;
 mod section;
 mod sum;
 mod tables;
+#[cfg(test)]
+mod tests;
 mod variable;
 
-pub use checker::check;
+pub use checker::{check, looks_up_again};
 pub use expr::{Expr, Values};
 pub use fault::{CheckFault, CheckRule};
 pub use find::Named;

@@ -1,4 +1,4 @@
-ghost use Rattle.std.specs.Prelude.{◌≡◌, bytes_eq, map, position, IfOk};
+ghost use Rattle.std.specs.Prelude.{◌≡◌, ◌<◌, bytes_eq, length, map, position, IfOk, IfSome};
 ghost use Rattle.ss_routines.specs.View.{assign_view, expr_view, factor_view, term_view};
 ghost use Rattle.ss_check.specs.ProgramExpr.{expr_of, factor_of, term_of};
 ghost use Rattle.ss_check.specs.Resolved as resolved;
@@ -138,17 +138,18 @@ fn resolve_name(locals: &[Name], name: &[u8]) -> Variable
     if is_clock(name) {
         return Variable::Clock;
     }
-    match local_number(locals, name) {
+    match variable_number(locals, name) {
         Some(number) => Variable::Local(number),
         None => Variable::Local(locals.len()),
     }
 }
 
-/// The place of a name in a table of local variables.
-pub(crate) fn local_number(locals: &[Name], name: &[u8]) -> Option<usize>
-    ensures { result ≡ position (bytes_eq name.now) locals.now }
+/// The place of a name in a table of variables.
+pub(crate) fn variable_number(variables: &[Name], name: &[u8]) -> Option<usize>
+    ensures value { result ≡ position (bytes_eq name.now) variables.now }
+    ensures within { IfSome result (λ i. i < length variables.now) }
 {
-    locals
+    variables
         .iter()
-        .position(|local| name == local.bytes.as_slice())
+        .position(|variable| name == variable.bytes.as_slice())
 }
