@@ -52,7 +52,7 @@ breach_behind_cons has_main n s ss =
     let behind = statements_behind (has_main || is_main_section s) ss in
     let e : no_main has_main n (s ∷ ss) ≡ no_main (has_main || is_main_section s) (last_line s.line places) ss = rw (last_line-append s.line places behind, or-assoc has_main (is_main_section s) (list_any is_main_section ss)) refl in
     ap (λ (b : Option (CheckRule × ℕ)). option_or (breach_of (head_statement has_main s)) b)
-      (rw (e, append_assoc places behind (no_main (has_main || is_main_section s) (last_line s.line places) ss ∷ [])) (first_breach-append places (behind ++ no_main (has_main || is_main_section s) (last_line s.line places) ss ∷ [])))
+    (rw (e, append_assoc places behind (no_main (has_main || is_main_section s) (last_line s.line places) ss ∷ [])) (first_breach-append places (behind ++ no_main (has_main || is_main_section s) (last_line s.line places) ss ∷ [])))
 
 -- at the end
 pub breach_behind_nil : (has_main : Bool) (n : ℕ) → breach_behind has_main n [] ≡ breach_of (no_main has_main n [])

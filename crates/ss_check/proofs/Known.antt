@@ -48,7 +48,7 @@ pub all_known : (ns table : List (List ℕ)) → list_all (known (fold with_loca
 all_known [] table = refl
 all_known (m ∷ ns) table =
     and_from (known (fold with_local table (m ∷ ns)) m) (list_all (known (fold with_local table (m ∷ ns))) ns)
-      (known-fold ns (with_local table m) m (known-self (known table m) table m refl)) (all_known ns (with_local table m))
+    (known-fold ns (with_local table m) m (known-self (known table m) table m refl)) (all_known ns (with_local table m))
 
 first_is : (b : Bool) (i n : ℕ) (c : Bool) → (c ≡ true → i < n) → (b || c) ≡ true → cond (not b) (1 + i) 0 < suc n
 first_is true i n c h e = omega arith

@@ -26,9 +26,9 @@ pub position_or_len-le : {X : Type 0} (p : X → Bool) (xs : List X) → positio
 position_or_len-le p [] = omega arith
 position_or_len-le p (x ∷ xs) = at_most (p x) (position_or_len-le p xs)
   where
-  at_most : (b : Bool) → position_or_len p xs ≤ length xs → cond (not b) (1 + position_or_len p xs) 0 ≤ suc (length xs)
-  at_most true h = omega arith
-  at_most false h = omega (arith, h)
+    at_most : (b : Bool) → position_or_len p xs ≤ length xs → cond (not b) (1 + position_or_len p xs) 0 ≤ suc (length xs)
+    at_most true h = omega arith
+    at_most false h = omega (arith, h)
 
 none_at : (i n : ℕ) (b : Bool) → nat_lt i n ≡ b → None ≡ cond b (Some i) None → i ≤ n → n ≡ i
 none_at i n true e h le = cc

@@ -135,7 +135,6 @@ one_more true false l k b e = omega (arith, e)
 one_more false true l k b e = omega (arith, e)
 one_more false false l k b e = omega (arith, e)
 
-
 -- one MAIN, counted with those before
 mains_counted : (ss : List Section) (has_main : Bool) (n : ℕ) → breach_behind has_main n ss ≡ None → count_by is_main (map resolved_section ss) + cond has_main 1 0 ≡ 1
 mains_counted [] true n b = omega arith
@@ -144,7 +143,7 @@ mains_counted (s ∷ ss) has_main n b =
     let none = no_breach_cons has_main n s ss b in
     let behind = mains_counted ss _ _ none.2 in
     rw (sum_by-cons (λ (t : SectionTable). cond (is_main t) 1 0) (resolved_section s) (map resolved_section ss))
-      (one_more has_main (is_main_section s) s.line (count_by is_main (map resolved_section ss)) none.0 behind)
+    (one_more has_main (is_main_section s) s.line (count_by is_main (map resolved_section ss)) none.0 behind)
 
 pub sound_resolved : (ss : List Section) → AreEnded ss → AreFew ss → length ss < 2 ^ 63 → breach ss ≡ None → sound.IsSound (resolved ss)
 sound_resolved ss e f l b = record {

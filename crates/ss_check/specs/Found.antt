@@ -9,7 +9,8 @@ abbrev pub numbers_of : ProgramTable → List ℕ → Named
 numbers_of p n = record {
   variable = position (bytes_eq n) p.globals;
   class = position (λ c. bytes_eq n c.name) p.classes;
-  set = position (λ s. bytes_eq n s.name) p.sets }
+  set = position (λ s. bytes_eq n s.name) p.sets;
+}
 
 -- some number of a name
 abbrev pub is_any : Named → Bool

@@ -27,14 +27,18 @@ module _ (globals locals : List (List ℕ)) where
   abbrev mutual
     pub written_expr : Expr → written.Expr
     written_expr (expr l t ss) = written.expr l (written_term t) (written_sums ss)
+
     pub written_sums : Sums → written.Sums
     written_sums no_sums = written.no_sums
     written_sums (sum s t ss) = written.sum s (written_term t) (written_sums ss)
+
     pub written_term : Term → written.Term
     written_term (term f ps) = written.term (written_factor f) (written_products ps)
+
     pub written_products : Products → written.Products
     written_products no_products = written.no_products
     written_products (product f ps) = written.product (written_factor f) (written_products ps)
+
     pub written_factor : Factor → written.Factor
     written_factor (digits n) = written.digits n
     written_factor (variable x) = written.variable (name_of x)
@@ -70,7 +74,8 @@ looked_up_section globals s = record {
   kind = s.kind;
   name = s.name;
   parameters = [];
-  places = map (written_spot globals s.locals) s.places }
+  places = map (written_spot globals s.locals) s.places;
+}
 
 -- the sections that a program stands for
 abbrev pub looked_up : ProgramTable → List w.Section

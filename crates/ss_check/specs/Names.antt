@@ -19,14 +19,18 @@ is_clock name = bytes_eq name (codes "TIME.V")
 abbrev mutual
   pub names_of_expr : Expr → List (List ℕ)
   names_of_expr (expr l t ss) = names_of_term t ++ names_of_sums ss
+
   pub names_of_sums : Sums → List (List ℕ)
   names_of_sums no_sums = []
   names_of_sums (sum s t ss) = names_of_term t ++ names_of_sums ss
+
   pub names_of_term : Term → List (List ℕ)
   names_of_term (term f ps) = names_of_factor f ++ names_of_products ps
+
   pub names_of_products : Products → List (List ℕ)
   names_of_products no_products = []
   names_of_products (product f ps) = names_of_factor f ++ names_of_products ps
+
   pub names_of_factor : Factor → List (List ℕ)
   names_of_factor (digits n) = []
   names_of_factor (variable n) = n ∷ []

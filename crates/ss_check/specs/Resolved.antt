@@ -34,14 +34,18 @@ module _ (locals : List (List ℕ)) where
   abbrev mutual
     pub resolved_expr : Expr → checked.Expr
     resolved_expr (expr l t ss) = checked.expr l (resolved_term t) (resolved_sums ss)
+
     pub resolved_sums : Sums → checked.Sums
     resolved_sums no_sums = checked.no_sums
     resolved_sums (sum s t ss) = checked.sum s (resolved_term t) (resolved_sums ss)
+
     pub resolved_term : Term → checked.Term
     resolved_term (term f ps) = checked.term (resolved_factor f) (resolved_products ps)
+
     pub resolved_products : Products → checked.Products
     resolved_products no_products = checked.no_products
     resolved_products (product f ps) = checked.product (resolved_factor f) (resolved_products ps)
+
     pub resolved_factor : Factor → checked.Factor
     resolved_factor (digits n) = checked.digits n
     resolved_factor (variable n) = checked.variable (resolved_name n)
@@ -73,7 +77,8 @@ resolved_section s = record {
   kind = s.kind;
   line = s.line;
   locals = locals_of s.places;
-  places = map (resolved_spot (locals_of s.places)) s.places }
+  places = map (resolved_spot (locals_of s.places)) s.places;
+}
 
 -- the program: no global variables, classes and sets, and the sections
 abbrev pub resolved : List Section → ProgramTable

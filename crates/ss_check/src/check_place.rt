@@ -36,14 +36,16 @@ pub(crate) fn check_place(
             }
             Ok(Place::Assign(resolve_assign(alloc, locals, &assign)?))
         }
-        ss_routines::Place::Output(ss_routines::Output::Print {
-            count,
-            values,
-            picture,
-        }) => Ok(Place::Output(check_print(
-            alloc, locals, line, count, values, picture,
-        )?)),
-        ss_routines::Place::Control(ss_routines::Control::Stop) => Ok(Place::Control(Control::Stop)),
+        ss_routines::Place::Output(
+            ss_routines::Output::Print {
+                count,
+                values,
+                picture,
+            },
+        ) => Ok(Place::Output(check_print(alloc, locals, line, count, values, picture)?)),
+        ss_routines::Place::Control(ss_routines::Control::Stop) => Ok(Place::Control(
+            Control::Stop,
+        )),
         ss_routines::Place::Control(ss_routines::Control::End) => Ok(Place::Control(Control::End)),
     }
 }
@@ -96,12 +98,18 @@ fn check_print(
     values: Vec<Expr>,
     lines: Vec<Vec<u8>>,
 ) -> Result<Output, CheckFault>
-    ensures sound { IfOk result (λ _. breach_of (record { line = line; breaks =
-        place_rules (written.output (written.prints count (map expr_view values.items) (map (λ l. l.items) lines.items))) }) ≡ None) }
+    ensures sound { IfOk result (λ _. breach_of (record {
+      line = line;
+      breaks =
+          place_rules (written.output (written.prints count (map expr_view values.items) (map (λ l. l.items) lines.items)));
+    }) ≡ None) }
     ensures ok { IfOk result (λ o. o ≡ resolved_output locals.now
         (written.prints count (map expr_view values.items) (map (λ l. l.items) lines.items))) }
-    ensures err { IfErr result (λ f. IsBreach f (breach_of (record { line = line; breaks =
-        place_rules (written.output (written.prints count (map expr_view values.items) (map (λ l. l.items) lines.items))) }))) }
+    ensures err { IfErr result (λ f. IsBreach f (breach_of (record {
+      line = line;
+      breaks =
+          place_rules (written.output (written.prints count (map expr_view values.items) (map (λ l. l.items) lines.items)));
+    }))) }
 {
     if any_names_function(&values) {
         let rule = CheckRule::WrongCount;

@@ -28,19 +28,13 @@ pub fn check(alloc: Global, sections: Sections) -> Result<Program, CheckFault>
     ensures err { IfErr result (λ f. IsBreach f (breach (sections_of sections))) }
 {
     let checked = check_sections(alloc, sections.list)?;
-    Ok(Program::new(
-        Vec::new(alloc),
-        Vec::new(alloc),
-        Vec::new(alloc),
-        checked,
-    ))
+    Ok(Program::new(Vec::new(alloc), Vec::new(alloc), Vec::new(alloc), checked))
 }
 
 /// Each number of a program, looked up in its table, is the name that the text has there.
 pub fn looks_up_again()
     ensures { IsLookedUpAgain }
-{
-}
+{}
 
 fn check_sections(
     alloc: Global,

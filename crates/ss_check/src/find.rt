@@ -34,7 +34,11 @@ impl Program {
             return None;
         }
         let numbers = self.numbers(name);
-        if numbers.is_any() { Some(numbers) } else { None }
+        if numbers.is_any() {
+            Some(numbers)
+        } else {
+            None
+        }
     }
 
     fn numbers(&self, name: &[u8]) -> Named

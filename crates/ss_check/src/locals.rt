@@ -112,7 +112,5 @@ fn add_name(alloc: Global, locals: &mut Vec<Name>, name: &[u8]) -> Result<(), Al
 fn is_among(locals: &[Name], name: &[u8]) -> bool
     ensures { result ≡ list_any (bytes_eq name.now) locals.now }
 {
-    locals
-        .iter()
-        .any(|local| name == local.bytes.as_slice())
+    locals.iter().any(|local| name == local.bytes.as_slice())
 }

@@ -5,7 +5,11 @@ ghost use Rattle.ss_check.specs.Names as names;
 pub(crate) fn is_function(name: &[u8]) -> bool
     ensures { result ≡ names.is_function name.now }
 {
-    name == b"ABS.F".as_slice() || name == b"MAX.F".as_slice() || name == b"MIN.F".as_slice() || name == b"DIV.F".as_slice() || name == b"MOD.F".as_slice()
+    name == b"ABS.F".as_slice()
+        || name == b"MAX.F".as_slice()
+        || name == b"MIN.F".as_slice()
+        || name == b"DIV.F".as_slice()
+        || name == b"MOD.F".as_slice()
 }
 
 /// Whether this is TIME.V, the name of the clock.

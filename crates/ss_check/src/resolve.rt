@@ -61,11 +61,7 @@ pub(crate) fn resolve_values(
     Ok(Values { list })
 }
 
-fn resolve_expr(
-    alloc: Global,
-    locals: &[Name],
-    e: &ss_routines::Expr,
-) -> Result<Expr, AllocError>
+fn resolve_expr(alloc: Global, locals: &[Name], e: &ss_routines::Expr) -> Result<Expr, AllocError>
     ensures { IfOk result (λ x. x ≡ resolved.resolved_expr locals.now (expr_view e.now)) }
 {
     let sum = resolve_sum(alloc, locals, e)?;
@@ -73,11 +69,7 @@ fn resolve_expr(
 }
 
 #[cycle(resolve)]
-fn resolve_sum(
-    alloc: Global,
-    locals: &[Name],
-    e: &ss_routines::Expr,
-) -> Result<Sum, AllocError>
+fn resolve_sum(alloc: Global, locals: &[Name], e: &ss_routines::Expr) -> Result<Sum, AllocError>
     ensures { IfOk result (λ x. expr_of x ≡ resolved.resolved_expr locals.now (expr_view e.now)) }
 {
     let first = resolve_term(alloc, locals, &e.first)?;
@@ -97,18 +89,14 @@ fn resolve_sum(
 }
 
 #[cycle(resolve)]
-fn resolve_term(
-    alloc: Global,
-    locals: &[Name],
-    t: &ss_routines::Term,
-) -> Result<Term, AllocError>
+fn resolve_term(alloc: Global, locals: &[Name], t: &ss_routines::Term) -> Result<Term, AllocError>
     ensures { IfOk result (λ x. term_of x ≡ resolved.resolved_term locals.now (term_view t.now)) }
 {
-    let first = resolve_factor(alloc, locals, &t.first)?;
     let mut more = Vec::new(alloc);
     for further in &t.more {
         more.push(resolve_factor(alloc, locals, further)?)?;
     }
+    let first = resolve_factor(alloc, locals, &t.first)?;
     Ok(Term { first, more })
 }
 

@@ -181,7 +181,10 @@ fn there_is_one_main(rt: HostRuntime) -> Result<(), Fail> {
         assignment(alloc, b"TIME.V", b"Y")?,
         assignment(alloc, b"X", b"Y")?,
     )?;
-    assert_eq!(rt; refusal(alloc, two(alloc, first, second)?), broken(CheckRule::WrongMain, 5));
+    assert_eq!(rt;
+        refusal(alloc, two(alloc, first, second)?),
+        broken(CheckRule::WrongMain, 5)
+    );
     Ok(())
 }
 

@@ -62,10 +62,10 @@ pub spot_next : (p : ProgramTable) (i j : ℕ) (spot : Spot) → IsSound p → s
     j + 1 < length (places_of (slice_get p.sections i))
 spot_next p i j spot h e g = spot_next_of p i j spot (slice_get p.sections i) h refl e g
 
-few_of : (n : ℕ) (ss : List SectionTable) (i : ℕ) (o : Option SectionTable) → AreSoundSections n ss → slice_get ss i ≡ o → length (places_of o) < 2 ^ 60
+few_of : (n : ℕ) (ss : List SectionTable) (i : ℕ) (o : Option SectionTable) → AreSoundSections n ss → slice_get ss i ≡ o → length (places_of o) < 2 ^ 63
 few_of n ss i None h e = omega arith
 few_of n ss i (Some s) h e = (section_sound n ss i s h e).few
 
 -- a section has few places
-pub few_places : (p : ProgramTable) (i : ℕ) → IsSound p → length (places_of (slice_get p.sections i)) < 2 ^ 60
+pub few_places : (p : ProgramTable) (i : ℕ) → IsSound p → length (places_of (slice_get p.sections i)) < 2 ^ 63
 few_places p i h = few_of _ p.sections i (slice_get p.sections i) h.sections refl
