@@ -1,8 +1,7 @@
 -- No vector has 2^63 elements.
-use Rattle.std.proofs.Common.{◌≡◌, ◌<◌, ◌^◌, ℕ, List, [], ◌∷◌, length, arith}
+use Rattle.std.proofs.Common.{◌<◌, ◌^◌, List, [], ◌∷◌, length, arith}
 use Rattle.std.specs.Prelude.{map}
 use Rattle.std.proofs.lemmas.List.{length-map}
-use Rattle.ss_routines.specs.declared.place.Spot.{Spot as CodeSpot}
 use Rattle.ss_routines.specs.declared.section.Section.{Section as CodeSection}
 use Rattle.ss_routines.specs.Places.{Section}
 use Rattle.ss_routines.specs.View.{section_view, spot_view}

@@ -1,5 +1,5 @@
 -- The program of sections without a breach is sound.
-use Rattle.std.proofs.Common.{◌≡◌, ◌<◌, ◌+◌, ◌^◌, ℕ, Bool, true, false, not, ◌||◌, cond, List, [], ◌∷◌, ◌++◌, length, refl, sym, ◌∙◌, arith, Option, Some, None, nat_eq}
+use Rattle.std.proofs.Common.{◌≡◌, ◌<◌, ◌+◌, ◌^◌, ℕ, Bool, true, false, not, ◌||◌, cond, List, [], ◌∷◌, ◌++◌, length, refl, ◌∙◌, arith, None, nat_eq}
 use Rattle.std.specs.Prelude.{map, bytes_eq, count_by}
 use Rattle.std.specs.List.{list_any, list_all, flat_map}
 use Rattle.std.proofs.lemmas.List.{length-map}
@@ -7,10 +7,8 @@ use Rattle.std.proofs.lemmas.List.Sums.{sum_by-cons}
 use Rattle.std.proofs.lemmas.Bool.{and_parts, or_parts, not-false, eqb-true}
 use Rattle.ss_report.specs.Pictures.{field_count, has_decimal_field}
 use Rattle.ss_routines.specs.Expr.{Expr, expr, Sums, no_sums, sum, Term, term, Products, no_products, product, Factor, digits, variable, within}
-use Rattle.ss_routines.specs.Places.{Assign, lets, adds, subtracts, Output, prints, Control, stops, ends, Place, assign, output, control, Spot, Section}
-use Rattle.ss_check.specs.declared.fault.CheckRule.{CheckRule}
+use Rattle.ss_routines.specs.Places.{Assign, lets, adds, subtracts, prints, stops, ends, Place, assign, output, control, Spot, Section}
 use Rattle.ss_check.specs.declared.fault.CheckRule.TheVariants.{WrongCount, FixedTarget, WrongPicture, WrongMain}
-use Rattle.ss_check.specs.declared.variable.Variable.{Variable}
 use Rattle.ss_check.specs.declared.variable.Variable.TheVariants.{Local, Clock}
 use Rattle.ss_check.specs.Program.{SectionTable, is_main}
 use Rattle.ss_check.specs.ProgramSound as sound
@@ -19,7 +17,7 @@ use Rattle.ss_check.specs.Breach.{breach, breach_of, broken, assigns_fixed, firs
 use Rattle.ss_check.specs.Ended.{IsEnded, AreEnded}
 use Rattle.ss_check.specs.Ended as ended
 use Rattle.ss_check.specs.Resolved.{locals_of, resolved, resolved_assign, resolved_expr, resolved_factor, resolved_name, resolved_place, resolved_products, resolved_section, resolved_spot, resolved_sums, resolved_term}
-use Rattle.ss_check.proofs.Breaches.{breach_behind, no_main, no_breach_cons, no_breach_place}
+use Rattle.ss_check.proofs.Breaches.{breach_behind, no_breach_cons, no_breach_place}
 use Rattle.ss_check.proofs.Known.{known, known_parts, any_position, all_known}
 use Rattle.ss_check.proofs.Few.{AreFew}
 

@@ -1,9 +1,9 @@
 -- The first rule of the checker that a program breaks, in the order of its statements.
-use Rattle.std.specs.Prelude.{◌≡◌, ℕ, Bool, true, false, not, ◌||◌, nat_eq, List, [], ◌∷◌, ◌++◌, length, map, Option, Some, None, option_map, if◌then◌else◌}
+use Rattle.std.specs.Prelude.{◌≡◌, ℕ, Bool, false, not, ◌||◌, nat_eq, List, [], ◌∷◌, ◌++◌, length, map, Option, Some, None, option_map, if◌then◌else◌}
 use Rattle.std.specs.Option.{option_or}
 use Rattle.std.specs.List.{list_any}
 use Rattle.ss_report.specs.Pictures.{field_count, has_decimal_field}
-use Rattle.ss_routines.specs.Places.{Output, prints, Place, assign, output, control, Spot, Section}
+use Rattle.ss_routines.specs.Places.{prints, Place, assign, output, control, Spot, Section}
 use Rattle.ss_check.specs.declared.fault.CheckRule.{CheckRule}
 use Rattle.ss_check.specs.declared.fault.CheckRule.TheVariants.{WrongCount, FixedTarget, WrongPicture, WrongMain}
 use Rattle.ss_check.specs.declared.fault.CheckFault.{CheckFault}

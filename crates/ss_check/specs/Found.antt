@@ -1,5 +1,5 @@
 -- What a name is in a program.
-use Rattle.std.specs.Prelude.{ℕ, Bool, ◌||◌, List, [], ◌∷◌, Option, Some, None, is_some, position, bytes_eq, if◌then◌else◌}
+use Rattle.std.specs.Prelude.{ℕ, Bool, ◌||◌, List, Option, Some, None, is_some, position, bytes_eq, if◌then◌else◌}
 use Rattle.ss_check.specs.declared.find.Named.{Named}
 use Rattle.ss_check.specs.Names.{is_clock}
 use Rattle.ss_check.specs.Program.{ProgramTable}

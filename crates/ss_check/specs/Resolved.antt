@@ -1,10 +1,10 @@
 -- The program that sections without a breach stand for: each name replaced by its place in its table.
-use Rattle.std.specs.Prelude.{ℕ, Bool, ◌||◌, List, [], ◌∷◌, ◌++◌, map, if◌then◌else◌, bytes_eq}
+use Rattle.std.specs.Prelude.{ℕ, ◌||◌, List, [], ◌∷◌, ◌++◌, map, if◌then◌else◌, bytes_eq}
 use Rattle.std.specs.List.{list_any, flat_map, fold, position_or_len}
 use Rattle.ss_routines.specs.Expr.{Expr, expr, Sums, no_sums, sum, Term, term, Products, no_products, product, Factor, digits, variable, within}
 use Rattle.ss_routines.specs.Places.{Assign, lets, adds, subtracts, Output, prints, Control, stops, ends, Place, assign, output, control, Spot, Section}
 use Rattle.ss_check.specs.declared.variable.Variable.{Variable}
-use Rattle.ss_check.specs.declared.variable.Variable.TheVariants.{Global, Local, Clock}
+use Rattle.ss_check.specs.declared.variable.Variable.TheVariants.{Local, Clock}
 use Rattle.ss_check.specs.declared.place.Assign.{Assign as CheckedAssign}
 use Rattle.ss_check.specs.declared.place.Assign.TheVariants as a
 use Rattle.ss_check.specs.declared.place.Output.{Output as CheckedOutput}

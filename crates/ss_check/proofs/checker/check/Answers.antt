@@ -1,4 +1,4 @@
-use Rattle.std.proofs.Common.{◌≡◌, ◌<◌, ◌^◌, length, arith, rules}
+use Rattle.std.proofs.Common.{◌<◌, ◌^◌, length, arith}
 use Rattle.std.specs.Prelude.{map}
 use Rattle.ss_routines.specs.View.{section_view}
 use Rattle.std.proofs.lemmas.List.{length-map}
