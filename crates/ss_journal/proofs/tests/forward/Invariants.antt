@@ -1,0 +1,8 @@
+use Rattle.ss_journal.specs.Undoing.{GoesOn}
+use Rattle.ss_journal.specs.contracts.tests.DialUndo.TheImpl.{fits-value, unapply-value}
+use Rattle.ss_journal.proofs.tests.forward.Given as goal
+
+-- so far a turn was noted for each value
+abbrev pub invariant-loop-value : goal.invariant-loop-value
+invariant-loop-value l =
+    GoesOn fits-value.it unapply-value.it l.value-index l.initial.dial l.initial.journal l.dial l.journal

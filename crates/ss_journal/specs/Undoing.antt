@@ -1,0 +1,40 @@
+-- undoing: for any changes C of any states S, where `fits` says that a change can be taken back and `unapply` takes it back
+use Rattle.std.specs.Prelude.{◌≡◌, ℕ, ◌+◌, ◌≤◌, List, [], ◌∷◌, ◌++◌, length}
+use Rattle.ss_journal.specs.Log.{Log}
+
+-- the state before a list of changes, which stands with the newest first
+abbrev pub unapply_all : {S C : Type 0} → (C → S → S) → List C → S → S
+unapply_all unapply [] s = s
+unapply_all unapply (c ∷ cs) s = unapply_all unapply cs (unapply c s)
+
+-- each change of a list fits in its turn
+abbrev pub FitsAll : {S C : Type 0} → (C → S → Type 0) → (C → S → S) → List C → S → Type 0
+FitsAll fits unapply [] s = Unit {0}
+FitsAll fits unapply (c ∷ cs) s = fits c s × FitsAll fits unapply cs (unapply c s)
+
+-- each change of each step fits in its turn
+abbrev pub FitsSteps : {S C : Type 0} → (C → S → Type 0) → (C → S → S) → List (List C) → S → Type 0
+FitsSteps fits unapply [] s = Unit {0}
+FitsSteps fits unapply (step ∷ earlier) s = FitsAll fits unapply step s × FitsSteps fits unapply earlier (unapply_all unapply step s)
+
+-- the states before each step, the earliest first, got by unapplying the steps from the last to the first
+abbrev pub past : {S C : Type 0} → (C → S → S) → S → List (List C) → List S
+past unapply s [] = []
+past unapply s (step ∷ earlier) = past unapply (unapply_all unapply step s) earlier ++ unapply_all unapply step s ∷ []
+
+-- each step fits, and leads back to the state of that number, counted from 0 before the earliest step
+abbrev pub Kept : {S C : Type 0} → (C → S → Type 0) → (C → S → S) → (ℕ → S) → List (List C) → S → Type 0
+Kept fits unapply state_at [] s = Unit {0}
+Kept fits unapply state_at (step ∷ earlier) s =
+    FitsAll fits unapply step s
+    × (unapply_all unapply step s ≡ state_at (length earlier))
+    × Kept fits unapply state_at earlier (unapply_all unapply step s)
+
+-- a piece of work on a state and its journal, which notes at most n changes: these fit, and lead back to the state before
+pub record GoesOn {S C : Type 0} (fits : C → S → Type 0) (unapply : C → S → S) (n : ℕ) (s : S) (j : Log C) (s' : S) (j' : Log C) : Type 0 where
+  pub origin : unapply_all unapply j'.current s' ≡ unapply_all unapply j.current s
+  pub fitting : FitsAll fits unapply j.current s → FitsAll fits unapply j'.current s'
+  pub steps : j'.steps ≡ j.steps
+  pub closes : j.closes ≤ j'.closes
+  pub noted : length j'.current ≤ n + length j.current
+  pub room : j.notes ≤ n + j'.notes

@@ -1,0 +1,141 @@
+ghost use Rattle.std.specs.Prelude.{◌≡◌, ◌+◌, ◌<◌, ◌≤◌, ◌∷◌, [], length, IsOk, OnOk, MatchOption, MatchBool};
+
+use std::alloc::{AllocError, Global};
+use std::marker::Model;
+
+/// A list of closed steps, each a list of changes, and one open step.
+///
+/// Beside these a journal has two numbers of room, one for notes and one for closes. Only [`Journal::reserve`] takes memory;
+/// every other call is made of a fixed number of moves, whatever the journal holds.
+#[derive(Drop)]
+pub struct Journal<C> {
+    // The changes of all steps, the oldest first; the last `unclosed` of them are those of the open step.
+    changes: Vec<C>,
+    // How many changes each closed step has, the oldest step first.
+    sizes: Vec<usize>,
+    unclosed: usize,
+}
+
+impl<C> Model for Journal<C> {
+    ghost use Rattle.std.specs.Prelude.{◌≡◌, ◌+◌, ◌-◌, sum, reverse, take, drop, vec_len, vec_capacity};
+    ghost use Rattle.ss_journal.specs.Log.{Log};
+    ghost use Rattle.ss_journal.specs.Pieces.{pieces};
+
+    ghost Value = { Log C };
+
+    ghost view = { λ a. record {
+      steps = pieces (reverse a.sizes.items) (drop a.unclosed (reverse a.changes.items));
+      current = take a.unclosed (reverse a.changes.items);
+      notes = vec_capacity a.changes - vec_len a.changes;
+      closes = vec_capacity a.sizes - vec_len a.sizes;
+    } };
+
+    ghost invariant = { λ a. a.unclosed + sum a.sizes.items ≡ vec_len a.changes };
+}
+
+impl<C> Journal<C> {
+    /// A journal without steps, whose open step is empty. It takes no memory.
+    pub fn new(alloc: Global) -> Self
+        ensures steps { result.steps ≡ [] }
+        ensures current { result.current ≡ [] }
+        ensures notes { result.notes ≡ 0 }
+        ensures closes { result.closes ≡ 0 }
+    {
+        Journal {
+            changes: Vec::new(alloc),
+            sizes: Vec::new(alloc),
+            unclosed: 0,
+        }
+    }
+
+    /// Makes room for at least `n` notes and one close.
+    ///
+    /// Room grows by doubling, so that over many steps a step takes constant time for each of its changes. `AllocError` comes
+    /// only where room was missing and a growth was refused; the room of the other kind may then have grown.
+    pub fn reserve(&mut self, n: usize) -> Result<(), AllocError>
+        // The steps stay as they are, whatever the result, and no room is less.
+        ensures steps { self.new.steps ≡ self.old.steps }
+        ensures current { self.new.current ≡ self.old.current }
+        ensures notes_stay { self.old.notes ≤ self.new.notes }
+        ensures closes_stay { self.old.closes ≤ self.new.closes }
+
+        // Where it succeeds there is room, and where there was room it succeeds.
+        ensures notes { OnOk result (n ≤ self.new.notes) }
+        ensures closes { OnOk result (0 < self.new.closes) }
+        ensures had_room { n ≤ self.old.notes → 0 < self.old.closes → IsOk result }
+    {
+        self.changes.try_reserve(n)?;
+        self.sizes.try_reserve(1)?;
+        Ok(())
+    }
+
+    /// Notes a change as the newest of the open step. It uses up the room of one note.
+    pub fn note(&mut self, change: C)
+        requires { 0 < self.old.notes }
+        ensures steps { self.new.steps ≡ self.old.steps }
+        ensures current { self.new.current ≡ change ∷ self.old.current }
+        ensures notes { self.new.notes + 1 ≡ self.old.notes }
+        ensures closes { self.new.closes ≡ self.old.closes }
+    {
+        self.changes.push_reserved(change);
+        self.unclosed += 1;
+    }
+
+    /// Makes the open step the newest closed one, and opens an empty step. It uses up the room of one close.
+    pub fn close(&mut self)
+        requires { 0 < self.old.closes }
+        ensures steps { self.new.steps ≡ self.old.current ∷ self.old.steps }
+        ensures current { self.new.current ≡ [] }
+        ensures notes { self.new.notes ≡ self.old.notes }
+        ensures closes { self.new.closes + 1 ≡ self.old.closes }
+    {
+        self.sizes.push_reserved(self.unclosed);
+        self.unclosed = 0;
+    }
+
+    /// Takes the newest change off the open step; `None` where that step is empty. The room of its note is free again.
+    pub fn pop_open(&mut self) -> Option<C>
+        ensures steps { self.new.steps ≡ self.old.steps }
+        ensures current { MatchOption result
+            ((self.old.current ≡ []) × (self.new.current ≡ []))
+            (λ change. self.old.current ≡ change ∷ self.new.current) }
+        ensures notes { MatchOption result
+            (self.new.notes ≡ self.old.notes)
+            (λ _. self.new.notes ≡ self.old.notes + 1) }
+        ensures closes { self.new.closes ≡ self.old.closes }
+    {
+        if self.unclosed == 0 {
+            return None;
+        }
+        self.unclosed -= 1;
+        self.changes.pop()
+    }
+
+    /// Makes the newest closed step the open one again; false where no step is closed, and then nothing changes. The room of its
+    /// close is free again.
+    pub fn reopen_last(&mut self) -> bool
+        requires { self.old.current ≡ [] }
+        ensures steps { MatchBool result
+            (self.old.steps ≡ self.new.current ∷ self.new.steps)
+            ((self.old.steps ≡ []) × (self.new.steps ≡ []) × (self.new.current ≡ [])) }
+        ensures notes { self.new.notes ≡ self.old.notes }
+        ensures closes { MatchBool result
+            (self.new.closes ≡ self.old.closes + 1)
+            (self.new.closes ≡ self.old.closes) }
+    {
+        match self.sizes.pop() {
+            None => false,
+            Some(size) => {
+                self.unclosed = size;
+                true
+            }
+        }
+    }
+
+    /// The number of closed steps.
+    pub fn steps(&self) -> usize
+        ensures { result ≡ length self.now.steps }
+    {
+        self.sizes.len()
+    }
+}

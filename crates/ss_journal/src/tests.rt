@@ -1,0 +1,140 @@
+ghost use Rattle.std.specs.Prelude.{◌≡◌, []};
+ghost use Rattle.ss_journal.specs.Undoing.{FitsSteps};
+
+use crate::{Journal, Undo, roll_back};
+use std::alloc::AllocError;
+use std::process::Abort;
+use std::test::Fail;
+
+// A dial with a value, and one turn of it.
+#[derive(Drop)]
+struct Dial {
+    value: u64,
+}
+
+#[derive(Drop)]
+struct Turn {
+    from: u64,
+    to: u64,
+}
+
+impl Undo for Dial {
+    type Change = Turn;
+
+    ghost fits = { λ turn dial. turn.to ≡ dial.value };
+
+    ghost unapply = { λ turn dial. record { value = turn.from } };
+
+    fn undo(&mut self, turn: Turn) {
+        self.value = turn.from;
+    }
+}
+
+impl Dial {
+    fn turn(&mut self, to: u64) -> Turn
+        ensures fits { ⟦<Dial as Undo>⟧.fits result self.new }
+        ensures back { ⟦<Dial as Undo>⟧.unapply result self.new ≡ self.old }
+    {
+        let from = self.value;
+        self.value = to;
+        Turn { from, to }
+    }
+}
+
+// One step, a turn for each value; nothing where memory was refused.
+fn forward(dial: &mut Dial, journal: &mut Journal<Turn>, values: &[u64]) -> Result<(), AllocError>
+    requires closed { journal.old.current ≡ [] }
+    requires fits { FitsSteps ⟦<Dial as Undo>⟧.fits ⟦<Dial as Undo>⟧.unapply journal.old.steps dial.old }
+    ensures closed { journal.new.current ≡ [] }
+    ensures fits { FitsSteps ⟦<Dial as Undo>⟧.fits ⟦<Dial as Undo>⟧.unapply journal.new.steps dial.new }
+{
+    journal.reserve(values.len())?;
+    for value in values {
+        let turn = dial.turn(*value);
+        journal.note(turn);
+    }
+    journal.close();
+    Ok(())
+}
+
+// One step back; false where there is none.
+fn back(dial: &mut Dial, journal: &mut Journal<Turn>) -> bool
+    requires closed { journal.old.current ≡ [] }
+    requires fits { FitsSteps ⟦<Dial as Undo>⟧.fits ⟦<Dial as Undo>⟧.unapply journal.old.steps dial.old }
+    ensures closed { journal.new.current ≡ [] }
+    ensures fits { FitsSteps ⟦<Dial as Undo>⟧.fits ⟦<Dial as Undo>⟧.unapply journal.new.steps dial.new }
+{
+    if !journal.reopen_last() {
+        return false;
+    }
+    roll_back(dial, journal);
+    true
+}
+
+// Six steps forward and all back, each state compared. A step that is refused memory is tried again, with nothing changed.
+fn there_and_back(
+    rt: &impl Abort,
+    dial: &mut Dial,
+    journal: &mut Journal<Turn>,
+) -> Result<(), AllocError>
+    requires closed { journal.old.current ≡ [] }
+    requires fits { FitsSteps ⟦<Dial as Undo>⟧.fits ⟦<Dial as Undo>⟧.unapply journal.old.steps dial.old }
+    ensures closed { journal.new.current ≡ [] }
+    ensures fits { FitsSteps ⟦<Dial as Undo>⟧.fits ⟦<Dial as Undo>⟧.unapply journal.new.steps dial.new }
+{
+    let rows = [
+        (0, [3].as_slice()),
+        (3, [5, 7].as_slice()),
+        (7, [].as_slice()),
+        (7, [11, 13, 17].as_slice()),
+        (17, [2].as_slice()),
+        (2, [19, 23, 29, 31, 37].as_slice()),
+    ];
+    for (before, values) in rows {
+        let kept = journal.steps();
+        assert_eq!(rt; dial.value, before);
+        if forward(dial, journal, values).is_err() {
+            assert_eq!(rt; dial.value, before);
+            assert_eq!(rt; journal.steps(), kept);
+            forward(dial, journal, values)?;
+        }
+    }
+    assert_eq!(rt; dial.value, 37);
+    for (kept, before) in [(5, 2), (4, 17), (3, 7), (2, 7), (1, 3), (0, 0)] {
+        assert!(rt; back(dial, journal));
+        assert_eq!(rt; dial.value, before);
+        assert_eq!(rt; journal.steps(), kept);
+    }
+    assert!(rt; !back(dial, journal));
+    assert_eq!(rt; dial.value, 0);
+    Ok(())
+}
+
+#[test]
+fn each_earlier_state_comes_back(rt: HostRuntime) -> Result<(), Fail> {
+    let mut dial = Dial { value: 0 };
+    let mut journal = Journal::new(rt.alloc());
+    there_and_back(&rt, &mut dial, &mut journal)?;
+    there_and_back(&rt, &mut dial, &mut journal)?;
+    Ok(())
+}
+
+#[test]
+fn work_that_was_not_closed_is_taken_back(rt: HostRuntime) -> Result<(), Fail> {
+    let mut dial = Dial { value: 3 };
+    let mut journal = Journal::new(rt.alloc());
+    if journal.reserve(2).is_err() {
+        assert_eq!(rt; journal.steps(), 0);
+        journal.reserve(2)?;
+    }
+    let first = dial.turn(5);
+    journal.note(first);
+    let second = dial.turn(7);
+    journal.note(second);
+    roll_back(&mut dial, &mut journal);
+    assert_eq!(rt; dial.value, 3);
+    assert_eq!(rt; journal.steps(), 0);
+    assert!(rt; journal.pop_open().is_none());
+    assert!(rt; !journal.reopen_last());
+    Ok(())
+}
