@@ -1,3 +1,5 @@
 pub mod Faults
 pub mod Words
 pub mod Plain
+pub mod Spellings
+pub mod PlainRules

@@ -3,8 +3,10 @@
 
 mod fault;
 mod mark;
+mod plain_rules;
 mod plain_word;
 mod reserved;
+mod spelling;
 mod word;
 
 pub use fault::{RunFault, StepFault, TextFault, TextRule};
