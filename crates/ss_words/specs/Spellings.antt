@@ -6,7 +6,7 @@ use Rattle.ss_words.specs.declared.reserved.Reserved.TheVariants as r
 use Rattle.ss_words.specs.declared.word.Sign.TheVariants as s
 
 -- words that mean the same, as EVERY, EACH and ALL, have one mark
-abbrev pub spellings : List (List ℕ × Mark)
+unfoldable pub spellings : List (List ℕ × Mark)
 spellings =
     (codes "A", m.Reserved r.A) ∷
     (codes "AN", m.Reserved r.An) ∷
