@@ -3,3 +3,4 @@ pub mod Words
 pub mod Plain
 pub mod Spellings
 pub mod PlainRules
+pub mod PlainLaws

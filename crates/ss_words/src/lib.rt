@@ -3,6 +3,7 @@
 
 mod fault;
 mod mark;
+mod plain_laws;
 mod plain_list;
 mod plain_rules;
 mod plain_word;
