@@ -17,3 +17,6 @@ pub use plain_list::plain_words;
 pub use plain_word::{Plain, PlainWord};
 pub use reserved::Reserved;
 pub use word::{Sign, Word, WordKind, Words};
+
+#[cfg(test)]
+mod tests;
