@@ -35,9 +35,9 @@ pub following_turns : (q : Rule) (total : List PlainAt) (last governs : Option M
 following_turns q total last governs kept w rest m now_governs after now_kept h mark_is governs_are after_is kept_are =
     let stands : Around = record { before = last; governing = governs; after = after } in
     let same : stands ≡ around (plains h.before) (plains rest) =
-        ap (λ (x : Option Mark). let a : Around = record { before = x; governing = governs; after = after } in a) h.last_is
-        ∙ ap (λ (x : Option Mark). let a : Around = record { before = beside (plains h.before); governing = x; after = after } in a) h.governs_is
-        ∙ ap (λ (x : Option Mark). let a : Around = record { before = beside (plains h.before); governing = governing (plains h.before); after = x } in a) after_is in
+    ap (λ (x : Option Mark). let a : Around = record { before = x; governing = governs; after = after } in a) h.last_is
+    ∙ ap (λ (x : Option Mark). let a : Around = record { before = beside (plains h.before); governing = x; after = after } in a) h.governs_is
+    ∙ ap (λ (x : Option Mark). let a : Around = record { before = beside (plains h.before); governing = governing (plains h.before); after = x } in a) after_is in
     record {
       before = w ∷ h.before;
       last_is = mark_is;
@@ -47,7 +47,7 @@ following_turns q total last governs kept w rest m now_governs after now_kept h 
       whole = ap (λ (ws : List PlainAt). ws ++ follow_behind q (w ∷ h.before) rest) kept_are
           ∙ append_assoc kept _ _
           ∙ ap (λ (a : Around). kept ++ (ruled_word q a w ++ follow_behind q (w ∷ h.before) rest)) same
-          ∙ h.whole
+          ∙ h.whole;
     }
 
 pub following_ends : (q : Rule) (total : List PlainAt) (last governs : Option Mark) (kept : List PlainAt) → IsUnderWay q total last governs kept [] → kept ≡ total

@@ -1,8 +1,8 @@
 -- What the rules of the plain words come to on lists of words that are written out; each equation is a contract of src/plain_laws.rt.
-use Rattle.std.specs.Prelude.{◌≡◌, ℕ, Bool, List, [], ◌∷◌, ◌++◌, map, codes, bytes_eq, if◌then◌else◌, ◌==◌}
+use Rattle.std.specs.Prelude.{◌≡◌, ℕ, List, [], ◌∷◌, ◌++◌, map, codes, bytes_eq, if◌then◌else◌, ◌==◌}
 use Rattle.ss_words.specs.declared.word.Sign.TheVariants as s
 use Rattle.ss_words.specs.Words.{Kind, WordAt, name, sign}
-use Rattle.ss_words.specs.Plain.{Plain, plains}
+use Rattle.ss_words.specs.Plain.{plains}
 use Rattle.ss_words.specs.PlainRules.{spelled, plain_words_of}
 
 abbrev pub onto_first : ℕ → List (List ℕ) → List (List ℕ)

@@ -1,6 +1,6 @@
 -- The plain words of a list of words: five rules, each over the whole list that the one before it gives.
 use Rattle.std.specs.Prelude.{ℕ, Bool, true, false, List, [], ◌∷◌, ◌++◌, map, Option, Some, None, if◌then◌else◌, find, option_and_then, option_map, option_to_list}
-use Rattle.std.specs.List.{enumerate_from, filter_map}
+use Rattle.std.specs.List.{enumerate_from}
 use Rattle.ss_words.specs.declared.mark.Mark.{Mark}
 use Rattle.ss_words.specs.declared.mark.Mark.TheVariants.{Reserved, Sign}
 use Rattle.ss_words.specs.declared.reserved.Reserved.TheVariants as r

@@ -112,6 +112,7 @@ pub fn is_governing(mark: Mark) -> bool
         ),
     }
 }
+
 fn without_fillers(around: Around, mark: Mark) -> Option<Mark>
     ensures { result ≡ spec.without_fillers around mark }
 {

@@ -142,10 +142,18 @@ pub const SPELLINGS: [(&[u8], Mark); 130] = [
 ];
 
 /// What a name in upper case is reserved for; `None` where it is free.
+#[tactic(auto, unfolding(crate::specs::Spellings::mark_of))]
 pub fn reserved(name: &[u8]) -> Option<Mark>
     ensures { result ≡ mark_of name.now }
 {
-    mark_beside(name, &SPELLINGS)
+    mark_beside(name, spellings())
+}
+
+#[tactic(auto, unfolding(crate::specs::Spellings::spellings))]
+fn spellings() -> &'static [(&'static [u8], Mark)]
+    ensures { map (λ row. (row.0.now, row.1)) result.now ≡ spec.spellings }
+{
+    &SPELLINGS
 }
 
 fn mark_beside(name: &[u8], mut rows: &[(&[u8], Mark)]) -> Option<Mark>

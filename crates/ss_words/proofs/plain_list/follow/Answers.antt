@@ -1,8 +1,4 @@
-use Rattle.std.proofs.Common.{◌≡◌, map, length, List, [], ◌∷◌, ◌++◌, refl, sym, ap, ◌∙◌, arith}
-use Rattle.std.specs.Prelude.{option_to_list}
-use Rattle.std.specs.Vec.Iter.{into_iter_items}
-use Rattle.ss_words.specs.Plain.{plain_at}
-use Rattle.ss_words.specs.PlainRules.{follow}
+use Rattle.std.proofs.Common.{◌∙◌}
 use Rattle.ss_words.proofs.PlainFollowing.{following_begins, following_turns, following_ends, after_is, nothing_left}
 use Rattle.ss_words.proofs.plain_list.follow.Goals as goal
 
@@ -15,9 +11,11 @@ pub loop-next-preserved : goal.loop-next-preserved
 loop-next-preserved c =
     let step = c.next-next-in-Some in
     let over = nothing_left step.result _ _ _ _ step.ensures.cases step.new.self.rest.ok.0 in
-    let stood = rw (c.in-Some.is, step.ensures.items) at c.loop-next.invariant.0 in
-    (following_turns _ _ _ _ _ _ _ _ _ _ _ stood c.mark-mark.ensures c.governed_by-governing.ensures
-      (c.mark_of.ensures ∙ after_is step.result _ over) c.in_ok-keep.ensures, over)
+    let stood = rw (c.in-Some.is, step.ensures.items) at c.loop-next.invariant.0 in (
+      following_turns _ _ _ _ _ _ _ _ _ _ _ stood c.mark-mark.ensures c.governed_by-governing.ensures
+          (c.mark_of.ensures ∙ after_is step.result _ over) c.in_ok-keep.ensures,
+      over,
+    )
 
 pub returns : goal.returns
 returns c =
