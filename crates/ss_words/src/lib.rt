@@ -3,12 +3,20 @@
 
 mod fault;
 mod mark;
+mod plain_laws;
+mod plain_list;
+mod plain_rules;
 mod plain_word;
 mod reserved;
+mod spelling;
 mod word;
 
 pub use fault::{RunFault, StepFault, TextFault, TextRule};
 pub use mark::Mark;
+pub use plain_list::plain_words;
 pub use plain_word::{Plain, PlainWord};
 pub use reserved::Reserved;
 pub use word::{Sign, Word, WordKind, Words};
+
+#[cfg(test)]
+mod tests;
