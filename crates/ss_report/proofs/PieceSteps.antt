@@ -1,5 +1,5 @@
 -- One piece more, or one piece less.
-use Rattle.std.proofs.Common.{◌≡◌, ℕ, ℤ, ◌+◌, ◌<◌, Bool, true, false, cond, List, [], ◌∷◌, ◌++◌, length, get_or, map, take, drop, refl, sym, ap, ◌∙◌, append_assoc, arith}
+use Rattle.std.proofs.Common.{◌≡◌, ℕ, ℤ, ◌+◌, ◌<◌, Bool, true, false, cond, List, [], ◌∷◌, ◌++◌, length, get_or, map, take, drop, refl, sym, ap, ◌∙◌, append_assoc, append-nil, arith, pos}
 use Rattle.std.proofs.lemmas.List.{drop_more, take_more, get_or_read}
 use Rattle.std.proofs.lemmas.List.Concat.{flat_map-append}
 use Rattle.std.proofs.lemmas.List.Sums.{sum_by-append, sum_by-cons, sum_by_push}
@@ -55,9 +55,18 @@ pub written-text : (old new all : List ℕ) (left rest : List Part) (bs : List �
 written-text old new all left rest bs vs e n h =
     rw (n, append_assoc, ← filled-bytes bs rest vs, ← e) h
 
-pub written-field : (old new all : List ℕ) (left rest : List Part) (width : ℕ) (v : ℤ) (vs others : List ℤ) → left ≡ field width ∷ rest → new ≡ old ++ field_text width v → vs ≡ v ∷ others → old ++ filled left vs ≡ all → new ++ filled rest others ≡ all
-written-field old new all left rest width v vs others e n w h =
-    rw (n, append_assoc) (rw (e, w) at h)
+filled-field : (width : ℕ) (ps : List Part) (vs : List ℤ) → filled (field width ∷ ps) vs ≡ filled (field width ∷ []) vs ++ filled ps (drop 1 vs)
+filled-field width ps [] = rw append-nil refl
+filled-field width ps (v ∷ vs) = rw append-nil refl
+
+pub written-field : (old new all : List ℕ) (left rest : List Part) (width : ℕ) (vs others : List ℤ) → left ≡ field width ∷ rest → new ≡ old ++ filled (field width ∷ []) vs → others ≡ drop 1 vs → old ++ filled left vs ≡ all → new ++ filled rest others ≡ all
+written-field old new all left rest width vs others e n o h =
+    rw (n, append_assoc, o, ← filled-field width rest vs, ← e) h
+
+-- the text of one field with the first of some values
+pub filled-first : (width : ℕ) (vs : List ℤ) → 0 < length vs → filled (field width ∷ []) vs ≡ field_text width (get_or vs 0 (pos 0))
+filled-first width [] h = absurd (omega arith)
+filled-first width (v ∷ vs) h = append-nil _
 
 pub written-line_end : (old new all : List ℕ) (left rest : List Part) (vs : List ℤ) → left ≡ line_end ∷ rest → new ≡ old ++ 10 ∷ [] → old ++ filled left vs ≡ all → new ++ filled rest vs ≡ all
 written-line_end old new all left rest vs e n h = rw (n, append_assoc) (rw e at h)
