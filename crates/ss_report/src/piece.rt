@@ -45,6 +45,7 @@ fn add_line(alloc: Global, pieces: &mut Vec<Piece>, line: &[u8]) -> Result<(), A
 }
 
 /// The first piece of a line, and what stands behind it.
+#[tactic(auto, using(crate::proofs::Lines::first_field))]
 fn first_piece(alloc: Global, line: &[u8]) -> Result<(Piece, &[u8]), AllocError>
     requires { 0 < length line.now }
     ensures parts { IfOk result
@@ -125,6 +126,7 @@ pub(crate) fn write_pieces(bytes: &mut Vec<u8>, pieces: &[Piece], values: &[i64]
 }
 
 /// Appends the first value in a field of this width, for which there is room. The result is the other values.
+#[tactic(auto, using(crate::proofs::PieceSteps::first_value))]
 fn append_first<'a>(bytes: &mut Vec<u8>, width: usize, values: &'a [i64]) -> &'a [i64]
     requires some { 0 < length values.now }
     requires room { vec_len bytes.old + width ≤ vec_capacity bytes.old }
