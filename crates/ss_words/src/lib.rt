@@ -5,10 +5,15 @@ mod fault;
 mod mark;
 mod plain_word;
 mod reserved;
+mod scan;
+#[cfg(test)]
+mod tests;
+mod text_laws;
 mod word;
 
 pub use fault::{RunFault, StepFault, TextFault, TextRule};
 pub use mark::Mark;
 pub use plain_word::{Plain, PlainWord};
 pub use reserved::Reserved;
+pub use scan::words;
 pub use word::{Sign, Word, WordKind, Words};
