@@ -5,3 +5,5 @@ pub mod TextBytes
 pub mod TextLines
 pub mod TextRuns
 pub mod TextWords
+pub mod TextScan
+pub mod TextSpelling

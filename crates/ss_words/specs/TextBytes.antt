@@ -37,6 +37,20 @@ sign_from b next =
     else (if b == 62 && next == 61 then Some GreaterEqual
     else one_byte_sign b)
 
+-- how many bytes a sign has
+abbrev pub sign_len : Sign → ℕ
+sign_len LessEqual = 2
+sign_len GreaterEqual = 2
+sign_len Plus = 1
+sign_len Minus = 1
+sign_len Star = 1
+sign_len Open = 1
+sign_len Close = 1
+sign_len Comma = 1
+sign_len Equal = 1
+sign_len Less = 1
+sign_len Greater = 1
+
 -- a byte goes on with what the byte `last` before it belongs to: a run, or a sign of two bytes
 unfoldable pub is_joined : ℕ → ℕ → Bool
 is_joined last b = (in_run last && in_run b) || ((last == 60 || last == 62) && b == 61)

@@ -102,12 +102,12 @@ picture_found (suc k) n lines = word (on_line n (picture (take (suc k) lines))) 
 unfoldable pub found_from_line : List Kind → ℕ → ℕ → List (List ℕ) → List Found
 found_from_line before n zero [] = []
 found_from_line before n (suc k) [] = []
-found_from_line before n (suc k) (l ∷ ls) = found_in_picture n l ++ found_from_line before (suc n) k ls
+found_from_line before n (suc k) (l ∷ ls) = found_in_picture n l ++ found_from_line before (n + 1) k ls
 found_from_line before n zero (l ∷ ls) =
     let here = found_in_line n (length ls) before l in
-    let size = picture_size (nearest_first here before) in
-    let drawn = picture_found size (suc n) ls in
-    here ++ drawn ++ found_from_line (nearest_first drawn (nearest_first here before)) (suc n) size ls
+    let now = nearest_first here before in
+    let drawn = picture_found (picture_size now) (n + 1) ls in
+    here ++ (drawn ++ found_from_line (nearest_first drawn now) (n + 1) (picture_size now) ls)
 
 -- all that is found in a text, in the order of its places
 unfoldable pub found_in_text : List ℕ → List Found

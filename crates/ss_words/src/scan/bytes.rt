@@ -1,5 +1,7 @@
 //! What the bytes of a line are.
-ghost use Rattle.std.specs.Prelude.{◌≡◌, Option, Some, None};
+#![tactic(auto, unfolding(crate::specs::TextBytes::is_allowed, crate::specs::TextBytes::is_blank, crate::specs::TextBytes::in_run, crate::specs::TextBytes::one_byte_sign, crate::specs::TextBytes::sign_from))]
+
+ghost use Rattle.std.specs.Prelude.{◌≡◌};
 ghost use Rattle.ss_words.specs.TextBytes.{is_allowed, is_blank, in_run, one_byte_sign, sign_from};
 
 use crate::word::Sign;
@@ -11,6 +13,7 @@ pub fn is_allowed(byte: u8) -> bool
     byte == b'\t' || (byte >= b' ' && byte <= b'~')
 }
 
+// A blank or a tab.
 pub fn is_blank(byte: u8) -> bool
     ensures { result ≡ is_blank byte }
 {

@@ -1,17 +1,29 @@
 //! Runs of letters, digits and stops.
-ghost use Rattle.std.specs.Prelude.{◌≡◌, ◌^◌, ◌<◌, ◌≤◌, length, take, drop, take_while, SomeIff, map, IfOk};
+ghost use Rattle.std.specs.Prelude.{◌≡◌, ◌^◌, ◌<◌, ◌==◌, map, SomeIff, IfOk};
+ghost use Rattle.std.specs.List.{prefix_len, list_any};
 ghost use Rattle.std.specs.Char.{to_ascii_uppercase};
 ghost use Rattle.ss_words.specs.TextBytes.{in_run};
 ghost use Rattle.ss_words.specs.TextRuns.{without_stops, number_of, has_letter};
+ghost use Rattle.ss_words.specs.TextSpelling.{spelling_of};
 
 use std::alloc::{AllocError, Global};
 
 use crate::scan::bytes::in_run;
 
+const LARGEST_NUMBER: u64 = i64::MAX as u64;
+
+/// What a run spells; without bytes it spells the number 0.
+#[derive(Clone, Copy)]
+pub enum Spelling {
+    Name,
+    Number(u64),
+    /// Digits with a stop left in them, or a number above 2^63 - 1.
+    BadNumber,
+}
+
 // How many bytes at the front are of a run.
 pub fn run_len(line: &[u8]) -> usize
-    ensures in_range { result ≤ length line.now }
-    ensures run { take result line.now ≡ take_while in_run line.now }
+    ensures { result ≡ prefix_len in_run line.now }
 {
     let mut len = 0;
     while len < line.len() && in_run(line[len]) {
@@ -31,21 +43,26 @@ pub fn without_stops(run: &[u8]) -> &[u8]
     &run[..len]
 }
 
-pub fn has_letter(run: &[u8]) -> bool
+fn has_letter(run: &[u8]) -> bool
     ensures { result ≡ has_letter run.now }
 {
     run.iter().any(|byte| byte.is_ascii_alphabetic())
 }
 
-// The number that digits spell, if it is at most 2^63 - 1 and no stop is among them.
-pub fn number_of(digits: &[u8]) -> Option<u64> {
+fn has_stop(run: &[u8]) -> bool
+    ensures { result ≡ list_any (λ b. b == 46) run.now }
+{
+    run.iter().any(|byte| *byte == b'.')
+}
+
+// The number that digits spell, if it is at most 2^63 - 1.
+fn number_of(digits: &[u8]) -> Option<u64>
+    ensures { SomeIff result (number_of digits.now < 2 ^ 63) (number_of digits.now) }
+{
     let mut number = 0u64;
-    for digit in digits {
-        if !digit.is_ascii_digit() {
-            return None;
-        }
-        let digit = (*digit - b'0') as u64;
-        if number > (LARGEST - digit) / 10 {
+    for byte in digits {
+        let digit = byte.saturating_sub(b'0') as u64;
+        if number > (LARGEST_NUMBER - digit) / 10 {
             return None;
         }
         number = 10 * number + digit;
@@ -53,7 +70,21 @@ pub fn number_of(digits: &[u8]) -> Option<u64> {
     Some(number)
 }
 
-const LARGEST: u64 = i64::MAX as u64;
+// What a run without stops at its end spells.
+pub fn spelling_of(run: &[u8]) -> Spelling
+    ensures { result ≡ spelling_of run.now }
+{
+    if has_letter(run) {
+        Spelling::Name
+    } else if has_stop(run) {
+        Spelling::BadNumber
+    } else {
+        match number_of(run) {
+            Some(number) => Spelling::Number(number),
+            None => Spelling::BadNumber,
+        }
+    }
+}
 
 // A run in upper case.
 pub fn upper_case(alloc: Global, run: &[u8]) -> Result<Vec<u8>, AllocError>
