@@ -1,11 +1,11 @@
 -- How far a scan of a text has come.
-use Rattle.std.specs.Prelude.{◌≡◌, ℕ, zero, suc, ◌+◌, Bool, true, false, ◌==◌, ◌&&◌, ◌||◌, List, [], ◌∷◌, ◌++◌, map, length, slice_index, nat_lt, codes, Option, Some, None}
+use Rattle.std.specs.Prelude.{◌≡◌, ℕ, zero, suc, ◌+◌, Bool, true, false, ◌==◌, ◌&&◌, ◌||◌, List, [], ◌∷◌, ◌++◌, map, length, slice_index, nat_lt, codes, Option, Some, None, if◌then◌else◌}
 use Rattle.ss_words.specs.declared.fault.TextRule.{TextRule}
 use Rattle.ss_words.specs.declared.fault.TextFault.{TextFault}
 use Rattle.ss_words.specs.declared.fault.TextFault.TheVariants.{Refused, Memory}
 use Rattle.ss_words.specs.Words.{Kind, WordAt}
 use Rattle.ss_words.specs.TextLines.{lines_of}
-use Rattle.ss_words.specs.TextRuns.{ends_in, calls_picture, picture_lines}
+use Rattle.ss_words.specs.TextRuns.{is_name, ends_in, calls_picture, line_count, picture_lines}
 use Rattle.ss_words.specs.TextWords.{Found, word, breach, nearest_first, picture_found, picture_size, found_from_line, found_in_line}
 
 -- the words, the nearest first, in front of those before them
@@ -50,6 +50,14 @@ pub record IsTracked (behind_as behind_print called : Bool) (count : Option ℕ)
   pub print_last : behind_print ≡ ends_in (codes "PRINT") words
   pub calls : called ≡ calls_picture words
   pub lines : count ≡ picture_lines words
+
+-- the words call a picture, once a word joins them
+abbrev pub called_after : Kind → Bool → Bool
+called_after k behind_as = is_name (codes "THUS") k || (is_name (codes "FOLLOWS") k && behind_as)
+
+-- the count of lines that is kept, once a word joins the words
+abbrev pub count_after : Kind → Bool → Option ℕ → Option ℕ
+count_after k behind_print count = if is_name (codes "PRINT") k then None else (if behind_print then line_count (Some k) else count)
 
 -- what is found below a line: the picture that the words call, if they call one, and the lines from line n on
 abbrev pub found_below : List Kind → ℕ → List (List ℕ) → List Found

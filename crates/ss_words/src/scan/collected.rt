@@ -2,6 +2,7 @@
 ghost use Rattle.std.specs.Prelude.{◌≡◌, Some};
 ghost use Rattle.ss_words.specs.Words.{kind_of};
 ghost use Rattle.ss_words.specs.TextRuns.{is_name, line_count};
+ghost use Rattle.ss_words.specs.TextScan.{called_after, count_after};
 
 use std::alloc::Global;
 use std::marker::Model;
@@ -34,6 +35,7 @@ impl Model for Collected {
 }
 
 // A word is this name, which is in upper case.
+#[tactic(auto, unfolding(crate::specs::TextRuns::is_name))]
 fn is_name(word: &WordKind, name: &[u8]) -> bool
     ensures { result ≡ is_name name.now (kind_of word.now) }
 {
@@ -44,6 +46,7 @@ fn is_name(word: &WordKind, name: &[u8]) -> bool
 }
 
 // The count of a picture's lines that a word directly behind PRINT gives.
+#[tactic(auto, unfolding(crate::specs::TextRuns::line_count))]
 fn line_count(word: &WordKind) -> Option<u64>
     ensures { result ≡ line_count (Some (kind_of word.now)) }
 {
@@ -56,6 +59,26 @@ fn line_count(word: &WordKind) -> Option<u64>
             }
         }
         _ => None,
+    }
+}
+
+// The words, which end in AS or do not, call a picture once this word joins them.
+fn called_after(word: &WordKind, behind_as: bool) -> bool
+    ensures { result ≡ called_after (kind_of word.now) behind_as }
+{
+    is_name(word, b"THUS") || (is_name(word, b"FOLLOWS") && behind_as)
+}
+
+// The count of a picture's lines that is kept once this word joins the words.
+fn count_after(word: &WordKind, behind_print: bool, count: Option<u64>) -> Option<u64>
+    ensures { result ≡ count_after (kind_of word.now) behind_print count }
+{
+    if is_name(word, b"PRINT") {
+        None
+    } else if behind_print {
+        line_count(word)
+    } else {
+        count
     }
 }
 
@@ -88,14 +111,8 @@ impl Collected {
     {
         let is_as = is_name(&kind, b"AS");
         let is_print = is_name(&kind, b"PRINT");
-        let calls_picture = is_name(&kind, b"THUS") || (is_name(&kind, b"FOLLOWS") && self.ends_in_as);
-        let lines = if is_print {
-            None
-        } else if self.ends_in_print {
-            line_count(&kind)
-        } else {
-            self.lines
-        };
+        let calls_picture = called_after(&kind, self.ends_in_as);
+        let lines = count_after(&kind, self.ends_in_print, self.lines);
         self.words.push(Word { line, kind })?;
         self.ends_in_as = is_as;
         self.ends_in_print = is_print;

@@ -60,6 +60,7 @@ fn refused(rule: TextRule, line: usize) -> TextFault
 }
 
 // Two quotes stand at the front.
+#[tactic(auto, unfolding(crate::specs::TextScan::begins_comment))]
 fn begins_comment(rest: &[u8]) -> bool
     ensures { result ≡ begins_comment rest.now }
 {

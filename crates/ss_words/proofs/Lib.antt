@@ -1,0 +1,6 @@
+pub mod TextFinds
+pub mod TextBytesLemmas
+pub mod TextCuts
+pub mod TextPlaces
+pub mod TextComments
+pub mod TextTracked
