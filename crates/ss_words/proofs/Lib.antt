@@ -4,3 +4,5 @@ pub mod TextCuts
 pub mod TextPlaces
 pub mod TextComments
 pub mod TextTracked
+pub mod TextLineLemmas
+pub mod TextRunLemmas

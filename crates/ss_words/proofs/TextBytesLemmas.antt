@@ -8,10 +8,16 @@ use Rattle.ss_words.specs.TextBytes.{is_allowed, is_blank, in_run, one_byte_sign
 pub eqb-same : (a b : ℕ) → (a == b) ≡ true → a ≡ b
 eqb-same a b e = (Decides-eqb a b).0 e
 
+pub eqb-not : (a b : ℕ) → (a ≡ b → ⊥) → (a == b) ≡ false
+eqb-not a b differ = elim (a == b) as (λ t. (a == b) ≡ t → t ≡ false) [
+  true ↦ λ same. absurd (differ (eqb-same a b same))
+  | false ↦ λ other. refl
+] refl
+
 -- a byte of a run is another than a byte of none
 pub eqb-run : (b c : ℕ) → in_run b ≡ true → in_run c ≡ false → (b == c) ≡ false
-eqb-run b c yes no = elim (b == c) as (λ t. (b == c) ≡ t → t ≡ false) [
-  true ↦ λ same. let e = eqb-same b c same in cc
+eqb-run b c runs stops = elim (b == c) as (λ t. (b == c) ≡ t → t ≡ false) [
+  true ↦ λ same. let e = ap in_run (eqb-same b c same) in cc
   | false ↦ λ differ. refl
 ] refl
 

@@ -1,6 +1,5 @@
 //! The words of a line outside pictures.
-ghost use Rattle.std.specs.Prelude.{◌≡◌, ℕ, ◌+◌, ◌<◌, ◌≤◌, true, false, [], List, length, drop, slice_index, Some, MatchResult, IfOk};
-ghost use Rattle.std.specs.List.{prefix_len};
+ghost use Rattle.std.specs.Prelude.{◌≡◌, ℕ, ◌+◌, ◌<◌, ◌≤◌, true, false, [], List, length, drop, take_while, slice_index, Some, MatchResult, IfOk};
 ghost use Rattle.ss_words.specs.declared.fault.TextFault.TheVariants.{Refused};
 ghost use Rattle.ss_words.specs.Words.{Kind, kind_of};
 ghost use Rattle.ss_words.specs.TextBytes.{is_blank, in_run, sign_len};
@@ -179,25 +178,22 @@ fn is_met(lines: Option<u64>, below: &Lines) -> bool
     }
 }
 
-// What is behind the blanks and tabs at the front.
-fn without_blanks(rest: &[u8]) -> &[u8]
-    ensures { result.now ≡ drop (prefix_len is_blank rest.now) rest.now }
+// How many blanks and tabs stand at the front.
+fn blanks_len(rest: &[u8]) -> usize
+    ensures len { result ≡ length (take_while is_blank rest.now) }
+    ensures in_range { result ≤ length rest.now }
 {
-    let mut len = 0;
-    while len < rest.len() && is_blank(rest[len]) {
-        len += 1;
-    }
-    &rest[len..]
+    rest.iter().take_while(|byte| is_blank(**byte)).count()
 }
 
 // Only blanks, tabs and at most one comment.
 fn is_bare(rest: &[u8]) -> bool
     ensures { result ≡ is_bare rest.now }
 {
-    let rest = without_blanks(rest);
-    if begins_comment(rest) {
-        without_blanks(&rest[comment_len(rest)..]).is_empty()
-    } else {
-        rest.is_empty()
+    let rest = &rest[blanks_len(rest)..];
+    if !begins_comment(rest) {
+        return rest.is_empty();
     }
+    let behind = &rest[comment_len(rest)..];
+    blanks_len(behind) == behind.len()
 }

@@ -14,11 +14,11 @@ pub struct Lines<'a> {
 fn without_return(line: &[u8]) -> &[u8]
     ensures { result.now ≡ without_return line.now }
 {
-    if !line.is_empty() && line[line.len() - 1] == b'\r' {
-        &line[..line.len() - 1]
-    } else {
-        line
+    if line.is_empty() {
+        return line;
     }
+    let last = line.len() - 1;
+    if line[last] == b'\r' { &line[..last] } else { line }
 }
 
 // The place of the first line feed.
@@ -58,7 +58,7 @@ impl<'a> Lines<'a> {
                 if line.is_empty() {
                     return None;
                 }
-                self.rest = &text[text.len()..];
+                self.rest = &[];
                 self.taken += 1;
                 Some(line)
             }
@@ -70,10 +70,10 @@ impl<'a> Lines<'a> {
         ensures { result ≡ nat_le count (length (lines_of self.now.rest.now)) }
     {
         let mut left = *self;
-        for _ in 0..count {
-            if left.next().is_none() {
+        for _line in 0..count {
+            let Some(_) = left.next() else {
                 return false;
-            }
+            };
         }
         true
     }

@@ -1,6 +1,6 @@
 //! Runs of letters, digits and stops.
-ghost use Rattle.std.specs.Prelude.{◌≡◌, ◌^◌, ◌<◌, ◌==◌, map, SomeIff, IfOk};
-ghost use Rattle.std.specs.List.{prefix_len, list_any};
+ghost use Rattle.std.specs.Prelude.{◌≡◌, ◌^◌, ◌<◌, ◌≤◌, ◌==◌, length, map, take_while, SomeIff, IfOk};
+ghost use Rattle.std.specs.List.{list_any};
 ghost use Rattle.std.specs.Char.{to_ascii_uppercase};
 ghost use Rattle.ss_words.specs.TextBytes.{in_run};
 ghost use Rattle.ss_words.specs.TextRuns.{without_stops, number_of, has_letter};
@@ -23,13 +23,10 @@ pub enum Spelling {
 
 // How many bytes at the front are of a run.
 pub fn run_len(line: &[u8]) -> usize
-    ensures { result ≡ prefix_len in_run line.now }
+    ensures len { result ≡ length (take_while in_run line.now) }
+    ensures in_range { result ≤ length line.now }
 {
-    let mut len = 0;
-    while len < line.len() && in_run(line[len]) {
-        len += 1;
-    }
-    len
+    line.iter().take_while(|byte| in_run(**byte)).count()
 }
 
 // A run without the stops at its end.
@@ -37,10 +34,13 @@ pub fn without_stops(run: &[u8]) -> &[u8]
     ensures { result.now ≡ without_stops run.now }
 {
     let mut len = run.len();
-    while len > 0 && run[len - 1] == b'.' {
+    while len > 0 {
+        if run[len - 1] != b'.' {
+            return &run[..len];
+        }
         len -= 1;
     }
-    &run[..len]
+    &run[..0]
 }
 
 fn has_letter(run: &[u8]) -> bool
@@ -70,6 +70,7 @@ fn number_of(digits: &[u8]) -> Option<u64>
     Some(number)
 }
 
+#[tactic(auto, unfolding(crate::specs::TextRuns::is_bad_number))]
 // What a run without stops at its end spells.
 pub fn spelling_of(run: &[u8]) -> Spelling
     ensures { result ≡ spelling_of run.now }
