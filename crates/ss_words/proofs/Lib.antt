@@ -6,3 +6,4 @@ pub mod TextComments
 pub mod TextTracked
 pub mod TextLineLemmas
 pub mod TextRunLemmas
+pub mod TextSteps

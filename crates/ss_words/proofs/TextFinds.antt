@@ -40,7 +40,7 @@ pub is_first-goes : (f : TextFault) (old : List WordAt) (todo : List Found) (new
 is_first-goes Memory old todo new left goes first = tt
 is_first-goes (Refused r n) old todo new left goes first = sym (first_breach-goes old todo new left goes) ∙ first
 
-first_breach-front : (fs gs : List Found) (f : TextFault) → first_breach fs ≡ Some f → first_breach (fs ++ gs) ≡ Some f
+pub first_breach-front : (fs gs : List Found) (f : TextFault) → first_breach fs ≡ Some f → first_breach (fs ++ gs) ≡ Some f
 first_breach-front [] gs f e = cc
 first_breach-front (word w ∷ fs) gs f e = first_breach-front fs gs f e
 first_breach-front (breach r n ∷ fs) gs f e = e

@@ -106,6 +106,13 @@ fn sign_len(sign: Sign) -> usize
     }
 }
 
+// The second byte, or 0.
+fn second(rest: &[u8]) -> u8
+    ensures { result ≡ slice_index rest.now 1 }
+{
+    if rest.len() > 1 { rest[1] } else { 0 }
+}
+
 // Takes the sign at the front, where no comment, blank or run begins. Says how many bytes it has.
 fn scan_sign(words: &mut Collected, rest: &[u8], below: &Lines) -> Result<usize, TextFault>
     requires nonempty { 0 < length rest.now }
@@ -116,8 +123,7 @@ fn scan_sign(words: &mut Collected, rest: &[u8], below: &Lines) -> Result<usize,
     ensures found { let todo = left_in_line below.now.taken below.now.rest.now in
         MatchResult result (λ len. Goes words.old (todo words.old rest.now) words.new (todo words.new (drop len rest.now))) (λ f. IsFirstIn f (todo words.old rest.now)) }
 {
-    let next = if rest.len() > 1 { rest[1] } else { 0 };
-    match sign_from(rest[0], next) {
+    match sign_from(rest[0], second(rest)) {
         Some(sign) => {
             words.push(below.taken, WordKind::Sign(sign))?;
             Ok(sign_len(sign))
