@@ -7,3 +7,5 @@ pub mod TextTracked
 pub mod TextLineLemmas
 pub mod TextRunLemmas
 pub mod TextSteps
+pub mod TextWordSteps
+pub mod TextDrawn

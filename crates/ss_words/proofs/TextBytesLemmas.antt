@@ -1,6 +1,6 @@
 -- Bytes told apart.
-use Rattle.std.proofs.Common.{◌≡◌, ℕ, Bool, true, false, ◌==◌, ◌&&◌, ◌||◌, not, List, [], ◌∷◌, Option, Some, None, refl, sym, ap, ◌∙◌, arith, ◌⊎◌, inl, inr}
-use Rattle.std.proofs.lemmas.Bool.Decides.{nat_tests, Decides-eqb}
+use Rattle.std.proofs.Common.{◌≡◌, ℕ, ◌<◌, ◌≤◌, nat_lt, Bool, true, false, ◌==◌, ◌&&◌, ◌||◌, not, List, [], ◌∷◌, Option, Some, None, refl, sym, ap, ◌∙◌, arith, ◌⊎◌, inl, inr}
+use Rattle.std.proofs.lemmas.Bool.Decides.{nat_tests, Decides-eqb, Decides-ltb}
 use Rattle.std.specs.Prelude.{is_some, slice_index}
 use Rattle.ss_words.specs.declared.word.Sign.{Sign}
 use Rattle.ss_words.specs.TextBytes.{is_allowed, is_blank, in_run, one_byte_sign, sign_from, is_joined, is_stray}
@@ -65,3 +65,12 @@ is_joined-run last b h =
     let no_less = eqb-run last 60 h (in_run-less) in
     let no_greater = eqb-run last 62 h (in_run-greater) in
     grind (arith)
+
+pub nat_lt-above : (m n : ℕ) → m < n → nat_lt m n ≡ true
+nat_lt-above m n h = (Decides-ltb m n).1 h
+
+pub nat_lt-below : (m n : ℕ) → n ≤ m → nat_lt m n ≡ false
+nat_lt-below m n h = elim (nat_lt m n) as (λ t. nat_lt m n ≡ t → t ≡ false) [
+  true ↦ λ above. absurd (let more = (Decides-ltb m n).0 above in omega arith)
+  | false ↦ λ ok. refl
+] refl

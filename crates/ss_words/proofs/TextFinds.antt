@@ -1,5 +1,6 @@
 -- What is found, in parts: the words so far, and what is still to be found.
-use Rattle.std.proofs.Common.{◌≡◌, ℕ, List, [], ◌∷◌, ◌++◌, map, Option, Some, None, Ok, Err, refl, sym, ap, ◌∙◌, append_assoc, append-nil}
+use Rattle.std.proofs.Common.{◌≡◌, ℕ, List, [], ◌∷◌, ◌++◌, map, Option, Some, None, Ok, Err, refl, sym, ap, ◌∙◌, subst, append_assoc, append-nil}
+use Rattle.ss_words.specs.declared.fault.TextRule.{TextRule}
 use Rattle.ss_words.specs.declared.fault.TextFault.{TextFault}
 use Rattle.ss_words.specs.declared.fault.TextFault.TheVariants.{Refused, Memory}
 use Rattle.ss_words.specs.Words.{Kind, WordAt}
@@ -95,3 +96,19 @@ unfolding words_of
 is_refusal-first Memory text ws left goes first = tt
 is_refusal-first (Refused r n) text ws left goes first =
     answer_of-first (found_in_text text) (Refused r n) (sym (first_breach-goes [] (found_in_text text) ws left goes) ∙ first)
+
+-- a refusal of the first breach
+pub is_first-refused : (f : TextFault) (r : TextRule) (n : ℕ) (fs : List Found) → f ≡ Refused r n → first_breach fs ≡ Some (Refused r n) → IsFirstIn f fs
+is_first-refused f r n fs e first =
+    let P : TextFault → Type 0 = λ (g : TextFault). IsFirstIn g fs in
+    subst P (sym e) first
+
+-- memory that was refused claims nothing
+pub is_first-memory : (f : TextFault) (fs : List Found) → f ≡ Memory → IsFirstIn f fs
+is_first-memory f fs e =
+    let P : TextFault → Type 0 = λ (g : TextFault). IsFirstIn g fs in
+    subst P (sym e) tt
+
+pub is_first-word : (f : TextFault) (w : WordAt) (fs : List Found) → IsFirstIn f fs → IsFirstIn f (word w ∷ fs)
+is_first-word Memory w fs first = tt
+is_first-word (Refused r n) w fs first = first

@@ -17,11 +17,11 @@ use Rattle.ss_words.proofs.TextBytesLemmas.{eqb-same, eqb-run, is_blank-cases, i
 use Rattle.ss_words.proofs.TextFinds.{first_breach-front}
 use Rattle.ss_words.proofs.TextCuts.{take_while-yes, take_while-no}
 
-and-left : (a b : Bool) → (a && b) ≡ true → a ≡ true
+pub and-left : (a b : Bool) → (a && b) ≡ true → a ≡ true
 and-left true b h = refl
 and-left false b h = absurd cc
 
-and-right : (a b : Bool) → (a && b) ≡ true → b ≡ true
+pub and-right : (a b : Bool) → (a && b) ≡ true → b ≡ true
 and-right true b h = h
 and-right false b h = absurd cc
 
@@ -31,7 +31,7 @@ unfolding blanked begins_comment
 blanked-plain b [] h = refl
 blanked-plain b (c ∷ bs) h = ap (λ (t : Bool). elim t [ true ↦ 32 ∷ 32 ∷ blanked true bs | false ↦ b ∷ blanked false (c ∷ bs) ]) h
 
-begins_comment-other : (b : ℕ) (bs : List ℕ) → (b == 39) ≡ false → begins_comment (b ∷ bs) ≡ false
+pub begins_comment-other : (b : ℕ) (bs : List ℕ) → (b == 39) ≡ false → begins_comment (b ∷ bs) ≡ false
 unfolding begins_comment
 begins_comment-other b [] h = refl
 begins_comment-other b (c ∷ bs) h = ap (λ (t : Bool). t && c == 39) h
@@ -89,7 +89,7 @@ joined-blank p = refl
 
 -- a line of number n with so many lines below it
 module _ (n below : ℕ) where
-  from-here : (before : List Kind) (last b : ℕ) (bs : List ℕ) (p : ℕ) (ps : List ℕ) (here : List Found) → found_at n below before last (b ∷ bs) (p ∷ ps) ≡ here → found_from_place n below before last (b ∷ bs) (p ∷ ps) ≡ here ++ found_from_place n below (nearest_first here before) p bs ps
+  pub from-here : (before : List Kind) (last b : ℕ) (bs : List ℕ) (p : ℕ) (ps : List ℕ) (here : List Found) → found_at n below before last (b ∷ bs) (p ∷ ps) ≡ here → found_from_place n below before last (b ∷ bs) (p ∷ ps) ≡ here ++ found_from_place n below (nearest_first here before) p bs ps
   unfolding found_from_place
   from-here before last b bs p ps here e = ap (λ (h : List Found). h ++ found_from_place n below (nearest_first h before) p bs ps) e
 

@@ -7,11 +7,12 @@ mod picture;
 mod run;
 
 ghost use Rattle.std.specs.Prelude.{◌≡◌, Ok, MatchResult};
+ghost use Rattle.ss_words.specs.declared.fault.TextFault.TheVariants.{Refused};
 ghost use Rattle.ss_words.specs.TextWords.{words_of, IsRefusalOf};
 
 use std::alloc::Global;
 
-use crate::fault::TextFault;
+use crate::fault::{TextFault, TextRule};
 use crate::word::Words;
 use collected::Collected;
 use line::scan_line;
@@ -31,4 +32,11 @@ pub fn words(alloc: Global, text: &[u8]) -> Result<Words, TextFault>
         scan_picture(&mut words, &mut lines)?;
     }
     Ok(words.into_words())
+}
+
+// The refusal of a text that breaks a rule at a line.
+fn refused(rule: TextRule, line: usize) -> TextFault
+    ensures { result ≡ Refused rule line }
+{
+    TextFault::Refused { rule, line }
 }

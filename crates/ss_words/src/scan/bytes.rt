@@ -2,6 +2,7 @@
 #![tactic(auto, unfolding(crate::specs::TextBytes::is_allowed, crate::specs::TextBytes::is_blank, crate::specs::TextBytes::in_run, crate::specs::TextBytes::one_byte_sign, crate::specs::TextBytes::sign_from))]
 
 ghost use Rattle.std.specs.Prelude.{◌≡◌};
+ghost use Rattle.std.specs.List.{list_all};
 ghost use Rattle.ss_words.specs.TextBytes.{is_allowed, is_blank, in_run, one_byte_sign, sign_from};
 
 use crate::word::Sign;
@@ -11,6 +12,13 @@ pub fn is_allowed(byte: u8) -> bool
     ensures { result ≡ is_allowed byte }
 {
     byte == b'\t' || (byte >= b' ' && byte <= b'~')
+}
+
+// Each byte may stand in a line.
+pub fn all_allowed(bytes: &[u8]) -> bool
+    ensures { result ≡ list_all is_allowed bytes.now }
+{
+    bytes.iter().all(|byte| is_allowed(*byte))
 }
 
 // A blank or a tab.

@@ -1,6 +1,5 @@
 //! The words of a line outside pictures.
 ghost use Rattle.std.specs.Prelude.{◌≡◌, ℕ, ◌+◌, ◌<◌, ◌≤◌, true, false, [], List, length, drop, take_while, slice_index, Some, MatchResult, IfOk};
-ghost use Rattle.ss_words.specs.declared.fault.TextFault.TheVariants.{Refused};
 ghost use Rattle.ss_words.specs.Words.{Kind, kind_of};
 ghost use Rattle.ss_words.specs.TextBytes.{is_blank, in_run, sign_len};
 ghost use Rattle.ss_words.specs.TextLines.{lines_of, is_bare};
@@ -9,10 +8,11 @@ ghost use Rattle.ss_words.specs.TextWords.{found_in_line, run_found, word_found}
 ghost use Rattle.ss_words.specs.TextScan.{begins_comment, hidden_len, Goes, IsFirstIn, nearest, left_in_line};
 
 use crate::fault::{TextFault, TextRule};
-use crate::scan::bytes::{in_run, is_allowed, is_blank, sign_from};
+use crate::scan::bytes::{all_allowed, in_run, is_blank, sign_from};
 use crate::scan::collected::Collected;
 use crate::scan::lines::Lines;
-use crate::scan::run::{Spelling, run_len, spelling_of, upper_case, without_stops};
+use crate::scan::refused;
+use crate::scan::run::{run_len, spelled, spelling_of, without_stops};
 use crate::word::{Sign, WordKind};
 
 const LONGEST_RUN: usize = 80;
@@ -52,12 +52,6 @@ fn scan_place(words: &mut Collected, rest: &[u8], below: &Lines) -> Result<usize
     }
 }
 
-fn refused(rule: TextRule, line: usize) -> TextFault
-    ensures { result ≡ Refused rule line }
-{
-    TextFault::Refused { rule, line }
-}
-
 // Two quotes stand at the front.
 #[tactic(auto, unfolding(crate::specs::TextScan::begins_comment))]
 fn begins_comment(rest: &[u8]) -> bool
@@ -89,7 +83,7 @@ fn scan_comment(rest: &[u8], line: usize) -> Result<usize, TextFault>
         (below : ℕ) (before : List Kind) → MatchResult result (λ len. todo below before rest.now ≡ todo below before (drop len rest.now)) (λ f. IsFirstIn f (todo below before rest.now)) }
 {
     let len = comment_len(rest);
-    if rest[..len].iter().all(|byte| is_allowed(*byte)) {
+    if all_allowed(&rest[..len]) {
         Ok(len)
     } else {
         Err(refused(TextRule::StrayByte, line))
@@ -138,20 +132,17 @@ fn scan_run(words: &mut Collected, run: &[u8], rest: &[u8], below: &Lines) -> Re
         MatchResult result (λ _. Goes words.old todo words.new []) (λ f. IsFirstIn f todo) }
 {
     let kept = without_stops(run);
-    let spelling = spelling_of(kept);
-    if let Spelling::BadNumber = spelling {
-        return Err(refused(TextRule::BadNumber, below.taken));
-    }
+    let spelling = match spelling_of(kept) {
+        Some(spelling) => spelling,
+        None => return Err(refused(TextRule::BadNumber, below.taken)),
+    };
     if run.len() > LONGEST_RUN {
         return Err(refused(TextRule::LongRun, below.taken));
     }
     if kept.is_empty() {
         return Ok(());
     }
-    let kind = match spelling {
-        Spelling::Number(number) => WordKind::Number(number),
-        _ => WordKind::Name(upper_case(words.alloc(), kept)?),
-    };
+    let kind = spelled(words.alloc(), kept, spelling)?;
     scan_word(words, kind, rest, below)
 }
 
@@ -168,10 +159,17 @@ fn scan_word(words: &mut Collected, kind: WordKind, rest: &[u8], below: &Lines) 
 }
 
 // The words call a picture at their end, and it is not there.
+#[tactic(auto, unfolding(crate::specs::TextRuns::lacks_picture))]
 fn lacks_picture(words: &Collected, rest: &[u8], below: &Lines) -> bool
     ensures { result ≡ lacks_picture (nearest words.now) rest.now (length (lines_of below.now.rest.now)) }
 {
-    words.calls_picture() && !(is_bare(rest) && is_met(words.picture_lines(), below))
+    if !words.calls_picture() {
+        return false;
+    }
+    if !is_bare(rest) {
+        return true;
+    }
+    !is_met(words.picture_lines(), below)
 }
 
 // So many lines are left.
@@ -197,9 +195,9 @@ fn is_bare(rest: &[u8]) -> bool
     ensures { result ≡ is_bare rest.now }
 {
     let rest = &rest[blanks_len(rest)..];
-    if !begins_comment(rest) {
-        return rest.is_empty();
+    if begins_comment(rest) {
+        let behind = &rest[comment_len(rest)..];
+        return blanks_len(behind) == behind.len();
     }
-    let behind = &rest[comment_len(rest)..];
-    blanks_len(behind) == behind.len()
+    rest.is_empty()
 }

@@ -1,6 +1,5 @@
 //! Pictures.
-ghost use Rattle.std.specs.Prelude.{◌≡◌, ◌+◌, ◌≤◌, [], List, map, take, length, Err, MatchResult, IfOk};
-ghost use Rattle.ss_words.specs.declared.fault.TextFault.TheVariants.{Refused};
+ghost use Rattle.std.specs.Prelude.{◌≡◌, ◌+◌, ◌≤◌, [], List, map, take, length, MatchResult, IfOk};
 ghost use Rattle.ss_words.specs.Words.{Kind};
 ghost use Rattle.ss_words.specs.TextLines.{lines_of};
 ghost use Rattle.ss_words.specs.TextWords.{Found, found_from_line, found_in_picture};
@@ -9,7 +8,8 @@ ghost use Rattle.ss_words.specs.TextScan.{Goes, IsFirstIn, nearest, found_below}
 use std::alloc::Global;
 
 use crate::fault::{TextFault, TextRule};
-use crate::scan::bytes::is_allowed;
+use crate::scan::bytes::{all_allowed, is_allowed};
+use crate::scan::refused;
 use crate::scan::collected::Collected;
 use crate::scan::lines::Lines;
 use crate::word::WordKind;
@@ -42,7 +42,7 @@ fn picture(alloc: Global, lines: &mut Lines, count: usize) -> Result<Vec<Vec<u8>
     ensures shorter { length lines.new.rest.now ≤ length lines.old.rest.now }
 {
     let mut picture = Vec::new(alloc);
-    for _ in 0..count {
+    for _line in 0..count {
         match lines.next() {
             Some(line) => picture.push(picture_line(alloc, line, lines.taken)?)?,
             None => return Ok(picture),
@@ -51,25 +51,22 @@ fn picture(alloc: Global, lines: &mut Lines, count: usize) -> Result<Vec<Vec<u8>
     Ok(picture)
 }
 
-fn refused<T>(rule: TextRule, line: usize) -> Result<T, TextFault>
-    ensures { result ≡ Err (Refused rule line) }
-{
-    Err(TextFault::Refused { rule, line })
-}
-
 // A line of a picture.
 fn picture_line(alloc: Global, line: &[u8], number: usize) -> Result<Vec<u8>, TextFault>
     ensures line { IfOk result (λ l. l.items ≡ line.now) }
     ensures found { let todo = found_in_picture number line.now in MatchResult result (λ _. todo ≡ []) (λ f. IsFirstIn f todo) }
 {
-    if !line.is_empty() && !is_allowed(line[0]) {
-        return refused(TextRule::StrayByte, number);
+    if line.is_empty() {
+        return Ok(Vec::new(alloc));
+    }
+    if !is_allowed(line[0]) {
+        return Err(refused(TextRule::StrayByte, number));
     }
     if line.len() > LONGEST_PICTURE_LINE {
-        return refused(TextRule::LongPictureLine, number);
+        return Err(refused(TextRule::LongPictureLine, number));
     }
-    if !line.iter().all(|byte| is_allowed(*byte)) {
-        return refused(TextRule::StrayByte, number);
+    if !all_allowed(line) {
+        return Err(refused(TextRule::StrayByte, number));
     }
     Ok(line.to_vec(alloc)?)
 }

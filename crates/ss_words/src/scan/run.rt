@@ -2,13 +2,15 @@
 ghost use Rattle.std.specs.Prelude.{◌≡◌, ◌^◌, ◌<◌, ◌≤◌, ◌==◌, length, map, take_while, SomeIff, IfOk};
 ghost use Rattle.std.specs.List.{list_any};
 ghost use Rattle.std.specs.Char.{to_ascii_uppercase};
+ghost use Rattle.ss_words.specs.Words.{kind_of};
 ghost use Rattle.ss_words.specs.TextBytes.{in_run};
 ghost use Rattle.ss_words.specs.TextRuns.{without_stops, number_of, has_letter};
-ghost use Rattle.ss_words.specs.TextSpelling.{spelling_of};
+ghost use Rattle.ss_words.specs.TextSpelling.{spelling_of, spelled};
 
 use std::alloc::{AllocError, Global};
 
 use crate::scan::bytes::in_run;
+use crate::word::WordKind;
 
 const LARGEST_NUMBER: u64 = i64::MAX as u64;
 
@@ -17,8 +19,6 @@ const LARGEST_NUMBER: u64 = i64::MAX as u64;
 pub enum Spelling {
     Name,
     Number(u64),
-    /// Digits with a stop left in them, or a number above 2^63 - 1.
-    BadNumber,
 }
 
 // How many bytes at the front are of a run.
@@ -70,25 +70,35 @@ fn number_of(digits: &[u8]) -> Option<u64>
     Some(number)
 }
 
+// What a run without stops at its end spells; nothing if it has digits with a stop left in them or its number is too large.
 #[tactic(auto, unfolding(crate::specs::TextRuns::is_bad_number))]
-// What a run without stops at its end spells.
-pub fn spelling_of(run: &[u8]) -> Spelling
+pub fn spelling_of(run: &[u8]) -> Option<Spelling>
     ensures { result ≡ spelling_of run.now }
 {
     if has_letter(run) {
-        Spelling::Name
-    } else if has_stop(run) {
-        Spelling::BadNumber
-    } else {
-        match number_of(run) {
-            Some(number) => Spelling::Number(number),
-            None => Spelling::BadNumber,
-        }
+        return Some(Spelling::Name);
+    }
+    if has_stop(run) {
+        return None;
+    }
+    match number_of(run) {
+        Some(number) => Some(Spelling::Number(number)),
+        None => None,
+    }
+}
+
+// The word that a run spells.
+pub fn spelled(alloc: Global, run: &[u8], spelling: Spelling) -> Result<WordKind, AllocError>
+    ensures { IfOk result (λ k. kind_of k ≡ spelled run.now spelling) }
+{
+    match spelling {
+        Spelling::Name => Ok(WordKind::Name(upper_case(alloc, run)?)),
+        Spelling::Number(number) => Ok(WordKind::Number(number)),
     }
 }
 
 // A run in upper case.
-pub fn upper_case(alloc: Global, run: &[u8]) -> Result<Vec<u8>, AllocError>
+fn upper_case(alloc: Global, run: &[u8]) -> Result<Vec<u8>, AllocError>
     ensures { IfOk result (λ name. name.items ≡ map to_ascii_uppercase run.now) }
 {
     run.iter().map(|byte| byte.to_ascii_uppercase()).collect(alloc)
