@@ -63,7 +63,7 @@ picture-allowed n [] allowed short all = refl
 picture-allowed n (b ∷ bs) allowed short all =
     kept n b bs allowed short ∙ allowed_all n bs (ap (λ (t : Bool). t && list_all is_allowed bs) (sym allowed) ∙ all)
 
-found_from_line-none : (before : List Kind) (n k : ℕ) → found_from_line before n k [] ≡ []
+pub found_from_line-none : (before : List Kind) (n k : ℕ) → found_from_line before n k [] ≡ []
 unfolding found_from_line
 found_from_line-none before n zero = refl
 found_from_line-none before n (suc k) = refl

@@ -1,5 +1,5 @@
 -- A step of the scan of a line.
-use Rattle.std.proofs.Common.{◌≡◌, ℕ, suc, ◌<◌, ◌≤◌, Bool, true, false, List, [], ◌∷◌, ◌++◌, map, take, drop, length, Option, Some, None, refl, sym, ap, ◌∙◌, arith, append_assoc}
+use Rattle.std.proofs.Common.{◌≡◌, ℕ, suc, ◌+◌, ◌<◌, ◌≤◌, Bool, true, false, List, [], ◌∷◌, ◌++◌, map, take, drop, length, Option, Some, None, refl, sym, ap, ◌∙◌, arith, append_assoc}
 use Rattle.std.specs.Prelude.{slice_index}
 use Rattle.std.specs.List.{take_while}
 use Rattle.std.proofs.lemmas.List.{map-append}
@@ -10,8 +10,8 @@ use Rattle.ss_words.specs.declared.fault.TextFault.TheVariants.{Refused}
 use Rattle.ss_words.specs.Words.{Kind, WordAt, sign}
 use Rattle.ss_words.specs.TextBytes.{in_run, is_blank, sign_from, sign_len}
 use Rattle.ss_words.specs.TextLines.{lines_of}
-use Rattle.ss_words.specs.TextWords.{Found, word, nearest_first, on_line, run_found, found_in_line}
-use Rattle.ss_words.specs.TextScan.{begins_comment, nearest, Goes, first_breach, IsFirstIn, left_in_line}
+use Rattle.ss_words.specs.TextWords.{Found, word, nearest_first, on_line, run_found, found_from_place, found_in_line, found_from_line, found_in_text}
+use Rattle.ss_words.specs.TextScan.{begins_comment, nearest, Goes, first_breach, IsFirstIn, left_in_line, found_below}
 use Rattle.ss_words.proofs.TextFinds.{nearest-push, nearest-after, goes_on, is_first-same, is_first-front}
 use Rattle.ss_words.proofs.TextPlaces.{found-run, found-blank, found-sign, found-stray, sign_len-fits, behind_run, take-run}
 
@@ -83,3 +83,37 @@ module _ (n : ℕ) (below : List ℕ) where
 pub sign_fits : (rest : List ℕ) (g : Sign) (len : ℕ) → 0 < length rest → sign_from (slice_index rest 0) (slice_index rest 1) ≡ Some g → len ≡ sign_len g → (0 < len) × (len ≤ length rest)
 sign_fits [] g len some e size = absurd (omega arith)
 sign_fits (b ∷ bs) g len some e size = let fits = sign_len-fits b bs g e in (omega arith, omega arith)
+
+-- at a line's end nothing is left in it
+pub left_in_line-none : (n : ℕ) (below : List ℕ) (words : List WordAt) (rest : List ℕ) → length rest ≡ 0 → left_in_line n below words rest ≡ []
+unfolding found_from_place
+left_in_line-none n below words [] none = refl
+left_in_line-none n below words (b ∷ bs) none = absurd (omega arith)
+
+-- what is found in a line, and below it
+next_line : (t t' : ℕ) (old : List WordAt) (rest line below : List ℕ) → lines_of rest ≡ line ∷ lines_of below → t' ≡ t + 1
+    → found_from_line (nearest old) (t + 1) 0 (lines_of rest) ≡ left_in_line t' below old line ++ found_below (nearest_first (left_in_line t' below old line) (nearest old)) (t' + 1) (lines_of below)
+unfolding found_from_line
+next_line t t' old rest line below is next =
+    ap (λ (ls : List (List ℕ)). found_from_line (nearest old) (t + 1) 0 ls) is
+    ∙ ap (λ (m : ℕ). found_from_line (nearest old) m 0 (line ∷ lines_of below)) (sym next)
+
+-- a line is read
+pub goes-line : (all : List Found) (old mid : List WordAt) (t t' : ℕ) (rest line below : List ℕ) → Goes [] all old (found_from_line (nearest old) (t + 1) 0 (lines_of rest)) → lines_of rest ≡ line ∷ lines_of below → t' ≡ t + 1
+    → Goes old (left_in_line t' below old line) mid [] → Goes [] all mid (found_below (nearest mid) (t' + 1) (lines_of below))
+goes-line all old mid t t' rest line below so_far is next goes =
+    so_far ∙ goes-part (λ (ks : List Kind). found_below ks (t' + 1) (lines_of below)) old (left_in_line t' below old line) mid (found_from_line (nearest old) (t + 1) 0 (lines_of rest)) (next_line t t' old rest line below is next) goes
+
+-- the first breach of a line is that of the text from the line on
+pub first-line : (f : TextFault) (old : List WordAt) (t t' : ℕ) (rest line below : List ℕ) → lines_of rest ≡ line ∷ lines_of below → t' ≡ t + 1
+    → IsFirstIn f (left_in_line t' below old line) → IsFirstIn f (found_from_line (nearest old) (t + 1) 0 (lines_of rest))
+first-line f old t t' rest line below is next first =
+    is_first-part f (left_in_line t' below old line) (found_below (nearest_first (left_in_line t' below old line) (nearest old)) (t' + 1) (lines_of below)) (found_from_line (nearest old) (t + 1) 0 (lines_of rest)) (next_line t t' old rest line below is next) first
+
+-- before the first line
+pub goes-start : (text rest : List ℕ) (t : ℕ) (words : List WordAt) → words ≡ [] → rest ≡ text → t ≡ 0 → Goes [] (found_in_text text) words (found_from_line (nearest words) (t + 1) 0 (lines_of rest))
+unfolding found_in_text nearest
+goes-start text rest t words none same zero =
+    sym (ap (λ (ws : List WordAt). map word ws ++ found_from_line (nearest ws) (t + 1) 0 (lines_of rest)) none
+    ∙ ap (λ (r : List ℕ). found_from_line [] (t + 1) 0 (lines_of r)) same
+    ∙ ap (λ (m : ℕ). found_from_line [] (m + 1) 0 (lines_of text)) zero)

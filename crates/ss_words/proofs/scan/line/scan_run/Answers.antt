@@ -3,7 +3,7 @@ use Rattle.std.proofs.lemmas.Result.{MatchResult-weaker}
 use Rattle.ss_words.specs.Words.{Kind, kind_of}
 use Rattle.ss_words.specs.TextLines.{lines_of}
 use Rattle.ss_words.specs.TextRuns.{without_stops, is_bad_number, word_of_run}
-use Rattle.ss_words.specs.TextSpelling.{spelling_of}
+use Rattle.ss_words.specs.TextSpelling.{spelling_of, spelled}
 use Rattle.ss_words.specs.TextWords.{Found, word, run_found, word_found}
 use Rattle.ss_words.specs.TextScan.{nearest}
 use Rattle.ss_words.proofs.TextBytesLemmas.{eqb-same, nat_lt-above, nat_lt-below}
@@ -39,5 +39,6 @@ returns c =
     let some = ap spelling_of (sym c.without_stops-kept.ensures) ∙ sym c.spelling_of.ensures ∙ c.in-Some.is in
     let longer : 0 < length (without_stops c.args.run.now) = omega (arith, false-eqb _ 0 c.if-is_empty.ensures, ap length c.without_stops-kept.ensures) in
     let same = run_found-word c.args.below.now.taken (length (lines_of c.args.below.now.rest.now)) (nearest c.args.words.now) c.args.rest.now c.args.run.now (Some (kind_of c.in_ok-kind.kind))
-        (is_bad_number-spelled (without_stops c.args.run.now) c.in-Some.spelling some) (nat_lt-below 80 (length c.args.run.now) c.if-run-gt-LONGEST_RUN.false) ? in
+        (is_bad_number-spelled (without_stops c.args.run.now) c.in-Some.spelling some) (nat_lt-below 80 (length c.args.run.now) c.if-run-gt-LONGEST_RUN.false)
+        (word_of_run-spelled (without_stops c.args.run.now) c.in-Some.spelling longer some ∙ ap (λ (k : Kind). Some k) (ap (λ (r : List ℕ). spelled r c.in-Some.spelling) (sym c.without_stops-kept.ensures) ∙ sym c.in_ok-kind.ensures)) in
     MatchResult-weaker c.scan_word.result c.scan_word.ensures (λ x goes. ap (λ (fs : List Found). map word c.args.words.now ++ fs) same ∙ goes) (λ f first. is_first-same f _ _ same first)
