@@ -10,14 +10,14 @@ eqb-same a b e = (Decides-eqb a b).0 e
 
 pub eqb-not : (a b : ℕ) → (a ≡ b → ⊥) → (a == b) ≡ false
 eqb-not a b differ = elim (a == b) as (λ t. (a == b) ≡ t → t ≡ false) [
-  true ↦ λ same. absurd (differ (eqb-same a b same))
+  | true ↦ λ same. absurd (differ (eqb-same a b same))
   | false ↦ λ other. refl
 ] refl
 
 -- a byte of a run is another than a byte of none
 pub eqb-run : (b c : ℕ) → in_run b ≡ true → in_run c ≡ false → (b == c) ≡ false
 eqb-run b c runs stops = elim (b == c) as (λ t. (b == c) ≡ t → t ≡ false) [
-  true ↦ λ same. let e = ap in_run (eqb-same b c same) in cc
+  | true ↦ λ same. let e = ap in_run (eqb-same b c same) in cc
   | false ↦ λ differ. refl
 ] refl
 
@@ -33,7 +33,7 @@ is_allowed-sign b h = grind (arith, nat_tests)
 pub is_blank-cases : (b : ℕ) → is_blank b ≡ true → (b ≡ 32) ⊎ (b ≡ 9)
 unfolding is_blank
 is_blank-cases b h = elim (b == 32) as (λ t. (b == 32) ≡ t → (t || b == 9) ≡ true → (b ≡ 32) ⊎ (b ≡ 9)) [
-  true ↦ λ same other. inl (eqb-same b 32 same)
+  | true ↦ λ same other. inl (eqb-same b 32 same)
   | false ↦ λ differ same. inr (eqb-same b 9 same)
 ] refl h
 
@@ -71,6 +71,6 @@ nat_lt-above m n h = (Decides-ltb m n).1 h
 
 pub nat_lt-below : (m n : ℕ) → n ≤ m → nat_lt m n ≡ false
 nat_lt-below m n h = elim (nat_lt m n) as (λ t. nat_lt m n ≡ t → t ≡ false) [
-  true ↦ λ above. absurd (let more = (Decides-ltb m n).0 above in omega arith)
+  | true ↦ λ above. absurd (let more = (Decides-ltb m n).0 above in omega arith)
   | false ↦ λ ok. refl
 ] refl

@@ -65,14 +65,14 @@ module _ (n below : ℕ) where
   hidden-pass before (b ∷ []) all = hidden_on before b [] [] (and-left (is_allowed b) true all)
   hidden-pass before (b ∷ c ∷ bs) all = elim (b == 39 && c == 39) as (λ t. list_all is_allowed (take (elim t [ true ↦ 2 | false ↦ suc (hidden_len (c ∷ bs)) ]) (b ∷ c ∷ bs)) ≡ true
       → found_from_place n below before 32 (b ∷ c ∷ bs) (elim t [ true ↦ 32 ∷ 32 ∷ blanked false bs | false ↦ 32 ∷ blanked true (c ∷ bs) ]) ≡ found_in_line n below before (drop (elim t [ true ↦ 2 | false ↦ suc (hidden_len (c ∷ bs)) ]) (b ∷ c ∷ bs))) [
-    true ↦ λ two. hidden_on before b (c ∷ bs) (32 ∷ blanked false bs) (and-left (is_allowed b) (is_allowed c && true) two) ∙ hidden_on before c bs (blanked false bs) (and-left (is_allowed c) true (and-right (is_allowed b) (is_allowed c && true) two))
-    | false ↦ λ more. hidden_on before b (c ∷ bs) (blanked true (c ∷ bs)) (and-left (is_allowed b) _ more) ∙ hidden-pass before (c ∷ bs) (and-right (is_allowed b) _ more)
-  ] all
+        | true ↦ λ two. hidden_on before b (c ∷ bs) (32 ∷ blanked false bs) (and-left (is_allowed b) (is_allowed c && true) two) ∙ hidden_on before c bs (blanked false bs) (and-left (is_allowed c) true (and-right (is_allowed b) (is_allowed c && true) two))
+        | false ↦ λ more. hidden_on before b (c ∷ bs) (blanked true (c ∷ bs)) (and-left (is_allowed b) _ more) ∙ hidden-pass before (c ∷ bs) (and-right (is_allowed b) _ more)
+      ] all
 
   stray_or_later : (before : List Kind) (b : ℕ) (bs ps : List ℕ) (rest : Bool) → (is_allowed b && rest) ≡ false → (rest ≡ false → first_breach (found_from_place n below before 32 bs ps) ≡ Some (Refused StrayByte n))
       → first_breach (found_from_place n below before 32 (b ∷ bs) (32 ∷ ps)) ≡ Some (Refused StrayByte n)
   stray_or_later before b bs ps rest some later = elim (is_allowed b) as (λ t. is_allowed b ≡ t → (t && rest) ≡ false → first_breach (found_from_place n below before 32 (b ∷ bs) (32 ∷ ps)) ≡ Some (Refused StrayByte n)) [
-    true ↦ λ allowed behind. ap first_breach (hidden_on before b bs ps allowed) ∙ later behind
+    | true ↦ λ allowed behind. ap first_breach (hidden_on before b bs ps allowed) ∙ later behind
     | false ↦ λ stray here. hidden_stray before b bs ps stray
   ] refl some
 
@@ -83,9 +83,9 @@ module _ (n below : ℕ) where
   hidden-first before (b ∷ []) some = stray_or_later before b [] [] true some (λ never. absurd cc)
   hidden-first before (b ∷ c ∷ bs) some = elim (b == 39 && c == 39) as (λ t. list_all is_allowed (take (elim t [ true ↦ 2 | false ↦ suc (hidden_len (c ∷ bs)) ]) (b ∷ c ∷ bs)) ≡ false
       → first_breach (found_from_place n below before 32 (b ∷ c ∷ bs) (elim t [ true ↦ 32 ∷ 32 ∷ blanked false bs | false ↦ 32 ∷ blanked true (c ∷ bs) ])) ≡ Some (Refused StrayByte n)) [
-    true ↦ λ two. stray_or_later before b (c ∷ bs) (32 ∷ blanked false bs) (is_allowed c && true) two (λ second. stray_or_later before c bs (blanked false bs) true second (λ never. absurd cc))
-    | false ↦ λ more. stray_or_later before b (c ∷ bs) (blanked true (c ∷ bs)) (list_all is_allowed (take (hidden_len (c ∷ bs)) (c ∷ bs))) more (λ later. hidden-first before (c ∷ bs) later)
-  ] some
+        | true ↦ λ two. stray_or_later before b (c ∷ bs) (32 ∷ blanked false bs) (is_allowed c && true) two (λ second. stray_or_later before c bs (blanked false bs) true second (λ never. absurd cc))
+        | false ↦ λ more. stray_or_later before b (c ∷ bs) (blanked true (c ∷ bs)) (list_all is_allowed (take (hidden_len (c ∷ bs)) (c ∷ bs))) more (λ later. hidden-first before (c ∷ bs) later)
+      ] some
 
   opened : (before : List Kind) (bs : List ℕ) → found_in_line n below before (39 ∷ 39 ∷ bs) ≡ found_from_place n below before 32 bs (blanked true bs)
   unfolding found_from_place found_at begun_at is_stray is_joined is_allowed is_blank in_run one_byte_sign sign_from blanked
@@ -197,7 +197,7 @@ holds_only-none_more = refl
 holds_only-blanks : (k : ℕ) (rest : List ℕ) → holds_only k rest ≡ holds_only k (behind_blanks rest)
 holds_only-blanks k [] = refl
 holds_only-blanks k (b ∷ bs) = elim (is_blank b) as (λ t. is_blank b ≡ t → holds_only k (b ∷ bs) ≡ holds_only k (behind_blanks (b ∷ bs))) [
-  true ↦ λ h. holds_only-blank k b bs h ∙ holds_only-blanks k bs ∙ ap (holds_only k) (sym (behind_blanks-yes b bs h))
+  | true ↦ λ h. holds_only-blank k b bs h ∙ holds_only-blanks k bs ∙ ap (holds_only k) (sym (behind_blanks-yes b bs h))
   | false ↦ λ h. ap (holds_only k) (sym (behind_blanks-no b bs h))
 ] refl
 
@@ -205,7 +205,7 @@ holds_only-blanks k (b ∷ bs) = elim (is_blank b) as (λ t. is_blank b ≡ t �
 behind_blanks-head : (rest : List ℕ) → is_blank (slice_index (behind_blanks rest) 0) ≡ false
 behind_blanks-head [] = is_blank-none
 behind_blanks-head (b ∷ bs) = elim (is_blank b) as (λ t. is_blank b ≡ t → is_blank (slice_index (behind_blanks (b ∷ bs)) 0) ≡ false) [
-  true ↦ λ h. ap (λ (l : List ℕ). is_blank (slice_index l 0)) (behind_blanks-yes b bs h) ∙ behind_blanks-head bs
+  | true ↦ λ h. ap (λ (l : List ℕ). is_blank (slice_index l 0)) (behind_blanks-yes b bs h) ∙ behind_blanks-head bs
   | false ↦ λ h. ap (λ (l : List ℕ). is_blank (slice_index l 0)) (behind_blanks-no b bs h) ∙ h
 ] refl
 
@@ -229,7 +229,7 @@ unfolding hidden_len blanked
 hidden-blanked [] = refl
 hidden-blanked (b ∷ []) = ap (λ (t : Bool). t && true) is_blank-blank
 hidden-blanked (b ∷ c ∷ bs) = elim (b == 39 && c == 39) as (λ t. list_all is_blank (elim t [ true ↦ 32 ∷ 32 ∷ blanked false bs | false ↦ 32 ∷ blanked true (c ∷ bs) ]) ≡ list_all is_blank (blanked false (drop (elim t [ true ↦ 2 | false ↦ suc (hidden_len (c ∷ bs)) ]) (b ∷ c ∷ bs)))) [
-  true ↦ ap (λ (t : Bool). t && (t && list_all is_blank (blanked false bs))) is_blank-blank
+  | true ↦ ap (λ (t : Bool). t && (t && list_all is_blank (blanked false bs))) is_blank-blank
   | false ↦ ap (λ (t : Bool). t && list_all is_blank (blanked true (c ∷ bs))) is_blank-blank ∙ hidden-blanked (c ∷ bs)
 ]
 
@@ -238,7 +238,7 @@ unfolding hidden_len comments
 hidden-comments [] = refl
 hidden-comments (b ∷ []) = refl
 hidden-comments (b ∷ c ∷ bs) = elim (b == 39 && c == 39) as (λ t. (elim t [ true ↦ 0 + comments false bs | false ↦ comments true (c ∷ bs) ]) ≡ comments false (drop (elim t [ true ↦ 2 | false ↦ suc (hidden_len (c ∷ bs)) ]) (b ∷ c ∷ bs))) [
-  true ↦ zero_add (comments false bs)
+  | true ↦ zero_add (comments false bs)
   | false ↦ hidden-comments (c ∷ bs)
 ]
 
@@ -274,11 +274,11 @@ same_more a b = grind (arith, nat_tests)
 holds_only-last : (rest : List ℕ) → holds_only 1 rest ≡ (length (take_while is_blank rest) == length rest)
 holds_only-last [] = holds_only-none_more
 holds_only-last (b ∷ bs) = elim (is_blank b) as (λ t. is_blank b ≡ t → holds_only 1 (b ∷ bs) ≡ (length (take_while is_blank (b ∷ bs)) == length (b ∷ bs))) [
-  true ↦ λ h. holds_only-blank 1 b bs h ∙ holds_only-last bs ∙ same_more _ _ ∙ ap (λ (l : List ℕ). length l == length (b ∷ bs)) (sym (take_while-yes is_blank b bs h))
+  | true ↦ λ h. holds_only-blank 1 b bs h ∙ holds_only-last bs ∙ same_more _ _ ∙ ap (λ (l : List ℕ). length l == length (b ∷ bs)) (sym (take_while-yes is_blank b bs h))
   | false ↦ λ h. (elim (begins_comment (b ∷ bs)) as (λ t. begins_comment (b ∷ bs) ≡ t → holds_only 1 (b ∷ bs) ≡ false) [
-      true ↦ λ second. holds_only-second (b ∷ bs) second
-      | false ↦ λ plain. holds_only-other 1 b bs h plain
-    ] refl) ∙ sym (no_length bs) ∙ ap (λ (l : List ℕ). length l == length (b ∷ bs)) (sym (take_while-no is_blank b bs h))
+    | true ↦ λ second. holds_only-second (b ∷ bs) second
+    | false ↦ λ plain. holds_only-other 1 b bs h plain
+  ] refl) ∙ sym (no_length bs) ∙ ap (λ (l : List ℕ). length l == length (b ∷ bs)) (sym (take_while-no is_blank b bs h))
 ] refl
 
 pub is_bare-comment : (rest behind : List ℕ) (len : ℕ) (last : List ℕ) → behind ≡ behind_blanks rest → begins_comment behind ≡ true → len ≡ 2 + hidden_len (drop 2 behind) → last ≡ drop len behind → is_bare rest ≡ (length (take_while is_blank last) == length last)

@@ -18,14 +18,14 @@ use Rattle.ss_words.proofs.TextSteps.{goes-word}
 allowed_all : (n : ℕ) (bs : List ℕ) → list_all is_allowed bs ≡ true → flat_map (picture_byte n) bs ≡ []
 allowed_all n [] all = refl
 allowed_all n (b ∷ bs) all = elim (is_allowed b) as (λ t. (t && list_all is_allowed bs) ≡ true → broken StrayByte n (not t) ++ flat_map (picture_byte n) bs ≡ []) [
-  true ↦ λ rest. allowed_all n bs rest
+  | true ↦ λ rest. allowed_all n bs rest
   | false ↦ λ never. absurd cc
 ] all
 
 stray_first : (n : ℕ) (bs : List ℕ) → list_all is_allowed bs ≡ false → first_breach (flat_map (picture_byte n) bs) ≡ Some (Refused StrayByte n)
 stray_first n [] some = absurd cc
 stray_first n (b ∷ bs) some = elim (is_allowed b) as (λ t. (t && list_all is_allowed bs) ≡ false → first_breach (broken StrayByte n (not t) ++ flat_map (picture_byte n) bs) ≡ Some (Refused StrayByte n)) [
-  true ↦ λ rest. stray_first n bs rest
+  | true ↦ λ rest. stray_first n bs rest
   | false ↦ λ here. refl
 ] some
 
@@ -93,13 +93,13 @@ module _ {first count : ℕ} {all : List (List ℕ)} {taken left : ℕ} {lines d
   pub drawn-more : (rest taken' : ℕ) (l : List ℕ) (ls drawn' : List (List ℕ)) → left ≡ suc rest → lines ≡ l ∷ ls → taken' ≡ taken + 1 → found_in_picture taken' l ≡ [] → drawn' ≡ drawn ++ l ∷ [] → Drawn first count all taken' rest ls drawn'
   drawn-more rest taken' l ls drawn' size is next none more = record {
     picture = so_far.picture
-      ∙ ap (λ (k : ℕ). drawn ++ take k lines) size
-      ∙ ap (λ (ms : List (List ℕ)). drawn ++ take (suc rest) ms) is
-      ∙ sym (append_assoc drawn (l ∷ []) (take rest ls))
-      ∙ ap (λ (ds : List (List ℕ)). ds ++ take rest ls) (sym more);
+        ∙ ap (λ (k : ℕ). drawn ++ take k lines) size
+        ∙ ap (λ (ms : List (List ℕ)). drawn ++ take (suc rest) ms) is
+        ∙ sym (append_assoc drawn (l ∷ []) (take rest ls))
+        ∙ ap (λ (ds : List (List ℕ)). ds ++ take rest ls) (sym more);
     found = λ before. next_found rest l ls size is before
-      ∙ ap (λ (m : ℕ). found_in_picture m l ++ found_from_line before (m + 1) rest ls) (sym next)
-      ∙ ap (λ (fs : List Found). fs ++ found_from_line before (taken' + 1) rest ls) none;
+        ∙ ap (λ (m : ℕ). found_in_picture m l ++ found_from_line before (m + 1) rest ls) (sym next)
+        ∙ ap (λ (fs : List Found). fs ++ found_from_line before (taken' + 1) rest ls) none;
   }
 
   -- a line that breaks a rule
@@ -121,7 +121,7 @@ module _ {first count : ℕ} {all : List (List ℕ)} {taken left : ℕ} {lines d
   drawn-end none = (
     so_far.picture ∙ ap (λ (ms : List (List ℕ)). drawn ++ take left ms) none ∙ ap (λ (ms : List (List ℕ)). drawn ++ ms) (take_none left) ∙ append-nil drawn,
     λ before. so_far.found before ∙ ap (λ (ms : List (List ℕ)). found_from_line before (taken + 1) left ms) none ∙ found_from_line-none before (taken + 1) left
-      ∙ sym (ap (λ (ms : List (List ℕ)). found_from_line before (taken + 1) 0 ms) none ∙ found_from_line-none before (taken + 1) 0),
+        ∙ sym (ap (λ (ms : List (List ℕ)). found_from_line before (taken + 1) 0 ms) none ∙ found_from_line-none before (taken + 1) 0),
   )
 
 nat_le-true : (a b : ℕ) → nat_le a b ≡ true → a ≤ b
@@ -135,8 +135,8 @@ line_count-some (Some (name s)) n e = absurd cc
 line_count-some (Some (sign g)) n e = absurd cc
 line_count-some (Some (picture ls)) n e = absurd cc
 line_count-some (Some (number m)) n e = elim (nat_le 1 m) as (λ t. nat_le 1 m ≡ t → cond (t && nat_le m 100) (Some m) None ≡ Some n → 1 ≤ n) [
-  true ↦ λ least. (elim (nat_le m 100) as (λ t. cond t (Some m) None ≡ Some n → 1 ≤ n) [
-    true ↦ λ same. let e : m ≡ n = cc in let h = nat_le-true 1 m least in omega arith
+  | true ↦ λ least. (elim (nat_le m 100) as (λ t. cond t (Some m) None ≡ Some n → 1 ≤ n) [
+    | true ↦ λ same. let e : m ≡ n = cc in let h = nat_le-true 1 m least in omega arith
     | false ↦ λ none. absurd cc
   ])
   | false ↦ λ less none. absurd cc
@@ -173,8 +173,8 @@ pub goes-picture : (old new : List WordAt) (n k taken : ℕ) (ls left drawn : Li
 goes-picture old new n k taken ls left drawn calls count is found joins =
     goes-word (λ (ks : List Kind). found_from_line ks (taken + 1) 0 left) old (on_line n (picture drawn)) new (found_below (nearest old) n ls)
     (below-picture (nearest old) n k ls calls count
-      ∙ ap (λ (fs : List Found). word (on_line n (picture (take k ls))) ∷ fs) (found (picture (take k ls) ∷ nearest old))
-      ∙ ap (λ (ps : List (List ℕ)). word (on_line n (picture ps)) ∷ found_from_line (picture ps ∷ nearest old) (taken + 1) 0 left) (sym is)) joins
+    ∙ ap (λ (fs : List Found). word (on_line n (picture (take k ls))) ∷ fs) (found (picture (take k ls) ∷ nearest old))
+    ∙ ap (λ (ps : List (List ℕ)). word (on_line n (picture ps)) ∷ found_from_line (picture ps ∷ nearest old) (taken + 1) 0 left) (sym is)) joins
 
 -- a picture with a line that breaks a rule
 pub first-picture : (f : TextFault) (words : List Kind) (n k : ℕ) (ls : List (List ℕ)) → calls_picture words ≡ true → picture_lines words ≡ Some k → ((before : List Kind) → IsFirstIn f (found_from_line before n k ls)) → IsFirstIn f (found_below words n ls)

@@ -34,7 +34,7 @@ without_return-other (b ∷ c ∷ bs) (suc m) e last = ap (λ (xs : List ℕ). b
 pieces_some : (text : List ℕ) → (l : List ℕ) × (ls : List (List ℕ)) × (slice_split (λ b. b == 10) text ≡ l ∷ ls)
 pieces_some [] = ([], [], refl)
 pieces_some (b ∷ bs) = elim (b == 10) as (λ t. (l : List ℕ) × (ls : List (List ℕ)) × (cond t ([] ∷ slice_split (λ b. b == 10) bs) (onto_first b (slice_split (λ b. b == 10) bs)) ≡ l ∷ ls)) [
-  true ↦ ([], slice_split (λ b. b == 10) bs, refl)
+  | true ↦ ([], slice_split (λ b. b == 10) bs, refl)
   | false ↦ let p = pieces_some bs in (b ∷ p.0, p.1, ap (onto_first b) p.2)
 ]
 
@@ -47,13 +47,13 @@ without_empty_last-cons l text =
 
 position-some : (p : ℕ → Bool) (xs : List ℕ) (i : ℕ) → position p xs ≡ Some i → (position_or_len p xs < length xs) × (i ≡ position_or_len p xs)
 position-some p xs i e = elim (nat_lt (position_or_len p xs) (length xs)) as (λ t. nat_lt (position_or_len p xs) (length xs) ≡ t → cond t (Some (position_or_len p xs)) None ≡ Some i → (position_or_len p xs < length xs) × (i ≡ position_or_len p xs)) [
-  true ↦ λ below some. ((Decides-ltb (position_or_len p xs) (length xs)).0 below, cc)
+  | true ↦ λ below some. ((Decides-ltb (position_or_len p xs) (length xs)).0 below, cc)
   | false ↦ λ above none. absurd cc
 ] refl e
 
 position-none : (p : ℕ → Bool) (xs : List ℕ) → position p xs ≡ None → nat_lt (position_or_len p xs) (length xs) ≡ false
 position-none p xs e = elim (nat_lt (position_or_len p xs) (length xs)) as (λ t. cond t (Some (position_or_len p xs)) None ≡ None → t ≡ false) [
-  true ↦ λ some. absurd cc
+  | true ↦ λ some. absurd cc
   | false ↦ λ none. refl
 ] e
 
@@ -75,7 +75,7 @@ far_before a b far = grind (arith, nat_tests)
 split-none : (xs : List ℕ) → nat_lt (position_or_len (λ b. b == 10) xs) (length xs) ≡ false → slice_split (λ b. b == 10) xs ≡ xs ∷ []
 split-none [] e = refl
 split-none (x ∷ xs) e = elim (x == 10) as (λ t. (nat_lt (cond (not t) (1 + position_or_len (λ b. b == 10) xs) 0) (suc (length xs)) ≡ false) → cond t ([] ∷ slice_split (λ b. b == 10) xs) (onto_first x (slice_split (λ b. b == 10) xs)) ≡ (x ∷ xs) ∷ []) [
-  true ↦ λ far. absurd (some_before (length xs) far)
+  | true ↦ λ far. absurd (some_before (length xs) far)
   | false ↦ λ far. ap (onto_first x) (split-none xs (far_before _ _ far))
 ] e
 

@@ -75,7 +75,7 @@ take_while-blanked : (line : List ℕ) → take_while in_run (blanked false line
 unfolding blanked
 take_while-blanked [] = refl
 take_while-blanked (b ∷ bs) = elim (in_run b) as (λ t. in_run b ≡ t → take_while in_run (blanked false (b ∷ bs)) ≡ take_while in_run (b ∷ bs)) [
-  true ↦ λ h. ap (take_while in_run) (blanked-run b bs h) ∙ take_while-yes in_run b (blanked false bs) h ∙ ap (λ (r : List ℕ). b ∷ r) (take_while-blanked bs) ∙ sym (take_while-yes in_run b bs h)
+  | true ↦ λ h. ap (take_while in_run) (blanked-run b bs h) ∙ take_while-yes in_run b (blanked false bs) h ∙ ap (λ (r : List ℕ). b ∷ r) (take_while-blanked bs) ∙ sym (take_while-yes in_run b bs h)
   | false ↦ λ h. take_while-none (blanked false (b ∷ bs)) (in_run-blanked b bs h) ∙ sym (take_while-no in_run b bs h)
 ] refl
 
@@ -122,12 +122,12 @@ module _ (n below : ℕ) where
   unfolding found_from_place
   joined_run before last [] h = refl
   joined_run before last (b ∷ bs) h = elim (in_run b) as (λ t. in_run b ≡ t → found_from_place n below before last (b ∷ bs) (blanked false (b ∷ bs)) ≡ found_in_line n below before (behind_run (b ∷ bs))) [
-    true ↦ λ run. ap (λ (plain : List ℕ). found_from_place n below before last (b ∷ bs) plain) (blanked-run b bs run)
-      ∙ from-here before last b bs b (blanked false bs) [] (found_at-joined before last b bs b (blanked false bs) (is_stray-run b run) (is_joined-run last b h ∙ run))
-      ∙ joined_run before b bs run
-      ∙ ap (λ (l : List ℕ). found_in_line n below before l) (sym (behind_run-yes b bs run))
+    | true ↦ λ run. ap (λ (plain : List ℕ). found_from_place n below before last (b ∷ bs) plain) (blanked-run b bs run)
+        ∙ from-here before last b bs b (blanked false bs) [] (found_at-joined before last b bs b (blanked false bs) (is_stray-run b run) (is_joined-run last b h ∙ run))
+        ∙ joined_run before b bs run
+        ∙ ap (λ (l : List ℕ). found_in_line n below before l) (sym (behind_run-yes b bs run))
     | false ↦ λ stop. fresh before last (b ∷ bs) (blanked false (b ∷ bs)) (is_joined-run last (slice_index (blanked false (b ∷ bs)) 0) h ∙ in_run-blanked b bs stop)
-      ∙ ap (λ (l : List ℕ). found_in_line n below before l) (sym (behind_run-no b bs stop))
+        ∙ ap (λ (l : List ℕ). found_in_line n below before l) (sym (behind_run-no b bs stop))
   ] refl
 
   begun_at-run : (before : List Kind) (b : ℕ) (bs : List ℕ) → in_run b ≡ true → begun_at n below before (b ∷ bs) (b ∷ blanked false bs) ≡ run_found n below before (behind_run (b ∷ bs)) (take_while in_run (b ∷ bs))
@@ -157,7 +157,7 @@ module _ (n below : ℕ) where
   -- a blank or a tab, and what is found behind it
   pub found-blank : (before : List Kind) (b : ℕ) (bs : List ℕ) → is_blank b ≡ true → found_in_line n below before (b ∷ bs) ≡ found_in_line n below before bs
   found-blank before b bs h = elim (is_blank-cases b h) [
-    inl same ↦ ap (λ (x : ℕ). found_in_line n below before (x ∷ bs)) same ∙ blank_32 before bs
+    | inl same ↦ ap (λ (x : ℕ). found_in_line n below before (x ∷ bs)) same ∙ blank_32 before bs
     | inr same ↦ ap (λ (x : ℕ). found_in_line n below before (x ∷ bs)) same ∙ blank_9 before bs
   ]
 
@@ -167,7 +167,7 @@ unfolding blanked
 next-blanked [] = refl
 next-blanked (c ∷ []) = refl
 next-blanked (c ∷ d ∷ ds) = elim (c == 39 && d == 39) as (λ t. (c == 39 && d == 39) ≡ t → (slice_index (elim t [ true ↦ 32 ∷ 32 ∷ blanked true ds | false ↦ c ∷ blanked false (d ∷ ds) ]) 0 == 61) ≡ (c == 61)) [
-  true ↦ λ quotes. sym (ap (λ (x : ℕ). x == 61) (eqb-same c 39 (and-left _ _ quotes)))
+  | true ↦ λ quotes. sym (ap (λ (x : ℕ). x == 61) (eqb-same c 39 (and-left _ _ quotes)))
   | false ↦ λ other. refl
 ] refl
 
@@ -182,9 +182,9 @@ SignCase b next g = ((one_byte_sign b ≡ Some g) × ((b == 60 && next == 61) �
 sign_cases : (b next : ℕ) (g : Sign) → sign_from b next ≡ Some g → SignCase b next g
 unfolding sign_from
 sign_cases b next g e = elim (b == 60 && next == 61) as (λ t. (b == 60 && next == 61) ≡ t → cond t (Some LessEqual) (cond (b == 62 && next == 61) (Some GreaterEqual) (one_byte_sign b)) ≡ Some g → SignCase b next g) [
-  true ↦ λ less same. inr (inl (eqb-same b 60 (and-left _ _ less), cc), and-right _ _ less)
+  | true ↦ λ less same. inr (inl (eqb-same b 60 (and-left _ _ less), cc), and-right _ _ less)
   | false ↦ λ no_less. (elim (b == 62 && next == 61) as (λ t. (b == 62 && next == 61) ≡ t → cond t (Some GreaterEqual) (one_byte_sign b) ≡ Some g → SignCase b next g) [
-    true ↦ λ greater same. inr (inr (eqb-same b 62 (and-left _ _ greater), cc), and-right _ _ greater)
+    | true ↦ λ greater same. inr (inr (eqb-same b 62 (and-left _ _ greater), cc), and-right _ _ greater)
     | false ↦ λ no_greater same. inl (same, no_less, no_greater)
   ] refl)
 ] refl e
@@ -193,9 +193,9 @@ sign_cases b next g e = elim (b == 60 && next == 61) as (λ t. (b == 60 && next 
 one_byte_sign-none : (b next : ℕ) → sign_from b next ≡ None → one_byte_sign b ≡ None
 unfolding sign_from
 one_byte_sign-none b next e = elim (b == 60 && next == 61) as (λ t. cond t (Some LessEqual) (cond (b == 62 && next == 61) (Some GreaterEqual) (one_byte_sign b)) ≡ None → one_byte_sign b ≡ None) [
-  true ↦ λ some. absurd cc
+  | true ↦ λ some. absurd cc
   | false ↦ (elim (b == 62 && next == 61) as (λ t. cond t (Some GreaterEqual) (one_byte_sign b) ≡ None → one_byte_sign b ≡ None) [
-    true ↦ λ some. absurd cc
+    | true ↦ λ some. absurd cc
     | false ↦ λ none. none
   ])
 ] e
@@ -279,7 +279,7 @@ module _ (n below : ℕ) where
   first_byte before b bs g no_comment no_run e some =
       ap (λ (plain : List ℕ). found_from_place n below before 32 (b ∷ bs) plain) (blanked-plain b bs no_comment)
       ∙ from-here n below before 32 b bs b (blanked false bs) (word (on_line n (sign g)) ∷ [])
-        (found_at-begun n below before 32 b bs b (blanked false bs) (is_stray-sign b some) (joined-blank b) ∙ begun_at-sign before b bs (Some g) no_run e)
+      (found_at-begun n below before 32 b bs b (blanked false bs) (is_stray-sign b some) (joined-blank b) ∙ begun_at-sign before b bs (Some g) no_run e)
 
   second_byte : (before : List Kind) (last : ℕ) (cs : List ℕ) → is_joined last 61 ≡ true → found_from_place n below before last (61 ∷ cs) (blanked false (61 ∷ cs)) ≡ found_in_line n below before cs
   second_byte before last cs joined =

@@ -42,7 +42,7 @@ module _ (n : ℕ) (below : List ℕ) where
   goes-sign old new (b ∷ bs) g len some no_comment no_run e is size =
       goes-word (λ (ks : List Kind). found_in_line n (length (lines_of below)) ks (drop len (b ∷ bs))) old (on_line n (sign g)) new (left_in_line n below old (b ∷ bs))
       (found-sign n (length (lines_of below)) (nearest old) b bs g no_comment no_run e
-        ∙ ap (λ (k : ℕ). word (on_line n (sign g)) ∷ found_in_line n (length (lines_of below)) (sign g ∷ nearest old) (drop k (b ∷ bs))) (sym size)) is
+      ∙ ap (λ (k : ℕ). word (on_line n (sign g)) ∷ found_in_line n (length (lines_of below)) (sign g ∷ nearest old) (drop k (b ∷ bs))) (sym size)) is
 
   pub first-stray : (old : List WordAt) (rest : List ℕ) → 0 < length rest → begins_comment rest ≡ false → in_run (slice_index rest 0) ≡ false → is_blank (slice_index rest 0) ≡ false → sign_from (slice_index rest 0) (slice_index rest 1) ≡ None
       → first_breach (left_in_line n below old rest) ≡ Some (Refused StrayByte n)

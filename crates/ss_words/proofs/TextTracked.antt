@@ -19,9 +19,9 @@ unfolding behind_print line_count
 picture_lines-push k [] = elim (is_name (codes "PRINT") k) as (λ b. line_count (elim b [ true ↦ None | false ↦ None ]) ≡ cond b None None) [ true ↦ refl | false ↦ refl ]
 picture_lines-push k (j ∷ ks) = elim (is_name (codes "PRINT") k) as (λ b. line_count (elim b [ true ↦ None | false ↦ (elim (is_name (codes "PRINT") j) [ true ↦ Some k | false ↦ behind_print (Some j) ks ]) ])
     ≡ cond b None (cond (is_name (codes "PRINT") j) (line_count (Some k)) (line_count (elim (is_name (codes "PRINT") j) [ true ↦ None | false ↦ behind_print (Some j) ks ])))) [
-  true ↦ refl
-  | false ↦ (elim (is_name (codes "PRINT") j) as (λ b. line_count (elim b [ true ↦ Some k | false ↦ behind_print (Some j) ks ]) ≡ cond b (line_count (Some k)) (line_count (elim b [ true ↦ None | false ↦ behind_print (Some j) ks ]))) [ true ↦ refl | false ↦ refl ])
-]
+      | true ↦ refl
+      | false ↦ (elim (is_name (codes "PRINT") j) as (λ b. line_count (elim b [ true ↦ Some k | false ↦ behind_print (Some j) ks ]) ≡ cond b (line_count (Some k)) (line_count (elim b [ true ↦ None | false ↦ behind_print (Some j) ks ]))) [ true ↦ refl | false ↦ refl ])
+    ]
 
 tracked-cons : (a p c : Bool) (l : Option ℕ) (k : Kind) (ks : List Kind) → IsTracked a p c l ks → IsTracked (is_name (codes "AS") k) (is_name (codes "PRINT") k) (called_after k a) (count_after k p l) (k ∷ ks)
 unfolding calls_picture

@@ -10,14 +10,13 @@ ghost use Rattle.std.specs.Prelude.{◌≡◌, Ok, MatchResult};
 ghost use Rattle.ss_words.specs.declared.fault.TextFault.TheVariants.{Refused};
 ghost use Rattle.ss_words.specs.TextWords.{words_of, IsRefusalOf};
 
-use std::alloc::Global;
-
 use crate::fault::{TextFault, TextRule};
 use crate::word::Words;
 use collected::Collected;
 use line::scan_line;
 use lines::Lines;
 use picture::scan_picture;
+use std::alloc::Global;
 
 /// The words of a model's text, or its refusal: of all rules from L1 to L5 that the text breaks, the one at the
 /// earliest place, and at one place the one of the lowest number, with the line of that place; lines count from 1.

@@ -4,11 +4,10 @@ ghost use Rattle.ss_words.specs.Words.{kind_of};
 ghost use Rattle.ss_words.specs.TextRuns.{is_name, line_count};
 ghost use Rattle.ss_words.specs.TextScan.{called_after, count_after};
 
-use std::alloc::Global;
-use std::marker::Model;
-
 use crate::fault::TextFault;
 use crate::word::{Word, WordKind, Words};
+use std::alloc::Global;
+use std::marker::Model;
 
 /// The words of the text so far, and what of them matters to a picture that they may call at their end.
 #[derive(Drop)]

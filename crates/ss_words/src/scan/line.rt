@@ -147,7 +147,12 @@ fn scan_run(words: &mut Collected, run: &[u8], rest: &[u8], below: &Lines) -> Re
 }
 
 // Takes a word in front of the rest of its line.
-fn scan_word(words: &mut Collected, kind: WordKind, rest: &[u8], below: &Lines) -> Result<(), TextFault>
+fn scan_word(
+    words: &mut Collected,
+    kind: WordKind,
+    rest: &[u8],
+    below: &Lines,
+) -> Result<(), TextFault>
     ensures { let todo = word_found below.now.taken (length (lines_of below.now.rest.now)) (nearest words.old) rest.now (Some (kind_of kind)) in
         MatchResult result (λ _. Goes words.old todo words.new []) (λ f. IsFirstIn f todo) }
 {

@@ -18,7 +18,11 @@ fn without_return(line: &[u8]) -> &[u8]
         return line;
     }
     let last = line.len() - 1;
-    if line[last] == b'\r' { &line[..last] } else { line }
+    if line[last] == b'\r' {
+        &line[..last]
+    } else {
+        line
+    }
 }
 
 // The place of the first line feed.

@@ -5,14 +5,13 @@ ghost use Rattle.ss_words.specs.TextLines.{lines_of};
 ghost use Rattle.ss_words.specs.TextWords.{Found, found_from_line, found_in_picture};
 ghost use Rattle.ss_words.specs.TextScan.{Goes, IsFirstIn, nearest, found_below};
 
-use std::alloc::Global;
-
 use crate::fault::{TextFault, TextRule};
 use crate::scan::bytes::{all_allowed, is_allowed};
-use crate::scan::refused;
 use crate::scan::collected::Collected;
 use crate::scan::lines::Lines;
+use crate::scan::refused;
 use crate::word::WordKind;
+use std::alloc::Global;
 
 const LONGEST_PICTURE_LINE: usize = 132;
 

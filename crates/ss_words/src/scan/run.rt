@@ -7,10 +7,9 @@ ghost use Rattle.ss_words.specs.TextBytes.{in_run};
 ghost use Rattle.ss_words.specs.TextRuns.{without_stops, number_of, has_letter};
 ghost use Rattle.ss_words.specs.TextSpelling.{spelling_of, spelled};
 
-use std::alloc::{AllocError, Global};
-
 use crate::scan::bytes::in_run;
 use crate::word::WordKind;
+use std::alloc::{AllocError, Global};
 
 const LARGEST_NUMBER: u64 = i64::MAX as u64;
 
@@ -101,5 +100,7 @@ pub fn spelled(alloc: Global, run: &[u8], spelling: Spelling) -> Result<WordKind
 fn upper_case(alloc: Global, run: &[u8]) -> Result<Vec<u8>, AllocError>
     ensures { IfOk result (λ name. name.items ≡ map to_ascii_uppercase run.now) }
 {
-    run.iter().map(|byte| byte.to_ascii_uppercase()).collect(alloc)
+    run.iter()
+        .map(|byte| byte.to_ascii_uppercase())
+        .collect(alloc)
 }

@@ -16,7 +16,7 @@ pub returns-in_err-scan_line : goal.returns-in_err-scan_line
 returns-in_err-scan_line c =
     let p = err_from_is_err_and c.from_residual.result c.from_residual.ensures.1 in
     rw (p.1, p.2) (is_refusal-first c.in_err-scan_line.field-0.0 c.args.text.now c.loop-line.words _ c.loop-line.invariant
-      (first-line c.in_err-scan_line.field-0.0 c.loop-line.words c.loop-line.lines.taken c.next.new.self.taken c.loop-line.lines.rest.now c.in-Some.line.now c.next.new.self.rest.now c.in-Some.ensures.line c.in-Some.ensures.taken c.in_err-scan_line.ensures))
+    (first-line c.in_err-scan_line.field-0.0 c.loop-line.words c.loop-line.lines.taken c.next.new.self.taken c.loop-line.lines.rest.now c.in-Some.line.now c.next.new.self.rest.now c.in-Some.ensures.line c.in-Some.ensures.taken c.in_err-scan_line.ensures))
 
 pub loop-line-preserved : goal.loop-line-preserved
 loop-line-preserved c =
@@ -28,9 +28,9 @@ pub returns-in_err-scan_picture : goal.returns-in_err-scan_picture
 returns-in_err-scan_picture c =
     let p = err_from_is_err_and c.from_residual-in_err-scan_picture.result c.from_residual-in_err-scan_picture.ensures.1 in
     rw (p.1, p.2) (is_refusal-first c.in_err-scan_picture.field-0.0 c.args.text.now c.scan_line.new.words _
-      (goes-line (found_in_text c.args.text.now) c.loop-line.words c.scan_line.new.words c.loop-line.lines.taken c.next.new.self.taken c.loop-line.lines.rest.now c.in-Some.line.now c.next.new.self.rest.now
-        c.loop-line.invariant c.in-Some.ensures.line c.in-Some.ensures.taken c.in_ok-scan_line.ensures)
-      c.in_err-scan_picture.ensures.found)
+    (goes-line (found_in_text c.args.text.now) c.loop-line.words c.scan_line.new.words c.loop-line.lines.taken c.next.new.self.taken c.loop-line.lines.rest.now c.in-Some.line.now c.next.new.self.rest.now
+    c.loop-line.invariant c.in-Some.ensures.line c.in-Some.ensures.taken c.in_ok-scan_line.ensures)
+    c.in_err-scan_picture.ensures.found)
 
 pub returns : goal.returns
 returns c =

@@ -13,7 +13,7 @@ returns-in_err-picture_line-in-Some-clause-found c =
     let p = err_from_is_err_and c.from_residual.result c.from_residual.ensures.1 in
     let size : c.args.count - c.loop-line._line ≡ suc (c.args.count - (c.loop-line._line + 1)) = omega arith in
     λ before. rw (p.1, p.2) (drawn-refused c.loop-line.invariant.drawn c.in_err-picture_line-in-Some.field-0.0 (c.args.count - (c.loop-line._line + 1)) c.next.new.self.taken c.in-Some.line.now (lines_of c.next.new.self.rest.now)
-      size c.in-Some.ensures.line c.in-Some.ensures.taken c.in_err-picture_line-in-Some.ensures.found before)
+    size c.in-Some.ensures.line c.in-Some.ensures.taken c.in_err-picture_line-in-Some.ensures.found before)
 
 -- the text's end
 pub returns-in-None-clause-found : goal.returns-in-None-clause-found
@@ -26,7 +26,7 @@ loop-line-preserved c =
     let size : c.args.count - c.loop-line._line ≡ suc (c.args.count - (c.loop-line._line + 1)) = omega arith in
     record {
       drawn = drawn-more c.loop-line.invariant.drawn (c.args.count - (c.loop-line._line + 1)) c.next.new.self.taken c.in-Some.line.now (lines_of c.next.new.self.rest.now) _ size c.in-Some.ensures.line c.in-Some.ensures.taken c.in_ok-picture_line-in-Some.ensures.found
-        (ap (map (λ v. v.items)) c.in_ok-push-in-Some.ensures.items ∙ map_push (λ v. v.items) c.loop-line.picture.items c.in_ok-picture_line-in-Some.field-0
+          (ap (map (λ v. v.items)) c.in_ok-push-in-Some.ensures.items ∙ map_push (λ v. v.items) c.loop-line.picture.items c.in_ok-picture_line-in-Some.field-0
           ∙ ap (λ (l : List ℕ). map (λ v. v.items) c.loop-line.picture.items ++ l ∷ []) c.in_ok-picture_line-in-Some.ensures.line);
       shorter = omega (arith, c.in-Some.ensures.shorter);
     }

@@ -23,5 +23,5 @@ pub returns-clause-found : goal.returns-clause-found
 returns-clause-found c =
     MatchResult-weaker c.push.result c.push.ensures
     (λ x joins. goes-picture c.args.words.now c.push.new.self (c.args.lines.now.taken + 1) c.in-Some.count c.picture.new.lines.taken (lines_of c.args.lines.now.rest.now) (lines_of c.picture.new.lines.rest.now) (map (λ l. l.items) c.in_ok-picture.picture.items)
-      (sym c.calls_picture.ensures ∙ c.if-not-calls_picture.false) (sym c.picture_lines.ensures ∙ c.in-Some.is) c.in_ok-picture.ensures.picture c.in_ok-picture.ensures.found joins)
+    (sym c.calls_picture.ensures ∙ c.if-not-calls_picture.false) (sym c.picture_lines.ensures ∙ c.in-Some.is) c.in_ok-picture.ensures.picture c.in_ok-picture.ensures.found joins)
     (λ f e. is_first-memory f _ e)
