@@ -1,1 +1,12 @@
 pub mod PlainFollowing
+pub mod TextFinds
+pub mod TextBytesLemmas
+pub mod TextCuts
+pub mod TextPlaces
+pub mod TextComments
+pub mod TextTracked
+pub mod TextLineLemmas
+pub mod TextRunLemmas
+pub mod TextSteps
+pub mod TextWordSteps
+pub mod TextDrawn

@@ -4,3 +4,9 @@ pub mod Plain
 pub mod Spellings
 pub mod PlainRules
 pub mod PlainLaws
+pub mod TextBytes
+pub mod TextLines
+pub mod TextRuns
+pub mod TextWords
+pub mod TextScan
+pub mod TextSpelling

@@ -9,6 +9,10 @@ mod plain_rules;
 mod plain_word;
 mod reserved;
 mod spelling;
+mod scan;
+#[cfg(test)]
+mod tests;
+mod text_laws;
 mod word;
 
 pub use fault::{RunFault, StepFault, TextFault, TextRule};
@@ -16,7 +20,6 @@ pub use mark::Mark;
 pub use plain_list::plain_words;
 pub use plain_word::{Plain, PlainWord};
 pub use reserved::Reserved;
+pub use scan::words;
 pub use word::{Sign, Word, WordKind, Words};
 
-#[cfg(test)]
-mod tests;
