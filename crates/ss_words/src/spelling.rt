@@ -8,7 +8,7 @@ use crate::reserved::Reserved;
 use crate::word::Sign;
 
 /// Every reserved spelling with what it means (docs/LANGUAGE.md, "Plain words").
-pub const SPELLINGS: [(&[u8], Mark); 130] = [
+const SPELLINGS: [(&[u8], Mark); 130] = [
     (b"A", Mark::Reserved(Reserved::A)),
     (b"AN", Mark::Reserved(Reserved::An)),
     (b"THE", Mark::Reserved(Reserved::The)),
