@@ -1,1 +1,2 @@
 pub mod PlainFollowing
+pub mod Spellings
