@@ -10,3 +10,4 @@ pub mod TextRunLemmas
 pub mod TextSteps
 pub mod TextWordSteps
 pub mod TextDrawn
+pub mod Spellings

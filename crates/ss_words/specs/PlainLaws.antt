@@ -5,6 +5,7 @@ use Rattle.ss_words.specs.Words.{Kind, WordAt, name, sign}
 use Rattle.ss_words.specs.Plain.{plains}
 use Rattle.ss_words.specs.PlainRules.{spelled, plain_words_of}
 
+-- the byte at the head of the first piece
 abbrev pub onto_first : ℕ → List (List ℕ) → List (List ℕ)
 onto_first c [] = (c ∷ []) ∷ []
 onto_first c (p ∷ ps) = (c ∷ p) ∷ ps

@@ -63,31 +63,38 @@ around before after = record { before = beside before; governing = governing bef
 
 -- ---- the rules
 
+-- whether it is AS
 abbrev pub is_as : Option Mark → Bool
 is_as (Some (Reserved r.As)) = true
 is_as _ = false
 
+-- whether it is FOLLOWS
 abbrev pub is_follows : Option Mark → Bool
 is_follows (Some (Reserved r.Follows)) = true
 is_follows _ = false
 
+-- whether it is SCHEDULE
 abbrev pub is_schedule : Option Mark → Bool
 is_schedule (Some (Reserved r.Schedule)) = true
 is_schedule _ = false
 
+-- whether it is ROUTINE
 abbrev pub is_routine : Option Mark → Bool
 is_routine (Some (Reserved r.Routine)) = true
 is_routine _ = false
 
+-- whether it is IF or FOR
 abbrev pub is_if_or_for : Option Mark → Bool
 is_if_or_for (Some (Reserved r.If)) = true
 is_if_or_for (Some (Reserved r.For)) = true
 is_if_or_for _ = false
 
+-- whether it is a comma
 abbrev pub is_comma : Option Mark → Bool
 is_comma (Some (Sign s.Comma)) = true
 is_comma _ = false
 
+-- whether it is a reserved word
 abbrev pub is_reserved : Option Mark → Bool
 is_reserved (Some (Reserved w)) = true
 is_reserved _ = false
@@ -98,8 +105,7 @@ as_follows a (Reserved r.As) = Some (Reserved (if is_follows a.after then r.Thus
 as_follows a (Reserved r.Follows) = if is_as a.before then None else Some (Reserved r.Follows)
 as_follows a m = Some m
 
--- directly behind SCHEDULE, A and AN are A, THE and THIS are THE; elsewhere these four are dropped.
--- So are MAY and OUTPUT, and TO or FOR directly behind ROUTINE
+-- directly behind SCHEDULE, A and AN are A, THE and THIS are THE; these four elsewhere, MAY, OUTPUT, and TO or FOR directly behind ROUTINE are dropped
 abbrev pub without_fillers : Around → Mark → Option Mark
 without_fillers a (Reserved r.A) = if is_schedule a.before then Some (Reserved r.A) else None
 without_fillers a (Reserved r.An) = if is_schedule a.before then Some (Reserved r.A) else None
@@ -147,6 +153,7 @@ abbrev pub follow_behind : Rule → List PlainAt → List PlainAt → List Plain
 follow_behind q before [] = []
 follow_behind q before (w ∷ after) = ruled_word q (around (plains before) (plains after)) w ++ follow_behind q (w ∷ before) after
 
+-- a rule over a whole list
 abbrev pub follow : Rule → List PlainAt → List PlainAt
 follow q ws = follow_behind q [] ws
 
@@ -157,19 +164,22 @@ abbrev pub named : List ℕ → Option Mark → Plain
 named n None = name n
 named n (Some m) = mark m
 
+-- a word of the text as a plain word, before the rules
 abbrev pub plain_kind : Kind → Plain
 plain_kind (w.name n) = named n (mark_of n)
 plain_kind (w.number n) = number n
 plain_kind (w.sign s) = mark (Sign s)
 plain_kind (w.picture ls) = picture ls
 
+-- the same with its line, and with its place in the list of words
 abbrev pub plain_from : ℕ → WordAt → PlainAt
 plain_from i w = record { line = w.line; index = i; word = plain_kind w.kind }
 
--- each word as a plain word, before the rules
+-- each word of the text as a plain word
 abbrev pub spelled : List WordAt → List PlainAt
 spelled ws = map (λ e. plain_from e.0 e.1) (enumerate_from 0 ws)
 
+-- the plain words of the words of a text: spelled, and then each rule over the list that the one before it gives
 abbrev pub plain_words_of : List WordAt → List PlainAt
 plain_words_of ws =
     follow rule.PartingCommas (follow rule.SingleCommas (follow rule.Governed (follow rule.WithoutFillers (follow rule.AsFollows (spelled ws)))))

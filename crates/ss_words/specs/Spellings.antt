@@ -1,5 +1,5 @@
 -- The reserved words: every spelling that no name may have, and the reserved word or sign that it means.
-use Rattle.std.specs.Prelude.{ℕ, List, [], ◌∷◌, Option, Some, None, if◌then◌else◌, bytes_eq, codes}
+use Rattle.std.specs.Prelude.{ℕ, List, [], ◌∷◌, Option, Some, None, if◌then◌else◌, ◌==◌, bytes_eq, codes, filter, length}
 use Rattle.ss_words.specs.declared.mark.Mark.{Mark}
 use Rattle.ss_words.specs.declared.mark.Mark.TheVariants as m
 use Rattle.ss_words.specs.declared.reserved.Reserved.TheVariants as r
@@ -139,6 +139,10 @@ spellings =
     (codes "SKIP", m.Reserved r.Skip) ∷
     (codes "OUTPUT", m.Reserved r.Output) ∷
     []
+
+-- the rows of a table whose spelling has this many bytes
+abbrev pub of_length : ℕ → List (List ℕ × Mark) → List (List ℕ × Mark)
+of_length n rows = filter (λ row. length row.0 == n) rows
 
 -- the mark beside this spelling in a table
 abbrev pub mark_beside : List ℕ → List (List ℕ × Mark) → Option Mark

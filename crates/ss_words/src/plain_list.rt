@@ -28,7 +28,7 @@ pub fn plain_words(alloc: Global, words: &Words) -> Result<Vec<PlainWord>, Alloc
 fn spell(alloc: Global, words: &Words) -> Result<Vec<PlainWord>, AllocError>
     ensures { IfOk result (λ plain. map plain_at plain.items ≡ spelled words.now) }
 {
-    let mut plain = Vec::new(alloc);
+    let mut plain = Vec::with_capacity(alloc, words.list.len())?;
     for (index, word) in words.list.iter().enumerate() {
         let kind = plain_kind(alloc, &word.kind)?;
         plain.push(PlainWord {
@@ -57,7 +57,7 @@ fn plain_kind(alloc: Global, kind: &WordKind) -> Result<Plain, AllocError>
 fn copied(alloc: Global, lines: &[Vec<u8>]) -> Result<Vec<Vec<u8>>, AllocError>
     ensures { IfOk result (λ copy. map (λ line. line.items) copy.items ≡ map (λ line. line.items) lines.now) }
 {
-    let mut copy = Vec::new(alloc);
+    let mut copy = Vec::with_capacity(alloc, lines.len())?;
     for line in lines {
         copy.push(Vec::from_slice(alloc, line)?)?;
     }
@@ -67,7 +67,7 @@ fn copied(alloc: Global, lines: &[Vec<u8>]) -> Result<Vec<Vec<u8>>, AllocError>
 fn follow(alloc: Global, rule: Rule, words: Vec<PlainWord>) -> Result<Vec<PlainWord>, AllocError>
     ensures { IfOk result (λ kept. map plain_at kept.items ≡ follow rule (map plain_at words.items)) }
 {
-    let mut kept = Vec::new(alloc);
+    let mut kept = Vec::with_capacity(alloc, words.len())?;
     let mut before = None;
     let mut governing = None;
     let mut rest = words.into_iter();
