@@ -1,6 +1,7 @@
 //! The words of a model's text, its plain words, and what its refusals and faults are called.
 #![tactic(auto)]
 
+mod cursor;
 mod fault;
 mod mark;
 mod plain_word;
@@ -8,6 +9,7 @@ mod refusal;
 mod reserved;
 mod word;
 
+pub use cursor::Cursor;
 pub use fault::{RunFault, StepFault, TextFault, TextRule};
 pub use mark::Mark;
 pub use plain_word::{Plain, PlainWord};
