@@ -2,9 +2,13 @@
 #![tactic(auto)]
 
 mod expr;
+mod expression;
 mod place;
 mod section;
+mod sections;
+mod statement;
 
 pub use expr::{Added, Expr, Factor, Term, TermSign};
 pub use place::{Assign, Control, Output, Place, Reference, Spot};
 pub use section::{Section, SectionKind, Sections};
+pub use sections::sections;

@@ -78,3 +78,13 @@ loop_begins item none one whole ws view xs h e = rw (h, e) (begins item none one
 pub loop_turns : {A B X : Type 0} (item : Reading (Option A)) (none : B) (one : A → B → B) (total : Read B) (view : X → A) (xs : List X) (x : X) (ys : List X) (ws r : List PlainWord)
     → ys ≡ xs ++ x ∷ [] → item (words_of ws) ≡ (Ok (Some (view x)), words_of r) → length r < length ws → Going item none one total (map view xs) (words_of ws) → Going item none one total (map view ys) (words_of r)
 loop_turns item none one total view xs x ys ws r pushed e shorter going = rw (pushed, map_push view xs x) (turns item none one total (map view xs) (words_of ws) (words_of r) (view x) e (omega (arith, length-map ws word_of, length-map r word_of)) going)
+
+-- ---- a loop whose first item was read before
+
+pub begins_behind : {A B : Type 0} (item : Reading (Option A)) (none : B) (one : A → B → B) (a : A) (ws : List Plain) → Going item none one (bind (many item none one) (λ b. pure (one a b)) ws) (a ∷ []) ws
+unfolding many bind
+begins_behind item none one a ws = (suc (length ws), omega arith, with_one one a (many_from item none one (suc (length ws)) ws))
+
+pub prepend_list : {A : Type 0} (xs : List A) → prepend (λ x ys. x ∷ ys) xs [] ≡ xs
+prepend_list [] = refl
+prepend_list (x ∷ xs) = ap (λ (ys : List _). x ∷ ys) (prepend_list xs)

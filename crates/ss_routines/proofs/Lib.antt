@@ -1,0 +1,11 @@
+pub mod Sound
+pub mod LocalExpr
+pub mod AgainExpr
+pub mod SoundSection
+pub mod LocalSection
+pub mod AgainSection
+pub mod LaysSection
+pub mod Pushed
+pub mod Rooms
+pub mod Program
+pub mod SectionLoop
