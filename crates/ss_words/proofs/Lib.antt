@@ -6,3 +6,4 @@ pub mod Marks
 pub mod Lays
 pub mod Goal
 pub mod Again
+pub mod PlainFollowing

@@ -5,3 +5,6 @@ pub mod Reading
 pub mod Marks
 pub mod Farthest
 pub mod Noting
+pub mod Spellings
+pub mod PlainRules
+pub mod PlainLaws

@@ -4,15 +4,23 @@
 mod cursor;
 mod fault;
 mod mark;
+mod plain_laws;
+mod plain_list;
+mod plain_rules;
 mod plain_word;
 mod refusal;
 mod reserved;
+mod spelling;
 mod word;
 
 pub use cursor::Cursor;
 pub use fault::{RunFault, StepFault, TextFault, TextRule};
 pub use mark::Mark;
+pub use plain_list::plain_words;
 pub use plain_word::{Plain, PlainWord};
 pub use refusal::Refusal;
 pub use reserved::Reserved;
 pub use word::{Sign, Word, WordKind, Words};
+
+#[cfg(test)]
+mod tests;
