@@ -9,3 +9,4 @@ pub mod Pushed
 pub mod Rooms
 pub mod Program
 pub mod SectionLoop
+pub mod Unique

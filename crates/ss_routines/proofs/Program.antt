@@ -140,7 +140,9 @@ module _ (ws rest : List Plain) where
         (h ∙ ap (λ (u : List Plain). u ++ x) (split_at PastLimit e w tail is) ∙ append_assoc (take k ws) (w ∷ []) x) (ap first (sym is))
 
   passes : whole reading ws ≡ (Err PastLimit, rest) → (w : Plain) (tail : List Plain) → rest ≡ w ∷ tail → PassesLimit ws k
-  passes e w tail is = record { before = stood PastLimit e; with_it = goes_past e; no_room = none_goes_on e w tail is }
+  passes e w tail is =
+      let (q, split) = goal.left (FitsTree 50 256) spell reading good ws rest PastLimit e in
+      record { is_word = omega (arith, ap length split, length-append q rest, ap length is); before = stood PastLimit e; with_it = goes_past e; no_room = none_goes_on e w tail is }
 
   past_with : whole reading ws ≡ (Err PastLimit, rest) → 1 < length rest → (w : Plain) (tail : List Plain) → rest ≡ w ∷ tail → IsPastLimit ws k
   past_with e more_words w tail is =

@@ -7,3 +7,4 @@ pub mod Refused
 pub mod ExprReading
 pub mod SectionReading
 pub mod Onto
+pub mod Laws

@@ -37,6 +37,7 @@ BeginsWithin ws = (t : Tree) × IsWithin t × (x : List Plain) × (spell t ≡ w
 
 -- Word k passes a limit: the words before it begin a program within the limits, and with it they begin programs, but none within the limits.
 pub record PassesLimit (ws : List Plain) (k : ℕ) : Type 0 where
+  pub is_word : k < length ws
   pub before : BeginsWithin (take k ws)
   pub with_it : Begins (take (k + 1) ws)
   pub no_room : BeginsWithin (take (k + 1) ws) → ⊥

@@ -3,6 +3,7 @@
 
 mod expr;
 mod expression;
+pub mod laws;
 mod place;
 mod section;
 mod sections;
@@ -12,3 +13,6 @@ pub use expr::{Added, Expr, Factor, Term, TermSign};
 pub use place::{Assign, Control, Output, Place, Reference, Spot};
 pub use section::{Section, SectionKind, Sections};
 pub use sections::sections;
+
+#[cfg(test)]
+mod tests;
