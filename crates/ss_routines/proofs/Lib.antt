@@ -7,6 +7,6 @@ pub mod AgainSection
 pub mod LaysSection
 pub mod Pushed
 pub mod Rooms
-pub mod Program
+pub mod Whole
 pub mod SectionLoop
 pub mod Unique

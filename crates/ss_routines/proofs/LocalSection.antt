@@ -131,7 +131,7 @@ module _ (x : Reading Expr) (lx : Local same x x) (n : ℕ) (ge : Good (FitsExpr
   unfolding section_with
   section_shorter ws = expect_shorter (m.Reserved r.Main) behind_main (λ us. (behind_local.at us).2) ws
 
-  head_at : (w : Option Plain) → LocalAt more w (elim (is_head w) [ true ↦ refuse PastLimit | false ↦ pure [] ]) (elim (is_head w) [ true ↦ bind (section_with x) (λ t. bind p (λ ts. pure (t ∷ ts))) | false ↦ pure [] ])
+  head_at : (w : Option Plain) → LocalAt {A = Tree} more w (elim (is_head w) [ true ↦ refuse PastLimit | false ↦ pure [] ]) (elim (is_head w) [ true ↦ bind (section_with x) (λ t. bind p (λ ts. pure (t ∷ ts))) | false ↦ pure [] ])
   head_at (Some (mark (m.Reserved r.Main))) = past_at (mark (m.Reserved r.Main)) _ tt (λ ws. shorter same (λ t. bind p (λ ts. pure (t ∷ ts))) (λ t. bind p (λ ts. pure (t ∷ ts))) tail_local (section_with x) (mark (m.Reserved r.Main) ∷ ws) (length ws) (section_shorter ws))
   head_at _ = anywhere more _ _ _ (pure_local more [])
 

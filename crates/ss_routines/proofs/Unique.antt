@@ -19,7 +19,7 @@ use Rattle.ss_routines.specs.Written.{written}
 use Rattle.ss_routines.specs.Refused.{lines, IsWithin, Begins, BeginsWithin, PassesLimit, IsUnexpectedWord, IsUnexpectedEnd, IsPastLimit, IsRefused, AreSections, IsFault, Answers}
 use Rattle.ss_routines.specs.Laws.{SpellingIsUnique, IsDefinite, AnswerIsUnique, LimitsLetPass, LimitsRefuse}
 use Rattle.ss_routines.proofs.AgainSection.{sections_at-again}
-use Rattle.ss_routines.proofs.Program.{within_less}
+use Rattle.ss_routines.proofs.Whole.{within_less}
 
 pub unique : SpellingIsUnique
 unique t u e =

@@ -5,14 +5,14 @@ mod expr;
 mod expression;
 pub mod laws;
 mod place;
+mod program;
 mod section;
-mod sections;
 mod statement;
 
 pub use expr::{Added, Expr, Factor, Term, TermSign};
 pub use place::{Assign, Control, Output, Place, Reference, Spot};
+pub use program::sections;
 pub use section::{Section, SectionKind, Sections};
-pub use sections::sections;
 
 #[cfg(test)]
 mod tests;

@@ -16,6 +16,7 @@ use ss_words::{Cursor, Mark, Plain, PlainWord, Refusal, Reserved, Sign};
 fn reference(cursor: &mut Cursor<'_>) -> Result<Reference, Refusal>
     ensures exact { Gives reference_view result (words_of cursor.new.rest.now) (reading.a_reference (words_of cursor.old.rest.now)) }
     ensures shorter { length cursor.new.rest.now ≤ length cursor.old.rest.now }
+    ensures taken { IfOk result (λ _. length cursor.new.rest.now < length cursor.old.rest.now) }
 {
     let name = cursor.name()?;
     Ok(Reference { name })
@@ -26,6 +27,7 @@ fn reference(cursor: &mut Cursor<'_>) -> Result<Reference, Refusal>
 fn let_value(cursor: &mut Cursor<'_>, written: bool, room: u32) -> Result<Assign, Refusal>
     ensures exact { Gives assign_view result (words_of cursor.new.rest.now) (reading.let_with (exprs.expr_at room) written (words_of cursor.old.rest.now)) }
     ensures shorter { length cursor.new.rest.now ≤ length cursor.old.rest.now }
+    ensures taken { IfOk result (λ _. length cursor.new.rest.now < length cursor.old.rest.now) }
 {
     let target = reference(cursor)?;
     cursor.expect(Mark::Sign(Sign::Equal))?;
@@ -66,6 +68,7 @@ fn subtract(cursor: &mut Cursor<'_>, room: u32) -> Result<Assign, Refusal>
 fn assignment(cursor: &mut Cursor<'_>, room: u32) -> Result<Assign, Refusal>
     ensures exact { Gives assign_view result (words_of cursor.new.rest.now) (reading.an_assign (exprs.expr_at room) (words_of cursor.old.rest.now)) }
     ensures shorter { length cursor.new.rest.now ≤ length cursor.old.rest.now }
+    ensures taken { IfOk result (λ _. length cursor.new.rest.now < length cursor.old.rest.now) }
 {
     match cursor.rest {
         [
@@ -162,6 +165,7 @@ fn print(cursor: &mut Cursor<'_>, room: u32) -> Result<Output, Refusal>
 fn one(cursor: &mut Cursor<'_>, text: &[PlainWord], room: u32, out: &mut Vec<Spot>) -> Result<(), Refusal>
     ensures exact { Gives (λ u. spots out.new.items) result (words_of cursor.new.rest.now) (onto.one_onto (lines_of text.now) (exprs.expr_at room) (spots out.old.items) (words_of cursor.old.rest.now)) }
     ensures shorter { length cursor.new.rest.now ≤ length cursor.old.rest.now }
+    ensures taken { IfOk result (λ _. length cursor.new.rest.now < length cursor.old.rest.now) }
 {
     let line = cursor.line(text);
     match cursor.rest {

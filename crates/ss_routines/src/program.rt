@@ -81,7 +81,7 @@ fn all(cursor: &mut Cursor<'_>, text: &[PlainWord]) -> Result<Vec<Section>, Refu
 
 /// The sections that the text is made of, and nothing else.
 #[tactic(auto, unfolding(ss_words::specs::Reading::look, ss_words::specs::Reading::refuse, ss_words::specs::Reading::bind, ss_words::specs::Reading::pure, ss_words::specs::Reading::whole, ss_words::specs::Reading::ended))]
-fn program(cursor: &mut Cursor<'_>, text: &[PlainWord]) -> Result<Vec<Section>, Refusal>
+fn complete(cursor: &mut Cursor<'_>, text: &[PlainWord]) -> Result<Vec<Section>, Refusal>
     ensures exact { Gives (λ v. map section_view v.items) result (words_of cursor.new.rest.now) (whole (onto.sections_onto (lines_of text.now) (exprs.expr_at 50) 256) (words_of cursor.old.rest.now)) }
     ensures shorter { length cursor.new.rest.now ≤ length cursor.old.rest.now }
 {
@@ -124,7 +124,7 @@ fn read(alloc: Global, text: &[PlainWord]) -> Result<Sections, TextFault>
     ensures refused { IfErr result (λ f. IsFault f (map plain_at text.now)) }
 {
     let mut cursor = Cursor { alloc, rest: text };
-    match program(&mut cursor, text) {
+    match complete(&mut cursor, text) {
         Ok(list) => Ok(Sections { list }),
         Err(refusal) => Err(fault(refusal, &cursor, text)),
     }

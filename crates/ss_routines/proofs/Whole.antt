@@ -1,7 +1,7 @@
 -- What the words of a text are answered with, by the laws of the reading.
 use Rattle.std.proofs.Common.{◌≡◌, ◌≢◌, ℕ, zero, suc, ◌+◌, ◌-◌, ◌≤◌, ◌<◌, List, [], ◌∷◌, ◌++◌, length, length-append, take, drop, Option, Some, None, Result, Ok, Err, refl, sym, ap, subst, ◌∙◌, append_assoc, arith}
 use Rattle.std.specs.Prelude.{map}
-use Rattle.std.proofs.lemmas.List.{append-nil, length-map}
+use Rattle.std.proofs.lemmas.List.{append-nil, length-map, take_at, drop_at}
 use Rattle.std.proofs.Math.Seq.{take-add}
 use Rattle.ss_words.specs.declared.refusal.Refusal.{Refusal}
 use Rattle.ss_words.specs.declared.refusal.Refusal.TheVariants.{Unexpected, PastLimit, Memory}
@@ -43,6 +43,10 @@ within t f = record { parentheses = f.0; sections = f.1 }
 
 again : (t : Tree) → IsWithin t → reading (spell t) ≡ (Ok t, [])
 again t w = sections_at-again 50 256 t w.parentheses w.sections
+
+-- what is read is a program within the limits
+pub read_sections : (ws r : List Plain) (t : Tree) → whole reading ws ≡ (Ok t, r) → IsWithin t × (ws ≡ spell t)
+read_sections ws r t e = let (f, is) = goal.found (FitsTree 50 256) spell reading good ws r t e in (within t f, is)
 
 -- a reading with more room, in which this tree is read
 larger : (t : Tree) → (p' : Reading Tree) × (Local more reading p') × (p' (spell t) ≡ (Ok t, []))
@@ -165,8 +169,8 @@ module _ (ws rest : List Plain) where
       nothing (v ∷ x) h = absurd cc
       no_program : (t : Tree) (x : List Plain) → spell t ≡ take (length ws) ws ++ x → first x ≡ first (drop (length ws) ws) → (w : Plain) (q : List Plain) → ws ≡ q ++ w ∷ [] → IsLimited (Some w) → ⊥
       no_program t x spelled last w q split may =
-          let all : take (length ws) ws ≡ ws = goal.front_is ws ws [] (sym (append-nil ws)) in
-          let none : drop (length ws) ws ≡ [] = goal.back_is ws ws [] (sym (append-nil ws)) in
+          let all : take (length ws) ws ≡ ws = ap (take (length ws)) (sym (append-nil ws)) ∙ take_at ws [] (length ws) refl in
+          let none : drop (length ws) ws ≡ [] = ap (drop (length ws)) (sym (append-nil ws)) ∙ drop_at ws [] (length ws) refl in
           let empty : x ≡ [] = nothing x (last ∙ ap first none) in
           limited_end w (ends_with t q w (spelled ∙ ap (λ (u : List Plain). u ++ x) all ∙ ap (λ (u : List Plain). ws ++ u) empty ∙ append-nil ws ∙ split)) may
 

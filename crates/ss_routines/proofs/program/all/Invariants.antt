@@ -4,7 +4,7 @@ use Rattle.ss_routines.specs.ExprReading.{expr_at}
 use Rattle.ss_routines.specs.Onto.{sections_onto}
 use Rattle.ss_routines.specs.View.{section_view}
 use Rattle.ss_routines.proofs.SectionLoop.{Gathered}
-use Rattle.ss_routines.proofs.sections.all.Given as goal
+use Rattle.ss_routines.proofs.program.all.Given as goal
 
 abbrev pub invariant-loop-list : goal.invariant-loop-list
 invariant-loop-list l = record {
