@@ -10,3 +10,4 @@ pub mod Rooms
 pub mod Whole
 pub mod SectionLoop
 pub mod Unique
+pub mod Decided

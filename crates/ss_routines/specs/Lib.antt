@@ -8,3 +8,4 @@ pub mod ExprReading
 pub mod SectionReading
 pub mod Onto
 pub mod Laws
+pub mod Examples
