@@ -1,3 +1,11 @@
+pub mod MarkNumbers
+pub mod Laws
+pub mod Local
+pub mod Loop
+pub mod Marks
+pub mod Lays
+pub mod Goal
+pub mod Again
 pub mod PlainFollowing
 pub mod TextFinds
 pub mod TextBytesLemmas

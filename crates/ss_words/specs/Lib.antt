@@ -1,6 +1,10 @@
 pub mod Faults
 pub mod Words
 pub mod Plain
+pub mod Reading
+pub mod Marks
+pub mod Farthest
+pub mod Noting
 pub mod Spellings
 pub mod PlainRules
 pub mod PlainLaws

@@ -1,0 +1,11 @@
+pub mod Expr
+pub mod Places
+pub mod Tree
+pub mod Written
+pub mod View
+pub mod Refused
+pub mod ExprReading
+pub mod SectionReading
+pub mod Onto
+pub mod Laws
+pub mod Examples

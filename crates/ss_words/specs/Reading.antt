@@ -1,0 +1,89 @@
+-- The steps that a reading of plain words is made of: each answers with the words that it left, also where it refuses.
+use Rattle.std.specs.Prelude.{◌≡◌, ℕ, zero, suc, List, [], ◌∷◌, length, map, Option, Some, None, Result, Ok, Err}
+use Rattle.ss_words.specs.declared.refusal.Refusal.{Refusal}
+use Rattle.ss_words.specs.declared.refusal.Refusal.TheVariants.{Unexpected, PastLimit, Memory}
+use Rattle.ss_words.specs.declared.plain_word.PlainWord.{PlainWord}
+use Rattle.ss_words.specs.Plain.{Plain, plain_of, first}
+
+abbrev pub Read : Type 0 → Type 0
+Read A = Result A Refusal × List Plain
+
+abbrev pub Reading : Type 0 → Type 0
+Reading A = List Plain → Read A
+
+abbrev pub goes_on : {A B : Type 0} → (A → Reading B) → Result A Refusal → List Plain → Read B
+goes_on f (Ok a) ws = f a ws
+goes_on f (Err e) ws = (Err e, ws)
+
+-- one reading and then another, chosen by what the first gave
+unfoldable pub bind : {A B : Type 0} → Reading A → (A → Reading B) → Reading B
+bind p f = λ ws. goes_on f (p ws).0 (p ws).1
+
+infixl 10 ◌>>=◌
+abbrev pub ◌>>=◌ : {A B : Type 0} → Reading A → (A → Reading B) → Reading B
+p >>= f = bind p f
+
+-- reads nothing
+unfoldable pub pure : {A : Type 0} → A → Reading A
+pure a = λ ws. (Ok a, ws)
+
+-- refuses the next word
+unfoldable pub refuse : {A : Type 0} → Refusal → Reading A
+refuse e = λ ws. (Err e, ws)
+
+-- goes by the next word
+unfoldable pub look : {A : Type 0} → (Option Plain → Reading A) → Reading A
+look f = λ ws. f (first ws) ws
+
+abbrev pub rest_of : List Plain → List Plain
+rest_of [] = []
+rest_of (w ∷ ws) = ws
+
+-- passes the next word
+unfoldable pub skip : {A : Type 0} → Reading A → Reading A
+skip p = λ ws. p (rest_of ws)
+
+-- one item after the other, until there is none
+unfoldable pub many_from : {A B : Type 0} → Reading (Option A) → B → (A → B → B) → ℕ → Reading B
+many_from item none one zero = pure none
+many_from item none one (suc n) = item >>= λ o. elim o [ Some a ↦ (many_from item none one n >>= λ b. pure (one a b)) | None ↦ pure none ]
+
+unfoldable pub many : {A B : Type 0} → Reading (Option A) → B → (A → B → B) → Reading B
+many item none one = λ ws. many_from item none one (suc (length ws)) ws
+
+unfoldable pub ended : Reading (Unit {0})
+ended = look (λ w. elim w [ Some v ↦ refuse Unexpected | None ↦ pure tt ])
+
+-- what p reads and nothing else
+unfoldable pub whole : {A : Type 0} → Reading A → Reading A
+whole p = p >>= λ a. ended >>= λ _. pure a
+
+-- all items before what stands behind them
+abbrev pub prepend : {A B : Type 0} → (A → B → B) → List A → B → B
+prepend one [] b = b
+prepend one (x ∷ xs) b = one x (prepend one xs b)
+
+abbrev pub option_view : {A B : Type 0} → (A → B) → Option A → Option B
+option_view f None = None
+option_view f (Some a) = Some (f a)
+
+-- What a function answered, seen by view, and the words that it left are what a reading gives, unless memory ran out.
+abbrev pub Fails : {Y : Type 0} → Refusal → List Plain → Read Y → Type 0
+Fails Unexpected ws read = read ≡ (Err Unexpected, ws)
+Fails PastLimit ws read = read ≡ (Err PastLimit, ws)
+Fails Memory ws read = Unit {0}
+
+abbrev pub Gives : {X Y : Type 0} → (X → Y) → Result X Refusal → List Plain → Read Y → Type 0
+Gives view (Ok x) ws read = read ≡ (Ok (view x), ws)
+Gives view (Err e) ws read = Fails e ws read
+
+-- the words of a text that a cursor goes over
+abbrev pub word_of : PlainWord → Plain
+word_of w = plain_of w.kind
+
+abbrev pub words_of : List PlainWord → List Plain
+words_of ws = map word_of ws
+
+-- the number of the text's words gives the line of each, 0 behind the last
+abbrev pub lines_of : List PlainWord → List ℕ
+lines_of ws = map (λ w. w.line) ws
