@@ -1,0 +1,4 @@
+pub mod ProgramExpr
+pub mod ProgramExprCode
+pub mod Program
+pub mod ProgramSound

@@ -1,0 +1,69 @@
+-- The tree of an expression, with a variable where the text has a name.
+use Rattle.std.specs.Prelude.{ℕ, List, [], ◌∷◌, Option}
+use Rattle.ss_routines.specs.declared.expr.TermSign.{TermSign}
+use Rattle.ss_check.specs.declared.variable.Variable.{Variable}
+use Rattle.ss_check.specs.declared.sum.Sum.{Sum as Code, fold-Sum}
+use Rattle.ss_check.specs.declared.sum.Term.{Term as CodeTerm, fold-Term}
+use Rattle.ss_check.specs.declared.sum.SignedTerm.{SignedTerm as CodeSigned, fold-SignedTerm}
+use Rattle.ss_check.specs.declared.sum.Factor.{Factor as CodeFactor, fold-Factor}
+use Rattle.ss_check.specs.declared.sum.Factor.TheOpen.{Factor-F, SignedTerm-F, Sum-F, Term-F}
+
+mutual
+  -- a sign at the head or none, a first term, and the terms behind it
+  pub data Expr : Type 0 where
+    expr : Option TermSign → Term → Sums → Expr
+
+  pub data Sums : Type 0 where
+    no_sums : Sums
+    sum : TermSign → Term → Sums → Sums
+
+  -- a first factor, and the factors behind it
+  pub data Term : Type 0 where
+    term : Factor → Products → Term
+
+  pub data Products : Type 0 where
+    no_products : Products
+    product : Factor → Products → Products
+
+  -- a number, a variable, or an expression in parentheses
+  pub data Factor : Type 0 where
+    digits : ℕ → Factor
+    variable : Variable → Factor
+    within : Expr → Factor
+
+-- ---- the tree that an expression of the code stands for
+
+abbrev pub sums_of : List (TermSign × Term) → Sums
+sums_of [] = no_sums
+sums_of (s ∷ ss) = sum s.0 s.1 (sums_of ss)
+
+abbrev pub products_of : List Factor → Products
+products_of [] = no_products
+products_of (f ∷ fs) = product f (products_of fs)
+
+-- one level, with each part already seen as its tree
+abbrev pub factor_level : Factor-F Factor (TermSign × Term) Expr Term → Factor
+factor_level (Factor-F.Number n) = digits n
+factor_level (Factor-F.Variable v) = variable v
+factor_level (Factor-F.Within e) = within e.value
+
+abbrev pub signed_level : SignedTerm-F Factor (TermSign × Term) Expr Term → TermSign × Term
+signed_level a = (a.sign, a.term)
+
+abbrev pub sum_level : Sum-F Factor (TermSign × Term) Expr Term → Expr
+sum_level e = expr e.sign e.first (sums_of e.more.items)
+
+abbrev pub term_level : Term-F Factor (TermSign × Term) Expr Term → Term
+term_level t = term t.first (products_of t.more.items)
+
+abbrev pub expr_of : Code → Expr
+expr_of = fold-Sum Factor (TermSign × Term) Expr Term factor_level signed_level sum_level term_level
+
+abbrev pub term_of : CodeTerm → Term
+term_of = fold-Term Factor (TermSign × Term) Expr Term factor_level signed_level sum_level term_level
+
+abbrev pub factor_of : CodeFactor → Factor
+factor_of = fold-Factor Factor (TermSign × Term) Expr Term factor_level signed_level sum_level term_level
+
+abbrev pub signed_of : CodeSigned → TermSign × Term
+signed_of = fold-SignedTerm Factor (TermSign × Term) Expr Term factor_level signed_level sum_level term_level

@@ -1,0 +1,156 @@
+-- How the logic stores the tree of an expression: as a list of numbered tokens, each part before its own parts, read back from the last.
+use Rattle.std.specs.Prelude.{◌≡◌, ℕ, zero, suc, List, [], ◌∷◌, Option, Some, None}
+use Rattle.std.proofs.Common.{refl, ap, ◌∙◌}
+use Rattle.std.specs.Coded.{Coded, code_by, coded×, coded_ℕ, coded_list}
+use Rattle.ss_routines.specs.declared.expr.TermSign.{TermSign}
+use Rattle.ss_routines.specs.declared.expr.TermSign.TheVariants.{Plus, Minus}
+use Rattle.ss_check.specs.declared.variable.Variable.{Variable}
+use Rattle.ss_check.specs.declared.variable.Variable.TheVariants as v
+use Rattle.ss_check.specs.ProgramExpr.{Expr, expr, Sums, no_sums, sum, Term, term, Products, no_products, product, Factor, digits, variable, within}
+
+-- a part of a tree
+pub data Part : Type 0 where
+  an_expr : Expr → Part
+  some_sums : Sums → Part
+  a_term : Term → Part
+  some_products : Products → Part
+  a_factor : Factor → Part
+
+abbrev pub lead_token : Option TermSign → ℕ × ℕ
+lead_token None = (0, 0)
+lead_token (Some Plus) = (0, 1)
+lead_token (Some Minus) = (0, 2)
+
+abbrev pub sign_token : TermSign → ℕ × ℕ
+sign_token Plus = (2, 0)
+sign_token Minus = (2, 1)
+
+abbrev pub variable_token : Variable → ℕ × ℕ
+variable_token (v.Global i) = (7, i)
+variable_token (v.Local i) = (8, i)
+variable_token v.Clock = (9, 0)
+
+-- the tokens of a part, before what follows
+abbrev mutual
+  pub expr_tokens : Expr → List (ℕ × ℕ) → List (ℕ × ℕ)
+  expr_tokens (expr l t ss) k = lead_token l ∷ term_tokens t (sums_tokens ss k)
+
+  pub sums_tokens : Sums → List (ℕ × ℕ) → List (ℕ × ℕ)
+  sums_tokens no_sums k = (1, 0) ∷ k
+  sums_tokens (sum s t ss) k = sign_token s ∷ term_tokens t (sums_tokens ss k)
+
+  pub term_tokens : Term → List (ℕ × ℕ) → List (ℕ × ℕ)
+  term_tokens (term f ps) k = (3, 0) ∷ factor_tokens f (products_tokens ps k)
+
+  pub products_tokens : Products → List (ℕ × ℕ) → List (ℕ × ℕ)
+  products_tokens no_products k = (4, 0) ∷ k
+  products_tokens (product f ps) k = (5, 0) ∷ factor_tokens f (products_tokens ps k)
+
+  pub factor_tokens : Factor → List (ℕ × ℕ) → List (ℕ × ℕ)
+  factor_tokens (digits n) k = (6, n) ∷ k
+  factor_tokens (variable x) k = variable_token x ∷ k
+  factor_tokens (within e) k = (10, 0) ∷ expr_tokens e k
+
+abbrev pub lead_of : ℕ → Option TermSign
+lead_of zero = None
+lead_of (suc zero) = Some Plus
+lead_of (suc (suc n)) = Some Minus
+
+abbrev pub sign_of : ℕ → TermSign
+sign_of zero = Plus
+sign_of (suc n) = Minus
+
+-- a token put before the parts that were read behind it
+abbrev pub expr_read : ℕ → List Part → List Part
+expr_read n (a_term t ∷ some_sums ss ∷ st) = an_expr (expr (lead_of n) t ss) ∷ st
+expr_read n st = st
+
+abbrev pub sum_read : ℕ → List Part → List Part
+sum_read n (a_term t ∷ some_sums ss ∷ st) = some_sums (sum (sign_of n) t ss) ∷ st
+sum_read n st = st
+
+abbrev pub term_read : List Part → List Part
+term_read (a_factor f ∷ some_products ps ∷ st) = a_term (term f ps) ∷ st
+term_read st = st
+
+abbrev pub product_read : List Part → List Part
+product_read (a_factor f ∷ some_products ps ∷ st) = some_products (product f ps) ∷ st
+product_read st = st
+
+abbrev pub within_read : List Part → List Part
+within_read (an_expr e ∷ st) = a_factor (within e) ∷ st
+within_read st = st
+
+abbrev pub token_read : ℕ → ℕ → List Part → List Part
+token_read zero n st = expr_read n st
+token_read (suc zero) n st = some_sums no_sums ∷ st
+token_read (suc (suc zero)) n st = sum_read n st
+token_read (suc (suc (suc zero))) n st = term_read st
+token_read (suc (suc (suc (suc zero)))) n st = some_products no_products ∷ st
+token_read (suc (suc (suc (suc (suc zero))))) n st = product_read st
+token_read (suc (suc (suc (suc (suc (suc zero)))))) n st = a_factor (digits n) ∷ st
+token_read (suc (suc (suc (suc (suc (suc (suc zero))))))) n st = a_factor (variable (v.Global n)) ∷ st
+token_read (suc (suc (suc (suc (suc (suc (suc (suc zero)))))))) n st = a_factor (variable (v.Local n)) ∷ st
+token_read (suc (suc (suc (suc (suc (suc (suc (suc (suc zero))))))))) n st = a_factor (variable v.Clock) ∷ st
+token_read k n st = within_read st
+
+abbrev pub parts : List (ℕ × ℕ) → List Part
+parts [] = []
+parts (w ∷ ws) = token_read w.0 w.1 (parts ws)
+
+abbrev pub first_expr : List Part → Expr
+first_expr (an_expr e ∷ st) = e
+first_expr st = expr None (term (digits 0) no_products) no_sums
+
+pub lead_again : (l : Option TermSign) (t : Term) (ss : Sums) (st : List Part) →
+    token_read (lead_token l).0 (lead_token l).1 (a_term t ∷ some_sums ss ∷ st) ≡ an_expr (expr l t ss) ∷ st
+lead_again None t ss st = refl
+lead_again (Some Plus) t ss st = refl
+lead_again (Some Minus) t ss st = refl
+
+pub sign_again : (s : TermSign) (t : Term) (ss : Sums) (st : List Part) →
+    token_read (sign_token s).0 (sign_token s).1 (a_term t ∷ some_sums ss ∷ st) ≡ some_sums (sum s t ss) ∷ st
+sign_again Plus t ss st = refl
+sign_again Minus t ss st = refl
+
+pub variable_again : (x : Variable) (st : List Part) → token_read (variable_token x).0 (variable_token x).1 st ≡ a_factor (variable x) ∷ st
+variable_again (v.Global i) st = refl
+variable_again (v.Local i) st = refl
+variable_again v.Clock st = refl
+
+-- what was written is read back
+mutual
+  expr_again : (e : Expr) (k : List (ℕ × ℕ)) → parts (expr_tokens e k) ≡ an_expr e ∷ parts k
+  expr_again (expr l t ss) k =
+      ap (token_read (lead_token l).0 (lead_token l).1) (term_again t (sums_tokens ss k) ∙ ap (λ st. a_term t ∷ st) (sums_again ss k))
+      ∙ lead_again l t ss (parts k)
+
+  sums_again : (ss : Sums) (k : List (ℕ × ℕ)) → parts (sums_tokens ss k) ≡ some_sums ss ∷ parts k
+  sums_again no_sums k = refl
+  sums_again (sum s t ss) k =
+      ap (token_read (sign_token s).0 (sign_token s).1) (term_again t (sums_tokens ss k) ∙ ap (λ st. a_term t ∷ st) (sums_again ss k))
+      ∙ sign_again s t ss (parts k)
+
+  term_again : (t : Term) (k : List (ℕ × ℕ)) → parts (term_tokens t k) ≡ a_term t ∷ parts k
+  term_again (term f ps) k = ap term_read (factor_again f (products_tokens ps k) ∙ ap (λ st. a_factor f ∷ st) (products_again ps k))
+
+  products_again : (ps : Products) (k : List (ℕ × ℕ)) → parts (products_tokens ps k) ≡ some_products ps ∷ parts k
+  products_again no_products k = refl
+  products_again (product f ps) k = ap product_read (factor_again f (products_tokens ps k) ∙ ap (λ st. a_factor f ∷ st) (products_again ps k))
+
+  factor_again : (f : Factor) (k : List (ℕ × ℕ)) → parts (factor_tokens f k) ≡ a_factor f ∷ parts k
+  factor_again (digits n) k = refl
+  factor_again (variable x) k = variable_again x (parts k)
+  factor_again (within e) k = ap within_read (expr_again e k)
+
+abbrev pub written : Expr → List (ℕ × ℕ)
+written e = expr_tokens e []
+
+abbrev pub read_back : List (ℕ × ℕ) → Expr
+read_back ws = first_expr (parts ws)
+
+pub read_written : (e : Expr) → read_back (written e) ≡ e
+read_written e = ap first_expr (expr_again e [])
+
+abbrev pub expr_code : Coded Expr
+expr_code = code_by (List (ℕ × ℕ)) (coded_list (coded× coded_ℕ coded_ℕ)) written read_back read_written

@@ -1,0 +1,57 @@
+use crate::expr::{Expr, Values};
+use crate::variable::Variable;
+use ss_report::Picture;
+
+/// A place of a section: what one step runs.
+#[derive(Debug, Drop)]
+pub enum Place {
+    Assign(Assign),
+    Output(Output),
+    Control(Control),
+}
+
+/// An assignment.
+#[derive(Debug, Drop)]
+pub enum Assign {
+    /// `[LET] target = value`; `written` says whether the word LET stands in the text.
+    Let {
+        written: bool,
+        target: Variable,
+        value: Expr,
+    },
+    /// `ADD value TO target`.
+    Add {
+        value: Expr,
+        target: Variable,
+    },
+    /// `SUBTRACT value FROM target`.
+    Subtract {
+        value: Expr,
+        target: Variable,
+    },
+}
+
+/// What appends to the report.
+#[derive(Debug, Drop)]
+pub enum Output {
+    /// `PRINT count LINES WITH values THUS picture`.
+    Print {
+        count: u64,
+        values: Values,
+        picture: Picture,
+    },
+}
+
+/// What ends a section or the run.
+#[derive(Clone, Copy, Debug, PartialEq, Eq)]
+pub enum Control {
+    Stop,
+    End,
+}
+
+/// A place and the line of its first word; lines count from 1.
+#[derive(Debug, Drop)]
+pub struct Spot {
+    pub line: usize,
+    pub place: Place,
+}

@@ -1,0 +1,10 @@
+/// What a name in an expression or a target stands for (docs/LANGUAGE.md, "Names").
+#[derive(Clone, Copy, Debug, PartialEq, Eq)]
+pub enum Variable {
+    /// A global variable, by its number in the program's table.
+    Global(usize),
+    /// A local variable, by its number in the table of its section.
+    Local(usize),
+    /// `TIME.V`. It can be read, and is never a target.
+    Clock,
+}

@@ -1,0 +1,6 @@
+pub mod Sets
+pub mod Moments
+pub mod Sounds
+pub mod Ranges
+pub mod Evaluated
+pub mod Wells

@@ -1,0 +1,80 @@
+-- What a machine stands for, and its steps forward and back.
+use Rattle.std.specs.Prelude.{◌≡◌, ◌≢◌, ℕ, ◌+◌, ◌*◌, ◌≤◌, List, [], ◌∷◌, ◌++◌, length, Bool, true, false, Option, Some, None}
+use Rattle.ss_journal.specs.Log.{Log}
+use Rattle.ss_journal.specs.Undoing.{past, Kept}
+use Rattle.ss_check.specs.Program.{ProgramTable, spot_at}
+use Rattle.ss_check.specs.ProgramSound.{IsSound}
+use Rattle.ss_check.specs.declared.place.Place.{Place}
+use Rattle.ss_check.specs.declared.place.Place.TheVariants.{Assign, Output, Control}
+use Rattle.ss_check.specs.declared.place.Spot.{Spot}
+use Rattle.ss_machine.specs.declared.change.Change.{Change}
+use Rattle.ss_machine.specs.declared.status.Status.TheVariants.{Ready}
+use Rattle.ss_machine.specs.declared.stepped.Stepped.{Stepped}
+use Rattle.ss_machine.specs.declared.stepped.Stepped.TheVariants.{Moved, AtEnd}
+use Rattle.ss_machine.specs.State.{State}
+use Rattle.ss_machine.specs.Change.{unapply, Fits}
+use Rattle.ss_machine.specs.Step.{step}
+use Rattle.ss_machine.specs.Run.{run}
+use Rattle.ss_machine.specs.Well.{IsWell}
+
+-- a program, its state, and the changes of each step that led there, the newest step and the newest change first
+pub record Moment : Type 0 where
+  pub program : ProgramTable
+  pub state : State
+  pub steps : List (List Change)
+
+-- the number of the state in the run
+abbrev pub position : Moment → ℕ
+position m = length m.steps
+
+-- the states before this one, the earliest first, got by taking the steps back
+abbrev pub past_of : Moment → List State
+past_of m = past unapply m.state m.steps
+
+-- how many targets the statement at a place has
+abbrev pub targets_at : Place → ℕ
+targets_at (Assign a) = 1
+targets_at (Output o) = 0
+targets_at (Control c) = 0
+
+abbrev pub targets_by : Option Spot → ℕ
+targets_by (Some spot) = targets_at spot.place
+targets_by None = 0
+
+-- how many targets the next statement has
+abbrev pub target_count : ProgramTable → State → ℕ
+target_count p s = targets_by (spot_at p s.frame.section s.frame.place)
+
+-- one step forward: the state is the definition's step of the old one, which now ends the past; the earlier steps are as they were,
+-- and one more is kept, of at most 64 changes and two for each target
+pub record HasMoved (old new : Moment) : Type 0 where
+  pub ready : old.state.status ≡ Ready
+  pub program : new.program ≡ old.program
+  pub state : new.state ≡ step old.program old.state
+  pub position : position new ≡ position old + 1
+  pub past : past_of new ≡ past_of old ++ old.state ∷ []
+  pub steps : (added : List Change) × (new.steps ≡ added ∷ old.steps) × (length added ≤ 64 + 2 * target_count old.program old.state)
+
+-- what a step did
+abbrev pub Steps : Stepped → Moment → Moment → Type 0
+Steps Moved old new = HasMoved old new
+Steps AtEnd old new = (old.state.status ≢ Ready) × (new ≡ old)
+
+-- one step back: the state is the last of the past, which no longer holds it, and the newest step is no longer kept
+pub record HasGoneBack (old new : Moment) : Type 0 where
+  pub program : new.program ≡ old.program
+  pub past : past_of old ≡ past_of new ++ new.state ∷ []
+  pub position : position old ≡ position new + 1
+  pub steps : (dropped : List Change) × (old.steps ≡ dropped ∷ new.steps)
+
+abbrev pub GoesBack : Bool → Moment → Moment → Type 0
+GoesBack true old new = HasGoneBack old new
+GoesBack false old new = (old.steps ≡ []) × (new ≡ old)
+
+-- what every machine keeps: a sound program, no open step, the state of the run with the machine's position, and changes that fit
+-- and lead back through the states of the run
+pub record Stands (p : ProgramTable) (s : State) (j : Log Change) : Type 0 where
+  pub sound : IsSound p
+  pub closed : j.current ≡ []
+  pub here : s ≡ run p (length j.steps)
+  pub kept : Kept Fits unapply (run p) j.steps s

@@ -1,0 +1,130 @@
+ghost use Rattle.std.specs.Prelude.{◌≡◌, ℤ, pos, neg_ℤ, ◌+ℤ◌, ◌-ℤ◌, ◌*ℤ◌, length, Ok, OnOk, IfErr};
+ghost use Rattle.ss_check.specs.ProgramExpr.{expr_of, term_of, factor_of};
+ghost use Rattle.ss_check.specs.ProgramSound.{IsSoundVariable, IsSoundExpr, IsSoundTerm, IsSoundFactor, AreSoundExprs};
+ghost use Rattle.ss_machine.specs.Values.{Readings, ranged, variable_value, with_sign, joined, value_of, values_of, FaultIs};
+ghost use Rattle.ss_machine.specs.Values as terms;
+ghost use Rattle.ss_machine.specs.Seen.{seen};
+
+use crate::view::View;
+use ss_check::{Expr, Factor, Sum, Term, TermSign, Values, Variable};
+use ss_words::{RunFault, StepFault};
+
+pub fn sum(x: i64, y: i64) -> Result<i64, RunFault>
+    ensures { result ≡ ranged (x +ℤ y) }
+{
+    x.checked_add(y).ok_or(RunFault::OutOfRange)
+}
+
+pub fn difference(x: i64, y: i64) -> Result<i64, RunFault>
+    ensures { result ≡ ranged (x -ℤ y) }
+{
+    x.checked_sub(y).ok_or(RunFault::OutOfRange)
+}
+
+fn product(x: i64, y: i64) -> Result<i64, RunFault>
+    ensures { result ≡ ranged (x *ℤ y) }
+{
+    x.checked_mul(y).ok_or(RunFault::OutOfRange)
+}
+
+fn negation(x: i64) -> Result<i64, RunFault>
+    ensures { result ≡ ranged (neg_ℤ x) }
+{
+    x.checked_neg().ok_or(RunFault::OutOfRange)
+}
+
+fn number(n: u64) -> Result<i64, RunFault>
+    ensures { result ≡ ranged (pos n) }
+{
+    i64::try_from(n).map_err(|_| RunFault::OutOfRange)
+}
+
+fn signed(sign: Option<TermSign>, x: i64) -> Result<i64, RunFault>
+    ensures { result ≡ with_sign sign x }
+{
+    match sign {
+        None | Some(TermSign::Plus) => Ok(x),
+        Some(TermSign::Minus) => negation(x),
+    }
+}
+
+fn join(sign: TermSign, x: i64, y: i64) -> Result<i64, RunFault>
+    ensures { result ≡ joined sign x y }
+{
+    match sign {
+        TermSign::Plus => sum(x, y),
+        TermSign::Minus => difference(x, y),
+    }
+}
+
+/// The value of a variable.
+pub fn variable(view: View<'_>, variable: Variable) -> i64
+    requires { IsSoundVariable (length view.variables.now) (length view.locals.now) variable }
+    ensures { result ≡ variable_value (seen view.entry) variable }
+{
+    match variable {
+        Variable::Global(number) => view.variables[number],
+        Variable::Local(number) => view.locals[number],
+        Variable::Clock => view.clock,
+    }
+}
+
+/// The value of an expression, or its first fault.
+pub fn value(view: View<'_>, e: &Expr) -> Result<i64, RunFault>
+    requires { IsSoundExpr (length view.variables.now) (length view.locals.now) e.now }
+    ensures { result ≡ value_of (seen view.entry) e.now }
+{
+    sum_value(view, &e.sum)
+}
+
+#[cycle(value)]
+fn sum_value(view: View<'_>, e: &Sum) -> Result<i64, RunFault>
+    requires { IsSoundExpr (length view.variables.now) (length view.locals.now) (expr_of e.now) }
+    ensures { result ≡ value_of (seen view.entry) (expr_of e.now) }
+{
+    let first = term_value(view, &e.first)?;
+    let mut total = signed(e.sign, first)?;
+    for further in &e.more {
+        let next = term_value(view, &further.term)?;
+        total = join(further.sign, total, next)?;
+    }
+    Ok(total)
+}
+
+#[cycle(value)]
+fn term_value(view: View<'_>, t: &Term) -> Result<i64, RunFault>
+    requires { IsSoundTerm (length view.variables.now) (length view.locals.now) (term_of t.now) }
+    ensures { result ≡ terms.term_value (seen view.entry) (term_of t.now) }
+{
+    let mut total = factor_value(view, &t.first)?;
+    for further in &t.more {
+        let next = factor_value(view, further)?;
+        total = product(total, next)?;
+    }
+    Ok(total)
+}
+
+#[cycle(value)]
+fn factor_value(view: View<'_>, f: &Factor) -> Result<i64, RunFault>
+    requires { IsSoundFactor (length view.variables.now) (length view.locals.now) (factor_of f.now) }
+    ensures { result ≡ terms.factor_value (seen view.entry) (factor_of f.now) }
+{
+    match f {
+        Factor::Number(n) => number(*n),
+        Factor::Variable(x) => Ok(variable(view, *x)),
+        Factor::Within(e) => sum_value(view, e),
+    }
+}
+
+/// Puts the values of expressions in order in place of what was in `values`, or answers the first fault.
+pub fn values(view: View<'_>, es: &Values, values: &mut Vec<i64>) -> Result<(), StepFault>
+    requires { AreSoundExprs (length view.variables.now) (length view.locals.now) es.now }
+    ensures ok { OnOk result (values_of (seen view.entry) es.now ≡ Ok values.new.items) }
+    ensures err { IfErr result (λ e. FaultIs e (values_of (seen view.entry) es.now)) }
+{
+    values.clear();
+    for e in &es.list {
+        values.push(value(view, e)?)?;
+    }
+    Ok(())
+}
