@@ -1,1 +1,2 @@
 pub mod SeatLaws
+pub mod BoardLaws

@@ -120,3 +120,22 @@ pub put_at-seat_before : (l : List ℕ) (at x : ℕ) → ((y : ℕ) → times_in
 put_at-seat_before [] at x once h = absurd (cc)
 put_at-seat_before (y ∷ []) at x once h = grind (arith, nat_tests)
 put_at-seat_before (y ∷ z ∷ zs) at x once h = let rest = once-tail y (z ∷ zs) once in let apart = once-head y (z ∷ zs) once in grind (arith, nat_tests, put_at-seat_before (z ∷ zs) at x rest, apart, seat_before-absent (z ∷ zs) at, seat_before-some (z ∷ zs) at, has-seat_before (z ∷ zs) at, put_at-rest y (z ∷ zs))
+
+-- where no seat stands twice, the one before a seat stays when that seat is taken off
+pub has-without-seat_before : (l : List ℕ) (x p : ℕ) → ((y : ℕ) → times_in l y ≤ 1) → seat_before l x ≡ Some p → has (without l x) p ≡ true
+has-without-seat_before [] x p once h = absurd (cc)
+has-without-seat_before (y ∷ []) x p once h = absurd (cc)
+has-without-seat_before (y ∷ z ∷ zs) x p once h = let apart = once-head y (z ∷ zs) once in grind (arith, nat_tests, has-without-seat_before (z ∷ zs) x p (once-tail y (z ∷ zs) once), apart)
+
+-- a seat that was put at a place stands in the list, directly behind the one named
+pub has-put_behind : (l : List ℕ) (at x : ℕ) → has l at ≡ true → has (put_behind l at x) x ≡ true
+has-put_behind [] at x h = absurd (cc)
+has-put_behind (y ∷ ys) at x h = grind (arith, nat_tests, has-put_behind ys at x)
+
+pub has-put_at : (l : List ℕ) (p : Option ℕ) (x : ℕ) → ForSome p (λ at. has l at ≡ true) → has (put_at l p x) x ≡ true
+has-put_at l None x there = grind (arith, nat_tests)
+has-put_at l (Some at) x there = has-put_behind l at x (there at refl)
+
+pub seat_before-put_at : (l : List ℕ) (p : Option ℕ) (x : ℕ) → has l x ≡ false → ForSome p (λ at. has l at ≡ true) → seat_before (put_at l p x) x ≡ p
+seat_before-put_at l None x h there = grind (arith, nat_tests, begins_with-absent l x h, seat_before-absent l x h)
+seat_before-put_at l (Some at) x h there = seat_before-put_behind l at x h (there at refl)

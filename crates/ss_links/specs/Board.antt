@@ -1,5 +1,5 @@
 -- A board: the lists of its heads, head by head, and the count of its seats. Heads and seats are numbered from 0.
-use Rattle.std.specs.Prelude.{◌≡◌, ℕ, ◌+◌, ◌-◌, ◌<◌, ◌≤◌, if◌then◌else◌, true, List, [], ◌∷◌, ◌++◌, length, take, map, slice_index_or, slice_set, Option, Some, None}
+use Rattle.std.specs.Prelude.{◌≡◌, ℕ, suc, ◌+◌, ◌-◌, ◌<◌, ◌≤◌, if◌then◌else◌, true, List, [], ◌∷◌, ◌++◌, length, take, map, slice_index_or, slice_set, Option, Some, None}
 use Rattle.std.specs.Option.{ForSome, option_map}
 use Rattle.ss_links.specs.declared.board.Place.{Place}
 use Rattle.ss_links.specs.Seats.{has, times_in, put_behind, put_before, put_at, without}
@@ -19,7 +19,7 @@ list_at lists head = slice_index_or lists head []
 -- the head in whose list a seat stands
 abbrev pub head_of : List (List ℕ) → ℕ → Option ℕ
 head_of [] x = None
-head_of (l ∷ ls) x = if has l x then Some 0 else option_map (λ head. head + 1) (head_of ls x)
+head_of (l ∷ ls) x = if has l x then Some 0 else option_map (λ head. suc head) (head_of ls x)
 
 -- the list in which a seat stands
 abbrev pub list_of : List (List ℕ) → ℕ → List ℕ

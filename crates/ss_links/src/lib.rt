@@ -10,5 +10,5 @@ mod plain_sets;
 // #[cfg(test)]
 // mod tests;
 
-pub use board::{Place, SetBoard};
+pub use board::{Place, SetBoard, relink_unlinked, unlink_relinked};
 pub use plain_sets::PlainSets;
