@@ -18,6 +18,10 @@ pub head_of-free : (ls : List (List ℕ)) (x : ℕ) → times ls x ≡ 0 → hea
 head_of-free [] x h = refl
 head_of-free (l ∷ ls) x h = grind (arith, nat_tests, has-from_times_in l x, head_of-free ls x)
 
+pub list_of-free : (ls : List (List ℕ)) (x : ℕ) → times ls x ≡ 0 → list_of ls x ≡ []
+list_of-free [] x h = refl
+list_of-free (l ∷ ls) x h = grind (arith, nat_tests, has-from_times_in l x, list_of-free ls x)
+
 -- the list of a head counts to all lists
 pub times-list_at : (ls : List (List ℕ)) (h x : ℕ) → times_in (list_at ls h) x ≤ times ls x
 times-list_at [] h x = omega arith

@@ -1,2 +1,3 @@
 pub mod SeatLaws
 pub mod BoardLaws
+pub mod MemberLaws

@@ -139,3 +139,39 @@ has-put_at l (Some at) x there = has-put_behind l at x (there at refl)
 pub seat_before-put_at : (l : List ℕ) (p : Option ℕ) (x : ℕ) → has l x ≡ false → ForSome p (λ at. has l at ≡ true) → seat_before (put_at l p x) x ≡ p
 seat_before-put_at l None x h there = grind (arith, nat_tests, begins_with-absent l x h, seat_before-absent l x h)
 seat_before-put_at l (Some at) x h there = seat_before-put_behind l at x h (there at refl)
+
+-- a list with a seat between two parts that have it not
+pub has-append : (a b : List ℕ) (x : ℕ) → has (a ++ b) x ≡ (has a x || has b x)
+has-append [] b x = refl
+has-append (y ∷ ys) b x = grind (arith, nat_tests, has-append ys b x)
+
+pub seat_behind-between : (a b : List ℕ) (x : ℕ) → has a x ≡ false → seat_behind (a ++ x ∷ b) x ≡ first_of b
+seat_behind-between [] b x h = grind (arith, nat_tests)
+seat_behind-between (y ∷ ys) b x h = grind (arith, nat_tests, seat_behind-between ys b x)
+
+pub seat_before-between : (a b : List ℕ) (x : ℕ) → has a x ≡ false → has b x ≡ false → seat_before (a ++ x ∷ b) x ≡ last_of a
+seat_before-between [] b x h k = grind (arith, nat_tests, begins_with-absent b x k, seat_before-absent b x k)
+seat_before-between (y ∷ []) b x h k = grind (arith, nat_tests, begins_with-absent b x k, seat_before-absent b x k)
+seat_before-between (y ∷ z ∷ zs) b x h k = grind (arith, nat_tests, seat_before-between (z ∷ zs) b x)
+
+pub without-between : (a b : List ℕ) (x : ℕ) → has a x ≡ false → has b x ≡ false → without (a ++ x ∷ b) x ≡ a ++ b
+without-between [] b x h k = grind (arith, nat_tests, without-absent b x k)
+without-between (y ∷ ys) b x h k = grind (arith, nat_tests, without-between ys b x)
+
+pub put_behind-between : (a b : List ℕ) (at x : ℕ) → has a at ≡ false → put_behind (a ++ at ∷ b) at x ≡ a ++ at ∷ x ∷ b
+put_behind-between [] b at x h = grind (arith, nat_tests)
+put_behind-between (y ∷ ys) b at x h = grind (arith, nat_tests, put_behind-between ys b at x)
+
+-- seats below a count, none of them twice, are no more than the count
+length-without : (l : List ℕ) (x : ℕ) → length (without l x) + times_in l x ≡ length l
+length-without [] x = refl
+length-without (y ∷ ys) x = grind (arith, nat_tests, length-without ys x)
+
+pub length-le_count : (n : ℕ) (l : List ℕ) → ((x : ℕ) → times_in l x ≤ 1) → ((x : ℕ) → n ≤ x → times_in l x ≡ 0) → length l ≤ n
+length-le_count zero [] once below = omega arith
+length-le_count zero (y ∷ ys) once below = absurd (grind (arith, nat_tests, below y))
+length-le_count (suc n) l once below =
+    let rest = without l n in
+    let once_rest : (x : ℕ) → times_in rest x ≤ 1 = λ x. omega (arith, times_in-without l n x, once x) in
+    let below_rest : (x : ℕ) → n ≤ x → times_in rest x ≡ 0 = λ x h. grind (arith, times_in-without l n x, below x, times_in-absent rest n (has-without l n)) in
+    omega (arith, length-le_count n rest once_rest below_rest, length-without l n, once n)
