@@ -23,6 +23,11 @@ pub trait SetBoard: Drop {
 
     ghost board: { Self → Board };
 
+    /// The number of heads.
+    fn heads(&self) -> u32
+        ensures count { result ≡ length (board self.now).lists }
+        ensures sound { IsSound (board self.now) };
+
     /// The number of seats. A seat stands in one list at most, and once; a number from this one on stands in none.
     fn seats(&self) -> u32
         ensures count { result ≡ (board self.now).seats }

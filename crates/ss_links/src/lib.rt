@@ -7,8 +7,8 @@
 mod board;
 mod plain_sets;
 
-// #[cfg(test)]
-// mod tests;
+#[cfg(test)]
+mod tests;
 
 pub use board::{Place, SetBoard, relink_unlinked, unlink_relinked};
 pub use plain_sets::PlainSets;

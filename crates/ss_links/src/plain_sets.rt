@@ -95,6 +95,10 @@ fn count_in(members: &[Member], head: u32) -> usize
 impl SetBoard for PlainSets {
     ghost board = { λ b. b };
 
+    fn heads(&self) -> u32 {
+        self.heads
+    }
+
     fn seats(&self) -> u32 {
         self.seats
     }
