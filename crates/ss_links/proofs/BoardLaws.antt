@@ -139,7 +139,7 @@ CanRelink-unlinked b x p s r e q =
       is_seat = r;
       is_free = head_of-free (map (λ k. without k x) b.lists) x (times-unlinked b.lists x);
       is_head = rw length-map found.0;
-      is_there = λ at k. rw (list_at-map (λ m. without m x) refl b.lists p.head) (has-without-seat_before l x at (once-list_at b s p.head) (sym before ∙ k))
+      is_there = λ at k. rw (list_at-map (λ m. without m x) refl b.lists p.head) (has-without-seat_before l x at (once-list_at b s p.head) (sym before ∙ k));
     }
 
 -- behind the last seat of the list is last in it
@@ -173,13 +173,13 @@ IsSound-relinked b x p s c =
     let free = times-free b.lists x c.is_free in
     record {
       once = λ y. grind (arith, nat_tests, times-relinked b x p c y, free, s.once y);
-      below = λ y h. grind (arith, nat_tests, times-relinked b x p c y, c.is_seat, s.below y h)
+      below = λ y h. grind (arith, nat_tests, times-relinked b x p c y, c.is_seat, s.below y h);
     }
 
 pub IsSound-unlinked : (b : Board) (x : ℕ) → IsSound b → IsSound (unlinked b x)
 IsSound-unlinked b x s = record {
   once = λ y. omega (arith, times-unlinked_le b.lists x y, s.once y);
-  below = λ y h. omega (arith, times-unlinked_le b.lists x y, s.below y h)
+  below = λ y h. omega (arith, times-unlinked_le b.lists x y, s.below y h);
 }
 
 times-append : (ls ms : List (List ℕ)) (x : ℕ) → times (ls ++ ms) x ≡ times ls x + times ms x
@@ -194,7 +194,7 @@ times-take (suc n) (l ∷ ls) x = omega (arith, times-take n ls x)
 pub IsSound-with_head : (b : Board) → IsSound b → IsSound (with_head b)
 IsSound-with_head b s = record {
   once = λ y. omega (arith, times-append b.lists ([] ∷ []) y, s.once y);
-  below = λ y h. omega (arith, times-append b.lists ([] ∷ []) y, s.below y h)
+  below = λ y h. omega (arith, times-append b.lists ([] ∷ []) y, s.below y h);
 }
 
 pub IsSound-with_seat : (b : Board) → IsSound b → IsSound (with_seat b)
@@ -205,13 +205,13 @@ IsSound-without_last_head b s =
     let n = length b.lists - 1 in
     record {
       once = λ y. omega (arith, times-take n b.lists y, s.once y);
-      below = λ y h. omega (arith, times-take n b.lists y, s.below y h)
+      below = λ y h. omega (arith, times-take n b.lists y, s.below y h);
     }
 
 pub IsSound-without_last_seat : (b : Board) → IsSound b → head_of b.lists (b.seats - 1) ≡ None → IsSound (without_last_seat b)
 IsSound-without_last_seat b s e = record {
   once = s.once;
-  below = λ y h. grind (arith, times-free b.lists (b.seats - 1) e, s.below y)
+  below = λ y h. grind (arith, times-free b.lists (b.seats - 1) e, s.below y);
 }
 
 -- the places at which the four links put a seat
@@ -233,7 +233,7 @@ CanRelink-before b h x at r e f =
       is_seat = r;
       is_free = e;
       is_head = found.0;
-      is_there = λ a k. has-seat_before (list_at b.lists h) at a (ap (λ (l : List ℕ). seat_before l at) (sym found.2) ∙ k)
+      is_there = λ a k. has-seat_before (list_at b.lists h) at a (ap (λ (l : List ℕ). seat_before l at) (sym found.2) ∙ k);
     }
 
 -- a seat that was put at a place stands there
@@ -268,3 +268,9 @@ place-relinked b x p q s c e f =
     let before : q.before ≡ p.before = f ∙ seat_before-relinked b x p s c in
     let heads_same : q ≡ place_at p.head q.before = ap (λ (h : ℕ). place_at h q.before) head in
     heads_same ∙ ap (λ (o : Option ℕ). place_at p.head o) before
+
+-- a place behind a seat that is in the list of the place's head
+pub CanRelink-behind : (b : Board) (x : ℕ) (p : Place) (at : ℕ) → x < b.seats → head_of b.lists x ≡ None → p.before ≡ Some at → head_of b.lists at ≡ Some p.head → CanRelink b x p
+CanRelink-behind b x p at r e f g =
+    let found = head_of-found b.lists at p.head g in
+    record { is_seat = r; is_free = e; is_head = found.0; is_there = λ a k. let same : at ≡ a = cc in rw (← same) found.1 }

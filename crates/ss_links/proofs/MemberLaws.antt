@@ -119,7 +119,7 @@ times-lists_of n (m ∷ ms) of x =
 pub IsSound-lists_of : (n k : ℕ) (ms : List Member) → AreMembers n k ms → IsSound (record { lists = lists_of n ms; seats = k })
 IsSound-lists_of n k ms a = record {
   once = λ x. rw (times-lists_of n ms a.of_heads x) (a.once x);
-  below = λ x h. rw (times-lists_of n ms a.of_heads x) (a.of_seats x h)
+  below = λ x h. rw (times-lists_of n ms a.of_heads x) (a.of_seats x h);
 }
 
 -- a seat that no member has is in no list
@@ -148,7 +148,7 @@ is_between n k front m rear a =
     record {
       whole = refl;
       not_before = has-from_times_in (all_seats front) m.seat (grind (arith, nat_tests, count, a.once m.seat));
-      not_behind = has-from_times_in (all_seats rear) m.seat (grind (arith, nat_tests, count, a.once m.seat))
+      not_behind = has-from_times_in (all_seats rear) m.seat (grind (arith, nat_tests, count, a.once m.seat));
     }
 
 -- the list of the head of a member between two parts
@@ -205,7 +205,7 @@ AreMembers-without_head n k ms a c e =
     record {
       of_heads = λ h d. elim (eqb h (n - 1)) as (λ t. eqb h (n - 1) ≡ t → seats_at ms h ≡ []) [ true ↦ λ t. let same : h ≡ n - 1 = grind (arith, nat_tests, t) in rw same last | false ↦ λ t. a.of_heads h (grind (arith, nat_tests, t)) ] refl;
       of_seats = a.of_seats;
-      once = a.once
+      once = a.once;
     }
 
 pub board_of-without_head : (n k : ℕ) (ms : List Member) → board_of (n - 1) k ms ≡ without_last_head (board_of n k ms)
@@ -224,7 +224,7 @@ AreMembers-without_seat n k ms a e =
     record {
       of_heads = a.of_heads;
       of_seats = λ x d. elim (eqb x (k - 1)) as (λ t. eqb x (k - 1) ≡ t → times_in (all_seats ms) x ≡ 0) [ true ↦ λ t. let same : x ≡ k - 1 = grind (arith, nat_tests, t) in rw same last | false ↦ λ t. a.of_seats x (grind (arith, nat_tests, t)) ] refl;
-      once = a.once
+      once = a.once;
     }
 
 -- where a member stands
@@ -271,5 +271,5 @@ finds ms x i m d e f =
       within = within;
       seat = ap (λ (n : Member). n.seat) f ∙ seat;
       whole = whole-at ms i d within ∙ ap (λ (n : Member). take i ms ++ n ∷ drop (i + 1) ms) (sym f);
-      not_before = rw (← at.1) (has-before ms x)
+      not_before = rw (← at.1) (has-before ms x);
     }

@@ -23,7 +23,7 @@ AreMembers-removed n k front m rear a =
     record {
       of_heads = λ h c. elim (eqb m.head h) as (λ t. eqb m.head h ≡ t → seats_at (front ++ rear) h ≡ []) [ true ↦ λ t. absurd (grind (arith, nat_tests, t, head-of_members n k front m rear a)) | false ↦ λ t. sym (seats_at-others front m rear h t) ∙ a.of_heads h c ] refl;
       of_seats = λ x c. omega (arith, count x, a.of_seats x c);
-      once = λ x. omega (arith, count x, a.once x)
+      once = λ x. omega (arith, count x, a.once x);
     }
 
 lists_of-removed : (n k : ℕ) (front : List Member) (m : Member) (rear : List Member) → AreMembers n k (front ++ m ∷ rear) → lists_of n (front ++ rear) ≡ map (λ l. without l m.seat) (lists_of n (front ++ m ∷ rear))
@@ -32,8 +32,8 @@ lists_of-removed n k front m rear a =
     let before : (h : ℕ) → has (seats_at front h) m.seat ≡ false = λ h. has-seats_at front h m.seat between.not_before in
     let behind : (h : ℕ) → has (seats_at rear h) m.seat ≡ false = λ h. has-seats_at rear h m.seat between.not_behind in
     let each : (h : ℕ) → without (seats_at (front ++ m ∷ rear) h) m.seat ≡ seats_at (front ++ rear) h = λ h. elim (eqb m.head h) as (λ t. eqb m.head h ≡ t → without (seats_at (front ++ m ∷ rear) h) m.seat ≡ seats_at (front ++ rear) h) [
-      true ↦ λ t. let same : m.head ≡ h = grind (arith, nat_tests, t) in rw (← same) (rw (seats_at-between front m rear, seats_at-append front rear m.head) (without-between (seats_at front m.head) (seats_at rear m.head) m.seat (before m.head) (behind m.head)))
-    | false ↦ λ t. rw (seats_at-others front m rear h t) (without-absent (seats_at (front ++ rear) h) m.seat (rw seats_at-append (rw (has-append, before h) (behind h))))
+      | true ↦ λ t. let same : m.head ≡ h = grind (arith, nat_tests, t) in rw (← same) (rw (seats_at-between front m rear, seats_at-append front rear m.head) (without-between (seats_at front m.head) (seats_at rear m.head) m.seat (before m.head) (behind m.head)))
+      | false ↦ λ t. rw (seats_at-others front m rear h t) (without-absent (seats_at (front ++ rear) h) m.seat (rw seats_at-append (rw (has-append, before h) (behind h))))
     ] refl in
     lists_of-each n (front ++ rear) (map (λ l. without l m.seat) (lists_of n (front ++ m ∷ rear))) (length-map (lists_of n (front ++ m ∷ rear)) (λ l. without l m.seat) ∙ length-lists_of n (front ++ m ∷ rear)) (λ h c. list_at-map (λ l. without l m.seat) refl (lists_of n (front ++ m ∷ rear)) h ∙ (ap (λ (l : List ℕ). without l m.seat) (list_at-lists_of n (front ++ m ∷ rear) h c) ∙ each h))
 
@@ -47,7 +47,7 @@ AreMembers-inserted n k front m rear a b c e =
     record {
       of_heads = λ h d. let other : eqb m.head h ≡ false = grind (arith, nat_tests) in seats_at-others front m rear h other ∙ a.of_heads h d;
       of_seats = λ x d. grind (arith, nat_tests, count x, a.of_seats x d);
-      once = λ x. grind (arith, nat_tests, count x, a.once x, e)
+      once = λ x. grind (arith, nat_tests, count x, a.once x, e);
     }
 
 -- the first of all members
@@ -69,8 +69,8 @@ lists_of-behind n k front at m rear a same =
     let put : l ≡ seats_at front m.head ++ at.seat ∷ m.seat ∷ seats_at rear m.head = rw old (put_behind-between (seats_at front m.head) (seats_at rear m.head) at.seat m.seat absent) in
     let list : seats_at (front ++ at ∷ m ∷ rear) m.head ≡ seats_at front m.head ++ at.seat ∷ m.seat ∷ seats_at rear m.head = grind (arith, nat_tests, seats_at-append front (at ∷ m ∷ rear) m.head) in
     lists_of-each n (front ++ at ∷ m ∷ rear) (set ls m.head l) (length-set ls m.head l ∙ length-lists_of n ms) (λ h c. elim (eqb m.head h) as (λ t. eqb m.head h ≡ t → list_at (set ls m.head l) h ≡ seats_at (front ++ at ∷ m ∷ rear) h) [
-      true ↦ λ t. let here : m.head ≡ h = grind (arith, nat_tests, t) in rw (← here) (get_or-set_same ls m.head l [] (rw (length-lists_of n ms) below) ∙ (put ∙ sym list))
-    | false ↦ λ t. let other : eqb at.head h ≡ false = rw same t in get_or-set_other ls m.head h l [] (grind (arith, nat_tests, t)) ∙ (list_at-lists_of n ms h c ∙ grind (arith, nat_tests, t, other, seats_at-append front (at ∷ rear) h, seats_at-append front (at ∷ m ∷ rear) h))
+      | true ↦ λ t. let here : m.head ≡ h = grind (arith, nat_tests, t) in rw (← here) (get_or-set_same ls m.head l [] (rw (length-lists_of n ms) below) ∙ (put ∙ sym list))
+      | false ↦ λ t. let other : eqb at.head h ≡ false = rw same t in get_or-set_other ls m.head h l [] (grind (arith, nat_tests, t)) ∙ (list_at-lists_of n ms h c ∙ grind (arith, nat_tests, t, other, seats_at-append front (at ∷ rear) h, seats_at-append front (at ∷ m ∷ rear) h))
     ] refl)
 
 pub board_of-behind : (n k : ℕ) (front : List Member) (at m : Member) (rear : List Member) → AreMembers n k (front ++ at ∷ rear) → at.head ≡ m.head → board_of n k (front ++ at ∷ m ∷ rear) ≡ relinked (board_of n k (front ++ at ∷ rear)) m.seat (record { head = m.head; before = Some at.seat })
@@ -210,6 +210,6 @@ pub relinked_at : (n k : ℕ) (ms us : List Member) (b : Board) (x place : ℕ) 
 relinked_at n k ms us b x place p a e c =
     let at_head : Option ℕ → Place = λ o. record { head = p.head; before = o } in
     elim p.before as (λ (o : Option ℕ). ForSome o (λ at. has (list_at b.lists p.head) at ≡ true) → IfNone o (place ≡ 0) → IfSome o (λ at. IsBehind ms at place) → us ≡ insert ms place (member p.head x) → AreMembers n k us × (board_of n k us ≡ relinked b x (at_head o))) [
-      None ↦ λ there first behind whole. relinked_first n k ms us b x p.head a e c.is_head c.is_seat c.is_free (rw first at whole)
-    | Some at ↦ λ there first behind whole. relinked_behind n k ms us b x p.head at place a e c.is_head c.is_seat c.is_free (there at refl) behind whole
+      | None ↦ λ there first behind whole. relinked_first n k ms us b x p.head a e c.is_head c.is_seat c.is_free (rw first at whole)
+      | Some at ↦ λ there first behind whole. relinked_behind n k ms us b x p.head at place a e c.is_head c.is_seat c.is_free (there at refl) behind whole
     ] c.is_there

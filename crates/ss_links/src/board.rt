@@ -163,7 +163,13 @@ pub trait SetBoard: Drop {
         ensures sound { IsSound (board self.old) × IsSound (board self.new) }
     {
         let head = self.place(at).unwrap();
-        self.relink(seat, Place { head, before: Some(at) });
+        self.relink(
+            seat,
+            Place {
+                head,
+                before: Some(at),
+            },
+        );
     }
 }
 

@@ -6,7 +6,6 @@
 
 mod board;
 mod plain_sets;
-
 #[cfg(test)]
 mod tests;
 

@@ -80,12 +80,20 @@ fn can_relink<S: SetBoard>(rt: &impl Abort, board: &S, seat: u32, place: Place)
     assert!(rt; place.head < board.heads());
     if let Some(before) = place.before {
         assert!(rt; before < board.seats());
-        assert_eq!(rt; board.place(before), Some(place.head));
+        let head = board
+            .place(before)
+            .expect(rt, "the seat before the place is in a list");
+        assert!(rt; head == place.head);
     }
 }
 
 /// Makes a change, and where memory is refused sees the board as it was and makes it again.
-fn make<S: SetBoard>(rt: &impl Abort, board: &mut S, step: Step, before: Lists) -> Result<(), Fail> {
+fn make<S: SetBoard>(
+    rt: &impl Abort,
+    board: &mut S,
+    step: Step,
+    before: Lists,
+) -> Result<(), Fail> {
     match step {
         Step::AddHead => {
             assert!(rt; board.heads() < u32::MAX);
@@ -165,55 +173,219 @@ const STEPS: [(Step, Lists); 44] = [
     // An only member, by each way in, and out again.
     (Step::LinkLast { head: 1, seat: 2 }, (&[&[], &[2]], 5)),
     (Step::Return { seat: 2 }, (&[&[], &[2]], 5)),
-    (Step::Unlink { seat: 2, from: Place { head: 1, before: None } }, (&[&[], &[]], 5)),
+    (
+        Step::Unlink {
+            seat: 2,
+            from: Place {
+                head: 1,
+                before: None,
+            },
+        },
+        (&[&[], &[]], 5),
+    ),
     (Step::LinkFirst { head: 0, seat: 2 }, (&[&[2], &[]], 5)),
-    (Step::Unlink { seat: 2, from: Place { head: 0, before: None } }, (&[&[], &[]], 5)),
-    (Step::Relink { seat: 2, to: Place { head: 1, before: None } }, (&[&[], &[2]], 5)),
-    (Step::Visit { seat: 4, at: Place { head: 0, before: None } }, (&[&[], &[2]], 5)),
+    (
+        Step::Unlink {
+            seat: 2,
+            from: Place {
+                head: 0,
+                before: None,
+            },
+        },
+        (&[&[], &[]], 5),
+    ),
+    (
+        Step::Relink {
+            seat: 2,
+            to: Place {
+                head: 1,
+                before: None,
+            },
+        },
+        (&[&[], &[2]], 5),
+    ),
+    (
+        Step::Visit {
+            seat: 4,
+            at: Place {
+                head: 0,
+                before: None,
+            },
+        },
+        (&[&[], &[2]], 5),
+    ),
     // The four links, in two lists at once.
     (Step::LinkFirst { head: 1, seat: 0 }, (&[&[], &[0, 2]], 5)),
     (Step::LinkLast { head: 0, seat: 3 }, (&[&[3], &[0, 2]], 5)),
     (Step::LinkAfter { seat: 4, at: 0 }, (&[&[3], &[0, 4, 2]], 5)),
-    (Step::LinkBefore { seat: 1, at: 3 }, (&[&[1, 3], &[0, 4, 2]], 5)),
+    (
+        Step::LinkBefore { seat: 1, at: 3 },
+        (&[&[1, 3], &[0, 4, 2]], 5),
+    ),
     (Step::AddSeat, (&[&[1, 3], &[0, 4, 2]], 6)),
-    (Step::LinkAfter { seat: 5, at: 2 }, (&[&[1, 3], &[0, 4, 2, 5]], 6)),
+    (
+        Step::LinkAfter { seat: 5, at: 2 },
+        (&[&[1, 3], &[0, 4, 2, 5]], 6),
+    ),
     // Off and back at each place: first, in the middle, last.
     (Step::Return { seat: 0 }, (&[&[1, 3], &[0, 4, 2, 5]], 6)),
     (Step::Return { seat: 4 }, (&[&[1, 3], &[0, 4, 2, 5]], 6)),
     (Step::Return { seat: 5 }, (&[&[1, 3], &[0, 4, 2, 5]], 6)),
     (Step::Return { seat: 3 }, (&[&[1, 3], &[0, 4, 2, 5]], 6)),
-    (Step::Unlink { seat: 5, from: Place { head: 1, before: Some(2) } }, (&[&[1, 3], &[0, 4, 2]], 6)),
-    (Step::Unlink { seat: 4, from: Place { head: 1, before: Some(0) } }, (&[&[1, 3], &[0, 2]], 6)),
-    (Step::Unlink { seat: 0, from: Place { head: 1, before: None } }, (&[&[1, 3], &[2]], 6)),
-    (Step::LinkBefore { seat: 4, at: 2 }, (&[&[1, 3], &[4, 2]], 6)),
-    (Step::LinkBefore { seat: 5, at: 2 }, (&[&[1, 3], &[4, 5, 2]], 6)),
-    (Step::Visit { seat: 0, at: Place { head: 0, before: Some(1) } }, (&[&[1, 3], &[4, 5, 2]], 6)),
-    (Step::Visit { seat: 0, at: Place { head: 0, before: Some(3) } }, (&[&[1, 3], &[4, 5, 2]], 6)),
-    (Step::Visit { seat: 0, at: Place { head: 1, before: None } }, (&[&[1, 3], &[4, 5, 2]], 6)),
-    (Step::Relink { seat: 0, to: Place { head: 1, before: Some(5) } }, (&[&[1, 3], &[4, 5, 0, 2]], 6)),
-    (Step::Unlink { seat: 2, from: Place { head: 1, before: Some(0) } }, (&[&[1, 3], &[4, 5, 0]], 6)),
-    (Step::Relink { seat: 2, to: Place { head: 0, before: Some(3) } }, (&[&[1, 3, 2], &[4, 5, 0]], 6)),
+    (
+        Step::Unlink {
+            seat: 5,
+            from: Place {
+                head: 1,
+                before: Some(2),
+            },
+        },
+        (&[&[1, 3], &[0, 4, 2]], 6),
+    ),
+    (
+        Step::Unlink {
+            seat: 4,
+            from: Place {
+                head: 1,
+                before: Some(0),
+            },
+        },
+        (&[&[1, 3], &[0, 2]], 6),
+    ),
+    (
+        Step::Unlink {
+            seat: 0,
+            from: Place {
+                head: 1,
+                before: None,
+            },
+        },
+        (&[&[1, 3], &[2]], 6),
+    ),
+    (
+        Step::LinkBefore { seat: 4, at: 2 },
+        (&[&[1, 3], &[4, 2]], 6),
+    ),
+    (
+        Step::LinkBefore { seat: 5, at: 2 },
+        (&[&[1, 3], &[4, 5, 2]], 6),
+    ),
+    (
+        Step::Visit {
+            seat: 0,
+            at: Place {
+                head: 0,
+                before: Some(1),
+            },
+        },
+        (&[&[1, 3], &[4, 5, 2]], 6),
+    ),
+    (
+        Step::Visit {
+            seat: 0,
+            at: Place {
+                head: 0,
+                before: Some(3),
+            },
+        },
+        (&[&[1, 3], &[4, 5, 2]], 6),
+    ),
+    (
+        Step::Visit {
+            seat: 0,
+            at: Place {
+                head: 1,
+                before: None,
+            },
+        },
+        (&[&[1, 3], &[4, 5, 2]], 6),
+    ),
+    (
+        Step::Relink {
+            seat: 0,
+            to: Place {
+                head: 1,
+                before: Some(5),
+            },
+        },
+        (&[&[1, 3], &[4, 5, 0, 2]], 6),
+    ),
+    (
+        Step::Unlink {
+            seat: 2,
+            from: Place {
+                head: 1,
+                before: Some(0),
+            },
+        },
+        (&[&[1, 3], &[4, 5, 0]], 6),
+    ),
+    (
+        Step::Relink {
+            seat: 2,
+            to: Place {
+                head: 0,
+                before: Some(3),
+            },
+        },
+        (&[&[1, 3, 2], &[4, 5, 0]], 6),
+    ),
     // Heads and seats taken off, last first, and made again.
-    (Step::Unlink { seat: 5, from: Place { head: 1, before: Some(4) } }, (&[&[1, 3, 2], &[4, 0]], 6)),
+    (
+        Step::Unlink {
+            seat: 5,
+            from: Place {
+                head: 1,
+                before: Some(4),
+            },
+        },
+        (&[&[1, 3, 2], &[4, 0]], 6),
+    ),
     (Step::TakeLastSeat, (&[&[1, 3, 2], &[4, 0]], 5)),
-    (Step::Unlink { seat: 4, from: Place { head: 1, before: None } }, (&[&[1, 3, 2], &[0]], 5)),
-    (Step::Unlink { seat: 0, from: Place { head: 1, before: None } }, (&[&[1, 3, 2], &[]], 5)),
+    (
+        Step::Unlink {
+            seat: 4,
+            from: Place {
+                head: 1,
+                before: None,
+            },
+        },
+        (&[&[1, 3, 2], &[0]], 5),
+    ),
+    (
+        Step::Unlink {
+            seat: 0,
+            from: Place {
+                head: 1,
+                before: None,
+            },
+        },
+        (&[&[1, 3, 2], &[]], 5),
+    ),
     (Step::TakeLastHead, (&[&[1, 3, 2]], 5)),
     (Step::TakeLastSeat, (&[&[1, 3, 2]], 4)),
     (Step::AddHead, (&[&[1, 3, 2], &[]], 4)),
     (Step::AddSeat, (&[&[1, 3, 2], &[]], 5)),
-    (Step::LinkLast { head: 1, seat: 4 }, (&[&[1, 3, 2], &[4]], 5)),
+    (
+        Step::LinkLast { head: 1, seat: 4 },
+        (&[&[1, 3, 2], &[4]], 5),
+    ),
 ];
+
+/// Makes the changes, and compares the board with the lists after each.
+fn drive<S: SetBoard>(rt: &impl Abort, board: &mut S, steps: &[(Step, Lists)]) -> Result<(), Fail> {
+    let mut before: Lists = (&[], 0);
+    agrees(rt, board, before.0, before.1);
+    for &(step, after) in steps {
+        make(rt, board, step, before)?;
+        agrees(rt, board, after.0, after.1);
+        before = after;
+    }
+    Ok(())
+}
 
 #[test]
 fn every_call_agrees_with_lists(rt: HostRuntime) -> Result<(), Fail> {
     let mut board = PlainSets::new(rt.alloc());
-    let mut before: Lists = (&[], 0);
-    agrees(&rt, &board, before.0, before.1);
-    for (step, after) in STEPS {
-        make(&rt, &mut board, step, before)?;
-        agrees(&rt, &board, after.0, after.1);
-        before = after;
-    }
-    Ok(())
+    drive(&rt, &mut board, &STEPS)
 }

@@ -36,5 +36,5 @@ returns-clause-can_relink c =
 pub returns-clause-sound : goal.returns-clause-sound
 returns-clause-sound c = (
   sound_of _ _ _ _ c.self.invariant.0 c.self.view_is,
-  IsSound-lists_of _ _ _ (invariant_of-self c).0
+  IsSound-lists_of _ _ _ (invariant_of-self c).0,
 )
