@@ -163,13 +163,8 @@ pub trait SetBoard: Drop {
         ensures sound { IsSound (board self.old) × IsSound (board self.new) }
     {
         let head = self.place(at).unwrap();
-        self.relink(
-            seat,
-            Place {
-                head,
-                before: Some(at),
-            },
-        );
+        let before = Some(at);
+        self.relink(seat, Place { head, before });
     }
 }
 
@@ -179,8 +174,8 @@ pub fn relink_unlinked<S: SetBoard>(board: &mut S, seat: u32)
     requires is_linked { IsSome (head_of (S.board board.old).lists seat) }
     ensures { S.board board.new ≡ S.board board.old }
 {
-    let place = board.unlink(seat);
-    board.relink(seat, place);
+    let from = board.unlink(seat);
+    board.relink(seat, from);
 }
 
 /// Puts the seat, which is in no list, at the place and takes it off again: on every board, the lists are as they
