@@ -1,0 +1,8 @@
+//! The data of a run: its pieces in order, and how many of them are taken.
+#![tactic(auto)]
+
+mod feed;
+mod number;
+mod pieces;
+
+pub use feed::Feed;
