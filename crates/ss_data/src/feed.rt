@@ -1,10 +1,8 @@
-use std::alloc::{AllocError, Global};
-use std::marker::Model;
-
-use ss_words::RunFault;
-
 use crate::number::parse_number;
 use crate::pieces::Pieces;
+use ss_words::RunFault;
+use std::alloc::{AllocError, Global};
+use std::marker::Model;
 
 /// The data of a run, from which READ takes number after number (docs/LANGUAGE.md, "The data").
 ///
@@ -54,10 +52,7 @@ impl Feed {
         ensures ok { OnOk result (self.new ≡ with_taken self.old (self.old.taken + 1)) }
         ensures err { OnErr result (self.new ≡ self.old) }
     {
-        let piece = self
-            .pieces
-            .get(self.taken)
-            .ok_or(RunFault::NoMoreData)?;
+        let piece = self.pieces.get(self.taken).ok_or(RunFault::NoMoreData)?;
         let value = parse_number(piece).ok_or(RunFault::NotANumber)?;
         self.taken += 1;
         Ok(value)

@@ -4,5 +4,7 @@
 mod feed;
 mod number;
 mod pieces;
+#[cfg(test)]
+mod tests;
 
 pub use feed::Feed;
