@@ -59,11 +59,9 @@ fn numbers_are_taken_in_order(rt: HostRuntime) -> Result<(), Fail> {
         &[i64::MAX, i64::MIN],
         RunFault::NoMoreData,
     )?;
-    let mut long = Vec::from_slice(alloc, b"-")?;
-    for _ in 0..90 {
-        long.push(b'0')?;
-    }
-    long.push(b'8')?;
+    let mut long = [b'0'; 92];
+    long[0] = b'-';
+    long[91] = b'8';
     gives(&rt, alloc, &long, &[-8], RunFault::NoMoreData)?;
     Ok(())
 }
