@@ -1,5 +1,5 @@
 -- The item that is taken next.
-use Rattle.std.proofs.Common.{◌≡◌, ℕ, ℤ, List, map, refl, Option, Some, None, Result, Ok, Err}
+use Rattle.std.proofs.Common.{◌≡◌, ℕ, ℤ, List, map, refl, Some, Ok}
 use Rattle.std.specs.List.{slice_get}
 use Rattle.std.proofs.lemmas.Option.{slice_get-map}
 use Rattle.ss_data.specs.Numbers.{number}

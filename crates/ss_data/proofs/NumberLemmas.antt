@@ -1,8 +1,8 @@
 -- What std's parsing of an integer gives, in this crate's words.
-use Rattle.std.proofs.Common.{◌≡◌, ◌≢◌, ℕ, ℤ, pos, neg_ℤ, ◌+◌, ◌-◌, ◌*◌, ◌^◌, ◌<◌, ◌≤◌, ◌⊎◌, inl, inr, Bool, true, false, cond, List, [], ◌∷◌, length, get_or, rules, refl, ap, sym, ◌∙◌, arith, Option, Some, None, Result, Ok, Err, w64, drop, eqb, fold, subst, zero, suc}
+use Rattle.std.proofs.Common.{◌≡◌, ◌≢◌, ℕ, ℤ, pos, neg_ℤ, ◌+◌, ◌-◌, ◌*◌, ◌^◌, ◌<◌, ◌≤◌, ◌⊎◌, inl, inr, true, false, List, [], ◌∷◌, length, rules, refl, arith, Option, Some, None, Result, Ok, Err, w64, eqb, fold, subst, zero, suc}
 use Rattle.std.proofs.lemmas.Grind.{common_steps}
 use Rattle.std.proofs.lemmas.Bool.Decides.{nat_tests, eqb_tells}
-use Rattle.std.proofs.lemmas.Str.Parse.{IsNumeralModel, numerals_by_fold, tells_all_ascii_digits, parse_signed_minus, parse_signed_plain, parse_signed_plus}
+use Rattle.std.proofs.lemmas.Str.Parse.{IsNumeralModel, numerals_by_fold, parse_signed_minus, parse_signed_plain, parse_signed_plus}
 use lib.Signed.{mag}
 use Rattle.std.specs.Prelude.{FitsSigned}
 use Rattle.std.proofs.lemmas.Str.{IsUtf8-from_ascii}
@@ -11,17 +11,17 @@ use Rattle.std.proofs.lemmas.Fmt.{IsAscii-from_digits}
 use Rattle.std.specs.Str.{all_ascii_digits, IsAscii, IsUtf8}
 use Rattle.std.specs.Str.Parse.{ParsesSigned}
 use Rattle.std.specs.Result.{OkIff, result_ok, MatchResult}
-use Rattle.ss_data.specs.Numbers.{number, number_from_zero, number_to_zero, is_numeral, natural}
+use Rattle.ss_data.specs.Numbers.{number, non_negative, non_positive, natural}
 
 -- std's word for digits and this crate's word for their value fit std's parsing
 own : IsNumeralModel (λ ds. all_ascii_digits ds ≡ true) natural
 own = numerals_by_fold _ (search rules) (fold (λ n digit. n * 10 + (digit - 48))) (search rules)
 
-from_zero : {E : Type 0} (ds : List ℕ) (r : Result ℤ E) → OkIff r ((all_ascii_digits ds ≡ true) × (0 < length ds) × (natural ds < 2 ^ 63)) (pos (natural ds)) → result_ok r ≡ number_from_zero ds
+from_zero : {E : Type 0} (ds : List ℕ) (r : Result ℤ E) → OkIff r ((all_ascii_digits ds ≡ true) × (0 < length ds) × (natural ds < 2 ^ 63)) (pos (natural ds)) → result_ok r ≡ non_negative ds
 from_zero ds (Ok z) h = grind (arith, nat_tests, common_steps)
 from_zero ds (Err e) h = grind (arith, nat_tests, common_steps)
 
-to_zero : {E : Type 0} (ds : List ℕ) (r : Result ℤ E) → OkIff r ((all_ascii_digits ds ≡ true) × (0 < length ds) × (natural ds ≤ 2 ^ 63)) (neg_ℤ (pos (natural ds))) → result_ok r ≡ number_to_zero ds
+to_zero : {E : Type 0} (ds : List ℕ) (r : Result ℤ E) → OkIff r ((all_ascii_digits ds ≡ true) × (0 < length ds) × (natural ds ≤ 2 ^ 63)) (neg_ℤ (pos (natural ds))) → result_ok r ≡ non_positive ds
 to_zero ds (Ok z) h = grind (arith, nat_tests, common_steps)
 to_zero ds (Err e) h = grind (arith, nat_tests, common_steps)
 
@@ -44,10 +44,10 @@ number-parse (b ∷ bs) r h = by_sign b bs r h (eqb_tells b 45) (eqb_tells b 43)
 digits_IsAscii : (ds : List ℕ) → all_ascii_digits ds ≡ true → IsAscii ds
 digits_IsAscii ds h = IsAscii-from_digits ds (own.to ds h)
 
-from_zero_digits : (ds : List ℕ) (z : ℤ) → number_from_zero ds ≡ Some z → all_ascii_digits ds ≡ true
+from_zero_digits : (ds : List ℕ) (z : ℤ) → non_negative ds ≡ Some z → all_ascii_digits ds ≡ true
 from_zero_digits ds z h = grind (arith, nat_tests, common_steps)
 
-to_zero_digits : (ds : List ℕ) (z : ℤ) → number_to_zero ds ≡ Some z → all_ascii_digits ds ≡ true
+to_zero_digits : (ds : List ℕ) (z : ℤ) → non_positive ds ≡ Some z → all_ascii_digits ds ≡ true
 to_zero_digits ds z h = grind (arith, nat_tests, common_steps)
 
 signed_IsAscii : (b : ℕ) (bs : List ℕ) (z : ℤ) → number (b ∷ bs) ≡ Some z → ((eqb b 45 ≡ true) × (b ≡ 45)) ⊎ ((eqb b 45 ≡ false) × (b ≢ 45)) → ((eqb b 43 ≡ true) × (b ≡ 43)) ⊎ ((eqb b 43 ≡ false) × (b ≢ 43)) → IsAscii (b ∷ bs)
@@ -74,17 +74,17 @@ text-from_utf8 (Ok s) text P Q is h = let e : s ≡ text = cc in subst P e h
 text-from_utf8 (Err e) text P Q is h = cc
 
 -- ---- a number is in range
-from_zero_fits : (ds : List ℕ) (z : ℤ) → number_from_zero ds ≡ Some z → mag z < 2 ^ 63
+from_zero_fits : (ds : List ℕ) (z : ℤ) → non_negative ds ≡ Some z → mag z < 2 ^ 63
 from_zero_fits ds z h = grind (arith, nat_tests, common_steps)
 
 mag_neg : (n : ℕ) → n ≤ 2 ^ 63 → mag (neg_ℤ (pos n)) < 2 ^ 63
 mag_neg zero h = omega arith
 mag_neg (suc n) h = omega arith
 
-to_zero_value : (ds : List ℕ) (z : ℤ) → number_to_zero ds ≡ Some z → (z ≡ neg_ℤ (pos (natural ds))) × (natural ds ≤ 2 ^ 63)
+to_zero_value : (ds : List ℕ) (z : ℤ) → non_positive ds ≡ Some z → (z ≡ neg_ℤ (pos (natural ds))) × (natural ds ≤ 2 ^ 63)
 to_zero_value ds z h = grind (arith, nat_tests, common_steps)
 
-to_zero_fits : (ds : List ℕ) (z : ℤ) → number_to_zero ds ≡ Some z → mag z < 2 ^ 63
+to_zero_fits : (ds : List ℕ) (z : ℤ) → non_positive ds ≡ Some z → mag z < 2 ^ 63
 to_zero_fits ds z h = let v = to_zero_value ds z h in rw v.0 (mag_neg (natural ds) v.1)
 
 signed_fits : (b : ℕ) (bs : List ℕ) (z : ℤ) → number (b ∷ bs) ≡ Some z → ((eqb b 45 ≡ true) × (b ≡ 45)) ⊎ ((eqb b 45 ≡ false) × (b ≢ 45)) → ((eqb b 43 ≡ true) × (b ≡ 43)) ⊎ ((eqb b 43 ≡ false) × (b ≢ 43)) → mag z < 2 ^ 63

@@ -1,5 +1,5 @@
 -- What a loop over the parts of a slice has seen when it ends.
-use Rattle.std.proofs.Common.{◌≡◌, List, map, Option, None, Bool, true, false, Bor}
+use Rattle.std.proofs.Common.{◌≡◌, List, map, Option, None, Bool, false, Bor}
 use denote.Param.Members.{Mut}
 use Rattle.std.specs.Fn.{CalledAt}
 use Rattle.std.specs.Iterator.{Yields}

@@ -10,6 +10,7 @@ pub record Item : Type 0 where
   pub bytes : List ℕ
   pub value : Option ℤ
 
+-- a piece as an item
 abbrev pub item : List ℕ → Item
 item piece = record { bytes = piece; value = number piece }
 

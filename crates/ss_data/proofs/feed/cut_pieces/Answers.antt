@@ -1,4 +1,4 @@
-use Rattle.std.proofs.Common.{◌≡◌, refl, ap, sym, ◌∙◌, arith, rules}
+use Rattle.std.proofs.Common.{ap, ◌∙◌, rules}
 use borrow.Author.Tests.{tests}
 use Rattle.std.specs.Slice.Iter.{split_rest, split_done, split_callee}
 use Rattle.std.specs.List.{filter}

@@ -1,5 +1,4 @@
-use Rattle.std.proofs.Common.{◌≡◌, refl, ap, sym, ◌∙◌, arith}
-use Rattle.ss_data.specs.Numbers.{number}
+use Rattle.std.proofs.Common.{◌∙◌}
 use Rattle.ss_data.proofs.NumberLemmas.{number-parse, none-from_utf8, text-from_utf8}
 use Rattle.ss_data.proofs.number.parse_number.Goals as goal
 

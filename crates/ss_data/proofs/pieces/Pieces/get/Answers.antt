@@ -1,5 +1,4 @@
-use Rattle.std.proofs.Common.{◌≡◌, ℕ, ◌+◌, ◌<◌, ◌≤◌, List, [], ◌∷◌, ◌++◌, length, get_or, refl, ap, sym, ◌∙◌, arith, rules}
-use Rattle.ss_data.specs.Packed.{cut, AreEnds}
+use Rattle.std.proofs.Common.{◌≡◌, ◌≤◌, ◌∷◌, length, get_or, ap, sym, arith}
 use Rattle.ss_data.proofs.PackedLemmas.{get-past, get-at, bounds-at, length-view}
 use Rattle.ss_data.proofs.pieces.Pieces.get.Goals as goal
 

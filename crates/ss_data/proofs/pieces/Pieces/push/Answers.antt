@@ -1,5 +1,4 @@
-use Rattle.std.proofs.Common.{◌≡◌, ℕ, ◌+◌, List, [], ◌∷◌, ◌++◌, length, refl, ap, sym, ◌∙◌, arith, vec_len}
-use Rattle.ss_data.specs.Packed.{cut, AreEnds}
+use Rattle.std.proofs.Common.{◌≡◌, ◌+◌, length, ap, ◌∙◌}
 use Rattle.ss_data.proofs.PackedLemmas.{AreEnds-push, cut-push}
 use Rattle.std.proofs.lemmas.List.{length-append}
 use Rattle.ss_data.proofs.pieces.Pieces.push.Goals as goal
