@@ -24,6 +24,6 @@ pub use plain_list::plain_words;
 pub use plain_word::{Plain, PlainWord};
 pub use refusal::Refusal;
 pub use reserved::Reserved;
-pub use scan::words;
+pub use scan::{without_stops, words};
 pub use word::{Sign, Word, WordKind, Words};
 

@@ -28,9 +28,10 @@ pub fn run_len(line: &[u8]) -> usize
     line.iter().take_while(|byte| in_run(**byte)).count()
 }
 
-// A run without the stops at its end.
+/// A run of letters, digits and stops without the stops at its end.
 pub fn without_stops(run: &[u8]) -> &[u8]
-    ensures { result.now ≡ without_stops run.now }
+    ensures kept { result.now ≡ without_stops run.now }
+    ensures shorter { length result.now ≤ length run.now }
 {
     let mut len = run.len();
     while len > 0 {
