@@ -9,3 +9,4 @@ pub mod TextRunLemmas
 pub mod TextSteps
 pub mod TextWordSteps
 pub mod TextDrawn
+pub mod TextOrderLemmas
