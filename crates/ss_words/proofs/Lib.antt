@@ -19,3 +19,4 @@ pub mod TextSteps
 pub mod TextWordSteps
 pub mod TextDrawn
 pub mod Spellings
+pub mod TextOrderLemmas

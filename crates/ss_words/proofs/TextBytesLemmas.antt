@@ -1,9 +1,8 @@
 -- Bytes told apart.
-use Rattle.std.proofs.Common.{◌≡◌, ℕ, ◌<◌, ◌≤◌, nat_lt, Bool, true, false, ◌==◌, ◌&&◌, ◌||◌, not, List, [], ◌∷◌, Option, Some, None, refl, sym, ap, ◌∙◌, arith, ◌⊎◌, inl, inr}
+use Rattle.std.proofs.Common.{◌≡◌, ℕ, ◌<◌, ◌≤◌, nat_lt, true, false, ◌==◌, ◌||◌, None, refl, ap, arith, ◌⊎◌, inl, inr}
 use Rattle.std.proofs.lemmas.Bool.Decides.{nat_tests, Decides-eqb, Decides-ltb}
-use Rattle.std.specs.Prelude.{is_some, slice_index}
-use Rattle.ss_words.specs.declared.word.Sign.{Sign}
-use Rattle.ss_words.specs.TextBytes.{is_allowed, is_blank, in_run, one_byte_sign, sign_from, is_joined, is_stray}
+use Rattle.std.specs.Prelude.{is_some}
+use Rattle.ss_words.specs.TextBytes.{is_allowed, is_blank, in_run, one_byte_sign, is_joined, is_stray}
 
 pub eqb-same : (a b : ℕ) → (a == b) ≡ true → a ≡ b
 eqb-same a b e = (Decides-eqb a b).0 e

@@ -1,15 +1,15 @@
 -- Comments, and what the rest of a line behind a call of a picture holds.
-use Rattle.std.proofs.Common.{◌≡◌, ℕ, suc, ◌+◌, ◌<◌, ◌≤◌, Bool, true, false, ◌==◌, ◌&&◌, ◌||◌, not, cond, nat_le, List, [], ◌∷◌, ◌++◌, take, drop, length, get_or, Option, Some, None, refl, sym, ap, ◌∙◌, subst, arith, inl, inr, length-drop}
+use Rattle.std.proofs.Common.{◌≡◌, ℕ, suc, ◌+◌, ◌<◌, ◌≤◌, Bool, true, false, ◌==◌, ◌&&◌, ◌||◌, not, nat_le, List, [], ◌∷◌, ◌++◌, take, drop, length, get_or, Some, refl, sym, ap, ◌∙◌, subst, arith, inl, inr}
 use Rattle.std.specs.Prelude.{slice_index, is_some}
 use Rattle.std.specs.List.{take_while, list_all}
-use Rattle.std.proofs.lemmas.List.{drop_more, drop_all}
+use Rattle.std.proofs.lemmas.List.{drop_more}
 use Rattle.std.proofs.lemmas.Bool.Decides.{nat_tests}
 use Rattle.ss_words.specs.declared.fault.TextRule.TheVariants.{StrayByte}
 use Rattle.ss_words.specs.declared.fault.TextFault.TheVariants.{Refused}
 use Rattle.ss_words.specs.Words.{Kind}
 use Rattle.ss_words.specs.TextBytes.{in_run, is_blank, is_stray, is_joined, is_allowed, one_byte_sign, sign_from}
 use Rattle.ss_words.specs.TextLines.{blanked, comments, is_bare}
-use Rattle.ss_words.specs.TextWords.{Found, broken, nearest_first, begun_at, found_at, found_from_place, found_in_line}
+use Rattle.ss_words.specs.TextWords.{broken, begun_at, found_at, found_from_place, found_in_line}
 use Rattle.ss_words.specs.TextScan.{begins_comment, hidden_len, first_breach}
 use Rattle.ss_words.proofs.TextBytesLemmas.{eqb-same, eqb-not, is_blank-cases}
 use Rattle.ss_words.proofs.TextCuts.{take_while-yes, take_while-no}

@@ -1,5 +1,5 @@
 -- Runs and blanks cut off the front of a line.
-use Rattle.std.proofs.Common.{◌≡◌, ℕ, Bool, true, false, suc, ◌+◌, List, [], ◌∷◌, take, drop, length, refl, sym, ap, ◌∙◌, arith, add-one}
+use Rattle.std.proofs.Common.{◌≡◌, ℕ, Bool, true, false, suc, ◌+◌, List, [], ◌∷◌, take, drop, refl, ap, arith}
 use Rattle.std.specs.List.{prefix_len, take_while}
 
 suc-add : (n : ℕ) → 1 + n ≡ suc n

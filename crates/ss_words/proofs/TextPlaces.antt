@@ -1,17 +1,16 @@
 -- What is found from a place of a line on: a blank, a run or a sign, and then the rest.
-use Rattle.std.proofs.Common.{◌≡◌, ℕ, zero, suc, ◌+◌, ◌<◌, ◌≤◌, Bool, true, false, ◌==◌, ◌&&◌, ◌||◌, not, cond, List, [], ◌∷◌, ◌++◌, take, drop, length, get_or, Option, Some, None, ◌⊎◌, inl, inr, refl, sym, ap, ◌∙◌, subst, arith}
+use Rattle.std.proofs.Common.{◌≡◌, ℕ, suc, ◌<◌, ◌≤◌, Bool, true, false, ◌==◌, ◌&&◌, ◌||◌, cond, List, [], ◌∷◌, ◌++◌, take, drop, length, Option, Some, None, ◌⊎◌, inl, inr, refl, sym, ap, ◌∙◌, subst, arith}
 use Rattle.std.specs.Prelude.{slice_index, is_some}
-use Rattle.std.specs.List.{prefix_len, take_while}
+use Rattle.std.specs.List.{take_while}
 use Rattle.std.proofs.lemmas.List.Folds.{length-prefix_len}
 use Rattle.ss_words.specs.declared.word.Sign.{Sign}
 use Rattle.ss_words.specs.declared.word.Sign.TheVariants.{Plus, Minus, Star, Open, Close, Comma, Equal, Less, Greater, LessEqual, GreaterEqual}
 use Rattle.ss_words.specs.declared.fault.TextRule.TheVariants.{StrayByte}
-use Rattle.ss_words.specs.declared.fault.TextFault.{TextFault}
 use Rattle.ss_words.specs.declared.fault.TextFault.TheVariants.{Refused}
 use Rattle.ss_words.specs.Words.{Kind, sign}
 use Rattle.ss_words.specs.TextBytes.{in_run, is_blank, is_stray, is_joined, is_allowed, one_byte_sign, sign_from, sign_len}
 use Rattle.ss_words.specs.TextLines.{blanked}
-use Rattle.ss_words.specs.TextWords.{Found, word, breach, broken, nearest_first, sign_found, on_line, run_found, begun_at, found_at, found_from_place, found_in_line}
+use Rattle.ss_words.specs.TextWords.{Found, word, broken, nearest_first, sign_found, on_line, run_found, begun_at, found_at, found_from_place, found_in_line}
 use Rattle.ss_words.specs.TextScan.{begins_comment, first_breach}
 use Rattle.ss_words.proofs.TextBytesLemmas.{eqb-same, eqb-run, is_blank-cases, is_stray-run, is_stray-sign, is_stray-other, is_joined-run}
 use Rattle.ss_words.proofs.TextFinds.{first_breach-front}

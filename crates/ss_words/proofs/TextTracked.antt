@@ -1,5 +1,5 @@
 -- What is kept of the words stays true of them.
-use Rattle.std.proofs.Common.{◌≡◌, ℕ, Bool, true, false, ◌&&◌, ◌||◌, cond, List, [], ◌∷◌, ◌++◌, Option, Some, None, codes, refl, sym, ap, ◌∙◌, subst}
+use Rattle.std.proofs.Common.{◌≡◌, ℕ, Bool, true, false, cond, List, [], ◌∷◌, ◌++◌, Option, Some, None, codes, refl, sym, ap, ◌∙◌, subst}
 use Rattle.ss_words.specs.Words.{Kind, WordAt}
 use Rattle.ss_words.specs.TextRuns.{is_name, ends_in, calls_picture, behind_print, line_count, picture_lines}
 use Rattle.ss_words.specs.TextScan.{nearest, IsTracked, called_after, count_after}

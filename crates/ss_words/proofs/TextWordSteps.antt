@@ -1,15 +1,14 @@
 -- The word of a run, and the rules that a run breaks.
-use Rattle.std.proofs.Common.{◌≡◌, ℕ, ◌<◌, Bool, true, false, cond, nat_lt, not, List, [], ◌∷◌, ◌++◌, map, length, Option, Some, None, refl, sym, ap, ◌∙◌, arith}
+use Rattle.std.proofs.Common.{◌≡◌, ℕ, ◌<◌, Bool, true, false, cond, nat_lt, List, [], ◌∷◌, ◌++◌, map, length, Option, Some, None, refl, sym, ap, ◌∙◌, arith}
 use Rattle.std.specs.Char.{to_ascii_uppercase}
 use Rattle.ss_words.specs.declared.scan.run.Spelling.{Spelling}
 use Rattle.ss_words.specs.declared.scan.run.Spelling.TheVariants.{Name, Number}
 use Rattle.ss_words.specs.declared.fault.TextRule.TheVariants.{BadNumber, LongRun, NoPicture}
-use Rattle.ss_words.specs.declared.fault.TextFault.{TextFault}
 use Rattle.ss_words.specs.declared.fault.TextFault.TheVariants.{Refused}
 use Rattle.ss_words.specs.Words.{Kind, WordAt, name, number}
 use Rattle.ss_words.specs.TextRuns.{has_letter, without_stops, is_bad_number, number_of, word_of_run, lacks_picture}
 use Rattle.ss_words.specs.TextSpelling.{spelling_of, spelled}
-use Rattle.ss_words.specs.TextWords.{Found, word, breach, broken, on_line, word_found, run_found}
+use Rattle.ss_words.specs.TextWords.{word, broken, on_line, word_found, run_found}
 use Rattle.ss_words.specs.TextScan.{nearest, Goes, first_breach}
 use Rattle.ss_words.proofs.TextFinds.{nearest-push}
 use Rattle.ss_words.proofs.TextSteps.{goes-word}

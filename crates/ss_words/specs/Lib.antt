@@ -14,3 +14,4 @@ pub mod TextRuns
 pub mod TextWords
 pub mod TextScan
 pub mod TextSpelling
+pub mod TextOrder

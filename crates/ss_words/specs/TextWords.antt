@@ -5,7 +5,7 @@ use Rattle.ss_words.specs.declared.fault.TextRule.{TextRule}
 use Rattle.ss_words.specs.declared.fault.TextRule.TheVariants.{StrayByte, BadNumber, LongRun, NoPicture, LongPictureLine}
 use Rattle.ss_words.specs.declared.fault.TextFault.{TextFault}
 use Rattle.ss_words.specs.declared.fault.TextFault.TheVariants.{Refused, Memory}
-use Rattle.ss_words.specs.Words.{Kind, name, number, sign, picture, WordAt}
+use Rattle.ss_words.specs.Words.{Kind, sign, picture, WordAt}
 use Rattle.ss_words.specs.TextBytes.{in_run, is_allowed, is_joined, is_stray, sign_from}
 use Rattle.ss_words.specs.TextLines.{blanked, lines_of}
 use Rattle.ss_words.specs.TextRuns.{without_stops, is_bad_number, word_of_run, calls_picture, picture_lines, lacks_picture}

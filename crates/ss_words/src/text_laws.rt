@@ -7,6 +7,7 @@ ghost use Rattle.ss_words.specs.declared.fault.TextFault.TheVariants.{Refused};
 ghost use Rattle.ss_words.specs.declared.word.Sign.TheVariants.{LessEqual, Equal, Less};
 ghost use Rattle.ss_words.specs.Words.{name, number, sign, picture};
 ghost use Rattle.ss_words.specs.TextWords.{words_of, on_line};
+ghost use Rattle.ss_words.specs.TextOrder.{LowestFirst};
 
 fn a_run_of_80_bytes_is_a_word()
     ensures { words_of (replicate 80 97) ≡ Ok (on_line 1 (name (replicate 80 65)) ∷ []) }
@@ -182,4 +183,13 @@ fn a_long_picture_line_with_a_stray_byte_first()
 
 fn a_long_picture_line_with_a_stray_byte_behind()
     ensures { words_of (codes "print 1 thus" ++ 10 ∷ replicate 132 45 ++ 128 ∷ []) ≡ Err (Refused LongPictureLine 2) }
+{}
+
+fn a_call_is_refused_at_follows()
+    ensures { words_of (codes "print 1 as" ++ 10 ∷ codes "follows x" ++ 10 ∷ codes "y") ≡ Err (Refused NoPicture 2) }
+{}
+
+// At one place the rules that are broken are found in the order of their numbers.
+fn the_lowest_number_is_found_first()
+    ensures { LowestFirst }
 {}

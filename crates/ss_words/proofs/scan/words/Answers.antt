@@ -1,9 +1,8 @@
 use Rattle.std.proofs.Common.{◌+◌, ◌∙◌, sym, ap, Ok, List}
 use Rattle.std.proofs.lemmas.Result.{err_from_is_err_and}
 use Rattle.ss_words.specs.Words.{WordAt}
-use Rattle.ss_words.specs.TextLines.{lines_of}
 use Rattle.ss_words.specs.TextWords.{found_in_text, found_from_line}
-use Rattle.ss_words.specs.TextScan.{nearest, found_below}
+use Rattle.ss_words.specs.TextScan.{nearest}
 use Rattle.ss_words.proofs.TextFinds.{words_of-end, is_refusal-first}
 use Rattle.ss_words.proofs.TextSteps.{goes-start, goes-line, first-line}
 use Rattle.ss_words.proofs.TextDrawn.{found_from_line-none}

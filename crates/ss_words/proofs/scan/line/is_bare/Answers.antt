@@ -1,4 +1,4 @@
-use Rattle.std.proofs.Common.{◌≡◌, ℕ, ◌∙◌, sym, ap, take, drop, length, ◌-◌, ◌==◌, List}
+use Rattle.std.proofs.Common.{ℕ, ◌∙◌, sym, ap, take, drop, length, ◌-◌, ◌==◌, List}
 use Rattle.std.proofs.lemmas.List.{take_rest}
 use Rattle.ss_words.proofs.TextComments.{is_bare-plain, is_bare-comment}
 use Rattle.ss_words.proofs.scan.line.is_bare.Goals as goal

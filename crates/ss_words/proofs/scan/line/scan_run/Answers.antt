@@ -1,10 +1,10 @@
-use Rattle.std.proofs.Common.{◌≡◌, ℕ, ◌<◌, false, List, ◌++◌, Option, Some, None, map, ◌∙◌, sym, ap, length, arith, false-eqb}
+use Rattle.std.proofs.Common.{ℕ, ◌<◌, List, ◌++◌, Some, None, map, ◌∙◌, sym, ap, length, arith, false-eqb}
 use Rattle.std.proofs.lemmas.Result.{MatchResult-weaker}
 use Rattle.ss_words.specs.Words.{Kind, kind_of}
 use Rattle.ss_words.specs.TextLines.{lines_of}
-use Rattle.ss_words.specs.TextRuns.{without_stops, is_bad_number, word_of_run}
+use Rattle.ss_words.specs.TextRuns.{without_stops}
 use Rattle.ss_words.specs.TextSpelling.{spelling_of, spelled}
-use Rattle.ss_words.specs.TextWords.{Found, word, run_found, word_found}
+use Rattle.ss_words.specs.TextWords.{Found, word}
 use Rattle.ss_words.specs.TextScan.{nearest}
 use Rattle.ss_words.proofs.TextBytesLemmas.{eqb-same, nat_lt-above, nat_lt-below}
 use Rattle.ss_words.proofs.TextFinds.{is_first-refused, is_first-same}

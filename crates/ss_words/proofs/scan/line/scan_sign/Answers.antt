@@ -1,5 +1,4 @@
-use Rattle.std.proofs.Common.{arith, sym, ◌∙◌, ap, ◌≡◌, Some, None}
-use Rattle.std.specs.Prelude.{slice_index}
+use Rattle.std.proofs.Common.{sym, ◌∙◌, ap}
 use Rattle.ss_words.specs.TextBytes.{sign_from}
 use Rattle.ss_words.proofs.TextFinds.{is_first-refused}
 use Rattle.ss_words.proofs.TextSteps.{goes-sign, first-stray, sign_fits}

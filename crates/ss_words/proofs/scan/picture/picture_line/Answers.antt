@@ -1,6 +1,4 @@
-use Rattle.std.proofs.Common.{◌≡◌, true, false, ◌∙◌, sym, arith, false-eqb}
-use Rattle.std.specs.Prelude.{slice_index}
-use Rattle.ss_words.specs.TextBytes.{is_allowed}
+use Rattle.std.proofs.Common.{◌∙◌, sym, arith, false-eqb}
 use Rattle.ss_words.proofs.TextBytesLemmas.{eqb-same}
 use Rattle.ss_words.proofs.TextFinds.{is_first-refused}
 use Rattle.ss_words.proofs.TextDrawn.{picture-empty, picture-stray_first, picture-long, picture-stray, picture-allowed}

@@ -1,4 +1,4 @@
-use Rattle.std.proofs.Common.{◌+◌, ◌∙◌, sym, ap, refl, List, map, ◌++◌}
+use Rattle.std.proofs.Common.{◌+◌, ◌∙◌, sym, ap, List, map, ◌++◌}
 use Rattle.ss_words.specs.TextWords.{Found, word}
 use Rattle.std.proofs.lemmas.Result.{err_from_is_err_and, MatchResult-weaker}
 use Rattle.ss_words.specs.TextLines.{lines_of}

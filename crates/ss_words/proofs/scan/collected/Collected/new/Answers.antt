@@ -1,4 +1,4 @@
-use Rattle.std.proofs.Common.{refl, ap, map}
+use Rattle.std.proofs.Common.{ap, map}
 use Rattle.ss_words.specs.Words.{word_at}
 use Rattle.ss_words.proofs.TextTracked.{tracked-nil}
 use Rattle.ss_words.proofs.scan.collected.Collected.new.Goals as goal
