@@ -1,4 +1,6 @@
 //! Laws of the plain words: nothing is done here, each contract is computed from the definitions.
+#![tactic(auto, unfolding(crate::specs::Spellings::mark_of, crate::specs::Spellings::spellings))]
+
 ghost use Rattle.std.specs.Prelude.{◌≡◌, Some, [], ◌∷◌, ◌++◌, map, codes};
 ghost use Rattle.ss_words.specs.declared.mark.Mark.TheVariants.{Reserved as Word};
 ghost use Rattle.ss_words.specs.declared.reserved.Reserved.TheVariants as r;
