@@ -1,5 +1,5 @@
 -- Marks with one number are one mark.
-use Rattle.std.proofs.Common.{◌≡◌, ◌≢◌, true, false, eqb, eq-eqb, ne_eqb, ℕ, ◌+◌, ◌≤◌, ◌<◌, List, [], ◌∷◌, refl, sym, ap, ◌∙◌, arith}
+use Rattle.std.proofs.Common.{◌≡◌, ◌≢◌, true, false, eqb, eq-eqb, ne_eqb, ℕ, ◌<◌, List, [], ◌∷◌, refl, sym, ap, ◌∙◌, arith}
 use Rattle.std.specs.Prelude.{get_or}
 use Rattle.ss_words.specs.declared.mark.Mark.{Mark}
 use Rattle.ss_words.specs.declared.mark.Mark.TheVariants as m

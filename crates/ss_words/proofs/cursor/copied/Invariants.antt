@@ -1,4 +1,4 @@
-use Rattle.std.proofs.Common.{List, map, take, ◌≡◌}
+use Rattle.std.proofs.Common.{map, take, ◌≡◌}
 use Rattle.ss_words.proofs.cursor.copied.Given as goal
 
 abbrev pub invariant-loop-line : goal.invariant-loop-line
