@@ -28,6 +28,11 @@ AnswerIsUnique = (ws : List PlainAt) (a b : Result (List Section) TextFault) →
 abbrev pub LimitsLetPass : Type 0
 LimitsLetPass = (ws : List PlainAt) (t : Tree) (a : Result (List Section) TextFault) → IsWithin t → plains ws ≡ spell t → IsDefinite a → Answers a ws → a ≡ Ok (written (lines ws) t)
 
+-- a program past the limits is refused by P3, at a word that passes one
+abbrev pub LimitsHold : Type 0
+LimitsHold = (ws : List PlainAt) (t : Tree) (a : Result (List Section) TextFault) → plains ws ≡ spell t → (IsWithin t → ⊥) → IsDefinite a → Answers a ws
+    → (k : ℕ) × PassesLimit (plains ws) k × (a ≡ Err (Refused PastLimit (line (lines ws) k)))
+
 -- a word that passes a limit is refused, by P3 or, where the text ends at it and cannot end there, by P2
 abbrev pub LimitsRefuse : Type 0
 LimitsRefuse = (ws : List PlainAt) (k : ℕ) (a : Result (List Section) TextFault) → PassesLimit (plains ws) k → IsDefinite a → Answers a ws

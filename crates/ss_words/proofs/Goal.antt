@@ -70,6 +70,10 @@ module _ {A : Type 0} (fits : A → Type 0) (sp : A → List Plain) (p : Reading
       let g : Ended (Ok t) r = subst (λ (x : Read A). Ended x.0 x.1) e (whole_ended ws) in
       (f, h ∙ ap (λ (u : List Plain). q ++ u) g ∙ append-nil q ∙ sym k)
 
+  -- and the text ends there
+  pub rest_ended : (ws r : List Plain) (t : A) → whole p ws ≡ (Ok t, r) → r ≡ []
+  rest_ended ws r t e = subst (λ (x : Read A). Ended x.0 x.1) e (whole_ended ws)
+
   -- the words before a refused one begin a tree within the limits
   pub before : (ws r : List Plain) (g : Refusal) → whole p ws ≡ (Err g, r) → (t : A) × fits t × (x : List Plain) × (sp t ≡ take (length ws - length r) ws ++ x)
   before ws r g e =
