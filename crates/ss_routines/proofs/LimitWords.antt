@@ -8,16 +8,23 @@ use Rattle.ss_words.specs.declared.refusal.Refusal.TheVariants.{Unexpected, Past
 use Rattle.ss_words.specs.declared.mark.Mark.TheVariants as m
 use Rattle.ss_words.specs.declared.word.Sign.TheVariants as sign
 use Rattle.ss_words.specs.declared.reserved.Reserved.TheVariants as key
-use Rattle.ss_words.specs.Plain.{Plain, mark, first}
+use Rattle.ss_words.specs.declared.fault.TextRule.TheVariants as rule
+use Rattle.ss_words.specs.declared.fault.TextFault.{TextFault}
+use Rattle.ss_words.specs.declared.fault.TextFault.TheVariants.{Refused}
+use Rattle.ss_words.specs.Plain.{Plain, PlainAt, mark, first, plains}
+use Rattle.ss_words.specs.Noting.{line}
 use Rattle.ss_words.specs.Reading.{Read, whole}
 use Rattle.ss_words.specs.Farthest.{IsFarthest}
 use Rattle.ss_words.proofs.Goal.{front_is, back_is}
 use Rattle.ss_routines.specs.Tree.{Tree, spell}
 use Rattle.ss_routines.specs.ExprReading.{expr_at}
-use Rattle.ss_routines.specs.Refused.{Begins, BeginsWithin, PassesLimit}
+use Rattle.ss_routines.specs.Places.{Section}
+use Rattle.ss_routines.specs.Written.{written}
+use Rattle.ss_routines.specs.Refused.{Begins, BeginsWithin, PassesLimit, Answers, lines}
+use Rattle.ss_routines.specs.Laws.{IsDefinite, AlwaysAnswered}
 use Rattle.ss_routines.specs.Counts.{count, opens, closes, heads, IsTooDeep, IsTooMany, LimitIsCounted}
 use Rattle.ss_routines.proofs.Counted.{ProgramOut, expr_at-tally, whole_out, count-append}
-use Rattle.ss_routines.proofs.Whole.{reading, read_sections, rest_ended, farthest, stood, passes, within_less}
+use Rattle.ss_routines.proofs.Whole.{reading, read_sections, rest_ended, farthest, stood, passes, within_less, unexpected_word, unexpected_end, past_limit, past_end}
 use Rattle.ss_routines.proofs.Unique.{no_more, not_past, same_limit, Order, less, equal, greater, order}
 
 abbrev Counts : List Plain → ℕ → Type 0
@@ -110,3 +117,18 @@ pub limit_is_counted : LimitIsCounted
 limit_is_counted ws k is_word before with_it = (
     (λ past. forward ws k past (whole reading ws).0 (whole reading ws).1 refl),
     (λ counts. record { is_word = is_word; before = before; with_it = with_it; no_room = no_room_for ws k counts }))
+
+-- ---- words have an answer
+
+module _ (ws : List PlainAt) where
+  pick : (o : Result Tree Refusal) (r : List Plain) → whole reading (plains ws) ≡ (o, r) → (a : Result (List Section) TextFault) × IsDefinite a × Answers a ws
+  pick (Ok t) r e = let (w, is) = read_sections (plains ws) r t e in (Ok (written (lines ws) t), tt, (t, w, is, refl))
+  pick (Err Unexpected) [] e = (Err (Refused rule.UnexpectedEnd (line (lines ws) (length ws - 1))), tt, (unexpected_end (plains ws) [] e refl, refl))
+  pick (Err Unexpected) (w ∷ r) e = (Err (Refused rule.UnexpectedWord (line (lines ws) (length (plains ws) - length (w ∷ r)))), tt, (length (plains ws) - length (w ∷ r), unexpected_word (plains ws) (w ∷ r) e (omega arith), refl))
+  pick (Err Memory) r e = absurd (out_at (plains ws) r (Err Memory) e)
+  pick (Err PastLimit) [] e = (Err (Refused rule.UnexpectedEnd (line (lines ws) (length ws - 1))), tt, (past_end (plains ws) [] e (omega arith), refl))
+  pick (Err PastLimit) (w ∷ []) e = (Err (Refused rule.UnexpectedEnd (line (lines ws) (length ws - 1))), tt, (past_end (plains ws) (w ∷ []) e (omega arith), refl))
+  pick (Err PastLimit) (w ∷ v ∷ r) e = (Err (Refused rule.PastLimit (line (lines ws) (length (plains ws) - length (w ∷ v ∷ r)))), tt, (length (plains ws) - length (w ∷ v ∷ r), past_limit (plains ws) (w ∷ v ∷ r) e (omega arith), refl))
+
+pub always : AlwaysAnswered
+always ws = pick ws (whole reading (plains ws)).0 (whole reading (plains ws)).1 refl

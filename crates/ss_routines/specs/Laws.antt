@@ -20,7 +20,11 @@ IsDefinite (Ok ss) = Unit {0}
 IsDefinite (Err (Refused rule l)) = Unit {0}
 IsDefinite (Err Memory) = ⊥
 
--- words have one answer
+-- words have an answer
+abbrev pub AlwaysAnswered : Type 0
+AlwaysAnswered = (ws : List PlainAt) → (a : Result (List Section) TextFault) × IsDefinite a × Answers a ws
+
+-- and no second
 abbrev pub AnswerIsUnique : Type 0
 AnswerIsUnique = (ws : List PlainAt) (a b : Result (List Section) TextFault) → IsDefinite a → IsDefinite b → Answers a ws → Answers b ws → a ≡ b
 

@@ -1,5 +1,5 @@
 //! Laws on the definitions. Each function does nothing, and its contract says the law.
-ghost use Rattle.ss_routines.specs.Laws.{SpellingIsUnique, AnswerIsUnique, LimitsLetPass, LimitsHold, LimitsRefuse};
+ghost use Rattle.ss_routines.specs.Laws.{SpellingIsUnique, AlwaysAnswered, AnswerIsUnique, LimitsLetPass, LimitsHold, LimitsRefuse};
 ghost use Rattle.ss_routines.specs.Counts.{LimitIsCounted};
 ghost use Rattle.ss_routines.specs.Examples.{ParenthesesLimit, SectionsLimit, LoopIsRefused, EndIsMissing, Beginnings};
 
@@ -9,7 +9,13 @@ pub fn spelling_is_unique()
 {
 }
 
-/// A list of plain words spells one list of sections, or is refused by one rule at one line.
+/// A list of plain words spells a list of sections, or is refused by a rule at a line.
+pub fn words_are_answered()
+    ensures { AlwaysAnswered }
+{
+}
+
+/// And they have no second answer.
 pub fn answer_is_unique()
     ensures { AnswerIsUnique }
 {
