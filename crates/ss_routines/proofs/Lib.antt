@@ -11,3 +11,5 @@ pub mod Whole
 pub mod SectionLoop
 pub mod Unique
 pub mod Decided
+pub mod Counted
+pub mod LimitWords

@@ -17,7 +17,7 @@ use Rattle.ss_routines.specs.Tree.{Tree, spell, depth}
 use Rattle.ss_routines.specs.SectionReading.{sections_at}
 use Rattle.ss_routines.specs.Written.{written}
 use Rattle.ss_routines.specs.Refused.{lines, IsWithin, Begins, BeginsWithin, PassesLimit, IsUnexpectedWord, IsUnexpectedEnd, IsPastLimit, IsRefused, AreSections, IsFault, Answers}
-use Rattle.ss_routines.specs.Laws.{SpellingIsUnique, IsDefinite, AnswerIsUnique, LimitsLetPass, LimitsRefuse}
+use Rattle.ss_routines.specs.Laws.{SpellingIsUnique, IsDefinite, AnswerIsUnique, LimitsLetPass, LimitsHold, LimitsRefuse}
 use Rattle.ss_routines.proofs.AgainSection.{sections_at-again}
 use Rattle.ss_routines.proofs.Whole.{within_less}
 
@@ -37,7 +37,7 @@ first_of_more (w ∷ ws) x zero lt some = absurd (omega (arith, lt))
 first_of_more (w ∷ ws) x (suc n) lt some = refl
 
 -- nothing begins with more words than the farthest place
-no_more : (ws : List Plain) (k j : ℕ) → IsFarthest spell ws k → k < j → j ≤ length ws → Begins (take j ws) → ⊥
+pub no_more : (ws : List Plain) (k j : ℕ) → IsFarthest spell ws k → k < j → j ≤ length ws → Begins (take j ws) → ⊥
 no_more ws k j far lt le (t, x, e) =
     let split : take j ws ≡ take k ws ++ take (j - k) (drop k ws) = ap (λ (i : ℕ). take i ws) (let h : j ≡ k + (j - k) = omega (arith, lt) in h) ∙ take-add k (j - k) ws in
     let some : 0 < length (drop k ws) = omega (arith, lt, le, ap length (take-append-drop k ws), length-append (take k ws) (drop k ws), front ws k) in
@@ -53,7 +53,7 @@ no_more ws k j far lt le (t, x, e) =
 not_farthest : (ws : List Plain) (k : ℕ) (t : Tree) → ws ≡ spell t → IsFarthest spell ws k → ⊥
 not_farthest ws k t e far = far.no_further t (drop k ws) (sym e ∙ sym (take-append-drop k ws)) refl
 
-not_past : (ws : List Plain) (k : ℕ) (t : Tree) → IsWithin t → ws ≡ spell t → PassesLimit ws k → ⊥
+pub not_past : (ws : List Plain) (k : ℕ) (t : Tree) → IsWithin t → ws ≡ spell t → PassesLimit ws k → ⊥
 not_past ws k t w e past = past.no_room (t, w, drop (k + 1) ws, sym e ∙ sym (take-append-drop (k + 1) ws))
 
 begun : (ws : List Plain) → BeginsWithin ws → Begins ws
@@ -65,7 +65,7 @@ pub data Order (a b : ℕ) : Type 0 where
   equal : a ≡ b → Order a b
   greater : b < a → Order a b
 
-order : (a b : ℕ) → Order a b
+pub order : (a b : ℕ) → Order a b
 order zero zero = equal refl
 order zero (suc b) = less (omega arith)
 order (suc a) zero = greater (omega arith)
@@ -77,7 +77,7 @@ same_word ws k j a b = elim (order k j) [
   | equal h ↦ h
   | greater h ↦ absurd (no_more ws j k b.farthest h (let i = a.is_word in omega (arith, i)) (begun (take k ws) a.in_room)) ]
 
-same_limit : (ws : List Plain) (k j : ℕ) → PassesLimit ws k → PassesLimit ws j → k ≡ j
+pub same_limit : (ws : List Plain) (k j : ℕ) → PassesLimit ws k → PassesLimit ws j → k ≡ j
 same_limit ws k j a b = elim (order k j) [
   | less h ↦ absurd (a.no_room (within_less ws (k + 1) j (omega (arith, h)) b.before))
   | equal h ↦ h
@@ -185,3 +185,17 @@ unfolding told
 refuse ws k (Ok ss) past definite (t, w, e, s) = absurd (not_past (plains ws) k t w e past)
 refuse ws k (Err (Refused r l)) past definite h = limit_told ws k r l past h
 refuse ws k (Err Memory) past definite h = absurd definite
+
+-- a program past the limits is refused at a word that passes one
+pub hold : LimitsHold
+unfolding told
+hold ws t (Ok ss) e past definite (u, w, f, s) = absurd (past (subst IsWithin (unique u t (sym f ∙ e)) w))
+hold ws t (Err (Refused rule.UnexpectedWord l)) e past definite (k, a, at) = absurd (not_farthest (plains ws) k t e a.farthest)
+hold ws t (Err (Refused rule.UnexpectedEnd l)) e past definite (a, at) = absurd (not_farthest (plains ws) (length (plains ws)) t e a.farthest)
+hold ws t (Err (Refused rule.PastLimit l)) e past definite (k, a, at) = (k, a.passes, ap (λ (i : ℕ). told rule.PastLimit i) at)
+hold ws t (Err (Refused rule.StrayByte l)) e past definite h = absurd h
+hold ws t (Err (Refused rule.BadNumber l)) e past definite h = absurd h
+hold ws t (Err (Refused rule.LongRun l)) e past definite h = absurd h
+hold ws t (Err (Refused rule.NoPicture l)) e past definite h = absurd h
+hold ws t (Err (Refused rule.LongPictureLine l)) e past definite h = absurd h
+hold ws t (Err Memory) e past definite h = absurd definite

@@ -48,6 +48,9 @@ again t w = sections_at-again 50 256 t w.parentheses w.sections
 pub read_sections : (ws r : List Plain) (t : Tree) → whole reading ws ≡ (Ok t, r) → IsWithin t × (ws ≡ spell t)
 read_sections ws r t e = let (f, is) = goal.found (FitsTree 50 256) spell reading good ws r t e in (within t f, is)
 
+pub rest_ended : (ws r : List Plain) (t : Tree) → whole reading ws ≡ (Ok t, r) → r ≡ []
+rest_ended ws r t e = goal.rest_ended (FitsTree 50 256) spell reading good ws r t e
+
 -- a reading with more room, in which this tree is read
 larger : (t : Tree) → (p' : Reading Tree) × (Local more reading p') × (p' (spell t) ≡ (Ok t, []))
 larger t = (sections_at (51 + depth t) (257 + length t), sections_at-local more 50 (51 + depth t) 256 (257 + length t) (omega arith) (omega arith), sections_at-again (51 + depth t) (257 + length t) t (omega arith) (omega arith))
@@ -109,10 +112,10 @@ module _ (ws rest : List Plain) where
   abbrev k : ℕ
   k = length ws - length rest
 
-  stood : (g : Refusal) → whole reading ws ≡ (Err g, rest) → BeginsWithin (take k ws)
+  pub stood : (g : Refusal) → whole reading ws ≡ (Err g, rest) → BeginsWithin (take k ws)
   stood g e = let (t, f, x, h) = goal.before (FitsTree 50 256) spell reading good ws rest g e in (t, within t f, x, h)
 
-  farthest : whole reading ws ≡ (Err Unexpected, rest) → IsFarthest spell ws k
+  pub farthest : whole reading ws ≡ (Err Unexpected, rest) → IsFarthest spell ws k
   farthest e = goal.farthest spell (FitsTree 50 256) reading good larger ws rest e
 
   pub unexpected_word : whole reading ws ≡ (Err Unexpected, rest) → 0 < length rest → IsUnexpectedWord ws k
@@ -143,7 +146,7 @@ module _ (ws rest : List Plain) where
       goal.no_room spell (FitsTree 50 256) reading good (sections_at-local same 50 50 256 256 refl refl) t (again t fits) ws rest e (w ∷ x)
         (h ∙ ap (λ (u : List Plain). u ++ x) (split_at PastLimit e w tail is) ∙ append_assoc (take k ws) (w ∷ []) x) (ap first (sym is))
 
-  passes : whole reading ws ≡ (Err PastLimit, rest) → (w : Plain) (tail : List Plain) → rest ≡ w ∷ tail → PassesLimit ws k
+  pub passes : whole reading ws ≡ (Err PastLimit, rest) → (w : Plain) (tail : List Plain) → rest ≡ w ∷ tail → PassesLimit ws k
   passes e w tail is =
       let (q, split) = goal.left (FitsTree 50 256) spell reading good ws rest PastLimit e in
       record { is_word = omega (arith, ap length split, length-append q rest, ap length is); before = stood PastLimit e; with_it = goes_past e; no_room = none_goes_on e w tail is }

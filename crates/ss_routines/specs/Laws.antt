@@ -20,13 +20,22 @@ IsDefinite (Ok ss) = Unit {0}
 IsDefinite (Err (Refused rule l)) = Unit {0}
 IsDefinite (Err Memory) = ⊥
 
--- words have one answer
+-- words have an answer
+abbrev pub AlwaysAnswered : Type 0
+AlwaysAnswered = (ws : List PlainAt) → (a : Result (List Section) TextFault) × IsDefinite a × Answers a ws
+
+-- and no second
 abbrev pub AnswerIsUnique : Type 0
 AnswerIsUnique = (ws : List PlainAt) (a b : Result (List Section) TextFault) → IsDefinite a → IsDefinite b → Answers a ws → Answers b ws → a ≡ b
 
 -- a program within the limits is answered with its sections
 abbrev pub LimitsLetPass : Type 0
 LimitsLetPass = (ws : List PlainAt) (t : Tree) (a : Result (List Section) TextFault) → IsWithin t → plains ws ≡ spell t → IsDefinite a → Answers a ws → a ≡ Ok (written (lines ws) t)
+
+-- a program past the limits is refused by P3, at a word that passes one
+abbrev pub LimitsHold : Type 0
+LimitsHold = (ws : List PlainAt) (t : Tree) (a : Result (List Section) TextFault) → plains ws ≡ spell t → (IsWithin t → ⊥) → IsDefinite a → Answers a ws
+    → (k : ℕ) × PassesLimit (plains ws) k × (a ≡ Err (Refused PastLimit (line (lines ws) k)))
 
 -- a word that passes a limit is refused, by P3 or, where the text ends at it and cannot end there, by P2
 abbrev pub LimitsRefuse : Type 0

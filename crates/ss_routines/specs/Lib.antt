@@ -9,3 +9,4 @@ pub mod SectionReading
 pub mod Onto
 pub mod Laws
 pub mod Examples
+pub mod Counts

@@ -1,5 +1,6 @@
 //! Laws on the definitions. Each function does nothing, and its contract says the law.
-ghost use Rattle.ss_routines.specs.Laws.{SpellingIsUnique, AnswerIsUnique, LimitsLetPass, LimitsRefuse};
+ghost use Rattle.ss_routines.specs.Laws.{SpellingIsUnique, AlwaysAnswered, AnswerIsUnique, LimitsLetPass, LimitsHold, LimitsRefuse};
+ghost use Rattle.ss_routines.specs.Counts.{LimitIsCounted};
 ghost use Rattle.ss_routines.specs.Examples.{ParenthesesLimit, SectionsLimit, LoopIsRefused, EndIsMissing, Beginnings};
 
 /// No two programs have one spelling.
@@ -8,7 +9,13 @@ pub fn spelling_is_unique()
 {
 }
 
-/// A list of plain words spells one list of sections, or is refused by one rule at one line.
+/// A list of plain words spells a list of sections, or is refused by a rule at a line.
+pub fn words_are_answered()
+    ensures { AlwaysAnswered }
+{
+}
+
+/// And they have no second answer.
 pub fn answer_is_unique()
     ensures { AnswerIsUnique }
 {
@@ -17,6 +24,18 @@ pub fn answer_is_unique()
 /// A program within the limits is never refused.
 pub fn limits_let_pass()
     ensures { LimitsLetPass }
+{
+}
+
+/// A program past the limits is refused by P3, at a word that passes one.
+pub fn limits_hold()
+    ensures { LimitsHold }
+{
+}
+
+/// The words that pass a limit are the 51st parenthesis that is open and the 257th head of a section.
+pub fn limits_are_counted()
+    ensures { LimitIsCounted }
 {
 }
 

@@ -1,7 +1,7 @@
 -- A reading that goes on with what it is given.
-use Rattle.std.proofs.Common.{◌≡◌, ℕ, zero, suc, List, Option, Some, None, Result, Ok, Err, refl, ap, ◌∙◌}
+use Rattle.std.proofs.Common.{◌≡◌, ℕ, suc, List, Option, Some, None, Ok, ap, ◌∙◌}
 use Rattle.ss_words.specs.Plain.{Plain}
-use Rattle.ss_words.specs.Reading.{Reading, Read, goes_on, bind, pure, many_from}
+use Rattle.ss_words.specs.Reading.{Reading, goes_on, bind, pure, many_from}
 
 pub then : {A B : Type 0} (p : Reading A) (f : A → Reading B) (a : A) (ws r : List Plain) → p ws ≡ (Ok a, r) → bind p f ws ≡ f a r
 unfolding bind

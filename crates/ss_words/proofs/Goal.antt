@@ -1,13 +1,13 @@
 -- What the laws of a reading give for a whole text.
-use Rattle.std.proofs.Common.{◌≡◌, ℕ, zero, suc, ◌+◌, ◌-◌, ◌≤◌, ◌<◌, List, [], ◌∷◌, ◌++◌, length, length-append, take, drop, Option, Some, None, Result, Ok, Err, refl, sym, ap, subst, ◌∙◌, append_assoc, arith}
+use Rattle.std.proofs.Common.{◌≡◌, ℕ, ◌+◌, ◌-◌, ◌≤◌, ◌<◌, List, [], ◌∷◌, ◌++◌, length, length-append, take, drop, Some, None, Result, Ok, Err, refl, sym, ap, subst, ◌∙◌, append_assoc, arith}
 use Rattle.std.proofs.lemmas.List.{append-nil, take_at, drop_at, take-append-drop, take-append-le}
 use Rattle.ss_words.specs.declared.refusal.Refusal.{Refusal}
-use Rattle.ss_words.specs.declared.refusal.Refusal.TheVariants.{Unexpected, PastLimit, Memory}
+use Rattle.ss_words.specs.declared.refusal.Refusal.TheVariants.{Unexpected, PastLimit}
 use Rattle.ss_words.specs.Plain.{Plain, first}
 use Rattle.ss_words.specs.Reading.{Read, Reading, goes_on, bind, pure, refuse, look, ended, whole}
 use Rattle.ss_words.specs.Farthest.{IsFarthest}
 use Rattle.ss_words.proofs.Laws.{IsRead, Good, Any, pure_good, bind_good}
-use Rattle.ss_words.proofs.Local.{Rooms, same, more, IsLimited, Alike, Further, Local, Stops, pure_local, refuse_local, bind_local, look_local, anywhere}
+use Rattle.ss_words.proofs.Local.{Rooms, same, more, IsLimited, Local, Stops, pure_local, refuse_local, bind_local, look_local, anywhere}
 
 abbrev pub spell_ended : Unit {0} → List Plain
 spell_ended u = []
@@ -70,6 +70,10 @@ module _ {A : Type 0} (fits : A → Type 0) (sp : A → List Plain) (p : Reading
       let g : Ended (Ok t) r = subst (λ (x : Read A). Ended x.0 x.1) e (whole_ended ws) in
       (f, h ∙ ap (λ (u : List Plain). q ++ u) g ∙ append-nil q ∙ sym k)
 
+  -- and the text ends there
+  pub rest_ended : (ws r : List Plain) (t : A) → whole p ws ≡ (Ok t, r) → r ≡ []
+  rest_ended ws r t e = subst (λ (x : Read A). Ended x.0 x.1) e (whole_ended ws)
+
   -- the words before a refused one begin a tree within the limits
   pub before : (ws r : List Plain) (g : Refusal) → whole p ws ≡ (Err g, r) → (t : A) × fits t × (x : List Plain) × (sp t ≡ take (length ws - length r) ws ++ x)
   before ws r g e =
@@ -99,10 +103,11 @@ module _ {A : Type 0} (sp : A → List Plain) where
       inside = omega arith;
       reached = (let (a, f, x, v) = before fits sp p good ws r Unexpected e in (a, x, v));
       no_further = λ t z begins is.
-        let (p', loc, again) = larger t in
-        let (q, k, le, g) = subst (λ (y : Read A). Stops more (whole p') y.0 ws y.1) e ((whole_local more p p' loc).at ws) in
-        let text : sp t ≡ q ++ z = begins ∙ ap (λ (u : List Plain). u ++ z) (front_is ws q r k) in
-        not_both t (whole p' (sp t)) (Ok t, []) Unexpected z (whole_again p' t again) (ap (whole p') text ∙ g z (is ∙ ap first (back_is ws q r k))) }
+          let (p', loc, again) = larger t in
+          let (q, k, le, g) = subst (λ (y : Read A). Stops more (whole p') y.0 ws y.1) e ((whole_local more p p' loc).at ws) in
+          let text : sp t ≡ q ++ z = begins ∙ ap (λ (u : List Plain). u ++ z) (front_is ws q r k) in
+          not_both t (whole p' (sp t)) (Ok t, []) Unexpected z (whole_again p' t again) (ap (whole p') text ∙ g z (is ∙ ap first (back_is ws q r k)));
+    }
 
     -- no tree within the limits goes on with a word that passes one
     pub no_room : Local same p p → (t : A) → p (sp t) ≡ (Ok t, []) → (ws r : List Plain) → whole p ws ≡ (Err PastLimit, r) → (z : List Plain) → sp t ≡ take (length ws - length r) ws ++ z → first z ≡ first r → ⊥

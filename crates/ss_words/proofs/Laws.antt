@@ -1,10 +1,10 @@
 -- What each step of a reading keeps: what is read is spelled so and keeps the limits, and where reading fails the spelling of some tree
 -- within the limits begins with the words read.
-use Rattle.std.proofs.Common.{◌≡◌, ℕ, zero, suc, ◌+◌, ◌≤◌, ◌<◌, Bool, true, false, List, [], ◌∷◌, ◌++◌, length, Option, Some, None, Result, Ok, Err, refl, sym, ap, subst, ◌∙◌, append_assoc, arith}
+use Rattle.std.proofs.Common.{◌≡◌, ℕ, zero, suc, List, [], ◌∷◌, ◌++◌, length, Option, Some, None, Result, Ok, Err, refl, sym, ap, subst, ◌∙◌, append_assoc}
 use Rattle.std.proofs.lemmas.List.{append-nil}
 use Rattle.ss_words.specs.declared.refusal.Refusal.{Refusal}
 use Rattle.ss_words.specs.Plain.{Plain, first}
-use Rattle.ss_words.specs.Reading.{Read, Reading, goes_on, bind, pure, refuse, look, skip, rest_of, many_from, many}
+use Rattle.ss_words.specs.Reading.{Reading, goes_on, bind, pure, refuse, look, skip, many_from, many}
 
 -- The words ws, behind pre, are read up to r; fits says which trees keep the limits, sp spells them.
 abbrev pub IsRead : {A : Type 0} → (A → Type 0) → (A → List Plain) → List Plain → Result A Refusal → List Plain → List Plain → Type 0
@@ -44,7 +44,8 @@ module _ {A B : Type 0} (fitsA : A → Type 0) (fitsB : B → Type 0) (spA : A �
   unfolding bind
   bind_good p h = record {
     read = λ ws. bound (p ws).0 ws (p ws).1 (h.read ws);
-    some = (let (b, fb, y, k) = (good h.some.0 h.some.1).some in (b, fb, spA h.some.0 ++ y, k ∙ append_assoc pre (spA h.some.0) y)) }
+    some = (let (b, fb, y, k) = (good h.some.0 h.some.1).some in (b, fb, spA h.some.0 ++ y, k ∙ append_assoc pre (spA h.some.0) y));
+  }
 
 -- A reading that goes on with what stood before, and another behind it.
 module _ {A B : Type 0} (fitsA : A → Type 0) (fitsB : B → Type 0) (spA : A → List Plain) (spB : B → List Plain) (pre : List Plain) (f : A → Reading B)
@@ -59,7 +60,8 @@ module _ {A B : Type 0} (fitsA : A → Type 0) (fitsB : B → Type 0) (spA : A �
   unfolding bind
   then_good p h = record {
     read = λ ws. behind (p ws).0 ws (p ws).1 (h.read ws);
-    some = (let (b, fb, y, k) = (good h.some.0 h.some.1).some in (b, fb, h.some.2 ++ y, k ∙ ap (λ (w : List Plain). w ++ y) h.some.3 ∙ append_assoc pre h.some.2 y)) }
+    some = (let (b, fb, y, k) = (good h.some.0 h.some.1).some in (b, fb, h.some.2 ++ y, k ∙ ap (λ (w : List Plain). w ++ y) h.some.3 ∙ append_assoc pre h.some.2 y));
+  }
 
 abbrev pub GoodAt : {A : Type 0} → (A → Type 0) → (A → List Plain) → List Plain → Option Plain → Reading A → Type 0
 GoodAt fits sp pre w p = (ws : List Plain) → first ws ≡ w → IsRead fits sp pre (p ws).0 ws (p ws).1
@@ -104,7 +106,8 @@ module _ {A B : Type 0} (fitsA : A → Type 0) (fitsB : B → Type 0) (spA : A �
   many_good (suc n) =
       bind_good (fits_option fitsA) fitsB (spell_option spA) spB [] _ (elim [
         | Some a ↦ (λ fa. bind_good fitsB fitsB spB spB (spA a) _ (λ b fb. pure_good fitsB spB (spA a ++ spB b) (one a b) (f1 a b fa fb) (sym (e1 a b))) (many_from item none one n) (many_good n))
-        | None ↦ (λ f. pure_good fitsB spB [] none f0 (sym e0)) ]) item good
+        | None ↦ (λ f. pure_good fitsB spB [] none f0 (sym e0))
+      ]) item good
 
   pub many_read : Good fitsB spB [] (many item none one)
   unfolding many

@@ -1,10 +1,10 @@
 -- Noting while reading is reading the tree and then writing it out.
-use Rattle.std.proofs.Common.{◌≡◌, ℕ, zero, suc, ◌+◌, ◌-◌, ◌≤◌, ◌<◌, Bool, true, false, List, [], ◌∷◌, ◌++◌, length, length-append, Option, Some, None, Result, Ok, Err, refl, sym, ap, ◌∙◌, append_assoc, arith}
+use Rattle.std.proofs.Common.{◌≡◌, ℕ, zero, suc, ◌+◌, ◌-◌, ◌<◌, Bool, true, false, List, [], ◌∷◌, ◌++◌, length, length-append, Option, Some, None, Result, Ok, Err, refl, sym, ap, ◌∙◌, append_assoc, arith}
 use Rattle.std.proofs.lemmas.List.{append-nil, length-map}
 use Rattle.ss_words.specs.declared.refusal.Refusal.{Refusal}
 use Rattle.ss_words.specs.declared.plain_word.PlainWord.{PlainWord}
 use Rattle.ss_words.specs.Plain.{Plain, first}
-use Rattle.ss_words.specs.Reading.{Read, Reading, goes_on, bind, pure, refuse, look, skip, rest_of, many_from, many, word_of, words_of}
+use Rattle.ss_words.specs.Reading.{Read, Reading, goes_on, bind, pure, refuse, look, skip, many_from, many, word_of, words_of}
 use Rattle.ss_words.specs.Noting.{Noting, repeat_from, repeat, line, here}
 use Rattle.ss_words.proofs.Laws.{IsRead, Good, spell_option}
 use Rattle.ss_words.proofs.Loop.{on_ok}
@@ -27,15 +27,17 @@ module _ {A B : Type 0} (words : ℕ) (out : A → B) (k : ℕ) where
 
   pub here_lays : (lines : List ℕ) (p : Reading A) (f : ℕ → Reading B) → length lines ≡ words → Lays words out k p (f (line lines k)) → Lays words out k p (here lines f)
   unfolding here
-  here_lays lines p f e l = record { at = λ ws h.
-    let same : length lines - length ws ≡ k = omega arith in
-    ap (λ (j : ℕ). f (line lines j) ws) same ∙ l.at ws h }
+  here_lays lines p f e l = record {
+    at = λ ws h.
+        let same : length lines - length ws ≡ k = omega arith in
+        ap (λ (j : ℕ). f (line lines j) ws) same ∙ l.at ws h;
+  }
 
   pub here_at : (lines : List ℕ) (w : Option Plain) (p : Reading A) (f : ℕ → Reading B) → length lines ≡ words → LaysAt words out k w p (f (line lines k)) → LaysAt words out k w p (here lines f)
   unfolding here
   here_at lines w p f e l ws first_is h =
-    let same : length lines - length ws ≡ k = omega arith in
-    ap (λ (j : ℕ). f (line lines j) ws) same ∙ l ws first_is h
+      let same : length lines - length ws ≡ k = omega arith in
+      ap (λ (j : ℕ). f (line lines j) ws) same ∙ l ws first_is h
 
   pub look_lays : (f : Option Plain → Reading A) (f' : Option Plain → Reading B) → ((w : Option Plain) → LaysAt words out k w (f w) (f' w)) → Lays words out k (look f) (look f')
   unfolding look
@@ -97,7 +99,8 @@ module _ {S A B : Type 0} (words : ℕ) (fits : Option A → Type 0) (spA : A �
   many_from_lays (suc n) k acc = bind_lays words fits (spell_option spA) (noted (flatA k) acc) _ k _ _ (elim [
     | Some a ↦ map_lays words (λ b. (acc ++ flatA k a) ++ flatB (k + length (spA a)) b) _ _ (one a) (λ b. append_assoc acc (flatA k a) (flatB (k + length (spA a)) b) ∙ ap (λ (u : List S). acc ++ u) (sym (e1 k a b)))
         (many_from item none one n) _ (many_from_lays n (k + length (spA a)) (acc ++ flatA k a))
-    | None ↦ pure_lays words _ _ none acc (sym (append-nil acc) ∙ ap (λ (u : List S). acc ++ u) (sym (e0 k))) ]) item (item' acc) good (l k acc)
+    | None ↦ pure_lays words _ _ none acc (sym (append-nil acc) ∙ ap (λ (u : List S). acc ++ u) (sym (e0 k)))
+  ]) item (item' acc) good (l k acc)
 
   pub many_lays : (k : ℕ) (acc : List S) → Lays words (λ b. acc ++ flatB k b) k (many item none one) (repeat item' acc)
   unfolding many repeat

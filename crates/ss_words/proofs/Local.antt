@@ -1,12 +1,12 @@
 -- A reading looks no further than the word at which it stops: another text that agrees so far is read the same, also by a reading with more
 -- room; where a limit refuses a word, a reading with more room goes past it.
-use Rattle.std.proofs.Common.{◌≡◌, ℕ, zero, suc, ◌+◌, ◌-◌, ◌≤◌, ◌<◌, Bool, true, false, List, [], ◌∷◌, ◌++◌, length, length-append, Option, Some, None, Result, Ok, Err, refl, sym, ap, subst, ◌∙◌, append_assoc, arith}
+use Rattle.std.proofs.Common.{◌≡◌, ℕ, zero, suc, ◌-◌, ◌≤◌, ◌<◌, Bool, true, false, List, [], ◌∷◌, ◌++◌, length, length-append, Option, Some, None, Result, Ok, Err, refl, sym, ap, subst, ◌∙◌, append_assoc, arith}
 use Rattle.ss_words.specs.declared.refusal.Refusal.{Refusal}
 use Rattle.ss_words.specs.declared.refusal.Refusal.TheVariants.{Unexpected, PastLimit, Memory}
 use Rattle.ss_words.specs.declared.mark.Mark.TheVariants as m
 use Rattle.ss_words.specs.declared.reserved.Reserved.TheVariants as r
 use Rattle.ss_words.specs.Plain.{Plain, mark, first}
-use Rattle.ss_words.specs.Reading.{Read, Reading, goes_on, bind, pure, refuse, look, skip, rest_of, many_from, many}
+use Rattle.ss_words.specs.Reading.{Read, Reading, goes_on, bind, pure, refuse, look, skip, many_from, many}
 use Rattle.ss_words.proofs.Laws.{IsRead, Good, spell_option}
 
 -- whether two readings have the same room, or the second has more of it in each limit
@@ -62,9 +62,9 @@ module _ {A B : Type 0} (rooms : Rooms) (f f' : A → Reading B) (loc : (a : A) 
   alike : (a : A) (o : Result B Refusal) (ws r r2 q q2 : List Plain) → ws ≡ q ++ r → r ≡ q2 ++ r2 → Alike p' (Ok a) q r → Alike (f' a) o q2 r2 → Alike (bind p' f') o (q ++ q2) r2
   unfolding bind
   alike a o ws r r2 q q2 e e2 g g2 = λ r' is.
-    ap (λ (u : List Plain). goes_on f' (p' u).0 (p' u).1) (append_assoc q q2 r')
-    ∙ ap (λ (x : Read A). goes_on f' x.0 x.1) (g (q2 ++ r') (first_same q2 r' r2 is ∙ ap first (sym e2)))
-    ∙ g2 r' is
+      ap (λ (u : List Plain). goes_on f' (p' u).0 (p' u).1) (append_assoc q q2 r')
+      ∙ ap (λ (x : Read A). goes_on f' x.0 x.1) (g (q2 ++ r') (first_same q2 r' r2 is ∙ ap first (sym e2)))
+      ∙ g2 r' is
 
   -- on the same text
   again : (a : A) (ws r q : List Plain) → ws ≡ q ++ r → Alike p' (Ok a) q r → bind p' f' ws ≡ f' a r
@@ -133,12 +133,15 @@ past_at w p' limited passes (v ∷ ws) e =
 
 pub look_local : {A : Type 0} (rooms : Rooms) (f f' : Option Plain → Reading A) → ((w : Option Plain) → LocalAt rooms w (f w) (f' w)) → Local rooms (look f) (look f')
 unfolding look
-look_local {A} rooms f f' loc = record { at = λ ws.
-    let (q, e, le, g) = loc (first ws) ws refl in
-    (q, e, le, kept (f (first ws) ws).0 rooms ws q (f (first ws) ws).1 e g) }
+look_local {A} rooms f f' loc = record {
+  at = λ ws.
+      let (q, e, le, g) = loc (first ws) ws refl in
+      (q, e, le, kept (f (first ws) ws).0 rooms ws q (f (first ws) ws).1 e g);
+}
   where
     alike : (o : Result A Refusal) (ws q r : List Plain) → ws ≡ q ++ r → Alike (f' (first ws)) o q r → Alike (look f') o q r
     alike o ws q r e g = λ r' is. ap (λ (w : Option Plain). f' w (q ++ r')) (first_same q r' r is ∙ ap first (sym e)) ∙ g r' is
+
     kept : (o : Result A Refusal) (rs : Rooms) (ws q r : List Plain) → ws ≡ q ++ r → Kept o rs (f' (first ws)) ws q r → Kept o rs (look f') ws q r
     kept (Ok a) rs ws q r e g = alike (Ok a) ws q r e g
     kept (Err Unexpected) rs ws q r e g = alike (Err Unexpected) ws q r e g
@@ -225,9 +228,12 @@ module _ {A B : Type 0} (rooms : Rooms) (fits : Option A → Type 0) (spA : A �
 
   last_past : (rs : Rooms) (ws q r : List Plain) → Kept (Err PastLimit) rs item' ws q r → KeptWithin (Err PastLimit) rs (many_from item' none one) ws q r
   last_past same ws q r g = last (Err PastLimit) (Err PastLimit) ws q r (λ m r'. refl) g
-  last_past more ws q r g = ((λ m lt. let h = next_shorter (m - 1) (item' ws).0 (item' ws).1 in
-      let k : length (many_from item' none one m ws).1 ≤ length (item' ws).1 = subst (λ (x : Read B). length x.1 ≤ length (item' ws).1) (sym (turn m ws lt)) h in
-      let l = g.0 in omega (arith, k, l)), g.1)
+  last_past more ws q r g = (
+    (λ m lt. let h = next_shorter (m - 1) (item' ws).0 (item' ws).1 in
+        let k : length (many_from item' none one m ws).1 ≤ length (item' ws).1 = subst (λ (x : Read B). length x.1 ≤ length (item' ws).1) (sym (turn m ws lt)) h in
+        let l = g.0 in omega (arith, k, l)),
+    g.1,
+  )
 
   -- a turn with an item, and those behind it
   turned : (a : A) (o : Result B Refusal) (ws r r2 q q2 : List Plain) → ws ≡ q ++ r → r ≡ q2 ++ r2 → length r < length ws → Alike item' (Ok (Some a)) q r → AlikeWithin (many_from item' none one) o q2 r2
@@ -248,13 +254,16 @@ module _ {A B : Type 0} (rooms : Rooms) (fits : Option A → Type 0) (spA : A �
       → KeptWithin (Err PastLimit) rs (many_from item' none one) ws (q ++ q2) r2
   unfolding bind
   turned_past a same ws r r2 q q2 e e2 lt g g2 = turned a (Err PastLimit) ws r r2 q q2 e e2 lt g g2
-  turned_past a more ws r r2 q q2 e e2 lt g g2 = ((λ m less.
-      let is : item' ws ≡ (Ok (Some a), r) = ap item' e ∙ g r refl in
-      let step : many_from item' none one m ws ≡ goes_on (next (m - 1) item') (Ok (Some a)) r = turn m ws less ∙ ap (λ (x : Read (Option A)). goes_on (next (m - 1) item') x.0 x.1) is in
-      let h = g2.0 (m - 1) (omega (arith, lt, less)) in
-      let k = grown_shorter a (many_from item' none one (m - 1) r).0 (many_from item' none one (m - 1) r).1 in
-      let l : length (goes_on (next (m - 1) item') (Ok (Some a)) r).1 < length r2 = omega (arith, h, k) in
-      subst (λ (x : Read B). length x.1 < length r2) (sym step) l), g2.1)
+  turned_past a more ws r r2 q q2 e e2 lt g g2 = (
+    (λ m less.
+        let is : item' ws ≡ (Ok (Some a), r) = ap item' e ∙ g r refl in
+        let step : many_from item' none one m ws ≡ goes_on (next (m - 1) item') (Ok (Some a)) r = turn m ws less ∙ ap (λ (x : Read (Option A)). goes_on (next (m - 1) item') x.0 x.1) is in
+        let h = g2.0 (m - 1) (omega (arith, lt, less)) in
+        let k = grown_shorter a (many_from item' none one (m - 1) r).0 (many_from item' none one (m - 1) r).1 in
+        let l : length (goes_on (next (m - 1) item') (Ok (Some a)) r).1 < length r2 = omega (arith, h, k) in
+        subst (λ (x : Read B). length x.1 < length r2) (sym step) l),
+    g2.1,
+  )
 
   turned_kept : (a : A) (o : Result B Refusal) (ws r r2 q q2 : List Plain) → ws ≡ q ++ r → r ≡ q2 ++ r2 → length r < length ws → Alike item' (Ok (Some a)) q r → KeptWithin o rooms (many_from item' none one) r q2 r2
       → KeptWithin (goes_on (grow a) o r2).0 rooms (many_from item' none one) ws (q ++ q2) r2
@@ -279,9 +288,11 @@ module _ {A B : Type 0} (rooms : Rooms) (fits : Option A → Type 0) (spA : A �
       let (q2, e2, g2) = ih r (omega (arith, less, lt)) in
       let o2 = (many_from item none one n r).0 in
       let r2 = (many_from item none one n r).1 in
-      let there = left a o2 r2 in
-      (q ++ q2, e ∙ ap (λ (u : List Plain). q ++ u) e2 ∙ sym (append_assoc q q2 r2) ∙ ap (λ (u : List Plain). (q ++ q2) ++ u) (sym there),
-        subst (λ (u : List Plain). KeptWithin (goes_on (grow a) o2 r2).0 rooms (many_from item' none one) ws (q ++ q2) u) (sym there) (turned_kept a o2 ws r r2 q q2 e e2 less g g2))
+      let there = left a o2 r2 in (
+        q ++ q2,
+        e ∙ ap (λ (u : List Plain). q ++ u) e2 ∙ sym (append_assoc q q2 r2) ∙ ap (λ (u : List Plain). (q ++ q2) ++ u) (sym there),
+        subst (λ (u : List Plain). KeptWithin (goes_on (grow a) o2 r2).0 rooms (many_from item' none one) ws (q ++ q2) u) (sym there) (turned_kept a o2 ws r r2 q q2 e e2 less g g2),
+      )
   step n ih (Err Unexpected) ws r lt read (q, e, le, g) = (q, e, last (Err Unexpected) (Err Unexpected) ws q r (λ m r'. refl) g)
   step n ih (Err Memory) ws r lt read (q, e, le, g) = (q, e, last (Err Memory) (Err Memory) ws q r (λ m r'. refl) g)
   step n ih (Err PastLimit) ws r lt read (q, e, le, g) = (q, e, last_past rooms ws q r g)
@@ -305,6 +316,8 @@ module _ {A B : Type 0} (rooms : Rooms) (fits : Option A → Type 0) (spA : A �
 
   pub many_local : Local rooms (many item none one) (many item' none one)
   unfolding many
-  many_local = record { at = λ ws.
-      let (q, e, g) = many_stops (suc (length ws)) ws (omega arith) in
-      (q, e, many_shorter ws, within (many_from item none one (suc (length ws)) ws).0 rooms ws q (many_from item none one (suc (length ws)) ws).1 g) }
+  many_local = record {
+    at = λ ws.
+        let (q, e, g) = many_stops (suc (length ws)) ws (omega arith) in
+        (q, e, many_shorter ws, within (many_from item none one (suc (length ws)) ws).0 rooms ws q (many_from item none one (suc (length ws)) ws).1 g);
+  }

@@ -1,5 +1,5 @@
 -- Reading one item after the other, as a loop does.
-use Rattle.std.proofs.Common.{◌≡◌, ℕ, zero, suc, ◌+◌, ◌≤◌, ◌<◌, List, [], ◌∷◌, ◌++◌, length, Option, Some, None, Result, Ok, Err, refl, sym, ap, ◌∙◌, arith}
+use Rattle.std.proofs.Common.{◌≡◌, ℕ, zero, suc, ◌<◌, List, [], ◌∷◌, ◌++◌, length, Option, Some, None, Result, Ok, Err, refl, sym, ap, ◌∙◌, arith}
 use Rattle.std.specs.Prelude.{map}
 use Rattle.std.proofs.lemmas.List.{map_push, length-map}
 use Rattle.ss_words.specs.declared.refusal.Refusal.{Refusal}
@@ -7,7 +7,7 @@ use Rattle.ss_words.specs.declared.refusal.Refusal.TheVariants.{Unexpected, Past
 use Rattle.ss_words.specs.declared.plain_word.PlainWord.{PlainWord}
 use Rattle.ss_words.specs.Plain.{Plain}
 use Rattle.ss_words.specs.Reading.{word_of, words_of}
-use Rattle.ss_words.specs.Reading.{Read, Reading, goes_on, bind, pure, many_from, many, prepend, Gives, Fails}
+use Rattle.ss_words.specs.Reading.{Read, Reading, goes_on, bind, pure, many_from, many, prepend, Fails}
 
 abbrev pub on_ok : {A B : Type 0} → (A → B) → Result A Refusal → Result B Refusal
 on_ok f (Ok a) = Ok (f a)

@@ -1,6 +1,8 @@
 -- Marks with one number are one mark.
-use Rattle.std.proofs.Common.{◌≡◌, ◌≢◌, true, false, eqb, eq-eqb, ne_eqb, ℕ, ◌+◌, ◌≤◌, ◌<◌, List, [], ◌∷◌, refl, sym, ap, ◌∙◌, arith}
+use Rattle.std.proofs.Common.{◌≡◌, Bool, true, false, eqb, eq-eqb, ne_eqb, ℕ, ◌+◌, ◌<◌, List, [], ◌∷◌, refl, sym, ap, ◌∙◌, arith}
+use denote.Enum.Bare.{sameb, same_true, same_false}
 use Rattle.std.specs.Prelude.{get_or}
+use Rattle.ss_words.specs.contracts.reserved.Reserved.{the_type as word_type}
 use Rattle.ss_words.specs.declared.mark.Mark.{Mark}
 use Rattle.ss_words.specs.declared.mark.Mark.TheVariants as m
 use Rattle.ss_words.specs.declared.reserved.Reserved.{Reserved}
@@ -158,17 +160,10 @@ same_mark (m.Sign a) (m.Reserved b) e = absurd (omega (arith, sign_below a))
 same_mark (m.Reserved a) (m.Sign b) e = absurd (omega (arith, sign_below b))
 same_mark (m.Reserved a) (m.Reserved b) e = ap m.Reserved (same_reserved a b (omega arith))
 
-pub is_same_sign : (a : Sign) → eqb (sign_number a) (sign_number a) ≡ true
-is_same_sign a = eq-eqb (sign_number a) (sign_number a) refl
-
-pub is_other_sign : (a b : Sign) → b ≢ a → eqb (sign_number a) (sign_number b) ≡ false
-is_other_sign a b h = ne_eqb (sign_number a) (sign_number b) (λ e. h (same_sign b a (sym e)))
-
-pub is_same_word : (a : Reserved) → eqb (reserved_number a) (reserved_number a) ≡ true
-is_same_word a = eq-eqb (reserved_number a) (reserved_number a) refl
-
-pub is_other_word : (a b : Reserved) → b ≢ a → eqb (reserved_number a) (reserved_number b) ≡ false
-is_other_word a b h = ne_eqb (reserved_number a) (reserved_number b) (λ e. h (same_reserved b a (sym e)))
-
-pub equal_words : (a b : Reserved) → a ≡ b → true ≡ eqb (reserved_number b) (reserved_number a)
-equal_words a b e = sym (eq-eqb (reserved_number b) (reserved_number a) (ap reserved_number (sym e)))
+-- what the code's comparison of two reserved words answers; they are numbered behind the signs
+pub words_compared : (a b : Reserved) → sameb word_type a b ≡ eqb (11 + reserved_number b) (11 + reserved_number a)
+words_compared a b = by (sameb word_type a b) refl
+  where
+    by : (t : Bool) → sameb word_type a b ≡ t → t ≡ eqb (11 + reserved_number b) (11 + reserved_number a)
+    by true e = sym (eq-eqb (11 + reserved_number b) (11 + reserved_number a) (ap (λ (w : Reserved). 11 + reserved_number w) (sym (same_true word_type tt a b e))))
+    by false e = sym (ne_eqb (11 + reserved_number b) (11 + reserved_number a) (λ h. same_false word_type a b e (same_reserved a b (omega (arith, h)))))

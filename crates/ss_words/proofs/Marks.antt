@@ -1,14 +1,13 @@
 -- What the readings of one word keep, for all words at once.
-use Rattle.std.proofs.Common.{◌≡◌, ◌≢◌, ℕ, zero, suc, ◌≤◌, ◌<◌, eqb, eq-eqb, eqb-true, ne_eqb, Bool, true, false, List, [], ◌∷◌, ◌++◌, length, Option, Some, None, Result, Ok, Err, refl, sym, ap, ◌∙◌, arith}
+use Rattle.std.proofs.Common.{◌≡◌, ◌≢◌, ℕ, ◌≤◌, ◌<◌, eq-eqb, eqb-true, ne_eqb, Bool, true, false, List, [], ◌∷◌, ◌++◌, length, Option, Some, None, Ok, refl, sym, ap, arith}
 use Rattle.ss_words.specs.declared.mark.Mark.{Mark}
-use Rattle.ss_words.specs.declared.refusal.Refusal.{Refusal}
 use Rattle.ss_words.specs.declared.refusal.Refusal.TheVariants.{Unexpected}
 use Rattle.ss_words.specs.Plain.{Plain, name, number, mark, picture, first}
 use Rattle.ss_words.specs.declared.plain_word.PlainWord.{PlainWord}
 use Rattle.ss_words.specs.Reading.{Reading, look, skip, pure, refuse, bind, words_of}
 use Rattle.ss_words.specs.Marks.{mark_number, is, expect, eat, name_by, a_name, number_by, a_number, picture_by, a_picture}
 use Rattle.ss_words.proofs.MarkNumbers.{same_mark}
-use Rattle.ss_words.proofs.Laws.{IsRead, Good, GoodAt, Any, pure_good, refuse_good, look_good, skip_good, good_at}
+use Rattle.ss_words.proofs.Laws.{Good, GoodAt, Any, pure_good, refuse_good, look_good, skip_good, good_at}
 use Rattle.ss_words.proofs.Local.{Rooms, Local, LocalAt, anywhere, pure_local, refuse_local, look_local, skip_local, test_local}
 
 pub is_same : (k : Mark) → is k (Some (mark k)) ≡ true

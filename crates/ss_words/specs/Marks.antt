@@ -1,5 +1,5 @@
 -- Marks told apart by a number, and the readings of one word.
-use Rattle.std.specs.Prelude.{ℕ, ◌+◌, Bool, true, false, eqb, List, Option, Some, None}
+use Rattle.std.specs.Prelude.{ℕ, ◌+◌, Bool, true, false, eqb, List, Option, Some}
 use Rattle.ss_words.specs.declared.mark.Mark.{Mark}
 use Rattle.ss_words.specs.declared.mark.Mark.TheVariants as m
 use Rattle.ss_words.specs.declared.reserved.Reserved.{Reserved}

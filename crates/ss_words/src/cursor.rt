@@ -4,11 +4,10 @@ ghost use Rattle.ss_words.specs.Plain.{first, plain_of};
 ghost use Rattle.ss_words.specs.Marks as marks;
 
 use crate::mark::Mark;
+use crate::plain_list::copied;
 use crate::plain_word::{Plain, PlainWord};
 use crate::refusal::Refusal;
-use crate::reserved::Reserved;
-use crate::word::Sign;
-use std::alloc::{AllocError, Global};
+use std::alloc::Global;
 
 /// The plain words that are still to be read. After a refusal it begins with the word that was refused.
 #[derive(Drop)]
@@ -157,44 +156,9 @@ fn is_mark(kind: &Plain, mark: Mark) -> bool
 fn is_same(found: Mark, mark: Mark) -> bool
     ensures { result ≡ eqb (marks.mark_number mark) (marks.mark_number found) }
 {
-    match found {
-        Mark::Sign(found) => match mark {
-            Mark::Sign(sign) => is_sign(found, sign),
-            Mark::Reserved(_) => false,
-        },
-        Mark::Reserved(found) => match mark {
-            Mark::Sign(_) => false,
-            Mark::Reserved(word) => is_word(found, word),
-        },
-    }
-}
-
-#[tactic(auto, using(crate::proofs::MarkNumbers::is_same_sign, crate::proofs::MarkNumbers::is_other_sign))]
-fn is_sign(found: Sign, sign: Sign) -> bool
-    ensures { result ≡ eqb (marks.sign_number sign) (marks.sign_number found) }
-{
-    match found {
-        found if found == sign => true,
+    match (found, mark) {
+        (Mark::Sign(found), Mark::Sign(sign)) => found == sign,
+        (Mark::Reserved(found), Mark::Reserved(word)) => found == word,
         _ => false,
     }
-}
-
-#[tactic(auto, using(crate::proofs::MarkNumbers::is_same_word, crate::proofs::MarkNumbers::is_other_word))]
-fn is_word(found: Reserved, word: Reserved) -> bool
-    ensures { result ≡ eqb (marks.reserved_number word) (marks.reserved_number found) }
-{
-    match found {
-        found if found == word => true,
-        _ => false,
-    }
-}
-
-fn copied(alloc: Global, lines: &[Vec<u8>]) -> Result<Vec<Vec<u8>>, AllocError>
-    ensures { IfOk result (λ v. map (λ l. l.items) v.items ≡ map (λ l. l.items) lines.now) }
-{
-    let mut copy = Vec::new(alloc);
-    for line in lines {
-        copy.push(Vec::from_slice(alloc, line)?)?;
-    }
-    Ok(copy)
 }

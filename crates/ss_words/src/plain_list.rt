@@ -54,7 +54,7 @@ fn plain_kind(alloc: Global, kind: &WordKind) -> Result<Plain, AllocError>
     })
 }
 
-fn copied(alloc: Global, lines: &[Vec<u8>]) -> Result<Vec<Vec<u8>>, AllocError>
+pub(crate) fn copied(alloc: Global, lines: &[Vec<u8>]) -> Result<Vec<Vec<u8>>, AllocError>
     ensures { IfOk result (λ copy. map (λ line. line.items) copy.items ≡ map (λ line. line.items) lines.now) }
 {
     let mut copy = Vec::with_capacity(alloc, lines.len())?;

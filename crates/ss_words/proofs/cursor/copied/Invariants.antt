@@ -1,5 +1,0 @@
-use Rattle.std.proofs.Common.{List, map, take, ◌≡◌}
-use Rattle.ss_words.proofs.cursor.copied.Given as goal
-
-abbrev pub invariant-loop-line : goal.invariant-loop-line
-invariant-loop-line l = map (λ v. v.items) l.copy.items ≡ map (λ v. v.items) (take l.line-index l.lines)
