@@ -2,3 +2,10 @@ pub mod ProgramExpr
 pub mod ProgramExprCode
 pub mod Program
 pub mod ProgramSound
+pub mod CheckRules
+pub mod Names
+pub mod Breach
+pub mod Ended
+pub mod Resolved
+pub mod LookedUp
+pub mod Found

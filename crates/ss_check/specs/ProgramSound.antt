@@ -87,7 +87,7 @@ IsEnded (s ∷ t ∷ ts) = (is_end s.place ≡ false) × IsEnded (t ∷ ts)
 pub record IsSoundSection (n : ℕ) (s : SectionTable) : Type 0 where
   pub places : AreSoundPlaces n (length s.locals) s.places
   pub ended : IsEnded s.places
-  pub few : length s.places < 2 ^ 60
+  pub few : length s.places < 2 ^ 63
 
 abbrev pub AreSoundSections : ℕ → List SectionTable → Type 0
 AreSoundSections n [] = Unit {0}
@@ -97,4 +97,5 @@ AreSoundSections n (s ∷ ss) = IsSoundSection n s × AreSoundSections n ss
 pub record IsSound (p : ProgramTable) : Type 0 where
   pub main : count_by is_main p.sections ≡ 1
   pub sections : AreSoundSections (length p.globals) p.sections
-  pub few : length p.sections < 2 ^ 60
+  pub few : length p.sections < 2 ^ 63
+  pub few_names : length p.globals + length p.classes + length p.sets < 2 ^ 32

@@ -1,17 +1,30 @@
 //! The checked program: tables of distinct names, and sections as lists of places in which every name is a number in its table.
 #![tactic(auto)]
 
+mod calls;
+mod check_place;
+mod checker;
 mod expr;
+mod fault;
+mod find;
 mod kinds;
+mod locals;
 mod name;
+mod names;
 mod place;
 mod program;
+mod resolve;
 mod section;
 mod sum;
 mod tables;
+#[cfg(test)]
+mod tests;
 mod variable;
 
+pub use checker::{check, looks_up_again};
 pub use expr::{Expr, Values};
+pub use fault::{CheckFault, CheckRule};
+pub use find::Named;
 pub use kinds::{ClassKind, Discipline};
 pub use name::Name;
 pub use place::{Assign, Control, Output, Place, Spot};

@@ -1,0 +1,26 @@
+use Rattle.std.proofs.Common.{◌≡◌, take}
+use Rattle.std.specs.Prelude.{map}
+use Rattle.ss_routines.specs.View.{factor_view, added_view}
+use Rattle.ss_check.specs.ProgramExpr.{factor_of, signed_of}
+use Rattle.ss_check.specs.Resolved.{resolved_factor}
+use Rattle.ss_check.proofs.Terms.{resolved_signed}
+use Rattle.ss_check.proofs.resolve.+resolve.Given as goal
+
+abbrev pub decreases-resolve_sum : goal.decreases-resolve_sum
+decreases-resolve_sum l = goal.size-resolve_sum l
+
+abbrev pub decreases-resolve_term : goal.decreases-resolve_term
+decreases-resolve_term l = goal.size-resolve_term l
+
+abbrev pub decreases-resolve_factor : goal.decreases-resolve_factor
+decreases-resolve_factor l = goal.size-resolve_factor l
+
+-- the terms so far
+abbrev pub invariant-resolve_sum-loop-further : goal.invariant-resolve_sum-loop-further
+invariant-resolve_sum-loop-further l =
+    map signed_of l.more.items ≡ map (λ a. resolved_signed l.locals (added_view a)) (take l.further-index l.further-items)
+
+-- the factors so far
+abbrev pub invariant-resolve_term-loop-further : goal.invariant-resolve_term-loop-further
+invariant-resolve_term-loop-further l =
+    map factor_of l.more.items ≡ map (λ f. resolved_factor l.locals (factor_view f)) (take l.further-index l.further-items)

@@ -1,0 +1,137 @@
+ghost use Rattle.std.specs.Prelude.{◌≡◌, map, None, IfOk, IfErr, OnOk};
+ghost use Rattle.ss_routines.specs.View.{section_view, sections_of, spots};
+ghost use Rattle.ss_check.specs.Breach.{IsBreach, breach, breach_of, first_breach, head_statement, is_main_section, place_statement};
+ghost use Rattle.ss_check.specs.Breach as rules;
+ghost use Rattle.ss_check.specs.Ended.{AreEnded};
+ghost use Rattle.ss_check.specs.LookedUp.{IsLookedUpAgain};
+ghost use Rattle.ss_check.specs.Resolved.{resolved, resolved_section, resolved_spot};
+
+use crate::check_place::check_place;
+use crate::fault::{CheckFault, CheckRule};
+use crate::locals::locals_of;
+use crate::name::Name;
+use crate::place::Spot;
+use crate::program::Program;
+use crate::section::Section;
+use ss_routines::{SectionKind, Sections};
+use std::alloc::Global;
+
+/// The checked program of these sections: each name is a number in its table, and each picture has its fields
+/// (docs/LANGUAGE.md, "Rules of the checker").
+///
+/// `Broken` tells the first statement that breaks a rule, by its line, and the lowest of the rules that it breaks;
+/// `Memory` that a growth was refused.
+pub fn check(alloc: Global, sections: Sections) -> Result<Program, CheckFault>
+    requires { AreEnded (sections_of sections) }
+    ensures sound { IfOk result (λ _. breach (sections_of sections) ≡ None) }
+    ensures ok { IfOk result (λ program. program ≡ resolved (sections_of sections)) }
+    ensures err { IfErr result (λ f. IsBreach f (breach (sections_of sections))) }
+{
+    let checked = check_sections(alloc, sections.list)?;
+    Ok(Program::new(
+        Vec::new(alloc),
+        Vec::new(alloc),
+        Vec::new(alloc),
+        checked,
+    ))
+}
+
+/// Each number of a program, looked up in its table, is the name that the text has there.
+pub fn looks_up_again()
+    ensures { IsLookedUpAgain }
+{
+}
+
+fn check_sections(
+    alloc: Global,
+    sections: Vec<ss_routines::Section>,
+) -> Result<Vec<Section>, CheckFault>
+    ensures sound { IfOk result (λ _. breach (map section_view sections.items) ≡ None) }
+    ensures ok { IfOk result (λ v. v.items ≡ map resolved_section (map section_view sections.items)) }
+    ensures err { IfErr result (λ f. IsBreach f (breach (map section_view sections.items))) }
+{
+    let mut checked = Vec::new(alloc);
+    let mut has_main = false;
+    let mut line = 1;
+    for section in sections {
+        check_head(has_main, &section)?;
+        has_main |= is_main(&section);
+        line = last_line(&section);
+        checked.push(check_section(alloc, section)?)?;
+    }
+    if !has_main {
+        let rule = CheckRule::WrongMain;
+        return Err(CheckFault::Broken { rule, line });
+    }
+    Ok(checked)
+}
+
+/// Whether the head of a section breaks no rule, with a MAIN before it or none.
+fn check_head(has_main: bool, section: &ss_routines::Section) -> Result<(), CheckFault>
+    ensures ok { OnOk result (breach_of (head_statement has_main (section_view section.now)) ≡ None) }
+    ensures err { IfErr result
+        (λ f. IsBreach f (breach_of (head_statement has_main (section_view section.now)))) }
+{
+    if has_main && is_main(section) {
+        return Err(CheckFault::Broken {
+            rule: CheckRule::WrongMain,
+            line: section.line,
+        });
+    }
+    Ok(())
+}
+
+fn is_main(section: &ss_routines::Section) -> bool
+    ensures { result ≡ is_main_section (section_view section.now) }
+{
+    section.kind == SectionKind::Main
+}
+
+/// The line of the last statement of a section.
+#[tactic(auto, using(crate::proofs::Breaches::last_line_last, crate::proofs::Breaches::last_line_none))]
+fn last_line(section: &ss_routines::Section) -> usize
+    ensures { result ≡ rules.last_line section.now.line (map place_statement (spots section.now.places.items)) }
+{
+    match section.places.last() {
+        Some(spot) => spot.line,
+        None => section.line,
+    }
+}
+
+/// A section with the numbers of its variables, or the first breach of its places.
+fn check_section(alloc: Global, section: ss_routines::Section) -> Result<Section, CheckFault>
+    ensures sound { IfOk result (λ _. first_breach (map place_statement (spots section.places.items)) ≡ None) }
+    ensures ok { IfOk result (λ s. s ≡ resolved_section (section_view section)) }
+    ensures err { IfErr result
+        (λ f. IsBreach f (first_breach (map place_statement (spots section.places.items)))) }
+{
+    let locals = locals_of(alloc, &section.places)?;
+    let places = check_places(alloc, &locals, section.places)?;
+    Ok(Section {
+        name: Name {
+            bytes: section.name,
+        },
+        kind: section.kind,
+        line: section.line,
+        locals,
+        places,
+    })
+}
+
+fn check_places(
+    alloc: Global,
+    locals: &[Name],
+    places: Vec<ss_routines::Spot>,
+) -> Result<Vec<Spot>, CheckFault>
+    ensures sound { IfOk result (λ _. first_breach (map place_statement (spots places.items)) ≡ None) }
+    ensures ok { IfOk result (λ v. v.items ≡ map (resolved_spot locals.now) (spots places.items)) }
+    ensures err { IfErr result (λ f. IsBreach f (first_breach (map place_statement (spots places.items)))) }
+{
+    let mut checked = Vec::new(alloc);
+    for spot in places {
+        let line = spot.line;
+        let place = check_place(alloc, locals, line, spot.place)?;
+        checked.push(Spot { line, place })?;
+    }
+    Ok(checked)
+}
