@@ -1,9 +1,8 @@
 use crate::stop::Stop;
 use std::alloc::Global;
-use std::fs;
-use std::io;
 use std::io::Read;
 use std::rt::Files;
+use std::{fs, io};
 
 /// The most bytes of a file.
 const MOST_BYTES: usize = 64 * 1024 * 1024;

@@ -2,9 +2,8 @@ use crate::stop::Stop;
 use clap::error::ErrorKind;
 use clap::{Arg, Command, Error};
 use std::alloc::Global;
-use std::env;
-use std::io;
 use std::rt::Env;
+use std::{env, io};
 
 /// The three paths, where they are given.
 #[derive(Drop)]

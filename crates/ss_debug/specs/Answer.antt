@@ -63,7 +63,7 @@ abbrev pub variable_named : ProgramTable → ℕ → List ℕ → Option Variabl
 variable_named t p name =
     if bytes_eq name (codes "TIME.V") then Some Clock
     else or_else (option_map Global (position (bytes_eq name) t.globals))
-        (option_map Local (position (bytes_eq name) (locals_of (slice_get t.sections (run t p).frame.section))))
+    (option_map Local (position (bytes_eq name) (locals_of (slice_get t.sections (run t p).frame.section))))
 
 abbrev pub value_line : ProgramTable → ℕ → List ℕ → Option Variable → List ℕ
 value_line t p name (Some v) = name ++ codes " = " ++ signed_decimal (variable_value (readings (run t p)) v) ++ 10 ∷ []

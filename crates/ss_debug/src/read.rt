@@ -3,8 +3,8 @@ ghost use Rattle.std.specs.Char.{to_ascii_uppercase};
 ghost use Rattle.ss_debug.specs.Words.{words_of};
 ghost use Rattle.ss_debug.specs.Command.{command_of, said_by, show_of, bound_of, only_name_of, alone};
 
-use crate::said::{Command, GREATEST_BOUND, LINE_LIMIT};
 use crate::name::Name;
+use crate::said::{Command, GREATEST_BOUND, LINE_LIMIT};
 use crate::words::{next_word, number};
 
 fn bound(rest: &[u8], otherwise: u64) -> Option<u64>

@@ -52,11 +52,7 @@ fn push_section(text: &mut Vec<u8>, machine: &Machine) -> Result<(), AllocError>
 
 /// A movement's word and the state line of the machine's state.
 #[tactic(auto, unfolding(crate::specs::Answer::state_line))]
-pub fn state_line_text(
-    alloc: Global,
-    word: &[u8],
-    machine: &Machine,
-) -> Result<Vec<u8>, AllocError>
+pub fn state_line_text(alloc: Global, word: &[u8], machine: &Machine) -> Result<Vec<u8>, AllocError>
     ensures { IfOk result (λ text. text.items ≡ state_line word.now machine.now.program (position machine.now)) }
 {
     machine.known();
@@ -94,12 +90,7 @@ fn bound_met(rule: Rule) -> &'static [u8]
 }
 
 /// The word of a movement that began at `from` and ended where the machine stands.
-pub fn movement_word(
-    machine: &Machine,
-    breaks: &[usize],
-    rule: Rule,
-    from: usize,
-) -> &'static [u8]
+pub fn movement_word(machine: &Machine, breaks: &[usize], rule: Rule, from: usize) -> &'static [u8]
     ensures { result.now ≡ forward_word machine.now.program breaks.now rule from (position machine.now) }
 {
     if !is_ready_now(machine) {
@@ -116,7 +107,11 @@ pub fn movement_word(
 pub fn retreat_word(from: usize, count: u64) -> &'static [u8]
     ensures { result.now ≡ back_word from count }
 {
-    if (from as u64) < count { b"START" } else { b"DONE" }
+    if (from as u64) < count {
+        b"START"
+    } else {
+        b"DONE"
+    }
 }
 
 /// The variable that a name stands for where the machine stands.
@@ -127,11 +122,18 @@ fn find_variable(machine: &Machine, name: &[u8]) -> Option<Variable>
     if name == b"TIME.V".as_slice() {
         return Some(Variable::Clock);
     }
-    if let Some(global) = machine.program().find(name).and_then(|named| named.variable) {
+    if let Some(global) = machine
+        .program()
+        .find(name)
+        .and_then(|named| named.variable)
+    {
         return Some(Variable::Global(global as usize));
     }
     let (section, _) = machine.place();
-    machine.program().local(section, name).map(|local| Variable::Local(local))
+    machine
+        .program()
+        .local(section, name)
+        .map(|local| Variable::Local(local))
 }
 
 /// `v = value`, or `NO VARIABLE v`.

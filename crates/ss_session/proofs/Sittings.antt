@@ -82,7 +82,7 @@ pub so_far_part : (t : ProgramTable) (s : Sitting) (lines : List (List ℕ)) (li
     IsSoFar t s lines (line ∷ more) now old mid → WritesPart (line_answer t now line) mid new → WritesPart (answers t s lines) old new
 so_far_part t s lines line more now old mid new h w =
     let whole : answers t s lines ≡ answers t s h.done ++ (line_answer t now line ++ answers t (next_sitting t now line) more) =
-        rw (h.split, answers-append t s h.done (line ∷ more), ← h.place, answers_first t now line more) refl in
+    rw (h.split, answers-append t s h.done (line ∷ more), ← h.place, answers_first t now line more) refl in
     record {
       count = length (answers t s h.done) + w.count;
       within = let b = w.within in rw (whole, length-append, length-append) (omega arith);
@@ -98,9 +98,10 @@ so_far_all t s lines now old new h =
 -- QUIT came: the lines left say nothing
 pub so_far_quit : (t : ProgramTable) (s : Sitting) (lines rest : List (List ℕ)) (now : Sitting) (old new : Option (List ℕ)) →
     IsSoFar t s lines rest now old new → now.over ≡ true → (now ≡ sitting_after t s lines) × Appends old new (answers t s lines)
-so_far_quit t s lines rest now old new h e =
-    (rw (h.split, sitting_after-append t s h.done rest, ← h.place, sitting_over t now rest e) refl,
-     rw (h.split, answers-append t s h.done rest, ← h.place, answers_over t now rest e, append-nil) h.said)
+so_far_quit t s lines rest now old new h e = (
+  rw (h.split, sitting_after-append t s h.done rest, ← h.place, sitting_over t now rest e) refl,
+  rw (h.split, answers-append t s h.done rest, ← h.place, answers_over t now rest e, append-nil) h.said,
+)
 
 go_on : (c : Command) → go.On ≡ go_of c → is_quit c ≡ false
 go_on Quit e = absurd (cc)

@@ -6,8 +6,9 @@ mod lines;
 mod load;
 mod outlet;
 mod refusal;
-
 mod talk;
+#[cfg(test)]
+mod tests;
 mod turns;
 mod whole;
 

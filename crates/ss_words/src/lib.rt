@@ -10,8 +10,8 @@ mod plain_rules;
 mod plain_word;
 mod refusal;
 mod reserved;
-mod spelling;
 mod scan;
+mod spelling;
 #[cfg(test)]
 mod tests;
 mod text_laws;
@@ -26,4 +26,3 @@ pub use refusal::Refusal;
 pub use reserved::Reserved;
 pub use scan::{without_stops, words};
 pub use word::{Sign, Word, WordKind, Words};
-

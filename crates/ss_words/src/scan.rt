@@ -17,7 +17,6 @@ use line::scan_line;
 use lines::Lines;
 use picture::scan_picture;
 pub use run::without_stops;
-
 use std::alloc::Global;
 
 /// The words of a model's text, or its refusal: of all rules from L1 to L5 that the text breaks, the one at the
