@@ -1,7 +1,6 @@
 -- Laws of one list of seats.
-use Rattle.std.proofs.Common.{◌≡◌, ℕ, ◌+◌, ◌≤◌, ◌<◌, ◌++◌, Bool, true, false, cond, eqb, ◌||◌, List, [], ◌∷◌, length, Option, Some, None, unwrap_or, refl, sym, ap, ◌∙◌, arith, suc, zero}
+use Rattle.std.proofs.Common.{◌≡◌, ℕ, ◌+◌, ◌≤◌, ◌++◌, true, false, cond, eqb, ◌||◌, List, [], ◌∷◌, length, Option, Some, None, unwrap_or, refl, arith, suc, zero}
 use Rattle.std.proofs.lemmas.Bool.Decides.{nat_tests}
-use Rattle.std.proofs.lemmas.Grind.{common_steps}
 use Rattle.std.specs.Option.{ForSome}
 use Rattle.ss_links.specs.Seats.{has, times_in, first_of, last_of, begins_with, seat_behind, seat_before, put_behind, put_before, put_at, without}
 
@@ -175,3 +174,16 @@ length-le_count (suc n) l once below =
     let once_rest : (x : ℕ) → times_in rest x ≤ 1 = λ x. omega (arith, times_in-without l n x, once x) in
     let below_rest : (x : ℕ) → n ≤ x → times_in rest x ≡ 0 = λ x h. grind (arith, times_in-without l n x, below x, times_in-absent rest n (has-without l n)) in
     omega (arith, length-le_count n rest once_rest below_rest, length-without l n, once n)
+
+-- what stays where it was
+pub has-put_behind_other : (l : List ℕ) (at x y : ℕ) → eqb x y ≡ false → has (put_behind l at x) y ≡ has l y
+has-put_behind_other [] at x y h = refl
+has-put_behind_other (z ∷ zs) at x y h = grind (arith, nat_tests, h, has-put_behind_other zs at x y h)
+
+pub has-put_at_other : (l : List ℕ) (p : Option ℕ) (x y : ℕ) → eqb x y ≡ false → has (put_at l p x) y ≡ has l y
+has-put_at_other l None x y h = grind (arith, nat_tests, h)
+has-put_at_other l (Some at) x y h = has-put_behind_other l at x y h
+
+pub has-without_other : (l : List ℕ) (x y : ℕ) → eqb x y ≡ false → has (without l x) y ≡ has l y
+has-without_other [] x y h = refl
+has-without_other (z ∷ zs) x y h = grind (arith, nat_tests, h, has-without_other zs x y h)
