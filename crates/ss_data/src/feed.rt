@@ -66,7 +66,7 @@ impl Feed {
         self.taken
     }
 
-    /// Gives back all that was taken since `old_taken` pieces were.
+    /// Gives back all that was taken since `old_taken` pieces were, which is at most `taken` now.
     pub fn undo(&mut self, old_taken: usize)
         requires { old_taken ≤ self.old.taken }
         ensures { self.new ≡ with_taken self.old old_taken }
