@@ -1,4 +1,5 @@
 pub mod Mains
+pub mod SoundPlaces
 pub mod Terms
 pub mod Breaches
 pub mod Known

@@ -1,4 +1,4 @@
-/// What a name in an expression or a target stands for (docs/LANGUAGE.md, "Names").
+/// What a name in an expression or a target stands for (docs/LANGUAGE.md, "Names and values").
 #[derive(Clone, Copy, Debug, PartialEq, Eq)]
 pub enum Variable {
     /// A global variable, by its number in the program's table.

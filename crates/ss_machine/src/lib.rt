@@ -14,7 +14,6 @@ mod view;
 mod work;
 mod world;
 
-pub use frame::Frame;
 pub use machine::Machine;
 pub use status::Status;
 pub use stepped::Stepped;

@@ -1,6 +1,6 @@
 -- The parts of lines, and the lines of parts.
-use Rattle.std.proofs.Common.{◌≡◌, ◌==◌, ℕ, suc, ◌+◌, ◌<◌, Bool, true, false, not, cond, List, [], ◌∷◌, ◌++◌, length, map, take, drop, replicate, refl, sym, ap, ◌∙◌, append_assoc, arith, rules}
-use Rattle.std.specs.List.{flat_map, position_or_len, prefix_len}
+use Rattle.std.proofs.Common.{◌≡◌, ◌==◌, ℕ, suc, ◌+◌, ◌<◌, Bool, true, false, List, [], ◌∷◌, ◌++◌, length, map, take, drop, replicate, refl, sym, ap, ◌∙◌, append_assoc, arith, rules}
+use Rattle.std.specs.List.{position_or_len, prefix_len}
 use Rattle.ss_report.specs.Pictures.{Part, field, byte, line_end, with_asterisk, line_parts, picture_parts}
 use Rattle.ss_report.specs.Pieces.{before_first_line, lines_of}
 

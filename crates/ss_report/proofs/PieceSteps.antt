@@ -1,14 +1,15 @@
 -- One piece more, or one piece less.
-use Rattle.std.proofs.Common.{◌≡◌, ℕ, ℤ, ◌+◌, ◌<◌, Bool, true, false, cond, List, [], ◌∷◌, ◌++◌, length, get_or, map, take, drop, refl, sym, ap, ◌∙◌, append_assoc, arith}
-use Rattle.std.proofs.lemmas.List.{drop_more, take_more, get_or_read}
+use Rattle.std.proofs.Common.{◌≡◌, ℕ, ℤ, ◌+◌, ◌<◌, cond, List, [], ◌∷◌, ◌++◌, length, get_or, map, take, drop, refl, ap, ◌∙◌, append_assoc, append-nil, arith, pos}
+use Rattle.std.proofs.lemmas.Int.{to_z-of_z}
+use Rattle.std.proofs.lemmas.List.{drop_more, take_more}
 use Rattle.std.proofs.lemmas.List.Concat.{flat_map-append}
-use Rattle.std.proofs.lemmas.List.Sums.{sum_by-append, sum_by-cons, sum_by_push}
+use Rattle.std.proofs.lemmas.List.Sums.{sum_by-append, sum_by-cons}
 use Rattle.std.specs.List.{count_by, list_any}
 use Rattle.ss_report.specs.Pictures.{Part, field, byte, line_end, is_field, field_text, filled, has_decimal}
 use Rattle.ss_report.specs.Pieces.{is_field_piece, part_len, parts_len, parts_of, piece_parts}
 use Rattle.ss_report.specs.declared.piece.Piece.{Piece}
 use Rattle.ss_report.specs.declared.piece.Piece.TheVariants as p
-use Rattle.ss_report.proofs.Texts.{count_by-bytes, filled-bytes, parts_len-bytes, parts_len-cons}
+use Rattle.ss_report.proofs.Texts.{count_by-bytes, filled-bytes, parts_len-bytes}
 
 -- what is left begins with the parts of the next piece
 pub parts_of-drop : (ps : List Piece) (i : ℕ) (p : Piece) → i < length ps → p ≡ get_or ps i p → parts_of (drop i ps) ≡ piece_parts p ++ parts_of (drop (i + 1) ps)
@@ -55,9 +56,21 @@ pub written-text : (old new all : List ℕ) (left rest : List Part) (bs : List �
 written-text old new all left rest bs vs e n h =
     rw (n, append_assoc, ← filled-bytes bs rest vs, ← e) h
 
-pub written-field : (old new all : List ℕ) (left rest : List Part) (width : ℕ) (v : ℤ) (vs others : List ℤ) → left ≡ field width ∷ rest → new ≡ old ++ field_text width v → vs ≡ v ∷ others → old ++ filled left vs ≡ all → new ++ filled rest others ≡ all
-written-field old new all left rest width v vs others e n w h =
-    rw (n, append_assoc) (rw (e, w) at h)
+filled-field : (width : ℕ) (ps : List Part) (vs : List ℤ) → filled (field width ∷ ps) vs ≡ filled (field width ∷ []) vs ++ filled ps (drop 1 vs)
+filled-field width ps [] = rw append-nil refl
+filled-field width ps (v ∷ vs) = rw append-nil refl
+
+pub written-field : (old new all : List ℕ) (left rest : List Part) (width : ℕ) (vs others : List ℤ) → left ≡ field width ∷ rest → new ≡ old ++ filled (field width ∷ []) vs → others ≡ drop 1 vs → old ++ filled left vs ≡ all → new ++ filled rest others ≡ all
+written-field old new all left rest width vs others e n o h =
+    rw (n, append_assoc, o, ← filled-field width rest vs, ← e) h
+
+-- the text of one field with the first of some values
+pub filled-first : (width : ℕ) (vs : List ℤ) → 0 < length vs → filled (field width ∷ []) vs ≡ field_text width (get_or vs 0 (pos 0))
+filled-first width [] h = absurd (omega arith)
+filled-first width (v ∷ vs) h = append-nil _
 
 pub written-line_end : (old new all : List ℕ) (left rest : List Part) (vs : List ℤ) → left ≡ line_end ∷ rest → new ≡ old ++ 10 ∷ [] → old ++ filled left vs ≡ all → new ++ filled rest vs ≡ all
 written-line_end old new all left rest vs e n h = rw (n, append_assoc) (rw e at h)
+
+-- that, and that a value read is itself
+pub ruleset first_value = (filled-first, to_z-of_z)

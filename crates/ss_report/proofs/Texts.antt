@@ -1,7 +1,7 @@
 -- How long the text of parts is, and the text of some parts before others.
-use Rattle.std.proofs.Common.{◌≡◌, ℕ, ℤ, ◌+◌, ◌-◌, ◌<◌, ◌≤◌, Bool, true, false, cond, leb, List, [], ◌∷◌, ◌++◌, length, map, take, drop, replicate, refl, sym, ap, ◌∙◌, append_assoc, arith, rules, length-append}
-use Rattle.std.proofs.lemmas.List.Sums.{sum_by-cons, sum_by-append}
-use Rattle.std.specs.List.{count_by, flat_map, sum_by}
+use Rattle.std.proofs.Common.{◌≡◌, ℕ, ℤ, ◌+◌, ◌-◌, ◌≤◌, Bool, true, false, cond, leb, List, [], ◌∷◌, ◌++◌, length, map, replicate, refl, ap, ◌∙◌, arith, rules, length-append}
+use Rattle.std.proofs.lemmas.List.Sums.{sum_by-cons}
+use Rattle.std.specs.List.{count_by}
 use Rattle.std.specs.Fmt.{signed_decimal}
 use lib.ListN.{length-replicate}
 use Rattle.ss_report.specs.Pictures.{Part, field, byte, line_end, is_field, field_text, filled}

@@ -1,5 +1,5 @@
 -- The lines that the pieces of a compiled picture stand for.
-use Rattle.std.specs.Prelude.{ℕ, ◌+◌, Bool, true, false, List, [], ◌∷◌, ◌++◌, map, replicate, length, sum_by}
+use Rattle.std.specs.Prelude.{ℕ, Bool, true, false, List, [], ◌∷◌, ◌++◌, map, replicate, sum_by}
 use Rattle.std.specs.List.{flat_map}
 use Rattle.ss_report.specs.Pictures.{Part, field, byte, line_end}
 use Rattle.ss_report.specs.declared.piece.Piece.{Piece}

@@ -1,6 +1,6 @@
-ghost use Rattle.std.specs.Prelude.{◌≡◌, ◌==◌, ◌+◌, ◌-◌, ◌^◌, ◌<◌, ◌≤◌, ◌++◌, ◌∷◌, [], length, map, min, count_by, IfOk, OnOk, vec_len, vec_capacity};
+ghost use Rattle.std.specs.Prelude.{◌≡◌, ◌==◌, ◌+◌, ◌-◌, ◌^◌, ◌<◌, ◌≤◌, ◌++◌, ◌∷◌, [], drop, length, map, min, count_by, IfOk, OnOk, vec_len, vec_capacity};
 ghost use Rattle.std.specs.List.{position_or_len, prefix_len};
-ghost use Rattle.ss_report.specs.Pictures.{line_end, field_text, filled, is_field, line_parts, picture_parts};
+ghost use Rattle.ss_report.specs.Pictures.{line_end, field, field_text, filled, is_field, line_parts, picture_parts};
 ghost use Rattle.ss_report.specs.Pieces.{is_field_piece, parts_len, parts_of, piece_parts};
 
 use crate::append::{append, append_times};
@@ -45,6 +45,7 @@ fn add_line(alloc: Global, pieces: &mut Vec<Piece>, line: &[u8]) -> Result<(), A
 }
 
 /// The first piece of a line, and what stands behind it.
+#[tactic(auto, using(crate::proofs::Lines::first_field))]
 fn first_piece(alloc: Global, line: &[u8]) -> Result<(Piece, &[u8]), AllocError>
     requires { 0 < length line.now }
     ensures parts { IfOk result
@@ -114,17 +115,29 @@ pub(crate) fn write_pieces(bytes: &mut Vec<u8>, pieces: &[Piece], values: &[i64]
     requires room { vec_len bytes.old + parts_len (parts_of pieces.now) ≤ vec_capacity bytes.old }
     ensures { bytes.new.items ≡ bytes.old.items ++ filled (parts_of pieces.now) values.now }
 {
-    let mut next = 0;
+    let mut values = values;
     for piece in pieces {
         match piece {
             Piece::Text(text) => append(bytes, text),
-            Piece::Field(width) => {
-                append_value(bytes, *width, values[next]);
-                next += 1;
-            }
+            Piece::Field(width) => values = append_first(bytes, *width, values),
             Piece::LineEnd => bytes.push_reserved(b'\n'),
         }
     }
+}
+
+/// Appends the first value in a field of this width, for which there is room. The result is the other values.
+#[tactic(auto, using(crate::proofs::PieceSteps::first_value))]
+fn append_first<'a>(bytes: &mut Vec<u8>, width: usize, values: &'a [i64]) -> &'a [i64]
+    requires some { 0 < length values.now }
+    requires room { vec_len bytes.old + width ≤ vec_capacity bytes.old }
+    ensures items { bytes.new.items ≡ bytes.old.items ++ filled (field width ∷ []) values.now }
+    ensures others { result.now ≡ drop 1 values.now }
+    ensures len { vec_len bytes.new ≡ vec_len bytes.old + width }
+    ensures capacity { vec_capacity bytes.old ≤ vec_capacity bytes.new }
+{
+    append_value(bytes, width, values[0]);
+    let (_, others) = values.split_at(1);
+    others
 }
 
 /// Appends a value in a field of this width, for which there is room.

@@ -87,23 +87,34 @@ fn a_decimal_field_is_refused(rt: HostRuntime) -> Result<(), Fail> {
     Ok(())
 }
 
+// The proof of the test below takes no number of lines apart.
+fn skip(report: &mut Report, lines: usize) -> Result<(), StepFault> {
+    report.skip(lines)
+}
+
+/// Prints a picture without fields.
+fn print(rt: &impl Abort, report: &mut Report, picture: &Picture) -> Result<(), StepFault> {
+    assert_eq!(rt; picture.fields(), 0);
+    report.print(picture, &[])
+}
+
 #[test]
 fn a_report_ends_at_its_limit(rt: HostRuntime) -> Result<(), Fail> {
     let full = Err(StepFault::Fault(RunFault::ReportFull));
     let line = picture(rt.alloc(), b"")?;
     let two_lines = picture(rt.alloc(), b"|")?;
-    assert!(rt; line.fields() == 0 && two_lines.fields() == 0);
     let mut report = Report::new(rt.alloc());
-    assert_eq!(rt; report.skip(16_777_217), full);
-    report.skip(16_777_215)?;
-    assert_eq!(rt; report.skip(2), full);
-    assert_eq!(rt; report.print(&two_lines, &[]), full);
+    assert_eq!(rt; skip(&mut report, 16_777_217), full);
+    skip(&mut report, 16_777_215)?;
+    assert_eq!(rt; skip(&mut report, 2), full);
+    assert_eq!(rt; print(&rt, &mut report, &two_lines), full);
     assert_eq!(rt; report.len(), 16_777_215);
-    report.print(&line, &[])?;
+    print(&rt, &mut report, &line)?;
     assert_eq!(rt; report.len(), 16_777_216);
-    report.skip(0)?;
-    assert_eq!(rt; report.skip(1), full);
-    assert_eq!(rt; report.print(&line, &[]), full);
+    skip(&mut report, 0)?;
+    assert_eq!(rt; skip(&mut report, 1), full);
+    assert_eq!(rt; print(&rt, &mut report, &line), full);
+    assert!(rt; report.len() >= 3);
     report.cut(3);
     assert_eq!(rt; report.bytes(), b"\n\n\n".as_slice());
     Ok(())

@@ -3,3 +3,10 @@ pub mod Places
 pub mod Tree
 pub mod Written
 pub mod View
+pub mod Refused
+pub mod ExprReading
+pub mod SectionReading
+pub mod Onto
+pub mod Laws
+pub mod Examples
+pub mod Counts

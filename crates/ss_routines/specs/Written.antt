@@ -1,16 +1,14 @@
 -- The sections that a tree writes out, with the line of each place.
-use Rattle.std.specs.Prelude.{ℕ, ◌+◌, List, [], ◌∷◌, ◌++◌, length, get_or, codes}
+use Rattle.std.specs.Prelude.{ℕ, ◌+◌, List, [], ◌∷◌, ◌++◌, length, codes}
+use Rattle.ss_words.specs.Noting.{line}
 use Rattle.ss_routines.specs.declared.section.SectionKind.TheVariants.{Main}
 use Rattle.ss_routines.specs.Places.{Assign, Output, Control, stops, ends, Place, assign, output, control, Spot, Section}
 use Rattle.ss_routines.specs.Tree.{Block, no_statements, statement, Statement, single, One, assignment, report, halt, SectionTree, main, Tree, spell_block, spell_statement, spell_section}
 
 -- lines: of each plain word. Each part is written out with the number of its first plain word
 module _ (lines : List ℕ) where
-  abbrev pub line : ℕ → ℕ
-  line k = get_or lines k 0
-
   abbrev pub spot : ℕ → Place → Spot
-  spot k p = record { line = line k; place = p }
+  spot k p = record { line = line lines k; place = p }
 
   abbrev mutual
     pub flat_block : ℕ → Block → List Spot
@@ -25,7 +23,7 @@ module _ (lines : List ℕ) where
 
   abbrev pub written_section : ℕ → SectionTree → Section
   written_section k (main b) = record {
-    line = line k;
+    line = line lines k;
     kind = Main;
     name = codes "MAIN";
     parameters = [];

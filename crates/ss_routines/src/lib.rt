@@ -2,9 +2,17 @@
 #![tactic(auto)]
 
 mod expr;
+mod expression;
+pub mod laws;
 mod place;
+mod program;
 mod section;
+mod statement;
 
 pub use expr::{Added, Expr, Factor, Term, TermSign};
 pub use place::{Assign, Control, Output, Place, Reference, Spot};
+pub use program::sections;
 pub use section::{Section, SectionKind, Sections};
+
+#[cfg(test)]
+mod tests;

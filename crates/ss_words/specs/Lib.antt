@@ -2,3 +2,16 @@ pub mod Faults
 pub mod Words
 pub mod Plain
 pub mod Reading
+pub mod Marks
+pub mod Farthest
+pub mod Noting
+pub mod Spellings
+pub mod PlainRules
+pub mod PlainLaws
+pub mod TextBytes
+pub mod TextLines
+pub mod TextRuns
+pub mod TextWords
+pub mod TextScan
+pub mod TextSpelling
+pub mod TextOrder

@@ -1,8 +1,9 @@
 -- The steps that a reading of plain words is made of: each answers with the words that it left, also where it refuses.
-use Rattle.std.specs.Prelude.{◌≡◌, ℕ, zero, suc, List, [], ◌∷◌, length, Option, Some, None, Result, Ok, Err}
+use Rattle.std.specs.Prelude.{◌≡◌, ℕ, zero, suc, List, [], ◌∷◌, length, map, Option, Some, None, Result, Ok, Err}
 use Rattle.ss_words.specs.declared.refusal.Refusal.{Refusal}
 use Rattle.ss_words.specs.declared.refusal.Refusal.TheVariants.{Unexpected, PastLimit, Memory}
-use Rattle.ss_words.specs.Plain.{Plain, first}
+use Rattle.ss_words.specs.declared.plain_word.PlainWord.{PlainWord}
+use Rattle.ss_words.specs.Plain.{Plain, plain_of, first}
 
 abbrev pub Read : Type 0 → Type 0
 Read A = Result A Refusal × List Plain
@@ -50,6 +51,13 @@ many_from item none one (suc n) = item >>= λ o. elim o [ Some a ↦ (many_from 
 unfoldable pub many : {A B : Type 0} → Reading (Option A) → B → (A → B → B) → Reading B
 many item none one = λ ws. many_from item none one (suc (length ws)) ws
 
+unfoldable pub ended : Reading (Unit {0})
+ended = look (λ w. elim w [ Some v ↦ refuse Unexpected | None ↦ pure tt ])
+
+-- what p reads and nothing else
+unfoldable pub whole : {A : Type 0} → Reading A → Reading A
+whole p = p >>= λ a. ended >>= λ _. pure a
+
 -- all items before what stands behind them
 abbrev pub prepend : {A B : Type 0} → (A → B → B) → List A → B → B
 prepend one [] b = b
@@ -68,3 +76,14 @@ Fails Memory ws read = Unit {0}
 abbrev pub Gives : {X Y : Type 0} → (X → Y) → Result X Refusal → List Plain → Read Y → Type 0
 Gives view (Ok x) ws read = read ≡ (Ok (view x), ws)
 Gives view (Err e) ws read = Fails e ws read
+
+-- the words of a text that a cursor goes over
+abbrev pub word_of : PlainWord → Plain
+word_of w = plain_of w.kind
+
+abbrev pub words_of : List PlainWord → List Plain
+words_of ws = map word_of ws
+
+-- the number of the text's words gives the line of each, 0 behind the last
+abbrev pub lines_of : List PlainWord → List ℕ
+lines_of ws = map (λ w. w.line) ws

@@ -1,16 +1,28 @@
 //! The words of a model's text, its plain words, and what its refusals and faults are called.
 #![tactic(auto)]
 
+mod cursor;
 mod fault;
 mod mark;
+mod plain_laws;
+mod plain_list;
+mod plain_rules;
 mod plain_word;
 mod refusal;
 mod reserved;
+mod scan;
+mod spelling;
+#[cfg(test)]
+mod tests;
+mod text_laws;
 mod word;
 
+pub use cursor::Cursor;
 pub use fault::{RunFault, StepFault, TextFault, TextRule};
 pub use mark::Mark;
+pub use plain_list::plain_words;
 pub use plain_word::{Plain, PlainWord};
 pub use refusal::Refusal;
 pub use reserved::Reserved;
+pub use scan::{without_stops, words};
 pub use word::{Sign, Word, WordKind, Words};

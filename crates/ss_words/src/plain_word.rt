@@ -12,6 +12,22 @@ pub enum Plain {
     Picture(Vec<Vec<u8>>),
 }
 
+impl Plain {
+    ghost use Rattle.std.specs.Prelude.{◌≡◌};
+    ghost use Rattle.ss_words.specs.Plain.{plain_of};
+    ghost use Rattle.ss_words.specs.PlainRules.{mark_in};
+
+    /// The reserved word or sign that it is.
+    pub fn mark(&self) -> Option<Mark>
+        ensures { result ≡ mark_in (plain_of self.now) }
+    {
+        match self {
+            Plain::Mark(mark) => Some(*mark),
+            _ => None,
+        }
+    }
+}
+
 /// A plain word, the line on which it stands, and the place of the word from which it comes in the list of words.
 #[derive(Debug, Drop)]
 pub struct PlainWord {

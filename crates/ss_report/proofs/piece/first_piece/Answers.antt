@@ -1,11 +1,7 @@
-use Rattle.std.proofs.Common.{◌≡◌, ◌∙◌, ◌<◌, arith, sym}
+use Rattle.std.proofs.Common.{◌≡◌, ◌∙◌, ◌<◌, arith}
 use Rattle.std.specs.List.{position_or_len, prefix_len}
-use Rattle.ss_report.proofs.Lines.{first_bytes, first_field, is_asterisk, some_bytes}
+use Rattle.ss_report.proofs.Lines.{first_bytes, is_asterisk, some_bytes}
 use Rattle.ss_report.proofs.piece.first_piece.Goals as goal
-
-pub returns-then-width-gt0-clause-parts : goal.returns-then-width-gt0-clause-parts
-returns-then-width-gt0-clause-parts c =
-    first_field _ _ _ c.leading_asterisks-width.ensures.value (omega arith) c.split_at.ensures.back
 
 pub returns-clause-parts : goal.returns-clause-parts
 returns-clause-parts c =

@@ -1,6 +1,4 @@
-use Rattle.std.proofs.Common.{◌≡◌, ◌∙◌, ◌+◌, ◌++◌, ◌∷◌, List, [], ap, arith, drop, length, map, sym, vec_len, get_or, pos, rules, FitsSigned, w64}
-use Rattle.std.proofs.lemmas.Int.{to_z-of_z}
-use Rattle.std.proofs.lemmas.List.{drop_more}
+use Rattle.std.proofs.Common.{◌≡◌, ◌∙◌, ◌+◌, ◌++◌, ◌∷◌, List, ap, arith, drop, length, map, length-drop, ◌-◌}
 use Rattle.std.specs.List.{count_by}
 use Rattle.ss_report.specs.Pictures.{Part, byte, field, line_end, is_field}
 use Rattle.ss_report.specs.Pieces.{parts_len, parts_of, piece_parts}
@@ -35,30 +33,28 @@ loop-piece-preserved c =
           let len : parts_len left ≡ length bs + parts_len rest = ap parts_len text ∙ parts_len-text bs rest in
           let added : length w.deref.result.now ≡ length bs = ap length w.deref.ensures.value in
           record {
-            values = rw w.next-is (omega arith);
+            values = rw w.values-is (omega arith);
             room = rw w.bytes-is (omega arith);
-            written = rw (w.bytes-is, w.next-is) (written-text _ _ _ left rest bs _ text (rw (← w.deref.ensures.value) w.append.ensures.items) c.loop-piece.invariant.written);
+            written = rw (w.bytes-is, w.values-is) (written-text _ _ _ left rest bs _ text (rw (← w.deref.ensures.value) w.append.ensures.items) c.loop-piece.invariant.written);
           }
       | in-Field w ↦
           let n = w.in-Field.width in
           let wide : left ≡ field n ∷ rest = here ∙ ap (λ (q : Piece). piece_parts q ++ rest) w.in-Field.is in
           let fields : count_by is_field left ≡ 1 + count_by is_field rest = ap (λ (l : List Part). count_by is_field l) wide ∙ count_by-field n rest in
-          let v = get_or c.args.values.now c.loop-piece.next (pos 0) in
-          let fits : FitsSigned w64 v = search rules in
-          let value = rw (to_z-of_z w64 v fits) at w.append_value.ensures.items in
+          let others : length w.append_first-values.result.now ≡ length c.loop-piece.values.now - 1 = ap length w.append_first-values.ensures.others ∙ length-drop 1 c.loop-piece.values.now in
           let len : parts_len left ≡ n + parts_len rest = ap parts_len wide ∙ parts_len-cons (field n) rest in
           record {
-            values = rw w.next-is (omega arith);
+            values = rw w.values-is (omega arith);
             room = rw w.bytes-is (omega arith);
-            written = rw (w.bytes-is, w.next-is) (written-field _ _ _ left rest n v _ _ wide value (drop_more c.args.values.now c.loop-piece.next (pos 0) (omega arith)) c.loop-piece.invariant.written);
+            written = rw (w.bytes-is, w.values-is) (written-field _ _ _ left rest n _ _ wide w.append_first-values.ensures.items w.append_first-values.ensures.others c.loop-piece.invariant.written);
           }
       | in-LineEnd w ↦
           let ended : left ≡ line_end ∷ rest = here ∙ ap (λ (q : Piece). piece_parts q ++ rest) w.in-LineEnd.is in
           let fields : count_by is_field left ≡ count_by is_field rest = ap (λ (l : List Part). count_by is_field l) ended ∙ count_by-line_end rest in
           let len : parts_len left ≡ 1 + parts_len rest = ap parts_len ended ∙ parts_len-cons line_end rest in
           record {
-            values = rw w.next-is (omega arith);
+            values = rw w.values-is (omega arith);
             room = rw w.bytes-is (omega arith);
-            written = rw (w.bytes-is, w.next-is) (written-line_end _ _ _ left rest _ ended w.push_reserved.ensures.items c.loop-piece.invariant.written);
+            written = rw (w.bytes-is, w.values-is) (written-line_end _ _ _ left rest _ ended w.push_reserved.ensures.items c.loop-piece.invariant.written);
           }
     ]

@@ -7,7 +7,7 @@ use Rattle.ss_report.proofs.piece.write_pieces.Given as goal
 
 abbrev pub invariant-loop-piece : goal.invariant-loop-piece
 invariant-loop-piece l = record {
-  values : l.next + count_by is_field (parts_of (drop l.piece-index l.pieces)) ≡ length l.values;
+  values : length l.values ≡ count_by is_field (parts_of (drop l.piece-index l.pieces));
   room : vec_len l.bytes + parts_len (parts_of (drop l.piece-index l.pieces)) ≤ vec_capacity l.bytes;
-  written : l.bytes.items ++ filled (parts_of (drop l.piece-index l.pieces)) (drop l.next l.values) ≡ l.initial.bytes.items ++ filled (parts_of l.pieces) l.values;
+  written : l.bytes.items ++ filled (parts_of (drop l.piece-index l.pieces)) l.values ≡ l.initial.bytes.items ++ filled (parts_of l.pieces) l.initial.values;
 }

@@ -1,6 +1,6 @@
-use Rattle.std.proofs.Common.{◌≡◌, ◌∙◌, List, ℕ, true, false, map, refl, sym, ap}
+use Rattle.std.proofs.Common.{◌≡◌, ◌∙◌, true, false, map, refl, sym, ap}
 use Rattle.std.proofs.lemmas.Bool.{false≢true}
-use Rattle.ss_report.specs.Pictures.{has_decimal, has_decimal_field, picture_parts}
+use Rattle.ss_report.specs.Pictures.{has_decimal_field, picture_parts}
 use Rattle.ss_report.specs.Pieces.{lines_of, parts_of}
 use Rattle.ss_report.specs.declared.picture.PictureFault.TheVariants.{DecimalField, Memory}
 use Rattle.ss_report.proofs.Lines.{lines_of-picture_parts}

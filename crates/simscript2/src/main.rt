@@ -1,0 +1,61 @@
+//! `simscript2 [MODEL [DATA [COMMANDS]]]`: runs a model under the debugger's commands and writes the transcript.
+#![tactic(auto)]
+
+mod files;
+mod paths;
+mod stop;
+mod stream;
+
+use files::{read_model, read_or};
+use paths::{read_arguments, read_paths};
+use ss_session::{End, SessionFault, exit_status, session};
+use std::io;
+use std::process::ExitCode;
+use std::rt::Files;
+use stop::{Stop, tell};
+use stream::Stream;
+
+/// The commands where no file of commands is named.
+const RUN: &[u8] = b"RUN\n";
+
+/// Reads the words, then MODEL, DATA and COMMANDS in that order, and runs the session where all were read.
+fn run<'a, R: Files + Input + Print + AllocGlobal>(
+    rt: &R,
+    arguments: &'a [String],
+) -> Result<Result<End, SessionFault>, Stop<'a>> {
+    let paths = read_paths(rt.alloc(), arguments)?;
+    let model = read_model(rt, paths.model)?;
+    let input = read_or(rt, paths.input, b"")?;
+    let commands = read_or(rt, paths.commands, RUN)?;
+    let mut out = Stream::new(io::writer(rt));
+    Ok(session(rt.alloc(), &model, &input, &commands, &mut out))
+}
+
+/// The exit status of a session, once what stopped it is told.
+fn ended<R: Eprint>(rt: &R, outcome: Result<End, SessionFault>) -> u8 {
+    match outcome {
+        Err(SessionFault::Write) => tell(rt, Stop::CannotWrite),
+        Err(SessionFault::Memory) => tell(rt, Stop::Memory),
+        _ => {}
+    }
+    exit_status(&outcome)
+}
+
+fn main(rt: HostRuntime) -> ExitCode {
+    let status = match read_arguments(&rt) {
+        Ok(arguments) => match run(&rt, &arguments) {
+            Ok(outcome) => ended(&rt, outcome),
+            Err(stop) => {
+                let status = stop.status();
+                tell(&rt, stop);
+                status
+            }
+        },
+        Err(stop) => {
+            let status = stop.status();
+            tell(&rt, stop);
+            status
+        }
+    };
+    ExitCode::from(status)
+}

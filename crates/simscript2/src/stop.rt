@@ -1,0 +1,34 @@
+/// What stops the program before a session, or ends a session without its transcript.
+#[derive(Clone, Copy, Drop)]
+pub enum Stop<'a> {
+    /// The words are none that the program takes.
+    Usage,
+    /// Memory was refused.
+    Memory,
+    /// The file of this path, or standard input for `-`, cannot be read or is over 64 MiB.
+    CannotRead(&'a str),
+    /// Standard output takes nothing more.
+    CannotWrite,
+}
+
+impl Stop<'_> {
+    /// The exit status: 1 for the words, 2 for files and output, 5 for memory.
+    pub fn status(&self) -> u8 {
+        match self {
+            Stop::Usage => 1,
+            Stop::CannotRead(_) => 2,
+            Stop::CannotWrite => 2,
+            Stop::Memory => 5,
+        }
+    }
+}
+
+/// Says on standard error, in one line, what stopped the program.
+pub fn tell<R: Eprint>(rt: &R, stop: Stop<'_>) {
+    let _ = match stop {
+        Stop::Usage => eprintln!(rt; "USAGE: simscript2 [MODEL [DATA [COMMANDS]]]"),
+        Stop::Memory => eprintln!(rt; "OUT OF MEMORY"),
+        Stop::CannotRead(path) => eprintln!(rt; "CANNOT READ {path}"),
+        Stop::CannotWrite => eprintln!(rt; "CANNOT WRITE"),
+    };
+}

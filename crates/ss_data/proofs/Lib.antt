@@ -1,0 +1,4 @@
+pub mod PackedLemmas
+pub mod NumberLemmas
+pub mod ItemLemmas
+pub mod PartLemmas

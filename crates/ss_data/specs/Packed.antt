@@ -1,0 +1,12 @@
+-- Pieces that lie one behind another, told apart by where each one ends.
+use Rattle.std.specs.Prelude.{◌≡◌, ℕ, ◌≤◌, List, [], ◌∷◌, slice_range}
+
+-- the pieces from `start` on, each up to its end
+abbrev pub cut : ℕ → List ℕ → List ℕ → List (List ℕ)
+cut start [] bytes = []
+cut start (end ∷ ends) bytes = slice_range bytes start end ∷ cut end ends bytes
+
+-- no piece ends before it starts, and the last one ends where the bytes do
+abbrev pub AreEnds : ℕ → List ℕ → ℕ → Type 0
+AreEnds start [] size = start ≡ size
+AreEnds start (end ∷ ends) size = (start ≤ end) × AreEnds end ends size

@@ -1,0 +1,4 @@
+pub mod Names
+pub mod Splits
+pub mod Values
+pub mod Moves

@@ -1,0 +1,9 @@
+use Rattle.std.proofs.Common.{◌≡◌, ◌+◌, ◌-◌, ◌≤◌}
+use Rattle.ss_machine.specs.Moment.{position}
+use Rattle.ss_debug.proofs.movement.retreat.Given as goal
+
+abbrev pub invariant-loop-k : goal.invariant-loop-k
+invariant-loop-k l = record {
+  program : l.machine.program ≡ l.initial.machine.program;
+  position : position l.initial.machine ≡ position l.machine + l._k;
+}

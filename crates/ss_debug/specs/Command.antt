@@ -1,0 +1,56 @@
+-- What a command line says.
+use Rattle.std.specs.Prelude.{ℕ, ◌≡◌, Bool, true, false, List, [], ◌∷◌, length, map, Option, Some, None, if◌then◌else◌, nat_lt, codes}
+use Rattle.std.specs.Char.{to_ascii_uppercase}
+use Rattle.std.specs.Str.{bytes_eq}
+use Rattle.ss_debug.specs.Words.{words_of, number_of, name_of}
+use Rattle.ss_debug.specs.declared.said.Command.{Command}
+use Rattle.ss_debug.specs.declared.said.Command.TheVariants.{Blank, Bad, Step, Back, Run, ShowVar, ShowReport, Quit}
+
+-- the command that is made of what was read, or a bad one
+abbrev pub or_bad : {A : Type 0} → (A → Command) → Option A → Command
+or_bad make None = Bad
+or_bad make (Some x) = make x
+
+-- a number from 1 to 1,000,000
+abbrev pub count_of : List ℕ → Option ℕ
+count_of word = number_of 1 1000000 word
+
+-- the bound of a movement: the one word behind it, or what stands for none
+abbrev pub bound_of : ℕ → List (List ℕ) → Option ℕ
+bound_of otherwise [] = Some otherwise
+bound_of otherwise (word ∷ []) = count_of word
+bound_of otherwise (word ∷ next ∷ more) = None
+
+-- one word, which is a name
+abbrev pub only_name_of : List (List ℕ) → Option (List ℕ)
+only_name_of [] = None
+only_name_of (word ∷ []) = name_of word
+only_name_of (word ∷ next ∷ more) = None
+
+-- a command behind which no word may stand
+abbrev pub alone : Command → List (List ℕ) → Command
+alone command [] = command
+alone command (word ∷ more) = Bad
+
+-- what stands behind SHOW
+abbrev pub show_of : List (List ℕ) → Command
+show_of [] = Bad
+show_of (what ∷ rest) =
+    if bytes_eq what (codes "VAR") then or_bad ShowVar (only_name_of rest) else
+    if bytes_eq what (codes "REPORT") then alone ShowReport rest else Bad
+
+-- what the words of a line say, in upper case
+unfoldable pub said_by : List (List ℕ) → Command
+said_by [] = Blank
+said_by (verb ∷ rest) =
+    if bytes_eq verb (codes "STEP") then or_bad Step (bound_of 1 rest) else
+    if bytes_eq verb (codes "BACK") then or_bad Back (bound_of 1 rest) else
+    if bytes_eq verb (codes "RUN") then or_bad Run (bound_of 1000000 rest) else
+    if bytes_eq verb (codes "SHOW") then show_of rest else
+    if bytes_eq verb (codes "QUIT") then alone Quit rest else Bad
+
+-- what a line of at most 200 bytes says; a longer one is bad, unless it has no words
+unfoldable pub command_of : List ℕ → Command
+command_of line =
+    if nat_lt 200 (length line) then (elim (words_of line) [ [] ↦ Blank | w ∷ ws ↦ Bad ])
+    else said_by (words_of (map to_ascii_uppercase line))

@@ -1,0 +1,127 @@
+ghost use Rattle.std.specs.Prelude.{◌≡◌, ℕ, ◌-◌, ◌≤◌, ◌++◌, [], OnOk, OnErr, IfOk};
+ghost use Rattle.ss_machine.specs.Moment.{position};
+ghost use Rattle.ss_debug.specs.Turn.{moved, forward_from, forward_answer, after, answer};
+ghost use Rattle.ss_debug.specs.Answer.{state_line, back_word, var_text, report_text};
+ghost use Rattle.ss_debug.specs.Underway.{Held, desk_of, go_of, IsUnderway};
+
+use crate::go::Go;
+use crate::movement::{advance, retreat};
+use crate::name::Name;
+use crate::rule::Rule;
+use crate::said::Command;
+use crate::text::{movement_word, report_lines, retreat_word, state_line_text, var_line};
+use ss_machine::Machine;
+use std::alloc::{AllocError, Global};
+use std::marker::Model;
+
+/// A machine under the commands of an analyst. Contracts see the machine and the break lines.
+#[derive(Drop)]
+pub struct Debugger {
+    machine: Machine,
+    breaks: Vec<usize>,
+    alloc: Global,
+}
+
+impl Model for Debugger {
+    ghost use Rattle.std.specs.Coded.{codes};
+    ghost use Rattle.ss_debug.specs.Underway.{Held};
+    ghost use Rattle.ss_machine.specs.contracts.machine.Machine as held_machine;
+
+    ghost Value = { Held };
+
+    ghost coded = { Prim.hlevel (codes, held_machine.the_row.coded) };
+
+    ghost view = { λ d. record { machine = d.machine; breaks = d.breaks.items } };
+}
+
+impl Debugger {
+    /// A debugger over a machine, without break lines; takes no memory.
+    pub fn new(alloc: Global, machine: Machine) -> Self
+        ensures { result ≡ record { machine = machine; breaks = [] } }
+    {
+        Debugger {
+            machine,
+            breaks: Vec::new(alloc),
+            alloc,
+        }
+    }
+
+    /// The machine, at the position to which the commands so far have led.
+    pub fn machine(&self) -> &Machine
+        ensures { result.now ≡ self.now.machine }
+    {
+        &self.machine
+    }
+
+    /// A forward movement, and its answer.
+    fn go_forward(&mut self, rule: Rule, bound: u64, bytes: &mut Vec<u8>) -> Result<(), AllocError>
+        ensures program { self.new.machine.program ≡ self.old.machine.program }
+        ensures place { OnOk result (desk_of self.new ≡ moved (desk_of self.old) (forward_from self.old.machine.program (desk_of self.old) rule bound)) }
+        ensures said { OnOk result (bytes.new.items ≡ bytes.old.items ++ forward_answer self.old.machine.program (desk_of self.old) rule bound) }
+        ensures memory { OnErr result ((bytes.new.items ≡ bytes.old.items) × (self.new.breaks ≡ self.old.breaks) × (position self.old.machine ≤ position self.new.machine) × (position self.new.machine ≤ forward_from self.old.machine.program (desk_of self.old) rule bound)) }
+    {
+        let from = self.machine.position();
+        advance(&mut self.machine, &self.breaks, rule, bound)?;
+        let word = movement_word(&self.machine, &self.breaks, rule, from);
+        let text = state_line_text(self.alloc, word, &self.machine)?;
+        bytes.extend_from_slice(&text)
+    }
+
+    /// A movement back, and its answer.
+    fn go_back(&mut self, count: u64, bytes: &mut Vec<u8>) -> Result<(), AllocError>
+        ensures program { self.new.machine.program ≡ self.old.machine.program }
+        ensures place { desk_of self.new ≡ moved (desk_of self.old) (position self.old.machine - count) }
+        ensures said { OnOk result (bytes.new.items ≡ bytes.old.items ++ state_line (back_word (position self.old.machine) count) self.old.machine.program (position self.old.machine - count)) }
+        ensures memory { OnErr result (bytes.new.items ≡ bytes.old.items) }
+    {
+        let word = retreat_word(self.machine.position(), count);
+        retreat(&mut self.machine, count);
+        let text = state_line_text(self.alloc, word, &self.machine)?;
+        bytes.extend_from_slice(&text)
+    }
+
+    fn show_var(&self, name: &Name, bytes: &mut Vec<u8>) -> Result<(), AllocError>
+        ensures said { OnOk result (bytes.new.items ≡ bytes.old.items ++ var_text name.now self.now.machine.program (position self.now.machine)) }
+        ensures memory { OnErr result (bytes.new.items ≡ bytes.old.items) }
+    {
+        let text = var_line(self.alloc, name, &self.machine)?;
+        bytes.extend_from_slice(&text)
+    }
+
+    fn show_report(&self, bytes: &mut Vec<u8>) -> Result<(), AllocError>
+        ensures said { OnOk result (bytes.new.items ≡ bytes.old.items ++ report_text self.now.machine.program (position self.now.machine)) }
+        ensures memory { OnErr result (bytes.new.items ≡ bytes.old.items) }
+    {
+        let text = report_lines(self.alloc, &self.machine)?;
+        bytes.extend_from_slice(&text)
+    }
+}
+
+/// One turn: does what a command says, and appends its whole answer to `bytes` (docs/DEBUGGER.md). `Quit` is answered for QUIT alone.
+///
+/// `AllocError` where a growth was refused: `bytes` and the break lines are as before, and the machine stands where the steps that
+/// were made led.
+#[tactic(auto, unfolding(crate::specs::Turn::after, crate::specs::Turn::answer, crate::specs::Underway::IsUnderway))]
+pub fn obey(
+    debugger: &mut Debugger,
+    command: Command,
+    bytes: &mut Vec<u8>,
+) -> Result<Go, AllocError>
+    ensures program { debugger.new.machine.program ≡ debugger.old.machine.program }
+    ensures place { OnOk result (desk_of debugger.new ≡ after debugger.old.machine.program (desk_of debugger.old) command) }
+    ensures said { OnOk result (bytes.new.items ≡ bytes.old.items ++ answer debugger.old.machine.program (desk_of debugger.old) command) }
+    ensures quit { IfOk result (λ go. go ≡ go_of command) }
+    ensures memory { OnErr result ((bytes.new.items ≡ bytes.old.items) × IsUnderway debugger.old.machine.program (desk_of debugger.old) command (desk_of debugger.new)) }
+{
+    match command {
+        Command::Blank => {}
+        Command::Bad => bytes.extend_from_slice(b"BAD COMMAND\n")?,
+        Command::Step(n) => debugger.go_forward(Rule::Count, n, bytes)?,
+        Command::Back(n) => debugger.go_back(n, bytes)?,
+        Command::Run(n) => debugger.go_forward(Rule::Break, n, bytes)?,
+        Command::ShowVar(name) => debugger.show_var(&name, bytes)?,
+        Command::ShowReport => debugger.show_report(bytes)?,
+        Command::Quit => return Ok(Go::Quit),
+    }
+    Ok(Go::On)
+}

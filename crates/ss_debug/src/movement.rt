@@ -1,0 +1,117 @@
+ghost use Rattle.std.specs.Prelude.{◌≡◌, ℕ, ◌+◌, ◌-◌, ◌<◌, ◌≤◌, OnOk, OnErr, nat_eq, nat_lt, true};
+ghost use Rattle.ss_machine.specs.Moment.{position};
+ghost use Rattle.ss_debug.specs.Move.{is_ready, is_ready_at, line_at, meets, is_stop, stops, forward, is_on_break, EndsAt, IsAt};
+
+use crate::rule::Rule;
+use ss_machine::{Machine, Status, Stepped};
+use std::alloc::AllocError;
+
+/// Whether the next step runs a place.
+pub fn is_ready_now(machine: &Machine) -> bool
+    ensures { result ≡ is_ready_at machine.now.program (position machine.now) }
+{
+    machine.known();
+    match machine.status() {
+        Status::Ready => true,
+        Status::Stopped => false,
+        Status::Finished => false,
+        Status::Faulted(_) => false,
+    }
+}
+
+/// The line of the place where the machine stands.
+pub fn present_line(machine: &Machine) -> usize
+    ensures { result ≡ line_at machine.now.program (position machine.now) }
+{
+    machine.known();
+    let (section, place) = machine.place();
+    machine.program().spot(section, place).line
+}
+
+fn stands_on_break(machine: &Machine, breaks: &[usize]) -> bool
+    ensures { result ≡ is_on_break machine.now.program breaks.now (position machine.now) }
+{
+    let line = present_line(machine);
+    breaks.contains(&line)
+}
+
+/// Whether the machine's state meets the rule.
+pub fn meets_rule(machine: &Machine, breaks: &[usize], rule: Rule) -> bool
+    ensures { result ≡ meets machine.now.program breaks.now rule (position machine.now) }
+{
+    match rule {
+        Rule::Count => false,
+        Rule::Break => stands_on_break(machine, breaks),
+    }
+}
+
+/// Whether a movement stops where the machine stands, after k steps.
+fn is_at_stop(machine: &Machine, breaks: &[usize], rule: Rule, k: u64) -> bool
+    ensures { result ≡ is_stop machine.now.program breaks.now rule k (position machine.now) }
+{
+    !is_ready_now(machine) || (0 < k && meets_rule(machine, breaks, rule))
+}
+
+/// One step from a state that is ready.
+fn step_once(machine: &mut Machine) -> Result<(), AllocError>
+    requires { is_ready_at machine.old.program (position machine.old) ≡ true }
+    ensures ok { OnOk result (IsAt machine.old.program (position machine.old + 1) machine.new) }
+    ensures err { OnErr result (machine.new ≡ machine.old) }
+{
+    machine.known();
+    match machine.step() {
+        Ok(Stepped::Moved) => Ok(()),
+        Ok(Stepped::AtEnd) => Ok(()),
+        Err(error) => Err(error),
+    }
+}
+
+/// Steps to the least later position at which the rule is met or the status isn't ready, within the bound.
+#[tactic(auto, using(crate::proofs::Moves::least_is, crate::proofs::Moves::least_at_least, crate::proofs::Moves::or_false_left))]
+fn step_on(
+    machine: &mut Machine,
+    breaks: &[usize],
+    rule: Rule,
+    bound: u64,
+) -> Result<(), AllocError>
+    ensures ok { OnOk result (IsAt machine.old.program (forward machine.old.program breaks.now rule (position machine.old) bound) machine.new) }
+    ensures memory { OnErr result ((machine.new.program ≡ machine.old.program) × (position machine.old ≤ position machine.new) × (position machine.new ≤ forward machine.old.program breaks.now rule (position machine.old) bound)) }
+{
+    for k in 0..bound {
+        if is_at_stop(machine, breaks, rule, k) {
+            return Ok(());
+        }
+        if let Err(error) = step_once(machine) {
+            return Err(error);
+        }
+    }
+    Ok(())
+}
+
+/// Steps to the least later position at which the rule is met or the status isn't ready, within the bound.
+///
+/// `AllocError` where a step was refused memory: the machine stands where the steps before it led.
+#[tactic(auto, using(crate::proofs::Moves::forward_ends_at))]
+pub fn advance(
+    machine: &mut Machine,
+    breaks: &[usize],
+    rule: Rule,
+    bound: u64,
+) -> Result<(), AllocError>
+    ensures ok { OnOk result (IsAt machine.old.program (forward machine.old.program breaks.now rule (position machine.old) bound) machine.new) }
+    ensures ends { OnOk result (EndsAt machine.old.program breaks.now rule (position machine.old) bound (position machine.new)) }
+    ensures memory { OnErr result ((machine.new.program ≡ machine.old.program) × (position machine.old ≤ position machine.new) × (position machine.new ≤ forward machine.old.program breaks.now rule (position machine.old) bound)) }
+{
+    step_on(machine, breaks, rule, bound)
+}
+
+/// Steps back a number of times, or to the start.
+pub fn retreat(machine: &mut Machine, count: u64)
+    ensures { IsAt machine.old.program (position machine.old - count) machine.new }
+{
+    for _k in 0..count {
+        if !machine.back() {
+            return;
+        }
+    }
+}

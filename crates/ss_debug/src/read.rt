@@ -1,0 +1,101 @@
+ghost use Rattle.std.specs.Prelude.{◌≡◌, ℕ, ◌≤◌, length, map};
+ghost use Rattle.std.specs.Char.{to_ascii_uppercase};
+ghost use Rattle.ss_debug.specs.Words.{words_of};
+ghost use Rattle.ss_debug.specs.Command.{command_of, said_by, show_of, bound_of, only_name_of, alone};
+
+use crate::name::Name;
+use crate::said::{Command, GREATEST_BOUND, LINE_LIMIT};
+use crate::words::{next_word, number};
+
+fn bound(rest: &[u8], otherwise: u64) -> Option<u64>
+    ensures { result ≡ bound_of otherwise (words_of rest.now) }
+{
+    let Some((word, more)) = next_word(rest) else {
+        return Some(otherwise);
+    };
+    if next_word(more).is_some() {
+        return None;
+    }
+    number(word, 1, GREATEST_BOUND)
+}
+
+fn only_name(rest: &[u8]) -> Option<Name>
+    ensures { result ≡ only_name_of (words_of rest.now) }
+{
+    let (word, more) = next_word(rest)?;
+    if next_word(more).is_some() {
+        return None;
+    }
+    Name::of(word)
+}
+
+fn alone_or_bad(command: Command, rest: &[u8]) -> Command
+    ensures { result ≡ alone command (words_of rest.now) }
+{
+    if next_word(rest).is_some() {
+        return Command::Bad;
+    }
+    command
+}
+
+fn show(rest: &[u8]) -> Command
+    ensures { result ≡ show_of (words_of rest.now) }
+{
+    let Some((what, more)) = next_word(rest) else {
+        return Command::Bad;
+    };
+    if what == b"VAR".as_slice() {
+        return match only_name(more) {
+            None => Command::Bad,
+            Some(name) => Command::ShowVar(name),
+        };
+    }
+    if what == b"REPORT".as_slice() {
+        return alone_or_bad(Command::ShowReport, more);
+    }
+    Command::Bad
+}
+
+/// What the words of a line say, in upper case.
+#[tactic(auto, unfolding(crate::specs::Command::said_by))]
+fn said(line: &[u8]) -> Command
+    ensures { result ≡ said_by (words_of line.now) }
+{
+    let Some((verb, rest)) = next_word(line) else {
+        return Command::Blank;
+    };
+    if verb == b"STEP".as_slice() {
+        return bound(rest, 1).map_or(Command::Bad, |n| Command::Step(n));
+    }
+    if verb == b"BACK".as_slice() {
+        return bound(rest, 1).map_or(Command::Bad, |n| Command::Back(n));
+    }
+    if verb == b"RUN".as_slice() {
+        return bound(rest, GREATEST_BOUND).map_or(Command::Bad, |n| Command::Run(n));
+    }
+    if verb == b"SHOW".as_slice() {
+        return show(rest);
+    }
+    if verb == b"QUIT".as_slice() {
+        return alone_or_bad(Command::Quit, rest);
+    }
+    Command::Bad
+}
+
+/// What a command line says: letters in either case, words separated by blanks, tabs and carriage returns. A line without
+/// words is `Blank`; one that is no command, or is over 200 bytes long, is `Bad` (docs/DEBUGGER.md).
+#[tactic(auto, unfolding(crate::specs::Command::command_of), using(crate::proofs::Names::take_front))]
+pub fn command(line: &[u8]) -> Command
+    ensures { result ≡ command_of line.now }
+{
+    if line.len() > LINE_LIMIT {
+        return match next_word(line) {
+            None => Command::Blank,
+            Some(_) => Command::Bad,
+        };
+    }
+    let mut upper = [0u8; 200];
+    upper[..line.len()].copy_from_slice(line);
+    upper[..line.len()].make_ascii_uppercase();
+    said(&upper[..line.len()])
+}

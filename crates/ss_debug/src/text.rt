@@ -1,0 +1,167 @@
+ghost use Rattle.std.specs.Prelude.{◌≡◌, ℕ, ◌++◌, ◌∷◌, [], OnOk, IfOk, codes, decimal, Option};
+ghost use Rattle.std.specs.Fmt.{signed_decimal};
+ghost use Rattle.ss_machine.specs.Moment.{position};
+ghost use Rattle.ss_debug.specs.Answer.{status_text, section_at, state_line, forward_word, back_word, met_word, bound_word, variable_named, var_text, report_text};
+
+use crate::movement::{is_ready_now, meets_rule, present_line};
+use crate::name::Name;
+use crate::rule::Rule;
+use itoa::Buffer;
+use ss_check::Variable;
+use ss_machine::{Machine, Status};
+use std::alloc::{AllocError, Global};
+
+/// Appends a number in least digits.
+fn push_number(text: &mut Vec<u8>, n: usize) -> Result<(), AllocError>
+    ensures ok { OnOk result (text.new.items ≡ text.old.items ++ decimal n) }
+{
+    let mut buffer = Buffer::new();
+    text.extend_from_slice(buffer.format(n).as_bytes())
+}
+
+/// Appends an integer in least digits, with its sign below 0.
+fn push_integer(text: &mut Vec<u8>, n: i64) -> Result<(), AllocError>
+    ensures ok { OnOk result (text.new.items ≡ text.old.items ++ signed_decimal n) }
+{
+    let mut buffer = Buffer::new();
+    text.extend_from_slice(buffer.format(n).as_bytes())
+}
+
+fn push_status(text: &mut Vec<u8>, status: Status) -> Result<(), AllocError>
+    ensures ok { OnOk result (text.new.items ≡ text.old.items ++ status_text status) }
+{
+    match status {
+        Status::Ready => text.extend_from_slice(b"READY"),
+        Status::Stopped => text.extend_from_slice(b"STOPPED"),
+        Status::Finished => text.extend_from_slice(b"FINISHED"),
+        Status::Faulted(fault) => {
+            text.extend_from_slice(b"FAULT F")?;
+            push_number(text, fault.number() as usize)
+        }
+    }
+}
+
+/// Appends the name of the section in which the machine stands.
+fn push_section(text: &mut Vec<u8>, machine: &Machine) -> Result<(), AllocError>
+    ensures ok { OnOk result (text.new.items ≡ text.old.items ++ section_at machine.now.program (position machine.now)) }
+{
+    machine.known();
+    let (section, _) = machine.place();
+    text.extend_from_slice(&machine.program().section(section).name.bytes)
+}
+
+/// A movement's word and the state line of the machine's state.
+#[tactic(auto, unfolding(crate::specs::Answer::state_line))]
+pub fn state_line_text(alloc: Global, word: &[u8], machine: &Machine) -> Result<Vec<u8>, AllocError>
+    ensures { IfOk result (λ text. text.items ≡ state_line word.now machine.now.program (position machine.now)) }
+{
+    machine.known();
+    let mut text = Vec::from_slice(alloc, word)?;
+    text.extend_from_slice(b": STATE ")?;
+    push_number(&mut text, machine.position())?;
+    text.extend_from_slice(b" CLOCK ")?;
+    push_integer(&mut text, machine.clock())?;
+    text.extend_from_slice(b" ")?;
+    push_status(&mut text, machine.status())?;
+    text.extend_from_slice(b" IN ")?;
+    push_section(&mut text, machine)?;
+    text.extend_from_slice(b" LINE ")?;
+    push_number(&mut text, present_line(machine))?;
+    text.extend_from_slice(b"\n")?;
+    Ok(text)
+}
+
+fn met(rule: Rule) -> &'static [u8]
+    ensures { result.now ≡ met_word rule }
+{
+    match rule {
+        Rule::Count => b"DONE",
+        Rule::Break => b"BREAK",
+    }
+}
+
+fn bound_met(rule: Rule) -> &'static [u8]
+    ensures { result.now ≡ bound_word rule }
+{
+    match rule {
+        Rule::Count => b"DONE",
+        Rule::Break => b"BOUND",
+    }
+}
+
+/// The word of a movement that began at `from` and ended where the machine stands.
+pub fn movement_word(machine: &Machine, breaks: &[usize], rule: Rule, from: usize) -> &'static [u8]
+    ensures { result.now ≡ forward_word machine.now.program breaks.now rule from (position machine.now) }
+{
+    if !is_ready_now(machine) {
+        return b"HALTED";
+    }
+    if from < machine.position() && meets_rule(machine, breaks, rule) {
+        met(rule)
+    } else {
+        bound_met(rule)
+    }
+}
+
+/// The word of a movement back by `count` from `from`.
+pub fn retreat_word(from: usize, count: u64) -> &'static [u8]
+    ensures { result.now ≡ back_word from count }
+{
+    if (from as u64) < count {
+        b"START"
+    } else {
+        b"DONE"
+    }
+}
+
+/// The variable that a name stands for where the machine stands.
+fn find_variable(machine: &Machine, name: &[u8]) -> Option<Variable>
+    ensures { result ≡ variable_named machine.now.program (position machine.now) name.now }
+{
+    machine.known();
+    if name == b"TIME.V".as_slice() {
+        return Some(Variable::Clock);
+    }
+    if let Some(global) = machine
+        .program()
+        .find(name)
+        .and_then(|named| named.variable)
+    {
+        return Some(Variable::Global(global as usize));
+    }
+    let (section, _) = machine.place();
+    machine
+        .program()
+        .local(section, name)
+        .map(|local| Variable::Local(local))
+}
+
+/// `v = value`, or `NO VARIABLE v`.
+#[tactic(auto, unfolding(crate::specs::Answer::var_text))]
+pub fn var_line(alloc: Global, name: &Name, machine: &Machine) -> Result<Vec<u8>, AllocError>
+    ensures { IfOk result (λ text. text.items ≡ var_text name.now machine.now.program (position machine.now)) }
+{
+    machine.known();
+    let Some(variable) = find_variable(machine, name.as_slice()) else {
+        let mut text = Vec::from_slice(alloc, b"NO VARIABLE ")?;
+        text.extend_from_slice(name.as_slice())?;
+        text.extend_from_slice(b"\n")?;
+        return Ok(text);
+    };
+    let mut text = Vec::from_slice(alloc, name.as_slice())?;
+    text.extend_from_slice(b" = ")?;
+    push_integer(&mut text, machine.variable(variable))?;
+    text.extend_from_slice(b"\n")?;
+    Ok(text)
+}
+
+/// The line REPORT, and the report's bytes.
+#[tactic(auto, unfolding(crate::specs::Answer::report_text))]
+pub fn report_lines(alloc: Global, machine: &Machine) -> Result<Vec<u8>, AllocError>
+    ensures { IfOk result (λ text. text.items ≡ report_text machine.now.program (position machine.now)) }
+{
+    machine.known();
+    let mut text = Vec::from_slice(alloc, b"REPORT\n")?;
+    text.extend_from_slice(machine.report())?;
+    Ok(text)
+}

@@ -1,0 +1,4 @@
+pub mod SeatLaws
+pub mod BoardLaws
+pub mod MemberLaws
+pub mod PlainLaws

@@ -1,0 +1,15 @@
+pub mod Sound
+pub mod LocalExpr
+pub mod AgainExpr
+pub mod SoundSection
+pub mod LocalSection
+pub mod AgainSection
+pub mod LaysSection
+pub mod Pushed
+pub mod Rooms
+pub mod Whole
+pub mod SectionLoop
+pub mod Unique
+pub mod Decided
+pub mod Counted
+pub mod LimitWords

@@ -1,0 +1,43 @@
+use Rattle.std.proofs.Common.{◌≡◌, ◌∙◌, ℕ, suc, ◌+◌, ◌-◌, List, [], ◌∷◌, ◌++◌, length, length-append, map, refl, sym, ap, arith, rules}
+use Rattle.std.proofs.lemmas.List.{map_push, length-map}
+use Rattle.std.proofs.lemmas.Result.{err_from_is_err_and}
+use Rattle.ss_words.specs.Reading.{words_of, lines_of, Read}
+use Rattle.ss_words.specs.Plain.{Plain}
+use Rattle.ss_words.proofs.Loop.{passes_on}
+use Rattle.ss_routines.specs.declared.section.Section.{Section as CodeSection}
+use Rattle.ss_routines.specs.ExprReading.{expr_at}
+use Rattle.ss_routines.specs.Places.{Section}
+use Rattle.ss_routines.specs.Onto.{section_onto, sections_onto}
+use Rattle.ss_routines.specs.View.{section_view}
+use Rattle.ss_routines.proofs.SectionLoop.{Gathered, starts, turned, failed, full, ended}
+use Rattle.ss_routines.proofs.program.all.Goals as goal
+
+-- a section that is pushed
+pushed : (lines : List ℕ) (total : Read (List Section)) (xs ys : List CodeSection) (s : CodeSection) (r : List Plain) → ys ≡ xs ++ s ∷ [] → Gathered lines (expr_at 50) total (map section_view xs ++ section_view s ∷ []) (256 - (length xs + 1)) r
+    → Gathered lines (expr_at 50) total (map section_view ys) (256 - length ys) r
+pushed lines total xs ys s r e h =
+    let len : length xs + 1 ≡ length ys = omega (arith, ap length e, length-append xs (s ∷ [])) in
+    rw (e, map_push section_view xs s, length-append xs (s ∷ [])) h
+
+pub returns-then-len-eq-MOST_SECTIONS-clause-exact : goal.returns-then-len-eq-MOST_SECTIONS-clause-exact
+returns-then-len-eq-MOST_SECTIONS-clause-exact c =
+    full (lines_of c.args.text.now) (expr_at 50) _ (map section_view c.loop-list.list.items) (256 - length c.loop-list.list.items) (words_of c.loop-list.cursor.rest.now)
+      (omega (arith, c.len.ensures, c.if-len-eq-MOST_SECTIONS.true)) (sym c.begins.ensures ∙ c.loop-list-test.true) c.loop-list.invariant.gathered
+
+pub returns-in_err-section-clause-exact : goal.returns-in_err-section-clause-exact
+returns-in_err-section-clause-exact c =
+    let p = err_from_is_err_and c.from_residual.result c.from_residual.ensures.1 in
+    rw (p.1, p.2) (passes_on c.in_err-section.field-0.0 (words_of c.section.new.cursor.rest.now) (section_onto (lines_of c.args.text.now) (expr_at 50) (words_of c.loop-list.cursor.rest.now)) _
+      (λ g h. failed (lines_of c.args.text.now) (expr_at 50) _ (map section_view c.loop-list.list.items) (256 - length c.loop-list.list.items) (256 - (length c.loop-list.list.items + 1)) g (words_of c.loop-list.cursor.rest.now) (words_of c.section.new.cursor.rest.now)
+        (omega (arith, c.len.ensures, c.if-len-eq-MOST_SECTIONS.false, c.loop-list.invariant.room)) (sym c.begins.ensures ∙ c.loop-list-test.true) h c.loop-list.invariant.gathered) c.in_err-section.ensures.exact)
+
+pub loop-list-preserved : goal.loop-list-preserved
+loop-list-preserved c = record {
+  shorter = omega (arith, c.in_ok-section.ensures.shorter, c.loop-list.invariant.shorter);
+  room = omega (arith, c.len.ensures, c.if-len-eq-MOST_SECTIONS.false, c.loop-list.invariant.room, ap length c.in_ok-push.ensures.items, length-append c.loop-list.list.items (c.in_ok-section.field-0 ∷ []));
+  gathered = pushed (lines_of c.args.text.now) _ c.loop-list.list.items c.push.new.self.items c.in_ok-section.field-0 (words_of c.section.new.cursor.rest.now) c.in_ok-push.ensures.items
+    (turned (lines_of c.args.text.now) (expr_at 50) _ (map section_view c.loop-list.list.items) (256 - length c.loop-list.list.items) (256 - (length c.loop-list.list.items + 1)) (section_view c.in_ok-section.field-0) (words_of c.loop-list.cursor.rest.now) (words_of c.section.new.cursor.rest.now)
+      (omega (arith, c.len.ensures, c.if-len-eq-MOST_SECTIONS.false, c.loop-list.invariant.room)) (sym c.begins.ensures ∙ c.loop-list-test.true) c.in_ok-section.ensures.exact c.loop-list.invariant.gathered) }
+
+pub returns-clause-exact : goal.returns-clause-exact
+returns-clause-exact c = ended (lines_of c.args.text.now) (expr_at 50) _ (map section_view c.loop-list.list.items) (256 - length c.loop-list.list.items) (words_of c.loop-list.cursor.rest.now) (sym c.begins.ensures ∙ c.loop-list-test.false) c.loop-list.invariant.gathered

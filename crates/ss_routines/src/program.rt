@@ -1,0 +1,151 @@
+ghost use Rattle.std.specs.Prelude.{IfOk, IfErr, IsTrue, List, [], length, map, Some, ◌≡◌, ◌≤◌, ◌<◌, ◌-◌, Ok};
+ghost use Rattle.ss_words.specs.Plain.{first, plain_of, plain_at};
+ghost use Rattle.ss_words.specs.Reading.{Fails, Gives, words_of, lines_of, whole};
+ghost use Rattle.ss_routines.specs.ExprReading as exprs;
+ghost use Rattle.ss_routines.specs.SectionReading as reading;
+ghost use Rattle.ss_routines.specs.Onto as onto;
+ghost use Rattle.ss_routines.specs.View.{section_view, sections_of};
+ghost use Rattle.ss_words.specs.Noting.{line};
+ghost use Rattle.ss_words.specs.PlainRules.{plain_words_of};
+ghost use Rattle.ss_routines.specs.Refused.{AreSections, IsFault, words_from};
+
+use crate::place::{Control, Place, Spot};
+use crate::section::{Section, SectionKind, Sections};
+use crate::statement::block;
+use ss_words::{
+    Cursor, Mark, Plain, PlainWord, Refusal, Reserved, TextFault, TextRule, Words, plain_words,
+};
+use std::alloc::Global;
+
+/// How many parentheses may be open at once.
+const MOST_PARENTHESES: u32 = 50;
+
+/// How many sections a program may have.
+const MOST_SECTIONS: usize = 256;
+
+fn is_head(kind: &Plain) -> bool
+    ensures { result ≡ reading.is_head (Some (plain_of kind.now)) }
+{
+    matches!(kind, Plain::Mark(Mark::Reserved(Reserved::Main)))
+}
+
+/// Whether a section begins with the next word.
+fn begins(cursor: &Cursor<'_>) -> bool
+    ensures { result ≡ reading.is_head (first (words_of cursor.now.rest.now)) }
+{
+    match cursor.rest {
+        [word, ..] => is_head(&word.kind),
+        [] => false,
+    }
+}
+
+#[tactic(auto, using(crate::proofs::Pushed::pushed), unfolding(ss_words::specs::Reading::bind, ss_words::specs::Reading::pure, ss_words::specs::Noting::here, crate::specs::Onto::section_onto))]
+fn section(cursor: &mut Cursor<'_>, text: &[PlainWord]) -> Result<Section, Refusal>
+    ensures exact { Gives section_view result (words_of cursor.new.rest.now) (onto.section_onto (lines_of text.now) (exprs.expr_at 50) (words_of cursor.old.rest.now)) }
+    ensures shorter { length cursor.new.rest.now ≤ length cursor.old.rest.now }
+    ensures taken { IfOk result (λ _. length cursor.new.rest.now < length cursor.old.rest.now) }
+{
+    let line = cursor.line(text);
+    cursor.expect(Mark::Reserved(Reserved::Main))?;
+    let name = Vec::from_slice(cursor.alloc, b"MAIN")?;
+    let mut places = Vec::new(cursor.alloc);
+    block(cursor, text, MOST_PARENTHESES, &mut places)?;
+    let end = cursor.line(text);
+    cursor.expect(Mark::Reserved(Reserved::End))?;
+    places.push(Spot {
+        line: end,
+        place: Place::Control(Control::End),
+    })?;
+    Ok(Section {
+        line,
+        kind: SectionKind::Main,
+        name,
+        parameters: Vec::new(cursor.alloc),
+        places,
+    })
+}
+
+fn all(cursor: &mut Cursor<'_>, text: &[PlainWord]) -> Result<Vec<Section>, Refusal>
+    ensures exact { Gives (λ v. map section_view v.items) result (words_of cursor.new.rest.now) (onto.sections_onto (lines_of text.now) (exprs.expr_at 50) 256 (words_of cursor.old.rest.now)) }
+    ensures shorter { length cursor.new.rest.now ≤ length cursor.old.rest.now }
+{
+    let mut list = Vec::new(cursor.alloc);
+    while begins(cursor) {
+        if list.len() == MOST_SECTIONS {
+            return Err(Refusal::PastLimit);
+        }
+        list.push(section(cursor, text)?)?;
+    }
+    Ok(list)
+}
+
+/// The sections that the text is made of, and nothing else.
+#[tactic(auto, unfolding(ss_words::specs::Reading::look, ss_words::specs::Reading::refuse, ss_words::specs::Reading::bind, ss_words::specs::Reading::pure, ss_words::specs::Reading::whole, ss_words::specs::Reading::ended))]
+fn complete(cursor: &mut Cursor<'_>, text: &[PlainWord]) -> Result<Vec<Section>, Refusal>
+    ensures exact { Gives (λ v. map section_view v.items) result (words_of cursor.new.rest.now) (whole (onto.sections_onto (lines_of text.now) (exprs.expr_at 50) 256) (words_of cursor.old.rest.now)) }
+    ensures shorter { length cursor.new.rest.now ≤ length cursor.old.rest.now }
+{
+    let list = all(cursor, text)?;
+    match cursor.rest {
+        [] => Ok(list),
+        [_, ..] => Err(Refusal::Unexpected),
+    }
+}
+
+/// What the text is refused with, by what stopped its reading at the word that the cursor has reached. Where the text's
+/// end is refused, or the last word passes a limit of a text that cannot end there, the refusal is told at the last word.
+fn fault(refusal: Refusal, cursor: &Cursor<'_>, text: &[PlainWord]) -> TextFault
+    requires { Fails refusal (words_of cursor.now.rest.now) (whole (onto.sections_onto (lines_of text.now) (exprs.expr_at 50) 256) (words_of text.now)) }
+    ensures { IsFault result (map plain_at text.now) }
+{
+    let left = cursor.rest.len();
+    let (rule, line) = match refusal {
+        Refusal::Memory => return TextFault::Memory,
+        Refusal::Unexpected if left > 0 => (TextRule::UnexpectedWord, cursor.line(text)),
+        Refusal::PastLimit if left > 1 => (TextRule::PastLimit, cursor.line(text)),
+        _ => (TextRule::UnexpectedEnd, last_line(text)),
+    };
+    TextFault::Refused { rule, line }
+}
+
+/// The line of the last word; 0 where there is none.
+fn last_line(text: &[PlainWord]) -> usize
+    ensures { result ≡ line (lines_of text.now) (length text.now - 1) }
+{
+    match text.get(text.len().saturating_sub(1)) {
+        Some(word) => word.line,
+        None => 0,
+    }
+}
+
+/// The sections that these plain words spell.
+fn read(alloc: Global, text: &[PlainWord]) -> Result<Sections, TextFault>
+    ensures sections { IfOk result (λ s. AreSections (sections_of s) (map plain_at text.now)) }
+    ensures refused { IfErr result (λ f. IsFault f (map plain_at text.now)) }
+{
+    let mut cursor = Cursor { alloc, rest: text };
+    match complete(&mut cursor, text) {
+        Ok(list) => Ok(Sections { list }),
+        Err(refusal) => Err(fault(refusal, &cursor, text)),
+    }
+}
+
+/// The sections of a program (docs/LANGUAGE.md, "Sections"), from its plain words: those that come from the words with
+/// number `from` and above, counted from 0. The words are left as they are.
+///
+/// # Errors
+///
+/// - P1 at the word with which no program goes on, P2 at the last word where the text ends and no program ends there, P3
+///   at the word that passes a limit (50 parentheses open at once, 256 sections); where several of them hold, the
+///   earliest word counts, then the lowest number (docs/LANGUAGE.md, "Refusals of the grammar").
+/// - `Memory` where memory was refused.
+pub fn sections(alloc: Global, words: &Words, from: usize) -> Result<Sections, TextFault>
+    // The words spell one program within the limits, and these are its sections.
+    ensures sections { IfOk result (λ s. AreSections (sections_of s) (words_from from (plain_words_of words.now))) }
+    // Otherwise the words are refused by this rule at this line.
+    ensures refused { IfErr result (λ f. IsFault f (words_from from (plain_words_of words.now))) }
+{
+    let mut plain = plain_words(alloc, words)?;
+    plain.retain(|word| word.index >= from);
+    read(alloc, &plain)
+}

@@ -1,0 +1,249 @@
+ghost use Rattle.std.specs.Prelude.{IfSome, IfOk, IsTrue, List, [], length, map, Some, ◌≡◌, ◌≤◌, ◌<◌, Ok, codes};
+ghost use Rattle.ss_words.specs.Plain.{first, plain_of};
+ghost use Rattle.ss_words.specs.Reading.{Gives, words_of, lines_of, option_view, rest_of};
+ghost use Rattle.ss_words.specs.Marks as marks;
+ghost use Rattle.ss_routines.specs.ExprReading as exprs;
+ghost use Rattle.ss_routines.specs.SectionReading as reading;
+ghost use Rattle.ss_routines.specs.Onto as onto;
+ghost use Rattle.ss_routines.specs.View.{expr_view, reference_view, assign_view, output_view, spots};
+
+use crate::expr::Expr;
+use crate::expression::expression;
+use crate::place::{Assign, Control, Output, Place, Reference, Spot};
+use ss_words::{Cursor, Mark, Plain, PlainWord, Refusal, Reserved, Sign};
+
+#[tactic(auto, unfolding(ss_words::specs::Reading::bind, ss_words::specs::Reading::pure, crate::specs::SectionReading::a_reference))]
+fn reference(cursor: &mut Cursor<'_>) -> Result<Reference, Refusal>
+    ensures exact { Gives reference_view result (words_of cursor.new.rest.now) (reading.a_reference (words_of cursor.old.rest.now)) }
+    ensures shorter { length cursor.new.rest.now ≤ length cursor.old.rest.now }
+    ensures taken { IfOk result (λ _. length cursor.new.rest.now < length cursor.old.rest.now) }
+{
+    let name = cursor.name()?;
+    Ok(Reference { name })
+}
+
+/// What stands behind LET, or a statement without it.
+#[tactic(auto, unfolding(ss_words::specs::Reading::bind, ss_words::specs::Reading::pure, crate::specs::SectionReading::let_with))]
+fn let_value(cursor: &mut Cursor<'_>, written: bool, room: u32) -> Result<Assign, Refusal>
+    ensures exact { Gives assign_view result (words_of cursor.new.rest.now) (reading.let_with (exprs.expr_at room) written (words_of cursor.old.rest.now)) }
+    ensures shorter { length cursor.new.rest.now ≤ length cursor.old.rest.now }
+    ensures taken { IfOk result (λ _. length cursor.new.rest.now < length cursor.old.rest.now) }
+{
+    let target = reference(cursor)?;
+    cursor.expect(Mark::Sign(Sign::Equal))?;
+    let value = expression(cursor, room)?;
+    Ok(Assign::Let {
+        written,
+        target,
+        value,
+    })
+}
+
+/// What stands behind ADD.
+#[tactic(auto, unfolding(ss_words::specs::Reading::bind, ss_words::specs::Reading::pure, crate::specs::SectionReading::add_with))]
+fn add(cursor: &mut Cursor<'_>, room: u32) -> Result<Assign, Refusal>
+    ensures exact { Gives assign_view result (words_of cursor.new.rest.now) (reading.add_with (exprs.expr_at room) (words_of cursor.old.rest.now)) }
+    ensures shorter { length cursor.new.rest.now ≤ length cursor.old.rest.now }
+{
+    let value = expression(cursor, room)?;
+    cursor.expect(Mark::Reserved(Reserved::To))?;
+    let target = reference(cursor)?;
+    Ok(Assign::Add { value, target })
+}
+
+/// What stands behind SUBTRACT.
+#[tactic(auto, unfolding(ss_words::specs::Reading::bind, ss_words::specs::Reading::pure, crate::specs::SectionReading::subtract_with))]
+fn subtract(cursor: &mut Cursor<'_>, room: u32) -> Result<Assign, Refusal>
+    ensures exact { Gives assign_view result (words_of cursor.new.rest.now) (reading.subtract_with (exprs.expr_at room) (words_of cursor.old.rest.now)) }
+    ensures shorter { length cursor.new.rest.now ≤ length cursor.old.rest.now }
+{
+    let value = expression(cursor, room)?;
+    cursor.expect(Mark::Reserved(Reserved::From))?;
+    let target = reference(cursor)?;
+    Ok(Assign::Subtract { value, target })
+}
+
+/// A statement that assigns.
+#[tactic(auto, unfolding(ss_words::specs::Reading::look, ss_words::specs::Reading::skip, crate::specs::SectionReading::an_assign))]
+fn assignment(cursor: &mut Cursor<'_>, room: u32) -> Result<Assign, Refusal>
+    ensures exact { Gives assign_view result (words_of cursor.new.rest.now) (reading.an_assign (exprs.expr_at room) (words_of cursor.old.rest.now)) }
+    ensures shorter { length cursor.new.rest.now ≤ length cursor.old.rest.now }
+    ensures taken { IfOk result (λ _. length cursor.new.rest.now < length cursor.old.rest.now) }
+{
+    match cursor.rest {
+        [
+            PlainWord {
+                kind: Plain::Mark(Mark::Reserved(Reserved::Let)),
+                ..
+            },
+            rest @ ..,
+        ] => {
+            cursor.rest = rest;
+            let_value(cursor, true, room)
+        }
+        [
+            PlainWord {
+                kind: Plain::Mark(Mark::Reserved(Reserved::Add)),
+                ..
+            },
+            rest @ ..,
+        ] => {
+            cursor.rest = rest;
+            add(cursor, room)
+        }
+        [
+            PlainWord {
+                kind: Plain::Mark(Mark::Reserved(Reserved::Subtract)),
+                ..
+            },
+            rest @ ..,
+        ] => {
+            cursor.rest = rest;
+            subtract(cursor, room)
+        }
+        _ => let_value(cursor, false, room),
+    }
+}
+
+#[tactic(auto, unfolding(ss_words::specs::Reading::bind, ss_words::specs::Reading::pure, crate::specs::SectionReading::next_value))]
+fn next_value(cursor: &mut Cursor<'_>, room: u32) -> Result<Option<Expr>, Refusal>
+    ensures exact { Gives (option_view expr_view) result (words_of cursor.new.rest.now) (reading.next_value (exprs.expr_at room) (words_of cursor.old.rest.now)) }
+    ensures shorter { length cursor.new.rest.now ≤ length cursor.old.rest.now }
+    ensures taken { IfOk result (λ o. IfSome o (λ _. length cursor.new.rest.now < length cursor.old.rest.now)) }
+{
+    if !cursor.eat(Mark::Sign(Sign::Comma)) {
+        return Ok(None);
+    }
+    Ok(Some(expression(cursor, room)?))
+}
+
+/// The values behind a first one, each behind its comma.
+fn further(cursor: &mut Cursor<'_>, first: Expr, room: u32) -> Result<Vec<Expr>, Refusal>
+    ensures exact { Gives (λ v. map expr_view v.items) result (words_of cursor.new.rest.now) (reading.behind_first (exprs.expr_at room) (expr_view first) (words_of cursor.old.rest.now)) }
+    ensures shorter { length cursor.new.rest.now ≤ length cursor.old.rest.now }
+{
+    let mut values = Vec::new(cursor.alloc);
+    values.push(first)?;
+    while let Some(value) = next_value(cursor, room)? {
+        values.push(value)?;
+    }
+    Ok(values)
+}
+
+#[tactic(auto, unfolding(ss_words::specs::Reading::bind, ss_words::specs::Reading::pure, crate::specs::SectionReading::values_with))]
+fn values(cursor: &mut Cursor<'_>, room: u32) -> Result<Vec<Expr>, Refusal>
+    ensures exact { Gives (λ v. map expr_view v.items) result (words_of cursor.new.rest.now) (reading.values_with (exprs.expr_at room) (words_of cursor.old.rest.now)) }
+    ensures shorter { length cursor.new.rest.now ≤ length cursor.old.rest.now }
+{
+    if !cursor.eat(Mark::Reserved(Reserved::With)) {
+        return Ok(Vec::new(cursor.alloc));
+    }
+    let first = expression(cursor, room)?;
+    further(cursor, first, room)
+}
+
+/// What stands behind PRINT.
+#[tactic(auto, unfolding(ss_words::specs::Reading::bind, ss_words::specs::Reading::pure, crate::specs::SectionReading::print_with))]
+fn print(cursor: &mut Cursor<'_>, room: u32) -> Result<Output, Refusal>
+    ensures exact { Gives output_view result (words_of cursor.new.rest.now) (reading.print_with (exprs.expr_at room) (words_of cursor.old.rest.now)) }
+    ensures shorter { length cursor.new.rest.now ≤ length cursor.old.rest.now }
+{
+    let count = cursor.number()?;
+    cursor.expect(Mark::Reserved(Reserved::Lines))?;
+    let values = values(cursor, room)?;
+    cursor.expect(Mark::Reserved(Reserved::Thus))?;
+    let picture = cursor.picture()?;
+    Ok(Output::Print {
+        count,
+        values,
+        picture,
+    })
+}
+
+/// Reads one statement and pushes its places.
+#[tactic(auto, using(crate::proofs::Pushed::pushed), unfolding(ss_words::specs::Reading::look, ss_words::specs::Reading::skip, ss_words::specs::Reading::bind, ss_words::specs::Reading::pure, ss_words::specs::Noting::here, crate::specs::Onto::one_onto))]
+fn one(cursor: &mut Cursor<'_>, text: &[PlainWord], room: u32, out: &mut Vec<Spot>) -> Result<(), Refusal>
+    ensures exact { Gives (λ u. spots out.new.items) result (words_of cursor.new.rest.now) (onto.one_onto (lines_of text.now) (exprs.expr_at room) (spots out.old.items) (words_of cursor.old.rest.now)) }
+    ensures shorter { length cursor.new.rest.now ≤ length cursor.old.rest.now }
+    ensures taken { IfOk result (λ _. length cursor.new.rest.now < length cursor.old.rest.now) }
+{
+    let line = cursor.line(text);
+    match cursor.rest {
+        [
+            PlainWord {
+                kind: Plain::Mark(Mark::Reserved(Reserved::Print)),
+                ..
+            },
+            rest @ ..,
+        ] => {
+            cursor.rest = rest;
+            let place = Place::Output(print(cursor, room)?);
+            out.push(Spot { line, place })?;
+        }
+        [
+            PlainWord {
+                kind: Plain::Mark(Mark::Reserved(Reserved::Stop)),
+                ..
+            },
+            rest @ ..,
+        ] => {
+            cursor.rest = rest;
+            let place = Place::Control(Control::Stop);
+            out.push(Spot { line, place })?;
+        }
+        _ => {
+            let place = Place::Assign(assignment(cursor, room)?);
+            out.push(Spot { line, place })?;
+        }
+    }
+    Ok(())
+}
+
+/// Whether a statement begins with the next word.
+fn begins(cursor: &Cursor<'_>) -> bool
+    ensures { result ≡ reading.begins (first (words_of cursor.now.rest.now)) }
+{
+    match cursor.rest {
+        [word, ..] => begins_with(&word.kind),
+        [] => false,
+    }
+}
+
+fn begins_with(kind: &Plain) -> bool
+    ensures { result ≡ reading.begins (Some (plain_of kind.now)) }
+{
+    matches!(
+        kind,
+        Plain::Name(_)
+            | Plain::Mark(Mark::Reserved(
+                Reserved::Let
+                    | Reserved::Add
+                    | Reserved::Subtract
+                    | Reserved::Print
+                    | Reserved::Stop
+            ))
+    )
+}
+
+/// Reads a statement, if one begins here, and pushes its places.
+#[tactic(auto, unfolding(ss_words::specs::Reading::look, ss_words::specs::Reading::bind, ss_words::specs::Reading::pure, crate::specs::Onto::next_onto))]
+fn next(cursor: &mut Cursor<'_>, text: &[PlainWord], room: u32, out: &mut Vec<Spot>) -> Result<bool, Refusal>
+    ensures exact { Gives (λ b. (b, spots out.new.items)) result (words_of cursor.new.rest.now) (onto.next_onto (lines_of text.now) (exprs.expr_at room) (spots out.old.items) (words_of cursor.old.rest.now)) }
+    ensures shorter { length cursor.new.rest.now ≤ length cursor.old.rest.now }
+    ensures taken { IfOk result (λ b. IsTrue b → length cursor.new.rest.now < length cursor.old.rest.now) }
+{
+    if !begins(cursor) {
+        return Ok(false);
+    }
+    one(cursor, text, room, out)?;
+    Ok(true)
+}
+
+/// Reads statements, as long as one begins, and pushes their places.
+pub fn block(cursor: &mut Cursor<'_>, text: &[PlainWord], room: u32, out: &mut Vec<Spot>) -> Result<(), Refusal>
+    ensures exact { Gives (λ u. spots out.new.items) result (words_of cursor.new.rest.now) (onto.block_onto (lines_of text.now) (exprs.expr_at room) (spots out.old.items) (words_of cursor.old.rest.now)) }
+    ensures shorter { length cursor.new.rest.now ≤ length cursor.old.rest.now }
+{
+    while next(cursor, text, room, out)? {}
+    Ok(())
+}

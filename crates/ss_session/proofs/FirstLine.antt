@@ -1,0 +1,48 @@
+use Rattle.std.proofs.Common.{◌≡◌, ℕ, ◌+◌, ◌<◌, ◌≤◌, Bool, true, false, suc, List, [], ◌∷◌, ◌++◌, length, take, drop, refl, ap, arith, ◌∙◌, sym, cond, nat_lt}
+use Rattle.std.specs.List.{All, position_or_len, slice_split, before_first, after_first, onto_first}
+use Rattle.std.proofs.lemmas.List.Splits.{slice_split_first, slice_split_none}
+use Rattle.std.proofs.lemmas.List.Sums.{fails_before_first}
+use Rattle.std.proofs.lemmas.Grind.{common_steps}
+use borrow.Author.Tests.{ltb-true, ltb-false}
+use Rattle.ss_debug.specs.Words.{is_line_feed, is_written, lines_of, without_empty_last}
+
+pub lines_none : lines_of [] ≡ []
+unfolding lines_of
+lines_none = refl
+
+before_more_at : (x : List ℕ) (b : ℕ) (c : Bool) (parts : List (List ℕ)) →
+    without_empty_last (x ∷ cond c ([] ∷ parts) (onto_first b parts)) ≡ x ∷ without_empty_last (cond c ([] ∷ parts) (onto_first b parts))
+before_more_at x b true parts = refl
+before_more_at x b false [] = refl
+before_more_at x b false (part ∷ parts) = refl
+
+-- what stands before another piece is a line, whatever it is
+before_more : (x : List ℕ) (p : ℕ → Bool) (more : List ℕ) → without_empty_last (x ∷ slice_split p more) ≡ x ∷ without_empty_last (slice_split p more)
+before_more x p [] = refl
+before_more x p (b ∷ bs) = before_more_at x b (p b) (slice_split p bs)
+
+pub written_from_length : (xs : List ℕ) → 0 < length xs → is_written xs ≡ true
+written_from_length [] h = absurd (omega arith)
+written_from_length (x ∷ xs) h = refl
+
+pub none_of_length : (xs : List ℕ) → length xs ≡ 0 → xs ≡ []
+none_of_length [] h = refl
+none_of_length (x ∷ xs) h = absurd (omega arith)
+
+first_line_if : (b : Bool) (xs : List ℕ) → is_written xs ≡ true → nat_lt (position_or_len is_line_feed xs) (length xs) ≡ b →
+    lines_of xs ≡ before_first is_line_feed xs ∷ lines_of (after_first is_line_feed xs)
+unfolding lines_of
+first_line_if true xs w e =
+    let h : position_or_len is_line_feed xs < length xs = omega (arith, ltb-true _ _ e) in
+    rw (slice_split_first is_line_feed xs 0 h) (before_more (before_first is_line_feed xs) is_line_feed (after_first is_line_feed xs))
+first_line_if false xs w e =
+    let h : length xs ≤ position_or_len is_line_feed xs = omega (arith, ltb-false _ _ e) in
+    let a : All (λ x. is_line_feed x ≡ false) xs = λ k d g. fails_before_first is_line_feed xs k d (omega arith) in
+    let b : before_first is_line_feed xs ≡ xs = grind (arith, common_steps) in
+    let d : after_first is_line_feed xs ≡ [] = grind (arith, common_steps) in
+    rw (slice_split_none is_line_feed xs a, b, d, w) refl
+
+-- the first line, and those behind it
+pub lines_first : (rest line more : List ℕ) → is_written rest ≡ true → line ≡ before_first is_line_feed rest → more ≡ after_first is_line_feed rest →
+    lines_of rest ≡ line ∷ lines_of more
+lines_first rest line more w e f = rw (e, f) (first_line_if _ rest w refl)

@@ -1,0 +1,6 @@
+pub mod Pieces
+pub mod Parts
+pub mod FirstLine
+pub mod Sittings
+pub mod Ends
+pub mod EndedSections

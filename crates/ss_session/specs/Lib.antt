@@ -1,0 +1,6 @@
+pub mod Outlet
+pub mod Exit
+pub mod Model
+pub mod SoFar
+pub mod Transcript
+pub mod Loads

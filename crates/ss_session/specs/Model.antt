@@ -1,0 +1,31 @@
+-- What a model is: refused by a rule at a line, or a program.
+use Rattle.std.specs.Prelude.{◌≡◌, ◌⊎◌, ℕ, List, Option, Some, None, Result, Ok, Err}
+use Rattle.ss_words.specs.declared.fault.TextRule.{TextRule}
+use Rattle.ss_words.specs.declared.fault.TextFault.TheVariants.{Refused}
+use Rattle.ss_words.specs.Words.{WordAt}
+use Rattle.ss_words.specs.TextWords.{words_of}
+use Rattle.ss_words.specs.PlainRules.{plain_words_of}
+use Rattle.ss_routines.specs.Places.{Section}
+use Rattle.ss_routines.specs.Refused.{AreSections, IsRefused, words_from}
+use Rattle.ss_check.specs.declared.fault.CheckRule.{CheckRule}
+use Rattle.ss_check.specs.Breach.{breach}
+use Rattle.ss_check.specs.Resolved.{resolved}
+use Rattle.ss_check.specs.Program.{ProgramTable}
+
+-- refused by a rule L or P, refused by a rule C, or a program
+pub data Outcome : Type 0 where
+  refused_text : TextRule → ℕ → Outcome
+  refused_check : CheckRule → ℕ → Outcome
+  accepted : ProgramTable → Outcome
+
+-- the words of a model spell a program with these sections
+abbrev pub Spells : List ℕ → List Section → Type 0
+Spells model ss = (ws : List WordAt) × (words_of model ≡ Ok ws) × AreSections ss (words_from 0 (plain_words_of ws))
+
+-- the refusal of the words if there is one, else that of the plain words, else the first breach of the program that they spell, else
+-- that program with each name replaced by its place
+abbrev pub IsOutcome : List ℕ → Outcome → Type 0
+IsOutcome model (refused_text rule line) =
+    (words_of model ≡ Err (Refused rule line)) ⊎ ((ws : List WordAt) × (words_of model ≡ Ok ws) × IsRefused rule line (words_from 0 (plain_words_of ws)))
+IsOutcome model (refused_check rule line) = (ss : List Section) × Spells model ss × (breach ss ≡ Some (rule, line))
+IsOutcome model (accepted program) = (ss : List Section) × Spells model ss × (breach ss ≡ None) × (program ≡ resolved ss)

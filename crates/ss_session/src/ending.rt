@@ -1,0 +1,52 @@
+ghost use Rattle.std.specs.Prelude.{◌≡◌};
+ghost use Rattle.ss_session.specs.Exit.{status_of};
+
+use thiserror::Error;
+
+/// Why the turns of a session were cut short.
+#[derive(Clone, Copy, Debug, PartialEq, Eq)]
+pub(crate) enum Cut {
+    Memory,
+    Write,
+}
+
+/// How a session over an accepted model ends.
+#[derive(Clone, Copy, Debug, PartialEq, Eq)]
+pub enum End {
+    /// The last state is not faulted.
+    Done,
+    /// The last state is faulted.
+    RunFault,
+}
+
+/// Why a session does not end so.
+#[derive(Clone, Copy, Debug, Drop, PartialEq, Eq, Error)]
+pub enum SessionFault {
+    /// The model's text is refused, by a rule L or P.
+    #[error("the model's text is refused")]
+    Text,
+    /// The spelled model is refused, by a rule C.
+    #[error("the model breaks a rule")]
+    Check,
+    /// The outlet failed.
+    #[error("cannot write")]
+    Write,
+    /// Memory was refused.
+    #[error("out of memory")]
+    Memory,
+}
+
+/// The program's exit status for the end of a session: 0 done, 2 where the outlet failed, 3 for a refused model, 4 where the last state
+/// is faulted, 5 where memory was refused.
+pub fn exit_status(outcome: &Result<End, SessionFault>) -> u8
+    ensures { result ≡ status_of outcome.now }
+{
+    match outcome {
+        Ok(End::Done) => 0,
+        Ok(End::RunFault) => 4,
+        Err(SessionFault::Text) => 3,
+        Err(SessionFault::Check) => 3,
+        Err(SessionFault::Write) => 2,
+        Err(SessionFault::Memory) => 5,
+    }
+}

@@ -1,0 +1,17 @@
+//! A whole session: model, data and commands in, the transcript out.
+#![tactic(auto)]
+
+mod ending;
+mod lines;
+mod load;
+mod outlet;
+mod refusal;
+mod talk;
+#[cfg(test)]
+mod tests;
+mod turns;
+mod whole;
+
+pub use ending::{End, SessionFault, exit_status};
+pub use outlet::{MemoryOutlet, Outlet, PutFault};
+pub use whole::session;

@@ -1,0 +1,179 @@
+//! Whole sessions over memory: the worked examples of the language and the debugger, each with the bytes that it must give.
+use crate::{End, MemoryOutlet, Outlet, PutFault, SessionFault, exit_status, session};
+use std::process::Abort;
+use std::test::Fail;
+
+/// Runs a session over memory, compares what it writes, and gives its end.
+fn told<R: Abort + AllocGlobal>(
+    rt: &R,
+    model: &str,
+    commands: &str,
+    wanted: &str,
+) -> Result<End, SessionFault> {
+    let mut out = MemoryOutlet::new(rt.alloc());
+    let end = session(
+        rt.alloc(),
+        model.as_bytes(),
+        b"",
+        commands.as_bytes(),
+        &mut out,
+    );
+    assert_eq!(rt; out.bytes(), wanted.as_bytes());
+    end
+}
+
+const FIVE: &str = "MAIN\nLET X = 5\nPRINT 1 LINE WITH X THUS\nX = ***\nSTOP\nEND\n";
+
+#[test]
+fn an_empty_program_stops(rt: HostRuntime) {
+    let end = told(&rt, "MAIN\nSTOP\nEND\n", "", "REPORT\n");
+    assert_eq!(rt; end, Ok(End::Done));
+    assert_eq!(rt; exit_status(&end), 0);
+}
+
+#[test]
+fn five_is_printed_again_after_a_step_back(rt: HostRuntime) {
+    let commands = "STEP 2\nBACK\nSHOW REPORT\nSTEP\nSHOW REPORT\n";
+    let wanted =
+        "DONE: STATE 2 CLOCK 0 READY IN MAIN LINE 5\nDONE: STATE 1 CLOCK 0 READY IN MAIN LINE 3\nREPORT\nDONE: STATE 2 CLOCK 0 READY IN MAIN LINE 5\nREPORT\nX =   5\nREPORT\nX =   5\n";
+    assert_eq!(rt; told(&rt, FIVE, commands, wanted), Ok(End::Done));
+}
+
+#[test]
+fn back_goes_no_further_than_the_start(rt: HostRuntime) {
+    let commands = "BACK\nSTEP 3\nBACK 10\nSHOW VAR X\n";
+    let wanted =
+        "START: STATE 0 CLOCK 0 READY IN MAIN LINE 2\nHALTED: STATE 3 CLOCK 0 STOPPED IN MAIN LINE 5\nSTART: STATE 0 CLOCK 0 READY IN MAIN LINE 2\nX = 0\nREPORT\n";
+    assert_eq!(rt; told(&rt, FIVE, commands, wanted), Ok(End::Done));
+}
+
+#[test]
+fn an_overflow_stands_at_its_statement(rt: HostRuntime) {
+    let model = "MAIN\nLET X = 9223372036854775807\nADD 1 TO X\nEND\n";
+    let wanted =
+        "HALTED: STATE 2 CLOCK 0 FAULT F1 IN MAIN LINE 3\nX = 9223372036854775807\nDONE: STATE 0 CLOCK 0 READY IN MAIN LINE 2\nX = 0\nREPORT\n";
+    let end = told(
+        &rt,
+        model,
+        "STEP 5\nSHOW VAR X\nBACK 2\nSHOW VAR X\n",
+        wanted,
+    );
+    assert_eq!(rt; end, Ok(End::Done));
+    let end = told(
+        &rt,
+        model,
+        "RUN",
+        "HALTED: STATE 2 CLOCK 0 FAULT F1 IN MAIN LINE 3\nREPORT\n",
+    );
+    assert_eq!(rt; end, Ok(End::RunFault));
+    assert_eq!(rt; exit_status(&end), 4);
+}
+
+#[test]
+fn refused_models_give_one_line(rt: HostRuntime) {
+    let end = told(
+        &rt,
+        "MAIN\nPRINT 1 LINE WITH X, Y THUS\n*.**\nEND\n",
+        "RUN",
+        "MODEL REFUSED C10 LINE 2\n",
+    );
+    assert_eq!(rt; end, Err(SessionFault::Check));
+    let end = told(&rt, "MAIN\nEND\nLOOP\n", "RUN", "MODEL REFUSED P1 LINE 3\n");
+    assert_eq!(rt; end, Err(SessionFault::Text));
+    let end = told(
+        &rt,
+        "MAIN\nLET X = 9223372036854775808\nEND\n",
+        "",
+        "MODEL REFUSED L2 LINE 2\n",
+    );
+    assert_eq!(rt; end, Err(SessionFault::Text));
+    let end = told(&rt, "MAIN\nLET X =", "", "MODEL REFUSED P2 LINE 2\n");
+    assert_eq!(rt; exit_status(&end), 3);
+    let end = told(&rt, "", "", "MODEL REFUSED C11 LINE 1\n");
+    assert_eq!(rt; end, Err(SessionFault::Check));
+}
+
+#[test]
+fn a_bad_command_and_one_without_a_line_end(rt: HostRuntime) {
+    let wanted = "BAD COMMAND\nHALTED: STATE 1 CLOCK 0 STOPPED IN MAIN LINE 2\nREPORT\n";
+    assert_eq!(rt;
+        told(&rt, "MAIN\nSTOP\nEND\n", "FOO\nstep", wanted),
+        Ok(End::Done)
+    );
+}
+
+#[test]
+fn lines_behind_quit_are_not_obeyed(rt: HostRuntime) {
+    let wanted = "DONE: STATE 1 CLOCK 0 READY IN MAIN LINE 3\nTIME.V = 0\nNO VARIABLE Y\nREPORT\n";
+    assert_eq!(rt;
+        told(
+            &rt,
+            FIVE,
+            "\n \tstep\r\nSHOW VAR time.v\nshow var y.\nQUIT\nSTEP\n",
+            wanted
+        ),
+        Ok(End::Done)
+    );
+}
+
+/// Takes at most `piece` bytes a call, and after `room` bytes either fails or takes none.
+#[derive(Drop)]
+struct Narrow {
+    bytes: Vec<u8>,
+    piece: usize,
+    room: usize,
+    fails: bool,
+    failures: u64,
+}
+
+impl Outlet for Narrow {
+    ghost use Rattle.std.specs.Prelude.{None};
+
+    ghost taken = { λ s. None };
+
+    ghost failures = { λ s. s.failures };
+
+    fn put(&mut self, piece: &[u8]) -> Result<usize, PutFault> {
+        let count = piece.len().min(self.piece).min(self.room);
+        if count == 0 || self.bytes.extend_from_slice(&piece[..count]).is_err() {
+            self.failures += 1;
+            return if self.fails { Err(PutFault) } else { Ok(0) };
+        }
+        self.room -= count;
+        Ok(count)
+    }
+}
+
+/// Runs the model of five over an outlet that takes `room` bytes, and compares what it took.
+fn cut<R: Abort + AllocGlobal>(rt: &R, room: usize, fails: bool, whole: &str) {
+    let mut out = Narrow {
+        bytes: Vec::new(rt.alloc()),
+        piece: 1,
+        room,
+        fails,
+        failures: 0,
+    };
+    let end = session(
+        rt.alloc(),
+        FIVE.as_bytes(),
+        b"",
+        b"STEP 2\nSHOW VAR X",
+        &mut out,
+    );
+    let count = room.min(whole.len());
+    assert_eq!(rt; out.bytes.as_slice(), &whole.as_bytes()[..count]);
+    if room < whole.len() {
+        assert_eq!(rt; end, Err(SessionFault::Write));
+    } else {
+        assert_eq!(rt; end, Ok(End::Done));
+    }
+}
+
+#[test]
+fn a_write_that_fails_leaves_a_prefix(rt: HostRuntime) {
+    let whole = "DONE: STATE 2 CLOCK 0 READY IN MAIN LINE 5\nX = 5\nREPORT\nX =   5\n";
+    for room in 0..whole.len() + 1 {
+        cut(&rt, room, true, whole);
+        cut(&rt, room, false, whole);
+    }
+}

@@ -1,0 +1,185 @@
+-- The plain words of a list of words: five rules, each over the whole list that the one before it gives.
+use Rattle.std.specs.Prelude.{ℕ, Bool, true, false, List, [], ◌∷◌, ◌++◌, map, Option, Some, None, if◌then◌else◌, find, option_and_then, option_map, option_to_list}
+use Rattle.std.specs.List.{enumerate_from}
+use Rattle.ss_words.specs.declared.mark.Mark.{Mark}
+use Rattle.ss_words.specs.declared.mark.Mark.TheVariants.{Reserved, Sign}
+use Rattle.ss_words.specs.declared.reserved.Reserved.TheVariants as r
+use Rattle.ss_words.specs.declared.word.Sign.TheVariants as s
+use Rattle.ss_words.specs.declared.plain_rules.Around.{Around}
+use Rattle.ss_words.specs.declared.plain_rules.Rule.{Rule}
+use Rattle.ss_words.specs.declared.plain_rules.Rule.TheVariants as rule
+use Rattle.ss_words.specs.Words as w
+use Rattle.ss_words.specs.Words.{Kind, WordAt}
+use Rattle.ss_words.specs.Plain.{Plain, PlainAt, plains, first, name, number, mark, picture}
+use Rattle.ss_words.specs.Spellings.{mark_of}
+
+-- ---- what stands round a word
+
+-- the reserved word or sign that a word is
+abbrev pub mark_in : Plain → Option Mark
+mark_in (mark m) = Some m
+mark_in _ = None
+
+-- the reserved word or sign that a list begins with
+abbrev pub beside : List Plain → Option Mark
+beside ws = option_and_then mark_in (first ws)
+
+-- the words that govern the AND and AT behind them
+abbrev pub is_governing : Option Mark → Bool
+is_governing (Some (Reserved r.Preamble)) = true
+is_governing (Some (Reserved r.Main)) = true
+is_governing (Some (Reserved r.Routine)) = true
+is_governing (Some (Reserved r.Event)) = true
+is_governing (Some (Reserved r.Define)) = true
+is_governing (Some (Reserved r.Let)) = true
+is_governing (Some (Reserved r.Add)) = true
+is_governing (Some (Reserved r.Subtract)) = true
+is_governing (Some (Reserved r.Create)) = true
+is_governing (Some (Reserved r.Destroy)) = true
+is_governing (Some (Reserved r.File)) = true
+is_governing (Some (Reserved r.Remove)) = true
+is_governing (Some (Reserved r.If)) = true
+is_governing (Some (Reserved r.For)) = true
+is_governing (Some (Reserved r.Find)) = true
+is_governing (Some (Reserved r.Compute)) = true
+is_governing (Some (Reserved r.Schedule)) = true
+is_governing (Some (Reserved r.Cancel)) = true
+is_governing (Some (Reserved r.Start)) = true
+is_governing (Some (Reserved r.Stop)) = true
+is_governing (Some (Reserved r.Call)) = true
+is_governing (Some (Reserved r.Return)) = true
+is_governing (Some (Reserved r.Read)) = true
+is_governing (Some (Reserved r.Print)) = true
+is_governing (Some (Reserved r.Skip)) = true
+is_governing _ = false
+
+-- the word that governs what stands behind these words, the nearest of them first
+abbrev pub governing : List Plain → Option Mark
+governing ws = option_and_then mark_in (find (λ w. is_governing (mark_in w)) ws)
+
+-- what a word has directly before it, as its governing word and directly behind it; the words before it go backwards
+abbrev pub around : List Plain → List Plain → Around
+around before after = record { before = beside before; governing = governing before; after = beside after }
+
+-- ---- the rules
+
+-- whether it is AS
+abbrev pub is_as : Option Mark → Bool
+is_as (Some (Reserved r.As)) = true
+is_as _ = false
+
+-- whether it is FOLLOWS
+abbrev pub is_follows : Option Mark → Bool
+is_follows (Some (Reserved r.Follows)) = true
+is_follows _ = false
+
+-- whether it is SCHEDULE
+abbrev pub is_schedule : Option Mark → Bool
+is_schedule (Some (Reserved r.Schedule)) = true
+is_schedule _ = false
+
+-- whether it is ROUTINE
+abbrev pub is_routine : Option Mark → Bool
+is_routine (Some (Reserved r.Routine)) = true
+is_routine _ = false
+
+-- whether it is IF or FOR
+abbrev pub is_if_or_for : Option Mark → Bool
+is_if_or_for (Some (Reserved r.If)) = true
+is_if_or_for (Some (Reserved r.For)) = true
+is_if_or_for _ = false
+
+-- whether it is a comma
+abbrev pub is_comma : Option Mark → Bool
+is_comma (Some (Sign s.Comma)) = true
+is_comma _ = false
+
+-- whether it is a reserved word
+abbrev pub is_reserved : Option Mark → Bool
+is_reserved (Some (Reserved w)) = true
+is_reserved _ = false
+
+-- AS FOLLOWS is THUS, in the place of AS
+abbrev pub as_follows : Around → Mark → Option Mark
+as_follows a (Reserved r.As) = Some (Reserved (if is_follows a.after then r.Thus else r.As))
+as_follows a (Reserved r.Follows) = if is_as a.before then None else Some (Reserved r.Follows)
+as_follows a m = Some m
+
+-- directly behind SCHEDULE, A and AN are A, THE and THIS are THE; these four elsewhere, MAY, OUTPUT, and TO or FOR directly behind ROUTINE are dropped
+abbrev pub without_fillers : Around → Mark → Option Mark
+without_fillers a (Reserved r.A) = if is_schedule a.before then Some (Reserved r.A) else None
+without_fillers a (Reserved r.An) = if is_schedule a.before then Some (Reserved r.A) else None
+without_fillers a (Reserved r.The) = if is_schedule a.before then Some (Reserved r.The) else None
+without_fillers a (Reserved r.This) = if is_schedule a.before then Some (Reserved r.The) else None
+without_fillers a (Reserved r.May) = None
+without_fillers a (Reserved r.Output) = None
+without_fillers a (Reserved r.To) = if is_routine a.before then None else Some (Reserved r.To)
+without_fillers a (Reserved r.For) = if is_routine a.before then None else Some (Reserved r.For)
+without_fillers a m = Some m
+
+-- AND is a comma unless IF or FOR governs it; AT is IN unless SCHEDULE governs it
+abbrev pub governed : Around → Mark → Option Mark
+governed a (Reserved r.And) = Some (if is_if_or_for a.governing then Reserved r.And else Sign s.Comma)
+governed a (Reserved r.At) = Some (Reserved (if is_schedule a.governing then r.At else r.In))
+governed a m = Some m
+
+-- of commas that stand together the first one stays
+abbrev pub single_commas : Around → Mark → Option Mark
+single_commas a (Sign s.Comma) = if is_comma a.before then None else Some (Sign s.Comma)
+single_commas a m = Some m
+
+-- a comma directly before a reserved word is dropped
+abbrev pub parting_commas : Around → Mark → Option Mark
+parting_commas a (Sign s.Comma) = if is_reserved a.after then None else Some (Sign s.Comma)
+parting_commas a m = Some m
+
+-- what a reserved word or sign becomes by a rule, and none where it is dropped
+abbrev pub ruled : Rule → Around → Mark → Option Mark
+ruled rule.AsFollows = as_follows
+ruled rule.WithoutFillers = without_fillers
+ruled rule.Governed = governed
+ruled rule.SingleCommas = single_commas
+ruled rule.PartingCommas = parting_commas
+
+-- ---- a rule over a whole list
+
+-- a word under a rule, or nothing: names, numbers and pictures stay, and what stays keeps its line and place
+abbrev pub ruled_word : Rule → Around → PlainAt → List PlainAt
+ruled_word q a w =
+    elim w.word [ mark m ↦ option_to_list (option_map (λ n. record w { word = mark n }) (ruled q a m)) | _ ↦ w ∷ [] ]
+
+-- a rule over the words of a list that stand behind these, which go backwards
+abbrev pub follow_behind : Rule → List PlainAt → List PlainAt → List PlainAt
+follow_behind q before [] = []
+follow_behind q before (w ∷ after) = ruled_word q (around (plains before) (plains after)) w ++ follow_behind q (w ∷ before) after
+
+-- a rule over a whole list
+abbrev pub follow : Rule → List PlainAt → List PlainAt
+follow q ws = follow_behind q [] ws
+
+-- ---- the plain words
+
+-- a name that is reserved is the mark that its spelling means
+abbrev pub named : List ℕ → Option Mark → Plain
+named n None = name n
+named n (Some m) = mark m
+
+-- a word of the text as a plain word, before the rules
+abbrev pub plain_kind : Kind → Plain
+plain_kind (w.name n) = named n (mark_of n)
+plain_kind (w.number n) = number n
+plain_kind (w.sign s) = mark (Sign s)
+plain_kind (w.picture ls) = picture ls
+
+-- the same with its line, and with its place in the list of words
+abbrev pub plain_from : ℕ → WordAt → PlainAt
+plain_from i w = record { line = w.line; index = i; word = plain_kind w.kind }
+
+-- each word of the text as a plain word
+abbrev pub spelled : List WordAt → List PlainAt
+spelled ws = map (λ e. plain_from e.0 e.1) (enumerate_from 0 ws)
+
+-- the plain words of the words of a text: spelled, and then each rule over the list that the one before it gives
+abbrev pub plain_words_of : List WordAt → List PlainAt
+plain_words_of ws =
+    follow rule.PartingCommas (follow rule.SingleCommas (follow rule.Governed (follow rule.WithoutFillers (follow rule.AsFollows (spelled ws)))))

@@ -1,0 +1,60 @@
+-- What the bytes of a text are.
+use Rattle.std.specs.Prelude.{ℕ, Bool, ◌&&◌, ◌||◌, not, ◌==◌, nat_le, Option, Some, None, if◌then◌else◌, is_some}
+use Rattle.std.specs.Char.{is_ascii_alphabetic, is_ascii_digit}
+use Rattle.ss_words.specs.declared.word.Sign.{Sign}
+use Rattle.ss_words.specs.declared.word.Sign.TheVariants.{Plus, Minus, Star, Open, Close, Comma, Equal, Less, Greater, LessEqual, GreaterEqual}
+
+-- a byte that may stand in a line: a tab, or a blank to `~`
+unfoldable pub is_allowed : ℕ → Bool
+is_allowed b = b == 9 || (nat_le 32 b && nat_le b 126)
+
+-- a blank or a tab
+unfoldable pub is_blank : ℕ → Bool
+is_blank b = b == 32 || b == 9
+
+-- a byte of a run: a letter, a digit or a stop
+unfoldable pub in_run : ℕ → Bool
+in_run b = is_ascii_alphabetic b || is_ascii_digit b || b == 46
+
+-- the sign that one byte is
+unfoldable pub one_byte_sign : ℕ → Option Sign
+one_byte_sign b =
+    if b == 43 then Some Plus
+    else (if b == 45 then Some Minus
+    else (if b == 42 then Some Star
+    else (if b == 40 then Some Open
+    else (if b == 41 then Some Close
+    else (if b == 44 then Some Comma
+    else (if b == 61 then Some Equal
+    else (if b == 60 then Some Less
+    else (if b == 62 then Some Greater
+    else None))))))))
+
+-- the sign that begins at a byte before the byte `next`: `<` and `>` take an `=` directly behind them
+unfoldable pub sign_from : ℕ → ℕ → Option Sign
+sign_from b next =
+    if b == 60 && next == 61 then Some LessEqual
+    else (if b == 62 && next == 61 then Some GreaterEqual
+    else one_byte_sign b)
+
+-- how many bytes a sign has
+abbrev pub sign_len : Sign → ℕ
+sign_len LessEqual = 2
+sign_len GreaterEqual = 2
+sign_len Plus = 1
+sign_len Minus = 1
+sign_len Star = 1
+sign_len Open = 1
+sign_len Close = 1
+sign_len Comma = 1
+sign_len Equal = 1
+sign_len Less = 1
+sign_len Greater = 1
+
+-- a byte goes on with what the byte `last` before it belongs to: a run, or a sign of two bytes
+unfoldable pub is_joined : ℕ → ℕ → Bool
+is_joined last b = (in_run last && in_run b) || ((last == 60 || last == 62) && b == 61)
+
+-- a byte of a line that may not stand in it, or that is outside comments, where it is `plain`, no blank, run or sign
+unfoldable pub is_stray : ℕ → ℕ → Bool
+is_stray b plain = not (is_allowed b && (in_run plain || is_blank plain || is_some (one_byte_sign plain)))

@@ -1,0 +1,56 @@
+//! How fast a machine steps: a long model without a loop is run forward, all the way back, and forward again.
+//!
+//! `step_speed [PLACES]` runs a MAIN of so many places, 1,000 where no number is given, every hundredth a PRINT and the others ADD,
+//! and writes what each way took; without a number it writes no times.
+#![tactic(auto)]
+
+mod draft;
+
+use anyhow::{Context, Result};
+use draft::model;
+use ss_machine::{Machine, Stepped};
+use std::env;
+use std::time::Instant;
+
+fn forward(machine: &mut Machine, most: usize) -> Result<usize> {
+    for moved in 0..most {
+        match machine.step()? {
+            Stepped::Moved => {}
+            Stepped::AtEnd => return Ok(moved),
+        }
+    }
+    Ok(most)
+}
+
+fn back(machine: &mut Machine, most: usize) -> usize {
+    for moved in 0..most {
+        if !machine.back() {
+            return moved;
+        }
+    }
+    most
+}
+
+fn main(rt: HostRuntime) -> Result<()> {
+    let number = env::args(&rt)?.nth(1);
+    let places = match &number {
+        Some(text) => text.parse::<usize>()?,
+        None => 1_000,
+    };
+    let program = model(rt.alloc(), places).context("the model")?;
+    let mut machine = Machine::new(rt.alloc(), program)?;
+    for way in ["forward", "back", "forward again"] {
+        let start = Instant::now(&rt)?;
+        let moved = if way == "back" {
+            back(&mut machine, places)
+        } else {
+            forward(&mut machine, places)?
+        };
+        let took = start.elapsed(&rt)?;
+        println!(rt; "{moved} steps {way}, to position {} with a report of {} bytes", machine.position(), machine.report().len())?;
+        if number.is_some() {
+            println!(rt; "in {} microseconds", took.as_micros())?;
+        }
+    }
+    Ok(())
+}
