@@ -8,7 +8,8 @@ new-requires-4 g c = rw (c.new.ensures.items, c.in_ok-vec-2.ensures.items) (reco
   sections = (record {
     places = rw (c.in_ok-vec.ensures.items, c.in_ok-push.ensures.items) (sound_push 0 2 _ _ c.self.invariant.0 tt);
     ended = rw c.in_ok-push.ensures.items c.self.invariant.1;
-    few = search rules
+    few = first_of (search rules, omega arith)
   }, tt);
-  few = omega arith
+  few = omega arith;
+  few_names = omega arith
 })
