@@ -1,5 +1,5 @@
 -- the one MAIN is there, and is what a search finds
-use Rattle.std.proofs.Common.{◌≡◌, ℕ, ◌+◌, ◌<◌, List, [], ◌∷◌, length, Bool, true, false, arith, refl, ap, sym, ◌∙◌, Option, Some, None, nat_lt}
+use Rattle.std.proofs.Common.{◌≡◌, ℕ, ◌<◌, List, [], ◌∷◌, length, Bool, true, false, arith, Some, None, nat_lt}
 use Rattle.std.specs.Prelude.{count_by, position, cond}
 use Rattle.std.specs.List.{position_or_len}
 use Rattle.std.proofs.lemmas.Grind.{common_steps}

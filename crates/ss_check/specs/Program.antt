@@ -5,7 +5,6 @@ use Rattle.ss_check.specs.declared.kinds.ClassKind.{ClassKind}
 use Rattle.ss_check.specs.declared.kinds.Discipline.{Discipline}
 use Rattle.ss_routines.specs.declared.section.SectionKind.{SectionKind}
 use Rattle.ss_routines.specs.declared.section.SectionKind.TheVariants.{Main}
-use Rattle.ss_check.specs.declared.place.Place.{Place}
 use Rattle.ss_check.specs.declared.place.Spot.{Spot}
 
 -- a class: its name, its kind, and the names of its attributes

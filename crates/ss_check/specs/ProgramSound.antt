@@ -1,5 +1,5 @@
 -- What is sound about every checked program.
-use Rattle.std.specs.Prelude.{◌≡◌, ◌≢◌, ℕ, ◌<◌, ◌+◌, ◌^◌, List, [], ◌∷◌, length, count_by, Bool, true, false}
+use Rattle.std.specs.Prelude.{◌≡◌, ℕ, ◌<◌, ◌^◌, List, [], ◌∷◌, length, count_by, Bool, true, false}
 use Rattle.ss_report.specs.Pictures.{field_count}
 use Rattle.ss_check.specs.declared.variable.Variable.{Variable}
 use Rattle.ss_check.specs.declared.variable.Variable.TheVariants.{Global, Local, Clock}
@@ -7,7 +7,6 @@ use Rattle.ss_check.specs.declared.place.Assign.{Assign as AnAssign}
 use Rattle.ss_check.specs.declared.place.Assign.TheVariants.{Let, Add, Subtract}
 use Rattle.ss_check.specs.declared.place.Output.{Output as AnOutput}
 use Rattle.ss_check.specs.declared.place.Output.TheVariants.{Print}
-use Rattle.ss_check.specs.declared.place.Control.{Control as AControl}
 use Rattle.ss_check.specs.declared.place.Control.TheVariants.{Stop, End}
 use Rattle.ss_check.specs.declared.place.Place.{Place}
 use Rattle.ss_check.specs.declared.place.Place.TheVariants.{Assign, Output, Control}
