@@ -1,5 +1,5 @@
 -- a list of sound places with one more
-use Rattle.std.proofs.Common.{◌≡◌, ℕ, List, [], ◌∷◌, ◌++◌, true, false}
+use Rattle.std.proofs.Common.{◌≡◌, ℕ, List, [], ◌∷◌, ◌++◌, false}
 use Rattle.ss_check.specs.declared.place.Spot.{Spot}
 use Rattle.ss_check.specs.ProgramSound.{IsSoundPlace, AreSoundPlaces, IsEnded, is_end}
 

@@ -1,5 +1,5 @@
 -- how many values there are
-use Rattle.std.proofs.Common.{◌≡◌, ℤ, List, [], ◌∷◌, length, suc, refl, ap, subst, Result, Ok, Err}
+use Rattle.std.proofs.Common.{◌≡◌, ℤ, List, [], ◌∷◌, length, suc, refl, ap, subst, Result, Ok}
 use Rattle.ss_words.specs.declared.fault.RunFault.{RunFault}
 use Rattle.ss_check.specs.ProgramExpr.{Expr}
 use Rattle.ss_machine.specs.Values.{Readings, value_of, values_of}

@@ -2,8 +2,7 @@
 use Rattle.std.proofs.Common.{◌≡◌, ℕ, zero, suc, ◌+◌, ◌<◌, List, [], ◌∷◌, length, Bool, true, false, Option, Some, None, arith, refl, ap, sym, subst, ◌∙◌}
 use Rattle.std.specs.Prelude.{slice_get, ◌^◌}
 use Rattle.ss_check.specs.declared.place.Spot.{Spot}
-use Rattle.ss_check.specs.declared.place.Place.{Place}
-use Rattle.ss_check.specs.Program.{SectionTable, ProgramTable, places_of, locals_of, spot_at, main_number}
+use Rattle.ss_check.specs.Program.{SectionTable, ProgramTable, places_of, locals_of, spot_at}
 use Rattle.ss_check.specs.ProgramSound.{IsSound, IsSoundSection, AreSoundSections, IsSoundPlace, AreSoundPlaces, IsEnded, is_end}
 
 -- what stands at a place of a list that is long enough

@@ -1,6 +1,6 @@
 -- every state of the run is well-formed
-use Rattle.std.proofs.Common.{◌≡◌, ℕ, ℤ, pos, zero, suc, ◌+◌, ◌<◌, ◌≤◌, List, [], ◌∷◌, ◌++◌, length, length-set, length-append, Bool, true, false, nat_le, Option, Some, None, Result, Ok, Err, arith, refl, ap, sym, subst, ◌∙◌}
-use Rattle.std.specs.Prelude.{slice_get, slice_set, replicate, ◌+ℤ◌, ◌-ℤ◌, if◌then◌else◌}
+use Rattle.std.proofs.Common.{◌≡◌, ℕ, ℤ, zero, suc, ◌+◌, ◌<◌, ◌≤◌, List, ◌++◌, length, length-set, length-append, Bool, true, false, nat_le, Option, Some, None, Result, Ok, Err, arith, refl, sym, subst, ◌∙◌}
+use Rattle.std.specs.Prelude.{slice_get, ◌+ℤ◌, ◌-ℤ◌, if◌then◌else◌}
 use Rattle.std.proofs.lemmas.List.{length-replicate}
 use borrow.Author.Tests.{leb-true}
 use Rattle.ss_words.specs.declared.fault.RunFault.{RunFault}
@@ -17,17 +17,17 @@ use Rattle.ss_check.specs.declared.place.Control.TheVariants.{Stop, End}
 use Rattle.ss_check.specs.declared.place.Place.{Place}
 use Rattle.ss_check.specs.declared.place.Place.TheVariants.{Assign, Output, Control}
 use Rattle.ss_check.specs.declared.place.Spot.{Spot}
-use Rattle.ss_check.specs.Program.{SectionTable, ProgramTable, main_number, places_of, locals_of, spot_at}
+use Rattle.ss_check.specs.Program.{SectionTable, ProgramTable, main_number, places_of, spot_at}
 use Rattle.ss_check.specs.ProgramSound.{IsSound, is_end}
 use Rattle.ss_check.proofs.Mains.{one_main}
 use Rattle.ss_machine.specs.declared.change.Change.{Change}
 use Rattle.ss_machine.specs.declared.status.Status.{Status}
 use Rattle.ss_machine.specs.declared.status.Status.TheVariants.{Ready, Stopped, Finished, Faulted}
 use Rattle.ss_machine.specs.State.{State}
-use Rattle.ss_machine.specs.Values.{readings, after, ranged, variable_value, value_of, values_of}
-use Rattle.ss_machine.specs.Step.{settled, gone_on, assigned, assigned_value, target_of, appended, printed, step, step_by, step_at}
+use Rattle.ss_machine.specs.Values.{readings, variable_value, value_of, values_of}
+use Rattle.ss_machine.specs.Step.{settled, gone_on, assigned, assigned_value, target_of, appended, step, step_by, step_at}
 use Rattle.ss_machine.specs.Run.{run, next_by}
-use Rattle.ss_machine.specs.Well.{IsWell, AreInRange}
+use Rattle.ss_machine.specs.Well.{IsWell}
 use Rattle.ss_machine.specs.Moment.{Stands}
 use Rattle.ss_machine.proofs.Sounds.{there, section_sound, spot_next, ended_some}
 use Rattle.ss_machine.proofs.Ranges.{Got, after_got, anything, IsIn, AreIn, set_in, zeros_in, ranged_in, value_in}

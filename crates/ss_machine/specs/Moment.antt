@@ -15,7 +15,6 @@ use Rattle.ss_machine.specs.State.{State}
 use Rattle.ss_machine.specs.Change.{unapply, Fits}
 use Rattle.ss_machine.specs.Step.{step}
 use Rattle.ss_machine.specs.Run.{run}
-use Rattle.ss_machine.specs.Well.{IsWell}
 
 -- a program, its state, and the changes of each step that led there, the newest step and the newest change first
 pub record Moment : Type 0 where

@@ -1,5 +1,5 @@
 -- A well-formed state.
-use Rattle.std.specs.Prelude.{◌≡◌, ℕ, ℤ, ◌<◌, ◌≤◌, List, [], ◌∷◌, length, slice_get, true}
+use Rattle.std.specs.Prelude.{◌≡◌, ℤ, ◌<◌, ◌≤◌, List, [], ◌∷◌, length, slice_get, true}
 use Rattle.ss_report.specs.Reports.{report_limit}
 use Rattle.ss_check.specs.Program.{ProgramTable, main_number, places_of, locals_of}
 use Rattle.ss_machine.specs.State.{State, FrameState}

@@ -15,6 +15,7 @@ use std::process::Abort;
 use std::test::Fail;
 
 const X: Variable = Variable::Local(0);
+
 const Y: Variable = Variable::Local(1);
 
 // The places before the END of a MAIN with the locals X and Y.
@@ -79,7 +80,13 @@ impl Draft {
         self.push(line, Place::Assign(Assign::Add { value, target }))
     }
 
-    fn print(&mut self, rt: &impl Abort, line: usize, text: &[u8], value: Expr) -> Result<(), PictureFault>
+    fn print(
+        &mut self,
+        rt: &impl Abort,
+        line: usize,
+        text: &[u8],
+        value: Expr,
+    ) -> Result<(), PictureFault>
         requires sound { IsSoundExpr 0 2 value }
     {
         let lines = vec![in self.alloc; Vec::from_slice(self.alloc, text)?]?;
@@ -335,7 +342,13 @@ fn a_product_within_a_sum_faults(rt: HostRuntime) -> Result<(), Fail> {
         shown(0, 0, 0, 0, Status::Ready),
         shown(1, 1, 3_037_000_500, 0, Status::Ready),
         shown(2, 2, 3_037_000_500, 6_074_001_007, Status::Ready),
-        shown(3, 2, 3_037_000_500, 6_074_001_007, Status::Faulted(RunFault::OutOfRange)),
+        shown(
+            3,
+            2,
+            3_037_000_500,
+            6_074_001_007,
+            Status::Faulted(RunFault::OutOfRange),
+        ),
     ];
     there_and_back(&rt, &mut machine, &run)
 }

@@ -3,8 +3,8 @@ ghost use Rattle.ss_check.specs.ProgramExpr.{factor_of};
 ghost use Rattle.ss_check.specs.ProgramSound.{IsSoundPlace, IsSoundExpr, IsSoundFactor, IsTarget, is_end};
 
 use ss_check::{
-    Assign, Control, Expr, Factor, Name, Output, Place, Program, Section, SectionKind, Spot, Sum, Term,
-    Values, Variable,
+    Assign, Control, Expr, Factor, Name, Output, Place, Program, Section, SectionKind, Spot, Sum,
+    Term, Values, Variable,
 };
 use ss_report::{Picture, PictureFault};
 use std::alloc::Global;
@@ -154,4 +154,3 @@ fn alone(alloc: Global, factor: Factor) -> Expr
     };
     Expr { sum }
 }
-

@@ -47,7 +47,11 @@ fn main(rt: HostRuntime) -> Result<()> {
             forward(&mut machine, places)?
         };
         let took = start.elapsed(&rt)?;
-        println!(rt; "{moved} steps {way}, to position {} with a report of {} bytes", machine.position(), machine.report().len())?;
+        println!(rt;
+            "{moved} steps {way}, to position {} with a report of {} bytes",
+            machine.position(),
+            machine.report().len()
+        )?;
         if number.is_some() {
             println!(rt; "in {} microseconds", took.as_micros())?;
         }

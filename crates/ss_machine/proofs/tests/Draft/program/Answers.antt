@@ -5,11 +5,14 @@ use Rattle.ss_machine.proofs.tests.Draft.program.Goals as goal
 pub new-requires-4 : goal.new-requires-4
 new-requires-4 g c = rw (c.new.ensures.items, c.in_ok-vec-2.ensures.items) (record {
   main = refl;
-  sections = (record {
-    places = rw (c.in_ok-vec.ensures.items, c.in_ok-push.ensures.items) (sound_push 0 2 _ _ c.self.invariant.0 tt);
-    ended = rw c.in_ok-push.ensures.items c.self.invariant.1;
-    few = first_of (search rules, omega arith)
-  }, tt);
+  sections = (
+    record {
+      places = rw (c.in_ok-vec.ensures.items, c.in_ok-push.ensures.items) (sound_push 0 2 _ _ c.self.invariant.0 tt);
+      ended = rw c.in_ok-push.ensures.items c.self.invariant.1;
+      few = search rules;
+    },
+    tt,
+  );
   few = omega arith;
-  few_names = omega arith
+  few_names = omega arith;
 })
