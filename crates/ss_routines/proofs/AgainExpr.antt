@@ -53,16 +53,17 @@ close_ends y = record { no_star = refl; no_sign = refl }
 
 mutual
   unfolding expr_with term_with sums_with products_with next_sum next_product factor_with paren_with many look skip pure
+
   pub expr_again : (t : Expr) (n : ℕ) (y : List Plain) → depth_expr t ≤ n → Ends y → expr_at n (spell_expr t ++ y) ≡ (Ok t, y)
   expr_again (expr l t ss) n y le ends =
       let p = paren_at n in
       let z = spell_sums ss ++ y in
       let regroup : spell_expr (expr l t ss) ++ y ≡ spell_lead l ++ (spell_term t ++ z) = simp append_assoc in
       rw (expr_at-is n) (
-        ap (expr_with p) regroup
-        ∙ then lead _ l (spell_lead l ++ (spell_term t ++ z)) (spell_term t ++ z) (lead_again l (spell_term t ++ z) (term_first t z))
-        ∙ then (term_with p) _ t (spell_term t ++ z) z (term_again t n z (omega arith) (sums_star ss y ends.no_star))
-        ∙ then (sums_with p) _ ss z y (sums_again ss n y (suc (length z)) (omega arith) ends (omega arith)))
+      ap (expr_with p) regroup
+      ∙ then lead _ l (spell_lead l ++ (spell_term t ++ z)) (spell_term t ++ z) (lead_again l (spell_term t ++ z) (term_first t z))
+      ∙ then (term_with p) _ t (spell_term t ++ z) z (term_again t n z (omega arith) (sums_star ss y ends.no_star))
+      ∙ then (sums_with p) _ ss z y (sums_again ss n y (suc (length z)) (omega arith) ends (omega arith)))
 
   term_again : (t : Term) (n : ℕ) (y : List Plain) → depth_term t ≤ n → is (m.Sign s.Star) (first y) ≡ false → term_with (paren_at n) (spell_term t ++ y) ≡ (Ok t, y)
   term_again (term f ps) n y le no_star =
@@ -82,9 +83,9 @@ mutual
       let z = spell_sums ss ++ y in
       ap (λ (u : List Plain). many_from (next_sum p) no_sums (λ a. sum a.0 a.1) (suc k) (sign b ∷ u)) (append_assoc (spell_term t) (spell_sums ss) y)
       ∙ many_goes (next_sum p) no_sums (λ a. sum a.0 a.1) k (b, t) ss (sign b ∷ (spell_term t ++ z)) z y
-        (then lead _ (Some b) (sign b ∷ (spell_term t ++ z)) (spell_term t ++ z) (lead_some b (spell_term t ++ z))
-         ∙ then (term_with p) _ t (spell_term t ++ z) z (term_again t n z (omega arith) (sums_star ss y ends.no_star)))
-        (sums_again ss n y k (omega arith) ends (omega (arith, length-append (spell_term t ++ spell_sums ss) y, length-append (spell_term t) (spell_sums ss), length-append (spell_sums ss) y)))
+      (then lead _ (Some b) (sign b ∷ (spell_term t ++ z)) (spell_term t ++ z) (lead_some b (spell_term t ++ z))
+      ∙ then (term_with p) _ t (spell_term t ++ z) z (term_again t n z (omega arith) (sums_star ss y ends.no_star)))
+      (sums_again ss n y k (omega arith) ends (omega (arith, length-append (spell_term t ++ spell_sums ss) y, length-append (spell_term t) (spell_sums ss), length-append (spell_sums ss) y)))
 
   products_again : (ps : Products) (n : ℕ) (y : List Plain) (k : ℕ) → depth_products ps ≤ n → is (m.Sign s.Star) (first y) ≡ false → length (spell_products ps ++ y) < k
       → many_from (next_product (paren_at n)) no_products product k (spell_products ps ++ y) ≡ (Ok ps, y)
@@ -97,9 +98,9 @@ mutual
       let z = spell_products ps ++ y in
       ap (λ (u : List Plain). many_from (next_product p) no_products product (suc k) (star ∷ u)) (append_assoc (spell_factor f) (spell_products ps) y)
       ∙ many_goes (next_product p) no_products product k f ps (star ∷ (spell_factor f ++ z)) z y
-        (then (eat (m.Sign s.Star)) _ true (star ∷ (spell_factor f ++ z)) (spell_factor f ++ z) (eat_again (m.Sign s.Star) _)
-         ∙ then (factor_with p) _ f (spell_factor f ++ z) z (factor_again f n z (omega arith)))
-        (products_again ps n y k (omega arith) no_star (omega (arith, length-append (spell_factor f ++ spell_products ps) y, length-append (spell_factor f) (spell_products ps), length-append (spell_products ps) y)))
+      (then (eat (m.Sign s.Star)) _ true (star ∷ (spell_factor f ++ z)) (spell_factor f ++ z) (eat_again (m.Sign s.Star) _)
+      ∙ then (factor_with p) _ f (spell_factor f ++ z) z (factor_again f n z (omega arith)))
+      (products_again ps n y k (omega arith) no_star (omega (arith, length-append (spell_factor f ++ spell_products ps) y, length-append (spell_factor f) (spell_products ps), length-append (spell_products ps) y)))
 
   factor_again : (f : Factor) (n : ℕ) (y : List Plain) → depth_factor f ≤ n → factor_with (paren_at n) (spell_factor f ++ y) ≡ (Ok f, y)
   factor_again (digits k) n y le = refl

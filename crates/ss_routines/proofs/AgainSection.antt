@@ -103,9 +103,9 @@ module _ (n : ℕ) where
       let z = spell_further es ++ t in
       ap (λ (u : List Plain). many_from (next_value x) [] (λ e es. e ∷ es) (suc k) (mark (m.Sign s.Comma) ∷ u)) (append_assoc (spell_expr e) (spell_further es) t)
       ∙ many_goes (next_value x) [] (λ e es. e ∷ es) k e es (mark (m.Sign s.Comma) ∷ (spell_expr e ++ z)) z t
-        (then (eat (m.Sign s.Comma)) _ true (mark (m.Sign s.Comma) ∷ (spell_expr e ++ z)) (spell_expr e ++ z) (eat_again (m.Sign s.Comma) _)
-         ∙ then x _ e (spell_expr e ++ z) z (expr_again e n z (omega arith) (further_ends es p y)))
-        (further_again es p y k (omega arith) (omega (arith, length-append (spell_expr e ++ spell_further es) t, length-append (spell_expr e) (spell_further es), length-append (spell_further es) t)))
+      (then (eat (m.Sign s.Comma)) _ true (mark (m.Sign s.Comma) ∷ (spell_expr e ++ z)) (spell_expr e ++ z) (eat_again (m.Sign s.Comma) _)
+      ∙ then x _ e (spell_expr e ++ z) z (expr_again e n z (omega arith) (further_ends es p y)))
+      (further_again es p y k (omega arith) (omega (arith, length-append (spell_expr e ++ spell_further es) t, length-append (spell_expr e) (spell_further es), length-append (spell_further es) t)))
 
   values_again : (es : List Expr) (p : List (List ℕ)) (y : List Plain) → depth_values es ≤ n → values_with x (spell_values es ++ mark (m.Reserved r.Thus) ∷ picture p ∷ y) ≡ (Ok es, mark (m.Reserved r.Thus) ∷ picture p ∷ y)
   unfolding values_with behind_first further_with many pure
@@ -161,8 +161,8 @@ module _ (n : ℕ) where
       let z = spell_block b ++ y in
       ap (many_from (next_statement x) no_statements statement (suc k)) (append_assoc (spell_statement t) (spell_block b) y)
       ∙ many_goes (next_statement x) no_statements statement k t b (spell_statement t ++ z) z y
-        (next_again t z (omega arith) (block_ends b y ends))
-        (statements_again b y k (omega arith) ends none (omega (arith, some_statement t, length-append (spell_statement t ++ spell_block b) y, length-append (spell_statement t) (spell_block b), length-append (spell_block b) y)))
+      (next_again t z (omega arith) (block_ends b y ends))
+      (statements_again b y k (omega arith) ends none (omega (arith, some_statement t, length-append (spell_statement t ++ spell_block b) y, length-append (spell_statement t) (spell_block b), length-append (spell_block b) y)))
 
   section_again : (t : SectionTree) (y : List Plain) → depth_section t ≤ n → section_with x (spell_section t ++ y) ≡ (Ok t, y)
   unfolding section_with block_with many pure

@@ -36,7 +36,8 @@ pub record Under (n : ℕ) (q : List Plain) : Type 0 where
 under_joined : (n : ℕ) (a b : List Plain) → Leaves 0 a → Under n b → Under n (a ++ b)
 under_joined n a b x y = record {
   open_ones = (let h = x.open_ones in let k = y.open_ones in omega (arith, h, k, count-append opens a b, count-append closes a b));
-  no_heads = (let h = x.no_heads in let k = y.no_heads in omega (arith, h, k, count-append heads a b)) }
+  no_heads = (let h = x.no_heads in let k = y.no_heads in omega (arith, h, k, count-append heads a b));
+}
 
 under_nothing : (n : ℕ) → Under n []
 under_nothing n = record { open_ones = omega arith; no_heads = refl }
@@ -44,7 +45,8 @@ under_nothing n = record { open_ones = omega arith; no_heads = refl }
 joined : (d : ℕ) (a b : List Plain) → Leaves 0 a → Leaves d b → Leaves d (a ++ b)
 joined d a b x y = record {
   open_ones = (let h = x.open_ones in let k = y.open_ones in omega (arith, h, k, count-append opens a b, count-append closes a b));
-  no_heads = (let h = x.no_heads in let k = y.no_heads in omega (arith, h, k, count-append heads a b)) }
+  no_heads = (let h = x.no_heads in let k = y.no_heads in omega (arith, h, k, count-append heads a b));
+}
 
 -- where n parentheses may be open
 abbrev pub Out : {A : Type 0} → ℕ → Result A Refusal → List Plain → List Plain → Type 0
@@ -149,7 +151,8 @@ module _ {A B : Type 0} (n : ℕ) (item : Reading (Option A)) (none : B) (one : 
   from_tally zero = pure_tally n none
   from_tally (suc k) = bind_tally n _ (elim [
     | Some a ↦ bind_tally n _ (λ b. pure_tally n (one a b)) (many_from item none one k) (from_tally k)
-    | None ↦ pure_tally n none ]) item h
+    | None ↦ pure_tally n none
+  ]) item h
 
   pub many_tally : Tally n (many item none one)
   unfolding many
@@ -198,23 +201,27 @@ module _ (n : ℕ) (paren : Reading Factor) (paren_at : TallyAt n (Some (mark (m
 opened : (d : ℕ) (q : List Plain) → Leaves d q → Leaves (suc d) (mark (m.Sign sign.Open) ∷ q)
 opened d q l = record {
   open_ones = (let h = l.open_ones in omega (arith, h));
-  no_heads = (let h = l.no_heads in omega (arith, h)) }
+  no_heads = (let h = l.no_heads in omega (arith, h));
+}
 
 opened_under : (n : ℕ) (q : List Plain) → Under n q → Under (suc n) (mark (m.Sign sign.Open) ∷ q)
 opened_under n q l = record {
   open_ones = (let h = l.open_ones in omega (arith, h));
-  no_heads = (let h = l.no_heads in omega (arith, h)) }
+  no_heads = (let h = l.no_heads in omega (arith, h));
+}
 
 opened_some : (n : ℕ) (q : List Plain) → Leaves 0 q → Under (suc n) (mark (m.Sign sign.Open) ∷ q)
 opened_some n q l = record {
   open_ones = (let h = l.open_ones in omega (arith, h));
-  no_heads = (let h = l.no_heads in omega (arith, h)) }
+  no_heads = (let h = l.no_heads in omega (arith, h));
+}
 
 -- and none behind its closing one
 enclosed : (q : List Plain) → Leaves 0 q → Leaves 0 (mark (m.Sign sign.Open) ∷ (q ++ mark (m.Sign sign.Close) ∷ []))
 enclosed q l = record {
   open_ones = (let h = l.open_ones in omega (arith, h, count-append opens q (mark (m.Sign sign.Close) ∷ []), count-append closes q (mark (m.Sign sign.Close) ∷ [])));
-  no_heads = (let h = l.no_heads in omega (arith, h, count-append heads q (mark (m.Sign sign.Close) ∷ []))) }
+  no_heads = (let h = l.no_heads in omega (arith, h, count-append heads q (mark (m.Sign sign.Close) ∷ [])));
+}
 
 module _ (n : ℕ) (inner : Reading Expr) (h : Tally n inner) where
   close_out : (e : Expr) (ws q r : List Plain) (b : Bool) → ws ≡ q ++ r → Leaves 0 q → is (m.Sign sign.Close) (first r) ≡ b
@@ -222,9 +229,11 @@ module _ (n : ℕ) (inner : Reading Expr) (h : Tally n inner) where
   unfolding pure skip refuse
   close_out e ws q [] true is_so l eq = absurd cc
   close_out e ws q (v ∷ r) true is_so l eq =
-      let same : v ≡ mark (m.Sign sign.Close) = is_mark (m.Sign sign.Close) v eq in
-      (mark (m.Sign sign.Open) ∷ (q ++ mark (m.Sign sign.Close) ∷ []),
-        ap (λ (u : List Plain). mark (m.Sign sign.Open) ∷ u) (is_so ∙ ap (λ (u : Plain). q ++ u ∷ r) same ∙ sym (append_assoc q (mark (m.Sign sign.Close) ∷ []) r)), enclosed q l)
+      let same : v ≡ mark (m.Sign sign.Close) = is_mark (m.Sign sign.Close) v eq in (
+        mark (m.Sign sign.Open) ∷ (q ++ mark (m.Sign sign.Close) ∷ []),
+        ap (λ (u : List Plain). mark (m.Sign sign.Open) ∷ u) (is_so ∙ ap (λ (u : Plain). q ++ u ∷ r) same ∙ sym (append_assoc q (mark (m.Sign sign.Close) ∷ []) r)),
+        enclosed q l,
+      )
   close_out e ws q r false is_so l eq = (mark (m.Sign sign.Open) ∷ q, ap (λ (u : List Plain). mark (m.Sign sign.Open) ∷ u) is_so, opened_some n q l)
 
   inner_out : (o : Result Expr Refusal) (ws r : List Plain) → Out n o ws r → (let x : Read Factor = goes_on (λ e. bind (expect (m.Sign sign.Close)) (λ v. pure (within e))) o r in Out (suc n) x.0 (mark (m.Sign sign.Open) ∷ ws) x.1)
@@ -317,7 +326,8 @@ module _ (n : ℕ) (x : Reading Expr) (h : Tally n x) where
   unfolding next_statement
   next_tally = look_tally n _ (λ w. anywhere n w _ (elim (begins w) as (λ b. Tally n (elim b [ true ↦ bind (one_with x) (λ o. pure (Some (single o))) | false ↦ pure None ])) [
     | true ↦ bind_tally n _ (λ o. pure_tally n (Some (single o))) (one_with x) one_tally
-    | false ↦ pure_tally n None ]))
+    | false ↦ pure_tally n None
+  ]))
 
   pub block_tally : Tally n (block_with x)
   unfolding block_with
@@ -356,11 +366,12 @@ module _ (n : ℕ) (x : Reading Expr) (h : Tally n x) where
   unfolding pure skip refuse
   ended_out b ws q [] true is_so l eq = absurd cc
   ended_out b ws q (v ∷ r) true is_so l eq =
-      let same : v ≡ end_word = is_mark (m.Reserved key.End) v eq in
-      (main_word ∷ (q ++ end_word ∷ []),
+      let same : v ≡ end_word = is_mark (m.Reserved key.End) v eq in (
+        main_word ∷ (q ++ end_word ∷ []),
         ap (λ (u : List Plain). main_word ∷ u) (is_so ∙ ap (λ (u : Plain). q ++ u ∷ r) same ∙ sym (append_assoc q (end_word ∷ []) r)),
         (let k = l.open_ones in omega (arith, k, count-append opens q (end_word ∷ []), count-append closes q (end_word ∷ []))),
-        (let k = l.no_heads in omega (arith, k, count-append heads q (end_word ∷ []))))
+        (let k = l.no_heads in omega (arith, k, count-append heads q (end_word ∷ []))),
+      )
   ended_out b ws q r false is_so l eq = (main_word ∷ q, ap (λ (u : List Plain). main_word ∷ u) is_so, (let k = l.open_ones in omega (arith, k)), (let k = l.no_heads in omega (arith, k)))
 
   body_out : (o : Result Block Refusal) (ws r : List Plain) → Out n o ws r → (let y : Read SectionTree = goes_on (λ b. bind (expect (m.Reserved key.End)) (λ v. pure (main b))) o r in SectionOut n y.0 (main_word ∷ ws) y.1)
@@ -410,7 +421,8 @@ module _ (n : ℕ) (x : Reading Expr) (h : Tally n x) where
       none false e = ([], refl, omega arith, omega arith)
   sections_out (suc k) ws = (elim (is_head (first ws)) as (λ t. let p : Reading Tree = elim t [ true ↦ bind (section_with x) (tail k) | false ↦ pure [] ] in ProgramOut n (suc k) (p ws).0 ws (p ws).1) [
     | true ↦ behind_out k (sections_out k) (section_with x ws).0 ws (section_with x ws).1 (section_out ws)
-    | false ↦ ([], refl, omega arith, omega arith) ])
+    | false ↦ ([], refl, omega arith, omega arith)
+  ])
 
   whole_with : (k : ℕ) (o : Result Tree Refusal) (ws r : List Plain) → ProgramOut n k o ws r → (let y : Read Tree = goes_on (λ t. bind ended (λ u. pure t)) o r in ProgramOut n k y.0 ws y.1)
   unfolding bind ended look pure refuse

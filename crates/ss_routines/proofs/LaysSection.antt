@@ -39,7 +39,8 @@ module _ (lines : List ℕ) (n : ℕ) (x : Reading Expr) (ge : Good (FitsExpr n)
   unfolding next_statement next_onto
   next_lays k acc = look_lays words _ k _ _ (λ w. all_lays words _ k w _ _ (elim (begins w) as (λ b. Lays words (noted (flat_statement lines k) acc) k (elim b [ true ↦ bind (one_with x) (λ o. pure (Some (single o))) | false ↦ pure None ]) (elim b [ true ↦ bind (one_onto lines x acc) (λ a. pure (true, a)) | false ↦ pure (false, acc) ])) [
     | true ↦ bind_lays words (FitsOne n) spell_one (λ o. acc ++ flat_one lines k o) _ k _ _ (λ o. pure_lays words _ _ (Some (single o)) _ refl) (one_with x) _ (one_good n x ge) (one_lays k acc)
-    | false ↦ pure_lays words _ k None (false, acc) refl ]))
+    | false ↦ pure_lays words _ k None (false, acc) refl
+  ]))
 
   block_lays : (k : ℕ) (acc : List Spot) → Lays words (λ b. acc ++ flat_block lines k b) k (block_with x) (block_onto lines x acc)
   unfolding block_with block_onto
@@ -49,19 +50,21 @@ module _ (lines : List ℕ) (n : ℕ) (x : Reading Expr) (ge : Good (FitsExpr n)
   unfolding section_with section_onto
   section_lays k = here_lays words _ k lines _ _ refl (same_lays words Any (spell_mark (m.Reserved r.Main)) _ k _ _ (λ u.
       bind_lays words (FitsBlock n) spell_block (λ b. [] ++ flat_block lines (k + 1) b) _ (k + 1) _ _ (λ b.
-        let j = k + 1 + length (spell_block b) in
-        here_lays words _ j lines _ _ refl (same_lays words Any (spell_mark (m.Reserved r.End)) _ j _ _ (λ v. pure_lays words _ _ (main b) _ refl) (expect (m.Reserved r.End)) (expect_good (m.Reserved r.End))))
-        (block_with x) _ (block_good n x ge) (block_lays (k + 1) [])) (expect (m.Reserved r.Main)) (expect_good (m.Reserved r.Main)))
+      let j = k + 1 + length (spell_block b) in
+      here_lays words _ j lines _ _ refl (same_lays words Any (spell_mark (m.Reserved r.End)) _ j _ _ (λ v. pure_lays words _ _ (main b) _ refl) (expect (m.Reserved r.End)) (expect_good (m.Reserved r.End))))
+      (block_with x) _ (block_good n x ge) (block_lays (k + 1) [])) (expect (m.Reserved r.Main)) (expect_good (m.Reserved r.Main)))
 
   pub sections_lays : (s : ℕ) (k : ℕ) → Lays words (written_from lines k) k (sections_with x s) (sections_onto lines x s)
   unfolding sections_with sections_onto
   sections_lays zero k = look_lays words _ k _ _ (λ w. all_lays words _ k w _ _ (elim (is_head w) as (λ b. Lays words (written_from lines k) k (elim b [ true ↦ refuse PastLimit | false ↦ pure [] ]) (elim b [ true ↦ refuse PastLimit | false ↦ pure [] ])) [
     | true ↦ refuse_lays words _ k PastLimit
-    | false ↦ pure_lays words _ k [] [] refl ]))
+    | false ↦ pure_lays words _ k [] [] refl
+  ]))
   sections_lays (suc s) k = look_lays words _ k _ _ (λ w. all_lays words _ k w _ _ (elim (is_head w) as (λ b. Lays words (written_from lines k) k (elim b [ true ↦ bind (section_with x) (λ t. bind (sections_with x s) (λ ts. pure (t ∷ ts))) | false ↦ pure [] ])
       (elim b [ true ↦ bind (section_onto lines x) (λ t. bind (sections_onto lines x s) (λ ts. pure (t ∷ ts))) | false ↦ pure [] ])) [
-    | true ↦ bind_lays words (FitsSection n) spell_section (written_section lines k) _ k _ _ (λ t. bind_lays words (FitsTree n s) spell (written_from lines (k + length (spell_section t))) _ _ _ _ (λ ts. pure_lays words _ _ (t ∷ ts) _ refl) (sections_with x s) _ (sections_good n x ge s) (sections_lays s (k + length (spell_section t)))) (section_with x) _ (section_good n x ge) (section_lays k)
-    | false ↦ pure_lays words _ k [] [] refl ]))
+        | true ↦ bind_lays words (FitsSection n) spell_section (written_section lines k) _ k _ _ (λ t. bind_lays words (FitsTree n s) spell (written_from lines (k + length (spell_section t))) _ _ _ _ (λ ts. pure_lays words _ _ (t ∷ ts) _ refl) (sections_with x s) _ (sections_good n x ge s) (sections_lays s (k + length (spell_section t)))) (section_with x) _ (section_good n x ge) (section_lays k)
+        | false ↦ pure_lays words _ k [] [] refl
+      ]))
 
   pub whole_lays : (s : ℕ) → Lays words (written lines) 0 (whole (sections_with x s)) (whole (sections_onto lines x s))
   unfolding whole

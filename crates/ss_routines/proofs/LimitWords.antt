@@ -57,7 +57,8 @@ forward ws k past (Err Unexpected) r e =
     elim (order j (k + 1)) [
       | less h ↦ absurd (no_more ws j (k + 1) (farthest ws r e) h (let i = past.is_word in omega (arith, i)) past.with_it)
       | equal h ↦ absurd (past.no_room (within_less ws (k + 1) j (omega (arith, h)) (stood ws r Unexpected e)))
-      | greater h ↦ absurd (past.no_room (within_less ws (k + 1) j (omega (arith, h)) (stood ws r Unexpected e))) ]
+      | greater h ↦ absurd (past.no_room (within_less ws (k + 1) j (omega (arith, h)) (stood ws r Unexpected e)))
+    ]
 forward ws k past (Err Memory) r e = absurd (out_at ws r (Err Memory) e)
 forward ws k past (Err PastLimit) r e = subst (λ (i : ℕ). Counts ws i) (same_limit ws (length ws - length r) k (passed ws r e) past) (counted ws r (out_at ws r (Err PastLimit) e))
 
@@ -115,8 +116,9 @@ no_room_for ws k (inr (f, c)) (t, w, x, e) =
 
 pub limit_is_counted : LimitIsCounted
 limit_is_counted ws k is_word before with_it = (
-    (λ past. forward ws k past (whole reading ws).0 (whole reading ws).1 refl),
-    (λ counts. record { is_word = is_word; before = before; with_it = with_it; no_room = no_room_for ws k counts }))
+  (λ past. forward ws k past (whole reading ws).0 (whole reading ws).1 refl),
+  (λ counts. record { is_word = is_word; before = before; with_it = with_it; no_room = no_room_for ws k counts }),
+)
 
 -- ---- words have an answer
 

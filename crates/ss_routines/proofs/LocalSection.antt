@@ -90,7 +90,8 @@ module _ (rooms : Rooms) (n : ℕ) (x x' : Reading Expr) (ge : Good (FitsExpr n)
   unfolding next_statement
   next_local = look_local rooms _ _ (λ w. anywhere rooms w _ _ (elim (begins w) as (λ b. Local rooms (elim b [ true ↦ bind (one_with x) (λ o. pure (Some (single o))) | false ↦ pure None ]) (elim b [ true ↦ bind (one_with x') (λ o. pure (Some (single o))) | false ↦ pure None ])) [
     | true ↦ bind_local rooms _ _ (λ o. pure_local rooms (Some (single o))) (one_with x') (one_with x) one_local
-    | false ↦ pure_local rooms None ]))
+    | false ↦ pure_local rooms None
+  ]))
 
   block_local : Local rooms (block_with x) (block_with x')
   unfolding block_with
@@ -108,13 +109,15 @@ module _ (rooms : Rooms) (n : ℕ) (x x' : Reading Expr) (ge : Good (FitsExpr n)
   step_local : (p p' : Reading Tree) → Local rooms p p' → Local rooms (look (item x p)) (look (item x' p'))
   step_local p p' lp = look_local rooms _ _ (λ w. anywhere rooms w _ _ (elim (is_head w) as (λ b. Local rooms (elim b [ true ↦ bind (section_with x) (λ t. bind p (λ ts. pure (t ∷ ts))) | false ↦ pure [] ]) (elim b [ true ↦ bind (section_with x') (λ t. bind p' (λ ts. pure (t ∷ ts))) | false ↦ pure [] ])) [
     | true ↦ bind_local rooms _ _ (λ t. bind_local rooms _ _ (λ ts. pure_local rooms (t ∷ ts)) p' p lp) (section_with x') (section_with x) section_local
-    | false ↦ pure_local rooms [] ]))
+    | false ↦ pure_local rooms []
+  ]))
 
 -- where no section may follow, its head is refused
 shut_step : Local same (look (λ w. let p : Reading Tree = elim (is_head w) [ true ↦ refuse PastLimit | false ↦ pure [] ] in p)) (look (λ w. let p : Reading Tree = elim (is_head w) [ true ↦ refuse PastLimit | false ↦ pure [] ] in p))
 shut_step = look_local same _ _ (λ w. anywhere same w _ _ (elim (is_head w) as (λ b. Local {A = Tree} same (elim b [ true ↦ refuse PastLimit | false ↦ pure [] ]) (elim b [ true ↦ refuse PastLimit | false ↦ pure [] ])) [
-    | true ↦ shut_local
-    | false ↦ pure_local same [] ]))
+  | true ↦ shut_local
+  | false ↦ pure_local same []
+]))
 
 module _ (x : Reading Expr) (lx : Local same x x) (n : ℕ) (ge : Good (FitsExpr n) spell_expr [] x) (p : Reading Tree) (lp : Local same p p) where
   -- a section takes its head

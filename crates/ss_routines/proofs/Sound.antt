@@ -31,14 +31,19 @@ spell_next_sum a = sign a.0 ∷ spell_term a.1
 module _ (n : ℕ) where
   abbrev pub FitsExpr : Expr → Type 0
   FitsExpr e = depth_expr e ≤ n
+
   abbrev pub FitsSums : Sums → Type 0
   FitsSums ss = depth_sums ss ≤ n
+
   abbrev pub FitsSum : TermSign × Term → Type 0
   FitsSum a = depth_term a.1 ≤ n
+
   abbrev pub FitsTerm : Term → Type 0
   FitsTerm t = depth_term t ≤ n
+
   abbrev pub FitsProducts : Products → Type 0
   FitsProducts ps = depth_products ps ≤ n
+
   abbrev pub FitsFactor : Factor → Type 0
   FitsFactor f = depth_factor f ≤ n
 
@@ -57,7 +62,8 @@ module _ (n : ℕ) where
     unfolding next_product
     next_product_good = bind_good Any (fits_option FitsFactor) (spell_eaten (m.Sign s.Star)) (spell_option spell_next_product) [] _ (elim [
       | true ↦ (λ u. bind_good FitsFactor (fits_option FitsFactor) spell_factor (spell_option spell_next_product) (mark (m.Sign s.Star) ∷ []) _ (λ f k. pure_good _ _ _ (Some f) k refl) (factor_with paren) factor_good)
-      | false ↦ (λ u. pure_good _ _ _ None tt refl) ]) (eat (m.Sign s.Star)) (eat_good (m.Sign s.Star))
+      | false ↦ (λ u. pure_good _ _ _ None tt refl)
+    ]) (eat (m.Sign s.Star)) (eat_good (m.Sign s.Star))
 
     pub products_good : Good FitsProducts spell_products [] (products_with paren)
     unfolding products_with
@@ -71,7 +77,8 @@ module _ (n : ℕ) where
     unfolding next_sum
     next_sum_good = bind_good Any (fits_option FitsSum) spell_lead (spell_option spell_next_sum) [] _ (elim [
       | Some b ↦ (λ u. bind_good FitsTerm (fits_option FitsSum) spell_term (spell_option spell_next_sum) (sign b ∷ []) _ (λ t k. pure_good _ _ _ (Some (b, t)) k refl) (term_with paren) term_good)
-      | None ↦ (λ u. pure_good _ _ _ None tt refl) ]) lead lead_good
+      | None ↦ (λ u. pure_good _ _ _ None tt refl)
+    ]) lead lead_good
 
     pub sums_good : Good FitsSums spell_sums [] (sums_with paren)
     unfolding sums_with

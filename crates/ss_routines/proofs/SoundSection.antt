@@ -34,16 +34,22 @@ spell_next_value e = mark (m.Sign s.Comma) ∷ spell_expr e
 module _ (n : ℕ) where
   abbrev pub FitsAssign : Assign → Type 0
   FitsAssign a = depth_assign a ≤ n
+
   abbrev pub FitsValues : List Expr → Type 0
   FitsValues es = depth_values es ≤ n
+
   abbrev pub FitsOutput : Output → Type 0
   FitsOutput o = depth_output o ≤ n
+
   abbrev pub FitsOne : One → Type 0
   FitsOne o = depth_one o ≤ n
+
   abbrev pub FitsStatement : Statement → Type 0
   FitsStatement t = depth_statement t ≤ n
+
   abbrev pub FitsBlock : Block → Type 0
   FitsBlock b = depth_block b ≤ n
+
   abbrev pub FitsSection : SectionTree → Type 0
   FitsSection t = depth_section t ≤ n
 
@@ -84,7 +90,8 @@ module _ (n : ℕ) where
     unfolding next_value
     next_value_good = bind_good Any (fits_option (FitsExpr n)) (spell_eaten (m.Sign s.Comma)) (spell_option spell_next_value) [] _ (elim [
       | true ↦ (λ u. bind_good (FitsExpr n) (fits_option (FitsExpr n)) spell_expr (spell_option spell_next_value) (mark (m.Sign s.Comma) ∷ []) _ (λ e k. pure_good _ _ _ (Some e) k refl) x ge)
-      | false ↦ (λ u. pure_good _ _ _ None tt refl) ]) (eat (m.Sign s.Comma)) (eat_good (m.Sign s.Comma))
+      | false ↦ (λ u. pure_good _ _ _ None tt refl)
+    ]) (eat (m.Sign s.Comma)) (eat_good (m.Sign s.Comma))
 
     further_good : Good FitsValues spell_further [] (further_with x)
     unfolding further_with
@@ -94,7 +101,8 @@ module _ (n : ℕ) where
     unfolding values_with behind_first
     values_good = bind_good Any FitsValues (spell_eaten (m.Reserved r.With)) spell_values [] _ (elim [
       | true ↦ (λ u. bind_good (FitsExpr n) FitsValues spell_expr spell_values (mark (m.Reserved r.With) ∷ []) _ (λ e h. bind_good FitsValues FitsValues spell_further spell_values (mark (m.Reserved r.With) ∷ spell_expr e) _ (λ es k. pure_good FitsValues spell_values _ (e ∷ es) (omega arith) refl) (further_with x) further_good) x ge)
-      | false ↦ (λ u. pure_good FitsValues spell_values _ [] (omega arith) refl) ]) (eat (m.Reserved r.With)) (eat_good (m.Reserved r.With))
+      | false ↦ (λ u. pure_good FitsValues spell_values _ [] (omega arith) refl)
+    ]) (eat (m.Reserved r.With)) (eat_good (m.Reserved r.With))
 
     pub print_good : Good FitsOutput spell_output (mark (m.Reserved r.Print) ∷ []) (print_with x)
     unfolding print_with
@@ -117,7 +125,8 @@ module _ (n : ℕ) where
     statement_at : (w : Option Plain) → GoodAt (fits_option FitsStatement) (spell_option spell_statement) [] w (elim (begins w) [ true ↦ bind (one_with x) (λ o. pure (Some (single o))) | false ↦ pure None ])
     statement_at w = good_at _ _ [] w _ (elim (begins w) as (λ b. Good (fits_option FitsStatement) (spell_option spell_statement) [] (elim b [ true ↦ bind (one_with x) (λ o. pure (Some (single o))) | false ↦ pure None ])) [
       | true ↦ bind_good FitsOne (fits_option FitsStatement) spell_one (spell_option spell_statement) [] _ (λ o h. pure_good _ _ _ (Some (single o)) h refl) (one_with x) one_good
-      | false ↦ pure_good _ _ _ None tt refl ])
+      | false ↦ pure_good _ _ _ None tt refl
+    ])
 
     pub next_good : Good (fits_option FitsStatement) (spell_option spell_statement) [] (next_statement x)
     unfolding next_statement
@@ -137,13 +146,16 @@ module _ (n : ℕ) where
     unfolding sections_with
     sections_good zero = look_good (FitsTree 0) spell [] _ [] (omega arith, omega arith) [] refl (λ w. good_at (FitsTree 0) spell [] w _ (elim (is_head w) as (λ b. Good (FitsTree 0) spell [] (elim b [ true ↦ refuse PastLimit | false ↦ pure [] ])) [
       | true ↦ refuse_good (FitsTree 0) spell [] PastLimit [] (omega arith, omega arith) [] refl
-      | false ↦ pure_good (FitsTree 0) spell [] [] (omega arith, omega arith) refl ]))
+      | false ↦ pure_good (FitsTree 0) spell [] [] (omega arith, omega arith) refl
+    ]))
     sections_good (suc k) = look_good (FitsTree (suc k)) spell [] _ [] (omega arith, omega arith) [] refl (λ w. good_at (FitsTree (suc k)) spell [] w _ (elim (is_head w) as (λ b. Good (FitsTree (suc k)) spell [] (elim b [ true ↦ bind (section_with x) (λ t. bind (sections_with x k) (λ ts. pure (t ∷ ts))) | false ↦ pure [] ])) [
       | true ↦ bind_good FitsSection (FitsTree (suc k)) spell_section spell [] _ (λ t h. bind_good (FitsTree k) (FitsTree (suc k)) spell spell (spell_section t) _ (λ ts g. pure_good (FitsTree (suc k)) spell _ (t ∷ ts) (deeper t ts h g, longer t ts g) refl) (sections_with x k) (sections_good k)) (section_with x) section_good
-      | false ↦ pure_good (FitsTree (suc k)) spell [] [] (omega arith, omega arith) refl ]))
+      | false ↦ pure_good (FitsTree (suc k)) spell [] [] (omega arith, omega arith) refl
+    ]))
       where
         deeper : (t : SectionTree) (ts : Tree) → FitsSection t → FitsTree k ts → depth (t ∷ ts) ≤ n
         deeper t ts h g = let a = g.0 in omega (arith, h, a)
+
         longer : (t : SectionTree) (ts : Tree) → FitsTree k ts → length (t ∷ ts) ≤ suc k
         longer t ts g = let a = g.1 in omega (arith, a)
 

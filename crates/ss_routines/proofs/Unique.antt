@@ -75,13 +75,15 @@ same_word : (ws : List Plain) (k j : ℕ) → IsUnexpectedWord ws k → IsUnexpe
 same_word ws k j a b = elim (order k j) [
   | less h ↦ absurd (no_more ws k j a.farthest h (let i = b.is_word in omega (arith, i)) (begun (take j ws) b.in_room))
   | equal h ↦ h
-  | greater h ↦ absurd (no_more ws j k b.farthest h (let i = a.is_word in omega (arith, i)) (begun (take k ws) a.in_room)) ]
+  | greater h ↦ absurd (no_more ws j k b.farthest h (let i = a.is_word in omega (arith, i)) (begun (take k ws) a.in_room))
+]
 
 pub same_limit : (ws : List Plain) (k j : ℕ) → PassesLimit ws k → PassesLimit ws j → k ≡ j
 same_limit ws k j a b = elim (order k j) [
   | less h ↦ absurd (a.no_room (within_less ws (k + 1) j (omega (arith, h)) b.before))
   | equal h ↦ h
-  | greater h ↦ absurd (b.no_room (within_less ws (j + 1) k (omega (arith, h)) a.before)) ]
+  | greater h ↦ absurd (b.no_room (within_less ws (j + 1) k (omega (arith, h)) a.before))
+]
 
 word_and_end : (ws : List Plain) (k : ℕ) → IsUnexpectedWord ws k → IsUnexpectedEnd ws → ⊥
 word_and_end ws k a b = no_more ws k (length ws) a.farthest a.is_word (omega arith) b.farthest.reached
@@ -90,14 +92,16 @@ word_and_limit : (ws : List Plain) (k j : ℕ) → IsUnexpectedWord ws k → Pas
 word_and_limit ws k j a b = elim (order k (j + 1)) [
   | less h ↦ no_more ws k (j + 1) a.farthest h (let i = b.is_word in omega (arith, i)) b.with_it
   | equal h ↦ b.no_room (within_less ws (j + 1) k (omega (arith, h)) a.in_room)
-  | greater h ↦ b.no_room (within_less ws (j + 1) k (omega (arith, h)) a.in_room) ]
+  | greater h ↦ b.no_room (within_less ws (j + 1) k (omega (arith, h)) a.in_room)
+]
 
 -- a limit that the last word passes is told by the text's end
 end_and_limit : (ws : List Plain) (j : ℕ) → IsUnexpectedEnd ws → PassesLimit ws j → j + 1 ≡ length ws
 end_and_limit ws j a b = elim (order (j + 1) (length ws)) [
   | less h ↦ absurd (b.no_room (within_less ws (j + 1) (length ws - 1) (omega (arith, h)) a.in_room))
   | equal h ↦ h
-  | greater h ↦ absurd (let i = b.is_word in omega (arith, h, i)) ]
+  | greater h ↦ absurd (let i = b.is_word in omega (arith, h, i))
+]
 
 told : TextRule → ℕ → Result (List Section) TextFault
 told r l = Err (Refused r l)

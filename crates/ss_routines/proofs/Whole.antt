@@ -144,7 +144,7 @@ module _ (ws rest : List Plain) where
   none_goes_on : whole reading ws ≡ (Err PastLimit, rest) → (w : Plain) (tail : List Plain) → rest ≡ w ∷ tail → BeginsWithin (take (k + 1) ws) → ⊥
   none_goes_on e w tail is (t, fits, x, h) =
       goal.no_room spell (FitsTree 50 256) reading good (sections_at-local same 50 50 256 256 refl refl) t (again t fits) ws rest e (w ∷ x)
-        (h ∙ ap (λ (u : List Plain). u ++ x) (split_at PastLimit e w tail is) ∙ append_assoc (take k ws) (w ∷ []) x) (ap first (sym is))
+      (h ∙ ap (λ (u : List Plain). u ++ x) (split_at PastLimit e w tail is) ∙ append_assoc (take k ws) (w ∷ []) x) (ap first (sym is))
 
   pub passes : whole reading ws ≡ (Err PastLimit, rest) → (w : Plain) (tail : List Plain) → rest ≡ w ∷ tail → PassesLimit ws k
   passes e w tail is =
@@ -165,11 +165,13 @@ module _ (ws rest : List Plain) where
       let may : IsLimited (Some w) = subst (λ (u : List Plain). IsLimited (first u)) is (limited e) in
       record {
         farthest = record { inside = omega arith; reached = begun; no_further = λ t x spelled last. no_program t x spelled last w q whole_split may };
-        in_room = subst (λ (i : ℕ). BeginsWithin (take i ws)) (let b : k ≡ length ws - 1 = omega (arith, at) in b) (stood PastLimit e) }
+        in_room = subst (λ (i : ℕ). BeginsWithin (take i ws)) (let b : k ≡ length ws - 1 = omega (arith, at) in b) (stood PastLimit e);
+      }
     where
       nothing : (x : List Plain) → first x ≡ None → x ≡ []
       nothing [] h = refl
       nothing (v ∷ x) h = absurd cc
+
       no_program : (t : Tree) (x : List Plain) → spell t ≡ take (length ws) ws ++ x → first x ≡ first (drop (length ws) ws) → (w : Plain) (q : List Plain) → ws ≡ q ++ w ∷ [] → IsLimited (Some w) → ⊥
       no_program t x spelled last w q split may =
           let all : take (length ws) ws ≡ ws = ap (take (length ws)) (sym (append-nil ws)) ∙ take_at ws [] (length ws) refl in

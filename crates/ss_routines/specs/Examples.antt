@@ -57,12 +57,12 @@ six_statements =
     let x : Plain = name (88 ∷ []) in
     let equal : Plain = mark (m.Sign s.Equal) in
     apart 1 (
-      mark (m.Reserved r.Main) ∷ mark (m.Reserved r.Let) ∷ x ∷ equal ∷ number 1
-      ∷ mark (m.Reserved r.Add) ∷ number 2 ∷ mark (m.Reserved r.To) ∷ x
-      ∷ mark (m.Reserved r.Subtract) ∷ number 1 ∷ mark (m.Reserved r.From) ∷ x
-      ∷ name (89 ∷ []) ∷ equal ∷ mark (m.Sign s.Minus) ∷ x ∷ mark (m.Sign s.Star) ∷ mark (m.Sign s.Open) ∷ number 2 ∷ mark (m.Sign s.Plus) ∷ number 3 ∷ mark (m.Sign s.Close)
-      ∷ mark (m.Reserved r.Print) ∷ number 1 ∷ mark (m.Reserved r.Lines) ∷ mark (m.Reserved r.With) ∷ x ∷ mark (m.Reserved r.Thus) ∷ picture ((42 ∷ []) ∷ [])
-      ∷ mark (m.Reserved r.Stop) ∷ mark (m.Reserved r.End) ∷ [])
+    mark (m.Reserved r.Main) ∷ mark (m.Reserved r.Let) ∷ x ∷ equal ∷ number 1
+    ∷ mark (m.Reserved r.Add) ∷ number 2 ∷ mark (m.Reserved r.To) ∷ x
+    ∷ mark (m.Reserved r.Subtract) ∷ number 1 ∷ mark (m.Reserved r.From) ∷ x
+    ∷ name (89 ∷ []) ∷ equal ∷ mark (m.Sign s.Minus) ∷ x ∷ mark (m.Sign s.Star) ∷ mark (m.Sign s.Open) ∷ number 2 ∷ mark (m.Sign s.Plus) ∷ number 3 ∷ mark (m.Sign s.Close)
+    ∷ mark (m.Reserved r.Print) ∷ number 1 ∷ mark (m.Reserved r.Lines) ∷ mark (m.Reserved r.With) ∷ x ∷ mark (m.Reserved r.Thus) ∷ picture ((42 ∷ []) ∷ [])
+    ∷ mark (m.Reserved r.Stop) ∷ mark (m.Reserved r.End) ∷ [])
 
 -- each beginning of so many words at most is refused by P2 at its last word
 abbrev pub EachIsRefused : ℕ → List PlainAt → Type 0

@@ -10,14 +10,18 @@ use Rattle.ss_routines.specs.declared.expr.TermSign.TheVariants.{Plus, Minus}
 mutual
   pub data Expr : Type 0 where
     expr : Option TermSign → Term → Sums → Expr
+
   pub data Sums : Type 0 where
     no_sums : Sums
     sum : TermSign → Term → Sums → Sums
+
   pub data Term : Type 0 where
     term : Factor → Products → Term
+
   pub data Products : Type 0 where
     no_products : Products
     product : Factor → Products → Products
+
   pub data Factor : Type 0 where
     digits : ℕ → Factor
     variable : List ℕ → Factor
@@ -35,14 +39,18 @@ spell_lead (Some b) = sign b ∷ []
 abbrev mutual
   pub spell_expr : Expr → List Plain
   spell_expr (expr l t ss) = spell_lead l ++ spell_term t ++ spell_sums ss
+
   pub spell_sums : Sums → List Plain
   spell_sums no_sums = []
   spell_sums (sum b t ss) = sign b ∷ (spell_term t ++ spell_sums ss)
+
   pub spell_term : Term → List Plain
   spell_term (term f ps) = spell_factor f ++ spell_products ps
+
   pub spell_products : Products → List Plain
   spell_products no_products = []
   spell_products (product f ps) = mark (m.Sign s.Star) ∷ (spell_factor f ++ spell_products ps)
+
   pub spell_factor : Factor → List Plain
   spell_factor (digits n) = number n ∷ []
   spell_factor (variable n) = name n ∷ []
@@ -52,14 +60,18 @@ abbrev mutual
 abbrev mutual
   pub depth_expr : Expr → ℕ
   depth_expr (expr l t ss) = max (depth_term t) (depth_sums ss)
+
   pub depth_sums : Sums → ℕ
   depth_sums no_sums = 0
   depth_sums (sum b t ss) = max (depth_term t) (depth_sums ss)
+
   pub depth_term : Term → ℕ
   depth_term (term f ps) = max (depth_factor f) (depth_products ps)
+
   pub depth_products : Products → ℕ
   depth_products no_products = 0
   depth_products (product f ps) = max (depth_factor f) (depth_products ps)
+
   pub depth_factor : Factor → ℕ
   depth_factor (digits n) = 0
   depth_factor (variable n) = 0

@@ -12,8 +12,10 @@ mutual
   pub data Block : Type 0 where
     no_statements : Block
     statement : Statement → Block → Block
+
   pub data Statement : Type 0 where
     single : One → Statement
+
   pub data One : Type 0 where
     assignment : Assign → One
     report : Output → One
@@ -54,8 +56,10 @@ abbrev mutual
   pub spell_block : Block → List Plain
   spell_block no_statements = []
   spell_block (statement t b) = spell_statement t ++ spell_block b
+
   pub spell_statement : Statement → List Plain
   spell_statement (single o) = spell_one o
+
   pub spell_one : One → List Plain
   spell_one (assignment a) = spell_assign a
   spell_one (report o) = spell_output o
@@ -86,8 +90,10 @@ abbrev mutual
   pub depth_block : Block → ℕ
   depth_block no_statements = 0
   depth_block (statement t b) = max (depth_statement t) (depth_block b)
+
   pub depth_statement : Statement → ℕ
   depth_statement (single o) = depth_one o
+
   pub depth_one : One → ℕ
   depth_one (assignment a) = depth_assign a
   depth_one (report o) = depth_output o

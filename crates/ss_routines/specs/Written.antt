@@ -14,8 +14,10 @@ module _ (lines : List ℕ) where
     pub flat_block : ℕ → Block → List Spot
     flat_block k no_statements = []
     flat_block k (statement t b) = flat_statement k t ++ flat_block (k + length (spell_statement t)) b
+
     pub flat_statement : ℕ → Statement → List Spot
     flat_statement k (single o) = flat_one k o
+
     pub flat_one : ℕ → One → List Spot
     flat_one k (assignment a) = spot k (assign a) ∷ []
     flat_one k (report o) = spot k (output o) ∷ []
@@ -27,7 +29,8 @@ module _ (lines : List ℕ) where
     kind = Main;
     name = codes "MAIN";
     parameters = [];
-    places = flat_block (k + 1) b ++ spot (k + 1 + length (spell_block b)) (control ends) ∷ [] }
+    places = flat_block (k + 1) b ++ spot (k + 1 + length (spell_block b)) (control ends) ∷ [];
+  }
 
   abbrev pub written_from : ℕ → Tree → List Section
   written_from k [] = []

@@ -151,7 +151,7 @@ fn factor(cursor: &mut Cursor<'_>, room: u32) -> Result<Factor, Refusal>
                 kind: Plain::Mark(Mark::Sign(Sign::Open)),
                 ..
             },
-            ..,
+            ..
         ] => within(cursor, room),
         _ => Err(Refusal::Unexpected),
     }

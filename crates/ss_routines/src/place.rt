@@ -16,9 +16,15 @@ pub enum Assign {
         value: Expr,
     },
     /// `ADD value TO target`
-    Add { value: Expr, target: Reference },
+    Add {
+        value: Expr,
+        target: Reference,
+    },
     /// `SUBTRACT value FROM target`
-    Subtract { value: Expr, target: Reference },
+    Subtract {
+        value: Expr,
+        target: Reference,
+    },
 }
 
 /// A statement that writes to the report.

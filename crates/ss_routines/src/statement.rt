@@ -162,7 +162,12 @@ fn print(cursor: &mut Cursor<'_>, room: u32) -> Result<Output, Refusal>
 
 /// Reads one statement and pushes its places.
 #[tactic(auto, using(crate::proofs::Pushed::pushed), unfolding(ss_words::specs::Reading::look, ss_words::specs::Reading::skip, ss_words::specs::Reading::bind, ss_words::specs::Reading::pure, ss_words::specs::Noting::here, crate::specs::Onto::one_onto))]
-fn one(cursor: &mut Cursor<'_>, text: &[PlainWord], room: u32, out: &mut Vec<Spot>) -> Result<(), Refusal>
+fn one(
+    cursor: &mut Cursor<'_>,
+    text: &[PlainWord],
+    room: u32,
+    out: &mut Vec<Spot>,
+) -> Result<(), Refusal>
     ensures exact { Gives (λ u. spots out.new.items) result (words_of cursor.new.rest.now) (onto.one_onto (lines_of text.now) (exprs.expr_at room) (spots out.old.items) (words_of cursor.old.rest.now)) }
     ensures shorter { length cursor.new.rest.now ≤ length cursor.old.rest.now }
     ensures taken { IfOk result (λ _. length cursor.new.rest.now < length cursor.old.rest.now) }
@@ -227,7 +232,12 @@ fn begins_with(kind: &Plain) -> bool
 
 /// Reads a statement, if one begins here, and pushes its places.
 #[tactic(auto, unfolding(ss_words::specs::Reading::look, ss_words::specs::Reading::bind, ss_words::specs::Reading::pure, crate::specs::Onto::next_onto))]
-fn next(cursor: &mut Cursor<'_>, text: &[PlainWord], room: u32, out: &mut Vec<Spot>) -> Result<bool, Refusal>
+fn next(
+    cursor: &mut Cursor<'_>,
+    text: &[PlainWord],
+    room: u32,
+    out: &mut Vec<Spot>,
+) -> Result<bool, Refusal>
     ensures exact { Gives (λ b. (b, spots out.new.items)) result (words_of cursor.new.rest.now) (onto.next_onto (lines_of text.now) (exprs.expr_at room) (spots out.old.items) (words_of cursor.old.rest.now)) }
     ensures shorter { length cursor.new.rest.now ≤ length cursor.old.rest.now }
     ensures taken { IfOk result (λ b. IsTrue b → length cursor.new.rest.now < length cursor.old.rest.now) }
@@ -240,7 +250,12 @@ fn next(cursor: &mut Cursor<'_>, text: &[PlainWord], room: u32, out: &mut Vec<Sp
 }
 
 /// Reads statements, as long as one begins, and pushes their places.
-pub fn block(cursor: &mut Cursor<'_>, text: &[PlainWord], room: u32, out: &mut Vec<Spot>) -> Result<(), Refusal>
+pub fn block(
+    cursor: &mut Cursor<'_>,
+    text: &[PlainWord],
+    room: u32,
+    out: &mut Vec<Spot>,
+) -> Result<(), Refusal>
     ensures exact { Gives (λ u. spots out.new.items) result (words_of cursor.new.rest.now) (onto.block_onto (lines_of text.now) (exprs.expr_at room) (spots out.old.items) (words_of cursor.old.rest.now)) }
     ensures shorter { length cursor.new.rest.now ≤ length cursor.old.rest.now }
 {

@@ -66,8 +66,9 @@ fn told_of(rt: &impl AllocGlobal, lines: &[&str]) -> Result<String, AllocError> 
 }
 
 const SIX: [&str; 32] = [
-    "MAIN", "LET", "X", "=", "1", "ADD", "2", "TO", "X", "SUBTRACT", "1", "FROM", "X", "Y", "=", "-", "X", "*", "(",
-    "2", "+", "3", ")", "PRINT", "1", "LINE", "WITH", "X", "THUS", "#", "STOP", "END",
+    "MAIN", "LET", "X", "=", "1", "ADD", "2", "TO", "X", "SUBTRACT", "1", "FROM", "X", "Y", "=",
+    "-", "X", "*", "(", "2", "+", "3", ")", "PRINT", "1", "LINE", "WITH", "X", "THUS", "#", "STOP",
+    "END",
 ];
 
 #[test]
@@ -86,7 +87,10 @@ fn each_beginning_is_refused_at_its_last_word(rt: HostRuntime) -> Result<(), Fai
 #[test]
 fn six_statements_are_seven_places(rt: HostRuntime) -> Result<(), Fail> {
     let text = told_of(&rt, &SIX)?;
-    assert_eq!(rt; text.as_str(), "1: 2 Assign(Let { written: true, target: Reference { name: [88] }, value: Expr { sign: None, first: Term { first: Number(1), more: [] }, more: [] } }) 6 Assign(Add { value: Expr { sign: None, first: Term { first: Number(2), more: [] }, more: [] }, target: Reference { name: [88] } }) 10 Assign(Subtract { value: Expr { sign: None, first: Term { first: Number(1), more: [] }, more: [] }, target: Reference { name: [88] } }) 14 Assign(Let { written: false, target: Reference { name: [89] }, value: Expr { sign: Some(Minus), first: Term { first: Name([88]), more: [Within(Expr { sign: None, first: Term { first: Number(2), more: [] }, more: [Added { sign: Plus, term: Term { first: Number(3), more: [] } }] })] }, more: [] } }) 24 Output(Print { count: 1, values: [Expr { sign: None, first: Term { first: Name([88]), more: [] }, more: [] }], picture: [[42]] }) 31 Control(Stop) 32 Control(End)|");
+    assert_eq!(rt;
+        text.as_str(),
+        "1: 2 Assign(Let { written: true, target: Reference { name: [88] }, value: Expr { sign: None, first: Term { first: Number(1), more: [] }, more: [] } }) 6 Assign(Add { value: Expr { sign: None, first: Term { first: Number(2), more: [] }, more: [] }, target: Reference { name: [88] } }) 10 Assign(Subtract { value: Expr { sign: None, first: Term { first: Number(1), more: [] }, more: [] }, target: Reference { name: [88] } }) 14 Assign(Let { written: false, target: Reference { name: [89] }, value: Expr { sign: Some(Minus), first: Term { first: Name([88]), more: [Within(Expr { sign: None, first: Term { first: Number(2), more: [] }, more: [Added { sign: Plus, term: Term { first: Number(3), more: [] } }] })] }, more: [] } }) 24 Output(Print { count: 1, values: [Expr { sign: None, first: Term { first: Name([88]), more: [] }, more: [] }], picture: [[42]] }) 31 Control(Stop) 32 Control(End)|"
+    );
     Ok(())
 }
 
@@ -101,8 +105,14 @@ fn refusals_have_their_word(rt: HostRuntime) -> Result<(), Fail> {
         (&["END"], "P1 1"),
         (&["MAIN", "LET", "STOP", "=", "1", "END"], "P1 3"),
         (&["MAIN", "X", "(", "1", ")", "=", "2", "END"], "P1 3"),
-        (&["MAIN", "LET", "X", "=", "2", "*", "-", "1", "END"], "P1 7"),
-        (&["MAIN", "IF", "X", "=", "1", "STOP", "ALWAYS", "END"], "P1 2"),
+        (
+            &["MAIN", "LET", "X", "=", "2", "*", "-", "1", "END"],
+            "P1 7",
+        ),
+        (
+            &["MAIN", "IF", "X", "=", "1", "STOP", "ALWAYS", "END"],
+            "P1 2",
+        ),
         (&["X", "=", "1"], "P1 1"),
         (&["MAIN", "END END"], "P1 2"),
         (&["MAIN", "PRINT 1 LINE WITH THUS #", "END"], "P1 2"),
@@ -115,11 +125,22 @@ fn refusals_have_their_word(rt: HostRuntime) -> Result<(), Fail> {
 
 #[test]
 fn lines_and_fillers_do_not_matter(rt: HostRuntime) -> Result<(), Fail> {
-    let plain = "1: 2 Assign(Let { written: true, target: Reference { name: [88] }, value: Expr { sign: None, first: Term { first: Number(1), more: [] }, more: [] } }) 2 Control(Stop) 3 Control(End)|";
-    assert_eq!(rt; told_of(&rt, &["MAIN", "LET X = 1 STOP", "END"])?.as_str(), plain);
-    assert_eq!(rt; told_of(&rt, &["MAIN", "LET THE X EQ 1 STOP", "END"])?.as_str(), plain);
-    let spread = "1: 2 Assign(Let { written: true, target: Reference { name: [88] }, value: Expr { sign: None, first: Term { first: Number(1), more: [] }, more: [] } }) 7 Control(End)|";
-    assert_eq!(rt; told_of(&rt, &["MAIN", "LET", "X", "=", "THIS", "1", "END"])?.as_str(), spread);
+    let plain =
+        "1: 2 Assign(Let { written: true, target: Reference { name: [88] }, value: Expr { sign: None, first: Term { first: Number(1), more: [] }, more: [] } }) 2 Control(Stop) 3 Control(End)|";
+    assert_eq!(rt;
+        told_of(&rt, &["MAIN", "LET X = 1 STOP", "END"])?.as_str(),
+        plain
+    );
+    assert_eq!(rt;
+        told_of(&rt, &["MAIN", "LET THE X EQ 1 STOP", "END"])?.as_str(),
+        plain
+    );
+    let spread =
+        "1: 2 Assign(Let { written: true, target: Reference { name: [88] }, value: Expr { sign: None, first: Term { first: Number(1), more: [] }, more: [] } }) 7 Control(End)|";
+    assert_eq!(rt;
+        told_of(&rt, &["MAIN", "LET", "X", "=", "THIS", "1", "END"])?.as_str(),
+        spread
+    );
     Ok(())
 }
 
@@ -142,7 +163,10 @@ fn nested(alloc: Global, count: usize) -> Result<Words, AllocError> {
 fn fifty_parentheses_may_be_open(rt: HostRuntime) -> Result<(), Fail> {
     let fifty = told(rt.alloc(), &nested(rt.alloc(), 50)?)?;
     assert!(rt; fifty.as_str().ends_with("105 Control(End)|"));
-    assert_eq!(rt; told(rt.alloc(), &nested(rt.alloc(), 51)?)?.as_str(), "P3 54");
+    assert_eq!(rt;
+        told(rt.alloc(), &nested(rt.alloc(), 51)?)?.as_str(),
+        "P3 54"
+    );
     Ok(())
 }
 
@@ -159,7 +183,10 @@ fn empty_sections(alloc: Global, count: usize) -> Result<Words, AllocError> {
 fn a_program_has_256_sections(rt: HostRuntime) -> Result<(), Fail> {
     let most = told(rt.alloc(), &empty_sections(rt.alloc(), 256)?)?;
     assert!(rt; most.as_str().ends_with("511: 512 Control(End)|"));
-    assert_eq!(rt; told(rt.alloc(), &empty_sections(rt.alloc(), 257)?)?.as_str(), "P3 513");
+    assert_eq!(rt;
+        told(rt.alloc(), &empty_sections(rt.alloc(), 257)?)?.as_str(),
+        "P3 513"
+    );
     Ok(())
 }
 

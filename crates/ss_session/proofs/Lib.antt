@@ -4,3 +4,4 @@ pub mod FirstLine
 pub mod Sittings
 pub mod Ends
 pub mod EndedSections
+pub mod Outcomes

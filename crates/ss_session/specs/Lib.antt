@@ -4,3 +4,4 @@ pub mod Model
 pub mod SoFar
 pub mod Transcript
 pub mod Loads
+pub mod Laws

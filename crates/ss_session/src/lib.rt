@@ -2,6 +2,7 @@
 #![tactic(auto)]
 
 mod ending;
+mod laws;
 mod lines;
 mod load;
 mod outlet;
@@ -13,5 +14,6 @@ mod turns;
 mod whole;
 
 pub use ending::{End, SessionFault, exit_status};
+pub use laws::outcome_is_unique;
 pub use outlet::{MemoryOutlet, Outlet, PutFault};
 pub use whole::session;

@@ -12,4 +12,5 @@ returns-in-PastLimit c = told_limit c.args.text.now c.args.cursor.now.rest.now c
 pub returns-in_default : goal.returns-in_default
 returns-in_default c = elim c.in_default.branch [
   | in_default-via-in-Unexpected+else-left-gt0 w ↦ told_end c.args.text.now c.args.cursor.now.rest.now c.last_line.result (rw w.in-Unexpected.is at c.requires) (omega (arith, w.if-left-gt0.false)) c.last_line.ensures
-  | in_default-via-in-PastLimit+else-left-gt1 w ↦ told_past_end c.args.text.now c.args.cursor.now.rest.now c.last_line.result (rw w.in-PastLimit.is at c.requires) (omega (arith, w.if-left-gt1.false)) c.last_line.ensures ]
+  | in_default-via-in-PastLimit+else-left-gt1 w ↦ told_past_end c.args.text.now c.args.cursor.now.rest.now c.last_line.result (rw w.in-PastLimit.is at c.requires) (omega (arith, w.if-left-gt1.false)) c.last_line.ensures
+]

@@ -14,18 +14,19 @@ kept : (k : ℕ) (ws : List PlainWord) → map plain_at (filter (test k) ws) ≡
 kept k [] = refl
 kept k (w ∷ ws) = elim (test k w) as (λ b. map plain_at (cond b (w ∷ filter (test k) ws) (filter (test k) ws)) ≡ cond b (plain_at w ∷ words_from k (map plain_at ws)) (words_from k (map plain_at ws))) [
   | true ↦ ap (λ (us : List PlainAt). plain_at w ∷ us) (kept k ws)
-  | false ↦ kept k ws ]
+  | false ↦ kept k ws
+]
 
 pub returns-clause-sections : goal.returns-clause-sections
 returns-clause-sections c =
     let text : map plain_at c.deref.result.now ≡ words_from c.args.from (plain_words_of c.args.words.now) =
-      ap (map plain_at) (c.deref.ensures.value ∙ filter_same _ (test c.args.from) _ (λ x b f k. search rules) _ _ c.retain.ensures.filtered)
-      ∙ kept c.args.from c.in_ok-plain.plain.items ∙ ap (words_from c.args.from) c.in_ok-plain.ensures in
+    ap (map plain_at) (c.deref.ensures.value ∙ filter_same _ (test c.args.from) _ (λ x b f k. search rules) _ _ c.retain.ensures.filtered)
+    ∙ kept c.args.from c.in_ok-plain.plain.items ∙ ap (words_from c.args.from) c.in_ok-plain.ensures in
     subst (λ (ws : List PlainAt). IfOk c.read.result (λ s. AreSections (sections_of s) ws)) text c.read.ensures.sections
 
 pub returns-clause-refused : goal.returns-clause-refused
 returns-clause-refused c =
     let text : map plain_at c.deref.result.now ≡ words_from c.args.from (plain_words_of c.args.words.now) =
-      ap (map plain_at) (c.deref.ensures.value ∙ filter_same _ (test c.args.from) _ (λ x b f k. search rules) _ _ c.retain.ensures.filtered)
-      ∙ kept c.args.from c.in_ok-plain.plain.items ∙ ap (words_from c.args.from) c.in_ok-plain.ensures in
+    ap (map plain_at) (c.deref.ensures.value ∙ filter_same _ (test c.args.from) _ (λ x b f k. search rules) _ _ c.retain.ensures.filtered)
+    ∙ kept c.args.from c.in_ok-plain.plain.items ∙ ap (words_from c.args.from) c.in_ok-plain.ensures in
     subst (λ (ws : List PlainAt). IfErr c.read.result (λ f. IsFault f ws)) text c.read.ensures.refused

@@ -18,7 +18,7 @@ pub returns-in_err-next-clause-exact : goal.returns-in_err-next-clause-exact
 returns-in_err-next-clause-exact c =
     let p = err_from_is_err_and c.from_residual.result c.from_residual.ensures.1 in
     rw (p.1, p.2) (passes_on c.in_err-next.field-0.0 (words_of c.next.new.cursor.rest.now) (next_onto (lines_of c.args.text.now) (expr_at c.args.room) (spots c.loop.out.items) (words_of c.loop.cursor.rest.now)) _
-      (λ e h. noting_fails (next_onto (lines_of c.args.text.now) (expr_at c.args.room)) _ (spots c.loop.out.items) (words_of c.loop.cursor.rest.now) (words_of c.next.new.cursor.rest.now) e h c.loop.invariant.going) c.in_err-next.ensures.exact)
+    (λ e h. noting_fails (next_onto (lines_of c.args.text.now) (expr_at c.args.room)) _ (spots c.loop.out.items) (words_of c.loop.cursor.rest.now) (words_of c.next.new.cursor.rest.now) e h c.loop.invariant.going) c.in_err-next.ensures.exact)
 
 pub loop-preserved : goal.loop-preserved
 loop-preserved c = record { shorter = omega (arith, c.in_ok-next.ensures.shorter); going = noting_turns (next_onto (lines_of c.args.text.now) (expr_at c.args.room)) _ (spots c.loop.out.items) (spots c.next.new.out.items) c.loop.cursor.rest.now c.next.new.cursor.rest.now (rw c.if-branch.true at c.in_ok-next.ensures.exact) (c.in_ok-next.ensures.taken (rw c.if-branch.true refl)) c.loop.invariant.going }

@@ -9,7 +9,8 @@ use Rattle.ss_routines.proofs.statement.block.Given as goal
 abbrev pub invariant-loop : goal.invariant-loop
 invariant-loop l = record {
   shorter : length l.cursor.rest.now ≤ length l.fn.cursor.rest.now;
-  going : Noted (next_onto (lines_of l.text) (expr_at l.room)) (block_onto (lines_of l.text) (expr_at l.room) (spots l.fn.out.items) (words_of l.fn.cursor.rest.now)) (spots l.out.items) (words_of l.cursor.rest.now) }
+  going : Noted (next_onto (lines_of l.text) (expr_at l.room)) (block_onto (lines_of l.text) (expr_at l.room) (spots l.fn.out.items) (words_of l.fn.cursor.rest.now)) (spots l.out.items) (words_of l.cursor.rest.now);
+}
 
 abbrev pub decreases-loop : goal.decreases-loop
 decreases-loop l = length l.cursor.rest.now

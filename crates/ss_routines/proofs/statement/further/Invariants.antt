@@ -9,7 +9,8 @@ use Rattle.ss_routines.proofs.statement.further.Given as goal
 abbrev pub invariant-loop-values : goal.invariant-loop-values
 invariant-loop-values l = record {
   shorter : length l.cursor.rest.now ≤ length l.fn.cursor.rest.now;
-  going : Going (next_value (expr_at l.room)) [] (λ e es. e ∷ es) (behind_first (expr_at l.room) (expr_view l.fn.first) (words_of l.fn.cursor.rest.now)) (map expr_view l.values.items) (words_of l.cursor.rest.now) }
+  going : Going (next_value (expr_at l.room)) [] (λ e es. e ∷ es) (behind_first (expr_at l.room) (expr_view l.fn.first) (words_of l.fn.cursor.rest.now)) (map expr_view l.values.items) (words_of l.cursor.rest.now);
+}
 
 abbrev pub decreases-loop-values : goal.decreases-loop-values
 decreases-loop-values l = length l.cursor.rest.now

@@ -1,0 +1,61 @@
+use Rattle.std.proofs.Common.{◌≡◌, ◌⊎◌, inl, inr, ℕ, List, Option, Some, None, Result, Ok, Err, refl, sym, ap, subst, ◌∙◌}
+use Rattle.ss_words.specs.declared.fault.TextFault.{TextFault}
+use Rattle.ss_words.specs.declared.fault.TextFault.TheVariants.{Refused, Memory}
+use Rattle.ss_words.specs.declared.fault.TextRule.{TextRule}
+use Rattle.ss_words.specs.Words.{WordAt}
+use Rattle.ss_words.specs.TextWords.{words_of}
+use Rattle.ss_words.specs.PlainRules.{plain_words_of}
+use Rattle.ss_routines.specs.Places.{Section}
+use Rattle.ss_routines.specs.Refused.{Answers, IsRefused, AreSections, words_from}
+use Rattle.ss_routines.specs.Laws.{IsDefinite}
+use Rattle.ss_routines.proofs.Unique.{one_answer}
+use Rattle.ss_check.specs.declared.fault.CheckRule.{CheckRule}
+use Rattle.ss_check.specs.Breach.{breach}
+use Rattle.ss_check.specs.Resolved.{resolved}
+use Rattle.ss_check.specs.Program.{ProgramTable}
+use Rattle.ss_session.specs.Model.{Outcome, refused_text, refused_check, accepted, IsOutcome}
+use Rattle.ss_session.specs.Laws.{OutcomeIsUnique}
+
+-- a model whose words are read has one answer from them
+same_answer : (model : List ℕ) (ws vs : List WordAt) (a b : Result (List Section) TextFault) → words_of model ≡ Ok ws → words_of model ≡ Ok vs → IsDefinite a → IsDefinite b →
+    Answers a (words_from 0 (plain_words_of ws)) → Answers b (words_from 0 (plain_words_of vs)) → a ≡ b
+same_answer model ws vs a b e f da db h k =
+    let w : ws ≡ vs = cc in
+    one_answer (words_from 0 (plain_words_of ws)) a b da db h (subst (λ (v : List WordAt). Answers b (words_from 0 (plain_words_of v))) (sym w) k)
+
+text_text : (model : List ℕ) (r s : TextRule) (m n : ℕ) → IsOutcome model (refused_text r m) → IsOutcome model (refused_text s n) → refused_text r m ≡ refused_text s n
+text_text model r s m n (inl e) (inl f) = cc
+text_text model r s m n (inl e) (inr g) = let f = g.1 in absurd cc
+text_text model r s m n (inr h) (inl f) = let e = h.1 in absurd cc
+text_text model r s m n (inr h) (inr g) = let e = same_answer model h.0 g.0 (Err (Refused r m)) (Err (Refused s n)) h.1 g.1 tt tt h.2 g.2 in cc
+
+text_sections : (model : List ℕ) (r : TextRule) (m : ℕ) (ss : List Section) (vs : List WordAt) → IsOutcome model (refused_text r m) → words_of model ≡ Ok vs →
+    AreSections ss (words_from 0 (plain_words_of vs)) → ⊥
+text_sections model r m ss vs (inl e) f k = absurd cc
+text_sections model r m ss vs (inr h) f k = let e = same_answer model h.0 vs (Err (Refused r m)) (Ok ss) h.1 f tt tt h.2 k in absurd cc
+
+same_sections : (model : List ℕ) (ss us : List Section) (ws vs : List WordAt) → words_of model ≡ Ok ws → words_of model ≡ Ok vs →
+    AreSections ss (words_from 0 (plain_words_of ws)) → AreSections us (words_from 0 (plain_words_of vs)) → ss ≡ us
+same_sections model ss us ws vs e f h k = let a = same_answer model ws vs (Ok ss) (Ok us) e f tt tt h k in cc
+
+check_check : (r s : CheckRule) (m n : ℕ) (ss us : List Section) → ss ≡ us → breach ss ≡ Some (r, m) → breach us ≡ Some (s, n) → refused_check r m ≡ refused_check s n
+check_check r s m n ss us e f g = let h : Some (r, m) ≡ Some (s, n) = sym f ∙ ap breach e ∙ g in cc
+
+check_accepted : (r : CheckRule) (m : ℕ) (ss us : List Section) → ss ≡ us → breach ss ≡ Some (r, m) → breach us ≡ None → ⊥
+check_accepted r m ss us e f g = let h : Some (r, m) ≡ None = sym f ∙ ap breach e ∙ g in absurd cc
+
+pub one_outcome : OutcomeIsUnique
+one_outcome model (refused_text r m) (refused_text s n) a b = text_text model r s m n a b
+one_outcome model (refused_text r m) (refused_check s n) a b = absurd (text_sections model r m b.0 b.1.0 a b.1.1 b.1.2)
+one_outcome model (refused_text r m) (accepted p) a b = absurd (text_sections model r m b.0 b.1.0 a b.1.1 b.1.2)
+one_outcome model (refused_check r m) (refused_text s n) a b = absurd (text_sections model s n a.0 a.1.0 b a.1.1 a.1.2)
+one_outcome model (refused_check r m) (refused_check s n) a b =
+    check_check r s m n a.0 b.0 (same_sections model a.0 b.0 a.1.0 b.1.0 a.1.1 b.1.1 a.1.2 b.1.2) a.2 b.2
+one_outcome model (refused_check r m) (accepted p) a b =
+    absurd (check_accepted r m a.0 b.0 (same_sections model a.0 b.0 a.1.0 b.1.0 a.1.1 b.1.1 a.1.2 b.1.2) a.2 b.2)
+one_outcome model (accepted p) (refused_text s n) a b = absurd (text_sections model s n a.0 a.1.0 b a.1.1 a.1.2)
+one_outcome model (accepted p) (refused_check s n) a b =
+    absurd (check_accepted s n b.0 a.0 (same_sections model b.0 a.0 b.1.0 a.1.0 b.1.1 a.1.1 b.1.2 a.1.2) b.2 a.2)
+one_outcome model (accepted p) (accepted q) a b =
+    let e = same_sections model a.0 b.0 a.1.0 b.1.0 a.1.1 b.1.1 a.1.2 b.1.2 in
+    ap accepted (a.3 ∙ ap resolved e ∙ sym b.3)
