@@ -2,7 +2,6 @@
 ghost use Rattle.ss_session.specs.Laws.{OutcomeIsUnique};
 
 /// A model is refused by one rule at one line, or is one program.
-#[tactic(auto, using(crate::proofs::Outcomes::one_outcome))]
 pub fn outcome_is_unique()
     ensures { OutcomeIsUnique }
 {}
