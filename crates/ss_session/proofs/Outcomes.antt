@@ -38,11 +38,19 @@ same_sections : (model : List ℕ) (ss us : List Section) (ws vs : List WordAt) 
     AreSections ss (words_from 0 (plain_words_of ws)) → AreSections us (words_from 0 (plain_words_of vs)) → ss ≡ us
 same_sections model ss us ws vs e f h k = let a = same_answer model ws vs (Ok ss) (Ok us) e f tt tt h k in cc
 
+abbrev of_breach : CheckRule → ℕ → Option (CheckRule × ℕ) → Outcome
+of_breach r m None = refused_check r m
+of_breach r m (Some q) = refused_check q.0 q.1
+
 check_check : (r s : CheckRule) (m n : ℕ) (ss us : List Section) → ss ≡ us → breach ss ≡ Some (r, m) → breach us ≡ Some (s, n) → refused_check r m ≡ refused_check s n
-check_check r s m n ss us e f g = let h : Some (r, m) ≡ Some (s, n) = sym f ∙ ap breach e ∙ g in cc
+check_check r s m n ss us e f g = ap (of_breach r m) (sym f ∙ ap breach e ∙ g)
+
+abbrev IsSome : Option (CheckRule × ℕ) → Type 0
+IsSome None = ⊥
+IsSome (Some q) = Unit {0}
 
 check_accepted : (r : CheckRule) (m : ℕ) (ss us : List Section) → ss ≡ us → breach ss ≡ Some (r, m) → breach us ≡ None → ⊥
-check_accepted r m ss us e f g = let h : Some (r, m) ≡ None = sym f ∙ ap breach e ∙ g in absurd cc
+check_accepted r m ss us e f g = subst IsSome (sym f ∙ ap breach e ∙ g) tt
 
 pub one_outcome : OutcomeIsUnique
 one_outcome model (refused_text r m) (refused_text s n) a b = text_text model r s m n a b

@@ -30,3 +30,17 @@ returns-in-Err-Memory-refuse-2 g c = none_written _ _ _ _ _ _ (rw c.in-Err-Memor
 pub returns-in-Err-Write-refuse : goal.returns-in-Err-Write-refuse
 unfolding LineGives
 returns-in-Err-Write-refuse g c = check_cut _ _ _ _ _ _ _ _ (rw c.in-Err-Check.field-0-is at c.in-Err-Check.ensures.err) (rw (c.in-Err-Write-refuse.field-0-is, c.code-in-Err-Check.ensures) at c.in-Err-Write-refuse.ensures)
+
+pub returns-in-Err : goal.returns-in-Err
+returns-in-Err g c = none_yet _ _ _ _
+
+pub returns-in-Ok-talk : goal.returns-in-Ok-talk
+returns-in-Ok-talk g c = talked _ _ _ _ _ _ _ _ c.in-Ok.ensures.ok (rw c.in-Ok-new.ensures.program at c.in-Ok-talk.ensures)
+
+pub returns-in-Err-Memory-talk : goal.returns-in-Err-Memory-talk
+returns-in-Err-Memory-talk g c =
+    talked_memory _ _ _ _ _ _ _ c.in-Ok.ensures.ok (rw (c.in-Err-Memory-talk.field-0-is, c.in-Ok-new.ensures.program) at c.in-Err-Memory-talk.ensures)
+
+pub returns-in-Err-Write-talk : goal.returns-in-Err-Write-talk
+returns-in-Err-Write-talk g c =
+    talked_write _ _ _ _ _ _ _ c.in-Ok.ensures.ok (rw (c.in-Err-Write-talk.field-0-is, c.in-Ok-new.ensures.program) at c.in-Err-Write-talk.ensures)
