@@ -10,6 +10,7 @@ use Rattle.ss_words.specs.declared.refusal.Refusal.TheVariants.{Unexpected}
 use Rattle.ss_words.specs.Plain.{Plain, name, number, mark, picture}
 use Rattle.ss_words.specs.Reading.{Reading, look, skip, pure, refuse}
 
+-- the signs in the order of their enum, from 0
 abbrev pub sign_number : Sign → ℕ
 sign_number s.Plus = 0
 sign_number s.Minus = 1
@@ -23,6 +24,7 @@ sign_number s.Greater = 8
 sign_number s.LessEqual = 9
 sign_number s.GreaterEqual = 10
 
+-- the reserved words in the order of their enum, from 0
 abbrev pub reserved_number : Reserved → ℕ
 reserved_number r.A = 0
 reserved_number r.An = 1
@@ -128,7 +130,7 @@ reserved_number r.Follows = 100
 reserved_number r.Skip = 101
 reserved_number r.Output = 102
 
--- signs first, then reserved words
+-- the signs first, then the reserved words: no two marks have one number
 abbrev pub mark_number : Mark → ℕ
 mark_number (m.Sign a) = sign_number a
 mark_number (m.Reserved a) = 11 + reserved_number a
@@ -146,23 +148,29 @@ expect k = look (λ w. elim (is k w) [ true ↦ skip (pure tt) | false ↦ refus
 unfoldable pub eat : Mark → Reading Bool
 eat k = look (λ w. elim (is k w) [ true ↦ skip (pure true) | false ↦ pure false ])
 
+-- passes a name, or refuses what stands in its place
 abbrev pub name_by : Option Plain → Reading (List ℕ)
 name_by (Some (name n)) = skip (pure n)
 name_by _ = refuse Unexpected
 
+-- passes a name and gives it
 unfoldable pub a_name : Reading (List ℕ)
 a_name = look name_by
 
+-- passes a number, or refuses what stands in its place
 abbrev pub number_by : Option Plain → Reading ℕ
 number_by (Some (number n)) = skip (pure n)
 number_by _ = refuse Unexpected
 
+-- passes a number and gives it
 unfoldable pub a_number : Reading ℕ
 a_number = look number_by
 
+-- passes a picture, or refuses what stands in its place
 abbrev pub picture_by : Option Plain → Reading (List (List ℕ))
 picture_by (Some (picture ls)) = skip (pure ls)
 picture_by _ = refuse Unexpected
 
+-- passes a picture and gives its lines
 unfoldable pub a_picture : Reading (List (List ℕ))
 a_picture = look picture_by

@@ -5,12 +5,15 @@ use Rattle.ss_words.specs.declared.refusal.Refusal.TheVariants.{Unexpected, Past
 use Rattle.ss_words.specs.declared.plain_word.PlainWord.{PlainWord}
 use Rattle.ss_words.specs.Plain.{Plain, plain_of, first}
 
+-- an answer, and the words that are left
 abbrev pub Read : Type 0 → Type 0
 Read A = Result A Refusal × List Plain
 
+-- what is read of a list of words
 abbrev pub Reading : Type 0 → Type 0
 Reading A = List Plain → Read A
 
+-- where something was read, the next reading goes on with it; a refusal stays
 abbrev pub goes_on : {A B : Type 0} → (A → Reading B) → Result A Refusal → List Plain → Read B
 goes_on f (Ok a) ws = f a ws
 goes_on f (Err e) ws = (Err e, ws)
@@ -19,6 +22,7 @@ goes_on f (Err e) ws = (Err e, ws)
 unfoldable pub bind : {A B : Type 0} → Reading A → (A → Reading B) → Reading B
 bind p f = λ ws. goes_on f (p ws).0 (p ws).1
 
+-- the same, written between the two
 infixl 10 ◌>>=◌
 abbrev pub ◌>>=◌ : {A B : Type 0} → Reading A → (A → Reading B) → Reading B
 p >>= f = bind p f
@@ -35,6 +39,7 @@ refuse e = λ ws. (Err e, ws)
 unfoldable pub look : {A : Type 0} → (Option Plain → Reading A) → Reading A
 look f = λ ws. f (first ws) ws
 
+-- the words behind the next one
 abbrev pub rest_of : List Plain → List Plain
 rest_of [] = []
 rest_of (w ∷ ws) = ws
@@ -43,14 +48,16 @@ rest_of (w ∷ ws) = ws
 unfoldable pub skip : {A : Type 0} → Reading A → Reading A
 skip p = λ ws. p (rest_of ws)
 
--- one item after the other, until there is none
+-- one item after the other, at most so many, until there is none
 unfoldable pub many_from : {A B : Type 0} → Reading (Option A) → B → (A → B → B) → ℕ → Reading B
 many_from item none one zero = pure none
 many_from item none one (suc n) = item >>= λ o. elim o [ Some a ↦ (many_from item none one n >>= λ b. pure (one a b)) | None ↦ pure none ]
 
+-- the same; there are no more items than words
 unfoldable pub many : {A B : Type 0} → Reading (Option A) → B → (A → B → B) → Reading B
 many item none one = λ ws. many_from item none one (suc (length ws)) ws
 
+-- refuses the next word, if there is one
 unfoldable pub ended : Reading (Unit {0})
 ended = look (λ w. elim w [ Some v ↦ refuse Unexpected | None ↦ pure tt ])
 
@@ -63,16 +70,18 @@ abbrev pub prepend : {A B : Type 0} → (A → B → B) → List A → B → B
 prepend one [] b = b
 prepend one (x ∷ xs) b = one x (prepend one xs b)
 
+-- what an option holds, seen by f
 abbrev pub option_view : {A B : Type 0} → (A → B) → Option A → Option B
 option_view f None = None
 option_view f (Some a) = Some (f a)
 
--- What a function answered, seen by view, and the words that it left are what a reading gives, unless memory ran out.
+-- a function refused and left these words, as a reading did; a refusal of memory says nothing
 abbrev pub Fails : {Y : Type 0} → Refusal → List Plain → Read Y → Type 0
 Fails Unexpected ws read = read ≡ (Err Unexpected, ws)
 Fails PastLimit ws read = read ≡ (Err PastLimit, ws)
 Fails Memory ws read = Unit {0}
 
+-- what a function answered, seen by view, and the words that it left are what a reading gives, unless memory was refused
 abbrev pub Gives : {X Y : Type 0} → (X → Y) → Result X Refusal → List Plain → Read Y → Type 0
 Gives view (Ok x) ws read = read ≡ (Ok (view x), ws)
 Gives view (Err e) ws read = Fails e ws read

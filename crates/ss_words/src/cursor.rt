@@ -1,4 +1,4 @@
-ghost use Rattle.std.specs.Prelude.{IfOk, IsTrue, List, length, map, get_or, eqb, ◌≡◌, ◌≤◌, ◌<◌, ◌-◌, Ok, Some};
+ghost use Rattle.std.specs.Prelude.{IfOk, OnErr, IsTrue, List, length, map, get_or, eqb, ◌≡◌, ◌≤◌, ◌<◌, ◌-◌, Ok, Some};
 ghost use Rattle.ss_words.specs.Reading.{Gives, words_of, lines_of, rest_of};
 ghost use Rattle.ss_words.specs.Plain.{first, plain_of};
 ghost use Rattle.ss_words.specs.Marks as marks;
@@ -9,7 +9,7 @@ use crate::plain_word::{Plain, PlainWord};
 use crate::refusal::Refusal;
 use std::alloc::Global;
 
-/// The plain words that are still to be read. After a refusal it begins with the word that was refused.
+/// The plain words that are still to be read. A call that refuses passes nothing, so the word that was refused is then the next one.
 #[derive(Drop)]
 pub struct Cursor<'a> {
     pub alloc: Global,
@@ -17,7 +17,7 @@ pub struct Cursor<'a> {
 }
 
 impl<'a> Cursor<'a> {
-    /// Whether the next word is this mark.
+    /// Whether the next word is this mark; false where none is left.
     pub fn is_next(&self, mark: Mark) -> bool
         ensures { result ≡ marks.is mark (first (words_of self.now.rest.now)) }
     {
@@ -37,7 +37,7 @@ impl<'a> Cursor<'a> {
         }
     }
 
-    /// Passes this mark, or refuses the word that stands in its place.
+    /// Passes this mark. `Unexpected` where another word or none stands in its place.
     #[tactic(auto, using(crate::proofs::Marks::taken), unfolding(crate::specs::Reading::look, crate::specs::Reading::skip, crate::specs::Reading::pure, crate::specs::Reading::refuse, crate::specs::Marks::expect))]
     pub fn expect(&mut self, mark: Mark) -> Result<(), Refusal>
         ensures exact { Gives (λ x. tt) result (words_of self.new.rest.now) (marks.expect mark (words_of self.old.rest.now)) }
@@ -65,10 +65,13 @@ impl<'a> Cursor<'a> {
         found
     }
 
-    /// Passes a name and gives a copy of it.
+    /// Passes a name and gives a copy of it. `Unexpected` where the next word is no name or none is left, `Memory` where the
+    /// memory for the copy was refused.
     #[tactic(auto, unfolding(crate::specs::Reading::look, crate::specs::Reading::skip, crate::specs::Reading::pure, crate::specs::Reading::refuse, crate::specs::Marks::a_name))]
     pub fn name(&mut self) -> Result<Vec<u8>, Refusal>
         ensures exact { Gives (λ v. v.items) result (words_of self.new.rest.now) (marks.a_name (words_of self.old.rest.now)) }
+        // Also where memory is refused, of which `exact` says nothing.
+        ensures stays { OnErr result (words_of self.new.rest.now ≡ words_of self.old.rest.now) }
         ensures shorter { length self.new.rest.now ≤ length self.old.rest.now }
         ensures taken { IfOk result (λ _. length self.new.rest.now < length self.old.rest.now) }
     {
@@ -80,14 +83,15 @@ impl<'a> Cursor<'a> {
                 },
                 rest @ ..,
             ] => {
+                let name = Vec::from_slice(self.alloc, name)?;
                 self.rest = rest;
-                Ok(Vec::from_slice(self.alloc, name)?)
+                Ok(name)
             }
             _ => Err(Refusal::Unexpected),
         }
     }
 
-    /// Passes a number.
+    /// Passes a number. `Unexpected` where the next word is no number or none is left.
     #[tactic(auto, unfolding(crate::specs::Reading::look, crate::specs::Reading::skip, crate::specs::Reading::pure, crate::specs::Reading::refuse, crate::specs::Marks::a_number))]
     pub fn number(&mut self) -> Result<u64, Refusal>
         ensures exact { Gives (λ n. n) result (words_of self.new.rest.now) (marks.a_number (words_of self.old.rest.now)) }
@@ -109,10 +113,13 @@ impl<'a> Cursor<'a> {
         }
     }
 
-    /// Passes a picture and gives a copy of its lines.
+    /// Passes a picture and gives a copy of its lines. `Unexpected` where the next word is no picture or none is left, `Memory`
+    /// where the memory for the copy was refused.
     #[tactic(auto, unfolding(crate::specs::Reading::look, crate::specs::Reading::skip, crate::specs::Reading::pure, crate::specs::Reading::refuse, crate::specs::Marks::a_picture))]
     pub fn picture(&mut self) -> Result<Vec<Vec<u8>>, Refusal>
         ensures exact { Gives (λ v. map (λ l. l.items) v.items) result (words_of self.new.rest.now) (marks.a_picture (words_of self.old.rest.now)) }
+        // Also where memory is refused, of which `exact` says nothing.
+        ensures stays { OnErr result (words_of self.new.rest.now ≡ words_of self.old.rest.now) }
         ensures shorter { length self.new.rest.now ≤ length self.old.rest.now }
         ensures taken { IfOk result (λ _. length self.new.rest.now < length self.old.rest.now) }
     {
@@ -124,14 +131,15 @@ impl<'a> Cursor<'a> {
                 },
                 rest @ ..,
             ] => {
+                let lines = copied(self.alloc, lines)?;
                 self.rest = rest;
-                Ok(copied(self.alloc, lines)?)
+                Ok(lines)
             }
             _ => Err(Refusal::Unexpected),
         }
     }
 
-    /// The line of the next word of the text, of which these words are left; 0 where none is left.
+    /// The line of the next word, from 1, where the words that are left are the last ones of `text`; 0 where none is left.
     pub fn line(&self, text: &[PlainWord]) -> usize
         ensures { result ≡ get_or (lines_of text.now) (length text.now - length self.now.rest.now) 0 }
     {
@@ -143,6 +151,7 @@ impl<'a> Cursor<'a> {
     }
 }
 
+// A plain word is this mark.
 fn is_mark(kind: &Plain, mark: Mark) -> bool
     ensures { result ≡ marks.is mark (Some (plain_of kind.now)) }
 {
@@ -152,6 +161,7 @@ fn is_mark(kind: &Plain, mark: Mark) -> bool
     }
 }
 
+// Two marks are the same.
 #[tactic(auto, using(crate::proofs::MarkNumbers::sign_below))]
 fn is_same(found: Mark, mark: Mark) -> bool
     ensures { result ≡ eqb (marks.mark_number mark) (marks.mark_number found) }

@@ -49,6 +49,7 @@ pub enum TextFault {
     /// The text breaks this rule at this line; lines count from 1.
     #[error("line {line}: {rule:?}")]
     Refused { rule: TextRule, line: usize },
+    /// The memory for reading the text was refused.
     #[error("out of memory")]
     Memory,
 }

@@ -7,6 +7,7 @@ pub enum Plain {
     Name(Vec<u8>),
     /// From 0 to 2^63 - 1.
     Number(u64),
+    /// A reserved word or a sign.
     Mark(Mark),
     /// The lines of a picture.
     Picture(Vec<Vec<u8>>),
@@ -17,7 +18,7 @@ impl Plain {
     ghost use Rattle.ss_words.specs.Plain.{plain_of};
     ghost use Rattle.ss_words.specs.PlainRules.{mark_in};
 
-    /// The reserved word or sign that it is.
+    /// The reserved word or sign that it is; `None` where it is a name, a number or a picture.
     pub fn mark(&self) -> Option<Mark>
         ensures { result ≡ mark_in (plain_of self.now) }
     {
@@ -28,7 +29,7 @@ impl Plain {
     }
 }
 
-/// A plain word, the line on which it stands, and the place of the word from which it comes in the list of words.
+/// A plain word, the line on which it stands, from 1, and the place of the word from which it comes in the list of words, from 0.
 #[derive(Debug, Drop)]
 pub struct PlainWord {
     pub line: usize,

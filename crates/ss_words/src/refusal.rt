@@ -7,6 +7,7 @@ pub enum Refusal {
     Unexpected,
     /// This word passes a limit.
     PastLimit,
+    /// The memory for what was read was refused.
     Memory,
 }
 

@@ -65,6 +65,10 @@ fn a_comment_behind_thus()
     ensures { words_of (codes "print 1 lines thus ''a''" ++ 10 ∷ codes "''b") ≡ Ok (on_line 1 (name (codes "PRINT")) ∷ on_line 1 (number 1) ∷ on_line 1 (name (codes "LINES")) ∷ on_line 1 (name (codes "THUS")) ∷ on_line 2 (picture ((codes "''b") ∷ [])) ∷ []) }
 {}
 
+fn an_open_comment_behind_thus()
+    ensures { words_of (codes "print 1 lines thus ''a" ++ 10 ∷ codes "b''") ≡ Ok (on_line 1 (name (codes "PRINT")) ∷ on_line 1 (number 1) ∷ on_line 1 (name (codes "LINES")) ∷ on_line 1 (name (codes "THUS")) ∷ on_line 2 (picture ((codes "b''") ∷ [])) ∷ []) }
+{}
+
 fn two_comments_behind_thus()
     ensures { words_of (codes "print 1 lines thus ''a'' ''b''" ++ 10 ∷ codes "c") ≡ Err (Refused NoPicture 1) }
 {}
@@ -137,6 +141,14 @@ fn thus_without_a_number()
     ensures { words_of (codes "print a thus" ++ 10 ∷ codes "a") ≡ Err (Refused NoPicture 1) }
 {}
 
+fn thus_directly_behind_print()
+    ensures { words_of (codes "print thus" ++ 10 ∷ codes "a") ≡ Err (Refused NoPicture 1) }
+{}
+
+fn a_picture_of_no_lines()
+    ensures { words_of (codes "print 0 thus" ++ 10 ∷ codes "a") ≡ Err (Refused NoPicture 1) }
+{}
+
 fn thus_with_too_few_lines()
     ensures { words_of (codes "print 2" ++ 10 ∷ codes "thus" ++ 10 ∷ codes "a") ≡ Err (Refused NoPicture 2) }
 {}
@@ -151,6 +163,10 @@ fn a_picture_of_101_lines()
 
 fn a_picture_line_of_132_bytes()
     ensures { words_of (codes "print 1 thus" ++ 10 ∷ replicate 132 45) ≡ Ok (on_line 1 (name (codes "PRINT")) ∷ on_line 1 (number 1) ∷ on_line 1 (name (codes "THUS")) ∷ on_line 2 (picture (replicate 132 45 ∷ [])) ∷ []) }
+{}
+
+fn a_carriage_return_behind_a_picture_line()
+    ensures { words_of (codes "print 1 thus" ++ 10 ∷ replicate 132 45 ++ 13 ∷ 10 ∷ []) ≡ Ok (on_line 1 (name (codes "PRINT")) ∷ on_line 1 (number 1) ∷ on_line 1 (name (codes "THUS")) ∷ on_line 2 (picture (replicate 132 45 ∷ [])) ∷ []) }
 {}
 
 fn a_picture_line_of_133_bytes()

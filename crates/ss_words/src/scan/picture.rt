@@ -40,7 +40,7 @@ fn picture(alloc: Global, lines: &mut Lines, count: usize) -> Result<Vec<Vec<u8>
         (before : List Kind) → MatchResult result (λ _. todo before ≡ found_from_line before (lines.new.taken + 1) 0 (lines_of lines.new.rest.now)) (λ f. IsFirstIn f (todo before)) }
     ensures shorter { length lines.new.rest.now ≤ length lines.old.rest.now }
 {
-    let mut picture = Vec::new(alloc);
+    let mut picture = Vec::with_capacity(alloc, count)?;
     for _line in 0..count {
         match lines.next() {
             Some(line) => picture.push(picture_line(alloc, line, lines.taken)?)?,

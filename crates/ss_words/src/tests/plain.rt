@@ -1,4 +1,4 @@
-use crate::{Mark, Plain, PlainWord, Sign, Word, WordKind, Words, plain_words};
+use crate::{Mark, Plain, PlainWord, Sign, Word, WordKind, Words, plain_words, words};
 use std::alloc::{AllocError, Global};
 use std::test::Fail;
 
@@ -118,5 +118,111 @@ fn of_commas_one_stays_and_none_before_a_reserved_word(rt: HostRuntime) -> Resul
         text.as_str(),
         "1.0 X|1.1 Comma|2.4 Y|2.5 Comma|2.6 Equal|2.7 Z|2.8 Comma|2.9 Equal|2.10 Z|3.12 Let|3.13 X|3.14 Comma|"
     );
+    Ok(())
+}
+
+fn sign_text(sign: Sign) -> &'static str {
+    match sign {
+        Sign::Comma => ",",
+        Sign::Equal => "=",
+        Sign::Less => "<",
+        Sign::Greater => ">",
+        Sign::LessEqual => "<=",
+        Sign::GreaterEqual => ">=",
+        _ => "?",
+    }
+}
+
+// The plain words of a text without its lines: a reserved word as its variant is called, a name and a sign as they are written.
+fn plain_text(rt: &HostRuntime, text: &str) -> Result<String, Fail> {
+    let words = words(rt.alloc(), text.as_bytes())?;
+    let plain = plain_words(rt.alloc(), &words)?;
+    let mut out = String::new(rt.alloc());
+    for word in &plain {
+        if !out.is_empty() {
+            out.push(' ')?;
+        }
+        match &word.kind {
+            Plain::Mark(Mark::Reserved(reserved)) => write!(out, "{reserved:?}")?,
+            Plain::Mark(Mark::Sign(sign)) => out.push_str(sign_text(*sign))?,
+            Plain::Name(name) => {
+                for byte in name {
+                    out.push(char::from(*byte))?;
+                }
+            }
+            Plain::Number(number) => write!(out, "{number}")?,
+            Plain::Picture(lines) => write!(out, "{lines:?}")?,
+        }
+    }
+    Ok(out)
+}
+
+// From a text to its plain words.
+const RULES: [(&str, &str); 16] = [
+    (
+        "X EACH ALL HAVE OWN BELONG ENTITY NOTICE VARIABLE SET GIVING OTHERWISE REGARDLESS REPEAT CAUSE UNIT UNITS DAY LINE ON OF",
+        "X Every Every Has Owns Belongs Entities Notices Variables Sets Given Else Always Loop Schedule Days Days Days Lines In In",
+    ),
+    ("X EQ LT LS GT GR LE GE", "X = < < > > <= >="),
+    (
+        "EVERY HAS OWNS BELONGS ENTITIES NOTICES VARIABLES SETS GIVEN ELSE ALWAYS LOOP SCHEDULE DAYS LINES IN NE",
+        "Every Has Owns Belongs Entities Notices Variables Sets Given Else Always Loop Schedule Days Lines In Ne",
+    ),
+    ("let. let.x eachs", "Let LET.X EACHS"),
+    (
+        "PRINT 1 LINE AS FOLLOWS\n*\nAS X FOLLOWS",
+        "Print 1 Lines Thus [[42]] As X Follows",
+    ),
+    ("X A AN THE THIS MAY OUTPUT Y A THE", "X Y"),
+    (
+        "SCHEDULE A X SCHEDULE AN X SCHEDULE THE X SCHEDULE THIS X CAUSE AN X",
+        "Schedule A X Schedule A X Schedule The X Schedule The X Schedule A X",
+    ),
+    (
+        "SCHEDULE MAY A X SCHEDULE THE A X",
+        "Schedule X Schedule The X",
+    ),
+    (
+        "ROUTINE TO X ROUTINE FOR X ROUTINE X TO FOR Y ROUTINE THE TO X",
+        "Routine X Routine X Routine X To For Y Routine To X",
+    ),
+    (
+        "IF X LET Y AND Z IF X IS EMPTY AND Y SCHEDULE X IF Y AT Z",
+        "If X Let Y , Z If X Is Empty And Y Schedule X If Y In Z",
+    ),
+    ("SCHEDULE THE X AT Y", "Schedule The X At Y"),
+    ("X AND Y AT Z", "X , Y In Z"),
+    ("LET X , , AND , Y", "Let X , Y"),
+    ("LET X , LET Y , , IF Z AND , OR", "Let X Let Y If Z And Or"),
+    ("X , EQ Y , = Z ,", "X , = Y , = Z ,"),
+    ("", ""),
+];
+
+#[test]
+fn each_rule_of_the_plain_words(rt: HostRuntime) -> Result<(), Fail> {
+    for (text, plain) in RULES {
+        assert_eq!(rt; plain_text(&rt, text)?.as_str(), plain, "{text}");
+    }
+    Ok(())
+}
+
+#[test]
+fn and_and_at_behind_each_governing_word(rt: HostRuntime) -> Result<(), Fail> {
+    let heads =
+        "PREAMBLE MAIN ROUTINE EVENT DEFINE LET ADD SUBTRACT CREATE DESTROY FILE REMOVE IF FOR FIND COMPUTE SCHEDULE CANCEL START STOP CALL RETURN READ PRINT SKIP";
+    for head in heads.split(' ') {
+        let joined = match head {
+            "IF" | "FOR" => "And",
+            _ => ",",
+        };
+        let at = match head {
+            "SCHEDULE" => "At",
+            _ => "In",
+        };
+        let text = format!(in rt.alloc(); "{head} X AND Y AT Z")?;
+        let alone = plain_text(&rt, head)?;
+        let plain = format!(in rt.alloc(); "{alone} X {joined} Y {at} Z")?;
+        assert_eq!(rt; plain_text(&rt, text.as_str())?.as_str(), plain.as_str());
+    }
     Ok(())
 }

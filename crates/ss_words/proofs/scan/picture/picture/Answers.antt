@@ -10,7 +10,7 @@ use Rattle.ss_words.proofs.scan.picture.picture.Goals as goal
 -- a line of the picture breaks a rule
 pub returns-in_err-picture_line-in-Some-clause-found : goal.returns-in_err-picture_line-in-Some-clause-found
 returns-in_err-picture_line-in-Some-clause-found c =
-    let p = err_from_is_err_and c.from_residual.result c.from_residual.ensures.1 in
+    let p = err_from_is_err_and c.from_residual-in_err-picture_line-in-Some.result c.from_residual-in_err-picture_line-in-Some.ensures.1 in
     let size : c.args.count - c.loop-line._line ≡ suc (c.args.count - (c.loop-line._line + 1)) = omega arith in
     λ before. rw (p.1, p.2) (drawn-refused c.loop-line.invariant.drawn c.in_err-picture_line-in-Some.field-0.0 (c.args.count - (c.loop-line._line + 1)) c.next.new.self.taken c.in-Some.line.now (lines_of c.next.new.self.rest.now)
     size c.in-Some.ensures.line c.in-Some.ensures.taken c.in_err-picture_line-in-Some.ensures.found before)
