@@ -3,6 +3,7 @@ pub mod SoundPlaces
 pub mod Terms
 pub mod Breaches
 pub mod Known
+pub mod Distinct
 pub mod Few
 pub mod SoundResolved
 pub mod LookedUpAgain

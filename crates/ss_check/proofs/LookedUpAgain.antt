@@ -9,7 +9,7 @@ use Rattle.ss_routines.specs.Expr.{Expr, expr, Sums, no_sums, sum, Term, term, P
 use Rattle.ss_routines.specs.Places.{Assign, lets, adds, subtracts, prints, stops, ends, Place, assign, output, control, Spot, Section}
 use Rattle.ss_check.specs.declared.variable.Variable.TheVariants.{Local, Clock}
 use Rattle.ss_check.specs.Names.{is_clock, names_of_expr, names_of_sums, names_of_term, names_of_products, names_of_factor, names_written}
-use Rattle.ss_check.specs.Resolved.{locals_of, resolved, resolved_assign, resolved_expr, resolved_factor, resolved_name, resolved_place, resolved_products, resolved_section, resolved_spot, resolved_sums, resolved_term}
+use Rattle.ss_check.specs.Resolved.{locals_written, resolved, resolved_assign, resolved_expr, resolved_factor, resolved_name, resolved_place, resolved_products, resolved_section, resolved_spot, resolved_sums, resolved_term}
 use Rattle.ss_check.specs.LookedUp.{HaveNoParameters, looked_up, looked_up_section, name_of, written_assign, written_expr, written_factor, written_place, written_products, written_spot, written_sums, written_term}
 use Rattle.ss_check.proofs.Known.{known, known_parts, any_position, all_known}
 
@@ -83,8 +83,8 @@ places_again table (s ∷ ss) h =
 
 section_again : (s : Section) → s.parameters ≡ [] → looked_up_section [] (resolved_section s) ≡ s
 section_again s e =
-    ap (λ (ps : List (List ℕ)). record s { parameters = ps; places = map (written_spot [] (locals_of s.places)) (map (resolved_spot (locals_of s.places)) s.places) }) (sym e)
-    ∙ ap (λ (xs : List Spot). record s { places = xs }) (places_again (locals_of s.places) s.places (all_known (flat_map (λ s. names_written s.place) s.places) []))
+    ap (λ (ps : List (List ℕ)). record s { parameters = ps; places = map (written_spot [] (locals_written s.places)) (map (resolved_spot (locals_written s.places)) s.places) }) (sym e)
+    ∙ ap (λ (xs : List Spot). record s { places = xs }) (places_again (locals_written s.places) s.places (all_known (flat_map (λ s. names_written s.place) s.places) []))
 
 pub looked_up_again : (ss : List Section) → HaveNoParameters ss → looked_up (resolved ss) ≡ ss
 looked_up_again [] h = refl

@@ -16,9 +16,10 @@ use Rattle.ss_check.specs.Names.{is_clock, is_function, names_of_expr, names_of_
 use Rattle.ss_check.specs.Breach.{breach, breach_of, broken, assigns_fixed, first_breach, has_wrong_picture, is_main_section, lacks_arguments, place_rules, place_statement}
 use Rattle.ss_check.specs.Ended.{IsEnded, AreEnded}
 use Rattle.ss_check.specs.Ended as ended
-use Rattle.ss_check.specs.Resolved.{locals_of, resolved, resolved_assign, resolved_expr, resolved_factor, resolved_name, resolved_place, resolved_products, resolved_section, resolved_spot, resolved_sums, resolved_term}
+use Rattle.ss_check.specs.Resolved.{locals_written, resolved, resolved_assign, resolved_expr, resolved_factor, resolved_name, resolved_place, resolved_products, resolved_section, resolved_spot, resolved_sums, resolved_term}
 use Rattle.ss_check.proofs.Breaches.{breach_behind, no_breach_cons, no_breach_place}
 use Rattle.ss_check.proofs.Known.{known, known_parts, any_position, all_known}
+use Rattle.ss_check.proofs.Distinct.{distinct_locals, distinct_names}
 use Rattle.ss_check.proofs.Few.{AreFew}
 
 -- ---- names and expressions
@@ -116,9 +117,10 @@ ended_places table (s ∷ t ∷ ts) h = (end_stays table s.place ∙ h.0, ended_
 
 sound_section : (s : Section) → IsEnded s.places → length s.places < 2 ^ 63 → first_breach (map place_statement s.places) ≡ None → sound.IsSoundSection 0 (resolved_section s)
 sound_section s e f b = record {
-  places = sound_places (locals_of s.places) s.places (all_known (flat_map (λ s. names_written s.place) s.places) []) b;
-  ended = ended_places (locals_of s.places) s.places e;
-  few = rw (length-map s.places (resolved_spot (locals_of s.places))) f;
+  distinct = distinct_locals (flat_map (λ s. names_written s.place) s.places);
+  places = sound_places (locals_written s.places) s.places (all_known (flat_map (λ s. names_written s.place) s.places) []) b;
+  ended = ended_places (locals_written s.places) s.places e;
+  few = rw (length-map s.places (resolved_spot (locals_written s.places))) f;
 }
 
 sound_sections : (ss : List Section) (has_main : Bool) (n : ℕ) → AreEnded ss → AreFew ss → breach_behind has_main n ss ≡ None → sound.AreSoundSections 0 (map resolved_section ss)
@@ -148,5 +150,6 @@ sound_resolved ss e f l b = record {
   main = let one = mains_counted ss false 1 b in omega (arith, one);
   sections = sound_sections ss false 1 e f b;
   few = rw (length-map ss resolved_section) l;
+  distinct = distinct_names (map resolved_section ss);
   few_names = omega arith;
 }

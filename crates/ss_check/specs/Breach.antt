@@ -72,6 +72,10 @@ lowest (r ∷ rs) = Some r
 abbrev pub breach_of : Statement → Option (CheckRule × ℕ)
 breach_of s = option_map (λ r. (r, s.line)) (lowest s.breaks)
 
+-- the breach of a place on line l
+abbrev pub breach_at : ℕ → Place → Option (CheckRule × ℕ)
+breach_at l p = breach_of (place_statement (record { line = l; place = p }))
+
 -- the breach of the first statement that has one
 abbrev pub first_breach : List Statement → Option (CheckRule × ℕ)
 first_breach [] = None

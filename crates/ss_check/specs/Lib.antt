@@ -9,3 +9,4 @@ pub mod Ended
 pub mod Resolved
 pub mod LookedUp
 pub mod Found
+pub mod Examples

@@ -1,4 +1,4 @@
--- The checked program: tables of names, each name once and in order of declaration, and the places of each section.
+-- The checked program: tables of names in order of declaration, and the places of each section.
 use Rattle.std.specs.Prelude.{ℕ, List, [], slice_get, Option, Some, None, Bool, true}
 use Rattle.std.specs.List.{position_or_len}
 use Rattle.ss_check.specs.declared.kinds.ClassKind.{ClassKind}
@@ -33,7 +33,7 @@ pub record ProgramTable : Type 0 where
   pub sets : List SetTable
   pub sections : List SectionTable
 
--- a test on one section
+-- MAIN, by the kind of a section
 abbrev pub is_main_kind : SectionKind → Bool
 is_main_kind Main = true
 

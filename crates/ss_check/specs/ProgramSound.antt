@@ -1,5 +1,6 @@
 -- What is sound about every checked program.
-use Rattle.std.specs.Prelude.{◌≡◌, ℕ, ◌<◌, ◌+◌, ◌^◌, List, [], ◌∷◌, length, count_by, Bool, true, false}
+use Rattle.std.specs.Prelude.{◌≡◌, ℕ, ◌<◌, ◌+◌, ◌^◌, List, [], ◌∷◌, length, map, count_by, bytes_eq, Bool, true, false}
+use Rattle.std.specs.List.{IsDistinct}
 use Rattle.ss_report.specs.Pictures.{field_count}
 use Rattle.ss_check.specs.declared.variable.Variable.{Variable}
 use Rattle.ss_check.specs.declared.variable.Variable.TheVariants.{Global, Local, Clock}
@@ -12,7 +13,7 @@ use Rattle.ss_check.specs.declared.place.Place.{Place}
 use Rattle.ss_check.specs.declared.place.Place.TheVariants.{Assign, Output, Control}
 use Rattle.ss_check.specs.declared.place.Spot.{Spot}
 use Rattle.ss_check.specs.ProgramExpr.{Expr, expr, Sums, no_sums, sum, Term, term, Products, no_products, product, Factor, digits, variable, within}
-use Rattle.ss_check.specs.Program.{SectionTable, ProgramTable, is_main}
+use Rattle.ss_check.specs.Program.{ClassTable, SectionTable, ProgramTable, is_main}
 
 -- a variable is one of the n global ones, one of the m locals, or the clock
 abbrev pub IsSoundVariable : ℕ → ℕ → Variable → Type 0
@@ -82,8 +83,13 @@ IsEnded [] = ⊥
 IsEnded (s ∷ []) = is_end s.place ≡ true
 IsEnded (s ∷ t ∷ ts) = (is_end s.place ≡ false) × IsEnded (t ∷ ts)
 
+-- no two names of a table are alike
+abbrev pub AreDistinct : List (List ℕ) → Type 0
+AreDistinct names = IsDistinct bytes_eq names
+
 -- a section of a program with n global variables
 pub record IsSoundSection (n : ℕ) (s : SectionTable) : Type 0 where
+  pub distinct : AreDistinct s.locals
   pub places : AreSoundPlaces n (length s.locals) s.places
   pub ended : IsEnded s.places
   pub few : length s.places < 2 ^ 63
@@ -92,9 +98,22 @@ abbrev pub AreSoundSections : ℕ → List SectionTable → Type 0
 AreSoundSections n [] = Unit {0}
 AreSoundSections n (s ∷ ss) = IsSoundSection n s × AreSoundSections n ss
 
--- a program: one MAIN, and sound sections
+-- no two attributes of one class are alike
+abbrev pub HaveDistinctAttributes : List ClassTable → Type 0
+HaveDistinctAttributes [] = Unit {0}
+HaveDistinctAttributes (c ∷ cs) = AreDistinct c.attributes × HaveDistinctAttributes cs
+
+-- each of a program's own tables has distinct names
+pub record HasDistinctNames (p : ProgramTable) : Type 0 where
+  pub globals : AreDistinct p.globals
+  pub classes : AreDistinct (map (λ c. c.name) p.classes)
+  pub attributes : HaveDistinctAttributes p.classes
+  pub sets : AreDistinct (map (λ s. s.name) p.sets)
+
+-- a program: one MAIN, sound sections, and tables of distinct names
 pub record IsSound (p : ProgramTable) : Type 0 where
   pub main : count_by is_main p.sections ≡ 1
   pub sections : AreSoundSections (length p.globals) p.sections
   pub few : length p.sections < 2 ^ 63
+  pub distinct : HasDistinctNames p
   pub few_names : length p.globals + length p.classes + length p.sets < 2 ^ 32

@@ -23,8 +23,8 @@ abbrev pub with_local : List (List ℕ) → List ℕ → List (List ℕ)
 with_local table n = if is_clock n || list_any (bytes_eq n) table then table else table ++ n ∷ []
 
 -- the local variables of a section: the names of its places but TIME.V, each once, in the order in which they are first written
-abbrev pub locals_of : List Spot → List (List ℕ)
-locals_of spots = fold with_local [] (flat_map (λ s. names_written s.place) spots)
+abbrev pub locals_written : List Spot → List (List ℕ)
+locals_written spots = fold with_local [] (flat_map (λ s. names_written s.place) spots)
 
 -- with the local variables of its section, what a name stands for
 module _ (locals : List (List ℕ)) where
@@ -76,8 +76,8 @@ resolved_section s = record {
   name = s.name;
   kind = s.kind;
   line = s.line;
-  locals = locals_of s.places;
-  places = map (resolved_spot (locals_of s.places)) s.places;
+  locals = locals_written s.places;
+  places = map (resolved_spot (locals_written s.places)) s.places;
 }
 
 -- the program: no global variables, classes and sets, and the sections

@@ -3,7 +3,6 @@ ghost use Rattle.ss_routines.specs.View.{section_view, sections_of, spots};
 ghost use Rattle.ss_check.specs.Breach.{IsBreach, breach, breach_of, first_breach, head_statement, is_main_section, place_statement};
 ghost use Rattle.ss_check.specs.Breach as rules;
 ghost use Rattle.ss_check.specs.Ended.{AreEnded};
-ghost use Rattle.ss_check.specs.LookedUp.{IsLookedUpAgain};
 ghost use Rattle.ss_check.specs.Resolved.{resolved, resolved_section, resolved_spot};
 
 use crate::check_place::check_place;
@@ -30,11 +29,6 @@ pub fn check(alloc: Global, sections: Sections) -> Result<Program, CheckFault>
     let checked = check_sections(alloc, sections.list)?;
     Ok(Program::new(Vec::new(alloc), Vec::new(alloc), Vec::new(alloc), checked))
 }
-
-/// Each number of a program, looked up in its table, is the name that the text has there.
-pub fn looks_up_again()
-    ensures { IsLookedUpAgain }
-{}
 
 fn check_sections(
     alloc: Global,

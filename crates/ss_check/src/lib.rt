@@ -1,6 +1,8 @@
-//! The checked program: tables of distinct names, and sections as lists of places in which every name is a number in its table.
+//! The checker and the checked program: tables of distinct names, and sections as lists of places in which each name is its
+//! number in a table.
 #![tactic(auto)]
 
+mod assign;
 mod calls;
 mod check_place;
 mod checker;
@@ -8,6 +10,7 @@ mod expr;
 mod fault;
 mod find;
 mod kinds;
+pub mod laws;
 mod locals;
 mod name;
 mod names;
@@ -21,7 +24,7 @@ mod tables;
 mod tests;
 mod variable;
 
-pub use checker::{check, looks_up_again};
+pub use checker::check;
 pub use expr::{Expr, Values};
 pub use fault::{CheckFault, CheckRule};
 pub use find::Named;

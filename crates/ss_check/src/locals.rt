@@ -12,7 +12,7 @@ use std::alloc::{AllocError, Global};
 
 /// The table of the local variables of a section with these places (docs/LANGUAGE.md, "Names and values").
 pub(crate) fn locals_of(alloc: Global, places: &[Spot]) -> Result<Vec<Name>, AllocError>
-    ensures { IfOk result (λ locals. locals.items ≡ resolved.locals_of (spots places.now)) }
+    ensures { IfOk result (λ locals. locals.items ≡ resolved.locals_written (spots places.now)) }
 {
     let mut locals = Vec::new(alloc);
     for spot in places {
@@ -41,11 +41,7 @@ fn add_assign(alloc: Global, locals: &mut Vec<Name>, assign: &Assign) -> Result<
             add_name(alloc, locals, &target.name)?;
             add_expr(alloc, locals, value)
         }
-        Assign::Add { value, target } => {
-            add_expr(alloc, locals, value)?;
-            add_name(alloc, locals, &target.name)
-        }
-        Assign::Subtract { value, target } => {
+        Assign::Add { value, target } | Assign::Subtract { value, target } => {
             add_expr(alloc, locals, value)?;
             add_name(alloc, locals, &target.name)
         }

@@ -9,7 +9,8 @@ use crate::tables::{Class, Set};
 use ss_routines::SectionKind;
 use std::marker::Model;
 
-/// A checked program: its tables, each of distinct names in order of declaration.
+/// A checked program. The names of its global variables, classes and sets, those of a class's attributes and those of a
+/// section's locals stand in order of declaration, each once in its table.
 #[derive(Debug, Drop)]
 pub struct Program {
     pub globals: Vec<Name>,
@@ -56,6 +57,7 @@ impl Program {
     pub fn known(&self)
         ensures { IsSound self.now }
     {
+        // The invariant is known where a field is read.
         let _ = &self.sections;
     }
 
@@ -65,6 +67,7 @@ impl Program {
         ensures main { result ≡ main_number self.now }
         ensures there { result < length self.now.sections }
     {
+        // The invariant is known where a field is read: there is one MAIN.
         let _ = &self.sections;
         match self.find_main() {
             Some(number) => number,

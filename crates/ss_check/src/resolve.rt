@@ -3,6 +3,7 @@ ghost use Rattle.ss_routines.specs.View.{assign_view, expr_view, factor_view, te
 ghost use Rattle.ss_check.specs.ProgramExpr.{expr_of, factor_of, term_of};
 ghost use Rattle.ss_check.specs.Resolved as resolved;
 
+use crate::assign::{target_of, value_of};
 use crate::expr::{Expr, Values};
 use crate::name::Name;
 use crate::names::is_clock;
@@ -19,31 +20,17 @@ pub(crate) fn resolve_assign(
 ) -> Result<Assign, AllocError>
     ensures { IfOk result (λ a. a ≡ resolved.resolved_assign locals.now (assign_view assign.now)) }
 {
-    match assign {
-        ss_routines::Assign::Let {
-            written,
+    let value = resolve_expr(alloc, locals, value_of(assign))?;
+    let target = resolve_name(locals, target_of(assign));
+    Ok(match assign {
+        ss_routines::Assign::Let { written, .. } => Assign::Let {
+            written: *written,
             target,
             value,
-        } => {
-            let value = resolve_expr(alloc, locals, value)?;
-            let target = resolve_name(locals, &target.name);
-            Ok(Assign::Let {
-                written: *written,
-                target,
-                value,
-            })
-        }
-        ss_routines::Assign::Add { value, target } => {
-            let value = resolve_expr(alloc, locals, value)?;
-            let target = resolve_name(locals, &target.name);
-            Ok(Assign::Add { value, target })
-        }
-        ss_routines::Assign::Subtract { value, target } => {
-            let value = resolve_expr(alloc, locals, value)?;
-            let target = resolve_name(locals, &target.name);
-            Ok(Assign::Subtract { value, target })
-        }
-    }
+        },
+        ss_routines::Assign::Add { .. } => Assign::Add { value, target },
+        ss_routines::Assign::Subtract { .. } => Assign::Subtract { value, target },
+    })
 }
 
 /// The expressions in order, with the numbers of their variables.

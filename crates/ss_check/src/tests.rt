@@ -196,11 +196,35 @@ fn locals_are_numbered_as_they_are_first_written(rt: HostRuntime) -> Result<(), 
     let program = check(alloc, one(alloc, main_section(alloc, 1, first, second)?)?)?;
     let main = program.main();
     assert_eq!(rt; main, 0);
-    assert_eq!(rt; program.local(main, b"COUNT"), Some(0));
-    assert_eq!(rt; program.local(main, b"TOTAL"), Some(1));
-    assert_eq!(rt; program.local(main, b"TOTALS"), None);
-    assert_eq!(rt; program.local(main, b"TIME.V"), None);
-    assert_eq!(rt; program.find(b"COUNT"), None);
-    assert_eq!(rt; program.find(b"TIME.V"), None);
+    let locals: [(&[u8], Option<usize>); 7] = [
+        (b"COUNT", Some(0)),
+        (b"TOTAL", Some(1)),
+        (b"TOTALS", None),
+        (b"TOTA", None),
+        (b"total", None),
+        (b"TIME.V", None),
+        (b"", None),
+    ];
+    for (name, wanted) in locals {
+        assert_eq!(rt; program.local(main, name), wanted);
+        assert_eq!(rt; program.find(name), None);
+    }
+    Ok(())
+}
+
+#[test]
+fn a_checked_program_has_its_places(rt: HostRuntime) -> Result<(), Fail> {
+    let alloc = rt.alloc();
+    let first = assignment(alloc, b"X", b"Y")?;
+    let second = print(alloc, b"X", b"**")?;
+    let program = check(alloc, one(alloc, main_section(alloc, 4, first, second)?)?)?;
+    let main = program.main();
+    let section = program.section(main);
+    assert_eq!(rt; section.line, 4);
+    assert_eq!(rt; section.locals.len(), 2);
+    assert_eq!(rt; section.places.len(), 3);
+    for place in 0..section.places.len() {
+        assert_eq!(rt; program.spot(main, place).line, 5 + place);
+    }
     Ok(())
 }

@@ -127,7 +127,9 @@ impl Draft {
     }
 }
 
-fn name(alloc: Global, bytes: &[u8]) -> Result<Name, PictureFault> {
+fn name(alloc: Global, bytes: &[u8]) -> Result<Name, PictureFault>
+    ensures { IfOk result (λ name. name ≡ bytes.now) }
+{
     Ok(Name {
         bytes: Vec::from_slice(alloc, bytes)?,
     })

@@ -1,4 +1,4 @@
-ghost use Rattle.std.specs.Prelude.{◌≡◌, false};
+ghost use Rattle.std.specs.Prelude.{◌≡◌, false, IfOk};
 ghost use Rattle.ss_check.specs.ProgramExpr.{factor_of};
 ghost use Rattle.ss_check.specs.ProgramSound.{IsSoundPlace, IsSoundExpr, IsSoundFactor, IsTarget, is_end};
 
@@ -120,7 +120,9 @@ impl Draft {
     }
 }
 
-fn name(alloc: Global, bytes: &[u8]) -> Result<Name, PictureFault> {
+fn name(alloc: Global, bytes: &[u8]) -> Result<Name, PictureFault>
+    ensures { IfOk result (λ name. name ≡ bytes.now) }
+{
     Ok(Name {
         bytes: Vec::from_slice(alloc, bytes)?,
     })
