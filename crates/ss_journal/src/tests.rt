@@ -73,10 +73,10 @@ fn back(dial: &mut Dial, journal: &mut Journal<Turn>) -> bool
 
 // Six steps forward and all back, each state compared. A step that is refused memory is tried again, with nothing changed.
 fn there_and_back(
-    rt: &impl Abort,
+    rt: &(impl Abort + Print),
     dial: &mut Dial,
     journal: &mut Journal<Turn>,
-) -> Result<(), AllocError>
+) -> Result<(), Fail>
     requires closed { journal.old.current ≡ [] }
     requires fits { FitsSteps ⟦<Dial as Undo>⟧.fits ⟦<Dial as Undo>⟧.unapply journal.old.steps dial.old }
     ensures closed { journal.new.current ≡ [] }
@@ -96,6 +96,7 @@ fn there_and_back(
         if forward(dial, journal, values).is_err() {
             assert_eq!(rt; dial.value, before);
             assert_eq!(rt; journal.steps(), kept);
+            println!(rt; "memory was refused at step {kept}")?;
             forward(dial, journal, values)?;
         }
     }
@@ -125,6 +126,7 @@ fn work_that_was_not_closed_is_taken_back(rt: HostRuntime) -> Result<(), Fail> {
     let mut journal = Journal::new(rt.alloc());
     if journal.reserve(2).is_err() {
         assert_eq!(rt; journal.steps(), 0);
+        println!(rt; "memory was refused at step 0")?;
         journal.reserve(2)?;
     }
     let first = dial.turn(5);

@@ -1,3 +1,4 @@
 pub mod Seats
 pub mod Board
 pub mod Members
+pub mod Laws

@@ -5,6 +5,7 @@
 #![tactic(auto)]
 
 mod board;
+pub mod laws;
 mod plain_sets;
 #[cfg(test)]
 mod tests;

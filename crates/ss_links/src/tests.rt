@@ -89,7 +89,7 @@ fn can_relink<S: SetBoard>(rt: &impl Abort, board: &S, seat: u32, place: Place)
 
 /// Makes a change, and where memory is refused sees the board as it was and makes it again.
 fn make<S: SetBoard>(
-    rt: &impl Abort,
+    rt: &(impl Abort + Print),
     board: &mut S,
     step: Step,
     before: Lists,
@@ -99,6 +99,7 @@ fn make<S: SetBoard>(
             assert!(rt; board.heads() < u32::MAX);
             if board.try_add_head().is_err() {
                 agrees(rt, board, before.0, before.1);
+                println!(rt; "memory was refused for a head")?;
                 assert!(rt; board.heads() < u32::MAX);
                 board.try_add_head()?;
             }
@@ -107,6 +108,7 @@ fn make<S: SetBoard>(
             assert!(rt; board.seats() < u32::MAX);
             if board.try_add_seat().is_err() {
                 agrees(rt, board, before.0, before.1);
+                println!(rt; "memory was refused for a seat")?;
                 assert!(rt; board.seats() < u32::MAX);
                 board.try_add_seat()?;
             }
@@ -373,7 +375,11 @@ const STEPS: [(Step, Lists); 44] = [
 ];
 
 /// Makes the changes, and compares the board with the lists after each.
-fn drive<S: SetBoard>(rt: &impl Abort, board: &mut S, steps: &[(Step, Lists)]) -> Result<(), Fail> {
+fn drive<S: SetBoard>(
+    rt: &(impl Abort + Print),
+    board: &mut S,
+    steps: &[(Step, Lists)],
+) -> Result<(), Fail> {
     let mut before: Lists = (&[], 0);
     agrees(rt, board, before.0, before.1);
     for &(step, after) in steps {
