@@ -1,4 +1,3 @@
 pub mod Names
 pub mod Splits
-pub mod Values
 pub mod Moves

@@ -1,7 +1,6 @@
-use Rattle.std.proofs.Common.{◌≡◌, ℕ, ◌+◌, ◌<◌, ◌≤◌, Bool, true, false, zero, suc, refl, ap, arith, cond, nat_lt, not, ◌||◌, ◌&&◌, ◌-◌, List, subst, ◌⊎◌, inl, inr, sym, ◌∙◌, rules}
+use Rattle.std.proofs.Common.{◌≡◌, ℕ, ◌+◌, ◌<◌, ◌≤◌, Bool, true, false, zero, suc, refl, arith, cond, nat_lt, not, ◌||◌, ◌&&◌, ◌-◌, List, subst, ◌⊎◌, inl, inr, rules}
 use borrow.Author.Count.{below_more}
 use borrow.Author.Tests.{ltb-true, ltb-false}
-use Rattle.std.proofs.lemmas.Grind.{common_steps}
 use Rattle.ss_check.specs.Program.{ProgramTable}
 use Rattle.ss_debug.specs.declared.rule.Rule.{Rule}
 use Rattle.ss_debug.specs.Move.{least, stops, forward, meets, is_ready_at, EndsAt}

@@ -1,5 +1,6 @@
 -- The texts that the debugger answers.
-use Rattle.std.specs.Prelude.{ℕ, ℤ, ◌+◌, ◌≡◌, Bool, List, [], ◌∷◌, ◌++◌, codes, decimal, Option, Some, None, if◌then◌else◌, nat_lt, slice_get, position, option_map}
+use Rattle.std.specs.Prelude.{ℕ, List, [], ◌∷◌, ◌++◌, codes, decimal, Option, Some, None, if◌then◌else◌, nat_lt, slice_get, position}
+use Rattle.std.specs.Option.{option_map, option_or}
 use Rattle.std.specs.Fmt.{signed_decimal}
 use Rattle.std.specs.Str.{bytes_eq}
 use Rattle.ss_words.specs.Faults.{run_fault_number}
@@ -8,19 +9,20 @@ use Rattle.ss_check.specs.declared.variable.Variable.{Variable}
 use Rattle.ss_check.specs.declared.variable.Variable.TheVariants.{Global, Local, Clock}
 use Rattle.ss_machine.specs.declared.status.Status.{Status}
 use Rattle.ss_machine.specs.declared.status.Status.TheVariants.{Ready, Stopped, Finished, Faulted}
-use Rattle.ss_machine.specs.State.{State}
 use Rattle.ss_machine.specs.Values.{readings, variable_value}
 use Rattle.ss_machine.specs.Run.{run}
 use Rattle.ss_debug.specs.declared.rule.Rule.{Rule}
 use Rattle.ss_debug.specs.declared.rule.Rule.TheVariants.{Count, Break}
 use Rattle.ss_debug.specs.Move.{is_ready_at, meets, line_at}
 
+-- the word of a status
 abbrev pub status_text : Status → List ℕ
 status_text Ready = codes "READY"
 status_text Stopped = codes "STOPPED"
 status_text Finished = codes "FINISHED"
 status_text (Faulted f) = codes "FAULT F" ++ decimal (run_fault_number f)
 
+-- a section's name
 abbrev pub name_of_section : Option SectionTable → List ℕ
 name_of_section (Some s) = s.name
 name_of_section None = []
@@ -29,11 +31,21 @@ name_of_section None = []
 abbrev pub section_at : ProgramTable → ℕ → List ℕ
 section_at t p = name_of_section (slice_get t.sections (run t p).frame.section)
 
--- a movement's word and the state line of state p
-unfoldable pub state_line : List ℕ → ProgramTable → ℕ → List ℕ
-state_line word t p =
-    word ++ codes ": STATE " ++ decimal p ++ codes " CLOCK " ++ signed_decimal (run t p).clock
-    ++ codes " " ++ status_text (run t p).status ++ codes " IN " ++ section_at t p ++ codes " LINE " ++ decimal (line_at t p) ++ 10 ∷ []
+-- the number of state p, its clock and its status
+unfoldable pub moment_text : ProgramTable → ℕ → List ℕ
+moment_text t p = codes "STATE " ++ decimal p ++ codes " CLOCK " ++ signed_decimal (run t p).clock ++ codes " " ++ status_text (run t p).status
+
+-- the section and the line of its place
+unfoldable pub place_text : ProgramTable → ℕ → List ℕ
+place_text t p = codes " IN " ++ section_at t p ++ codes " LINE " ++ decimal (line_at t p)
+
+-- the state line of state p
+unfoldable pub state_line : ProgramTable → ℕ → List ℕ
+state_line t p = moment_text t p ++ place_text t p ++ 10 ∷ []
+
+-- the answer of a movement to state p: its word and the state line
+unfoldable pub movement_text : List ℕ → ProgramTable → ℕ → List ℕ
+movement_text word t p = word ++ codes ": " ++ state_line t p
 
 -- the word where the rule is met
 abbrev pub met_word : Rule → List ℕ
@@ -54,25 +66,22 @@ forward_word t breaks rule p q =
 abbrev pub back_word : ℕ → ℕ → List ℕ
 back_word p n = if nat_lt p n then codes "START" else codes "DONE"
 
-abbrev pub or_else : Option Variable → Option Variable → Option Variable
-or_else (Some v) other = Some v
-or_else None other = other
-
--- the variable that a name stands for in state p: TIME.V, a global variable, or a local of the section in which it stands
+-- the variable that a name stands for in state p: TIME.V, else a global variable, else a local of the section of the last frame
 abbrev pub variable_named : ProgramTable → ℕ → List ℕ → Option Variable
 variable_named t p name =
     if bytes_eq name (codes "TIME.V") then Some Clock
-    else or_else (option_map Global (position (bytes_eq name) t.globals))
+    else option_or (option_map Global (position (bytes_eq name) t.globals))
     (option_map Local (position (bytes_eq name) (locals_of (slice_get t.sections (run t p).frame.section))))
 
+-- the line of a variable of this name, or that there is none
 abbrev pub value_line : ProgramTable → ℕ → List ℕ → Option Variable → List ℕ
 value_line t p name (Some v) = name ++ codes " = " ++ signed_decimal (variable_value (readings (run t p)) v) ++ 10 ∷ []
 value_line t p name None = codes "NO VARIABLE " ++ name ++ 10 ∷ []
 
--- a variable's name and value
+-- the answer to SHOW VAR in state p
 unfoldable pub var_text : List ℕ → ProgramTable → ℕ → List ℕ
 var_text name t p = value_line t p name (variable_named t p name)
 
--- the line REPORT and the report of state p
+-- the answer to SHOW REPORT in state p: the line REPORT and the report's bytes
 unfoldable pub report_text : ProgramTable → ℕ → List ℕ
 report_text t p = codes "REPORT\n" ++ (run t p).report

@@ -1,8 +1,8 @@
 -- What a command line says.
-use Rattle.std.specs.Prelude.{ℕ, ◌≡◌, Bool, true, false, List, [], ◌∷◌, length, map, Option, Some, None, if◌then◌else◌, nat_lt, codes}
+use Rattle.std.specs.Prelude.{ℕ, List, [], ◌∷◌, length, map, Option, Some, None, if◌then◌else◌, nat_lt, codes}
 use Rattle.std.specs.Char.{to_ascii_uppercase}
 use Rattle.std.specs.Str.{bytes_eq}
-use Rattle.ss_debug.specs.Words.{words_of, number_of, name_of}
+use Rattle.ss_debug.specs.Words.{words_of, number_within, name_of}
 use Rattle.ss_debug.specs.declared.said.Command.{Command}
 use Rattle.ss_debug.specs.declared.said.Command.TheVariants.{Blank, Bad, Step, Back, Run, ShowVar, ShowReport, Quit}
 
@@ -11,17 +11,17 @@ abbrev pub or_bad : {A : Type 0} → (A → Command) → Option A → Command
 or_bad make None = Bad
 or_bad make (Some x) = make x
 
--- a number from 1 to 1,000,000
+-- a number of steps, from 1 to 1,000,000
 abbrev pub count_of : List ℕ → Option ℕ
-count_of word = number_of 1 1000000 word
+count_of word = number_within 1 1000000 word
 
--- the bound of a movement: the one word behind it, or what stands for none
+-- the bound of a movement: what the only word behind it says, or another where no word is there
 abbrev pub bound_of : ℕ → List (List ℕ) → Option ℕ
 bound_of otherwise [] = Some otherwise
 bound_of otherwise (word ∷ []) = count_of word
 bound_of otherwise (word ∷ next ∷ more) = None
 
--- one word, which is a name
+-- the name that is the only word
 abbrev pub only_name_of : List (List ℕ) → Option (List ℕ)
 only_name_of [] = None
 only_name_of (word ∷ []) = name_of word
@@ -49,8 +49,11 @@ said_by (verb ∷ rest) =
     if bytes_eq verb (codes "SHOW") then show_of rest else
     if bytes_eq verb (codes "QUIT") then alone Quit rest else Bad
 
--- what a line of at most 200 bytes says; a longer one is bad, unless it has no words
+-- what the words of a line say that is too long for a command
+abbrev pub too_long : List (List ℕ) → Command
+too_long [] = Blank
+too_long (word ∷ more) = Bad
+
+-- what a line says; one of more than 200 bytes is bad, unless it has no words
 unfoldable pub command_of : List ℕ → Command
-command_of line =
-    if nat_lt 200 (length line) then (elim (words_of line) [ [] ↦ Blank | w ∷ ws ↦ Bad ])
-    else said_by (words_of (map to_ascii_uppercase line))
+command_of line = if nat_lt 200 (length line) then too_long (words_of line) else said_by (words_of (map to_ascii_uppercase line))

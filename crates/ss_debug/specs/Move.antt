@@ -1,5 +1,5 @@
 -- Where a movement ends.
-use Rattle.std.specs.Prelude.{ℕ, zero, suc, ◌+◌, ◌-◌, ◌≡◌, ◌<◌, ◌≤◌, Bool, true, false, not, ◌&&◌, ◌||◌, ◌⊎◌, List, Option, Some, None, if◌then◌else◌, nat_lt, nat_eq}
+use Rattle.std.specs.Prelude.{ℕ, zero, suc, ◌+◌, ◌≡◌, ◌<◌, ◌≤◌, Bool, true, false, not, ◌&&◌, ◌||◌, ◌⊎◌, List, Option, Some, None, if◌then◌else◌, nat_lt, nat_eq}
 use Rattle.std.specs.List.{list_any}
 use Rattle.ss_check.specs.Program.{ProgramTable, spot_at}
 use Rattle.ss_check.specs.declared.place.Spot.{Spot}
@@ -16,6 +16,7 @@ unfoldable pub least : (ℕ → Bool) → ℕ → ℕ
 least test zero = 0
 least test (suc n) = if nat_lt (least test n) n then least test n else (if test n then n else suc n)
 
+-- whether a status lets the run go on
 abbrev pub is_ready : Status → Bool
 is_ready Ready = true
 is_ready Stopped = false
@@ -26,6 +27,7 @@ is_ready (Faulted f) = false
 abbrev pub is_ready_at : ProgramTable → ℕ → Bool
 is_ready_at t p = is_ready (run t p).status
 
+-- the line of a place
 abbrev pub spot_line : Option Spot → ℕ
 spot_line None = 0
 spot_line (Some spot) = spot.line
@@ -51,14 +53,15 @@ meets t breaks Break p = is_on_break t breaks p
 abbrev pub is_stop : ProgramTable → List ℕ → Rule → ℕ → ℕ → Bool
 is_stop t breaks rule k q = not (is_ready_at t q) || (nat_lt 0 k && meets t breaks rule q)
 
+-- whether a movement from p ends k positions on
 abbrev pub stops : ProgramTable → List ℕ → Rule → ℕ → ℕ → Bool
 stops t breaks rule p k = is_stop t breaks rule k (p + k)
 
--- the least such position from p on, within the bound n
+-- where a movement from p ends: at the least such position, at most n positions on
 abbrev pub forward : ProgramTable → List ℕ → Rule → ℕ → ℕ → ℕ
 forward t breaks rule p n = p + least (stops t breaks rule p) n
 
--- the same in one fact: q is the least later position that meets the rule, within the bound, never past one that isn't ready
+-- the same as one fact: q is the least later position that meets the rule, within the bound, never past a state that isn't ready
 pub record EndsAt (t : ProgramTable) (breaks : List ℕ) (rule : Rule) (p n q : ℕ) : Type 0 where
   pub no_earlier : p ≤ q
   pub within : q ≤ p + n

@@ -3,7 +3,7 @@ use Rattle.std.specs.Prelude.{ℕ, ◌-◌, ◌≡◌, ◌≤◌, List}
 use Rattle.ss_check.specs.Program.{ProgramTable}
 use Rattle.ss_machine.specs.Moment.{Moment, position}
 use Rattle.ss_debug.specs.declared.said.Command.{Command}
-use Rattle.ss_debug.specs.declared.said.Command.TheVariants.{Blank, Bad, Step, Back, Run, ShowVar, ShowReport, Quit}
+use Rattle.ss_debug.specs.declared.said.Command.TheVariants.{Step, Back, Run, Quit}
 use Rattle.ss_debug.specs.declared.go.Go.{Go}
 use Rattle.ss_debug.specs.declared.go.Go.TheVariants as go
 use Rattle.ss_debug.specs.declared.rule.Rule.TheVariants as rule
@@ -22,9 +22,13 @@ pub record Held : Type 0 where
 abbrev pub desk_of : Held → Desk
 desk_of h = record { position = position h.machine; breaks = h.breaks }
 
--- where a command that was refused memory may leave the debugger: break lines and program as before, some of the steps made
+-- a forward movement to q of which some steps were made: the break lines are as before
+abbrev pub IsOnTheWay : Desk → ℕ → Desk → Type 0
+IsOnTheWay old q new = (new ≡ moved old new.position) × (old.position ≤ new.position) × (new.position ≤ q)
+
+-- where a command that was refused memory leaves the debugger: a movement forward on its way, one back at its end, any other where it was
 unfoldable pub IsUnderway : ProgramTable → Desk → Command → Desk → Type 0
-IsUnderway t old (Step n) new = (new ≡ moved old new.position) × (old.position ≤ new.position) × (new.position ≤ forward_from t old rule.Count n)
-IsUnderway t old (Run n) new = (new ≡ moved old new.position) × (old.position ≤ new.position) × (new.position ≤ forward_from t old rule.Break n)
+IsUnderway t old (Step n) new = IsOnTheWay old (forward_from t old rule.Count n) new
+IsUnderway t old (Run n) new = IsOnTheWay old (forward_from t old rule.Break n) new
 IsUnderway t old (Back n) new = new ≡ moved old (old.position - n)
 IsUnderway t old _ new = new ≡ old

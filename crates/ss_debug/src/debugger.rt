@@ -1,15 +1,16 @@
-ghost use Rattle.std.specs.Prelude.{◌≡◌, ℕ, ◌-◌, ◌≤◌, ◌++◌, [], OnOk, OnErr, IfOk};
+//! The debugger, and what each command does.
+ghost use Rattle.std.specs.Prelude.{◌≡◌, ◌-◌, ◌++◌, [], OnOk, OnErr, IfOk};
 ghost use Rattle.ss_machine.specs.Moment.{position};
 ghost use Rattle.ss_debug.specs.Turn.{moved, forward_from, forward_answer, after, answer};
-ghost use Rattle.ss_debug.specs.Answer.{state_line, back_word, var_text, report_text};
-ghost use Rattle.ss_debug.specs.Underway.{Held, desk_of, go_of, IsUnderway};
+ghost use Rattle.ss_debug.specs.Answer.{movement_text, back_word, var_text, report_text};
+ghost use Rattle.ss_debug.specs.Underway.{Held, desk_of, go_of, IsOnTheWay, IsUnderway};
 
 use crate::go::Go;
 use crate::movement::{advance, retreat};
 use crate::name::Name;
 use crate::rule::Rule;
 use crate::said::Command;
-use crate::text::{movement_word, report_lines, retreat_word, state_line_text, var_line};
+use crate::text::{movement_text, movement_word, report_text, retreat_word, var_text};
 use ss_machine::Machine;
 use std::alloc::{AllocError, Global};
 use std::marker::Model;
@@ -58,12 +59,12 @@ impl Debugger {
         ensures program { self.new.machine.program ≡ self.old.machine.program }
         ensures place { OnOk result (desk_of self.new ≡ moved (desk_of self.old) (forward_from self.old.machine.program (desk_of self.old) rule bound)) }
         ensures said { OnOk result (bytes.new.items ≡ bytes.old.items ++ forward_answer self.old.machine.program (desk_of self.old) rule bound) }
-        ensures memory { OnErr result ((bytes.new.items ≡ bytes.old.items) × (self.new.breaks ≡ self.old.breaks) × (position self.old.machine ≤ position self.new.machine) × (position self.new.machine ≤ forward_from self.old.machine.program (desk_of self.old) rule bound)) }
+        ensures memory { OnErr result ((bytes.new.items ≡ bytes.old.items) × IsOnTheWay (desk_of self.old) (forward_from self.old.machine.program (desk_of self.old) rule bound) (desk_of self.new)) }
     {
         let from = self.machine.position();
         advance(&mut self.machine, &self.breaks, rule, bound)?;
         let word = movement_word(&self.machine, &self.breaks, rule, from);
-        let text = state_line_text(self.alloc, word, &self.machine)?;
+        let text = movement_text(self.alloc, word, &self.machine)?;
         bytes.extend_from_slice(&text)
     }
 
@@ -71,28 +72,30 @@ impl Debugger {
     fn go_back(&mut self, count: u64, bytes: &mut Vec<u8>) -> Result<(), AllocError>
         ensures program { self.new.machine.program ≡ self.old.machine.program }
         ensures place { desk_of self.new ≡ moved (desk_of self.old) (position self.old.machine - count) }
-        ensures said { OnOk result (bytes.new.items ≡ bytes.old.items ++ state_line (back_word (position self.old.machine) count) self.old.machine.program (position self.old.machine - count)) }
+        ensures said { OnOk result (bytes.new.items ≡ bytes.old.items ++ movement_text (back_word (position self.old.machine) count) self.old.machine.program (position self.old.machine - count)) }
         ensures memory { OnErr result (bytes.new.items ≡ bytes.old.items) }
     {
         let word = retreat_word(self.machine.position(), count);
         retreat(&mut self.machine, count);
-        let text = state_line_text(self.alloc, word, &self.machine)?;
+        let text = movement_text(self.alloc, word, &self.machine)?;
         bytes.extend_from_slice(&text)
     }
 
+    /// The answer to SHOW VAR.
     fn show_var(&self, name: &Name, bytes: &mut Vec<u8>) -> Result<(), AllocError>
         ensures said { OnOk result (bytes.new.items ≡ bytes.old.items ++ var_text name.now self.now.machine.program (position self.now.machine)) }
         ensures memory { OnErr result (bytes.new.items ≡ bytes.old.items) }
     {
-        let text = var_line(self.alloc, name, &self.machine)?;
+        let text = var_text(self.alloc, name, &self.machine)?;
         bytes.extend_from_slice(&text)
     }
 
+    /// The answer to SHOW REPORT.
     fn show_report(&self, bytes: &mut Vec<u8>) -> Result<(), AllocError>
         ensures said { OnOk result (bytes.new.items ≡ bytes.old.items ++ report_text self.now.machine.program (position self.now.machine)) }
         ensures memory { OnErr result (bytes.new.items ≡ bytes.old.items) }
     {
-        let text = report_lines(self.alloc, &self.machine)?;
+        let text = report_text(self.alloc, &self.machine)?;
         bytes.extend_from_slice(&text)
     }
 }

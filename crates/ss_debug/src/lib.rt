@@ -3,6 +3,7 @@
 
 mod debugger;
 mod go;
+mod laws;
 mod movement;
 mod name;
 mod read;
@@ -16,3 +17,6 @@ pub use go::Go;
 pub use name::Name;
 pub use read::command;
 pub use said::Command;
+
+#[cfg(test)]
+mod tests;

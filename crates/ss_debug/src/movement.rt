@@ -1,9 +1,10 @@
-ghost use Rattle.std.specs.Prelude.{◌≡◌, ℕ, ◌+◌, ◌-◌, ◌<◌, ◌≤◌, OnOk, OnErr, nat_eq, nat_lt, true};
+//! Movements: forward, step by step, to where a rule is met, and back.
+ghost use Rattle.std.specs.Prelude.{◌≡◌, ◌+◌, ◌-◌, ◌<◌, ◌≤◌, OnOk, OnErr, true};
 ghost use Rattle.ss_machine.specs.Moment.{position};
-ghost use Rattle.ss_debug.specs.Move.{is_ready, is_ready_at, line_at, meets, is_stop, stops, forward, is_on_break, EndsAt, IsAt};
+ghost use Rattle.ss_debug.specs.Move.{is_ready_at, line_at, meets, is_stop, stops, forward, is_on_break, EndsAt, IsAt};
 
 use crate::rule::Rule;
-use ss_machine::{Machine, Status, Stepped};
+use ss_machine::{Machine, Status};
 use std::alloc::AllocError;
 
 /// Whether the next step runs a place.
@@ -11,12 +12,7 @@ pub fn is_ready_now(machine: &Machine) -> bool
     ensures { result ≡ is_ready_at machine.now.program (position machine.now) }
 {
     machine.known();
-    match machine.status() {
-        Status::Ready => true,
-        Status::Stopped => false,
-        Status::Finished => false,
-        Status::Faulted(_) => false,
-    }
+    matches!(machine.status(), Status::Ready)
 }
 
 /// The line of the place where the machine stands.
@@ -28,6 +24,7 @@ pub fn present_line(machine: &Machine) -> usize
     machine.program().spot(section, place).line
 }
 
+/// Whether the machine's place is on a break line.
 fn stands_on_break(machine: &Machine, breaks: &[usize]) -> bool
     ensures { result ≡ is_on_break machine.now.program breaks.now (position machine.now) }
 {
@@ -60,13 +57,12 @@ fn step_once(machine: &mut Machine) -> Result<(), AllocError>
 {
     machine.known();
     match machine.step() {
-        Ok(Stepped::Moved) => Ok(()),
-        Ok(Stepped::AtEnd) => Ok(()),
+        Ok(_) => Ok(()),
         Err(error) => Err(error),
     }
 }
 
-/// Steps to the least later position at which the rule is met or the status isn't ready, within the bound.
+/// What `advance` does, whose contract says where it ends in two ways.
 #[tactic(auto, using(crate::proofs::Moves::least_is, crate::proofs::Moves::least_at_least, crate::proofs::Moves::or_false_left))]
 fn step_on(
     machine: &mut Machine,

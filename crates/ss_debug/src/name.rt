@@ -1,51 +1,54 @@
-ghost use Rattle.std.specs.Prelude.{◌≡◌, ℕ, ◌≤◌, List, take, length, map, MatchOption, None, Some};
-ghost use Rattle.std.specs.List.{list_all, list_any};
-ghost use Rattle.std.specs.Char.{is_ascii_alphabetic};
-ghost use Rattle.ss_debug.specs.Words.{is_in_name, is_name, name_of};
+//! The names that commands speak of.
+ghost use Rattle.std.specs.Prelude.{◌≡◌, ℕ, ◌≤◌, List, take, length, None, Some};
+ghost use Rattle.std.specs.List.{list_all};
+ghost use Rattle.ss_words.specs.TextBytes.{in_run};
+ghost use Rattle.ss_words.specs.TextRuns.{has_letter};
+ghost use Rattle.ss_debug.specs.Words.{is_name, name_of};
 
 use ss_words::without_stops;
 use std::marker::Model;
 
-/// The most bytes of a name.
-pub const NAME_LIMIT: usize = 80;
+/// The most bytes of a name, the stops at its end counted.
+const NAME_LIMIT: usize = 80;
 
-/// A name, in upper case, kept in place so that a command takes no memory.
+/// A name of the language in upper case. It keeps its bytes in place, so that a command takes no memory.
 #[derive(Drop)]
 pub struct Name {
-    letters: [u8; 80],
+    bytes: [u8; NAME_LIMIT],
     length: usize,
 }
 
 impl Model for Name {
     ghost Value = { List ℕ };
 
-    ghost view = { λ n. take n.length n.letters };
+    ghost view = { λ n. take n.length n.bytes };
 
     ghost invariant = { λ n. n.length ≤ 80 };
 }
 
+#[tactic(auto, unfolding(ss_words::specs::TextBytes::in_run))]
 fn is_name_byte(b: u8) -> bool
-    ensures { result ≡ is_in_name b }
+    ensures { result ≡ in_run b }
 {
     b.is_ascii_alphabetic() || b.is_ascii_digit() || b == b'.'
 }
 
-fn is_all_in_name(word: &[u8]) -> bool
-    ensures { result ≡ list_all is_in_name word.now }
+fn is_run(word: &[u8]) -> bool
+    ensures { result ≡ list_all in_run word.now }
 {
     word.iter().all(|b| is_name_byte(*b))
 }
 
 fn has_letter(word: &[u8]) -> bool
-    ensures { result ≡ list_any is_ascii_alphabetic word.now }
+    ensures { result ≡ has_letter word.now }
 {
     word.iter().any(|b| b.is_ascii_alphabetic())
 }
 
-fn is_name_word(word: &[u8]) -> bool
+fn is_name(word: &[u8]) -> bool
     ensures { result ≡ is_name word.now }
 {
-    is_all_in_name(word) && has_letter(word) && word.len() <= NAME_LIMIT
+    is_run(word) && has_letter(word) && word.len() <= NAME_LIMIT
 }
 
 impl Name {
@@ -55,14 +58,14 @@ impl Name {
     pub fn of(word: &[u8]) -> Option<Name>
         ensures { result ≡ name_of word.now }
     {
-        if !is_name_word(word) {
+        if !is_name(word) {
             return None;
         }
         let kept = without_stops(word);
-        let mut letters = [0u8; 80];
-        letters[..kept.len()].copy_from_slice(kept);
+        let mut bytes = [0u8; NAME_LIMIT];
+        bytes[..kept.len()].copy_from_slice(kept);
         Some(Name {
-            letters,
+            bytes,
             length: kept.len(),
         })
     }
@@ -71,6 +74,6 @@ impl Name {
     pub fn as_slice(&self) -> &[u8]
         ensures { result.now ≡ self.now }
     {
-        &self.letters[..self.length]
+        &self.bytes[..self.length]
     }
 }

@@ -1,12 +1,19 @@
-ghost use Rattle.std.specs.Prelude.{◌≡◌, ℕ, ◌≤◌, length, map};
-ghost use Rattle.std.specs.Char.{to_ascii_uppercase};
+//! Command lines are read.
+ghost use Rattle.std.specs.Prelude.{◌≡◌};
 ghost use Rattle.ss_debug.specs.Words.{words_of};
 ghost use Rattle.ss_debug.specs.Command.{command_of, said_by, show_of, bound_of, only_name_of, alone};
 
 use crate::name::Name;
-use crate::said::{Command, GREATEST_BOUND, LINE_LIMIT};
+use crate::said::Command;
 use crate::words::{next_word, number};
 
+/// The most bytes of a command line that is obeyed.
+const LINE_LIMIT: usize = 200;
+
+/// The greatest bound of a movement, and the bound of RUN where none is given.
+const GREATEST_BOUND: u64 = 1_000_000;
+
+/// The bound that stands behind a movement, or another where no word does; none where it is no bound or not the last word.
 fn bound(rest: &[u8], otherwise: u64) -> Option<u64>
     ensures { result ≡ bound_of otherwise (words_of rest.now) }
 {
@@ -19,6 +26,7 @@ fn bound(rest: &[u8], otherwise: u64) -> Option<u64>
     number(word, 1, GREATEST_BOUND)
 }
 
+/// The name that is the only word.
 fn only_name(rest: &[u8]) -> Option<Name>
     ensures { result ≡ only_name_of (words_of rest.now) }
 {
@@ -29,6 +37,7 @@ fn only_name(rest: &[u8]) -> Option<Name>
     Name::of(word)
 }
 
+/// A command behind which no word may stand.
 fn alone_or_bad(command: Command, rest: &[u8]) -> Command
     ensures { result ≡ alone command (words_of rest.now) }
 {
@@ -38,6 +47,7 @@ fn alone_or_bad(command: Command, rest: &[u8]) -> Command
     command
 }
 
+/// What stands behind SHOW.
 fn show(rest: &[u8]) -> Command
     ensures { result ≡ show_of (words_of rest.now) }
 {
@@ -45,10 +55,7 @@ fn show(rest: &[u8]) -> Command
         return Command::Bad;
     };
     if what == b"VAR".as_slice() {
-        return match only_name(more) {
-            None => Command::Bad,
-            Some(name) => Command::ShowVar(name),
-        };
+        return only_name(more).map_or(Command::Bad, |name| Command::ShowVar(name));
     }
     if what == b"REPORT".as_slice() {
         return alone_or_bad(Command::ShowReport, more);
@@ -56,7 +63,7 @@ fn show(rest: &[u8]) -> Command
     Command::Bad
 }
 
-/// What the words of a line say, in upper case.
+/// What the words of a line in upper case say.
 #[tactic(auto, unfolding(crate::specs::Command::said_by))]
 fn said(line: &[u8]) -> Command
     ensures { result ≡ said_by (words_of line.now) }
@@ -83,7 +90,7 @@ fn said(line: &[u8]) -> Command
 }
 
 /// What a command line says: letters in either case, words separated by blanks, tabs and carriage returns. A line without
-/// words is `Blank`; one that is no command, or is over 200 bytes long, is `Bad` (docs/DEBUGGER.md).
+/// words is `Blank`; one that is no command, or is over 200 bytes long, is `Bad` (docs/DEBUGGER.md). It takes no memory.
 #[tactic(auto, unfolding(crate::specs::Command::command_of), using(crate::proofs::Names::take_front))]
 pub fn command(line: &[u8]) -> Command
     ensures { result ≡ command_of line.now }
@@ -94,7 +101,7 @@ pub fn command(line: &[u8]) -> Command
             Some(_) => Command::Bad,
         };
     }
-    let mut upper = [0u8; 200];
+    let mut upper = [0u8; LINE_LIMIT];
     upper[..line.len()].copy_from_slice(line);
     upper[..line.len()].make_ascii_uppercase();
     said(&upper[..line.len()])

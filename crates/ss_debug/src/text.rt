@@ -1,7 +1,8 @@
-ghost use Rattle.std.specs.Prelude.{◌≡◌, ℕ, ◌++◌, ◌∷◌, [], OnOk, IfOk, codes, decimal, Option};
+//! The texts that the debugger answers.
+ghost use Rattle.std.specs.Prelude.{◌≡◌, ◌++◌, OnOk, IfOk, decimal, Option};
 ghost use Rattle.std.specs.Fmt.{signed_decimal};
 ghost use Rattle.ss_machine.specs.Moment.{position};
-ghost use Rattle.ss_debug.specs.Answer.{status_text, section_at, state_line, forward_word, back_word, met_word, bound_word, variable_named, var_text, report_text};
+ghost use Rattle.ss_debug.specs.Answer.{status_text, moment_text, place_text, state_line, movement_text, forward_word, back_word, met_word, bound_word, variable_named, var_text, report_text};
 
 use crate::movement::{is_ready_now, meets_rule, present_line};
 use crate::name::Name;
@@ -27,6 +28,7 @@ fn push_integer(text: &mut Vec<u8>, n: i64) -> Result<(), AllocError>
     text.extend_from_slice(buffer.format(n).as_bytes())
 }
 
+/// Appends the word of a status.
 fn push_status(text: &mut Vec<u8>, status: Status) -> Result<(), AllocError>
     ensures ok { OnOk result (text.new.items ≡ text.old.items ++ status_text status) }
 {
@@ -36,42 +38,61 @@ fn push_status(text: &mut Vec<u8>, status: Status) -> Result<(), AllocError>
         Status::Finished => text.extend_from_slice(b"FINISHED"),
         Status::Faulted(fault) => {
             text.extend_from_slice(b"FAULT F")?;
-            push_number(text, fault.number() as usize)
+            push_number(text, usize::from(fault.number()))
         }
     }
 }
 
-/// Appends the name of the section in which the machine stands.
-fn push_section(text: &mut Vec<u8>, machine: &Machine) -> Result<(), AllocError>
-    ensures ok { OnOk result (text.new.items ≡ text.old.items ++ section_at machine.now.program (position machine.now)) }
+/// Appends the position, the clock and the status.
+#[tactic(auto, unfolding(crate::specs::Answer::moment_text))]
+fn push_moment(text: &mut Vec<u8>, machine: &Machine) -> Result<(), AllocError>
+    ensures ok { OnOk result (text.new.items ≡ text.old.items ++ moment_text machine.now.program (position machine.now)) }
+{
+    machine.known();
+    text.extend_from_slice(b"STATE ")?;
+    push_number(text, machine.position())?;
+    text.extend_from_slice(b" CLOCK ")?;
+    push_integer(text, machine.clock())?;
+    text.extend_from_slice(b" ")?;
+    push_status(text, machine.status())
+}
+
+/// Appends the section and the line of the place where the machine stands.
+#[tactic(auto, unfolding(crate::specs::Answer::place_text))]
+fn push_place(text: &mut Vec<u8>, machine: &Machine) -> Result<(), AllocError>
+    ensures ok { OnOk result (text.new.items ≡ text.old.items ++ place_text machine.now.program (position machine.now)) }
 {
     machine.known();
     let (section, _) = machine.place();
-    text.extend_from_slice(&machine.program().section(section).name.bytes)
+    text.extend_from_slice(b" IN ")?;
+    text.extend_from_slice(&machine.program().section(section).name.bytes)?;
+    text.extend_from_slice(b" LINE ")?;
+    push_number(text, present_line(machine))
 }
 
-/// A movement's word and the state line of the machine's state.
+/// Appends the state line of the machine's state.
 #[tactic(auto, unfolding(crate::specs::Answer::state_line))]
-pub fn state_line_text(alloc: Global, word: &[u8], machine: &Machine) -> Result<Vec<u8>, AllocError>
-    ensures { IfOk result (λ text. text.items ≡ state_line word.now machine.now.program (position machine.now)) }
+fn push_state_line(text: &mut Vec<u8>, machine: &Machine) -> Result<(), AllocError>
+    ensures ok { OnOk result (text.new.items ≡ text.old.items ++ state_line machine.now.program (position machine.now)) }
 {
-    machine.known();
+    push_moment(text, machine)?;
+    push_place(text, machine)?;
+    text.extend_from_slice(b"\n")
+}
+
+/// The answer of a movement: its word, and the state line of the state that it reached.
+#[tactic(auto, unfolding(crate::specs::Answer::movement_text))]
+pub fn movement_text(alloc: Global, word: &[u8], machine: &Machine) -> Result<Vec<u8>, AllocError>
+    ensures { IfOk result (λ text. text.items ≡ movement_text word.now machine.now.program (position machine.now)) }
+{
     let mut text = Vec::from_slice(alloc, word)?;
-    text.extend_from_slice(b": STATE ")?;
-    push_number(&mut text, machine.position())?;
-    text.extend_from_slice(b" CLOCK ")?;
-    push_integer(&mut text, machine.clock())?;
-    text.extend_from_slice(b" ")?;
-    push_status(&mut text, machine.status())?;
-    text.extend_from_slice(b" IN ")?;
-    push_section(&mut text, machine)?;
-    text.extend_from_slice(b" LINE ")?;
-    push_number(&mut text, present_line(machine))?;
-    text.extend_from_slice(b"\n")?;
+    text.extend_from_slice(b": ")?;
+    push_state_line(&mut text, machine)?;
     Ok(text)
 }
 
-fn met(rule: Rule) -> &'static [u8]
+/// The word where the rule is met.
+fn met_word(rule: Rule) -> &'static [u8]
     ensures { result.now ≡ met_word rule }
 {
     match rule {
@@ -80,7 +101,8 @@ fn met(rule: Rule) -> &'static [u8]
     }
 }
 
-fn bound_met(rule: Rule) -> &'static [u8]
+/// The word at the bound.
+fn bound_word(rule: Rule) -> &'static [u8]
     ensures { result.now ≡ bound_word rule }
 {
     match rule {
@@ -97,9 +119,9 @@ pub fn movement_word(machine: &Machine, breaks: &[usize], rule: Rule, from: usiz
         return b"HALTED";
     }
     if from < machine.position() && meets_rule(machine, breaks, rule) {
-        met(rule)
+        met_word(rule)
     } else {
-        bound_met(rule)
+        bound_word(rule)
     }
 }
 
@@ -130,15 +152,12 @@ fn find_variable(machine: &Machine, name: &[u8]) -> Option<Variable>
         return Some(Variable::Global(global as usize));
     }
     let (section, _) = machine.place();
-    machine
-        .program()
-        .local(section, name)
-        .map(|local| Variable::Local(local))
+    machine.program().local(section, name).map(Variable::Local)
 }
 
 /// `v = value`, or `NO VARIABLE v`.
 #[tactic(auto, unfolding(crate::specs::Answer::var_text))]
-pub fn var_line(alloc: Global, name: &Name, machine: &Machine) -> Result<Vec<u8>, AllocError>
+pub fn var_text(alloc: Global, name: &Name, machine: &Machine) -> Result<Vec<u8>, AllocError>
     ensures { IfOk result (λ text. text.items ≡ var_text name.now machine.now.program (position machine.now)) }
 {
     machine.known();
@@ -157,7 +176,7 @@ pub fn var_line(alloc: Global, name: &Name, machine: &Machine) -> Result<Vec<u8>
 
 /// The line REPORT, and the report's bytes.
 #[tactic(auto, unfolding(crate::specs::Answer::report_text))]
-pub fn report_lines(alloc: Global, machine: &Machine) -> Result<Vec<u8>, AllocError>
+pub fn report_text(alloc: Global, machine: &Machine) -> Result<Vec<u8>, AllocError>
     ensures { IfOk result (λ text. text.items ≡ report_text machine.now.program (position machine.now)) }
 {
     machine.known();

@@ -1,7 +1,9 @@
-ghost use Rattle.std.specs.Prelude.{◌≡◌, ℕ, ◌<◌, ◌≤◌, ◌≢◌, length, ◌^◌, ◌∷◌, [], MatchOption, IsTrue, if◌then◌else◌, nat_le};
+//! The words of a command line, and what digits say.
+ghost use Rattle.std.specs.Prelude.{◌≡◌, ◌<◌, ◌≤◌, ◌≢◌, length, ◌^◌, ◌∷◌, [], MatchOption, SomeIff};
 ghost use Rattle.std.specs.List.{list_all, before_first, after_first, position_or_len};
 ghost use Rattle.std.specs.Char.{is_ascii_digit};
-ghost use Rattle.ss_debug.specs.Words.{is_blank, words_of, number_of, value_of};
+ghost use Rattle.ss_words.specs.TextRuns.{number_of};
+ghost use Rattle.ss_debug.specs.Words.{is_blank, words_of, number_within};
 
 fn is_blank_byte(b: u8) -> bool
     ensures { result ≡ is_blank b }
@@ -36,7 +38,7 @@ fn split_blank(line: &[u8]) -> (&[u8], &[u8])
     (&line[..n], &line[n + 1..])
 }
 
-/// The first word, and what stands behind it.
+/// The first word, and what stands behind it; none where the line has no words.
 #[tactic(auto, using(crate::proofs::Splits::words_first, crate::proofs::Splits::words_none))]
 pub fn next_word(line: &[u8]) -> Option<(&[u8], &[u8])>
     ensures { MatchOption result (words_of line.now ≡ []) (λ r. words_of line.now ≡ r.0.now ∷ words_of r.1.now) }
@@ -58,15 +60,13 @@ fn is_all_digits(word: &[u8]) -> bool
     word.iter().all(|b| b.is_ascii_digit())
 }
 
-/// What digits say, or one more than the limit where they say more than that.
-#[tactic(auto, using(crate::proofs::Values::value_of_front))]
-fn value_up_to(word: &[u8], limit: u64) -> Option<u64>
-    requires digits { IsTrue (list_all is_ascii_digit word.now) }
-    requires limit { limit < 2 ^ 59 }
-    ensures { MatchOption result (limit < value_of word.now) (λ v. (v ≡ value_of word.now) × (v ≤ limit)) }
+/// What digits say, where that is not above the limit.
+fn value_up_to(digits: &[u8], limit: u64) -> Option<u64>
+    requires { limit < 2 ^ 59 }
+    ensures { SomeIff result (number_of digits.now ≤ limit) (number_of digits.now) }
 {
     let mut value = 0u64;
-    for b in word {
+    for b in digits {
         value = value * 10 + u64::from(b.saturating_sub(b'0'));
         if value > limit {
             return None;
@@ -75,11 +75,11 @@ fn value_up_to(word: &[u8], limit: u64) -> Option<u64>
     Some(value)
 }
 
-/// Digits with a value from low to high.
-#[tactic(auto, unfolding(crate::specs::Words::number_of))]
+/// What the digits of a word say, where that is from low to high; none where it has another byte.
+#[tactic(auto, unfolding(crate::specs::Words::number_within))]
 pub fn number(word: &[u8], low: u64, high: u64) -> Option<u64>
     requires { high < 2 ^ 59 }
-    ensures { result ≡ number_of low high word.now }
+    ensures { result ≡ number_within low high word.now }
 {
     if word.is_empty() || !is_all_digits(word) {
         return None;

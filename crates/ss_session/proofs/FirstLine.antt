@@ -4,22 +4,31 @@ use Rattle.std.proofs.lemmas.List.Splits.{slice_split_first, slice_split_none}
 use Rattle.std.proofs.lemmas.List.Sums.{fails_before_first}
 use Rattle.std.proofs.lemmas.Grind.{common_steps}
 use borrow.Author.Tests.{ltb-true, ltb-false}
-use Rattle.ss_debug.specs.Words.{is_line_feed, is_written, lines_of, without_empty_last}
+use Rattle.ss_words.specs.TextLines.{without_empty_last}
+use Rattle.ss_debug.specs.Words.{is_line_feed, is_written, lines_of}
 
 pub lines_none : lines_of [] ≡ []
-unfolding lines_of
+unfolding lines_of without_empty_last
 lines_none = refl
 
 before_more_at : (x : List ℕ) (b : ℕ) (c : Bool) (parts : List (List ℕ)) →
     without_empty_last (x ∷ cond c ([] ∷ parts) (onto_first b parts)) ≡ x ∷ without_empty_last (cond c ([] ∷ parts) (onto_first b parts))
+unfolding without_empty_last
 before_more_at x b true parts = refl
 before_more_at x b false [] = refl
 before_more_at x b false (part ∷ parts) = refl
 
 -- what stands before another piece is a line, whatever it is
 before_more : (x : List ℕ) (p : ℕ → Bool) (more : List ℕ) → without_empty_last (x ∷ slice_split p more) ≡ x ∷ without_empty_last (slice_split p more)
+unfolding without_empty_last
 before_more x p [] = refl
 before_more x p (b ∷ bs) = before_more_at x b (p b) (slice_split p bs)
+
+-- a last piece that holds a byte is a line
+last_line : (x : List ℕ) → is_written x ≡ true → without_empty_last (x ∷ []) ≡ x ∷ []
+unfolding without_empty_last
+last_line [] w = absurd (cc)
+last_line (b ∷ bs) w = refl
 
 pub written_from_length : (xs : List ℕ) → 0 < length xs → is_written xs ≡ true
 written_from_length [] h = absurd (omega arith)
@@ -31,7 +40,7 @@ none_of_length (x ∷ xs) h = absurd (omega arith)
 
 first_line_if : (b : Bool) (xs : List ℕ) → is_written xs ≡ true → nat_lt (position_or_len is_line_feed xs) (length xs) ≡ b →
     lines_of xs ≡ before_first is_line_feed xs ∷ lines_of (after_first is_line_feed xs)
-unfolding lines_of
+unfolding lines_of without_empty_last
 first_line_if true xs w e =
     let h : position_or_len is_line_feed xs < length xs = omega (arith, ltb-true _ _ e) in
     rw (slice_split_first is_line_feed xs 0 h) (before_more (before_first is_line_feed xs) is_line_feed (after_first is_line_feed xs))
@@ -40,7 +49,7 @@ first_line_if false xs w e =
     let a : All (λ x. is_line_feed x ≡ false) xs = λ k d g. fails_before_first is_line_feed xs k d (omega arith) in
     let b : before_first is_line_feed xs ≡ xs = grind (arith, common_steps) in
     let d : after_first is_line_feed xs ≡ [] = grind (arith, common_steps) in
-    rw (slice_split_none is_line_feed xs a, b, d, w) refl
+    rw (slice_split_none is_line_feed xs a, b, d, last_line xs w) refl
 
 -- the first line, and those behind it
 pub lines_first : (rest line more : List ℕ) → is_written rest ≡ true → line ≡ before_first is_line_feed rest → more ≡ after_first is_line_feed rest →

@@ -1,4 +1,4 @@
-use Rattle.std.proofs.Common.{◌≡◌, ◌+◌, true, refl, arith, rules}
+use Rattle.std.proofs.Common.{◌≡◌, true, arith, rules}
 use Rattle.ss_machine.specs.Moment.{position}
 use Rattle.ss_debug.specs.Move.{stops}
 use Rattle.ss_debug.proofs.Moves.{least_is, least_at_least}
