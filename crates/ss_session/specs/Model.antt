@@ -29,3 +29,11 @@ IsOutcome model (refused_text rule line) =
     (words_of model ≡ Err (Refused rule line)) ⊎ ((ws : List WordAt) × (words_of model ≡ Ok ws) × IsRefused rule line (words_from 0 (plain_words_of ws)))
 IsOutcome model (refused_check rule line) = (ss : List Section) × Spells model ss × (breach ss ≡ Some (rule, line))
 IsOutcome model (accepted program) = (ss : List Section) × Spells model ss × (breach ss ≡ None) × (program ≡ resolved ss)
+
+-- a rule L or P refuses the model
+abbrev pub IsTextRefused : List ℕ → Type 0
+IsTextRefused model = (rule : TextRule) × (line : ℕ) × IsOutcome model (refused_text rule line)
+
+-- a rule C refuses the model
+abbrev pub IsCheckRefused : List ℕ → Type 0
+IsCheckRefused model = (rule : CheckRule) × (line : ℕ) × IsOutcome model (refused_check rule line)

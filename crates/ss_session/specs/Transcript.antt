@@ -19,7 +19,7 @@ use Rattle.ss_session.specs.declared.ending.End.TheVariants.{Done, RunFault}
 use Rattle.ss_session.specs.declared.ending.SessionFault.{SessionFault}
 use Rattle.ss_session.specs.declared.ending.SessionFault.TheVariants.{Text, Check, Write, Memory}
 use Rattle.ss_session.specs.SoFar.{WritesFirst, WritesPart}
-use Rattle.ss_session.specs.Model.{Outcome, refused_text, refused_check, accepted, IsOutcome}
+use Rattle.ss_session.specs.Model.{Outcome, refused_text, refused_check, accepted, IsOutcome, IsTextRefused, IsCheckRefused}
 
 -- the one line of a refused model
 abbrev pub refusal_line : List ℕ → ℕ → List ℕ
@@ -76,9 +76,9 @@ unfoldable pub SessionGives : Result End SessionFault → List ℕ → List ℕ 
 SessionGives (Ok end) model commands old new failed failed' =
     EndsBy model commands end × WritesTranscript model commands old new × (failed' ≡ failed)
 SessionGives (Err Text) model commands old new failed failed' =
-    ((rule : TextRule) × (line : ℕ) × IsOutcome model (refused_text rule line)) × WritesTranscript model commands old new × (failed' ≡ failed)
+    IsTextRefused model × WritesTranscript model commands old new × (failed' ≡ failed)
 SessionGives (Err Check) model commands old new failed failed' =
-    ((rule : CheckRule) × (line : ℕ) × IsOutcome model (refused_check rule line)) × WritesTranscript model commands old new × (failed' ≡ failed)
+    IsCheckRefused model × WritesTranscript model commands old new × (failed' ≡ failed)
 SessionGives (Err Memory) model commands old new failed failed' = WritesFirstAnswers model commands old new × (failed' ≡ failed)
 SessionGives (Err Write) model commands old new failed failed' = WritesPartOfTranscript model commands old new × (failed' ≡ failed + 1)
 
@@ -89,3 +89,8 @@ IsWhole (Err Text) = Unit {0}
 IsWhole (Err Check) = Unit {0}
 IsWhole (Err Memory) = ⊥
 IsWhole (Err Write) = ⊥
+
+-- how many failures of its outlet a session counts: one where it ends with Write
+abbrev pub count_failed : Result End SessionFault → ℕ
+count_failed (Err Write) = 1
+count_failed _ = 0
