@@ -1,4 +1,4 @@
-use Rattle.std.proofs.Common.{◌≡◌, ℕ, ◌+◌, ◌<◌, ◌≤◌, ◌↔◌, ◌⊎◌, inl, inr, Bool, true, false, List, [], ◌∷◌, ◌++◌, length, take, refl, sym, ap, subst, arith, ◌∙◌, Option, Some, None, Result, Ok, Err, rules}
+use Rattle.std.proofs.Common.{◌≡◌, ℕ, ◌+◌, ◌<◌, ◌↔◌, inl, inr, List, [], refl, sym, ap, subst, arith, ◌∙◌, Option, Result, Ok, Err}
 use Rattle.std.specs.Io.KnownBytes.{Appends}
 use Rattle.ss_words.specs.declared.fault.TextRule.{TextRule}
 use Rattle.ss_words.specs.Faults.{text_rule_code}
@@ -8,10 +8,9 @@ use Rattle.ss_check.specs.Program.{ProgramTable}
 use Rattle.ss_machine.specs.Moment.{Moment, position}
 use Rattle.ss_machine.specs.Run.{run}
 use Rattle.ss_debug.specs.Words.{lines_of}
-use Rattle.ss_debug.specs.Turn.{Desk, Sitting, begun, answers, sitting_after}
+use Rattle.ss_debug.specs.Turn.{begun}
 use Rattle.ss_debug.specs.Underway.{Held, desk_of}
 use Rattle.ss_session.proofs.Pieces.{appends_none}
-use Rattle.ss_session.proofs.Parts.{writes_part}
 use Rattle.ss_session.specs.declared.ending.End.{End}
 use Rattle.ss_session.specs.declared.ending.Cut.{Cut}
 use Rattle.ss_session.specs.declared.ending.Cut.TheVariants as cut
@@ -20,8 +19,8 @@ use Rattle.ss_session.specs.declared.ending.SessionFault.TheVariants.{Text, Chec
 use Rattle.ss_session.specs.Exit.{fault_of}
 use Rattle.ss_session.specs.Model.{Outcome, refused_text, refused_check, accepted, IsOutcome, IsTextRefused, IsCheckRefused}
 use Rattle.ss_session.proofs.Outcomes.{one_outcome}
-use Rattle.ss_session.specs.SoFar.{seated, WritesFirst, WritesPart, LineGives}
-use Rattle.ss_session.specs.Transcript.{SessionGives, TalkGives, WritesFirstAnswers, WritesTranscript, WritesPartOfTranscript, EndsBy, refusal_line, transcript, told, end_of, ends_faulted, IsWhole, count_failed}
+use Rattle.ss_session.specs.SoFar.{seated, LineGives}
+use Rattle.ss_session.specs.Transcript.{SessionGives, TalkGives, WritesFirstAnswers, WritesTranscript, WritesPartOfTranscript, EndsBy, refusal_line, transcript, end_of, ends_faulted, IsWhole, count_failed}
 
 -- a debugger over a machine at its start is where a session begins
 pub start_is : (m : Moment) (h : Held) → h ≡ record { machine = m; breaks = [] } → m.steps ≡ [] → seated (desk_of h) ≡ begun

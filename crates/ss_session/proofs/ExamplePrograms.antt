@@ -1,9 +1,9 @@
 -- The plain words of the examples' models, and the trees that they spell.
-use Rattle.std.proofs.Common.{◌≡◌, ℕ, ◌+◌, ◌≤◌, true, List, [], ◌∷◌, Some, None, codes, refl, arith}
+use Rattle.std.proofs.Common.{◌≡◌, ℕ, true, List, [], ◌∷◌, None, codes, refl}
 use Rattle.ss_words.specs.declared.mark.Mark.TheVariants as m
 use Rattle.ss_words.specs.declared.word.Sign.TheVariants as s
 use Rattle.ss_words.specs.declared.reserved.Reserved.TheVariants as r
-use Rattle.ss_words.specs.Plain.{Plain, PlainAt, name, number, mark, picture, plains}
+use Rattle.ss_words.specs.Plain.{PlainAt, name, number, mark, picture, plains}
 use Rattle.ss_words.specs.Spellings.{spellings, mark_of}
 use Rattle.ss_words.specs.PlainRules.{plain_words_of}
 use Rattle.ss_routines.specs.Expr.{Expr, expr, no_sums, term, no_products, digits, variable}

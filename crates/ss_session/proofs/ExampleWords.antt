@@ -1,5 +1,5 @@
 -- The words of the examples' models, computed.
-use Rattle.std.proofs.Common.{◌≡◌, ℕ, List, [], ◌∷◌, Ok, Err, codes, refl}
+use Rattle.std.proofs.Common.{◌≡◌, List, [], ◌∷◌, Ok, Err, codes, refl}
 use Rattle.ss_words.specs.declared.fault.TextRule.TheVariants.{BadNumber}
 use Rattle.ss_words.specs.declared.fault.TextFault.TheVariants.{Refused}
 use Rattle.ss_words.specs.declared.word.Sign.TheVariants.{Equal, Comma}

@@ -1,5 +1,5 @@
 -- The transcript of a model, from its words, its plain words, its tree and its run.
-use Rattle.std.proofs.Common.{◌≡◌, ℕ, ◌+◌, ◌≤◌, inl, inr, List, [], ◌∷◌, length, Option, Some, None, Result, Ok, Err, refl}
+use Rattle.std.proofs.Common.{◌≡◌, ℕ, inl, inr, List, Some, None, Ok, Err, refl}
 use Rattle.ss_words.specs.declared.fault.TextRule.{TextRule}
 use Rattle.ss_words.specs.declared.fault.TextFault.TheVariants.{Refused}
 use Rattle.ss_words.specs.Words.{WordAt}
@@ -9,14 +9,14 @@ use Rattle.ss_words.specs.Plain.{Plain, PlainAt, plains}
 use Rattle.ss_words.specs.PlainRules.{plain_words_of}
 use Rattle.ss_routines.specs.Tree.{Tree, spell}
 use Rattle.ss_routines.specs.Written.{written}
-use Rattle.ss_routines.specs.Refused.{IsWithin, IsRefused, AreSections, lines, words_from}
+use Rattle.ss_routines.specs.Refused.{IsWithin, IsRefused, lines, words_from}
 use Rattle.ss_check.specs.declared.fault.CheckRule.{CheckRule}
 use Rattle.ss_check.specs.CheckRules.{check_rule_code}
 use Rattle.ss_check.specs.Breach.{breach}
 use Rattle.ss_check.specs.Resolved.{resolved}
 use Rattle.ss_check.specs.Program.{ProgramTable}
 use Rattle.ss_debug.specs.Words.{lines_of}
-use Rattle.ss_session.specs.Model.{refused_text, refused_check, accepted, Spells, IsOutcome}
+use Rattle.ss_session.specs.Model.{refused_text, refused_check, accepted, Spells}
 use Rattle.ss_session.specs.Transcript.{refusal_line, told}
 use Rattle.ss_session.specs.Examples.{Tells, AlwaysTells}
 

@@ -1,16 +1,14 @@
 -- What a session writes.
-use Rattle.std.specs.Prelude.{ℕ, ◌≡◌, ◌⊎◌, ◌+◌, Bool, true, false, List, [], ◌∷◌, ◌++◌, Option, Some, None, Result, Ok, Err, codes, decimal, if◌then◌else◌}
+use Rattle.std.specs.Prelude.{ℕ, ◌≡◌, ◌⊎◌, ◌+◌, Bool, true, false, List, [], ◌∷◌, ◌++◌, Option, Result, Ok, Err, codes, decimal, if◌then◌else◌}
 use Rattle.std.specs.Io.KnownBytes.{Appends}
-use Rattle.ss_words.specs.declared.fault.TextRule.{TextRule}
 use Rattle.ss_words.specs.Faults.{text_rule_code}
-use Rattle.ss_check.specs.declared.fault.CheckRule.{CheckRule}
 use Rattle.ss_check.specs.CheckRules.{check_rule_code}
 use Rattle.ss_check.specs.Program.{ProgramTable}
 use Rattle.ss_machine.specs.declared.status.Status.{Status}
 use Rattle.ss_machine.specs.declared.status.Status.TheVariants.{Ready, Stopped, Finished, Faulted}
 use Rattle.ss_machine.specs.Run.{run}
 use Rattle.ss_debug.specs.Words.{lines_of}
-use Rattle.ss_debug.specs.Turn.{Desk, begun, answers, sitting_after}
+use Rattle.ss_debug.specs.Turn.{begun, answers, sitting_after}
 use Rattle.ss_debug.specs.Answer.{report_text}
 use Rattle.ss_session.specs.declared.ending.Cut.{Cut}
 use Rattle.ss_session.specs.declared.ending.Cut.TheVariants as cut

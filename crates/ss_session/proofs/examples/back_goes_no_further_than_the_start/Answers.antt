@@ -1,4 +1,4 @@
-use Rattle.std.proofs.Common.{◌≡◌, ◌≤◌, ◌+◌, ℕ, List, codes, refl, arith}
+use Rattle.std.proofs.Common.{refl, arith}
 use Rattle.std.specs.Fmt.{digits}
 use Rattle.ss_words.specs.TextRuns.{without_stops}
 use Rattle.ss_debug.specs.Words.{words_of, lines_of, number_of, name_of}

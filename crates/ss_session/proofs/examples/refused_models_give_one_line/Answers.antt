@@ -1,4 +1,4 @@
-use Rattle.std.proofs.Common.{◌≡◌, ◌≤◌, ◌+◌, ℕ, List, [], codes, refl, arith}
+use Rattle.std.proofs.Common.{[], codes, refl, arith}
 use Rattle.std.specs.Fmt.{digits}
 use Rattle.ss_words.specs.declared.fault.TextRule.TheVariants.{BadNumber, UnexpectedWord, UnexpectedEnd}
 use Rattle.ss_words.specs.Reading.{bind, pure, refuse, look, skip, ended, whole, many, many_from}

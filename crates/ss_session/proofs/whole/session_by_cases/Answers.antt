@@ -1,7 +1,5 @@
-use Rattle.std.proofs.Common.{◌≡◌, ◌+◌, ◌∙◌, refl, sym, ap, arith, rules}
 use Rattle.ss_session.specs.Model.{refused_text, refused_check}
 use Rattle.ss_session.specs.SoFar.{LineGives}
-use Rattle.ss_session.specs.Transcript.{SessionGives}
 use Rattle.ss_session.proofs.Ends.{text_written, check_written, line_cut, none_yet, talked, talk_cut}
 use Rattle.ss_session.proofs.whole.session_by_cases.Goals as goal
 
