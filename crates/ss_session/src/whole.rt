@@ -66,12 +66,12 @@ fn session_by_cases<W: Outlet>(
     }
 }
 
-/// Runs a model under the debugger's commands, and writes what they answer, each answer before the next command is obeyed
-/// (docs/DEBUGGER.md). It isn't looked at what `data` holds yet.
+/// Runs a model under the debugger's commands (docs/DEBUGGER.md), and writes what they answer, each answer before the next command is
+/// obeyed, and the report last. No statement of the language reads `data` yet.
 ///
-/// `Ok` where the model is accepted and all was written: `RunFault` where the last state is faulted. `Text` and `Check` where it
-/// is refused, once its line is written. `Write` where `out` counted a failure; nothing else is written then. `Memory` where a growth
-/// was refused; what is written are the whole answers of the first commands.
+/// `Ok` where the model is a program and all was written: `RunFault` where its last state is faulted, else `Done`. `Text` and `Check`
+/// where the model is refused, once its line is written. `Write` where `out` counted a failure; nothing more is put then. `Memory`
+/// where a growth was refused; what was written are the whole answers of the first lines.
 pub fn session<W: Outlet>(
     alloc: Global,
     model: &[u8],
@@ -81,16 +81,18 @@ pub fn session<W: Outlet>(
 ) -> Result<End, SessionFault>
     requires { W.failures out.old < 2 ^ 64 - 1 }
 
-    // What is written is the transcript of the model under the commands, unless memory is refused or a write fails.
+    // What is written is the transcript of the model under the commands, unless memory is refused or a write fails: then it is the
+    // whole answers of the first lines, or a prefix of the transcript.
     ensures whole { IsWhole result → WritesTranscript model.now commands.now (W.taken out.old) (W.taken out.new) }
     ensures memory { result ≡ Err Memory → WritesFirstAnswers model.now commands.now (W.taken out.old) (W.taken out.new) }
     ensures write { result ≡ Err Write → WritesPartOfTranscript model.now commands.now (W.taken out.old) (W.taken out.new) }
 
-    // It ends with Write exactly where the outlet counted a failure.
+    // It ends with Write exactly where the outlet counted a failure; it counts one then, and else none.
     ensures failure { (result ≡ Err Write) ↔ (W.failures out.old < W.failures out.new) }
     ensures counts { W.failures out.new ≡ W.failures out.old + count_failed result }
 
-    // How else it ends: Text exactly where a rule L or P refuses the model, Check exactly where a rule C does, else by its last state.
+    // How else it ends: Text exactly where a rule L or P refuses the model, Check exactly where a rule C does, and Done or RunFault
+    // exactly where the model is a program whose last state says so.
     ensures text { IsWhole result → (result ≡ Err Text) ↔ IsTextRefused model.now }
     ensures check { IsWhole result → (result ≡ Err Check) ↔ IsCheckRefused model.now }
     ensures accepted { IsWhole result → (end : End) → (result ≡ Ok end) ↔ EndsBy model.now commands.now end }
