@@ -1,27 +1,25 @@
+ghost use Rattle.std.specs.Prelude.{◌≡◌, ◌≤◌, ◌^◌, length, IfOk, IfSome, None};
+
 use crate::stop::Stop;
 use std::alloc::Global;
 use std::io::Read;
 use std::rt::Files;
 use std::{fs, io};
 
-/// The most bytes of a file.
-const MOST_BYTES: usize = 64 * 1024 * 1024;
+/// The most bytes of a file: 64 MiB.
+const MOST_BYTES: usize = 1 << 26;
 
-/// Reads to the end, at most 64 MiB: each turn takes a byte, ends or fails.
-fn read_all<R: Read>(alloc: Global, reader: &mut R) -> io::Result<Vec<u8>> {
+/// Reads to the end, which must come within 64 MiB.
+fn read_all<R: Read + Drop>(alloc: Global, reader: R) -> io::Result<Vec<u8>>
+    ensures limit { IfOk result (λ bytes. length bytes.items ≤ 2 ^ 26) }
+    ensures whole { IfOk result (λ bytes. IfSome (R.remaining reader) (λ all. bytes.items ≡ all)) }
+{
     let mut bytes = Vec::new(alloc);
-    let mut piece = [0u8; 4096];
-    for _ in 0..MOST_BYTES + 1 {
-        let count = reader.read(&mut piece)?;
-        if count == 0 {
-            return Ok(bytes);
-        }
-        if bytes.len() + count > MOST_BYTES {
-            return Err(io::Error::from(io::ErrorKind::InvalidData));
-        }
-        bytes.extend_from_slice(&piece[..count])?;
+    reader.take(MOST_BYTES as u64 + 1).read_to_end(&mut bytes)?;
+    if bytes.len() > MOST_BYTES {
+        return Err(io::Error::from(io::ErrorKind::InvalidData));
     }
-    Err(io::Error::from(io::ErrorKind::InvalidData))
+    Ok(bytes)
 }
 
 fn stop_at<'a>(error: io::Error, path: &'a str) -> Stop<'a> {
@@ -34,7 +32,7 @@ fn stop_at<'a>(error: io::Error, path: &'a str) -> Stop<'a> {
 
 fn read_file<'a, R: Files + AllocGlobal>(rt: &R, path: &'a str) -> Result<Vec<u8>, Stop<'a>> {
     match fs::open(rt, path) {
-        Ok(mut file) => read_all(rt.alloc(), &mut file).map_err(|e| stop_at(e, path)),
+        Ok(file) => read_all(rt.alloc(), file).map_err(|e| stop_at(e, path)),
         Err(error) => Err(stop_at(error, path)),
     }
 }
@@ -46,7 +44,7 @@ pub fn read_model<'a, R: Files + Input + AllocGlobal>(
 ) -> Result<Vec<u8>, Stop<'a>> {
     match path {
         Some(path) => read_file(rt, path),
-        None => read_all(rt.alloc(), &mut rt.reader()).map_err(|e| stop_at(e, "-")),
+        None => read_all(rt.alloc(), rt.reader()).map_err(|e| stop_at(e, "-")),
     }
 }
 
@@ -55,7 +53,9 @@ pub fn read_or<'a, R: Files + AllocGlobal>(
     rt: &R,
     path: Option<&'a str>,
     otherwise: &[u8],
-) -> Result<Vec<u8>, Stop<'a>> {
+) -> Result<Vec<u8>, Stop<'a>>
+    ensures unnamed { path.entry ≡ None → IfOk result (λ bytes. bytes.items ≡ otherwise.now) }
+{
     match path {
         Some(path) => read_file(rt, path),
         None => match otherwise.to_vec(rt.alloc()) {

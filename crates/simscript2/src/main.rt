@@ -1,6 +1,10 @@
 //! `simscript2 [MODEL [DATA [COMMANDS]]]`: runs a model under the debugger's commands and writes the transcript.
 #![tactic(auto)]
 
+ghost use Rattle.std.specs.Prelude.{◌≡◌};
+ghost use Rattle.ss_session.specs.Exit.{status_of};
+ghost use Rattle.simscript2.specs.Stops.{stop_status};
+
 mod files;
 mod paths;
 mod stop;
@@ -31,8 +35,18 @@ fn run<'a, R: Files + Input + Print + AllocGlobal>(
     Ok(session(rt.alloc(), &model, &input, &commands, &mut out))
 }
 
-/// The exit status of a session, once what stopped it is told.
-fn ended<R: Eprint>(rt: &R, outcome: Result<End, SessionFault>) -> u8 {
+/// Says what stopped the program, and gives its exit status.
+fn stopped<R: Eprint>(rt: &R, stop: Stop<'_>) -> u8
+    ensures { result ≡ stop_status stop.entry }
+{
+    tell(rt, stop);
+    stop.status()
+}
+
+/// Says what cut a session short, and gives the exit status of its end.
+fn ended<R: Eprint>(rt: &R, outcome: Result<End, SessionFault>) -> u8
+    ensures { result ≡ status_of outcome }
+{
     match outcome {
         Err(SessionFault::Write) => tell(rt, Stop::CannotWrite),
         Err(SessionFault::Memory) => tell(rt, Stop::Memory),
@@ -45,17 +59,9 @@ fn main(rt: HostRuntime) -> ExitCode {
     let status = match read_arguments(&rt) {
         Ok(arguments) => match run(&rt, &arguments) {
             Ok(outcome) => ended(&rt, outcome),
-            Err(stop) => {
-                let status = stop.status();
-                tell(&rt, stop);
-                status
-            }
+            Err(stop) => stopped(&rt, stop),
         },
-        Err(stop) => {
-            let status = stop.status();
-            tell(&rt, stop);
-            status
-        }
+        Err(stop) => stopped(&rt, stop),
     };
     ExitCode::from(status)
 }

@@ -1,3 +1,6 @@
+ghost use Rattle.std.specs.Prelude.{◌≡◌};
+ghost use Rattle.simscript2.specs.Stops.{stop_status};
+
 /// What stops the program before a session, or ends a session without its transcript.
 #[derive(Clone, Copy, Drop)]
 pub enum Stop<'a> {
@@ -13,7 +16,9 @@ pub enum Stop<'a> {
 
 impl Stop<'_> {
     /// The exit status: 1 for the words, 2 for files and output, 5 for memory.
-    pub fn status(&self) -> u8 {
+    pub fn status(&self) -> u8
+        ensures { result ≡ stop_status self.now }
+    {
         match self {
             Stop::Usage => 1,
             Stop::CannotRead(_) => 2,

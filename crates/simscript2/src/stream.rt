@@ -1,9 +1,9 @@
-ghost use Rattle.std.specs.Prelude.{◌≡◌, None};
+ghost use Rattle.std.specs.Prelude.{◌≡◌};
 
 use ss_session::{Outlet, PutFault};
 use std::io;
 
-/// An outlet over a writer that tells nothing of what it took, as standard output: one write for each call.
+/// An outlet over a writer, one write for each call. It tells of what it took what the writer tells: standard output tells nothing.
 #[derive(Drop)]
 pub struct Stream<W: io::Write + Drop> {
     writer: W,
@@ -12,6 +12,7 @@ pub struct Stream<W: io::Write + Drop> {
 
 impl<W: io::Write + Drop> Stream<W> {
     pub fn new(writer: W) -> Self
+        ensures writer { result.writer ≡ writer }
         ensures none_failed { result.failures ≡ 0 }
     {
         Stream {
@@ -22,10 +23,11 @@ impl<W: io::Write + Drop> Stream<W> {
 }
 
 impl<W: io::Write + Drop> Outlet for Stream<W> {
-    ghost taken = { λ s. None };
+    ghost taken = { λ s. W.contents s.writer };
 
     ghost failures = { λ s. s.failures };
 
+    #[tactic(auto, using(crate::proofs::Kept::kept_appends_none))]
     fn put(&mut self, piece: &[u8]) -> Result<usize, PutFault> {
         match self.writer.write(piece) {
             Ok(0) => {

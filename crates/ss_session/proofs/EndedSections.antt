@@ -1,7 +1,7 @@
 use Rattle.std.proofs.Common.{◌≡◌, ℕ, false, refl, List, [], ◌∷◌, ◌++◌}
 use Rattle.ss_words.specs.Plain.{PlainAt}
-use Rattle.ss_routines.specs.Places.{Spot, Section, assign, output, control, stops, ends}
-use Rattle.ss_routines.specs.Tree.{Block, no_statements, statement, Statement, single, One, assignment, report, halt, SectionTree, main, Tree}
+use Rattle.ss_routines.specs.Places.{Spot, Section, assign, output, control, stops}
+use Rattle.ss_routines.specs.Tree.{Block, no_statements, statement, single, assignment, report, halt, main, Tree}
 use Rattle.ss_routines.specs.Written.{flat_block, spot, written_from}
 use Rattle.ss_routines.specs.Refused.{AreSections}
 use Rattle.ss_check.specs.Ended.{is_end, IsEnded, AreEnded}

@@ -2,6 +2,9 @@ pub mod Pieces
 pub mod Parts
 pub mod FirstLine
 pub mod Sittings
+pub mod Outcomes
 pub mod Ends
 pub mod EndedSections
-pub mod Outcomes
+pub mod Told
+pub mod ExampleWords
+pub mod ExamplePrograms

@@ -1,20 +1,57 @@
-use Rattle.std.proofs.Common.{◌≡◌, ◌⊎◌, inl, inr, ℕ, List, Option, Some, None, Result, Ok, Err, refl, sym, ap, subst, ◌∙◌}
+use Rattle.std.proofs.Common.{◌≡◌, inl, inr, ℕ, List, [], ◌∷◌, Option, Some, None, Result, Ok, Err, refl, sym, ap, subst, ◌∙◌}
 use Rattle.ss_words.specs.declared.fault.TextFault.{TextFault}
 use Rattle.ss_words.specs.declared.fault.TextFault.TheVariants.{Refused, Memory}
 use Rattle.ss_words.specs.declared.fault.TextRule.{TextRule}
 use Rattle.ss_words.specs.Words.{WordAt}
-use Rattle.ss_words.specs.TextWords.{words_of}
+use Rattle.ss_words.specs.TextWords.{Found, word, breach as broken, breaches_in, words_in, answer_of, found_in_text, words_of}
 use Rattle.ss_words.specs.PlainRules.{plain_words_of}
 use Rattle.ss_routines.specs.Places.{Section}
-use Rattle.ss_routines.specs.Refused.{Answers, IsRefused, AreSections, words_from}
+use Rattle.ss_routines.specs.Refused.{Answers, AreSections, words_from}
 use Rattle.ss_routines.specs.Laws.{IsDefinite}
+use Rattle.ss_routines.proofs.LimitWords.{always}
 use Rattle.ss_routines.proofs.Unique.{one_answer}
 use Rattle.ss_check.specs.declared.fault.CheckRule.{CheckRule}
 use Rattle.ss_check.specs.Breach.{breach}
 use Rattle.ss_check.specs.Resolved.{resolved}
-use Rattle.ss_check.specs.Program.{ProgramTable}
-use Rattle.ss_session.specs.Model.{Outcome, refused_text, refused_check, accepted, IsOutcome}
-use Rattle.ss_session.specs.Laws.{OutcomeIsUnique}
+use Rattle.ss_session.specs.Model.{Outcome, refused_text, refused_check, accepted, Spells, IsOutcome}
+use Rattle.ss_session.specs.Laws.{ModelHasOutcome, OutcomeIsUnique}
+
+-- ---- a model has an outcome
+
+-- words, or a refusal by a rule
+abbrev IsSaid : Result (List WordAt) TextFault → Type 0
+IsSaid (Ok ws) = Unit {0}
+IsSaid (Err (Refused rule n)) = Unit {0}
+IsSaid (Err Memory) = ⊥
+
+said : (fs all : List Found) → IsSaid (elim (breaches_in fs) [ [] ↦ Ok (words_in all) | b ∷ bs ↦ Err b ])
+said [] all = tt
+said (word w ∷ fs) all = said fs all
+said (broken rule n ∷ fs) all = tt
+
+words_said : (model : List ℕ) → IsSaid (words_of model)
+unfolding words_of answer_of
+words_said model = said (found_in_text model) (found_in_text model)
+
+from_breach : (model : List ℕ) (ss : List Section) → Spells model ss → (b : Option (CheckRule × ℕ)) → breach ss ≡ b → (o : Outcome) × IsOutcome model o
+from_breach model ss s None e = (accepted (resolved ss), (ss, s, e, refl))
+from_breach model ss s (Some (rule, n)) e = (refused_check rule n, (ss, s, e))
+
+from_answer : (model : List ℕ) (ws : List WordAt) → words_of model ≡ Ok ws → (a : Result (List Section) TextFault) → IsDefinite a → Answers a (words_from 0 (plain_words_of ws)) →
+    (o : Outcome) × IsOutcome model o
+from_answer model ws e (Ok ss) d h = from_breach model ss (ws, e, h) (breach ss) refl
+from_answer model ws e (Err (Refused rule n)) d h = (refused_text rule n, inr (ws, e, h))
+from_answer model ws e (Err Memory) d h = absurd d
+
+from_words : (model : List ℕ) (a : Result (List WordAt) TextFault) → words_of model ≡ a → IsSaid a → (o : Outcome) × IsOutcome model o
+from_words model (Ok ws) e s = let h = always (words_from 0 (plain_words_of ws)) in from_answer model ws e h.0 h.1 h.2
+from_words model (Err (Refused rule n)) e s = (refused_text rule n, inl e)
+from_words model (Err Memory) e s = absurd s
+
+pub some_outcome : ModelHasOutcome
+some_outcome model = from_words model (words_of model) refl (words_said model)
+
+-- ---- and no second
 
 -- a model whose words are read has one answer from them
 same_answer : (model : List ℕ) (ws vs : List WordAt) (a b : Result (List Section) TextFault) → words_of model ≡ Ok ws → words_of model ≡ Ok vs → IsDefinite a → IsDefinite b →

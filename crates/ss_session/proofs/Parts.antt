@@ -1,4 +1,4 @@
-use Rattle.std.proofs.Common.{◌≡◌, ℕ, ◌+◌, ◌≤◌, List, [], ◌∷◌, ◌++◌, length, take, drop, refl, sym, ap, arith, append_assoc, Option, Some, None, rules}
+use Rattle.std.proofs.Common.{ℕ, ◌+◌, ◌≤◌, List, ◌++◌, length, take, arith, Option}
 use Rattle.std.specs.Io.KnownBytes.{Appends}
 use Rattle.std.proofs.Common.{length-append}
 use Rattle.std.proofs.Math.Seq.{take-append-add}
@@ -8,10 +8,6 @@ use Rattle.ss_session.specs.SoFar.{WritesPart}
 
 pub writes_part : (text : List ℕ) (old new : Option (List ℕ)) (n : ℕ) → n ≤ length text → Appends old new (take n text) → WritesPart text old new
 writes_part text old new n h p = record { count = n; within = h; said = p }
-
-pub appends_empty : (a : Option (List ℕ)) → Appends a a []
-appends_empty None = tt
-appends_empty (Some s) = search rules
 
 pub part_left : (x y : List ℕ) (old new : Option (List ℕ)) → WritesPart x old new → WritesPart (x ++ y) old new
 part_left x y old new w =

@@ -1,13 +1,12 @@
-use Rattle.std.proofs.Common.{◌≡◌, ℕ, ◌+◌, ◌<◌, ◌≤◌, Bool, true, false, cond, List, [], ◌∷◌, ◌++◌, length, take, drop, refl, ap, arith, ◌∙◌, sym, append_assoc, append-nil, Option, Some, None, rules, length-append}
+use Rattle.std.proofs.Common.{◌≡◌, ℕ, ◌+◌, ◌≤◌, Bool, true, false, cond, List, [], ◌∷◌, ◌++◌, length, refl, arith, ◌∙◌, sym, append_assoc, append-nil, Option, length-append}
 use Rattle.std.proofs.Math.Seq.{take-append_seam, take-append-add}
 use Rattle.std.proofs.lemmas.List.{take-append-le}
-use Rattle.std.proofs.lemmas.Grind.{common_steps}
 use Rattle.std.specs.Io.KnownBytes.{Appends}
 use Rattle.ss_session.proofs.Pieces.{appends_then, appends_none, appends_no_more}
 use Rattle.ss_debug.specs.Turn.{Desk, Sitting, next_sitting, line_answer, answers, sitting_after}
 use Rattle.ss_debug.specs.Turn.{after, is_quit}
 use Rattle.ss_debug.specs.Command.{command_of}
-use Rattle.ss_debug.specs.Underway.{Held, desk_of, go_of}
+use Rattle.ss_debug.specs.Underway.{go_of}
 use Rattle.ss_check.specs.Program.{ProgramTable}
 use Rattle.ss_debug.specs.declared.said.Command.{Command}
 use Rattle.ss_debug.specs.declared.said.Command.TheVariants.{Quit}

@@ -5,3 +5,4 @@ pub mod SoFar
 pub mod Transcript
 pub mod Loads
 pub mod Laws
+pub mod Examples

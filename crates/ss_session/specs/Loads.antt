@@ -1,9 +1,8 @@
 -- What the reading of a model gives.
-use Rattle.std.specs.Prelude.{ℕ, List, Result, Ok, Err}
-use Rattle.ss_check.specs.Program.{ProgramTable}
+use Rattle.std.specs.Prelude.{ℕ, List}
 use Rattle.ss_session.specs.declared.load.LoadFault.{LoadFault}
 use Rattle.ss_session.specs.declared.load.LoadFault.TheVariants.{Text, Check, Memory}
-use Rattle.ss_session.specs.Model.{refused_text, refused_check, accepted, IsOutcome}
+use Rattle.ss_session.specs.Model.{refused_text, refused_check, IsOutcome}
 
 -- a fault tells the model's refusal, unless memory was refused
 abbrev pub IsLoadFault : LoadFault → List ℕ → Type 0

@@ -1,5 +1,5 @@
 -- What a model is: refused by a rule at a line, or a program.
-use Rattle.std.specs.Prelude.{◌≡◌, ◌⊎◌, ℕ, List, Option, Some, None, Result, Ok, Err}
+use Rattle.std.specs.Prelude.{◌≡◌, ◌⊎◌, ℕ, List, Some, None, Ok, Err}
 use Rattle.ss_words.specs.declared.fault.TextRule.{TextRule}
 use Rattle.ss_words.specs.declared.fault.TextFault.TheVariants.{Refused}
 use Rattle.ss_words.specs.Words.{WordAt}
@@ -29,3 +29,11 @@ IsOutcome model (refused_text rule line) =
     (words_of model ≡ Err (Refused rule line)) ⊎ ((ws : List WordAt) × (words_of model ≡ Ok ws) × IsRefused rule line (words_from 0 (plain_words_of ws)))
 IsOutcome model (refused_check rule line) = (ss : List Section) × Spells model ss × (breach ss ≡ Some (rule, line))
 IsOutcome model (accepted program) = (ss : List Section) × Spells model ss × (breach ss ≡ None) × (program ≡ resolved ss)
+
+-- a rule L or P refuses the model
+abbrev pub IsTextRefused : List ℕ → Type 0
+IsTextRefused model = (rule : TextRule) × (line : ℕ) × IsOutcome model (refused_text rule line)
+
+-- a rule C refuses the model
+abbrev pub IsCheckRefused : List ℕ → Type 0
+IsCheckRefused model = (rule : CheckRule) × (line : ℕ) × IsOutcome model (refused_check rule line)

@@ -1,5 +1,5 @@
 -- What was written by the turns of a session so far, and how a turn or all turns may be cut short.
-use Rattle.std.specs.Prelude.{ℕ, ◌+◌, ◌≡◌, ◌≤◌, Bool, true, false, List, [], ◌∷◌, ◌++◌, length, take, Option, Some, None, Result, Ok, Err}
+use Rattle.std.specs.Prelude.{ℕ, ◌+◌, ◌≡◌, ◌≤◌, false, List, [], ◌++◌, length, take, Option, Result, Ok, Err}
 use Rattle.std.specs.Io.KnownBytes.{Appends}
 use Rattle.ss_check.specs.Program.{ProgramTable}
 use Rattle.ss_debug.specs.Command.{command_of}

@@ -1,16 +1,14 @@
 -- What a session writes.
-use Rattle.std.specs.Prelude.{ℕ, ◌≡◌, ◌⊎◌, ◌+◌, Bool, true, false, List, [], ◌∷◌, ◌++◌, Option, Some, None, Result, Ok, Err, codes, decimal, if◌then◌else◌}
+use Rattle.std.specs.Prelude.{ℕ, ◌≡◌, ◌⊎◌, ◌+◌, Bool, true, false, List, [], ◌∷◌, ◌++◌, Option, Result, Ok, Err, codes, decimal, if◌then◌else◌}
 use Rattle.std.specs.Io.KnownBytes.{Appends}
-use Rattle.ss_words.specs.declared.fault.TextRule.{TextRule}
 use Rattle.ss_words.specs.Faults.{text_rule_code}
-use Rattle.ss_check.specs.declared.fault.CheckRule.{CheckRule}
 use Rattle.ss_check.specs.CheckRules.{check_rule_code}
 use Rattle.ss_check.specs.Program.{ProgramTable}
 use Rattle.ss_machine.specs.declared.status.Status.{Status}
 use Rattle.ss_machine.specs.declared.status.Status.TheVariants.{Ready, Stopped, Finished, Faulted}
 use Rattle.ss_machine.specs.Run.{run}
 use Rattle.ss_debug.specs.Words.{lines_of}
-use Rattle.ss_debug.specs.Turn.{Desk, begun, answers, sitting_after}
+use Rattle.ss_debug.specs.Turn.{begun, answers, sitting_after}
 use Rattle.ss_debug.specs.Answer.{report_text}
 use Rattle.ss_session.specs.declared.ending.Cut.{Cut}
 use Rattle.ss_session.specs.declared.ending.Cut.TheVariants as cut
@@ -19,7 +17,7 @@ use Rattle.ss_session.specs.declared.ending.End.TheVariants.{Done, RunFault}
 use Rattle.ss_session.specs.declared.ending.SessionFault.{SessionFault}
 use Rattle.ss_session.specs.declared.ending.SessionFault.TheVariants.{Text, Check, Write, Memory}
 use Rattle.ss_session.specs.SoFar.{WritesFirst, WritesPart}
-use Rattle.ss_session.specs.Model.{Outcome, refused_text, refused_check, accepted, IsOutcome}
+use Rattle.ss_session.specs.Model.{Outcome, refused_text, refused_check, accepted, IsOutcome, IsTextRefused, IsCheckRefused}
 
 -- the one line of a refused model
 abbrev pub refusal_line : List ℕ → ℕ → List ℕ
@@ -76,9 +74,9 @@ unfoldable pub SessionGives : Result End SessionFault → List ℕ → List ℕ 
 SessionGives (Ok end) model commands old new failed failed' =
     EndsBy model commands end × WritesTranscript model commands old new × (failed' ≡ failed)
 SessionGives (Err Text) model commands old new failed failed' =
-    ((rule : TextRule) × (line : ℕ) × IsOutcome model (refused_text rule line)) × WritesTranscript model commands old new × (failed' ≡ failed)
+    IsTextRefused model × WritesTranscript model commands old new × (failed' ≡ failed)
 SessionGives (Err Check) model commands old new failed failed' =
-    ((rule : CheckRule) × (line : ℕ) × IsOutcome model (refused_check rule line)) × WritesTranscript model commands old new × (failed' ≡ failed)
+    IsCheckRefused model × WritesTranscript model commands old new × (failed' ≡ failed)
 SessionGives (Err Memory) model commands old new failed failed' = WritesFirstAnswers model commands old new × (failed' ≡ failed)
 SessionGives (Err Write) model commands old new failed failed' = WritesPartOfTranscript model commands old new × (failed' ≡ failed + 1)
 
@@ -89,3 +87,8 @@ IsWhole (Err Text) = Unit {0}
 IsWhole (Err Check) = Unit {0}
 IsWhole (Err Memory) = ⊥
 IsWhole (Err Write) = ⊥
+
+-- how many failures of its outlet a session counts: one where it ends with Write
+abbrev pub count_failed : Result End SessionFault → ℕ
+count_failed (Err Write) = 1
+count_failed _ = 0

@@ -10,6 +10,21 @@ pub(crate) enum Cut {
     Write,
 }
 
+impl Cut {
+    ghost use Rattle.std.specs.Prelude.{◌≡◌};
+    ghost use Rattle.ss_session.specs.Exit.{fault_of};
+
+    /// The fault of a session whose turns were cut short so.
+    pub(crate) fn fault(self) -> SessionFault
+        ensures { result ≡ fault_of self }
+    {
+        match self {
+            Cut::Memory => SessionFault::Memory,
+            Cut::Write => SessionFault::Write,
+        }
+    }
+}
+
 /// How a session over an accepted model ends.
 #[derive(Clone, Copy, Debug, PartialEq, Eq)]
 pub enum End {

@@ -2,6 +2,7 @@
 #![tactic(auto)]
 
 mod ending;
+pub mod examples;
 mod laws;
 mod lines;
 mod load;
@@ -14,6 +15,6 @@ mod turns;
 mod whole;
 
 pub use ending::{End, SessionFault, exit_status};
-pub use laws::outcome_is_unique;
+pub use laws::model_has_one_outcome;
 pub use outlet::{MemoryOutlet, Outlet, PutFault};
 pub use whole::session;

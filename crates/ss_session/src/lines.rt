@@ -8,8 +8,8 @@ fn is_line_feed_byte(b: u8) -> bool
     b == b'\n'
 }
 
-#[tactic(auto, using(std::proofs::lemmas::List::Sums::position_or_len_is))]
 /// The place of the first line feed, or the length.
+#[tactic(auto, using(std::proofs::lemmas::List::Sums::position_or_len_is))]
 fn line_feed_at(text: &[u8]) -> usize
     ensures place { result ≡ position_or_len is_line_feed text.now }
     ensures within { result ≤ length text.now }
@@ -23,7 +23,7 @@ fn line_feed_at(text: &[u8]) -> usize
 }
 
 /// The first line, and what stands behind it.
-pub fn split_line(text: &[u8]) -> (&[u8], &[u8])
+pub(crate) fn split_line(text: &[u8]) -> (&[u8], &[u8])
     ensures before { result.0.now ≡ before_first is_line_feed text.now }
     ensures after { result.1.now ≡ after_first is_line_feed text.now }
     ensures less { text.now ≢ [] → length result.1.now < length text.now }

@@ -144,36 +144,128 @@ impl Outlet for Narrow {
     }
 }
 
-/// Runs the model of five over an outlet that takes `room` bytes, and compares what it took.
-fn cut<R: Abort + AllocGlobal>(rt: &R, room: usize, fails: bool, whole: &str) {
+const SOME: &str = "STEP 2\nSHOW VAR X";
+
+const SOME_ANSWERS: &str = "DONE: STATE 2 CLOCK 0 READY IN MAIN LINE 5\nX = 5\nREPORT\nX =   5\n";
+
+const REFUSED: &str = "MAIN\nEND\nLOOP\n";
+
+const REFUSAL: &str = "MODEL REFUSED P1 LINE 3\n";
+
+/// Runs a session over an outlet that takes `room` bytes, and compares what it took: all where there is room for it, else the first
+/// bytes, and the session ends with Write after one failure.
+fn cut<R: Abort + AllocGlobal>(
+    rt: &R,
+    model: &str,
+    whole: &str,
+    wanted: Result<End, SessionFault>,
+    piece: usize,
+    room: usize,
+    fails: bool,
+) {
     let mut out = Narrow {
         bytes: Vec::new(rt.alloc()),
-        piece: 1,
+        piece,
         room,
         fails,
         failures: 0,
     };
-    let end = session(
-        rt.alloc(),
-        FIVE.as_bytes(),
-        b"",
-        b"STEP 2\nSHOW VAR X",
-        &mut out,
-    );
+    let end = session(rt.alloc(), model.as_bytes(), b"", SOME.as_bytes(), &mut out);
     let count = room.min(whole.len());
     assert_eq!(rt; out.bytes.as_slice(), &whole.as_bytes()[..count]);
     if room < whole.len() {
         assert_eq!(rt; end, Err(SessionFault::Write));
+        assert_eq!(rt; out.failures, 1);
     } else {
-        assert_eq!(rt; end, Ok(End::Done));
+        assert_eq!(rt; end, wanted);
+        assert_eq!(rt; out.failures, 0);
     }
 }
 
 #[test]
 fn a_write_that_fails_leaves_a_prefix(rt: HostRuntime) {
-    let whole = "DONE: STATE 2 CLOCK 0 READY IN MAIN LINE 5\nX = 5\nREPORT\nX =   5\n";
-    for room in 0..whole.len() + 1 {
-        cut(&rt, room, true, whole);
-        cut(&rt, room, false, whole);
+    for piece in [1, 7, 512] {
+        for fails in [true, false] {
+            for room in 0..SOME_ANSWERS.len() + 1 {
+                cut(&rt, FIVE, SOME_ANSWERS, Ok(End::Done), piece, room, fails);
+            }
+            for room in 0..REFUSAL.len() + 1 {
+                let end = Err(SessionFault::Text);
+                cut(&rt, REFUSED, REFUSAL, end, piece, room, fails);
+            }
+        }
     }
+}
+
+/// Commands over the model of five that make the journal, the report and the answers grow.
+const GROWING: &str = "STEP 2\nSHOW VAR X\nSHOW REPORT\nBACK\nFOO\nRUN 5";
+
+/// What they are answered, and the report behind them.
+const GROWN: [&str; 7] = [
+    "DONE: STATE 2 CLOCK 0 READY IN MAIN LINE 5\n",
+    "X = 5\n",
+    "REPORT\nX =   5\n",
+    "DONE: STATE 1 CLOCK 0 READY IN MAIN LINE 3\n",
+    "BAD COMMAND\n",
+    "HALTED: STATE 3 CLOCK 0 STOPPED IN MAIN LINE 5\n",
+    "REPORT\nX =   5\n",
+];
+
+/// How many of these answers the bytes are, if they are whole answers, the first ones.
+fn count_whole(bytes: &[u8], answers: &[&str]) -> Option<usize> {
+    let mut rest = bytes;
+    for (count, answer) in answers.iter().enumerate() {
+        if rest.is_empty() {
+            return Some(count);
+        }
+        rest = rest.strip_prefix(answer.as_bytes())?;
+    }
+    if rest.is_empty() {
+        Some(answers.len())
+    } else {
+        None
+    }
+}
+
+/// Fails at each refused growth of this session; tests/refused goes on until it passes.
+#[test]
+fn a_session_grows(rt: HostRuntime) {
+    let mut out = MemoryOutlet::new(rt.alloc());
+    let end = session(
+        rt.alloc(),
+        FIVE.as_bytes(),
+        b"",
+        GROWING.as_bytes(),
+        &mut out,
+    );
+    assert_eq!(rt; end, Ok(End::Done));
+    assert_eq!(rt; count_whole(out.bytes(), &GROWN), Some(7));
+}
+
+/// Passes whichever growth is refused: the session ends with Memory and has written the whole answers of the first lines, and the same
+/// session run again writes all. The outlet has its room from the start, so that the session alone takes memory.
+#[test]
+fn a_refused_growth_leaves_whole_answers(rt: HostRuntime) {
+    let mut bytes = Vec::new(rt.alloc());
+    if bytes.try_reserve(512).is_err() {
+        assert!(rt; bytes.try_reserve(512).is_ok());
+    }
+    let mut out = Narrow {
+        bytes,
+        piece: 512,
+        room: 1024,
+        fails: true,
+        failures: 0,
+    };
+    let (model, commands) = (FIVE.as_bytes(), GROWING.as_bytes());
+    let mut end = session(rt.alloc(), model, b"", commands, &mut out);
+    if end == Err(SessionFault::Memory) {
+        let lines = count_whole(&out.bytes, &GROWN);
+        assert!(rt; lines.is_some() && lines < Some(7));
+        out.bytes.clear();
+        out.failures = 0;
+        end = session(rt.alloc(), model, b"", commands, &mut out);
+    }
+    assert_eq!(rt; end, Ok(End::Done));
+    assert_eq!(rt; count_whole(&out.bytes, &GROWN), Some(7));
 }

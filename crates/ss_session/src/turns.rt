@@ -8,7 +8,7 @@ use crate::outlet::{Outlet, put_all};
 use ss_debug::{Debugger, Go, command, obey};
 
 /// Obeys one line, and writes its whole answer.
-#[tactic(auto, using(crate::proofs::Parts::writes_part, crate::proofs::Parts::appends_empty), unfolding(crate::specs::SoFar::TurnGives))]
+#[tactic(auto, using(crate::proofs::Parts::writes_part, crate::proofs::Pieces::appends_none), unfolding(crate::specs::SoFar::TurnGives))]
 fn turn<W: Outlet>(
     debugger: &mut Debugger,
     line: &[u8],

@@ -1,11 +1,10 @@
-ghost use Rattle.std.specs.Prelude.{◌≡◌, ℕ, ◌+◌, ◌-◌, ◌^◌, ◌<◌, ◌≤◌, ◌↔◌, List, Option, Ok, Err, IfOk, IfErr};
+ghost use Rattle.std.specs.Prelude.{◌≡◌, ℕ, ◌+◌, ◌-◌, ◌^◌, ◌<◌, ◌≤◌, ◌↔◌, List, Option, Ok, Err};
 ghost use Rattle.std.specs.Io.KnownBytes.{Appends};
-ghost use Rattle.ss_words.specs.declared.fault.TextRule.{TextRule};
-ghost use Rattle.ss_check.specs.declared.fault.CheckRule.{CheckRule};
+ghost use Rattle.ss_session.specs.declared.ending.End.{End};
 ghost use Rattle.ss_session.specs.declared.ending.SessionFault.TheVariants.{Text, Check, Write, Memory};
-ghost use Rattle.ss_session.specs.Model.{refused_text, refused_check, IsOutcome};
+ghost use Rattle.ss_session.specs.Model.{IsTextRefused, IsCheckRefused};
 ghost use Rattle.ss_session.specs.SoFar.{LineGives};
-ghost use Rattle.ss_session.specs.Transcript.{SessionGives, WritesFirstAnswers, WritesTranscript, WritesPartOfTranscript, EndsBy, IsWhole, refusal_line};
+ghost use Rattle.ss_session.specs.Transcript.{SessionGives, WritesFirstAnswers, WritesTranscript, WritesPartOfTranscript, EndsBy, IsWhole, count_failed, refusal_line};
 
 use crate::ending::{Cut, End, SessionFault};
 use crate::load::{LoadFault, load};
@@ -16,7 +15,7 @@ use ss_machine::Machine;
 use std::alloc::Global;
 
 /// Writes the line of a refused model.
-#[tactic(auto, using(crate::proofs::Parts::writes_part, crate::proofs::Parts::appends_empty), unfolding(crate::specs::SoFar::LineGives))]
+#[tactic(auto, using(crate::proofs::Parts::writes_part, crate::proofs::Pieces::appends_none), unfolding(crate::specs::SoFar::LineGives))]
 fn refuse<W: Outlet>(alloc: Global, code: &str, line: usize, out: &mut W) -> Result<(), Cut>
     requires { W.failures out.old < 2 ^ 64 - 1 }
     ensures { LineGives result (refusal_line code.now line) (W.taken out.old) (W.taken out.new) (W.failures out.old) (W.failures out.new) }
@@ -31,6 +30,7 @@ fn refuse<W: Outlet>(alloc: Global, code: &str, line: usize, out: &mut W) -> Res
     }
 }
 
+/// The whole session, by one fact on how it ends.
 fn session_by_cases<W: Outlet>(
     alloc: Global,
     model: &[u8],
@@ -46,15 +46,13 @@ fn session_by_cases<W: Outlet>(
         Err(LoadFault::Text { rule, line }) => {
             return match refuse(alloc, rule.code(), line, out) {
                 Ok(()) => Err(SessionFault::Text),
-                Err(Cut::Memory) => Err(SessionFault::Memory),
-                Err(Cut::Write) => Err(SessionFault::Write),
+                Err(cut) => Err(cut.fault()),
             };
         }
         Err(LoadFault::Check { rule, line }) => {
             return match refuse(alloc, rule.code(), line, out) {
                 Ok(()) => Err(SessionFault::Check),
-                Err(Cut::Memory) => Err(SessionFault::Memory),
-                Err(Cut::Write) => Err(SessionFault::Write),
+                Err(cut) => Err(cut.fault()),
             };
         }
     };
@@ -64,17 +62,16 @@ fn session_by_cases<W: Outlet>(
     };
     match talk(alloc, machine, commands, out) {
         Ok(end) => Ok(end),
-        Err(Cut::Memory) => Err(SessionFault::Memory),
-        Err(Cut::Write) => Err(SessionFault::Write),
+        Err(cut) => Err(cut.fault()),
     }
 }
 
-/// Runs a model under the debugger's commands, and writes what they answer, each answer before the next command is obeyed
-/// (docs/DEBUGGER.md). It isn't looked at what `data` holds yet.
+/// Runs a model under the debugger's commands (docs/DEBUGGER.md), and writes what they answer, each answer before the next command is
+/// obeyed, and the report last. No statement of the language reads `data` yet.
 ///
-/// `Ok` where the model is accepted and all was written: `RunFault` where the last state is faulted. `Text` and `Check` where it
-/// is refused, once its line is written. `Write` where `out` counted a failure; nothing else is written then. `Memory` where a growth
-/// was refused; what is written are the whole answers of the first commands.
+/// `Ok` where the model is a program and all was written: `RunFault` where its last state is faulted, else `Done`. `Text` and `Check`
+/// where the model is refused, once its line is written. `Write` where `out` counted a failure; nothing more is put then. `Memory`
+/// where a growth was refused; what was written are the whole answers of the first lines.
 pub fn session<W: Outlet>(
     alloc: Global,
     model: &[u8],
@@ -84,19 +81,21 @@ pub fn session<W: Outlet>(
 ) -> Result<End, SessionFault>
     requires { W.failures out.old < 2 ^ 64 - 1 }
 
-    // What is written is the transcript of the model under the commands, unless memory is refused or a write fails.
+    // What is written is the transcript of the model under the commands, unless memory is refused or a write fails: then it is the
+    // whole answers of the first lines, or a prefix of the transcript.
     ensures whole { IsWhole result → WritesTranscript model.now commands.now (W.taken out.old) (W.taken out.new) }
     ensures memory { result ≡ Err Memory → WritesFirstAnswers model.now commands.now (W.taken out.old) (W.taken out.new) }
     ensures write { result ≡ Err Write → WritesPartOfTranscript model.now commands.now (W.taken out.old) (W.taken out.new) }
 
-    // It ends with Write exactly where the outlet counted a failure.
+    // It ends with Write exactly where the outlet counted a failure; it counts one then, and else none.
     ensures failure { (result ≡ Err Write) ↔ (W.failures out.old < W.failures out.new) }
-    ensures one { W.failures out.new ≤ W.failures out.old + 1 }
+    ensures counts { W.failures out.new ≡ W.failures out.old + count_failed result }
 
-    // How else it ends: by the model's refusal, or by its last state.
-    ensures text { result ≡ Err Text → (rule : TextRule) × (line : ℕ) × IsOutcome model.now (refused_text rule line) }
-    ensures check { result ≡ Err Check → (rule : CheckRule) × (line : ℕ) × IsOutcome model.now (refused_check rule line) }
-    ensures accepted { IfOk result (λ end. EndsBy model.now commands.now end) }
+    // How else it ends: Text exactly where a rule L or P refuses the model, Check exactly where a rule C does, and Done or RunFault
+    // exactly where the model is a program whose last state says so.
+    ensures text { IsWhole result → (result ≡ Err Text) ↔ IsTextRefused model.now }
+    ensures check { IsWhole result → (result ≡ Err Check) ↔ IsCheckRefused model.now }
+    ensures accepted { IsWhole result → (end : End) → (result ≡ Ok end) ↔ EndsBy model.now commands.now end }
 {
     let _ = data;
     session_by_cases(alloc, model, commands, out)

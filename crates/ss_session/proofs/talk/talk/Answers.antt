@@ -1,8 +1,8 @@
-use Rattle.std.proofs.Common.{◌≡◌, ◌+◌, ◌∙◌, refl, sym, ap, arith, rules}
+use Rattle.std.proofs.Common.{◌+◌, ◌∙◌, ap, arith}
 use Rattle.ss_debug.specs.Answer.{report_text}
 use Rattle.ss_session.proofs.Pieces.{appends_then}
-use Rattle.ss_session.specs.SoFar.{TurnsGive, WritesPart, WritesFirst}
-use Rattle.ss_session.specs.Transcript.{TalkGives, told, is_faulted, end_of}
+use Rattle.ss_session.specs.SoFar.{TurnsGive}
+use Rattle.ss_session.specs.Transcript.{TalkGives, told}
 use Rattle.ss_session.proofs.Ends.{start_is, state_is}
 use Rattle.ss_session.proofs.Parts.{part_left, part_right}
 use Rattle.ss_session.proofs.talk.talk.Goals as goal

@@ -1,8 +1,8 @@
-use Rattle.std.proofs.Common.{◌≡◌, ◌<◌, ◌+◌, [], ◌∙◌, true, length, refl, sym, ap, arith, rules}
+use Rattle.std.proofs.Common.{◌≡◌, ◌<◌, ◌+◌, [], ◌∙◌, length, refl, sym, ap, rules}
 use Rattle.ss_debug.specs.Words.{lines_of}
 use Rattle.ss_debug.specs.Turn.{next_sitting}
 use Rattle.ss_debug.specs.Underway.{desk_of}
-use Rattle.ss_session.specs.SoFar.{IsSoFar, seated, TurnGives, TurnsGive}
+use Rattle.ss_session.specs.SoFar.{seated, TurnGives, TurnsGive}
 use Rattle.ss_session.proofs.FirstLine.{lines_first, lines_none, written_from_length, none_of_length}
 use Rattle.ss_session.proofs.Sittings.{so_far_none, so_far_one, so_far_first, so_far_part, so_far_all, so_far_quit, seat_on, seat_quit}
 use Rattle.ss_session.proofs.turns.obey_lines.Goals as goal

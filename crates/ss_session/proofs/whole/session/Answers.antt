@@ -1,4 +1,4 @@
-use Rattle.ss_session.proofs.Ends.{gives_whole, gives_memory, gives_write, gives_failure, gives_one, gives_text, gives_check, gives_accepted}
+use Rattle.ss_session.proofs.Ends.{gives_whole, gives_memory, gives_write, gives_failure, gives_counts, gives_text, gives_check, gives_accepted}
 use Rattle.ss_session.proofs.whole.session.Goals as goal
 
 pub returns-clause-whole : goal.returns-clause-whole
@@ -13,8 +13,8 @@ returns-clause-write g c = gives_write _ _ _ _ _ _ _ c.session_by_cases.ensures
 pub returns-clause-failure : goal.returns-clause-failure
 returns-clause-failure g c = gives_failure _ _ _ _ _ _ _ c.session_by_cases.ensures
 
-pub returns-clause-one : goal.returns-clause-one
-returns-clause-one g c = gives_one _ _ _ _ _ _ _ c.session_by_cases.ensures
+pub returns-clause-counts : goal.returns-clause-counts
+returns-clause-counts g c = gives_counts _ _ _ _ _ _ _ c.session_by_cases.ensures
 
 pub returns-clause-text : goal.returns-clause-text
 returns-clause-text g c = gives_text _ _ _ _ _ _ _ c.session_by_cases.ensures

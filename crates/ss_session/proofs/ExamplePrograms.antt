@@ -1,0 +1,138 @@
+-- The plain words of the examples' models, and the trees that they spell.
+use Rattle.std.proofs.Common.{◌≡◌, ℕ, true, List, [], ◌∷◌, None, codes, refl}
+use Rattle.ss_words.specs.declared.mark.Mark.TheVariants as m
+use Rattle.ss_words.specs.declared.word.Sign.TheVariants as s
+use Rattle.ss_words.specs.declared.reserved.Reserved.TheVariants as r
+use Rattle.ss_words.specs.Plain.{PlainAt, name, number, mark, picture, plains}
+use Rattle.ss_words.specs.Spellings.{spellings, mark_of}
+use Rattle.ss_words.specs.PlainRules.{plain_words_of}
+use Rattle.ss_routines.specs.Expr.{Expr, expr, no_sums, term, no_products, digits, variable}
+use Rattle.ss_routines.specs.Places.{Reference, lets, adds, prints}
+use Rattle.ss_routines.specs.Tree.{no_statements, statement, single, assignment, report, halt, main, Tree, spell}
+use Rattle.ss_routines.specs.Refused.{words_from}
+use Rattle.ss_routines.specs.declared.section.SectionKind.TheVariants.{Main}
+use Rattle.ss_check.specs.declared.variable.Variable.TheVariants.{Local}
+use Rattle.ss_check.specs.declared.place.Assign.TheVariants.{Let, Add}
+use Rattle.ss_check.specs.declared.place.Output.TheVariants.{Print}
+use Rattle.ss_check.specs.declared.place.Control.TheVariants.{Stop, End}
+use Rattle.ss_check.specs.declared.place.Place.{Place}
+use Rattle.ss_check.specs.declared.place.Place.TheVariants.{Assign, Output, Control}
+use Rattle.ss_check.specs.declared.place.Spot.{Spot}
+use Rattle.ss_check.specs.ProgramExpr as checked
+use Rattle.ss_check.specs.Program.{ProgramTable}
+use Rattle.ss_session.proofs.Told.{at}
+use Rattle.ss_session.proofs.ExampleWords.{stop_words, five_words, overflow_words, two_values_words, word_behind_words, unended_words}
+
+abbrev constant : ℕ → Expr
+constant n = expr None (term (digits n) no_products) no_sums
+
+abbrev value : List ℕ → Expr
+value n = expr None (term (variable n) no_products) no_sums
+
+abbrev x : Reference
+x = record { name = codes "X" }
+
+abbrev the_constant : ℕ → checked.Expr
+the_constant n = checked.expr None (checked.term (checked.digits n) checked.no_products) checked.no_sums
+
+abbrev the_local : ℕ → checked.Expr
+the_local i = checked.expr None (checked.term (checked.variable (Local i)) checked.no_products) checked.no_sums
+
+abbrev spot : ℕ → Place → Spot
+spot l p = record { line = l; place = p }
+
+-- a program of MAIN alone, on line 1
+abbrev of_main : List (List ℕ) → List Spot → ProgramTable
+of_main locals places = record {
+  globals = [];
+  classes = [];
+  sets = [];
+  sections = record { name = codes "MAIN"; kind = Main; line = 1; locals = locals; places = places } ∷ [];
+}
+
+abbrev pub stop_plain : List PlainAt
+stop_plain = at 1 0 (mark (m.Reserved r.Main)) ∷ at 2 1 (mark (m.Reserved r.Stop)) ∷ at 3 2 (mark (m.Reserved r.End)) ∷ []
+
+pub stop_spelled : words_from 0 (plain_words_of stop_words) ≡ stop_plain
+unfolding mark_of spellings
+stop_spelled = refl
+
+abbrev pub stop_tree : Tree
+stop_tree = main (statement (single halt) no_statements) ∷ []
+
+pub stop_spells : plains stop_plain ≡ spell stop_tree
+stop_spells = refl
+
+abbrev pub five_plain : List PlainAt
+five_plain = at 1 0 (mark (m.Reserved r.Main)) ∷ at 2 1 (mark (m.Reserved r.Let)) ∷ at 2 2 (name (codes "X")) ∷ at 2 3 (mark (m.Sign s.Equal)) ∷ at 2 4 (number 5) ∷ at 3 5 (mark (m.Reserved r.Print)) ∷ at 3 6 (number 1) ∷ at 3 7 (mark (m.Reserved r.Lines)) ∷ at 3 8 (mark (m.Reserved r.With)) ∷ at 3 9 (name (codes "X")) ∷ at 3 10 (mark (m.Reserved r.Thus)) ∷ at 4 11 (picture (codes "X = ***" ∷ [])) ∷ at 5 12 (mark (m.Reserved r.Stop)) ∷ at 6 13 (mark (m.Reserved r.End)) ∷ []
+
+pub five_spelled : words_from 0 (plain_words_of five_words) ≡ five_plain
+unfolding mark_of spellings
+five_spelled = refl
+
+abbrev pub five_tree : Tree
+five_tree = main (statement (single (assignment (lets true x (constant 5))))
+    (statement (single (report (prints 1 (value (codes "X") ∷ []) (codes "X = ***" ∷ []))))
+    (statement (single halt) no_statements))) ∷ []
+
+pub five_spells : plains five_plain ≡ spell five_tree
+five_spells = refl
+
+abbrev pub overflow_plain : List PlainAt
+overflow_plain = at 1 0 (mark (m.Reserved r.Main)) ∷ at 2 1 (mark (m.Reserved r.Let)) ∷ at 2 2 (name (codes "X")) ∷ at 2 3 (mark (m.Sign s.Equal)) ∷ at 2 4 (number 9223372036854775807) ∷ at 3 5 (mark (m.Reserved r.Add)) ∷ at 3 6 (number 1) ∷ at 3 7 (mark (m.Reserved r.To)) ∷ at 3 8 (name (codes "X")) ∷ at 4 9 (mark (m.Reserved r.End)) ∷ []
+
+pub overflow_spelled : words_from 0 (plain_words_of overflow_words) ≡ overflow_plain
+unfolding mark_of spellings
+overflow_spelled = refl
+
+abbrev pub overflow_tree : Tree
+overflow_tree = main (statement (single (assignment (lets true x (constant 9223372036854775807))))
+    (statement (single (assignment (adds (constant 1) x))) no_statements)) ∷ []
+
+pub overflow_spells : plains overflow_plain ≡ spell overflow_tree
+overflow_spells = refl
+
+abbrev pub two_values_plain : List PlainAt
+two_values_plain = at 1 0 (mark (m.Reserved r.Main)) ∷ at 2 1 (mark (m.Reserved r.Print)) ∷ at 2 2 (number 1) ∷ at 2 3 (mark (m.Reserved r.Lines)) ∷ at 2 4 (mark (m.Reserved r.With)) ∷ at 2 5 (name (codes "X")) ∷ at 2 6 (mark (m.Sign s.Comma)) ∷ at 2 7 (name (codes "Y")) ∷ at 2 8 (mark (m.Reserved r.Thus)) ∷ at 3 9 (picture (codes "*.**" ∷ [])) ∷ at 4 10 (mark (m.Reserved r.End)) ∷ []
+
+pub two_values_spelled : words_from 0 (plain_words_of two_values_words) ≡ two_values_plain
+unfolding mark_of spellings
+two_values_spelled = refl
+
+abbrev pub two_values_tree : Tree
+two_values_tree = main (statement (single (report (prints 1 (value (codes "X") ∷ value (codes "Y") ∷ []) (codes "*.**" ∷ [])))) no_statements) ∷ []
+
+pub two_values_spells : plains two_values_plain ≡ spell two_values_tree
+two_values_spells = refl
+
+abbrev pub word_behind_plain : List PlainAt
+word_behind_plain = at 1 0 (mark (m.Reserved r.Main)) ∷ at 2 1 (mark (m.Reserved r.End)) ∷ at 3 2 (mark (m.Reserved r.Loop)) ∷ []
+
+pub word_behind_spelled : words_from 0 (plain_words_of word_behind_words) ≡ word_behind_plain
+unfolding mark_of spellings
+word_behind_spelled = refl
+
+abbrev pub unended_plain : List PlainAt
+unended_plain = at 1 0 (mark (m.Reserved r.Main)) ∷ at 2 1 (mark (m.Reserved r.Let)) ∷ at 2 2 (name (codes "X")) ∷ at 2 3 (mark (m.Sign s.Equal)) ∷ []
+
+pub unended_spelled : words_from 0 (plain_words_of unended_words) ≡ unended_plain
+unfolding mark_of spellings
+unended_spelled = refl
+
+abbrev pub stop_program : ProgramTable
+stop_program = of_main [] (spot 2 (Control Stop) ∷ spot 3 (Control End) ∷ [])
+
+abbrev pub five_program : ProgramTable
+five_program = of_main (codes "X" ∷ [])
+    (spot 2 (Assign (Let true (Local 0) (the_constant 5)))
+    ∷ spot 3 (Output (Print 1 (the_local 0 ∷ []) (codes "X = ***" ∷ [])))
+    ∷ spot 5 (Control Stop)
+    ∷ spot 6 (Control End)
+    ∷ [])
+
+abbrev pub overflow_program : ProgramTable
+overflow_program = of_main (codes "X" ∷ [])
+    (spot 2 (Assign (Let true (Local 0) (the_constant 9223372036854775807)))
+    ∷ spot 3 (Assign (Add (the_constant 1) (Local 0)))
+    ∷ spot 4 (Control End)
+    ∷ [])
