@@ -20,3 +20,4 @@ pub mod TextWordSteps
 pub mod TextDrawn
 pub mod Spellings
 pub mod TextOrderLemmas
+mod TextLimitLemmas

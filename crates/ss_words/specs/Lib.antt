@@ -15,3 +15,4 @@ pub mod TextWords
 pub mod TextScan
 pub mod TextSpelling
 pub mod TextOrder
+pub mod TextLimits

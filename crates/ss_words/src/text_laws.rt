@@ -8,6 +8,11 @@ ghost use Rattle.ss_words.specs.declared.word.Sign.TheVariants.{LessEqual, Equal
 ghost use Rattle.ss_words.specs.Words.{name, number, sign, picture};
 ghost use Rattle.ss_words.specs.TextWords.{words_of, on_line};
 ghost use Rattle.ss_words.specs.TextOrder.{LowestFirst};
+ghost use Rattle.ss_words.specs.TextLimits.{LimitsHold};
+
+fn an_empty_text()
+    ensures { words_of [] ≡ Ok [] }
+{}
 
 fn a_run_of_80_bytes_is_a_word()
     ensures { words_of (replicate 80 97) ≡ Ok (on_line 1 (name (replicate 80 65)) ∷ []) }
@@ -203,6 +208,11 @@ fn a_long_picture_line_with_a_stray_byte_behind()
 
 fn a_call_is_refused_at_follows()
     ensures { words_of (codes "print 1 as" ++ 10 ∷ codes "follows x" ++ 10 ∷ codes "y") ≡ Err (Refused NoPicture 2) }
+{}
+
+// In a text that is not refused each word keeps the limits.
+fn each_word_keeps_the_limits()
+    ensures { LimitsHold }
 {}
 
 // At one place the rules that are broken are found in the order of their numbers.

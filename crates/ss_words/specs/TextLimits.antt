@@ -1,0 +1,15 @@
+-- What each word of a text keeps to.
+use Rattle.std.specs.Prelude.{◌≡◌, ◌≤◌, ◌<◌, ◌^◌, ℕ, List, length, All, Ok}
+use Rattle.ss_words.specs.Words.{Kind, WordAt, name, number, sign, picture}
+use Rattle.ss_words.specs.TextWords.{words_of}
+
+-- a name has 1 to 80 bytes, a number is at most 2^63 - 1, a picture has at most 100 lines of at most 132 bytes each
+abbrev pub KeepsLimits : Kind → Type 0
+KeepsLimits (name n) = (1 ≤ length n) × (length n ≤ 80)
+KeepsLimits (number n) = n < 2 ^ 63
+KeepsLimits (sign g) = Unit {0}
+KeepsLimits (picture ls) = (length ls ≤ 100) × All (λ l. length l ≤ 132) ls
+
+-- in a text that is not refused each word keeps the limits
+abbrev pub LimitsHold : Type 0
+LimitsHold = (text : List ℕ) (ws : List WordAt) → words_of text ≡ Ok ws → All (λ w. KeepsLimits w.kind) ws
