@@ -110,7 +110,7 @@ pub record HasDistinctNames (p : ProgramTable) : Type 0 where
   pub attributes : HaveDistinctAttributes p.classes
   pub sets : AreDistinct (map (λ s. s.name) p.sets)
 
--- a program: one MAIN, sound sections, and tables of distinct names
+-- a program: one MAIN, sound sections, and tables of distinct names, whose names 32 bits can number
 pub record IsSound (p : ProgramTable) : Type 0 where
   pub main : count_by is_main p.sections ≡ 1
   pub sections : AreSoundSections (length p.globals) p.sections

@@ -7,11 +7,11 @@ use crate::names::is_function;
 use ss_routines::{Expr, Factor, Term};
 
 /// Whether the name of a function stands in one of these expressions.
-pub(crate) fn any_names_function(values: &[Expr]) -> bool
+pub(crate) fn any_mentions_function(values: &[Expr]) -> bool
     ensures { result ≡ list_any names.is_function (flat_map names.names_of_expr (map expr_view values.now)) }
 {
     for value in values {
-        if names_function(value) {
+        if mentions_function(value) {
             return true;
         }
     }
@@ -20,14 +20,14 @@ pub(crate) fn any_names_function(values: &[Expr]) -> bool
 
 /// Whether the name of a function stands in the expression.
 #[cycle(calls)]
-pub(crate) fn names_function(e: &Expr) -> bool
+pub(crate) fn mentions_function(e: &Expr) -> bool
     ensures { result ≡ list_any names.is_function (names.names_of_expr (expr_view e.now)) }
 {
-    if term_names_function(&e.first) {
+    if term_mentions_function(&e.first) {
         return true;
     }
     for further in &e.more {
-        if term_names_function(&further.term) {
+        if term_mentions_function(&further.term) {
             return true;
         }
     }
@@ -35,14 +35,14 @@ pub(crate) fn names_function(e: &Expr) -> bool
 }
 
 #[cycle(calls)]
-fn term_names_function(t: &Term) -> bool
+fn term_mentions_function(t: &Term) -> bool
     ensures { result ≡ list_any names.is_function (names.names_of_term (term_view t.now)) }
 {
-    if factor_names_function(&t.first) {
+    if factor_mentions_function(&t.first) {
         return true;
     }
     for further in &t.more {
-        if factor_names_function(further) {
+        if factor_mentions_function(further) {
             return true;
         }
     }
@@ -50,12 +50,12 @@ fn term_names_function(t: &Term) -> bool
 }
 
 #[cycle(calls)]
-fn factor_names_function(f: &Factor) -> bool
+fn factor_mentions_function(f: &Factor) -> bool
     ensures { result ≡ list_any names.is_function (names.names_of_factor (factor_view f.now)) }
 {
     match f {
         Factor::Number(_) => false,
         Factor::Name(name) => is_function(name),
-        Factor::Within(e) => names_function(e),
+        Factor::Within(e) => mentions_function(e),
     }
 }

@@ -6,7 +6,7 @@ ghost use Rattle.ss_check.specs.Breach.{IsBreach, breach_at, lowest, place_rules
 ghost use Rattle.ss_check.specs.Resolved.{resolved_assign, resolved_output, resolved_place};
 
 use crate::assign::{target_of, value_of};
-use crate::calls::{any_names_function, names_function};
+use crate::calls::{any_mentions_function, mentions_function};
 use crate::fault::{CheckFault, CheckRule};
 use crate::name::Name;
 use crate::names::{is_clock, is_function};
@@ -61,7 +61,7 @@ fn check_assign(
 pub(crate) fn assign_rule(assign: &ss_routines::Assign) -> Option<CheckRule>
     ensures { result ≡ lowest (place_rules (written.assign (assign_view assign.now))) }
 {
-    if names_function(value_of(assign)) {
+    if mentions_function(value_of(assign)) {
         return Some(CheckRule::WrongCount);
     }
     if is_fixed(target_of(assign)) {
@@ -92,7 +92,7 @@ fn check_output(
         values,
         picture: lines,
     } = output;
-    if any_names_function(&values) {
+    if any_mentions_function(&values) {
         let rule = CheckRule::WrongCount;
         return Err(CheckFault::Broken { rule, line });
     }

@@ -26,7 +26,7 @@ pub enum CheckRule {
     WrongPicture,
     /// C11: no MAIN, or a second.
     WrongMain,
-    /// C12: a name that may not stand in the order of priority.
+    /// C12: a name that may not stand in the order of priority, or a second such order.
     WrongPriority,
     /// C13: START SIMULATION outside MAIN.
     StartOutsideMain,
@@ -67,6 +67,7 @@ pub enum CheckFault {
     /// The statement that begins on this line breaks this rule; lines count from 1.
     #[error("line {line}: {rule:?}")]
     Broken { rule: CheckRule, line: usize },
+    /// A growth was refused.
     #[error("out of memory")]
     Memory,
 }

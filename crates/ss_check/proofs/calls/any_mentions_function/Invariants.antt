@@ -3,7 +3,7 @@ use Rattle.std.specs.Prelude.{map}
 use Rattle.std.specs.List.{flat_map, list_any}
 use Rattle.ss_routines.specs.View.{expr_view}
 use Rattle.ss_check.specs.Names.{is_function, names_of_expr}
-use Rattle.ss_check.proofs.calls.any_names_function.Given as goal
+use Rattle.ss_check.proofs.calls.any_mentions_function.Given as goal
 
 -- no function stands in the values so far
 abbrev pub invariant-loop-value : goal.invariant-loop-value
