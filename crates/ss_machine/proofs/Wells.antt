@@ -24,7 +24,7 @@ use Rattle.ss_machine.specs.declared.change.Change.{Change}
 use Rattle.ss_machine.specs.declared.status.Status.{Status}
 use Rattle.ss_machine.specs.declared.status.Status.TheVariants.{Ready, Stopped, Finished, Faulted}
 use Rattle.ss_machine.specs.State.{State}
-use Rattle.ss_machine.specs.Values.{readings, variable_value, value_of, values_of}
+use Rattle.ss_machine.specs.Values.{Readings, readings, variable_value, value_of, values_of}
 use Rattle.ss_machine.specs.Step.{settled, gone_on, assigned, assigned_value, target_of, appended, step, step_by, step_at}
 use Rattle.ss_machine.specs.Run.{run, next_by}
 use Rattle.ss_machine.specs.Well.{IsWell}
@@ -93,10 +93,10 @@ assigned_well p s Clock x h next w = gone_on_well p s next w
 readings_in : (p : ProgramTable) (s : State) → IsWell p s → AreIn (readings s)
 readings_in p s w = record { variables = w.values; locals = w.frame.values; clock = w.clock }
 
-assigned_value_in : (p : ProgramTable) (s : State) (a : AnAssign) → IsWell p s → Got IsIn (assigned_value s a)
-assigned_value_in p s (Let b v e) w = value_in (readings s) e (readings_in p s w)
-assigned_value_in p s (Add e v) w = after_got IsIn IsIn (value_of (readings s) e) _ (value_in (readings s) e (readings_in p s w)) (λ x h. ranged_in (variable_value (readings s) v +ℤ x))
-assigned_value_in p s (Subtract e v) w = after_got IsIn IsIn (value_of (readings s) e) _ (value_in (readings s) e (readings_in p s w)) (λ x h. ranged_in (variable_value (readings s) v -ℤ x))
+assigned_value_in : (v : Readings) (a : AnAssign) → AreIn v → Got IsIn (assigned_value v a)
+assigned_value_in v (Let b x e) h = value_in v e h
+assigned_value_in v (Add e x) h = after_got IsIn IsIn (value_of v e) _ (value_in v e h) (λ y k. ranged_in (variable_value v x +ℤ y))
+assigned_value_in v (Subtract e x) h = after_got IsIn IsIn (value_of v e) _ (value_in v e h) (λ y k. ranged_in (variable_value v x -ℤ y))
 
 -- a report that something was appended to is within the limit
 abbrev IsShort : List ℕ → Type 0
@@ -124,7 +124,7 @@ report_well p s report h next w = gone_on_well p (record s { report = report }) 
 -- each kind of place
 well_at : (p : ProgramTable) (s : State) (place : Place) → IsWell p s → (is_end place ≡ false → HasNext p s) → IsWell p (step_at s place)
 well_at p s (Assign a) w next =
-    settled_well IsIn p s (assigned_value s a) _ w (assigned_value_in p s a w) (λ x h. assigned_well p s (target_of a) x h (next refl) w)
+    settled_well IsIn p s (assigned_value (readings s) a) _ w (assigned_value_in (readings s) a (readings_in p s w)) (λ x h. assigned_well p s (target_of a) x h (next refl) w)
 well_at p s (Output (Print count values picture)) w next =
     settled_well IsShort p s _ _ w
     (after_got (λ (_ : List ℤ). Unit {0}) IsShort (values_of (readings s) values) _ (anything _) (λ xs _. appended_short s.report (picture_text picture xs)))

@@ -6,3 +6,4 @@ pub mod Change
 pub mod Well
 pub mod Moment
 pub mod Seen
+pub mod Noting

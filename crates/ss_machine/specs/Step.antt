@@ -19,7 +19,7 @@ use Rattle.ss_check.specs.Program.{ProgramTable, spot_at}
 use Rattle.ss_check.specs.ProgramExpr.{Expr}
 use Rattle.ss_machine.specs.declared.status.Status.TheVariants.{Stopped, Finished, Faulted}
 use Rattle.ss_machine.specs.State.{State}
-use Rattle.ss_machine.specs.Values.{readings, after, ranged, variable_value, value_of, values_of}
+use Rattle.ss_machine.specs.Values.{Readings, readings, after, ranged, variable_value, value_of, values_of}
 
 -- what follows from values that were got; a fault changes the status alone
 abbrev pub settled : {A : Type 0} → State → Result A RunFault → (A → State) → State
@@ -37,10 +37,10 @@ assigned s (Local i) x = record s { frame = record s.frame { locals = slice_set 
 assigned s Clock x = s
 
 -- LET; ADD and SUBTRACT, which get the value, then the target's old value, then the sum
-abbrev pub assigned_value : State → AnAssign → Result ℤ RunFault
-assigned_value s (Let written target value) = value_of (readings s) value
-assigned_value s (Add value target) = after (value_of (readings s) value) (λ x. ranged (variable_value (readings s) target +ℤ x))
-assigned_value s (Subtract value target) = after (value_of (readings s) value) (λ x. ranged (variable_value (readings s) target -ℤ x))
+abbrev pub assigned_value : Readings → AnAssign → Result ℤ RunFault
+assigned_value v (Let written target value) = value_of v value
+assigned_value v (Add value target) = after (value_of v value) (λ x. ranged (variable_value v target +ℤ x))
+assigned_value v (Subtract value target) = after (value_of v value) (λ x. ranged (variable_value v target -ℤ x))
 
 abbrev pub target_of : AnAssign → Variable
 target_of (Let written target value) = target
@@ -48,7 +48,7 @@ target_of (Add value target) = target
 target_of (Subtract value target) = target
 
 abbrev pub step_assign : State → AnAssign → State
-step_assign s a = settled s (assigned_value s a) (λ x. gone_on (assigned s (target_of a) x))
+step_assign s a = settled s (assigned_value (readings s) a) (λ x. gone_on (assigned s (target_of a) x))
 
 -- the report with a text behind it, or F19 where it would be too long
 abbrev pub appended : List ℕ → List ℕ → Result (List ℕ) RunFault

@@ -1,9 +1,8 @@
-ghost use Rattle.std.specs.Prelude.{◌≡◌, ◌≢◌, ◌+◌, ◌<◌, [], length, pos, slice_index_or, IfOk, OnErr, IsOk};
-ghost use Rattle.ss_check.specs.declared.variable.Variable.TheVariants.{Global, Local, Clock};
+ghost use Rattle.std.specs.Prelude.{◌≡◌, ◌≢◌, [], length, IfOk, OnErr, IsOk};
 ghost use Rattle.ss_check.specs.ProgramSound.{IsSoundVariable};
 ghost use Rattle.ss_machine.specs.declared.status.Status.TheVariants.{Ready};
 ghost use Rattle.ss_machine.specs.Values.{readings, variable_value};
-ghost use Rattle.ss_machine.specs.Run.{run, start};
+ghost use Rattle.ss_machine.specs.Run.{run};
 ghost use Rattle.ss_machine.specs.Moment.{position, Steps, GoesBack};
 ghost use Rattle.ss_machine.specs.Well.{IsWell};
 
@@ -61,10 +60,9 @@ impl Machine {
         ensures err { OnErr result (self.new ≡ self.old) }
         ensures at_end { self.old.state.status ≢ Ready → IsOk result }
     {
-        match self.work.world.status() {
-            Status::Ready => {}
-            _ => return Ok(Stepped::AtEnd),
-        }
+        let Status::Ready = self.work.world.status() else {
+            return Ok(Stepped::AtEnd);
+        };
         self.work.journal.reserve(MOST_NOTES)?;
         match self.work.run(&self.program) {
             Ok(()) => {

@@ -1,21 +1,22 @@
 ghost use Rattle.std.specs.Prelude.{◌≡◌, ℤ, pos, neg_ℤ, ◌+ℤ◌, ◌-ℤ◌, ◌*ℤ◌, length, Ok, OnOk, IfErr};
 ghost use Rattle.ss_check.specs.ProgramExpr.{expr_of, term_of, factor_of};
-ghost use Rattle.ss_check.specs.ProgramSound.{IsSoundVariable, IsSoundExpr, IsSoundTerm, IsSoundFactor, AreSoundExprs};
-ghost use Rattle.ss_machine.specs.Values.{Readings, ranged, variable_value, with_sign, joined, value_of, values_of, FaultIs};
+ghost use Rattle.ss_check.specs.ProgramSound.{IsSoundVariable, IsSoundExpr, IsSoundTerm, IsSoundFactor, AreSoundExprs, IsSoundAssign};
+ghost use Rattle.ss_machine.specs.Values.{ranged, variable_value, with_sign, joined, value_of, values_of, FaultIs};
 ghost use Rattle.ss_machine.specs.Values as terms;
+ghost use Rattle.ss_machine.specs.Step as steps;
 ghost use Rattle.ss_machine.specs.Seen.{seen};
 
 use crate::view::View;
-use ss_check::{Expr, Factor, Sum, Term, TermSign, Values, Variable};
+use ss_check::{Assign, Expr, Factor, Sum, Term, TermSign, Values, Variable};
 use ss_words::{RunFault, StepFault};
 
-pub fn sum(x: i64, y: i64) -> Result<i64, RunFault>
+fn sum(x: i64, y: i64) -> Result<i64, RunFault>
     ensures { result ≡ ranged (x +ℤ y) }
 {
     x.checked_add(y).ok_or(RunFault::OutOfRange)
 }
 
-pub fn difference(x: i64, y: i64) -> Result<i64, RunFault>
+fn difference(x: i64, y: i64) -> Result<i64, RunFault>
     ensures { result ≡ ranged (x -ℤ y) }
 {
     x.checked_sub(y).ok_or(RunFault::OutOfRange)
@@ -113,6 +114,24 @@ fn factor_value(view: View<'_>, f: &Factor) -> Result<i64, RunFault>
         Factor::Number(n) => number(*n),
         Factor::Variable(x) => Ok(variable(view, *x)),
         Factor::Within(e) => sum_value(view, e),
+    }
+}
+
+/// The value that a LET, an ADD or a SUBTRACT assigns: the expression first, then the target's old value, then the sum.
+pub fn assigned_value(view: View<'_>, assign: &Assign) -> Result<i64, RunFault>
+    requires { IsSoundAssign (length view.variables.now) (length view.locals.now) assign.now }
+    ensures { result ≡ steps.assigned_value (seen view.entry) assign.now }
+{
+    match assign {
+        Assign::Let { value: e, .. } => value(view, e),
+        Assign::Add { value: e, target } => {
+            let x = value(view, e)?;
+            sum(variable(view, *target), x)
+        }
+        Assign::Subtract { value: e, target } => {
+            let x = value(view, e)?;
+            difference(variable(view, *target), x)
+        }
     }
 }
 

@@ -1,22 +1,18 @@
-ghost use Rattle.std.specs.Prelude.{◌≡◌, ◌+◌, ◌<◌, ◌≤◌, ◌^◌, ◌+ℤ◌, ◌-ℤ◌, [], length, OnOk, IfOk, Ok, Err};
-ghost use Rattle.ss_report.specs.Pictures.{field_count, picture_text};
-ghost use Rattle.ss_check.specs.Program.{ProgramTable, places_of, spot_at};
-ghost use Rattle.ss_check.specs.ProgramSound.{IsTarget, IsSoundAssign, IsSoundOutput, IsSoundPlace, IsSoundExpr, AreSoundExprs};
-ghost use Rattle.ss_journal.specs.Undoing.{unapply_all, FitsAll, GoesOn};
+ghost use Rattle.std.specs.Prelude.{◌≡◌, ◌+◌, ◌<◌, ◌^◌, [], length, OnOk, IfOk};
+ghost use Rattle.ss_report.specs.Pictures.{field_count};
+ghost use Rattle.ss_check.specs.ProgramSound.{IsTarget, IsSoundAssign, IsSoundOutput, IsSoundPlace, AreSoundExprs};
+ghost use Rattle.ss_journal.specs.Undoing.{unapply_all, FitsAll};
 ghost use Rattle.ss_machine.specs.Change.{Fits, unapply};
-ghost use Rattle.ss_machine.specs.Seen.{seen};
-ghost use Rattle.ss_machine.specs.State.{State};
-ghost use Rattle.ss_machine.specs.Values.{readings, after, ranged, variable_value, value_of, values_of};
-ghost use Rattle.ss_machine.specs.Step.{settled, assigned, assigned_value, target_of, appended, gone_on, printed, step, step_at, step_assign, step_output, step_control};
+ghost use Rattle.ss_machine.specs.Noting.{Notes};
+ghost use Rattle.ss_machine.specs.Step.{settled, assigned, target_of, gone_on, printed, step, step_at, step_assign, step_output, step_control};
 ghost use Rattle.ss_machine.specs.Run.{start};
 ghost use Rattle.ss_machine.specs.Well.{IsWell};
 
 use crate::change::Change;
 use crate::status::Status;
-use crate::values::{difference, sum, value, values, variable};
-use crate::view::View;
+use crate::values::{assigned_value, values};
 use crate::world::World;
-use ss_check::{Assign, Control, Expr, Output, Place, Program, Values, Variable};
+use ss_check::{Assign, Control, Output, Place, Program, Values, Variable};
 use ss_journal::{Journal, roll_back};
 use ss_report::Picture;
 use ss_words::{RunFault, StepFault};
@@ -53,7 +49,7 @@ impl Work {
         requires target { IsTarget (length self.old.world.variables) (length self.old.world.frame.locals) target }
         requires room { 0 < self.old.journal.notes }
         ensures state { self.new.world ≡ assigned self.old.world target value }
-        ensures goes_on { GoesOn Fits unapply 1 self.old.world self.old.journal self.new.world self.new.journal }
+        ensures notes { Notes 1 self.old self.new }
     {
         let change = self.world.assign(target, value);
         self.journal.note(change);
@@ -63,7 +59,7 @@ impl Work {
         requires next { self.old.world.frame.place + 1 < 2 ^ 64 }
         requires room { 0 < self.old.journal.notes }
         ensures state { self.new.world ≡ gone_on self.old.world }
-        ensures goes_on { GoesOn Fits unapply 1 self.old.world self.old.journal self.new.world self.new.journal }
+        ensures notes { Notes 1 self.old self.new }
     {
         let change = self.world.go_on();
         self.journal.note(change);
@@ -72,7 +68,7 @@ impl Work {
     fn mark(&mut self, status: Status)
         requires room { 0 < self.old.journal.notes }
         ensures state { self.new.world ≡ record self.old.world { status = status } }
-        ensures goes_on { GoesOn Fits unapply 1 self.old.world self.old.journal self.new.world self.new.journal }
+        ensures notes { Notes 1 self.old self.new }
     {
         let change = self.world.mark(status);
         self.journal.note(change);
@@ -84,7 +80,7 @@ impl Work {
         requires next { self.old.world.frame.place + 1 < 2 ^ 64 }
         requires room { 1 < self.old.journal.notes }
         ensures state { self.new.world ≡ settled self.old.world got (λ x. gone_on (assigned self.old.world target x)) }
-        ensures goes_on { GoesOn Fits unapply 2 self.old.world self.old.journal self.new.world self.new.journal }
+        ensures notes { Notes 2 self.old self.new }
     {
         match got {
             Ok(x) => {
@@ -100,40 +96,26 @@ impl Work {
         requires next { self.old.world.frame.place + 1 < 2 ^ 64 }
         requires room { 1 < self.old.journal.notes }
         ensures state { self.new.world ≡ step_assign self.old.world assign.now }
-        ensures goes_on { GoesOn Fits unapply 2 self.old.world self.old.journal self.new.world self.new.journal }
+        ensures notes { Notes 2 self.old self.new }
     {
-        let view = self.world.view();
-        match assign {
-            Assign::Let {
-                target,
-                value: e,
-                ..
-            } => {
-                let got = value(view, e);
-                self.settle(*target, got);
-            }
-            Assign::Add { value: e, target } => {
-                let got = added(view, e, *target);
-                self.settle(*target, got);
-            }
-            Assign::Subtract { value: e, target } => {
-                let got = subtracted(view, e, *target);
-                self.settle(*target, got);
-            }
-        }
+        let got = assigned_value(self.world.view(), assign);
+        self.settle(target(assign), got);
     }
 
-    /// Prints a picture with the values that were got and goes on, or marks the fault. After an error the changes made so far
-    /// stand in the open step.
-    fn print_got(&mut self, picture: &Picture) -> Result<(), AllocError>
-        requires fields { length self.old.values.items ≡ field_count picture.now }
+    /// Gets the values, and prints the picture with them and goes on, or marks the first fault.
+    fn print(&mut self, es: &Values, picture: &Picture) -> Result<(), AllocError>
+        requires fields { length es.now ≡ field_count picture.now }
+        requires sound { AreSoundExprs (length self.old.world.variables) (length self.old.world.frame.locals) es.now }
         requires next { self.old.world.frame.place + 1 < 2 ^ 64 }
         requires room { 1 < self.old.journal.notes }
-        ensures state { OnOk result (self.new.world ≡
-            settled self.old.world (appended self.old.world.report (picture_text picture.now self.old.values.items)) (λ report. gone_on (record self.old.world { report = report }))) }
-        ensures goes_on { GoesOn Fits unapply 2 self.old.world self.old.journal self.new.world self.new.journal }
+        ensures state { OnOk result (self.new.world ≡ printed self.old.world es.now picture.now) }
+        ensures notes { Notes 2 self.old self.new }
     {
-        match self.world.print(picture, self.values.as_slice()) {
+        let appended = match values(self.world.view(), es, &mut self.values) {
+            Ok(()) => self.world.print(picture, self.values.as_slice()),
+            Err(fault) => Err(fault),
+        };
+        match appended {
             Ok(change) => {
                 self.journal.note(change);
                 self.go_on();
@@ -147,30 +129,12 @@ impl Work {
         }
     }
 
-    fn print(&mut self, es: &Values, picture: &Picture) -> Result<(), AllocError>
-        requires fields { length es.now ≡ field_count picture.now }
-        requires sound { AreSoundExprs (length self.old.world.variables) (length self.old.world.frame.locals) es.now }
-        requires next { self.old.world.frame.place + 1 < 2 ^ 64 }
-        requires room { 1 < self.old.journal.notes }
-        ensures state { OnOk result (self.new.world ≡ printed self.old.world es.now picture.now) }
-        ensures goes_on { GoesOn Fits unapply 2 self.old.world self.old.journal self.new.world self.new.journal }
-    {
-        match values(self.world.view(), es, &mut self.values) {
-            Ok(()) => self.print_got(picture),
-            Err(StepFault::Fault(fault)) => {
-                self.mark(Status::Faulted(fault));
-                Ok(())
-            }
-            Err(StepFault::Memory) => Err(AllocError),
-        }
-    }
-
     fn run_output(&mut self, output: &Output) -> Result<(), AllocError>
         requires sound { IsSoundOutput (length self.old.world.variables) (length self.old.world.frame.locals) output.now }
         requires next { self.old.world.frame.place + 1 < 2 ^ 64 }
         requires room { 1 < self.old.journal.notes }
         ensures state { OnOk result (self.new.world ≡ step_output self.old.world output.now) }
-        ensures goes_on { GoesOn Fits unapply 2 self.old.world self.old.journal self.new.world self.new.journal }
+        ensures notes { Notes 2 self.old self.new }
     {
         match output {
             Output::Print {
@@ -184,7 +148,7 @@ impl Work {
     fn run_control(&mut self, control: Control)
         requires room { 0 < self.old.journal.notes }
         ensures state { self.new.world ≡ step_control self.old.world control }
-        ensures goes_on { GoesOn Fits unapply 1 self.old.world self.old.journal self.new.world self.new.journal }
+        ensures notes { Notes 1 self.old self.new }
     {
         match control {
             Control::Stop => self.mark(Status::Stopped),
@@ -198,7 +162,7 @@ impl Work {
         requires next { self.old.world.frame.place + 1 < 2 ^ 64 }
         requires room { 1 < self.old.journal.notes }
         ensures state { OnOk result (self.new.world ≡ step_at self.old.world place.now) }
-        ensures goes_on { GoesOn Fits unapply 2 self.old.world self.old.journal self.new.world self.new.journal }
+        ensures notes { Notes 2 self.old self.new }
     {
         match place {
             Place::Assign(assign) => {
@@ -218,7 +182,7 @@ impl Work {
         requires well { IsWell program.now self.old.world }
         requires room { 1 < self.old.journal.notes }
         ensures state { OnOk result (self.new.world ≡ step program.now self.old.world) }
-        ensures goes_on { GoesOn Fits unapply 2 self.old.world self.old.journal self.new.world self.new.journal }
+        ensures notes { Notes 2 self.old self.new }
     {
         program.known();
         let (section, place) = self.world.place();
@@ -237,20 +201,12 @@ impl Work {
     }
 }
 
-fn added(view: View<'_>, e: &Expr, target: Variable) -> Result<i64, RunFault>
-    requires target { IsTarget (length view.variables.now) (length view.locals.now) target }
-    requires sound { IsSoundExpr (length view.variables.now) (length view.locals.now) e.now }
-    ensures { result ≡ after (value_of (seen view.entry) e.now) (λ x. ranged (variable_value (seen view.entry) target +ℤ x)) }
+fn target(assign: &Assign) -> Variable
+    ensures { result ≡ target_of assign.now }
 {
-    let x = value(view, e)?;
-    sum(variable(view, target), x)
-}
-
-fn subtracted(view: View<'_>, e: &Expr, target: Variable) -> Result<i64, RunFault>
-    requires target { IsTarget (length view.variables.now) (length view.locals.now) target }
-    requires sound { IsSoundExpr (length view.variables.now) (length view.locals.now) e.now }
-    ensures { result ≡ after (value_of (seen view.entry) e.now) (λ x. ranged (variable_value (seen view.entry) target -ℤ x)) }
-{
-    let x = value(view, e)?;
-    difference(variable(view, target), x)
+    match assign {
+        Assign::Let { target, .. } => *target,
+        Assign::Add { target, .. } => *target,
+        Assign::Subtract { target, .. } => *target,
+    }
 }

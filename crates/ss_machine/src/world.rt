@@ -1,8 +1,6 @@
-ghost use Rattle.std.specs.Prelude.{◌≡◌, ◌<◌, ◌≤◌, ◌+◌, ◌++◌, ◌^◌, [], length, take, replicate, slice_set, slice_get, pos, IfOk, IfErr, Ok, Err};
-ghost use Rattle.ss_words.specs.declared.fault.StepFault.TheVariants.{Fault, Memory};
+ghost use Rattle.std.specs.Prelude.{◌≡◌, ◌<◌, ◌+◌, ◌^◌, length, slice_set, IfOk, IfErr, Ok};
 ghost use Rattle.ss_report.specs.Pictures.{field_count, picture_text};
 ghost use Rattle.ss_check.specs.ProgramSound.{IsTarget};
-ghost use Rattle.ss_machine.specs.State.{State};
 ghost use Rattle.ss_machine.specs.Seen.{seen};
 ghost use Rattle.ss_machine.specs.Values.{readings, FaultIs};
 ghost use Rattle.ss_machine.specs.Step.{assigned, appended, gone_on};
