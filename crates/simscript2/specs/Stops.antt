@@ -1,5 +1,6 @@
--- The exit status of the program where it is stopped.
-use Rattle.std.specs.Prelude.{ℕ}
+-- What stops the program, and the exit status of that.
+use Rattle.std.specs.Prelude.{◌≡◌, ℕ, List, Option, Some, None}
+use Rattle.std.specs.Borrow.{Bor}
 use Rattle.simscript2.specs.declared.stop.Stop.{Stop}
 use Rattle.simscript2.specs.declared.stop.Stop.TheVariants.{Usage, Memory, CannotRead, CannotWrite}
 
@@ -9,3 +10,22 @@ stop_status Usage = 1
 stop_status Memory = 5
 stop_status (CannotRead path) = 2
 stop_status CannotWrite = 2
+
+-- what stops the reading of the words
+abbrev pub IsOfWords : Stop → Type 0
+IsOfWords Usage = Unit {0}
+IsOfWords Memory = Unit {0}
+IsOfWords (CannotRead path) = ⊥
+IsOfWords CannotWrite = ⊥
+
+-- what stops the reading of the file of a path: it names that path
+abbrev pub IsOfFile : List ℕ → Stop → Type 0
+IsOfFile path Usage = ⊥
+IsOfFile path Memory = Unit {0}
+IsOfFile path (CannotRead named) = named.now ≡ path
+IsOfFile path CannotWrite = ⊥
+
+-- the path that is named, or what stands for none
+abbrev pub path_or : Option (Bor (List ℕ)) → List ℕ → List ℕ
+path_or (Some path) otherwise = path.now
+path_or None otherwise = otherwise

@@ -1,4 +1,5 @@
-ghost use Rattle.std.specs.Prelude.{◌≡◌, ◌≤◌, ◌^◌, length, IfOk, IfSome, None};
+ghost use Rattle.std.specs.Prelude.{◌≡◌, ◌≤◌, ◌^◌, [], length, IfOk, IfErr, IfSome, None, codes};
+ghost use Rattle.simscript2.specs.Stops.{IsOfFile, path_or};
 
 use crate::stop::Stop;
 use std::alloc::Global;
@@ -22,7 +23,10 @@ fn read_all<R: Read + Drop>(alloc: Global, reader: R) -> io::Result<Vec<u8>>
     Ok(bytes)
 }
 
-fn stop_at<'a>(error: io::Error, path: &'a str) -> Stop<'a> {
+/// Why the file of a path was not read.
+fn stop_at<'a>(error: io::Error, path: &'a str) -> Stop<'a>
+    ensures { IsOfFile path.now result }
+{
     if error.kind() == io::ErrorKind::OutOfMemory {
         Stop::Memory
     } else {
@@ -30,9 +34,15 @@ fn stop_at<'a>(error: io::Error, path: &'a str) -> Stop<'a> {
     }
 }
 
-fn read_file<'a, R: Files + AllocGlobal>(rt: &R, path: &'a str) -> Result<Vec<u8>, Stop<'a>> {
-    match fs::open(rt, path) {
-        Ok(file) => read_all(rt.alloc(), file).map_err(|e| stop_at(e, path)),
+fn read_file<'a, R: Files + AllocGlobal>(rt: &R, path: &'a str) -> Result<Vec<u8>, Stop<'a>>
+    ensures { IfErr result (λ stop. IsOfFile path.now stop) }
+{
+    let file = match fs::open(rt, path) {
+        Ok(file) => file,
+        Err(error) => return Err(stop_at(error, path)),
+    };
+    match read_all(rt.alloc(), file) {
+        Ok(bytes) => Ok(bytes),
         Err(error) => Err(stop_at(error, path)),
     }
 }
@@ -41,11 +51,16 @@ fn read_file<'a, R: Files + AllocGlobal>(rt: &R, path: &'a str) -> Result<Vec<u8
 pub fn read_model<'a, R: Files + Input + AllocGlobal>(
     rt: &R,
     path: Option<&'a str>,
-) -> Result<Vec<u8>, Stop<'a>> {
-    match path {
-        Some(path) => read_file(rt, path),
-        None => read_all(rt.alloc(), rt.reader()).map_err(|e| stop_at(e, "-")),
-    }
+) -> Result<Vec<u8>, Stop<'a>>
+    ensures { IfErr result (λ stop. IsOfFile (path_or path.entry (codes "-")) stop) }
+{
+    let Some(path) = path else {
+        return match read_all(rt.alloc(), rt.reader()) {
+            Ok(bytes) => Ok(bytes),
+            Err(error) => Err(stop_at(error, "-")),
+        };
+    };
+    read_file(rt, path)
 }
 
 /// The bytes of a file, or what stands in its place where none is named.
@@ -55,6 +70,7 @@ pub fn read_or<'a, R: Files + AllocGlobal>(
     otherwise: &[u8],
 ) -> Result<Vec<u8>, Stop<'a>>
     ensures unnamed { path.entry ≡ None → IfOk result (λ bytes. bytes.items ≡ otherwise.now) }
+    ensures err { IfErr result (λ stop. IsOfFile (path_or path.entry []) stop) }
 {
     match path {
         Some(path) => read_file(rt, path),

@@ -1,3 +1,6 @@
+ghost use Rattle.std.specs.Prelude.{IfErr};
+ghost use Rattle.simscript2.specs.Stops.{IsOfWords};
+
 use crate::stop::Stop;
 use clap::error::ErrorKind;
 use clap::{Arg, Command, Error};
@@ -14,7 +17,9 @@ pub struct Paths<'a> {
 }
 
 /// The words that the program was started with, its name first.
-pub fn read_arguments(rt: &HostRuntime) -> Result<Vec<String>, Stop<'static>> {
+pub fn read_arguments(rt: &HostRuntime) -> Result<Vec<String>, Stop<'static>>
+    ensures { IfErr result (λ stop. IsOfWords stop) }
+{
     let arguments = match env::args(rt) {
         Ok(arguments) => arguments,
         Err(error) if error.kind() == io::ErrorKind::OutOfMemory => return Err(Stop::Memory),
@@ -40,7 +45,9 @@ fn parse<'a>(alloc: Global, arguments: &'a [String]) -> Result<Paths<'a>, Error>
 }
 
 /// The paths that the words name. Every answer that gives no paths, that for help among them, is a refusal of the words.
-pub fn read_paths<'a>(alloc: Global, arguments: &'a [String]) -> Result<Paths<'a>, Stop<'a>> {
+pub fn read_paths<'a>(alloc: Global, arguments: &'a [String]) -> Result<Paths<'a>, Stop<'a>>
+    ensures { IfErr result (λ stop. IsOfWords stop) }
+{
     match parse(alloc, arguments) {
         Ok(paths) => Ok(paths),
         Err(error) => match error.kind() {
