@@ -3,5 +3,4 @@ pub mod Parts
 pub mod FirstLine
 pub mod Sittings
 pub mod Ends
-pub mod EndedSections
 pub mod Outcomes
