@@ -35,7 +35,7 @@ word_behind = codes "MAIN\nEND\nLOOP\n"
 abbrev pub unended : List ℕ
 unended = codes "MAIN\nLET X ="
 
--- the first number that is none
+-- a number past the greatest
 abbrev pub too_large : List ℕ
 too_large = codes "MAIN\nLET X = 9223372036854775808\nEND\n"
 

@@ -1,27 +1,33 @@
-//! Transcripts of whole models, computed on the definitions: the tests of the same names run `session` on them. Each function does
+//! Transcripts of whole models, computed on the definitions; the tests of the same names run `session` on them. Each function does
 //! nothing, and its contract says the law.
 ghost use Rattle.ss_session.specs.Examples.{EmptyProgramStops, BadCommandIsTold, FiveIsPrintedAgain, BackEndsAtStart, OverflowStands, WrongPictureIsRefused, EmptyTextIsRefused, WordBehindEndIsRefused, TextsEndIsRefused, LargeNumberIsRefused};
 
+/// A program that was not run has an empty report.
 pub fn an_empty_program_stops()
     ensures { EmptyProgramStops }
 {}
 
+/// `FOO` is a bad command, and `step` at the commands' end is obeyed.
 pub fn a_bad_command_and_one_without_a_line_end()
     ensures { BadCommandIsTold }
 {}
 
+/// A step back takes its line out of the report, and the step made again prints it again.
 pub fn five_is_printed_again_after_a_step_back()
     ensures { FiveIsPrintedAgain }
 {}
 
+/// One step back from the start, and ten from state 3, end at the start.
 pub fn back_goes_no_further_than_the_start()
     ensures { BackEndsAtStart }
 {}
 
+/// A sum past the range faults at its statement, and the state before it comes back.
 pub fn an_overflow_stands_at_its_statement()
     ensures { OverflowStands }
 {}
 
+/// Models refused by C10, C11, P1, P2 and L2, under all commands.
 pub fn refused_models_give_one_line()
     ensures wrong_picture { WrongPictureIsRefused }
     ensures empty_text { EmptyTextIsRefused }
