@@ -1,5 +1,6 @@
 use Rattle.std.proofs.Common.{refl, arith}
 use Rattle.std.specs.Fmt.{digits}
+use Rattle.ss_words.specs.TextBytes.{in_run}
 use Rattle.ss_words.specs.TextLines.{without_empty_last}
 use Rattle.ss_words.specs.TextRuns.{number_of, without_stops}
 use Rattle.ss_debug.specs.Words.{words_of, lines_of, number_within, name_of}
@@ -15,5 +16,5 @@ use Rattle.ss_session.proofs.Told.{tells_run}
 use Rattle.ss_session.proofs.examples.an_overflow_stands_at_its_statement.Goals as goal
 
 pub returns : goal.returns
-unfolding digits told answers sitting_after after answer command_of said_by words_of lines_of without_empty_last number_within number_of name_of moment_text place_text state_line movement_text var_text report_text least without_stops
+unfolding digits told answers sitting_after after answer command_of said_by words_of lines_of without_empty_last number_within number_of in_run name_of moment_text place_text state_line movement_text var_text report_text least without_stops
 returns c = tells_run overflow overflow_words overflow_plain overflow_read overflow_spelled overflow_tree overflow_program (record { parentheses = omega arith; sections = omega arith }) overflow_spells refl refl _ _ refl
