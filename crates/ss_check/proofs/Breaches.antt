@@ -59,7 +59,7 @@ pub breach_behind_nil : (has_main : Bool) (n : ℕ) → breach_behind has_main n
 breach_behind_nil true n = refl
 breach_behind_nil false n = refl
 
--- the first of statements behind others
+-- where neither is there, both are none
 option_or-none : {T : Type 0} (a b : Option T) → option_or a b ≡ None → (a ≡ None) × (b ≡ None)
 option_or-none None b h = (refl, h)
 option_or-none (Some x) b h = cc

@@ -20,9 +20,9 @@ distinct-fold [] table h = h
 distinct-fold (n ∷ ns) table h = distinct-fold ns (with_local table n) (distinct-cond (known table n) table n refl h)
 
 -- no names at all are distinct
-pub distinct-none : AreDistinct []
+pub distinct_none : AreDistinct []
 unfolding IsDistinct
-distinct-none = tt
+distinct_none = tt
 
 -- two names that differ
 pub distinct_pair : (m n : List ℕ) → bytes_eq m n ≡ false → AreDistinct (m ∷ n ∷ [])
@@ -31,8 +31,8 @@ distinct_pair m n e = ((e, tt), (tt, tt))
 
 -- a table to which names were put, each once
 pub distinct_locals : (ns : List (List ℕ)) → AreDistinct (fold with_local [] ns)
-distinct_locals ns = distinct-fold ns [] distinct-none
+distinct_locals ns = distinct-fold ns [] distinct_none
 
 -- a program whose only tables are those of its sections
 pub distinct_names : (ss : List SectionTable) → HasDistinctNames (record { globals = []; classes = []; sets = []; sections = ss })
-distinct_names ss = record { globals = distinct-none; classes = distinct-none; attributes = tt; sets = distinct-none }
+distinct_names ss = record { globals = distinct_none; classes = distinct_none; attributes = tt; sets = distinct_none }

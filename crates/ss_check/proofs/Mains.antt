@@ -1,4 +1,4 @@
--- the one MAIN is there, and is what a search finds
+-- The one MAIN is there, and is what a search finds.
 use Rattle.std.proofs.Common.{◌≡◌, ℕ, suc, ◌+◌, ◌<◌, ◌≤◌, List, [], ◌∷◌, length, Bool, true, false, not, arith, refl, Some, None, nat_lt}
 use Rattle.std.proofs.lemmas.Bool.{ltb-false}
 use Rattle.std.specs.Prelude.{count_by, position, cond}

@@ -1,4 +1,4 @@
--- a list of sound places with one more
+-- A list of sound places with one more.
 use Rattle.std.proofs.Common.{◌≡◌, ℕ, List, [], ◌∷◌, ◌++◌, false}
 use Rattle.ss_check.specs.declared.place.Spot.{Spot}
 use Rattle.ss_check.specs.ProgramSound.{IsSoundPlace, AreSoundPlaces, IsEnded, is_end}

@@ -14,8 +14,8 @@ use Rattle.ss_check.specs.Program.{SectionTable, is_main}
 use Rattle.ss_check.specs.ProgramSound as sound
 use Rattle.ss_check.specs.Names.{is_clock, is_function, names_of_expr, names_of_sums, names_of_term, names_of_products, names_of_factor, names_written, target_of}
 use Rattle.ss_check.specs.Breach.{breach, breach_of, broken, assigns_fixed, first_breach, has_wrong_picture, is_main_section, lacks_arguments, place_rules, place_statement}
-use Rattle.ss_check.specs.Ended.{IsEnded, AreEnded}
-use Rattle.ss_check.specs.Ended as ended
+use Rattle.ss_routines.specs.Ended.{IsEnded, AreEnded}
+use Rattle.ss_routines.specs.Ended as ended
 use Rattle.ss_check.specs.Resolved.{locals_written, resolved, resolved_assign, resolved_expr, resolved_factor, resolved_name, resolved_place, resolved_products, resolved_section, resolved_spot, resolved_sums, resolved_term}
 use Rattle.ss_check.proofs.Breaches.{breach_behind, no_breach_cons, no_breach_place}
 use Rattle.ss_check.proofs.Known.{known, known_parts, any_position, all_known}

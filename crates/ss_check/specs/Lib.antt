@@ -5,7 +5,6 @@ pub mod ProgramSound
 pub mod CheckRules
 pub mod Names
 pub mod Breach
-pub mod Ended
 pub mod Resolved
 pub mod LookedUp
 pub mod Found

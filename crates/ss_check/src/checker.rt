@@ -1,8 +1,7 @@
 ghost use Rattle.std.specs.Prelude.{◌≡◌, map, None, IfOk, IfErr, OnOk};
-ghost use Rattle.ss_routines.specs.View.{section_view, sections_of, spots};
+ghost use Rattle.ss_routines.specs.View.{section_view, spots};
 ghost use Rattle.ss_check.specs.Breach.{IsBreach, breach, breach_of, first_breach, head_statement, is_main_section, place_statement};
 ghost use Rattle.ss_check.specs.Breach as rules;
-ghost use Rattle.ss_check.specs.Ended.{AreEnded};
 ghost use Rattle.ss_check.specs.Resolved.{resolved, resolved_section, resolved_spot};
 
 use crate::check_place::check_place;
@@ -21,12 +20,11 @@ use std::alloc::Global;
 /// `Broken` tells the first statement that breaks a rule, by its line, and the lowest of the rules that it breaks;
 /// `Memory` that a growth was refused.
 pub fn check(alloc: Global, sections: Sections) -> Result<Program, CheckFault>
-    requires { AreEnded (sections_of sections) }
-    ensures sound { IfOk result (λ _. breach (sections_of sections) ≡ None) }
-    ensures ok { IfOk result (λ program. program ≡ resolved (sections_of sections)) }
-    ensures err { IfErr result (λ f. IsBreach f (breach (sections_of sections))) }
+    ensures sound { IfOk result (λ _. breach sections ≡ None) }
+    ensures ok { IfOk result (λ program. program ≡ resolved sections) }
+    ensures err { IfErr result (λ f. IsBreach f (breach sections)) }
 {
-    let checked = check_sections(alloc, sections.list)?;
+    let checked = check_sections(alloc, sections.into_list())?;
     Ok(Program::new(Vec::new(alloc), Vec::new(alloc), Vec::new(alloc), checked))
 }
 

@@ -61,13 +61,12 @@ impl CheckRule {
     }
 }
 
-/// Why a spelled program is refused, or that memory for its tables was refused.
+/// Why a spelled program is refused: the statement that begins on `line` breaks `rule` (lines count from 1). Or that a growth
+/// was refused: `Memory`.
 #[derive(Clone, Copy, Debug, Drop, PartialEq, Eq, Error)]
 pub enum CheckFault {
-    /// The statement that begins on this line breaks this rule; lines count from 1.
     #[error("line {line}: {rule:?}")]
     Broken { rule: CheckRule, line: usize },
-    /// A growth was refused.
     #[error("out of memory")]
     Memory,
 }

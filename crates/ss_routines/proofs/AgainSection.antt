@@ -14,7 +14,7 @@ use Rattle.ss_routines.specs.ExprReading.{sign_of, expr_at}
 use Rattle.ss_routines.specs.Places.{Reference, Assign, lets, adds, subtracts, Output, prints}
 use Rattle.ss_routines.specs.Tree.{Block, no_statements, statement, Statement, single, One, assignment, report, halt, SectionTree, main, Tree, spell_reference, spell_let, spell_assign, spell_further, spell_values, spell_output, spell_block, spell_statement, spell_one, spell_section, spell, depth_assign, depth_values, depth_output, depth_block, depth_statement, depth_one, depth_section, depth}
 use Rattle.ss_routines.specs.SectionReading.{a_reference, begins, is_head, let_with, add_with, subtract_with, assign_by, an_assign, next_value, further_with, behind_first, values_with, print_with, one_by, one_with, next_statement, block_with, section_with, sections_with, sections_at}
-use Rattle.ss_routines.proofs.AgainExpr.{Ends, expr_again}
+use Rattle.ss_routines.specs.AgainExpr.{Ends, expr_again}
 use Rattle.ss_routines.proofs.LocalSection.{some_statement}
 
 reference_again : (v : Reference) (y : List Plain) → a_reference (name v.name ∷ y) ≡ (Ok v, y)

@@ -1,11 +1,11 @@
 pub mod Sound
 pub mod LocalExpr
-pub mod AgainExpr
 pub mod SoundSection
 pub mod LocalSection
 pub mod AgainSection
 pub mod LaysSection
 pub mod Pushed
+pub mod Ended
 pub mod Rooms
 pub mod Whole
 pub mod SectionLoop

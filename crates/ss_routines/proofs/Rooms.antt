@@ -4,7 +4,7 @@ use Rattle.ss_words.specs.declared.refusal.Refusal.TheVariants.{PastLimit}
 use Rattle.ss_words.specs.Reading.{Reading, refuse}
 use Rattle.ss_routines.specs.Expr.{Factor}
 use Rattle.ss_routines.specs.ExprReading.{expr_with, paren_with, expr_at, paren_at}
-use Rattle.ss_routines.proofs.AgainExpr.{expr_at-is}
+use Rattle.ss_routines.specs.AgainExpr.{expr_at-is}
 
 pub paren_shut : (n : ℕ) → n ≡ 0 → paren_at n ≡ refuse PastLimit
 paren_shut n h = rw h refl

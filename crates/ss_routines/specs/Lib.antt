@@ -3,6 +3,9 @@ pub mod Places
 pub mod Tree
 pub mod Written
 pub mod View
+pub mod Ended
+pub mod AgainExpr
+pub mod ExprCode
 pub mod Refused
 pub mod ExprReading
 pub mod SectionReading

@@ -18,7 +18,6 @@ use Rattle.ss_routines.specs.declared.place.Place.{Place as CodePlace}
 use Rattle.ss_routines.specs.declared.place.Place.TheVariants as p
 use Rattle.ss_routines.specs.declared.place.Spot.{Spot as CodeSpot}
 use Rattle.ss_routines.specs.declared.section.Section.{Section as CodeSection}
-use Rattle.ss_routines.specs.declared.section.Sections.{Sections}
 use Rattle.ss_routines.specs.Expr.{Expr, expr, Sums, no_sums, sum, Term, term, Products, no_products, product, Factor, digits, variable, within}
 use Rattle.ss_routines.specs.Places.{Reference, Assign, lets, adds, subtracts, Output, prints, Control, stops, ends, Place, assign, output, control, Spot, Section}
 
@@ -83,7 +82,3 @@ spots xs = map spot_view xs
 
 abbrev pub section_view : CodeSection → Section
 section_view s = record { line = s.line; kind = s.kind; name = s.name.items; parameters = map (λ n. n.items) s.parameters.items; places = spots s.places.items }
-
--- the sections as pure data
-abbrev pub sections_of : Sections → List Section
-sections_of s = map section_view s.list.items

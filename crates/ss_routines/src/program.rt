@@ -4,7 +4,7 @@ ghost use Rattle.ss_words.specs.Reading.{Fails, Gives, words_of, lines_of, whole
 ghost use Rattle.ss_routines.specs.ExprReading as exprs;
 ghost use Rattle.ss_routines.specs.SectionReading as reading;
 ghost use Rattle.ss_routines.specs.Onto as onto;
-ghost use Rattle.ss_routines.specs.View.{section_view, sections_of};
+ghost use Rattle.ss_routines.specs.View.{section_view};
 ghost use Rattle.ss_words.specs.Noting.{line};
 ghost use Rattle.ss_words.specs.PlainRules.{plain_words_of};
 ghost use Rattle.ss_routines.specs.Refused.{AreSections, IsFault, words_from};
@@ -120,12 +120,12 @@ fn last_line(text: &[PlainWord]) -> usize
 
 /// The sections that these plain words spell.
 fn read(alloc: Global, text: &[PlainWord]) -> Result<Sections, TextFault>
-    ensures sections { IfOk result (λ s. AreSections (sections_of s) (map plain_at text.now)) }
+    ensures sections { IfOk result (λ s. AreSections s (map plain_at text.now)) }
     ensures refused { IfErr result (λ f. IsFault f (map plain_at text.now)) }
 {
     let mut cursor = Cursor { alloc, rest: text };
     match complete(&mut cursor, text) {
-        Ok(list) => Ok(Sections { list }),
+        Ok(list) => Ok(Sections::new(list)),
         Err(refusal) => Err(fault(refusal, &cursor, text)),
     }
 }
@@ -141,7 +141,7 @@ fn read(alloc: Global, text: &[PlainWord]) -> Result<Sections, TextFault>
 /// - `Memory` where memory was refused.
 pub fn sections(alloc: Global, words: &Words, from: usize) -> Result<Sections, TextFault>
     // The words spell one program within the limits, and these are its sections.
-    ensures sections { IfOk result (λ s. AreSections (sections_of s) (words_from from (plain_words_of words.now))) }
+    ensures sections { IfOk result (λ s. AreSections s (words_from from (plain_words_of words.now))) }
     // Otherwise the words are refused by this rule at this line.
     ensures refused { IfErr result (λ f. IsFault f (words_from from (plain_words_of words.now))) }
 {

@@ -4,7 +4,6 @@ pub mod FirstLine
 pub mod Sittings
 pub mod Outcomes
 pub mod Ends
-pub mod EndedSections
 pub mod Told
 pub mod ExampleWords
 pub mod ExamplePrograms

@@ -1,13 +1,13 @@
-use Rattle.std.proofs.Common.{◌<◌, ◌^◌, length, arith}
-use Rattle.std.specs.Prelude.{map}
-use Rattle.ss_routines.specs.View.{section_view}
+use Rattle.std.proofs.Common.{◌<◌, ◌^◌, length, ap, arith, subst}
 use Rattle.std.proofs.lemmas.List.{length-map}
-use Rattle.ss_check.proofs.Few.{few_sections}
+use Rattle.ss_routines.specs.View.{section_view}
+use Rattle.ss_check.proofs.Few.{AreFew, few_sections}
 use Rattle.ss_check.proofs.SoundResolved.{sound_resolved}
 use Rattle.ss_check.proofs.checker.check.Goals as goal
 
 pub new-requires-4 : goal.new-requires-4
 new-requires-4 c =
-    let sections = c.args.sections.list in
-    let few : length (map section_view sections.items) < 2 ^ 63 = rw (length-map sections.items section_view) (omega (arith, sections.ok, sections.small)) in
-    rw (c.new.ensures.items, c.new-2.ensures.items, c.new-3.ensures.items, c.in_ok-checked.ensures.ok) (sound_resolved (map section_view sections.items) c.requires (few_sections sections.items) few c.in_ok-checked.ensures.sound)
+    let list = c.into_list.result in
+    let is = c.into_list.ensures.list in
+    let few : length c.args.sections < 2 ^ 63 = omega (arith, ap length is, length-map list.items section_view, list.ok, list.small) in
+    rw (c.new.ensures.items, c.new-2.ensures.items, c.new-3.ensures.items, c.in_ok-checked.ensures.ok, is) (sound_resolved c.args.sections c.into_list.ensures.ended (subst AreFew is (few_sections list.items)) few (rw is at c.in_ok-checked.ensures.sound))

@@ -4,7 +4,6 @@ use Rattle.ss_words.specs.declared.plain_word.PlainWord.{PlainWord}
 use Rattle.ss_words.specs.Plain.{PlainAt, plain_at}
 use Rattle.ss_words.specs.PlainRules.{plain_words_of}
 use Rattle.ss_routines.specs.Refused.{words_from, AreSections, IsFault}
-use Rattle.ss_routines.specs.View.{sections_of}
 use Rattle.ss_routines.proofs.program.sections.Goals as goal
 
 abbrev test : ℕ → PlainWord → Bool
@@ -22,7 +21,7 @@ returns-clause-sections c =
     let text : map plain_at c.deref.result.now ≡ words_from c.args.from (plain_words_of c.args.words.now) =
     ap (map plain_at) (c.deref.ensures.value ∙ filter_same _ (test c.args.from) _ (λ x b f k. search rules) _ _ c.retain.ensures.filtered)
     ∙ kept c.args.from c.in_ok-plain.plain.items ∙ ap (words_from c.args.from) c.in_ok-plain.ensures in
-    subst (λ (ws : List PlainAt). IfOk c.read.result (λ s. AreSections (sections_of s) ws)) text c.read.ensures.sections
+    subst (λ (ws : List PlainAt). IfOk c.read.result (λ s. AreSections s ws)) text c.read.ensures.sections
 
 pub returns-clause-refused : goal.returns-clause-refused
 returns-clause-refused c =

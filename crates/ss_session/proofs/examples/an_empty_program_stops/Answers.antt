@@ -1,10 +1,11 @@
 use Rattle.std.proofs.Common.{refl, arith}
 use Rattle.std.specs.Fmt.{digits}
-use Rattle.ss_words.specs.TextRuns.{without_stops}
-use Rattle.ss_debug.specs.Words.{words_of, lines_of, number_of, name_of}
+use Rattle.ss_words.specs.TextLines.{without_empty_last}
+use Rattle.ss_words.specs.TextRuns.{number_of, without_stops}
+use Rattle.ss_debug.specs.Words.{words_of, lines_of, number_within, name_of}
 use Rattle.ss_debug.specs.Command.{said_by, command_of}
 use Rattle.ss_debug.specs.Move.{least}
-use Rattle.ss_debug.specs.Answer.{state_line, var_text, report_text}
+use Rattle.ss_debug.specs.Answer.{moment_text, place_text, state_line, movement_text, var_text, report_text}
 use Rattle.ss_debug.specs.Turn.{after, answer, sitting_after, answers}
 use Rattle.ss_session.specs.Transcript.{told}
 use Rattle.ss_session.specs.Examples.{stop}
@@ -14,5 +15,5 @@ use Rattle.ss_session.proofs.Told.{tells_run}
 use Rattle.ss_session.proofs.examples.an_empty_program_stops.Goals as goal
 
 pub returns : goal.returns
-unfolding digits told answers sitting_after after answer command_of said_by words_of lines_of number_of name_of state_line var_text report_text least without_stops
+unfolding digits told answers sitting_after after answer command_of said_by words_of lines_of without_empty_last number_within number_of name_of moment_text place_text state_line movement_text var_text report_text least without_stops
 returns c = tells_run stop stop_words stop_plain stop_read stop_spelled stop_tree stop_program (record { parentheses = omega arith; sections = omega arith }) stop_spells refl refl _ _ refl

@@ -4,7 +4,7 @@ use Rattle.ss_routines.specs.Places.{Spot, Section, assign, output, control, sto
 use Rattle.ss_routines.specs.Tree.{Block, no_statements, statement, single, assignment, report, halt, main, Tree}
 use Rattle.ss_routines.specs.Written.{flat_block, spot, written_from}
 use Rattle.ss_routines.specs.Refused.{AreSections}
-use Rattle.ss_check.specs.Ended.{is_end, IsEnded, AreEnded}
+use Rattle.ss_routines.specs.Ended.{is_end, IsEnded, AreEnded}
 
 -- one place more, which is no END
 ended_more : (s : Spot) (xs : List Spot) → is_end s.place ≡ false → IsEnded xs → IsEnded (s ∷ xs)
