@@ -84,18 +84,21 @@ impl World {
         (self.frame.section, self.frame.place)
     }
 
+    /// The clock.
     pub fn clock(&self) -> i64
         ensures { result ≡ self.now.clock }
     {
         self.clock
     }
 
+    /// The bytes of the report.
     pub fn report(&self) -> &[u8]
         ensures { result.now ≡ self.now.report }
     {
         self.report.bytes()
     }
 
+    /// The status.
     pub fn status(&self) -> Status
         ensures { result ≡ self.now.status }
     {
@@ -152,6 +155,7 @@ impl World {
         Change::Place(old)
     }
 
+    /// Gives the state another status.
     pub fn mark(&mut self, status: Status) -> Change
         ensures state { self.new ≡ record self.old { status = status } }
         ensures fits { Fits result self.new }

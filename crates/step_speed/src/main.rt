@@ -4,32 +4,15 @@
 //! and writes what each way took; without a number it writes no times.
 #![tactic(auto)]
 
-mod draft;
+mod model;
+mod steps;
 
 use anyhow::{Context, Result};
-use draft::model;
-use ss_machine::{Machine, Stepped};
+use model::program;
+use ss_machine::Machine;
 use std::env;
 use std::time::Instant;
-
-fn forward(machine: &mut Machine, most: usize) -> Result<usize> {
-    for moved in 0..most {
-        match machine.step()? {
-            Stepped::Moved => {}
-            Stepped::AtEnd => return Ok(moved),
-        }
-    }
-    Ok(most)
-}
-
-fn back(machine: &mut Machine, most: usize) -> usize {
-    for moved in 0..most {
-        if !machine.back() {
-            return moved;
-        }
-    }
-    most
-}
+use steps::{back, forward};
 
 fn main(rt: HostRuntime) -> Result<()> {
     let number = env::args(&rt)?.nth(1);
@@ -37,7 +20,7 @@ fn main(rt: HostRuntime) -> Result<()> {
         Some(text) => text.parse::<usize>()?,
         None => 1_000,
     };
-    let program = model(rt.alloc(), places).context("the model")?;
+    let program = program(rt.alloc(), places).context("the model")?;
     let mut machine = Machine::new(rt.alloc(), program)?;
     for way in ["forward", "back", "forward again"] {
         let start = Instant::now(&rt)?;
