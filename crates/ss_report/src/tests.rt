@@ -120,7 +120,7 @@ fn a_report_ends_at_its_limit(rt: HostRuntime) -> Result<(), Fail> {
     Ok(())
 }
 
-// `rt try --test --fail-alloc N` refuses a growth: N is 1 for the first print, 2 for the skip.
+// tests/refused runs this with each of its growths refused in turn.
 #[test]
 fn a_refused_growth_leaves_the_report(rt: HostRuntime) -> Result<(), Fail> {
     let Ok(picture) = picture(rt.alloc(), b"***") else {
