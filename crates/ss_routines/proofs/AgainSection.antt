@@ -1,19 +1,18 @@
 -- Sections that are spelled are read again.
-use Rattle.std.proofs.Common.{◌≡◌, ℕ, zero, suc, max, ◌+◌, ◌≤◌, ◌<◌, Bool, true, false, List, [], ◌∷◌, ◌++◌, length, length-append, Option, Some, None, Result, Ok, Err, refl, sym, ap, ◌∙◌, append_assoc, arith}
-use Rattle.std.proofs.lemmas.List.{append-nil}
+use Rattle.std.proofs.Common.{◌≡◌, ℕ, zero, suc, ◌≤◌, ◌<◌, Bool, true, false, List, [], ◌∷◌, ◌++◌, length, length-append, Option, Some, None, Ok, refl, ap, ◌∙◌, append_assoc, arith}
 use Rattle.ss_words.specs.declared.mark.Mark.TheVariants as m
 use Rattle.ss_words.specs.declared.word.Sign.TheVariants as s
 use Rattle.ss_words.specs.declared.reserved.Reserved.TheVariants as r
 use Rattle.ss_words.specs.Plain.{Plain, name, number, mark, picture, first}
-use Rattle.ss_words.specs.Reading.{Reading, Read, goes_on, bind, pure, refuse, look, skip, many_from, many}
+use Rattle.ss_words.specs.Reading.{Reading, bind, pure, look, skip, many_from, many}
 use Rattle.ss_words.specs.Marks.{is, expect, eat, a_name, a_number, a_picture}
 use Rattle.ss_words.proofs.Marks.{expect_again, eat_again, not_eaten, name_again, number_again, picture_again}
 use Rattle.ss_words.proofs.Again.{then, many_ends, many_goes}
 use Rattle.ss_routines.specs.Expr.{Expr, spell_expr, depth_expr}
 use Rattle.ss_routines.specs.ExprReading.{sign_of, expr_at}
-use Rattle.ss_routines.specs.Places.{Reference, Assign, lets, adds, subtracts, Output, prints}
-use Rattle.ss_routines.specs.Tree.{Block, no_statements, statement, Statement, single, One, assignment, report, halt, SectionTree, main, Tree, spell_reference, spell_let, spell_assign, spell_further, spell_values, spell_output, spell_block, spell_statement, spell_one, spell_section, spell, depth_assign, depth_values, depth_output, depth_block, depth_statement, depth_one, depth_section, depth}
-use Rattle.ss_routines.specs.SectionReading.{a_reference, begins, is_head, let_with, add_with, subtract_with, assign_by, an_assign, next_value, further_with, behind_first, values_with, print_with, one_by, one_with, next_statement, block_with, section_with, sections_with, sections_at}
+use Rattle.ss_routines.specs.Places.{Reference, Assign, lets, adds, subtracts, prints}
+use Rattle.ss_routines.specs.Tree.{Block, no_statements, statement, Statement, simple, Simple, assignment, report, halt, SectionTree, main, Tree, spell_reference, spell_assign, spell_further, spell_values, spell_block, spell_statement, spell_simple, spell_section, spell, depth_assign, depth_values, depth_block, depth_statement, depth_simple, depth_section, depth}
+use Rattle.ss_routines.specs.SectionReading.{a_reference, begins, is_head, let_with, add_with, subtract_with, an_assign, next_value, further_with, behind_first, values_with, print_with, simple_with, next_statement, block_with, section_with, sections_with, sections_at}
 use Rattle.ss_routines.specs.AgainExpr.{Ends, expr_again}
 use Rattle.ss_routines.proofs.LocalSection.{some_statement}
 
@@ -24,29 +23,29 @@ reference_again v y = then a_name _ v.name (name v.name ∷ y) y (name_again v.n
 plain_ends : (k : _) (y : List Plain) → is (m.Sign s.Star) (Some k) ≡ false → sign_of (Some k) ≡ None → Ends (k ∷ y)
 plain_ends k y a b = record { no_star = a; no_sign = b }
 
-one_ends : (o : One) (y : List Plain) → Ends (spell_one o ++ y)
-one_ends (assignment (lets true v e)) y = plain_ends _ _ refl refl
-one_ends (assignment (lets false v e)) y = plain_ends _ _ refl refl
-one_ends (assignment (adds e v)) y = plain_ends _ _ refl refl
-one_ends (assignment (subtracts e v)) y = plain_ends _ _ refl refl
-one_ends (report (prints n es p)) y = plain_ends _ _ refl refl
-one_ends halt y = plain_ends _ _ refl refl
+simple_ends : (o : Simple) (y : List Plain) → Ends (spell_simple o ++ y)
+simple_ends (assignment (lets true v e)) y = plain_ends _ _ refl refl
+simple_ends (assignment (lets false v e)) y = plain_ends _ _ refl refl
+simple_ends (assignment (adds e v)) y = plain_ends _ _ refl refl
+simple_ends (assignment (subtracts e v)) y = plain_ends _ _ refl refl
+simple_ends (report (prints n es p)) y = plain_ends _ _ refl refl
+simple_ends halt y = plain_ends _ _ refl refl
 
 statement_ends : (t : Statement) (y : List Plain) → Ends (spell_statement t ++ y)
-statement_ends (single o) y = one_ends o y
+statement_ends (simple o) y = simple_ends o y
 
 block_ends : (b : Block) (y : List Plain) → Ends y → Ends (spell_block b ++ y)
 block_ends no_statements y h = h
 block_ends (statement t b) y h = let e : (spell_statement t ++ spell_block b) ++ y ≡ spell_statement t ++ (spell_block b ++ y) = append_assoc (spell_statement t) (spell_block b) y in rw e (statement_ends t (spell_block b ++ y))
 
 -- what begins a statement
-one_begins : (o : One) (y : List Plain) → begins (first (spell_one o ++ y)) ≡ true
-one_begins (assignment (lets true v e)) y = refl
-one_begins (assignment (lets false v e)) y = refl
-one_begins (assignment (adds e v)) y = refl
-one_begins (assignment (subtracts e v)) y = refl
-one_begins (report (prints n es p)) y = refl
-one_begins halt y = refl
+simple_begins : (o : Simple) (y : List Plain) → begins (first (spell_simple o ++ y)) ≡ true
+simple_begins (assignment (lets true v e)) y = refl
+simple_begins (assignment (lets false v e)) y = refl
+simple_begins (assignment (adds e v)) y = refl
+simple_begins (assignment (subtracts e v)) y = refl
+simple_begins (report (prints n es p)) y = refl
+simple_begins halt y = refl
 
 module _ (n : ℕ) where
   abbrev x : Reading Expr
@@ -131,22 +130,22 @@ module _ (n : ℕ) where
       ∙ then (expect (m.Reserved r.Thus)) _ tt t (picture p ∷ y) (expect_again (m.Reserved r.Thus) _)
       ∙ then a_picture _ p (picture p ∷ y) y (picture_again p y)
 
-  one_again : (o : One) (y : List Plain) → depth_one o ≤ n → Ends y → one_with x (spell_one o ++ y) ≡ (Ok o, y)
-  unfolding one_with look skip pure
-  one_again (assignment (lets true v e)) y le ends = then (an_assign x) _ (lets true v e) _ y (assign_again (lets true v e) y le ends)
-  one_again (assignment (lets false v e)) y le ends = then (an_assign x) _ (lets false v e) _ y (assign_again (lets false v e) y le ends)
-  one_again (assignment (adds e v)) y le ends = then (an_assign x) _ (adds e v) _ y (assign_again (adds e v) y le ends)
-  one_again (assignment (subtracts e v)) y le ends = then (an_assign x) _ (subtracts e v) _ y (assign_again (subtracts e v) y le ends)
-  one_again (report (prints k es p)) y le ends = then (print_with x) _ (prints k es p) _ y (print_again k es p y le)
-  one_again halt y le ends = refl
+  simple_again : (o : Simple) (y : List Plain) → depth_simple o ≤ n → Ends y → simple_with x (spell_simple o ++ y) ≡ (Ok o, y)
+  unfolding simple_with look skip pure
+  simple_again (assignment (lets true v e)) y le ends = then (an_assign x) _ (lets true v e) _ y (assign_again (lets true v e) y le ends)
+  simple_again (assignment (lets false v e)) y le ends = then (an_assign x) _ (lets false v e) _ y (assign_again (lets false v e) y le ends)
+  simple_again (assignment (adds e v)) y le ends = then (an_assign x) _ (adds e v) _ y (assign_again (adds e v) y le ends)
+  simple_again (assignment (subtracts e v)) y le ends = then (an_assign x) _ (subtracts e v) _ y (assign_again (subtracts e v) y le ends)
+  simple_again (report (prints k es p)) y le ends = then (print_with x) _ (prints k es p) _ y (print_again k es p y le)
+  simple_again halt y le ends = refl
 
   -- the reading of a statement by whether one begins
   abbrev statement_if : Bool → Reading (Option Statement)
-  statement_if b = elim b [ true ↦ bind (one_with x) (λ o. pure (Some (single o))) | false ↦ pure None ]
+  statement_if b = elim b [ true ↦ bind (simple_with x) (λ o. pure (Some (simple o))) | false ↦ pure None ]
 
   next_again : (t : Statement) (y : List Plain) → depth_statement t ≤ n → Ends y → next_statement x (spell_statement t ++ y) ≡ (Ok (Some t), y)
   unfolding next_statement look pure
-  next_again (single o) y le ends = ap (λ (b : Bool). statement_if b (spell_one o ++ y)) (one_begins o y) ∙ then (one_with x) _ o (spell_one o ++ y) y (one_again o y le ends)
+  next_again (simple o) y le ends = ap (λ (b : Bool). statement_if b (spell_simple o ++ y)) (simple_begins o y) ∙ then (simple_with x) _ o (spell_simple o ++ y) y (simple_again o y le ends)
 
   none_next : (y : List Plain) → begins (first y) ≡ false → next_statement x y ≡ (Ok None, y)
   unfolding next_statement look pure

@@ -1,5 +1,5 @@
 -- What a reading has counted where it stops: what is read closes each parenthesis that it opens, and a limit refuses the word that passes it.
-use Rattle.std.proofs.Common.{◌≡◌, ◌⊎◌, ℕ, zero, suc, ◌+◌, ◌≤◌, Bool, true, false, cond, List, [], ◌∷◌, ◌++◌, length, Option, Some, None, Result, Ok, Err, refl, sym, ap, subst, ◌∙◌, append_assoc, arith}
+use Rattle.std.proofs.Common.{◌≡◌, ◌⊎◌, ℕ, zero, suc, ◌+◌, ◌≤◌, Bool, true, false, List, [], ◌∷◌, ◌++◌, length, Option, Some, None, Result, Ok, Err, refl, sym, ap, subst, ◌∙◌, append_assoc, arith}
 use mathlib.Core.Logic.{inl, inr}
 use Rattle.ss_words.specs.declared.refusal.Refusal.{Refusal}
 use Rattle.ss_words.specs.declared.refusal.Refusal.TheVariants.{Unexpected, PastLimit, Memory}
@@ -12,11 +12,11 @@ use Rattle.ss_words.specs.Reading.{Read, Reading, goes_on, bind, pure, refuse, l
 use Rattle.ss_words.specs.Marks.{is, expect, eat, name_by, a_name, number_by, a_number, picture_by, a_picture}
 use Rattle.ss_words.proofs.Marks.{is_mark}
 use Rattle.ss_routines.specs.declared.expr.TermSign.{TermSign}
-use Rattle.ss_routines.specs.Expr.{Expr, expr, Sums, no_sums, sum, Term, term, no_products, product, Factor, digits, variable, within}
-use Rattle.ss_routines.specs.ExprReading.{sign_of, lead, factor_by, factor_with, next_product, products_with, term_with, next_sum, sums_with, expr_with, paren_with, expr_at, paren_at}
-use Rattle.ss_routines.specs.Places.{Reference, Assign, lets, adds, subtracts, prints}
-use Rattle.ss_routines.specs.Tree.{Block, no_statements, statement, Statement, single, One, assignment, report, halt, SectionTree, main, Tree}
-use Rattle.ss_routines.specs.SectionReading.{a_reference, begins, is_head, let_with, add_with, subtract_with, assign_by, an_assign, next_value, further_with, behind_first, values_with, print_with, one_by, one_with, next_statement, block_with, section_with, sections_with}
+use Rattle.ss_routines.specs.Expr.{Expr, expr, no_sums, sum, term, no_products, product, Factor, digits, variable, within}
+use Rattle.ss_routines.specs.ExprReading.{sign_of, lead, factor_by, factor_with, next_product, products_with, term_with, next_sum, sums_with, expr_with, paren_with, expr_at}
+use Rattle.ss_routines.specs.Places.{lets, adds, subtracts, prints}
+use Rattle.ss_routines.specs.Tree.{Block, no_statements, statement, simple, assignment, report, halt, SectionTree, main, Tree}
+use Rattle.ss_routines.specs.SectionReading.{a_reference, begins, is_head, let_with, add_with, subtract_with, assign_by, an_assign, next_value, further_with, behind_first, values_with, print_with, simple_by, simple_with, next_statement, block_with, section_with, sections_with}
 use Rattle.ss_routines.specs.Counts.{count, opens, closes, heads}
 
 pub count-append : (test : Plain → Bool) (xs ys : List Plain) → count test (xs ++ ys) ≡ count test xs + count test ys
@@ -313,19 +313,19 @@ module _ (n : ℕ) (x : Reading Expr) (h : Tally n x) where
   print_tally = bind_tally n _ (λ k. bind_tally n _ (λ u. bind_tally n _ (λ es. bind_tally n _ (λ v. bind_tally n _ (λ p. pure_tally n (prints k es p)) a_picture (picture_tally n))
       (expect (m.Reserved key.Thus)) (reserved key.Thus (plain_word _ refl refl refl))) (values_with x) values_tally) (expect (m.Reserved key.Lines)) (reserved key.Lines (plain_word _ refl refl refl))) a_number (number_tally n)
 
-  one_at : (w : Option Plain) → TallyAt n w (one_by x w)
+  one_at : (w : Option Plain) → TallyAt n w (simple_by x w)
   one_at (Some (mark (m.Reserved key.Print))) = skip_tally n (mark (m.Reserved key.Print)) _ (plain_word _ refl refl refl) (bind_tally n _ (λ o. pure_tally n (report o)) (print_with x) print_tally)
   one_at (Some (mark (m.Reserved key.Stop))) = skip_tally n (mark (m.Reserved key.Stop)) _ (plain_word _ refl refl refl) (pure_tally n halt)
   one_at _ = anywhere n _ _ (bind_tally n _ (λ a. pure_tally n (assignment a)) (an_assign x) assign_tally)
 
-  one_tally : Tally n (one_with x)
-  unfolding one_with
-  one_tally = look_tally n _ one_at
+  simple_tally : Tally n (simple_with x)
+  unfolding simple_with
+  simple_tally = look_tally n _ one_at
 
   next_tally : Tally n (next_statement x)
   unfolding next_statement
-  next_tally = look_tally n _ (λ w. anywhere n w _ (elim (begins w) as (λ b. Tally n (elim b [ true ↦ bind (one_with x) (λ o. pure (Some (single o))) | false ↦ pure None ])) [
-    | true ↦ bind_tally n _ (λ o. pure_tally n (Some (single o))) (one_with x) one_tally
+  next_tally = look_tally n _ (λ w. anywhere n w _ (elim (begins w) as (λ b. Tally n (elim b [ true ↦ bind (simple_with x) (λ o. pure (Some (simple o))) | false ↦ pure None ])) [
+    | true ↦ bind_tally n _ (λ o. pure_tally n (Some (simple o))) (simple_with x) simple_tally
     | false ↦ pure_tally n None
   ]))
 

@@ -1,16 +1,14 @@
 -- What words are answered with, computed by reading them.
-use Rattle.std.proofs.Common.{◌≡◌, ℕ, zero, suc, ◌+◌, ◌-◌, ◌≤◌, ◌<◌, List, [], ◌∷◌, length, Result, Ok, Err, refl, sym, ap, subst, ◌∙◌, arith}
-use Rattle.std.proofs.lemmas.List.{length-map}
+use Rattle.std.proofs.Common.{◌≡◌, ℕ, ◌-◌, List, [], ◌∷◌, length, Ok, Err, refl, arith}
 use Rattle.ss_words.specs.declared.fault.TextRule.TheVariants as rule
-use Rattle.ss_words.specs.declared.refusal.Refusal.{Refusal}
-use Rattle.ss_words.specs.declared.refusal.Refusal.TheVariants.{Unexpected, PastLimit, Memory}
+use Rattle.ss_words.specs.declared.refusal.Refusal.TheVariants.{Unexpected, PastLimit}
 use Rattle.ss_words.specs.Plain.{Plain, PlainAt, plains}
-use Rattle.ss_words.specs.Reading.{Read, whole}
+use Rattle.ss_words.specs.Reading.{whole}
 use Rattle.ss_words.specs.Noting.{line}
 use Rattle.ss_routines.specs.Places.{Section}
-use Rattle.ss_routines.specs.Tree.{Tree, spell}
+use Rattle.ss_routines.specs.Tree.{Tree}
 use Rattle.ss_routines.specs.Written.{written}
-use Rattle.ss_routines.specs.Refused.{lines, AreSections, IsRefused, IsUnexpectedWord, IsPastLimit}
+use Rattle.ss_routines.specs.Refused.{lines, AreSections, IsRefused}
 use Rattle.ss_routines.proofs.Whole.{reading, read_sections, unexpected_word, unexpected_end, past_limit}
 
 module _ (ws : List PlainAt) where

@@ -1,44 +1,41 @@
 -- Noting places while reading sections is reading the tree and writing it out.
-use Rattle.std.proofs.Common.{◌≡◌, ℕ, zero, suc, ◌+◌, ◌-◌, ◌≤◌, Bool, true, false, List, [], ◌∷◌, ◌++◌, length, Option, Some, None, Result, Ok, Err, refl, sym, ap, ◌∙◌, append_assoc, arith}
-use Rattle.std.specs.Prelude.{codes}
+use Rattle.std.proofs.Common.{ℕ, zero, suc, ◌+◌, true, false, List, [], ◌∷◌, ◌++◌, length, Option, Some, None, refl}
 use Rattle.ss_words.specs.declared.mark.Mark.TheVariants as m
 use Rattle.ss_words.specs.declared.reserved.Reserved.TheVariants as r
-use Rattle.ss_words.specs.declared.refusal.Refusal.TheVariants.{Unexpected, PastLimit}
-use Rattle.ss_words.specs.Plain.{Plain, name, number, mark, first}
-use Rattle.ss_words.specs.Reading.{Reading, bind, pure, refuse, look, skip, whole, ended}
+use Rattle.ss_words.specs.declared.refusal.Refusal.TheVariants.{PastLimit}
+use Rattle.ss_words.specs.Plain.{Plain, mark}
+use Rattle.ss_words.specs.Reading.{Reading, bind, pure, refuse, whole, ended}
 use Rattle.ss_words.specs.Marks.{expect}
-use Rattle.ss_words.specs.Noting.{Noting, here, line}
 use Rattle.ss_words.proofs.Laws.{Good, Any, fits_option}
-use Rattle.ss_words.proofs.Lays.{Lays, LaysAt, pure_lays, refuse_lays, here_lays, look_lays, skip_lays, all_lays, bind_lays, same_lays, map_lays, maps_lays, here_at, noted, many_lays}
+use Rattle.ss_words.proofs.Lays.{Lays, LaysAt, pure_lays, refuse_lays, here_lays, look_lays, skip_lays, all_lays, bind_lays, same_lays, maps_lays, here_at, noted, many_lays}
 use Rattle.ss_words.proofs.Marks.{spell_mark, expect_good}
 use Rattle.ss_words.proofs.Goal.{spell_ended, ended_good}
-use Rattle.ss_routines.specs.declared.section.SectionKind.TheVariants.{Main}
 use Rattle.ss_routines.specs.Expr.{Expr, spell_expr}
-use Rattle.ss_routines.specs.Places.{Assign, Output, stops, ends, Place, assign, output, control, Spot, Section}
-use Rattle.ss_routines.specs.Tree.{Block, no_statements, statement, Statement, single, One, assignment, report, halt, SectionTree, main, Tree, spell_block, spell_statement, spell_one, spell_section, spell}
-use Rattle.ss_routines.specs.SectionReading.{begins, is_head, an_assign, print_with, one_by, one_with, next_statement, block_with, section_with, sections_with}
-use Rattle.ss_routines.specs.Written.{spot, flat_block, flat_statement, flat_one, written_section, written_from, written}
-use Rattle.ss_routines.specs.Onto.{noted_at, one_onto_by, one_onto, next_onto, block_onto, section_onto, sections_onto}
+use Rattle.ss_routines.specs.Places.{stops, assign, output, control, Spot}
+use Rattle.ss_routines.specs.Tree.{no_statements, statement, simple, assignment, report, halt, main, spell_block, spell_statement, spell_simple, spell_section, spell}
+use Rattle.ss_routines.specs.SectionReading.{begins, is_head, an_assign, print_with, simple_by, simple_with, next_statement, block_with, section_with, sections_with}
+use Rattle.ss_routines.specs.Written.{spot, flat_block, flat_statement, flat_simple, written_section, written_from, written}
+use Rattle.ss_routines.specs.Onto.{simple_onto_by, simple_onto, next_onto, block_onto, section_onto, sections_onto}
 use Rattle.ss_routines.proofs.Sound.{FitsExpr}
-use Rattle.ss_routines.proofs.SoundSection.{FitsOne, FitsStatement, FitsBlock, FitsSection, FitsTree, one_good, next_good, block_good, section_good, sections_good}
+use Rattle.ss_routines.proofs.SoundSection.{FitsOne, FitsStatement, FitsBlock, FitsSection, FitsTree, simple_good, next_good, block_good, section_good, sections_good}
 
 module _ (lines : List ℕ) (n : ℕ) (x : Reading Expr) (ge : Good (FitsExpr n) spell_expr [] x) where
   abbrev words : ℕ
   words = length lines
 
-  one_at : (k : ℕ) (acc : List Spot) (w : Option Plain) → LaysAt words (λ o. acc ++ flat_one lines k o) k w (one_by x w) (one_onto_by lines x acc w)
-  one_at k acc (Some (mark (m.Reserved r.Print))) = here_at words _ k lines _ _ _ refl (skip_lays words _ k (mark (m.Reserved r.Print)) _ _ (maps_lays words (λ o. acc ++ flat_one lines k o) (k + 1) report (λ o. acc ++ spot lines k (output o) ∷ []) (λ o. refl) (print_with x)))
+  one_at : (k : ℕ) (acc : List Spot) (w : Option Plain) → LaysAt words (λ o. acc ++ flat_simple lines k o) k w (simple_by x w) (simple_onto_by lines x acc w)
+  one_at k acc (Some (mark (m.Reserved r.Print))) = here_at words _ k lines _ _ _ refl (skip_lays words _ k (mark (m.Reserved r.Print)) _ _ (maps_lays words (λ o. acc ++ flat_simple lines k o) (k + 1) report (λ o. acc ++ spot lines k (output o) ∷ []) (λ o. refl) (print_with x)))
   one_at k acc (Some (mark (m.Reserved r.Stop))) = here_at words _ k lines _ _ _ refl (skip_lays words _ k (mark (m.Reserved r.Stop)) _ _ (pure_lays words _ (k + 1) halt (acc ++ spot lines k (control stops) ∷ []) refl))
-  one_at k acc _ = here_at words _ k lines _ _ _ refl (all_lays words _ k _ _ _ (maps_lays words (λ o. acc ++ flat_one lines k o) k assignment (λ a. acc ++ spot lines k (assign a) ∷ []) (λ a. refl) (an_assign x)))
+  one_at k acc _ = here_at words _ k lines _ _ _ refl (all_lays words _ k _ _ _ (maps_lays words (λ o. acc ++ flat_simple lines k o) k assignment (λ a. acc ++ spot lines k (assign a) ∷ []) (λ a. refl) (an_assign x)))
 
-  one_lays : (k : ℕ) (acc : List Spot) → Lays words (λ o. acc ++ flat_one lines k o) k (one_with x) (one_onto lines x acc)
-  unfolding one_with one_onto
-  one_lays k acc = look_lays words _ k _ _ (one_at k acc)
+  simple_lays : (k : ℕ) (acc : List Spot) → Lays words (λ o. acc ++ flat_simple lines k o) k (simple_with x) (simple_onto lines x acc)
+  unfolding simple_with simple_onto
+  simple_lays k acc = look_lays words _ k _ _ (one_at k acc)
 
   next_lays : (k : ℕ) (acc : List Spot) → Lays words (noted (flat_statement lines k) acc) k (next_statement x) (next_onto lines x acc)
   unfolding next_statement next_onto
-  next_lays k acc = look_lays words _ k _ _ (λ w. all_lays words _ k w _ _ (elim (begins w) as (λ b. Lays words (noted (flat_statement lines k) acc) k (elim b [ true ↦ bind (one_with x) (λ o. pure (Some (single o))) | false ↦ pure None ]) (elim b [ true ↦ bind (one_onto lines x acc) (λ a. pure (true, a)) | false ↦ pure (false, acc) ])) [
-    | true ↦ bind_lays words (FitsOne n) spell_one (λ o. acc ++ flat_one lines k o) _ k _ _ (λ o. pure_lays words _ _ (Some (single o)) _ refl) (one_with x) _ (one_good n x ge) (one_lays k acc)
+  next_lays k acc = look_lays words _ k _ _ (λ w. all_lays words _ k w _ _ (elim (begins w) as (λ b. Lays words (noted (flat_statement lines k) acc) k (elim b [ true ↦ bind (simple_with x) (λ o. pure (Some (simple o))) | false ↦ pure None ]) (elim b [ true ↦ bind (simple_onto lines x acc) (λ a. pure (true, a)) | false ↦ pure (false, acc) ])) [
+    | true ↦ bind_lays words (FitsOne n) spell_simple (λ o. acc ++ flat_simple lines k o) _ k _ _ (λ o. pure_lays words _ _ (Some (simple o)) _ refl) (simple_with x) _ (simple_good n x ge) (simple_lays k acc)
     | false ↦ pure_lays words _ k None (false, acc) refl
   ]))
 

@@ -1,5 +1,5 @@
 -- The words that pass a limit, by counting; and that words have an answer.
-use Rattle.std.proofs.Common.{◌≡◌, ◌⊎◌, ℕ, zero, suc, ◌+◌, ◌-◌, ◌≤◌, ◌<◌, List, [], ◌∷◌, ◌++◌, length, length-append, take, drop, Option, Some, None, Result, Ok, Err, refl, sym, ap, subst, ◌∙◌, append_assoc, arith}
+use Rattle.std.proofs.Common.{◌≡◌, ◌⊎◌, ℕ, ◌+◌, ◌-◌, ◌≤◌, ◌<◌, List, [], ◌∷◌, ◌++◌, length, take, drop, Some, Result, Ok, Err, refl, sym, ap, subst, ◌∙◌, append_assoc, arith}
 use mathlib.Core.Logic.{inl, inr}
 use Rattle.std.proofs.lemmas.List.{append-nil, take-append-drop, take_at}
 use Rattle.std.proofs.Math.Seq.{take-add}
@@ -14,18 +14,17 @@ use Rattle.ss_words.specs.declared.fault.TextFault.TheVariants.{Refused}
 use Rattle.ss_words.specs.Plain.{Plain, PlainAt, mark, first, plains}
 use Rattle.ss_words.specs.Noting.{line}
 use Rattle.ss_words.specs.Reading.{Read, whole}
-use Rattle.ss_words.specs.Farthest.{IsFarthest}
 use Rattle.ss_words.proofs.Goal.{front_is, back_is}
 use Rattle.ss_routines.specs.Tree.{Tree, spell}
 use Rattle.ss_routines.specs.ExprReading.{expr_at}
 use Rattle.ss_routines.specs.Places.{Section}
 use Rattle.ss_routines.specs.Written.{written}
-use Rattle.ss_routines.specs.Refused.{Begins, BeginsWithin, PassesLimit, Answers, lines}
+use Rattle.ss_routines.specs.Refused.{BeginsWithin, PassesLimit, Answers, lines}
 use Rattle.ss_routines.specs.Laws.{IsDefinite, AlwaysAnswered}
 use Rattle.ss_routines.specs.Counts.{count, opens, closes, heads, IsTooDeep, IsTooMany, LimitIsCounted}
 use Rattle.ss_routines.proofs.Counted.{ProgramOut, expr_at-tally, whole_out, count-append}
 use Rattle.ss_routines.proofs.Whole.{reading, read_sections, rest_ended, farthest, stood, passes, within_less, unexpected_word, unexpected_end, past_limit, past_end}
-use Rattle.ss_routines.proofs.Unique.{no_more, not_past, same_limit, Order, less, equal, greater, order}
+use Rattle.ss_routines.proofs.Unique.{no_more, not_past, same_limit, less, equal, greater, order}
 
 abbrev Counts : List Plain → ℕ → Type 0
 Counts ws k = IsTooDeep ws k ⊎ IsTooMany ws k

@@ -1,17 +1,17 @@
 -- Reading an expression looks no further than the word at which it stops.
-use Rattle.std.proofs.Common.{◌≡◌, ℕ, zero, suc, ◌+◌, ◌≤◌, ◌<◌, Bool, true, false, List, [], ◌∷◌, ◌++◌, length, Option, Some, None, refl, arith}
+use Rattle.std.proofs.Common.{◌≡◌, ℕ, zero, suc, ◌<◌, true, false, [], Option, Some, None, arith}
 use Rattle.ss_words.specs.declared.mark.Mark.TheVariants as m
 use Rattle.ss_words.specs.declared.word.Sign.TheVariants as s
-use Rattle.ss_words.specs.declared.refusal.Refusal.TheVariants.{Unexpected, PastLimit}
-use Rattle.ss_words.specs.Plain.{Plain, name, number, mark, first}
-use Rattle.ss_words.specs.Reading.{Reading, bind, pure, refuse, look, skip}
+use Rattle.ss_words.specs.declared.refusal.Refusal.TheVariants.{PastLimit}
+use Rattle.ss_words.specs.Plain.{Plain, name, number, mark}
+use Rattle.ss_words.specs.Reading.{Reading, bind, pure, refuse, skip}
 use Rattle.ss_words.specs.Marks.{expect, eat}
 use Rattle.ss_words.proofs.Laws.{Good, fits_option}
 use Rattle.ss_words.proofs.Local.{Rooms, same, more, Local, LocalAt, anywhere, pure_local, refuse_local, shut_local, bind_local, look_local, skip_local, past_at, many_local}
 use Rattle.ss_words.proofs.Marks.{expect_local, eat_local, expect_shorter}
 use Rattle.ss_routines.specs.declared.expr.TermSign.{TermSign}
-use Rattle.ss_routines.specs.Expr.{Expr, expr, Sums, no_sums, sum, Term, term, Products, no_products, product, Factor, digits, variable, within, spell_factor}
-use Rattle.ss_routines.specs.ExprReading.{sign_of, lead, factor_by, factor_with, next_product, products_with, term_with, next_sum, sums_with, expr_with, paren_with, expr_at, paren_at}
+use Rattle.ss_routines.specs.Expr.{Expr, expr, no_sums, sum, term, no_products, product, Factor, digits, variable, within, spell_factor}
+use Rattle.ss_routines.specs.ExprReading.{sign_of, lead, factor_by, factor_with, next_product, products_with, term_with, next_sum, sums_with, expr_with, paren_with, expr_at}
 use Rattle.ss_routines.proofs.Sound.{FitsFactor, FitsSum, spell_next_product, spell_next_sum, next_product_good, next_sum_good, paren_at-good}
 
 pub lead_local : (rooms : Rooms) → Local rooms lead lead

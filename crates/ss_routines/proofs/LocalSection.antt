@@ -1,20 +1,20 @@
 -- Reading sections looks no further than the word at which it stops.
-use Rattle.std.proofs.Common.{◌≡◌, ℕ, zero, suc, ◌+◌, ◌≤◌, ◌<◌, Bool, true, false, List, [], ◌∷◌, ◌++◌, length, length-append, Option, Some, None, refl, arith}
+use Rattle.std.proofs.Common.{ℕ, zero, suc, ◌≤◌, ◌<◌, Bool, true, false, List, [], ◌∷◌, length, Option, Some, None, refl, arith}
 use Rattle.ss_words.specs.declared.mark.Mark.TheVariants as m
 use Rattle.ss_words.specs.declared.word.Sign.TheVariants as s
 use Rattle.ss_words.specs.declared.reserved.Reserved.TheVariants as r
-use Rattle.ss_words.specs.declared.refusal.Refusal.TheVariants.{Unexpected, PastLimit}
-use Rattle.ss_words.specs.Plain.{Plain, name, number, mark, picture, first}
-use Rattle.ss_words.specs.Reading.{Reading, bind, pure, refuse, look, skip}
+use Rattle.ss_words.specs.declared.refusal.Refusal.TheVariants.{PastLimit}
+use Rattle.ss_words.specs.Plain.{Plain, mark}
+use Rattle.ss_words.specs.Reading.{Reading, bind, pure, refuse, look}
 use Rattle.ss_words.specs.Marks.{expect, eat, a_name, a_number, a_picture}
 use Rattle.ss_words.proofs.Laws.{Good, fits_option}
-use Rattle.ss_words.proofs.Local.{Rooms, same, more, Local, LocalAt, anywhere, pure_local, refuse_local, shut_local, bind_local, shorter, look_local, skip_local, past_at, many_local}
+use Rattle.ss_words.proofs.Local.{Rooms, same, more, Local, LocalAt, anywhere, pure_local, shut_local, bind_local, shorter, look_local, skip_local, past_at, many_local}
 use Rattle.ss_words.proofs.Marks.{expect_local, eat_local, name_local, number_local, picture_local, expect_shorter}
 use Rattle.ss_routines.specs.Expr.{Expr, spell_expr}
 use Rattle.ss_routines.specs.ExprReading.{expr_at}
-use Rattle.ss_routines.specs.Places.{Reference, Assign, lets, adds, subtracts, Output, prints}
-use Rattle.ss_routines.specs.Tree.{Block, no_statements, statement, Statement, single, One, assignment, report, halt, SectionTree, main, Tree, spell_assign, spell_output, spell_one, spell_statement}
-use Rattle.ss_routines.specs.SectionReading.{a_reference, begins, is_head, let_with, add_with, subtract_with, assign_by, an_assign, next_value, further_with, behind_first, values_with, print_with, one_by, one_with, next_statement, block_with, section_with, sections_with, sections_at}
+use Rattle.ss_routines.specs.Places.{Assign, lets, adds, subtracts, prints}
+use Rattle.ss_routines.specs.Tree.{no_statements, statement, Statement, simple, Simple, assignment, report, halt, SectionTree, main, Tree, spell_assign, spell_simple, spell_statement}
+use Rattle.ss_routines.specs.SectionReading.{a_reference, begins, is_head, let_with, add_with, subtract_with, assign_by, an_assign, next_value, further_with, behind_first, values_with, print_with, simple_by, simple_with, next_statement, block_with, section_with, sections_with, sections_at}
 use Rattle.ss_routines.proofs.Sound.{FitsExpr, expr_at-good}
 use Rattle.ss_routines.proofs.LocalExpr.{Wider, expr_at-local}
 use Rattle.ss_routines.proofs.SoundSection.{FitsStatement, spell_next_value, next_value_good, next_good}
@@ -25,13 +25,13 @@ some_assign (lets false v e) = omega arith
 some_assign (adds e v) = omega arith
 some_assign (subtracts e v) = omega arith
 
-some_one : (o : One) → 0 < length (spell_one o)
+some_one : (o : Simple) → 0 < length (spell_simple o)
 some_one (assignment a) = some_assign a
 some_one (report (prints n es p)) = omega arith
 some_one halt = omega arith
 
 pub some_statement : (t : Statement) → 0 < length (spell_statement t)
-some_statement (single o) = some_one o
+some_statement (simple o) = some_one o
 
 reference_local : (rooms : Rooms) → Local rooms a_reference a_reference
 unfolding a_reference
@@ -77,19 +77,19 @@ module _ (rooms : Rooms) (n : ℕ) (x x' : Reading Expr) (ge : Good (FitsExpr n)
   print_local = bind_local rooms _ _ (λ k. bind_local rooms _ _ (λ u. bind_local rooms _ _ (λ es. bind_local rooms _ _ (λ v. bind_local rooms _ _ (λ p. pure_local rooms (prints k es p)) a_picture a_picture (picture_local rooms))
       (expect (m.Reserved r.Thus)) (expect (m.Reserved r.Thus)) (expect_local rooms (m.Reserved r.Thus))) (values_with x') (values_with x) values_local) (expect (m.Reserved r.Lines)) (expect (m.Reserved r.Lines)) (expect_local rooms (m.Reserved r.Lines))) a_number a_number (number_local rooms)
 
-  one_at : (w : Option Plain) → LocalAt rooms w (one_by x w) (one_by x' w)
+  one_at : (w : Option Plain) → LocalAt rooms w (simple_by x w) (simple_by x' w)
   one_at (Some (mark (m.Reserved r.Print))) = skip_local rooms (mark (m.Reserved r.Print)) _ _ (bind_local rooms _ _ (λ o. pure_local rooms (report o)) (print_with x') (print_with x) print_local)
   one_at (Some (mark (m.Reserved r.Stop))) = skip_local rooms (mark (m.Reserved r.Stop)) _ _ (pure_local rooms halt)
   one_at _ = anywhere rooms _ _ _ (bind_local rooms _ _ (λ a. pure_local rooms (assignment a)) (an_assign x') (an_assign x) assign_local)
 
-  one_local : Local rooms (one_with x) (one_with x')
-  unfolding one_with
-  one_local = look_local rooms _ _ one_at
+  simple_local : Local rooms (simple_with x) (simple_with x')
+  unfolding simple_with
+  simple_local = look_local rooms _ _ one_at
 
   next_local : Local rooms (next_statement x) (next_statement x')
   unfolding next_statement
-  next_local = look_local rooms _ _ (λ w. anywhere rooms w _ _ (elim (begins w) as (λ b. Local rooms (elim b [ true ↦ bind (one_with x) (λ o. pure (Some (single o))) | false ↦ pure None ]) (elim b [ true ↦ bind (one_with x') (λ o. pure (Some (single o))) | false ↦ pure None ])) [
-    | true ↦ bind_local rooms _ _ (λ o. pure_local rooms (Some (single o))) (one_with x') (one_with x) one_local
+  next_local = look_local rooms _ _ (λ w. anywhere rooms w _ _ (elim (begins w) as (λ b. Local rooms (elim b [ true ↦ bind (simple_with x) (λ o. pure (Some (simple o))) | false ↦ pure None ]) (elim b [ true ↦ bind (simple_with x') (λ o. pure (Some (simple o))) | false ↦ pure None ])) [
+    | true ↦ bind_local rooms _ _ (λ o. pure_local rooms (Some (simple o))) (simple_with x') (simple_with x) simple_local
     | false ↦ pure_local rooms None
   ]))
 

@@ -1,9 +1,8 @@
 -- What is read between parentheses, by how many more may be open.
-use Rattle.std.proofs.Common.{◌≡◌, ◌≢◌, ℕ, zero, suc, ◌-◌, refl, sym, ap, ◌∙◌, arith}
+use Rattle.std.proofs.Common.{◌≡◌, ◌≢◌, ℕ, suc, ◌-◌, refl, ap, arith}
 use Rattle.ss_words.specs.declared.refusal.Refusal.TheVariants.{PastLimit}
-use Rattle.ss_words.specs.Reading.{Reading, refuse}
-use Rattle.ss_routines.specs.Expr.{Factor}
-use Rattle.ss_routines.specs.ExprReading.{expr_with, paren_with, expr_at, paren_at}
+use Rattle.ss_words.specs.Reading.{refuse}
+use Rattle.ss_routines.specs.ExprReading.{expr_with, paren_with, paren_at}
 use Rattle.ss_routines.specs.AgainExpr.{expr_at-is}
 
 pub paren_shut : (n : ℕ) → n ≡ 0 → paren_at n ≡ refuse PastLimit

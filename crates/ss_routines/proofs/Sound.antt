@@ -1,16 +1,16 @@
 -- An expression that is read is spelled so and keeps the limit, and where reading fails some expression's spelling begins so.
-use Rattle.std.proofs.Common.{◌≡◌, ℕ, zero, suc, ◌≤◌, Bool, true, false, List, [], ◌∷◌, ◌++◌, Option, Some, None, Result, Ok, Err, refl, sym, ap, ◌∙◌, append_assoc, arith}
+use Rattle.std.proofs.Common.{ℕ, zero, suc, ◌≤◌, true, false, List, [], ◌∷◌, ◌++◌, Option, Some, None, refl, arith}
 use Rattle.ss_words.specs.declared.mark.Mark.TheVariants as m
 use Rattle.ss_words.specs.declared.word.Sign.TheVariants as s
 use Rattle.ss_words.specs.declared.refusal.Refusal.TheVariants.{Unexpected, PastLimit}
-use Rattle.ss_words.specs.Plain.{Plain, name, number, mark, first}
-use Rattle.ss_words.specs.Reading.{Reading, bind, pure, refuse, look, skip}
+use Rattle.ss_words.specs.Plain.{Plain, name, number, mark}
+use Rattle.ss_words.specs.Reading.{Reading, pure, refuse, look, skip}
 use Rattle.ss_words.specs.Marks.{expect, eat}
 use Rattle.ss_words.proofs.Laws.{IsRead, Good, GoodAt, Any, fits_option, pure_good, refuse_good, bind_good, look_good, skip_good, good_at, many_read, spell_option}
 use Rattle.ss_words.proofs.Marks.{spell_mark, spell_eaten, expect_good, eat_good}
 use Rattle.ss_routines.specs.declared.expr.TermSign.{TermSign}
 use Rattle.ss_routines.specs.Expr.{Expr, expr, Sums, no_sums, sum, Term, term, Products, no_products, product, Factor, digits, variable, within, sign, spell_lead, spell_expr, spell_sums, spell_term, spell_products, spell_factor, depth_expr, depth_sums, depth_term, depth_products, depth_factor}
-use Rattle.ss_routines.specs.ExprReading.{sign_of, lead, factor_by, factor_with, next_product, products_with, term_with, next_sum, sums_with, expr_with, paren_with, expr_at, paren_at}
+use Rattle.ss_routines.specs.ExprReading.{lead, factor_by, factor_with, next_product, products_with, term_with, next_sum, sums_with, expr_with, paren_with, expr_at, paren_at}
 
 pub lead_good : Good Any spell_lead [] lead
 unfolding lead look skip pure

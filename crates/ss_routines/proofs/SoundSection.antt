@@ -1,20 +1,19 @@
 -- Statements and sections that are read are spelled so and keep the limits, and where reading fails some program's spelling begins so.
-use Rattle.std.proofs.Common.{◌≡◌, ℕ, zero, suc, ◌≤◌, Bool, true, false, List, [], ◌∷◌, ◌++◌, length, Option, Some, None, Result, Ok, Err, refl, sym, ap, ◌∙◌, append_assoc, arith}
-use Rattle.std.proofs.lemmas.List.{append-nil}
+use Rattle.std.proofs.Common.{ℕ, zero, suc, ◌≤◌, Bool, true, false, List, [], ◌∷◌, ◌++◌, length, Option, Some, None, refl, append_assoc, arith}
 use Rattle.ss_words.specs.declared.mark.Mark.TheVariants as m
 use Rattle.ss_words.specs.declared.word.Sign.TheVariants as s
 use Rattle.ss_words.specs.declared.reserved.Reserved.TheVariants as r
-use Rattle.ss_words.specs.declared.refusal.Refusal.TheVariants.{Unexpected, PastLimit}
-use Rattle.ss_words.specs.Plain.{Plain, name, number, mark, picture, first}
-use Rattle.ss_words.specs.Reading.{Reading, bind, pure, refuse, look, skip}
+use Rattle.ss_words.specs.declared.refusal.Refusal.TheVariants.{PastLimit}
+use Rattle.ss_words.specs.Plain.{Plain, number, mark}
+use Rattle.ss_words.specs.Reading.{Reading, bind, pure, refuse}
 use Rattle.ss_words.specs.Marks.{expect, eat, a_name, a_number, a_picture}
-use Rattle.ss_words.proofs.Laws.{IsRead, Good, GoodAt, Any, fits_option, pure_good, refuse_good, bind_good, then_good, look_good, skip_good, good_at, many_read, spell_option}
+use Rattle.ss_words.proofs.Laws.{Good, GoodAt, Any, fits_option, pure_good, refuse_good, bind_good, then_good, look_good, skip_good, good_at, many_read, spell_option}
 use Rattle.ss_words.proofs.Marks.{spell_mark, spell_eaten, spell_name, spell_number, spell_picture, expect_good, eat_good, name_good, number_good, picture_good}
-use Rattle.ss_routines.specs.Expr.{Expr, expr, no_sums, term, no_products, digits, spell_expr, depth_expr}
+use Rattle.ss_routines.specs.Expr.{Expr, expr, no_sums, term, no_products, digits, spell_expr}
 use Rattle.ss_routines.specs.ExprReading.{expr_at}
-use Rattle.ss_routines.specs.Places.{Reference, Assign, lets, adds, subtracts, Output, prints}
-use Rattle.ss_routines.specs.Tree.{Block, no_statements, statement, Statement, single, One, assignment, report, halt, SectionTree, main, Tree, spell_reference, spell_let, spell_assign, spell_further, spell_values, spell_output, spell_block, spell_statement, spell_one, spell_section, spell, depth_assign, depth_values, depth_output, depth_block, depth_statement, depth_one, depth_section, depth}
-use Rattle.ss_routines.specs.SectionReading.{a_reference, begins, is_head, let_with, add_with, subtract_with, assign_by, an_assign, next_value, further_with, behind_first, values_with, print_with, one_by, one_with, next_statement, block_with, section_with, sections_with, sections_at}
+use Rattle.ss_routines.specs.Places.{Assign, lets, adds, subtracts, Output, prints}
+use Rattle.ss_routines.specs.Tree.{Block, no_statements, statement, Statement, simple, Simple, assignment, report, halt, SectionTree, main, Tree, spell_reference, spell_let, spell_assign, spell_further, spell_values, spell_output, spell_block, spell_statement, spell_simple, spell_section, spell, depth_assign, depth_values, depth_output, depth_block, depth_statement, depth_simple, depth_section, depth}
+use Rattle.ss_routines.specs.SectionReading.{a_reference, begins, is_head, let_with, add_with, subtract_with, assign_by, an_assign, next_value, further_with, behind_first, values_with, print_with, simple_by, simple_with, next_statement, block_with, section_with, sections_with, sections_at}
 use Rattle.ss_routines.proofs.Sound.{FitsExpr, expr_at-good}
 
 pub reference_good : Good Any spell_reference [] a_reference
@@ -41,8 +40,8 @@ module _ (n : ℕ) where
   abbrev pub FitsOutput : Output → Type 0
   FitsOutput o = depth_output o ≤ n
 
-  abbrev pub FitsOne : One → Type 0
-  FitsOne o = depth_one o ≤ n
+  abbrev pub FitsOne : Simple → Type 0
+  FitsOne o = depth_simple o ≤ n
 
   abbrev pub FitsStatement : Statement → Type 0
   FitsStatement t = depth_statement t ≤ n
@@ -113,18 +112,18 @@ module _ (n : ℕ) where
         bind_good Any FitsOutput spell_picture spell_output (front k ++ (spell_values es ++ mark (m.Reserved r.Thus) ∷ [])) _ (λ p w. pure_good FitsOutput spell_output _ (prints k es p) h (simp append_assoc refl)) a_picture picture_good)
         (expect (m.Reserved r.Thus)) (expect_good (m.Reserved r.Thus))) (values_with x) values_good) (expect (m.Reserved r.Lines)) (expect_good (m.Reserved r.Lines))) a_number number_good
 
-    one_at : (w : Option Plain) → GoodAt FitsOne spell_one [] w (one_by x w)
-    one_at (Some (mark (m.Reserved r.Print))) = skip_good FitsOne spell_one [] (mark (m.Reserved r.Print)) _ (then_good FitsOutput FitsOne spell_output spell_one (mark (m.Reserved r.Print) ∷ []) _ (λ o h. pure_good FitsOne spell_one _ (report o) h refl) (print_with x) print_good)
-    one_at (Some (mark (m.Reserved r.Stop))) = skip_good FitsOne spell_one [] (mark (m.Reserved r.Stop)) _ (pure_good FitsOne spell_one _ halt (omega arith) refl)
-    one_at _ = good_at FitsOne spell_one [] _ _ (bind_good FitsAssign FitsOne spell_assign spell_one [] _ (λ a h. pure_good FitsOne spell_one _ (assignment a) h refl) (an_assign x) assign_good)
+    one_at : (w : Option Plain) → GoodAt FitsOne spell_simple [] w (simple_by x w)
+    one_at (Some (mark (m.Reserved r.Print))) = skip_good FitsOne spell_simple [] (mark (m.Reserved r.Print)) _ (then_good FitsOutput FitsOne spell_output spell_simple (mark (m.Reserved r.Print) ∷ []) _ (λ o h. pure_good FitsOne spell_simple _ (report o) h refl) (print_with x) print_good)
+    one_at (Some (mark (m.Reserved r.Stop))) = skip_good FitsOne spell_simple [] (mark (m.Reserved r.Stop)) _ (pure_good FitsOne spell_simple _ halt (omega arith) refl)
+    one_at _ = good_at FitsOne spell_simple [] _ _ (bind_good FitsAssign FitsOne spell_assign spell_simple [] _ (λ a h. pure_good FitsOne spell_simple _ (assignment a) h refl) (an_assign x) assign_good)
 
-    pub one_good : Good FitsOne spell_one [] (one_with x)
-    unfolding one_with
-    one_good = look_good FitsOne spell_one [] _ halt (omega arith) _ refl one_at
+    pub simple_good : Good FitsOne spell_simple [] (simple_with x)
+    unfolding simple_with
+    simple_good = look_good FitsOne spell_simple [] _ halt (omega arith) _ refl one_at
 
-    statement_at : (w : Option Plain) → GoodAt (fits_option FitsStatement) (spell_option spell_statement) [] w (elim (begins w) [ true ↦ bind (one_with x) (λ o. pure (Some (single o))) | false ↦ pure None ])
-    statement_at w = good_at _ _ [] w _ (elim (begins w) as (λ b. Good (fits_option FitsStatement) (spell_option spell_statement) [] (elim b [ true ↦ bind (one_with x) (λ o. pure (Some (single o))) | false ↦ pure None ])) [
-      | true ↦ bind_good FitsOne (fits_option FitsStatement) spell_one (spell_option spell_statement) [] _ (λ o h. pure_good _ _ _ (Some (single o)) h refl) (one_with x) one_good
+    statement_at : (w : Option Plain) → GoodAt (fits_option FitsStatement) (spell_option spell_statement) [] w (elim (begins w) [ true ↦ bind (simple_with x) (λ o. pure (Some (simple o))) | false ↦ pure None ])
+    statement_at w = good_at _ _ [] w _ (elim (begins w) as (λ b. Good (fits_option FitsStatement) (spell_option spell_statement) [] (elim b [ true ↦ bind (simple_with x) (λ o. pure (Some (simple o))) | false ↦ pure None ])) [
+      | true ↦ bind_good FitsOne (fits_option FitsStatement) spell_simple (spell_option spell_statement) [] _ (λ o h. pure_good _ _ _ (Some (simple o)) h refl) (simple_with x) simple_good
       | false ↦ pure_good _ _ _ None tt refl
     ])
 

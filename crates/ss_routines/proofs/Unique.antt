@@ -1,5 +1,5 @@
 -- One spelling, one answer.
-use Rattle.std.proofs.Common.{◌≡◌, ◌⊎◌, ℕ, zero, suc, max, ◌+◌, ◌-◌, ◌≤◌, ◌<◌, List, [], ◌∷◌, ◌++◌, length, length-append, take, drop, Option, Some, None, Result, Ok, Err, refl, sym, ap, subst, ◌∙◌, append_assoc, arith}
+use Rattle.std.proofs.Common.{◌≡◌, ◌⊎◌, ℕ, zero, suc, max, ◌+◌, ◌-◌, ◌≤◌, ◌<◌, List, [], ◌∷◌, ◌++◌, length, length-append, take, drop, Result, Ok, Err, refl, sym, ap, subst, ◌∙◌, append_assoc, arith}
 use mathlib.Core.Logic.{inl, inr}
 use Rattle.std.proofs.lemmas.List.{length-map, take-append-drop}
 use Rattle.std.proofs.Math.Seq.{take-add}
@@ -16,8 +16,8 @@ use Rattle.ss_routines.specs.Places.{Section}
 use Rattle.ss_routines.specs.Tree.{Tree, spell, depth}
 use Rattle.ss_routines.specs.SectionReading.{sections_at}
 use Rattle.ss_routines.specs.Written.{written}
-use Rattle.ss_routines.specs.Refused.{lines, IsWithin, Begins, BeginsWithin, PassesLimit, IsUnexpectedWord, IsUnexpectedEnd, IsPastLimit, IsRefused, AreSections, IsFault, Answers}
-use Rattle.ss_routines.specs.Laws.{SpellingIsUnique, IsDefinite, AnswerIsUnique, LimitsLetPass, LimitsHold, LimitsRefuse}
+use Rattle.ss_routines.specs.Refused.{lines, IsWithin, Begins, BeginsWithin, PassesLimit, IsUnexpectedWord, IsUnexpectedEnd, IsPastLimit, IsRefused, AreSections}
+use Rattle.ss_routines.specs.Laws.{SpellingIsUnique, AnswerIsUnique, LimitsLetPass, LimitsHold, LimitsRefuse}
 use Rattle.ss_routines.proofs.AgainSection.{sections_at-again}
 use Rattle.ss_routines.proofs.Whole.{within_less}
 

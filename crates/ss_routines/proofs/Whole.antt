@@ -1,16 +1,16 @@
 -- What the words of a text are answered with, by the laws of the reading.
-use Rattle.std.proofs.Common.{◌≡◌, ◌≢◌, ℕ, zero, suc, ◌+◌, ◌-◌, ◌≤◌, ◌<◌, List, [], ◌∷◌, ◌++◌, length, length-append, take, drop, Option, Some, None, Result, Ok, Err, refl, sym, ap, subst, ◌∙◌, append_assoc, arith}
+use Rattle.std.proofs.Common.{◌≡◌, ℕ, ◌+◌, ◌-◌, ◌≤◌, ◌<◌, List, [], ◌∷◌, ◌++◌, length, length-append, take, drop, Option, Some, None, Result, Ok, Err, refl, sym, ap, subst, ◌∙◌, append_assoc, arith}
 use Rattle.std.specs.Prelude.{map}
 use Rattle.std.proofs.lemmas.List.{append-nil, length-map, take_at, drop_at}
 use Rattle.std.proofs.Math.Seq.{take-add}
 use Rattle.ss_words.specs.declared.refusal.Refusal.{Refusal}
-use Rattle.ss_words.specs.declared.refusal.Refusal.TheVariants.{Unexpected, PastLimit, Memory}
+use Rattle.ss_words.specs.declared.refusal.Refusal.TheVariants.{Unexpected, PastLimit}
 use Rattle.ss_words.specs.declared.fault.TextRule.TheVariants as Rule
 use Rattle.ss_words.specs.declared.fault.TextRule.TheVariants.{UnexpectedWord, UnexpectedEnd}
 use Rattle.ss_words.specs.declared.mark.Mark.TheVariants as m
 use Rattle.ss_words.specs.declared.reserved.Reserved.TheVariants as r
 use Rattle.ss_words.specs.declared.plain_word.PlainWord.{PlainWord}
-use Rattle.ss_words.specs.Plain.{Plain, PlainAt, mark, first, plains, plain_at}
+use Rattle.ss_words.specs.Plain.{Plain, mark, first, plains, plain_at}
 use Rattle.ss_words.specs.Reading.{Read, Reading, whole, word_of, words_of, lines_of}
 use Rattle.ss_words.specs.Noting.{line}
 use Rattle.ss_words.specs.Farthest.{IsFarthest}
@@ -18,10 +18,9 @@ use Rattle.ss_words.proofs.Laws.{Good}
 use Rattle.ss_words.proofs.Local.{same, more, IsLimited, Local}
 use Rattle.ss_words.proofs.Loop.{on_ok}
 use Rattle.ss_words.proofs.Goal as goal
-use Rattle.ss_routines.specs.Expr.{Expr}
 use Rattle.ss_routines.specs.ExprReading.{expr_at}
 use Rattle.ss_routines.specs.Places.{Section}
-use Rattle.ss_routines.specs.Tree.{Block, SectionTree, main, Tree, spell_block, spell_section, spell, depth}
+use Rattle.ss_routines.specs.Tree.{SectionTree, main, Tree, spell_block, spell_section, spell, depth}
 use Rattle.ss_routines.specs.SectionReading.{sections_at}
 use Rattle.ss_routines.specs.Onto.{sections_onto}
 use Rattle.ss_routines.specs.Written.{written}

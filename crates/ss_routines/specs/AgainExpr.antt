@@ -1,16 +1,16 @@
 -- An expression that is spelled is read again, whatever follows it that doesn't go on.
-use Rattle.std.proofs.Common.{◌≡◌, ℕ, zero, suc, max, ◌+◌, ◌≤◌, ◌<◌, Bool, true, false, List, [], ◌∷◌, ◌++◌, length, length-append, Option, Some, None, Result, Ok, Err, refl, sym, ap, ◌∙◌, append_assoc, arith}
+use Rattle.std.proofs.Common.{◌≡◌, ℕ, zero, suc, ◌≤◌, ◌<◌, true, false, List, [], ◌∷◌, ◌++◌, length, length-append, Option, Some, None, Ok, refl, ap, ◌∙◌, append_assoc, arith}
 use Rattle.ss_words.specs.declared.mark.Mark.TheVariants as m
 use Rattle.ss_words.specs.declared.word.Sign.TheVariants as s
-use Rattle.ss_words.specs.Plain.{Plain, name, number, mark, first}
-use Rattle.ss_words.specs.Reading.{Reading, Read, goes_on, bind, pure, refuse, look, skip, many_from, many}
+use Rattle.ss_words.specs.Plain.{Plain, mark, first}
+use Rattle.ss_words.specs.Reading.{Reading, pure, look, skip, many_from, many}
 use Rattle.ss_words.specs.Marks.{is, expect, eat}
 use Rattle.ss_words.proofs.Marks.{expect_again, eat_again, not_eaten}
 use Rattle.ss_words.proofs.Again.{then, many_ends, many_goes}
 use Rattle.ss_routines.specs.declared.expr.TermSign.{TermSign}
 use Rattle.ss_routines.specs.declared.expr.TermSign.TheVariants.{Plus, Minus}
 use Rattle.ss_routines.specs.Expr.{Expr, expr, Sums, no_sums, sum, Term, term, Products, no_products, product, Factor, digits, variable, within, sign, spell_lead, spell_expr, spell_sums, spell_term, spell_products, spell_factor, depth_expr, depth_sums, depth_term, depth_products, depth_factor}
-use Rattle.ss_routines.specs.ExprReading.{sign_of, lead, factor_by, factor_with, next_product, products_with, term_with, next_sum, sums_with, expr_with, paren_with, expr_at, paren_at}
+use Rattle.ss_routines.specs.ExprReading.{sign_of, lead, factor_with, next_product, products_with, term_with, next_sum, sums_with, expr_with, paren_with, expr_at, paren_at}
 
 -- a text that goes on with no part of a term or an expression
 pub record Ends (y : List Plain) : Type 0 where

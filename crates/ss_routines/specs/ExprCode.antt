@@ -1,6 +1,6 @@
 -- How the logic stores the tree of an expression: by its plain words and how deep its parentheses nest, from which it is read again.
-use Rattle.std.specs.Prelude.{◌≡◌, ℕ, List, [], Option, None, Result, Ok, Err}
-use Rattle.std.proofs.Common.{◌++◌, refl, sym, ap, ◌∙◌, arith}
+use Rattle.std.specs.Prelude.{◌≡◌, ℕ, List, [], None, Result, Ok, Err}
+use Rattle.std.proofs.Common.{refl, sym, ap, ◌∙◌, arith}
 use Rattle.std.proofs.lemmas.List.{append-nil}
 use Rattle.std.specs.Coded.{Coded, code_by, coded×, coded_ℕ, coded_list}
 use Rattle.ss_words.specs.declared.refusal.Refusal.{Refusal}

@@ -1,9 +1,9 @@
 -- Reading statements and noting their places behind those that were noted before.
-use Rattle.std.specs.Prelude.{ℕ, zero, suc, Bool, true, false, List, [], ◌∷◌, ◌++◌, Option, Some, None, codes}
+use Rattle.std.specs.Prelude.{ℕ, zero, suc, Bool, true, false, List, [], ◌∷◌, ◌++◌, Option, Some, codes}
 use Rattle.ss_words.specs.declared.mark.Mark.TheVariants as m
 use Rattle.ss_words.specs.declared.reserved.Reserved.TheVariants as r
 use Rattle.ss_words.specs.declared.refusal.Refusal.TheVariants.{PastLimit}
-use Rattle.ss_words.specs.Plain.{Plain, name, number, mark}
+use Rattle.ss_words.specs.Plain.{Plain, mark}
 use Rattle.ss_words.specs.Reading.{Reading, ◌>>=◌, pure, refuse, look, skip}
 use Rattle.ss_words.specs.Marks.{expect}
 use Rattle.ss_words.specs.Noting.{Noting, repeat, here}
@@ -17,16 +17,16 @@ noted_at l p = record { line = l; place = p }
 
 -- lines: of each word of the text
 module _ (lines : List ℕ) (an_expr : Reading Expr) where
-  abbrev pub one_onto_by : List Spot → Option Plain → Reading (List Spot)
-  one_onto_by acc (Some (mark (m.Reserved r.Print))) = here lines (λ l. skip (print_with an_expr >>= λ o. pure (acc ++ noted_at l (output o) ∷ [])))
-  one_onto_by acc (Some (mark (m.Reserved r.Stop))) = here lines (λ l. skip (pure (acc ++ noted_at l (control stops) ∷ [])))
-  one_onto_by acc _ = here lines (λ l. an_assign an_expr >>= λ a. pure (acc ++ noted_at l (assign a) ∷ []))
+  abbrev pub simple_onto_by : List Spot → Option Plain → Reading (List Spot)
+  simple_onto_by acc (Some (mark (m.Reserved r.Print))) = here lines (λ l. skip (print_with an_expr >>= λ o. pure (acc ++ noted_at l (output o) ∷ [])))
+  simple_onto_by acc (Some (mark (m.Reserved r.Stop))) = here lines (λ l. skip (pure (acc ++ noted_at l (control stops) ∷ [])))
+  simple_onto_by acc _ = here lines (λ l. an_assign an_expr >>= λ a. pure (acc ++ noted_at l (assign a) ∷ []))
 
-  unfoldable pub one_onto : Noting Spot
-  one_onto acc = look (one_onto_by acc)
+  unfoldable pub simple_onto : Noting Spot
+  simple_onto acc = look (simple_onto_by acc)
 
   unfoldable pub next_onto : List Spot → Reading (Bool × List Spot)
-  next_onto acc = look (λ w. elim (begins w) [ true ↦ (one_onto acc >>= λ a. pure (true, a)) | false ↦ pure (false, acc) ])
+  next_onto acc = look (λ w. elim (begins w) [ true ↦ (simple_onto acc >>= λ a. pure (true, a)) | false ↦ pure (false, acc) ])
 
   unfoldable pub block_onto : Noting Spot
   block_onto acc = repeat next_onto acc

@@ -1,7 +1,6 @@
 -- What stands in a list of plain words: the sections of a program, or the word at which it is refused.
-use Rattle.std.specs.Prelude.{◌≡◌, ◌≤◌, ◌<◌, ℕ, ◌+◌, ◌-◌, List, ◌++◌, length, take, map, Result, Ok, Err}
+use Rattle.std.specs.Prelude.{◌≡◌, ◌≤◌, ◌<◌, ℕ, ◌+◌, ◌-◌, List, ◌++◌, length, take, map, leb, Result, Ok, Err}
 use Rattle.std.specs.List.{filter}
-use Rattle.std.specs.Prelude.{leb}
 use Rattle.ss_words.specs.declared.fault.TextRule.{TextRule}
 use Rattle.ss_words.specs.declared.fault.TextRule.TheVariants.{UnexpectedWord, UnexpectedEnd, PastLimit}
 use Rattle.ss_words.specs.declared.fault.TextFault.{TextFault}

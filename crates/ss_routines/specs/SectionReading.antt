@@ -4,13 +4,13 @@ use Rattle.ss_words.specs.declared.mark.Mark.TheVariants as m
 use Rattle.ss_words.specs.declared.word.Sign.TheVariants as s
 use Rattle.ss_words.specs.declared.reserved.Reserved.TheVariants as r
 use Rattle.ss_words.specs.declared.refusal.Refusal.TheVariants.{PastLimit}
-use Rattle.ss_words.specs.Plain.{Plain, name, number, mark}
+use Rattle.ss_words.specs.Plain.{Plain, name, mark}
 use Rattle.ss_words.specs.Reading.{Reading, ◌>>=◌, pure, refuse, look, skip, many}
 use Rattle.ss_words.specs.Marks.{expect, eat, a_name, a_number, a_picture}
 use Rattle.ss_routines.specs.Expr.{Expr}
 use Rattle.ss_routines.specs.ExprReading.{expr_at}
 use Rattle.ss_routines.specs.Places.{Reference, Assign, lets, adds, subtracts, Output, prints}
-use Rattle.ss_routines.specs.Tree.{Block, no_statements, statement, Statement, single, One, assignment, report, halt, SectionTree, main, Tree}
+use Rattle.ss_routines.specs.Tree.{Block, no_statements, statement, Statement, simple, Simple, assignment, report, halt, SectionTree, main, Tree}
 
 unfoldable pub a_reference : Reading Reference
 a_reference = a_name >>= λ n. pure (record { name = n })
@@ -67,17 +67,17 @@ module _ (an_expr : Reading Expr) where
   unfoldable pub print_with : Reading Output
   print_with = a_number >>= λ n. expect (m.Reserved r.Lines) >>= λ _. values_with >>= λ es. expect (m.Reserved r.Thus) >>= λ _. a_picture >>= λ p. pure (prints n es p)
 
-  abbrev pub one_by : Option Plain → Reading One
-  one_by (Some (mark (m.Reserved r.Print))) = skip (print_with >>= λ o. pure (report o))
-  one_by (Some (mark (m.Reserved r.Stop))) = skip (pure halt)
-  one_by _ = an_assign >>= λ a. pure (assignment a)
+  abbrev pub simple_by : Option Plain → Reading Simple
+  simple_by (Some (mark (m.Reserved r.Print))) = skip (print_with >>= λ o. pure (report o))
+  simple_by (Some (mark (m.Reserved r.Stop))) = skip (pure halt)
+  simple_by _ = an_assign >>= λ a. pure (assignment a)
 
-  unfoldable pub one_with : Reading One
-  one_with = look one_by
+  unfoldable pub simple_with : Reading Simple
+  simple_with = look simple_by
 
   -- a statement, if one stands here
   unfoldable pub next_statement : Reading (Option Statement)
-  next_statement = look (λ w. elim (begins w) [ true ↦ (one_with >>= λ o. pure (Some (single o))) | false ↦ pure None ])
+  next_statement = look (λ w. elim (begins w) [ true ↦ (simple_with >>= λ o. pure (Some (simple o))) | false ↦ pure None ])
 
   unfoldable pub block_with : Reading Block
   block_with = many next_statement no_statements statement

@@ -1,5 +1,5 @@
 -- The tree of a program's sections, its spelling and how deep its parentheses nest.
-use Rattle.std.specs.Prelude.{ℕ, zero, max, Bool, true, false, List, [], ◌∷◌, ◌++◌}
+use Rattle.std.specs.Prelude.{ℕ, max, Bool, true, false, List, [], ◌∷◌, ◌++◌}
 use Rattle.ss_words.specs.declared.mark.Mark.TheVariants as m
 use Rattle.ss_words.specs.declared.word.Sign.TheVariants as s
 use Rattle.ss_words.specs.declared.reserved.Reserved.TheVariants as r
@@ -14,12 +14,13 @@ mutual
     statement : Statement → Block → Block
 
   pub data Statement : Type 0 where
-    single : One → Statement
+    simple : Simple → Statement
 
-  pub data One : Type 0 where
-    assignment : Assign → One
-    report : Output → One
-    halt : One
+  -- one that has no statements in it
+  pub data Simple : Type 0 where
+    assignment : Assign → Simple
+    report : Output → Simple
+    halt : Simple
 
 pub data SectionTree : Type 0 where
   main : Block → SectionTree
@@ -58,12 +59,12 @@ abbrev mutual
   spell_block (statement t b) = spell_statement t ++ spell_block b
 
   pub spell_statement : Statement → List Plain
-  spell_statement (single o) = spell_one o
+  spell_statement (simple o) = spell_simple o
 
-  pub spell_one : One → List Plain
-  spell_one (assignment a) = spell_assign a
-  spell_one (report o) = spell_output o
-  spell_one halt = mark (m.Reserved r.Stop) ∷ []
+  pub spell_simple : Simple → List Plain
+  spell_simple (assignment a) = spell_assign a
+  spell_simple (report o) = spell_output o
+  spell_simple halt = mark (m.Reserved r.Stop) ∷ []
 
 abbrev pub spell_section : SectionTree → List Plain
 spell_section (main b) = mark (m.Reserved r.Main) ∷ (spell_block b ++ mark (m.Reserved r.End) ∷ [])
@@ -92,12 +93,12 @@ abbrev mutual
   depth_block (statement t b) = max (depth_statement t) (depth_block b)
 
   pub depth_statement : Statement → ℕ
-  depth_statement (single o) = depth_one o
+  depth_statement (simple o) = depth_simple o
 
-  pub depth_one : One → ℕ
-  depth_one (assignment a) = depth_assign a
-  depth_one (report o) = depth_output o
-  depth_one halt = 0
+  pub depth_simple : Simple → ℕ
+  depth_simple (assignment a) = depth_assign a
+  depth_simple (report o) = depth_output o
+  depth_simple halt = 0
 
 abbrev pub depth_section : SectionTree → ℕ
 depth_section (main b) = depth_block b

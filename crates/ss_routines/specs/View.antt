@@ -1,5 +1,5 @@
 -- The pure data that expressions, places and sections stand for.
-use Rattle.std.specs.Prelude.{ℕ, List, [], ◌∷◌, map, Option, Some, None}
+use Rattle.std.specs.Prelude.{List, map}
 use Rattle.ss_words.specs.Reading.{prepend}
 use Rattle.ss_routines.specs.declared.expr.TermSign.{TermSign}
 use Rattle.ss_routines.specs.declared.expr.Expr.{Expr as CodeExpr, fold-Expr}

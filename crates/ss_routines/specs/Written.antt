@@ -2,8 +2,8 @@
 use Rattle.std.specs.Prelude.{ℕ, ◌+◌, List, [], ◌∷◌, ◌++◌, length, codes}
 use Rattle.ss_words.specs.Noting.{line}
 use Rattle.ss_routines.specs.declared.section.SectionKind.TheVariants.{Main}
-use Rattle.ss_routines.specs.Places.{Assign, Output, Control, stops, ends, Place, assign, output, control, Spot, Section}
-use Rattle.ss_routines.specs.Tree.{Block, no_statements, statement, Statement, single, One, assignment, report, halt, SectionTree, main, Tree, spell_block, spell_statement, spell_section}
+use Rattle.ss_routines.specs.Places.{stops, ends, Place, assign, output, control, Spot, Section}
+use Rattle.ss_routines.specs.Tree.{Block, no_statements, statement, Statement, simple, Simple, assignment, report, halt, SectionTree, main, Tree, spell_block, spell_statement, spell_section}
 
 -- lines: of each plain word. Each part is written out with the number of its first plain word
 module _ (lines : List ℕ) where
@@ -16,12 +16,12 @@ module _ (lines : List ℕ) where
     flat_block k (statement t b) = flat_statement k t ++ flat_block (k + length (spell_statement t)) b
 
     pub flat_statement : ℕ → Statement → List Spot
-    flat_statement k (single o) = flat_one k o
+    flat_statement k (simple o) = flat_simple k o
 
-    pub flat_one : ℕ → One → List Spot
-    flat_one k (assignment a) = spot k (assign a) ∷ []
-    flat_one k (report o) = spot k (output o) ∷ []
-    flat_one k halt = spot k (control stops) ∷ []
+    pub flat_simple : ℕ → Simple → List Spot
+    flat_simple k (assignment a) = spot k (assign a) ∷ []
+    flat_simple k (report o) = spot k (output o) ∷ []
+    flat_simple k halt = spot k (control stops) ∷ []
 
   abbrev pub written_section : ℕ → SectionTree → Section
   written_section k (main b) = record {

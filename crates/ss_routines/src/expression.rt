@@ -14,6 +14,7 @@ pub fn expression(cursor: &mut Cursor<'_>, room: u32) -> Result<Expr, Refusal>
     expr(cursor, room)
 }
 
+/// The sign that stands here, if one does.
 #[tactic(auto, unfolding(ss_words::specs::Reading::look, ss_words::specs::Reading::skip, ss_words::specs::Reading::pure, crate::specs::ExprReading::lead))]
 fn lead(cursor: &mut Cursor<'_>) -> Option<TermSign>
     ensures exact { reading.lead (words_of cursor.old.rest.now) ≡ (Ok result, words_of cursor.new.rest.now) }
@@ -45,6 +46,7 @@ fn lead(cursor: &mut Cursor<'_>) -> Option<TermSign>
     }
 }
 
+/// `expression = ["+" | "-"] term {("+" | "-") term}`
 #[cycle(expression)]
 #[tactic(auto, unfolding(ss_words::specs::Reading::bind, ss_words::specs::Reading::pure, crate::specs::ExprReading::expr_with))]
 fn expr(cursor: &mut Cursor<'_>, room: u32) -> Result<Expr, Refusal>
@@ -57,6 +59,7 @@ fn expr(cursor: &mut Cursor<'_>, room: u32) -> Result<Expr, Refusal>
     Ok(Expr { sign, first, more })
 }
 
+/// `{("+" | "-") term}`
 #[cycle(expression)]
 fn sums(cursor: &mut Cursor<'_>, room: u32) -> Result<Vec<Added>, Refusal>
     ensures exact { Gives (λ v. sums_of (map added_view v.items)) result (words_of cursor.new.rest.now) (reading.sums_with (reading.paren_at room) (words_of cursor.old.rest.now)) }
@@ -69,6 +72,7 @@ fn sums(cursor: &mut Cursor<'_>, room: u32) -> Result<Vec<Added>, Refusal>
     Ok(more)
 }
 
+/// A sign and its term, or none.
 #[cycle(expression)]
 #[tactic(auto, unfolding(ss_words::specs::Reading::bind, ss_words::specs::Reading::pure, crate::specs::ExprReading::next_sum))]
 fn next_sum(cursor: &mut Cursor<'_>, room: u32) -> Result<Option<Added>, Refusal>
@@ -83,6 +87,7 @@ fn next_sum(cursor: &mut Cursor<'_>, room: u32) -> Result<Option<Added>, Refusal
     Ok(Some(Added { sign, term }))
 }
 
+/// `term = factor {"*" factor}`
 #[cycle(expression)]
 #[tactic(auto, unfolding(ss_words::specs::Reading::bind, ss_words::specs::Reading::pure, crate::specs::ExprReading::term_with))]
 fn term(cursor: &mut Cursor<'_>, room: u32) -> Result<Term, Refusal>
@@ -94,6 +99,7 @@ fn term(cursor: &mut Cursor<'_>, room: u32) -> Result<Term, Refusal>
     Ok(Term { first, more })
 }
 
+/// `{"*" factor}`
 #[cycle(expression)]
 fn products(cursor: &mut Cursor<'_>, room: u32) -> Result<Vec<Factor>, Refusal>
     ensures exact { Gives (λ v. products_of (map factor_view v.items)) result (words_of cursor.new.rest.now) (reading.products_with (reading.paren_at room) (words_of cursor.old.rest.now)) }
@@ -106,6 +112,7 @@ fn products(cursor: &mut Cursor<'_>, room: u32) -> Result<Vec<Factor>, Refusal>
     Ok(more)
 }
 
+/// A star and its factor, or none.
 #[cycle(expression)]
 #[tactic(auto, unfolding(ss_words::specs::Reading::bind, ss_words::specs::Reading::pure, crate::specs::ExprReading::next_product))]
 fn next_product(cursor: &mut Cursor<'_>, room: u32) -> Result<Option<Factor>, Refusal>
@@ -119,6 +126,7 @@ fn next_product(cursor: &mut Cursor<'_>, room: u32) -> Result<Option<Factor>, Re
     Ok(Some(factor(cursor, room)?))
 }
 
+/// `factor = number | name | "(" expression ")"`
 #[cycle(expression)]
 #[tactic(auto, unfolding(ss_words::specs::Reading::look, ss_words::specs::Reading::skip, ss_words::specs::Reading::refuse, ss_words::specs::Reading::bind, ss_words::specs::Reading::pure, crate::specs::ExprReading::factor_with))]
 fn factor(cursor: &mut Cursor<'_>, room: u32) -> Result<Factor, Refusal>
@@ -157,7 +165,7 @@ fn factor(cursor: &mut Cursor<'_>, room: u32) -> Result<Factor, Refusal>
     }
 }
 
-/// An expression between parentheses.
+/// An expression between parentheses, if one more may be open.
 #[cycle(expression)]
 fn within(cursor: &mut Cursor<'_>, room: u32) -> Result<Factor, Refusal>
     ensures exact { Gives factor_view result (words_of cursor.new.rest.now) (reading.paren_at room (words_of cursor.old.rest.now)) }
@@ -169,6 +177,7 @@ fn within(cursor: &mut Cursor<'_>, room: u32) -> Result<Factor, Refusal>
     enclosed(cursor, room - 1)
 }
 
+/// The parentheses and what stands between them, in which so many more may be open.
 #[cycle(expression)]
 #[tactic(auto, unfolding(ss_words::specs::Reading::bind, ss_words::specs::Reading::pure, crate::specs::ExprReading::paren_with))]
 fn enclosed(cursor: &mut Cursor<'_>, room: u32) -> Result<Factor, Refusal>

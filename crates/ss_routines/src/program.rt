@@ -23,6 +23,7 @@ const MOST_PARENTHESES: u32 = 50;
 /// How many sections a program may have.
 const MOST_SECTIONS: usize = 256;
 
+/// Whether a section begins with this plain word.
 fn is_head(kind: &Plain) -> bool
     ensures { result ≡ reading.is_head (Some (plain_of kind.now)) }
 {
@@ -39,6 +40,7 @@ fn begins(cursor: &Cursor<'_>) -> bool
     }
 }
 
+/// `section = MAIN {statement} END`
 #[tactic(auto, using(crate::proofs::Pushed::pushed), unfolding(ss_words::specs::Reading::bind, ss_words::specs::Reading::pure, ss_words::specs::Noting::here, crate::specs::Onto::section_onto))]
 fn section(cursor: &mut Cursor<'_>, text: &[PlainWord]) -> Result<Section, Refusal>
     ensures exact { Gives section_view result (words_of cursor.new.rest.now) (onto.section_onto (lines_of text.now) (exprs.expr_at 50) (words_of cursor.old.rest.now)) }
@@ -65,7 +67,8 @@ fn section(cursor: &mut Cursor<'_>, text: &[PlainWord]) -> Result<Section, Refus
     })
 }
 
-fn all(cursor: &mut Cursor<'_>, text: &[PlainWord]) -> Result<Vec<Section>, Refusal>
+/// Reads sections, as long as one begins.
+fn section_list(cursor: &mut Cursor<'_>, text: &[PlainWord]) -> Result<Vec<Section>, Refusal>
     ensures exact { Gives (λ v. map section_view v.items) result (words_of cursor.new.rest.now) (onto.sections_onto (lines_of text.now) (exprs.expr_at 50) 256 (words_of cursor.old.rest.now)) }
     ensures shorter { length cursor.new.rest.now ≤ length cursor.old.rest.now }
 {
@@ -81,19 +84,19 @@ fn all(cursor: &mut Cursor<'_>, text: &[PlainWord]) -> Result<Vec<Section>, Refu
 
 /// The sections that the text is made of, and nothing else.
 #[tactic(auto, unfolding(ss_words::specs::Reading::look, ss_words::specs::Reading::refuse, ss_words::specs::Reading::bind, ss_words::specs::Reading::pure, ss_words::specs::Reading::whole, ss_words::specs::Reading::ended))]
-fn complete(cursor: &mut Cursor<'_>, text: &[PlainWord]) -> Result<Vec<Section>, Refusal>
+fn whole_text(cursor: &mut Cursor<'_>, text: &[PlainWord]) -> Result<Vec<Section>, Refusal>
     ensures exact { Gives (λ v. map section_view v.items) result (words_of cursor.new.rest.now) (whole (onto.sections_onto (lines_of text.now) (exprs.expr_at 50) 256) (words_of cursor.old.rest.now)) }
     ensures shorter { length cursor.new.rest.now ≤ length cursor.old.rest.now }
 {
-    let list = all(cursor, text)?;
+    let list = section_list(cursor, text)?;
     match cursor.rest {
         [] => Ok(list),
         [_, ..] => Err(Refusal::Unexpected),
     }
 }
 
-/// What the text is refused with, by what stopped its reading at the word that the cursor has reached. Where the text's
-/// end is refused, or the last word passes a limit of a text that cannot end there, the refusal is told at the last word.
+/// What a text is refused with, by what stopped its reading at the word that the cursor has reached. A refusal of the
+/// text's end is told at the last word, and so is a limit that the last word passes, since no program ends with that word.
 fn fault(refusal: Refusal, cursor: &Cursor<'_>, text: &[PlainWord]) -> TextFault
     requires { Fails refusal (words_of cursor.now.rest.now) (whole (onto.sections_onto (lines_of text.now) (exprs.expr_at 50) 256) (words_of text.now)) }
     ensures { IsFault result (map plain_at text.now) }
@@ -112,7 +115,7 @@ fn fault(refusal: Refusal, cursor: &Cursor<'_>, text: &[PlainWord]) -> TextFault
 fn last_line(text: &[PlainWord]) -> usize
     ensures { result ≡ line (lines_of text.now) (length text.now - 1) }
 {
-    match text.get(text.len().saturating_sub(1)) {
+    match text.last() {
         Some(word) => word.line,
         None => 0,
     }
@@ -124,7 +127,7 @@ fn read(alloc: Global, text: &[PlainWord]) -> Result<Sections, TextFault>
     ensures refused { IfErr result (λ f. IsFault f (map plain_at text.now)) }
 {
     let mut cursor = Cursor { alloc, rest: text };
-    match complete(&mut cursor, text) {
+    match whole_text(&mut cursor, text) {
         Ok(list) => Ok(Sections::new(list)),
         Err(refusal) => Err(fault(refusal, &cursor, text)),
     }

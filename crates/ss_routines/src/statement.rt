@@ -12,6 +12,7 @@ use crate::expression::expression;
 use crate::place::{Assign, Control, Output, Place, Reference, Spot};
 use ss_words::{Cursor, Mark, Plain, PlainWord, Refusal, Reserved, Sign};
 
+/// `reference = name`
 #[tactic(auto, unfolding(ss_words::specs::Reading::bind, ss_words::specs::Reading::pure, crate::specs::SectionReading::a_reference))]
 fn reference(cursor: &mut Cursor<'_>) -> Result<Reference, Refusal>
     ensures exact { Gives reference_view result (words_of cursor.new.rest.now) (reading.a_reference (words_of cursor.old.rest.now)) }
@@ -22,7 +23,7 @@ fn reference(cursor: &mut Cursor<'_>) -> Result<Reference, Refusal>
     Ok(Reference { name })
 }
 
-/// What stands behind LET, or a statement without it.
+/// `name "=" expression`, behind LET or without it.
 #[tactic(auto, unfolding(ss_words::specs::Reading::bind, ss_words::specs::Reading::pure, crate::specs::SectionReading::let_with))]
 fn let_value(cursor: &mut Cursor<'_>, written: bool, room: u32) -> Result<Assign, Refusal>
     ensures exact { Gives assign_view result (words_of cursor.new.rest.now) (reading.let_with (exprs.expr_at room) written (words_of cursor.old.rest.now)) }
@@ -39,7 +40,7 @@ fn let_value(cursor: &mut Cursor<'_>, written: bool, room: u32) -> Result<Assign
     })
 }
 
-/// What stands behind ADD.
+/// `expression TO name`, behind ADD.
 #[tactic(auto, unfolding(ss_words::specs::Reading::bind, ss_words::specs::Reading::pure, crate::specs::SectionReading::add_with))]
 fn add(cursor: &mut Cursor<'_>, room: u32) -> Result<Assign, Refusal>
     ensures exact { Gives assign_view result (words_of cursor.new.rest.now) (reading.add_with (exprs.expr_at room) (words_of cursor.old.rest.now)) }
@@ -51,7 +52,7 @@ fn add(cursor: &mut Cursor<'_>, room: u32) -> Result<Assign, Refusal>
     Ok(Assign::Add { value, target })
 }
 
-/// What stands behind SUBTRACT.
+/// `expression FROM name`, behind SUBTRACT.
 #[tactic(auto, unfolding(ss_words::specs::Reading::bind, ss_words::specs::Reading::pure, crate::specs::SectionReading::subtract_with))]
 fn subtract(cursor: &mut Cursor<'_>, room: u32) -> Result<Assign, Refusal>
     ensures exact { Gives assign_view result (words_of cursor.new.rest.now) (reading.subtract_with (exprs.expr_at room) (words_of cursor.old.rest.now)) }
@@ -105,6 +106,7 @@ fn assignment(cursor: &mut Cursor<'_>, room: u32) -> Result<Assign, Refusal>
     }
 }
 
+/// The next of the values of a PRINT: a comma and an expression, or none.
 #[tactic(auto, unfolding(ss_words::specs::Reading::bind, ss_words::specs::Reading::pure, crate::specs::SectionReading::next_value))]
 fn next_value(cursor: &mut Cursor<'_>, room: u32) -> Result<Option<Expr>, Refusal>
     ensures exact { Gives (option_view expr_view) result (words_of cursor.new.rest.now) (reading.next_value (exprs.expr_at room) (words_of cursor.old.rest.now)) }
@@ -118,7 +120,7 @@ fn next_value(cursor: &mut Cursor<'_>, room: u32) -> Result<Option<Expr>, Refusa
 }
 
 /// The values behind a first one, each behind its comma.
-fn further(cursor: &mut Cursor<'_>, first: Expr, room: u32) -> Result<Vec<Expr>, Refusal>
+fn further_values(cursor: &mut Cursor<'_>, first: Expr, room: u32) -> Result<Vec<Expr>, Refusal>
     ensures exact { Gives (λ v. map expr_view v.items) result (words_of cursor.new.rest.now) (reading.behind_first (exprs.expr_at room) (expr_view first) (words_of cursor.old.rest.now)) }
     ensures shorter { length cursor.new.rest.now ≤ length cursor.old.rest.now }
 {
@@ -130,6 +132,7 @@ fn further(cursor: &mut Cursor<'_>, first: Expr, room: u32) -> Result<Vec<Expr>,
     Ok(values)
 }
 
+/// `[WITH expression {"," expression}]`
 #[tactic(auto, unfolding(ss_words::specs::Reading::bind, ss_words::specs::Reading::pure, crate::specs::SectionReading::values_with))]
 fn values(cursor: &mut Cursor<'_>, room: u32) -> Result<Vec<Expr>, Refusal>
     ensures exact { Gives (λ v. map expr_view v.items) result (words_of cursor.new.rest.now) (reading.values_with (exprs.expr_at room) (words_of cursor.old.rest.now)) }
@@ -139,10 +142,10 @@ fn values(cursor: &mut Cursor<'_>, room: u32) -> Result<Vec<Expr>, Refusal>
         return Ok(Vec::new(cursor.alloc));
     }
     let first = expression(cursor, room)?;
-    further(cursor, first, room)
+    further_values(cursor, first, room)
 }
 
-/// What stands behind PRINT.
+/// `number LINES [WITH expression {"," expression}] THUS picture`, behind PRINT.
 #[tactic(auto, unfolding(ss_words::specs::Reading::bind, ss_words::specs::Reading::pure, crate::specs::SectionReading::print_with))]
 fn print(cursor: &mut Cursor<'_>, room: u32) -> Result<Output, Refusal>
     ensures exact { Gives output_view result (words_of cursor.new.rest.now) (reading.print_with (exprs.expr_at room) (words_of cursor.old.rest.now)) }
@@ -160,15 +163,15 @@ fn print(cursor: &mut Cursor<'_>, room: u32) -> Result<Output, Refusal>
     })
 }
 
-/// Reads one statement and pushes its places.
-#[tactic(auto, using(crate::proofs::Pushed::pushed), unfolding(ss_words::specs::Reading::look, ss_words::specs::Reading::skip, ss_words::specs::Reading::bind, ss_words::specs::Reading::pure, ss_words::specs::Noting::here, crate::specs::Onto::one_onto))]
-fn one(
+/// Reads a statement and pushes its place.
+#[tactic(auto, using(crate::proofs::Pushed::pushed), unfolding(ss_words::specs::Reading::look, ss_words::specs::Reading::skip, ss_words::specs::Reading::bind, ss_words::specs::Reading::pure, ss_words::specs::Noting::here, crate::specs::Onto::simple_onto))]
+fn statement(
     cursor: &mut Cursor<'_>,
     text: &[PlainWord],
     room: u32,
     out: &mut Vec<Spot>,
 ) -> Result<(), Refusal>
-    ensures exact { Gives (λ u. spots out.new.items) result (words_of cursor.new.rest.now) (onto.one_onto (lines_of text.now) (exprs.expr_at room) (spots out.old.items) (words_of cursor.old.rest.now)) }
+    ensures exact { Gives (λ u. spots out.new.items) result (words_of cursor.new.rest.now) (onto.simple_onto (lines_of text.now) (exprs.expr_at room) (spots out.old.items) (words_of cursor.old.rest.now)) }
     ensures shorter { length cursor.new.rest.now ≤ length cursor.old.rest.now }
     ensures taken { IfOk result (λ _. length cursor.new.rest.now < length cursor.old.rest.now) }
 {
@@ -214,6 +217,7 @@ fn begins(cursor: &Cursor<'_>) -> bool
     }
 }
 
+/// Whether a statement begins with this plain word.
 fn begins_with(kind: &Plain) -> bool
     ensures { result ≡ reading.begins (Some (plain_of kind.now)) }
 {
@@ -230,9 +234,9 @@ fn begins_with(kind: &Plain) -> bool
     )
 }
 
-/// Reads a statement, if one begins here, and pushes its places.
+/// Reads a statement, if one begins here, and pushes its place.
 #[tactic(auto, unfolding(ss_words::specs::Reading::look, ss_words::specs::Reading::bind, ss_words::specs::Reading::pure, crate::specs::Onto::next_onto))]
-fn next(
+fn next_statement(
     cursor: &mut Cursor<'_>,
     text: &[PlainWord],
     room: u32,
@@ -245,7 +249,7 @@ fn next(
     if !begins(cursor) {
         return Ok(false);
     }
-    one(cursor, text, room, out)?;
+    statement(cursor, text, room, out)?;
     Ok(true)
 }
 
@@ -259,6 +263,6 @@ pub fn block(
     ensures exact { Gives (λ u. spots out.new.items) result (words_of cursor.new.rest.now) (onto.block_onto (lines_of text.now) (exprs.expr_at room) (spots out.old.items) (words_of cursor.old.rest.now)) }
     ensures shorter { length cursor.new.rest.now ≤ length cursor.old.rest.now }
 {
-    while next(cursor, text, room, out)? {}
+    while next_statement(cursor, text, room, out)? {}
     Ok(())
 }

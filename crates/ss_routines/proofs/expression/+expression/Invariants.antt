@@ -1,4 +1,4 @@
-use Rattle.std.proofs.Common.{ℕ, List, length, ◌≡◌, ◌≤◌, ◌<◌, map, ◌+◌, ◌*◌}
+use Rattle.std.proofs.Common.{length, ◌≤◌, map, ◌+◌, ◌*◌}
 use Rattle.ss_words.specs.Reading.{words_of}
 use Rattle.ss_words.proofs.Loop.{Going}
 use Rattle.ss_routines.specs.Expr.{sum, no_sums, product, no_products}

@@ -1,4 +1,4 @@
-use Rattle.std.proofs.Common.{◌≡◌, ℕ, Bool, leb, List, [], ◌∷◌, map, filter, cond, IfOk, IfErr, refl, sym, ap, ◌∙◌, subst, arith, rules, true, false}
+use Rattle.std.proofs.Common.{◌≡◌, ℕ, Bool, leb, List, [], ◌∷◌, map, filter, cond, IfOk, IfErr, refl, ap, ◌∙◌, subst, rules, true, false}
 use Rattle.std.proofs.lemmas.Fn.{filter_same}
 use Rattle.ss_words.specs.declared.plain_word.PlainWord.{PlainWord}
 use Rattle.ss_words.specs.Plain.{PlainAt, plain_at}
@@ -16,16 +16,16 @@ kept k (w ∷ ws) = elim (test k w) as (λ b. map plain_at (cond b (w ∷ filter
   | false ↦ kept k ws
 ]
 
-pub returns-clause-sections : goal.returns-clause-sections
-returns-clause-sections c =
-    let text : map plain_at c.deref.result.now ≡ words_from c.args.from (plain_words_of c.args.words.now) =
-    ap (map plain_at) (c.deref.ensures.value ∙ filter_same _ (test c.args.from) _ (λ x b f k. search rules) _ _ c.retain.ensures.filtered)
-    ∙ kept c.args.from c.in_ok-plain.plain.items ∙ ap (words_from c.args.from) c.in_ok-plain.ensures in
-    subst (λ (ws : List PlainAt). IfOk c.read.result (λ s. AreSections s ws)) text c.read.ensures.sections
-
 pub returns-clause-refused : goal.returns-clause-refused
 returns-clause-refused c =
     let text : map plain_at c.deref.result.now ≡ words_from c.args.from (plain_words_of c.args.words.now) =
     ap (map plain_at) (c.deref.ensures.value ∙ filter_same _ (test c.args.from) _ (λ x b f k. search rules) _ _ c.retain.ensures.filtered)
     ∙ kept c.args.from c.in_ok-plain.plain.items ∙ ap (words_from c.args.from) c.in_ok-plain.ensures in
     subst (λ (ws : List PlainAt). IfErr c.read.result (λ f. IsFault f ws)) text c.read.ensures.refused
+
+pub returns-clause-sections : goal.returns-clause-sections
+returns-clause-sections c =
+    let text : map plain_at c.deref.result.now ≡ words_from c.args.from (plain_words_of c.args.words.now) =
+    ap (map plain_at) (c.deref.ensures.value ∙ filter_same _ (test c.args.from) _ (λ x b f k. search rules) _ _ c.retain.ensures.filtered)
+    ∙ kept c.args.from c.in_ok-plain.plain.items ∙ ap (words_from c.args.from) c.in_ok-plain.ensures in
+    subst (λ (ws : List PlainAt). IfOk c.read.result (λ s. AreSections s ws)) text c.read.ensures.sections

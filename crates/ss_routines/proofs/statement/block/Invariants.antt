@@ -1,4 +1,4 @@
-use Rattle.std.proofs.Common.{ℕ, List, length, ◌≡◌, ◌≤◌}
+use Rattle.std.proofs.Common.{length, ◌≤◌}
 use Rattle.ss_words.specs.Reading.{words_of, lines_of}
 use Rattle.ss_words.proofs.Lays.{Noted}
 use Rattle.ss_routines.specs.ExprReading.{expr_at}

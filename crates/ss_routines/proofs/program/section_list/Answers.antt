@@ -1,5 +1,5 @@
-use Rattle.std.proofs.Common.{◌≡◌, ◌∙◌, ℕ, suc, ◌+◌, ◌-◌, List, [], ◌∷◌, ◌++◌, length, length-append, map, refl, sym, ap, arith, rules}
-use Rattle.std.proofs.lemmas.List.{map_push, length-map}
+use Rattle.std.proofs.Common.{◌≡◌, ◌∙◌, ℕ, ◌+◌, ◌-◌, List, [], ◌∷◌, ◌++◌, length, length-append, map, sym, ap, arith}
+use Rattle.std.proofs.lemmas.List.{map_push}
 use Rattle.std.proofs.lemmas.Result.{err_from_is_err_and}
 use Rattle.ss_words.specs.Reading.{words_of, lines_of, Read}
 use Rattle.ss_words.specs.Plain.{Plain}
@@ -7,10 +7,10 @@ use Rattle.ss_words.proofs.Loop.{passes_on}
 use Rattle.ss_routines.specs.declared.section.Section.{Section as CodeSection}
 use Rattle.ss_routines.specs.ExprReading.{expr_at}
 use Rattle.ss_routines.specs.Places.{Section}
-use Rattle.ss_routines.specs.Onto.{section_onto, sections_onto}
+use Rattle.ss_routines.specs.Onto.{section_onto}
 use Rattle.ss_routines.specs.View.{section_view}
-use Rattle.ss_routines.proofs.SectionLoop.{Gathered, starts, turned, failed, full, ended}
-use Rattle.ss_routines.proofs.program.all.Goals as goal
+use Rattle.ss_routines.proofs.SectionLoop.{Gathered, turned, failed, full, ended}
+use Rattle.ss_routines.proofs.program.section_list.Goals as goal
 
 -- a section that is pushed
 pushed : (lines : List ℕ) (total : Read (List Section)) (xs ys : List CodeSection) (s : CodeSection) (r : List Plain) → ys ≡ xs ++ s ∷ [] → Gathered lines (expr_at 50) total (map section_view xs ++ section_view s ∷ []) (256 - (length xs + 1)) r

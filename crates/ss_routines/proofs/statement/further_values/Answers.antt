@@ -1,4 +1,4 @@
-use Rattle.std.proofs.Common.{◌≡◌, ℕ, List, [], ◌∷◌, ◌++◌, length, map, Ok, refl, sym, ap, ◌∙◌, arith, subst}
+use Rattle.std.proofs.Common.{◌≡◌, ℕ, List, [], ◌∷◌, map, Ok, refl, ap, ◌∙◌, arith}
 use Rattle.std.proofs.lemmas.Result.{err_from_is_err_and}
 use Rattle.ss_words.specs.Reading.{words_of, Read}
 use Rattle.ss_words.specs.Plain.{Plain}
@@ -7,7 +7,7 @@ use Rattle.ss_routines.specs.Expr.{Expr}
 use Rattle.ss_routines.specs.ExprReading.{expr_at}
 use Rattle.ss_routines.specs.SectionReading.{next_value, further_with, behind_first}
 use Rattle.ss_routines.specs.View.{expr_view}
-use Rattle.ss_routines.proofs.statement.further.Goals as goal
+use Rattle.ss_routines.proofs.statement.further_values.Goals as goal
 
 begun : (n : ℕ) (e : Expr) (ws : List Plain) (xs : List Expr) → xs ≡ e ∷ [] → Going (next_value (expr_at n)) [] (λ x ys. x ∷ ys) (behind_first (expr_at n) e ws) xs ws
 unfolding behind_first further_with

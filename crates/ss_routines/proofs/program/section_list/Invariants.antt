@@ -1,10 +1,10 @@
-use Rattle.std.proofs.Common.{ℕ, List, length, ◌≡◌, ◌≤◌, ◌-◌, map}
+use Rattle.std.proofs.Common.{length, ◌≤◌, ◌-◌, map}
 use Rattle.ss_words.specs.Reading.{words_of, lines_of}
 use Rattle.ss_routines.specs.ExprReading.{expr_at}
 use Rattle.ss_routines.specs.Onto.{sections_onto}
 use Rattle.ss_routines.specs.View.{section_view}
 use Rattle.ss_routines.proofs.SectionLoop.{Gathered}
-use Rattle.ss_routines.proofs.program.all.Given as goal
+use Rattle.ss_routines.proofs.program.section_list.Given as goal
 
 abbrev pub invariant-loop-list : goal.invariant-loop-list
 invariant-loop-list l = record {

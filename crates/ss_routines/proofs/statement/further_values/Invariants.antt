@@ -1,10 +1,10 @@
-use Rattle.std.proofs.Common.{ℕ, List, [], ◌∷◌, length, ◌≡◌, ◌≤◌, map}
+use Rattle.std.proofs.Common.{[], ◌∷◌, length, ◌≤◌, map}
 use Rattle.ss_words.specs.Reading.{words_of}
 use Rattle.ss_words.proofs.Loop.{Going}
 use Rattle.ss_routines.specs.ExprReading.{expr_at}
 use Rattle.ss_routines.specs.SectionReading.{next_value, behind_first}
 use Rattle.ss_routines.specs.View.{expr_view}
-use Rattle.ss_routines.proofs.statement.further.Given as goal
+use Rattle.ss_routines.proofs.statement.further_values.Given as goal
 
 abbrev pub invariant-loop-values : goal.invariant-loop-values
 invariant-loop-values l = record {
