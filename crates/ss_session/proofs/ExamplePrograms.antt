@@ -8,7 +8,7 @@ use Rattle.ss_words.specs.Spellings.{spellings, mark_of}
 use Rattle.ss_words.specs.PlainRules.{plain_words_of}
 use Rattle.ss_routines.specs.Expr.{Expr, expr, no_sums, term, no_products, digits, variable}
 use Rattle.ss_routines.specs.Places.{Reference, lets, adds, prints}
-use Rattle.ss_routines.specs.Tree.{no_statements, statement, single, assignment, report, halt, main, Tree, spell}
+use Rattle.ss_routines.specs.Tree.{no_statements, statement, simple, assignment, report, halt, main, Tree, spell}
 use Rattle.ss_routines.specs.Refused.{words_from}
 use Rattle.ss_routines.specs.declared.section.SectionKind.TheVariants.{Main}
 use Rattle.ss_check.specs.declared.variable.Variable.TheVariants.{Local}
@@ -58,7 +58,7 @@ unfolding mark_of spellings
 stop_spelled = refl
 
 abbrev pub stop_tree : Tree
-stop_tree = main (statement (single halt) no_statements) ∷ []
+stop_tree = main (statement (simple halt) no_statements) ∷ []
 
 pub stop_spells : plains stop_plain ≡ spell stop_tree
 stop_spells = refl
@@ -71,9 +71,9 @@ unfolding mark_of spellings
 five_spelled = refl
 
 abbrev pub five_tree : Tree
-five_tree = main (statement (single (assignment (lets true x (constant 5))))
-    (statement (single (report (prints 1 (value (codes "X") ∷ []) (codes "X = ***" ∷ []))))
-    (statement (single halt) no_statements))) ∷ []
+five_tree = main (statement (simple (assignment (lets true x (constant 5))))
+    (statement (simple (report (prints 1 (value (codes "X") ∷ []) (codes "X = ***" ∷ []))))
+    (statement (simple halt) no_statements))) ∷ []
 
 pub five_spells : plains five_plain ≡ spell five_tree
 five_spells = refl
@@ -86,8 +86,8 @@ unfolding mark_of spellings
 overflow_spelled = refl
 
 abbrev pub overflow_tree : Tree
-overflow_tree = main (statement (single (assignment (lets true x (constant 9223372036854775807))))
-    (statement (single (assignment (adds (constant 1) x))) no_statements)) ∷ []
+overflow_tree = main (statement (simple (assignment (lets true x (constant 9223372036854775807))))
+    (statement (simple (assignment (adds (constant 1) x))) no_statements)) ∷ []
 
 pub overflow_spells : plains overflow_plain ≡ spell overflow_tree
 overflow_spells = refl
@@ -100,7 +100,7 @@ unfolding mark_of spellings
 two_values_spelled = refl
 
 abbrev pub two_values_tree : Tree
-two_values_tree = main (statement (single (report (prints 1 (value (codes "X") ∷ value (codes "Y") ∷ []) (codes "*.**" ∷ [])))) no_statements) ∷ []
+two_values_tree = main (statement (simple (report (prints 1 (value (codes "X") ∷ value (codes "Y") ∷ []) (codes "*.**" ∷ [])))) no_statements) ∷ []
 
 pub two_values_spells : plains two_values_plain ≡ spell two_values_tree
 two_values_spells = refl

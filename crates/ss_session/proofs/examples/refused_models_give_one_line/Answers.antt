@@ -4,7 +4,7 @@ use Rattle.ss_words.specs.declared.fault.TextRule.TheVariants.{BadNumber, Unexpe
 use Rattle.ss_words.specs.Reading.{bind, pure, refuse, look, skip, ended, whole, many, many_from}
 use Rattle.ss_words.specs.Marks.{expect, eat, a_name, a_number, a_picture}
 use Rattle.ss_routines.specs.ExprReading.{lead, factor_with, next_product, products_with, term_with, next_sum, sums_with, expr_with, paren_with, expr_at}
-use Rattle.ss_routines.specs.SectionReading.{a_reference, let_with, add_with, subtract_with, an_assign, next_value, further_with, behind_first, values_with, print_with, one_with, next_statement, block_with, section_with, sections_with}
+use Rattle.ss_routines.specs.SectionReading.{a_reference, let_with, add_with, subtract_with, an_assign, next_value, further_with, behind_first, values_with, print_with, simple_with, next_statement, block_with, section_with, sections_with}
 use Rattle.ss_routines.proofs.Decided.{at_word, at_end}
 use Rattle.ss_check.specs.declared.fault.CheckRule.TheVariants.{WrongPicture, WrongMain}
 use Rattle.ss_session.specs.Examples.{two_values, word_behind, unended, too_large}
@@ -23,12 +23,12 @@ unfolding digits
 returns-clause-empty_text c = tells_breach (codes "") [] [] empty_read refl [] WrongMain 1 _ (record { parentheses = omega arith; sections = omega arith }) refl refl refl
 
 pub returns-clause-word_behind_end : goal.returns-clause-word_behind_end
-unfolding digits bind pure refuse look skip ended whole many many_from expect eat a_name a_number a_picture lead factor_with next_product products_with term_with next_sum sums_with expr_with paren_with expr_at a_reference let_with add_with subtract_with an_assign next_value further_with behind_first values_with print_with one_with next_statement block_with section_with sections_with
+unfolding digits bind pure refuse look skip ended whole many many_from expect eat a_name a_number a_picture lead factor_with next_product products_with term_with next_sum sums_with expr_with paren_with expr_at a_reference let_with add_with subtract_with an_assign next_value further_with behind_first values_with print_with simple_with next_statement block_with section_with sections_with
 returns-clause-word_behind_end c =
     tells_refused word_behind word_behind_words word_behind_plain word_behind_read word_behind_spelled UnexpectedWord 3 _ (at_word word_behind_plain _ _ 3 refl refl) refl
 
 pub returns-clause-texts_end : goal.returns-clause-texts_end
-unfolding digits bind pure refuse look skip ended whole many many_from expect eat a_name a_number a_picture lead factor_with next_product products_with term_with next_sum sums_with expr_with paren_with expr_at a_reference let_with add_with subtract_with an_assign next_value further_with behind_first values_with print_with one_with next_statement block_with section_with sections_with
+unfolding digits bind pure refuse look skip ended whole many many_from expect eat a_name a_number a_picture lead factor_with next_product products_with term_with next_sum sums_with expr_with paren_with expr_at a_reference let_with add_with subtract_with an_assign next_value further_with behind_first values_with print_with simple_with next_statement block_with section_with sections_with
 returns-clause-texts_end c = tells_refused unended unended_words unended_plain unended_read unended_spelled UnexpectedEnd 2 _ (at_end unended_plain 2 refl refl) refl
 
 pub returns-clause-large_number : goal.returns-clause-large_number
