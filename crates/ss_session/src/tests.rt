@@ -227,7 +227,7 @@ fn count_whole(bytes: &[u8], answers: &[&str]) -> Option<usize> {
     }
 }
 
-/// Fails at each refused growth of this session; tests/refused goes on until it passes.
+/// A session whose answers and report grow in turn, with ample memory.
 #[test]
 fn a_session_grows(rt: HostRuntime) {
     let mut out = MemoryOutlet::new(rt.alloc());
