@@ -124,11 +124,11 @@ module _ {first count : ℕ} {all : List (List ℕ)} {taken left : ℕ} {lines d
         ∙ sym (ap (λ (ms : List (List ℕ)). found_from_line before (taken + 1) 0 ms) none ∙ found_from_line-none before (taken + 1) 0),
   )
 
-nat_le-true : (a b : ℕ) → nat_le a b ≡ true → a ≤ b
+pub nat_le-true : (a b : ℕ) → nat_le a b ≡ true → a ≤ b
 nat_le-true a b h = grind (arith, nat_tests)
 
 -- a count of lines is at least one
-line_count-some : (o : Option Kind) (n : ℕ) → line_count o ≡ Some n → 1 ≤ n
+pub line_count-some : (o : Option Kind) (n : ℕ) → line_count o ≡ Some n → 1 ≤ n
 unfolding line_count
 line_count-some None n e = absurd cc
 line_count-some (Some (name s)) n e = absurd cc

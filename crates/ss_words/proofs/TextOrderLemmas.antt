@@ -1,10 +1,10 @@
 -- At one place the rules are found in the order of their numbers.
-use Rattle.std.proofs.Common.{◌≡◌, ℕ, Bool, true, false, List, [], ◌∷◌, ◌++◌, Option, Some, None, drop, length, nat_lt, refl}
+use Rattle.std.proofs.Common.{◌≡◌, ℕ, Bool, true, false, List, [], ◌∷◌, ◌++◌, Option, Some, None, drop, length, nat_lt, not, refl}
 use Rattle.std.specs.Prelude.{slice_index, take_while}
 use Rattle.ss_words.specs.declared.word.Sign.{Sign}
-use Rattle.ss_words.specs.declared.fault.TextRule.TheVariants.{StrayByte, BadNumber, LongRun, NoPicture}
+use Rattle.ss_words.specs.declared.fault.TextRule.TheVariants.{StrayByte, BadNumber, LongRun, NoPicture, LongPictureLine}
 use Rattle.ss_words.specs.Words.{Kind}
-use Rattle.ss_words.specs.TextBytes.{in_run, is_joined, is_stray, sign_from}
+use Rattle.ss_words.specs.TextBytes.{in_run, is_allowed, is_joined, is_stray, sign_from}
 use Rattle.ss_words.specs.TextRuns.{without_stops, is_bad_number, word_of_run, lacks_picture}
 use Rattle.ss_words.specs.TextWords.{word, broken, on_line, sign_found, word_found, run_found, begun_at, found_at}
 use Rattle.ss_words.specs.TextOrder.{rule_numbers, is_rising, LowestFirst}
@@ -51,9 +51,9 @@ rising_none : (n : ℕ) (s : Bool) → is_rising 0 (rule_numbers (broken StrayBy
 rising_none n true = refl
 rising_none n false = refl
 
-pub lowest_first : LowestFirst
+rising_at : (n below : ℕ) (before : List Kind) (last : ℕ) (line plain : List ℕ) → is_rising 0 (rule_numbers (found_at n below before last line plain)) ≡ true
 unfolding found_at begun_at run_found
-lowest_first n below before last line plain = elim (is_joined last (slice_index plain 0)) as (λ j. is_rising 0 (rule_numbers (broken StrayByte n (is_stray (slice_index line 0) (slice_index plain 0)) ++ (elim j [ true ↦ [] | false ↦ begun_at n below before line plain ]))) ≡ true) [
+rising_at n below before last line plain = elim (is_joined last (slice_index plain 0)) as (λ j. is_rising 0 (rule_numbers (broken StrayByte n (is_stray (slice_index line 0) (slice_index plain 0)) ++ (elim j [ true ↦ [] | false ↦ begun_at n below before line plain ]))) ≡ true) [
   | true ↦ rising_none n (is_stray (slice_index line 0) (slice_index plain 0))
   | false ↦ (elim (in_run (slice_index plain 0)) as (λ r. is_rising 0 (rule_numbers (broken StrayByte n (is_stray (slice_index line 0) (slice_index plain 0))
       ++ (elim r [ true ↦ run_found n below before (drop (length (take_while in_run plain)) line) (take_while in_run plain) | false ↦ sign_found n (sign_from (slice_index plain 0) (slice_index plain 1)) ]))) ≡ true) [
@@ -61,3 +61,12 @@ lowest_first n below before last line plain = elim (is_joined last (slice_index 
         | false ↦ rising_sign n (is_stray (slice_index line 0) (slice_index plain 0)) (sign_from (slice_index plain 0) (slice_index plain 1))
       ])
 ]
+
+rising_head : (n : ℕ) (s long : Bool) → is_rising 0 (rule_numbers (broken StrayByte n s ++ broken LongPictureLine n long)) ≡ true
+rising_head n true true = refl
+rising_head n true false = refl
+rising_head n false true = refl
+rising_head n false false = refl
+
+pub lowest_first : LowestFirst
+lowest_first = (rising_at, λ n b bs. rising_head n (not (is_allowed b)) (nat_lt 132 (length (b ∷ bs))))

@@ -84,10 +84,14 @@ module _ (n below : ℕ) where
 abbrev pub picture_byte : ℕ → ℕ → List Found
 picture_byte n b = broken StrayByte n (not (is_allowed b))
 
+-- what is found at the first byte of line n of a picture, with the bytes behind it, the lowest number first
+abbrev pub picture_head : ℕ → ℕ → List ℕ → List Found
+picture_head n b bs = picture_byte n b ++ broken LongPictureLine n (nat_lt 132 (length (b ∷ bs)))
+
 -- what is found in line n of a picture
 unfoldable pub found_in_picture : ℕ → List ℕ → List Found
 found_in_picture n [] = []
-found_in_picture n (b ∷ bs) = picture_byte n b ++ broken LongPictureLine n (nat_lt 132 (length (b ∷ bs))) ++ flat_map (picture_byte n) bs
+found_in_picture n (b ∷ bs) = picture_head n b bs ++ flat_map (picture_byte n) bs
 
 -- how many of the lines below belong to a picture that these words call
 unfoldable pub picture_size : List Kind → ℕ

@@ -1,4 +1,5 @@
-ghost use Rattle.std.specs.Prelude.{IfOk, OnErr, IsTrue, List, length, map, get_or, eqb, ◌≡◌, ◌≤◌, ◌<◌, ◌-◌, Ok, Some};
+ghost use Rattle.std.specs.Prelude.{IfOk, IfErr, OnErr, IsTrue, List, length, map, get_or, eqb, ◌≡◌, ◌≤◌, ◌<◌, ◌-◌, Ok, Some};
+ghost use Rattle.ss_words.specs.declared.refusal.Refusal.TheVariants.{Unexpected};
 ghost use Rattle.ss_words.specs.Reading.{Gives, words_of, lines_of, rest_of};
 ghost use Rattle.ss_words.specs.Plain.{first, plain_of};
 ghost use Rattle.ss_words.specs.Marks as marks;
@@ -41,6 +42,8 @@ impl<'a> Cursor<'a> {
     #[tactic(auto, using(crate::proofs::Marks::taken), unfolding(crate::specs::Reading::look, crate::specs::Reading::skip, crate::specs::Reading::pure, crate::specs::Reading::refuse, crate::specs::Marks::expect))]
     pub fn expect(&mut self, mark: Mark) -> Result<(), Refusal>
         ensures exact { Gives (λ x. tt) result (words_of self.new.rest.now) (marks.expect mark (words_of self.old.rest.now)) }
+        // No memory is taken, so no other refusal; of `Memory` `exact` says nothing.
+        ensures unexpected { IfErr result (λ e. e ≡ Unexpected) }
         ensures shorter { length self.new.rest.now ≤ length self.old.rest.now }
         ensures taken { IfOk result (λ _. length self.new.rest.now < length self.old.rest.now) }
     {
@@ -95,6 +98,8 @@ impl<'a> Cursor<'a> {
     #[tactic(auto, unfolding(crate::specs::Reading::look, crate::specs::Reading::skip, crate::specs::Reading::pure, crate::specs::Reading::refuse, crate::specs::Marks::a_number))]
     pub fn number(&mut self) -> Result<u64, Refusal>
         ensures exact { Gives (λ n. n) result (words_of self.new.rest.now) (marks.a_number (words_of self.old.rest.now)) }
+        // No memory is taken, so no other refusal; of `Memory` `exact` says nothing.
+        ensures unexpected { IfErr result (λ e. e ≡ Unexpected) }
         ensures shorter { length self.new.rest.now ≤ length self.old.rest.now }
         ensures taken { IfOk result (λ _. length self.new.rest.now < length self.old.rest.now) }
     {
