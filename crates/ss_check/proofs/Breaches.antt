@@ -1,5 +1,5 @@
 -- The first breach of statements one behind the other.
-use Rattle.std.proofs.Common.{◌≡◌, ℕ, Bool, true, false, not, ◌||◌, List, [], ◌∷◌, ◌++◌, ◌+◌, ◌-◌, ◌<◌, length, get_or, drop, arith, sub-one, refl, sym, ap, ◌∙◌, append_assoc, Option, Some, None}
+use Rattle.std.proofs.Common.{◌≡◌, ℕ, Bool, true, false, not, ◌||◌, List, [], ◌∷◌, ◌++◌, ◌+◌, ◌-◌, ◌<◌, length, get_or, drop, arith, sub-one, refl, sym, ap, ◌∙◌, append_assoc, Option, option_map, Some, None}
 use Rattle.std.specs.Prelude.{map}
 use Rattle.std.specs.List.{list_any, slice_get}
 use Rattle.std.specs.Option.{option_or}
@@ -13,7 +13,7 @@ use Rattle.ss_check.specs.declared.fault.CheckRule.{CheckRule}
 use Rattle.ss_check.specs.declared.fault.CheckRule.TheVariants.{WrongMain}
 use Rattle.ss_check.specs.declared.fault.CheckFault.{CheckFault}
 use Rattle.ss_check.specs.declared.fault.CheckFault.TheVariants.{Broken, Memory}
-use Rattle.ss_check.specs.Breach.{IsBreach, Statement, breach, breach_of, broken, first_breach, head_statement, is_main_section, last_line, place_statement, statements_behind}
+use Rattle.ss_check.specs.Breach.{IsBreach, Statement, breach, breach_of, broken, first_breach, head_statement, is_main_section, last_line, lowest, place_statement, statements_behind}
 
 option_or-assoc : {T : Type 0} (a b c : Option T) → option_or (option_or a b) c ≡ option_or a (option_or b c)
 option_or-assoc None b c = refl
@@ -106,6 +106,10 @@ pub section_passed : (a b c whole : Option (CheckRule × ℕ)) → option_or a (
 section_passed None None c whole h e f = h
 section_passed None (Some y) c whole h e f = cc
 section_passed (Some x) b c whole h e f = cc
+
+-- a statement that breaks no rule
+pub head_none : (s : Statement) → lowest s.breaks ≡ None → breach_of s ≡ None
+head_none s h = ap (option_map (λ r. (r, s.line))) h
 
 -- a breach of its head, or of its places
 pub head_breach : (f : CheckFault) (a b whole : Option (CheckRule × ℕ)) → option_or a b ≡ whole → IsBreach f a → IsBreach f whole

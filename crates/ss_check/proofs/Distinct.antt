@@ -1,12 +1,12 @@
 -- The table of a section's local variables has distinct names.
-use Rattle.std.proofs.Common.{◌≡◌, ℕ, Bool, true, false, ◌||◌, cond, List, [], ◌∷◌, ◌++◌, refl}
+use Rattle.std.proofs.Common.{◌≡◌, ℕ, Bool, true, false, cond, List, [], ◌∷◌, ◌++◌, refl}
 use Rattle.std.specs.Prelude.{bytes_eq}
 use Rattle.std.specs.List.{IsDistinct, list_any, fold}
 use Rattle.std.proofs.lemmas.Bool.{or_parts}
 use Rattle.std.proofs.lemmas.Cmp.{nat_list_eq_equiv}
 use Rattle.std.proofs.lemmas.Map.Keys.{IsDistinct-push}
 use Rattle.ss_check.specs.Names.{is_clock}
-use Rattle.ss_check.specs.ProgramSound.{AreDistinct, HasDistinctNames}
+use Rattle.ss_check.specs.ProgramSound.{AreDistinct, HasSoundNames}
 use Rattle.ss_check.specs.Program.{SectionTable}
 use Rattle.ss_check.specs.Resolved.{with_local}
 use Rattle.ss_check.proofs.Known.{known}
@@ -34,5 +34,5 @@ pub distinct_locals : (ns : List (List ℕ)) → AreDistinct (fold with_local []
 distinct_locals ns = distinct-fold ns [] distinct_none
 
 -- a program whose only tables are those of its sections
-pub distinct_names : (ss : List SectionTable) → HasDistinctNames (record { globals = []; classes = []; sets = []; sections = ss })
-distinct_names ss = record { globals = distinct_none; classes = distinct_none; attributes = tt; sets = distinct_none }
+pub sound_names : (ss : List SectionTable) → HasSoundNames (record { globals = []; classes = []; sets = []; sections = ss })
+sound_names ss = record { globals = distinct_none; classes = distinct_none; attributes = tt; sets = distinct_none; class_variables = refl }

@@ -19,7 +19,7 @@ use Rattle.ss_routines.specs.Ended as ended
 use Rattle.ss_check.specs.Resolved.{locals_written, resolved, resolved_assign, resolved_expr, resolved_factor, resolved_name, resolved_place, resolved_products, resolved_section, resolved_spot, resolved_sums, resolved_term}
 use Rattle.ss_check.proofs.Breaches.{breach_behind, no_breach_cons, no_breach_place}
 use Rattle.ss_check.proofs.Known.{known, known_parts, any_position, all_known}
-use Rattle.ss_check.proofs.Distinct.{distinct_locals, distinct_names}
+use Rattle.ss_check.proofs.Distinct.{distinct_locals, sound_names}
 use Rattle.ss_check.proofs.Few.{AreFew}
 
 -- ---- names and expressions
@@ -92,7 +92,9 @@ sound_place table l (assign a) h b =
     let fixed = (no_rules l (lacks_arguments (assign a)) (assigns_fixed (assign a)) (has_wrong_picture (assign a)) b).1 in
     let not_fixed = or_parts (is_clock (target_of a) || is_function (target_of a)) false fixed in
     sound_assign table a h (or_parts (is_clock (target_of a)) (is_function (target_of a)) not_fixed.0).0
-sound_place table l (output (prints n es ls)) h b = (as_many es table ls (no_rules l (lacks_arguments (output (prints n es ls))) (assigns_fixed (output (prints n es ls))) (has_wrong_picture (output (prints n es ls))) b).2, sound_exprs table es h)
+sound_place table l (output (prints n es ls)) h b =
+    let right = (no_rules l (lacks_arguments (output (prints n es ls))) (assigns_fixed (output (prints n es ls))) (has_wrong_picture (output (prints n es ls))) b).2 in
+    (as_many es table ls right, (or_parts (not (nat_eq (length es) (field_count ls))) (has_decimal_field ls) right).1, sound_exprs table es h)
 sound_place table l (control c) h b = tt
 
 sound_places : (table : List (List ℕ)) (ss : List Spot) → list_all (known table) (flat_map (λ s. names_written s.place) ss) ≡ true → first_breach (map place_statement ss) ≡ None → sound.AreSoundPlaces 0 (length table) (map (resolved_spot table) ss)
@@ -150,6 +152,6 @@ sound_resolved ss e f l b = record {
   main = let one = mains_counted ss false 1 b in omega (arith, one);
   sections = sound_sections ss false 1 e f b;
   few = rw (length-map ss resolved_section) l;
-  distinct = distinct_names (map resolved_section ss);
+  names = sound_names (map resolved_section ss);
   few_names = omega arith;
 }

@@ -1,5 +1,5 @@
 -- Small programs, and what the rules and the tables make of them.
-use Rattle.std.specs.Prelude.{◌≡◌, ℕ, ◌+◌, Bool, true, List, [], ◌∷◌, ◌++◌, map, codes, Option, Some, None}
+use Rattle.std.specs.Prelude.{◌≡◌, ℕ, ◌+◌, true, List, [], ◌∷◌, ◌++◌, map, codes, Option, Some, None}
 use Rattle.ss_routines.specs.declared.section.SectionKind.TheVariants.{Main}
 use Rattle.ss_routines.specs.Expr.{Expr, expr, no_sums, term, no_products, variable}
 use Rattle.ss_routines.specs.Places.{lets, adds, prints, ends, Place, assign, output, control, Spot, Section}

@@ -1,7 +1,7 @@
 -- What is sound about every checked program.
 use Rattle.std.specs.Prelude.{◌≡◌, ℕ, ◌<◌, ◌+◌, ◌^◌, List, [], ◌∷◌, length, map, count_by, bytes_eq, Bool, true, false}
-use Rattle.std.specs.List.{IsDistinct}
-use Rattle.ss_report.specs.Pictures.{field_count}
+use Rattle.std.specs.List.{IsDistinct, list_all, list_any}
+use Rattle.ss_report.specs.Pictures.{field_count, has_decimal_field}
 use Rattle.ss_check.specs.declared.variable.Variable.{Variable}
 use Rattle.ss_check.specs.declared.variable.Variable.TheVariants.{Global, Local, Clock}
 use Rattle.ss_check.specs.declared.place.Assign.{Assign as AnAssign}
@@ -58,9 +58,9 @@ IsSoundAssign n m (Let written target value) = IsTarget n m target × IsSoundExp
 IsSoundAssign n m (Add value target) = IsTarget n m target × IsSoundExpr n m value
 IsSoundAssign n m (Subtract value target) = IsTarget n m target × IsSoundExpr n m value
 
--- a PRINT has sound values, as many as its picture has fields
+-- a PRINT has sound values, as many as its picture has fields, and no decimal field
 abbrev pub IsSoundOutput : ℕ → ℕ → AnOutput → Type 0
-IsSoundOutput n m (Print count values picture) = (length values ≡ field_count picture) × AreSoundExprs n m values
+IsSoundOutput n m (Print count values picture) = (length values ≡ field_count picture) × (has_decimal_field picture ≡ false) × AreSoundExprs n m values
 
 abbrev pub IsSoundPlace : ℕ → ℕ → Place → Type 0
 IsSoundPlace n m (Assign a) = IsSoundAssign n m a
@@ -103,17 +103,18 @@ abbrev pub HaveDistinctAttributes : List ClassTable → Type 0
 HaveDistinctAttributes [] = Unit {0}
 HaveDistinctAttributes (c ∷ cs) = AreDistinct c.attributes × HaveDistinctAttributes cs
 
--- each of a program's own tables has distinct names
-pub record HasDistinctNames (p : ProgramTable) : Type 0 where
+-- each of a program's own tables has distinct names, and each class has the name of a global variable
+pub record HasSoundNames (p : ProgramTable) : Type 0 where
   pub globals : AreDistinct p.globals
   pub classes : AreDistinct (map (λ c. c.name) p.classes)
   pub attributes : HaveDistinctAttributes p.classes
   pub sets : AreDistinct (map (λ s. s.name) p.sets)
+  pub class_variables : list_all (λ c. list_any (bytes_eq c.name) p.globals) p.classes ≡ true
 
--- a program: one MAIN, sound sections, and tables of distinct names, whose names 32 bits can number
+-- a program: one MAIN, sound sections, and tables of sound names, which 32 bits can number
 pub record IsSound (p : ProgramTable) : Type 0 where
   pub main : count_by is_main p.sections ≡ 1
   pub sections : AreSoundSections (length p.globals) p.sections
   pub few : length p.sections < 2 ^ 63
-  pub distinct : HasDistinctNames p
+  pub names : HasSoundNames p
   pub few_names : length p.globals + length p.classes + length p.sets < 2 ^ 32

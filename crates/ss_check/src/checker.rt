@@ -1,6 +1,6 @@
-ghost use Rattle.std.specs.Prelude.{◌≡◌, map, None, IfOk, IfErr, OnOk};
+ghost use Rattle.std.specs.Prelude.{◌≡◌, map, None, IfOk, IfErr};
 ghost use Rattle.ss_routines.specs.View.{section_view, spots};
-ghost use Rattle.ss_check.specs.Breach.{IsBreach, breach, breach_of, first_breach, head_statement, is_main_section, place_statement};
+ghost use Rattle.ss_check.specs.Breach.{IsBreach, breach, first_breach, head_statement, is_main_section, lowest, place_statement};
 ghost use Rattle.ss_check.specs.Breach as rules;
 ghost use Rattle.ss_check.specs.Resolved.{resolved, resolved_section, resolved_spot};
 
@@ -40,7 +40,12 @@ fn check_sections(
     let mut has_main = false;
     let mut line = 1;
     for section in sections {
-        check_head(has_main, &section)?;
+        if let Some(rule) = head_rule(has_main, &section) {
+            return Err(CheckFault::Broken {
+                rule,
+                line: section.line,
+            });
+        }
         has_main |= is_main(&section);
         line = last_line(&section);
         checked.push(check_section(alloc, section)?)?;
@@ -52,19 +57,14 @@ fn check_sections(
     Ok(checked)
 }
 
-/// Whether the head of a section breaks no rule, with a MAIN before it or none.
-fn check_head(has_main: bool, section: &ss_routines::Section) -> Result<(), CheckFault>
-    ensures ok { OnOk result (breach_of (head_statement has_main (section_view section.now)) ≡ None) }
-    ensures err { IfErr result
-        (λ f. IsBreach f (breach_of (head_statement has_main (section_view section.now)))) }
+/// The lowest rule that the head of a section breaks, with a MAIN before it or none.
+fn head_rule(has_main: bool, section: &ss_routines::Section) -> Option<CheckRule>
+    ensures { result ≡ lowest (head_statement has_main (section_view section.now)).breaks }
 {
     if has_main && is_main(section) {
-        return Err(CheckFault::Broken {
-            rule: CheckRule::WrongMain,
-            line: section.line,
-        });
+        return Some(CheckRule::WrongMain);
     }
-    Ok(())
+    None
 }
 
 fn is_main(section: &ss_routines::Section) -> bool

@@ -2,7 +2,8 @@
 ghost use Rattle.ss_check.specs.LookedUp.{IsLookedUpAgain};
 ghost use Rattle.ss_check.specs.Examples.{EarlierStatementCounts, LowerRuleCounts, FieldsAreCounted, DecimalFieldIsRefused, OneMain, LocalsAreNumbered, NamesAreFound};
 
-/// Each number of a program, looked up in its table, is the name that the text has there.
+/// Each number of a program, looked up in its table, is the name that the text has there, for sections without
+/// parameters, as all are so far.
 pub fn looks_up_again()
     ensures { IsLookedUpAgain }
 {}

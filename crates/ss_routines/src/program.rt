@@ -134,7 +134,8 @@ fn read(alloc: Global, text: &[PlainWord]) -> Result<Sections, TextFault>
 }
 
 /// The sections of a program (docs/LANGUAGE.md, "Sections"), from its plain words: those that come from the words with
-/// number `from` and above, counted from 0. The words are left as they are.
+/// number `from` and above, counted from 0. The words are left as they are. Where no plain word comes from word `from` or
+/// a later one, the answer is `Ok` without sections.
 ///
 /// # Errors
 ///
