@@ -98,7 +98,7 @@ reason_at true t breaks rule p n k e h found =
     reason_is t breaks rule p n k (or_true (is_ready_at t (p + k)) (nat_lt 0 k) (meets t breaks rule (p + k)) (found (omega (arith, ltb-true _ _ e))))
 reason_at false t breaks rule p n k e h found = inl (omega (arith, ltb-false _ _ e))
 
--- a movement ends where its definition in one fact says
+-- a movement ends where the one fact says
 pub forward_ends : (t : ProgramTable) (breaks : List ℕ) (rule : Rule) (p n : ℕ) → EndsAt t breaks rule p n (forward t breaks rule p n)
 forward_ends t breaks rule p n =
     let test : ℕ → Bool = stops t breaks rule p in
@@ -132,6 +132,3 @@ end_by_order t breaks rule p n q r false false e f a b = omega (arith, ltb-false
 -- and nowhere else
 pub one_end : (t : ProgramTable) (breaks : List ℕ) (rule : Rule) (p n q r : ℕ) → EndsAt t breaks rule p n q → EndsAt t breaks rule p n r → q ≡ r
 one_end t breaks rule p n q r a b = end_by_order t breaks rule p n q r _ _ refl refl a b
-
-pub forward_ends_at : (t : ProgramTable) (breaks : List ℕ) (rule : Rule) (p n q : ℕ) → q ≡ forward t breaks rule p n → EndsAt t breaks rule p n q
-forward_ends_at t breaks rule p n q e = rw e (forward_ends t breaks rule p n)
