@@ -3,9 +3,7 @@ use Rattle.std.specs.Prelude.{ℕ, zero, suc, ◌+◌, ◌≡◌, ◌<◌, ◌�
 use Rattle.std.specs.List.{list_any}
 use Rattle.ss_check.specs.Program.{ProgramTable, spot_at}
 use Rattle.ss_check.specs.declared.place.Spot.{Spot}
-use Rattle.ss_machine.specs.declared.status.Status.{Status}
-use Rattle.ss_machine.specs.declared.status.Status.TheVariants.{Ready, Stopped, Finished, Faulted}
-use Rattle.ss_machine.specs.State.{State}
+use Rattle.ss_machine.specs.State.{State, is_ready}
 use Rattle.ss_machine.specs.Run.{run}
 use Rattle.ss_machine.specs.Moment.{Moment, position}
 use Rattle.ss_debug.specs.declared.rule.Rule.{Rule}
@@ -15,13 +13,6 @@ use Rattle.ss_debug.specs.declared.rule.Rule.TheVariants.{Count, Break}
 unfoldable pub least : (ℕ → Bool) → ℕ → ℕ
 least test zero = 0
 least test (suc n) = if nat_lt (least test n) n then least test n else (if test n then n else suc n)
-
--- whether a status lets the run go on
-abbrev pub is_ready : Status → Bool
-is_ready Ready = true
-is_ready Stopped = false
-is_ready Finished = false
-is_ready (Faulted f) = false
 
 -- whether the status of state p is ready
 abbrev pub is_ready_at : ProgramTable → ℕ → Bool

@@ -22,11 +22,11 @@ use Rattle.ss_check.specs.ProgramSound.{IsSound, is_end}
 use Rattle.ss_check.proofs.Mains.{one_main}
 use Rattle.ss_machine.specs.declared.change.Change.{Change}
 use Rattle.ss_machine.specs.declared.status.Status.{Status}
-use Rattle.ss_machine.specs.declared.status.Status.TheVariants.{Ready, Stopped, Finished, Faulted}
-use Rattle.ss_machine.specs.State.{State}
+use Rattle.ss_machine.specs.declared.status.Status.TheVariants.{Stopped, Finished, Faulted}
+use Rattle.ss_machine.specs.State.{State, is_ready}
 use Rattle.ss_machine.specs.Values.{Readings, readings, variable_value, value_of, values_of}
 use Rattle.ss_machine.specs.Step.{settled, gone_on, assigned, assigned_value, target_of, appended, step, step_by, step_at}
-use Rattle.ss_machine.specs.Run.{run, next_by}
+use Rattle.ss_machine.specs.Run.{run}
 use Rattle.ss_machine.specs.Well.{IsWell}
 use Rattle.ss_machine.specs.Moment.{Stands}
 use Rattle.ss_machine.proofs.Sounds.{there, section_sound, spot_next, ended_some}
@@ -140,11 +140,9 @@ well_by p s (Some spot) sound w e = well_at p s spot.place w (λ f. spot_next p 
 pub well_step : (p : ProgramTable) (s : State) → IsSound p → IsWell p s → IsWell p (step p s)
 well_step p s sound w = well_by p s (spot_at p s.frame.section s.frame.place) sound w refl
 
-well_next : (p : ProgramTable) (s : State) (status : Status) → IsSound p → IsWell p s → IsWell p (next_by p s status)
-well_next p s Ready sound w = well_step p s sound w
-well_next p s Stopped sound w = w
-well_next p s Finished sound w = w
-well_next p s (Faulted e) sound w = w
+well_next : (p : ProgramTable) (s : State) (goes_on : Bool) → IsSound p → IsWell p s → IsWell p (if goes_on then step p s else s)
+well_next p s true sound w = well_step p s sound w
+well_next p s false sound w = w
 
 start_place : (p : ProgramTable) (o : Option SectionTable) → IsSound p → slice_get p.sections (main_number p) ≡ o → 0 < length (places_of o)
 start_place p None sound e = absurd (none_there (there p.sections (main_number p) (one_main p sound)) e)
@@ -172,7 +170,7 @@ well_start p sound = record {
 -- every state of the run is well-formed
 pub well_run : (p : ProgramTable) (k : ℕ) → IsSound p → IsWell p (run p k)
 well_run p zero sound = well_start p sound
-well_run p (suc k) sound = well_next p (run p k) (run p k).status sound (well_run p k sound)
+well_run p (suc k) sound = well_next p (run p k) (is_ready (run p k).status) sound (well_run p k sound)
 
 -- so the state of a machine is
 pub stands_well : (p : ProgramTable) (s : State) (j : Log Change) → Stands p s j → IsWell p s

@@ -1,9 +1,8 @@
 -- The one run of a program.
-use Rattle.std.specs.Prelude.{ℕ, zero, suc, pos, [], length, replicate, slice_get}
+use Rattle.std.specs.Prelude.{ℕ, zero, suc, pos, [], length, replicate, slice_get, if◌then◌else◌}
 use Rattle.ss_check.specs.Program.{ProgramTable, main_number, locals_of}
-use Rattle.ss_machine.specs.declared.status.Status.{Status}
-use Rattle.ss_machine.specs.declared.status.Status.TheVariants.{Ready, Stopped, Finished, Faulted}
-use Rattle.ss_machine.specs.State.{State, FrameState}
+use Rattle.ss_machine.specs.declared.status.Status.TheVariants.{Ready}
+use Rattle.ss_machine.specs.State.{State, FrameState, is_ready}
 use Rattle.ss_machine.specs.Step.{step}
 
 -- the frame of MAIN at its first place, all its locals 0
@@ -14,14 +13,8 @@ abbrev pub start : ProgramTable → State
 start p = record { variables = replicate (length p.globals) (pos 0); frame = main_frame p; below = []; clock = pos 0; report = []; status = Ready }
 
 -- a state that isn't ready stays
-abbrev pub next_by : ProgramTable → State → Status → State
-next_by p s Ready = step p s
-next_by p s Stopped = s
-next_by p s Finished = s
-next_by p s (Faulted e) = s
-
 abbrev pub next : ProgramTable → State → State
-next p s = next_by p s s.status
+next p s = if is_ready s.status then step p s else s
 
 -- state number k
 abbrev pub run : ProgramTable → ℕ → State

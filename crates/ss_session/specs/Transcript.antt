@@ -4,8 +4,7 @@ use Rattle.std.specs.Io.KnownBytes.{Appends}
 use Rattle.ss_words.specs.Faults.{text_rule_code}
 use Rattle.ss_check.specs.CheckRules.{check_rule_code}
 use Rattle.ss_check.specs.Program.{ProgramTable}
-use Rattle.ss_machine.specs.declared.status.Status.{Status}
-use Rattle.ss_machine.specs.declared.status.Status.TheVariants.{Ready, Stopped, Finished, Faulted}
+use Rattle.ss_machine.specs.State.{is_faulted}
 use Rattle.ss_machine.specs.Run.{run}
 use Rattle.ss_debug.specs.Words.{lines_of}
 use Rattle.ss_debug.specs.Turn.{begun, answers, sitting_after}
@@ -32,12 +31,6 @@ abbrev pub transcript : Outcome → List ℕ → List ℕ
 transcript (refused_text rule line) commands = refusal_line (text_rule_code rule) line
 transcript (refused_check rule line) commands = refusal_line (check_rule_code rule) line
 transcript (accepted program) commands = told program (lines_of commands)
-
-abbrev pub is_faulted : Status → Bool
-is_faulted Ready = false
-is_faulted Stopped = false
-is_faulted Finished = false
-is_faulted (Faulted f) = true
 
 -- whether the last state is faulted
 abbrev pub ends_faulted : ProgramTable → List (List ℕ) → Bool

@@ -2,7 +2,8 @@ ghost use Rattle.std.specs.Prelude.{◌≡◌, ℕ, ◌+◌, ◌-◌, ◌^◌, �
 ghost use Rattle.std.specs.Io.KnownBytes.{Appends};
 ghost use Rattle.ss_debug.specs.Words.{lines_of};
 ghost use Rattle.ss_session.specs.SoFar.{WritesPart};
-ghost use Rattle.ss_session.specs.Transcript.{TalkGives, is_faulted, end_of};
+ghost use Rattle.ss_machine.specs.State.{is_faulted};
+ghost use Rattle.ss_session.specs.Transcript.{TalkGives, end_of};
 
 use crate::ending::{Cut, End};
 use crate::outlet::{Outlet, PutFault, put_all};
