@@ -1,4 +1,4 @@
-use Rattle.std.proofs.Common.{◌≡◌, ℕ, ◌+◌, ◌<◌, ◌≤◌, Bool, true, false, zero, suc, refl, arith, cond, nat_lt, not, ◌||◌, ◌&&◌, ◌-◌, List, subst, ◌⊎◌, inl, inr, rules}
+use Rattle.std.proofs.Common.{◌≡◌, ℕ, ◌+◌, ◌<◌, ◌≤◌, Bool, true, false, zero, suc, refl, sym, arith, cond, nat_lt, not, ◌||◌, ◌&&◌, ◌-◌, List, subst, ◌⊎◌, inl, inr, rules}
 use borrow.Author.Count.{below_more}
 use borrow.Author.Tests.{ltb-true, ltb-false}
 use Rattle.ss_check.specs.Program.{ProgramTable}
@@ -98,7 +98,7 @@ reason_at true t breaks rule p n k e h found =
     reason_is t breaks rule p n k (or_true (is_ready_at t (p + k)) (nat_lt 0 k) (meets t breaks rule (p + k)) (found (omega (arith, ltb-true _ _ e))))
 reason_at false t breaks rule p n k e h found = inl (omega (arith, ltb-false _ _ e))
 
--- a movement ends where its definition in one fact says
+-- a movement ends where the one fact says
 pub forward_ends : (t : ProgramTable) (breaks : List ℕ) (rule : Rule) (p n : ℕ) → EndsAt t breaks rule p n (forward t breaks rule p n)
 forward_ends t breaks rule p n =
     let test : ℕ → Bool = stops t breaks rule p in
@@ -117,5 +117,18 @@ forward_ends t breaks rule p n =
       for_a_reason = reason_at _ t breaks rule p n (least test n) refl w (least_passes test n);
     }
 
-pub forward_ends_at : (t : ProgramTable) (breaks : List ℕ) (rule : Rule) (p n q : ℕ) → q ≡ forward t breaks rule p n → EndsAt t breaks rule p n q
-forward_ends_at t breaks rule p n q e = rw e (forward_ends t breaks rule p n)
+no_end_before : (t : ProgramTable) (breaks : List ℕ) (rule : Rule) (p n q r : ℕ) → EndsAt t breaks rule p n q → EndsAt t breaks rule p n r → q < r →
+    (q ≡ p + n) ⊎ ((is_ready_at t q ≡ false) ⊎ ((p < q) × (meets t breaks rule q ≡ true))) → q ≡ r
+no_end_before t breaks rule p n q r a b h (inl e) = let w = b.within in absurd (omega arith)
+no_end_before t breaks rule p n q r a b h (inr (inl e)) = let ready = b.not_past_an_end q a.no_earlier h in absurd (cc)
+no_end_before t breaks rule p n q r a b h (inr (inr e)) = let unmet = b.not_past_the_rule q e.0 h in let met = e.1 in absurd (cc)
+
+end_by_order : (t : ProgramTable) (breaks : List ℕ) (rule : Rule) (p n q r : ℕ) (x y : Bool) → nat_lt q r ≡ x → nat_lt r q ≡ y →
+    EndsAt t breaks rule p n q → EndsAt t breaks rule p n r → q ≡ r
+end_by_order t breaks rule p n q r true y e f a b = no_end_before t breaks rule p n q r a b (omega (arith, ltb-true _ _ e)) a.for_a_reason
+end_by_order t breaks rule p n q r false true e f a b = sym (no_end_before t breaks rule p n r q b a (omega (arith, ltb-true _ _ f)) b.for_a_reason)
+end_by_order t breaks rule p n q r false false e f a b = omega (arith, ltb-false _ _ e, ltb-false _ _ f)
+
+-- and nowhere else
+pub one_end : (t : ProgramTable) (breaks : List ℕ) (rule : Rule) (p n q r : ℕ) → EndsAt t breaks rule p n q → EndsAt t breaks rule p n r → q ≡ r
+one_end t breaks rule p n q r a b = end_by_order t breaks rule p n q r _ _ refl refl a b

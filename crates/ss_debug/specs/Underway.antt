@@ -1,9 +1,9 @@
 -- What a turn answers to its caller, and where it stands after a refusal of memory.
-use Rattle.std.specs.Prelude.{ℕ, ◌-◌, ◌≡◌, ◌≤◌, List}
+use Rattle.std.specs.Prelude.{ℕ, ◌-◌, ◌≡◌, ◌≤◌, Bool, true, false, List}
 use Rattle.ss_check.specs.Program.{ProgramTable}
 use Rattle.ss_machine.specs.Moment.{Moment, position}
 use Rattle.ss_debug.specs.declared.said.Command.{Command}
-use Rattle.ss_debug.specs.declared.said.Command.TheVariants.{Step, Back, Run, Quit}
+use Rattle.ss_debug.specs.declared.said.Command.TheVariants.{Blank, Step, Back, Run, Quit}
 use Rattle.ss_debug.specs.declared.go.Go.{Go}
 use Rattle.ss_debug.specs.declared.go.Go.TheVariants as go
 use Rattle.ss_debug.specs.declared.rule.Rule.TheVariants as rule
@@ -13,6 +13,12 @@ use Rattle.ss_debug.specs.Turn.{Desk, moved, forward_from}
 abbrev pub go_of : Command → Go
 go_of Quit = go.Quit
 go_of _ = go.On
+
+-- whether a command gives no answer
+abbrev pub is_silent : Command → Bool
+is_silent Blank = true
+is_silent Quit = true
+is_silent _ = false
 
 -- a debugger: its machine and its break lines
 pub record Held : Type 0 where

@@ -1,9 +1,9 @@
 //! The debugger, and what each command does.
-ghost use Rattle.std.specs.Prelude.{◌≡◌, ◌-◌, ◌++◌, [], OnOk, OnErr, IfOk};
+ghost use Rattle.std.specs.Prelude.{◌≡◌, ◌-◌, ◌++◌, [], true, OnOk, OnErr, IfOk, IsOk};
 ghost use Rattle.ss_machine.specs.Moment.{position};
 ghost use Rattle.ss_debug.specs.Turn.{moved, forward_from, forward_answer, after, answer};
 ghost use Rattle.ss_debug.specs.Answer.{movement_text, back_word, var_text, report_text};
-ghost use Rattle.ss_debug.specs.Underway.{Held, desk_of, go_of, IsOnTheWay, IsUnderway};
+ghost use Rattle.ss_debug.specs.Underway.{Held, desk_of, go_of, is_silent, IsOnTheWay, IsUnderway};
 
 use crate::go::Go;
 use crate::movement::{advance, retreat};
@@ -103,7 +103,7 @@ impl Debugger {
 /// One turn: does what a command says, and appends its whole answer to `bytes` (docs/DEBUGGER.md). `Quit` is answered for QUIT alone.
 ///
 /// `AllocError` where a growth was refused: `bytes` and the break lines are as before, and the machine stands where the steps that
-/// were made led.
+/// were made led. A command that gives no answer, a blank line or QUIT, succeeds.
 #[tactic(auto, unfolding(crate::specs::Turn::after, crate::specs::Turn::answer, crate::specs::Underway::IsUnderway))]
 pub fn obey(
     debugger: &mut Debugger,
@@ -114,6 +114,7 @@ pub fn obey(
     ensures place { OnOk result (desk_of debugger.new ≡ after debugger.old.machine.program (desk_of debugger.old) command) }
     ensures said { OnOk result (bytes.new.items ≡ bytes.old.items ++ answer debugger.old.machine.program (desk_of debugger.old) command) }
     ensures quit { IfOk result (λ go. go ≡ go_of command) }
+    ensures silent { is_silent command ≡ true → IsOk result }
     ensures memory { OnErr result ((bytes.new.items ≡ bytes.old.items) × IsUnderway debugger.old.machine.program (desk_of debugger.old) command (desk_of debugger.new)) }
 {
     match command {

@@ -1,10 +1,19 @@
-//! What the definitions say of small command lines: each function is a law, proved by computing.
+//! Laws on the definitions. Each function does nothing, and its contract says the law: that a movement has one end, and, proved by
+//! computing, what small command lines say.
 #![tactic(auto, unfolding(ss_words::specs::TextBytes::in_run, ss_words::specs::TextLines::without_empty_last, ss_words::specs::TextRuns::number_of, ss_words::specs::TextRuns::without_stops, crate::specs::Words::words_of, crate::specs::Words::lines_of, crate::specs::Words::number_within, crate::specs::Words::name_of, crate::specs::Command::said_by, crate::specs::Command::command_of))]
 
 ghost use Rattle.std.specs.Prelude.{◌≡◌, [], ◌∷◌, ◌++◌, codes, replicate};
 ghost use Rattle.ss_debug.specs.declared.said.Command.TheVariants.{Blank, Bad, Step, Back, Run, ShowVar, ShowReport, Quit};
 ghost use Rattle.ss_debug.specs.Words.{lines_of};
 ghost use Rattle.ss_debug.specs.Examples.{EachSays};
+ghost use Rattle.ss_debug.specs.Laws.{MovementEnds, EndIsUnique};
+
+/// A movement ends at exactly one position: the least later one that meets its rule, within its bound and never past the first state
+/// that is not ready.
+pub fn a_movement_has_one_end()
+    ensures ends { MovementEnds }
+    ensures unique { EndIsUnique }
+{}
 
 /// Behind the last line feed stands no line; a carriage return stays in its line.
 fn lines_are_pieces_between_line_feeds()

@@ -14,6 +14,7 @@ mod words;
 
 pub use debugger::{Debugger, obey};
 pub use go::Go;
+pub use laws::a_movement_has_one_end;
 pub use name::Name;
 pub use read::command;
 pub use said::Command;

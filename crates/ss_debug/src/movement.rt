@@ -1,7 +1,7 @@
 //! Movements: forward, step by step, to where a rule is met, and back.
 ghost use Rattle.std.specs.Prelude.{◌≡◌, ◌+◌, ◌-◌, ◌<◌, ◌≤◌, OnOk, OnErr, true};
 ghost use Rattle.ss_machine.specs.Moment.{position};
-ghost use Rattle.ss_debug.specs.Move.{is_ready_at, line_at, meets, is_stop, stops, forward, is_on_break, EndsAt, IsAt};
+ghost use Rattle.ss_debug.specs.Move.{is_ready_at, line_at, meets, is_stop, stops, forward, is_on_break, IsAt};
 
 use crate::rule::Rule;
 use ss_machine::{Machine, Status};
@@ -62,9 +62,11 @@ fn step_once(machine: &mut Machine) -> Result<(), AllocError>
     }
 }
 
-/// What `advance` does, whose contract says where it ends in two ways.
+/// Steps to the least later position at which the rule is met or the status isn't ready, within the bound.
+///
+/// `AllocError` where a step was refused memory: the machine stands where the steps before it led.
 #[tactic(auto, using(crate::proofs::Moves::least_is, crate::proofs::Moves::least_at_least, crate::proofs::Moves::or_false_left))]
-fn step_on(
+pub fn advance(
     machine: &mut Machine,
     breaks: &[usize],
     rule: Rule,
@@ -82,23 +84,6 @@ fn step_on(
         }
     }
     Ok(())
-}
-
-/// Steps to the least later position at which the rule is met or the status isn't ready, within the bound.
-///
-/// `AllocError` where a step was refused memory: the machine stands where the steps before it led.
-#[tactic(auto, using(crate::proofs::Moves::forward_ends_at))]
-pub fn advance(
-    machine: &mut Machine,
-    breaks: &[usize],
-    rule: Rule,
-    bound: u64,
-) -> Result<(), AllocError>
-    ensures ok { OnOk result (IsAt machine.old.program (forward machine.old.program breaks.now rule (position machine.old) bound) machine.new) }
-    ensures ends { OnOk result (EndsAt machine.old.program breaks.now rule (position machine.old) bound (position machine.new)) }
-    ensures memory { OnErr result ((machine.new.program ≡ machine.old.program) × (position machine.old ≤ position machine.new) × (position machine.new ≤ forward machine.old.program breaks.now rule (position machine.old) bound)) }
-{
-    step_on(machine, breaks, rule, bound)
 }
 
 /// Steps back a number of times, or to the start.

@@ -1,16 +1,10 @@
 //! Lines that are read, and one turn of each command with memory at hand, which no clause promises.
-ghost use Rattle.std.specs.Prelude.{◌≡◌, false, IfOk};
-ghost use Rattle.ss_routines.specs.View.{place_view, section_view};
-ghost use Rattle.ss_check.specs.Ended.{IsEnded, is_end};
-
 use crate::{Command, Debugger, Go, command, obey};
 use ss_check::check;
 use ss_machine::Machine;
-use ss_routines::{
-    Assign, Control, Expr, Factor, Output, Place, Reference, Section, SectionKind, Sections, Spot,
-    Term,
-};
-use std::alloc::{AllocError, Global};
+use ss_routines::sections;
+use ss_words::words;
+use std::alloc::Global;
 use std::process::Abort;
 use std::test::Fail;
 
@@ -36,86 +30,11 @@ fn lines_are_read(rt: HostRuntime) {
     }
 }
 
-fn expression(alloc: Global, factor: Factor) -> Expr {
-    let first = Term {
-        first: factor,
-        more: Vec::new(alloc),
-    };
-    Expr {
-        sign: None,
-        first,
-        more: Vec::new(alloc),
-    }
-}
-
-/// `LET X = 5`
-fn assignment(alloc: Global) -> Result<Place, AllocError>
-    ensures { IfOk result (λ p. is_end (place_view p) ≡ false) }
-{
-    let target = Reference {
-        name: Vec::from_slice(alloc, b"X")?,
-    };
-    Ok(Place::Assign(Assign::Let {
-        written: true,
-        target,
-        value: expression(alloc, Factor::Number(5)),
-    }))
-}
-
-/// `PRINT 1 LINE WITH X THUS` and the line `X = ***`
-fn print(alloc: Global) -> Result<Place, AllocError>
-    ensures { IfOk result (λ p. is_end (place_view p) ≡ false) }
-{
-    let x = Factor::Name(Vec::from_slice(alloc, b"X")?);
-    let mut values = Vec::new(alloc);
-    values.push(expression(alloc, x))?;
-    let mut picture = Vec::new(alloc);
-    picture.push(Vec::from_slice(alloc, b"X = ***")?)?;
-    Ok(Place::Output(Output::Print {
-        count: 1,
-        values,
-        picture,
-    }))
-}
-
-/// MAIN on line 1: a statement on line 2, one on line 3, STOP on line 5, and END.
-fn main_section(alloc: Global, first: Place, second: Place) -> Result<Section, AllocError>
-    requires first { is_end (place_view first) ≡ false }
-    requires second { is_end (place_view second) ≡ false }
-    ensures { IfOk result (λ s. IsEnded (section_view s).places) }
-{
-    let mut places = Vec::new(alloc);
-    places.push(Spot {
-        line: 2,
-        place: first,
-    })?;
-    places.push(Spot {
-        line: 3,
-        place: second,
-    })?;
-    places.push(Spot {
-        line: 5,
-        place: Place::Control(Control::Stop),
-    })?;
-    places.push(Spot {
-        line: 6,
-        place: Place::Control(Control::End),
-    })?;
-    Ok(Section {
-        line: 1,
-        kind: SectionKind::Main,
-        name: Vec::from_slice(alloc, b"MAIN")?,
-        parameters: Vec::new(alloc),
-        places,
-    })
-}
-
-/// A debugger at the start of MAIN, LET X = 5, PRINT 1 LINE WITH X THUS and its picture, STOP, END, each on a line.
+/// A debugger at the start of a program: an assignment on line 2, PRINT on line 3 with its picture, STOP on line 5 and END.
 fn debugger(alloc: Global) -> Result<Debugger, Fail> {
-    let main = main_section(alloc, assignment(alloc)?, print(alloc)?)?;
-    let mut list = Vec::new(alloc);
-    list.push(main)?;
-    let program = check(alloc, Sections { list })?;
+    let text = "MAIN\nLET X = 5\nPRINT 1 LINE WITH X THUS\nX = ***\nSTOP\nEND\n";
+    let sections = sections(alloc, &words(alloc, text.as_bytes())?, 0)?;
+    let program = check(alloc, sections)?;
     Ok(Debugger::new(alloc, Machine::new(alloc, program)?))
 }
 

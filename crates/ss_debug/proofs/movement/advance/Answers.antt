@@ -2,7 +2,7 @@ use Rattle.std.proofs.Common.{◌≡◌, true, arith, rules}
 use Rattle.ss_machine.specs.Moment.{position}
 use Rattle.ss_debug.specs.Move.{stops}
 use Rattle.ss_debug.proofs.Moves.{least_is, least_at_least}
-use Rattle.ss_debug.proofs.movement.step_on.Goals as goal
+use Rattle.ss_debug.proofs.movement.advance.Goals as goal
 
 pub returns-then-is_at_stop-clause-ok : goal.returns-then-is_at_stop-clause-ok
 returns-then-is_at_stop-clause-ok c =
