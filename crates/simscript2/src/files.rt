@@ -1,4 +1,4 @@
-ghost use Rattle.std.specs.Prelude.{◌≡◌, ◌≤◌, ◌^◌, [], length, IfOk, IfErr, IfSome, None, codes};
+ghost use Rattle.std.specs.Prelude.{◌≡◌, ◌≢◌, ◌≤◌, ◌^◌, [], length, IfOk, IfErr, IfSome, None, codes};
 ghost use Rattle.simscript2.specs.Stops.{IsOfFile, path_or};
 
 use crate::stop::Stop;
@@ -34,8 +34,10 @@ fn stop_at<'a>(error: io::Error, path: &'a str) -> Stop<'a>
     }
 }
 
+/// The bytes of the file of a path.
 fn read_file<'a, R: Files + AllocGlobal>(rt: &R, path: &'a str) -> Result<Vec<u8>, Stop<'a>>
-    ensures { IfErr result (λ stop. IsOfFile path.now stop) }
+    ensures limit { IfOk result (λ bytes. length bytes.items ≤ 2 ^ 26) }
+    ensures err { IfErr result (λ stop. IsOfFile path.now stop) }
 {
     let file = match fs::open(rt, path) {
         Ok(file) => file,
@@ -52,7 +54,8 @@ pub fn read_model<'a, R: Files + Input + AllocGlobal>(
     rt: &R,
     path: Option<&'a str>,
 ) -> Result<Vec<u8>, Stop<'a>>
-    ensures { IfErr result (λ stop. IsOfFile (path_or path.entry (codes "-")) stop) }
+    ensures limit { IfOk result (λ bytes. length bytes.items ≤ 2 ^ 26) }
+    ensures err { IfErr result (λ stop. IsOfFile (path_or path.entry (codes "-")) stop) }
 {
     let Some(path) = path else {
         return match read_all(rt.alloc(), rt.reader()) {
@@ -69,6 +72,7 @@ pub fn read_or<'a, R: Files + AllocGlobal>(
     path: Option<&'a str>,
     otherwise: &[u8],
 ) -> Result<Vec<u8>, Stop<'a>>
+    ensures limit { path.entry ≢ None → IfOk result (λ bytes. length bytes.items ≤ 2 ^ 26) }
     ensures unnamed { path.entry ≡ None → IfOk result (λ bytes. bytes.items ≡ otherwise.now) }
     ensures err { IfErr result (λ stop. IsOfFile (path_or path.entry []) stop) }
 {
