@@ -1,9 +1,10 @@
-ghost use Rattle.std.specs.Prelude.{◌≡◌, ◌≤◌, ◌^◌, [], length, IfOk, IfErr, IfSome, None, codes};
+ghost use Rattle.std.specs.Prelude.{◌≡◌, ◌≢◌, ◌≤◌, ◌^◌, [], length, IfOk, IfErr, IfSome, None, codes};
+ghost use Rattle.std.specs.IoError.{error_kind};
 ghost use Rattle.simscript2.specs.Stops.{IsOfFile, path_or};
 
-use crate::stop::Stop;
+use crate::stop::{Stop, stop_by};
 use std::alloc::Global;
-use std::io::Read;
+use std::io::{ErrorKind, Read};
 use std::rt::Files;
 use std::{fs, io};
 
@@ -18,24 +19,24 @@ fn read_all<R: Read + Drop>(alloc: Global, reader: R) -> io::Result<Vec<u8>>
     let mut bytes = Vec::new(alloc);
     reader.take(MOST_BYTES as u64 + 1).read_to_end(&mut bytes)?;
     if bytes.len() > MOST_BYTES {
-        return Err(io::Error::from(io::ErrorKind::InvalidData));
+        return Err(io::Error::from(ErrorKind::InvalidData));
     }
     Ok(bytes)
 }
 
 /// Why the file of a path was not read.
 fn stop_at<'a>(error: io::Error, path: &'a str) -> Stop<'a>
-    ensures { IsOfFile path.now result }
+    ensures memory { error_kind error ≡ ErrorKind.OutOfMemory → result ≡ Stop.Memory }
+    ensures other { error_kind error ≢ ErrorKind.OutOfMemory → result ≡ Stop.CannotRead path.entry }
+    ensures names { IsOfFile path.now result }
 {
-    if error.kind() == io::ErrorKind::OutOfMemory {
-        Stop::Memory
-    } else {
-        Stop::CannotRead(path)
-    }
+    stop_by(&error, Stop::CannotRead(path))
 }
 
+/// The bytes of the file of a path.
 fn read_file<'a, R: Files + AllocGlobal>(rt: &R, path: &'a str) -> Result<Vec<u8>, Stop<'a>>
-    ensures { IfErr result (λ stop. IsOfFile path.now stop) }
+    ensures limit { IfOk result (λ bytes. length bytes.items ≤ 2 ^ 26) }
+    ensures err { IfErr result (λ stop. IsOfFile path.now stop) }
 {
     let file = match fs::open(rt, path) {
         Ok(file) => file,
@@ -52,7 +53,8 @@ pub fn read_model<'a, R: Files + Input + AllocGlobal>(
     rt: &R,
     path: Option<&'a str>,
 ) -> Result<Vec<u8>, Stop<'a>>
-    ensures { IfErr result (λ stop. IsOfFile (path_or path.entry (codes "-")) stop) }
+    ensures limit { IfOk result (λ bytes. length bytes.items ≤ 2 ^ 26) }
+    ensures err { IfErr result (λ stop. IsOfFile (path_or path.entry (codes "-")) stop) }
 {
     let Some(path) = path else {
         return match read_all(rt.alloc(), rt.reader()) {
@@ -69,6 +71,7 @@ pub fn read_or<'a, R: Files + AllocGlobal>(
     path: Option<&'a str>,
     otherwise: &[u8],
 ) -> Result<Vec<u8>, Stop<'a>>
+    ensures limit { path.entry ≢ None → IfOk result (λ bytes. length bytes.items ≤ 2 ^ 26) }
     ensures unnamed { path.entry ≡ None → IfOk result (λ bytes. bytes.items ≡ otherwise.now) }
     ensures err { IfErr result (λ stop. IsOfFile (path_or path.entry []) stop) }
 {

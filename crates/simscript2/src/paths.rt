@@ -1,12 +1,13 @@
-ghost use Rattle.std.specs.Prelude.{IfErr};
+ghost use Rattle.std.specs.Prelude.{◌≡◌, ◌≢◌, IfErr};
+ghost use Rattle.clap.specs.Words.{kind_of};
 ghost use Rattle.simscript2.specs.Stops.{IsOfWords};
 
-use crate::stop::Stop;
+use crate::stop::{Stop, stop_by};
 use clap::error::ErrorKind;
 use clap::{Arg, Command, Error};
 use std::alloc::Global;
+use std::env;
 use std::rt::Env;
-use std::{env, io};
 
 /// The three paths, where they are given.
 #[derive(Drop)]
@@ -22,8 +23,7 @@ pub fn read_arguments(rt: &HostRuntime) -> Result<Vec<String>, Stop<'static>>
 {
     let arguments = match env::args(rt) {
         Ok(arguments) => arguments,
-        Err(error) if error.kind() == io::ErrorKind::OutOfMemory => return Err(Stop::Memory),
-        Err(_) => return Err(Stop::Usage),
+        Err(error) => return Err(stop_by(&error, Stop::Usage)),
     };
     match arguments.collect(rt.alloc()) {
         Ok(words) => Ok(words),
@@ -44,15 +44,23 @@ fn parse<'a>(alloc: Global, arguments: &'a [String]) -> Result<Paths<'a>, Error>
     })
 }
 
+/// Why the words gave no paths.
+fn stop_of(error: &Error) -> Stop<'static>
+    ensures memory { kind_of error.now ≡ ErrorKind.OutOfMemory → result ≡ Stop.Memory }
+    ensures other { kind_of error.now ≢ ErrorKind.OutOfMemory → result ≡ Stop.Usage }
+{
+    match error.kind() {
+        ErrorKind::OutOfMemory => Stop::Memory,
+        _ => Stop::Usage,
+    }
+}
+
 /// The paths that the words name. Every answer that gives no paths, that for help among them, is a refusal of the words.
 pub fn read_paths<'a>(alloc: Global, arguments: &'a [String]) -> Result<Paths<'a>, Stop<'a>>
     ensures { IfErr result (λ stop. IsOfWords stop) }
 {
     match parse(alloc, arguments) {
         Ok(paths) => Ok(paths),
-        Err(error) => match error.kind() {
-            ErrorKind::OutOfMemory => Err(Stop::Memory),
-            _ => Err(Stop::Usage),
-        },
+        Err(error) => Err(stop_of(&error)),
     }
 }

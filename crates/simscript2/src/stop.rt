@@ -1,5 +1,8 @@
-ghost use Rattle.std.specs.Prelude.{◌≡◌};
+ghost use Rattle.std.specs.Prelude.{◌≡◌, ◌≢◌};
+ghost use Rattle.std.specs.IoError.{error_kind};
 ghost use Rattle.simscript2.specs.Stops.{stop_status};
+
+use std::io::{Error, ErrorKind};
 
 /// What stops the program before a session, or ends a session without its transcript.
 #[derive(Clone, Copy, Drop)]
@@ -25,6 +28,17 @@ impl Stop<'_> {
             Stop::CannotWrite => 2,
             Stop::Memory => 5,
         }
+    }
+}
+
+/// What an error of the system stops the program by: memory that was refused, or `otherwise`.
+pub fn stop_by<'a>(error: &Error, otherwise: Stop<'a>) -> Stop<'a>
+    ensures memory { error_kind error.now ≡ ErrorKind.OutOfMemory → result ≡ Stop.Memory }
+    ensures other { error_kind error.now ≢ ErrorKind.OutOfMemory → result ≡ otherwise.entry }
+{
+    match error.kind() {
+        ErrorKind::OutOfMemory => Stop::Memory,
+        _ => otherwise,
     }
 }
 

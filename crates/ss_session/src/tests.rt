@@ -197,6 +197,75 @@ fn a_write_that_fails_leaves_a_prefix(rt: HostRuntime) {
     }
 }
 
+/// Takes every piece whole but the one of the call `fails_at`, counted from 0, and keeps how many calls there were.
+#[derive(Drop)]
+struct FailsOnce {
+    bytes: Vec<u8>,
+    calls: u64,
+    fails_at: u64,
+    failures: u64,
+}
+
+impl Outlet for FailsOnce {
+    ghost use Rattle.std.specs.Prelude.{None};
+
+    ghost taken = { λ s. None };
+
+    ghost failures = { λ s. s.failures };
+
+    fn put(&mut self, piece: &[u8]) -> Result<usize, PutFault> {
+        let call = self.calls;
+        self.calls = call.saturating_add(1);
+        if call == self.fails_at || self.bytes.extend_from_slice(piece).is_err() {
+            self.failures += 1;
+            return Err(PutFault);
+        }
+        Ok(piece.len())
+    }
+}
+
+/// Runs a session over an outlet whose call `fails_at` fails, and gives how it ends.
+fn fail_once<R: Abort + AllocGlobal>(
+    rt: &R,
+    model: &str,
+    fails_at: u64,
+) -> (Result<End, SessionFault>, FailsOnce) {
+    let mut out = FailsOnce {
+        bytes: Vec::new(rt.alloc()),
+        calls: 0,
+        fails_at,
+        failures: 0,
+    };
+    let end = session(rt.alloc(), model.as_bytes(), b"", SOME.as_bytes(), &mut out);
+    (end, out)
+}
+
+/// Behind the one call that fails, whichever of the session's calls it is, there is none, although the outlet would take all again.
+fn put_ends<R: Abort + AllocGlobal>(
+    rt: &R,
+    model: &str,
+    whole: &str,
+    wanted: Result<End, SessionFault>,
+    calls: u64,
+) {
+    for fails_at in 0..calls {
+        let (end, out) = fail_once(rt, model, fails_at);
+        assert_eq!(rt; end, Err(SessionFault::Write));
+        assert_eq!(rt; out.calls, fails_at + 1);
+        assert!(rt; whole.as_bytes().starts_with(&out.bytes));
+    }
+    let (end, out) = fail_once(rt, model, calls);
+    assert_eq!(rt; end, wanted);
+    assert_eq!(rt; out.calls, calls);
+    assert_eq!(rt; out.bytes.as_slice(), whole.as_bytes());
+}
+
+#[test]
+fn nothing_is_put_after_a_failure(rt: HostRuntime) {
+    put_ends(&rt, FIVE, SOME_ANSWERS, Ok(End::Done), 4);
+    put_ends(&rt, REFUSED, REFUSAL, Err(SessionFault::Text), 1);
+}
+
 /// Commands over the model of five that make the journal, the report and the answers grow.
 const GROWING: &str = "STEP 2\nSHOW VAR X\nSHOW REPORT\nBACK\nFOO\nRUN 5";
 
