@@ -19,14 +19,8 @@ fn put_both<W: Outlet>(out: &mut W, first: &[u8], second: &[u8]) -> Result<(), P
     ensures ok { OnOk result (Appends (W.taken out.old) (W.taken out.new) (first.now ++ second.now) × (W.failures out.new ≡ W.failures out.old)) }
     ensures err { OnErr result (WritesPart (first.now ++ second.now) (W.taken out.old) (W.taken out.new) × (W.failures out.new ≡ W.failures out.old + 1)) }
 {
-    match put_all(out, first) {
-        Ok(()) => {}
-        Err(fault) => return Err(fault),
-    }
-    match put_all(out, second) {
-        Ok(()) => Ok(()),
-        Err(fault) => Err(fault),
-    }
+    put_all(out, first)?;
+    put_all(out, second)
 }
 
 fn end(status: Status) -> End
