@@ -1,4 +1,3 @@
-pub mod MarkNumbers
 pub mod Laws
 pub mod Local
 pub mod Loop
@@ -18,6 +17,6 @@ pub mod TextRunLemmas
 pub mod TextSteps
 pub mod TextWordSteps
 pub mod TextDrawn
-pub mod Spellings
 pub mod TextOrderLemmas
+pub mod TextRefusalLemmas
 mod TextLimitLemmas

@@ -1,22 +1,35 @@
 -- What the readings of one word keep, for all words at once.
-use Rattle.std.proofs.Common.{◌≡◌, ◌≢◌, ℕ, ◌≤◌, ◌<◌, eq-eqb, eqb-true, ne_eqb, Bool, true, false, List, [], ◌∷◌, ◌++◌, length, Option, Some, None, Ok, refl, sym, ap, arith}
+use Rattle.std.proofs.Common.{◌≡◌, ◌≢◌, ℕ, ◌≤◌, ◌<◌, Bool, true, false, List, [], ◌∷◌, ◌++◌, length, Option, Some, None, Ok, refl, sym, ap, arith}
+use denote.Enum.Bare.{same_true, true_same, false_same}
+use Rattle.ss_words.specs.contracts.reserved.Reserved.{the_type as reserved_type}
+use Rattle.ss_words.specs.contracts.word.Sign.{the_type as sign_type}
 use Rattle.ss_words.specs.declared.mark.Mark.{Mark}
+use Rattle.ss_words.specs.declared.mark.Mark.TheVariants as m
 use Rattle.ss_words.specs.declared.refusal.Refusal.TheVariants.{Unexpected}
 use Rattle.ss_words.specs.Plain.{Plain, name, number, mark, picture, first}
 use Rattle.ss_words.specs.Reading.{Reading, look, skip, pure, refuse, bind}
-use Rattle.ss_words.specs.Marks.{mark_number, is, expect, eat, name_by, a_name, number_by, a_number, picture_by, a_picture}
-use Rattle.ss_words.proofs.MarkNumbers.{same_mark}
+use Rattle.ss_words.specs.Marks.{same_mark, is, expect, eat, name_by, a_name, number_by, a_number, picture_by, a_picture}
 use Rattle.ss_words.proofs.Laws.{Good, GoodAt, Any, pure_good, refuse_good, look_good, skip_good, good_at}
 use Rattle.ss_words.proofs.Local.{Rooms, Local, LocalAt, anywhere, pure_local, refuse_local, look_local, skip_local, test_local}
 
 pub is_same : (k : Mark) → is k (Some (mark k)) ≡ true
-is_same k = eq-eqb (mark_number k) (mark_number k) refl
+is_same (m.Sign a) = true_same sign_type a a refl
+is_same (m.Reserved a) = true_same reserved_type a a refl
 
 pub is_other : (k j : Mark) → j ≢ k → is k (Some (mark j)) ≡ false
-is_other k j h = ne_eqb (mark_number k) (mark_number j) (λ e. h (same_mark j k (sym e)))
+is_other (m.Sign a) (m.Sign b) h = false_same sign_type tt a b (λ e. h (ap m.Sign (sym e)))
+is_other (m.Sign a) (m.Reserved b) h = refl
+is_other (m.Reserved a) (m.Sign b) h = refl
+is_other (m.Reserved a) (m.Reserved b) h = false_same reserved_type tt a b (λ e. h (ap m.Reserved (sym e)))
+
+one_mark : (k j : Mark) → same_mark k j ≡ true → k ≡ j
+one_mark (m.Sign a) (m.Sign b) e = ap m.Sign (same_true sign_type tt a b e)
+one_mark (m.Sign a) (m.Reserved b) e = absurd cc
+one_mark (m.Reserved a) (m.Sign b) e = absurd cc
+one_mark (m.Reserved a) (m.Reserved b) e = ap m.Reserved (same_true reserved_type tt a b e)
 
 pub is_mark : (k : Mark) (w : Plain) → is k (Some w) ≡ true → w ≡ mark k
-is_mark k (mark j) e = ap mark (sym (same_mark k j (eqb-true (mark_number k) (mark_number j) e)))
+is_mark k (mark j) e = ap mark (sym (one_mark k j e))
 is_mark k (name n) e = absurd cc
 is_mark k (number n) e = absurd cc
 is_mark k (picture ls) e = absurd cc

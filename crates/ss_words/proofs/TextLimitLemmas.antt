@@ -8,6 +8,8 @@ use Rattle.std.proofs.lemmas.List.{length-map}
 use Rattle.std.proofs.lemmas.Str.Ascii.{uppercase-uppercase}
 use Rattle.std.proofs.lemmas.List.Sums.{take_while-cons}
 use Rattle.std.proofs.lemmas.List.Elements.{All-nil, All-cons, All-same, All-append}
+use Rattle.ss_words.specs.declared.characters.TheConstants.{STOP}
+use Rattle.ss_words.specs.declared.limits.TheConstants.{LONGEST_RUN, LARGEST_NUMBER, MOST_PICTURE_LINES, LONGEST_PICTURE_LINE}
 use Rattle.ss_words.specs.declared.word.Sign.{Sign}
 use Rattle.ss_words.specs.declared.fault.TextRule.{TextRule}
 use Rattle.ss_words.specs.declared.fault.TextRule.TheVariants.{StrayByte, BadNumber, LongRun, NoPicture, LongPictureLine}
@@ -64,8 +66,8 @@ is_unbroken r n false none = refl
 not_above : (a b : ℕ) → nat_lt a b ≡ false → b ≤ a
 not_above a b h = grind (arith, nat_tests)
 
-without_stops-one : (b : ℕ) (bs kept : List ℕ) → length kept ≤ length bs → length {A = ℕ} (elim kept [ [] ↦ cond (b == 46) [] (b ∷ []) | c ∷ cs ↦ b ∷ c ∷ cs ]) ≤ length (b ∷ bs)
-without_stops-one b bs [] within = elim (b == 46) as (λ t. length (cond t [] (b ∷ [])) ≤ length (b ∷ bs)) [ true ↦ omega arith | false ↦ omega arith ]
+without_stops-one : (b : ℕ) (bs kept : List ℕ) → length kept ≤ length bs → length {A = ℕ} (elim kept [ [] ↦ cond (b == STOP) [] (b ∷ []) | c ∷ cs ↦ b ∷ c ∷ cs ]) ≤ length (b ∷ bs)
+without_stops-one b bs [] within = elim (b == STOP) as (λ t. length (cond t [] (b ∷ [])) ≤ length (b ∷ bs)) [ true ↦ omega arith | false ↦ omega arith ]
 without_stops-one b bs (c ∷ cs) within = omega arith
 
 without_stops-within : (run : List ℕ) → length (without_stops run) ≤ length run
@@ -75,11 +77,11 @@ without_stops-within (b ∷ bs) = without_stops-one b bs (without_stops bs) (wit
 
 -- what is kept of a run: a byte in front of what is kept of the bytes behind it, and no stop where nothing is
 abbrev front : ℕ → List ℕ → List ℕ
-front b kept = elim kept [ [] ↦ cond (b == 46) [] (b ∷ []) | c ∷ cs ↦ b ∷ c ∷ cs ]
+front b kept = elim kept [ [] ↦ cond (b == STOP) [] (b ∷ []) | c ∷ cs ↦ b ∷ c ∷ cs ]
 
 front-again : (b : ℕ) (kept : List ℕ) → without_stops kept ≡ kept → without_stops (front b kept) ≡ front b kept
 unfolding without_stops
-front-again b [] again = (elim (b == 46) as (λ t. (b == 46) ≡ t → without_stops (cond t [] (b ∷ [])) ≡ cond t [] (b ∷ [])) [
+front-again b [] again = (elim (b == STOP) as (λ t. (b == STOP) ≡ t → without_stops (cond t [] (b ∷ [])) ≡ cond t [] (b ∷ [])) [
   | true ↦ λ stop. refl
   | false ↦ λ other. ap (λ (t : Bool). cond t [] (b ∷ [])) other
 ]) refl
@@ -98,7 +100,7 @@ upper-letter c = grind (arith, nat_tests)
 upper-digit : (c : ℕ) → is_ascii_digit (to_ascii_uppercase c) ≡ is_ascii_digit c
 upper-digit c = grind (arith, nat_tests)
 
-upper-stop : (c : ℕ) → (to_ascii_uppercase c == 46) ≡ (c == 46)
+upper-stop : (c : ℕ) → (to_ascii_uppercase c == STOP) ≡ (c == STOP)
 upper-stop c = grind (arith, nat_tests)
 
 upper-has_letter : (run : List ℕ) → has_letter (map to_ascii_uppercase run) ≡ has_letter run
@@ -111,7 +113,7 @@ upper-in_run [] = refl
 upper-in_run (b ∷ bs) = ap₂ (λ (s t : Bool). s && t) (ap₂ (λ (s t : Bool). s || t) (ap₂ (λ (s t : Bool). s || t) (upper-letter b) (upper-digit b)) (upper-stop b)) (upper-in_run bs)
 
 upper-front : (b : ℕ) (kept : List ℕ) → front (to_ascii_uppercase b) (map to_ascii_uppercase kept) ≡ map to_ascii_uppercase (front b kept)
-upper-front b [] = ap (λ (t : Bool). cond t [] (to_ascii_uppercase b ∷ [])) (upper-stop b) ∙ (elim (b == 46) as (λ t. cond t [] (to_ascii_uppercase b ∷ []) ≡ map to_ascii_uppercase (cond t [] (b ∷ []))) [
+upper-front b [] = ap (λ (t : Bool). cond t [] (to_ascii_uppercase b ∷ [])) (upper-stop b) ∙ (elim (b == STOP) as (λ t. cond t [] (to_ascii_uppercase b ∷ []) ≡ map to_ascii_uppercase (cond t [] (b ∷ []))) [
   | true ↦ refl
   | false ↦ refl
 ])
@@ -128,9 +130,9 @@ upper-again (b ∷ bs) = ap₂ (λ (c : ℕ) (cs : List ℕ). c ∷ cs) (upperca
 
 -- ---- the word of a run
 
--- letters, digits and stops, the last one no stop, and at most 80 of them
+-- letters, digits and stops, the last one no stop, and not too many of them
 abbrev IsCut : List ℕ → Type 0
-IsCut run = (length run ≤ 80) × (list_all in_run run ≡ true) × (without_stops run ≡ run)
+IsCut run = (length run ≤ LONGEST_RUN) × (list_all in_run run ≡ true) × (without_stops run ≡ run)
 
 name-keeps : (k : Kind) (run : List ℕ) → 1 ≤ length run → IsCut run → has_letter run ≡ true → Some (name (map to_ascii_uppercase run)) ≡ Some k → KeepsLimits k
 name-keeps k run some cut letter e =
@@ -145,27 +147,27 @@ name-keeps k run some cut letter e =
       upper-again run,
     )
 
-number-below : (m : ℕ) (stop : Bool) (n : ℕ) → (stop || nat_le m n) ≡ false → n < m
+number-below : (m : ℕ) (stop : Bool) (n : ℕ) → (stop || nat_lt m n) ≡ false → n ≤ m
 number-below m true n e = absurd cc
 number-below m false n e = grind (arith, nat_tests)
 
-number-keeps : (k : Kind) (n : ℕ) → n < 2 ^ 63 → Some (number n) ≡ Some k → KeepsLimits k
+number-keeps : (k : Kind) (n : ℕ) → n ≤ LARGEST_NUMBER → Some (number n) ≡ Some k → KeepsLimits k
 number-keeps k n small e = let same : number n ≡ k = cc in subst KeepsLimits same small
 
-either-keeps : (letter stop : Bool) (run : List ℕ) (k : Kind) → 1 ≤ length run → IsCut run → has_letter run ≡ letter → (not letter && (stop || nat_le (2 ^ 63) (number_of run))) ≡ false
+either-keeps : (letter stop : Bool) (run : List ℕ) (k : Kind) → 1 ≤ length run → IsCut run → has_letter run ≡ letter → (not letter && (stop || nat_lt LARGEST_NUMBER (number_of run))) ≡ false
     → Some (cond letter (name (map to_ascii_uppercase run)) (number (number_of run))) ≡ Some k → KeepsLimits k
 either-keeps true stop run k some cut letter good e = name-keeps k run some cut letter e
-either-keeps false stop run k some cut letter good e = number-keeps k (number_of run) (number-below (2 ^ 63) stop (number_of run) good) e
+either-keeps false stop run k some cut letter good e = number-keeps k (number_of run) (number-below LARGEST_NUMBER stop (number_of run) good) e
 
 -- the word of a run that is no bad number and not too long
 run_word-keeps : (run : List ℕ) (k : Kind) → is_bad_number run ≡ false → IsCut run → word_of_run run ≡ Some k → KeepsLimits k
 unfolding is_bad_number word_of_run
 run_word-keeps [] k good cut e = absurd cc
-run_word-keeps (b ∷ bs) k good cut e = either-keeps (has_letter (b ∷ bs)) (list_any (λ c. c == 46) (b ∷ bs)) (b ∷ bs) k (omega arith) cut refl good e
+run_word-keeps (b ∷ bs) k good cut e = either-keeps (has_letter (b ∷ bs)) (list_any (λ c. c == STOP) (b ∷ bs)) (b ∷ bs) k (omega arith) cut refl good e
 
 -- the bytes that a run keeps are bytes of it
 front-in_run : (b : ℕ) (kept : List ℕ) → in_run b ≡ true → list_all in_run kept ≡ true → list_all in_run (front b kept) ≡ true
-front-in_run b [] here all = elim (b == 46) as (λ t. list_all in_run (cond t [] (b ∷ [])) ≡ true) [ true ↦ refl | false ↦ ap (λ (t : Bool). t && true) here ]
+front-in_run b [] here all = elim (b == STOP) as (λ t. list_all in_run (cond t [] (b ∷ [])) ≡ true) [ true ↦ refl | false ↦ ap (λ (t : Bool). t && true) here ]
 front-in_run b (c ∷ cs) here all = ap (λ (t : Bool). t && list_all in_run (c ∷ cs)) here ∙ all
 
 both-true : (s t : Bool) → (s && t) ≡ true → (s ≡ true) × (t ≡ true)
@@ -199,11 +201,11 @@ module _ (n below : ℕ) where
       let kept = without_stops run in
       let found = word_found n below before rest (word_of_run kept) in
       let bad = is_bad_number kept in
-      let long = nat_lt 80 (length run) in
+      let long = nat_lt LONGEST_RUN (length run) in
       let both = breaches-parts (broken BadNumber n bad ++ broken LongRun n long) found none in
       let each = breaches-parts (broken BadNumber n bad) (broken LongRun n long) both.0 in
       let good = is_unbroken BadNumber n bad each.0 in
-      let size = not_above 80 (length run) (is_unbroken LongRun n long each.1) in
+      let size = not_above LONGEST_RUN (length run) (is_unbroken LongRun n long each.1) in
       keeps-append (broken BadNumber n bad ++ broken LongRun n long) found
       (keeps-append (broken BadNumber n bad) (broken LongRun n long) (keeps-broken BadNumber n bad) (keeps-broken LongRun n long))
       (keeps-word_found before rest (word_of_run kept) (λ k e. run_word-keeps kept k good (omega (arith, size, without_stops-within run), kept-in_run run all, without_stops-again run) e)) none
@@ -301,7 +303,7 @@ module _ (n below : ℕ) where
   meets-run before rest run none met =
       let kept = without_stops run in
       let bad = is_bad_number kept in
-      let long = nat_lt 80 (length run) in
+      let long = nat_lt LONGEST_RUN (length run) in
       let both = breaches-parts (broken BadNumber n bad ++ broken LongRun n long) (word_found n below before rest (word_of_run kept)) none in
       subst (IsMet below)
       (sym (nearest_first-append (broken BadNumber n bad ++ broken LongRun n long) (word_found n below before rest (word_of_run kept)) before
@@ -366,43 +368,43 @@ keeps-in_picture : (n : ℕ) (line : List ℕ) → Keeps (found_in_picture n lin
 unfolding found_in_picture
 keeps-in_picture n [] = keeps-nothing
 keeps-in_picture n (b ∷ bs) =
-    let long = nat_lt 132 (length (b ∷ bs)) in
+    let long = nat_lt LONGEST_PICTURE_LINE (length (b ∷ bs)) in
     keeps-append (picture_byte n b ++ broken LongPictureLine n long) (flat_map (picture_byte n) bs)
     (keeps-append (picture_byte n b) (broken LongPictureLine n long) (keeps-broken StrayByte n (not (is_allowed b))) (keeps-broken LongPictureLine n long)) (keeps-bytes n bs)
 
-short-in_picture : (n : ℕ) (line : List ℕ) → breaches_in (found_in_picture n line) ≡ [] → length line ≤ 132
+short-in_picture : (n : ℕ) (line : List ℕ) → breaches_in (found_in_picture n line) ≡ [] → length line ≤ LONGEST_PICTURE_LINE
 unfolding found_in_picture
 short-in_picture n [] none = omega arith
 short-in_picture n (b ∷ bs) none =
-    let long = nat_lt 132 (length (b ∷ bs)) in
+    let long = nat_lt LONGEST_PICTURE_LINE (length (b ∷ bs)) in
     let p = breaches-parts (picture_byte n b ++ broken LongPictureLine n long) (flat_map (picture_byte n) bs) none in
     let q = breaches-parts (picture_byte n b) (broken LongPictureLine n long) p.0 in
-    not_above 132 (length (b ∷ bs)) (is_unbroken LongPictureLine n long q.1)
+    not_above LONGEST_PICTURE_LINE (length (b ∷ bs)) (is_unbroken LongPictureLine n long q.1)
 
-nat_le-few : (m : ℕ) → nat_le m 100 ≡ true → m ≤ 100
+nat_le-few : (m : ℕ) → nat_le m MOST_PICTURE_LINES ≡ true → m ≤ MOST_PICTURE_LINES
 nat_le-few m h = grind (arith, nat_tests)
 
-line_count-few : (o : Option Kind) (n : ℕ) → line_count o ≡ Some n → n ≤ 100
+line_count-few : (o : Option Kind) (n : ℕ) → line_count o ≡ Some n → n ≤ MOST_PICTURE_LINES
 unfolding line_count
 line_count-few None n e = absurd cc
 line_count-few (Some (name s)) n e = absurd cc
 line_count-few (Some (sign g)) n e = absurd cc
 line_count-few (Some (picture ls)) n e = absurd cc
-line_count-few (Some (number m)) n e = elim (nat_le 1 m) as (λ t. cond (t && nat_le m 100) (Some m) None ≡ Some n → n ≤ 100) [
-  | true ↦ (elim (nat_le m 100) as (λ t. nat_le m 100 ≡ t → cond t (Some m) None ≡ Some n → n ≤ 100) [
-    | true ↦ λ few same. let e : m ≡ n = cc in let h : m ≤ 100 = nat_le-few m few in omega arith
+line_count-few (Some (number m)) n e = elim (nat_le 1 m) as (λ t. cond (t && nat_le m MOST_PICTURE_LINES) (Some m) None ≡ Some n → n ≤ MOST_PICTURE_LINES) [
+  | true ↦ (elim (nat_le m MOST_PICTURE_LINES) as (λ t. nat_le m MOST_PICTURE_LINES ≡ t → cond t (Some m) None ≡ Some n → n ≤ MOST_PICTURE_LINES) [
+    | true ↦ λ few same. let e : m ≡ n = cc in let h : m ≤ MOST_PICTURE_LINES = nat_le-few m few in omega arith
     | false ↦ λ many none. absurd cc
   ]) refl
   | false ↦ λ none. absurd cc
 ] e
 
-count-few : (o : Option ℕ) → ((n : ℕ) → o ≡ Some n → n ≤ 100) → (elim o [ None ↦ 0 | Some k ↦ k ]) ≤ 100
+count-few : (o : Option ℕ) → ((n : ℕ) → o ≡ Some n → n ≤ MOST_PICTURE_LINES) → (elim o [ None ↦ 0 | Some k ↦ k ]) ≤ MOST_PICTURE_LINES
 count-few None few = omega arith
 count-few (Some k) few = few k refl
 
-size-few : (words : List Kind) → picture_size words ≤ 100
+size-few : (words : List Kind) → picture_size words ≤ MOST_PICTURE_LINES
 unfolding picture_size
-size-few words = elim (calls_picture words) as (λ t. (elim t [ true ↦ (elim (picture_lines words) [ None ↦ 0 | Some k ↦ k ]) | false ↦ 0 ]) ≤ 100) [
+size-few words = elim (calls_picture words) as (λ t. (elim t [ true ↦ (elim (picture_lines words) [ None ↦ 0 | Some k ↦ k ]) | false ↦ 0 ]) ≤ MOST_PICTURE_LINES) [
   | true ↦ count-few (picture_lines words) (λ n e. line_count-few (behind_print None words) n e)
   | false ↦ omega arith
 ]
@@ -419,13 +421,13 @@ take-few (suc k) (l ∷ ls) = let few = take-few k ls in omega arith
 -- ---- the lines of a text
 
 abbrev IsShort : List ℕ → Type 0
-IsShort l = length l ≤ 132
+IsShort l = length l ≤ LONGEST_PICTURE_LINE
 
 -- from each place on whose words call no picture, what is found in these lines keeps the limits, and so do the lines of the picture before
 abbrev LinesKeep : List (List ℕ) → Type 0
 LinesKeep ls = (before : List Kind) (n k : ℕ) → calls_picture before ≡ false → Keeps (found_from_line before n k ls) × (breaches_in (found_from_line before n k ls) ≡ [] → All IsShort (take k ls))
 
-keeps-drawn : (now : List Kind) (n k : ℕ) (ls : List (List ℕ)) → k ≤ 100 → (k ≡ 0 → calls_picture now ≡ false) × (k ≤ length ls) → LinesKeep ls → Keeps (picture_found k n ls ++ found_from_line (nearest_first (picture_found k n ls) now) n k ls)
+keeps-drawn : (now : List Kind) (n k : ℕ) (ls : List (List ℕ)) → k ≤ MOST_PICTURE_LINES → (k ≡ 0 → calls_picture now ≡ false) × (k ≤ length ls) → LinesKeep ls → Keeps (picture_found k n ls ++ found_from_line (nearest_first (picture_found k n ls) now) n k ls)
 keeps-drawn now n zero ls few there below none = (below now n zero (there.0 refl)).0 none
 keeps-drawn now n (suc k) ls few there below none =
     let drawn = picture (take (suc k) ls) in

@@ -7,6 +7,7 @@ pub mod Farthest
 pub mod Noting
 pub mod Spellings
 pub mod PlainRules
+pub mod PlainRulesView
 pub mod PlainLaws
 pub mod TextBytes
 pub mod TextLines
@@ -15,4 +16,5 @@ pub mod TextWords
 pub mod TextScan
 pub mod TextSpelling
 pub mod TextOrder
+pub mod TextRefusal
 pub mod TextLimits

@@ -1,13 +1,11 @@
 -- The plain words of a list of words: five rules, each over the whole list that the one before it gives.
-use Rattle.std.specs.Prelude.{ℕ, Bool, true, false, List, [], ◌∷◌, ◌++◌, map, Option, Some, None, if◌then◌else◌, find, option_and_then, option_map, option_to_list}
+use Rattle.std.specs.Prelude.{ℕ, Bool, true, false, List, [], ◌∷◌, ◌++◌, map, Option, Some, None, if◌then◌else◌, find}
+use Rattle.std.specs.Prelude.{option_and_then, option_map, option_to_list}
 use Rattle.std.specs.List.{enumerate_from}
 use Rattle.ss_words.specs.declared.mark.Mark.{Mark}
 use Rattle.ss_words.specs.declared.mark.Mark.TheVariants.{Reserved, Sign}
 use Rattle.ss_words.specs.declared.reserved.Reserved.TheVariants as r
 use Rattle.ss_words.specs.declared.word.Sign.TheVariants as s
-use Rattle.ss_words.specs.declared.plain_rules.Around.{Around}
-use Rattle.ss_words.specs.declared.plain_rules.Rule.{Rule}
-use Rattle.ss_words.specs.declared.plain_rules.Rule.TheVariants as rule
 use Rattle.ss_words.specs.Words as w
 use Rattle.ss_words.specs.Words.{Kind, WordAt}
 use Rattle.ss_words.specs.Plain.{Plain, PlainAt, plains, first, name, number, mark, picture}
@@ -57,9 +55,19 @@ is_governing _ = false
 abbrev pub governing : List Plain → Option Mark
 governing ws = option_and_then mark_in (find (λ w. is_governing (mark_in w)) ws)
 
--- what a word has directly before it, as its governing word and directly behind it; the words before it go backwards
-abbrev pub around : List Plain → List Plain → Around
-around before after = record { before = beside before; governing = governing before; after = beside after }
+-- what stands round a word, where it is a reserved word or a sign: directly before it, as its governing word, directly behind it
+pub record Surroundings : Type 0 where
+  pub before : Option Mark
+  pub governing : Option Mark
+  pub behind : Option Mark
+
+-- what stands round a word between these; the words before it go backwards
+abbrev pub surroundings : List Plain → List Plain → Surroundings
+surroundings before behind = record { before = beside before; governing = governing before; behind = beside behind }
+
+-- what a rule makes of a reserved word or sign among its surroundings, and none where it drops it
+abbrev pub PlainRule : Type 0
+PlainRule = Surroundings → Mark → Option Mark
 
 -- ---- the rules
 
@@ -100,13 +108,14 @@ is_reserved (Some (Reserved w)) = true
 is_reserved _ = false
 
 -- AS FOLLOWS is THUS, in the place of AS
-abbrev pub as_follows : Around → Mark → Option Mark
-as_follows a (Reserved r.As) = Some (Reserved (if is_follows a.after then r.Thus else r.As))
+abbrev pub as_follows : PlainRule
+as_follows a (Reserved r.As) = Some (Reserved (if is_follows a.behind then r.Thus else r.As))
 as_follows a (Reserved r.Follows) = if is_as a.before then None else Some (Reserved r.Follows)
 as_follows a m = Some m
 
--- directly behind SCHEDULE, A and AN are A, THE and THIS are THE; these four elsewhere, MAY, OUTPUT, and TO or FOR directly behind ROUTINE are dropped
-abbrev pub without_fillers : Around → Mark → Option Mark
+-- directly behind SCHEDULE, A and AN are A, THE and THIS are THE; elsewhere these four are dropped, and everywhere MAY, OUTPUT,
+-- and TO or FOR directly behind ROUTINE
+abbrev pub without_fillers : PlainRule
 without_fillers a (Reserved r.A) = if is_schedule a.before then Some (Reserved r.A) else None
 without_fillers a (Reserved r.An) = if is_schedule a.before then Some (Reserved r.A) else None
 without_fillers a (Reserved r.The) = if is_schedule a.before then Some (Reserved r.The) else None
@@ -118,44 +127,39 @@ without_fillers a (Reserved r.For) = if is_routine a.before then None else Some 
 without_fillers a m = Some m
 
 -- AND is a comma unless IF or FOR governs it; AT is IN unless SCHEDULE governs it
-abbrev pub governed : Around → Mark → Option Mark
+abbrev pub governed : PlainRule
 governed a (Reserved r.And) = Some (if is_if_or_for a.governing then Reserved r.And else Sign s.Comma)
 governed a (Reserved r.At) = Some (Reserved (if is_schedule a.governing then r.At else r.In))
 governed a m = Some m
 
 -- of commas that stand together the first one stays
-abbrev pub single_commas : Around → Mark → Option Mark
+abbrev pub single_commas : PlainRule
 single_commas a (Sign s.Comma) = if is_comma a.before then None else Some (Sign s.Comma)
 single_commas a m = Some m
 
 -- a comma directly before a reserved word is dropped
-abbrev pub parting_commas : Around → Mark → Option Mark
-parting_commas a (Sign s.Comma) = if is_reserved a.after then None else Some (Sign s.Comma)
+abbrev pub parting_commas : PlainRule
+parting_commas a (Sign s.Comma) = if is_reserved a.behind then None else Some (Sign s.Comma)
 parting_commas a m = Some m
-
--- what a reserved word or sign becomes by a rule, and none where it is dropped
-abbrev pub ruled : Rule → Around → Mark → Option Mark
-ruled rule.AsFollows = as_follows
-ruled rule.WithoutFillers = without_fillers
-ruled rule.Governed = governed
-ruled rule.SingleCommas = single_commas
-ruled rule.PartingCommas = parting_commas
 
 -- ---- a rule over a whole list
 
 -- a word under a rule, or nothing: names, numbers and pictures stay, and what stays keeps its line and place
-abbrev pub ruled_word : Rule → Around → PlainAt → List PlainAt
-ruled_word q a w =
-    elim w.word [ mark m ↦ option_to_list (option_map (λ n. record w { word = mark n }) (ruled q a m)) | _ ↦ w ∷ [] ]
+abbrev pub ruled_word : PlainRule → Surroundings → PlainAt → List PlainAt
+ruled_word rule a w = elim w.word [
+  | mark m ↦ option_to_list (option_map (λ n. record w { word = mark n }) (rule a m))
+  | _ ↦ w ∷ []
+]
 
 -- a rule over the words of a list that stand behind these, which go backwards
-abbrev pub follow_behind : Rule → List PlainAt → List PlainAt → List PlainAt
-follow_behind q before [] = []
-follow_behind q before (w ∷ after) = ruled_word q (around (plains before) (plains after)) w ++ follow_behind q (w ∷ before) after
+abbrev pub follow_behind : PlainRule → List PlainAt → List PlainAt → List PlainAt
+follow_behind rule before [] = []
+follow_behind rule before (w ∷ behind) =
+    ruled_word rule (surroundings (plains before) (plains behind)) w ++ follow_behind rule (w ∷ before) behind
 
 -- a rule over a whole list
-abbrev pub follow : Rule → List PlainAt → List PlainAt
-follow q ws = follow_behind q [] ws
+abbrev pub follow : PlainRule → List PlainAt → List PlainAt
+follow rule ws = follow_behind rule [] ws
 
 -- ---- the plain words
 
@@ -179,7 +183,9 @@ plain_from i w = record { line = w.line; index = i; word = plain_kind w.kind }
 abbrev pub spelled : List WordAt → List PlainAt
 spelled ws = map (λ e. plain_from e.0 e.1) (enumerate_from 0 ws)
 
--- the plain words of the words of a text: spelled, and then each rule over the list that the one before it gives
+-- each word as a plain word, and then each rule over the list that the one before it gives
 abbrev pub plain_words_of : List WordAt → List PlainAt
 plain_words_of ws =
-    follow rule.PartingCommas (follow rule.SingleCommas (follow rule.Governed (follow rule.WithoutFillers (follow rule.AsFollows (spelled ws)))))
+    let thus = follow as_follows (spelled ws) in
+    let bare = follow without_fillers thus in
+    follow parting_commas (follow single_commas (follow governed bare))

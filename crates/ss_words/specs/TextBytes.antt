@@ -1,40 +1,41 @@
 -- What the bytes of a text are.
 use Rattle.std.specs.Prelude.{ℕ, Bool, ◌&&◌, ◌||◌, not, ◌==◌, nat_le, Option, Some, None, if◌then◌else◌, is_some}
 use Rattle.std.specs.Char.{is_ascii_alphabetic, is_ascii_digit}
+use Rattle.ss_words.specs.declared.characters.TheConstants.{TAB, BLANK, TILDE, STOP, PLUS_SIGN, MINUS_SIGN, ASTERISK, OPENING_PARENTHESIS, CLOSING_PARENTHESIS, COMMA, EQUALS_SIGN, LESS_SIGN, GREATER_SIGN}
 use Rattle.ss_words.specs.declared.word.Sign.{Sign}
 use Rattle.ss_words.specs.declared.word.Sign.TheVariants.{Plus, Minus, Star, Open, Close, Comma, Equal, Less, Greater, LessEqual, GreaterEqual}
 
 -- a byte that may stand in a line: a tab, or a blank to `~`
 unfoldable pub is_allowed : ℕ → Bool
-is_allowed b = b == 9 || (nat_le 32 b && nat_le b 126)
+is_allowed b = b == TAB || (nat_le BLANK b && nat_le b TILDE)
 
 -- a blank or a tab
 unfoldable pub is_blank : ℕ → Bool
-is_blank b = b == 32 || b == 9
+is_blank b = b == BLANK || b == TAB
 
 -- a byte of a run: a letter, a digit or a stop
 unfoldable pub in_run : ℕ → Bool
-in_run b = is_ascii_alphabetic b || is_ascii_digit b || b == 46
+in_run b = is_ascii_alphabetic b || is_ascii_digit b || b == STOP
 
 -- the sign that one byte is
 unfoldable pub one_byte_sign : ℕ → Option Sign
 one_byte_sign b =
-    if b == 43 then Some Plus
-    else (if b == 45 then Some Minus
-    else (if b == 42 then Some Star
-    else (if b == 40 then Some Open
-    else (if b == 41 then Some Close
-    else (if b == 44 then Some Comma
-    else (if b == 61 then Some Equal
-    else (if b == 60 then Some Less
-    else (if b == 62 then Some Greater
+    if b == PLUS_SIGN then Some Plus
+    else (if b == MINUS_SIGN then Some Minus
+    else (if b == ASTERISK then Some Star
+    else (if b == OPENING_PARENTHESIS then Some Open
+    else (if b == CLOSING_PARENTHESIS then Some Close
+    else (if b == COMMA then Some Comma
+    else (if b == EQUALS_SIGN then Some Equal
+    else (if b == LESS_SIGN then Some Less
+    else (if b == GREATER_SIGN then Some Greater
     else None))))))))
 
 -- the sign that begins at a byte before the byte `next`: `<` and `>` take an `=` directly behind them
 unfoldable pub sign_from : ℕ → ℕ → Option Sign
 sign_from b next =
-    if b == 60 && next == 61 then Some LessEqual
-    else (if b == 62 && next == 61 then Some GreaterEqual
+    if b == LESS_SIGN && next == EQUALS_SIGN then Some LessEqual
+    else (if b == GREATER_SIGN && next == EQUALS_SIGN then Some GreaterEqual
     else one_byte_sign b)
 
 -- how many bytes a sign has
@@ -53,7 +54,7 @@ sign_len Greater = 1
 
 -- a byte goes on with what the byte `last` before it belongs to: a run, or a sign of two bytes
 unfoldable pub is_joined : ℕ → ℕ → Bool
-is_joined last b = (in_run last && in_run b) || ((last == 60 || last == 62) && b == 61)
+is_joined last b = (in_run last && in_run b) || ((last == LESS_SIGN || last == GREATER_SIGN) && b == EQUALS_SIGN)
 
 -- a byte of a line that may not stand in it, or that is outside comments, where it is `plain`, no blank, run or sign
 unfoldable pub is_stray : ℕ → ℕ → Bool

@@ -1,26 +1,28 @@
 -- Runs of letters, digits and stops, and the words that call for a picture.
-use Rattle.std.specs.Prelude.{ℕ, ◌+◌, ◌-◌, ◌*◌, ◌^◌, Bool, true, false, not, ◌==◌, ◌&&◌, ◌||◌, nat_le, List, [], ◌∷◌, map, Option, Some, None, if◌then◌else◌, fold, bytes_eq, codes}
+use Rattle.std.specs.Prelude.{ℕ, ◌+◌, ◌-◌, ◌*◌, Bool, true, false, not, ◌==◌, ◌&&◌, ◌||◌, nat_le, nat_lt, List, [], ◌∷◌, map, Option, Some, None, if◌then◌else◌, fold, bytes_eq, codes}
 use Rattle.std.specs.List.{list_any}
 use Rattle.std.specs.Char.{is_ascii_alphabetic, to_ascii_uppercase}
+use Rattle.ss_words.specs.declared.limits.TheConstants.{LARGEST_NUMBER, MOST_PICTURE_LINES}
+use Rattle.ss_words.specs.declared.characters.TheConstants.{STOP, ZERO}
 use Rattle.ss_words.specs.Words.{Kind, name, number, sign, picture}
 use Rattle.ss_words.specs.TextLines.{is_bare}
 
 -- a run without the stops at its end
 unfoldable pub without_stops : List ℕ → List ℕ
 without_stops [] = []
-without_stops (b ∷ bs) = elim (without_stops bs) [ [] ↦ (if b == 46 then [] else b ∷ []) | c ∷ cs ↦ b ∷ c ∷ cs ]
+without_stops (b ∷ bs) = elim (without_stops bs) [ [] ↦ (if b == STOP then [] else b ∷ []) | c ∷ cs ↦ b ∷ c ∷ cs ]
 
 -- the number that digits spell
 unfoldable pub number_of : List ℕ → ℕ
-number_of digits = fold (λ n d. 10 * n + (d - 48)) 0 digits
+number_of digits = fold (λ n d. 10 * n + (d - ZERO)) 0 digits
 
 -- a run has a letter
 abbrev pub has_letter : List ℕ → Bool
 has_letter run = list_any is_ascii_alphabetic run
 
--- digits with a stop left in them, or a number above 2^63 - 1
+-- digits with a stop left in them, or a number above the largest
 unfoldable pub is_bad_number : List ℕ → Bool
-is_bad_number run = not (has_letter run) && (list_any (λ b. b == 46) run || nat_le (2 ^ 63) (number_of run))
+is_bad_number run = not (has_letter run) && (list_any (λ b. b == STOP) run || nat_lt LARGEST_NUMBER (number_of run))
 
 -- the word that a run is when the stops at its end are dropped
 unfoldable pub word_of_run : List ℕ → Option Kind
@@ -49,10 +51,10 @@ unfoldable pub behind_print : Option Kind → List Kind → Option Kind
 behind_print behind [] = None
 behind_print behind (k ∷ ks) = elim (is_name (codes "PRINT") k) [ true ↦ behind | false ↦ behind_print (Some k) ks ]
 
--- a number from 1 to 100
+-- a number of lines that a picture may have
 unfoldable pub line_count : Option Kind → Option ℕ
 line_count None = None
-line_count (Some (number n)) = if nat_le 1 n && nat_le n 100 then Some n else None
+line_count (Some (number n)) = if nat_le 1 n && nat_le n MOST_PICTURE_LINES then Some n else None
 line_count (Some (name n)) = None
 line_count (Some (sign g)) = None
 line_count (Some (picture ls)) = None

@@ -1,5 +1,6 @@
 -- How far a scan of a text has come.
 use Rattle.std.specs.Prelude.{◌≡◌, ℕ, suc, Bool, true, false, ◌==◌, ◌&&◌, ◌||◌, List, [], ◌∷◌, ◌++◌, map, length, codes, Option, Some, None, if◌then◌else◌}
+use Rattle.ss_words.specs.declared.characters.TheConstants.{QUOTE}
 use Rattle.ss_words.specs.declared.fault.TextFault.{TextFault}
 use Rattle.ss_words.specs.declared.fault.TextFault.TheVariants.{Refused, Memory}
 use Rattle.ss_words.specs.Words.{Kind, WordAt}
@@ -35,13 +36,13 @@ IsFirstIn (Refused r n) todo = first_breach todo ≡ Some (Refused r n)
 unfoldable pub begins_comment : List ℕ → Bool
 begins_comment [] = false
 begins_comment (b ∷ []) = false
-begins_comment (b ∷ c ∷ bs) = b == 39 && c == 39
+begins_comment (b ∷ c ∷ bs) = b == QUOTE && c == QUOTE
 
 -- how many bytes of a line are in the comment that has begun: to behind the next two quotes, or to the line's end
 unfoldable pub hidden_len : List ℕ → ℕ
 hidden_len [] = 0
 hidden_len (b ∷ []) = 1
-hidden_len (b ∷ c ∷ bs) = elim (b == 39 && c == 39) [ true ↦ 2 | false ↦ suc (hidden_len (c ∷ bs)) ]
+hidden_len (b ∷ c ∷ bs) = elim (b == QUOTE && c == QUOTE) [ true ↦ 2 | false ↦ suc (hidden_len (c ∷ bs)) ]
 
 -- what is kept of the words: whether they end in AS, end in PRINT or call a picture, and how many lines it has
 pub record IsTracked (behind_as behind_print called : Bool) (count : Option ℕ) (words : List Kind) : Type 0 where

@@ -1,5 +1,7 @@
 -- The words of a text, place by place and line by line, or its refusal.
 use Rattle.std.specs.Prelude.{◌≡◌, ℕ, zero, suc, ◌+◌, Bool, true, false, not, nat_lt, List, [], ◌∷◌, ◌++◌, length, take, drop, flat_map, take_while, slice_index, Option, Some, None, Result, Ok, Err, if◌then◌else◌}
+use Rattle.ss_words.specs.declared.limits.TheConstants.{LONGEST_RUN, LONGEST_PICTURE_LINE}
+use Rattle.ss_words.specs.declared.characters.TheConstants.{BLANK}
 use Rattle.ss_words.specs.declared.word.Sign.{Sign}
 use Rattle.ss_words.specs.declared.fault.TextRule.{TextRule}
 use Rattle.ss_words.specs.declared.fault.TextRule.TheVariants.{StrayByte, BadNumber, LongRun, NoPicture, LongPictureLine}
@@ -56,7 +58,9 @@ module _ (n below : ℕ) where
   -- the rules that a run breaks, the lowest number first, and its word
   unfoldable pub run_found : List Kind → List ℕ → List ℕ → List Found
   run_found before rest run =
-      broken BadNumber n (is_bad_number (without_stops run)) ++ broken LongRun n (nat_lt 80 (length run)) ++ word_found before rest (word_of_run (without_stops run))
+      broken BadNumber n (is_bad_number (without_stops run))
+      ++ broken LongRun n (nat_lt LONGEST_RUN (length run))
+      ++ word_found before rest (word_of_run (without_stops run))
 
   -- what begins at a place that is not joined to the byte before it; `plain` is the line with comments made blank
   unfoldable pub begun_at : List Kind → List ℕ → List ℕ → List Found
@@ -78,7 +82,7 @@ module _ (n below : ℕ) where
 
   -- what is found in a line outside pictures
   abbrev pub found_in_line : List Kind → List ℕ → List Found
-  found_in_line before line = found_from_place before 32 line (blanked false line)
+  found_in_line before line = found_from_place before BLANK line (blanked false line)
 
 -- a byte of line n of a picture
 abbrev pub picture_byte : ℕ → ℕ → List Found
@@ -86,7 +90,7 @@ picture_byte n b = broken StrayByte n (not (is_allowed b))
 
 -- what is found at the first byte of line n of a picture, with the bytes behind it, the lowest number first
 abbrev pub picture_head : ℕ → ℕ → List ℕ → List Found
-picture_head n b bs = picture_byte n b ++ broken LongPictureLine n (nat_lt 132 (length (b ∷ bs)))
+picture_head n b bs = picture_byte n b ++ broken LongPictureLine n (nat_lt LONGEST_PICTURE_LINE (length (b ∷ bs)))
 
 -- what is found in line n of a picture
 unfoldable pub found_in_picture : ℕ → List ℕ → List Found

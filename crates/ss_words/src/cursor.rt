@@ -185,19 +185,18 @@ fn is_mark(kind: &Plain, mark: Mark) -> bool
     ensures { result ≡ marks.is mark (Some (plain_of kind.now)) }
 {
     match kind {
-        Plain::Mark(found) => is_same(*found, mark),
+        Plain::Mark(found) => is_same(mark, *found),
         _ => false,
     }
 }
 
-// Two marks are the same.
-#[tactic(auto, using(crate::proofs::MarkNumbers::sign_below))]
-fn is_same(found: Mark, mark: Mark) -> bool
-    ensures { result ≡ (marks.mark_number mark == marks.mark_number found) }
+// Two marks are one.
+fn is_same(mark: Mark, found: Mark) -> bool
+    ensures { result ≡ marks.same_mark mark found }
 {
-    match (found, mark) {
-        (Mark::Sign(found), Mark::Sign(sign)) => found == sign,
-        (Mark::Reserved(found), Mark::Reserved(word)) => found == word,
+    match (mark, found) {
+        (Mark::Sign(sign), Mark::Sign(found)) => sign == found,
+        (Mark::Reserved(word), Mark::Reserved(found)) => word == found,
         _ => false,
     }
 }

@@ -1,14 +1,17 @@
 //! The words of a model's text, its plain words, and what its refusals and faults are called.
 #![tactic(auto)]
 
+pub mod characters;
 mod cursor;
 mod fault;
+pub mod limits;
 mod mark;
 mod plain_laws;
 mod plain_list;
 mod plain_rules;
 mod plain_word;
 mod refusal;
+pub mod refusal_laws;
 mod reserved;
 mod scan;
 mod spelling;

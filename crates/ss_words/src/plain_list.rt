@@ -3,7 +3,8 @@ ghost use Rattle.std.specs.Prelude.{◌≡◌, ◌++◌, IfOk, map, option_to_li
 ghost use Rattle.ss_words.specs.Plain.{plain_of, plain_at};
 ghost use Rattle.ss_words.specs.Words.{kind_of};
 ghost use Rattle.ss_words.specs.PlainRules as spec;
-ghost use Rattle.ss_words.specs.PlainRules.{plain_words_of, follow, spelled};
+ghost use Rattle.ss_words.specs.PlainRules.{plain_words_of, follow, ruled_word, spelled};
+ghost use Rattle.ss_words.specs.PlainRulesView.{rule_of, surroundings_of};
 
 use crate::mark::Mark;
 use crate::plain_rules::{Around, Rule, is_governing};
@@ -65,7 +66,7 @@ pub(crate) fn copied(alloc: Global, lines: &[Vec<u8>]) -> Result<Vec<Vec<u8>>, A
 }
 
 fn follow(alloc: Global, rule: Rule, words: Vec<PlainWord>) -> Result<Vec<PlainWord>, AllocError>
-    ensures { IfOk result (λ kept. map plain_at kept.items ≡ follow rule (map plain_at words.items)) }
+    ensures { IfOk result (λ kept. map plain_at kept.items ≡ follow (rule_of rule) (map plain_at words.items)) }
 {
     let mut kept = Vec::with_capacity(alloc, words.len())?;
     let mut before = None;
@@ -78,7 +79,7 @@ fn follow(alloc: Global, rule: Rule, words: Vec<PlainWord>) -> Result<Vec<PlainW
         let around = Around {
             before,
             governing,
-            after: mark_of(&next),
+            behind: mark_of(&next),
         };
         keep(&mut kept, rule, around, word)?;
         before = mark;
@@ -111,7 +112,7 @@ fn keep(
     around: Around,
     word: PlainWord,
 ) -> Result<(), AllocError>
-    ensures { IfOk result (λ _. map plain_at kept.new.items ≡ map plain_at kept.old.items ++ spec.ruled_word rule around (plain_at word)) }
+    ensures { IfOk result (λ _. map plain_at kept.new.items ≡ map plain_at kept.old.items ++ ruled_word (rule_of rule) (surroundings_of around) (plain_at word)) }
 {
     let PlainWord { line, index, kind } = word;
     let kind = match kind {

@@ -1,6 +1,7 @@
 //! The rules by which the plain words come from the words, each on one word and what stands round it.
 ghost use Rattle.std.specs.Prelude.{◌≡◌, if◌then◌else◌};
 ghost use Rattle.ss_words.specs.PlainRules as spec;
+ghost use Rattle.ss_words.specs.PlainRulesView.{surroundings_of};
 
 use crate::mark::Mark;
 use crate::reserved::Reserved;
@@ -11,7 +12,7 @@ use crate::word::Sign;
 pub struct Around {
     pub before: Option<Mark>,
     pub governing: Option<Mark>,
-    pub after: Option<Mark>,
+    pub behind: Option<Mark>,
 }
 
 /// A rule of the plain words (docs/LANGUAGE.md, "Plain words").
@@ -25,9 +26,12 @@ pub enum Rule {
 }
 
 impl Rule {
+    ghost use Rattle.std.specs.Prelude.{◌≡◌};
+    ghost use Rattle.ss_words.specs.PlainRulesView.{rule_of, surroundings_of};
+
     /// What this rule makes of a reserved word or sign; `None` where it drops it.
     pub fn apply(self, around: Around, mark: Mark) -> Option<Mark>
-        ensures { result ≡ spec.ruled self around mark }
+        ensures { result ≡ rule_of self (surroundings_of around) mark }
     {
         match self {
             Rule::AsFollows => as_follows(around, mark),
@@ -40,13 +44,13 @@ impl Rule {
 }
 
 fn as_follows(around: Around, mark: Mark) -> Option<Mark>
-    ensures { result ≡ spec.as_follows around mark }
+    ensures { result ≡ spec.as_follows (surroundings_of around) mark }
 {
     match (mark, around) {
         (
             Mark::Reserved(Reserved::As),
             Around {
-                after: Some(Mark::Reserved(Reserved::Follows)),
+                behind: Some(Mark::Reserved(Reserved::Follows)),
                 ..
             },
         ) => Some(Mark::Reserved(Reserved::Thus)),
@@ -62,7 +66,7 @@ fn as_follows(around: Around, mark: Mark) -> Option<Mark>
 }
 
 fn single_commas(around: Around, mark: Mark) -> Option<Mark>
-    ensures { result ≡ spec.single_commas around mark }
+    ensures { result ≡ spec.single_commas (surroundings_of around) mark }
 {
     match mark {
         Mark::Sign(Sign::Comma) if is_comma(around.before) => None,
@@ -114,7 +118,7 @@ pub fn is_governing(mark: Mark) -> bool
 }
 
 fn without_fillers(around: Around, mark: Mark) -> Option<Mark>
-    ensures { result ≡ spec.without_fillers around mark }
+    ensures { result ≡ spec.without_fillers (surroundings_of around) mark }
 {
     let Mark::Reserved(word) = mark else {
         return Some(mark);
@@ -129,7 +133,7 @@ fn without_fillers(around: Around, mark: Mark) -> Option<Mark>
 }
 
 fn governed(around: Around, mark: Mark) -> Option<Mark>
-    ensures { result ≡ spec.governed around mark }
+    ensures { result ≡ spec.governed (surroundings_of around) mark }
 {
     match mark {
         Mark::Reserved(Reserved::And) if !is_if_or_for(around.governing) => {
@@ -143,10 +147,10 @@ fn governed(around: Around, mark: Mark) -> Option<Mark>
 }
 
 fn parting_commas(around: Around, mark: Mark) -> Option<Mark>
-    ensures { result ≡ spec.parting_commas around mark }
+    ensures { result ≡ spec.parting_commas (surroundings_of around) mark }
 {
     match mark {
-        Mark::Sign(Sign::Comma) if is_reserved(around.after) => None,
+        Mark::Sign(Sign::Comma) if is_reserved(around.behind) => None,
         _ => Some(mark),
     }
 }

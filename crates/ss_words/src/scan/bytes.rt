@@ -5,13 +5,17 @@ ghost use Rattle.std.specs.Prelude.{◌≡◌};
 ghost use Rattle.std.specs.List.{list_all};
 ghost use Rattle.ss_words.specs.TextBytes.{is_allowed, is_blank, in_run, one_byte_sign, sign_from};
 
+use crate::characters::{
+    ASTERISK, BLANK, CLOSING_PARENTHESIS, COMMA, EQUALS_SIGN, GREATER_SIGN, LESS_SIGN, MINUS_SIGN,
+    OPENING_PARENTHESIS, PLUS_SIGN, STOP, TAB, TILDE,
+};
 use crate::word::Sign;
 
 // A byte that may stand in a line.
 pub fn is_allowed(byte: u8) -> bool
     ensures { result ≡ is_allowed byte }
 {
-    byte == b'\t' || (byte >= b' ' && byte <= b'~')
+    byte == TAB || (byte >= BLANK && byte <= TILDE)
 }
 
 // Each byte may stand in a line.
@@ -25,29 +29,29 @@ pub fn all_allowed(bytes: &[u8]) -> bool
 pub fn is_blank(byte: u8) -> bool
     ensures { result ≡ is_blank byte }
 {
-    byte == b' ' || byte == b'\t'
+    byte == BLANK || byte == TAB
 }
 
 // A letter, a digit or a stop.
 pub fn in_run(byte: u8) -> bool
     ensures { result ≡ in_run byte }
 {
-    byte.is_ascii_alphabetic() || byte.is_ascii_digit() || byte == b'.'
+    byte.is_ascii_alphabetic() || byte.is_ascii_digit() || byte == STOP
 }
 
 fn one_byte_sign(byte: u8) -> Option<Sign>
     ensures { result ≡ one_byte_sign byte }
 {
     match byte {
-        b'+' => Some(Sign::Plus),
-        b'-' => Some(Sign::Minus),
-        b'*' => Some(Sign::Star),
-        b'(' => Some(Sign::Open),
-        b')' => Some(Sign::Close),
-        b',' => Some(Sign::Comma),
-        b'=' => Some(Sign::Equal),
-        b'<' => Some(Sign::Less),
-        b'>' => Some(Sign::Greater),
+        PLUS_SIGN => Some(Sign::Plus),
+        MINUS_SIGN => Some(Sign::Minus),
+        ASTERISK => Some(Sign::Star),
+        OPENING_PARENTHESIS => Some(Sign::Open),
+        CLOSING_PARENTHESIS => Some(Sign::Close),
+        COMMA => Some(Sign::Comma),
+        EQUALS_SIGN => Some(Sign::Equal),
+        LESS_SIGN => Some(Sign::Less),
+        GREATER_SIGN => Some(Sign::Greater),
         _ => None,
     }
 }
@@ -56,9 +60,9 @@ fn one_byte_sign(byte: u8) -> Option<Sign>
 pub fn sign_from(byte: u8, next: u8) -> Option<Sign>
     ensures { result ≡ sign_from byte next }
 {
-    if byte == b'<' && next == b'=' {
+    if byte == LESS_SIGN && next == EQUALS_SIGN {
         Some(Sign::LessEqual)
-    } else if byte == b'>' && next == b'=' {
+    } else if byte == GREATER_SIGN && next == EQUALS_SIGN {
         Some(Sign::GreaterEqual)
     } else {
         one_byte_sign(byte)

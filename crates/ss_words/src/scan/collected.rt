@@ -5,6 +5,7 @@ ghost use Rattle.ss_words.specs.TextRuns.{is_name, line_count};
 ghost use Rattle.ss_words.specs.TextScan.{called_after, count_after};
 
 use crate::fault::TextFault;
+use crate::limits::MOST_PICTURE_LINES;
 use crate::word::{Word, WordKind, Words};
 use std::alloc::Global;
 use std::marker::Model;
@@ -51,7 +52,7 @@ fn line_count(word: &WordKind) -> Option<u64>
 {
     match word {
         WordKind::Number(number) => {
-            if *number >= 1 && *number <= 100 {
+            if *number >= 1 && *number <= MOST_PICTURE_LINES {
                 Some(*number)
             } else {
                 None

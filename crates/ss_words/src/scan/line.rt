@@ -7,15 +7,15 @@ ghost use Rattle.ss_words.specs.TextRuns.{is_met, lacks_picture};
 ghost use Rattle.ss_words.specs.TextWords.{found_in_line, run_found, word_found};
 ghost use Rattle.ss_words.specs.TextScan.{begins_comment, hidden_len, Goes, IsFirstIn, nearest, left_in_line};
 
+use crate::characters::QUOTE;
 use crate::fault::{TextFault, TextRule};
+use crate::limits::LONGEST_RUN;
 use crate::scan::bytes::{all_allowed, in_run, is_blank, sign_from};
 use crate::scan::collected::Collected;
 use crate::scan::lines::Lines;
 use crate::scan::refused;
 use crate::scan::run::{run_len, spelled, spelling_of, without_stops};
 use crate::word::{Sign, WordKind};
-
-const LONGEST_RUN: usize = 80;
 
 // Takes the words of the line that was taken last; `below` has the lines below it.
 pub fn scan_line(words: &mut Collected, line: &[u8], below: &Lines) -> Result<(), TextFault>
@@ -57,7 +57,7 @@ fn scan_place(words: &mut Collected, rest: &[u8], below: &Lines) -> Result<usize
 fn begins_comment(rest: &[u8]) -> bool
     ensures { result ≡ begins_comment rest.now }
 {
-    rest.len() > 1 && rest[0] == b'\'' && rest[1] == b'\''
+    rest.len() > 1 && rest[0] == QUOTE && rest[1] == QUOTE
 }
 
 // The length of the comment at the front: to behind the next two quotes, or to the line's end.

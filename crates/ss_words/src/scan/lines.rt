@@ -1,6 +1,9 @@
 //! The lines of a text, one after another.
 ghost use Rattle.std.specs.Prelude.{◌≡◌, ◌+◌, ◌<◌, ◌≤◌, ◌^◌, ◌==◌, [], ◌∷◌, length, nat_le, position, MatchOption, IfNone, OnSome};
+ghost use Rattle.ss_words.specs.declared.characters.TheConstants.{LINE_FEED};
 ghost use Rattle.ss_words.specs.TextLines.{lines_of, without_return};
+
+use crate::characters::{CARRIAGE_RETURN, LINE_FEED};
 
 /// What is left of a text, and how many of its lines have been taken.
 #[derive(Clone, Copy)]
@@ -18,7 +21,7 @@ fn without_return(line: &[u8]) -> &[u8]
         return line;
     }
     let last = line.len() - 1;
-    if line[last] == b'\r' {
+    if line[last] == CARRIAGE_RETURN {
         &line[..last]
     } else {
         line
@@ -27,9 +30,9 @@ fn without_return(line: &[u8]) -> &[u8]
 
 // The place of the first line feed.
 fn line_feed(text: &[u8]) -> Option<usize>
-    ensures { result ≡ position (λ b. b == 10) text.now }
+    ensures { result ≡ position (λ b. b == LINE_FEED) text.now }
 {
-    text.iter().position(|byte| *byte == b'\n')
+    text.iter().position(|byte| *byte == LINE_FEED)
 }
 
 impl<'a> Lines<'a> {

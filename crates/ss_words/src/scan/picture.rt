@@ -6,14 +6,13 @@ ghost use Rattle.ss_words.specs.TextWords.{Found, found_from_line, found_in_pict
 ghost use Rattle.ss_words.specs.TextScan.{Goes, IsFirstIn, nearest, found_below};
 
 use crate::fault::{TextFault, TextRule};
+use crate::limits::LONGEST_PICTURE_LINE;
 use crate::scan::bytes::{all_allowed, is_allowed};
 use crate::scan::collected::Collected;
 use crate::scan::lines::Lines;
 use crate::scan::refused;
 use crate::word::WordKind;
 use std::alloc::Global;
-
-const LONGEST_PICTURE_LINE: usize = 132;
 
 // Takes the picture that the words call at their end, if they call one: the next lines, as many as PRINT says.
 pub fn scan_picture(words: &mut Collected, lines: &mut Lines) -> Result<(), TextFault>

@@ -1,17 +1,19 @@
 //! Runs of letters, digits and stops.
-ghost use Rattle.std.specs.Prelude.{◌≡◌, ◌^◌, ◌<◌, ◌≤◌, ◌==◌, length, map, take_while, SomeIff, IfOk};
+ghost use Rattle.std.specs.Prelude.{◌≡◌, ◌≤◌, ◌==◌, length, map, take_while, SomeIff, IfOk};
 ghost use Rattle.std.specs.List.{list_any};
 ghost use Rattle.std.specs.Char.{to_ascii_uppercase};
+ghost use Rattle.ss_words.specs.declared.characters.TheConstants.{STOP};
+ghost use Rattle.ss_words.specs.declared.limits.TheConstants.{LARGEST_NUMBER};
 ghost use Rattle.ss_words.specs.Words.{kind_of};
 ghost use Rattle.ss_words.specs.TextBytes.{in_run};
 ghost use Rattle.ss_words.specs.TextRuns.{without_stops, number_of, has_letter};
 ghost use Rattle.ss_words.specs.TextSpelling.{spelling_of, spelled};
 
+use crate::characters::{STOP, ZERO};
+use crate::limits::LARGEST_NUMBER;
 use crate::scan::bytes::in_run;
 use crate::word::WordKind;
 use std::alloc::{AllocError, Global};
-
-const LARGEST_NUMBER: u64 = i64::MAX as u64;
 
 /// What a run spells; without bytes it spells the number 0.
 #[derive(Clone, Copy)]
@@ -35,7 +37,7 @@ pub fn without_stops(run: &[u8]) -> &[u8]
 {
     let mut len = run.len();
     while len > 0 {
-        if run[len - 1] != b'.' {
+        if run[len - 1] != STOP {
             return &run[..len];
         }
         len -= 1;
@@ -50,18 +52,18 @@ fn has_letter(run: &[u8]) -> bool
 }
 
 fn has_stop(run: &[u8]) -> bool
-    ensures { result ≡ list_any (λ b. b == 46) run.now }
+    ensures { result ≡ list_any (λ b. b == STOP) run.now }
 {
-    run.iter().any(|byte| *byte == b'.')
+    run.iter().any(|byte| *byte == STOP)
 }
 
-// The number that digits spell, if it is at most 2^63 - 1.
+// The number that digits spell, if it is not above the largest.
 fn number_of(digits: &[u8]) -> Option<u64>
-    ensures { SomeIff result (number_of digits.now < 2 ^ 63) (number_of digits.now) }
+    ensures { SomeIff result (number_of digits.now ≤ LARGEST_NUMBER) (number_of digits.now) }
 {
     let mut number = 0u64;
     for byte in digits {
-        let digit = byte.saturating_sub(b'0') as u64;
+        let digit = byte.saturating_sub(ZERO) as u64;
         if number > (LARGEST_NUMBER - digit) / 10 {
             return None;
         }

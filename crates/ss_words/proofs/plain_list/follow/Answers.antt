@@ -1,5 +1,5 @@
 use Rattle.std.proofs.Common.{◌∙◌}
-use Rattle.ss_words.proofs.PlainFollowing.{following_begins, following_turns, following_ends, after_is, nothing_left}
+use Rattle.ss_words.proofs.PlainFollowing.{following_begins, following_turns, following_ends, behind_is, nothing_left}
 use Rattle.ss_words.proofs.plain_list.follow.Goals as goal
 
 pub loop-next-init : goal.loop-next-init
@@ -13,7 +13,7 @@ loop-next-preserved c =
     let over = nothing_left step.result _ _ _ _ step.ensures.cases step.new.self.rest.ok.0 in
     let stood = rw (c.in-Some.is, step.ensures.items) at c.loop-next.invariant.0 in (
       following_turns _ _ _ _ _ _ _ _ _ _ _ stood c.mark-mark.ensures c.governed_by-governing.ensures
-          (c.mark_of.ensures ∙ after_is step.result _ over) c.in_ok-keep.ensures,
+          (c.mark_of.ensures ∙ behind_is step.result _ over) c.in_ok-keep.ensures,
       over,
     )
 

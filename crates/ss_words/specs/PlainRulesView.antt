@@ -1,0 +1,17 @@
+-- What the code's rules of the plain words stand for.
+use Rattle.ss_words.specs.declared.plain_rules.Around.{Around}
+use Rattle.ss_words.specs.declared.plain_rules.Rule.{Rule}
+use Rattle.ss_words.specs.declared.plain_rules.Rule.TheVariants as code
+use Rattle.ss_words.specs.PlainRules.{Surroundings, PlainRule, as_follows, without_fillers, governed, single_commas, parting_commas}
+
+-- what stands round a word, as the code keeps it
+abbrev pub surroundings_of : Around → Surroundings
+surroundings_of a = record { before = a.before; governing = a.governing; behind = a.behind }
+
+-- the rule that a value of the code names
+abbrev pub rule_of : Rule → PlainRule
+rule_of code.AsFollows = as_follows
+rule_of code.WithoutFillers = without_fillers
+rule_of code.Governed = governed
+rule_of code.SingleCommas = single_commas
+rule_of code.PartingCommas = parting_commas
