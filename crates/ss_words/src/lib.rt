@@ -3,6 +3,7 @@
 
 pub mod characters;
 mod cursor;
+mod cursor_lists;
 mod fault;
 pub mod limits;
 mod mark;
@@ -14,6 +15,7 @@ mod refusal;
 pub mod refusal_laws;
 mod reserved;
 mod scan;
+mod several;
 mod spelling;
 #[cfg(test)]
 mod tests;
@@ -28,4 +30,5 @@ pub use plain_word::{Plain, PlainWord};
 pub use refusal::Refusal;
 pub use reserved::Reserved;
 pub use scan::{without_stops, words};
+pub use several::Several;
 pub use word::{Sign, Word, WordKind, Words};
