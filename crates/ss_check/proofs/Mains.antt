@@ -4,7 +4,7 @@ use Rattle.std.proofs.lemmas.Bool.{ltb-false}
 use Rattle.std.specs.Prelude.{count_by, position, cond}
 use Rattle.std.specs.List.{position_or_len}
 use Rattle.std.proofs.lemmas.List.Sums.{sum_by-cons}
-use Rattle.ss_check.specs.Program.{SectionTable, is_main, ProgramTable}
+use Rattle.ss_check.specs.Program.{is_main, ProgramTable}
 use Rattle.ss_check.specs.ProgramSound.{IsSound}
 
 one_more : (b : Bool) (k i n : ℕ) → cond b 1 0 + k ≡ 1 → (k ≡ 1 → i < n) → cond (not b) (1 + i) 0 < suc n

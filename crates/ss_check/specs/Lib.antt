@@ -11,3 +11,4 @@ pub mod Found
 pub mod Examples
 pub mod Keys
 pub mod EventTable
+pub mod Indexed

@@ -14,6 +14,7 @@ mod kinds;
 pub mod laws;
 mod locals;
 mod name;
+mod name_table;
 mod names;
 mod place;
 mod program;
