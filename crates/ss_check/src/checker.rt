@@ -9,6 +9,7 @@ use crate::fault::{CheckFault, CheckRule};
 use crate::kinds::SectionKind;
 use crate::locals::locals_of;
 use crate::name::Name;
+use crate::name_table::NameTable;
 use crate::place::Spot;
 use crate::program::Program;
 use crate::section::Section;
@@ -109,7 +110,7 @@ fn check_section(alloc: Global, section: ss_routines::Section) -> Result<Section
         given: 0,
         yielded: 0,
         saving: false,
-        locals,
+        locals: locals.into_names(),
         places,
     })
 }
@@ -124,7 +125,7 @@ fn kind_of(kind: ss_routines::SectionKind) -> SectionKind
 
 fn check_places(
     alloc: Global,
-    locals: &[Name],
+    locals: &NameTable,
     places: Vec<ss_routines::Spot>,
 ) -> Result<Vec<Spot>, CheckFault>
     ensures sound { IfOk result (λ _. first_breach (map place_statement (spots places.items)) ≡ None) }

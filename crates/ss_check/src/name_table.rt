@@ -38,6 +38,13 @@ impl NameTable {
         }
     }
 
+    /// How many names there are.
+    pub fn len(&self) -> usize
+        ensures { result ≡ length self.now }
+    {
+        self.names.len()
+    }
+
     /// The place of this name, if it is in the table.
     pub fn number(&self, name: &[u8]) -> Option<usize>
         ensures value { result ≡ position (bytes_eq name.now) self.now }
