@@ -7,3 +7,4 @@ pub mod Distinct
 pub mod Few
 pub mod SoundResolved
 pub mod LookedUpAgain
+pub mod Indexed

@@ -9,3 +9,6 @@ pub mod Resolved
 pub mod LookedUp
 pub mod Found
 pub mod Examples
+pub mod Keys
+pub mod EventTable
+pub mod Indexed

@@ -8,7 +8,7 @@ ghost use Rattle.ss_check.specs.Resolved.{resolved_assign, resolved_output, reso
 use crate::assign::{target_of, value_of};
 use crate::calls::{any_mentions_function, mentions_function};
 use crate::fault::{CheckFault, CheckRule};
-use crate::name::Name;
+use crate::name_table::NameTable;
 use crate::names::{is_clock, is_function};
 use crate::place::{Assign, Control, Output, Place};
 use crate::resolve::{resolve_assign, resolve_values};
@@ -19,7 +19,7 @@ use std::alloc::Global;
 /// Its first plain word stands on this line.
 pub(crate) fn check_place(
     alloc: Global,
-    locals: &[Name],
+    locals: &NameTable,
     line: usize,
     place: ss_routines::Place,
 ) -> Result<Place, CheckFault>
@@ -43,7 +43,7 @@ pub(crate) fn check_place(
 
 fn check_assign(
     alloc: Global,
-    locals: &[Name],
+    locals: &NameTable,
     line: usize,
     assign: &ss_routines::Assign,
 ) -> Result<Assign, CheckFault>
@@ -79,7 +79,7 @@ fn is_fixed(name: &[u8]) -> bool
 
 fn check_output(
     alloc: Global,
-    locals: &[Name],
+    locals: &NameTable,
     line: usize,
     output: ss_routines::Output,
 ) -> Result<Output, CheckFault>

@@ -6,6 +6,7 @@ ghost use Rattle.ss_check.specs.Resolved as resolved;
 use crate::assign::{target_of, value_of};
 use crate::expr::{Expr, Values};
 use crate::name::Name;
+use crate::name_table::NameTable;
 use crate::names::is_clock;
 use crate::place::Assign;
 use crate::sum::{Factor, SignedTerm, Sum, Term};
@@ -15,7 +16,7 @@ use std::alloc::{AllocError, Global};
 /// The assignment with the numbers of its variables, in a section with these locals.
 pub(crate) fn resolve_assign(
     alloc: Global,
-    locals: &[Name],
+    locals: &NameTable,
     assign: &ss_routines::Assign,
 ) -> Result<Assign, AllocError>
     ensures { IfOk result (λ a. a ≡ resolved.resolved_assign locals.now (assign_view assign.now)) }
@@ -36,7 +37,7 @@ pub(crate) fn resolve_assign(
 /// The expressions in order, with the numbers of their variables.
 pub(crate) fn resolve_values(
     alloc: Global,
-    locals: &[Name],
+    locals: &NameTable,
     values: &[ss_routines::Expr],
 ) -> Result<Values, AllocError>
     ensures { IfOk result (λ es. es ≡ map (resolved.resolved_expr locals.now) (map expr_view values.now)) }
@@ -48,7 +49,11 @@ pub(crate) fn resolve_values(
     Ok(Values { list })
 }
 
-fn resolve_expr(alloc: Global, locals: &[Name], e: &ss_routines::Expr) -> Result<Expr, AllocError>
+fn resolve_expr(
+    alloc: Global,
+    locals: &NameTable,
+    e: &ss_routines::Expr,
+) -> Result<Expr, AllocError>
     ensures { IfOk result (λ x. x ≡ resolved.resolved_expr locals.now (expr_view e.now)) }
 {
     let sum = resolve_sum(alloc, locals, e)?;
@@ -56,7 +61,7 @@ fn resolve_expr(alloc: Global, locals: &[Name], e: &ss_routines::Expr) -> Result
 }
 
 #[cycle(resolve)]
-fn resolve_sum(alloc: Global, locals: &[Name], e: &ss_routines::Expr) -> Result<Sum, AllocError>
+fn resolve_sum(alloc: Global, locals: &NameTable, e: &ss_routines::Expr) -> Result<Sum, AllocError>
     ensures { IfOk result (λ x. expr_of x ≡ resolved.resolved_expr locals.now (expr_view e.now)) }
 {
     let first = resolve_term(alloc, locals, &e.first)?;
@@ -76,7 +81,11 @@ fn resolve_sum(alloc: Global, locals: &[Name], e: &ss_routines::Expr) -> Result<
 }
 
 #[cycle(resolve)]
-fn resolve_term(alloc: Global, locals: &[Name], t: &ss_routines::Term) -> Result<Term, AllocError>
+fn resolve_term(
+    alloc: Global,
+    locals: &NameTable,
+    t: &ss_routines::Term,
+) -> Result<Term, AllocError>
     ensures { IfOk result (λ x. term_of x ≡ resolved.resolved_term locals.now (term_view t.now)) }
 {
     let mut more = Vec::new(alloc);
@@ -90,7 +99,7 @@ fn resolve_term(alloc: Global, locals: &[Name], t: &ss_routines::Term) -> Result
 #[cycle(resolve)]
 fn resolve_factor(
     alloc: Global,
-    locals: &[Name],
+    locals: &NameTable,
     f: &ss_routines::Factor,
 ) -> Result<Factor, AllocError>
     ensures { IfOk result (λ x. factor_of x ≡ resolved.resolved_factor locals.now (factor_view f.now)) }
@@ -107,13 +116,13 @@ fn resolve_factor(
 
 /// What a name stands for; one that stands in no table has the number behind the last local.
 #[tactic(auto, using(crate::proofs::Mains::found_first, crate::proofs::Mains::found_none))]
-fn resolve_name(locals: &[Name], name: &[u8]) -> Variable
+fn resolve_name(locals: &NameTable, name: &[u8]) -> Variable
     ensures { result ≡ resolved.resolved_name locals.now name.now }
 {
     if is_clock(name) {
         return Variable::Clock;
     }
-    match variable_number(locals, name) {
+    match locals.number(name) {
         Some(number) => Variable::Local(number),
         None => Variable::Local(locals.len()),
     }

@@ -18,8 +18,8 @@ decreases-add_factor l = goal.size-add_factor l
 -- the names that are left bring the table to the whole one
 abbrev pub invariant-add_expr-loop-further : goal.invariant-add_expr-loop-further
 invariant-add_expr-loop-further l =
-    fold with_local l.locals.items (names_of_sums (sums_of (map added_view (drop l.further-index l.further-items)))) ≡ fold with_local l.fn.locals.items (names_of_expr (expr_view l.fn.e))
+    fold with_local l.locals (names_of_sums (sums_of (map added_view (drop l.further-index l.further-items)))) ≡ fold with_local l.fn.locals (names_of_expr (expr_view l.fn.e))
 
 abbrev pub invariant-add_term-loop-further : goal.invariant-add_term-loop-further
 invariant-add_term-loop-further l =
-    fold with_local l.locals.items (names_of_products (products_of (map factor_view (drop l.further-index l.further-items)))) ≡ fold with_local l.fn.locals.items (names_of_term (term_view l.fn.t))
+    fold with_local l.locals (names_of_products (products_of (map factor_view (drop l.further-index l.further-items)))) ≡ fold with_local l.fn.locals (names_of_term (term_view l.fn.t))

@@ -9,4 +9,4 @@ use Rattle.ss_check.proofs.locals.add_values.Given as goal
 -- the names that are left bring the table to the whole one
 abbrev pub invariant-loop-value : goal.invariant-loop-value
 invariant-loop-value l =
-    fold with_local l.locals.items (flat_map names_of_expr (map expr_view (drop l.value-index l.values))) ≡ fold with_local l.fn.locals.items (flat_map names_of_expr (map expr_view l.values))
+    fold with_local l.locals (flat_map names_of_expr (map expr_view (drop l.value-index l.values))) ≡ fold with_local l.fn.locals (flat_map names_of_expr (map expr_view l.values))

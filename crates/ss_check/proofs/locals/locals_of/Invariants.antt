@@ -8,4 +8,4 @@ use Rattle.ss_check.proofs.locals.locals_of.Given as goal
 -- the names that are left bring the table to the whole one
 abbrev pub invariant-loop-spot : goal.invariant-loop-spot
 invariant-loop-spot l =
-    fold with_local l.locals.items (flat_map (λ s. names_written s.place) (spots (drop l.spot-index l.places))) ≡ locals_written (spots l.places)
+    fold with_local l.locals (flat_map (λ s. names_written s.place) (spots (drop l.spot-index l.places))) ≡ locals_written (spots l.places)
