@@ -7,10 +7,12 @@ use Rattle.std.proofs.lemmas.Bool.{and_parts}
 use Rattle.std.proofs.lemmas.Slice.Eq.{bytes_eq-Decides}
 use Rattle.ss_routines.specs.Expr.{Expr, expr, Sums, no_sums, sum, Term, term, Products, no_products, product, Factor, digits, variable, within}
 use Rattle.ss_routines.specs.Places.{Assign, lets, adds, subtracts, prints, stops, ends, Place, assign, output, control, Spot, Section}
+use Rattle.ss_routines.specs.declared.section.SectionKind.{SectionKind}
+use Rattle.ss_routines.specs.declared.section.SectionKind.TheVariants.{Main}
 use Rattle.ss_check.specs.declared.variable.Variable.TheVariants.{Local, Clock}
 use Rattle.ss_check.specs.Names.{is_clock, names_of_expr, names_of_sums, names_of_term, names_of_products, names_of_factor, names_written}
-use Rattle.ss_check.specs.Resolved.{locals_written, resolved, resolved_assign, resolved_expr, resolved_factor, resolved_name, resolved_place, resolved_products, resolved_section, resolved_spot, resolved_sums, resolved_term}
-use Rattle.ss_check.specs.LookedUp.{HaveNoParameters, looked_up, looked_up_section, name_of, written_assign, written_expr, written_factor, written_place, written_products, written_spot, written_sums, written_term}
+use Rattle.ss_check.specs.Resolved.{locals_written, resolved, resolved_assign, resolved_expr, resolved_factor, resolved_kind, resolved_name, resolved_place, resolved_products, resolved_section, resolved_spot, resolved_sums, resolved_term}
+use Rattle.ss_check.specs.LookedUp.{HaveNoParameters, looked_up, looked_up_section, name_of, written_assign, written_expr, written_factor, written_kind, written_place, written_products, written_spot, written_sums, written_term}
 use Rattle.ss_check.proofs.Known.{known, known_parts, any_position, all_known}
 
 name_cond : (b c : Bool) (table : List (List ℕ)) (n : List ℕ) → is_clock n ≡ b → list_any (bytes_eq n) table ≡ c → (b || c) ≡ true → name_of [] table (cond b Clock (Local (position_or_len (bytes_eq n) table))) ≡ n
@@ -81,9 +83,13 @@ places_again table (s ∷ ss) h =
     let parts = known_parts table (names_written s.place) (flat_map (λ s. names_written s.place) ss) h in
     ap (λ (p : Place). record { line = s.line; place = p } ∷ map (written_spot [] table) (map (resolved_spot table) ss)) (place_again table s.place parts.0) ∙ ap (λ (xs : List Spot). s ∷ xs) (places_again table ss parts.1)
 
+kind_again : (k : SectionKind) → written_kind (resolved_kind k) ≡ k
+kind_again Main = refl
+
 section_again : (s : Section) → s.parameters ≡ [] → looked_up_section [] (resolved_section s) ≡ s
 section_again s e =
-    ap (λ (ps : List (List ℕ)). record s { parameters = ps; places = map (written_spot [] (locals_written s.places)) (map (resolved_spot (locals_written s.places)) s.places) }) (sym e)
+    ap (λ (k : SectionKind). record (looked_up_section [] (resolved_section s)) { kind = k }) (kind_again s.kind)
+    ∙ ap (λ (ps : List (List ℕ)). record s { parameters = ps; places = map (written_spot [] (locals_written s.places)) (map (resolved_spot (locals_written s.places)) s.places) }) (sym e)
     ∙ ap (λ (xs : List Spot). record s { places = xs }) (places_again (locals_written s.places) s.places (all_known (flat_map (λ s. names_written s.place) s.places) []))
 
 pub looked_up_again : (ss : List Section) → HaveNoParameters ss → looked_up (resolved ss) ≡ ss

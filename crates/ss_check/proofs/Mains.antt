@@ -1,18 +1,24 @@
 -- The one MAIN is there, and is what a search finds.
-use Rattle.std.proofs.Common.{◌≡◌, ℕ, suc, ◌+◌, ◌<◌, ◌≤◌, List, [], ◌∷◌, length, Bool, true, false, not, arith, refl, Some, None, nat_lt}
+use Rattle.std.proofs.Common.{◌≡◌, ℕ, suc, ◌+◌, ◌<◌, ◌≤◌, List, [], ◌∷◌, length, Bool, true, false, not, arith, refl, sym, ◌∙◌, Some, None, nat_lt}
 use Rattle.std.proofs.lemmas.Bool.{ltb-false}
 use Rattle.std.specs.Prelude.{count_by, position, cond}
 use Rattle.std.specs.List.{position_or_len}
-use Rattle.std.proofs.lemmas.Grind.{common_steps}
+use Rattle.std.proofs.lemmas.List.Sums.{sum_by-cons}
 use Rattle.ss_check.specs.Program.{SectionTable, is_main, ProgramTable}
 use Rattle.ss_check.specs.ProgramSound.{IsSound}
 
-one_of : (ss : List SectionTable) → count_by is_main ss ≡ 1 → position_or_len is_main ss < length ss
-one_of [] h = omega (arith, h)
-one_of (s ∷ ss) h = grind (arith, common_steps, h)
+one_more : (b : Bool) (k i n : ℕ) → cond b 1 0 + k ≡ 1 → (k ≡ 1 → i < n) → cond (not b) (1 + i) 0 < suc n
+one_more true k i n h f = omega arith
+one_more false k i n h f = let l : i < n = f (omega (arith, h)) in omega (arith, l)
+
+one_of : {X : Type 0} (p : X → Bool) (xs : List X) → count_by p xs ≡ 1 → position_or_len p xs < length xs
+one_of p [] h = omega (arith, h)
+one_of {X = X} p (x ∷ xs) h =
+    one_more (p x) (count_by p xs) (position_or_len p xs) (length xs)
+    (sym (sum_by-cons (λ (y : X). cond (p y) 1 0) x xs) ∙ h) (one_of p xs)
 
 pub one_main : (p : ProgramTable) → IsSound p → position_or_len is_main p.sections < length p.sections
-one_main p h = one_of p.sections h.main
+one_main p h = one_of is_main p.sections h.main
 
 -- the first that passes
 found_at : (b : Bool) (i n : ℕ) → Some n ≡ cond b (Some i) None → n ≡ i

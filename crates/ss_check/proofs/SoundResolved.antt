@@ -19,7 +19,7 @@ use Rattle.ss_routines.specs.Ended as ended
 use Rattle.ss_check.specs.Resolved.{locals_written, resolved, resolved_assign, resolved_expr, resolved_factor, resolved_name, resolved_place, resolved_products, resolved_section, resolved_spot, resolved_sums, resolved_term}
 use Rattle.ss_check.proofs.Breaches.{breach_behind, no_breach_cons, no_breach_place}
 use Rattle.ss_check.proofs.Known.{known, known_parts, any_position, all_known}
-use Rattle.ss_check.proofs.Distinct.{distinct_locals, sound_names}
+use Rattle.ss_check.proofs.Distinct.{distinct_locals, sound_names, sound_tables}
 use Rattle.ss_check.proofs.Few.{AreFew}
 
 -- ---- names and expressions
@@ -120,6 +120,7 @@ ended_places table (s ∷ t ∷ ts) h = (end_stays table s.place ∙ h.0, ended_
 sound_section : (s : Section) → IsEnded s.places → length s.places < 2 ^ 63 → first_breach (map place_statement s.places) ≡ None → sound.IsSoundSection 0 (resolved_section s)
 sound_section s e f b = record {
   distinct = distinct_locals (flat_map (λ s. names_written s.place) s.places);
+  parameters = omega arith;
   places = sound_places (locals_written s.places) s.places (all_known (flat_map (λ s. names_written s.place) s.places) []) b;
   ended = ended_places (locals_written s.places) s.places e;
   few = rw (length-map s.places (resolved_spot (locals_written s.places))) f;
@@ -153,5 +154,6 @@ sound_resolved ss e f l b = record {
   sections = sound_sections ss false 1 e f b;
   few = rw (length-map ss resolved_section) l;
   names = sound_names (map resolved_section ss);
+  tables = sound_tables (map resolved_section ss);
   few_names = omega arith;
 }

@@ -9,6 +9,7 @@ use Rattle.ss_check.specs.declared.fault.CheckRule.TheVariants.{WrongCount, Fixe
 use Rattle.ss_check.specs.declared.fault.CheckFault.{CheckFault}
 use Rattle.ss_check.specs.declared.fault.CheckFault.TheVariants.{Broken, Memory}
 use Rattle.ss_check.specs.Names.{is_function, is_clock, names_read, names_assigned}
+use Rattle.ss_check.specs.Resolved.{resolved_kind}
 use Rattle.ss_check.specs.Program.{is_main_kind}
 
 -- C7: a function is evaluated without its arguments
@@ -41,7 +42,7 @@ abbrev pub place_statement : Spot → Statement
 place_statement s = record { line = s.line; breaks = place_rules s.place }
 
 abbrev pub is_main_section : Section → Bool
-is_main_section s = is_main_kind s.kind
+is_main_section s = is_main_kind (resolved_kind s.kind)
 
 -- C11 at a head: a second MAIN
 abbrev pub head_statement : Bool → Section → Statement

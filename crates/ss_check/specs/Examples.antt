@@ -1,5 +1,5 @@
 -- Small programs, and what the rules and the tables make of them.
-use Rattle.std.specs.Prelude.{◌≡◌, ℕ, ◌+◌, true, List, [], ◌∷◌, ◌++◌, map, codes, Option, Some, None}
+use Rattle.std.specs.Prelude.{◌≡◌, ℕ, ◌+◌, true, false, List, [], ◌∷◌, ◌++◌, map, codes, Option, Some, None}
 use Rattle.ss_routines.specs.declared.section.SectionKind.TheVariants.{Main}
 use Rattle.ss_routines.specs.Expr.{Expr, expr, no_sums, term, no_products, variable}
 use Rattle.ss_routines.specs.Places.{lets, adds, prints, ends, Place, assign, output, control, Spot, Section}
@@ -7,6 +7,8 @@ use Rattle.ss_check.specs.declared.fault.CheckRule.{CheckRule}
 use Rattle.ss_check.specs.declared.fault.CheckRule.TheVariants.{WrongCount, FixedTarget, WrongPicture, WrongMain}
 use Rattle.ss_check.specs.declared.kinds.ClassKind.TheVariants.{Permanent}
 use Rattle.ss_check.specs.declared.kinds.Discipline.TheVariants.{Fifo}
+use Rattle.ss_check.specs.declared.kinds.Owner.TheVariants.{System}
+use Rattle.ss_check.specs.declared.kinds.SectionKind.TheVariants.{Main as MainSection}
 use Rattle.ss_check.specs.declared.variable.Variable.{Variable}
 use Rattle.ss_check.specs.declared.variable.Variable.TheVariants.{Local, Clock}
 use Rattle.ss_check.specs.declared.place.Assign.TheVariants as a
@@ -104,11 +106,15 @@ LocalsAreNumbered =
       globals = [];
       classes = [];
       sets = [];
+      priority = [];
       sections =
           record {
             name = codes "MAIN";
-            kind = Main;
+            kind = MainSection;
             line = 1;
+            given = 0;
+            yielded = 0;
+            saving = false;
             locals = codes "N" ∷ codes "TOTAL" ∷ [];
             places =
                 record { line = 2; place = p.Assign (a.Let true (Local 0) (number_alone Clock)) }
@@ -124,8 +130,9 @@ LocalsAreNumbered =
 abbrev pub shop : ProgramTable
 shop = record {
   globals = codes "LIMIT" ∷ codes "JOB" ∷ [];
-  classes = record { name = codes "JOB"; kind = Permanent; attributes = [] } ∷ [];
-  sets = record { name = codes "ROW"; discipline = Fifo } ∷ [];
+  classes = record { name = codes "JOB"; kind = Permanent 0; variable = 1; attributes = [] } ∷ [];
+  sets = record { name = codes "ROW"; discipline = Fifo; owner = System; member = 0 } ∷ [];
+  priority = [];
   sections = [];
 }
 

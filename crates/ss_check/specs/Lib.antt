@@ -9,3 +9,5 @@ pub mod Resolved
 pub mod LookedUp
 pub mod Found
 pub mod Examples
+pub mod Keys
+pub mod EventTable

@@ -1,5 +1,8 @@
 -- The sections of a program with each number looked up in its table again.
 use Rattle.std.specs.Prelude.{◌≡◌, ℕ, List, [], ◌∷◌, map, codes, slice_index_or}
+use Rattle.ss_check.specs.declared.kinds.SectionKind.{SectionKind}
+use Rattle.ss_routines.specs.declared.section.SectionKind.{SectionKind as WrittenKind}
+use Rattle.ss_routines.specs.declared.section.SectionKind.TheVariants.{Main}
 use Rattle.ss_check.specs.declared.variable.Variable.{Variable}
 use Rattle.ss_check.specs.declared.variable.Variable.TheVariants.{Global, Local, Clock}
 use Rattle.ss_check.specs.declared.place.Assign.{Assign}
@@ -67,11 +70,15 @@ module _ (globals locals : List (List ℕ)) where
   abbrev pub written_spot : Spot → w.Spot
   written_spot s = record { line = s.line; place = written_place s.place }
 
+-- what a section is; so far each is a MAIN
+abbrev pub written_kind : SectionKind → WrittenKind
+written_kind k = Main
+
 -- a section, which has no parameters
 abbrev pub looked_up_section : List (List ℕ) → SectionTable → w.Section
 looked_up_section globals s = record {
   line = s.line;
-  kind = s.kind;
+  kind = written_kind s.kind;
   name = s.name;
   parameters = [];
   places = map (written_spot globals s.locals) s.places;

@@ -1,42 +1,62 @@
--- The checked program: tables of names in order of declaration, and the places of each section.
-use Rattle.std.specs.Prelude.{ℕ, List, [], slice_get, Option, Some, None, Bool, true}
-use Rattle.std.specs.List.{position_or_len}
+-- The checked program: its tables in order of declaration, and the places of each section. A row is named by its number, from 0.
+use Rattle.std.specs.Prelude.{ℕ, ◌+◌, ◌==◌, List, [], length, take, count_by, slice_get, position, Option, Some, None, unwrap_or, Bool, true, false}
+use Rattle.std.specs.List.{list_any, position_or_len}
+use Rattle.ss_check.specs.EventTable.{EventTable}
 use Rattle.ss_check.specs.declared.kinds.ClassKind.{ClassKind}
+use Rattle.ss_check.specs.declared.kinds.ClassKind.TheVariants.{Permanent, Temporary, Event}
 use Rattle.ss_check.specs.declared.kinds.Discipline.{Discipline}
-use Rattle.ss_routines.specs.declared.section.SectionKind.{SectionKind}
-use Rattle.ss_routines.specs.declared.section.SectionKind.TheVariants.{Main}
+use Rattle.ss_check.specs.declared.kinds.Discipline.TheVariants.{Fifo}
+use Rattle.ss_check.specs.declared.kinds.Owner.{Owner}
+use Rattle.ss_check.specs.declared.kinds.Owner.TheVariants.{System, OwnedBy}
+use Rattle.ss_check.specs.declared.kinds.SectionKind.{SectionKind}
+use Rattle.ss_check.specs.declared.kinds.SectionKind.TheVariants.{Main, Event as EventSection}
 use Rattle.ss_check.specs.declared.place.Spot.{Spot}
 
--- a class: its name, its kind, and the names of its attributes
+-- a class: its name, its kind, the global variable of its name, and the names of its attributes
 pub record ClassTable : Type 0 where
   pub name : List ℕ
   pub kind : ClassKind
+  pub variable : ℕ
   pub attributes : List (List ℕ)
 
--- a set: its name and its discipline
+-- a set: its name, its discipline, whose its lists are, and the class of its members
 pub record SetTable : Type 0 where
   pub name : List ℕ
   pub discipline : Discipline
+  pub owner : Owner
+  pub member : ℕ
 
--- a section: its name, its kind, the line of its head, the names of its locals, and its places
+-- a section: its name, its kind, the line of its head, how many given and how many yielded parameters it has, whether it says SAVING,
+-- the names of its locals, those of the parameters first, and its places
 pub record SectionTable : Type 0 where
   pub name : List ℕ
   pub kind : SectionKind
   pub line : ℕ
+  pub given : ℕ
+  pub yielded : ℕ
+  pub saving : Bool
   pub locals : List (List ℕ)
   pub places : List Spot
 
--- a program: the names of the global variables, the classes, the sets and the sections
+-- a program: the names of the global variables, the classes, the sets, the event classes that PRIORITY names, and the sections
 pub record ProgramTable : Type 0 where
   pub globals : List (List ℕ)
   pub classes : List ClassTable
   pub sets : List SetTable
+  pub priority : List ℕ
   pub sections : List SectionTable
 
 -- MAIN, by the kind of a section
 abbrev pub is_main_kind : SectionKind → Bool
 is_main_kind Main = true
+is_main_kind _ = false
 
+-- the section of an event, by its kind
+abbrev pub is_event_kind : SectionKind → Bool
+is_event_kind EventSection = true
+is_event_kind _ = false
+
+-- the section MAIN
 abbrev pub is_main : SectionTable → Bool
 is_main s = is_main_kind s.kind
 
@@ -57,3 +77,69 @@ locals_of None = []
 -- place number `place` of section number `section`
 abbrev pub spot_at : ProgramTable → ℕ → ℕ → Option Spot
 spot_at p section place = slice_get (places_of (slice_get p.sections section)) place
+
+-- ---- rows of the tables by their numbers; no sound program asks for one that isn't there
+
+-- class number c
+abbrev pub class_of : ProgramTable → ℕ → ClassTable
+class_of p c = unwrap_or (slice_get p.classes c) (record { name = []; kind = Temporary; variable = 0; attributes = [] })
+
+-- set number s
+abbrev pub set_of : ProgramTable → ℕ → SetTable
+set_of p s = unwrap_or (slice_get p.sets s) (record { name = []; discipline = Fifo; owner = System; member = 0 })
+
+-- what a class of this kind has besides, if it is an event class
+abbrev pub event_of_kind : ClassKind → EventTable
+event_of_kind (Event e) = e
+event_of_kind _ = record { section = 0; ties = []; external = false }
+
+-- section number n
+abbrev pub section_of : ProgramTable → ℕ → SectionTable
+section_of p n = unwrap_or (slice_get p.sections n)
+    (record { name = []; kind = Main; line = 0; given = 0; yielded = 0; saving = false; locals = []; places = [] })
+
+-- what event class c has besides
+abbrev pub event_of : ProgramTable → ℕ → EventTable
+event_of p c = event_of_kind (class_of p c).kind
+
+-- ---- what is read off the rows
+
+-- the class is an event class
+abbrev pub is_event : ClassKind → Bool
+is_event (Event e) = true
+is_event _ = false
+
+-- the section of an event
+abbrev pub is_event_section : SectionTable → Bool
+is_event_section s = is_event_kind s.kind
+
+-- the variable N.c of a permanent class
+abbrev pub count_by_kind : ClassKind → ℕ
+count_by_kind (Permanent n) = n
+count_by_kind _ = 0
+
+-- the same by the number of the class
+abbrev pub count_variable : ProgramTable → ℕ → ℕ
+count_variable p c = count_by_kind (class_of p c).kind
+
+-- whether some class is external
+abbrev pub has_external : ProgramTable → Bool
+has_external p = list_any (λ c. (event_of_kind c.kind).external) p.classes
+
+-- the place of an event class in the order of priority: those that are named, then the others as they are declared
+abbrev pub priority_of : ProgramTable → ℕ → ℕ
+priority_of p c = unwrap_or (position (λ d. c == d) p.priority) (length p.priority + c)
+
+-- two owners are the same
+abbrev pub is_same_owner : Owner → Owner → Bool
+is_same_owner System System = true
+is_same_owner (OwnedBy c) (OwnedBy d) = c == d
+is_same_owner _ _ = false
+
+-- how many of these sets an owner has
+abbrev pub owned_among : Owner → List SetTable → ℕ
+owned_among owner sets = count_by (λ t. is_same_owner owner t.owner) sets
+
+-- the number of a set among those of its owner
+abbrev pub list_number : ProgramTable → ℕ → ℕ
+list_number p s = owned_among (set_of p s).owner (take s p.sets)

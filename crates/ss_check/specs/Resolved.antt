@@ -1,8 +1,12 @@
 -- The program that sections without a breach stand for: each name replaced by its place in its table.
-use Rattle.std.specs.Prelude.{ℕ, ◌||◌, List, [], ◌∷◌, ◌++◌, map, if◌then◌else◌, bytes_eq}
+use Rattle.std.specs.Prelude.{ℕ, false, ◌||◌, List, [], ◌∷◌, ◌++◌, map, if◌then◌else◌, bytes_eq}
 use Rattle.std.specs.List.{list_any, flat_map, fold, position_or_len}
 use Rattle.ss_routines.specs.Expr.{Expr, expr, Sums, no_sums, sum, Term, term, Products, no_products, product, Factor, digits, variable, within}
 use Rattle.ss_routines.specs.Places.{Assign, lets, adds, subtracts, Output, prints, Control, stops, ends, Place, assign, output, control, Spot, Section}
+use Rattle.ss_routines.specs.declared.section.SectionKind.{SectionKind}
+use Rattle.ss_routines.specs.declared.section.SectionKind.TheVariants.{Main}
+use Rattle.ss_check.specs.declared.kinds.SectionKind.{SectionKind as CheckedKind}
+use Rattle.ss_check.specs.declared.kinds.SectionKind.TheVariants as k
 use Rattle.ss_check.specs.declared.variable.Variable.{Variable}
 use Rattle.ss_check.specs.declared.variable.Variable.TheVariants.{Local, Clock}
 use Rattle.ss_check.specs.declared.place.Assign.{Assign as CheckedAssign}
@@ -71,15 +75,23 @@ module _ (locals : List (List ℕ)) where
   abbrev pub resolved_spot : Spot → CheckedSpot
   resolved_spot s = record { line = s.line; place = resolved_place s.place }
 
+-- what a section is
+abbrev pub resolved_kind : SectionKind → CheckedKind
+resolved_kind Main = k.Main
+
+-- a section with the numbers of its variables
 abbrev pub resolved_section : Section → SectionTable
 resolved_section s = record {
   name = s.name;
-  kind = s.kind;
+  kind = resolved_kind s.kind;
   line = s.line;
+  given = 0;
+  yielded = 0;
+  saving = false;
   locals = locals_written s.places;
   places = map (resolved_spot (locals_written s.places)) s.places;
 }
 
 -- the program: no global variables, classes and sets, and the sections
 abbrev pub resolved : List Section → ProgramTable
-resolved ss = record { globals = []; classes = []; sets = []; sections = map resolved_section ss }
+resolved ss = record { globals = []; classes = []; sets = []; priority = []; sections = map resolved_section ss }

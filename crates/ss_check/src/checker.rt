@@ -2,16 +2,17 @@ ghost use Rattle.std.specs.Prelude.{◌≡◌, map, None, IfOk, IfErr};
 ghost use Rattle.ss_routines.specs.View.{section_view, spots};
 ghost use Rattle.ss_check.specs.Breach.{IsBreach, breach, first_breach, head_statement, is_main_section, lowest, place_statement};
 ghost use Rattle.ss_check.specs.Breach as rules;
-ghost use Rattle.ss_check.specs.Resolved.{resolved, resolved_section, resolved_spot};
+ghost use Rattle.ss_check.specs.Resolved.{resolved, resolved_kind, resolved_section, resolved_spot};
 
 use crate::check_place::check_place;
 use crate::fault::{CheckFault, CheckRule};
+use crate::kinds::SectionKind;
 use crate::locals::locals_of;
 use crate::name::Name;
 use crate::place::Spot;
 use crate::program::Program;
 use crate::section::Section;
-use ss_routines::{SectionKind, Sections};
+use ss_routines::Sections;
 use std::alloc::Global;
 
 /// The checked program of these sections: each name is a number in its table, and each picture has its fields
@@ -25,7 +26,13 @@ pub fn check(alloc: Global, sections: Sections) -> Result<Program, CheckFault>
     ensures err { IfErr result (λ f. IsBreach f (breach sections)) }
 {
     let checked = check_sections(alloc, sections.into_list())?;
-    Ok(Program::new(Vec::new(alloc), Vec::new(alloc), Vec::new(alloc), checked))
+    Ok(Program::new(
+        Vec::new(alloc),
+        Vec::new(alloc),
+        Vec::new(alloc),
+        Vec::new(alloc),
+        checked,
+    ))
 }
 
 fn check_sections(
@@ -70,7 +77,7 @@ fn head_rule(has_main: bool, section: &ss_routines::Section) -> Option<CheckRule
 fn is_main(section: &ss_routines::Section) -> bool
     ensures { result ≡ is_main_section (section_view section.now) }
 {
-    section.kind == SectionKind::Main
+    section.kind == ss_routines::SectionKind::Main
 }
 
 /// The line of the last statement of a section.
@@ -97,11 +104,22 @@ fn check_section(alloc: Global, section: ss_routines::Section) -> Result<Section
         name: Name {
             bytes: section.name,
         },
-        kind: section.kind,
+        kind: kind_of(section.kind),
         line: section.line,
+        given: 0,
+        yielded: 0,
+        saving: false,
         locals,
         places,
     })
+}
+
+fn kind_of(kind: ss_routines::SectionKind) -> SectionKind
+    ensures { result ≡ resolved_kind kind }
+{
+    match kind {
+        ss_routines::SectionKind::Main => SectionKind::Main,
+    }
 }
 
 fn check_places(

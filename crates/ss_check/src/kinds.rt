@@ -1,14 +1,51 @@
+use crate::keys::Keys;
+use std::marker::Model;
+
 /// What the entities of a class are.
-#[derive(Clone, Copy, Debug, PartialEq, Eq)]
+#[derive(Debug, Drop)]
 pub enum ClassKind {
-    Permanent,
+    /// Made once, all of them; `count` is the number of the global variable `N.c`.
+    Permanent { count: usize },
     Temporary,
-    Event,
+    Event(EventClass),
+}
+
+/// What an event class has besides: the number of its section, the keys that break its ties, and
+/// whether the data may name it.
+#[derive(Debug, Drop)]
+pub struct EventClass {
+    pub section: usize,
+    pub ties: Keys,
+    pub external: bool,
+}
+
+impl Model for EventClass {
+    ghost use Rattle.ss_check.specs.EventTable.{EventTable};
+
+    ghost Value = { EventTable };
+
+    ghost view = { λ a. record { section = a.section; ties = a.ties; external = a.external } };
 }
 
 /// Where a set files a member when no place is named.
-#[derive(Clone, Copy, Debug, PartialEq, Eq)]
+#[derive(Debug, Drop)]
 pub enum Discipline {
     Fifo,
     Lifo,
+    Ranked(Keys),
+}
+
+/// Whose a set's lists are: one of the system, or one of each entity of a class, by its number.
+#[derive(Clone, Copy, Debug, PartialEq, Eq)]
+pub enum Owner {
+    System,
+    OwnedBy(usize),
+}
+
+/// What a section is.
+#[derive(Clone, Copy, Debug, PartialEq, Eq)]
+pub enum SectionKind {
+    Main,
+    Routine,
+    Event,
 }

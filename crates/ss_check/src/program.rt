@@ -2,11 +2,11 @@ ghost use Rattle.std.specs.Prelude.{◌≡◌, ◌<◌, length, position, slice_
 ghost use Rattle.ss_check.specs.Program.{ProgramTable, is_main, main_number, places_of, spot_at};
 ghost use Rattle.ss_check.specs.ProgramSound.{IsSound};
 
+use crate::kinds::SectionKind;
 use crate::name::Name;
 use crate::place::Spot;
 use crate::section::Section;
 use crate::tables::{Class, Set};
-use ss_routines::SectionKind;
 use std::marker::Model;
 
 /// A checked program. The names of its global variables, classes and sets, those of a class's attributes and those of a
@@ -16,6 +16,8 @@ pub struct Program {
     pub globals: Vec<Name>,
     pub classes: Vec<Class>,
     pub sets: Vec<Set>,
+    /// The event classes that PRIORITY names, by their numbers, the first in priority first.
+    pub priority: Vec<usize>,
     pub sections: Vec<Section>,
 }
 
@@ -29,9 +31,21 @@ impl Model for Program {
 
     ghost coded = { Prim.hlevel (codes, section.the_row.coded) };
 
-    ghost view = { λ a. record { globals = a.globals.items; classes = a.classes.items; sets = a.sets.items; sections = a.sections.items } };
+    ghost view = { λ a. record {
+      globals = a.globals.items;
+      classes = a.classes.items;
+      sets = a.sets.items;
+      priority = a.priority.items;
+      sections = a.sections.items;
+    } };
 
-    ghost invariant = { λ a. IsSound (record { globals = a.globals.items; classes = a.classes.items; sets = a.sets.items; sections = a.sections.items }) };
+    ghost invariant = { λ a. IsSound (record {
+      globals = a.globals.items;
+      classes = a.classes.items;
+      sets = a.sets.items;
+      priority = a.priority.items;
+      sections = a.sections.items;
+    }) };
 }
 
 impl Program {
@@ -40,15 +54,29 @@ impl Program {
         globals: Vec<Name>,
         classes: Vec<Class>,
         sets: Vec<Set>,
+        priority: Vec<usize>,
         sections: Vec<Section>,
     ) -> Self
-        requires { IsSound (record { globals = globals.items; classes = classes.items; sets = sets.items; sections = sections.items }) }
-        ensures { result ≡ record { globals = globals.items; classes = classes.items; sets = sets.items; sections = sections.items } }
+        requires { IsSound (record {
+          globals = globals.items;
+          classes = classes.items;
+          sets = sets.items;
+          priority = priority.items;
+          sections = sections.items;
+        }) }
+        ensures { result ≡ record {
+          globals = globals.items;
+          classes = classes.items;
+          sets = sets.items;
+          priority = priority.items;
+          sections = sections.items;
+        } }
     {
         Program {
             globals,
             classes,
             sets,
+            priority,
             sections,
         }
     }

@@ -1,14 +1,19 @@
+use crate::kinds::SectionKind;
 use crate::name::Name;
 use crate::place::Spot;
-use ss_routines::SectionKind;
 use std::marker::Model;
 
-/// A section: its name (`MAIN` for the main one), the line of its head, its locals in the order of its table, and its places.
+/// A section: its name (`MAIN` for the main one), the line of its head, how many given and how many yielded
+/// parameters it has, whether its event's notice is saved, its locals in the order of its table (those of the
+/// parameters first), and its places.
 #[derive(Debug, Drop)]
 pub struct Section {
     pub name: Name,
     pub kind: SectionKind,
     pub line: usize,
+    pub given: usize,
+    pub yielded: usize,
+    pub saving: bool,
     pub locals: Vec<Name>,
     pub places: Vec<Spot>,
 }
@@ -22,5 +27,14 @@ impl Model for Section {
 
     ghost coded = { Prim.hlevel (codes, spot.the_row.coded) };
 
-    ghost view = { λ a. record { name = a.name; kind = a.kind; line = a.line; locals = a.locals.items; places = a.places.items } };
+    ghost view = { λ a. record {
+      name = a.name;
+      kind = a.kind;
+      line = a.line;
+      given = a.given;
+      yielded = a.yielded;
+      saving = a.saving;
+      locals = a.locals.items;
+      places = a.places.items;
+    } };
 }

@@ -1,12 +1,14 @@
-use crate::kinds::{ClassKind, Discipline};
+use crate::kinds::{ClassKind, Discipline, Owner};
 use crate::name::Name;
 use std::marker::Model;
 
-/// A class, and the names of its attributes in order of declaration.
+/// A class, the number of the global variable of its name, and the names of its attributes in order of
+/// declaration.
 #[derive(Debug, Drop)]
 pub struct Class {
     pub name: Name,
     pub kind: ClassKind,
+    pub variable: usize,
     pub attributes: Vec<Name>,
 }
 
@@ -15,14 +17,21 @@ impl Model for Class {
 
     ghost Value = { ClassTable };
 
-    ghost view = { λ a. record { name = a.name; kind = a.kind; attributes = a.attributes.items } };
+    ghost view = { λ a. record {
+      name = a.name;
+      kind = a.kind;
+      variable = a.variable;
+      attributes = a.attributes.items;
+    } };
 }
 
-/// A set and its discipline.
+/// A set: its discipline, whose its lists are, and the number of its members' class.
 #[derive(Debug, Drop)]
 pub struct Set {
     pub name: Name,
     pub discipline: Discipline,
+    pub owner: Owner,
+    pub member: usize,
 }
 
 impl Model for Set {
@@ -30,5 +39,10 @@ impl Model for Set {
 
     ghost Value = { SetTable };
 
-    ghost view = { λ a. record { name = a.name; discipline = a.discipline } };
+    ghost view = { λ a. record {
+      name = a.name;
+      discipline = a.discipline;
+      owner = a.owner;
+      member = a.member;
+    } };
 }

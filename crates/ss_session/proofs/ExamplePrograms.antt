@@ -1,5 +1,5 @@
 -- The plain words of the examples' models, and the trees that they spell.
-use Rattle.std.proofs.Common.{◌≡◌, ℕ, true, List, [], ◌∷◌, None, codes, refl}
+use Rattle.std.proofs.Common.{◌≡◌, ℕ, true, false, List, [], ◌∷◌, None, codes, refl}
 use Rattle.ss_words.specs.declared.mark.Mark.TheVariants as m
 use Rattle.ss_words.specs.declared.word.Sign.TheVariants as s
 use Rattle.ss_words.specs.declared.reserved.Reserved.TheVariants as r
@@ -10,7 +10,7 @@ use Rattle.ss_routines.specs.Expr.{Expr, expr, no_sums, term, no_products, digit
 use Rattle.ss_routines.specs.Places.{Reference, lets, adds, prints}
 use Rattle.ss_routines.specs.Tree.{no_statements, statement, simple, assignment, report, halt, main, Tree, spell}
 use Rattle.ss_routines.specs.Refused.{words_from}
-use Rattle.ss_routines.specs.declared.section.SectionKind.TheVariants.{Main}
+use Rattle.ss_check.specs.declared.kinds.SectionKind.TheVariants.{Main}
 use Rattle.ss_check.specs.declared.variable.Variable.TheVariants.{Local}
 use Rattle.ss_check.specs.declared.place.Assign.TheVariants.{Let, Add}
 use Rattle.ss_check.specs.declared.place.Output.TheVariants.{Print}
@@ -47,7 +47,19 @@ of_main locals places = record {
   globals = [];
   classes = [];
   sets = [];
-  sections = record { name = codes "MAIN"; kind = Main; line = 1; locals = locals; places = places } ∷ [];
+  priority = [];
+  sections =
+      record {
+        name = codes "MAIN";
+        kind = Main;
+        line = 1;
+        given = 0;
+        yielded = 0;
+        saving = false;
+        locals = locals;
+        places = places;
+      }
+      ∷ [];
 }
 
 abbrev pub stop_plain : List PlainAt
