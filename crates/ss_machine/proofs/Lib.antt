@@ -4,3 +4,4 @@ pub mod Sounds
 pub mod Ranges
 pub mod Evaluated
 pub mod Wells
+pub mod LawsHold

@@ -25,7 +25,7 @@ use Rattle.ss_machine.specs.declared.status.Status.{Status}
 use Rattle.ss_machine.specs.declared.status.Status.TheVariants.{Stopped, Finished, Faulted}
 use Rattle.ss_machine.specs.State.{State, is_ready}
 use Rattle.ss_machine.specs.Values.{Readings, readings, variable_value, value_of, values_of}
-use Rattle.ss_machine.specs.Step.{settled, gone_on, assigned, assigned_value, target_of, appended, step, step_by, step_at}
+use Rattle.ss_machine.specs.Step.{state_after_result, state_at_next_place, state_after_assignment, assigned_value, target_of, longer_report, step, step_by, step_at}
 use Rattle.ss_machine.specs.Run.{run}
 use Rattle.ss_machine.specs.Well.{IsWell}
 use Rattle.ss_machine.specs.Moment.{Stands}
@@ -49,11 +49,11 @@ marked_well p s status w = record {
 }
 
 settled_well : {A : Type 0} (P : A → Type 0) (p : ProgramTable) (s : State) (r : Result A RunFault) (f : A → State) →
-    IsWell p s → Got P r → ((x : A) → P x → IsWell p (f x)) → IsWell p (settled s r f)
+    IsWell p s → Got P r → ((x : A) → P x → IsWell p (f x)) → IsWell p (state_after_result s r f)
 settled_well P p s (Ok x) f w g h = h x g
 settled_well P p s (Err e) f w g h = marked_well p s (Faulted e) w
 
-gone_on_well : (p : ProgramTable) (s : State) → HasNext p s → IsWell p s → IsWell p (gone_on s)
+gone_on_well : (p : ProgramTable) (s : State) → HasNext p s → IsWell p s → IsWell p (state_at_next_place s)
 gone_on_well p s next w = record {
   variables = w.variables;
   values = w.values;
@@ -64,8 +64,8 @@ gone_on_well p s next w = record {
   report = w.report;
 }
 
-assigned_well : (p : ProgramTable) (s : State) (v : Variable) (x : ℤ) → IsIn x → HasNext p s → IsWell p s → IsWell p (gone_on (assigned s v x))
-assigned_well p s (Global i) x h next w = gone_on_well p (assigned s (Global i) x) next (record {
+assigned_well : (p : ProgramTable) (s : State) (v : Variable) (x : ℤ) → IsIn x → HasNext p s → IsWell p s → IsWell p (state_at_next_place (state_after_assignment s v x))
+assigned_well p s (Global i) x h next w = gone_on_well p (state_after_assignment s (Global i) x) next (record {
   variables = length-set s.variables i x ∙ w.variables;
   values = set_in s.variables i x w.values h;
   frame = w.frame;
@@ -74,7 +74,7 @@ assigned_well p s (Global i) x h next w = gone_on_well p (assigned s (Global i) 
   clock = w.clock;
   report = w.report;
 })
-assigned_well p s (Local i) x h next w = gone_on_well p (assigned s (Local i) x) next (record {
+assigned_well p s (Local i) x h next w = gone_on_well p (state_after_assignment s (Local i) x) next (record {
   variables = w.variables;
   values = w.values;
   frame = record {
@@ -107,10 +107,10 @@ appended_by : (report text : List ℕ) (b : Bool) → nat_le (length report + le
 appended_by report text true h = omega (arith, leb-true _ _ h, length-append report text)
 appended_by report text false h = tt
 
-appended_short : (report text : List ℕ) → Got IsShort (appended report text)
+appended_short : (report text : List ℕ) → Got IsShort (longer_report report text)
 appended_short report text = appended_by report text (nat_le (length report + length text) report_limit) refl
 
-report_well : (p : ProgramTable) (s : State) (report : List ℕ) → IsShort report → HasNext p s → IsWell p s → IsWell p (gone_on (record s { report = report }))
+report_well : (p : ProgramTable) (s : State) (report : List ℕ) → IsShort report → HasNext p s → IsWell p s → IsWell p (state_at_next_place (record s { report = report }))
 report_well p s report h next w = gone_on_well p (record s { report = report }) next (record {
   variables = w.variables;
   values = w.values;
@@ -151,7 +151,7 @@ start_place p None sound e = absurd (none_there (there p.sections (main_number p
     none_there h e = let f : slice_get p.sections (main_number p) ≡ Some h.0 = h.1 in cc
 start_place p (Some s) sound e = ended_some s.places (section_sound _ p.sections (main_number p) s sound.sections e).ended
 
-well_start : (p : ProgramTable) → IsSound p → IsWell p (run p 0)
+pub well_start : (p : ProgramTable) → IsSound p → IsWell p (run p 0)
 well_start p sound = record {
   variables = length-replicate _ _;
   values = zeros_in _;

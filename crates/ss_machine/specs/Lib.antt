@@ -5,5 +5,6 @@ pub mod Run
 pub mod Change
 pub mod Well
 pub mod Moment
+pub mod Laws
 pub mod Seen
 pub mod Noting

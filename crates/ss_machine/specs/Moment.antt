@@ -1,5 +1,5 @@
 -- What a machine stands for, and its steps forward and back.
-use Rattle.std.specs.Prelude.{◌≡◌, ◌≢◌, ℕ, ◌+◌, ◌*◌, ◌≤◌, List, [], ◌∷◌, ◌++◌, length, Bool, true, false, Option, Some, None}
+use Rattle.std.specs.Prelude.{◌≡◌, ◌≢◌, ℕ, ◌+◌, ◌≤◌, List, [], ◌∷◌, ◌++◌, length, Bool, true, false, Option, Some, None}
 use Rattle.ss_journal.specs.Log.{Log}
 use Rattle.ss_journal.specs.Undoing.{past, Kept}
 use Rattle.ss_check.specs.Program.{ProgramTable, spot_at}
@@ -30,12 +30,28 @@ position m = length m.steps
 abbrev pub past_of : Moment → List State
 past_of m = past unapply m.state m.steps
 
+-- the most changes that the step of a place notes
+abbrev pub most_changes : Place → ℕ
+most_changes (Assign a) = 2
+most_changes (Output o) = 2
+most_changes (Control c) = 1
+
+-- the same of the place that stands there, if one does
+abbrev pub most_changes_by : Option Spot → ℕ
+most_changes_by (Some spot) = most_changes spot.place
+most_changes_by None = 0
+
+-- the most changes that the next step notes
+abbrev pub change_bound : ProgramTable → State → ℕ
+change_bound p s = most_changes_by (spot_at p s.frame.section s.frame.place)
+
 -- how many targets the statement at a place has
 abbrev pub targets_at : Place → ℕ
 targets_at (Assign a) = 1
 targets_at (Output o) = 0
 targets_at (Control c) = 0
 
+-- the same of the place that stands there, if one does
 abbrev pub targets_by : Option Spot → ℕ
 targets_by (Some spot) = targets_at spot.place
 targets_by None = 0
@@ -44,15 +60,16 @@ targets_by None = 0
 abbrev pub target_count : ProgramTable → State → ℕ
 target_count p s = targets_by (spot_at p s.frame.section s.frame.place)
 
--- one step forward: the state is the definition's step of the old one, which now ends the past; the earlier steps are as they were,
--- and one more is kept, of at most 64 changes and two for each target
+-- one step forward: the state is the definition's step of the old one, which now ends the past; the earlier steps are as
+-- they were, and one more is kept, of as many changes at most as its place may note
 pub record HasMoved (old new : Moment) : Type 0 where
   pub ready : old.state.status ≡ Ready
   pub program : new.program ≡ old.program
   pub state : new.state ≡ step old.program old.state
   pub position : position new ≡ position old + 1
   pub past : past_of new ≡ past_of old ++ old.state ∷ []
-  pub steps : (added : List Change) × (new.steps ≡ added ∷ old.steps) × (length added ≤ 64 + 2 * target_count old.program old.state)
+  pub steps :
+      (added : List Change) × (new.steps ≡ added ∷ old.steps) × (length added ≤ change_bound old.program old.state)
 
 -- what a step did
 abbrev pub Steps : Stepped → Moment → Moment → Type 0
@@ -66,12 +83,13 @@ pub record HasGoneBack (old new : Moment) : Type 0 where
   pub position : position old ≡ position new + 1
   pub steps : (dropped : List Change) × (old.steps ≡ dropped ∷ new.steps)
 
+-- what a step back did
 abbrev pub GoesBack : Bool → Moment → Moment → Type 0
 GoesBack true old new = HasGoneBack old new
 GoesBack false old new = (old.steps ≡ []) × (new ≡ old)
 
--- what every machine keeps: a sound program, no open step, the state of the run with the machine's position, and changes that fit
--- and lead back through the states of the run
+-- what every machine keeps: a sound program, no open step, the state of the run with the machine's position, and changes
+-- that fit and lead back through the states of the run
 pub record Stands (p : ProgramTable) (s : State) (j : Log Change) : Type 0 where
   pub sound : IsSound p
   pub closed : j.current ≡ []

@@ -1,5 +1,5 @@
 -- The one run of a program.
-use Rattle.std.specs.Prelude.{ℕ, zero, suc, pos, [], length, replicate, slice_get, if◌then◌else◌}
+use Rattle.std.specs.Prelude.{ℕ, zero, suc, pos, List, [], ◌∷◌, ◌++◌, length, replicate, slice_get, if◌then◌else◌}
 use Rattle.ss_check.specs.Program.{ProgramTable, main_number, locals_of}
 use Rattle.ss_machine.specs.declared.status.Status.TheVariants.{Ready}
 use Rattle.ss_machine.specs.State.{State, FrameState, is_ready}
@@ -7,12 +7,24 @@ use Rattle.ss_machine.specs.Step.{step}
 
 -- the frame of MAIN at its first place, all its locals 0
 abbrev pub main_frame : ProgramTable → FrameState
-main_frame p = record { section = main_number p; place = 0; locals = replicate (length (locals_of (slice_get p.sections (main_number p)))) (pos 0) }
+main_frame p = record {
+  section = main_number p;
+  place = 0;
+  locals = replicate (length (locals_of (slice_get p.sections (main_number p)))) (pos 0);
+}
 
+-- MAIN at its first place, all variables and the clock 0, nothing printed
 abbrev pub start : ProgramTable → State
-start p = record { variables = replicate (length p.globals) (pos 0); frame = main_frame p; below = []; clock = pos 0; report = []; status = Ready }
+start p = record {
+  variables = replicate (length p.globals) (pos 0);
+  frame = main_frame p;
+  below = [];
+  clock = pos 0;
+  report = [];
+  status = Ready;
+}
 
--- a state that isn't ready stays
+-- the state behind another one; one that isn't ready stays
 abbrev pub next : ProgramTable → State → State
 next p s = if is_ready s.status then step p s else s
 
@@ -20,3 +32,8 @@ next p s = if is_ready s.status then step p s else s
 abbrev pub run : ProgramTable → ℕ → State
 run p zero = start p
 run p (suc k) = next p (run p k)
+
+-- states number 0 to k - 1
+abbrev pub states_before : ProgramTable → ℕ → List State
+states_before p zero = []
+states_before p (suc k) = states_before p k ++ run p k ∷ []

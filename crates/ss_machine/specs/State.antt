@@ -9,8 +9,8 @@ pub record FrameState : Type 0 where
   pub place : ℕ
   pub locals : List ℤ
 
--- the values of the global variables, in the order of their table; the last frame; the frames below it, the nearest first;
--- the clock; the bytes of the report; the status
+-- the values of the global variables, in the order of their table; the last frame; the frames below it, the nearest
+-- first; the clock; the bytes of the report; the status
 pub record State : Type 0 where
   pub variables : List ℤ
   pub frame : FrameState

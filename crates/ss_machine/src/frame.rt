@@ -1,7 +1,7 @@
 use std::marker::Model;
 
-/// A frame: the number of its section, the number of the place where it stands, and the values of its locals in the order of
-/// the section's table.
+/// A frame: the number of its section, the number of the place where it stands, and the values of
+/// its locals in the order of the section's table.
 #[derive(Drop)]
 pub struct Frame {
     pub section: usize,

@@ -1,18 +1,20 @@
 //! A run of a checked program that steps forwards and backwards.
 //!
-//! A [`Machine`] holds a program, the state of its run at a position, and the changes of each step that led there. One step runs
-//! one place of the program (docs/LANGUAGE.md, "Steps"); one step back restores the state before it, whole.
+//! A [`Machine`] holds a program, the state of its run at a position, and the changes of each step
+//! that led there. One step runs one place of the program (docs/LANGUAGE.md, "Steps"); one step
+//! back restores the state before it, whole.
 #![tactic(auto)]
 
 mod change;
+mod executor;
 mod frame;
+pub mod laws;
 mod machine;
+mod state;
 mod status;
 mod stepped;
 mod values;
 mod view;
-mod work;
-mod world;
 
 pub use machine::Machine;
 pub use status::Status;

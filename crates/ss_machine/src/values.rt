@@ -1,41 +1,41 @@
 ghost use Rattle.std.specs.Prelude.{◌≡◌, ℤ, pos, neg_ℤ, ◌+ℤ◌, ◌-ℤ◌, ◌*ℤ◌, length, Ok, OnOk, IfErr};
 ghost use Rattle.ss_check.specs.ProgramExpr.{expr_of, term_of, factor_of};
 ghost use Rattle.ss_check.specs.ProgramSound.{IsSoundVariable, IsSoundExpr, IsSoundTerm, IsSoundFactor, AreSoundExprs, IsSoundAssign};
-ghost use Rattle.ss_machine.specs.Values.{ranged, variable_value, with_sign, joined, value_of, values_of, FaultIs};
+ghost use Rattle.ss_machine.specs.Values.{result_in_range, variable_value, with_sign, sum_or_difference, value_of, values_of, FaultIs};
 ghost use Rattle.ss_machine.specs.Values as terms;
 ghost use Rattle.ss_machine.specs.Step as steps;
-ghost use Rattle.ss_machine.specs.Seen.{seen};
+ghost use Rattle.ss_machine.specs.Seen.{view_readings, InView};
 
 use crate::view::View;
 use ss_check::{Assign, Expr, Factor, Sum, Term, TermSign, Values, Variable};
 use ss_words::{RunFault, StepFault};
 
 fn sum(x: i64, y: i64) -> Result<i64, RunFault>
-    ensures { result ≡ ranged (x +ℤ y) }
+    ensures { result ≡ result_in_range (x +ℤ y) }
 {
     x.checked_add(y).ok_or(RunFault::OutOfRange)
 }
 
 fn difference(x: i64, y: i64) -> Result<i64, RunFault>
-    ensures { result ≡ ranged (x -ℤ y) }
+    ensures { result ≡ result_in_range (x -ℤ y) }
 {
     x.checked_sub(y).ok_or(RunFault::OutOfRange)
 }
 
 fn product(x: i64, y: i64) -> Result<i64, RunFault>
-    ensures { result ≡ ranged (x *ℤ y) }
+    ensures { result ≡ result_in_range (x *ℤ y) }
 {
     x.checked_mul(y).ok_or(RunFault::OutOfRange)
 }
 
 fn negation(x: i64) -> Result<i64, RunFault>
-    ensures { result ≡ ranged (neg_ℤ x) }
+    ensures { result ≡ result_in_range (neg_ℤ x) }
 {
     x.checked_neg().ok_or(RunFault::OutOfRange)
 }
 
 fn number(n: u64) -> Result<i64, RunFault>
-    ensures { result ≡ ranged (pos n) }
+    ensures { result ≡ result_in_range (pos n) }
 {
     i64::try_from(n).map_err(|_| RunFault::OutOfRange)
 }
@@ -50,7 +50,7 @@ fn signed(sign: Option<TermSign>, x: i64) -> Result<i64, RunFault>
 }
 
 fn join(sign: TermSign, x: i64, y: i64) -> Result<i64, RunFault>
-    ensures { result ≡ joined sign x y }
+    ensures { result ≡ sum_or_difference sign x y }
 {
     match sign {
         TermSign::Plus => sum(x, y),
@@ -60,8 +60,8 @@ fn join(sign: TermSign, x: i64, y: i64) -> Result<i64, RunFault>
 
 /// The value of a variable.
 pub fn variable(view: View<'_>, variable: Variable) -> i64
-    requires { IsSoundVariable (length view.variables.now) (length view.locals.now) variable }
-    ensures { result ≡ variable_value (seen view.entry) variable }
+    requires { InView view IsSoundVariable variable }
+    ensures { result ≡ variable_value (view_readings view.entry) variable }
 {
     match variable {
         Variable::Global(number) => view.variables[number],
@@ -72,16 +72,16 @@ pub fn variable(view: View<'_>, variable: Variable) -> i64
 
 /// The value of an expression, or its first fault.
 pub fn value(view: View<'_>, e: &Expr) -> Result<i64, RunFault>
-    requires { IsSoundExpr (length view.variables.now) (length view.locals.now) e.now }
-    ensures { result ≡ value_of (seen view.entry) e.now }
+    requires { InView view IsSoundExpr e.now }
+    ensures { result ≡ value_of (view_readings view.entry) e.now }
 {
     sum_value(view, &e.sum)
 }
 
 #[cycle(value)]
 fn sum_value(view: View<'_>, e: &Sum) -> Result<i64, RunFault>
-    requires { IsSoundExpr (length view.variables.now) (length view.locals.now) (expr_of e.now) }
-    ensures { result ≡ value_of (seen view.entry) (expr_of e.now) }
+    requires { InView view IsSoundExpr (expr_of e.now) }
+    ensures { result ≡ value_of (view_readings view.entry) (expr_of e.now) }
 {
     let first = term_value(view, &e.first)?;
     let mut total = signed(e.sign, first)?;
@@ -94,8 +94,8 @@ fn sum_value(view: View<'_>, e: &Sum) -> Result<i64, RunFault>
 
 #[cycle(value)]
 fn term_value(view: View<'_>, t: &Term) -> Result<i64, RunFault>
-    requires { IsSoundTerm (length view.variables.now) (length view.locals.now) (term_of t.now) }
-    ensures { result ≡ terms.term_value (seen view.entry) (term_of t.now) }
+    requires { InView view IsSoundTerm (term_of t.now) }
+    ensures { result ≡ terms.term_value (view_readings view.entry) (term_of t.now) }
 {
     let mut total = factor_value(view, &t.first)?;
     for further in &t.more {
@@ -107,8 +107,8 @@ fn term_value(view: View<'_>, t: &Term) -> Result<i64, RunFault>
 
 #[cycle(value)]
 fn factor_value(view: View<'_>, f: &Factor) -> Result<i64, RunFault>
-    requires { IsSoundFactor (length view.variables.now) (length view.locals.now) (factor_of f.now) }
-    ensures { result ≡ terms.factor_value (seen view.entry) (factor_of f.now) }
+    requires { InView view IsSoundFactor (factor_of f.now) }
+    ensures { result ≡ terms.factor_value (view_readings view.entry) (factor_of f.now) }
 {
     match f {
         Factor::Number(n) => number(*n),
@@ -117,10 +117,11 @@ fn factor_value(view: View<'_>, f: &Factor) -> Result<i64, RunFault>
     }
 }
 
-/// The value that a LET, an ADD or a SUBTRACT assigns: the expression first, then the target's old value, then the sum.
+/// The value that a LET, an ADD or a SUBTRACT assigns: the expression first, then the target's old
+/// value, then the sum.
 pub fn assigned_value(view: View<'_>, assign: &Assign) -> Result<i64, RunFault>
-    requires { IsSoundAssign (length view.variables.now) (length view.locals.now) assign.now }
-    ensures { result ≡ steps.assigned_value (seen view.entry) assign.now }
+    requires { InView view IsSoundAssign assign.now }
+    ensures { result ≡ steps.assigned_value (view_readings view.entry) assign.now }
 {
     match assign {
         Assign::Let { value: e, .. } => value(view, e),
@@ -135,11 +136,12 @@ pub fn assigned_value(view: View<'_>, assign: &Assign) -> Result<i64, RunFault>
     }
 }
 
-/// Puts the values of expressions in order in place of what was in `values`, or answers the first fault.
+/// Puts the values of expressions in order in place of what was in `values`, or answers the first
+/// fault.
 pub fn values(view: View<'_>, es: &Values, values: &mut Vec<i64>) -> Result<(), StepFault>
-    requires { AreSoundExprs (length view.variables.now) (length view.locals.now) es.now }
-    ensures ok { OnOk result (values_of (seen view.entry) es.now ≡ Ok values.new.items) }
-    ensures err { IfErr result (λ e. FaultIs e (values_of (seen view.entry) es.now)) }
+    requires { InView view AreSoundExprs es.now }
+    ensures ok { OnOk result (values_of (view_readings view.entry) es.now ≡ Ok values.new.items) }
+    ensures err { IfErr result (λ e. FaultIs e (values_of (view_readings view.entry) es.now)) }
 {
     values.clear();
     for e in &es.list {

@@ -1,9 +1,10 @@
-ghost use Rattle.std.specs.Prelude.{◌≡◌, ◌<◌, ◌+◌, ◌^◌, length, slice_set, IfOk, IfErr, Ok};
+ghost use Rattle.std.specs.Prelude.{◌≡◌, ◌<◌, ◌+◌, ◌^◌, length, IfOk, IfErr, OnErr, Ok};
+ghost use Rattle.ss_check.specs.declared.variable.Variable.TheVariants as variable;
 ghost use Rattle.ss_report.specs.Pictures.{field_count, picture_text};
 ghost use Rattle.ss_check.specs.ProgramSound.{IsTarget};
-ghost use Rattle.ss_machine.specs.Seen.{seen};
+ghost use Rattle.ss_machine.specs.Seen.{view_readings};
 ghost use Rattle.ss_machine.specs.Values.{readings, FaultIs};
-ghost use Rattle.ss_machine.specs.Step.{assigned, appended, gone_on};
+ghost use Rattle.ss_machine.specs.Step.{state_after_assignment, longer_report, state_at_next_place};
 ghost use Rattle.ss_machine.specs.Run.{start};
 ghost use Rattle.ss_machine.specs.Change.{Fits, unapply};
 
@@ -20,7 +21,7 @@ use std::marker::Model;
 
 /// The state of a run. Each call that writes gives what takes its change back.
 #[derive(Drop)]
-pub struct World {
+pub struct State {
     variables: Vec<i64>,
     frame: Frame,
     below: Vec<Frame>,
@@ -29,11 +30,11 @@ pub struct World {
     status: Status,
 }
 
-impl Model for World {
+impl Model for State {
     ghost use Rattle.std.specs.Prelude.{reverse};
-    ghost use Rattle.ss_machine.specs.State.{State};
+    ghost use Rattle.ss_machine.specs.State.{State as RunState};
 
-    ghost Value = { State };
+    ghost Value = { RunState };
 
     ghost view = { λ a. record {
       variables = a.variables.items;
@@ -45,14 +46,14 @@ impl Model for World {
     } };
 }
 
-impl World {
+impl State {
     /// The state at the start of a program's run.
     pub fn new(alloc: Global, program: &Program) -> Result<Self, AllocError>
-        ensures { IfOk result (λ world. world ≡ start program.now) }
+        ensures { IfOk result (λ state. state ≡ start program.now) }
     {
         let section = program.main();
         let locals = program.section(section).locals.len();
-        Ok(World {
+        Ok(State {
             variables: vec![in alloc; 0; program.globals.len()]?,
             frame: Frame {
                 section,
@@ -68,7 +69,7 @@ impl World {
 
     /// What an expression reads.
     pub fn view(&self) -> View<'_>
-        ensures { seen result ≡ readings self.now }
+        ensures { view_readings result ≡ readings self.now }
     {
         View {
             variables: self.variables.as_slice(),
@@ -108,7 +109,7 @@ impl World {
     /// Assigns a value to a variable.
     pub fn assign(&mut self, target: Variable, value: i64) -> Change
         requires { IsTarget (length self.old.variables) (length self.old.frame.locals) target }
-        ensures state { self.new ≡ assigned self.old target value }
+        ensures state { self.new ≡ state_after_assignment self.old target value }
         ensures fits { Fits result self.new }
         ensures back { unapply result self.new ≡ self.old }
     {
@@ -121,7 +122,7 @@ impl World {
 
     fn assign_global(&mut self, number: usize, value: i64) -> Change
         requires { number < length self.old.variables }
-        ensures state { self.new ≡ record self.old { variables = slice_set self.old.variables number value } }
+        ensures state { self.new ≡ state_after_assignment self.old (variable.Global number) value }
         ensures fits { Fits result self.new }
         ensures back { unapply result self.new ≡ self.old }
     {
@@ -132,7 +133,7 @@ impl World {
 
     fn assign_local(&mut self, number: usize, value: i64) -> Change
         requires { number < length self.old.frame.locals }
-        ensures state { self.new ≡ record self.old { frame = record self.old.frame { locals = slice_set self.old.frame.locals number value } } }
+        ensures state { self.new ≡ state_after_assignment self.old (variable.Local number) value }
         ensures fits { Fits result self.new }
         ensures back { unapply result self.new ≡ self.old }
     {
@@ -145,7 +146,7 @@ impl World {
     /// The last frame goes to its next place.
     pub fn go_on(&mut self) -> Change
         requires { self.old.frame.place + 1 < 2 ^ 64 }
-        ensures state { self.new ≡ gone_on self.old }
+        ensures state { self.new ≡ state_at_next_place self.old }
         ensures fits { Fits result self.new }
         ensures back { unapply result self.new ≡ self.old }
     {
@@ -170,10 +171,13 @@ impl World {
     pub fn print(&mut self, picture: &Picture, values: &[i64]) -> Result<Change, StepFault>
         requires { length values.now ≡ field_count picture.now }
         ensures state { IfOk result (λ _. self.new ≡ record self.old { report = self.new.report }) }
-        ensures report { IfOk result (λ _. appended self.old.report (picture_text picture.now values.now) ≡ Ok self.new.report) }
+        ensures report { IfOk result
+            (λ _. longer_report self.old.report (picture_text picture.now values.now) ≡ Ok self.new.report) }
         ensures fits { IfOk result (λ c. Fits c self.new) }
         ensures back { IfOk result (λ c. unapply c self.new ≡ self.old) }
-        ensures err { IfErr result (λ e. FaultIs e (appended self.old.report (picture_text picture.now values.now)) × (self.new ≡ self.old)) }
+        ensures fault { IfErr result
+            (λ e. FaultIs e (longer_report self.old.report (picture_text picture.now values.now))) }
+        ensures err { OnErr result (self.new ≡ self.old) }
     {
         let old = self.report.len();
         self.report.print(picture, values)?;
@@ -181,7 +185,7 @@ impl World {
     }
 }
 
-impl Undo for World {
+impl Undo for State {
     type Change = Change;
 
     ghost fits = { Fits };

@@ -1,7 +1,7 @@
 use Rattle.std.proofs.Common.{rules, w64, FitsSigned, to_z, of_z}
 use Rattle.std.proofs.lemmas.Int.{to_z-of_z}
 use Rattle.ss_machine.proofs.Sets.{set_back}
-use Rattle.ss_machine.proofs.world.World.assign_local.Goals as goal
+use Rattle.ss_machine.proofs.state.State.assign_local.Goals as goal
 
 pub returns-clause-back : goal.returns-clause-back
 returns-clause-back c =
