@@ -10,6 +10,6 @@ pub mod Walk
 pub mod Keeping
 pub mod Seating
 pub mod Going
-pub mod Firsts
+pub mod Listings
 pub mod RuleLaws
 pub mod Begins

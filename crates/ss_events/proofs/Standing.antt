@@ -98,7 +98,7 @@ told rows s b k = record {
 pub kept : (rows : List Row) (r s : AgendaState) (b : Board) → r ≡ s → IsAgenda rows r b → IsAgenda rows s b
 kept rows r s b e k = subst (λ (t : AgendaState). IsAgenda rows t b) e k
 
-has-get_or : (ns : List ℕ) (i d : ℕ) → i < length ns → has ns (get_or ns i d) ≡ true
+pub has-get_or : (ns : List ℕ) (i d : ℕ) → i < length ns → has ns (get_or ns i d) ≡ true
 has-get_or [] i d h = absurd (omega arith)
 has-get_or (n ∷ ns) zero d h = let same : eqb n n ≡ true = grind (arith, nat_tests) in rw same refl
 has-get_or (n ∷ ns) (suc i) d h = rw (has-get_or ns i d (omega arith)) (elim (eqb n (get_or ns i d)) as (λ t. (t || true) ≡ true) [ true ↦ refl | false ↦ refl ])

@@ -1,4 +1,4 @@
-ghost use Rattle.std.specs.Prelude.{◌≡◌, ◌+◌, ◌-◌, ◌<◌, ℕ, map, ◌≤◌, not, length, take, Some, IfOk, OnErr};
+ghost use Rattle.std.specs.Prelude.{◌≡◌, ◌+◌, ◌-◌, ◌<◌, ℕ, map, ◌≤◌, not, length, take, Some, IfOk, OnErr, slice_get, is_some, if◌then◌else◌};
 ghost use Rattle.std.specs.Option.{option_map, IsSome};
 ghost use Rattle.ss_links.specs.Board.{empty_board, list_at};
 ghost use Rattle.ss_links.specs.Seats.{has};
@@ -13,7 +13,7 @@ ghost use Rattle.ss_events.specs.Agenda.{
   without_notice,
 };
 ghost use Rattle.ss_events.specs.Weights.{before};
-ghost use Rattle.ss_events.specs.State.{NoneNoted, Each, board_of, order, no_notices};
+ghost use Rattle.ss_events.specs.State.{AreRanked, NoneNoted, Each, board_of, order, no_notices};
 ghost use Rattle.ss_events.specs.Changes.{
   with_pending,
   with_notices,
@@ -30,13 +30,16 @@ ghost use Rattle.ss_events.specs.Changes.{
   IsCancelled,
 };
 ghost use Rattle.ss_events.specs.Places.{rank_place, notice_on, IsTaken, IsTakenIfSome, earlier, pending_on};
+ghost use Rattle.ss_events.specs.Listings.{IsListing};
 ghost use Rattle.ss_events.specs.Rows.{notice_of, rule_of, IsEntry};
 ghost use Rattle.ss_events.specs.Slots.{slot_of};
 
 use crate::entry::{ClassRule, Entry, Row};
+use crate::listing::{CLASS_LIMIT, Listing};
 use crate::ranking::{entry_of, grow, is_before};
 use crate::rule::class_rules;
 use ss_check::Program;
+use ss_journal::Undo;
 use ss_links::{Place, SetBoard};
 use ss_words::{RunFault, StepFault};
 use std::alloc::{AllocError, Global};
@@ -105,6 +108,20 @@ impl<S: SetBoard> Agenda<S> {
     {
         program.known();
         let rules = class_rules(alloc, program)?;
+        Agenda::with_rules(alloc, rules, board)
+    }
+
+    /// An agenda of classes of these rules, without pending notices, on a board without heads and seats.
+    pub(crate) fn with_rules(
+        alloc: Global,
+        rules: Vec<ClassRule>,
+        board: S,
+    ) -> Result<Self, AllocError>
+        requires ranked { AreRanked (map rule_of rules.items) }
+        requires few { length rules.items ≤ 64 }
+        requires empty { S.board board ≡ empty_board }
+        ensures { IfOk result (λ agenda. agenda ≡ no_notices (map rule_of rules.items)) }
+    {
         let mut board = board;
         for _ in 0..rules.len() {
             board.try_add_head()?;
@@ -332,24 +349,64 @@ impl<S: SetBoard> Agenda<S> {
         }
     }
 
-    /// The seat of the notice that is due before all others.
-    fn first_seat(&self) -> Option<u32>
-        ensures least { pending_on self.now result ≡ least self.now.rules self.now.agenda.pending }
+    /// A listing of all pending notices in order, at its start.
+    pub fn listing(&self) -> Listing
+        ensures start { result.listed ≡ 0 }
+        ensures listing { IsListing self.now result }
+        ensures first { slice_get (order self.now) 0 ≡ least self.now.rules self.now.agenda.pending }
+    {
+        let board = &self.board;
+        let mut seats = [None; CLASS_LIMIT];
+        for head in 0..board.heads() {
+            seats[head as usize] = board.first(head);
+        }
+        Listing { seats, listed: 0 }
+    }
+
+    /// The seat of the notice that a listing lists next.
+    fn listed_seat(&self, listing: &Listing) -> Option<u32>
+        requires { IsListing self.now listing.now }
+        ensures notice { pending_on self.now result ≡ slice_get (order self.now) listing.now.listed }
         ensures taken { IsTakenIfSome self.now result }
     {
         let mut least = None;
         for head in 0..self.board.heads() {
-            least = self.earlier(least, self.board.first(head));
+            least = self.earlier(least, listing.seats[head as usize]);
         }
         least
+    }
+
+    /// The notice that a listing lists next, or none at its end. The listing then stands behind it.
+    pub fn list_next(&self, listing: &mut Listing) -> Option<u32>
+        requires { IsListing self.now listing.old }
+        ensures notice { result ≡ option_map (λ e. e.notice) (slice_get (order self.now) listing.old.listed) }
+        ensures count { listing.new.listed ≡ (if is_some result then listing.old.listed + 1 else listing.old.listed) }
+        ensures listing { IsListing self.now listing.new }
+    {
+        let seat = self.listed_seat(listing)?;
+        let class = self.entry_on(seat).class;
+        listing.seats[class] = self.board.next(seat);
+        listing.listed += 1;
+        Some(self.notices[seat as usize])
     }
 
     /// The notice that is due before all others, or none where none is pending.
     pub fn next(&self) -> Option<u32>
         ensures { result ≡ option_map (λ e. e.notice) (least self.now.rules self.now.agenda.pending) }
     {
-        let seat = self.first_seat()?;
-        Some(self.notices[seat as usize])
+        let mut listing = self.listing();
+        self.list_next(&mut listing)
+    }
+
+    /// The notice with this number in the order of all pending ones, from 0.
+    pub fn in_order(&self, index: usize) -> Option<u32>
+        ensures { result ≡ option_map (λ e. e.notice) (slice_get (order self.now) index) }
+    {
+        let mut listing = self.listing();
+        for _ in 0..index {
+            self.list_next(&mut listing)?;
+        }
+        self.list_next(&mut listing)
     }
 
     /// The board: the list of each class has the seats of its pending notices, in their order.
@@ -368,5 +425,17 @@ impl<S: SetBoard> Agenda<S> {
         ensures { result ≡ notice_on self.now seat }
     {
         self.notices[seat as usize]
+    }
+}
+
+impl<S: SetBoard> Undo for Agenda<S> {
+    type Change = AgendaChange;
+
+    ghost fits = { Fits };
+
+    ghost unapply = { unapply };
+
+    fn undo(&mut self, change: AgendaChange) {
+        self.undo(change);
     }
 }

@@ -3,8 +3,10 @@
 
 mod agenda;
 mod entry;
+mod listing;
 mod ranking;
 mod rule;
 
 pub use agenda::{Agenda, AgendaChange, Slot};
 pub use entry::Entry;
+pub use listing::Listing;

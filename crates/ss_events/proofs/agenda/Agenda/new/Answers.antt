@@ -1,23 +1,9 @@
-use Rattle.std.proofs.Common.{◌≡◌, ap, ◌∙◌, arith, length, map}
-use Rattle.std.proofs.lemmas.List.{length-map}
-use Rattle.ss_links.specs.Board.{with_head}
-use Rattle.ss_events.specs.Rows.{rule_of}
+use Rattle.std.proofs.Common.{arith}
 use Rattle.ss_events.proofs.RuleLaws.{length-kept, AreRanked-kept}
-use Rattle.ss_events.proofs.Begins.{heads-more, heads-fit, begins-on}
 use Rattle.ss_events.proofs.agenda.Agenda.new.Goals as goal
 
-pub try_add_head-requires : goal.try_add_head-requires
-try_add_head-requires g c =
-    let few = c.known.ensures.tables.few_classes in
-    let long = length-kept _ c.args.program.now c.in_ok-rules.ensures in
-    omega (arith, heads-fit _ _ c.loop.invariant, c.len-end.ensures, c.in_ok-rules.rules.ok, few, long, c.loop-test.true)
+pub with_rules-requires-clause-ranked : goal.with_rules-requires-clause-ranked
+with_rules-requires-clause-ranked g c = AreRanked-kept _ c.args.program.now c.in_ok-rules.ensures
 
-pub loop-preserved : goal.loop-preserved
-loop-preserved g c = c.in_ok-try_add_head.ensures.ok ∙ (ap with_head c.loop.invariant ∙ heads-more c.loop.counter)
-
-pub invariant_of-result : goal.invariant_of-result
-invariant_of-result g c =
-    let few = c.known.ensures.tables.few_classes in
-    let long = length-kept _ c.args.program.now c.in_ok-rules.ensures in
-    let all : c.loop.counter ≡ length (map rule_of c.in_ok-rules.rules.items) = omega (arith, c.len-end.ensures, c.in_ok-rules.rules.ok, c.loop-test.false, c.loop.auto.counter-end, length-map c.in_ok-rules.rules.items rule_of) in
-    begins-on _ _ _ _ _ c.new.ensures.items c.new-2.ensures.items all (AreRanked-kept _ c.args.program.now c.in_ok-rules.ensures) (omega (arith, few, long, length-map c.in_ok-rules.rules.items rule_of)) c.loop.invariant
+pub with_rules-requires-clause-few : goal.with_rules-requires-clause-few
+with_rules-requires-clause-few g c = omega (arith, length-kept _ c.args.program.now c.in_ok-rules.ensures, c.known.ensures.tables.few_classes)
