@@ -1,0 +1,15 @@
+pub mod OrderLaws
+pub mod WeightLaws
+pub mod Agreement
+pub mod WalkLaws
+pub mod RowLaws
+pub mod StateLaws
+pub mod BoardOf
+pub mod Standing
+pub mod Walk
+pub mod Keeping
+pub mod Seating
+pub mod Going
+pub mod Listings
+pub mod RuleLaws
+pub mod Begins

@@ -1,0 +1,101 @@
+-- The pending notices, and which of them is the next.
+use Rattle.std.specs.Prelude.{ℕ, zero, suc, ◌+◌, ◌^◌, ◌==◌, nat_lt, Bool, if◌then◌else◌, ℤ, int_lt, List, [], ◌∷◌, length, fold, Option, Some, None, is_some, Result, Ok, Err}
+use Rattle.std.specs.Ordering.{is_lt, ordering_then, nat_cmp, int_cmp}
+use Rattle.std.specs.declared.cmp.Ordering.{Ordering}
+use Rattle.ss_words.specs.declared.fault.RunFault.{RunFault}
+use Rattle.ss_words.specs.declared.fault.RunFault.TheVariants.{TimeBeforeClock, AlreadyScheduled, TooManyReferences}
+use Rattle.ss_events.specs.Rules.{Rule, rule_at}
+use Rattle.ss_check.specs.Keys.{by_keys}
+
+-- a pending notice: its reference, its time, its class, the BREAK keys as they were when it was scheduled, and its
+-- filing number
+pub record Pending : Type 0 where
+  pub notice : ℕ
+  pub time : ℤ
+  pub class : ℕ
+  pub keys : List ℤ
+  pub filing : ℕ
+
+-- the pending notices in order of their references, and the next filing number
+pub record Agenda : Type 0 where
+  pub pending : List Pending
+  pub next_filing : ℕ
+
+-- nothing pending
+abbrev pub empty_agenda : Agenda
+empty_agenda = record { pending = []; next_filing = 1 }
+
+-- the pending notice with reference k
+abbrev pub pending_at : List Pending → ℕ → Option Pending
+pending_at [] k = None
+pending_at (m ∷ ms) k = if m.notice == k then Some m else pending_at ms k
+
+-- whether notice k is pending
+abbrev pub is_pending : Agenda → ℕ → Bool
+is_pending a k = is_some (pending_at a.pending k)
+
+-- which of two notices comes first: by time, by the priority of the class, by the keys, by scheduling
+abbrev pub by_time : List Rule → Pending → Pending → Ordering
+by_time rules m n =
+    ordering_then (int_cmp m.time n.time)
+    (ordering_then (nat_cmp (rule_at rules m.class).priority (rule_at rules n.class).priority)
+    (ordering_then (by_keys (rule_at rules m.class).ties m.keys n.keys) (nat_cmp m.filing n.filing)))
+
+-- the least of a notice and others
+abbrev pub least_of : List Rule → Pending → List Pending → Pending
+least_of rules n ms = fold (λ l m. if is_lt (by_time rules m l) then m else l) n ms
+
+-- the least pending notice, which is the next
+abbrev pub least : List Rule → List Pending → Option Pending
+least rules [] = None
+least rules (n ∷ ms) = Some (least_of rules n ms)
+
+-- notices without notice k
+abbrev pub without_notice : ℕ → List Pending → List Pending
+without_notice k [] = []
+without_notice k (m ∷ ms) = if m.notice == k then without_notice k ms else m ∷ without_notice k ms
+
+-- the first j notices in order: the least again and again
+abbrev pub first_notices : List Rule → ℕ → List Pending → List Pending
+first_notices rules zero ms = []
+first_notices rules (suc j) [] = []
+first_notices rules (suc j) (n ∷ ms) =
+    let l = least_of rules n ms in
+    l ∷ first_notices rules j (without_notice l.notice (n ∷ ms))
+
+-- all pending notices in order
+abbrev pub in_order : List Rule → Agenda → List Pending
+in_order rules a = first_notices rules (length a.pending) a.pending
+
+-- the notices of one class
+abbrev pub of_class : ℕ → List Pending → List Pending
+of_class c [] = []
+of_class c (m ∷ ms) = if m.class == c then m ∷ of_class c ms else of_class c ms
+
+-- no scheduling has a filing number past this one
+abbrev pub filing_limit : ℕ
+filing_limit = 2 ^ 40
+
+-- whether notice k can be scheduled at a time: F9 before the clock, F10 where it is pending, F20 past the last filing
+-- number
+abbrev pub may_schedule : Agenda → ℕ → ℤ → ℤ → Result (Unit {0}) RunFault
+may_schedule a k time clock =
+    if int_lt time clock then Err TimeBeforeClock
+    else if is_pending a k then Err AlreadyScheduled
+    else if nat_lt filing_limit a.next_filing then Err TooManyReferences
+    else Ok tt
+
+-- notices with one more, in order of their references
+abbrev pub with_notice : Pending → List Pending → List Pending
+with_notice n [] = n ∷ []
+with_notice n (m ∷ ms) = if nat_lt n.notice m.notice then n ∷ m ∷ ms else m ∷ with_notice n ms
+
+-- notice k scheduled with the next filing number
+abbrev pub scheduled : Agenda → ℕ → ℤ → ℕ → List ℤ → Agenda
+scheduled a k time class keys =
+    let n : Pending = record { notice = k; time = time; class = class; keys = keys; filing = a.next_filing } in
+    record { pending = with_notice n a.pending; next_filing = a.next_filing + 1 }
+
+-- notice k taken off
+abbrev pub taken_off : Agenda → ℕ → Agenda
+taken_off a k = record a { pending = without_notice k a.pending }

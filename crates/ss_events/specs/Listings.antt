@@ -1,0 +1,19 @@
+-- Where a listing of the pending notices stands.
+use Rattle.std.specs.Prelude.{◌≡◌, ℕ, ◌<◌, List, drop, length, slice_index_or, Option, None}
+use Rattle.ss_links.specs.Seats.{first_of}
+use Rattle.ss_events.specs.declared.listing.Listing.{Listing}
+use Rattle.ss_events.specs.Agenda.{Pending, of_class}
+use Rattle.ss_events.specs.State.{AgendaState, seats_of, order}
+
+-- the seat that a listing keeps for a class
+abbrev pub seat_of_class : Listing → ℕ → Option ℕ
+seat_of_class l c = slice_index_or l.seats c None
+
+-- the notices that a listing has not listed yet
+abbrev pub left_of : AgendaState → Listing → List Pending
+left_of s l = drop l.listed (order s)
+
+-- a listing of the agenda: it keeps for each class the seat of the first notice that it has not listed yet
+pub record IsListing (s : AgendaState) (l : Listing) : Type 0 where
+  pub all : length l.seats ≡ 64
+  pub seats : (c : ℕ) → c < length s.rules → seat_of_class l c ≡ first_of (seats_of s.notices (of_class c (left_of s l)))

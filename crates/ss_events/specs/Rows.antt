@@ -1,0 +1,71 @@
+-- The agenda's state, read off the rows that it keeps, one for each number of a notice.
+use Rattle.std.specs.Prelude.{◌≡◌, ℕ, ◌+◌, ◌<◌, ◌≤◌, true, List, [], ◌∷◌, ◌++◌, replicate, length, map, slice_index_or, Option, Some, None}
+use Rattle.ss_links.specs.Board.{Board, IsSound}
+use Rattle.ss_links.specs.Seats.{has, times_in}
+use Rattle.ss_events.specs.declared.entry.ClassRule.{ClassRule}
+use Rattle.ss_events.specs.declared.entry.Entry.{Entry}
+use Rattle.ss_events.specs.declared.entry.Row.{Row}
+use Rattle.ss_events.specs.Rules.{Rule, rule_at}
+use Rattle.ss_events.specs.State.{AreRanked}
+use Rattle.ss_events.specs.Agenda.{Pending, filing_limit}
+use Rattle.ss_events.specs.State.{AgendaState, seat_at, board_of, Each, AreFiled, IsPending}
+
+-- a class's rule
+abbrev pub rule_of : ClassRule → Rule
+rule_of k = record { priority = k.priority; ties = k.ties.items }
+
+-- the pending notice of an entry
+abbrev pub notice_of : ℕ → Entry → Pending
+notice_of n x = record { notice = n; time = x.time; class = x.class; keys = x.keys.items; filing = x.filing }
+
+-- perhaps a notice, and others
+abbrev pub and_others : ℕ → Option Entry → List Pending → List Pending
+and_others n None es = es
+and_others n (Some x) es = notice_of n x ∷ es
+
+-- the pending notices of rows, the first of which has this number
+abbrev pub notices_from : ℕ → List Row → List Pending
+notices_from n [] = []
+notices_from n (r ∷ rs) = and_others n r.entry (notices_from (n + 1) rs)
+
+-- a row without a seat and without an entry
+abbrev pub empty_row : Row
+empty_row = record { seat = None; entry = None }
+
+-- the row of a number
+abbrev pub row_at : List Row → ℕ → Row
+row_at rows i = slice_index_or rows i empty_row
+
+-- the state as it is kept
+abbrev pub state_of : List ClassRule → List Row → ℕ → List ℕ → AgendaState
+state_of rules rows next notices = record {
+  rules = map rule_of rules;
+  agenda = record { pending = notices_from 1 rows; next_filing = next };
+  notices = notices;
+}
+
+-- what is kept, the rows, the state and the board, agrees
+pub record IsAgenda (rows : List Row) (s : AgendaState) (b : Board) : Type 0 where
+  pub read : s.agenda.pending ≡ notices_from 1 rows
+  pub board : b ≡ board_of s
+  pub sound : IsSound b
+  pub seats : (i : ℕ) → i < length rows → (row_at rows i).seat ≡ seat_at s.notices (i + 1)
+  pub seated : (n : ℕ) → has s.notices n ≡ true → (0 < n) × (n ≤ length rows)
+  pub once : (n : ℕ) → times_in s.notices n ≤ 1
+  pub few : length rows ≤ 1000000
+  pub pending : Each (IsPending s.rules s.notices s.agenda.next_filing) s.agenda.pending
+  pub filed : AreFiled s.agenda.pending
+  pub next : 0 < s.agenda.next_filing
+  pub filing : s.agenda.next_filing ≤ filing_limit + 1
+  pub ranked : AreRanked s.rules
+  pub classes : length s.rules ≤ 64
+
+-- an entry's class is one, and it has a key for each of the class's
+abbrev pub IsEntry : List Rule → Entry → Type 0
+IsEntry rules x = (x.class < length rules) × (length x.keys.items ≡ length (rule_at rules x.class).ties)
+
+-- rows became more, the new ones empty, but not more than a count
+pub record IsGrown (old new : List Row) (count : ℕ) : Type 0 where
+  pub more : ℕ
+  pub whole : new ≡ old ++ replicate more empty_row
+  pub few : (n : ℕ) → count ≤ n → length old ≤ n → length new ≤ n

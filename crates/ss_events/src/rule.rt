@@ -1,0 +1,60 @@
+ghost use Rattle.std.specs.Prelude.{◌≡◌, ◌<◌, ◌==◌, IfOk, length, map, position};
+ghost use Rattle.ss_check.specs.Program.{priority_of};
+ghost use Rattle.ss_events.specs.Rules.{program_rule, rules_of};
+ghost use Rattle.ss_events.specs.Rows.{rule_of};
+
+use crate::entry::ClassRule;
+use ss_check::{ClassKind, Key, Program};
+use std::alloc::{AllocError, Global};
+
+/// What the order of notices asks of a program's classes, class by class.
+pub(crate) fn class_rules(alloc: Global, program: &Program) -> Result<Vec<ClassRule>, AllocError>
+    ensures { IfOk result (λ rules. map rule_of rules.items ≡ rules_of program.now) }
+{
+    let mut rules = Vec::new(alloc);
+    for class in 0..program.classes.len() {
+        let rule = class_rule(alloc, program, class)?;
+        rules.push(rule)?;
+    }
+    Ok(rules)
+}
+
+/// What the order of notices asks of a class.
+fn class_rule(alloc: Global, program: &Program, class: usize) -> Result<ClassRule, AllocError>
+    requires { class < length program.now.classes }
+    ensures { IfOk result (λ rule. rule_of rule ≡ program_rule program.now class) }
+{
+    let ties = class_ties(alloc, program, class)?;
+    let priority = class_priority(program, class);
+    Ok(ClassRule { priority, ties })
+}
+
+/// The keys of a class's BREAK ties; none where it is no event class.
+fn class_ties(alloc: Global, program: &Program, class: usize) -> Result<Vec<Key>, AllocError>
+    requires { class < length program.now.classes }
+    ensures { IfOk result (λ ties. ties.items ≡ (program_rule program.now class).ties) }
+{
+    match &program.classes[class].kind {
+        ClassKind::Event(event) => event.ties.list.to_vec(alloc),
+        _ => Ok(Vec::new(alloc)),
+    }
+}
+
+/// Where a class stands among those that are named.
+fn named_place(named: &[usize], class: usize) -> Option<usize>
+    ensures { result ≡ position (λ other. class == other) named.now }
+{
+    named.iter().position(|other| class == *other)
+}
+
+/// The class's place in the order of priority: that among those that are named, or behind them.
+fn class_priority(program: &Program, class: usize) -> usize
+    requires { class < length program.now.classes }
+    ensures { result ≡ priority_of program.now class }
+{
+    program.known();
+    match named_place(&program.priority, class) {
+        Some(place) => place,
+        None => program.priority.len() + class,
+    }
+}
