@@ -10,8 +10,8 @@ use Rattle.ss_words.specs.declared.fault.TextFault.{TextFault}
 use Rattle.ss_words.specs.declared.fault.TextFault.TheVariants.{Refused, Memory}
 use Rattle.ss_words.specs.Words.{Kind, WordAt}
 use Rattle.ss_words.specs.TextBytes.{is_allowed}
-use Rattle.ss_words.specs.TextLines.{blanked, lines_of}
-use Rattle.ss_words.specs.TextWords.{Found, word, breach, words_in, breaches_in, nearest_first, broken, found_at, found_from_place, found_in_line}
+use Rattle.ss_words.specs.TextLines.{blanked, text_lines}
+use Rattle.ss_words.specs.TextWords.{Finding, word, breach, words_in, breaches_in, nearest_first, broken, found_at, found_from_place, found_in_line}
 use Rattle.ss_words.specs.TextWords.{picture_byte, picture_head, found_in_picture, picture_size, picture_found, found_from_line, found_in_text}
 use Rattle.ss_words.specs.TextWords.{answer_of, words_of}
 use Rattle.ss_words.specs.TextOrder.{rule_number, rule_numbers, is_rising}
@@ -30,7 +30,7 @@ joined-append : (ps qs : List (List TextFault)) → joined (ps ++ qs) ≡ joined
 joined-append [] qs = refl
 joined-append (fs ∷ ps) qs = ap (λ (x : List TextFault). fs ++ x) (joined-append ps qs) ∙ sym (append_assoc fs _ _)
 
-breaches_in-append : (fs gs : List Found) → breaches_in (fs ++ gs) ≡ breaches_in fs ++ breaches_in gs
+breaches_in-append : (fs gs : List Finding) → breaches_in (fs ++ gs) ≡ breaches_in fs ++ breaches_in gs
 breaches_in-append [] gs = refl
 breaches_in-append (word w ∷ fs) gs = breaches_in-append fs gs
 breaches_in-append (breach r n ∷ fs) gs = ap (λ (x : List TextFault). Refused r n ∷ x) (breaches_in-append fs gs)
@@ -60,7 +60,7 @@ joined-picture n (b ∷ bs) =
     ∙ sym (breaches_in-append (picture_head n b bs) (flat_map (picture_byte n) bs))
 
 -- a picture that is drawn breaks no rule
-drawn-none : (k n : ℕ) (ls : List (List ℕ)) (fs : List Found) → breaches_in (picture_found k n ls ++ fs) ≡ breaches_in fs
+drawn-none : (k n : ℕ) (ls : List (List ℕ)) (fs : List Finding) → breaches_in (picture_found k n ls ++ fs) ≡ breaches_in fs
 drawn-none zero n ls fs = refl
 drawn-none (suc k) n ls fs = refl
 
@@ -87,7 +87,7 @@ joined-line before n zero (l ∷ ls) =
 
 joined-text : (text : List ℕ) → joined (breaches_by_place text) ≡ breaches_in (found_in_text text)
 unfolding breaches_by_place found_in_text
-joined-text text = joined-line [] 1 0 (lines_of text)
+joined-text text = joined-line [] 1 0 (text_lines text)
 
 -- ---- at each place the numbers rise
 
@@ -100,7 +100,7 @@ abbrev EachRises : List (List TextFault) → Type 0
 EachRises [] = Unit {0}
 EachRises (fs ∷ rest) = Rises 0 fs × EachRises rest
 
-rises : (fs : List Found) (last : ℕ) → is_rising last (rule_numbers fs) ≡ true → Rises last (breaches_in fs)
+rises : (fs : List Finding) (last : ℕ) → is_rising last (rule_numbers fs) ≡ true → Rises last (breaches_in fs)
 rises [] last h = tt
 rises (word w ∷ fs) last h = rises fs last h
 rises (breach r n ∷ fs) last h = (
@@ -146,7 +146,7 @@ rises-line before n zero (l ∷ ls) =
 
 rises-text : (text : List ℕ) → EachRises (breaches_by_place text)
 unfolding breaches_by_place
-rises-text text = rises-line [] 1 0 (lines_of text)
+rises-text text = rises-line [] 1 0 (text_lines text)
 
 rises-at : (ps : List (List TextFault)) (i : ℕ) → EachRises ps → Rises 0 (at_place ps i)
 rises-at [] i h = tt
@@ -210,21 +210,21 @@ joined_none ([] ∷ ps) (suc i) e = joined_none ps i e
 
 -- ---- the laws
 
-answer-refused : (fs : List Found) (f : TextFault) → answer_of fs ≡ Err f → (bs : List TextFault) × (breaches_in fs ≡ f ∷ bs)
+answer-refused : (fs : List Finding) (f : TextFault) → answer_of fs ≡ Err f → (bs : List TextFault) × (breaches_in fs ≡ f ∷ bs)
 unfolding answer_of
 answer-refused fs f e = elim (breaches_in fs) as (λ bs. (let a : Result (List WordAt) TextFault = elim bs [ [] ↦ Ok (words_in fs) | b ∷ bs ↦ Err b ] in a) ≡ Err f → (rest : List TextFault) × (bs ≡ f ∷ rest)) [
   | [] ↦ λ no. absurd cc
   | b ∷ bs ↦ λ is. (bs, let same : b ≡ f = cc in ap (λ (x : TextFault). x ∷ bs) same)
 ] e
 
-answer-accepted : (fs : List Found) (ws : List WordAt) → answer_of fs ≡ Ok ws → breaches_in fs ≡ []
+answer-accepted : (fs : List Finding) (ws : List WordAt) → answer_of fs ≡ Ok ws → breaches_in fs ≡ []
 unfolding answer_of
 answer-accepted fs ws e = elim (breaches_in fs) as (λ bs. (let a : Result (List WordAt) TextFault = elim bs [ [] ↦ Ok (words_in fs) | b ∷ bs ↦ Err b ] in a) ≡ Ok ws → bs ≡ []) [
   | [] ↦ λ is. refl
   | b ∷ bs ↦ λ no. absurd cc
 ] e
 
-answer-first : (fs : List Found) (f : TextFault) (bs : List TextFault) → breaches_in fs ≡ f ∷ bs → answer_of fs ≡ Err f
+answer-first : (fs : List Finding) (f : TextFault) (bs : List TextFault) → breaches_in fs ≡ f ∷ bs → answer_of fs ≡ Err f
 unfolding answer_of
 answer-first fs f bs e = ap (λ (x : List TextFault). let a : Result (List WordAt) TextFault = elim x [ [] ↦ Ok (words_in fs) | b ∷ cs ↦ Err b ] in a) e
 

@@ -1,8 +1,8 @@
 //! Laws on the definitions. Each function does nothing, and its contract says the law.
 ghost use Rattle.ss_words.specs.TextRefusal.{RefusalHasAPlace, RefusalIsAnswered, WordsBreakNoRule};
 
-/// Where a text is refused by a rule, there is the place of the refusal: the rule is broken there, no rule is broken at an
-/// earlier place, and none of a lower number there.
+/// Where a text is refused by a rule, there is the place of the refusal: the rule is broken there,
+/// no rule is broken at an earlier place, and none of a lower number there.
 pub fn refusal_has_a_place()
     ensures { RefusalHasAPlace }
 {}
