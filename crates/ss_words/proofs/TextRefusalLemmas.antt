@@ -1,9 +1,11 @@
 -- The first breach of a text stands at its first place with one, and is the lowest of that place.
 use Rattle.std.proofs.Common.{◌≡◌, ℕ, zero, suc, ◌+◌, ◌<◌, ◌≤◌, Bool, true, false, ◌&&◌, List, [], ◌∷◌, ◌++◌, map, length, refl, sym, ap, subst, ◌∙◌}
-use Rattle.std.proofs.Common.{append_assoc, arith, Result, Ok, Err}
+use Rattle.std.proofs.Common.{◌==◌, cond, append_assoc, length-append, arith, Result, Ok, Err}
 use Rattle.std.proofs.lemmas.Bool.{ltb-true}
-use Rattle.std.specs.Prelude.{Contains, flat_map, nat_lt, not}
-use Rattle.ss_words.specs.declared.characters.TheConstants.{BLANK}
+use Rattle.std.proofs.lemmas.List.{length-map}
+use Rattle.std.proofs.lemmas.List.Sums.{sum_by-cons}
+use Rattle.std.specs.Prelude.{Contains, flat_map, nat_lt, not, sum_by}
+use Rattle.ss_words.specs.declared.characters.TheConstants.{BLANK, QUOTE}
 use Rattle.ss_words.specs.declared.fault.TextRule.{TextRule}
 use Rattle.ss_words.specs.declared.fault.TextRule.TheVariants.{StrayByte}
 use Rattle.ss_words.specs.declared.fault.TextFault.{TextFault}
@@ -16,7 +18,7 @@ use Rattle.ss_words.specs.TextWords.{picture_byte, picture_head, found_in_pictur
 use Rattle.ss_words.specs.TextWords.{answer_of, words_of}
 use Rattle.ss_words.specs.TextOrder.{rule_number, rule_numbers, is_rising}
 use Rattle.ss_words.specs.TextRefusal.{breaches_from_place, breaches_in_picture, breaches_from_line, breaches_by_place, at_place}
-use Rattle.ss_words.specs.TextRefusal.{IsBroken, IsRefusedAt, RefusalHasAPlace, RefusalIsAnswered, WordsBreakNoRule}
+use Rattle.ss_words.specs.TextRefusal.{IsBroken, IsRefusedAt, RefusalHasAPlace, RefusalIsAnswered, WordsBreakNoRule, PlacesAreBytes}
 use Rattle.ss_words.proofs.TextOrderLemmas.{lowest_first}
 use Rattle.ss_words.proofs.TextPlaces.{and-left, and-right}
 
@@ -88,6 +90,53 @@ joined-line before n zero (l ∷ ls) =
 joined-text : (text : List ℕ) → joined (breaches_by_place text) ≡ breaches_in (found_in_text text)
 unfolding breaches_by_place found_in_text
 joined-text text = joined-line [] 1 0 (text_lines text)
+
+-- ---- the places are the bytes of the lines
+
+length-blanked : (inside : Bool) (line : List ℕ) → length (blanked inside line) ≡ length line
+unfolding blanked
+length-blanked inside [] = refl
+length-blanked inside (b ∷ []) = refl
+length-blanked inside (b ∷ c ∷ bs) = elim (b == QUOTE && c == QUOTE) as (λ t. length {A = ℕ} (elim t [ true ↦ BLANK ∷ BLANK ∷ blanked (not inside) bs | false ↦ cond inside BLANK b ∷ blanked inside (c ∷ bs) ]) ≡ suc (suc (length bs))) [
+  | true ↦ (let more = length-blanked (not inside) bs in omega (arith, more))
+  | false ↦ (let more = length-blanked inside (c ∷ bs) in omega (arith, more))
+]
+
+length-place : (n below : ℕ) (before : List Kind) (last : ℕ) (line plain : List ℕ) → length plain ≡ length line
+    → length (breaches_from_place n below before last line plain) ≡ length line
+unfolding breaches_from_place
+length-place n below before last [] plain e = refl
+length-place n below before last (b ∷ bs) [] e = absurd (omega arith)
+length-place n below before last (b ∷ bs) (p ∷ ps) e =
+    let here = found_at n below before last (b ∷ bs) (p ∷ ps) in
+    let more = length-place n below (nearest_first here before) p bs ps (omega arith) in omega (arith, more)
+
+length-picture : (n : ℕ) (line : List ℕ) → length (breaches_in_picture n line) ≡ length line
+unfolding breaches_in_picture
+length-picture n [] = refl
+length-picture n (b ∷ bs) = let more = length-map bs (λ c. breaches_in (picture_byte n c)) in omega (arith, more)
+
+length-line : (before : List Kind) (n k : ℕ) (ls : List (List ℕ)) → length (breaches_from_line before n k ls) ≡ sum_by length ls
+unfolding breaches_from_line
+length-line before n zero [] = refl
+length-line before n (suc k) [] = refl
+length-line before n (suc k) (l ∷ ls) =
+    length-append (breaches_in_picture n l) (breaches_from_line before (n + 1) k ls)
+    ∙ ap (λ (x : ℕ). x + length (breaches_from_line before (n + 1) k ls)) (length-picture n l)
+    ∙ ap (λ (x : ℕ). length l + x) (length-line before (n + 1) k ls)
+    ∙ sym (sum_by-cons length l ls)
+length-line before n zero (l ∷ ls) =
+    let now = nearest_first (found_in_line n (length ls) before l) before in
+    let drawn = picture_found (picture_size now) (n + 1) ls in
+    let next = breaches_from_line (nearest_first drawn now) (n + 1) (picture_size now) ls in
+    length-append (breaches_from_place n (length ls) before BLANK l (blanked false l)) next
+    ∙ ap (λ (x : ℕ). x + length next) (length-place n (length ls) before BLANK l (blanked false l) (length-blanked false l))
+    ∙ ap (λ (x : ℕ). length l + x) (length-line (nearest_first drawn now) (n + 1) (picture_size now) ls)
+    ∙ sym (sum_by-cons length l ls)
+
+pub places_are_bytes : PlacesAreBytes
+unfolding breaches_by_place
+places_are_bytes text = length-line [] 1 0 (text_lines text)
 
 -- ---- at each place the numbers rise
 

@@ -1,6 +1,6 @@
 -- At which places of a text which rules are broken, and where a text is refused. The places of a text are the bytes of
 -- its lines, counted from 0 over all lines.
-use Rattle.std.specs.Prelude.{◌≡◌, ◌≤◌, ◌<◌, ℕ, zero, suc, ◌+◌, false, List, [], ◌∷◌, ◌++◌, map, length, Contains, Ok, Err}
+use Rattle.std.specs.Prelude.{◌≡◌, ◌≤◌, ◌<◌, ℕ, zero, suc, ◌+◌, false, List, [], ◌∷◌, ◌++◌, map, length, sum_by, Contains, Ok, Err}
 use Rattle.ss_words.specs.declared.characters.TheConstants.{BLANK}
 use Rattle.ss_words.specs.declared.fault.TextRule.{TextRule}
 use Rattle.ss_words.specs.declared.fault.TextFault.{TextFault}
@@ -46,6 +46,10 @@ abbrev pub at_place : List (List TextFault) → ℕ → List TextFault
 at_place [] i = []
 at_place (fs ∷ rest) zero = fs
 at_place (fs ∷ rest) (suc i) = at_place rest i
+
+-- a text has as many places as its lines have bytes
+abbrev pub PlacesAreBytes : Type 0
+PlacesAreBytes = (text : List ℕ) → length (breaches_by_place text) ≡ sum_by length (text_lines text)
 
 -- rule r is broken at place i of a text, on line n
 abbrev pub IsBroken : List ℕ → ℕ → TextRule → ℕ → Type 0
