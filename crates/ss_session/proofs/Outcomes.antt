@@ -3,7 +3,7 @@ use Rattle.ss_words.specs.declared.fault.TextFault.{TextFault}
 use Rattle.ss_words.specs.declared.fault.TextFault.TheVariants.{Refused, Memory}
 use Rattle.ss_words.specs.declared.fault.TextRule.{TextRule}
 use Rattle.ss_words.specs.Words.{WordAt}
-use Rattle.ss_words.specs.TextWords.{Found, word, breach as broken, breaches_in, words_in, answer_of, found_in_text, words_of}
+use Rattle.ss_words.specs.TextWords.{Finding, word, breach as broken, breaches_in, words_in, answer_of, found_in_text, words_of}
 use Rattle.ss_words.specs.PlainRules.{plain_words_of}
 use Rattle.ss_routines.specs.Places.{Section}
 use Rattle.ss_routines.specs.Refused.{Answers, AreSections, words_from}
@@ -24,7 +24,7 @@ IsSaid (Ok ws) = Unit {0}
 IsSaid (Err (Refused rule n)) = Unit {0}
 IsSaid (Err Memory) = ⊥
 
-said : (fs all : List Found) → IsSaid (elim (breaches_in fs) [ [] ↦ Ok (words_in all) | b ∷ bs ↦ Err b ])
+said : (fs all : List Finding) → IsSaid (elim (breaches_in fs) [ [] ↦ Ok (words_in all) | b ∷ bs ↦ Err b ])
 said [] all = tt
 said (word w ∷ fs) all = said fs all
 said (broken rule n ∷ fs) all = tt

@@ -9,8 +9,8 @@ use Rattle.ss_words.specs.declared.fault.TextFault.TheVariants.{Refused}
 use Rattle.ss_words.specs.Words.{Kind, WordAt, name, number, sign, picture}
 use Rattle.ss_words.specs.TextBytes.{is_allowed}
 use Rattle.ss_words.specs.TextRuns.{calls_picture, picture_lines, line_count, behind_print}
-use Rattle.ss_words.specs.TextWords.{Found, word, broken, on_line, picture_byte, found_in_picture, picture_size, picture_found, nearest_first, found_from_line}
-use Rattle.ss_words.specs.TextScan.{first_breach, IsFirstIn, nearest, Goes, found_below}
+use Rattle.ss_words.specs.TextWords.{Finding, word, broken, on_line, picture_byte, found_in_picture, picture_size, picture_found, nearest_first, found_from_line}
+use Rattle.ss_words.specs.TextScan.{first_breach, IsFirstIn, nearest, SameFindings, found_below}
 use Rattle.ss_words.proofs.TextBytesLemmas.{nat_lt-above, nat_lt-below}
 use Rattle.ss_words.proofs.TextFinds.{is_first-front, is_first-same, is_first-word}
 use Rattle.ss_words.proofs.TextSteps.{goes-word}
@@ -99,7 +99,7 @@ module _ {first count : ℕ} {all : List (List ℕ)} {taken left : ℕ} {lines d
         ∙ ap (λ (ds : List (List ℕ)). ds ++ take rest ls) (sym more);
     found = λ before. next_found rest l ls size is before
         ∙ ap (λ (m : ℕ). found_in_picture m l ++ found_from_line before (m + 1) rest ls) (sym next)
-        ∙ ap (λ (fs : List Found). fs ++ found_from_line before (taken' + 1) rest ls) none;
+        ∙ ap (λ (fs : List Finding). fs ++ found_from_line before (taken' + 1) rest ls) none;
   }
 
   -- a line that breaks a rule
@@ -169,11 +169,11 @@ below-picture words n k ls calls count =
 -- a picture that is drawn and joins the words
 pub goes-picture : (old new : List WordAt) (n k taken : ℕ) (ls left drawn : List (List ℕ)) → calls_picture (nearest old) ≡ true → picture_lines (nearest old) ≡ Some k → drawn ≡ take k ls
     → ((before : List Kind) → found_from_line before n k ls ≡ found_from_line before (taken + 1) 0 left) → new ≡ old ++ on_line n (picture drawn) ∷ []
-    → Goes old (found_below (nearest old) n ls) new (found_from_line (nearest new) (taken + 1) 0 left)
+    → SameFindings old (found_below (nearest old) n ls) new (found_from_line (nearest new) (taken + 1) 0 left)
 goes-picture old new n k taken ls left drawn calls count is found joins =
     goes-word (λ (ks : List Kind). found_from_line ks (taken + 1) 0 left) old (on_line n (picture drawn)) new (found_below (nearest old) n ls)
     (below-picture (nearest old) n k ls calls count
-    ∙ ap (λ (fs : List Found). word (on_line n (picture (take k ls))) ∷ fs) (found (picture (take k ls) ∷ nearest old))
+    ∙ ap (λ (fs : List Finding). word (on_line n (picture (take k ls))) ∷ fs) (found (picture (take k ls) ∷ nearest old))
     ∙ ap (λ (ps : List (List ℕ)). word (on_line n (picture ps)) ∷ found_from_line (picture ps ∷ nearest old) (taken + 1) 0 left) (sym is)) joins
 
 -- a picture with a line that breaks a rule

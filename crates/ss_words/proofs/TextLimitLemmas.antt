@@ -15,9 +15,9 @@ use Rattle.ss_words.specs.declared.fault.TextRule.{TextRule}
 use Rattle.ss_words.specs.declared.fault.TextRule.TheVariants.{StrayByte, BadNumber, LongRun, NoPicture, LongPictureLine}
 use Rattle.ss_words.specs.Words.{Kind, WordAt, name, number, sign, picture}
 use Rattle.ss_words.specs.TextBytes.{in_run, is_allowed, is_joined, is_stray, sign_from}
-use Rattle.ss_words.specs.TextLines.{blanked, lines_of, is_bare}
+use Rattle.ss_words.specs.TextLines.{blanked, text_lines, is_bare}
 use Rattle.ss_words.specs.TextRuns.{without_stops, number_of, has_letter, is_bad_number, word_of_run, line_count, behind_print, calls_picture, picture_lines, is_met, lacks_picture, is_name}
-use Rattle.ss_words.specs.TextWords.{Found, word, breach, on_line, words_in, breaches_in, nearest_first, broken, sign_found, word_found, run_found, begun_at, found_at, found_from_place, found_in_line, picture_byte, found_in_picture, picture_size, picture_found, found_from_line, found_in_text, answer_of, words_of}
+use Rattle.ss_words.specs.TextWords.{Finding, word, breach, on_line, words_in, breaches_in, nearest_first, broken, sign_found, word_found, run_found, begun_at, found_at, found_from_place, found_in_line, picture_byte, found_in_picture, picture_size, picture_found, found_from_line, found_in_text, answer_of, words_of}
 use Rattle.ss_words.specs.TextLimits.{KeepsLimits, LimitsHold}
 use Rattle.ss_words.proofs.TextDrawn.{nat_le-true, line_count-some}
 
@@ -25,26 +25,26 @@ abbrev WordKeeps : WordAt → Type 0
 WordKeeps w = KeepsLimits w.kind
 
 -- where no rule is broken each word keeps the limits
-abbrev Keeps : List Found → Type 0
+abbrev Keeps : List Finding → Type 0
 Keeps fs = breaches_in fs ≡ [] → All WordKeeps (words_in fs)
 
-breaches-parts : (fs gs : List Found) → breaches_in (fs ++ gs) ≡ [] → (breaches_in fs ≡ []) × (breaches_in gs ≡ [])
+breaches-parts : (fs gs : List Finding) → breaches_in (fs ++ gs) ≡ [] → (breaches_in fs ≡ []) × (breaches_in gs ≡ [])
 breaches-parts [] gs none = (refl, none)
 breaches-parts (word w ∷ fs) gs none = breaches-parts fs gs none
 breaches-parts (breach r n ∷ fs) gs none = absurd cc
 
-words_in-append : (fs gs : List Found) → words_in (fs ++ gs) ≡ words_in fs ++ words_in gs
+words_in-append : (fs gs : List Finding) → words_in (fs ++ gs) ≡ words_in fs ++ words_in gs
 words_in-append [] gs = refl
 words_in-append (word w ∷ fs) gs = ap (λ (vs : List WordAt). w ∷ vs) (words_in-append fs gs)
 words_in-append (breach r n ∷ fs) gs = words_in-append fs gs
 
-keeps-then : (fs gs : List Found) → Keeps fs → (breaches_in fs ≡ [] → Keeps gs) → Keeps (fs ++ gs)
+keeps-then : (fs gs : List Finding) → Keeps fs → (breaches_in fs ≡ [] → Keeps gs) → Keeps (fs ++ gs)
 keeps-then fs gs left right none =
     let p = breaches-parts fs gs none in
     All-same WordKeeps (words_in (fs ++ gs)) (words_in fs ++ words_in gs) (words_in-append fs gs)
     (All-append WordKeeps (words_in fs) (words_in gs) (left p.0) (right p.0 p.1))
 
-keeps-append : (fs gs : List Found) → Keeps fs → Keeps gs → Keeps (fs ++ gs)
+keeps-append : (fs gs : List Finding) → Keeps fs → Keeps gs → Keeps (fs ++ gs)
 keeps-append fs gs left right = keeps-then fs gs left (λ _. right)
 
 keeps-nothing : Keeps []
@@ -241,7 +241,7 @@ module _ (n below : ℕ) where
 
 -- ---- the lines that a picture has below it
 
-nearest_first-append : (fs gs : List Found) (before : List Kind) → nearest_first (fs ++ gs) before ≡ nearest_first gs (nearest_first fs before)
+nearest_first-append : (fs gs : List Finding) (before : List Kind) → nearest_first (fs ++ gs) before ≡ nearest_first gs (nearest_first fs before)
 nearest_first-append [] gs before = refl
 nearest_first-append (word w ∷ fs) gs before = nearest_first-append fs gs (w.kind ∷ before)
 nearest_first-append (breach r n ∷ fs) gs before = nearest_first-append fs gs before
@@ -251,7 +251,7 @@ abbrev IsMet : ℕ → List Kind → Type 0
 IsMet below words = calls_picture words ≡ true → is_met (picture_lines words) below ≡ true
 
 -- where no rule is broken what is found keeps it so
-abbrev Meets : ℕ → List Kind → List Found → Type 0
+abbrev Meets : ℕ → List Kind → List Finding → Type 0
 Meets below before fs = breaches_in fs ≡ [] → IsMet below before → IsMet below (nearest_first fs before)
 
 is_met-called : (called bare met : Bool) → (called && not (bare && met)) ≡ false → called ≡ true → met ≡ true
@@ -276,7 +276,7 @@ quiet-met : (below : ℕ) (words : List Kind) → calls_picture words ≡ false 
 quiet-met below words quiet calls = absurd cc
 
 module _ (n below : ℕ) where
-  meets-append : (before : List Kind) (fs gs : List Found) → Meets below before fs → Meets below (nearest_first fs before) gs → Meets below before (fs ++ gs)
+  meets-append : (before : List Kind) (fs gs : List Finding) → Meets below before fs → Meets below (nearest_first fs before) gs → Meets below before (fs ++ gs)
   meets-append before fs gs left right none met =
       let p = breaches-parts fs gs none in subst (IsMet below) (sym (nearest_first-append fs gs before)) (right p.1 (left p.0 met))
 
@@ -285,7 +285,7 @@ module _ (n below : ℕ) where
   nearest_first-broken r false before = refl
 
   -- a breach in front changes nothing
-  meets-behind : (r : TextRule) (b : Bool) (before : List Kind) (fs : List Found) → Meets below before fs → Meets below before (broken r n b ++ fs)
+  meets-behind : (r : TextRule) (b : Bool) (before : List Kind) (fs : List Finding) → Meets below before fs → Meets below before (broken r n b ++ fs)
   meets-behind r true before fs all none met = absurd cc
   meets-behind r false before fs all none met = all none met
 
@@ -453,7 +453,7 @@ lines_keep (l ∷ ls) before n (suc k) quiet =
     )
 
 -- an answer that is a list of words
-answer-words : (fs : List Found) (ws : List WordAt) → answer_of fs ≡ Ok ws → (breaches_in fs ≡ []) × (words_in fs ≡ ws)
+answer-words : (fs : List Finding) (ws : List WordAt) → answer_of fs ≡ Ok ws → (breaches_in fs ≡ []) × (words_in fs ≡ ws)
 unfolding answer_of
 answer-words fs ws e = elim (breaches_in fs) as (λ bs. (elim bs [ [] ↦ Ok (words_in fs) | b ∷ bs ↦ Err b ]) ≡ Ok ws → (bs ≡ []) × (words_in fs ≡ ws)) [
   | [] ↦ λ same. (refl, cc)
@@ -464,4 +464,4 @@ pub limits_hold : LimitsHold
 unfolding words_of found_in_text
 limits_hold text ws e =
     let p = answer-words (found_in_text text) ws e in
-    All-same WordKeeps ws (words_in (found_in_text text)) (sym p.1) ((lines_keep (lines_of text) [] 1 0 quiet-nothing).0 p.0)
+    All-same WordKeeps ws (words_in (found_in_text text)) (sym p.1) ((lines_keep (text_lines text) [] 1 0 quiet-nothing).0 p.0)

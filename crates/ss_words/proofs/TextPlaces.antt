@@ -10,7 +10,7 @@ use Rattle.ss_words.specs.declared.fault.TextFault.TheVariants.{Refused}
 use Rattle.ss_words.specs.Words.{Kind, sign}
 use Rattle.ss_words.specs.TextBytes.{in_run, is_blank, is_stray, is_joined, is_allowed, one_byte_sign, sign_from, sign_len}
 use Rattle.ss_words.specs.TextLines.{blanked}
-use Rattle.ss_words.specs.TextWords.{Found, word, broken, nearest_first, sign_found, on_line, run_found, begun_at, found_at, found_from_place, found_in_line}
+use Rattle.ss_words.specs.TextWords.{Finding, word, broken, nearest_first, sign_found, on_line, run_found, begun_at, found_at, found_from_place, found_in_line}
 use Rattle.ss_words.specs.TextScan.{begins_comment, first_breach}
 use Rattle.ss_words.proofs.TextBytesLemmas.{eqb-same, eqb-run, is_blank-cases, is_stray-run, is_stray-sign, is_stray-other, is_joined-run}
 use Rattle.ss_words.proofs.TextFinds.{first_breach-front}
@@ -88,9 +88,9 @@ joined-blank p = refl
 
 -- a line of number n with so many lines below it
 module _ (n below : ℕ) where
-  pub from-here : (before : List Kind) (last b : ℕ) (bs : List ℕ) (p : ℕ) (ps : List ℕ) (here : List Found) → found_at n below before last (b ∷ bs) (p ∷ ps) ≡ here → found_from_place n below before last (b ∷ bs) (p ∷ ps) ≡ here ++ found_from_place n below (nearest_first here before) p bs ps
+  pub from-here : (before : List Kind) (last b : ℕ) (bs : List ℕ) (p : ℕ) (ps : List ℕ) (here : List Finding) → found_at n below before last (b ∷ bs) (p ∷ ps) ≡ here → found_from_place n below before last (b ∷ bs) (p ∷ ps) ≡ here ++ found_from_place n below (nearest_first here before) p bs ps
   unfolding found_from_place
-  from-here before last b bs p ps here e = ap (λ (h : List Found). h ++ found_from_place n below (nearest_first h before) p bs ps) e
+  from-here before last b bs p ps here e = ap (λ (h : List Finding). h ++ found_from_place n below (nearest_first h before) p bs ps) e
 
   found_at-joined : (before : List Kind) (last b : ℕ) (bs : List ℕ) (p : ℕ) (ps : List ℕ) → is_stray b p ≡ false → is_joined last p ≡ true → found_at n below before last (b ∷ bs) (p ∷ ps) ≡ []
   unfolding found_at
@@ -142,7 +142,7 @@ module _ (n below : ℕ) where
       let here = run_found n below before (behind_run (b ∷ bs)) (take_while in_run (b ∷ bs)) in
       ap (λ (plain : List ℕ). found_from_place n below before 32 (b ∷ bs) plain) (blanked-run b bs run)
       ∙ from-here before 32 b bs b (blanked false bs) here (found_at-begun before 32 b bs b (blanked false bs) (is_stray-run b run) (joined-blank b) ∙ begun_at-run before b bs run)
-      ∙ ap (λ (r : List Found). here ++ r) (joined_run (nearest_first here before) b bs run ∙ ap (λ (l : List ℕ). found_in_line n below (nearest_first here before) l) (sym (behind_run-yes b bs run)))
+      ∙ ap (λ (r : List Finding). here ++ r) (joined_run (nearest_first here before) b bs run ∙ ap (λ (l : List ℕ). found_in_line n below (nearest_first here before) l) (sym (behind_run-yes b bs run)))
 
   blank_32 : (before : List Kind) (bs : List ℕ) → found_in_line n below before (32 ∷ bs) ≡ found_in_line n below before bs
   unfolding found_from_place found_at begun_at is_stray is_joined is_allowed is_blank in_run one_byte_sign sign_from begins_comment
@@ -306,7 +306,7 @@ module _ (n below : ℕ) where
   found-sign before b bs g no_comment no_run e =
       let cases = sign_cases b (slice_index bs 0) g e in
       first_byte before b bs g no_comment no_run e (is_some-sign b (slice_index bs 0) g cases)
-      ∙ ap (λ (fs : List Found). word (on_line n (sign g)) ∷ fs) (behind_sign (sign g ∷ before) b bs g no_run cases)
+      ∙ ap (λ (fs : List Finding). word (on_line n (sign g)) ∷ fs) (behind_sign (sign g ∷ before) b bs g no_run cases)
 
   found_at-stray : (before : List Kind) (last b : ℕ) (bs : List ℕ) (p : ℕ) (ps : List ℕ) → is_stray b p ≡ true → first_breach (found_at n below before last (b ∷ bs) (p ∷ ps)) ≡ Some (Refused StrayByte n)
   unfolding found_at

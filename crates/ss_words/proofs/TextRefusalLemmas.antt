@@ -1,22 +1,24 @@
 -- The first breach of a text stands at its first place with one, and is the lowest of that place.
 use Rattle.std.proofs.Common.{◌≡◌, ℕ, zero, suc, ◌+◌, ◌<◌, ◌≤◌, Bool, true, false, ◌&&◌, List, [], ◌∷◌, ◌++◌, map, length, refl, sym, ap, subst, ◌∙◌}
-use Rattle.std.proofs.Common.{append_assoc, arith, Result, Ok, Err}
+use Rattle.std.proofs.Common.{◌==◌, cond, append_assoc, length-append, arith, Result, Ok, Err}
 use Rattle.std.proofs.lemmas.Bool.{ltb-true}
-use Rattle.std.specs.Prelude.{Contains, flat_map, nat_lt, not}
-use Rattle.ss_words.specs.declared.characters.TheConstants.{BLANK}
+use Rattle.std.proofs.lemmas.List.{length-map}
+use Rattle.std.proofs.lemmas.List.Sums.{sum_by-cons}
+use Rattle.std.specs.Prelude.{Contains, flat_map, nat_lt, not, sum_by}
+use Rattle.ss_words.specs.declared.characters.TheConstants.{BLANK, QUOTE}
 use Rattle.ss_words.specs.declared.fault.TextRule.{TextRule}
 use Rattle.ss_words.specs.declared.fault.TextRule.TheVariants.{StrayByte}
 use Rattle.ss_words.specs.declared.fault.TextFault.{TextFault}
 use Rattle.ss_words.specs.declared.fault.TextFault.TheVariants.{Refused, Memory}
 use Rattle.ss_words.specs.Words.{Kind, WordAt}
 use Rattle.ss_words.specs.TextBytes.{is_allowed}
-use Rattle.ss_words.specs.TextLines.{blanked, lines_of}
-use Rattle.ss_words.specs.TextWords.{Found, word, breach, words_in, breaches_in, nearest_first, broken, found_at, found_from_place, found_in_line}
+use Rattle.ss_words.specs.TextLines.{blanked, text_lines}
+use Rattle.ss_words.specs.TextWords.{Finding, word, breach, words_in, breaches_in, nearest_first, broken, found_at, found_from_place, found_in_line}
 use Rattle.ss_words.specs.TextWords.{picture_byte, picture_head, found_in_picture, picture_size, picture_found, found_from_line, found_in_text}
 use Rattle.ss_words.specs.TextWords.{answer_of, words_of}
 use Rattle.ss_words.specs.TextOrder.{rule_number, rule_numbers, is_rising}
 use Rattle.ss_words.specs.TextRefusal.{breaches_from_place, breaches_in_picture, breaches_from_line, breaches_by_place, at_place}
-use Rattle.ss_words.specs.TextRefusal.{IsBroken, IsRefusedAt, RefusalHasAPlace, RefusalIsAnswered, WordsBreakNoRule}
+use Rattle.ss_words.specs.TextRefusal.{IsBroken, IsRefusedAt, RefusalHasAPlace, RefusalIsAnswered, WordsBreakNoRule, PlacesAreBytes}
 use Rattle.ss_words.proofs.TextOrderLemmas.{lowest_first}
 use Rattle.ss_words.proofs.TextPlaces.{and-left, and-right}
 
@@ -30,7 +32,7 @@ joined-append : (ps qs : List (List TextFault)) → joined (ps ++ qs) ≡ joined
 joined-append [] qs = refl
 joined-append (fs ∷ ps) qs = ap (λ (x : List TextFault). fs ++ x) (joined-append ps qs) ∙ sym (append_assoc fs _ _)
 
-breaches_in-append : (fs gs : List Found) → breaches_in (fs ++ gs) ≡ breaches_in fs ++ breaches_in gs
+breaches_in-append : (fs gs : List Finding) → breaches_in (fs ++ gs) ≡ breaches_in fs ++ breaches_in gs
 breaches_in-append [] gs = refl
 breaches_in-append (word w ∷ fs) gs = breaches_in-append fs gs
 breaches_in-append (breach r n ∷ fs) gs = ap (λ (x : List TextFault). Refused r n ∷ x) (breaches_in-append fs gs)
@@ -60,7 +62,7 @@ joined-picture n (b ∷ bs) =
     ∙ sym (breaches_in-append (picture_head n b bs) (flat_map (picture_byte n) bs))
 
 -- a picture that is drawn breaks no rule
-drawn-none : (k n : ℕ) (ls : List (List ℕ)) (fs : List Found) → breaches_in (picture_found k n ls ++ fs) ≡ breaches_in fs
+drawn-none : (k n : ℕ) (ls : List (List ℕ)) (fs : List Finding) → breaches_in (picture_found k n ls ++ fs) ≡ breaches_in fs
 drawn-none zero n ls fs = refl
 drawn-none (suc k) n ls fs = refl
 
@@ -87,7 +89,54 @@ joined-line before n zero (l ∷ ls) =
 
 joined-text : (text : List ℕ) → joined (breaches_by_place text) ≡ breaches_in (found_in_text text)
 unfolding breaches_by_place found_in_text
-joined-text text = joined-line [] 1 0 (lines_of text)
+joined-text text = joined-line [] 1 0 (text_lines text)
+
+-- ---- the places are the bytes of the lines
+
+length-blanked : (inside : Bool) (line : List ℕ) → length (blanked inside line) ≡ length line
+unfolding blanked
+length-blanked inside [] = refl
+length-blanked inside (b ∷ []) = refl
+length-blanked inside (b ∷ c ∷ bs) = elim (b == QUOTE && c == QUOTE) as (λ t. length {A = ℕ} (elim t [ true ↦ BLANK ∷ BLANK ∷ blanked (not inside) bs | false ↦ cond inside BLANK b ∷ blanked inside (c ∷ bs) ]) ≡ suc (suc (length bs))) [
+  | true ↦ (let more = length-blanked (not inside) bs in omega (arith, more))
+  | false ↦ (let more = length-blanked inside (c ∷ bs) in omega (arith, more))
+]
+
+length-place : (n below : ℕ) (before : List Kind) (last : ℕ) (line plain : List ℕ) → length plain ≡ length line
+    → length (breaches_from_place n below before last line plain) ≡ length line
+unfolding breaches_from_place
+length-place n below before last [] plain e = refl
+length-place n below before last (b ∷ bs) [] e = absurd (omega arith)
+length-place n below before last (b ∷ bs) (p ∷ ps) e =
+    let here = found_at n below before last (b ∷ bs) (p ∷ ps) in
+    let more = length-place n below (nearest_first here before) p bs ps (omega arith) in omega (arith, more)
+
+length-picture : (n : ℕ) (line : List ℕ) → length (breaches_in_picture n line) ≡ length line
+unfolding breaches_in_picture
+length-picture n [] = refl
+length-picture n (b ∷ bs) = let more = length-map bs (λ c. breaches_in (picture_byte n c)) in omega (arith, more)
+
+length-line : (before : List Kind) (n k : ℕ) (ls : List (List ℕ)) → length (breaches_from_line before n k ls) ≡ sum_by length ls
+unfolding breaches_from_line
+length-line before n zero [] = refl
+length-line before n (suc k) [] = refl
+length-line before n (suc k) (l ∷ ls) =
+    length-append (breaches_in_picture n l) (breaches_from_line before (n + 1) k ls)
+    ∙ ap (λ (x : ℕ). x + length (breaches_from_line before (n + 1) k ls)) (length-picture n l)
+    ∙ ap (λ (x : ℕ). length l + x) (length-line before (n + 1) k ls)
+    ∙ sym (sum_by-cons length l ls)
+length-line before n zero (l ∷ ls) =
+    let now = nearest_first (found_in_line n (length ls) before l) before in
+    let drawn = picture_found (picture_size now) (n + 1) ls in
+    let next = breaches_from_line (nearest_first drawn now) (n + 1) (picture_size now) ls in
+    length-append (breaches_from_place n (length ls) before BLANK l (blanked false l)) next
+    ∙ ap (λ (x : ℕ). x + length next) (length-place n (length ls) before BLANK l (blanked false l) (length-blanked false l))
+    ∙ ap (λ (x : ℕ). length l + x) (length-line (nearest_first drawn now) (n + 1) (picture_size now) ls)
+    ∙ sym (sum_by-cons length l ls)
+
+pub places_are_bytes : PlacesAreBytes
+unfolding breaches_by_place
+places_are_bytes text = length-line [] 1 0 (text_lines text)
 
 -- ---- at each place the numbers rise
 
@@ -100,7 +149,7 @@ abbrev EachRises : List (List TextFault) → Type 0
 EachRises [] = Unit {0}
 EachRises (fs ∷ rest) = Rises 0 fs × EachRises rest
 
-rises : (fs : List Found) (last : ℕ) → is_rising last (rule_numbers fs) ≡ true → Rises last (breaches_in fs)
+rises : (fs : List Finding) (last : ℕ) → is_rising last (rule_numbers fs) ≡ true → Rises last (breaches_in fs)
 rises [] last h = tt
 rises (word w ∷ fs) last h = rises fs last h
 rises (breach r n ∷ fs) last h = (
@@ -146,7 +195,7 @@ rises-line before n zero (l ∷ ls) =
 
 rises-text : (text : List ℕ) → EachRises (breaches_by_place text)
 unfolding breaches_by_place
-rises-text text = rises-line [] 1 0 (lines_of text)
+rises-text text = rises-line [] 1 0 (text_lines text)
 
 rises-at : (ps : List (List TextFault)) (i : ℕ) → EachRises ps → Rises 0 (at_place ps i)
 rises-at [] i h = tt
@@ -210,21 +259,21 @@ joined_none ([] ∷ ps) (suc i) e = joined_none ps i e
 
 -- ---- the laws
 
-answer-refused : (fs : List Found) (f : TextFault) → answer_of fs ≡ Err f → (bs : List TextFault) × (breaches_in fs ≡ f ∷ bs)
+answer-refused : (fs : List Finding) (f : TextFault) → answer_of fs ≡ Err f → (bs : List TextFault) × (breaches_in fs ≡ f ∷ bs)
 unfolding answer_of
 answer-refused fs f e = elim (breaches_in fs) as (λ bs. (let a : Result (List WordAt) TextFault = elim bs [ [] ↦ Ok (words_in fs) | b ∷ bs ↦ Err b ] in a) ≡ Err f → (rest : List TextFault) × (bs ≡ f ∷ rest)) [
   | [] ↦ λ no. absurd cc
   | b ∷ bs ↦ λ is. (bs, let same : b ≡ f = cc in ap (λ (x : TextFault). x ∷ bs) same)
 ] e
 
-answer-accepted : (fs : List Found) (ws : List WordAt) → answer_of fs ≡ Ok ws → breaches_in fs ≡ []
+answer-accepted : (fs : List Finding) (ws : List WordAt) → answer_of fs ≡ Ok ws → breaches_in fs ≡ []
 unfolding answer_of
 answer-accepted fs ws e = elim (breaches_in fs) as (λ bs. (let a : Result (List WordAt) TextFault = elim bs [ [] ↦ Ok (words_in fs) | b ∷ bs ↦ Err b ] in a) ≡ Ok ws → bs ≡ []) [
   | [] ↦ λ is. refl
   | b ∷ bs ↦ λ no. absurd cc
 ] e
 
-answer-first : (fs : List Found) (f : TextFault) (bs : List TextFault) → breaches_in fs ≡ f ∷ bs → answer_of fs ≡ Err f
+answer-first : (fs : List Finding) (f : TextFault) (bs : List TextFault) → breaches_in fs ≡ f ∷ bs → answer_of fs ≡ Err f
 unfolding answer_of
 answer-first fs f bs e = ap (λ (x : List TextFault). let a : Result (List WordAt) TextFault = elim x [ [] ↦ Ok (words_in fs) | b ∷ cs ↦ Err b ] in a) e
 

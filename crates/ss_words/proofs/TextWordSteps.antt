@@ -9,7 +9,7 @@ use Rattle.ss_words.specs.Words.{Kind, WordAt, name, number}
 use Rattle.ss_words.specs.TextRuns.{has_letter, without_stops, is_bad_number, number_of, word_of_run, lacks_picture}
 use Rattle.ss_words.specs.TextSpelling.{spelling_of, spelled}
 use Rattle.ss_words.specs.TextWords.{word, broken, on_line, word_found, run_found}
-use Rattle.ss_words.specs.TextScan.{nearest, Goes, first_breach}
+use Rattle.ss_words.specs.TextScan.{nearest, SameFindings, first_breach}
 use Rattle.ss_words.proofs.TextFinds.{nearest-push}
 use Rattle.ss_words.proofs.TextSteps.{goes-word}
 
@@ -75,7 +75,7 @@ module _ (n below : ℕ) (rest : List ℕ) (old new : List WordAt) (kind : Kind)
   lacks = ap (λ (ks : List Kind). lacks_picture ks rest below) (ap nearest is ∙ nearest-push old (on_line n kind))
 
   -- a word that calls no picture, or one that is there
-  pub goes-kept : lacks_picture (nearest new) rest below ≡ false → Goes old (word_found n below (nearest old) rest (Some kind)) new []
+  pub goes-kept : lacks_picture (nearest new) rest below ≡ false → SameFindings old (word_found n below (nearest old) rest (Some kind)) new []
   goes-kept there =
       goes-word (λ _. []) old (on_line n kind) new (word_found n below (nearest old) rest (Some kind))
       (ap (λ (t : Bool). broken NoPicture n t ++ word (on_line n kind) ∷ []) (sym lacks ∙ there)) is

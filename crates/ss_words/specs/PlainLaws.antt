@@ -1,4 +1,4 @@
--- What the rules of the plain words come to on lists of words that are written out; each equation is a contract of src/plain_laws.rt.
+-- What the rules of the plain words come to on lists of words that are written out: for the laws of src/plain_laws.rt.
 use Rattle.std.specs.Prelude.{◌≡◌, ℕ, List, [], ◌∷◌, ◌++◌, map, codes, bytes_eq, if◌then◌else◌, ◌==◌}
 use Rattle.ss_words.specs.declared.word.Sign.TheVariants as s
 use Rattle.ss_words.specs.Words.{Kind, WordAt, name, sign}
@@ -6,14 +6,14 @@ use Rattle.ss_words.specs.Plain.{plains}
 use Rattle.ss_words.specs.PlainRules.{spelled, plain_words_of}
 
 -- the byte at the head of the first piece
-abbrev pub onto_first : ℕ → List (List ℕ) → List (List ℕ)
-onto_first c [] = (c ∷ []) ∷ []
-onto_first c (p ∷ ps) = (c ∷ p) ∷ ps
+abbrev pub with_first_byte : ℕ → List (List ℕ) → List (List ℕ)
+with_first_byte c [] = (c ∷ []) ∷ []
+with_first_byte c (p ∷ ps) = (c ∷ p) ∷ ps
 
 -- the pieces of a text between its blanks
 abbrev pub pieces : List ℕ → List (List ℕ)
 pieces [] = [] ∷ []
-pieces (c ∷ cs) = if c == 32 then [] ∷ pieces cs else onto_first c (pieces cs)
+pieces (c ∷ cs) = if c == 32 then [] ∷ pieces cs else with_first_byte c (pieces cs)
 
 -- a piece as a word: a comma and the comparisons are signs, all else is a name
 abbrev pub kind_of_piece : List ℕ → Kind
@@ -35,4 +35,6 @@ Becomes from to = plains (plain_words_of (words_on 1 from)) ≡ plains (spelled 
 
 -- the same for each of these words, where it stands before the two texts
 abbrev pub BecomeBehind : List ℕ → List ℕ → List ℕ → Type 0
-BecomeBehind heads from to = map (λ h. plains (plain_words_of (words_on 1 (h ++ from)))) (pieces heads) ≡ map (λ h. plains (spelled (words_on 1 (h ++ to)))) (pieces heads)
+BecomeBehind heads from to =
+    map (λ h. plains (plain_words_of (words_on 1 (h ++ from)))) (pieces heads)
+    ≡ map (λ h. plains (spelled (words_on 1 (h ++ to)))) (pieces heads)

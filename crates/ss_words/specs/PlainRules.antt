@@ -55,7 +55,8 @@ is_governing _ = false
 abbrev pub governing : List Plain → Option Mark
 governing ws = option_and_then mark_in (find (λ w. is_governing (mark_in w)) ws)
 
--- what stands round a word, where it is a reserved word or a sign: directly before it, as its governing word, directly behind it
+-- what stands round a word, each where it is a reserved word or a sign: what is directly before it, its governing word,
+-- and what is directly behind it
 pub record Surroundings : Type 0 where
   pub before : Option Mark
   pub governing : Option Mark
@@ -113,8 +114,8 @@ as_follows a (Reserved r.As) = Some (Reserved (if is_follows a.behind then r.Thu
 as_follows a (Reserved r.Follows) = if is_as a.before then None else Some (Reserved r.Follows)
 as_follows a m = Some m
 
--- directly behind SCHEDULE, A and AN are A, THE and THIS are THE; elsewhere these four are dropped, and everywhere MAY, OUTPUT,
--- and TO or FOR directly behind ROUTINE
+-- directly behind SCHEDULE, A and AN are A, THE and THIS are THE; elsewhere these four are dropped, and everywhere MAY,
+-- OUTPUT, and TO or FOR directly behind ROUTINE
 abbrev pub without_fillers : PlainRule
 without_fillers a (Reserved r.A) = if is_schedule a.before then Some (Reserved r.A) else None
 without_fillers a (Reserved r.An) = if is_schedule a.before then Some (Reserved r.A) else None

@@ -50,7 +50,10 @@ skip p = λ ws. p (rest_of ws)
 -- one item after the other, at most so many, until there is none
 unfoldable pub many_from : {A B : Type 0} → Reading (Option A) → B → (A → B → B) → ℕ → Reading B
 many_from item none one zero = pure none
-many_from item none one (suc n) = item >>= λ o. elim o [ Some a ↦ (many_from item none one n >>= λ b. pure (one a b)) | None ↦ pure none ]
+many_from item none one (suc n) = item >>= λ o. elim o [
+  | Some a ↦ (many_from item none one n >>= λ b. pure (one a b))
+  | None ↦ pure none
+]
 
 -- the same; there are no more items than words
 unfoldable pub many : {A B : Type 0} → Reading (Option A) → B → (A → B → B) → Reading B
@@ -80,7 +83,7 @@ Fails Unexpected ws read = read ≡ (Err Unexpected, ws)
 Fails PastLimit ws read = read ≡ (Err PastLimit, ws)
 Fails Memory ws read = Unit {0}
 
--- what a function answered, seen by view, and the words that it left are what a reading gives, unless memory was refused
+-- what a function answered, seen by view, and the words that it left are what a reading gives, unless memory is refused
 abbrev pub Gives : {X Y : Type 0} → (X → Y) → Result X Refusal → List Plain → Read Y → Type 0
 Gives view (Ok x) ws read = read ≡ (Ok (view x), ws)
 Gives view (Err e) ws read = Fails e ws read

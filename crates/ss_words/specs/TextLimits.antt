@@ -8,8 +8,8 @@ use Rattle.ss_words.specs.TextBytes.{in_run}
 use Rattle.ss_words.specs.TextRuns.{without_stops, has_letter}
 use Rattle.ss_words.specs.TextWords.{words_of}
 
--- a name is a run of letters, digits and stops that is not too long, with a letter, in upper case and without a stop at its
--- end; a number is not too large; a picture has at least one line, not too many, and each is not too long
+-- a name is a run of letters, digits and stops that is not too long, with a letter, in upper case and without a stop
+-- at its end; a number is not too large; a picture has at least one line, not too many, and each is not too long
 abbrev pub KeepsLimits : Kind → Type 0
 KeepsLimits (name n) =
     (1 ≤ length n) × (length n ≤ LONGEST_RUN) × (list_all in_run n ≡ true) × (has_letter n ≡ true)

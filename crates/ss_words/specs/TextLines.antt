@@ -18,8 +18,8 @@ without_empty_last ((b ∷ bs) ∷ []) = (b ∷ bs) ∷ []
 without_empty_last (l ∷ m ∷ ls) = l ∷ without_empty_last (m ∷ ls)
 
 -- the lines of a text: the pieces between line feeds
-unfoldable pub lines_of : List ℕ → List (List ℕ)
-lines_of text = without_empty_last (map without_return (slice_split (λ b. b == LINE_FEED) text))
+unfoldable pub text_lines : List ℕ → List (List ℕ)
+text_lines text = without_empty_last (map without_return (slice_split (λ b. b == LINE_FEED) text))
 
 -- a line with its comments made blank, where two quotes begin or end one; it begins inside one or not
 unfoldable pub blanked : Bool → List ℕ → List ℕ

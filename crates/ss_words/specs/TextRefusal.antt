@@ -1,19 +1,19 @@
--- At which places of a text which rules are broken, and where a text is refused. The places of a text are the bytes of its
--- lines, counted from 0 over all lines.
-use Rattle.std.specs.Prelude.{◌≡◌, ◌≤◌, ◌<◌, ℕ, zero, suc, ◌+◌, false, List, [], ◌∷◌, ◌++◌, map, length, Contains, Ok, Err}
+-- At which places of a text which rules are broken, and where a text is refused. The places of a text are the bytes of
+-- its lines, counted from 0 over all lines.
+use Rattle.std.specs.Prelude.{◌≡◌, ◌≤◌, ◌<◌, ℕ, zero, suc, ◌+◌, false, List, [], ◌∷◌, ◌++◌, map, length, sum_by, Contains, Ok, Err}
 use Rattle.ss_words.specs.declared.characters.TheConstants.{BLANK}
 use Rattle.ss_words.specs.declared.fault.TextRule.{TextRule}
 use Rattle.ss_words.specs.declared.fault.TextFault.{TextFault}
 use Rattle.ss_words.specs.declared.fault.TextFault.TheVariants.{Refused}
 use Rattle.ss_words.specs.Words.{Kind, WordAt}
-use Rattle.ss_words.specs.TextLines.{blanked, lines_of}
+use Rattle.ss_words.specs.TextLines.{blanked, text_lines}
 use Rattle.ss_words.specs.TextWords.{breaches_in, nearest_first, found_at, found_in_line, picture_byte, picture_head}
 use Rattle.ss_words.specs.TextWords.{picture_size, picture_found, words_of}
 use Rattle.ss_words.specs.TextOrder.{rule_number}
 
 -- a line of number n outside pictures, with so many lines below it
 module _ (n below : ℕ) where
-  -- the breaches at each of its places from one on; `last` is the byte before it, `plain` the line with comments made blank
+  -- the breaches at each of its places from one on; `last` is the byte before it, `plain` has the comments made blank
   unfoldable pub breaches_from_place : List Kind → ℕ → List ℕ → List ℕ → List (List TextFault)
   breaches_from_place before last [] plain = []
   breaches_from_place before last (b ∷ bs) [] = []
@@ -39,7 +39,7 @@ breaches_from_line before n zero (l ∷ ls) =
 
 -- the breaches at each place of a text
 unfoldable pub breaches_by_place : List ℕ → List (List TextFault)
-breaches_by_place text = breaches_from_line [] 1 0 (lines_of text)
+breaches_by_place text = breaches_from_line [] 1 0 (text_lines text)
 
 -- what stands at place i, and nothing behind the last place
 abbrev pub at_place : List (List TextFault) → ℕ → List TextFault
@@ -47,24 +47,32 @@ at_place [] i = []
 at_place (fs ∷ rest) zero = fs
 at_place (fs ∷ rest) (suc i) = at_place rest i
 
+-- a text has as many places as its lines have bytes
+abbrev pub PlacesAreBytes : Type 0
+PlacesAreBytes = (text : List ℕ) → length (breaches_by_place text) ≡ sum_by length (text_lines text)
+
 -- rule r is broken at place i of a text, on line n
 abbrev pub IsBroken : List ℕ → ℕ → TextRule → ℕ → Type 0
 IsBroken text i r n = Contains (at_place (breaches_by_place text) i) (Refused r n)
 
--- a text is refused at place i by rule r on line n: r is broken there, no rule at an earlier place, and none of a lower number there
+-- a text is refused at place i by rule r on line n: r is broken there, no rule at an earlier place, no lower one there
 pub record IsRefusedAt (text : List ℕ) (i : ℕ) (r : TextRule) (n : ℕ) : Type 0 where
   pub broken : IsBroken text i r n
   pub none_earlier : (j : ℕ) (q : TextRule) (m : ℕ) → j < i → IsBroken text j q m → ⊥
   pub none_lower : (q : TextRule) (m : ℕ) → IsBroken text i q m → rule_number r ≤ rule_number q
 
--- a text has no words for this rule exactly where it is refused by it
+-- where the answer is a refusal, it has its place
 abbrev pub RefusalHasAPlace : Type 0
-RefusalHasAPlace = (text : List ℕ) (r : TextRule) (n : ℕ) → words_of text ≡ Err (Refused r n) → (i : ℕ) × IsRefusedAt text i r n
+RefusalHasAPlace =
+    (text : List ℕ) (r : TextRule) (n : ℕ) → words_of text ≡ Err (Refused r n) → (i : ℕ) × IsRefusedAt text i r n
 
 -- where a text is refused by a rule, that rule and its line are the answer
 abbrev pub RefusalIsAnswered : Type 0
-RefusalIsAnswered = (text : List ℕ) (i : ℕ) (r : TextRule) (n : ℕ) → IsRefusedAt text i r n → words_of text ≡ Err (Refused r n)
+RefusalIsAnswered =
+    (text : List ℕ) (i : ℕ) (r : TextRule) (n : ℕ) → IsRefusedAt text i r n → words_of text ≡ Err (Refused r n)
 
 -- in a text that has words no rule is broken
 abbrev pub WordsBreakNoRule : Type 0
-WordsBreakNoRule = (text : List ℕ) (ws : List WordAt) → words_of text ≡ Ok ws → (i : ℕ) (r : TextRule) (n : ℕ) → IsBroken text i r n → ⊥
+WordsBreakNoRule =
+    (text : List ℕ) (ws : List WordAt) → words_of text ≡ Ok ws →
+    (i : ℕ) (r : TextRule) (n : ℕ) → IsBroken text i r n → ⊥

@@ -27,7 +27,8 @@ is_bad_number run = not (has_letter run) && (list_any (λ b. b == STOP) run || n
 -- the word that a run is when the stops at its end are dropped
 unfoldable pub word_of_run : List ℕ → Option Kind
 word_of_run [] = None
-word_of_run (b ∷ bs) = Some (if has_letter (b ∷ bs) then name (map to_ascii_uppercase (b ∷ bs)) else number (number_of (b ∷ bs)))
+word_of_run (b ∷ bs) =
+    Some (if has_letter (b ∷ bs) then name (map to_ascii_uppercase (b ∷ bs)) else number (number_of (b ∷ bs)))
 
 -- a word is this name
 unfoldable pub is_name : List ℕ → Kind → Bool
@@ -68,6 +69,6 @@ abbrev pub is_met : Option ℕ → ℕ → Bool
 is_met None below = false
 is_met (Some n) below = nat_le n below
 
--- the words call a picture, and it is not there: the rest of the line is not bare, its count is not said, or lines are missing
+-- the words call a picture, and it is not there: the rest of the line is not bare, no count is said, or lines lack
 unfoldable pub lacks_picture : List Kind → List ℕ → ℕ → Bool
 lacks_picture words rest below = calls_picture words && not (is_bare rest && is_met (picture_lines words) below)

@@ -4,31 +4,31 @@ use Rattle.ss_words.specs.declared.characters.TheConstants.{QUOTE}
 use Rattle.ss_words.specs.declared.fault.TextFault.{TextFault}
 use Rattle.ss_words.specs.declared.fault.TextFault.TheVariants.{Refused, Memory}
 use Rattle.ss_words.specs.Words.{Kind, WordAt}
-use Rattle.ss_words.specs.TextLines.{lines_of}
+use Rattle.ss_words.specs.TextLines.{text_lines}
 use Rattle.ss_words.specs.TextRuns.{is_name, ends_in, calls_picture, line_count, picture_lines}
-use Rattle.ss_words.specs.TextWords.{Found, word, breach, nearest_first, picture_found, picture_size, found_from_line, found_in_line}
+use Rattle.ss_words.specs.TextWords.{Finding, word, breach, nearest_first, picture_found, picture_size, found_from_line, found_in_line}
 
 -- the words, the nearest first, in front of those before them
-abbrev pub nearest_onto : List WordAt → List Kind → List Kind
-nearest_onto [] before = before
-nearest_onto (w ∷ ws) before = nearest_onto ws (w.kind ∷ before)
+abbrev pub nearest_before : List WordAt → List Kind → List Kind
+nearest_before [] before = before
+nearest_before (w ∷ ws) before = nearest_before ws (w.kind ∷ before)
 
 -- the words, the nearest first
 unfoldable pub nearest : List WordAt → List Kind
-nearest ws = nearest_onto ws []
+nearest ws = nearest_before ws []
 
 -- what was found before and what is still to be found are together the same before and after
-abbrev pub Goes : List WordAt → List Found → List WordAt → List Found → Type 0
-Goes old todo new left = map word old ++ todo ≡ map word new ++ left
+abbrev pub SameFindings : List WordAt → List Finding → List WordAt → List Finding → Type 0
+SameFindings old todo new left = map word old ++ todo ≡ map word new ++ left
 
 -- the first rule that is broken, with its line
-abbrev pub first_breach : List Found → Option TextFault
+abbrev pub first_breach : List Finding → Option TextFault
 first_breach [] = None
 first_breach (word w ∷ fs) = first_breach fs
 first_breach (breach r n ∷ fs) = Some (Refused r n)
 
 -- the fault is the first breach among what is still to be found, or memory was refused
-abbrev pub IsFirstIn : TextFault → List Found → Type 0
+abbrev pub IsFirstIn : TextFault → List Finding → Type 0
 IsFirstIn Memory todo = Unit {0}
 IsFirstIn (Refused r n) todo = first_breach todo ≡ Some (Refused r n)
 
@@ -57,14 +57,15 @@ called_after k behind_as = is_name (codes "THUS") k || (is_name (codes "FOLLOWS"
 
 -- the count of lines that is kept, once a word joins the words
 abbrev pub count_after : Kind → Bool → Option ℕ → Option ℕ
-count_after k behind_print count = if is_name (codes "PRINT") k then None else (if behind_print then line_count (Some k) else count)
+count_after k behind_print count =
+    if is_name (codes "PRINT") k then None else (if behind_print then line_count (Some k) else count)
 
 -- what is found below a line: the picture that the words call, if they call one, and the lines from line n on
-abbrev pub found_below : List Kind → ℕ → List (List ℕ) → List Found
+abbrev pub found_below : List Kind → ℕ → List (List ℕ) → List Finding
 found_below words n ls =
     let drawn = picture_found (picture_size words) n ls in
     drawn ++ found_from_line (nearest_first drawn words) n (picture_size words) ls
 
 -- what is found in the rest of a line, with the text below it and the words before it
-abbrev pub left_in_line : ℕ → List ℕ → List WordAt → List ℕ → List Found
-left_in_line n below words rest = found_in_line n (length (lines_of below)) (nearest words) rest
+abbrev pub left_in_line : ℕ → List ℕ → List WordAt → List ℕ → List Finding
+left_in_line n below words rest = found_in_line n (length (text_lines below)) (nearest words) rest

@@ -9,71 +9,76 @@ use Rattle.ss_words.specs.declared.fault.TextFault.{TextFault}
 use Rattle.ss_words.specs.declared.fault.TextFault.TheVariants.{Refused, Memory}
 use Rattle.ss_words.specs.Words.{Kind, sign, picture, WordAt}
 use Rattle.ss_words.specs.TextBytes.{in_run, is_allowed, is_joined, is_stray, sign_from}
-use Rattle.ss_words.specs.TextLines.{blanked, lines_of}
+use Rattle.ss_words.specs.TextLines.{blanked, text_lines}
 use Rattle.ss_words.specs.TextRuns.{without_stops, is_bad_number, word_of_run, calls_picture, picture_lines, lacks_picture}
 
 -- what is found at a place: a word that begins there, or a rule that is broken there, with its line
-pub data Found : Type 0 where
-  word : WordAt → Found
-  breach : TextRule → ℕ → Found
+pub data Finding : Type 0 where
+  word : WordAt → Finding
+  breach : TextRule → ℕ → Finding
 
 -- a word on a line
 abbrev pub on_line : ℕ → Kind → WordAt
 on_line n k = record { line = n; kind = k }
 
 -- the words among what is found
-abbrev pub words_in : List Found → List WordAt
+abbrev pub words_in : List Finding → List WordAt
 words_in [] = []
 words_in (word w ∷ fs) = w ∷ words_in fs
 words_in (breach r n ∷ fs) = words_in fs
 
 -- the breaches among what is found
-abbrev pub breaches_in : List Found → List TextFault
+abbrev pub breaches_in : List Finding → List TextFault
 breaches_in [] = []
 breaches_in (word w ∷ fs) = breaches_in fs
 breaches_in (breach r n ∷ fs) = Refused r n ∷ breaches_in fs
 
 -- the words before a place, the nearest first, once these are found
-abbrev pub nearest_first : List Found → List Kind → List Kind
+abbrev pub nearest_first : List Finding → List Kind → List Kind
 nearest_first [] before = before
 nearest_first (word w ∷ fs) before = nearest_first fs (w.kind ∷ before)
 nearest_first (breach r n ∷ fs) before = nearest_first fs before
 
 -- a rule that is broken or not, at a line
-abbrev pub broken : TextRule → ℕ → Bool → List Found
+abbrev pub broken : TextRule → ℕ → Bool → List Finding
 broken r n b = if b then breach r n ∷ [] else []
 
 -- the sign that begins at a place, if one does
-abbrev pub sign_found : ℕ → Option Sign → List Found
+abbrev pub sign_found : ℕ → Option Sign → List Finding
 sign_found n None = []
 sign_found n (Some g) = word (on_line n (sign g)) ∷ []
 
 -- a line of number n with so many lines below it
 module _ (n below : ℕ) where
   -- the word of a run, if it is one, behind the words before it and in front of the rest of its line
-  abbrev pub word_found : List Kind → List ℕ → Option Kind → List Found
+  abbrev pub word_found : List Kind → List ℕ → Option Kind → List Finding
   word_found before rest None = []
-  word_found before rest (Some k) = broken NoPicture n (lacks_picture (k ∷ before) rest below) ++ word (on_line n k) ∷ []
+  word_found before rest (Some k) =
+      broken NoPicture n (lacks_picture (k ∷ before) rest below) ++ word (on_line n k) ∷ []
 
   -- the rules that a run breaks, the lowest number first, and its word
-  unfoldable pub run_found : List Kind → List ℕ → List ℕ → List Found
+  unfoldable pub run_found : List Kind → List ℕ → List ℕ → List Finding
   run_found before rest run =
       broken BadNumber n (is_bad_number (without_stops run))
       ++ broken LongRun n (nat_lt LONGEST_RUN (length run))
       ++ word_found before rest (word_of_run (without_stops run))
 
   -- what begins at a place that is not joined to the byte before it; `plain` is the line with comments made blank
-  unfoldable pub begun_at : List Kind → List ℕ → List ℕ → List Found
+  unfoldable pub begun_at : List Kind → List ℕ → List ℕ → List Finding
   begun_at before line plain =
-      elim (in_run (slice_index plain 0)) [ true ↦ run_found before (drop (length (take_while in_run plain)) line) (take_while in_run plain) | false ↦ sign_found n (sign_from (slice_index plain 0) (slice_index plain 1)) ]
+      elim (in_run (slice_index plain 0)) [
+        | true ↦ run_found before (drop (length (take_while in_run plain)) line) (take_while in_run plain)
+        | false ↦ sign_found n (sign_from (slice_index plain 0) (slice_index plain 1))
+      ]
 
   -- what is found at a place, the lowest number first
-  unfoldable pub found_at : List Kind → ℕ → List ℕ → List ℕ → List Found
+  unfoldable pub found_at : List Kind → ℕ → List ℕ → List ℕ → List Finding
   found_at before last line plain =
-      broken StrayByte n (is_stray (slice_index line 0) (slice_index plain 0)) ++ (elim (is_joined last (slice_index plain 0)) [ true ↦ [] | false ↦ begun_at before line plain ])
+      broken StrayByte n (is_stray (slice_index line 0) (slice_index plain 0))
+      ++ (elim (is_joined last (slice_index plain 0)) [ true ↦ [] | false ↦ begun_at before line plain ])
 
   -- what is found at each place of a line from one on; `last` is the byte before it
-  unfoldable pub found_from_place : List Kind → ℕ → List ℕ → List ℕ → List Found
+  unfoldable pub found_from_place : List Kind → ℕ → List ℕ → List ℕ → List Finding
   found_from_place before last [] plain = []
   found_from_place before last (b ∷ bs) [] = []
   found_from_place before last (b ∷ bs) (p ∷ ps) =
@@ -81,33 +86,36 @@ module _ (n below : ℕ) where
       here ++ found_from_place (nearest_first here before) p bs ps
 
   -- what is found in a line outside pictures
-  abbrev pub found_in_line : List Kind → List ℕ → List Found
+  abbrev pub found_in_line : List Kind → List ℕ → List Finding
   found_in_line before line = found_from_place before BLANK line (blanked false line)
 
 -- a byte of line n of a picture
-abbrev pub picture_byte : ℕ → ℕ → List Found
+abbrev pub picture_byte : ℕ → ℕ → List Finding
 picture_byte n b = broken StrayByte n (not (is_allowed b))
 
 -- what is found at the first byte of line n of a picture, with the bytes behind it, the lowest number first
-abbrev pub picture_head : ℕ → ℕ → List ℕ → List Found
+abbrev pub picture_head : ℕ → ℕ → List ℕ → List Finding
 picture_head n b bs = picture_byte n b ++ broken LongPictureLine n (nat_lt LONGEST_PICTURE_LINE (length (b ∷ bs)))
 
 -- what is found in line n of a picture
-unfoldable pub found_in_picture : ℕ → List ℕ → List Found
+unfoldable pub found_in_picture : ℕ → List ℕ → List Finding
 found_in_picture n [] = []
 found_in_picture n (b ∷ bs) = picture_head n b bs ++ flat_map (picture_byte n) bs
 
 -- how many of the lines below belong to a picture that these words call
 unfoldable pub picture_size : List Kind → ℕ
-picture_size words = elim (calls_picture words) [ true ↦ (elim (picture_lines words) [ None ↦ 0 | Some k ↦ k ]) | false ↦ 0 ]
+picture_size words = elim (calls_picture words) [
+  | true ↦ (elim (picture_lines words) [ None ↦ 0 | Some k ↦ k ])
+  | false ↦ 0
+]
 
 -- the picture of so many lines, the first of number n
-abbrev pub picture_found : ℕ → ℕ → List (List ℕ) → List Found
+abbrev pub picture_found : ℕ → ℕ → List (List ℕ) → List Finding
 picture_found zero n lines = []
 picture_found (suc k) n lines = word (on_line n (picture (take (suc k) lines))) ∷ []
 
 -- what is found in the lines from line n on, where so many of them belong to the picture before
-unfoldable pub found_from_line : List Kind → ℕ → ℕ → List (List ℕ) → List Found
+unfoldable pub found_from_line : List Kind → ℕ → ℕ → List (List ℕ) → List Finding
 found_from_line before n zero [] = []
 found_from_line before n (suc k) [] = []
 found_from_line before n (suc k) (l ∷ ls) = found_in_picture n l ++ found_from_line before (n + 1) k ls
@@ -118,11 +126,11 @@ found_from_line before n zero (l ∷ ls) =
     here ++ (drawn ++ found_from_line (nearest_first drawn now) (n + 1) (picture_size now) ls)
 
 -- all that is found in a text, in the order of its places
-unfoldable pub found_in_text : List ℕ → List Found
-found_in_text text = found_from_line [] 1 0 (lines_of text)
+unfoldable pub found_in_text : List ℕ → List Finding
+found_in_text text = found_from_line [] 1 0 (text_lines text)
 
 -- the words where nothing is broken, and else the first breach
-unfoldable pub answer_of : List Found → Result (List WordAt) TextFault
+unfoldable pub answer_of : List Finding → Result (List WordAt) TextFault
 answer_of fs = elim (breaches_in fs) [ [] ↦ Ok (words_in fs) | b ∷ bs ↦ Err b ]
 
 -- the words of a text: its list of words, or its refusal

@@ -24,5 +24,6 @@ kind_of (w.Number n) = number n
 kind_of (w.Sign s) = sign s
 kind_of (w.Picture ls) = picture (map (λ l. l.items) ls.items)
 
+-- a word of the code
 abbrev pub word_at : Word → WordAt
 word_at a = record { line = a.line; kind = kind_of a.kind }

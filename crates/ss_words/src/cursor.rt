@@ -1,3 +1,6 @@
+//! The cursor over plain words from which a parser reads.
+#![tactic(auto, using(crate::proofs::Marks::taken), unfolding(crate::specs::Reading::look, crate::specs::Reading::skip, crate::specs::Reading::pure, crate::specs::Reading::refuse, crate::specs::Marks::expect, crate::specs::Marks::eat, crate::specs::Marks::a_name, crate::specs::Marks::a_number, crate::specs::Marks::a_picture))]
+
 ghost use Rattle.std.specs.Prelude.{IfOk, IfErr, OnErr, IsTrue, length, map, option_map, option_copied, ◌≡◌, ◌==◌, ◌≤◌, ◌<◌, ◌-◌, Ok, Some};
 ghost use Rattle.ss_words.specs.declared.refusal.Refusal.TheVariants.{Unexpected};
 ghost use Rattle.ss_words.specs.Reading.{Gives, rest_of};
@@ -12,8 +15,8 @@ use crate::refusal::Refusal;
 use std::alloc::Global;
 use std::marker::Model;
 
-/// The plain words that are still to be read. A call that refuses passes nothing, so the word that was refused is then the
-/// next one.
+/// The plain words that are still to be read. A call that refuses passes nothing, so the word that
+/// was refused is then the next one.
 #[derive(Drop)]
 pub struct Cursor<'a> {
     alloc: Global,
@@ -87,7 +90,6 @@ impl<'a> Cursor<'a> {
     }
 
     /// Passes this mark. `Unexpected` where another word or none stands in its place.
-    #[tactic(auto, using(crate::proofs::Marks::taken), unfolding(crate::specs::Reading::look, crate::specs::Reading::skip, crate::specs::Reading::pure, crate::specs::Reading::refuse, crate::specs::Marks::expect))]
     pub fn expect(&mut self, mark: Mark) -> Result<(), Refusal>
         ensures exact { Gives (λ x. tt) result self.new (marks.expect mark self.old) }
         // No memory is taken, so no other refusal; of `Memory` `exact` says nothing.
@@ -103,7 +105,6 @@ impl<'a> Cursor<'a> {
     }
 
     /// Whether the next word is this mark, which is then passed.
-    #[tactic(auto, using(crate::proofs::Marks::taken), unfolding(crate::specs::Reading::look, crate::specs::Reading::skip, crate::specs::Reading::pure, crate::specs::Marks::eat))]
     pub fn eat(&mut self, mark: Mark) -> bool
         ensures exact { marks.eat mark self.old ≡ (Ok result, self.new) }
         ensures shorter { length self.new ≤ length self.old }
@@ -116,9 +117,8 @@ impl<'a> Cursor<'a> {
         found
     }
 
-    /// Passes a name and gives a copy of it. `Unexpected` where the next word is no name or none is left, `Memory` where the
-    /// memory for the copy was refused.
-    #[tactic(auto, unfolding(crate::specs::Reading::look, crate::specs::Reading::skip, crate::specs::Reading::pure, crate::specs::Reading::refuse, crate::specs::Marks::a_name))]
+    /// Passes a name and gives a copy of it. `Unexpected` where the next word is no name or none is
+    /// left, `Memory` where the memory for the copy was refused.
     pub fn name(&mut self) -> Result<Vec<u8>, Refusal>
         ensures exact { Gives (λ v. v.items) result self.new (marks.a_name self.old) }
         // Also where memory is refused, of which `exact` says nothing.
@@ -135,7 +135,6 @@ impl<'a> Cursor<'a> {
     }
 
     /// Passes a number. `Unexpected` where the next word is no number or none is left.
-    #[tactic(auto, unfolding(crate::specs::Reading::look, crate::specs::Reading::skip, crate::specs::Reading::pure, crate::specs::Reading::refuse, crate::specs::Marks::a_number))]
     pub fn number(&mut self) -> Result<u64, Refusal>
         ensures exact { Gives (λ n. n) result self.new (marks.a_number self.old) }
         // No memory is taken, so no other refusal; of `Memory` `exact` says nothing.
@@ -150,9 +149,8 @@ impl<'a> Cursor<'a> {
         Ok(*number)
     }
 
-    /// Passes a picture and gives a copy of its lines. `Unexpected` where the next word is no picture or none is left,
-    /// `Memory` where the memory for the copy was refused.
-    #[tactic(auto, unfolding(crate::specs::Reading::look, crate::specs::Reading::skip, crate::specs::Reading::pure, crate::specs::Reading::refuse, crate::specs::Marks::a_picture))]
+    /// Passes a picture and gives a copy of its lines. `Unexpected` where the next word is no
+    /// picture or none is left, `Memory` where the memory for the copy was refused.
     pub fn picture(&mut self) -> Result<Vec<Vec<u8>>, Refusal>
         ensures exact { Gives (λ v. map (λ l. l.items) v.items) result self.new (marks.a_picture self.old) }
         // Also where memory is refused, of which `exact` says nothing.
@@ -168,7 +166,8 @@ impl<'a> Cursor<'a> {
         Ok(lines)
     }
 
-    /// The line of the next word, from 1, where the words that are left are the last ones of `text`; 0 where none is left.
+    /// The line of the next word, from 1, where the words that are left are the last ones of
+    /// `text`; 0 where none is left.
     pub fn line(&self, text: &[PlainWord]) -> usize
         ensures { result ≡ line (word_lines text.now) (length text.now - length self.now) }
     {

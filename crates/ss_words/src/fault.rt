@@ -76,7 +76,8 @@ impl<T: Drop> From<AllocFailed<T>> for TextFault {
     }
 }
 
-/// What stops a run: the place stays, and the status keeps the fault (docs/LANGUAGE.md, "Run faults").
+/// What stops a run: the place stays, and the status keeps the fault (docs/LANGUAGE.md, "Run
+/// faults").
 #[derive(Clone, Copy, Debug, Drop, PartialEq, Eq, Error)]
 pub enum RunFault {
     #[error("a value out of range")]

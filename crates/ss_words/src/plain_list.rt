@@ -13,8 +13,8 @@ use crate::spelling::reserved;
 use crate::word::{WordKind, Words};
 use std::alloc::{AllocError, Global};
 
-/// The plain words of the words of a text (docs/LANGUAGE.md, "Plain words"). The words are left as they are. The only
-/// error is that memory was refused.
+/// The plain words of the words of a text (docs/LANGUAGE.md, "Plain words"). The words are left
+/// as they are. The only error is that memory was refused.
 pub fn plain_words(alloc: Global, words: &Words) -> Result<Vec<PlainWord>, AllocError>
     ensures { IfOk result (λ plain. map plain_at plain.items ≡ plain_words_of words.now) }
 {
@@ -112,7 +112,8 @@ fn keep(
     around: Around,
     word: PlainWord,
 ) -> Result<(), AllocError>
-    ensures { IfOk result (λ _. map plain_at kept.new.items ≡ map plain_at kept.old.items ++ ruled_word (rule_of rule) (surroundings_of around) (plain_at word)) }
+    ensures { IfOk result (λ _. map plain_at kept.new.items ≡ map plain_at kept.old.items
+        ++ ruled_word (rule_of rule) (surroundings_of around) (plain_at word)) }
 {
     let PlainWord { line, index, kind } = word;
     let kind = match kind {

@@ -1,4 +1,5 @@
-//! The rules by which the plain words come from the words, each on one word and what stands round it.
+//! The rules by which the plain words come from the words, each on one word and what stands round
+//! it.
 ghost use Rattle.std.specs.Prelude.{◌≡◌, if◌then◌else◌};
 ghost use Rattle.ss_words.specs.PlainRules as spec;
 ghost use Rattle.ss_words.specs.PlainRulesView.{surroundings_of};
@@ -7,7 +8,8 @@ use crate::mark::Mark;
 use crate::reserved::Reserved;
 use crate::word::Sign;
 
-/// What stands round a word: its neighbours, where they are reserved words or signs, and its governing word.
+/// What stands round a word: its neighbours, where they are reserved words or signs, and its
+/// governing word.
 #[derive(Clone, Copy, Debug)]
 pub struct Around {
     pub before: Option<Mark>,

@@ -29,7 +29,8 @@ impl Plain {
     }
 }
 
-/// A plain word, the line on which it stands, from 1, and the place of the word from which it comes in the list of words, from 0.
+/// A plain word, the line on which it stands, from 1, and the place of the word from which it
+/// comes in the list of words, from 0.
 #[derive(Debug, Drop)]
 pub struct PlainWord {
     pub line: usize,

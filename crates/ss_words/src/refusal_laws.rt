@@ -1,8 +1,8 @@
 //! Laws on the definitions. Each function does nothing, and its contract says the law.
-ghost use Rattle.ss_words.specs.TextRefusal.{RefusalHasAPlace, RefusalIsAnswered, WordsBreakNoRule};
+ghost use Rattle.ss_words.specs.TextRefusal.{RefusalHasAPlace, RefusalIsAnswered, WordsBreakNoRule, PlacesAreBytes};
 
-/// Where a text is refused by a rule, there is the place of the refusal: the rule is broken there, no rule is broken at an
-/// earlier place, and none of a lower number there.
+/// Where a text is refused by a rule, there is the place of the refusal: the rule is broken there,
+/// no rule is broken at an earlier place, and none of a lower number there.
 pub fn refusal_has_a_place()
     ensures { RefusalHasAPlace }
 {}
@@ -15,4 +15,9 @@ pub fn refusal_is_answered()
 /// Where a text has words, no rule is broken at any place.
 pub fn words_break_no_rule()
     ensures { WordsBreakNoRule }
+{}
+
+/// The places are the bytes of the text's lines.
+pub fn places_are_bytes()
+    ensures { PlacesAreBytes }
 {}

@@ -1,4 +1,5 @@
-/// A reserved word, one variant for all the spellings that mean the same (docs/LANGUAGE.md, "Plain words").
+/// A reserved word, one variant for all the spellings that mean the same (docs/LANGUAGE.md,
+/// "Plain words").
 #[derive(Clone, Copy, Debug, PartialEq, Eq)]
 pub enum Reserved {
     A,

@@ -7,8 +7,9 @@ use crate::mark::Mark;
 use crate::reserved::Reserved;
 use crate::word::Sign;
 
-/// Every spelling that no name may have, and the reserved word or sign that it means. Spellings that mean the same, as
-/// EVERY, EACH and ALL, have one mark. The definitions read this table too (specs/Spellings.antt).
+/// Every spelling that no name may have, and the reserved word or sign that it means. Spellings
+/// that mean the same, as EVERY, EACH and ALL, have one mark. The definitions read this table too
+/// (specs/Spellings.antt).
 pub const SPELLINGS: [(&[u8], Mark); 130] = [
     (b"A", Mark::Reserved(Reserved::A)),
     (b"AN", Mark::Reserved(Reserved::An)),
@@ -142,7 +143,8 @@ pub const SPELLINGS: [(&[u8], Mark); 130] = [
     (b"OUTPUT", Mark::Reserved(Reserved::Output)),
 ];
 
-/// What a name in upper case is reserved for; `None` where it is free (docs/LANGUAGE.md, "Plain words").
+/// What a name in upper case is reserved for; `None` where it is free (docs/LANGUAGE.md, "Plain
+/// words").
 #[tactic(auto, unfolding(crate::specs::Spellings::mark_of, crate::specs::Spellings::spellings))]
 pub fn reserved(name: &[u8]) -> Option<Mark>
     ensures { result ≡ mark_of name.now }

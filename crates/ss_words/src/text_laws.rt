@@ -1,7 +1,9 @@
-//! What the definition of a text's words gives on small texts: each function is a law, proved by computing.
-#![tactic(auto, unfolding(crate::specs::TextBytes::is_allowed, crate::specs::TextBytes::is_blank, crate::specs::TextBytes::in_run, crate::specs::TextBytes::one_byte_sign, crate::specs::TextBytes::sign_from, crate::specs::TextBytes::is_joined, crate::specs::TextBytes::is_stray, crate::specs::TextLines::without_return, crate::specs::TextLines::without_empty_last, crate::specs::TextLines::lines_of, crate::specs::TextLines::blanked, crate::specs::TextLines::comments, crate::specs::TextLines::is_bare, crate::specs::TextRuns::without_stops, crate::specs::TextRuns::number_of, crate::specs::TextRuns::is_bad_number, crate::specs::TextRuns::word_of_run, crate::specs::TextRuns::is_name, crate::specs::TextRuns::calls_picture, crate::specs::TextRuns::behind_print, crate::specs::TextRuns::line_count, crate::specs::TextRuns::lacks_picture, crate::specs::TextWords::run_found, crate::specs::TextWords::begun_at, crate::specs::TextWords::found_at, crate::specs::TextWords::found_from_place, crate::specs::TextWords::found_in_picture, crate::specs::TextWords::picture_size, crate::specs::TextWords::found_from_line, crate::specs::TextWords::found_in_text, crate::specs::TextWords::answer_of, crate::specs::TextWords::words_of))]
+//! What the definition of a text's words gives on small texts: each function is a law, proved by
+//! computing.
+#![tactic(auto, unfolding(crate::specs::TextBytes::is_allowed, crate::specs::TextBytes::is_blank, crate::specs::TextBytes::in_run, crate::specs::TextBytes::one_byte_sign, crate::specs::TextBytes::sign_from, crate::specs::TextBytes::is_joined, crate::specs::TextBytes::is_stray, crate::specs::TextLines::without_return, crate::specs::TextLines::without_empty_last, crate::specs::TextLines::text_lines, crate::specs::TextLines::blanked, crate::specs::TextLines::comments, crate::specs::TextLines::is_bare, crate::specs::TextRuns::without_stops, crate::specs::TextRuns::number_of, crate::specs::TextRuns::is_bad_number, crate::specs::TextRuns::word_of_run, crate::specs::TextRuns::is_name, crate::specs::TextRuns::calls_picture, crate::specs::TextRuns::behind_print, crate::specs::TextRuns::line_count, crate::specs::TextRuns::lacks_picture, crate::specs::TextWords::run_found, crate::specs::TextWords::begun_at, crate::specs::TextWords::found_at, crate::specs::TextWords::found_from_place, crate::specs::TextWords::found_in_picture, crate::specs::TextWords::picture_size, crate::specs::TextWords::found_from_line, crate::specs::TextWords::found_in_text, crate::specs::TextWords::answer_of, crate::specs::TextWords::words_of))]
 
 ghost use Rattle.std.specs.Prelude.{◌≡◌, [], ◌∷◌, ◌++◌, Ok, Err, codes, replicate};
+ghost use Rattle.ss_words.specs.declared.characters.TheConstants.{LINE_FEED, CARRIAGE_RETURN};
 ghost use Rattle.ss_words.specs.declared.fault.TextRule.TheVariants.{StrayByte, BadNumber, LongRun, NoPicture, LongPictureLine};
 ghost use Rattle.ss_words.specs.declared.fault.TextFault.TheVariants.{Refused};
 ghost use Rattle.ss_words.specs.declared.word.Sign.TheVariants.{LessEqual, Equal, Less};
@@ -47,15 +49,18 @@ fn a_lone_stop()
 {}
 
 fn signs_of_two_bytes()
-    ensures { words_of (codes "<==< =") ≡ Ok (on_line 1 (sign LessEqual) ∷ on_line 1 (sign Equal) ∷ on_line 1 (sign Less) ∷ on_line 1 (sign Equal) ∷ []) }
+    ensures { words_of (codes "<==< =") ≡ Ok (on_line 1 (sign LessEqual) ∷ on_line 1 (sign Equal)
+        ∷ on_line 1 (sign Less) ∷ on_line 1 (sign Equal) ∷ []) }
 {}
 
 fn a_comment_that_ends()
-    ensures { words_of (codes "a ''b" ++ 34 ∷ codes "'' c") ≡ Ok (on_line 1 (name (codes "A")) ∷ on_line 1 (name (codes "C")) ∷ []) }
+    ensures { words_of (codes "a ''b" ++ 34 ∷ codes "'' c") ≡ Ok (on_line 1 (name (codes "A"))
+        ∷ on_line 1 (name (codes "C")) ∷ []) }
 {}
 
 fn a_comment_to_the_lines_end()
-    ensures { words_of (codes "a ''b" ++ 10 ∷ codes "c") ≡ Ok (on_line 1 (name (codes "A")) ∷ on_line 2 (name (codes "C")) ∷ []) }
+    ensures { words_of (codes "a ''b" ++ LINE_FEED ∷ codes "c") ≡ Ok (on_line 1 (name (codes "A"))
+        ∷ on_line 2 (name (codes "C")) ∷ []) }
 {}
 
 fn a_comment_between_two_runs()
@@ -67,55 +72,65 @@ fn a_lone_quote()
 {}
 
 fn a_comment_behind_thus()
-    ensures { words_of (codes "print 1 lines thus ''a''" ++ 10 ∷ codes "''b") ≡ Ok (on_line 1 (name (codes "PRINT")) ∷ on_line 1 (number 1) ∷ on_line 1 (name (codes "LINES")) ∷ on_line 1 (name (codes "THUS")) ∷ on_line 2 (picture ((codes "''b") ∷ [])) ∷ []) }
+    ensures { words_of (codes "print 1 lines thus ''a''" ++ LINE_FEED ∷ codes "''b")
+        ≡ Ok (on_line 1 (name (codes "PRINT")) ∷ on_line 1 (number 1) ∷ on_line 1 (name (codes "LINES"))
+        ∷ on_line 1 (name (codes "THUS")) ∷ on_line 2 (picture ((codes "''b") ∷ [])) ∷ []) }
 {}
 
 fn an_open_comment_behind_thus()
-    ensures { words_of (codes "print 1 lines thus ''a" ++ 10 ∷ codes "b''") ≡ Ok (on_line 1 (name (codes "PRINT")) ∷ on_line 1 (number 1) ∷ on_line 1 (name (codes "LINES")) ∷ on_line 1 (name (codes "THUS")) ∷ on_line 2 (picture ((codes "b''") ∷ [])) ∷ []) }
+    ensures { words_of (codes "print 1 lines thus ''a" ++ LINE_FEED ∷ codes "b''")
+        ≡ Ok (on_line 1 (name (codes "PRINT")) ∷ on_line 1 (number 1) ∷ on_line 1 (name (codes "LINES"))
+        ∷ on_line 1 (name (codes "THUS")) ∷ on_line 2 (picture ((codes "b''") ∷ [])) ∷ []) }
 {}
 
 fn two_comments_behind_thus()
-    ensures { words_of (codes "print 1 lines thus ''a'' ''b''" ++ 10 ∷ codes "c") ≡ Err (Refused NoPicture 1) }
+    ensures { words_of (codes "print 1 lines thus ''a'' ''b''" ++ LINE_FEED ∷ codes "c") ≡ Err (Refused NoPicture 1) }
 {}
 
 fn a_word_behind_thus()
-    ensures { words_of (codes "print 1 lines thus a" ++ 10 ∷ codes "c") ≡ Err (Refused NoPicture 1) }
+    ensures { words_of (codes "print 1 lines thus a" ++ LINE_FEED ∷ codes "c") ≡ Err (Refused NoPicture 1) }
 {}
 
 fn a_stop_apart_behind_thus()
-    ensures { words_of (codes "print 1 lines thus ." ++ 10 ∷ codes "c") ≡ Err (Refused NoPicture 1) }
+    ensures { words_of (codes "print 1 lines thus ." ++ LINE_FEED ∷ codes "c") ≡ Err (Refused NoPicture 1) }
 {}
 
 fn stops_of_thus()
-    ensures { words_of (codes "print 1 thus.." ++ 10 ∷ codes "c") ≡ Ok (on_line 1 (name (codes "PRINT")) ∷ on_line 1 (number 1) ∷ on_line 1 (name (codes "THUS")) ∷ on_line 2 (picture ((codes "c") ∷ [])) ∷ []) }
+    ensures { words_of (codes "print 1 thus.." ++ LINE_FEED ∷ codes "c")
+        ≡ Ok (on_line 1 (name (codes "PRINT")) ∷ on_line 1 (number 1) ∷ on_line 1 (name (codes "THUS"))
+        ∷ on_line 2 (picture ((codes "c") ∷ [])) ∷ []) }
 {}
 
 fn a_carriage_return_before_a_line_feed()
-    ensures { words_of (codes "a" ++ 13 ∷ 10 ∷ codes "b") ≡ Ok (on_line 1 (name (codes "A")) ∷ on_line 2 (name (codes "B")) ∷ []) }
+    ensures { words_of (codes "a" ++ CARRIAGE_RETURN ∷ LINE_FEED ∷ codes "b")
+        ≡ Ok (on_line 1 (name (codes "A")) ∷ on_line 2 (name (codes "B")) ∷ []) }
 {}
 
 fn a_carriage_return_at_the_end()
-    ensures { words_of (codes "a" ++ 13 ∷ []) ≡ Ok (on_line 1 (name (codes "A")) ∷ []) }
+    ensures { words_of (codes "a" ++ CARRIAGE_RETURN ∷ []) ≡ Ok (on_line 1 (name (codes "A")) ∷ []) }
 {}
 
 fn a_carriage_return_elsewhere()
-    ensures { words_of (codes "a" ++ 13 ∷ codes "b") ≡ Err (Refused StrayByte 1) }
+    ensures { words_of (codes "a" ++ CARRIAGE_RETURN ∷ codes "b") ≡ Err (Refused StrayByte 1) }
 {}
 
 fn two_carriage_returns()
-    ensures { words_of (codes "a" ++ 10 ∷ 13 ∷ 13 ∷ 10 ∷ codes "b") ≡ Err (Refused StrayByte 2) }
+    ensures { words_of (codes "a" ++ LINE_FEED ∷ CARRIAGE_RETURN ∷ CARRIAGE_RETURN ∷ LINE_FEED
+        ∷ codes "b") ≡ Err (Refused StrayByte 2) }
 {}
 
 fn no_line_behind_the_last_line_feed()
-    ensures { words_of (codes "print 1 thus" ++ 10 ∷ 13 ∷ []) ≡ Err (Refused NoPicture 1) }
+    ensures { words_of (codes "print 1 thus" ++ LINE_FEED ∷ CARRIAGE_RETURN ∷ []) ≡ Err (Refused NoPicture 1) }
 {}
 
 fn an_empty_picture_line()
-    ensures { words_of (codes "print 1 thus" ++ 10 ∷ 10 ∷ []) ≡ Ok (on_line 1 (name (codes "PRINT")) ∷ on_line 1 (number 1) ∷ on_line 1 (name (codes "THUS")) ∷ on_line 2 (picture ([] ∷ [])) ∷ []) }
+    ensures { words_of (codes "print 1 thus" ++ LINE_FEED ∷ LINE_FEED ∷ [])
+        ≡ Ok (on_line 1 (name (codes "PRINT")) ∷ on_line 1 (number 1) ∷ on_line 1 (name (codes "THUS"))
+        ∷ on_line 2 (picture ([] ∷ [])) ∷ []) }
 {}
 
 fn a_byte_past_ascii()
-    ensures { words_of (codes "a" ++ 10 ∷ 128 ∷ []) ≡ Err (Refused StrayByte 2) }
+    ensures { words_of (codes "a" ++ LINE_FEED ∷ 128 ∷ []) ≡ Err (Refused StrayByte 2) }
 {}
 
 fn a_byte_past_ascii_in_a_comment()
@@ -123,7 +138,10 @@ fn a_byte_past_ascii_in_a_comment()
 {}
 
 fn as_and_follows_on_two_lines()
-    ensures { words_of (codes "print 2 as" ++ 10 ∷ codes "follows" ++ 10 ∷ codes " a" ++ 10 ∷ codes "b" ++ 10 ∷ codes "c") ≡ Ok (on_line 1 (name (codes "PRINT")) ∷ on_line 1 (number 2) ∷ on_line 1 (name (codes "AS")) ∷ on_line 2 (name (codes "FOLLOWS")) ∷ on_line 3 (picture ((codes " a") ∷ (codes "b") ∷ [])) ∷ on_line 5 (name (codes "C")) ∷ []) }
+    ensures { words_of (codes "print 2 as" ++ LINE_FEED ∷ codes "follows" ++ LINE_FEED ∷ codes " a"
+        ++ LINE_FEED ∷ codes "b" ++ LINE_FEED ∷ codes "c") ≡ Ok (on_line 1 (name (codes "PRINT"))
+        ∷ on_line 1 (number 2) ∷ on_line 1 (name (codes "AS")) ∷ on_line 2 (name (codes "FOLLOWS"))
+        ∷ on_line 3 (picture ((codes " a") ∷ (codes "b") ∷ [])) ∷ on_line 5 (name (codes "C")) ∷ []) }
 {}
 
 fn follows_without_as()
@@ -131,51 +149,64 @@ fn follows_without_as()
 {}
 
 fn a_picture_called_twice()
-    ensures { words_of (codes "print 1 thus" ++ 10 ∷ codes "a" ++ 10 ∷ codes "thus" ++ 10 ∷ codes "b") ≡ Ok (on_line 1 (name (codes "PRINT")) ∷ on_line 1 (number 1) ∷ on_line 1 (name (codes "THUS")) ∷ on_line 2 (picture ((codes "a") ∷ [])) ∷ on_line 3 (name (codes "THUS")) ∷ on_line 4 (picture ((codes "b") ∷ [])) ∷ []) }
+    ensures { words_of (codes "print 1 thus" ++ LINE_FEED ∷ codes "a" ++ LINE_FEED ∷ codes "thus"
+        ++ LINE_FEED ∷ codes "b") ≡ Ok (on_line 1 (name (codes "PRINT")) ∷ on_line 1 (number 1)
+        ∷ on_line 1 (name (codes "THUS")) ∷ on_line 2 (picture ((codes "a") ∷ []))
+        ∷ on_line 3 (name (codes "THUS")) ∷ on_line 4 (picture ((codes "b") ∷ [])) ∷ []) }
 {}
 
 fn the_nearest_print_counts()
-    ensures { words_of (codes "print 1 print 2 thus" ++ 10 ∷ codes "a" ++ 10 ∷ codes "b") ≡ Ok (on_line 1 (name (codes "PRINT")) ∷ on_line 1 (number 1) ∷ on_line 1 (name (codes "PRINT")) ∷ on_line 1 (number 2) ∷ on_line 1 (name (codes "THUS")) ∷ on_line 2 (picture ((codes "a") ∷ (codes "b") ∷ [])) ∷ []) }
+    ensures { words_of (codes "print 1 print 2 thus" ++ LINE_FEED ∷ codes "a" ++ LINE_FEED ∷ codes "b")
+        ≡ Ok (on_line 1 (name (codes "PRINT")) ∷ on_line 1 (number 1) ∷ on_line 1 (name (codes "PRINT"))
+        ∷ on_line 1 (number 2) ∷ on_line 1 (name (codes "THUS")) ∷ on_line 2 (picture ((codes "a")
+        ∷ (codes "b") ∷ [])) ∷ []) }
 {}
 
 fn thus_without_print()
-    ensures { words_of (codes "1 thus" ++ 10 ∷ codes "a") ≡ Err (Refused NoPicture 1) }
+    ensures { words_of (codes "1 thus" ++ LINE_FEED ∷ codes "a") ≡ Err (Refused NoPicture 1) }
 {}
 
 fn thus_without_a_number()
-    ensures { words_of (codes "print a thus" ++ 10 ∷ codes "a") ≡ Err (Refused NoPicture 1) }
+    ensures { words_of (codes "print a thus" ++ LINE_FEED ∷ codes "a") ≡ Err (Refused NoPicture 1) }
 {}
 
 fn thus_directly_behind_print()
-    ensures { words_of (codes "print thus" ++ 10 ∷ codes "a") ≡ Err (Refused NoPicture 1) }
+    ensures { words_of (codes "print thus" ++ LINE_FEED ∷ codes "a") ≡ Err (Refused NoPicture 1) }
 {}
 
 fn a_picture_of_no_lines()
-    ensures { words_of (codes "print 0 thus" ++ 10 ∷ codes "a") ≡ Err (Refused NoPicture 1) }
+    ensures { words_of (codes "print 0 thus" ++ LINE_FEED ∷ codes "a") ≡ Err (Refused NoPicture 1) }
 {}
 
 fn thus_with_too_few_lines()
-    ensures { words_of (codes "print 2" ++ 10 ∷ codes "thus" ++ 10 ∷ codes "a") ≡ Err (Refused NoPicture 2) }
+    ensures { words_of (codes "print 2" ++ LINE_FEED ∷ codes "thus" ++ LINE_FEED ∷ codes "a")
+        ≡ Err (Refused NoPicture 2) }
 {}
 
 fn a_picture_of_100_lines()
-    ensures { words_of (codes "print 100 thus" ++ replicate 101 10) ≡ Ok (on_line 1 (name (codes "PRINT")) ∷ on_line 1 (number 100) ∷ on_line 1 (name (codes "THUS")) ∷ on_line 2 (picture (replicate 100 [])) ∷ []) }
+    ensures { words_of (codes "print 100 thus" ++ replicate 101 LINE_FEED)
+        ≡ Ok (on_line 1 (name (codes "PRINT")) ∷ on_line 1 (number 100)
+        ∷ on_line 1 (name (codes "THUS")) ∷ on_line 2 (picture (replicate 100 [])) ∷ []) }
 {}
 
 fn a_picture_of_101_lines()
-    ensures { words_of (codes "print 101 thus" ++ replicate 103 10) ≡ Err (Refused NoPicture 1) }
+    ensures { words_of (codes "print 101 thus" ++ replicate 103 LINE_FEED) ≡ Err (Refused NoPicture 1) }
 {}
 
 fn a_picture_line_of_132_bytes()
-    ensures { words_of (codes "print 1 thus" ++ 10 ∷ replicate 132 45) ≡ Ok (on_line 1 (name (codes "PRINT")) ∷ on_line 1 (number 1) ∷ on_line 1 (name (codes "THUS")) ∷ on_line 2 (picture (replicate 132 45 ∷ [])) ∷ []) }
+    ensures { words_of (codes "print 1 thus" ++ LINE_FEED ∷ replicate 132 45)
+        ≡ Ok (on_line 1 (name (codes "PRINT")) ∷ on_line 1 (number 1) ∷ on_line 1 (name (codes "THUS"))
+        ∷ on_line 2 (picture (replicate 132 45 ∷ [])) ∷ []) }
 {}
 
 fn a_carriage_return_behind_a_picture_line()
-    ensures { words_of (codes "print 1 thus" ++ 10 ∷ replicate 132 45 ++ 13 ∷ 10 ∷ []) ≡ Ok (on_line 1 (name (codes "PRINT")) ∷ on_line 1 (number 1) ∷ on_line 1 (name (codes "THUS")) ∷ on_line 2 (picture (replicate 132 45 ∷ [])) ∷ []) }
+    ensures { words_of (codes "print 1 thus" ++ LINE_FEED ∷ replicate 132 45 ++ CARRIAGE_RETURN
+        ∷ LINE_FEED ∷ []) ≡ Ok (on_line 1 (name (codes "PRINT")) ∷ on_line 1 (number 1)
+        ∷ on_line 1 (name (codes "THUS")) ∷ on_line 2 (picture (replicate 132 45 ∷ [])) ∷ []) }
 {}
 
 fn a_picture_line_of_133_bytes()
-    ensures { words_of (codes "print 1 thus" ++ 10 ∷ replicate 133 45) ≡ Err (Refused LongPictureLine 2) }
+    ensures { words_of (codes "print 1 thus" ++ LINE_FEED ∷ replicate 133 45) ≡ Err (Refused LongPictureLine 2) }
 {}
 
 fn the_stray_byte_is_earlier()
@@ -183,7 +214,7 @@ fn the_stray_byte_is_earlier()
 {}
 
 fn the_bad_number_is_earlier()
-    ensures { words_of (codes "1.5" ++ 10 ∷ 34 ∷ []) ≡ Err (Refused BadNumber 1) }
+    ensures { words_of (codes "1.5" ++ LINE_FEED ∷ 34 ∷ []) ≡ Err (Refused BadNumber 1) }
 {}
 
 fn the_call_is_earlier()
@@ -199,15 +230,17 @@ fn a_long_thus_without_print()
 {}
 
 fn a_long_picture_line_with_a_stray_byte_first()
-    ensures { words_of (codes "print 1 thus" ++ 10 ∷ 128 ∷ replicate 132 45) ≡ Err (Refused StrayByte 2) }
+    ensures { words_of (codes "print 1 thus" ++ LINE_FEED ∷ 128 ∷ replicate 132 45) ≡ Err (Refused StrayByte 2) }
 {}
 
 fn a_long_picture_line_with_a_stray_byte_behind()
-    ensures { words_of (codes "print 1 thus" ++ 10 ∷ replicate 132 45 ++ 128 ∷ []) ≡ Err (Refused LongPictureLine 2) }
+    ensures { words_of (codes "print 1 thus" ++ LINE_FEED ∷ replicate 132 45 ++ 128 ∷ [])
+        ≡ Err (Refused LongPictureLine 2) }
 {}
 
 fn a_call_is_refused_at_follows()
-    ensures { words_of (codes "print 1 as" ++ 10 ∷ codes "follows x" ++ 10 ∷ codes "y") ≡ Err (Refused NoPicture 2) }
+    ensures { words_of (codes "print 1 as" ++ LINE_FEED ∷ codes "follows x" ++ LINE_FEED ∷ codes "y")
+        ≡ Err (Refused NoPicture 2) }
 {}
 
 // In a text that is not refused each word keeps the limits.

@@ -19,12 +19,14 @@ pub enum Sign {
 /// What a word is (docs/LANGUAGE.md, "Words").
 #[derive(Debug, Drop)]
 pub enum WordKind {
-    /// Letters in upper case, digits and stops, with a letter and no stop at the end; at most 80 bytes.
+    /// Letters in upper case, digits and stops, with a letter and no stop at the end; at most 80
+    /// bytes.
     Name(Vec<u8>),
     /// From 0 to 2^63 - 1.
     Number(u64),
     Sign(Sign),
-    /// The lines of a picture, 1 to 100 of them, each of at most 132 bytes, without their line ends.
+    /// The lines of a picture, 1 to 100 of them, each of at most 132 bytes, without their line
+    /// ends.
     Picture(Vec<Vec<u8>>),
 }
 

@@ -10,7 +10,8 @@ use crate::word::{Word, WordKind, Words};
 use std::alloc::Global;
 use std::marker::Model;
 
-/// The words of the text so far, and what of them matters to a picture that they may call at their end.
+/// The words of the text so far, and what of them matters to a picture that they may call at
+/// their end.
 #[derive(Drop)]
 pub struct Collected {
     alloc: Global,
@@ -31,7 +32,8 @@ impl Model for Collected {
 
     ghost view = { λ a. map word_at a.words.items };
 
-    ghost invariant = { λ a. IsTracked a.ends_in_as a.ends_in_print a.calls_picture a.lines (nearest (map word_at a.words.items)) };
+    ghost invariant = { λ a.
+        IsTracked a.ends_in_as a.ends_in_print a.calls_picture a.lines (nearest (map word_at a.words.items)) };
 }
 
 // A word is this name, which is in upper case.
@@ -107,7 +109,9 @@ impl Collected {
     }
 
     pub fn push(&mut self, line: usize, kind: WordKind) -> Result<(), TextFault>
-        ensures { MatchResult result (λ _. self.new ≡ self.old ++ on_line line (kind_of kind) ∷ []) (λ f. f ≡ Memory) }
+        ensures { MatchResult result
+            (λ _. self.new ≡ self.old ++ on_line line (kind_of kind) ∷ [])
+            (λ f. f ≡ Memory) }
     {
         let is_as = is_name(&kind, b"AS");
         let is_print = is_name(&kind, b"PRINT");

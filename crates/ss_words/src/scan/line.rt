@@ -2,10 +2,10 @@
 ghost use Rattle.std.specs.Prelude.{◌≡◌, ℕ, ◌+◌, ◌<◌, ◌≤◌, true, false, [], List, length, drop, take_while, slice_index, Some, MatchResult, IfOk};
 ghost use Rattle.ss_words.specs.Words.{Kind, kind_of};
 ghost use Rattle.ss_words.specs.TextBytes.{is_blank, in_run, sign_len};
-ghost use Rattle.ss_words.specs.TextLines.{lines_of, is_bare};
+ghost use Rattle.ss_words.specs.TextLines.{text_lines, is_bare};
 ghost use Rattle.ss_words.specs.TextRuns.{is_met, lacks_picture};
 ghost use Rattle.ss_words.specs.TextWords.{found_in_line, run_found, word_found};
-ghost use Rattle.ss_words.specs.TextScan.{begins_comment, hidden_len, Goes, IsFirstIn, nearest, left_in_line};
+ghost use Rattle.ss_words.specs.TextScan.{begins_comment, hidden_len, SameFindings, IsFirstIn, nearest, left_in_line};
 
 use crate::characters::QUOTE;
 use crate::fault::{TextFault, TextRule};
@@ -20,7 +20,7 @@ use crate::word::{Sign, WordKind};
 // Takes the words of the line that was taken last; `below` has the lines below it.
 pub fn scan_line(words: &mut Collected, line: &[u8], below: &Lines) -> Result<(), TextFault>
     ensures { let todo = left_in_line below.now.taken below.now.rest.now words.old line.now in
-        MatchResult result (λ _. Goes words.old todo words.new []) (λ f. IsFirstIn f todo) }
+        MatchResult result (λ _. SameFindings words.old todo words.new []) (λ f. IsFirstIn f todo) }
 {
     let mut rest = line;
     while !rest.is_empty() {
@@ -30,12 +30,15 @@ pub fn scan_line(words: &mut Collected, line: &[u8], below: &Lines) -> Result<()
     Ok(())
 }
 
-// Takes what begins where `rest` does: a comment, a blank, a run or a sign. Says how many bytes it has.
+// Takes what begins where `rest` does: a comment, a blank, a run or a sign. Says how many bytes
+// it has.
 fn scan_place(words: &mut Collected, rest: &[u8], below: &Lines) -> Result<usize, TextFault>
     requires { 0 < length rest.now }
     ensures len { IfOk result (λ len. (0 < len) × (len ≤ length rest.now)) }
     ensures found { let todo = left_in_line below.now.taken below.now.rest.now in
-        MatchResult result (λ len. Goes words.old (todo words.old rest.now) words.new (todo words.new (drop len rest.now))) (λ f. IsFirstIn f (todo words.old rest.now)) }
+        MatchResult result
+        (λ len. SameFindings words.old (todo words.old rest.now) words.new (todo words.new (drop len rest.now)))
+        (λ f. IsFirstIn f (todo words.old rest.now)) }
 {
     if begins_comment(rest) {
         return scan_comment(rest, below.taken);
@@ -80,7 +83,9 @@ fn scan_comment(rest: &[u8], line: usize) -> Result<usize, TextFault>
     requires { begins_comment rest.now ≡ true }
     ensures len { IfOk result (λ len. (0 < len) × (len ≤ length rest.now)) }
     ensures found { let todo = found_in_line line in
-        (below : ℕ) (before : List Kind) → MatchResult result (λ len. todo below before rest.now ≡ todo below before (drop len rest.now)) (λ f. IsFirstIn f (todo below before rest.now)) }
+        (below : ℕ) (before : List Kind) → MatchResult result
+        (λ len. todo below before rest.now ≡ todo below before (drop len rest.now))
+        (λ f. IsFirstIn f (todo below before rest.now)) }
 {
     let len = comment_len(rest);
     if all_allowed(&rest[..len]) {
@@ -115,7 +120,9 @@ fn scan_sign(words: &mut Collected, rest: &[u8], below: &Lines) -> Result<usize,
     requires no_run { in_run (slice_index rest.now 0) ≡ false }
     ensures len { IfOk result (λ len. (0 < len) × (len ≤ length rest.now)) }
     ensures found { let todo = left_in_line below.now.taken below.now.rest.now in
-        MatchResult result (λ len. Goes words.old (todo words.old rest.now) words.new (todo words.new (drop len rest.now))) (λ f. IsFirstIn f (todo words.old rest.now)) }
+        MatchResult result
+        (λ len. SameFindings words.old (todo words.old rest.now) words.new (todo words.new (drop len rest.now)))
+        (λ f. IsFirstIn f (todo words.old rest.now)) }
 {
     match sign_from(rest[0], second(rest)) {
         Some(sign) => {
@@ -128,8 +135,9 @@ fn scan_sign(words: &mut Collected, rest: &[u8], below: &Lines) -> Result<usize,
 
 // Takes the word of a run in front of the rest of its line.
 fn scan_run(words: &mut Collected, run: &[u8], rest: &[u8], below: &Lines) -> Result<(), TextFault>
-    ensures { let todo = run_found below.now.taken (length (lines_of below.now.rest.now)) (nearest words.old) rest.now run.now in
-        MatchResult result (λ _. Goes words.old todo words.new []) (λ f. IsFirstIn f todo) }
+    ensures { let lines = length (text_lines below.now.rest.now) in
+        let todo = run_found below.now.taken lines (nearest words.old) rest.now run.now in
+        MatchResult result (λ _. SameFindings words.old todo words.new []) (λ f. IsFirstIn f todo) }
 {
     let kept = without_stops(run);
     let spelling = match spelling_of(kept) {
@@ -153,8 +161,9 @@ fn scan_word(
     rest: &[u8],
     below: &Lines,
 ) -> Result<(), TextFault>
-    ensures { let todo = word_found below.now.taken (length (lines_of below.now.rest.now)) (nearest words.old) rest.now (Some (kind_of kind)) in
-        MatchResult result (λ _. Goes words.old todo words.new []) (λ f. IsFirstIn f todo) }
+    ensures { let lines = length (text_lines below.now.rest.now) in
+        let todo = word_found below.now.taken lines (nearest words.old) rest.now (Some (kind_of kind)) in
+        MatchResult result (λ _. SameFindings words.old todo words.new []) (λ f. IsFirstIn f todo) }
 {
     words.push(below.taken, kind)?;
     if lacks_picture(words, rest, below) {
@@ -166,7 +175,7 @@ fn scan_word(
 // The words call a picture at their end, and it is not there.
 #[tactic(auto, unfolding(crate::specs::TextRuns::lacks_picture))]
 fn lacks_picture(words: &Collected, rest: &[u8], below: &Lines) -> bool
-    ensures { result ≡ lacks_picture (nearest words.now) rest.now (length (lines_of below.now.rest.now)) }
+    ensures { result ≡ lacks_picture (nearest words.now) rest.now (length (text_lines below.now.rest.now)) }
 {
     if !words.calls_picture() {
         return false;
@@ -179,7 +188,7 @@ fn lacks_picture(words: &Collected, rest: &[u8], below: &Lines) -> bool
 
 // So many lines are left.
 fn is_met(lines: Option<u64>, below: &Lines) -> bool
-    ensures { result ≡ is_met lines (length (lines_of below.now.rest.now)) }
+    ensures { result ≡ is_met lines (length (text_lines below.now.rest.now)) }
 {
     match lines {
         Some(count) => below.has(count as usize),

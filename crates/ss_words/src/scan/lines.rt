@@ -1,7 +1,7 @@
 //! The lines of a text, one after another.
 ghost use Rattle.std.specs.Prelude.{◌≡◌, ◌+◌, ◌<◌, ◌≤◌, ◌^◌, ◌==◌, [], ◌∷◌, length, nat_le, position, MatchOption, IfNone, OnSome};
 ghost use Rattle.ss_words.specs.declared.characters.TheConstants.{LINE_FEED};
-ghost use Rattle.ss_words.specs.TextLines.{lines_of, without_return};
+ghost use Rattle.ss_words.specs.TextLines.{text_lines, without_return};
 
 use crate::characters::{CARRIAGE_RETURN, LINE_FEED};
 
@@ -48,7 +48,8 @@ impl<'a> Lines<'a> {
 
     // Takes the next line, without its line end.
     pub fn next(&mut self) -> Option<&'a [u8]>
-        ensures line { MatchOption result (lines_of self.old.rest.now ≡ []) (λ l. lines_of self.old.rest.now ≡ l.now ∷ lines_of self.new.rest.now) }
+        ensures line { MatchOption result (text_lines self.old.rest.now ≡ [])
+            (λ l. text_lines self.old.rest.now ≡ l.now ∷ text_lines self.new.rest.now) }
         ensures taken { OnSome result (self.new.taken ≡ self.old.taken + 1) }
         ensures shorter { OnSome result (length self.new.rest.now < length self.old.rest.now) }
         ensures none { IfNone result (self.new ≡ self.old) }
@@ -74,7 +75,7 @@ impl<'a> Lines<'a> {
 
     // At least so many lines are left.
     pub fn has(&self, count: usize) -> bool
-        ensures { result ≡ nat_le count (length (lines_of self.now.rest.now)) }
+        ensures { result ≡ nat_le count (length (text_lines self.now.rest.now)) }
     {
         let mut left = *self;
         for _line in 0..count {

@@ -1,9 +1,9 @@
 //! Pictures.
 ghost use Rattle.std.specs.Prelude.{◌≡◌, ◌+◌, ◌≤◌, [], List, map, take, length, MatchResult, IfOk};
 ghost use Rattle.ss_words.specs.Words.{Kind};
-ghost use Rattle.ss_words.specs.TextLines.{lines_of};
-ghost use Rattle.ss_words.specs.TextWords.{Found, found_from_line, found_in_picture};
-ghost use Rattle.ss_words.specs.TextScan.{Goes, IsFirstIn, nearest, found_below};
+ghost use Rattle.ss_words.specs.TextLines.{text_lines};
+ghost use Rattle.ss_words.specs.TextWords.{Finding, found_from_line, found_in_picture};
+ghost use Rattle.ss_words.specs.TextScan.{SameFindings, IsFirstIn, nearest, found_below};
 
 use crate::fault::{TextFault, TextRule};
 use crate::limits::LONGEST_PICTURE_LINE;
@@ -14,10 +14,12 @@ use crate::scan::refused;
 use crate::word::WordKind;
 use std::alloc::Global;
 
-// Takes the picture that the words call at their end, if they call one: the next lines, as many as PRINT says.
+// Takes the picture that the words call at their end, if they call one: the next lines, as many
+// as PRINT says.
 pub fn scan_picture(words: &mut Collected, lines: &mut Lines) -> Result<(), TextFault>
-    ensures found { let todo = found_below (nearest words.old) (lines.old.taken + 1) (lines_of lines.old.rest.now) in
-        MatchResult result (λ _. Goes words.old todo words.new (found_from_line (nearest words.new) (lines.new.taken + 1) 0 (lines_of lines.new.rest.now))) (λ f. IsFirstIn f todo) }
+    ensures found { let todo = found_below (nearest words.old) (lines.old.taken + 1) (text_lines lines.old.rest.now) in
+        let left = found_from_line (nearest words.new) (lines.new.taken + 1) 0 (text_lines lines.new.rest.now) in
+        MatchResult result (λ _. SameFindings words.old todo words.new left) (λ f. IsFirstIn f todo) }
     ensures shorter { length lines.new.rest.now ≤ length lines.old.rest.now }
 {
     if !words.calls_picture() {
@@ -34,9 +36,11 @@ pub fn scan_picture(words: &mut Collected, lines: &mut Lines) -> Result<(), Text
 
 // The next lines as a picture, at most so many.
 fn picture(alloc: Global, lines: &mut Lines, count: usize) -> Result<Vec<Vec<u8>>, TextFault>
-    ensures picture { IfOk result (λ p. map (λ l. l.items) p.items ≡ take count (lines_of lines.old.rest.now)) }
-    ensures found { let todo : List Kind → List Found = λ b. found_from_line b (lines.old.taken + 1) count (lines_of lines.old.rest.now) in
-        (before : List Kind) → MatchResult result (λ _. todo before ≡ found_from_line before (lines.new.taken + 1) 0 (lines_of lines.new.rest.now)) (λ f. IsFirstIn f (todo before)) }
+    ensures picture { IfOk result (λ p. map (λ l. l.items) p.items ≡ take count (text_lines lines.old.rest.now)) }
+    ensures found { (before : List Kind) →
+        let todo : List Finding = found_from_line before (lines.old.taken + 1) count (text_lines lines.old.rest.now) in
+        let left : List Finding = found_from_line before (lines.new.taken + 1) 0 (text_lines lines.new.rest.now) in
+        MatchResult result (λ _. todo ≡ left) (λ f. IsFirstIn f todo) }
     ensures shorter { length lines.new.rest.now ≤ length lines.old.rest.now }
 {
     let mut picture = Vec::with_capacity(alloc, count)?;
@@ -52,7 +56,8 @@ fn picture(alloc: Global, lines: &mut Lines, count: usize) -> Result<Vec<Vec<u8>
 // A line of a picture.
 fn picture_line(alloc: Global, line: &[u8], number: usize) -> Result<Vec<u8>, TextFault>
     ensures line { IfOk result (λ l. l.items ≡ line.now) }
-    ensures found { let todo = found_in_picture number line.now in MatchResult result (λ _. todo ≡ []) (λ f. IsFirstIn f todo) }
+    ensures found { let todo = found_in_picture number line.now in
+        MatchResult result (λ _. todo ≡ []) (λ f. IsFirstIn f todo) }
 {
     if line.is_empty() {
         return Ok(Vec::new(alloc));

@@ -72,7 +72,8 @@ fn number_of(digits: &[u8]) -> Option<u64>
     Some(number)
 }
 
-// What a run without stops at its end spells; nothing if it has digits with a stop left in them or its number is too large.
+// What a run without stops at its end spells; nothing if it has digits with a stop left in them
+// or its number is too large.
 #[tactic(auto, unfolding(crate::specs::TextRuns::is_bad_number))]
 pub fn spelling_of(run: &[u8]) -> Option<Spelling>
     ensures { result ≡ spelling_of run.now }

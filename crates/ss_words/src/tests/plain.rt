@@ -89,7 +89,8 @@ fn fillers_are_dropped(rt: HostRuntime) -> Result<(), Fail> {
     )?;
     assert_eq!(rt;
         text.as_str(),
-        "1.0 Routine|1.2 GO|2.3 Schedule|2.4 A|2.5 ARRIVAL|3.6 Schedule|3.7 The|3.8 ARRIVAL|4.9 Schedule|4.12 TICK|5.13 Start|"
+        "1.0 Routine|1.2 GO|2.3 Schedule|2.4 A|2.5 ARRIVAL|3.6 Schedule|3.7 The|3.8 ARRIVAL|4.9 \
+         Schedule|4.12 TICK|5.13 Start|"
     );
     Ok(())
 }
@@ -106,7 +107,9 @@ fn and_and_at_follow_their_governing_word(rt: HostRuntime) -> Result<(), Fail> {
     )?;
     assert_eq!(rt;
         text.as_str(),
-        "1.0 Read|1.1 X|1.2 Comma|1.3 Y|1.5 If|1.6 X|1.7 Equal|1.8 Y|1.9 And|1.10 Y|1.11 In|1.12 Z|2.13 Schedule|2.14 A|2.15 TICK|2.16 At|2.17 X|3.18 Call|3.19 GO|3.20 In|3.21 X|3.22 Comma|3.23 Y|"
+        "1.0 Read|1.1 X|1.2 Comma|1.3 Y|1.5 If|1.6 X|1.7 Equal|1.8 Y|1.9 And|1.10 Y|1.11 \
+         In|1.12 Z|2.13 Schedule|2.14 A|2.15 TICK|2.16 At|2.17 X|3.18 Call|3.19 GO|3.20 In|3.21 \
+         X|3.22 Comma|3.23 Y|"
     );
     Ok(())
 }
@@ -116,7 +119,8 @@ fn of_commas_one_stays_and_none_before_a_reserved_word(rt: HostRuntime) -> Resul
     let text = plain_of(&rt, &["X ,", ", AND Y , EQ Z , = Z ,", "LET X ,"])?;
     assert_eq!(rt;
         text.as_str(),
-        "1.0 X|1.1 Comma|2.4 Y|2.5 Comma|2.6 Equal|2.7 Z|2.8 Comma|2.9 Equal|2.10 Z|3.12 Let|3.13 X|3.14 Comma|"
+        "1.0 X|1.1 Comma|2.4 Y|2.5 Comma|2.6 Equal|2.7 Z|2.8 Comma|2.9 Equal|2.10 Z|3.12 \
+         Let|3.13 X|3.14 Comma|"
     );
     Ok(())
 }
@@ -133,7 +137,8 @@ fn sign_text(sign: Sign) -> &'static str {
     }
 }
 
-// The plain words of a text without its lines: a reserved word as its variant is called, a name and a sign as they are written.
+// The plain words of a text without its lines: a reserved word as its variant is called, a name
+// and a sign as they are written.
 fn plain_text(rt: &HostRuntime, text: &str) -> Result<String, Fail> {
     let words = words(rt.alloc(), text.as_bytes())?;
     let plain = plain_words(rt.alloc(), &words)?;
@@ -160,13 +165,17 @@ fn plain_text(rt: &HostRuntime, text: &str) -> Result<String, Fail> {
 // From a text to its plain words.
 const RULES: [(&str, &str); 16] = [
     (
-        "X EACH ALL HAVE OWN BELONG ENTITY NOTICE VARIABLE SET GIVING OTHERWISE REGARDLESS REPEAT CAUSE UNIT UNITS DAY LINE ON OF",
-        "X Every Every Has Owns Belongs Entities Notices Variables Sets Given Else Always Loop Schedule Days Days Days Lines In In",
+        "X EACH ALL HAVE OWN BELONG ENTITY NOTICE VARIABLE SET GIVING OTHERWISE REGARDLESS \
+         REPEAT CAUSE UNIT UNITS DAY LINE ON OF",
+        "X Every Every Has Owns Belongs Entities Notices Variables Sets Given Else Always Loop \
+         Schedule Days Days Days Lines In In",
     ),
     ("X EQ LT LS GT GR LE GE", "X = < < > > <= >="),
     (
-        "EVERY HAS OWNS BELONGS ENTITIES NOTICES VARIABLES SETS GIVEN ELSE ALWAYS LOOP SCHEDULE DAYS LINES IN NE",
-        "Every Has Owns Belongs Entities Notices Variables Sets Given Else Always Loop Schedule Days Lines In Ne",
+        "EVERY HAS OWNS BELONGS ENTITIES NOTICES VARIABLES SETS GIVEN ELSE ALWAYS LOOP SCHEDULE \
+         DAYS LINES IN NE",
+        "Every Has Owns Belongs Entities Notices Variables Sets Given Else Always Loop Schedule \
+         Days Lines In Ne",
     ),
     ("let. let.x eachs", "Let LET.X EACHS"),
     (

@@ -96,7 +96,8 @@ fn words_and_lines(rt: HostRuntime) -> Result<(), Fail> {
     )?;
     assert_eq!(rt;
         text.as_str(),
-        "1:MAIN 2:LET 2:X.1 2:= 2:#2 2:* 2:( 2:A 2:+ 2:B 2:) 2:, 2:Y 2:<= 2:#3 2:>= 4:PRINT 4:#1 4:LINE 4:THUS 5:| a ''b'' | 6:END "
+        "1:MAIN 2:LET 2:X.1 2:= 2:#2 2:* 2:( 2:A 2:+ 2:B 2:) 2:, 2:Y 2:<= 2:#3 2:>= 4:PRINT \
+         4:#1 4:LINE 4:THUS 5:| a ''b'' | 6:END "
     );
     assert_eq!(rt;
         written(&rt, b"<==<>= = - >")?.as_str(),

@@ -1,16 +1,16 @@
 use Rattle.std.proofs.Common.{◌∙◌, sym, ap, refl, List, map, ◌++◌, length}
 use Rattle.std.proofs.lemmas.List.{take_rest}
 use Rattle.std.proofs.lemmas.Result.{MatchResult-weaker, err_from_is_err_and}
-use Rattle.ss_words.specs.TextLines.{lines_of}
-use Rattle.ss_words.specs.TextWords.{Found, word}
+use Rattle.ss_words.specs.TextLines.{text_lines}
+use Rattle.ss_words.specs.TextWords.{Finding, word}
 use Rattle.ss_words.specs.TextScan.{nearest}
 use Rattle.ss_words.proofs.TextSteps.{goes-blank, goes-run, first-run}
 use Rattle.ss_words.proofs.scan.line.scan_place.Goals as goal
 
 pub returns-then-begins_comment-clause-found : goal.returns-then-begins_comment-clause-found
 returns-then-begins_comment-clause-found c =
-    MatchResult-weaker c.scan_comment.result (c.scan_comment.ensures.found (length (lines_of c.args.below.now.rest.now)) (nearest c.args.words.now))
-    (λ len e. ap (λ (fs : List Found). map word c.args.words.now ++ fs) e) (λ f first. first)
+    MatchResult-weaker c.scan_comment.result (c.scan_comment.ensures.found (length (text_lines c.args.below.now.rest.now)) (nearest c.args.words.now))
+    (λ len e. ap (λ (fs : List Finding). map word c.args.words.now ++ fs) e) (λ f first. first)
 
 pub returns-then-is_blank-clause-found : goal.returns-then-is_blank-clause-found
 returns-then-is_blank-clause-found c = goes-blank c.args.below.now.taken c.args.below.now.rest.now c.args.words.now c.args.rest.now c.requires (sym c.is_blank.ensures ∙ c.if-is_blank.true)
