@@ -1,6 +1,6 @@
 -- The first line of a text, and the rest of the text.
 use Rattle.std.proofs.Common.{◌≡◌, ℕ, zero, suc, ◌+◌, ◌<◌, Bool, true, false, ◌==◌, not, cond, nat_lt, List, [], ◌∷◌, map, take, drop, length, get_or, Some, None, refl, sym, ap, ◌∙◌, subst, arith}
-use Rattle.std.specs.List.{slice_split, with_first_byte, position, position_or_len}
+use Rattle.std.specs.List.{slice_split, onto_first, position, position_or_len}
 use Rattle.std.proofs.lemmas.Bool.Decides.{nat_tests, Decides-ltb}
 use Rattle.std.proofs.lemmas.List.Splits.{slice_split_first}
 use Rattle.std.proofs.lemmas.List.{nil_from_length}
@@ -33,9 +33,9 @@ without_return-other (b ∷ c ∷ bs) (suc m) e last = ap (λ (xs : List ℕ). b
 -- pieces are never none
 pieces_some : (text : List ℕ) → (l : List ℕ) × (ls : List (List ℕ)) × (slice_split (λ b. b == 10) text ≡ l ∷ ls)
 pieces_some [] = ([], [], refl)
-pieces_some (b ∷ bs) = elim (b == 10) as (λ t. (l : List ℕ) × (ls : List (List ℕ)) × (cond t ([] ∷ slice_split (λ b. b == 10) bs) (with_first_byte b (slice_split (λ b. b == 10) bs)) ≡ l ∷ ls)) [
+pieces_some (b ∷ bs) = elim (b == 10) as (λ t. (l : List ℕ) × (ls : List (List ℕ)) × (cond t ([] ∷ slice_split (λ b. b == 10) bs) (onto_first b (slice_split (λ b. b == 10) bs)) ≡ l ∷ ls)) [
   | true ↦ ([], slice_split (λ b. b == 10) bs, refl)
-  | false ↦ let p = pieces_some bs in (b ∷ p.0, p.1, ap (with_first_byte b) p.2)
+  | false ↦ let p = pieces_some bs in (b ∷ p.0, p.1, ap (onto_first b) p.2)
 ]
 
 without_empty_last-cons : (l : List ℕ) (text : List ℕ) → without_empty_last (l ∷ map without_return (slice_split (λ b. b == 10) text)) ≡ l ∷ text_lines text
@@ -74,9 +74,9 @@ far_before a b far = grind (arith, nat_tests)
 
 split-none : (xs : List ℕ) → nat_lt (position_or_len (λ b. b == 10) xs) (length xs) ≡ false → slice_split (λ b. b == 10) xs ≡ xs ∷ []
 split-none [] e = refl
-split-none (x ∷ xs) e = elim (x == 10) as (λ t. (nat_lt (cond (not t) (1 + position_or_len (λ b. b == 10) xs) 0) (suc (length xs)) ≡ false) → cond t ([] ∷ slice_split (λ b. b == 10) xs) (with_first_byte x (slice_split (λ b. b == 10) xs)) ≡ (x ∷ xs) ∷ []) [
+split-none (x ∷ xs) e = elim (x == 10) as (λ t. (nat_lt (cond (not t) (1 + position_or_len (λ b. b == 10) xs) 0) (suc (length xs)) ≡ false) → cond t ([] ∷ slice_split (λ b. b == 10) xs) (onto_first x (slice_split (λ b. b == 10) xs)) ≡ (x ∷ xs) ∷ []) [
   | true ↦ λ far. absurd (some_before (length xs) far)
-  | false ↦ λ far. ap (with_first_byte x) (split-none xs (far_before _ _ far))
+  | false ↦ λ far. ap (onto_first x) (split-none xs (far_before _ _ far))
 ] e
 
 -- without a line feed the text is its one line, or none

@@ -1,19 +1,15 @@
 -- What the rules of the plain words come to on lists of words that are written out: for the laws of src/plain_laws.rt.
 use Rattle.std.specs.Prelude.{◌≡◌, ℕ, List, [], ◌∷◌, ◌++◌, map, codes, bytes_eq, if◌then◌else◌, ◌==◌}
+use Rattle.std.specs.List.{slice_split}
+use Rattle.ss_words.specs.declared.characters.TheConstants.{BLANK}
 use Rattle.ss_words.specs.declared.word.Sign.TheVariants as s
 use Rattle.ss_words.specs.Words.{Kind, WordAt, name, sign}
 use Rattle.ss_words.specs.Plain.{plains}
 use Rattle.ss_words.specs.PlainRules.{spelled, plain_words_of}
 
--- the byte at the head of the first piece
-abbrev pub with_first_byte : ℕ → List (List ℕ) → List (List ℕ)
-with_first_byte c [] = (c ∷ []) ∷ []
-with_first_byte c (p ∷ ps) = (c ∷ p) ∷ ps
-
 -- the pieces of a text between its blanks
 abbrev pub pieces : List ℕ → List (List ℕ)
-pieces [] = [] ∷ []
-pieces (c ∷ cs) = if c == 32 then [] ∷ pieces cs else with_first_byte c (pieces cs)
+pieces text = slice_split (λ c. c == BLANK) text
 
 -- a piece as a word: a comma and the comparisons are signs, all else is a name
 abbrev pub kind_of_piece : List ℕ → Kind
