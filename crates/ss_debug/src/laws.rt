@@ -1,15 +1,15 @@
 //! Laws on the definitions. Each function does nothing, and its contract says the law: that a movement has one end, and, proved by
 //! computing, what small command lines say.
-#![tactic(auto, unfolding(ss_words::specs::TextBytes::in_run, ss_words::specs::TextLines::without_empty_last, ss_words::specs::TextRuns::number_of, ss_words::specs::TextRuns::without_stops, crate::specs::Words::words_of, crate::specs::Words::lines_of, crate::specs::Words::number_within, crate::specs::Words::name_of, crate::specs::Command::said_by, crate::specs::Command::command_of))]
+#![tactic(auto, unfolding(ss_words::specs::TextBytes::in_run, ss_words::specs::TextLines::without_empty_last, ss_words::specs::TextRuns::number_of, ss_words::specs::TextRuns::without_stops, crate::specs::CommandLines::command_words, crate::specs::CommandLines::command_lines, crate::specs::CommandLines::number_within, crate::specs::CommandLines::name_of, crate::specs::Command::command_in_words, crate::specs::Command::command_of))]
 
 ghost use Rattle.std.specs.Prelude.{◌≡◌, [], ◌∷◌, ◌++◌, codes, replicate};
-ghost use Rattle.ss_debug.specs.declared.said.Command.TheVariants.{Blank, Bad, Step, Back, Run, ShowVar, ShowReport, Quit};
-ghost use Rattle.ss_debug.specs.Words.{lines_of};
+ghost use Rattle.ss_debug.specs.declared.commands.Command.TheVariants.{Blank, Bad, Step, Back, Run, ShowVar, ShowReport, Quit};
+ghost use Rattle.ss_debug.specs.CommandLines.{command_lines};
 ghost use Rattle.ss_debug.specs.Examples.{EachSays};
 ghost use Rattle.ss_debug.specs.Laws.{MovementEnds, EndIsUnique};
 
-/// A movement ends at exactly one position: the least later one that meets its rule, within its bound and never past the first state
-/// that is not ready.
+/// A movement ends at exactly one position: the least later one that meets its condition, within its
+/// bound and never past the first state that is not ready.
 pub fn a_movement_has_one_end()
     ensures ends { MovementEnds }
     ensures unique { EndIsUnique }
@@ -17,11 +17,11 @@ pub fn a_movement_has_one_end()
 
 /// Behind the last line feed stands no line; a carriage return stays in its line.
 fn lines_are_pieces_between_line_feeds()
-    ensures none { lines_of [] ≡ [] }
-    ensures ended { lines_of (codes "step\nback\n") ≡ codes "step" ∷ codes "back" ∷ [] }
-    ensures open { lines_of (codes "step\nback") ≡ codes "step" ∷ codes "back" ∷ [] }
-    ensures empty { lines_of (codes "\n\nrun\n\n") ≡ [] ∷ [] ∷ codes "run" ∷ [] ∷ [] }
-    ensures carriage_returns { lines_of (codes "step\r\nback\r") ≡ codes "step\r" ∷ codes "back\r" ∷ [] }
+    ensures none { command_lines [] ≡ [] }
+    ensures ended { command_lines (codes "step\nback\n") ≡ codes "step" ∷ codes "back" ∷ [] }
+    ensures open { command_lines (codes "step\nback") ≡ codes "step" ∷ codes "back" ∷ [] }
+    ensures empty { command_lines (codes "\n\nrun\n\n") ≡ [] ∷ [] ∷ codes "run" ∷ [] ∷ [] }
+    ensures carriage_returns { command_lines (codes "step\r\nback\r") ≡ codes "step\r" ∷ codes "back\r" ∷ [] }
 {}
 
 /// A line of blanks, tabs and carriage returns says nothing, also one of 201 bytes.

@@ -4,7 +4,7 @@ use Rattle.std.proofs.Common.{length-append}
 use Rattle.std.proofs.Math.Seq.{take-append-add}
 use Rattle.std.proofs.lemmas.List.{take-append-le}
 use Rattle.ss_session.proofs.Pieces.{appends_then}
-use Rattle.ss_session.specs.SoFar.{WritesPart}
+use Rattle.ss_session.specs.Written.{WritesPart}
 
 pub writes_part : (text : List ℕ) (old new : Option (List ℕ)) (n : ℕ) → n ≤ length text → Appends old new (take n text) → WritesPart text old new
 writes_part text old new n h p = record { count = n; within = h; said = p }

@@ -10,7 +10,7 @@ use Rattle.ss_check.specs.declared.fault.CheckRule.TheVariants.{WrongPicture, Wr
 use Rattle.ss_session.specs.Examples.{two_values, word_behind, unended, too_large}
 use Rattle.ss_session.proofs.ExampleWords.{two_values_words, two_values_read, word_behind_words, word_behind_read, unended_words, unended_read, too_large_read, empty_read}
 use Rattle.ss_session.proofs.ExamplePrograms.{two_values_plain, two_values_spelled, two_values_tree, two_values_spells, word_behind_plain, word_behind_spelled, unended_plain, unended_spelled}
-use Rattle.ss_session.proofs.Told.{tells_breach, tells_refused, tells_no_words}
+use Rattle.ss_session.proofs.Transcripts.{tells_breach, tells_refused, tells_no_words}
 use Rattle.ss_session.proofs.examples.refused_models_give_one_line.Goals as goal
 
 pub returns-clause-wrong_picture : goal.returns-clause-wrong_picture

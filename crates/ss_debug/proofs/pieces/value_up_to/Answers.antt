@@ -1,7 +1,7 @@
 use Rattle.std.proofs.Common.{◌+◌, ◌≤◌, arith, sym}
 use Rattle.ss_words.specs.TextRuns.{number_of}
 use Rattle.ss_words.proofs.TextRunLemmas.{number_of-nil, number_of-more, number_of-too_large}
-use Rattle.ss_debug.proofs.words.value_up_to.Goals as goal
+use Rattle.ss_debug.proofs.pieces.value_up_to.Goals as goal
 
 pub loop-b-init : goal.loop-b-init
 loop-b-init c = (sym number_of-nil, omega arith)
