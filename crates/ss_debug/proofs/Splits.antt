@@ -23,7 +23,8 @@ unfolding command_words
 words_none = refl
 
 -- the first word, and those behind it
-pub words_first : (rest word more : List ℕ) → word ≡ before_first (separates word_separators) rest → more ≡ after_first (separates word_separators) rest →
+pub words_first : (rest word more : List ℕ) → word ≡ before_first (separates word_separators) rest →
+    more ≡ after_first (separates word_separators) rest →
     command_words rest ≡ cond (is_written word) (word ∷ command_words more) (command_words more)
 unfolding command_words
 words_first rest word more e f = rw (e, f) (first_part_if (separates word_separators) rest _ refl)

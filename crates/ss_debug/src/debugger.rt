@@ -64,12 +64,14 @@ impl Debugger {
     ) -> Result<(), AllocError>
         ensures program { self.new.machine.program ≡ self.old.machine.program }
         ensures place { OnOk result (debugger_state_of self.new ≡ debugger_state_at (debugger_state_of self.old)
-            (position_after_forward self.old.machine.program (debugger_state_of self.old) (condition_of condition) bound)) }
+            (position_after_forward self.old.machine.program (debugger_state_of self.old)
+            (condition_of condition) bound)) }
         ensures said { OnOk result (bytes.new.items ≡ bytes.old.items
             ++ forward_answer self.old.machine.program (debugger_state_of self.old) (condition_of condition) bound) }
-        ensures memory { OnErr result ((bytes.new.items ≡ bytes.old.items) × IsPartOfMovement (debugger_state_of self.old)
-            (position_after_forward self.old.machine.program (debugger_state_of self.old) (condition_of condition) bound)
-            (debugger_state_of self.new)) }
+        ensures memory { OnErr result ((bytes.new.items ≡ bytes.old.items)
+            × IsPartOfMovement (debugger_state_of self.old)
+            (position_after_forward self.old.machine.program (debugger_state_of self.old)
+            (condition_of condition) bound) (debugger_state_of self.new)) }
     {
         let from = self.machine.position();
         advance(&mut self.machine, &self.breaks, condition, bound)?;

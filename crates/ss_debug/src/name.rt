@@ -9,7 +9,8 @@ use crate::limits::NAME_LIMIT;
 use ss_words::without_stops;
 use std::marker::Model;
 
-/// A name of the language in upper case. It keeps its bytes in place, so that a command takes no memory.
+/// A name of the language in upper case. It keeps its bytes in place, so that a command takes no
+/// memory.
 #[derive(Drop)]
 pub struct Name {
     bytes: [u8; NAME_LIMIT],
@@ -53,7 +54,7 @@ impl Name {
     /// The name that a word in upper case is: letters, digits and stops, a letter among them, in at
     /// most 80 bytes; the stops at its end are dropped.
     #[tactic(auto, using(crate::proofs::Names::take_front), unfolding(crate::specs::CommandLines::name_of))]
-    pub fn of(word: &[u8]) -> Option<Name>
+    pub(crate) fn of(word: &[u8]) -> Option<Name>
         ensures { result ≡ name_of word.now }
     {
         if !is_name(word) {

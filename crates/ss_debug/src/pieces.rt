@@ -19,7 +19,8 @@ fn separator_at(text: &[u8], separators: &[u8]) -> usize
     text.len()
 }
 
-/// What stands before the first of these separators, and behind it; all and nothing where there is none.
+/// What stands before the first of these separators, and behind it; all and nothing where there is
+/// none.
 fn split_at_separator<'a>(text: &'a [u8], separators: &[u8]) -> (&'a [u8], &'a [u8])
     ensures before { result.0.now ≡ before_first (separates separators.now) text.now }
     ensures after { result.1.now ≡ after_first (separates separators.now) text.now }
@@ -32,7 +33,8 @@ fn split_at_separator<'a>(text: &'a [u8], separators: &[u8]) -> (&'a [u8], &'a [
     (&text[..n], &text[n + 1..])
 }
 
-/// The first line of the commands, and what stands behind its line feed (docs/DEBUGGER.md, "Lines").
+/// The first line of the commands, and what stands behind its line feed (docs/DEBUGGER.md,
+/// "Lines").
 pub fn split_line(commands: &[u8]) -> (&[u8], &[u8])
     ensures before { result.0.now ≡ before_first (separates line_separators) commands.now }
     ensures after { result.1.now ≡ after_first (separates line_separators) commands.now }

@@ -47,7 +47,8 @@ fn push_status(text: &mut Vec<u8>, status: Status) -> Result<(), AllocError>
 /// Appends the position, the clock and the status.
 #[tactic(auto, unfolding(crate::specs::Answer::moment_text))]
 fn push_moment(text: &mut Vec<u8>, machine: &Machine) -> Result<(), AllocError>
-    ensures ok { OnOk result (text.new.items ≡ text.old.items ++ moment_text machine.now.program (position machine.now)) }
+    ensures ok { OnOk result (text.new.items
+        ≡ text.old.items ++ moment_text machine.now.program (position machine.now)) }
 {
     machine.known();
     text.extend_from_slice(b"STATE ")?;
@@ -61,7 +62,8 @@ fn push_moment(text: &mut Vec<u8>, machine: &Machine) -> Result<(), AllocError>
 /// Appends the section and the line of the place where the machine stands.
 #[tactic(auto, unfolding(crate::specs::Answer::place_text))]
 fn push_place(text: &mut Vec<u8>, machine: &Machine) -> Result<(), AllocError>
-    ensures ok { OnOk result (text.new.items ≡ text.old.items ++ place_text machine.now.program (position machine.now)) }
+    ensures ok { OnOk result (text.new.items
+        ≡ text.old.items ++ place_text machine.now.program (position machine.now)) }
 {
     machine.known();
     let (section, _) = machine.place();
@@ -74,7 +76,8 @@ fn push_place(text: &mut Vec<u8>, machine: &Machine) -> Result<(), AllocError>
 /// Appends the state line of the machine's state.
 #[tactic(auto, unfolding(crate::specs::Answer::state_line))]
 fn push_state_line(text: &mut Vec<u8>, machine: &Machine) -> Result<(), AllocError>
-    ensures ok { OnOk result (text.new.items ≡ text.old.items ++ state_line machine.now.program (position machine.now)) }
+    ensures ok { OnOk result (text.new.items
+        ≡ text.old.items ++ state_line machine.now.program (position machine.now)) }
 {
     push_moment(text, machine)?;
     push_place(text, machine)?;
@@ -119,7 +122,8 @@ pub fn movement_word(
     condition: StopCondition,
     from: usize,
 ) -> &'static [u8]
-    ensures { result.now ≡ forward_word machine.now.program breaks.now (condition_of condition) from (position machine.now) }
+    ensures { result.now
+        ≡ forward_word machine.now.program breaks.now (condition_of condition) from (position machine.now) }
 {
     if !is_ready_now(machine) {
         return b"HALTED";

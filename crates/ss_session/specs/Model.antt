@@ -22,7 +22,8 @@ pub data Outcome : Type 0 where
 abbrev pub Spells : List ℕ → List Section → Type 0
 Spells model ss = (ws : List WordAt) × (words_of model ≡ Ok ws) × AreSections ss (plain_words_of ws)
 
--- the refusal of the words if there is one, else that of the plain words, else the first breach of the program that they
+-- the refusal of the words if there is one, else that of the plain words, else the first breach of the program that
+-- they
 -- spell, else that program with each name replaced by its place
 abbrev pub IsOutcome : List ℕ → Outcome → Type 0
 IsOutcome model (refused_text rule line) =

@@ -37,7 +37,8 @@ fn end(status: Status) -> End
     }
 }
 
-/// Obeys the commands over a machine at the start of its run, and writes the answers and the report.
+/// Obeys the commands over a machine at the start of its run, and writes the answers and the
+/// report.
 pub(crate) fn write_transcript<W: Outlet>(
     alloc: Global,
     machine: Machine,

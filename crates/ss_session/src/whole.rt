@@ -75,10 +75,13 @@ pub fn session<W: Outlet>(
     // or a write fails: then it is the whole answers of the first lines, or a prefix of the
     // transcript.
     ensures whole { IsWhole result → WritesTranscript model.now commands.now (W.taken out.old) (W.taken out.new) }
-    ensures memory { result ≡ Err Memory → WritesFirstAnswers model.now commands.now (W.taken out.old) (W.taken out.new) }
-    ensures write { result ≡ Err Write → WritesPartOfTranscript model.now commands.now (W.taken out.old) (W.taken out.new) }
+    ensures memory { result ≡ Err Memory
+        → WritesFirstAnswers model.now commands.now (W.taken out.old) (W.taken out.new) }
+    ensures write { result ≡ Err Write
+        → WritesPartOfTranscript model.now commands.now (W.taken out.old) (W.taken out.new) }
 
-    // It ends with Write exactly where the outlet counted a failure; it counts one then, and else none.
+    // It ends with Write exactly where the outlet counted a failure; it counts one then, and else
+    // none.
     ensures failure { (result ≡ Err Write) ↔ (W.failures out.old < W.failures out.new) }
     ensures counts { W.failures out.new ≡ W.failures out.old + count_failed result }
 

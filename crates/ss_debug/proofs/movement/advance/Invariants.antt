@@ -8,5 +8,6 @@ abbrev pub invariant-loop-k : goal.invariant-loop-k
 invariant-loop-k l = record {
   program : l.machine.program ≡ l.initial.machine.program;
   stepped : position l.machine ≡ position l.initial.machine + l.k;
-  went_on : (j : ℕ) → j < l.k → stops l.initial.machine.program l.breaks (condition_of l.condition) (position l.initial.machine) j ≡ false;
+  went_on : (j : ℕ) → j < l.k →
+      stops l.initial.machine.program l.breaks (condition_of l.condition) (position l.initial.machine) j ≡ false;
 }

@@ -16,5 +16,9 @@ use Rattle.ss_session.proofs.Transcripts.{tells_run}
 use Rattle.ss_session.proofs.examples.an_overflow_stands_at_its_statement.Goals as goal
 
 pub returns : goal.returns
-unfolding digits program_transcript answers session_state_after debugger_state_after answer command_of command_in_words command_words command_lines without_empty_last number_within number_of in_run name_of moment_text place_text state_line movement_text var_text report_text least without_stops
-returns c = tells_run overflow overflow_words overflow_plain overflow_read overflow_spelled overflow_tree overflow_program (record { parentheses = omega arith; sections = omega arith }) overflow_spells refl refl _ _ refl
+unfolding digits program_transcript answers session_state_after debugger_state_after answer command_of
+    command_in_words command_words command_lines without_empty_last number_within number_of in_run name_of
+    moment_text place_text state_line movement_text var_text report_text least without_stops
+returns c =
+    tells_run overflow overflow_words overflow_plain overflow_read overflow_spelled overflow_tree overflow_program
+    (record { parentheses = omega arith; sections = omega arith }) overflow_spells refl refl _ _ refl

@@ -15,5 +15,9 @@ use Rattle.ss_session.proofs.Transcripts.{tells_run}
 use Rattle.ss_session.proofs.examples.five_is_printed_again_after_a_step_back.Goals as goal
 
 pub returns : goal.returns
-unfolding digits program_transcript answers session_state_after debugger_state_after answer command_of command_in_words command_words command_lines without_empty_last number_within number_of name_of moment_text place_text state_line movement_text var_text report_text least without_stops
-returns c = tells_run five five_words five_plain five_read five_spelled five_tree five_program (record { parentheses = omega arith; sections = omega arith }) five_spells refl refl _ _ refl
+unfolding digits program_transcript answers session_state_after debugger_state_after answer command_of
+    command_in_words command_words command_lines without_empty_last number_within number_of name_of moment_text
+    place_text state_line movement_text var_text report_text least without_stops
+returns c =
+    tells_run five five_words five_plain five_read five_spelled five_tree five_program
+    (record { parentheses = omega arith; sections = omega arith }) five_spells refl refl _ _ refl

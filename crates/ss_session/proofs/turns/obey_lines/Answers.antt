@@ -15,7 +15,9 @@ pub loop-rest-preserved : goal.loop-rest-preserved
 unfolding TurnEnds
 loop-rest-preserved g c =
     let some : 0 < length c.loop-rest.rest.now = search rules in
-    let first = lines_first c.loop-rest.rest.now _ _ (written_from_length _ some) c.split_line.ensures.before c.split_line.ensures.after in
+    let first =
+    lines_first c.loop-rest.rest.now _ _ (written_from_length _ some) c.split_line.ensures.before
+    c.split_line.ensures.after in
     let so = rw first at c.loop-rest.invariant.so_far in
     let t = rw c.loop-rest.invariant.program at c.in_ok-turn.ensures in
     record {
@@ -28,19 +30,27 @@ pub returns-in-Quit : goal.returns-in-Quit
 unfolding TurnEnds TurnsEnd
 returns-in-Quit g c =
     let some : 0 < length c.loop-rest.rest.now = search rules in
-    let first = lines_first c.loop-rest.rest.now _ _ (written_from_length _ some) c.split_line.ensures.before c.split_line.ensures.after in
+    let first =
+    lines_first c.loop-rest.rest.now _ _ (written_from_length _ some) c.split_line.ensures.before
+    c.split_line.ensures.after in
     let so = rw first at c.loop-rest.invariant.so_far in
     let t = rw c.loop-rest.invariant.program at c.in_ok-turn.ensures in
-    let last = session_state_after_line c.args.debugger.now.machine.program (open_session_state (debugger_state_of c.loop-rest.debugger)) c.split_line.result.0.now in
+    let last =
+    session_state_after_line c.args.debugger.now.machine.program
+    (open_session_state (debugger_state_of c.loop-rest.debugger)) c.split_line.result.0.now in
     let on = written_one _ _ _ _ _ _ last _ _ _ so refl t.3 in
-    let over = over_after_quit c.args.debugger.now.machine.program (debugger_state_of c.loop-rest.debugger) _ (sym c.in-Quit.is ∙ t.2) in
+    let over =
+    over_after_quit c.args.debugger.now.machine.program (debugger_state_of c.loop-rest.debugger) _
+    (sym c.in-Quit.is ∙ t.2) in
     let all = written_quit _ _ _ _ _ _ _ on over in
     (t.0 ∙ ap (λ s. s.debugger) all.0, t.1, all.1, t.4 ∙ c.loop-rest.invariant.counted)
 
 pub returns-in_err-turn : goal.returns-in_err-turn
 returns-in_err-turn g c =
     let some : 0 < length c.loop-rest.rest.now = search rules in
-    let first = lines_first c.loop-rest.rest.now _ _ (written_from_length _ some) c.split_line.ensures.before c.split_line.ensures.after in
+    let first =
+    lines_first c.loop-rest.rest.now _ _ (written_from_length _ some) c.split_line.ensures.before
+    c.split_line.ensures.after in
     let so = rw first at c.loop-rest.invariant.so_far in
     let t = rw c.loop-rest.invariant.program at c.in_err-turn.ensures in
     let cut : c.from_residual.result ≡ Err c.in_err-turn.field-0.0 = search rules in
@@ -49,7 +59,8 @@ returns-in_err-turn g c =
 pub returns : goal.returns
 unfolding TurnsEnd
 returns g c =
-    let none : command_lines c.loop-rest.rest.now ≡ [] = rw (none_of_length c.loop-rest.rest.now (search rules)) lines_none in
+    let none : command_lines c.loop-rest.rest.now ≡ [] =
+    rw (none_of_length c.loop-rest.rest.now (search rules)) lines_none in
     let so = rw none at c.loop-rest.invariant.so_far in
     let all = written_all _ _ _ _ _ _ so in
     (ap (λ s. s.debugger) all.0, c.loop-rest.invariant.program, all.1, c.loop-rest.invariant.counted)

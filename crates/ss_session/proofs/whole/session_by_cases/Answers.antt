@@ -29,7 +29,8 @@ returns-in_ok-refuse-in-Err-Check g c =
 
 pub returns-in_err-refuse-in-Err-Check : goal.returns-in_err-refuse-in-Err-Check
 returns-in_err-refuse-in-Err-Check g c =
-    let e : c.from_residual-in_err-refuse-in-Err-Check.result ≡ Err (fault_of c.in_err-refuse-in-Err-Check.field-0.0) = search rules in
+    let e : c.from_residual-in_err-refuse-in-Err-Check.result ≡ Err (fault_of c.in_err-refuse-in-Err-Check.field-0.0) =
+    search rules in
     rw e (line_cut _ c.args.commands.now _ _ _ _ (refused_check _ _) _
     (rw c.in-Err-Check.field-0-is at c.in-Err-Check.ensures.err)
     (rw c.code-in-Err-Check.ensures at c.in_err-refuse-in-Err-Check.ensures))
@@ -46,6 +47,7 @@ returns-in_ok-write_transcript-in-Ok g c =
 
 pub returns-in_err-write_transcript-in-Ok : goal.returns-in_err-write_transcript-in-Ok
 returns-in_err-write_transcript-in-Ok g c =
-    let e : c.from_residual-in_err-write_transcript-in-Ok.result ≡ Err (fault_of c.in_err-write_transcript-in-Ok.field-0.0) = search rules in
+    let e : c.from_residual-in_err-write_transcript-in-Ok.result ≡ Err
+    (fault_of c.in_err-write_transcript-in-Ok.field-0.0) = search rules in
     rw e (program_cut _ _ _ _ _ _ _ _ c.in-Ok.ensures.ok
     (rw c.in_ok-machine-in-Ok.ensures.program at c.in_err-write_transcript-in-Ok.ensures))
