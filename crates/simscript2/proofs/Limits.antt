@@ -7,6 +7,8 @@ take_short zero xs h = absurd (omega (arith, h))
 take_short (suc n) [] h = refl
 take_short (suc n) (x ∷ xs) h = ap (λ (ys : List ℕ). x ∷ ys) (take_short n xs (omega (arith, h)))
 
-pub whole_within : (known : Option (List ℕ)) (limit : ℕ) (bytes : List ℕ) → IfSome (option_map (take limit) known) (λ xs. bytes ≡ [] ++ xs) → length bytes < limit → IfSome known (λ xs. bytes ≡ xs)
+pub whole_within : (known : Option (List ℕ)) (limit : ℕ) (bytes : List ℕ) →
+    IfSome (option_map (take limit) known) (λ xs. bytes ≡ [] ++ xs) → length bytes < limit →
+    IfSome known (λ xs. bytes ≡ xs)
 whole_within None limit bytes h short = tt
 whole_within (Some xs) limit bytes h short = h ∙ take_short limit xs (omega (arith, ap length h, short))

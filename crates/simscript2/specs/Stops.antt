@@ -1,6 +1,7 @@
 -- What stops the program, and the exit status of that.
-use Rattle.std.specs.Prelude.{◌≡◌, ℕ, List, Option, Some, None}
+use Rattle.std.specs.Prelude.{◌≡◌, ◌||◌, ℕ, Bool, false, List, [], ◌∷◌, length, Option, Some, None, nat_eq, nat_lt}
 use Rattle.std.specs.Borrow.{Bor}
+use Rattle.std.specs.List.{list_any}
 use Rattle.simscript2.specs.declared.stop.Stop.{Stop}
 use Rattle.simscript2.specs.declared.stop.Stop.TheVariants.{Usage, Memory, CannotRead, CannotWrite}
 
@@ -10,6 +11,17 @@ stop_status Usage = 1
 stop_status Memory = 5
 stop_status (CannotRead path) = 2
 stop_status CannotWrite = 2
+
+-- a word that begins with `-` (45) and goes on
+abbrev pub is_option : List ℕ → Bool
+is_option [] = false
+is_option (b ∷ []) = false
+is_option (b ∷ c ∷ more) = nat_eq b 45
+
+-- the words with which the program was started: behind its name stand more than three, or an option is among them
+abbrev pub are_wrong_words : List (List ℕ) → Bool
+are_wrong_words [] = false
+are_wrong_words (name ∷ paths) = nat_lt 3 (length paths) || list_any is_option paths
 
 -- what stops the reading of the words
 abbrev pub IsOfWords : Stop → Type 0
@@ -24,6 +36,11 @@ IsOfFile path Usage = ⊥
 IsOfFile path Memory = Unit {0}
 IsOfFile path (CannotRead named) = named.now ≡ path
 IsOfFile path CannotWrite = ⊥
+
+-- what stops the reading of the file of a path that may be left out: without a path, memory alone
+abbrev pub IsOfPath : Option (Bor (List ℕ)) → Stop → Type 0
+IsOfPath (Some path) stop = IsOfFile path.now stop
+IsOfPath None stop = stop ≡ Memory
 
 -- the path that is named, or what stands for none
 abbrev pub path_or : Option (Bor (List ℕ)) → List ℕ → List ℕ

@@ -1,6 +1,6 @@
 ghost use Rattle.std.specs.Prelude.{◌≡◌, ◌≢◌, ◌≤◌, ◌^◌, [], length, IfOk, IfErr, IfSome, None, codes};
 ghost use Rattle.std.specs.IoError.{error_kind};
-ghost use Rattle.simscript2.specs.Stops.{IsOfFile, path_or};
+ghost use Rattle.simscript2.specs.Stops.{IsOfFile, IsOfPath, path_or};
 
 use crate::stop::{Stop, stop_by};
 use std::alloc::Global;
@@ -65,7 +65,8 @@ pub fn read_model<'a, R: Files + Input + AllocGlobal>(
     read_file(rt, path)
 }
 
-/// The bytes of a file, or what stands in its place where none is named.
+/// The bytes of a file, or what stands in its place where none is named; then only memory can be
+/// refused.
 pub fn read_or<'a, R: Files + AllocGlobal>(
     rt: &R,
     path: Option<&'a str>,
@@ -73,7 +74,7 @@ pub fn read_or<'a, R: Files + AllocGlobal>(
 ) -> Result<Vec<u8>, Stop<'a>>
     ensures limit { path.entry ≢ None → IfOk result (λ bytes. length bytes.items ≤ 2 ^ 26) }
     ensures unnamed { path.entry ≡ None → IfOk result (λ bytes. bytes.items ≡ otherwise.now) }
-    ensures err { IfErr result (λ stop. IsOfFile (path_or path.entry []) stop) }
+    ensures err { IfErr result (λ stop. IsOfPath path.entry stop) }
 {
     match path {
         Some(path) => read_file(rt, path),

@@ -1,4 +1,5 @@
-//! `simscript2 [MODEL [DATA [COMMANDS]]]`: runs a model under the debugger's commands and writes the transcript.
+//! `simscript2 [MODEL [DATA [COMMANDS]]]`: runs a model under the debugger's commands and writes
+//! the transcript.
 #![tactic(auto)]
 
 ghost use Rattle.std.specs.Prelude.{◌≡◌};
@@ -22,7 +23,8 @@ use stream::Stream;
 /// The commands where no file of commands is named.
 const RUN: &[u8] = b"RUN\n";
 
-/// Reads the words, then MODEL, DATA and COMMANDS in that order, and runs the session where all were read.
+/// Reads the words, then MODEL, DATA and COMMANDS in that order, and runs the session where all
+/// were read.
 fn run<'a, R: Files + Input + Print + AllocGlobal>(
     rt: &R,
     arguments: &'a [String],

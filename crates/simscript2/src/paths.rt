@@ -1,6 +1,8 @@
-ghost use Rattle.std.specs.Prelude.{◌≡◌, ◌≢◌, IfErr};
+ghost use Rattle.std.specs.Prelude.{◌≡◌, ◌≢◌, Err, IfErr, map, true};
+ghost use Rattle.std.specs.List.{list_any};
+ghost use Rattle.std.specs.String.{string_bytes};
 ghost use Rattle.clap.specs.Words.{kind_of};
-ghost use Rattle.simscript2.specs.Stops.{IsOfWords};
+ghost use Rattle.simscript2.specs.Stops.{IsOfWords, are_wrong_words, is_option};
 
 use crate::stop::{Stop, stop_by};
 use clap::error::ErrorKind;
@@ -8,6 +10,9 @@ use clap::{Arg, Command, Error};
 use std::alloc::Global;
 use std::env;
 use std::rt::Env;
+
+/// The most paths that the program takes.
+const MOST_PATHS: usize = 3;
 
 /// The three paths, where they are given.
 #[derive(Drop)]
@@ -28,6 +33,29 @@ pub fn read_arguments(rt: &HostRuntime) -> Result<Vec<String>, Stop<'static>>
     match arguments.collect(rt.alloc()) {
         Ok(words) => Ok(words),
         Err(_) => Err(Stop::Memory),
+    }
+}
+
+/// Whether a word is an option: it begins with `-` and goes on.
+fn is_option(word: &str) -> bool
+    ensures { result ≡ is_option word.now }
+{
+    word.len() > 1 && word.as_bytes()[0] == b'-'
+}
+
+fn has_option(words: &[String]) -> bool
+    ensures { result ≡ list_any (λ word. is_option (string_bytes word)) words.now }
+{
+    words.iter().any(|word| is_option(word.as_str()))
+}
+
+/// Whether more than three words stand behind the program's name, or an option is among them.
+fn are_wrong_words(words: &[String]) -> bool
+    ensures { result ≡ are_wrong_words (map string_bytes words.now) }
+{
+    match words.split_first() {
+        None => false,
+        Some((_, paths)) => paths.len() > MOST_PATHS || has_option(paths),
     }
 }
 
@@ -55,10 +83,16 @@ fn stop_of(error: &Error) -> Stop<'static>
     }
 }
 
-/// The paths that the words name. Every answer that gives no paths, that for help among them, is a refusal of the words.
+/// The paths that the words name. More than three words and an option are refused before they are
+/// parsed, so that `--` hides neither; and every answer of the parse that gives no paths is a
+/// refusal of the words.
 pub fn read_paths<'a>(alloc: Global, arguments: &'a [String]) -> Result<Paths<'a>, Stop<'a>>
-    ensures { IfErr result (λ stop. IsOfWords stop) }
+    ensures wrong { are_wrong_words (map string_bytes arguments.now) ≡ true → result ≡ Err Stop.Usage }
+    ensures err { IfErr result (λ stop. IsOfWords stop) }
 {
+    if are_wrong_words(arguments) {
+        return Err(Stop::Usage);
+    }
     match parse(alloc, arguments) {
         Ok(paths) => Ok(paths),
         Err(error) => Err(stop_of(&error)),

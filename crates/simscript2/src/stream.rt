@@ -3,7 +3,8 @@ ghost use Rattle.std.specs.Prelude.{◌≡◌};
 use ss_session::{Outlet, PutFault};
 use std::io;
 
-/// An outlet over a writer, one write for each call. It tells of what it took what the writer tells: standard output tells nothing.
+/// An outlet over a writer, one write for each call. It tells of what it took what the writer
+/// tells: standard output tells nothing.
 #[derive(Drop)]
 pub struct Stream<W: io::Write + Drop> {
     writer: W,

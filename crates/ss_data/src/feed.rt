@@ -6,8 +6,8 @@ use std::marker::Model;
 
 /// The data of a run, from which READ takes number after number (docs/LANGUAGE.md, "The data").
 ///
-/// Blanks, tabs, carriage returns and line feeds separate its pieces. All pieces are kept, so what is taken can be
-/// given back.
+/// Blanks, tabs, carriage returns and line feeds separate its pieces. All pieces are kept, so what
+/// is taken can be given back.
 #[derive(Drop)]
 pub struct Feed {
     pieces: Pieces,
@@ -45,8 +45,8 @@ impl Feed {
     ///
     /// # Errors
     ///
-    /// `NoMoreData` where no piece is left, and `NotANumber` where the next piece writes no number from -2^63 to
-    /// 2^63 - 1. Then nothing is taken.
+    /// `NoMoreData` where no piece is left, and `NotANumber` where the next piece writes no number
+    /// from -2^63 to 2^63 - 1. Then nothing is taken.
     pub fn take(&mut self) -> Result<i64, RunFault>
         ensures value { result ≡ next_value self.old }
         ensures ok { OnOk result (self.new ≡ with_taken self.old (self.old.taken + 1)) }

@@ -4,7 +4,7 @@ use Rattle.std.proofs.lemmas.List.Splits.{slice_split_first, slice_split_none}
 use Rattle.std.proofs.lemmas.Grind.{common_steps}
 use Rattle.std.proofs.lemmas.List.Sums.{fails_before_first}
 use borrow.Author.Tests.{ltb-true, ltb-false}
-use Rattle.ss_debug.specs.Words.{is_blank, is_written, words_of}
+use Rattle.ss_debug.specs.CommandLines.{separates, word_separators, is_written, command_words}
 
 first_part_if : (p : ℕ → Bool) (xs : List ℕ) (b : Bool) → nat_lt (position_or_len p xs) (length xs) ≡ b →
     filter is_written (slice_split p xs) ≡ filter is_written (before_first p xs ∷ slice_split p (after_first p xs))
@@ -18,12 +18,13 @@ first_part_if p xs false e =
     let d : after_first p xs ≡ [] = grind (arith, common_steps) in
     rw (slice_split_none p xs a, b, d) refl
 
-pub words_none : words_of [] ≡ []
-unfolding words_of
+pub words_none : command_words [] ≡ []
+unfolding command_words
 words_none = refl
 
 -- the first word, and those behind it
-pub words_first : (rest word more : List ℕ) → word ≡ before_first is_blank rest → more ≡ after_first is_blank rest →
-    words_of rest ≡ cond (is_written word) (word ∷ words_of more) (words_of more)
-unfolding words_of
-words_first rest word more e f = rw (e, f) (first_part_if is_blank rest _ refl)
+pub words_first : (rest word more : List ℕ) → word ≡ before_first (separates word_separators) rest →
+    more ≡ after_first (separates word_separators) rest →
+    command_words rest ≡ cond (is_written word) (word ∷ command_words more) (command_words more)
+unfolding command_words
+words_first rest word more e f = rw (e, f) (first_part_if (separates word_separators) rest _ refl)

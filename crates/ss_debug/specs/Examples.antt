@@ -1,6 +1,6 @@
 -- Command lines of examples, and what they say.
 use Rattle.std.specs.Prelude.{ℕ, ◌≡◌, List, map}
-use Rattle.ss_debug.specs.declared.said.Command.{Command}
+use Rattle.ss_debug.specs.declared.commands.Command.{Command}
 use Rattle.ss_debug.specs.Command.{command_of}
 
 -- each of these lines says this command

@@ -1,15 +1,16 @@
 //! The debugger, and what each command does.
 ghost use Rattle.std.specs.Prelude.{◌≡◌, ◌-◌, ◌++◌, [], true, OnOk, OnErr, IfOk, IsOk};
 ghost use Rattle.ss_machine.specs.Moment.{position};
-ghost use Rattle.ss_debug.specs.Turn.{moved, forward_from, forward_answer, after, answer};
+ghost use Rattle.ss_debug.specs.Turn.{debugger_state_at, position_after_forward, forward_answer, debugger_state_after, answer, go_of, is_silent};
 ghost use Rattle.ss_debug.specs.Answer.{movement_text, back_word, var_text, report_text};
-ghost use Rattle.ss_debug.specs.Underway.{Held, desk_of, go_of, is_silent, IsOnTheWay, IsUnderway};
+ghost use Rattle.ss_debug.specs.View.{debugger_state_of, condition_of};
+ghost use Rattle.ss_debug.specs.AfterRefusal.{IsPartOfMovement, IsStateAfterRefusal};
 
+use crate::commands::Command;
 use crate::go::Go;
 use crate::movement::{advance, retreat};
 use crate::name::Name;
-use crate::rule::Rule;
-use crate::said::Command;
+use crate::stop_condition::StopCondition;
 use crate::text::{movement_text, movement_word, report_text, retreat_word, var_text};
 use ss_machine::Machine;
 use std::alloc::{AllocError, Global};
@@ -25,12 +26,12 @@ pub struct Debugger {
 
 impl Model for Debugger {
     ghost use Rattle.std.specs.Coded.{codes};
-    ghost use Rattle.ss_debug.specs.Underway.{Held};
-    ghost use Rattle.ss_machine.specs.contracts.machine.Machine as held_machine;
+    ghost use Rattle.ss_debug.specs.View.{DebuggerView};
+    ghost use Rattle.ss_machine.specs.contracts.machine.Machine as machine_contracts;
 
-    ghost Value = { Held };
+    ghost Value = { DebuggerView };
 
-    ghost coded = { Prim.hlevel (codes, held_machine.the_row.coded) };
+    ghost coded = { Prim.hlevel (codes, machine_contracts.the_row.coded) };
 
     ghost view = { λ d. record { machine = d.machine; breaks = d.breaks.items } };
 }
@@ -55,15 +56,26 @@ impl Debugger {
     }
 
     /// A forward movement, and its answer.
-    fn go_forward(&mut self, rule: Rule, bound: u64, bytes: &mut Vec<u8>) -> Result<(), AllocError>
+    fn go_forward(
+        &mut self,
+        condition: StopCondition,
+        bound: u64,
+        bytes: &mut Vec<u8>,
+    ) -> Result<(), AllocError>
         ensures program { self.new.machine.program ≡ self.old.machine.program }
-        ensures place { OnOk result (desk_of self.new ≡ moved (desk_of self.old) (forward_from self.old.machine.program (desk_of self.old) rule bound)) }
-        ensures said { OnOk result (bytes.new.items ≡ bytes.old.items ++ forward_answer self.old.machine.program (desk_of self.old) rule bound) }
-        ensures memory { OnErr result ((bytes.new.items ≡ bytes.old.items) × IsOnTheWay (desk_of self.old) (forward_from self.old.machine.program (desk_of self.old) rule bound) (desk_of self.new)) }
+        ensures place { OnOk result (debugger_state_of self.new ≡ debugger_state_at (debugger_state_of self.old)
+            (position_after_forward self.old.machine.program (debugger_state_of self.old)
+            (condition_of condition) bound)) }
+        ensures said { OnOk result (bytes.new.items ≡ bytes.old.items
+            ++ forward_answer self.old.machine.program (debugger_state_of self.old) (condition_of condition) bound) }
+        ensures memory { OnErr result ((bytes.new.items ≡ bytes.old.items)
+            × IsPartOfMovement (debugger_state_of self.old)
+            (position_after_forward self.old.machine.program (debugger_state_of self.old)
+            (condition_of condition) bound) (debugger_state_of self.new)) }
     {
         let from = self.machine.position();
-        advance(&mut self.machine, &self.breaks, rule, bound)?;
-        let word = movement_word(&self.machine, &self.breaks, rule, from);
+        advance(&mut self.machine, &self.breaks, condition, bound)?;
+        let word = movement_word(&self.machine, &self.breaks, condition, from);
         let text = movement_text(self.alloc, word, &self.machine)?;
         bytes.extend_from_slice(&text)
     }
@@ -71,8 +83,11 @@ impl Debugger {
     /// A movement back, and its answer.
     fn go_back(&mut self, count: u64, bytes: &mut Vec<u8>) -> Result<(), AllocError>
         ensures program { self.new.machine.program ≡ self.old.machine.program }
-        ensures place { desk_of self.new ≡ moved (desk_of self.old) (position self.old.machine - count) }
-        ensures said { OnOk result (bytes.new.items ≡ bytes.old.items ++ movement_text (back_word (position self.old.machine) count) self.old.machine.program (position self.old.machine - count)) }
+        ensures place { debugger_state_of self.new
+            ≡ debugger_state_at (debugger_state_of self.old) (position self.old.machine - count) }
+        ensures said { OnOk result (bytes.new.items ≡ bytes.old.items
+            ++ movement_text (back_word (position self.old.machine) count) self.old.machine.program
+            (position self.old.machine - count)) }
         ensures memory { OnErr result (bytes.new.items ≡ bytes.old.items) }
     {
         let word = retreat_word(self.machine.position(), count);
@@ -83,7 +98,8 @@ impl Debugger {
 
     /// The answer to SHOW VAR.
     fn show_var(&self, name: &Name, bytes: &mut Vec<u8>) -> Result<(), AllocError>
-        ensures said { OnOk result (bytes.new.items ≡ bytes.old.items ++ var_text name.now self.now.machine.program (position self.now.machine)) }
+        ensures said { OnOk result (bytes.new.items ≡ bytes.old.items
+            ++ var_text name.now self.now.machine.program (position self.now.machine)) }
         ensures memory { OnErr result (bytes.new.items ≡ bytes.old.items) }
     {
         let text = var_text(self.alloc, name, &self.machine)?;
@@ -92,7 +108,8 @@ impl Debugger {
 
     /// The answer to SHOW REPORT.
     fn show_report(&self, bytes: &mut Vec<u8>) -> Result<(), AllocError>
-        ensures said { OnOk result (bytes.new.items ≡ bytes.old.items ++ report_text self.now.machine.program (position self.now.machine)) }
+        ensures said { OnOk result (bytes.new.items ≡ bytes.old.items
+            ++ report_text self.now.machine.program (position self.now.machine)) }
         ensures memory { OnErr result (bytes.new.items ≡ bytes.old.items) }
     {
         let text = report_text(self.alloc, &self.machine)?;
@@ -100,29 +117,35 @@ impl Debugger {
     }
 }
 
-/// One turn: does what a command says, and appends its whole answer to `bytes` (docs/DEBUGGER.md). `Quit` is answered for QUIT alone.
+/// One turn: does what a command says, and appends its whole answer to `bytes` (docs/DEBUGGER.md).
+/// `Quit` is answered for QUIT alone.
 ///
-/// `AllocError` where a growth was refused: `bytes` and the break lines are as before, and the machine stands where the steps that
-/// were made led. A command that gives no answer, a blank line or QUIT, succeeds.
-#[tactic(auto, unfolding(crate::specs::Turn::after, crate::specs::Turn::answer, crate::specs::Underway::IsUnderway))]
+/// `AllocError` where a growth was refused: `bytes` and the break lines are as before, and the
+/// machine stands where the steps that were made led. A command that gives no answer, a blank line
+/// or QUIT, succeeds.
+#[tactic(auto, unfolding(crate::specs::Turn::debugger_state_after, crate::specs::Turn::answer, crate::specs::AfterRefusal::IsStateAfterRefusal))]
 pub fn obey(
     debugger: &mut Debugger,
     command: Command,
     bytes: &mut Vec<u8>,
 ) -> Result<Go, AllocError>
     ensures program { debugger.new.machine.program ≡ debugger.old.machine.program }
-    ensures place { OnOk result (desk_of debugger.new ≡ after debugger.old.machine.program (desk_of debugger.old) command) }
-    ensures said { OnOk result (bytes.new.items ≡ bytes.old.items ++ answer debugger.old.machine.program (desk_of debugger.old) command) }
+    ensures place { OnOk result (debugger_state_of debugger.new
+        ≡ debugger_state_after debugger.old.machine.program (debugger_state_of debugger.old) command) }
+    ensures said { OnOk result (bytes.new.items ≡ bytes.old.items
+        ++ answer debugger.old.machine.program (debugger_state_of debugger.old) command) }
     ensures quit { IfOk result (λ go. go ≡ go_of command) }
     ensures silent { is_silent command ≡ true → IsOk result }
-    ensures memory { OnErr result ((bytes.new.items ≡ bytes.old.items) × IsUnderway debugger.old.machine.program (desk_of debugger.old) command (desk_of debugger.new)) }
+    ensures memory { OnErr result ((bytes.new.items ≡ bytes.old.items)
+        × IsStateAfterRefusal debugger.old.machine.program (debugger_state_of debugger.old) command
+        (debugger_state_of debugger.new)) }
 {
     match command {
         Command::Blank => {}
         Command::Bad => bytes.extend_from_slice(b"BAD COMMAND\n")?,
-        Command::Step(n) => debugger.go_forward(Rule::Count, n, bytes)?,
+        Command::Step(n) => debugger.go_forward(StopCondition::Never, n, bytes)?,
         Command::Back(n) => debugger.go_back(n, bytes)?,
-        Command::Run(n) => debugger.go_forward(Rule::Break, n, bytes)?,
+        Command::Run(n) => debugger.go_forward(StopCondition::AtBreakLine, n, bytes)?,
         Command::ShowVar(name) => debugger.show_var(&name, bytes)?,
         Command::ShowReport => debugger.show_report(bytes)?,
         Command::Quit => return Ok(Go::Quit),

@@ -1,23 +1,25 @@
 //! The debugger: what a command line says, and what each command does and answers.
 #![tactic(auto)]
 
+mod commands;
 mod debugger;
 mod go;
 mod laws;
+mod limits;
 mod movement;
 mod name;
+mod pieces;
 mod read;
-mod rule;
-mod said;
+mod stop_condition;
 mod text;
-mod words;
 
+pub use commands::Command;
 pub use debugger::{Debugger, obey};
 pub use go::Go;
 pub use laws::a_movement_has_one_end;
 pub use name::Name;
+pub use pieces::split_line;
 pub use read::command;
-pub use said::Command;
 
 #[cfg(test)]
 mod tests;

@@ -1,9 +1,11 @@
-//! Movements: forward, step by step, to where a rule is met, and back.
+//! Movements: forward, step by step, to where a condition is met, and back.
 ghost use Rattle.std.specs.Prelude.{◌≡◌, ◌+◌, ◌-◌, ◌<◌, ◌≤◌, OnOk, OnErr, true};
 ghost use Rattle.ss_machine.specs.Moment.{position};
-ghost use Rattle.ss_debug.specs.Move.{is_ready_at, line_at, meets, is_stop, stops, forward, is_on_break, IsAt};
+ghost use Rattle.ss_debug.specs.Move.{is_ready_at, line_at, meets, is_stop, stops, forward, is_on_break};
+ghost use Rattle.ss_debug.specs.Position.{IsAt};
+ghost use Rattle.ss_debug.specs.View.{condition_of};
 
-use crate::rule::Rule;
+use crate::stop_condition::StopCondition;
 use ss_machine::{Machine, Status};
 use std::alloc::AllocError;
 
@@ -32,21 +34,21 @@ fn stands_on_break(machine: &Machine, breaks: &[usize]) -> bool
     breaks.contains(&line)
 }
 
-/// Whether the machine's state meets the rule.
-pub fn meets_rule(machine: &Machine, breaks: &[usize], rule: Rule) -> bool
-    ensures { result ≡ meets machine.now.program breaks.now rule (position machine.now) }
+/// Whether the machine's state meets the condition.
+pub fn meets_condition(machine: &Machine, breaks: &[usize], condition: StopCondition) -> bool
+    ensures { result ≡ meets machine.now.program breaks.now (condition_of condition) (position machine.now) }
 {
-    match rule {
-        Rule::Count => false,
-        Rule::Break => stands_on_break(machine, breaks),
+    match condition {
+        StopCondition::Never => false,
+        StopCondition::AtBreakLine => stands_on_break(machine, breaks),
     }
 }
 
 /// Whether a movement stops where the machine stands, after k steps.
-fn is_at_stop(machine: &Machine, breaks: &[usize], rule: Rule, k: u64) -> bool
-    ensures { result ≡ is_stop machine.now.program breaks.now rule k (position machine.now) }
+fn is_at_stop(machine: &Machine, breaks: &[usize], condition: StopCondition, k: u64) -> bool
+    ensures { result ≡ is_stop machine.now.program breaks.now (condition_of condition) k (position machine.now) }
 {
-    !is_ready_now(machine) || (0 < k && meets_rule(machine, breaks, rule))
+    !is_ready_now(machine) || (0 < k && meets_condition(machine, breaks, condition))
 }
 
 /// One step from a state that is ready.
@@ -62,21 +64,26 @@ fn step_once(machine: &mut Machine) -> Result<(), AllocError>
     }
 }
 
-/// Steps to the least later position at which the rule is met or the status isn't ready, within the bound.
+/// Steps to the least later position at which the condition is met or the status isn't ready,
+/// within the bound.
 ///
 /// `AllocError` where a step was refused memory: the machine stands where the steps before it led.
 #[tactic(auto, using(crate::proofs::Moves::least_is, crate::proofs::Moves::least_at_least, crate::proofs::Moves::or_false_left))]
 pub fn advance(
     machine: &mut Machine,
     breaks: &[usize],
-    rule: Rule,
+    condition: StopCondition,
     bound: u64,
 ) -> Result<(), AllocError>
-    ensures ok { OnOk result (IsAt machine.old.program (forward machine.old.program breaks.now rule (position machine.old) bound) machine.new) }
-    ensures memory { OnErr result ((machine.new.program ≡ machine.old.program) × (position machine.old ≤ position machine.new) × (position machine.new ≤ forward machine.old.program breaks.now rule (position machine.old) bound)) }
+    ensures ok { OnOk result (IsAt machine.old.program
+        (forward machine.old.program breaks.now (condition_of condition) (position machine.old) bound) machine.new) }
+    ensures memory { OnErr result ((machine.new.program ≡ machine.old.program)
+        × (position machine.old ≤ position machine.new)
+        × (position machine.new
+        ≤ forward machine.old.program breaks.now (condition_of condition) (position machine.old) bound)) }
 {
     for k in 0..bound {
-        if is_at_stop(machine, breaks, rule, k) {
+        if is_at_stop(machine, breaks, condition, k) {
             return Ok(());
         }
         if let Err(error) = step_once(machine) {

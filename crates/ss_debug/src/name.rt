@@ -3,15 +3,14 @@ ghost use Rattle.std.specs.Prelude.{◌≡◌, ℕ, ◌≤◌, List, take, lengt
 ghost use Rattle.std.specs.List.{list_all};
 ghost use Rattle.ss_words.specs.TextBytes.{in_run};
 ghost use Rattle.ss_words.specs.TextRuns.{has_letter};
-ghost use Rattle.ss_debug.specs.Words.{is_name, name_of};
+ghost use Rattle.ss_debug.specs.CommandLines.{is_command_name, name_of};
 
+use crate::limits::NAME_LIMIT;
 use ss_words::without_stops;
 use std::marker::Model;
 
-/// The most bytes of a name, the stops at its end counted.
-const NAME_LIMIT: usize = 80;
-
-/// A name of the language in upper case. It keeps its bytes in place, so that a command takes no memory.
+/// A name of the language in upper case. It keeps its bytes in place, so that a command takes no
+/// memory.
 #[derive(Drop)]
 pub struct Name {
     bytes: [u8; NAME_LIMIT],
@@ -46,16 +45,16 @@ fn has_letter(word: &[u8]) -> bool
 }
 
 fn is_name(word: &[u8]) -> bool
-    ensures { result ≡ is_name word.now }
+    ensures { result ≡ is_command_name word.now }
 {
     is_run(word) && has_letter(word) && word.len() <= NAME_LIMIT
 }
 
 impl Name {
-    /// The name that a word in upper case is: letters, digits and stops, a letter among them, in at most 80 bytes; the stops
-    /// at its end are dropped.
-    #[tactic(auto, using(crate::proofs::Names::take_front), unfolding(crate::specs::Words::name_of))]
-    pub fn of(word: &[u8]) -> Option<Name>
+    /// The name that a word in upper case is: letters, digits and stops, a letter among them, in at
+    /// most 80 bytes; the stops at its end are dropped.
+    #[tactic(auto, using(crate::proofs::Names::take_front), unfolding(crate::specs::CommandLines::name_of))]
+    pub(crate) fn of(word: &[u8]) -> Option<Name>
         ensures { result ≡ name_of word.now }
     {
         if !is_name(word) {

@@ -1,21 +1,17 @@
 //! Command lines are read.
 ghost use Rattle.std.specs.Prelude.{◌≡◌};
-ghost use Rattle.ss_debug.specs.Words.{words_of};
-ghost use Rattle.ss_debug.specs.Command.{command_of, said_by, show_of, bound_of, only_name_of, alone};
+ghost use Rattle.ss_debug.specs.CommandLines.{command_words};
+ghost use Rattle.ss_debug.specs.Command.{command_of, command_in_words, show_command, bound_of, only_name_of, command_alone};
 
+use crate::commands::Command;
+use crate::limits::{GREATEST_BOUND, LINE_LIMIT};
 use crate::name::Name;
-use crate::said::Command;
-use crate::words::{next_word, number};
+use crate::pieces::{next_word, number};
 
-/// The most bytes of a command line that is obeyed.
-const LINE_LIMIT: usize = 200;
-
-/// The greatest bound of a movement, and the bound of RUN where none is given.
-const GREATEST_BOUND: u64 = 1_000_000;
-
-/// The bound that stands behind a movement, or another where no word does; none where it is no bound or not the last word.
+/// The bound that stands behind a movement, or another where no word does; none where it is no
+/// bound or not the last word.
 fn bound(rest: &[u8], otherwise: u64) -> Option<u64>
-    ensures { result ≡ bound_of otherwise (words_of rest.now) }
+    ensures { result ≡ bound_of otherwise (command_words rest.now) }
 {
     let Some((word, more)) = next_word(rest) else {
         return Some(otherwise);
@@ -28,7 +24,7 @@ fn bound(rest: &[u8], otherwise: u64) -> Option<u64>
 
 /// The name that is the only word.
 fn only_name(rest: &[u8]) -> Option<Name>
-    ensures { result ≡ only_name_of (words_of rest.now) }
+    ensures { result ≡ only_name_of (command_words rest.now) }
 {
     let (word, more) = next_word(rest)?;
     if next_word(more).is_some() {
@@ -39,7 +35,7 @@ fn only_name(rest: &[u8]) -> Option<Name>
 
 /// A command behind which no word may stand.
 fn alone_or_bad(command: Command, rest: &[u8]) -> Command
-    ensures { result ≡ alone command (words_of rest.now) }
+    ensures { result ≡ command_alone command (command_words rest.now) }
 {
     if next_word(rest).is_some() {
         return Command::Bad;
@@ -49,7 +45,7 @@ fn alone_or_bad(command: Command, rest: &[u8]) -> Command
 
 /// What stands behind SHOW.
 fn show(rest: &[u8]) -> Command
-    ensures { result ≡ show_of (words_of rest.now) }
+    ensures { result ≡ show_command (command_words rest.now) }
 {
     let Some((what, more)) = next_word(rest) else {
         return Command::Bad;
@@ -64,9 +60,9 @@ fn show(rest: &[u8]) -> Command
 }
 
 /// What the words of a line in upper case say.
-#[tactic(auto, unfolding(crate::specs::Command::said_by))]
-fn said(line: &[u8]) -> Command
-    ensures { result ≡ said_by (words_of line.now) }
+#[tactic(auto, unfolding(crate::specs::Command::command_in_words))]
+fn command_in_words(line: &[u8]) -> Command
+    ensures { result ≡ command_in_words (command_words line.now) }
 {
     let Some((verb, rest)) = next_word(line) else {
         return Command::Blank;
@@ -89,8 +85,9 @@ fn said(line: &[u8]) -> Command
     Command::Bad
 }
 
-/// What a command line says: letters in either case, words separated by blanks, tabs and carriage returns. A line without
-/// words is `Blank`; one that is no command, or is over 200 bytes long, is `Bad` (docs/DEBUGGER.md). It takes no memory.
+/// What a command line says: letters in either case, words separated by blanks, tabs and carriage
+/// returns. A line without words is `Blank`; one that is no command, or is over 200 bytes long, is
+/// `Bad` (docs/DEBUGGER.md). It takes no memory.
 #[tactic(auto, unfolding(crate::specs::Command::command_of), using(crate::proofs::Names::take_front))]
 pub fn command(line: &[u8]) -> Command
     ensures { result ≡ command_of line.now }
@@ -104,5 +101,5 @@ pub fn command(line: &[u8]) -> Command
     let mut upper = [0u8; LINE_LIMIT];
     upper[..line.len()].copy_from_slice(line);
     upper[..line.len()].make_ascii_uppercase();
-    said(&upper[..line.len()])
+    command_in_words(&upper[..line.len()])
 }

@@ -30,7 +30,8 @@ fn lines_are_read(rt: HostRuntime) {
     }
 }
 
-/// A debugger at the start of a program: an assignment on line 2, PRINT on line 3 with its picture, STOP on line 5 and END.
+/// A debugger at the start of a program: an assignment on line 2, PRINT on line 3 with its picture,
+/// STOP on line 5 and END.
 fn debugger(alloc: Global) -> Result<Debugger, Fail> {
     let text = "MAIN\nLET X = 5\nPRINT 1 LINE WITH X THUS\nX = ***\nSTOP\nEND\n";
     let sections = sections(alloc, &words(alloc, text.as_bytes())?, 0)?;

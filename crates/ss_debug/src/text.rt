@@ -3,10 +3,11 @@ ghost use Rattle.std.specs.Prelude.{◌≡◌, ◌++◌, OnOk, IfOk, decimal, Op
 ghost use Rattle.std.specs.Fmt.{signed_decimal};
 ghost use Rattle.ss_machine.specs.Moment.{position};
 ghost use Rattle.ss_debug.specs.Answer.{status_text, moment_text, place_text, state_line, movement_text, forward_word, back_word, met_word, bound_word, variable_named, var_text, report_text};
+ghost use Rattle.ss_debug.specs.View.{condition_of};
 
-use crate::movement::{is_ready_now, meets_rule, present_line};
+use crate::movement::{is_ready_now, meets_condition, present_line};
 use crate::name::Name;
-use crate::rule::Rule;
+use crate::stop_condition::StopCondition;
 use itoa::Buffer;
 use ss_check::Variable;
 use ss_machine::{Machine, Status};
@@ -46,7 +47,8 @@ fn push_status(text: &mut Vec<u8>, status: Status) -> Result<(), AllocError>
 /// Appends the position, the clock and the status.
 #[tactic(auto, unfolding(crate::specs::Answer::moment_text))]
 fn push_moment(text: &mut Vec<u8>, machine: &Machine) -> Result<(), AllocError>
-    ensures ok { OnOk result (text.new.items ≡ text.old.items ++ moment_text machine.now.program (position machine.now)) }
+    ensures ok { OnOk result (text.new.items
+        ≡ text.old.items ++ moment_text machine.now.program (position machine.now)) }
 {
     machine.known();
     text.extend_from_slice(b"STATE ")?;
@@ -60,7 +62,8 @@ fn push_moment(text: &mut Vec<u8>, machine: &Machine) -> Result<(), AllocError>
 /// Appends the section and the line of the place where the machine stands.
 #[tactic(auto, unfolding(crate::specs::Answer::place_text))]
 fn push_place(text: &mut Vec<u8>, machine: &Machine) -> Result<(), AllocError>
-    ensures ok { OnOk result (text.new.items ≡ text.old.items ++ place_text machine.now.program (position machine.now)) }
+    ensures ok { OnOk result (text.new.items
+        ≡ text.old.items ++ place_text machine.now.program (position machine.now)) }
 {
     machine.known();
     let (section, _) = machine.place();
@@ -73,7 +76,8 @@ fn push_place(text: &mut Vec<u8>, machine: &Machine) -> Result<(), AllocError>
 /// Appends the state line of the machine's state.
 #[tactic(auto, unfolding(crate::specs::Answer::state_line))]
 fn push_state_line(text: &mut Vec<u8>, machine: &Machine) -> Result<(), AllocError>
-    ensures ok { OnOk result (text.new.items ≡ text.old.items ++ state_line machine.now.program (position machine.now)) }
+    ensures ok { OnOk result (text.new.items
+        ≡ text.old.items ++ state_line machine.now.program (position machine.now)) }
 {
     push_moment(text, machine)?;
     push_place(text, machine)?;
@@ -91,37 +95,43 @@ pub fn movement_text(alloc: Global, word: &[u8], machine: &Machine) -> Result<Ve
     Ok(text)
 }
 
-/// The word where the rule is met.
-fn met_word(rule: Rule) -> &'static [u8]
-    ensures { result.now ≡ met_word rule }
+/// The word where the condition is met.
+fn met_word(condition: StopCondition) -> &'static [u8]
+    ensures { result.now ≡ met_word (condition_of condition) }
 {
-    match rule {
-        Rule::Count => b"DONE",
-        Rule::Break => b"BREAK",
+    match condition {
+        StopCondition::Never => b"DONE",
+        StopCondition::AtBreakLine => b"BREAK",
     }
 }
 
 /// The word at the bound.
-fn bound_word(rule: Rule) -> &'static [u8]
-    ensures { result.now ≡ bound_word rule }
+fn bound_word(condition: StopCondition) -> &'static [u8]
+    ensures { result.now ≡ bound_word (condition_of condition) }
 {
-    match rule {
-        Rule::Count => b"DONE",
-        Rule::Break => b"BOUND",
+    match condition {
+        StopCondition::Never => b"DONE",
+        StopCondition::AtBreakLine => b"BOUND",
     }
 }
 
 /// The word of a movement that began at `from` and ended where the machine stands.
-pub fn movement_word(machine: &Machine, breaks: &[usize], rule: Rule, from: usize) -> &'static [u8]
-    ensures { result.now ≡ forward_word machine.now.program breaks.now rule from (position machine.now) }
+pub fn movement_word(
+    machine: &Machine,
+    breaks: &[usize],
+    condition: StopCondition,
+    from: usize,
+) -> &'static [u8]
+    ensures { result.now
+        ≡ forward_word machine.now.program breaks.now (condition_of condition) from (position machine.now) }
 {
     if !is_ready_now(machine) {
         return b"HALTED";
     }
-    if from < machine.position() && meets_rule(machine, breaks, rule) {
-        met_word(rule)
+    if from < machine.position() && meets_condition(machine, breaks, condition) {
+        met_word(condition)
     } else {
-        bound_word(rule)
+        bound_word(condition)
     }
 }
 

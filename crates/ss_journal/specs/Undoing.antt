@@ -1,4 +1,5 @@
--- undoing: for any changes C of any states S, where `fits` says that a change can be taken back and `unapply` takes it back
+-- undoing: for any changes C of any states S, where `fits` says that a change can be taken back and `unapply` takes it
+-- back
 use Rattle.std.specs.Prelude.{◌≡◌, ℕ, ◌+◌, ◌≤◌, List, [], ◌∷◌, ◌++◌, length}
 use Rattle.ss_journal.specs.Log.{Log}
 
@@ -15,7 +16,8 @@ FitsAll fits unapply (c ∷ cs) s = fits c s × FitsAll fits unapply cs (unapply
 -- each change of each step fits in its turn
 abbrev pub FitsSteps : {S C : Type 0} → (C → S → Type 0) → (C → S → S) → List (List C) → S → Type 0
 FitsSteps fits unapply [] s = Unit {0}
-FitsSteps fits unapply (step ∷ earlier) s = FitsAll fits unapply step s × FitsSteps fits unapply earlier (unapply_all unapply step s)
+FitsSteps fits unapply (step ∷ earlier) s =
+    FitsAll fits unapply step s × FitsSteps fits unapply earlier (unapply_all unapply step s)
 
 -- the states before each step, the earliest first, got by unapplying the steps from the last to the first
 abbrev pub past : {S C : Type 0} → (C → S → S) → S → List (List C) → List S
@@ -30,8 +32,10 @@ Kept fits unapply state_at (step ∷ earlier) s =
     × (unapply_all unapply step s ≡ state_at (length earlier))
     × Kept fits unapply state_at earlier (unapply_all unapply step s)
 
--- a piece of work on a state and its journal, which notes at most n changes: these fit, and lead back to the state before
-pub record GoesOn {S C : Type 0} (fits : C → S → Type 0) (unapply : C → S → S) (n : ℕ) (s : S) (j : Log C) (s' : S) (j' : Log C) : Type 0 where
+-- a piece of work on a state and its journal, which notes at most n changes: these fit, and lead back to the state
+-- before
+pub record GoesOn {S C : Type 0} (fits : C → S → Type 0) (unapply : C → S → S) (n : ℕ) (s : S) (j : Log C) (s' : S)
+    (j' : Log C) : Type 0 where
   pub origin : unapply_all unapply j'.current s' ≡ unapply_all unapply j.current s
   pub fitting : FitsAll fits unapply j.current s → FitsAll fits unapply j'.current s'
   pub steps : j'.steps ≡ j.steps

@@ -5,11 +5,13 @@ use std::marker::Model;
 
 /// A list of closed steps, each a list of changes, and one open step.
 ///
-/// Beside these a journal has two numbers of room, one for notes and one for closes. Only [`Journal::reserve`] takes memory;
-/// every other call is made of a fixed number of moves, whatever the journal holds.
+/// Beside these a journal has two numbers of room, one for notes and one for closes. Only
+/// [`Journal::reserve`] takes memory; every other call is made of a fixed number of moves, whatever
+/// the journal holds.
 #[derive(Drop)]
 pub struct Journal<C> {
-    // The changes of all steps, the oldest first; the last `unclosed` of them are those of the open step.
+    // The changes of all steps, the oldest first; the last `unclosed` of them are those of the open
+    // step.
     changes: Vec<C>,
     // How many changes each closed step has, the oldest step first.
     sizes: Vec<usize>,
@@ -50,8 +52,9 @@ impl<C> Journal<C> {
 
     /// Makes room for at least `n` notes and one close.
     ///
-    /// Room grows by doubling, so that over many steps a step takes constant time for each of its changes. `AllocError` comes
-    /// only where room was missing and a growth was refused; the room of the other kind may then have grown.
+    /// Room grows by doubling, so that over many steps a step takes constant time for each of its
+    /// changes. `AllocError` comes only where room was missing and a growth was refused; the room
+    /// of the other kind may then have grown.
     pub fn reserve(&mut self, n: usize) -> Result<(), AllocError>
         // The steps stay as they are, whatever the result, and no room is less.
         ensures steps { self.new.steps ≡ self.old.steps }
@@ -81,7 +84,8 @@ impl<C> Journal<C> {
         self.unclosed += 1;
     }
 
-    /// Makes the open step the newest closed one, and opens an empty step. It uses up the room of one close.
+    /// Makes the open step the newest closed one, and opens an empty step. It uses up the room of
+    /// one close.
     pub fn close(&mut self)
         requires { 0 < self.old.closes }
         ensures steps { self.new.steps ≡ self.old.current ∷ self.old.steps }
@@ -93,7 +97,8 @@ impl<C> Journal<C> {
         self.unclosed = 0;
     }
 
-    /// Takes the newest change off the open step; `None` where that step is empty. The room of its note is free again.
+    /// Takes the newest change off the open step; `None` where that step is empty. The room of its
+    /// note is free again.
     pub fn pop_open(&mut self) -> Option<C>
         ensures steps { self.new.steps ≡ self.old.steps }
         ensures current { MatchOption result
@@ -111,8 +116,8 @@ impl<C> Journal<C> {
         self.changes.pop()
     }
 
-    /// Makes the newest closed step the open one again; false where no step is closed, and then nothing changes. The room of its
-    /// close is free again.
+    /// Makes the newest closed step the open one again; false where no step is closed, and then
+    /// nothing changes. The room of its close is free again.
     pub fn reopen_last(&mut self) -> bool
         requires { self.old.current ≡ [] }
         ensures steps { MatchBool result

@@ -71,7 +71,8 @@ fn back(dial: &mut Dial, journal: &mut Journal<Turn>) -> bool
     true
 }
 
-// Six steps forward and all back, each state compared. A step that is refused memory is tried again, with nothing changed.
+// Six steps forward and all back, each state compared. A step that is refused memory is tried
+// again, with nothing changed.
 fn there_and_back(
     rt: &(impl Abort + Print),
     dial: &mut Dial,

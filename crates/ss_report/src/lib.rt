@@ -1,4 +1,5 @@
-//! What a model prints: pictures with values in their fields, and the report that they are appended to.
+//! What a model prints: pictures with values in their fields, and the report that they are appended
+//! to.
 #![tactic(auto)]
 
 mod append;

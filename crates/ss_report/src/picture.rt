@@ -67,7 +67,8 @@ impl Model for Picture {
 impl Picture {
     /// The picture with these lines, which have no line ends.
     ///
-    /// `DecimalField` where a stop stands directly between two asterisks of one line, and else `Memory` where a growth was refused.
+    /// `DecimalField` where a stop stands directly between two asterisks of one line, and else
+    /// `Memory` where a growth was refused.
     pub fn new(alloc: Global, lines: Vec<Vec<u8>>) -> Result<Self, PictureFault>
         ensures ok { IfOk result (λ picture. picture ≡ map (λ l. l.items) lines.items) }
         ensures decimal_field { (result ≡ Err PictureFault.DecimalField)

@@ -125,7 +125,8 @@ pub(crate) fn write_pieces(bytes: &mut Vec<u8>, pieces: &[Piece], values: &[i64]
     }
 }
 
-/// Appends the first value in a field of this width, for which there is room. The result is the other values.
+/// Appends the first value in a field of this width, for which there is room. The result is the
+/// other values.
 #[tactic(auto, using(crate::proofs::PieceSteps::first_value))]
 fn append_first<'a>(bytes: &mut Vec<u8>, width: usize, values: &'a [i64]) -> &'a [i64]
     requires some { 0 < length values.now }

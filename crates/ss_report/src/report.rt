@@ -11,7 +11,8 @@ use std::marker::Model;
 /// The most bytes that a report has (docs/LANGUAGE.md, "Limits").
 const LIMIT: usize = 16_777_216;
 
-/// The bytes that a run has printed, of which there are at most 16,777,216. Contracts see the list of them.
+/// The bytes that a run has printed, of which there are at most 16,777,216. Contracts see the list
+/// of them.
 #[derive(Debug, Drop)]
 pub struct Report {
     bytes: Vec<u8>,
@@ -63,8 +64,8 @@ impl Report {
 
     /// Appends the text of a picture with these values, one a field (docs/LANGUAGE.md, "PRINT").
     ///
-    /// `ReportFull` (F19) where the report would have more than 16,777,216 bytes, `Memory` where the room was refused.
-    /// Either leaves the report as it was.
+    /// `ReportFull` (F19) where the report would have more than 16,777,216 bytes, `Memory` where
+    /// the room was refused. Either leaves the report as it was.
     pub fn print(&mut self, picture: &Picture, values: &[i64]) -> Result<(), StepFault>
         requires { length values.now ≡ field_count picture.now }
         ensures ok { OnOk result (self.new ≡ self.old ++ picture_text picture.now values.now) }
@@ -81,8 +82,8 @@ impl Report {
 
     /// Appends so many line feeds (docs/LANGUAGE.md, "SKIP").
     ///
-    /// `ReportFull` (F19) where the report would have more than 16,777,216 bytes, `Memory` where the room was refused.
-    /// Either leaves the report as it was.
+    /// `ReportFull` (F19) where the report would have more than 16,777,216 bytes, `Memory` where
+    /// the room was refused. Either leaves the report as it was.
     pub fn skip(&mut self, lines: usize) -> Result<(), StepFault>
         ensures ok { OnOk result (self.new ≡ self.old ++ replicate lines 10) }
         ensures err { OnErr result (self.new ≡ self.old) }
@@ -97,7 +98,8 @@ impl Report {
     }
 }
 
-/// Makes room for so many more bytes of a report, in doubling over many calls. After an error its bytes are as before.
+/// Makes room for so many more bytes of a report, in doubling over many calls. After an error its
+/// bytes are as before.
 fn reserve(bytes: &mut Vec<u8>, added: usize) -> Result<(), StepFault>
     requires { vec_len bytes.old ≤ report_limit }
     ensures items { bytes.new.items ≡ bytes.old.items }

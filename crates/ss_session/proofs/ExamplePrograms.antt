@@ -9,7 +9,6 @@ use Rattle.ss_words.specs.PlainRules.{plain_words_of}
 use Rattle.ss_routines.specs.Expr.{Expr, expr, no_sums, term, no_products, digits, variable}
 use Rattle.ss_routines.specs.Places.{Reference, lets, adds, prints}
 use Rattle.ss_routines.specs.Tree.{no_statements, statement, simple, assignment, report, halt, main, Tree, spell}
-use Rattle.ss_routines.specs.Refused.{words_from}
 use Rattle.ss_check.specs.declared.kinds.SectionKind.TheVariants.{Main}
 use Rattle.ss_check.specs.declared.variable.Variable.TheVariants.{Local}
 use Rattle.ss_check.specs.declared.place.Assign.TheVariants.{Let, Add}
@@ -20,7 +19,7 @@ use Rattle.ss_check.specs.declared.place.Place.TheVariants.{Assign, Output, Cont
 use Rattle.ss_check.specs.declared.place.Spot.{Spot}
 use Rattle.ss_check.specs.ProgramExpr as checked
 use Rattle.ss_check.specs.Program.{ProgramTable}
-use Rattle.ss_session.proofs.Told.{at}
+use Rattle.ss_session.proofs.Transcripts.{at}
 use Rattle.ss_session.proofs.ExampleWords.{stop_words, five_words, overflow_words, two_values_words, word_behind_words, unended_words}
 
 abbrev constant : ℕ → Expr
@@ -63,9 +62,10 @@ of_main locals places = record {
 }
 
 abbrev pub stop_plain : List PlainAt
-stop_plain = at 1 0 (mark (m.Reserved r.Main)) ∷ at 2 1 (mark (m.Reserved r.Stop)) ∷ at 3 2 (mark (m.Reserved r.End)) ∷ []
+stop_plain =
+    at 1 0 (mark (m.Reserved r.Main)) ∷ at 2 1 (mark (m.Reserved r.Stop)) ∷ at 3 2 (mark (m.Reserved r.End)) ∷ []
 
-pub stop_spelled : words_from 0 (plain_words_of stop_words) ≡ stop_plain
+pub stop_spelled : plain_words_of stop_words ≡ stop_plain
 unfolding mark_of spellings
 stop_spelled = refl
 
@@ -76,9 +76,14 @@ pub stop_spells : plains stop_plain ≡ spell stop_tree
 stop_spells = refl
 
 abbrev pub five_plain : List PlainAt
-five_plain = at 1 0 (mark (m.Reserved r.Main)) ∷ at 2 1 (mark (m.Reserved r.Let)) ∷ at 2 2 (name (codes "X")) ∷ at 2 3 (mark (m.Sign s.Equal)) ∷ at 2 4 (number 5) ∷ at 3 5 (mark (m.Reserved r.Print)) ∷ at 3 6 (number 1) ∷ at 3 7 (mark (m.Reserved r.Lines)) ∷ at 3 8 (mark (m.Reserved r.With)) ∷ at 3 9 (name (codes "X")) ∷ at 3 10 (mark (m.Reserved r.Thus)) ∷ at 4 11 (picture (codes "X = ***" ∷ [])) ∷ at 5 12 (mark (m.Reserved r.Stop)) ∷ at 6 13 (mark (m.Reserved r.End)) ∷ []
+five_plain =
+    at 1 0 (mark (m.Reserved r.Main)) ∷ at 2 1 (mark (m.Reserved r.Let)) ∷ at 2 2 (name (codes "X"))
+    ∷ at 2 3 (mark (m.Sign s.Equal)) ∷ at 2 4 (number 5) ∷ at 3 5 (mark (m.Reserved r.Print)) ∷ at 3 6 (number 1)
+    ∷ at 3 7 (mark (m.Reserved r.Lines)) ∷ at 3 8 (mark (m.Reserved r.With)) ∷ at 3 9 (name (codes "X"))
+    ∷ at 3 10 (mark (m.Reserved r.Thus)) ∷ at 4 11 (picture (codes "X = ***" ∷ []))
+    ∷ at 5 12 (mark (m.Reserved r.Stop)) ∷ at 6 13 (mark (m.Reserved r.End)) ∷ []
 
-pub five_spelled : words_from 0 (plain_words_of five_words) ≡ five_plain
+pub five_spelled : plain_words_of five_words ≡ five_plain
 unfolding mark_of spellings
 five_spelled = refl
 
@@ -91,9 +96,13 @@ pub five_spells : plains five_plain ≡ spell five_tree
 five_spells = refl
 
 abbrev pub overflow_plain : List PlainAt
-overflow_plain = at 1 0 (mark (m.Reserved r.Main)) ∷ at 2 1 (mark (m.Reserved r.Let)) ∷ at 2 2 (name (codes "X")) ∷ at 2 3 (mark (m.Sign s.Equal)) ∷ at 2 4 (number 9223372036854775807) ∷ at 3 5 (mark (m.Reserved r.Add)) ∷ at 3 6 (number 1) ∷ at 3 7 (mark (m.Reserved r.To)) ∷ at 3 8 (name (codes "X")) ∷ at 4 9 (mark (m.Reserved r.End)) ∷ []
+overflow_plain =
+    at 1 0 (mark (m.Reserved r.Main)) ∷ at 2 1 (mark (m.Reserved r.Let)) ∷ at 2 2 (name (codes "X"))
+    ∷ at 2 3 (mark (m.Sign s.Equal)) ∷ at 2 4 (number 9223372036854775807) ∷ at 3 5 (mark (m.Reserved r.Add))
+    ∷ at 3 6 (number 1) ∷ at 3 7 (mark (m.Reserved r.To)) ∷ at 3 8 (name (codes "X"))
+    ∷ at 4 9 (mark (m.Reserved r.End)) ∷ []
 
-pub overflow_spelled : words_from 0 (plain_words_of overflow_words) ≡ overflow_plain
+pub overflow_spelled : plain_words_of overflow_words ≡ overflow_plain
 unfolding mark_of spellings
 overflow_spelled = refl
 
@@ -105,29 +114,38 @@ pub overflow_spells : plains overflow_plain ≡ spell overflow_tree
 overflow_spells = refl
 
 abbrev pub two_values_plain : List PlainAt
-two_values_plain = at 1 0 (mark (m.Reserved r.Main)) ∷ at 2 1 (mark (m.Reserved r.Print)) ∷ at 2 2 (number 1) ∷ at 2 3 (mark (m.Reserved r.Lines)) ∷ at 2 4 (mark (m.Reserved r.With)) ∷ at 2 5 (name (codes "X")) ∷ at 2 6 (mark (m.Sign s.Comma)) ∷ at 2 7 (name (codes "Y")) ∷ at 2 8 (mark (m.Reserved r.Thus)) ∷ at 3 9 (picture (codes "*.**" ∷ [])) ∷ at 4 10 (mark (m.Reserved r.End)) ∷ []
+two_values_plain =
+    at 1 0 (mark (m.Reserved r.Main)) ∷ at 2 1 (mark (m.Reserved r.Print)) ∷ at 2 2 (number 1)
+    ∷ at 2 3 (mark (m.Reserved r.Lines)) ∷ at 2 4 (mark (m.Reserved r.With)) ∷ at 2 5 (name (codes "X"))
+    ∷ at 2 6 (mark (m.Sign s.Comma)) ∷ at 2 7 (name (codes "Y")) ∷ at 2 8 (mark (m.Reserved r.Thus))
+    ∷ at 3 9 (picture (codes "*.**" ∷ [])) ∷ at 4 10 (mark (m.Reserved r.End)) ∷ []
 
-pub two_values_spelled : words_from 0 (plain_words_of two_values_words) ≡ two_values_plain
+pub two_values_spelled : plain_words_of two_values_words ≡ two_values_plain
 unfolding mark_of spellings
 two_values_spelled = refl
 
 abbrev pub two_values_tree : Tree
-two_values_tree = main (statement (simple (report (prints 1 (value (codes "X") ∷ value (codes "Y") ∷ []) (codes "*.**" ∷ [])))) no_statements) ∷ []
+two_values_tree =
+    let two = value (codes "X") ∷ value (codes "Y") ∷ [] in
+    main (statement (simple (report (prints 1 two (codes "*.**" ∷ [])))) no_statements) ∷ []
 
 pub two_values_spells : plains two_values_plain ≡ spell two_values_tree
 two_values_spells = refl
 
 abbrev pub word_behind_plain : List PlainAt
-word_behind_plain = at 1 0 (mark (m.Reserved r.Main)) ∷ at 2 1 (mark (m.Reserved r.End)) ∷ at 3 2 (mark (m.Reserved r.Loop)) ∷ []
+word_behind_plain =
+    at 1 0 (mark (m.Reserved r.Main)) ∷ at 2 1 (mark (m.Reserved r.End)) ∷ at 3 2 (mark (m.Reserved r.Loop)) ∷ []
 
-pub word_behind_spelled : words_from 0 (plain_words_of word_behind_words) ≡ word_behind_plain
+pub word_behind_spelled : plain_words_of word_behind_words ≡ word_behind_plain
 unfolding mark_of spellings
 word_behind_spelled = refl
 
 abbrev pub unended_plain : List PlainAt
-unended_plain = at 1 0 (mark (m.Reserved r.Main)) ∷ at 2 1 (mark (m.Reserved r.Let)) ∷ at 2 2 (name (codes "X")) ∷ at 2 3 (mark (m.Sign s.Equal)) ∷ []
+unended_plain =
+    at 1 0 (mark (m.Reserved r.Main)) ∷ at 2 1 (mark (m.Reserved r.Let)) ∷ at 2 2 (name (codes "X"))
+    ∷ at 2 3 (mark (m.Sign s.Equal)) ∷ []
 
-pub unended_spelled : words_from 0 (plain_words_of unended_words) ≡ unended_plain
+pub unended_spelled : plain_words_of unended_words ≡ unended_plain
 unfolding mark_of spellings
 unended_spelled = refl
 

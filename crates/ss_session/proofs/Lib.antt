@@ -1,9 +1,9 @@
 pub mod Pieces
 pub mod Parts
 pub mod FirstLine
-pub mod Sittings
+pub mod SessionStates
 pub mod Outcomes
 pub mod Ends
-pub mod Told
+pub mod Transcripts
 pub mod ExampleWords
 pub mod ExamplePrograms

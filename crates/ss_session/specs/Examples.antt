@@ -1,15 +1,15 @@
 -- Whole models, the commands that they are run under, and their transcripts.
-use Rattle.std.specs.Prelude.{◌≡◌, ℕ, List, codes}
+use Rattle.std.specs.Prelude.{◌≡◌, ◌++◌, ℕ, List, codes}
 use Rattle.ss_session.specs.Model.{Outcome, IsOutcome}
 use Rattle.ss_session.specs.Transcript.{transcript}
 
 -- the transcript of a model under the commands is this text
-abbrev pub Tells : List ℕ → List ℕ → List ℕ → Type 0
-Tells model commands text = (outcome : Outcome) × IsOutcome model outcome × (transcript outcome commands ≡ text)
+abbrev pub HasTranscript : List ℕ → List ℕ → List ℕ → Type 0
+HasTranscript model commands text = (outcome : Outcome) × IsOutcome model outcome × (transcript outcome commands ≡ text)
 
 -- and so under all commands, as that of a refused model
-abbrev pub AlwaysTells : List ℕ → List ℕ → Type 0
-AlwaysTells model text = (commands : List ℕ) → Tells model commands text
+abbrev pub AlwaysHasTranscript : List ℕ → List ℕ → Type 0
+AlwaysHasTranscript model text = (commands : List ℕ) → HasTranscript model commands text
 
 -- a program that does nothing but stop
 abbrev pub stop : List ℕ
@@ -41,39 +41,49 @@ too_large = codes "MAIN\nLET X = 9223372036854775808\nEND\n"
 
 -- without commands, a program that was not run has an empty report
 abbrev pub EmptyProgramStops : Type 0
-EmptyProgramStops = Tells stop (codes "") (codes "REPORT\n")
+EmptyProgramStops = HasTranscript stop (codes "") (codes "REPORT\n")
 
 -- a line that is no command, and a command in lower case without a line end
-abbrev pub BadCommandIsTold : Type 0
-BadCommandIsTold = Tells stop (codes "FOO\nstep") (codes "BAD COMMAND\nHALTED: STATE 1 CLOCK 0 STOPPED IN MAIN LINE 2\nREPORT\n")
+abbrev pub BadCommandIsAnswered : Type 0
+BadCommandIsAnswered = HasTranscript stop (codes "FOO\nstep")
+    (codes "BAD COMMAND\nHALTED: STATE 1 CLOCK 0 STOPPED IN MAIN LINE 2\nREPORT\n")
 
 -- a step back takes the line out of the report, and the step made again prints it again
 abbrev pub FiveIsPrintedAgain : Type 0
-FiveIsPrintedAgain = Tells five (codes "STEP 2\nBACK\nSHOW REPORT\nSTEP\nSHOW REPORT\n")
-    (codes "DONE: STATE 2 CLOCK 0 READY IN MAIN LINE 5\nDONE: STATE 1 CLOCK 0 READY IN MAIN LINE 3\nREPORT\nDONE: STATE 2 CLOCK 0 READY IN MAIN LINE 5\nREPORT\nX =   5\nREPORT\nX =   5\n")
+FiveIsPrintedAgain = HasTranscript five (codes "STEP 2\nBACK\nSHOW REPORT\nSTEP\nSHOW REPORT\n")
+    (codes "DONE: STATE 2 CLOCK 0 READY IN MAIN LINE 5\n"
+    ++ codes "DONE: STATE 1 CLOCK 0 READY IN MAIN LINE 3\nREPORT\n"
+    ++ codes "DONE: STATE 2 CLOCK 0 READY IN MAIN LINE 5\nREPORT\nX =   5\nREPORT\nX =   5\n")
 
 -- steps back end at the start, one or ten, and there X is 0
 abbrev pub BackEndsAtStart : Type 0
-BackEndsAtStart = Tells five (codes "BACK\nSTEP 3\nBACK 10\nSHOW VAR X\n")
-    (codes "START: STATE 0 CLOCK 0 READY IN MAIN LINE 2\nHALTED: STATE 3 CLOCK 0 STOPPED IN MAIN LINE 5\nSTART: STATE 0 CLOCK 0 READY IN MAIN LINE 2\nX = 0\nREPORT\n")
+BackEndsAtStart = HasTranscript five (codes "BACK\nSTEP 3\nBACK 10\nSHOW VAR X\n")
+    (codes "START: STATE 0 CLOCK 0 READY IN MAIN LINE 2\n"
+    ++ codes "HALTED: STATE 3 CLOCK 0 STOPPED IN MAIN LINE 5\n"
+    ++ codes "START: STATE 0 CLOCK 0 READY IN MAIN LINE 2\nX = 0\nREPORT\n")
 
 -- a fault stands at its statement and assigns nothing
 abbrev pub OverflowStands : Type 0
-OverflowStands = Tells overflow (codes "STEP 5\nSHOW VAR X\nBACK 2\nSHOW VAR X\n")
-    (codes "HALTED: STATE 2 CLOCK 0 FAULT F1 IN MAIN LINE 3\nX = 9223372036854775807\nDONE: STATE 0 CLOCK 0 READY IN MAIN LINE 2\nX = 0\nREPORT\n")
+OverflowStands = HasTranscript overflow (codes "STEP 5\nSHOW VAR X\nBACK 2\nSHOW VAR X\n")
+    (codes "HALTED: STATE 2 CLOCK 0 FAULT F1 IN MAIN LINE 3\nX = 9223372036854775807\n"
+    ++ codes "DONE: STATE 0 CLOCK 0 READY IN MAIN LINE 2\nX = 0\nREPORT\n")
 
--- refused models, each with its rule and line
+-- a picture without a field for each value is refused by C10, at its PRINT
 abbrev pub WrongPictureIsRefused : Type 0
-WrongPictureIsRefused = AlwaysTells two_values (codes "MODEL REFUSED C10 LINE 2\n")
+WrongPictureIsRefused = AlwaysHasTranscript two_values (codes "MODEL REFUSED C10 LINE 2\n")
 
+-- a text without words is refused by C11, at line 1
 abbrev pub EmptyTextIsRefused : Type 0
-EmptyTextIsRefused = AlwaysTells (codes "") (codes "MODEL REFUSED C11 LINE 1\n")
+EmptyTextIsRefused = AlwaysHasTranscript (codes "") (codes "MODEL REFUSED C11 LINE 1\n")
 
+-- a word that begins no section is refused by P1, behind the last END
 abbrev pub WordBehindEndIsRefused : Type 0
-WordBehindEndIsRefused = AlwaysTells word_behind (codes "MODEL REFUSED P1 LINE 3\n")
+WordBehindEndIsRefused = AlwaysHasTranscript word_behind (codes "MODEL REFUSED P1 LINE 3\n")
 
+-- a text that ends in a statement is refused by P2, at its last word
 abbrev pub TextsEndIsRefused : Type 0
-TextsEndIsRefused = AlwaysTells unended (codes "MODEL REFUSED P2 LINE 2\n")
+TextsEndIsRefused = AlwaysHasTranscript unended (codes "MODEL REFUSED P2 LINE 2\n")
 
+-- a number past the greatest is refused by L2, at its line
 abbrev pub LargeNumberIsRefused : Type 0
-LargeNumberIsRefused = AlwaysTells too_large (codes "MODEL REFUSED L2 LINE 2\n")
+LargeNumberIsRefused = AlwaysHasTranscript too_large (codes "MODEL REFUSED L2 LINE 2\n")

@@ -1,16 +1,9 @@
--- How a session ends: its fault where it was cut short, and the exit status of the program.
+-- The exit status of the program, by how its session ends.
 use Rattle.std.specs.Prelude.{ℕ, Result, Ok, Err}
-use Rattle.ss_session.specs.declared.ending.Cut.{Cut}
-use Rattle.ss_session.specs.declared.ending.Cut.TheVariants as cut
 use Rattle.ss_session.specs.declared.ending.End.{End}
 use Rattle.ss_session.specs.declared.ending.End.TheVariants.{Done, RunFault}
 use Rattle.ss_session.specs.declared.ending.SessionFault.{SessionFault}
 use Rattle.ss_session.specs.declared.ending.SessionFault.TheVariants.{Text, Check, Write, Memory}
-
--- why a session whose turns were cut short has no end of its own
-abbrev pub fault_of : Cut → SessionFault
-fault_of cut.Memory = Memory
-fault_of cut.Write = Write
 
 -- 0 done, 4 a run that faulted, 3 a refused model, 2 a failed write, 5 no memory
 abbrev pub status_of : Result End SessionFault → ℕ

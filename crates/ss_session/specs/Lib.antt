@@ -1,8 +1,8 @@
 pub mod Outlet
 pub mod Exit
 pub mod Model
-pub mod SoFar
+pub mod Written
 pub mod Transcript
-pub mod Loads
 pub mod Laws
 pub mod Examples
+pub mod Private

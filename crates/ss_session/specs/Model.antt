@@ -6,7 +6,7 @@ use Rattle.ss_words.specs.Words.{WordAt}
 use Rattle.ss_words.specs.TextWords.{words_of}
 use Rattle.ss_words.specs.PlainRules.{plain_words_of}
 use Rattle.ss_routines.specs.Places.{Section}
-use Rattle.ss_routines.specs.Refused.{AreSections, IsRefused, words_from}
+use Rattle.ss_routines.specs.Refused.{AreSections, IsRefused}
 use Rattle.ss_check.specs.declared.fault.CheckRule.{CheckRule}
 use Rattle.ss_check.specs.Breach.{breach}
 use Rattle.ss_check.specs.Resolved.{resolved}
@@ -20,15 +20,19 @@ pub data Outcome : Type 0 where
 
 -- the words of a model spell a program with these sections
 abbrev pub Spells : List ℕ → List Section → Type 0
-Spells model ss = (ws : List WordAt) × (words_of model ≡ Ok ws) × AreSections ss (words_from 0 (plain_words_of ws))
+Spells model ss = (ws : List WordAt) × (words_of model ≡ Ok ws) × AreSections ss (plain_words_of ws)
 
--- the refusal of the words if there is one, else that of the plain words, else the first breach of the program that they spell, else
--- that program with each name replaced by its place
+-- the refusal of the words if there is one, else that of the plain words, else the first breach of the program that
+-- they
+-- spell, else that program with each name replaced by its place
 abbrev pub IsOutcome : List ℕ → Outcome → Type 0
 IsOutcome model (refused_text rule line) =
-    (words_of model ≡ Err (Refused rule line)) ⊎ ((ws : List WordAt) × (words_of model ≡ Ok ws) × IsRefused rule line (words_from 0 (plain_words_of ws)))
-IsOutcome model (refused_check rule line) = (ss : List Section) × Spells model ss × (breach ss ≡ Some (rule, line))
-IsOutcome model (accepted program) = (ss : List Section) × Spells model ss × (breach ss ≡ None) × (program ≡ resolved ss)
+    (words_of model ≡ Err (Refused rule line))
+    ⊎ ((ws : List WordAt) × (words_of model ≡ Ok ws) × IsRefused rule line (plain_words_of ws))
+IsOutcome model (refused_check rule line) =
+    (ss : List Section) × Spells model ss × (breach ss ≡ Some (rule, line))
+IsOutcome model (accepted program) =
+    (ss : List Section) × Spells model ss × (breach ss ≡ None) × (program ≡ resolved ss)
 
 -- a rule L or P refuses the model
 abbrev pub IsTextRefused : List ℕ → Type 0

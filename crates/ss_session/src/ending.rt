@@ -1,27 +1,36 @@
 ghost use Rattle.std.specs.Prelude.{◌≡◌};
 ghost use Rattle.ss_session.specs.Exit.{status_of};
 
+use crate::outlet::PutFault;
+use std::alloc::AllocError;
 use thiserror::Error;
 
 /// Why the turns of a session were cut short.
-#[derive(Clone, Copy, Debug, PartialEq, Eq)]
+#[derive(Clone, Copy, Debug, Drop, PartialEq, Eq)]
 pub(crate) enum Cut {
     Memory,
     Write,
 }
 
-impl Cut {
+impl From<AllocError> for Cut {
     ghost use Rattle.std.specs.Prelude.{◌≡◌};
-    ghost use Rattle.ss_session.specs.Exit.{fault_of};
+    ghost use Rattle.ss_session.specs.declared.ending.Cut.TheVariants.{Memory};
 
-    /// The fault of a session whose turns were cut short so.
-    pub(crate) fn fault(self) -> SessionFault
-        ensures { result ≡ fault_of self }
-    {
-        match self {
-            Cut::Memory => SessionFault::Memory,
-            Cut::Write => SessionFault::Write,
-        }
+    ghost from_gives = { λ _ cut. cut ≡ Memory };
+
+    fn from(_error: AllocError) -> Cut {
+        Cut::Memory
+    }
+}
+
+impl From<PutFault> for Cut {
+    ghost use Rattle.std.specs.Prelude.{◌≡◌};
+    ghost use Rattle.ss_session.specs.declared.ending.Cut.TheVariants.{Write};
+
+    ghost from_gives = { λ _ cut. cut ≡ Write };
+
+    fn from(_fault: PutFault) -> Cut {
+        Cut::Write
     }
 }
 
@@ -51,8 +60,33 @@ pub enum SessionFault {
     Memory,
 }
 
-/// The program's exit status for the end of a session: 0 done, 2 where the outlet failed, 3 for a refused model, 4 where the last state
-/// is faulted, 5 where memory was refused.
+impl From<AllocError> for SessionFault {
+    ghost use Rattle.std.specs.Prelude.{◌≡◌};
+    ghost use Rattle.ss_session.specs.declared.ending.SessionFault.TheVariants.{Memory};
+
+    ghost from_gives = { λ _ fault. fault ≡ Memory };
+
+    fn from(_error: AllocError) -> SessionFault {
+        SessionFault::Memory
+    }
+}
+
+impl From<Cut> for SessionFault {
+    ghost use Rattle.std.specs.Prelude.{◌≡◌};
+    ghost use Rattle.ss_session.specs.Private.{fault_of};
+
+    ghost from_gives = { λ cut fault. fault ≡ fault_of cut };
+
+    fn from(cut: Cut) -> SessionFault {
+        match cut {
+            Cut::Memory => SessionFault::Memory,
+            Cut::Write => SessionFault::Write,
+        }
+    }
+}
+
+/// The program's exit status for the end of a session: 0 done, 2 where the outlet failed, 3 for a
+/// refused model, 4 where the last state is faulted, 5 where memory was refused.
 pub fn exit_status(outcome: &Result<End, SessionFault>) -> u8
     ensures { result ≡ status_of outcome.now }
 {

@@ -1,6 +1,6 @@
-//! Transcripts of whole models, computed on the definitions; the tests of the same names run `session` on them. Each function does
-//! nothing, and its contract says the law.
-ghost use Rattle.ss_session.specs.Examples.{EmptyProgramStops, BadCommandIsTold, FiveIsPrintedAgain, BackEndsAtStart, OverflowStands, WrongPictureIsRefused, EmptyTextIsRefused, WordBehindEndIsRefused, TextsEndIsRefused, LargeNumberIsRefused};
+//! Transcripts of whole models, computed on the definitions; the tests of the same names run
+//! `session` on them. Each function does nothing, and its contract says the law.
+ghost use Rattle.ss_session.specs.Examples.{EmptyProgramStops, BadCommandIsAnswered, FiveIsPrintedAgain, BackEndsAtStart, OverflowStands, WrongPictureIsRefused, EmptyTextIsRefused, WordBehindEndIsRefused, TextsEndIsRefused, LargeNumberIsRefused};
 
 /// A program that was not run has an empty report.
 pub fn an_empty_program_stops()
@@ -9,7 +9,7 @@ pub fn an_empty_program_stops()
 
 /// `FOO` is a bad command, and `step` at the commands' end is obeyed.
 pub fn a_bad_command_and_one_without_a_line_end()
-    ensures { BadCommandIsTold }
+    ensures { BadCommandIsAnswered }
 {}
 
 /// A step back takes its line out of the report, and the step made again prints it again.

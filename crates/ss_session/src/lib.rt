@@ -1,14 +1,13 @@
 //! A whole session: model, data and commands in, the transcript out.
 #![tactic(auto)]
 
+mod answers;
 mod ending;
 pub mod examples;
 mod laws;
-mod lines;
 mod load;
 mod outlet;
 mod refusal;
-mod talk;
 #[cfg(test)]
 mod tests;
 mod turns;

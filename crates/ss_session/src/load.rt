@@ -1,6 +1,6 @@
 ghost use Rattle.std.specs.Prelude.{IfOk, IfErr};
 ghost use Rattle.ss_session.specs.Model.{accepted, IsOutcome};
-ghost use Rattle.ss_session.specs.Loads.{IsLoadFault};
+ghost use Rattle.ss_session.specs.Private.{IsLoadFault};
 
 use ss_check::{CheckFault, CheckRule, Program, check};
 use ss_routines::sections;
@@ -15,24 +15,41 @@ pub(crate) enum LoadFault {
     Memory,
 }
 
+impl From<TextFault> for LoadFault {
+    ghost use Rattle.std.specs.Prelude.{◌≡◌};
+    ghost use Rattle.ss_session.specs.Private.{load_fault_of_text};
+
+    ghost from_gives = { λ refusal fault. fault ≡ load_fault_of_text refusal };
+
+    fn from(refusal: TextFault) -> LoadFault {
+        match refusal {
+            TextFault::Refused { rule, line } => LoadFault::Text { rule, line },
+            TextFault::Memory => LoadFault::Memory,
+        }
+    }
+}
+
+impl From<CheckFault> for LoadFault {
+    ghost use Rattle.std.specs.Prelude.{◌≡◌};
+    ghost use Rattle.ss_session.specs.Private.{load_fault_of_check};
+
+    ghost from_gives = { λ refusal fault. fault ≡ load_fault_of_check refusal };
+
+    fn from(refusal: CheckFault) -> LoadFault {
+        match refusal {
+            CheckFault::Broken { rule, line } => LoadFault::Check { rule, line },
+            CheckFault::Memory => LoadFault::Memory,
+        }
+    }
+}
+
 /// The program that a model is.
+#[tactic(auto, using(crate::proofs::Outcomes::all_words))]
 pub(crate) fn load(alloc: Global, model: &[u8]) -> Result<Program, LoadFault>
     ensures ok { IfOk result (λ program. IsOutcome model.now (accepted program)) }
     ensures err { IfErr result (λ fault. IsLoadFault fault model.now) }
 {
-    let words = match words(alloc, model) {
-        Ok(words) => words,
-        Err(TextFault::Refused { rule, line }) => return Err(LoadFault::Text { rule, line }),
-        Err(TextFault::Memory) => return Err(LoadFault::Memory),
-    };
-    let sections = match sections(alloc, &words, 0) {
-        Ok(sections) => sections,
-        Err(TextFault::Refused { rule, line }) => return Err(LoadFault::Text { rule, line }),
-        Err(TextFault::Memory) => return Err(LoadFault::Memory),
-    };
-    match check(alloc, sections) {
-        Ok(program) => Ok(program),
-        Err(CheckFault::Broken { rule, line }) => Err(LoadFault::Check { rule, line }),
-        Err(CheckFault::Memory) => Err(LoadFault::Memory),
-    }
+    let words = words(alloc, model)?;
+    let sections = sections(alloc, &words, 0)?;
+    Ok(check(alloc, sections)?)
 }

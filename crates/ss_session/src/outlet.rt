@@ -1,6 +1,8 @@
 ghost use Rattle.std.specs.Prelude.{◌≡◌, ℕ, ◌+◌, ◌-◌, ◌<◌, ◌≤◌, ◌^◌, ◌++◌, List, [], length, take, drop, Option, Some, None, OnOk, OnErr, IfOk};
 ghost use Rattle.std.specs.Io.KnownBytes.{Appends};
-ghost use Rattle.ss_session.specs.Outlet.{count_taken, failed};
+ghost use Rattle.std.specs.Vec.{vec_capacity};
+ghost use Rattle.ss_session.specs.Outlet.{count_taken, failure_count};
+ghost use Rattle.ss_session.specs.Written.{WritesPart};
 
 use std::alloc::Global;
 use thiserror::Error;
@@ -18,17 +20,18 @@ pub trait Outlet {
     // how many calls failed
     ghost failures: { Self → ℕ };
 
-    /// Takes a prefix of the piece, which must not be empty, and gives its length. A fault or a 0 takes nothing, and adds one
-    /// to the count of failures, which nothing else changes.
+    /// Takes a prefix of the piece, which must not be empty, and gives its length. A fault or a 0
+    /// takes nothing, and adds one to the count of failures, which nothing else changes.
     fn put(&mut self, piece: &[u8]) -> Result<usize, PutFault>
         requires some { 0 < length piece.now }
         requires room { failures self.old < 2 ^ 64 - 1 }
         ensures within { count_taken result ≤ length piece.now }
         ensures took { Appends (taken self.old) (taken self.new) (take (count_taken result) piece.now) }
-        ensures counts { failures self.new ≡ failures self.old + failed result };
+        ensures counts { failures self.new ≡ failures self.old + failure_count result };
 }
 
-/// An outlet over memory, which tells what it took. Where its room cannot grow, a call fails and takes nothing.
+/// An outlet over memory, which tells what it took. A call takes its whole piece; where its room is
+/// too small for that and cannot grow, it fails and takes nothing.
 #[derive(Drop)]
 pub struct MemoryOutlet {
     bytes: Vec<u8>,
@@ -60,7 +63,16 @@ impl Outlet for MemoryOutlet {
 
     ghost failures = { λ m. m.failures };
 
-    fn put(&mut self, piece: &[u8]) -> Result<usize, PutFault> {
+    fn put(&mut self, piece: &[u8]) -> Result<usize, PutFault>
+        requires some { 0 < length piece.now }
+        requires room { self.old.failures < 2 ^ 64 - 1 }
+        ensures within { count_taken result ≤ length piece.now }
+        ensures took { Appends (Some self.old.bytes.items) (Some self.new.bytes.items)
+            (take (count_taken result) piece.now) }
+        ensures counts { self.new.failures ≡ self.old.failures + failure_count result }
+        ensures whole { IfOk result (λ n. n ≡ length piece.now) }
+        ensures full { OnErr result (vec_capacity self.old.bytes < length self.old.bytes.items + length piece.now) }
+    {
         match self.bytes.extend_from_slice(piece) {
             Ok(()) => Ok(piece.len()),
             Err(_) => {
@@ -75,22 +87,26 @@ impl Outlet for MemoryOutlet {
 fn put_some<W: Outlet>(out: &mut W, bytes: &[u8], at: usize) -> Result<usize, PutFault>
     requires left { at < length bytes.now }
     requires room { W.failures out.old < 2 ^ 64 - 1 }
-    ensures ok { IfOk result (λ n. (0 < n) × (at + n ≤ length bytes.now) × Appends (W.taken out.old) (W.taken out.new) (take n (drop at bytes.now)) × (W.failures out.new ≡ W.failures out.old)) }
-    ensures err { OnErr result (Appends (W.taken out.old) (W.taken out.new) [] × (W.failures out.new ≡ W.failures out.old + 1)) }
+    ensures ok { IfOk result (λ n. (0 < n) × (at + n ≤ length bytes.now)
+        × Appends (W.taken out.old) (W.taken out.new) (take n (drop at bytes.now))
+        × (W.failures out.new ≡ W.failures out.old)) }
+    ensures err { OnErr result (Appends (W.taken out.old) (W.taken out.new) []
+        × (W.failures out.new ≡ W.failures out.old + 1)) }
 {
-    match out.put(&bytes[at..]) {
-        Ok(0) => Err(PutFault),
-        Ok(n) => Ok(n),
-        Err(fault) => Err(fault),
+    match out.put(&bytes[at..])? {
+        0 => Err(PutFault),
+        n => Ok(n),
     }
 }
 
 /// Writes all of the bytes, as many pieces as `put` takes them in, until one call fails.
-#[tactic(auto, using(crate::proofs::Pieces::appends_part, crate::proofs::Pieces::appends_none, crate::proofs::Pieces::appends_no_more))]
+#[tactic(auto, using(crate::proofs::Pieces::appends_part, crate::proofs::Pieces::appends_none, crate::proofs::Pieces::appends_no_more, crate::proofs::Parts::writes_part))]
 pub(crate) fn put_all<W: Outlet>(out: &mut W, bytes: &[u8]) -> Result<(), PutFault>
     requires { W.failures out.old < 2 ^ 64 - 1 }
-    ensures ok { OnOk result (Appends (W.taken out.old) (W.taken out.new) bytes.now × (W.failures out.new ≡ W.failures out.old)) }
-    ensures err { OnErr result (((n : ℕ) × (n ≤ length bytes.now) × Appends (W.taken out.old) (W.taken out.new) (take n bytes.now)) × (W.failures out.new ≡ W.failures out.old + 1)) }
+    ensures ok { OnOk result (Appends (W.taken out.old) (W.taken out.new) bytes.now
+        × (W.failures out.new ≡ W.failures out.old)) }
+    ensures err { OnErr result (WritesPart bytes.now (W.taken out.old) (W.taken out.new)
+        × (W.failures out.new ≡ W.failures out.old + 1)) }
 {
     let mut at = 0;
     while at < bytes.len() {

@@ -1,10 +1,11 @@
-//! Whole sessions over memory: the worked examples of the language and the debugger, each with the bytes that it must give.
+//! Whole sessions over memory: the worked examples of the language and the debugger, each with the
+//! bytes that it must give.
 use crate::{End, MemoryOutlet, Outlet, PutFault, SessionFault, exit_status, session};
 use std::process::Abort;
 use std::test::Fail;
 
 /// Runs a session over memory, compares what it writes, and gives its end.
-fn told<R: Abort + AllocGlobal>(
+fn end_of_session<R: Abort + AllocGlobal>(
     rt: &R,
     model: &str,
     commands: &str,
@@ -26,7 +27,7 @@ const FIVE: &str = "MAIN\nLET X = 5\nPRINT 1 LINE WITH X THUS\nX = ***\nSTOP\nEN
 
 #[test]
 fn an_empty_program_stops(rt: HostRuntime) {
-    let end = told(&rt, "MAIN\nSTOP\nEND\n", "", "REPORT\n");
+    let end = end_of_session(&rt, "MAIN\nSTOP\nEND\n", "", "REPORT\n");
     assert_eq!(rt; end, Ok(End::Done));
     assert_eq!(rt; exit_status(&end), 0);
 }
@@ -34,32 +35,34 @@ fn an_empty_program_stops(rt: HostRuntime) {
 #[test]
 fn five_is_printed_again_after_a_step_back(rt: HostRuntime) {
     let commands = "STEP 2\nBACK\nSHOW REPORT\nSTEP\nSHOW REPORT\n";
-    let wanted =
-        "DONE: STATE 2 CLOCK 0 READY IN MAIN LINE 5\nDONE: STATE 1 CLOCK 0 READY IN MAIN LINE 3\nREPORT\nDONE: STATE 2 CLOCK 0 READY IN MAIN LINE 5\nREPORT\nX =   5\nREPORT\nX =   5\n";
-    assert_eq!(rt; told(&rt, FIVE, commands, wanted), Ok(End::Done));
+    let wanted = "DONE: STATE 2 CLOCK 0 READY IN MAIN LINE 5\n\
+         DONE: STATE 1 CLOCK 0 READY IN MAIN LINE 3\nREPORT\n\
+         DONE: STATE 2 CLOCK 0 READY IN MAIN LINE 5\nREPORT\nX =   5\nREPORT\nX =   5\n";
+    assert_eq!(rt; end_of_session(&rt, FIVE, commands, wanted), Ok(End::Done));
 }
 
 #[test]
 fn back_goes_no_further_than_the_start(rt: HostRuntime) {
     let commands = "BACK\nSTEP 3\nBACK 10\nSHOW VAR X\n";
-    let wanted =
-        "START: STATE 0 CLOCK 0 READY IN MAIN LINE 2\nHALTED: STATE 3 CLOCK 0 STOPPED IN MAIN LINE 5\nSTART: STATE 0 CLOCK 0 READY IN MAIN LINE 2\nX = 0\nREPORT\n";
-    assert_eq!(rt; told(&rt, FIVE, commands, wanted), Ok(End::Done));
+    let wanted = "START: STATE 0 CLOCK 0 READY IN MAIN LINE 2\n\
+         HALTED: STATE 3 CLOCK 0 STOPPED IN MAIN LINE 5\n\
+         START: STATE 0 CLOCK 0 READY IN MAIN LINE 2\nX = 0\nREPORT\n";
+    assert_eq!(rt; end_of_session(&rt, FIVE, commands, wanted), Ok(End::Done));
 }
 
 #[test]
 fn an_overflow_stands_at_its_statement(rt: HostRuntime) {
     let model = "MAIN\nLET X = 9223372036854775807\nADD 1 TO X\nEND\n";
-    let wanted =
-        "HALTED: STATE 2 CLOCK 0 FAULT F1 IN MAIN LINE 3\nX = 9223372036854775807\nDONE: STATE 0 CLOCK 0 READY IN MAIN LINE 2\nX = 0\nREPORT\n";
-    let end = told(
+    let wanted = "HALTED: STATE 2 CLOCK 0 FAULT F1 IN MAIN LINE 3\nX = 9223372036854775807\n\
+         DONE: STATE 0 CLOCK 0 READY IN MAIN LINE 2\nX = 0\nREPORT\n";
+    let end = end_of_session(
         &rt,
         model,
         "STEP 5\nSHOW VAR X\nBACK 2\nSHOW VAR X\n",
         wanted,
     );
     assert_eq!(rt; end, Ok(End::Done));
-    let end = told(
+    let end = end_of_session(
         &rt,
         model,
         "RUN",
@@ -71,25 +74,25 @@ fn an_overflow_stands_at_its_statement(rt: HostRuntime) {
 
 #[test]
 fn refused_models_give_one_line(rt: HostRuntime) {
-    let end = told(
+    let end = end_of_session(
         &rt,
         "MAIN\nPRINT 1 LINE WITH X, Y THUS\n*.**\nEND\n",
         "RUN",
         "MODEL REFUSED C10 LINE 2\n",
     );
     assert_eq!(rt; end, Err(SessionFault::Check));
-    let end = told(&rt, "MAIN\nEND\nLOOP\n", "RUN", "MODEL REFUSED P1 LINE 3\n");
+    let end = end_of_session(&rt, "MAIN\nEND\nLOOP\n", "RUN", "MODEL REFUSED P1 LINE 3\n");
     assert_eq!(rt; end, Err(SessionFault::Text));
-    let end = told(
+    let end = end_of_session(
         &rt,
         "MAIN\nLET X = 9223372036854775808\nEND\n",
         "",
         "MODEL REFUSED L2 LINE 2\n",
     );
     assert_eq!(rt; end, Err(SessionFault::Text));
-    let end = told(&rt, "MAIN\nLET X =", "", "MODEL REFUSED P2 LINE 2\n");
+    let end = end_of_session(&rt, "MAIN\nLET X =", "", "MODEL REFUSED P2 LINE 2\n");
     assert_eq!(rt; exit_status(&end), 3);
-    let end = told(&rt, "", "", "MODEL REFUSED C11 LINE 1\n");
+    let end = end_of_session(&rt, "", "", "MODEL REFUSED C11 LINE 1\n");
     assert_eq!(rt; end, Err(SessionFault::Check));
 }
 
@@ -97,7 +100,7 @@ fn refused_models_give_one_line(rt: HostRuntime) {
 fn a_bad_command_and_one_without_a_line_end(rt: HostRuntime) {
     let wanted = "BAD COMMAND\nHALTED: STATE 1 CLOCK 0 STOPPED IN MAIN LINE 2\nREPORT\n";
     assert_eq!(rt;
-        told(&rt, "MAIN\nSTOP\nEND\n", "FOO\nstep", wanted),
+        end_of_session(&rt, "MAIN\nSTOP\nEND\n", "FOO\nstep", wanted),
         Ok(End::Done)
     );
 }
@@ -106,7 +109,7 @@ fn a_bad_command_and_one_without_a_line_end(rt: HostRuntime) {
 fn lines_behind_quit_are_not_obeyed(rt: HostRuntime) {
     let wanted = "DONE: STATE 1 CLOCK 0 READY IN MAIN LINE 3\nTIME.V = 0\nNO VARIABLE Y\nREPORT\n";
     assert_eq!(rt;
-        told(
+        end_of_session(
             &rt,
             FIVE,
             "\n \tstep\r\nSHOW VAR time.v\nshow var y.\nQUIT\nSTEP\n",
@@ -152,8 +155,8 @@ const REFUSED: &str = "MAIN\nEND\nLOOP\n";
 
 const REFUSAL: &str = "MODEL REFUSED P1 LINE 3\n";
 
-/// Runs a session over an outlet that takes `room` bytes, and compares what it took: all where there is room for it, else the first
-/// bytes, and the session ends with Write after one failure.
+/// Runs a session over an outlet that takes `room` bytes, and compares what it took: all where
+/// there is room for it, else the first bytes, and the session ends with Write after one failure.
 fn cut<R: Abort + AllocGlobal>(
     rt: &R,
     model: &str,
@@ -197,7 +200,8 @@ fn a_write_that_fails_leaves_a_prefix(rt: HostRuntime) {
     }
 }
 
-/// Takes every piece whole but the one of the call `fails_at`, counted from 0, and keeps how many calls there were.
+/// Takes every piece whole but the one of the call `fails_at`, counted from 0, and keeps how many
+/// calls there were.
 #[derive(Drop)]
 struct FailsOnce {
     bytes: Vec<u8>,
@@ -240,7 +244,8 @@ fn fail_once<R: Abort + AllocGlobal>(
     (end, out)
 }
 
-/// Behind the one call that fails, whichever of the session's calls it is, there is none, although the outlet would take all again.
+/// Behind the one call that fails, whichever of the session's calls it is, there is none, although
+/// the outlet would take all again.
 fn put_ends<R: Abort + AllocGlobal>(
     rt: &R,
     model: &str,
@@ -311,8 +316,9 @@ fn a_session_grows(rt: HostRuntime) {
     assert_eq!(rt; count_whole(out.bytes(), &GROWN), Some(7));
 }
 
-/// Passes whichever growth is refused: the session ends with Memory and has written the whole answers of the first lines, and the same
-/// session run again writes all. The outlet has its room from the start, so that the session alone takes memory.
+/// Passes whichever growth is refused: the session ends with Memory and has written the whole
+/// answers of the first lines, and the same session run again writes all. The outlet has its room
+/// from the start, so that the session alone takes memory.
 #[test]
 fn a_refused_growth_leaves_whole_answers(rt: HostRuntime) {
     let mut bytes = Vec::new(rt.alloc());

@@ -1,14 +1,13 @@
-ghost use Rattle.std.specs.Prelude.{◌≡◌, ℕ, ◌+◌, ◌-◌, ◌^◌, ◌<◌, ◌≤◌, List, Option, false};
-ghost use Rattle.ss_debug.specs.Words.{lines_of};
-ghost use Rattle.ss_session.specs.SoFar.{TurnGives, TurnsGive};
+ghost use Rattle.std.specs.Prelude.{◌≡◌, ◌+◌, ◌-◌, ◌^◌, ◌<◌, false};
+ghost use Rattle.ss_debug.specs.CommandLines.{command_lines};
+ghost use Rattle.ss_session.specs.Private.{TurnEnds, TurnsEnd};
 
 use crate::ending::Cut;
-use crate::lines::split_line;
 use crate::outlet::{Outlet, put_all};
-use ss_debug::{Debugger, Go, command, obey};
+use ss_debug::{Debugger, Go, command, obey, split_line};
 
 /// Obeys one line, and writes its whole answer.
-#[tactic(auto, using(crate::proofs::Parts::writes_part, crate::proofs::Pieces::appends_none), unfolding(crate::specs::SoFar::TurnGives))]
+#[tactic(auto, using(crate::proofs::Pieces::appends_none), unfolding(crate::specs::Private::TurnEnds))]
 fn turn<W: Outlet>(
     debugger: &mut Debugger,
     line: &[u8],
@@ -16,21 +15,17 @@ fn turn<W: Outlet>(
     out: &mut W,
 ) -> Result<Go, Cut>
     requires { W.failures out.old < 2 ^ 64 - 1 }
-    ensures { TurnGives result debugger.old.machine.program debugger.old debugger.new line.now (W.taken out.old) (W.taken out.new) (W.failures out.old) (W.failures out.new) }
+    ensures { TurnEnds result debugger.old.machine.program debugger.old debugger.new line.now
+        (W.taken out.old) (W.taken out.new) (W.failures out.old) (W.failures out.new) }
 {
     bytes.clear();
-    let go = match obey(debugger, command(line), bytes) {
-        Ok(go) => go,
-        Err(_) => return Err(Cut::Memory),
-    };
-    match put_all(out, bytes) {
-        Ok(()) => Ok(go),
-        Err(_) => Err(Cut::Write),
-    }
+    let go = obey(debugger, command(line), bytes)?;
+    put_all(out, bytes)?;
+    Ok(go)
 }
 
 /// Obeys the lines, up to the last or QUIT, and writes their whole answers.
-#[tactic(auto, unfolding(crate::specs::SoFar::TurnGives, crate::specs::SoFar::TurnsGive))]
+#[tactic(auto, unfolding(crate::specs::Private::TurnEnds, crate::specs::Private::TurnsEnd))]
 pub(crate) fn obey_lines<W: Outlet>(
     debugger: &mut Debugger,
     bytes: &mut Vec<u8>,
@@ -38,18 +33,16 @@ pub(crate) fn obey_lines<W: Outlet>(
     out: &mut W,
 ) -> Result<(), Cut>
     requires { W.failures out.old < 2 ^ 64 - 1 }
-    ensures { TurnsGive result debugger.old.machine.program debugger.old debugger.new (lines_of commands.now) (W.taken out.old) (W.taken out.new) (W.failures out.old) (W.failures out.new) }
+    ensures { TurnsEnd result debugger.old.machine.program debugger.old debugger.new (command_lines commands.now)
+        (W.taken out.old) (W.taken out.new) (W.failures out.old) (W.failures out.new) }
 {
     let mut rest = commands;
     while !rest.is_empty() {
         let (line, more) = split_line(rest);
-        match turn(debugger, line, bytes, out) {
-            Ok(Go::On) => {}
-            Ok(Go::Quit) => return Ok(()),
-            Err(Cut::Memory) => return Err(Cut::Memory),
-            Err(Cut::Write) => return Err(Cut::Write),
+        match turn(debugger, line, bytes, out)? {
+            Go::On => rest = more,
+            Go::Quit => return Ok(()),
         }
-        rest = more;
     }
     Ok(())
 }

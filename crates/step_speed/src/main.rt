@@ -1,7 +1,9 @@
-//! How fast a machine steps: a long model without a loop is run forward, all the way back, and forward again.
+//! How fast a machine steps: a long model without a loop is run forward, all the way back, and
+//! forward again.
 //!
-//! `step_speed [PLACES]` runs a MAIN of so many places, 1,000 where no number is given, every hundredth a PRINT and the others ADD,
-//! and writes what each way took; without a number it writes no times.
+//! `step_speed [PLACES]` runs a MAIN of so many places, 1,000 where no number is given, every
+//! hundredth a PRINT and the others ADD, and writes what each way took; without a number it writes
+//! no times.
 #![tactic(auto)]
 
 mod model;

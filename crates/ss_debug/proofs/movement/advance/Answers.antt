@@ -1,19 +1,25 @@
 use Rattle.std.proofs.Common.{◌≡◌, true, arith, rules}
 use Rattle.ss_machine.specs.Moment.{position}
 use Rattle.ss_debug.specs.Move.{stops}
+use Rattle.ss_debug.specs.View.{condition_of}
 use Rattle.ss_debug.proofs.Moves.{least_is, least_at_least}
 use Rattle.ss_debug.proofs.movement.advance.Goals as goal
 
 pub returns-then-is_at_stop-clause-ok : goal.returns-then-is_at_stop-clause-ok
 returns-then-is_at_stop-clause-ok c =
     let m = c.args.machine.now in
-    let found : stops m.program c.args.breaks.now c.args.rule (position m) c.loop-k.k ≡ true = search rules in
-    let e = least_is (stops m.program c.args.breaks.now c.args.rule (position m)) c.args.bound c.loop-k.k (omega arith) c.loop-k.invariant.went_on (λ _. found) in
+    let found : stops m.program c.args.breaks.now (condition_of c.args.condition) (position m) c.loop-k.k ≡ true =
+    search rules in
+    let e =
+    least_is (stops m.program c.args.breaks.now (condition_of c.args.condition) (position m)) c.args.bound
+    c.loop-k.k (omega arith) c.loop-k.invariant.went_on (λ _. found) in
     record { program = c.loop-k.invariant.program; position = rw e c.loop-k.invariant.stepped }
 
 pub returns-in-Err-clause-memory : goal.returns-in-Err-clause-memory
 returns-in-Err-clause-memory c =
     let m = c.args.machine.now in
-    let low = least_at_least (stops m.program c.args.breaks.now c.args.rule (position m)) c.args.bound c.loop-k.k (omega arith) c.loop-k.invariant.went_on in
+    let low =
+    least_at_least (stops m.program c.args.breaks.now (condition_of c.args.condition) (position m)) c.args.bound
+    c.loop-k.k (omega arith) c.loop-k.invariant.went_on in
     let same : c.step_once.new.machine ≡ c.loop-k.machine = search rules in
     rw (same, c.loop-k.invariant.stepped) (c.loop-k.invariant.program, omega arith, omega arith)

@@ -1,11 +1,13 @@
 use Rattle.std.proofs.Common.{◌≡◌, ℕ, ◌+◌, ◌<◌, false}
 use Rattle.ss_machine.specs.Moment.{position}
 use Rattle.ss_debug.specs.Move.{stops}
+use Rattle.ss_debug.specs.View.{condition_of}
 use Rattle.ss_debug.proofs.movement.advance.Given as goal
 
 abbrev pub invariant-loop-k : goal.invariant-loop-k
 invariant-loop-k l = record {
   program : l.machine.program ≡ l.initial.machine.program;
   stepped : position l.machine ≡ position l.initial.machine + l.k;
-  went_on : (j : ℕ) → j < l.k → stops l.initial.machine.program l.breaks l.rule (position l.initial.machine) j ≡ false;
+  went_on : (j : ℕ) → j < l.k →
+      stops l.initial.machine.program l.breaks (condition_of l.condition) (position l.initial.machine) j ≡ false;
 }

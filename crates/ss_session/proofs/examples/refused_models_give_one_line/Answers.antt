@@ -10,26 +10,38 @@ use Rattle.ss_check.specs.declared.fault.CheckRule.TheVariants.{WrongPicture, Wr
 use Rattle.ss_session.specs.Examples.{two_values, word_behind, unended, too_large}
 use Rattle.ss_session.proofs.ExampleWords.{two_values_words, two_values_read, word_behind_words, word_behind_read, unended_words, unended_read, too_large_read, empty_read}
 use Rattle.ss_session.proofs.ExamplePrograms.{two_values_plain, two_values_spelled, two_values_tree, two_values_spells, word_behind_plain, word_behind_spelled, unended_plain, unended_spelled}
-use Rattle.ss_session.proofs.Told.{tells_breach, tells_refused, tells_no_words}
+use Rattle.ss_session.proofs.Transcripts.{tells_breach, tells_refused, tells_no_words}
 use Rattle.ss_session.proofs.examples.refused_models_give_one_line.Goals as goal
 
 pub returns-clause-wrong_picture : goal.returns-clause-wrong_picture
 unfolding digits
 returns-clause-wrong_picture c =
-    tells_breach two_values two_values_words two_values_plain two_values_read two_values_spelled two_values_tree WrongPicture 2 _ (record { parentheses = omega arith; sections = omega arith }) two_values_spells refl refl
+    tells_breach two_values two_values_words two_values_plain two_values_read two_values_spelled two_values_tree
+    WrongPicture 2 _ (record { parentheses = omega arith; sections = omega arith }) two_values_spells refl refl
 
 pub returns-clause-empty_text : goal.returns-clause-empty_text
 unfolding digits
-returns-clause-empty_text c = tells_breach (codes "") [] [] empty_read refl [] WrongMain 1 _ (record { parentheses = omega arith; sections = omega arith }) refl refl refl
+returns-clause-empty_text c =
+    tells_breach (codes "") [] [] empty_read refl [] WrongMain 1 _
+    (record { parentheses = omega arith; sections = omega arith }) refl refl refl
 
 pub returns-clause-word_behind_end : goal.returns-clause-word_behind_end
-unfolding digits bind pure refuse look skip ended whole many many_from expect eat a_name a_number a_picture lead factor_with next_product products_with term_with next_sum sums_with expr_with paren_with expr_at a_reference let_with add_with subtract_with an_assign next_value further_with behind_first values_with print_with simple_with next_statement block_with section_with sections_with
+unfolding digits bind pure refuse look skip ended whole many many_from expect eat a_name a_number a_picture lead
+    factor_with next_product products_with term_with next_sum sums_with expr_with paren_with expr_at a_reference
+    let_with add_with subtract_with an_assign next_value further_with behind_first values_with print_with
+    simple_with next_statement block_with section_with sections_with
 returns-clause-word_behind_end c =
-    tells_refused word_behind word_behind_words word_behind_plain word_behind_read word_behind_spelled UnexpectedWord 3 _ (at_word word_behind_plain _ _ 3 refl refl) refl
+    tells_refused word_behind word_behind_words word_behind_plain word_behind_read word_behind_spelled UnexpectedWord 3
+    _ (at_word word_behind_plain _ _ 3 refl refl) refl
 
 pub returns-clause-texts_end : goal.returns-clause-texts_end
-unfolding digits bind pure refuse look skip ended whole many many_from expect eat a_name a_number a_picture lead factor_with next_product products_with term_with next_sum sums_with expr_with paren_with expr_at a_reference let_with add_with subtract_with an_assign next_value further_with behind_first values_with print_with simple_with next_statement block_with section_with sections_with
-returns-clause-texts_end c = tells_refused unended unended_words unended_plain unended_read unended_spelled UnexpectedEnd 2 _ (at_end unended_plain 2 refl refl) refl
+unfolding digits bind pure refuse look skip ended whole many many_from expect eat a_name a_number a_picture lead
+    factor_with next_product products_with term_with next_sum sums_with expr_with paren_with expr_at a_reference
+    let_with add_with subtract_with an_assign next_value further_with behind_first values_with print_with
+    simple_with next_statement block_with section_with sections_with
+returns-clause-texts_end c =
+    tells_refused unended unended_words unended_plain unended_read unended_spelled UnexpectedEnd 2 _
+    (at_end unended_plain 2 refl refl) refl
 
 pub returns-clause-large_number : goal.returns-clause-large_number
 unfolding digits

@@ -1,12 +1,14 @@
 use Rattle.std.proofs.Common.{◌≡◌, length}
-use Rattle.ss_debug.specs.Words.{lines_of}
-use Rattle.ss_debug.specs.Underway.{desk_of}
-use Rattle.ss_session.specs.SoFar.{IsSoFar, seated}
+use Rattle.ss_debug.specs.CommandLines.{command_lines}
+use Rattle.ss_debug.specs.View.{debugger_state_of}
+use Rattle.ss_session.specs.Private.{IsWrittenSoFar, open_session_state}
 use Rattle.ss_session.proofs.turns.obey_lines.Given as goal
 
 abbrev pub invariant-loop-rest : goal.invariant-loop-rest
 invariant-loop-rest g l = record {
-  so_far : IsSoFar l.initial.debugger.machine.program (seated (desk_of l.initial.debugger)) (lines_of l.commands) (lines_of l.rest) (seated (desk_of l.debugger)) (g.W.Outlet.taken l.initial.out) (g.W.Outlet.taken l.out);
+  so_far : IsWrittenSoFar l.initial.debugger.machine.program (open_session_state (debugger_state_of l.initial.debugger))
+      (command_lines l.commands) (command_lines l.rest) (open_session_state (debugger_state_of l.debugger))
+      (g.W.Outlet.taken l.initial.out) (g.W.Outlet.taken l.out);
   program : l.debugger.machine.program ≡ l.initial.debugger.machine.program;
   counted : g.W.Outlet.failures l.out ≡ g.W.Outlet.failures l.initial.out;
 }

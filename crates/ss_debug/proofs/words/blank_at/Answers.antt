@@ -1,8 +1,0 @@
-use Rattle.std.proofs.Common.{length, sym, arith}
-use Rattle.std.proofs.lemmas.List.Sums.{position_or_len_is}
-use Rattle.ss_debug.specs.Words.{is_blank}
-use Rattle.ss_debug.proofs.words.blank_at.Goals as goal
-
-pub returns-clause-place : goal.returns-clause-place
-returns-clause-place c =
-    sym (position_or_len_is is_blank c.args.line.now (length c.args.line.now) 0 (omega arith) (λ k h. c.loop-i.invariant k (omega arith)) (λ h. absurd (omega arith)))

@@ -1,0 +1,21 @@
+-- What the types of the code stand for.
+use Rattle.std.specs.Prelude.{ℕ, List}
+use Rattle.ss_machine.specs.Moment.{Moment, position}
+use Rattle.ss_debug.specs.declared.stop_condition.StopCondition.{StopCondition as StopChoice}
+use Rattle.ss_debug.specs.declared.stop_condition.StopCondition.TheVariants.{Never, AtBreakLine}
+use Rattle.ss_debug.specs.Move.{StopCondition, never, at_break_line}
+use Rattle.ss_debug.specs.Turn.{DebuggerState}
+
+-- the stop condition that the code names
+abbrev pub condition_of : StopChoice → StopCondition
+condition_of Never = never
+condition_of AtBreakLine = at_break_line
+
+-- a debugger: its machine and its break lines
+pub record DebuggerView : Type 0 where
+  pub machine : Moment
+  pub breaks : List ℕ
+
+-- the state of a debugger
+abbrev pub debugger_state_of : DebuggerView → DebuggerState
+debugger_state_of d = record { position = position d.machine; breaks = d.breaks }

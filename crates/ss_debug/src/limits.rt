@@ -1,0 +1,10 @@
+//! The limits of command lines (docs/DEBUGGER.md, "Lines").
+
+/// The most bytes of a command line that is obeyed.
+pub const LINE_LIMIT: usize = 200;
+
+/// The most bytes of a name, the stops at its end counted.
+pub const NAME_LIMIT: usize = 80;
+
+/// The greatest bound of a movement, and the bound of RUN where none is given.
+pub const GREATEST_BOUND: u64 = 1_000_000;

@@ -1,0 +1,117 @@
+-- How each private function of the session ends. No public contract cites this module.
+use Rattle.std.specs.Prelude.{ℕ, ◌+◌, ◌≡◌, false, List, [], ◌++◌, Option, Result, Ok, Err}
+use Rattle.std.specs.Io.KnownBytes.{Appends}
+use Rattle.ss_words.specs.declared.fault.TextFault.{TextFault}
+use Rattle.ss_words.specs.declared.fault.TextFault.TheVariants as text
+use Rattle.ss_check.specs.declared.fault.CheckFault.{CheckFault}
+use Rattle.ss_check.specs.declared.fault.CheckFault.TheVariants as check
+use Rattle.ss_check.specs.Program.{ProgramTable}
+use Rattle.ss_debug.specs.Command.{command_of}
+use Rattle.ss_debug.specs.Turn.{DebuggerState, SessionState, initial_session_state, debugger_state_after}
+use Rattle.ss_debug.specs.Turn.{answer, answers, session_state_after, go_of}
+use Rattle.ss_debug.specs.View.{DebuggerView, debugger_state_of}
+use Rattle.ss_debug.specs.declared.go.Go.{Go}
+use Rattle.ss_session.specs.declared.ending.Cut.{Cut}
+use Rattle.ss_session.specs.declared.ending.Cut.TheVariants as cut
+use Rattle.ss_session.specs.declared.ending.End.{End}
+use Rattle.ss_session.specs.declared.ending.SessionFault.{SessionFault}
+use Rattle.ss_session.specs.declared.ending.SessionFault.TheVariants.{Text, Check, Write, Memory}
+use Rattle.ss_session.specs.declared.load.LoadFault.{LoadFault}
+use Rattle.ss_session.specs.declared.load.LoadFault.TheVariants as load
+use Rattle.ss_session.specs.Model.{refused_text, refused_check, IsOutcome, IsTextRefused, IsCheckRefused}
+use Rattle.ss_session.specs.Written.{WritesFirst, WritesPart}
+use Rattle.ss_session.specs.Transcript.{program_transcript, ends_faulted, end_of, EndsBy}
+use Rattle.ss_session.specs.Transcript.{WritesFirstAnswers, WritesTranscript, WritesPartOfTranscript}
+
+-- ---- the reading of a model
+
+-- a refusal of the text, or of memory for it, as a fault of the reading
+abbrev pub load_fault_of_text : TextFault → LoadFault
+load_fault_of_text (text.Refused rule line) = load.Text rule line
+load_fault_of_text text.Memory = load.Memory
+
+-- a refusal of the spelled model, or of memory for it, as a fault of the reading
+abbrev pub load_fault_of_check : CheckFault → LoadFault
+load_fault_of_check (check.Broken rule line) = load.Check rule line
+load_fault_of_check check.Memory = load.Memory
+
+-- a fault of the reading tells the model's refusal, unless memory was refused
+abbrev pub IsLoadFault : LoadFault → List ℕ → Type 0
+IsLoadFault (load.Text rule line) model = IsOutcome model (refused_text rule line)
+IsLoadFault (load.Check rule line) model = IsOutcome model (refused_check rule line)
+IsLoadFault load.Memory model = Unit {0}
+
+-- ---- the turns
+
+-- some of the lines are done, and their whole answers are written
+pub record IsWrittenSoFar (t : ProgramTable) (start : SessionState) (lines rest : List (List ℕ))
+    (now : SessionState) (old new : Option (List ℕ)) : Type 0 where
+  pub done : List (List ℕ)
+  pub split : lines ≡ done ++ rest
+  pub place : now ≡ session_state_after t start done
+  pub said : Appends old new (answers t start done)
+
+-- the state of a session in which QUIT has not come
+abbrev pub open_session_state : DebuggerState → SessionState
+open_session_state d = record { debugger = d; over = false }
+
+-- one turn over a program, by how it ends
+unfoldable pub TurnEnds : Result Go Cut → ProgramTable → DebuggerView → DebuggerView → List ℕ →
+    Option (List ℕ) → Option (List ℕ) → ℕ → ℕ → Type 0
+TurnEnds (Ok go) t view next line old new failures failures' =
+    (debugger_state_of next ≡ debugger_state_after t (debugger_state_of view) (command_of line))
+    × (next.machine.program ≡ t) × (go ≡ go_of (command_of line))
+    × Appends old new (answer t (debugger_state_of view) (command_of line)) × (failures' ≡ failures)
+TurnEnds (Err cut.Memory) t view next line old new failures failures' =
+    Appends old new [] × (failures' ≡ failures)
+TurnEnds (Err cut.Write) t view next line old new failures failures' =
+    WritesPart (answer t (debugger_state_of view) (command_of line)) old new × (failures' ≡ failures + 1)
+
+-- the turns of some lines, by how they end
+unfoldable pub TurnsEnd : Result (Unit {0}) Cut → ProgramTable → DebuggerView → DebuggerView → List (List ℕ) →
+    Option (List ℕ) → Option (List ℕ) → ℕ → ℕ → Type 0
+TurnsEnd (Ok done) t view next lines old new failures failures' =
+    (debugger_state_of next ≡ (session_state_after t (open_session_state (debugger_state_of view)) lines).debugger)
+    × (next.machine.program ≡ t)
+    × Appends old new (answers t (open_session_state (debugger_state_of view)) lines) × (failures' ≡ failures)
+TurnsEnd (Err cut.Memory) t view next lines old new failures failures' =
+    WritesFirst t (open_session_state (debugger_state_of view)) lines old new × (failures' ≡ failures)
+TurnsEnd (Err cut.Write) t view next lines old new failures failures' =
+    WritesPart (answers t (open_session_state (debugger_state_of view)) lines) old new × (failures' ≡ failures + 1)
+
+-- ---- the whole
+
+-- the fault of a session whose turns were cut short
+abbrev pub fault_of : Cut → SessionFault
+fault_of cut.Memory = Memory
+fault_of cut.Write = Write
+
+-- the writing of a refusal's line, by how it ends
+unfoldable pub LineEnds : Result (Unit {0}) Cut → List ℕ → Option (List ℕ) → Option (List ℕ) → ℕ → ℕ → Type 0
+LineEnds (Ok done) text old new failures failures' = Appends old new text × (failures' ≡ failures)
+LineEnds (Err cut.Memory) text old new failures failures' = Appends old new [] × (failures' ≡ failures)
+LineEnds (Err cut.Write) text old new failures failures' = WritesPart text old new × (failures' ≡ failures + 1)
+
+-- a session over a program, by how it ends
+unfoldable pub ProgramEnds : Result End Cut → ProgramTable → List (List ℕ) →
+    Option (List ℕ) → Option (List ℕ) → ℕ → ℕ → Type 0
+ProgramEnds (Ok end) t lines old new failures failures' =
+    (end ≡ end_of (ends_faulted t lines)) × Appends old new (program_transcript t lines) × (failures' ≡ failures)
+ProgramEnds (Err cut.Memory) t lines old new failures failures' =
+    WritesFirst t initial_session_state lines old new × (failures' ≡ failures)
+ProgramEnds (Err cut.Write) t lines old new failures failures' =
+    WritesPart (program_transcript t lines) old new × (failures' ≡ failures + 1)
+
+-- a session, by how it ends
+unfoldable pub SessionEnds : Result End SessionFault → List ℕ → List ℕ →
+    Option (List ℕ) → Option (List ℕ) → ℕ → ℕ → Type 0
+SessionEnds (Ok end) model commands old new failures failures' =
+    EndsBy model commands end × WritesTranscript model commands old new × (failures' ≡ failures)
+SessionEnds (Err Text) model commands old new failures failures' =
+    IsTextRefused model × WritesTranscript model commands old new × (failures' ≡ failures)
+SessionEnds (Err Check) model commands old new failures failures' =
+    IsCheckRefused model × WritesTranscript model commands old new × (failures' ≡ failures)
+SessionEnds (Err Memory) model commands old new failures failures' =
+    WritesFirstAnswers model commands old new × (failures' ≡ failures)
+SessionEnds (Err Write) model commands old new failures failures' =
+    WritesPartOfTranscript model commands old new × (failures' ≡ failures + 1)
