@@ -1,15 +1,15 @@
 ghost use Rattle.std.specs.Prelude.{IfSome, IfOk, IsTrue, List, length, map, ◌≡◌, ◌≤◌, ◌<◌, Ok};
-ghost use Rattle.ss_words.specs.Reading.{Gives, words_of, option_view};
+ghost use Rattle.ss_words.specs.Reading.{Gives, option_view};
 ghost use Rattle.ss_routines.specs.ExprReading as reading;
 ghost use Rattle.ss_routines.specs.View.{expr_view, term_view, factor_view, added_view, products_of, sums_of};
 
 use crate::expr::{Added, Expr, Factor, Term, TermSign};
-use ss_words::{Cursor, Mark, Plain, PlainWord, Refusal, Sign};
+use ss_words::{Cursor, Mark, Plain, Refusal, Sign};
 
 /// Reads an expression in which at most so many parentheses may be open at once.
 pub fn expression(cursor: &mut Cursor<'_>, room: u32) -> Result<Expr, Refusal>
-    ensures exact { Gives expr_view result (words_of cursor.new.rest.now) (reading.expr_at room (words_of cursor.old.rest.now)) }
-    ensures shorter { length cursor.new.rest.now ≤ length cursor.old.rest.now }
+    ensures exact { Gives expr_view result cursor.new (reading.expr_at room cursor.old) }
+    ensures shorter { length cursor.new ≤ length cursor.old }
 {
     expr(cursor, room)
 }
@@ -17,29 +17,17 @@ pub fn expression(cursor: &mut Cursor<'_>, room: u32) -> Result<Expr, Refusal>
 /// The sign that stands here, if one does.
 #[tactic(auto, unfolding(ss_words::specs::Reading::look, ss_words::specs::Reading::skip, ss_words::specs::Reading::pure, crate::specs::ExprReading::lead))]
 fn lead(cursor: &mut Cursor<'_>) -> Option<TermSign>
-    ensures exact { reading.lead (words_of cursor.old.rest.now) ≡ (Ok result, words_of cursor.new.rest.now) }
-    ensures shorter { length cursor.new.rest.now ≤ length cursor.old.rest.now }
-    ensures taken { IfSome result (λ _. length cursor.new.rest.now < length cursor.old.rest.now) }
+    ensures exact { reading.lead cursor.old ≡ (Ok result, cursor.new) }
+    ensures shorter { length cursor.new ≤ length cursor.old }
+    ensures taken { IfSome result (λ _. length cursor.new < length cursor.old) }
 {
-    match cursor.rest {
-        [
-            PlainWord {
-                kind: Plain::Mark(Mark::Sign(Sign::Plus)),
-                ..
-            },
-            rest @ ..,
-        ] => {
-            cursor.rest = rest;
+    match cursor.peek() {
+        Some(Plain::Mark(Mark::Sign(Sign::Plus))) => {
+            cursor.pass();
             Some(TermSign::Plus)
         }
-        [
-            PlainWord {
-                kind: Plain::Mark(Mark::Sign(Sign::Minus)),
-                ..
-            },
-            rest @ ..,
-        ] => {
-            cursor.rest = rest;
+        Some(Plain::Mark(Mark::Sign(Sign::Minus))) => {
+            cursor.pass();
             Some(TermSign::Minus)
         }
         _ => None,
@@ -50,8 +38,8 @@ fn lead(cursor: &mut Cursor<'_>) -> Option<TermSign>
 #[cycle(expression)]
 #[tactic(auto, unfolding(ss_words::specs::Reading::bind, ss_words::specs::Reading::pure, crate::specs::ExprReading::expr_with))]
 fn expr(cursor: &mut Cursor<'_>, room: u32) -> Result<Expr, Refusal>
-    ensures exact { Gives expr_view result (words_of cursor.new.rest.now) (reading.expr_with (reading.paren_at room) (words_of cursor.old.rest.now)) }
-    ensures shorter { length cursor.new.rest.now ≤ length cursor.old.rest.now }
+    ensures exact { Gives expr_view result cursor.new (reading.expr_with (reading.paren_at room) cursor.old) }
+    ensures shorter { length cursor.new ≤ length cursor.old }
 {
     let sign = lead(cursor);
     let first = term(cursor, room)?;
@@ -62,10 +50,10 @@ fn expr(cursor: &mut Cursor<'_>, room: u32) -> Result<Expr, Refusal>
 /// `{("+" | "-") term}`
 #[cycle(expression)]
 fn sums(cursor: &mut Cursor<'_>, room: u32) -> Result<Vec<Added>, Refusal>
-    ensures exact { Gives (λ v. sums_of (map added_view v.items)) result (words_of cursor.new.rest.now) (reading.sums_with (reading.paren_at room) (words_of cursor.old.rest.now)) }
-    ensures shorter { length cursor.new.rest.now ≤ length cursor.old.rest.now }
+    ensures exact { Gives (λ v. sums_of (map added_view v.items)) result cursor.new (reading.sums_with (reading.paren_at room) cursor.old) }
+    ensures shorter { length cursor.new ≤ length cursor.old }
 {
-    let mut more = Vec::new(cursor.alloc);
+    let mut more = Vec::new(cursor.alloc());
     while let Some(added) = next_sum(cursor, room)? {
         more.push(added)?;
     }
@@ -76,9 +64,9 @@ fn sums(cursor: &mut Cursor<'_>, room: u32) -> Result<Vec<Added>, Refusal>
 #[cycle(expression)]
 #[tactic(auto, unfolding(ss_words::specs::Reading::bind, ss_words::specs::Reading::pure, crate::specs::ExprReading::next_sum))]
 fn next_sum(cursor: &mut Cursor<'_>, room: u32) -> Result<Option<Added>, Refusal>
-    ensures exact { Gives (option_view added_view) result (words_of cursor.new.rest.now) (reading.next_sum (reading.paren_at room) (words_of cursor.old.rest.now)) }
-    ensures shorter { length cursor.new.rest.now ≤ length cursor.old.rest.now }
-    ensures taken { IfOk result (λ o. IfSome o (λ _. length cursor.new.rest.now < length cursor.old.rest.now)) }
+    ensures exact { Gives (option_view added_view) result cursor.new (reading.next_sum (reading.paren_at room) cursor.old) }
+    ensures shorter { length cursor.new ≤ length cursor.old }
+    ensures taken { IfOk result (λ o. IfSome o (λ _. length cursor.new < length cursor.old)) }
 {
     let Some(sign) = lead(cursor) else {
         return Ok(None);
@@ -91,8 +79,8 @@ fn next_sum(cursor: &mut Cursor<'_>, room: u32) -> Result<Option<Added>, Refusal
 #[cycle(expression)]
 #[tactic(auto, unfolding(ss_words::specs::Reading::bind, ss_words::specs::Reading::pure, crate::specs::ExprReading::term_with))]
 fn term(cursor: &mut Cursor<'_>, room: u32) -> Result<Term, Refusal>
-    ensures exact { Gives term_view result (words_of cursor.new.rest.now) (reading.term_with (reading.paren_at room) (words_of cursor.old.rest.now)) }
-    ensures shorter { length cursor.new.rest.now ≤ length cursor.old.rest.now }
+    ensures exact { Gives term_view result cursor.new (reading.term_with (reading.paren_at room) cursor.old) }
+    ensures shorter { length cursor.new ≤ length cursor.old }
 {
     let first = factor(cursor, room)?;
     let more = products(cursor, room)?;
@@ -102,10 +90,10 @@ fn term(cursor: &mut Cursor<'_>, room: u32) -> Result<Term, Refusal>
 /// `{"*" factor}`
 #[cycle(expression)]
 fn products(cursor: &mut Cursor<'_>, room: u32) -> Result<Vec<Factor>, Refusal>
-    ensures exact { Gives (λ v. products_of (map factor_view v.items)) result (words_of cursor.new.rest.now) (reading.products_with (reading.paren_at room) (words_of cursor.old.rest.now)) }
-    ensures shorter { length cursor.new.rest.now ≤ length cursor.old.rest.now }
+    ensures exact { Gives (λ v. products_of (map factor_view v.items)) result cursor.new (reading.products_with (reading.paren_at room) cursor.old) }
+    ensures shorter { length cursor.new ≤ length cursor.old }
 {
-    let mut more = Vec::new(cursor.alloc);
+    let mut more = Vec::new(cursor.alloc());
     while let Some(factor) = next_product(cursor, room)? {
         more.push(factor)?;
     }
@@ -116,9 +104,9 @@ fn products(cursor: &mut Cursor<'_>, room: u32) -> Result<Vec<Factor>, Refusal>
 #[cycle(expression)]
 #[tactic(auto, unfolding(ss_words::specs::Reading::bind, ss_words::specs::Reading::pure, crate::specs::ExprReading::next_product))]
 fn next_product(cursor: &mut Cursor<'_>, room: u32) -> Result<Option<Factor>, Refusal>
-    ensures exact { Gives (option_view factor_view) result (words_of cursor.new.rest.now) (reading.next_product (reading.paren_at room) (words_of cursor.old.rest.now)) }
-    ensures shorter { length cursor.new.rest.now ≤ length cursor.old.rest.now }
-    ensures taken { IfOk result (λ o. IfSome o (λ _. length cursor.new.rest.now < length cursor.old.rest.now)) }
+    ensures exact { Gives (option_view factor_view) result cursor.new (reading.next_product (reading.paren_at room) cursor.old) }
+    ensures shorter { length cursor.new ≤ length cursor.old }
+    ensures taken { IfOk result (λ o. IfSome o (λ _. length cursor.new < length cursor.old)) }
 {
     if !cursor.eat(Mark::Sign(Sign::Star)) {
         return Ok(None);
@@ -128,39 +116,18 @@ fn next_product(cursor: &mut Cursor<'_>, room: u32) -> Result<Option<Factor>, Re
 
 /// `factor = number | name | "(" expression ")"`
 #[cycle(expression)]
-#[tactic(auto, unfolding(ss_words::specs::Reading::look, ss_words::specs::Reading::skip, ss_words::specs::Reading::refuse, ss_words::specs::Reading::bind, ss_words::specs::Reading::pure, crate::specs::ExprReading::factor_with))]
+#[tactic(auto, unfolding(ss_words::specs::Reading::look, ss_words::specs::Reading::skip, ss_words::specs::Reading::refuse, ss_words::specs::Reading::bind, ss_words::specs::Reading::pure, ss_words::specs::Marks::a_name, crate::specs::ExprReading::factor_with))]
 fn factor(cursor: &mut Cursor<'_>, room: u32) -> Result<Factor, Refusal>
-    ensures exact { Gives factor_view result (words_of cursor.new.rest.now) (reading.factor_with (reading.paren_at room) (words_of cursor.old.rest.now)) }
-    ensures shorter { length cursor.new.rest.now ≤ length cursor.old.rest.now }
+    ensures exact { Gives factor_view result cursor.new (reading.factor_with (reading.paren_at room) cursor.old) }
+    ensures shorter { length cursor.new ≤ length cursor.old }
 {
-    match cursor.rest {
-        [
-            PlainWord {
-                kind: Plain::Number(number),
-                ..
-            },
-            rest @ ..,
-        ] => {
-            cursor.rest = rest;
+    match cursor.peek() {
+        Some(Plain::Number(number)) => {
+            cursor.pass();
             Ok(Factor::Number(*number))
         }
-        [
-            PlainWord {
-                kind: Plain::Name(name),
-                ..
-            },
-            rest @ ..,
-        ] => {
-            cursor.rest = rest;
-            Ok(Factor::Name(Vec::from_slice(cursor.alloc, name)?))
-        }
-        [
-            PlainWord {
-                kind: Plain::Mark(Mark::Sign(Sign::Open)),
-                ..
-            },
-            ..
-        ] => within(cursor, room),
+        Some(Plain::Name(_)) => Ok(Factor::Name(cursor.name()?)),
+        Some(Plain::Mark(Mark::Sign(Sign::Open))) => within(cursor, room),
         _ => Err(Refusal::Unexpected),
     }
 }
@@ -168,8 +135,8 @@ fn factor(cursor: &mut Cursor<'_>, room: u32) -> Result<Factor, Refusal>
 /// An expression between parentheses, if one more may be open.
 #[cycle(expression)]
 fn within(cursor: &mut Cursor<'_>, room: u32) -> Result<Factor, Refusal>
-    ensures exact { Gives factor_view result (words_of cursor.new.rest.now) (reading.paren_at room (words_of cursor.old.rest.now)) }
-    ensures shorter { length cursor.new.rest.now ≤ length cursor.old.rest.now }
+    ensures exact { Gives factor_view result cursor.new (reading.paren_at room cursor.old) }
+    ensures shorter { length cursor.new ≤ length cursor.old }
 {
     if room == 0 {
         return Err(Refusal::PastLimit);
@@ -181,11 +148,11 @@ fn within(cursor: &mut Cursor<'_>, room: u32) -> Result<Factor, Refusal>
 #[cycle(expression)]
 #[tactic(auto, unfolding(ss_words::specs::Reading::bind, ss_words::specs::Reading::pure, crate::specs::ExprReading::paren_with))]
 fn enclosed(cursor: &mut Cursor<'_>, room: u32) -> Result<Factor, Refusal>
-    ensures exact { Gives factor_view result (words_of cursor.new.rest.now) (reading.paren_with (reading.expr_with (reading.paren_at room)) (words_of cursor.old.rest.now)) }
-    ensures shorter { length cursor.new.rest.now ≤ length cursor.old.rest.now }
+    ensures exact { Gives factor_view result cursor.new (reading.paren_with (reading.expr_with (reading.paren_at room)) cursor.old) }
+    ensures shorter { length cursor.new ≤ length cursor.old }
 {
     cursor.expect(Mark::Sign(Sign::Open))?;
     let inner = expr(cursor, room)?;
     cursor.expect(Mark::Sign(Sign::Close))?;
-    Ok(Factor::Within(Box::new(cursor.alloc, inner)?))
+    Ok(Factor::Within(Box::new(cursor.alloc(), inner)?))
 }

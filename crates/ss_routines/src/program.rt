@@ -1,6 +1,6 @@
-ghost use Rattle.std.specs.Prelude.{IfOk, IfErr, IsTrue, List, [], length, map, Some, ◌≡◌, ◌≤◌, ◌<◌, ◌-◌, Ok};
-ghost use Rattle.ss_words.specs.Plain.{first, plain_of, plain_at};
-ghost use Rattle.ss_words.specs.Reading.{Fails, Gives, words_of, lines_of, whole};
+ghost use Rattle.std.specs.Prelude.{IfOk, IfErr, length, map, ◌≡◌, ◌≤◌, ◌<◌, ◌-◌, Ok};
+ghost use Rattle.ss_words.specs.Plain.{first, plain_at, plains_of, word_lines};
+ghost use Rattle.ss_words.specs.Reading.{Fails, Gives, whole};
 ghost use Rattle.ss_routines.specs.ExprReading as exprs;
 ghost use Rattle.ss_routines.specs.SectionReading as reading;
 ghost use Rattle.ss_routines.specs.Onto as onto;
@@ -23,34 +23,27 @@ const MOST_PARENTHESES: u32 = 50;
 /// How many sections a program may have.
 const MOST_SECTIONS: usize = 256;
 
-/// Whether a section begins with this plain word.
-fn is_head(kind: &Plain) -> bool
-    ensures { result ≡ reading.is_head (Some (plain_of kind.now)) }
-{
-    matches!(kind, Plain::Mark(Mark::Reserved(Reserved::Main)))
-}
-
 /// Whether a section begins with the next word.
 fn begins(cursor: &Cursor<'_>) -> bool
-    ensures { result ≡ reading.is_head (first (words_of cursor.now.rest.now)) }
+    ensures { result ≡ reading.is_head (first cursor.now) }
 {
-    match cursor.rest {
-        [word, ..] => is_head(&word.kind),
-        [] => false,
-    }
+    matches!(
+        cursor.peek(),
+        Some(Plain::Mark(Mark::Reserved(Reserved::Main)))
+    )
 }
 
 /// `section = MAIN {statement} END`
 #[tactic(auto, using(crate::proofs::Pushed::pushed), unfolding(ss_words::specs::Reading::bind, ss_words::specs::Reading::pure, ss_words::specs::Noting::here, crate::specs::Onto::section_onto))]
 fn section(cursor: &mut Cursor<'_>, text: &[PlainWord]) -> Result<Section, Refusal>
-    ensures exact { Gives section_view result (words_of cursor.new.rest.now) (onto.section_onto (lines_of text.now) (exprs.expr_at 50) (words_of cursor.old.rest.now)) }
-    ensures shorter { length cursor.new.rest.now ≤ length cursor.old.rest.now }
-    ensures taken { IfOk result (λ _. length cursor.new.rest.now < length cursor.old.rest.now) }
+    ensures exact { Gives section_view result cursor.new (onto.section_onto (word_lines text.now) (exprs.expr_at 50) cursor.old) }
+    ensures shorter { length cursor.new ≤ length cursor.old }
+    ensures taken { IfOk result (λ _. length cursor.new < length cursor.old) }
 {
     let line = cursor.line(text);
     cursor.expect(Mark::Reserved(Reserved::Main))?;
-    let name = Vec::from_slice(cursor.alloc, b"MAIN")?;
-    let mut places = Vec::new(cursor.alloc);
+    let name = Vec::from_slice(cursor.alloc(), b"MAIN")?;
+    let mut places = Vec::new(cursor.alloc());
     block(cursor, text, MOST_PARENTHESES, &mut places)?;
     let end = cursor.line(text);
     cursor.expect(Mark::Reserved(Reserved::End))?;
@@ -62,17 +55,17 @@ fn section(cursor: &mut Cursor<'_>, text: &[PlainWord]) -> Result<Section, Refus
         line,
         kind: SectionKind::Main,
         name,
-        parameters: Vec::new(cursor.alloc),
+        parameters: Vec::new(cursor.alloc()),
         places,
     })
 }
 
 /// Reads sections, as long as one begins.
 fn section_list(cursor: &mut Cursor<'_>, text: &[PlainWord]) -> Result<Vec<Section>, Refusal>
-    ensures exact { Gives (λ v. map section_view v.items) result (words_of cursor.new.rest.now) (onto.sections_onto (lines_of text.now) (exprs.expr_at 50) 256 (words_of cursor.old.rest.now)) }
-    ensures shorter { length cursor.new.rest.now ≤ length cursor.old.rest.now }
+    ensures exact { Gives (λ v. map section_view v.items) result cursor.new (onto.sections_onto (word_lines text.now) (exprs.expr_at 50) 256 cursor.old) }
+    ensures shorter { length cursor.new ≤ length cursor.old }
 {
-    let mut list = Vec::new(cursor.alloc);
+    let mut list = Vec::new(cursor.alloc());
     while begins(cursor) {
         if list.len() == MOST_SECTIONS {
             return Err(Refusal::PastLimit);
@@ -85,23 +78,23 @@ fn section_list(cursor: &mut Cursor<'_>, text: &[PlainWord]) -> Result<Vec<Secti
 /// The sections that the text is made of, and nothing else.
 #[tactic(auto, unfolding(ss_words::specs::Reading::look, ss_words::specs::Reading::refuse, ss_words::specs::Reading::bind, ss_words::specs::Reading::pure, ss_words::specs::Reading::whole, ss_words::specs::Reading::ended))]
 fn whole_text(cursor: &mut Cursor<'_>, text: &[PlainWord]) -> Result<Vec<Section>, Refusal>
-    ensures exact { Gives (λ v. map section_view v.items) result (words_of cursor.new.rest.now) (whole (onto.sections_onto (lines_of text.now) (exprs.expr_at 50) 256) (words_of cursor.old.rest.now)) }
-    ensures shorter { length cursor.new.rest.now ≤ length cursor.old.rest.now }
+    ensures exact { Gives (λ v. map section_view v.items) result cursor.new (whole (onto.sections_onto (word_lines text.now) (exprs.expr_at 50) 256) cursor.old) }
+    ensures shorter { length cursor.new ≤ length cursor.old }
 {
     let list = section_list(cursor, text)?;
-    match cursor.rest {
-        [] => Ok(list),
-        [_, ..] => Err(Refusal::Unexpected),
+    if !cursor.is_empty() {
+        return Err(Refusal::Unexpected);
     }
+    Ok(list)
 }
 
 /// What a text is refused with, by what stopped its reading at the word that the cursor has reached. A refusal of the
 /// text's end is told at the last word, and so is a limit that the last word passes, since no program ends with that word.
 fn fault(refusal: Refusal, cursor: &Cursor<'_>, text: &[PlainWord]) -> TextFault
-    requires { Fails refusal (words_of cursor.now.rest.now) (whole (onto.sections_onto (lines_of text.now) (exprs.expr_at 50) 256) (words_of text.now)) }
+    requires { Fails refusal cursor.now (whole (onto.sections_onto (word_lines text.now) (exprs.expr_at 50) 256) (plains_of text.now)) }
     ensures { IsFault result (map plain_at text.now) }
 {
-    let left = cursor.rest.len();
+    let left = cursor.len();
     let (rule, line) = match refusal {
         Refusal::Memory => return TextFault::Memory,
         Refusal::Unexpected if left > 0 => (TextRule::UnexpectedWord, cursor.line(text)),
@@ -113,7 +106,7 @@ fn fault(refusal: Refusal, cursor: &Cursor<'_>, text: &[PlainWord]) -> TextFault
 
 /// The line of the last word; 0 where there is none.
 fn last_line(text: &[PlainWord]) -> usize
-    ensures { result ≡ line (lines_of text.now) (length text.now - 1) }
+    ensures { result ≡ line (word_lines text.now) (length text.now - 1) }
 {
     match text.last() {
         Some(word) => word.line,
@@ -126,7 +119,7 @@ fn read(alloc: Global, text: &[PlainWord]) -> Result<Sections, TextFault>
     ensures sections { IfOk result (λ s. AreSections s (map plain_at text.now)) }
     ensures refused { IfErr result (λ f. IsFault f (map plain_at text.now)) }
 {
-    let mut cursor = Cursor { alloc, rest: text };
+    let mut cursor = Cursor::new(alloc, text);
     match whole_text(&mut cursor, text) {
         Ok(list) => Ok(Sections::new(list)),
         Err(refusal) => Err(fault(refusal, &cursor, text)),

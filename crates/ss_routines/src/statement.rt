@@ -1,6 +1,6 @@
 ghost use Rattle.std.specs.Prelude.{IfSome, IfOk, IsTrue, List, [], length, map, Some, ◌≡◌, ◌≤◌, ◌<◌, Ok, codes};
-ghost use Rattle.ss_words.specs.Plain.{first, plain_of};
-ghost use Rattle.ss_words.specs.Reading.{Gives, words_of, lines_of, option_view, rest_of};
+ghost use Rattle.ss_words.specs.Plain.{first, word_lines};
+ghost use Rattle.ss_words.specs.Reading.{Gives, option_view};
 ghost use Rattle.ss_words.specs.Marks as marks;
 ghost use Rattle.ss_routines.specs.ExprReading as exprs;
 ghost use Rattle.ss_routines.specs.SectionReading as reading;
@@ -15,9 +15,9 @@ use ss_words::{Cursor, Mark, Plain, PlainWord, Refusal, Reserved, Sign};
 /// `reference = name`
 #[tactic(auto, unfolding(ss_words::specs::Reading::bind, ss_words::specs::Reading::pure, crate::specs::SectionReading::a_reference))]
 fn reference(cursor: &mut Cursor<'_>) -> Result<Reference, Refusal>
-    ensures exact { Gives reference_view result (words_of cursor.new.rest.now) (reading.a_reference (words_of cursor.old.rest.now)) }
-    ensures shorter { length cursor.new.rest.now ≤ length cursor.old.rest.now }
-    ensures taken { IfOk result (λ _. length cursor.new.rest.now < length cursor.old.rest.now) }
+    ensures exact { Gives reference_view result cursor.new (reading.a_reference cursor.old) }
+    ensures shorter { length cursor.new ≤ length cursor.old }
+    ensures taken { IfOk result (λ _. length cursor.new < length cursor.old) }
 {
     let name = cursor.name()?;
     Ok(Reference { name })
@@ -26,9 +26,9 @@ fn reference(cursor: &mut Cursor<'_>) -> Result<Reference, Refusal>
 /// `name "=" expression`, behind LET or without it.
 #[tactic(auto, unfolding(ss_words::specs::Reading::bind, ss_words::specs::Reading::pure, crate::specs::SectionReading::let_with))]
 fn let_value(cursor: &mut Cursor<'_>, written: bool, room: u32) -> Result<Assign, Refusal>
-    ensures exact { Gives assign_view result (words_of cursor.new.rest.now) (reading.let_with (exprs.expr_at room) written (words_of cursor.old.rest.now)) }
-    ensures shorter { length cursor.new.rest.now ≤ length cursor.old.rest.now }
-    ensures taken { IfOk result (λ _. length cursor.new.rest.now < length cursor.old.rest.now) }
+    ensures exact { Gives assign_view result cursor.new (reading.let_with (exprs.expr_at room) written cursor.old) }
+    ensures shorter { length cursor.new ≤ length cursor.old }
+    ensures taken { IfOk result (λ _. length cursor.new < length cursor.old) }
 {
     let target = reference(cursor)?;
     cursor.expect(Mark::Sign(Sign::Equal))?;
@@ -43,8 +43,8 @@ fn let_value(cursor: &mut Cursor<'_>, written: bool, room: u32) -> Result<Assign
 /// `expression TO name`, behind ADD.
 #[tactic(auto, unfolding(ss_words::specs::Reading::bind, ss_words::specs::Reading::pure, crate::specs::SectionReading::add_with))]
 fn add(cursor: &mut Cursor<'_>, room: u32) -> Result<Assign, Refusal>
-    ensures exact { Gives assign_view result (words_of cursor.new.rest.now) (reading.add_with (exprs.expr_at room) (words_of cursor.old.rest.now)) }
-    ensures shorter { length cursor.new.rest.now ≤ length cursor.old.rest.now }
+    ensures exact { Gives assign_view result cursor.new (reading.add_with (exprs.expr_at room) cursor.old) }
+    ensures shorter { length cursor.new ≤ length cursor.old }
 {
     let value = expression(cursor, room)?;
     cursor.expect(Mark::Reserved(Reserved::To))?;
@@ -55,8 +55,8 @@ fn add(cursor: &mut Cursor<'_>, room: u32) -> Result<Assign, Refusal>
 /// `expression FROM name`, behind SUBTRACT.
 #[tactic(auto, unfolding(ss_words::specs::Reading::bind, ss_words::specs::Reading::pure, crate::specs::SectionReading::subtract_with))]
 fn subtract(cursor: &mut Cursor<'_>, room: u32) -> Result<Assign, Refusal>
-    ensures exact { Gives assign_view result (words_of cursor.new.rest.now) (reading.subtract_with (exprs.expr_at room) (words_of cursor.old.rest.now)) }
-    ensures shorter { length cursor.new.rest.now ≤ length cursor.old.rest.now }
+    ensures exact { Gives assign_view result cursor.new (reading.subtract_with (exprs.expr_at room) cursor.old) }
+    ensures shorter { length cursor.new ≤ length cursor.old }
 {
     let value = expression(cursor, room)?;
     cursor.expect(Mark::Reserved(Reserved::From))?;
@@ -67,39 +67,21 @@ fn subtract(cursor: &mut Cursor<'_>, room: u32) -> Result<Assign, Refusal>
 /// A statement that assigns.
 #[tactic(auto, unfolding(ss_words::specs::Reading::look, ss_words::specs::Reading::skip, crate::specs::SectionReading::an_assign))]
 fn assignment(cursor: &mut Cursor<'_>, room: u32) -> Result<Assign, Refusal>
-    ensures exact { Gives assign_view result (words_of cursor.new.rest.now) (reading.an_assign (exprs.expr_at room) (words_of cursor.old.rest.now)) }
-    ensures shorter { length cursor.new.rest.now ≤ length cursor.old.rest.now }
-    ensures taken { IfOk result (λ _. length cursor.new.rest.now < length cursor.old.rest.now) }
+    ensures exact { Gives assign_view result cursor.new (reading.an_assign (exprs.expr_at room) cursor.old) }
+    ensures shorter { length cursor.new ≤ length cursor.old }
+    ensures taken { IfOk result (λ _. length cursor.new < length cursor.old) }
 {
-    match cursor.rest {
-        [
-            PlainWord {
-                kind: Plain::Mark(Mark::Reserved(Reserved::Let)),
-                ..
-            },
-            rest @ ..,
-        ] => {
-            cursor.rest = rest;
+    match cursor.peek() {
+        Some(Plain::Mark(Mark::Reserved(Reserved::Let))) => {
+            cursor.pass();
             let_value(cursor, true, room)
         }
-        [
-            PlainWord {
-                kind: Plain::Mark(Mark::Reserved(Reserved::Add)),
-                ..
-            },
-            rest @ ..,
-        ] => {
-            cursor.rest = rest;
+        Some(Plain::Mark(Mark::Reserved(Reserved::Add))) => {
+            cursor.pass();
             add(cursor, room)
         }
-        [
-            PlainWord {
-                kind: Plain::Mark(Mark::Reserved(Reserved::Subtract)),
-                ..
-            },
-            rest @ ..,
-        ] => {
-            cursor.rest = rest;
+        Some(Plain::Mark(Mark::Reserved(Reserved::Subtract))) => {
+            cursor.pass();
             subtract(cursor, room)
         }
         _ => let_value(cursor, false, room),
@@ -109,9 +91,9 @@ fn assignment(cursor: &mut Cursor<'_>, room: u32) -> Result<Assign, Refusal>
 /// The next of the values of a PRINT: a comma and an expression, or none.
 #[tactic(auto, unfolding(ss_words::specs::Reading::bind, ss_words::specs::Reading::pure, crate::specs::SectionReading::next_value))]
 fn next_value(cursor: &mut Cursor<'_>, room: u32) -> Result<Option<Expr>, Refusal>
-    ensures exact { Gives (option_view expr_view) result (words_of cursor.new.rest.now) (reading.next_value (exprs.expr_at room) (words_of cursor.old.rest.now)) }
-    ensures shorter { length cursor.new.rest.now ≤ length cursor.old.rest.now }
-    ensures taken { IfOk result (λ o. IfSome o (λ _. length cursor.new.rest.now < length cursor.old.rest.now)) }
+    ensures exact { Gives (option_view expr_view) result cursor.new (reading.next_value (exprs.expr_at room) cursor.old) }
+    ensures shorter { length cursor.new ≤ length cursor.old }
+    ensures taken { IfOk result (λ o. IfSome o (λ _. length cursor.new < length cursor.old)) }
 {
     if !cursor.eat(Mark::Sign(Sign::Comma)) {
         return Ok(None);
@@ -121,10 +103,10 @@ fn next_value(cursor: &mut Cursor<'_>, room: u32) -> Result<Option<Expr>, Refusa
 
 /// The values behind a first one, each behind its comma.
 fn further_values(cursor: &mut Cursor<'_>, first: Expr, room: u32) -> Result<Vec<Expr>, Refusal>
-    ensures exact { Gives (λ v. map expr_view v.items) result (words_of cursor.new.rest.now) (reading.behind_first (exprs.expr_at room) (expr_view first) (words_of cursor.old.rest.now)) }
-    ensures shorter { length cursor.new.rest.now ≤ length cursor.old.rest.now }
+    ensures exact { Gives (λ v. map expr_view v.items) result cursor.new (reading.behind_first (exprs.expr_at room) (expr_view first) cursor.old) }
+    ensures shorter { length cursor.new ≤ length cursor.old }
 {
-    let mut values = Vec::new(cursor.alloc);
+    let mut values = Vec::new(cursor.alloc());
     values.push(first)?;
     while let Some(value) = next_value(cursor, room)? {
         values.push(value)?;
@@ -135,11 +117,11 @@ fn further_values(cursor: &mut Cursor<'_>, first: Expr, room: u32) -> Result<Vec
 /// `[WITH expression {"," expression}]`
 #[tactic(auto, unfolding(ss_words::specs::Reading::bind, ss_words::specs::Reading::pure, crate::specs::SectionReading::values_with))]
 fn values(cursor: &mut Cursor<'_>, room: u32) -> Result<Vec<Expr>, Refusal>
-    ensures exact { Gives (λ v. map expr_view v.items) result (words_of cursor.new.rest.now) (reading.values_with (exprs.expr_at room) (words_of cursor.old.rest.now)) }
-    ensures shorter { length cursor.new.rest.now ≤ length cursor.old.rest.now }
+    ensures exact { Gives (λ v. map expr_view v.items) result cursor.new (reading.values_with (exprs.expr_at room) cursor.old) }
+    ensures shorter { length cursor.new ≤ length cursor.old }
 {
     if !cursor.eat(Mark::Reserved(Reserved::With)) {
-        return Ok(Vec::new(cursor.alloc));
+        return Ok(Vec::new(cursor.alloc()));
     }
     let first = expression(cursor, room)?;
     further_values(cursor, first, room)
@@ -148,8 +130,8 @@ fn values(cursor: &mut Cursor<'_>, room: u32) -> Result<Vec<Expr>, Refusal>
 /// `number LINES [WITH expression {"," expression}] THUS picture`, behind PRINT.
 #[tactic(auto, unfolding(ss_words::specs::Reading::bind, ss_words::specs::Reading::pure, crate::specs::SectionReading::print_with))]
 fn print(cursor: &mut Cursor<'_>, room: u32) -> Result<Output, Refusal>
-    ensures exact { Gives output_view result (words_of cursor.new.rest.now) (reading.print_with (exprs.expr_at room) (words_of cursor.old.rest.now)) }
-    ensures shorter { length cursor.new.rest.now ≤ length cursor.old.rest.now }
+    ensures exact { Gives output_view result cursor.new (reading.print_with (exprs.expr_at room) cursor.old) }
+    ensures shorter { length cursor.new ≤ length cursor.old }
 {
     let count = cursor.number()?;
     cursor.expect(Mark::Reserved(Reserved::Lines))?;
@@ -171,31 +153,19 @@ fn statement(
     room: u32,
     out: &mut Vec<Spot>,
 ) -> Result<(), Refusal>
-    ensures exact { Gives (λ u. spots out.new.items) result (words_of cursor.new.rest.now) (onto.simple_onto (lines_of text.now) (exprs.expr_at room) (spots out.old.items) (words_of cursor.old.rest.now)) }
-    ensures shorter { length cursor.new.rest.now ≤ length cursor.old.rest.now }
-    ensures taken { IfOk result (λ _. length cursor.new.rest.now < length cursor.old.rest.now) }
+    ensures exact { Gives (λ u. spots out.new.items) result cursor.new (onto.simple_onto (word_lines text.now) (exprs.expr_at room) (spots out.old.items) cursor.old) }
+    ensures shorter { length cursor.new ≤ length cursor.old }
+    ensures taken { IfOk result (λ _. length cursor.new < length cursor.old) }
 {
     let line = cursor.line(text);
-    match cursor.rest {
-        [
-            PlainWord {
-                kind: Plain::Mark(Mark::Reserved(Reserved::Print)),
-                ..
-            },
-            rest @ ..,
-        ] => {
-            cursor.rest = rest;
+    match cursor.peek() {
+        Some(Plain::Mark(Mark::Reserved(Reserved::Print))) => {
+            cursor.pass();
             let place = Place::Output(print(cursor, room)?);
             out.push(Spot { line, place })?;
         }
-        [
-            PlainWord {
-                kind: Plain::Mark(Mark::Reserved(Reserved::Stop)),
-                ..
-            },
-            rest @ ..,
-        ] => {
-            cursor.rest = rest;
+        Some(Plain::Mark(Mark::Reserved(Reserved::Stop))) => {
+            cursor.pass();
             let place = Place::Control(Control::Stop);
             out.push(Spot { line, place })?;
         }
@@ -209,28 +179,20 @@ fn statement(
 
 /// Whether a statement begins with the next word.
 fn begins(cursor: &Cursor<'_>) -> bool
-    ensures { result ≡ reading.begins (first (words_of cursor.now.rest.now)) }
-{
-    match cursor.rest {
-        [word, ..] => begins_with(&word.kind),
-        [] => false,
-    }
-}
-
-/// Whether a statement begins with this plain word.
-fn begins_with(kind: &Plain) -> bool
-    ensures { result ≡ reading.begins (Some (plain_of kind.now)) }
+    ensures { result ≡ reading.begins (first cursor.now) }
 {
     matches!(
-        kind,
-        Plain::Name(_)
-            | Plain::Mark(Mark::Reserved(
-                Reserved::Let
-                    | Reserved::Add
-                    | Reserved::Subtract
-                    | Reserved::Print
-                    | Reserved::Stop
-            ))
+        cursor.peek(),
+        Some(
+            Plain::Name(_)
+                | Plain::Mark(Mark::Reserved(
+                    Reserved::Let
+                        | Reserved::Add
+                        | Reserved::Subtract
+                        | Reserved::Print
+                        | Reserved::Stop
+                ))
+        )
     )
 }
 
@@ -242,9 +204,9 @@ fn next_statement(
     room: u32,
     out: &mut Vec<Spot>,
 ) -> Result<bool, Refusal>
-    ensures exact { Gives (λ b. (b, spots out.new.items)) result (words_of cursor.new.rest.now) (onto.next_onto (lines_of text.now) (exprs.expr_at room) (spots out.old.items) (words_of cursor.old.rest.now)) }
-    ensures shorter { length cursor.new.rest.now ≤ length cursor.old.rest.now }
-    ensures taken { IfOk result (λ b. IsTrue b → length cursor.new.rest.now < length cursor.old.rest.now) }
+    ensures exact { Gives (λ b. (b, spots out.new.items)) result cursor.new (onto.next_onto (word_lines text.now) (exprs.expr_at room) (spots out.old.items) cursor.old) }
+    ensures shorter { length cursor.new ≤ length cursor.old }
+    ensures taken { IfOk result (λ b. IsTrue b → length cursor.new < length cursor.old) }
 {
     if !begins(cursor) {
         return Ok(false);
@@ -260,8 +222,8 @@ pub fn block(
     room: u32,
     out: &mut Vec<Spot>,
 ) -> Result<(), Refusal>
-    ensures exact { Gives (λ u. spots out.new.items) result (words_of cursor.new.rest.now) (onto.block_onto (lines_of text.now) (exprs.expr_at room) (spots out.old.items) (words_of cursor.old.rest.now)) }
-    ensures shorter { length cursor.new.rest.now ≤ length cursor.old.rest.now }
+    ensures exact { Gives (λ u. spots out.new.items) result cursor.new (onto.block_onto (word_lines text.now) (exprs.expr_at room) (spots out.old.items) cursor.old) }
+    ensures shorter { length cursor.new ≤ length cursor.old }
 {
     while next_statement(cursor, text, room, out)? {}
     Ok(())

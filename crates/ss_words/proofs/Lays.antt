@@ -1,10 +1,9 @@
 -- Noting while reading is reading the tree and then writing it out.
 use Rattle.std.proofs.Common.{◌≡◌, ℕ, zero, suc, ◌+◌, ◌-◌, ◌<◌, Bool, true, false, List, [], ◌∷◌, ◌++◌, length, length-append, Option, Some, None, Result, Ok, Err, refl, sym, ap, ◌∙◌, append_assoc, arith}
-use Rattle.std.proofs.lemmas.List.{append-nil, length-map}
+use Rattle.std.proofs.lemmas.List.{append-nil}
 use Rattle.ss_words.specs.declared.refusal.Refusal.{Refusal}
-use Rattle.ss_words.specs.declared.plain_word.PlainWord.{PlainWord}
 use Rattle.ss_words.specs.Plain.{Plain, first}
-use Rattle.ss_words.specs.Reading.{Read, Reading, goes_on, bind, pure, refuse, look, skip, many_from, many, word_of, words_of}
+use Rattle.ss_words.specs.Reading.{Read, Reading, goes_on, bind, pure, refuse, look, skip, many_from, many}
 use Rattle.ss_words.specs.Noting.{Noting, repeat_from, repeat, line, here}
 use Rattle.ss_words.proofs.Laws.{IsRead, Good, spell_option}
 use Rattle.ss_words.proofs.Loop.{on_ok}
@@ -116,10 +115,10 @@ module _ {S : Type 0} (item : List S → Reading (Bool × List S)) where
   unfolding repeat
   noting_begins whole acc ws e = (suc (length ws), omega arith, ap (λ (p : Noting S). p acc ws) e)
 
-  pub noting_turns : (total : Read (List S)) (acc new : List S) (ws r : List PlainWord) → item acc (words_of ws) ≡ (Ok (true, new), words_of r) → length r < length ws → Noted item total acc (words_of ws) → Noted item total new (words_of r)
+  pub noting_turns : (total : Read (List S)) (acc new : List S) (ws r : List Plain) → item acc ws ≡ (Ok (true, new), r) → length r < length ws → Noted item total acc ws → Noted item total new r
   unfolding repeat_from bind
   noting_turns total acc new ws r e shorter (zero, lt, so_far) = absurd (omega arith)
-  noting_turns total acc new ws r e shorter (suc k, lt, so_far) = (k, omega (arith, length-map ws word_of, length-map r word_of), so_far ∙ rw e refl)
+  noting_turns total acc new ws r e shorter (suc k, lt, so_far) = (k, omega arith, so_far ∙ rw e refl)
 
   pub noting_stops : (total : Read (List S)) (acc new : List S) (ws r : List Plain) → item acc ws ≡ (Ok (false, new), r) → Noted item total acc ws → total ≡ (Ok new, r)
   unfolding repeat_from bind pure

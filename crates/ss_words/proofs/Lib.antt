@@ -3,6 +3,7 @@ pub mod Laws
 pub mod Local
 pub mod Loop
 pub mod Marks
+pub mod Lists
 pub mod Lays
 pub mod Goal
 pub mod Again

@@ -1,12 +1,10 @@
 -- Reading one item after the other, as a loop does.
 use Rattle.std.proofs.Common.{◌≡◌, ℕ, zero, suc, ◌<◌, List, [], ◌∷◌, ◌++◌, length, Option, Some, None, Result, Ok, Err, refl, sym, ap, ◌∙◌, arith}
 use Rattle.std.specs.Prelude.{map}
-use Rattle.std.proofs.lemmas.List.{map_push, length-map}
+use Rattle.std.proofs.lemmas.List.{map_push}
 use Rattle.ss_words.specs.declared.refusal.Refusal.{Refusal}
 use Rattle.ss_words.specs.declared.refusal.Refusal.TheVariants.{Unexpected, PastLimit, Memory}
-use Rattle.ss_words.specs.declared.plain_word.PlainWord.{PlainWord}
 use Rattle.ss_words.specs.Plain.{Plain}
-use Rattle.ss_words.specs.Reading.{word_of, words_of}
 use Rattle.ss_words.specs.Reading.{Read, Reading, goes_on, bind, pure, many_from, many, prepend, Fails}
 
 abbrev pub on_ok : {A B : Type 0} → (A → B) → Result A Refusal → Result B Refusal
@@ -14,11 +12,11 @@ on_ok f (Ok a) = Ok (f a)
 on_ok f (Err e) = Err e
 
 -- what was read before, and what is still read
-abbrev pub after : {A B : Type 0} → (A → B → B) → List A → Read B → Read B
-after one front r = (on_ok (prepend one front) r.0, r.1)
+abbrev pub read_behind : {A B : Type 0} → (A → B → B) → List A → Read B → Read B
+read_behind one front r = (on_ok (prepend one front) r.0, r.1)
 
 abbrev pub Going : {A B : Type 0} → Reading (Option A) → B → (A → B → B) → Read B → List A → List Plain → Type 0
-Going item none one total front ws = (k : ℕ) × (length ws < k) × (total ≡ after one front (many_from item none one k ws))
+Going item none one total front ws = (k : ℕ) × (length ws < k) × (total ≡ read_behind one front (many_from item none one k ws))
 
 same : {B : Type 0} (r : Result B Refusal) → r ≡ on_ok (λ b. b) r
 same (Ok b) = refl
@@ -47,7 +45,7 @@ unfolding many_from bind
 turns item none one total front ws r a e shorter (zero, lt, so_far) = absurd (omega arith)
 turns item none one total front ws r a e shorter (suc k, lt, so_far) =
     let step : many_from item none one (suc k) ws ≡ (on_ok (one a) (many_from item none one k r).0, (many_from item none one k r).1) = rw e (with_one one a (many_from item none one k r)) in
-    (k, omega arith, so_far ∙ ap (after one front) step ∙ λ i. (pushed one front a (many_from item none one k r).0 i, (many_from item none one k r).1))
+    (k, omega arith, so_far ∙ ap (read_behind one front) step ∙ λ i. (pushed one front a (many_from item none one k r).0 i, (many_from item none one k r).1))
 
 pub stops : {A B : Type 0} (item : Reading (Option A)) (none : B) (one : A → B → B) (total : Read B) (front : List A) (ws r : List Plain)
     → item ws ≡ (Ok None, r) → Going item none one total front ws → total ≡ (Ok (prepend one front none), r)
@@ -55,7 +53,7 @@ unfolding many_from bind pure
 stops item none one total front ws r e (zero, lt, so_far) = absurd (omega arith)
 stops item none one total front ws r e (suc k, lt, so_far) =
     let step : many_from item none one (suc k) ws ≡ (Ok none, r) = rw e refl in
-    so_far ∙ ap (after one front) step
+    so_far ∙ ap (read_behind one front) step
 
 pub fails : {A B : Type 0} (item : Reading (Option A)) (none : B) (one : A → B → B) (total : Read B) (front : List A) (ws r : List Plain) (f : Refusal)
     → item ws ≡ (Err f, r) → Going item none one total front ws → total ≡ (Err f, r)
@@ -63,7 +61,7 @@ unfolding many_from bind
 fails item none one total front ws r f e (zero, lt, so_far) = absurd (omega arith)
 fails item none one total front ws r f e (suc k, lt, so_far) =
     let step : many_from item none one (suc k) ws ≡ (Err f, r) = rw e refl in
-    so_far ∙ ap (after one front) step
+    so_far ∙ ap (read_behind one front) step
 
 -- what fails in a part fails in the whole
 pub passes_on : {Y Y' : Type 0} (e : Refusal) (ws : List Plain) (part : Read Y) (whole : Read Y')
@@ -75,9 +73,9 @@ passes_on Memory ws part whole h g = tt
 pub loop_begins : {A B X : Type 0} (item : Reading (Option A)) (none : B) (one : A → B → B) (whole : Reading B) (ws : List Plain) (view : X → A) (xs : List X) → whole ≡ many item none one → xs ≡ [] → Going item none one (whole ws) (map view xs) ws
 loop_begins item none one whole ws view xs h e = rw (h, e) (begins item none one ws)
 
-pub loop_turns : {A B X : Type 0} (item : Reading (Option A)) (none : B) (one : A → B → B) (total : Read B) (view : X → A) (xs : List X) (x : X) (ys : List X) (ws r : List PlainWord)
-    → ys ≡ xs ++ x ∷ [] → item (words_of ws) ≡ (Ok (Some (view x)), words_of r) → length r < length ws → Going item none one total (map view xs) (words_of ws) → Going item none one total (map view ys) (words_of r)
-loop_turns item none one total view xs x ys ws r pushed e shorter going = rw (pushed, map_push view xs x) (turns item none one total (map view xs) (words_of ws) (words_of r) (view x) e (omega (arith, length-map ws word_of, length-map r word_of)) going)
+pub loop_turns : {A B X : Type 0} (item : Reading (Option A)) (none : B) (one : A → B → B) (total : Read B) (view : X → A) (xs : List X) (x : X) (ys : List X) (ws r : List Plain)
+    → ys ≡ xs ++ x ∷ [] → item ws ≡ (Ok (Some (view x)), r) → length r < length ws → Going item none one total (map view xs) ws → Going item none one total (map view ys) r
+loop_turns item none one total view xs x ys ws r pushed e shorter going = rw (pushed, map_push view xs x) (turns item none one total (map view xs) ws r (view x) e shorter going)
 
 -- ---- a loop whose first item was read before
 

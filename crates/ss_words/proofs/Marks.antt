@@ -3,8 +3,7 @@ use Rattle.std.proofs.Common.{◌≡◌, ◌≢◌, ℕ, ◌≤◌, ◌<◌, eq-
 use Rattle.ss_words.specs.declared.mark.Mark.{Mark}
 use Rattle.ss_words.specs.declared.refusal.Refusal.TheVariants.{Unexpected}
 use Rattle.ss_words.specs.Plain.{Plain, name, number, mark, picture, first}
-use Rattle.ss_words.specs.declared.plain_word.PlainWord.{PlainWord}
-use Rattle.ss_words.specs.Reading.{Reading, look, skip, pure, refuse, bind, words_of}
+use Rattle.ss_words.specs.Reading.{Reading, look, skip, pure, refuse, bind}
 use Rattle.ss_words.specs.Marks.{mark_number, is, expect, eat, name_by, a_name, number_by, a_number, picture_by, a_picture}
 use Rattle.ss_words.proofs.MarkNumbers.{same_mark}
 use Rattle.ss_words.proofs.Laws.{Good, GoodAt, Any, pure_good, refuse_good, look_good, skip_good, good_at}
@@ -147,6 +146,6 @@ unfolding bind
 expect_shorter k f h ws = rw (expect_again k ws) (h ws)
 
 -- a text that begins with this mark has a word
-pub taken : (k : Mark) (ws : List PlainWord) → is k (first (words_of ws)) ≡ true → 0 < length ws
+pub taken : (k : Mark) (ws : List Plain) → is k (first ws) ≡ true → 0 < length ws
 taken k [] e = absurd cc
 taken k (w ∷ ws) e = omega arith

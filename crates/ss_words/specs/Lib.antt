@@ -3,6 +3,7 @@ pub mod Words
 pub mod Plain
 pub mod Reading
 pub mod Marks
+pub mod Lists
 pub mod Farthest
 pub mod Noting
 pub mod Spellings

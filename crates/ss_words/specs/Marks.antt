@@ -1,5 +1,5 @@
 -- Marks told apart by a number, and the readings of one word.
-use Rattle.std.specs.Prelude.{ℕ, ◌+◌, Bool, true, false, eqb, List, Option, Some}
+use Rattle.std.specs.Prelude.{ℕ, ◌+◌, Bool, true, false, ◌==◌, List, Option, Some}
 use Rattle.ss_words.specs.declared.mark.Mark.{Mark}
 use Rattle.ss_words.specs.declared.mark.Mark.TheVariants as m
 use Rattle.ss_words.specs.declared.reserved.Reserved.{Reserved}
@@ -137,7 +137,7 @@ mark_number (m.Reserved a) = 11 + reserved_number a
 
 -- whether the next word is this mark
 abbrev pub is : Mark → Option Plain → Bool
-is k (Some (mark j)) = eqb (mark_number k) (mark_number j)
+is k (Some (mark j)) = mark_number k == mark_number j
 is k _ = false
 
 -- passes this mark, or refuses what stands in its place

@@ -1,5 +1,5 @@
 -- Readings that note what they read behind what was noted before.
-use Rattle.std.specs.Prelude.{ℕ, zero, suc, ◌-◌, Bool, true, false, List, length, get_or}
+use Rattle.std.specs.Prelude.{ℕ, zero, suc, ◌-◌, Bool, true, false, List, length, slice_index}
 use Rattle.ss_words.specs.Reading.{Reading, ◌>>=◌, pure}
 
 -- gives what was noted before and, behind it, what it notes
@@ -17,7 +17,7 @@ repeat item acc = λ ws. repeat_from item (suc (length ws)) acc ws
 
 -- the line of word k of a text, from 0, whose words have these lines; 0 behind the last
 abbrev pub line : List ℕ → ℕ → ℕ
-line lines k = get_or lines k 0
+line lines k = slice_index lines k
 
 -- goes by the next word's line
 unfoldable pub here : {A : Type 0} → List ℕ → (ℕ → Reading A) → Reading A

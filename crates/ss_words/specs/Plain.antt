@@ -29,6 +29,14 @@ plain_of (c.Picture ls) = picture (map (λ l. l.items) ls.items)
 abbrev pub plain_at : PlainWord → PlainAt
 plain_at a = record { line = a.line; index = a.index; word = plain_of a.kind }
 
+-- the plain words of a list of the code
+abbrev pub plains_of : List PlainWord → List Plain
+plains_of ws = map (λ w. plain_of w.kind) ws
+
+-- the line of each plain word of a list of the code
+abbrev pub word_lines : List PlainWord → List ℕ
+word_lines ws = map (λ w. w.line) ws
+
 -- the words alone
 abbrev pub plains : List PlainAt → List Plain
 plains ws = map (λ w. w.word) ws

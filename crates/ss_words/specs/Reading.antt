@@ -1,9 +1,8 @@
 -- The steps that a reading of plain words is made of: each answers with the words that it left, also where it refuses.
-use Rattle.std.specs.Prelude.{◌≡◌, ℕ, zero, suc, List, [], ◌∷◌, length, map, Option, Some, None, Result, Ok, Err}
+use Rattle.std.specs.Prelude.{◌≡◌, ℕ, zero, suc, List, [], ◌∷◌, length, Option, Some, None, Result, Ok, Err}
 use Rattle.ss_words.specs.declared.refusal.Refusal.{Refusal}
 use Rattle.ss_words.specs.declared.refusal.Refusal.TheVariants.{Unexpected, PastLimit, Memory}
-use Rattle.ss_words.specs.declared.plain_word.PlainWord.{PlainWord}
-use Rattle.ss_words.specs.Plain.{Plain, plain_of, first}
+use Rattle.ss_words.specs.Plain.{Plain, first}
 
 -- an answer, and the words that are left
 abbrev pub Read : Type 0 → Type 0
@@ -85,14 +84,3 @@ Fails Memory ws read = Unit {0}
 abbrev pub Gives : {X Y : Type 0} → (X → Y) → Result X Refusal → List Plain → Read Y → Type 0
 Gives view (Ok x) ws read = read ≡ (Ok (view x), ws)
 Gives view (Err e) ws read = Fails e ws read
-
--- the words of a text that a cursor goes over
-abbrev pub word_of : PlainWord → Plain
-word_of w = plain_of w.kind
-
-abbrev pub words_of : List PlainWord → List Plain
-words_of ws = map word_of ws
-
--- the number of the text's words gives the line of each, 0 behind the last
-abbrev pub lines_of : List PlainWord → List ℕ
-lines_of ws = map (λ w. w.line) ws

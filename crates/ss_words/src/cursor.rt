@@ -1,7 +1,8 @@
-ghost use Rattle.std.specs.Prelude.{IfOk, IfErr, OnErr, IsTrue, List, length, map, get_or, eqb, ◌≡◌, ◌≤◌, ◌<◌, ◌-◌, Ok, Some};
+ghost use Rattle.std.specs.Prelude.{IfOk, IfErr, OnErr, IsTrue, length, map, option_map, option_copied, ◌≡◌, ◌==◌, ◌≤◌, ◌<◌, ◌-◌, Ok, Some};
 ghost use Rattle.ss_words.specs.declared.refusal.Refusal.TheVariants.{Unexpected};
-ghost use Rattle.ss_words.specs.Reading.{Gives, words_of, lines_of, rest_of};
-ghost use Rattle.ss_words.specs.Plain.{first, plain_of};
+ghost use Rattle.ss_words.specs.Reading.{Gives, rest_of};
+ghost use Rattle.ss_words.specs.Plain.{first, plain_of, plains_of, word_lines};
+ghost use Rattle.ss_words.specs.Noting.{line};
 ghost use Rattle.ss_words.specs.Marks as marks;
 
 use crate::mark::Mark;
@@ -9,18 +10,65 @@ use crate::plain_list::copied;
 use crate::plain_word::{Plain, PlainWord};
 use crate::refusal::Refusal;
 use std::alloc::Global;
+use std::marker::Model;
 
-/// The plain words that are still to be read. A call that refuses passes nothing, so the word that was refused is then the next one.
+/// The plain words that are still to be read. A call that refuses passes nothing, so the word that was refused is then the
+/// next one.
 #[derive(Drop)]
 pub struct Cursor<'a> {
-    pub alloc: Global,
-    pub rest: &'a [PlainWord],
+    alloc: Global,
+    rest: &'a [PlainWord],
+}
+
+impl<'a> Model for Cursor<'a> {
+    ghost use Rattle.std.specs.Prelude.{List};
+    ghost use Rattle.ss_words.specs.Plain.{Plain, plains_of};
+
+    ghost Value = { List Plain };
+
+    ghost view = { λ cursor. plains_of cursor.rest.now };
 }
 
 impl<'a> Cursor<'a> {
+    /// A cursor before these words. What its reader allocates comes from `alloc`.
+    pub fn new(alloc: Global, words: &'a [PlainWord]) -> Self
+        ensures { result ≡ plains_of words.now }
+    {
+        Cursor { alloc, rest: words }
+    }
+
+    /// Where its reader allocates.
+    pub fn alloc(&self) -> Global {
+        self.alloc
+    }
+
+    /// How many words are left.
+    pub fn len(&self) -> usize
+        ensures { result ≡ length self.now }
+    {
+        self.rest.len()
+    }
+
+    /// Whether no word is left.
+    pub fn is_empty(&self) -> bool
+        ensures { result ≡ (length self.now == 0) }
+    {
+        self.rest.is_empty()
+    }
+
+    /// The next word, which stays the next one; `None` where none is left.
+    pub fn peek(&self) -> Option<&'a Plain>
+        ensures { first self.now ≡ option_map plain_of (option_copied result) }
+    {
+        match self.rest {
+            [word, ..] => Some(&word.kind),
+            [] => None,
+        }
+    }
+
     /// Whether the next word is this mark; false where none is left.
     pub fn is_next(&self, mark: Mark) -> bool
-        ensures { result ≡ marks.is mark (first (words_of self.now.rest.now)) }
+        ensures { result ≡ marks.is mark (first self.now) }
     {
         match self.rest {
             [word, ..] => is_mark(&word.kind, mark),
@@ -30,8 +78,8 @@ impl<'a> Cursor<'a> {
 
     /// Passes the next word, if there is one.
     pub fn pass(&mut self)
-        ensures exact { words_of self.new.rest.now ≡ rest_of (words_of self.old.rest.now) }
-        ensures shorter { length self.new.rest.now ≡ length self.old.rest.now - 1 }
+        ensures exact { self.new ≡ rest_of self.old }
+        ensures shorter { length self.new ≡ length self.old - 1 }
     {
         if let [_, rest @ ..] = self.rest {
             self.rest = rest;
@@ -41,11 +89,11 @@ impl<'a> Cursor<'a> {
     /// Passes this mark. `Unexpected` where another word or none stands in its place.
     #[tactic(auto, using(crate::proofs::Marks::taken), unfolding(crate::specs::Reading::look, crate::specs::Reading::skip, crate::specs::Reading::pure, crate::specs::Reading::refuse, crate::specs::Marks::expect))]
     pub fn expect(&mut self, mark: Mark) -> Result<(), Refusal>
-        ensures exact { Gives (λ x. tt) result (words_of self.new.rest.now) (marks.expect mark (words_of self.old.rest.now)) }
+        ensures exact { Gives (λ x. tt) result self.new (marks.expect mark self.old) }
         // No memory is taken, so no other refusal; of `Memory` `exact` says nothing.
         ensures unexpected { IfErr result (λ e. e ≡ Unexpected) }
-        ensures shorter { length self.new.rest.now ≤ length self.old.rest.now }
-        ensures taken { IfOk result (λ _. length self.new.rest.now < length self.old.rest.now) }
+        ensures shorter { length self.new ≤ length self.old }
+        ensures taken { IfOk result (λ _. length self.new < length self.old) }
     {
         if !self.is_next(mark) {
             return Err(Refusal::Unexpected);
@@ -57,9 +105,9 @@ impl<'a> Cursor<'a> {
     /// Whether the next word is this mark, which is then passed.
     #[tactic(auto, using(crate::proofs::Marks::taken), unfolding(crate::specs::Reading::look, crate::specs::Reading::skip, crate::specs::Reading::pure, crate::specs::Marks::eat))]
     pub fn eat(&mut self, mark: Mark) -> bool
-        ensures exact { marks.eat mark (words_of self.old.rest.now) ≡ (Ok result, words_of self.new.rest.now) }
-        ensures shorter { length self.new.rest.now ≤ length self.old.rest.now }
-        ensures taken { IsTrue result → length self.new.rest.now < length self.old.rest.now }
+        ensures exact { marks.eat mark self.old ≡ (Ok result, self.new) }
+        ensures shorter { length self.new ≤ length self.old }
+        ensures taken { IsTrue result → length self.new < length self.old }
     {
         let found = self.is_next(mark);
         if found {
@@ -72,81 +120,57 @@ impl<'a> Cursor<'a> {
     /// memory for the copy was refused.
     #[tactic(auto, unfolding(crate::specs::Reading::look, crate::specs::Reading::skip, crate::specs::Reading::pure, crate::specs::Reading::refuse, crate::specs::Marks::a_name))]
     pub fn name(&mut self) -> Result<Vec<u8>, Refusal>
-        ensures exact { Gives (λ v. v.items) result (words_of self.new.rest.now) (marks.a_name (words_of self.old.rest.now)) }
+        ensures exact { Gives (λ v. v.items) result self.new (marks.a_name self.old) }
         // Also where memory is refused, of which `exact` says nothing.
-        ensures stays { OnErr result (words_of self.new.rest.now ≡ words_of self.old.rest.now) }
-        ensures shorter { length self.new.rest.now ≤ length self.old.rest.now }
-        ensures taken { IfOk result (λ _. length self.new.rest.now < length self.old.rest.now) }
+        ensures stays { OnErr result (self.new ≡ self.old) }
+        ensures shorter { length self.new ≤ length self.old }
+        ensures taken { IfOk result (λ _. length self.new < length self.old) }
     {
-        match self.rest {
-            [
-                PlainWord {
-                    kind: Plain::Name(name),
-                    ..
-                },
-                rest @ ..,
-            ] => {
-                let name = Vec::from_slice(self.alloc, name)?;
-                self.rest = rest;
-                Ok(name)
-            }
-            _ => Err(Refusal::Unexpected),
-        }
+        let Some(Plain::Name(name)) = self.peek() else {
+            return Err(Refusal::Unexpected);
+        };
+        let name = Vec::from_slice(self.alloc, name)?;
+        self.pass();
+        Ok(name)
     }
 
     /// Passes a number. `Unexpected` where the next word is no number or none is left.
     #[tactic(auto, unfolding(crate::specs::Reading::look, crate::specs::Reading::skip, crate::specs::Reading::pure, crate::specs::Reading::refuse, crate::specs::Marks::a_number))]
     pub fn number(&mut self) -> Result<u64, Refusal>
-        ensures exact { Gives (λ n. n) result (words_of self.new.rest.now) (marks.a_number (words_of self.old.rest.now)) }
+        ensures exact { Gives (λ n. n) result self.new (marks.a_number self.old) }
         // No memory is taken, so no other refusal; of `Memory` `exact` says nothing.
         ensures unexpected { IfErr result (λ e. e ≡ Unexpected) }
-        ensures shorter { length self.new.rest.now ≤ length self.old.rest.now }
-        ensures taken { IfOk result (λ _. length self.new.rest.now < length self.old.rest.now) }
+        ensures shorter { length self.new ≤ length self.old }
+        ensures taken { IfOk result (λ _. length self.new < length self.old) }
     {
-        match self.rest {
-            [
-                PlainWord {
-                    kind: Plain::Number(number),
-                    ..
-                },
-                rest @ ..,
-            ] => {
-                self.rest = rest;
-                Ok(*number)
-            }
-            _ => Err(Refusal::Unexpected),
-        }
+        let Some(Plain::Number(number)) = self.peek() else {
+            return Err(Refusal::Unexpected);
+        };
+        self.pass();
+        Ok(*number)
     }
 
-    /// Passes a picture and gives a copy of its lines. `Unexpected` where the next word is no picture or none is left, `Memory`
-    /// where the memory for the copy was refused.
+    /// Passes a picture and gives a copy of its lines. `Unexpected` where the next word is no picture or none is left,
+    /// `Memory` where the memory for the copy was refused.
     #[tactic(auto, unfolding(crate::specs::Reading::look, crate::specs::Reading::skip, crate::specs::Reading::pure, crate::specs::Reading::refuse, crate::specs::Marks::a_picture))]
     pub fn picture(&mut self) -> Result<Vec<Vec<u8>>, Refusal>
-        ensures exact { Gives (λ v. map (λ l. l.items) v.items) result (words_of self.new.rest.now) (marks.a_picture (words_of self.old.rest.now)) }
+        ensures exact { Gives (λ v. map (λ l. l.items) v.items) result self.new (marks.a_picture self.old) }
         // Also where memory is refused, of which `exact` says nothing.
-        ensures stays { OnErr result (words_of self.new.rest.now ≡ words_of self.old.rest.now) }
-        ensures shorter { length self.new.rest.now ≤ length self.old.rest.now }
-        ensures taken { IfOk result (λ _. length self.new.rest.now < length self.old.rest.now) }
+        ensures stays { OnErr result (self.new ≡ self.old) }
+        ensures shorter { length self.new ≤ length self.old }
+        ensures taken { IfOk result (λ _. length self.new < length self.old) }
     {
-        match self.rest {
-            [
-                PlainWord {
-                    kind: Plain::Picture(lines),
-                    ..
-                },
-                rest @ ..,
-            ] => {
-                let lines = copied(self.alloc, lines)?;
-                self.rest = rest;
-                Ok(lines)
-            }
-            _ => Err(Refusal::Unexpected),
-        }
+        let Some(Plain::Picture(lines)) = self.peek() else {
+            return Err(Refusal::Unexpected);
+        };
+        let lines = copied(self.alloc, lines)?;
+        self.pass();
+        Ok(lines)
     }
 
     /// The line of the next word, from 1, where the words that are left are the last ones of `text`; 0 where none is left.
     pub fn line(&self, text: &[PlainWord]) -> usize
-        ensures { result ≡ get_or (lines_of text.now) (length text.now - length self.now.rest.now) 0 }
+        ensures { result ≡ line (word_lines text.now) (length text.now - length self.now) }
     {
         let at = text.len().saturating_sub(self.rest.len());
         match text.get(at) {
@@ -169,7 +193,7 @@ fn is_mark(kind: &Plain, mark: Mark) -> bool
 // Two marks are the same.
 #[tactic(auto, using(crate::proofs::MarkNumbers::sign_below))]
 fn is_same(found: Mark, mark: Mark) -> bool
-    ensures { result ≡ eqb (marks.mark_number mark) (marks.mark_number found) }
+    ensures { result ≡ (marks.mark_number mark == marks.mark_number found) }
 {
     match (found, mark) {
         (Mark::Sign(found), Mark::Sign(sign)) => found == sign,

@@ -2,6 +2,7 @@
 #![tactic(auto)]
 
 mod cursor;
+mod cursor_lists;
 mod fault;
 mod mark;
 mod plain_laws;
@@ -11,6 +12,7 @@ mod plain_word;
 mod refusal;
 mod reserved;
 mod scan;
+mod several;
 mod spelling;
 #[cfg(test)]
 mod tests;
@@ -25,4 +27,5 @@ pub use plain_word::{Plain, PlainWord};
 pub use refusal::Refusal;
 pub use reserved::Reserved;
 pub use scan::{without_stops, words};
+pub use several::Several;
 pub use word::{Sign, Word, WordKind, Words};

@@ -1,5 +1,4 @@
 use Rattle.std.proofs.Common.{length, ◌≤◌, map, ◌+◌, ◌*◌}
-use Rattle.ss_words.specs.Reading.{words_of}
 use Rattle.ss_words.proofs.Loop.{Going}
 use Rattle.ss_routines.specs.Expr.{sum, no_sums, product, no_products}
 use Rattle.ss_routines.specs.ExprReading as reading
@@ -36,18 +35,18 @@ decreases-expr l = 12 * l.room + 10
 
 abbrev pub invariant-sums-loop-more : goal.invariant-sums-loop-more
 invariant-sums-loop-more l = record {
-  shorter : length l.cursor.rest.now ≤ length l.fn.cursor.rest.now;
-  going : Going (reading.next_sum (paren_at l.room)) no_sums (λ s. sum s.0 s.1) (reading.sums_with (paren_at l.room) (words_of l.fn.cursor.rest.now)) (map added_view l.more.items) (words_of l.cursor.rest.now);
+  shorter : length l.cursor ≤ length l.fn.cursor;
+  going : Going (reading.next_sum (paren_at l.room)) no_sums (λ s. sum s.0 s.1) (reading.sums_with (paren_at l.room) l.fn.cursor) (map added_view l.more.items) l.cursor;
 }
 
 abbrev pub decreases-sums-loop-more : goal.decreases-sums-loop-more
-decreases-sums-loop-more l = length l.cursor.rest.now
+decreases-sums-loop-more l = length l.cursor
 
 abbrev pub invariant-products-loop-more : goal.invariant-products-loop-more
 invariant-products-loop-more l = record {
-  shorter : length l.cursor.rest.now ≤ length l.fn.cursor.rest.now;
-  going : Going (reading.next_product (paren_at l.room)) no_products product (reading.products_with (paren_at l.room) (words_of l.fn.cursor.rest.now)) (map factor_view l.more.items) (words_of l.cursor.rest.now);
+  shorter : length l.cursor ≤ length l.fn.cursor;
+  going : Going (reading.next_product (paren_at l.room)) no_products product (reading.products_with (paren_at l.room) l.fn.cursor) (map factor_view l.more.items) l.cursor;
 }
 
 abbrev pub decreases-products-loop-more : goal.decreases-products-loop-more
-decreases-products-loop-more l = length l.cursor.rest.now
+decreases-products-loop-more l = length l.cursor

@@ -1,7 +1,8 @@
 use Rattle.std.proofs.Common.{◌≡◌, ◌∙◌, ℕ, ◌+◌, ◌-◌, List, [], ◌∷◌, ◌++◌, length, length-append, map, sym, ap, arith}
 use Rattle.std.proofs.lemmas.List.{map_push}
 use Rattle.std.proofs.lemmas.Result.{err_from_is_err_and}
-use Rattle.ss_words.specs.Reading.{words_of, lines_of, Read}
+use Rattle.ss_words.specs.Plain.{word_lines}
+use Rattle.ss_words.specs.Reading.{Read}
 use Rattle.ss_words.specs.Plain.{Plain}
 use Rattle.ss_words.proofs.Loop.{passes_on}
 use Rattle.ss_routines.specs.declared.section.Section.{Section as CodeSection}
@@ -21,24 +22,24 @@ pushed lines total xs ys s r e h =
 
 pub returns-then-len-eq-MOST_SECTIONS-clause-exact : goal.returns-then-len-eq-MOST_SECTIONS-clause-exact
 returns-then-len-eq-MOST_SECTIONS-clause-exact c =
-    full (lines_of c.args.text.now) (expr_at 50) _ (map section_view c.loop-list.list.items) (256 - length c.loop-list.list.items) (words_of c.loop-list.cursor.rest.now)
+    full (word_lines c.args.text.now) (expr_at 50) _ (map section_view c.loop-list.list.items) (256 - length c.loop-list.list.items) c.loop-list.cursor
     (omega (arith, c.len.ensures, c.if-len-eq-MOST_SECTIONS.true)) (sym c.begins.ensures ∙ c.loop-list-test.true) c.loop-list.invariant.gathered
 
 pub returns-in_err-section-clause-exact : goal.returns-in_err-section-clause-exact
 returns-in_err-section-clause-exact c =
     let p = err_from_is_err_and c.from_residual.result c.from_residual.ensures.1 in
-    rw (p.1, p.2) (passes_on c.in_err-section.field-0.0 (words_of c.section.new.cursor.rest.now) (section_onto (lines_of c.args.text.now) (expr_at 50) (words_of c.loop-list.cursor.rest.now)) _
-    (λ g h. failed (lines_of c.args.text.now) (expr_at 50) _ (map section_view c.loop-list.list.items) (256 - length c.loop-list.list.items) (256 - (length c.loop-list.list.items + 1)) g (words_of c.loop-list.cursor.rest.now) (words_of c.section.new.cursor.rest.now)
+    rw (p.1, p.2) (passes_on c.in_err-section.field-0.0 c.section.new.cursor (section_onto (word_lines c.args.text.now) (expr_at 50) c.loop-list.cursor) _
+    (λ g h. failed (word_lines c.args.text.now) (expr_at 50) _ (map section_view c.loop-list.list.items) (256 - length c.loop-list.list.items) (256 - (length c.loop-list.list.items + 1)) g c.loop-list.cursor c.section.new.cursor
     (omega (arith, c.len.ensures, c.if-len-eq-MOST_SECTIONS.false, c.loop-list.invariant.room)) (sym c.begins.ensures ∙ c.loop-list-test.true) h c.loop-list.invariant.gathered) c.in_err-section.ensures.exact)
 
 pub loop-list-preserved : goal.loop-list-preserved
 loop-list-preserved c = record {
   shorter = omega (arith, c.in_ok-section.ensures.shorter, c.loop-list.invariant.shorter);
   room = omega (arith, c.len.ensures, c.if-len-eq-MOST_SECTIONS.false, c.loop-list.invariant.room, ap length c.in_ok-push.ensures.items, length-append c.loop-list.list.items (c.in_ok-section.field-0 ∷ []));
-  gathered = pushed (lines_of c.args.text.now) _ c.loop-list.list.items c.push.new.self.items c.in_ok-section.field-0 (words_of c.section.new.cursor.rest.now) c.in_ok-push.ensures.items
-      (turned (lines_of c.args.text.now) (expr_at 50) _ (map section_view c.loop-list.list.items) (256 - length c.loop-list.list.items) (256 - (length c.loop-list.list.items + 1)) (section_view c.in_ok-section.field-0) (words_of c.loop-list.cursor.rest.now) (words_of c.section.new.cursor.rest.now)
+  gathered = pushed (word_lines c.args.text.now) _ c.loop-list.list.items c.push.new.self.items c.in_ok-section.field-0 c.section.new.cursor c.in_ok-push.ensures.items
+      (turned (word_lines c.args.text.now) (expr_at 50) _ (map section_view c.loop-list.list.items) (256 - length c.loop-list.list.items) (256 - (length c.loop-list.list.items + 1)) (section_view c.in_ok-section.field-0) c.loop-list.cursor c.section.new.cursor
       (omega (arith, c.len.ensures, c.if-len-eq-MOST_SECTIONS.false, c.loop-list.invariant.room)) (sym c.begins.ensures ∙ c.loop-list-test.true) c.in_ok-section.ensures.exact c.loop-list.invariant.gathered);
 }
 
 pub returns-clause-exact : goal.returns-clause-exact
-returns-clause-exact c = ended (lines_of c.args.text.now) (expr_at 50) _ (map section_view c.loop-list.list.items) (256 - length c.loop-list.list.items) (words_of c.loop-list.cursor.rest.now) (sym c.begins.ensures ∙ c.loop-list-test.false) c.loop-list.invariant.gathered
+returns-clause-exact c = ended (word_lines c.args.text.now) (expr_at 50) _ (map section_view c.loop-list.list.items) (256 - length c.loop-list.list.items) c.loop-list.cursor (sym c.begins.ensures ∙ c.loop-list-test.false) c.loop-list.invariant.gathered

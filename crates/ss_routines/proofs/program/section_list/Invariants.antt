@@ -1,5 +1,5 @@
 use Rattle.std.proofs.Common.{length, ◌≤◌, ◌-◌, map}
-use Rattle.ss_words.specs.Reading.{words_of, lines_of}
+use Rattle.ss_words.specs.Plain.{word_lines}
 use Rattle.ss_routines.specs.ExprReading.{expr_at}
 use Rattle.ss_routines.specs.Onto.{sections_onto}
 use Rattle.ss_routines.specs.View.{section_view}
@@ -8,10 +8,10 @@ use Rattle.ss_routines.proofs.program.section_list.Given as goal
 
 abbrev pub invariant-loop-list : goal.invariant-loop-list
 invariant-loop-list l = record {
-  shorter : length l.cursor.rest.now ≤ length l.fn.cursor.rest.now;
+  shorter : length l.cursor ≤ length l.fn.cursor;
   room : length l.list.items ≤ 256;
-  gathered : Gathered (lines_of l.text) (expr_at 50) (sections_onto (lines_of l.text) (expr_at 50) 256 (words_of l.fn.cursor.rest.now)) (map section_view l.list.items) (256 - length l.list.items) (words_of l.cursor.rest.now);
+  gathered : Gathered (word_lines l.text) (expr_at 50) (sections_onto (word_lines l.text) (expr_at 50) 256 l.fn.cursor) (map section_view l.list.items) (256 - length l.list.items) l.cursor;
 }
 
 abbrev pub decreases-loop-list : goal.decreases-loop-list
-decreases-loop-list l = length l.cursor.rest.now
+decreases-loop-list l = length l.cursor

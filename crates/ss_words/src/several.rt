@@ -1,0 +1,6 @@
+/// A list of one or more, in the order in which they are written.
+#[derive(Debug, Drop)]
+pub struct Several<T> {
+    pub first: T,
+    pub others: Vec<T>,
+}
