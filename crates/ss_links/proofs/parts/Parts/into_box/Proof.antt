@@ -9,8 +9,7 @@ use types.Kit.{Item}
 use types.ByLocal.{lands_last}
 use denote.Param.{bounded}
 use denote.Triple.Call.{calls_at_last}
-use Rattle.std.proofs.alloc.Calls.{Al, token}
-use Rattle.std_alloc.specs.Box.Ownership.{box_owns}
+use Rattle.std.proofs.alloc.Calls.{Al}
 use Rattle.std_alloc.proofs.BoxSteps.Form.{Bx, D, R, P, B, box_ty, word, box_typed}
 use Rattle.std_alloc.proofs.BoxSteps.Steps.{box_out, box_in}
 use Rattle.std_alloc.specs.contracts.boxed.Box.from_raw as callee
