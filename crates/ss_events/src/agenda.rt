@@ -310,6 +310,7 @@ impl<S: SetBoard> Agenda<S> {
         requires pending { IsSome (pending_at self.old.agenda.pending notice) }
         ensures { Went result (after_taking self.old notice) self.old self.new }
     {
+        // What is kept is known where a field is read.
         let _board = &self.board;
         let entry = self.take_out(notice);
         AgendaChange::TakenOff { notice, entry }

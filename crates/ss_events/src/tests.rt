@@ -3,12 +3,13 @@ ghost use Rattle.ss_journal.specs.Undoing.{FitsSteps};
 ghost use Rattle.ss_events.specs.Changes.{Fits, unapply};
 ghost use Rattle.ss_events.specs.State.{AreRanked};
 ghost use Rattle.ss_events.specs.Rows.{rule_of};
+ghost use Rattle.ss_links.specs.Board.{empty_board};
 
 use crate::entry::ClassRule;
 use crate::{Agenda, AgendaChange, Slot};
 use ss_check::{Key, Rank, check};
 use ss_journal::{Journal, roll_back};
-use ss_links::{PlainSets, SetBoard};
+use ss_links::{LinkedSets, PlainSets, SetBoard};
 use ss_routines::sections;
 use ss_words::{RunFault, StepFault, words};
 use std::alloc::{AllocError, Global};
@@ -370,9 +371,12 @@ fn mixture<S: SetBoard>(
 #[test]
 fn every_call_agrees_with_a_plain_list(rt: HostRuntime) -> Result<(), Fail> {
     let alloc = rt.alloc();
-    let mut agenda = started(alloc)?;
+    let mut plain = started(alloc, PlainSets::new(alloc))?;
     let mut journal = Journal::new(alloc);
-    mixture(&rt, alloc, &mut agenda, &mut journal)?;
+    mixture(&rt, alloc, &mut plain, &mut journal)?;
+    let mut linked = started(alloc, LinkedSets::new(alloc))?;
+    let mut journal = Journal::new(alloc);
+    mixture(&rt, alloc, &mut linked, &mut journal)?;
     Ok(())
 }
 
@@ -436,18 +440,20 @@ fn there_and_back<S: SetBoard>(
     Ok(())
 }
 
-// An agenda of four classes on a plain board.
-fn started(alloc: Global) -> Result<Agenda<PlainSets>, AllocError> {
+// An agenda of four classes.
+fn started<S: SetBoard>(alloc: Global, board: S) -> Result<Agenda<S>, AllocError>
+    requires { S.board board ≡ empty_board }
+{
     let rules = four_rules(alloc)?;
-    Agenda::with_rules(alloc, rules, PlainSets::new(alloc))
+    Agenda::with_rules(alloc, rules, board)
 }
 
 #[test]
 fn a_refused_growth_changes_nothing(rt: HostRuntime) -> Result<(), Fail> {
     let alloc = rt.alloc();
-    let mut agenda = match started(alloc) {
+    let mut agenda = match started(alloc, LinkedSets::new(alloc)) {
         Ok(agenda) => agenda,
-        Err(_) => started(alloc)?,
+        Err(_) => started(alloc, LinkedSets::new(alloc))?,
     };
     let mut journal = Journal::new(alloc);
     there_and_back(&rt, &mut agenda, &mut journal)?;
