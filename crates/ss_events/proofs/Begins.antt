@@ -30,7 +30,8 @@ times-empty : (a n x : ℕ) → times (map (λ c. []) (range_with_len a n)) x �
 times-empty a zero x = refl
 times-empty a (suc n) x = omega (arith, times-empty (a + 1) n x)
 
-pub begins : (rules : List Rule) (n : ℕ) (b : Board) → n ≡ length rules → AreRanked rules → length rules ≤ 64 → b ≡ empty_heads n → IsAgenda [] (no_notices rules) b
+pub begins : (rules : List Rule) (n : ℕ) (b : Board) → n ≡ length rules → AreRanked rules → length rules ≤ 64 →
+    b ≡ empty_heads n → IsAgenda [] (no_notices rules) b
 begins rules n b h r few e = record {
   read = refl;
   board = e ∙ ap empty_heads h;
@@ -48,19 +49,28 @@ begins rules n b h r few e = record {
 }
 
 -- the notices of the seats of notices
-notices-of_seats : (s : AgendaState) (es : List Pending) → AreSeated s.notices es → map (λ seat. notice_on s seat) (seats_of s.notices es) ≡ map (λ e. e.notice) es
+notices-of_seats : (s : AgendaState) (es : List Pending) → AreSeated s.notices es →
+    map (λ seat. notice_on s seat) (seats_of s.notices es) ≡ map (λ e. e.notice) es
 notices-of_seats s [] h = refl
 notices-of_seats s (e ∷ es) h = rw (seat_in-notice s.notices e.notice 0 h.0, notices-of_seats s es h.1) refl
 
-pub by-class : (rows : List Row) (s : AgendaState) (b : Board) → IsAgenda rows s b → (c : ℕ) → c < length s.rules → map (λ seat. notice_on s seat) (list_at b.lists c) ≡ map (λ e. e.notice) (of_class c (order s))
+pub by-class : (rows : List Row) (s : AgendaState) (b : Board) → IsAgenda rows s b → (c : ℕ) → c < length s.rules →
+    map (λ seat. notice_on s seat) (list_at b.lists c) ≡ map (λ e. e.notice) (of_class c (order s))
 by-class rows s b k c l =
     let t = told rows s b k in
     let list = ap (λ (d : Board). list_at d.lists c) k.board ∙ list_at-by (class_seats s) (length s.rules) c l in
-    ap (map (λ seat. notice_on s seat)) list ∙ notices-of_seats s (of_class c (order s)) (Each-of_class (λ e. has s.notices e.notice ≡ true) c (order s) (Each-order (λ e. has s.notices e.notice ≡ true) s t t.seated))
+    ap (map (λ seat. notice_on s seat)) list ∙ notices-of_seats s (of_class c (order s)) (Each-of_class (λ e. has
+    s.notices e.notice ≡ true) c (order s) (Each-order (λ e. has s.notices e.notice ≡ true) s t t.seated))
 
 pub heads-fit : (b : Board) (n : ℕ) → b ≡ empty_heads n → length b.lists ≡ n
 heads-fit b n e = rw e (length-map-range_with_len (λ c. []) 0 n)
 
 -- the agenda without notices, on its vectors
-pub begins-on : (rows : List Row) (rules : List Rule) (ns : List ℕ) (n : ℕ) (b : Board) → rows ≡ [] → ns ≡ [] → n ≡ length rules → AreRanked rules → length rules ≤ 64 → b ≡ empty_heads n → IsAgenda rows (record { rules = rules; agenda = record { pending = notices_from 1 rows; next_filing = 1 }; notices = ns }) b
+pub begins-on : (rows : List Row) (rules : List Rule) (ns : List ℕ) (n : ℕ) (b : Board) → rows ≡ [] → ns ≡ [] →
+    n ≡ length rules → AreRanked rules → length rules ≤ 64 → b ≡ empty_heads n →
+    IsAgenda rows (record {
+      rules = rules;
+      agenda = record { pending = notices_from 1 rows; next_filing = 1 };
+      notices = ns;
+    }) b
 begins-on rows rules ns n b e f h r few i = rw (e, f) (begins rules n b h r few i)

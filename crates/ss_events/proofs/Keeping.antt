@@ -24,20 +24,31 @@ use Rattle.ss_events.proofs.Standing.{told, sound_board}
 
 -- what may become pending is new
 pub new-notice : (s : AgendaState) (e : Pending) → CanPend s e → IsNew s e
-new-notice s e p = record { notice = p.notice; filing = p.filing; seat = p.kept.seat; keyed = (p.kept.class, p.kept.keys) }
+new-notice s e p = record {
+  notice = p.notice;
+  filing = p.filing;
+  seat = p.kept.seat;
+  keyed = (
+    p.kept.class,
+    p.kept.keys,
+  );
+}
 
 -- the row of a notice that has a seat
-pub has-row : (rows : List Row) (s : AgendaState) (b : Board) (n : ℕ) → IsAgenda rows s b → has s.notices n ≡ true → n - 1 < length rows
+pub has-row : (rows : List Row) (s : AgendaState) (b : Board) (n : ℕ) → IsAgenda rows s b → has s.notices n ≡ true →
+    n - 1 < length rows
 has-row rows s b n k h = let r = k.seated n h in omega (arith, r.0, r.1)
 
-pub seat-is : (rows : List Row) (s : AgendaState) (b : Board) (n : ℕ) → IsAgenda rows s b → has s.notices n ≡ true → (row_at rows (n - 1)).seat ≡ Some (seat_in s.notices n)
+pub seat-is : (rows : List Row) (s : AgendaState) (b : Board) (n : ℕ) → IsAgenda rows s b → has s.notices n ≡ true →
+    (row_at rows (n - 1)).seat ≡ Some (seat_in s.notices n)
 seat-is rows s b n k h =
     let r = k.seated n h in
     let same : n - 1 + 1 ≡ n = omega (arith, r.0) in
     let seat = rw same at (k.seats (n - 1) (has-row rows s b n k h)) in
     seat ∙ rw h refl
 
-pub pending-seat : (rows : List Row) (s : AgendaState) (b : Board) (n : ℕ) (e : Pending) → IsAgenda rows s b → pending_at s.agenda.pending n ≡ Some e → (has s.notices n ≡ true) × (e.class < length s.rules)
+pub pending-seat : (rows : List Row) (s : AgendaState) (b : Board) (n : ℕ) (e : Pending) → IsAgenda rows s b →
+    pending_at s.agenda.pending n ≡ Some e → (has s.notices n ≡ true) × (e.class < length s.rules)
 pending-seat rows s b n e k h =
     let p = pending_at-each (IsPending s.rules s.notices s.agenda.next_filing) s.agenda.pending n e k.pending h in
     (rw p.1 at p.0.seat, p.0.class)
@@ -47,30 +58,51 @@ none-map : (n : ℕ) (o : Option Entry) → option_map (notice_of n) o ≡ None 
 none-map n None h = refl
 none-map n (Some x) h = absurd (cc)
 
-pub row-none : (rows : List Row) (s : AgendaState) (b : Board) (n : ℕ) → IsAgenda rows s b → 0 < n → NoneNoted n s.agenda.pending → (row_at rows (n - 1)).entry ≡ None
-row-none rows s b n k a h = none-map n (row_at rows (n - 1)).entry (sym (pending_row rows n a) ∙ (ap (λ (es : List Pending). pending_at es n) (sym k.read) ∙ pending_at-none n s.agenda.pending h))
+pub row-none : (rows : List Row) (s : AgendaState) (b : Board) (n : ℕ) → IsAgenda rows s b → 0 < n →
+    NoneNoted n s.agenda.pending → (row_at rows (n - 1)).entry ≡ None
+row-none rows s b n k a h = none-map n (row_at rows (n - 1)).entry (sym (pending_row rows n a) ∙
+    (ap (λ (es : List Pending). pending_at es n) (sym k.read) ∙ pending_at-none n s.agenda.pending h))
 
 -- a row in which only the entry changes
-row-seat_set : (rows : List Row) (j i : ℕ) (r : Row) → j < length rows → r.seat ≡ (row_at rows j).seat → (row_at (set rows j r) i).seat ≡ (row_at rows i).seat
-row-seat_set rows j i r l h = elim (eqb i j) as (λ t. eqb i j ≡ t → (row_at (set rows j r) i).seat ≡ (row_at rows i).seat) [ true ↦ λ t. let same : i ≡ j = grind (arith, nat_tests, t) in rw (same, get_or-set_same rows j r (record { seat = None; entry = None }) l) h | false ↦ λ t. let apart : ¬ (i ≡ j) = λ e. absurd (grind (arith, nat_tests, t, e)) in ap (λ (q : Row). q.seat) (get_or-set_other rows j i r (record { seat = None; entry = None }) apart) ] refl
+row-seat_set : (rows : List Row) (j i : ℕ) (r : Row) → j < length rows → r.seat ≡ (row_at rows j).seat →
+    (row_at (set rows j r) i).seat ≡ (row_at rows i).seat
+row-seat_set rows j i r l h = elim (eqb i j)
+    as (λ t. eqb i j ≡ t → (row_at (set rows j r) i).seat ≡ (row_at rows i).seat) [
+      | true ↦ λ t. let same : i ≡ j = grind (arith, nat_tests, t) in rw (
+        same,
+        get_or-set_same rows j r (record { seat = None; entry = None }) l,
+      ) h
+      | false ↦ λ t. let apart : ¬ (i ≡ j) = λ e. absurd (grind (arith, nat_tests, t, e)) in
+          ap (λ (q : Row). q.seat) (get_or-set_other rows j i r (record { seat = None; entry = None }) apart)
+    ] refl
 
 -- a notice is put in
-pub put_in-read : (rows : List Row) (s : AgendaState) (b : Board) (n : ℕ) (x : Entry) (r : Row) → IsAgenda rows s b → CanPend s (notice_of n x) → r.entry ≡ Some x → with_notice (notice_of n x) s.agenda.pending ≡ notices_from 1 (set rows (n - 1) r)
+pub put_in-read : (rows : List Row) (s : AgendaState) (b : Board) (n : ℕ) (x : Entry) (r : Row) →
+    IsAgenda rows s b → CanPend s (notice_of n x) → r.entry ≡ Some x →
+    with_notice (notice_of n x) s.agenda.pending ≡ notices_from 1 (set rows (n - 1) r)
 put_in-read rows s b n x r k p h =
     let above = (k.seated n p.kept.seat).0 in
     let same : 1 + (n - 1) ≡ n = omega (arith, above) in
-    rw k.read (sym (rw same at (from-with 1 rows (n - 1) r x (has-row rows s b n k p.kept.seat) (row-none rows s b n k above p.notice) h)))
+    rw k.read (sym (rw same at (from-with 1 rows (n - 1) r x (has-row rows s b n k p.kept.seat) (row-none rows s b n
+    k above p.notice) h)))
 
-pub put_in-kept : (rows : List Row) (s : AgendaState) (b c : Board) (n : ℕ) (x : Entry) (r : Row) → IsAgenda rows s b → CanPend s (notice_of n x) → r.entry ≡ Some x → r.seat ≡ (row_at rows (n - 1)).seat → c ≡ relinked b (seat_in s.notices n) (rank_place s (notice_of n x)) → IsSound c → IsAgenda (set rows (n - 1) r) (with_pending s (with_notice (notice_of n x) s.agenda.pending)) c
+pub put_in-kept : (rows : List Row) (s : AgendaState) (b c : Board) (n : ℕ) (x : Entry) (r : Row) →
+    IsAgenda rows s b → CanPend s (notice_of n x) → r.entry ≡ Some x → r.seat ≡ (row_at rows (n - 1)).seat →
+    c ≡ relinked b (seat_in s.notices n) (rank_place s (notice_of n x)) → IsSound c →
+    IsAgenda (set rows (n - 1) r) (with_pending s (with_notice (notice_of n x) s.agenda.pending)) c
 put_in-kept rows s b c n x r k p h seat e sound = record {
   sound = sound;
   read = put_in-read rows s b n x r k p h;
   board = e ∙ rw k.board (relinked-with s (notice_of n x) (told rows s b k) (new-notice s (notice_of n x) p));
-  seats = λ i l. row-seat_set rows (n - 1) i r (has-row rows s b n k p.kept.seat) seat ∙ k.seats i (omega (arith, length-set rows (n - 1) r));
+  seats = λ i l. row-seat_set rows (n - 1) i r (has-row rows s b n k p.kept.seat) seat ∙ k.seats i (omega (
+    arith,
+    length-set rows (n - 1) r,
+  ));
   seated = λ m l. let d = k.seated m l in (d.0, omega (arith, d.1, length-set rows (n - 1) r));
   once = k.once;
   few = omega (arith, k.few, length-set rows (n - 1) r);
-  pending = Each-with (IsPending s.rules s.notices s.agenda.next_filing) (notice_of n x) s.agenda.pending p.kept k.pending;
+  pending = Each-with (IsPending s.rules s.notices s.agenda.next_filing) (notice_of n x) s.agenda.pending p.kept
+      k.pending;
   filed = (IsTold-with s (notice_of n x) (told rows s b k) (new-notice s (notice_of n x) p)).filed;
   filing = k.filing;
   ranked = k.ranked;
@@ -79,18 +111,25 @@ put_in-kept rows s b c n x r k p h seat e sound = record {
 }
 
 -- a notice is taken out
-pub take_out-read : (rows : List Row) (s : AgendaState) (b : Board) (n : ℕ) (r : Row) → IsAgenda rows s b → has s.notices n ≡ true → r.entry ≡ None → without_notice n s.agenda.pending ≡ notices_from 1 (set rows (n - 1) r)
+pub take_out-read : (rows : List Row) (s : AgendaState) (b : Board) (n : ℕ) (r : Row) → IsAgenda rows s b →
+    has s.notices n ≡ true → r.entry ≡ None → without_notice n s.agenda.pending ≡ notices_from 1 (set rows (n - 1) r)
 take_out-read rows s b n r k a h =
     let above = (k.seated n a).0 in
     let same : 1 + (n - 1) ≡ n = omega (arith, above) in
     rw k.read (sym (rw same at (from-without 1 rows (n - 1) r (has-row rows s b n k a) h)))
 
-pub take_out-kept : (rows : List Row) (s : AgendaState) (b c : Board) (n : ℕ) (r : Row) → IsAgenda rows s b → has s.notices n ≡ true → r.entry ≡ None → r.seat ≡ (row_at rows (n - 1)).seat → c ≡ unlinked b (seat_in s.notices n) → IsSound c → IsAgenda (set rows (n - 1) r) (with_pending s (without_notice n s.agenda.pending)) c
+pub take_out-kept : (rows : List Row) (s : AgendaState) (b c : Board) (n : ℕ) (r : Row) → IsAgenda rows s b →
+    has s.notices n ≡ true → r.entry ≡ None → r.seat ≡ (row_at rows (n - 1)).seat →
+    c ≡ unlinked b (seat_in s.notices n) → IsSound c →
+    IsAgenda (set rows (n - 1) r) (with_pending s (without_notice n s.agenda.pending)) c
 take_out-kept rows s b c n r k a h seat e sound = record {
   sound = sound;
   read = take_out-read rows s b n r k a h;
   board = e ∙ rw k.board (unlinked-without s n (told rows s b k) a);
-  seats = λ i l. row-seat_set rows (n - 1) i r (has-row rows s b n k a) seat ∙ k.seats i (omega (arith, length-set rows (n - 1) r));
+  seats = λ i l. row-seat_set rows (n - 1) i r (has-row rows s b n k a) seat ∙ k.seats i (omega (
+    arith,
+    length-set rows (n - 1) r,
+  ));
   seated = λ m l. let d = k.seated m l in (d.0, omega (arith, d.1, length-set rows (n - 1) r));
   once = k.once;
   few = omega (arith, k.few, length-set rows (n - 1) r);
@@ -103,14 +142,17 @@ take_out-kept rows s b c n r k a h seat e sound = record {
 }
 
 -- where a notice belongs doesn't depend on its number
-passed-number : (s : AgendaState) (m n : ℕ) (x : Entry) (es : List Pending) → passed (before s.rules) (notice_of m x) es ≡ passed (before s.rules) (notice_of n x) es
+passed-number : (s : AgendaState) (m n : ℕ) (x : Entry) (es : List Pending) →
+    passed (before s.rules) (notice_of m x) es ≡ passed (before s.rules) (notice_of n x) es
 passed-number s m n x [] = refl
-passed-number s m n x (f ∷ fs) = ap (λ (l : List Pending). cond (before s.rules (notice_of n x) f) [] (f ∷ l)) (passed-number s m n x fs)
+passed-number s m n x (f ∷ fs) = ap (λ (l : List Pending). cond (before s.rules (notice_of n x) f) [] (f ∷ l))
+    (passed-number s m n x fs)
 
 abbrev place_with : AgendaState → Entry → List Pending → Place
 place_with s x l = record { head = x.class; before = last_of (seats_of s.notices l) }
 
-pub rank_place-number : (s : AgendaState) (m n : ℕ) (x : Entry) → rank_place s (notice_of m x) ≡ rank_place s (notice_of n x)
+pub rank_place-number : (s : AgendaState) (m n : ℕ) (x : Entry) →
+    rank_place s (notice_of m x) ≡ rank_place s (notice_of n x)
 rank_place-number s m n x = ap (place_with s x) (passed-number s m n x (of_class x.class (order s)))
 
 -- a row that is read off the rows
@@ -122,30 +164,53 @@ row-is rows i q l h = sym (h ∙ same rows i q l)
     same (r ∷ rs) zero q l = refl
     same (r ∷ rs) (suc i) q l = same rs i q (omega arith)
 
-pub read-seat : (rows : List Row) (s : AgendaState) (b : Board) (n : ℕ) (q : Row) → IsAgenda rows s b → has s.notices n ≡ true → q ≡ get_or rows (n - 1) q → q.seat ≡ Some (seat_in s.notices n)
-read-seat rows s b n q k h e = ap (λ (r : Row). r.seat) (sym (row-is rows (n - 1) q (has-row rows s b n k h) e)) ∙ seat-is rows s b n k h
+pub read-seat : (rows : List Row) (s : AgendaState) (b : Board) (n : ℕ) (q : Row) → IsAgenda rows s b →
+    has s.notices n ≡ true → q ≡ get_or rows (n - 1) q → q.seat ≡ Some (seat_in s.notices n)
+read-seat rows s b n q k h e = ap (λ (r : Row). r.seat) (sym (row-is rows (n - 1) q (has-row rows s b n k h) e)) ∙
+    seat-is rows s b n k h
 
 some-same : (x y : ℕ) (o : Option ℕ) → o ≡ Some x → o ≡ Some y → x ≡ y
 some-same x y o h k = cc
 
 -- the seat that is read is the notice's
-pub seat-read : (rows : List Row) (s : AgendaState) (b : Board) (n x : ℕ) (q : Row) → IsAgenda rows s b → has s.notices n ≡ true → q ≡ get_or rows (n - 1) q → q.seat ≡ Some x → x ≡ seat_in s.notices n
+pub seat-read : (rows : List Row) (s : AgendaState) (b : Board) (n x : ℕ) (q : Row) → IsAgenda rows s b →
+    has s.notices n ≡ true → q ≡ get_or rows (n - 1) q → q.seat ≡ Some x → x ≡ seat_in s.notices n
 seat-read rows s b n x q k h e f = some-same x (seat_in s.notices n) q.seat f (read-seat rows s b n q k h e)
 
 -- the seat and the place that are found are those of the notice
-pub put_in-relink : (rows : List Row) (s : AgendaState) (b : Board) (n : ℕ) (x : Entry) (q : Row) (seat : ℕ) (place : Place) → IsAgenda rows s b → CanPend s (notice_of n x) → q ≡ get_or rows (n - 1) q → q.seat ≡ Some seat → place ≡ rank_place s (notice_of 0 x) → CanRelink b seat place
-put_in-relink rows s b n x q seat place k p e f g = rw (k.board, seat-read rows s b n seat q k p.kept.seat e f, g, rank_place-number s 0 n x) (CanRelink-rank s (notice_of n x) (told rows s b k) (new-notice s (notice_of n x) p))
+pub put_in-relink : (rows : List Row) (s : AgendaState) (b : Board) (n : ℕ) (x : Entry) (q : Row) (seat : ℕ) (place :
+    Place) → IsAgenda rows s b → CanPend s (notice_of n x) → q ≡ get_or rows (n - 1) q → q.seat ≡ Some seat →
+    place ≡ rank_place s (notice_of 0 x) → CanRelink b seat place
+put_in-relink rows s b n x q seat place k p e f g = rw (
+  k.board,
+  seat-read rows s b n seat q k p.kept.seat e f,
+  g,
+  rank_place-number s 0 n x,
+) (CanRelink-rank s (notice_of n x) (told rows s b k) (new-notice s (notice_of n x) p))
 
-pub put_in-closed : (rows : List Row) (s : AgendaState) (b c : Board) (n : ℕ) (x : Entry) (q r : Row) (seat : ℕ) (place : Place) → IsAgenda rows s b → CanPend s (notice_of n x) → q ≡ get_or rows (n - 1) q → q.seat ≡ Some seat → place ≡ rank_place s (notice_of 0 x) → c ≡ relinked b seat place → IsSound c → r ≡ get_or rows (n - 1) r → IsAgenda (set rows (n - 1) (record { seat = r.seat; entry = Some x })) (with_pending s (notices_from 1 (set rows (n - 1) (record { seat = r.seat; entry = Some x })))) c
+pub put_in-closed : (rows : List Row) (s : AgendaState) (b c : Board) (n : ℕ) (x : Entry) (q r : Row) (seat : ℕ)
+    (place : Place) → IsAgenda rows s b → CanPend s (notice_of n x) → q ≡ get_or rows (n - 1) q →
+    q.seat ≡ Some seat → place ≡ rank_place s (notice_of 0 x) → c ≡ relinked b seat place → IsSound c →
+    r ≡ get_or rows (n - 1) r → IsAgenda (set rows (n - 1) (record {
+      seat = r.seat;
+      entry = Some x;
+    })) (with_pending s (notices_from 1 (set rows (n - 1) (record {
+      seat = r.seat;
+      entry = Some x;
+    })))) c
 put_in-closed rows s b c n x q r seat place k p e f g h sound i =
     let row : Row = record { seat = r.seat; entry = Some x } in
-    let own : r.seat ≡ (row_at rows (n - 1)).seat = ap (λ (t : Row). t.seat) (sym (row-is rows (n - 1) r (has-row rows s b n k p.kept.seat) i)) in
-    let board : c ≡ relinked b (seat_in s.notices n) (rank_place s (notice_of n x)) = h ∙ (ap (λ (t : ℕ). relinked b t place) (seat-read rows s b n seat q k p.kept.seat e f) ∙ ap (λ (t : Place). relinked b (seat_in s.notices n) t) (g ∙ rank_place-number s 0 n x)) in
+    let own : r.seat ≡ (row_at rows (n - 1)).seat = ap (λ (t : Row). t.seat) (sym (row-is rows (n - 1) r (has-row
+    rows s b n k p.kept.seat) i)) in
+    let board : c ≡ relinked b (seat_in s.notices n) (rank_place s (notice_of n x)) = h ∙
+    (ap (λ (t : ℕ). relinked b t place) (seat-read rows s b n seat q k p.kept.seat e f) ∙
+    ap (λ (t : Place). relinked b (seat_in s.notices n) t) (g ∙ rank_place-number s 0 n x)) in
     let new = put_in-kept rows s b c n x row k p refl own board sound in
     rw (put_in-read rows s b n x row k p refl) at new
 
 -- the state that is read off the rows
-pub view-with : (s t : AgendaState) (es : List Pending) (f : List Pending → List Pending) → s ≡ t → f s.agenda.pending ≡ es → with_pending s es ≡ with_pending t (f t.agenda.pending)
+pub view-with : (s t : AgendaState) (es : List Pending) (f : List Pending → List Pending) → s ≡ t →
+    f s.agenda.pending ≡ es → with_pending s es ≡ with_pending t (f t.agenda.pending)
 view-with s t es f e h = rw (← h, e) refl
 
 -- a pending notice's row
@@ -156,24 +221,42 @@ pub record IsRow (rows : List Row) (s : AgendaState) (n : ℕ) : Type 0 where
   pub class : pending.class < length s.rules
   pub row : n - 1 < length rows
 
-pub pending-row : (rows : List Row) (s : AgendaState) (b : Board) (n : ℕ) → IsAgenda rows s b → IsSome (pending_at s.agenda.pending n) → IsRow rows s n
+pub pending-row : (rows : List Row) (s : AgendaState) (b : Board) (n : ℕ) → IsAgenda rows s b →
+    IsSome (pending_at s.agenda.pending n) → IsRow rows s n
 pending-row rows s b n k h = go (pending_at s.agenda.pending n) refl h
   where
     go : (o : Option Pending) → pending_at s.agenda.pending n ≡ o → IsSome o → IsRow rows s n
     go None e i = absurd (cc)
-    go (Some p) e i = let r = pending-seat rows s b n p k e in record { pending = p; there = e; seat = r.0; class = r.1; row = has-row rows s b n k r.0 }
+    go (Some p) e i = let r = pending-seat rows s b n p k e in record {
+      pending = p;
+      there = e;
+      seat = r.0;
+      class = r.1;
+      row = has-row rows s b n k r.0;
+    }
 
-pub taken-linked : (rows : List Row) (s : AgendaState) (b : Board) (n seat : ℕ) (q : Row) → IsAgenda rows s b → IsSome (pending_at s.agenda.pending n) → q ≡ get_or rows (n - 1) q → q.seat ≡ Some seat → (seat < b.seats) × IsSome (head_of b.lists seat)
+pub taken-linked : (rows : List Row) (s : AgendaState) (b : Board) (n seat : ℕ) (q : Row) → IsAgenda rows s b →
+    IsSome (pending_at s.agenda.pending n) → q ≡ get_or rows (n - 1) q → q.seat ≡ Some seat →
+    (seat < b.seats) × IsSome (head_of b.lists seat)
 taken-linked rows s b n seat q k h e f =
     let r = pending-row rows s b n k h in
     let is = seat-read rows s b n seat q k r.seat e f in
     let linked = linked-seat s n r.pending (told rows s b k) (sound_board rows s b k) r.class r.there in
     (rw (k.board, is) (seat_in-below s.notices n r.seat), rw (k.board, is, linked) refl)
 
-pub taken-entry : (rows : List Row) (s : AgendaState) (b : Board) (n : ℕ) (r : Row) → IsAgenda rows s b → 0 < n → IsSome (pending_at s.agenda.pending n) → r ≡ get_or rows (n - 1) r → pending_at s.agenda.pending n ≡ option_map (notice_of n) r.entry
-taken-entry rows s b n r k a h i = ap (λ (es : List Pending). pending_at es n) k.read ∙ (pending_row rows n a ∙ ap (λ (q : Row). option_map (notice_of n) q.entry) (row-is rows (n - 1) r (pending-row rows s b n k h).row i))
+pub taken-entry : (rows : List Row) (s : AgendaState) (b : Board) (n : ℕ) (r : Row) → IsAgenda rows s b → 0 < n →
+    IsSome (pending_at s.agenda.pending n) → r ≡ get_or rows (n - 1) r →
+    pending_at s.agenda.pending n ≡ option_map (notice_of n) r.entry
+taken-entry rows s b n r k a h i = ap (λ (es : List Pending). pending_at es n) k.read ∙ (pending_row rows n a ∙
+    ap (λ (q : Row). option_map (notice_of n) q.entry) (row-is rows (n - 1) r (pending-row rows s b n k h).row i))
 
-pub take_out-closed : (rows : List Row) (s : AgendaState) (b c : Board) (n : ℕ) (q r : Row) (seat : ℕ) (o : Option Entry) → IsAgenda rows s b → IsSome (pending_at s.agenda.pending n) → q ≡ get_or rows (n - 1) q → q.seat ≡ Some seat → c ≡ unlinked b seat → IsSound c → r ≡ get_or rows (n - 1) r → o ≡ None → IsAgenda (set rows (n - 1) (record { seat = r.seat; entry = o })) (with_pending s (notices_from 1 (set rows (n - 1) (record { seat = r.seat; entry = o })))) c
+pub take_out-closed : (rows : List Row) (s : AgendaState) (b c : Board) (n : ℕ) (q r : Row) (seat : ℕ) (o : Option
+    Entry) → IsAgenda rows s b → IsSome (pending_at s.agenda.pending n) → q ≡ get_or rows (n - 1) q →
+    q.seat ≡ Some seat → c ≡ unlinked b seat → IsSound c → r ≡ get_or rows (n - 1) r → o ≡ None →
+    IsAgenda (set rows (n - 1) (record {
+      seat = r.seat;
+      entry = o;
+    })) (with_pending s (notices_from 1 (set rows (n - 1) (record { seat = r.seat; entry = o })))) c
 take_out-closed rows s b c n q r seat o k a e f h sound i z =
     let p = pending-row rows s b n k a in
     let row : Row = record { seat = r.seat; entry = o } in

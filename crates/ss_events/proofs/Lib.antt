@@ -13,3 +13,5 @@ pub mod Going
 pub mod Listings
 pub mod RuleLaws
 pub mod Begins
+pub mod Steps
+pub mod WellLaws

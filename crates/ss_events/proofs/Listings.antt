@@ -43,7 +43,12 @@ first-drop (e ∷ es) (suc i) = first-drop es i
 
 of_class-append : (c : ℕ) (a b : List Pending) → of_class c (a ++ b) ≡ of_class c a ++ of_class c b
 of_class-append c [] b = refl
-of_class-append c (e ∷ es) b = let rest = of_class-append c es b in elim (eqb e.class c) as (λ t. cond t (e ∷ of_class c (es ++ b)) (of_class c (es ++ b)) ≡ cond t (e ∷ of_class c es) (of_class c es) ++ of_class c b) [ true ↦ ap (λ (l : List Pending). e ∷ l) rest | false ↦ rest ]
+of_class-append c (e ∷ es) b = let rest = of_class-append c es b in elim (eqb e.class c)
+    as (λ t. cond t (e ∷ of_class c (es ++ b)) (of_class c (es ++ b)) ≡ cond t (e ∷ of_class c es) (of_class c es) ++
+    of_class c b) [
+      | true ↦ ap (λ (l : List Pending). e ∷ l) rest
+      | false ↦ rest
+    ]
 
 front-rear : (es : List Pending) (i : ℕ) → es ≡ take i es ++ drop i es
 front-rear [] zero = refl
@@ -76,108 +81,174 @@ pub record IsFirstOf (s : AgendaState) (es : List Pending) (c : ℕ) (at : Optio
   pub first : pending_on s at ≡ first (of_class c es)
   pub taken : IsTakenIfSome s at
 
-pub first-of_class : (rows : List Row) (s : AgendaState) (b : Board) (l : Listing) (c : ℕ) (at : Option ℕ) → IsAgenda rows s b → IsListing s l → c < length s.rules → at ≡ seat_of_class l c → IsFirstOf s (left_of s l) c at
+pub first-of_class : (rows : List Row) (s : AgendaState) (b : Board) (l : Listing) (c : ℕ) (at : Option ℕ) →
+    IsAgenda rows s b → IsListing s l → c < length s.rules → at ≡ seat_of_class l c → IsFirstOf s (left_of s l) c at
 first-of_class rows s b l c at k i m h = rw (h ∙ i.seats c m) (go (of_class c (left_of s l)) refl)
   where
     done : List Pending
     done = of_class c (take l.listed (order s))
 
     whole : of_class c (order s) ≡ done ++ of_class c (left_of s l)
-    whole = ap (of_class c) (front-rear (order s) l.listed) ∙ of_class-append c (take l.listed (order s)) (drop l.listed (order s))
+    whole = ap (of_class c) (front-rear (order s) l.listed) ∙
+        of_class-append c (take l.listed (order s)) (drop l.listed (order s))
 
-    go : (es : List Pending) → of_class c (left_of s l) ≡ es → IsFirstOf s (left_of s l) c (first_of (seats_of s.notices (of_class c (left_of s l))))
+    go : (es : List Pending) → of_class c (left_of s l) ≡ es →
+        IsFirstOf s (left_of s l) c (first_of (seats_of s.notices (of_class c (left_of s l))))
     go [] e = rw e (record { first = ap first (sym e); taken = tt })
-    go (f ∷ fs) e = let t = stands s c done f fs (told rows s b k) (sound_board rows s b k) m (whole ∙ ap (λ (es : List Pending). done ++ es) e) in rw e (record { first = ap (pending_at s.agenda.pending) t.notice ∙ (t.pending ∙ ap first (sym e)); taken = taken-stands s c done f fs t })
+    go (f ∷ fs) e = let t = stands s c done f fs (told rows s b k) (sound_board rows s b k) m (whole ∙
+        ap (λ (es : List Pending). done ++ es) e) in rw e (record {
+          first = ap (pending_at s.agenda.pending) t.notice
+              ∙ (t.pending ∙ ap first (sym e));
+          taken = taken-stands s c done f fs t;
+        })
 
 -- a class more
-pub first-more : (rows : List Row) (s : AgendaState) (b : Board) (l : Listing) (c : ℕ) (at own new : Option ℕ) → IsAgenda rows s b → IsFirst s (left_of s l) c at → IsFirstOf s (left_of s l) c own → pending_on s new ≡ earlier (before s.rules) (pending_on s at) (pending_on s own) → IsTakenIfSome s new → IsFirst s (left_of s l) (c + 1) new
+pub first-more : (rows : List Row) (s : AgendaState) (b : Board) (l : Listing) (c : ℕ) (at own new : Option ℕ) →
+    IsAgenda rows s b → IsFirst s (left_of s l) c at → IsFirstOf s (left_of s l) c own →
+    pending_on s new ≡ earlier (before s.rules) (pending_on s at) (pending_on s own) → IsTakenIfSome s new →
+    IsFirst s (left_of s l) (c + 1) new
 first-more rows s b l c at own new k f o e t =
     let es = left_of s l in
     let sorted = IsSorted-drop (before s.rules) l.listed (order s) (IsSorted-order s (told rows s b k)) in
     record {
-      first = e ∙ (ap (λ (p : Option Pending). earlier (before s.rules) p (pending_on s own)) f.first ∙ (ap (earlier (before s.rules) (first (of_classes_below c es))) o.first ∙ sym (first-earlier (before s.rules) (IsOrder-before s.rules) c es sorted)));
+      first = e ∙ (ap (λ (p : Option Pending). earlier (before s.rules) p (pending_on s own)) f.first ∙
+          (ap (earlier (before s.rules) (first (of_classes_below c es))) o.first ∙
+          sym (first-earlier (before s.rules) (IsOrder-before s.rules) c es sorted)));
       taken = t;
     }
 
 -- all classes
-pub first-all : (rows : List Row) (s : AgendaState) (b : Board) (l : Listing) (c : ℕ) (at : Option ℕ) → IsAgenda rows s b → c ≡ length s.rules → IsFirst s (left_of s l) c at → pending_on s at ≡ slice_get (order s) l.listed
+pub first-all : (rows : List Row) (s : AgendaState) (b : Board) (l : Listing) (c : ℕ) (at : Option ℕ) →
+    IsAgenda rows s b → c ≡ length s.rules → IsFirst s (left_of s l) c at →
+    pending_on s at ≡ slice_get (order s) l.listed
 first-all rows s b l c at k h f =
     let t = told rows s b k in
-    let below = Each-drop (λ e. e.class < length s.rules) l.listed (order s) (Each-order (λ e. e.class < length s.rules) s t (Each-map (IsPending s.rules s.notices s.agenda.next_filing) (λ e. e.class < length s.rules) (λ e p. p.class) s.agenda.pending k.pending)) in
-    let all : of_classes_below c (left_of s l) ≡ left_of s l = rw h (of_classes_below-all (length s.rules) (left_of s l) below) in
+    let below = Each-drop (λ e. e.class < length s.rules) l.listed (order s) (Each-order (λ e. e.class < length
+    s.rules) s t (Each-map (IsPending s.rules s.notices s.agenda.next_filing) (λ e. e.class < length s.rules) (λ
+    e p. p.class) s.agenda.pending k.pending)) in
+    let all : of_classes_below c (left_of s l) ≡ left_of s l = rw h (of_classes_below-all (length s.rules) (left_of s
+    l) below) in
     f.first ∙ (ap first all ∙ first-drop (order s) l.listed)
 
 -- the first of all is the least
-pub least-at : (rows : List Row) (s : AgendaState) (b : Board) → IsAgenda rows s b → slice_get (order s) 0 ≡ least s.rules s.agenda.pending
+pub least-at : (rows : List Row) (s : AgendaState) (b : Board) → IsAgenda rows s b →
+    slice_get (order s) 0 ≡ least s.rules s.agenda.pending
 least-at rows s b k = sym (first-drop (order s) 0) ∙ sym (least-sorted s (told rows s b k))
 
 -- the seat of the notice of a seat
-seat_in-index : (ns : List ℕ) (i d : ℕ) → ((n : ℕ) → times_in ns n ≤ 1) → i < length ns → seat_in ns (get_or ns i d) ≡ i
+seat_in-index : (ns : List ℕ) (i d : ℕ) → ((n : ℕ) → times_in ns n ≤ 1) → i < length ns →
+    seat_in ns (get_or ns i d) ≡ i
 seat_in-index [] i d o h = absurd (omega arith)
 seat_in-index (m ∷ ms) zero d o h = let same : eqb m m ≡ true = grind (arith, nat_tests) in rw same refl
 seat_in-index (m ∷ ms) (suc i) d o h =
     let rest = seat_in-index ms i d (λ n. less n (o n)) (omega arith) in
     let there = times_in-present ms (get_or ms i d) (has-get_or ms i d (omega arith)) in
-    elim (eqb m (get_or ms i d)) as (λ t. eqb m (get_or ms i d) ≡ t → cond t 0 (suc (seat_in ms (get_or ms i d))) ≡ suc i) [ true ↦ λ t. absurd (twice t (o (get_or ms i d)) there) | false ↦ λ t. ap suc rest ] refl
+    elim (eqb m (get_or ms i d))
+    as (λ t. eqb m (get_or ms i d) ≡ t → cond t 0 (suc (seat_in ms (get_or ms i d))) ≡ suc i) [
+      | true ↦ λ t. absurd (twice t (o (get_or ms i d)) there)
+      | false ↦ λ t. ap suc rest
+    ] refl
   where
     less : (n : ℕ) → cond (eqb m n) 1 0 + times_in ms n ≤ 1 → times_in ms n ≤ 1
     less n h = omega (arith, h)
 
-    twice : eqb m (get_or ms i d) ≡ true → cond (eqb m (get_or ms i d)) 1 0 + times_in ms (get_or ms i d) ≤ 1 → 0 < times_in ms (get_or ms i d) → ⊥
+    twice : eqb m (get_or ms i d) ≡ true → cond (eqb m (get_or ms i d)) 1 0 + times_in ms (get_or ms i d) ≤ 1 →
+        0 < times_in ms (get_or ms i d) → ⊥
     twice t h k = let more : 1 + times_in ms (get_or ms i d) ≤ 1 = rw t at h in omega (arith, more, k)
 
 -- how many notices there may be
 length-notices_from : (n : ℕ) (rs : List Row) → length (notices_from n rs) ≤ length rs
 length-notices_from n [] = omega arith
-length-notices_from n (r ∷ rs) = let rest = length-notices_from (n + 1) rs in elim (r.entry) as (λ o. length (and_others n o (notices_from (n + 1) rs)) ≤ suc (length rs)) [ None ↦ omega (arith, rest) | Some x ↦ omega (arith, rest) ]
+length-notices_from n (r ∷ rs) = let rest = length-notices_from (n + 1) rs in elim (r.entry)
+    as (λ o. length (and_others n o (notices_from (n + 1) rs)) ≤ suc (length rs)) [
+      | None ↦ omega (arith, rest)
+      | Some x ↦ omega (arith, rest)
+    ]
 
-pub few-listed : (rows : List Row) (s : AgendaState) (b : Board) (i : ℕ) (e : Pending) → IsAgenda rows s b → slice_get (order s) i ≡ Some e → i < 1000000
+pub few-listed : (rows : List Row) (s : AgendaState) (b : Board) (i : ℕ) (e : Pending) → IsAgenda rows s b →
+    slice_get (order s) i ≡ Some e → i < 1000000
 few-listed rows s b i e k h =
-    let long : length (order s) ≡ length s.agenda.pending = ap (λ (es : List Pending). length es) (order-sorted s (told rows s b k)) ∙ length-sorted (before s.rules) s.agenda.pending in
+    let long : length (order s) ≡ length s.agenda.pending = ap (λ (es : List Pending). length es) (order-sorted s
+    (told rows s b k)) ∙ length-sorted (before s.rules) s.agenda.pending in
     let rows_long : length s.agenda.pending ≤ length rows = rw k.read (length-notices_from 1 rows) in
     omega (arith, below-at (order s) i e h, long, rows_long, k.few)
 
 -- a listing goes on behind the notice that it lists
-pub listing-on : (rows : List Row) (s : AgendaState) (b : Board) (l : Listing) (x : ℕ) (y : Entry) (at : Option ℕ) (seats : List (Option ℕ)) (n : ℕ) → IsAgenda rows s b → IsListing s l → x < length s.notices → pending_at s.agenda.pending (notice_on s x) ≡ Some (notice_of (notice_on s x) y) → slice_get (order s) l.listed ≡ Some (notice_of (notice_on s x) y) → at ≡ seat_behind (list_of b.lists x) x → y.class < length s.rules → seats ≡ set l.seats y.class at → n ≡ l.listed + 1 → IsListing s (record { seats = seats; listed = n })
+pub listing-on : (rows : List Row) (s : AgendaState) (b : Board) (l : Listing) (x : ℕ) (y : Entry) (at : Option ℕ)
+    (seats : List (Option ℕ)) (n : ℕ) → IsAgenda rows s b → IsListing s l → x < length s.notices →
+    pending_at s.agenda.pending (notice_on s x) ≡ Some (notice_of (notice_on s x) y) →
+    slice_get (order s) l.listed ≡ Some (notice_of (notice_on s x) y) → at ≡ seat_behind (list_of b.lists x) x →
+    y.class < length s.rules → seats ≡ set l.seats y.class at → n ≡ l.listed + 1 →
+    IsListing s (record { seats = seats; listed = n })
 listing-on rows s b l x y at seats n k i m p q h c z u =
     let e = notice_of (notice_on s x) y in
     let now : left_of s l ≡ e ∷ drop (l.listed + 1) (order s) = drop-at (order s) l.listed e q in
-    let whole : of_class y.class (order s) ≡ of_class y.class (take l.listed (order s)) ++ of_class y.class (left_of s l) = ap (of_class y.class) (front-rear (order s) l.listed) ∙ of_class-append y.class (take l.listed (order s)) (drop l.listed (order s)) in
+    let whole : of_class y.class (order s) ≡ of_class y.class (take l.listed (order s)) ++ of_class y.class (left_of
+    s l) = ap (of_class y.class) (front-rear (order s) l.listed) ∙
+    of_class-append y.class (take l.listed (order s)) (drop l.listed (order s)) in
     let own : eqb y.class y.class ≡ true = grind (arith, nat_tests) in
-    let here : of_class y.class (left_of s l) ≡ e ∷ of_class y.class (drop (l.listed + 1) (order s)) = ap (of_class y.class) now ∙ rw own refl in
-    let t = stands s y.class (of_class y.class (take l.listed (order s))) e (of_class y.class (drop (l.listed + 1) (order s))) (told rows s b k) (sound_board rows s b k) c (whole ∙ ap (λ (es : List Pending). of_class y.class (take l.listed (order s)) ++ es) here) in
+    let here : of_class y.class (left_of s l) ≡ e ∷ of_class y.class (drop (l.listed + 1) (order s)) = ap (of_class
+    y.class) now ∙ rw own refl in
+    let t = stands s y.class (of_class y.class (take l.listed (order s))) e (of_class y.class (drop (l.listed + 1)
+    (order s))) (told rows s b k) (sound_board rows s b k) c (whole ∙
+    ap (λ (es : List Pending). of_class y.class (take l.listed (order s)) ++ es) here) in
     let seat : seat_in s.notices (notice_on s x) ≡ x = seat_in-index s.notices x 0 k.once m in
-    let next : at ≡ first_of (seats_of s.notices (of_class y.class (drop (l.listed + 1) (order s)))) = h ∙ (ap (λ (d : Board). seat_behind (list_of d.lists x) x) k.board ∙ rw seat at t.next) in
+    let next : at ≡ first_of (seats_of s.notices (of_class y.class (drop (l.listed + 1) (order s)))) = h ∙
+    (ap (λ (d : Board). seat_behind (list_of d.lists x) x) k.board ∙ rw seat at t.next) in
     rw (z, u) (record {
       all = length-set l.seats y.class at ∙ i.all;
-      seats = λ d r. elim (eqb d y.class) as (λ v. eqb d y.class ≡ v → get_or (set l.seats y.class at) d None ≡ first_of (seats_of s.notices (of_class d (drop (l.listed + 1) (order s))))) [
-        | true ↦ λ v. let same : d ≡ y.class = grind (arith, nat_tests, v) in rw same (get_or-set_same l.seats y.class at None (omega (arith, i.all, c, k.classes)) ∙ next)
-        | false ↦ λ v. let apart : ¬ (d ≡ y.class) = λ f. absurd (grind (arith, nat_tests, v, f)) in let other : eqb y.class d ≡ false = grind (arith, nat_tests, v) in get_or-set_other l.seats y.class d at None apart ∙ (i.seats d r ∙ ap (λ (es : List Pending). first_of (seats_of s.notices es)) (ap (of_class d) now ∙ rw other refl))
-      ] refl;
+      seats = λ d r. elim (eqb d y.class)
+          as (λ v. eqb d y.class ≡ v → get_or (set l.seats y.class at) d None ≡ first_of (seats_of s.notices
+          (of_class d (drop (l.listed + 1) (order s))))) [
+            | true ↦ λ v. let same : d ≡ y.class = grind (arith, nat_tests, v) in
+                rw same (get_or-set_same l.seats y.class at None (omega (arith, i.all, c, k.classes)) ∙ next)
+            | false ↦ λ v. let apart : ¬ (d ≡ y.class) = λ f. absurd (grind (arith, nat_tests, v, f)) in
+                let other : eqb y.class d ≡ false = grind (arith, nat_tests, v) in
+                get_or-set_other l.seats y.class d at None apart ∙ (i.seats d r ∙
+                ap (λ (es : List Pending). first_of (seats_of s.notices es)) (ap (of_class d) now ∙ rw other refl))
+          ] refl;
     })
 
 -- a listing begins at the first of each class
-pub listing-begins : (s : AgendaState) (seats : List (Option ℕ)) → length seats ≡ 64 → ((c : ℕ) → c < length s.rules → get_or seats c None ≡ first_of (list_at (board_of s).lists c)) → IsListing s (record { seats = seats; listed = 0 })
-listing-begins s seats a h = record { all = a; seats = λ c l. h c l ∙ ap first_of (list_at-by (class_seats s) (length s.rules) c l) }
+pub listing-begins : (s : AgendaState) (seats : List (Option ℕ)) → length seats ≡ 64 → ((c : ℕ) →
+    c < length s.rules → get_or seats c None ≡ first_of (list_at (board_of s).lists c)) →
+    IsListing s (record { seats = seats; listed = 0 })
+listing-begins s seats a h = record {
+  all = a;
+  seats = λ c l. h c l ∙
+      ap first_of (list_at-by (class_seats s) (length s.rules) c l);
+}
 
 -- past the end of the order is nothing
-none-past : (es : List Pending) (i j : ℕ) → option_map (λ e. e.notice) (slice_get es i) ≡ None → i ≤ j → option_map (λ e. e.notice) (slice_get es j) ≡ None
+none-past : (es : List Pending) (i j : ℕ) → option_map (λ e. e.notice) (slice_get es i) ≡ None → i ≤ j →
+    option_map (λ e. e.notice) (slice_get es j) ≡ None
 none-past [] i j h l = refl
 none-past (f ∷ fs) zero j h l = absurd (cc)
 none-past (f ∷ fs) (suc i) zero h l = absurd (omega arith)
 none-past (f ∷ fs) (suc i) (suc j) h l = none-past fs i j h (omega arith)
 
-pub none-left : (s : AgendaState) (i j : ℕ) → None ≡ option_map (λ e. e.notice) (slice_get (order s) i) → i ≤ j → None ≡ option_map (λ e. e.notice) (slice_get (order s) j)
+pub none-left : (s : AgendaState) (i j : ℕ) → None ≡ option_map (λ e. e.notice) (slice_get (order s) i) → i ≤ j →
+    None ≡ option_map (λ e. e.notice) (slice_get (order s) j)
 none-left s i j h l = sym (none-past (order s) i j (sym h) l)
 
 -- the notice of a seat
-pub least-notice : (rows : List Row) (s : AgendaState) (b : Board) (x : ℕ) → IsAgenda rows s b → IsTaken s x → option_map (λ e. e.notice) (pending_at s.agenda.pending (notice_on s x)) ≡ Some (notice_on s x)
+pub least-notice : (rows : List Row) (s : AgendaState) (b : Board) (x : ℕ) → IsAgenda rows s b → IsTaken s x →
+    option_map (λ e. e.notice) (pending_at s.agenda.pending (notice_on s x)) ≡ Some (notice_on s x)
 least-notice rows s b x k t = go (pending_at s.agenda.pending (notice_on s x)) refl t.pending
   where
-    go : (o : Option Pending) → pending_at s.agenda.pending (notice_on s x) ≡ o → IsSome o → option_map (λ e. e.notice) o ≡ Some (notice_on s x)
+    go : (o : Option Pending) → pending_at s.agenda.pending (notice_on s x) ≡ o → IsSome o →
+        option_map (λ e. e.notice) o ≡ Some (notice_on s x)
     go None e i = absurd (cc)
-    go (Some f) e i = ap (λ (n : ℕ). Some n) (pending_at-each (IsPending s.rules s.notices s.agenda.next_filing) s.agenda.pending (notice_on s x) f k.pending e).1
+    go (Some f) e i = ap (λ (n : ℕ). Some n) (pending_at-each (IsPending s.rules s.notices s.agenda.next_filing)
+        s.agenda.pending (notice_on s x) f k.pending e).1
 
 -- the first seats of the classes below a number, and one more
-pub seats-more : (seats : List (Option ℕ)) (n : ℕ) (at : Option ℕ) (ls : List (List ℕ)) → n < length seats → ((c : ℕ) → c < n → get_or seats c None ≡ first_of (list_at ls c)) → at ≡ first_of (list_at ls n) → (c : ℕ) → c < n + 1 → get_or (set seats n at) c None ≡ first_of (list_at ls c)
-seats-more seats n at ls h k e c l = elim (eqb c n) as (λ t. eqb c n ≡ t → get_or (set seats n at) c None ≡ first_of (list_at ls c)) [ true ↦ λ t. let same : c ≡ n = grind (arith, nat_tests, t) in rw same (get_or-set_same seats n at None h ∙ e) | false ↦ λ t. let apart : ¬ (c ≡ n) = λ f. absurd (grind (arith, nat_tests, t, f)) in let below : c < n = grind (arith, nat_tests, t, l) in get_or-set_other seats n c at None apart ∙ k c below ] refl
+pub seats-more : (seats : List (Option ℕ)) (n : ℕ) (at : Option ℕ) (ls : List (List ℕ)) → n < length seats →
+    ((c : ℕ) → c < n → get_or seats c None ≡ first_of (list_at ls c)) → at ≡ first_of (list_at ls n) → (c : ℕ) →
+    c < n + 1 → get_or (set seats n at) c None ≡ first_of (list_at ls c)
+seats-more seats n at ls h k e c l = elim (eqb c n)
+    as (λ t. eqb c n ≡ t → get_or (set seats n at) c None ≡ first_of (list_at ls c)) [
+      | true ↦ λ t. let same : c ≡ n = grind (arith, nat_tests, t) in rw same (get_or-set_same seats n at None h ∙ e)
+      | false ↦ λ t. let apart : ¬ (c ≡ n) = λ f. absurd (grind (arith, nat_tests, t, f)) in
+          let below : c < n = grind (arith, nat_tests, t, l) in get_or-set_other seats n c at None apart ∙ k c below
+    ] refl

@@ -28,13 +28,20 @@ Each-pending_at (e ∷ es) h =
     let same : eqb e.notice e.notice ≡ true = grind (arith, nat_tests) in
     (rw same refl, later e es h.0 es h.0 (Each-pending_at es h.1))
   where
-    later : (e : Pending) (all : List Pending) → NoneNoted e.notice all → (es : List Pending) → NoneNoted e.notice es → Each (λ f. pending_at all f.notice ≡ Some f) es → Each (λ f. pending_at (e ∷ all) f.notice ≡ Some f) es
+    later : (e : Pending) (all : List Pending) → NoneNoted e.notice all → (es : List Pending) →
+        NoneNoted e.notice es → Each (λ f. pending_at all f.notice ≡ Some f) es →
+        Each (λ f. pending_at (e ∷ all) f.notice ≡ Some f) es
     later e all n [] h k = tt
-    later e all n (f ∷ fs) h k = let apart : eqb e.notice f.notice ≡ false = grind (arith, nat_tests, h.0) in (rw apart k.0, later e all n fs h.1 k.1)
+    later e all n (f ∷ fs) h k = let apart : eqb e.notice f.notice ≡ false = grind (arith, nat_tests, h.0) in
+        (rw apart k.0, later e all n fs h.1 k.1)
 
 Each-class : (c : ℕ) (es : List Pending) → Each (λ e. e.class ≡ c) (of_class c es)
 Each-class c [] = tt
-Each-class c (e ∷ es) = elim (eqb e.class c) as (λ t. eqb e.class c ≡ t → Each (λ f. f.class ≡ c) (cond t (e ∷ of_class c es) (of_class c es))) [ true ↦ λ t. (grind (arith, nat_tests, t), Each-class c es) | false ↦ λ t. Each-class c es ] refl
+Each-class c (e ∷ es) = elim (eqb e.class c)
+    as (λ t. eqb e.class c ≡ t → Each (λ f. f.class ≡ c) (cond t (e ∷ of_class c es) (of_class c es))) [
+      | true ↦ λ t. (grind (arith, nat_tests, t), Each-class c es)
+      | false ↦ λ t. Each-class c es
+    ] refl
 
 -- what holds of each holds of the one between two parts
 pub each-between : (P : Pending → Type 0) (a b : List Pending) (f : Pending) → Each P (a ++ f ∷ b) → P f
@@ -45,8 +52,14 @@ pub once-between : (a b : List ℕ) (x : ℕ) → times_in (a ++ x ∷ b) x ≤ 
 once-between a b x h =
     let count = times_in-append a (x ∷ b) x in
     let same : eqb x x ≡ true = grind (arith, nat_tests) in (
-      elim (has a x) as (λ t. has a x ≡ t → t ≡ false) [ true ↦ λ t. absurd (grind (arith, nat_tests, count, times_in-present a x t)) | false ↦ λ t. refl ] refl,
-      elim (has b x) as (λ t. has b x ≡ t → t ≡ false) [ true ↦ λ t. absurd (grind (arith, nat_tests, count, times_in-present b x t)) | false ↦ λ t. refl ] refl,
+      elim (has a x) as (λ t. has a x ≡ t → t ≡ false) [
+        | true ↦ λ t. absurd (grind (arith, nat_tests, count, times_in-present a x t))
+        | false ↦ λ t. refl
+      ] refl,
+      elim (has b x) as (λ t. has b x ≡ t → t ≡ false) [
+        | true ↦ λ t. absurd (grind (arith, nat_tests, count, times_in-present b x t))
+        | false ↦ λ t. refl
+      ] refl,
     )
 
 pub seats_of-append : (ns : List ℕ) (a b : List Pending) → seats_of ns (a ++ b) ≡ seats_of ns a ++ seats_of ns b
@@ -59,29 +72,40 @@ pub record Stands (s : AgendaState) (c : ℕ) (a : List Pending) (f : Pending) (
   pub notice : notice_on s (seat_in s.notices f.notice) ≡ f.notice
   pub pending : pending_at s.agenda.pending f.notice ≡ Some f
   pub class : f.class ≡ c
-  pub prev : seat_before (list_of (board_of s).lists (seat_in s.notices f.notice)) (seat_in s.notices f.notice) ≡ last_of (seats_of s.notices a)
-  pub next : seat_behind (list_of (board_of s).lists (seat_in s.notices f.notice)) (seat_in s.notices f.notice) ≡ first_of (seats_of s.notices b)
+  pub prev : seat_before (list_of (board_of s).lists (seat_in s.notices f.notice)) (seat_in s.notices f.notice) ≡
+      last_of (seats_of s.notices a)
+  pub next : seat_behind (list_of (board_of s).lists (seat_in s.notices f.notice)) (seat_in s.notices f.notice) ≡
+      first_of (seats_of s.notices b)
 
-pub stands : (s : AgendaState) (c : ℕ) (a : List Pending) (f : Pending) (b : List Pending) → IsTold s → IsSound (board_of s) → c < length s.rules → of_class c (order s) ≡ a ++ f ∷ b → Stands s c a f b
+pub stands : (s : AgendaState) (c : ℕ) (a : List Pending) (f : Pending) (b : List Pending) → IsTold s →
+    IsSound (board_of s) → c < length s.rules → of_class c (order s) ≡ a ++ f ∷ b → Stands s c a f b
 stands s c a f b t sound k h =
-    let P : (Q : Pending → Type 0) → Each Q s.agenda.pending → Q f = λ Q q. each-between Q a b f (rw h at (Each-of_class Q c (order s) (Each-order Q s t q))) in
+    let P : (Q : Pending → Type 0) → Each Q s.agenda.pending →
+    Q f = λ Q q. each-between Q a b f (rw h at (Each-of_class Q c (order s) (Each-order Q s t q))) in
     let has_seat = P (λ e. has s.notices e.notice ≡ true) t.seated in
     let pending = P (λ e. pending_at s.agenda.pending e.notice ≡ Some e) (Each-pending_at s.agenda.pending t.noted) in
     let class = each-between (λ e. e.class ≡ c) a b f (rw h at (Each-class c (order s))) in
-    let linked : head_of (board_of s).lists (seat_in s.notices f.notice) ≡ Some c = linked-seat s f.notice f t sound (rw class k) pending ∙ ap (λ (d : ℕ). Some d) class in
+    let linked : head_of (board_of s).lists (seat_in s.notices f.notice) ≡ Some c = linked-seat s f.notice f t sound
+    (rw class k) pending ∙ ap (λ (d : ℕ). Some d) class in
     let found = head_of-found (board_of s).lists (seat_in s.notices f.notice) c linked in
-    let here : list_at (board_of s).lists c ≡ seats_of s.notices a ++ seat_in s.notices f.notice ∷ seats_of s.notices b = list_at-by (class_seats s) (length s.rules) c k ∙ (ap (seats_of s.notices) h ∙ seats_of-append s.notices a (f ∷ b)) in
-    let apart = once-between (seats_of s.notices a) (seats_of s.notices b) (seat_in s.notices f.notice) (rw here at (once-list_at (board_of s) sound c (seat_in s.notices f.notice))) in
+    let here : list_at (board_of s).lists c ≡ seats_of s.notices a ++ seat_in s.notices f.notice ∷ seats_of s.notices
+    b = list_at-by (class_seats s) (length s.rules) c k ∙ (ap (seats_of s.notices) h ∙
+    seats_of-append s.notices a (f ∷ b)) in
+    let apart = once-between (seats_of s.notices a) (seats_of s.notices b) (seat_in s.notices f.notice) (rw here at
+    (once-list_at (board_of s) sound c (seat_in s.notices f.notice))) in
     record {
       seat = seat_in-below s.notices f.notice has_seat;
       notice = seat_in-notice s.notices f.notice 0 has_seat;
       pending = pending;
       class = class;
-      prev = rw (found.2, here) (seat_before-between (seats_of s.notices a) (seats_of s.notices b) (seat_in s.notices f.notice) apart.0 apart.1);
-      next = rw (found.2, here) (seat_behind-between (seats_of s.notices a) (seats_of s.notices b) (seat_in s.notices f.notice) apart.0);
+      prev = rw (found.2, here) (seat_before-between (seats_of s.notices a) (seats_of s.notices b) (seat_in s.notices
+          f.notice) apart.0 apart.1);
+      next = rw (found.2, here) (seat_behind-between (seats_of s.notices a) (seats_of s.notices b) (seat_in s.notices
+          f.notice) apart.0);
     }
 
-pub taken-stands : (s : AgendaState) (c : ℕ) (a : List Pending) (f : Pending) (b : List Pending) → Stands s c a f b → IsTaken s (seat_in s.notices f.notice)
+pub taken-stands : (s : AgendaState) (c : ℕ) (a : List Pending) (f : Pending) (b : List Pending) →
+    Stands s c a f b → IsTaken s (seat_in s.notices f.notice)
 taken-stands s c a f b t = record { made = t.seat; pending = rw (t.notice, t.pending) refl }
 
 -- what the invariant says of the state
@@ -89,8 +113,12 @@ pub told : (rows : List Row) (s : AgendaState) (b : Board) → IsAgenda rows s b
 told rows s b k = record {
   noted = rw k.read (AreNoted-from 1 rows);
   filed = k.filed;
-  seated = Each-map (IsPending s.rules s.notices s.agenda.next_filing) (λ e. has s.notices e.notice ≡ true) (λ e p. p.seat) s.agenda.pending k.pending;
-  keyed = Each-map (IsPending s.rules s.notices s.agenda.next_filing) (IsKeyed s.rules) (λ e p. (p.class, p.keys)) s.agenda.pending k.pending;
+  seated = Each-map (IsPending s.rules s.notices s.agenda.next_filing) (λ e. has s.notices e.notice ≡ true) (λ e p.
+      p.seat) s.agenda.pending k.pending;
+  keyed = Each-map (IsPending s.rules s.notices s.agenda.next_filing) (IsKeyed s.rules) (λ e p. (
+    p.class,
+    p.keys,
+  )) s.agenda.pending k.pending;
   ranked = k.ranked;
 }
 
@@ -101,17 +129,25 @@ kept rows r s b e k = subst (λ (t : AgendaState). IsAgenda rows t b) e k
 pub has-get_or : (ns : List ℕ) (i d : ℕ) → i < length ns → has ns (get_or ns i d) ≡ true
 has-get_or [] i d h = absurd (omega arith)
 has-get_or (n ∷ ns) zero d h = let same : eqb n n ≡ true = grind (arith, nat_tests) in rw same refl
-has-get_or (n ∷ ns) (suc i) d h = rw (has-get_or ns i d (omega arith)) (elim (eqb n (get_or ns i d)) as (λ t. (t || true) ≡ true) [ true ↦ refl | false ↦ refl ])
+has-get_or (n ∷ ns) (suc i) d h = rw (has-get_or ns i d (omega arith)) (elim (eqb n (get_or ns i d))
+    as (λ t. (t || true) ≡ true) [
+      | true ↦ refl
+      | false ↦ refl
+    ])
 
 -- the notice of a seat is a number
-pub notice_on-above : (rows : List Row) (s : AgendaState) (b : Board) (x : ℕ) → IsAgenda rows s b → x < length s.notices → 0 < notice_on s x
+pub notice_on-above : (rows : List Row) (s : AgendaState) (b : Board) (x : ℕ) → IsAgenda rows s b →
+    x < length s.notices → 0 < notice_on s x
 notice_on-above rows s b x k h = (k.seated (notice_on s x) (has-get_or s.notices x 0 h)).0
 
 -- the entry of a pending notice is one of its class
-pub entry-pending : (rows : List Row) (s : AgendaState) (b : Board) (n : ℕ) (y : Entry) → IsAgenda rows s b → pending_at s.agenda.pending n ≡ Some (notice_of n y) → IsEntry s.rules y
-entry-pending rows s b n y k h = let p = (pending_at-each (IsPending s.rules s.notices s.agenda.next_filing) s.agenda.pending n (notice_of n y) k.pending h).0 in (p.class, p.keys)
+pub entry-pending : (rows : List Row) (s : AgendaState) (b : Board) (n : ℕ) (y : Entry) → IsAgenda rows s b →
+    pending_at s.agenda.pending n ≡ Some (notice_of n y) → IsEntry s.rules y
+entry-pending rows s b n y k h = let p = (pending_at-each (IsPending s.rules s.notices s.agenda.next_filing)
+    s.agenda.pending n (notice_of n y) k.pending h).0 in (p.class, p.keys)
 
-pub length-lists : (rows : List Row) (s : AgendaState) (b : Board) → IsAgenda rows s b → length b.lists ≡ length s.rules
+pub length-lists : (rows : List Row) (s : AgendaState) (b : Board) → IsAgenda rows s b →
+    length b.lists ≡ length s.rules
 length-lists rows s b k = rw k.board (length-map-range_with_len (class_seats s) 0 (length s.rules))
 
 pub sound_board : (rows : List Row) (s : AgendaState) (b : Board) → IsAgenda rows s b → IsSound (board_of s)

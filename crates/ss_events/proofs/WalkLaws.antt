@@ -13,35 +13,56 @@ of_classes_below c (e ∷ es) = cond (ltb e.class c) (e ∷ of_classes_below c e
 
 Each-below : (P : Pending → Type 0) (c : ℕ) (es : List Pending) → Each P es → Each P (of_classes_below c es)
 Each-below P c [] h = tt
-Each-below P c (f ∷ fs) h = elim (ltb f.class c) as (λ t. Each P (cond t (f ∷ of_classes_below c fs) (of_classes_below c fs))) [ true ↦ (h.0, Each-below P c fs h.1) | false ↦ Each-below P c fs h.1 ]
+Each-below P c (f ∷ fs) h = elim (ltb f.class c)
+    as (λ t. Each P (cond t (f ∷ of_classes_below c fs) (of_classes_below c fs))) [
+      | true ↦ (h.0, Each-below P c fs h.1)
+      | false ↦ Each-below P c fs h.1
+    ]
 
-earlier-left : (lt : Pending → Pending → Bool) → IsOrder lt → (e : Pending) (es : List Pending) → AreBehind lt e es → earlier lt (Some e) (first es) ≡ Some e
+earlier-left : (lt : Pending → Pending → Bool) → IsOrder lt → (e : Pending) (es : List Pending) →
+    AreBehind lt e es → earlier lt (Some e) (first es) ≡ Some e
 earlier-left lt o e [] h = refl
 earlier-left lt o e (f ∷ fs) h = rw (o.asymmetric e f h.0) refl
 
-earlier-right : (lt : Pending → Pending → Bool) (e : Pending) (es : List Pending) → AreBehind lt e es → earlier lt (first es) (Some e) ≡ Some e
+earlier-right : (lt : Pending → Pending → Bool) (e : Pending) (es : List Pending) → AreBehind lt e es →
+    earlier lt (first es) (Some e) ≡ Some e
 earlier-right lt e [] h = refl
 earlier-right lt e (f ∷ fs) h = rw h.0 refl
 
 -- of two kinds of sorted notices the first is the first of the first of each
-pub first-earlier : (lt : Pending → Pending → Bool) → IsOrder lt → (c : ℕ) (es : List Pending) → IsSorted lt es → first (of_classes_below (c + 1) es) ≡ earlier lt (first (of_classes_below c es)) (first (of_class c es))
+pub first-earlier : (lt : Pending → Pending → Bool) → IsOrder lt → (c : ℕ) (es : List Pending) → IsSorted lt es →
+    first (of_classes_below (c + 1) es) ≡ earlier lt (first (of_classes_below c es)) (first (of_class c es))
 first-earlier lt o c [] s = refl
 first-earlier lt o c (e ∷ es) s =
     let rest = first-earlier lt o c es s.1 in
     let left = earlier-left lt o e (of_class c es) (Each-of_class (λ f. lt e f ≡ true) c es s.0) in
     let right = earlier-right lt e (of_classes_below c es) (Each-below (λ f. lt e f ≡ true) c es s.0) in
-    elim (ltb e.class c) as (λ t. ltb e.class c ≡ t → first (of_classes_below (c + 1) (e ∷ es)) ≡ earlier lt (first (cond t (e ∷ of_classes_below c es) (of_classes_below c es))) (first (of_class c (e ∷ es)))) [ true ↦ λ t. let below : ltb e.class (c + 1) ≡ true = grind (arith, nat_tests, t) in let other : eqb e.class c ≡ false = grind (arith, nat_tests, t) in rw (below, other) (sym left) | false ↦ λ t. elim (eqb e.class c) as (λ u. eqb e.class c ≡ u → first (of_classes_below (c + 1) (e ∷ es)) ≡ earlier lt (first (of_classes_below c es)) (first (cond u (e ∷ of_class c es) (of_class c es)))) [ true ↦ λ u. let below : ltb e.class (c + 1) ≡ true = grind (arith, nat_tests, u) in rw below (sym right) | false ↦ λ u. let above : ltb e.class (c + 1) ≡ false = grind (arith, nat_tests, t, u) in rw above rest ] refl ] refl
+    elim (ltb e.class c)
+    as (λ t. ltb e.class c ≡ t → first (of_classes_below (c + 1) (e ∷ es)) ≡ earlier lt (first (cond t (e ∷
+    of_classes_below c es) (of_classes_below c es))) (first (of_class c (e ∷ es)))) [
+      | true ↦ λ t. let below : ltb e.class (c + 1) ≡ true = grind (arith, nat_tests, t) in
+          let other : eqb e.class c ≡ false = grind (arith, nat_tests, t) in rw (below, other) (sym left)
+      | false ↦ λ t. elim (eqb e.class c)
+          as (λ u. eqb e.class c ≡ u → first (of_classes_below (c + 1) (e ∷ es)) ≡ earlier lt (first
+          (of_classes_below c es)) (first (cond u (e ∷ of_class c es) (of_class c es)))) [
+            | true ↦ λ u. let below : ltb e.class (c + 1) ≡ true = grind (arith, nat_tests, u) in rw below (sym right)
+            | false ↦ λ u. let above : ltb e.class (c + 1) ≡ false = grind (arith, nat_tests, t, u) in rw above rest
+          ] refl
+    ] refl
 
 -- all classes are below the number of classes
 pub of_classes_below-all : (n : ℕ) (es : List Pending) → Each (λ e. e.class < n) es → of_classes_below n es ≡ es
 of_classes_below-all n [] h = refl
-of_classes_below-all n (e ∷ es) h = let below : ltb e.class n ≡ true = grind (arith, nat_tests, h.0) in rw below (ap (λ (l : List Pending). e ∷ l) (of_classes_below-all n es h.1))
+of_classes_below-all n (e ∷ es) h = let below : ltb e.class n ≡ true = grind (arith, nat_tests, h.0) in
+    rw below (ap (λ (l : List Pending). e ∷ l) (of_classes_below-all n es h.1))
 
 pub of_classes_below-none : (es : List Pending) → of_classes_below 0 es ≡ []
 of_classes_below-none [] = refl
-of_classes_below-none (e ∷ es) = let above : ltb e.class 0 ≡ false = grind (arith, nat_tests) in rw above (of_classes_below-none es)
+of_classes_below-none (e ∷ es) = let above : ltb e.class 0 ≡ false = grind (arith, nat_tests) in
+    rw above (of_classes_below-none es)
 
-passed-none : (lt : Pending → Pending → Bool) (e : Pending) (es : List Pending) → AreBehind lt e es → passed lt e es ≡ []
+passed-none : (lt : Pending → Pending → Bool) (e : Pending) (es : List Pending) → AreBehind lt e es →
+    passed lt e es ≡ []
 passed-none lt e [] h = refl
 passed-none lt e (f ∷ fs) h = rw h.0 refl
 
@@ -51,14 +72,22 @@ Stops lt e [] = Unit {0}
 Stops lt e (f ∷ []) = lt e f ≡ false
 Stops lt e (f ∷ g ∷ gs) = Stops lt e (g ∷ gs)
 
-first-stops : (lt : Pending → Pending → Bool) → IsOrder lt → (e f : Pending) (front rear : List Pending) → IsSorted lt (f ∷ front ++ rear) → Stops lt e (f ∷ front) → lt e f ≡ false
+first-stops : (lt : Pending → Pending → Bool) → IsOrder lt → (e f : Pending) (front rear : List Pending) →
+    IsSorted lt (f ∷ front ++ rear) → Stops lt e (f ∷ front) → lt e f ≡ false
 first-stops lt o e f [] rear s h = h
-first-stops lt o e f (g ∷ gs) rear s h = let later = first-stops lt o e g gs rear s.1 h in elim (lt e f) as (λ t. lt e f ≡ t → t ≡ false) [ true ↦ λ t. let wrong = o.transitive e f g t s.0.0 in absurd (cc) | false ↦ λ t. refl ] refl
+first-stops lt o e f (g ∷ gs) rear s h = let later = first-stops lt o e g gs rear s.1 h in elim (lt e f)
+    as (λ t. lt e f ≡ t → t ≡ false) [
+      | true ↦ λ t. let wrong = o.transitive e f g t s.0.0 in absurd (cc)
+      | false ↦ λ t. refl
+    ] refl
 
-stops-rest : (lt : Pending → Pending → Bool) (e f : Pending) (front : List Pending) → Stops lt e (f ∷ front) → Stops lt e front
+stops-rest : (lt : Pending → Pending → Bool) (e f : Pending) (front : List Pending) → Stops lt e (f ∷ front) →
+    Stops lt e front
 stops-rest lt e f [] h = tt
 stops-rest lt e f (g ∷ gs) h = h
 
-pub passed-stops : (lt : Pending → Pending → Bool) → IsOrder lt → (e : Pending) (front rear : List Pending) → IsSorted lt (front ++ rear) → Stops lt e front → AreBehind lt e rear → passed lt e (front ++ rear) ≡ front
+pub passed-stops : (lt : Pending → Pending → Bool) → IsOrder lt → (e : Pending) (front rear : List Pending) →
+    IsSorted lt (front ++ rear) → Stops lt e front → AreBehind lt e rear → passed lt e (front ++ rear) ≡ front
 passed-stops lt o e [] rear s h b = passed-none lt e rear b
-passed-stops lt o e (f ∷ fs) rear s h b = rw (first-stops lt o e f fs rear s h) (ap (λ (l : List Pending). f ∷ l) (passed-stops lt o e fs rear s.1 (stops-rest lt e f fs h) b))
+passed-stops lt o e (f ∷ fs) rear s h b = rw (first-stops lt o e f fs rear s h) (ap (λ (l : List Pending). f ∷ l)
+    (passed-stops lt o e fs rear s.1 (stops-rest lt e f fs h) b))

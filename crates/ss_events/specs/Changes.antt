@@ -85,7 +85,8 @@ after_scheduling s n time class keys = record s {
 }
 
 -- what a scheduling gives: where it may be, its change or a want of memory, else the fault
-abbrev pub IsScheduled : Result AgendaChange StepFault → Result (Unit {0}) RunFault → AgendaState → AgendaState → AgendaState → Type 0
+abbrev pub IsScheduled : Result AgendaChange StepFault → Result (Unit {0}) RunFault
+    → AgendaState → AgendaState → AgendaState → Type 0
 IsScheduled (Ok c) (Ok _) s old new = Went c s old new
 IsScheduled (Ok c) (Err f) s old new = ⊥
 IsScheduled (Err (Fault f)) (Ok _) s old new = ⊥
@@ -94,7 +95,8 @@ IsScheduled (Err Memory) (Ok _) s old new = new ≡ old
 IsScheduled (Err Memory) (Err k) s old new = ⊥
 
 -- what CANCEL gives: the change where the notice is pending, else F11
-abbrev pub IsCancelled : Result AgendaChange RunFault → Option Pending → AgendaState → AgendaState → AgendaState → Type 0
+abbrev pub IsCancelled : Result AgendaChange RunFault → Option Pending
+    → AgendaState → AgendaState → AgendaState → Type 0
 IsCancelled (Ok c) (Some e) s old new = Went c s old new
 IsCancelled (Ok c) None s old new = ⊥
 IsCancelled (Err f) (Some e) s old new = ⊥

@@ -7,3 +7,4 @@ pub mod Listings
 pub mod Rows
 pub mod Slots
 pub mod Changes
+pub mod WellAgenda

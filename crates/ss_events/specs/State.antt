@@ -68,4 +68,5 @@ pub record IsPending (rules : List Rule) (notices : List ℕ) (next_filing : ℕ
 
 -- no two classes have one place in the order of priority
 abbrev pub AreRanked : List Rule → Type 0
-AreRanked rules = (c d : ℕ) → c < length rules → d < length rules → (rule_at rules c).priority ≡ (rule_at rules d).priority → c ≡ d
+AreRanked rules = (c d : ℕ) → c < length rules → d < length rules →
+    (rule_at rules c).priority ≡ (rule_at rules d).priority → c ≡ d

@@ -20,7 +20,8 @@ compared (k ∷ ks) (x ∷ xs) = weight k.rank x ∷ compared ks xs
 -- what is compared of a notice: its time, its class's place in the order of priority, its keys, its filing number
 abbrev pub weights : List Rule → Pending → List ℤ
 weights rules e =
-    e.time ∷ pos (rule_at rules e.class).priority ∷ (compared (rule_at rules e.class).ties e.keys ++ pos e.filing ∷ [])
+    e.time ∷ pos (rule_at rules e.class).priority ∷
+    (compared (rule_at rules e.class).ties e.keys ++ pos e.filing ∷ [])
 
 -- whether one list of numbers comes before another, as words in a dictionary
 abbrev pub less : List ℤ → List ℤ → Bool

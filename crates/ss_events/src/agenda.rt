@@ -1,4 +1,4 @@
-ghost use Rattle.std.specs.Prelude.{◌≡◌, ◌+◌, ◌-◌, ◌<◌, ℕ, map, ◌≤◌, not, length, take, Some, IfOk, OnErr, slice_get, is_some, if◌then◌else◌};
+ghost use Rattle.std.specs.Prelude.{◌≡◌, ◌+◌, ◌-◌, ◌<◌, ℕ, map, ◌≤◌, not, length, take, Some, IfOk, OnErr, slice_get, is_some, if◌then◌else◌, true};
 ghost use Rattle.std.specs.Option.{option_map, IsSome};
 ghost use Rattle.ss_links.specs.Board.{empty_board, list_at};
 ghost use Rattle.ss_links.specs.Seats.{has};
@@ -32,6 +32,7 @@ ghost use Rattle.ss_events.specs.Changes.{
 ghost use Rattle.ss_events.specs.Places.{rank_place, notice_on, IsTaken, IsTakenIfSome, earlier, pending_on};
 ghost use Rattle.ss_events.specs.Listings.{IsListing};
 ghost use Rattle.ss_events.specs.Rows.{notice_of, rule_of, IsEntry};
+ghost use Rattle.ss_events.specs.WellAgenda.{IsWellAgenda};
 ghost use Rattle.ss_events.specs.Slots.{slot_of};
 
 use crate::entry::{ClassRule, Entry, Row};
@@ -111,7 +112,7 @@ impl<S: SetBoard> Agenda<S> {
         Agenda::with_rules(alloc, rules, board)
     }
 
-    /// An agenda of classes of these rules, without pending notices, on a board without heads and seats.
+    /// An agenda of classes of these rules, without pending notices, on an empty board.
     pub(crate) fn with_rules(
         alloc: Global,
         rules: Vec<ClassRule>,
@@ -136,6 +137,14 @@ impl<S: SetBoard> Agenda<S> {
         })
     }
 
+    /// Tells its caller that the agenda is well-formed.
+    pub fn known(&self)
+        ensures { IsWellAgenda self.now.rules self.now.agenda }
+    {
+        // What is kept is known where a field is read.
+        let _ = &self.rows;
+    }
+
     /// When the notice is due and of which class it is, or none where it isn't pending.
     pub fn slot(&self, notice: u32) -> Option<Slot>
         requires { 0 < notice }
@@ -151,7 +160,8 @@ impl<S: SetBoard> Agenda<S> {
     /// The entry of the notice of a seat.
     fn entry_on(&self, seat: u32) -> &Entry
         requires { IsTaken self.now seat }
-        ensures { pending_at self.now.agenda.pending (notice_on self.now seat) ≡ Some (notice_of (notice_on self.now seat) result.now) }
+        ensures { pending_at self.now.agenda.pending (notice_on self.now seat)
+            ≡ Some (notice_of (notice_on self.now seat) result.now) }
     {
         entry_of(&self.rows, self.notices[seat as usize]).unwrap()
     }
@@ -203,7 +213,8 @@ impl<S: SetBoard> Agenda<S> {
     fn give_seat(&mut self, notice: u32) -> Result<bool, AllocError>
         requires number { 0 < notice }
         requires small { notice ≤ 1000000 }
-        ensures ok { IfOk result (λ made. (made ≡ not (has self.old.notices notice)) × (self.new ≡ with_notices self.old (seated self.old.notices notice))) }
+        ensures ok { IfOk result (λ made. (made ≡ not (has self.old.notices notice))
+            × (self.new ≡ with_notices self.old (seated self.old.notices notice))) }
         ensures err { OnErr result (self.new ≡ self.old) }
     {
         grow(&mut self.rows, notice as usize)?;
@@ -251,8 +262,11 @@ impl<S: SetBoard> Agenda<S> {
 
     /// Makes a notice pending at a time, with its class's keys as they are now.
     ///
-    /// A time before the clock (F9), a notice that is pending already (F10), and want of filing numbers (F20) are
-    /// refused, the first of these first, and then want of memory. A refusal leaves all as it was.
+    /// A time before the clock (F9), a notice that is pending already (F10), and want of filing
+    /// numbers (F20) are refused, the first of these first (docs/LANGUAGE.md, "Run faults"), and then
+    /// want of memory. A refusal leaves all as it was. A notice that comes behind those that are
+    /// pending in its class is put there at once; another passes those of its class that it comes
+    /// before.
     pub fn schedule(
         &mut self,
         notice: u32,
@@ -296,6 +310,7 @@ impl<S: SetBoard> Agenda<S> {
         requires pending { IsSome (pending_at self.old.agenda.pending notice) }
         ensures { Went result (after_taking self.old notice) self.old self.new }
     {
+        // What is kept is known where a field is read.
         let _board = &self.board;
         let entry = self.take_out(notice);
         AgendaChange::TakenOff { notice, entry }
@@ -304,7 +319,8 @@ impl<S: SetBoard> Agenda<S> {
     /// Takes a notice off, where it is pending; where it isn't (F11), all is left as it was.
     pub fn cancel(&mut self, notice: u32) -> Result<AgendaChange, RunFault>
         requires { 0 < notice }
-        ensures { IsCancelled result (pending_at self.old.agenda.pending notice) (after_taking self.old notice) self.old self.new }
+        ensures { IsCancelled result (pending_at self.old.agenda.pending notice)
+            (after_taking self.old notice) self.old self.new }
     {
         if self.slot(notice).is_none() {
             return Err(RunFault::NotScheduled);
@@ -329,11 +345,12 @@ impl<S: SetBoard> Agenda<S> {
         }
     }
 
-    /// The seat of the earlier of perhaps one notice and perhaps another, which are given by their seats.
+    /// The seat of the earlier of perhaps one notice and perhaps another, given by their seats.
     fn earlier(&self, seat: Option<u32>, other: Option<u32>) -> Option<u32>
         requires seat { IsTakenIfSome self.now seat }
         requires other { IsTakenIfSome self.now other }
-        ensures earlier { pending_on self.now result ≡ earlier (before self.now.rules) (pending_on self.now seat) (pending_on self.now other) }
+        ensures earlier { pending_on self.now result
+            ≡ earlier (before self.now.rules) (pending_on self.now seat) (pending_on self.now other) }
         ensures taken { IsTakenIfSome self.now result }
     {
         let Some(one) = seat else {
@@ -437,5 +454,21 @@ impl<S: SetBoard> Undo for Agenda<S> {
 
     fn undo(&mut self, change: AgendaChange) {
         self.undo(change);
+    }
+}
+
+#[cfg(test)]
+impl<S: SetBoard> Agenda<S> {
+    /// Whether a notice of this class, with these keys, may be handed in.
+    pub(crate) fn takes(&self, notice: u32, class: usize, keys: &[i64]) -> bool
+        ensures number { result ≡ true → 0 < notice }
+        ensures small { result ≡ true → notice ≤ 1000000 }
+        ensures class { result ≡ true → class < length self.now.rules }
+        ensures keys { result ≡ true → length keys.now ≡ length (rule_at self.now.rules class).ties }
+    {
+        0 < notice
+            && notice <= 1_000_000
+            && class < self.rules.len()
+            && keys.len() == self.rules[class].ties.len()
     }
 }

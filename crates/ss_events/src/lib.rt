@@ -6,6 +6,8 @@ mod entry;
 mod listing;
 mod ranking;
 mod rule;
+#[cfg(test)]
+mod tests;
 
 pub use agenda::{Agenda, AgendaChange, Slot};
 pub use entry::Entry;

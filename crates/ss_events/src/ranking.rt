@@ -38,7 +38,8 @@ pub(crate) fn grow(rows: &mut Vec<Row>, count: usize) -> Result<(), AllocError>
 fn keys_decide(ties: &[Key], a: &[i64], b: &[i64]) -> Option<bool>
     requires a { length a.now ≡ length ties.now }
     requires b { length b.now ≡ length ties.now }
-    ensures { (u v : List ℤ) → less (compared ties.now a.now ++ u) (compared ties.now b.now ++ v) ≡ unwrap_or result (less u v) }
+    ensures { (u v : List ℤ) →
+        less (compared ties.now a.now ++ u) (compared ties.now b.now ++ v) ≡ unwrap_or result (less u v) }
 {
     for i in 0..ties.len() {
         let (x, y) = match ties[i].rank {

@@ -26,4 +26,5 @@ returns-clause-listing g c =
     let k = kept _ _ _ _ c.self.view_is c.self.invariant in
     let entry = entry-pending _ _ _ _ c.entry_on.result.now k c.entry_on.ensures in
     let here = sym c.in_ok-seat.ensures.notice ∙ c.entry_on.ensures in
-    listing-on _ _ _ c.args.listing.now c.in_ok-seat.seat c.entry_on.result.now c.next.result _ _ k c.requires c.in_ok-seat.ensures.taken.made c.entry_on.ensures here c.next.ensures.value entry.0 refl refl
+    listing-on _ _ _ c.args.listing.now c.in_ok-seat.seat c.entry_on.result.now c.next.result _ _ k c.requires
+    c.in_ok-seat.ensures.taken.made c.entry_on.ensures here c.next.ensures.value entry.0 refl refl

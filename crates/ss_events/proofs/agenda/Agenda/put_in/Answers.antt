@@ -9,17 +9,27 @@ use Rattle.ss_events.proofs.agenda.Agenda.put_in.Goals as goal
 
 pub relink-requires : goal.relink-requires
 relink-requires g c =
-    let p = subst (λ (s : AgendaState). CanPend s (notice_of c.args.notice c.args.entry)) (sym c.self.view_is) c.requires in
-    let place = subst (λ (s : AgendaState). c.rank_place-place.result ≡ rank_place s (notice_of 0 c.args.entry)) (sym c.self.view_is) c.rank_place-place.ensures in
+    let p = subst (λ (s : AgendaState). CanPend s (notice_of c.args.notice c.args.entry)) (sym c.self.view_is)
+    c.requires in
+    let place = subst (λ (s : AgendaState). c.rank_place-place.result ≡ rank_place s (notice_of 0 c.args.entry)) (sym
+    c.self.view_is) c.rank_place-place.ensures in
     put_in-relink _ _ _ _ c.args.entry _ _ _ c.self.invariant p c.index.ensures c.unwrap-seat.ensures place
 
 pub invariant_of-self : goal.invariant_of-self
 invariant_of-self g c =
-    let p = subst (λ (s : AgendaState). CanPend s (notice_of c.args.notice c.args.entry)) (sym c.self.view_is) c.requires in
-    let place = subst (λ (s : AgendaState). c.rank_place-place.result ≡ rank_place s (notice_of 0 c.args.entry)) (sym c.self.view_is) c.rank_place-place.ensures in
-    put_in-closed _ _ _ _ _ c.args.entry _ _ _ _ c.self.invariant p c.index.ensures c.unwrap-seat.ensures place c.relink.ensures.board c.relink.ensures.sound.1 c.index_mut.ensures.value
+    let p = subst (λ (s : AgendaState). CanPend s (notice_of c.args.notice c.args.entry)) (sym c.self.view_is)
+    c.requires in
+    let place = subst (λ (s : AgendaState). c.rank_place-place.result ≡ rank_place s (notice_of 0 c.args.entry)) (sym
+    c.self.view_is) c.rank_place-place.ensures in
+    put_in-closed _ _ _ _ _ c.args.entry _ _ _ _ c.self.invariant p c.index.ensures c.unwrap-seat.ensures place
+    c.relink.ensures.board c.relink.ensures.sound.1 c.index_mut.ensures.value
 
 pub returns : goal.returns
 returns g c =
-    let p = subst (λ (s : AgendaState). CanPend s (notice_of c.args.notice c.args.entry)) (sym c.self.view_is) c.requires in
-    view-with _ _ _ (with_notice (notice_of c.args.notice c.args.entry)) c.self.view_is (put_in-read _ _ _ _ c.args.entry (record { seat = c.index_mut.result.now.seat; entry = Some c.args.entry }) c.self.invariant p refl)
+    let p = subst (λ (s : AgendaState). CanPend s (notice_of c.args.notice c.args.entry)) (sym c.self.view_is)
+    c.requires in
+    view-with _ _ _ (with_notice (notice_of c.args.notice c.args.entry)) c.self.view_is (put_in-read _ _ _ _
+    c.args.entry (record {
+      seat = c.index_mut.result.now.seat;
+      entry = Some c.args.entry;
+    }) c.self.invariant p refl)

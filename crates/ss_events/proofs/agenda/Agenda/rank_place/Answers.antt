@@ -43,7 +43,8 @@ loop-before-smaller g c =
     let w = subst (IsWalk c.args.self.now (notice_of 0 c.args.entry.now)) c.in-Some.is c.loop-before.invariant in
     let rules = ap (map rule_of) c.deref.ensures.value ∙ ap (λ (s : AgendaState). s.rules) c.self.view_is in
     let first = sym (rw rules at (sym c.if-not-is_before.false ∙ c.is_before.ensures)) in
-    rw c.in-Some.is (walk-less _ _ c.in-Some.seat c.entry_on.result.now _ w (told _ _ _ k) (sound_board _ _ _ k) c.requires.0 c.entry_on.ensures first (rw k.board at c.prev-before.ensures.value))
+    rw c.in-Some.is (walk-less _ _ c.in-Some.seat c.entry_on.result.now _ w (told _ _ _ k) (sound_board _ _ _ k)
+    c.requires.0 c.entry_on.ensures first (rw k.board at c.prev-before.ensures.value))
 
 pub loop-before-preserved : goal.loop-before-preserved
 loop-before-preserved g c =
@@ -51,7 +52,8 @@ loop-before-preserved g c =
     let w = subst (IsWalk c.args.self.now (notice_of 0 c.args.entry.now)) c.in-Some.is c.loop-before.invariant in
     let rules = ap (map rule_of) c.deref.ensures.value ∙ ap (λ (s : AgendaState). s.rules) c.self.view_is in
     let first = sym (rw rules at (sym c.if-not-is_before.false ∙ c.is_before.ensures)) in
-    walk-on _ _ c.in-Some.seat c.entry_on.result.now _ w (told _ _ _ k) (sound_board _ _ _ k) c.requires.0 c.entry_on.ensures first (rw k.board at c.prev-before.ensures.value)
+    walk-on _ _ c.in-Some.seat c.entry_on.result.now _ w (told _ _ _ k) (sound_board _ _ _ k) c.requires.0
+    c.entry_on.ensures first (rw k.board at c.prev-before.ensures.value)
 
 pub overflow_cast-head : goal.overflow_cast-head
 overflow_cast-head g c =
@@ -64,10 +66,12 @@ returns-then-not-is_before g c =
     let walk = subst (IsWalk c.args.self.now (notice_of 0 c.args.entry.now)) c.in-Some.is c.loop-before.invariant in
     let rules = ap (map rule_of) c.deref.ensures.value ∙ ap (λ (s : AgendaState). s.rules) c.self.view_is in
     let last = sym (rw rules at (sym c.if-not-is_before.true ∙ c.is_before.ensures)) in
-    ap (place_at c.args.entry.now.class) (sym (walk-ends _ _ c.in-Some.seat c.entry_on.result.now walk (told _ _ _ k) (sound_board _ _ _ k) c.requires.0 c.entry_on.ensures last))
+    ap (place_at c.args.entry.now.class) (sym (walk-ends _ _ c.in-Some.seat c.entry_on.result.now walk (told _ _ _ k)
+    (sound_board _ _ _ k) c.requires.0 c.entry_on.ensures last))
 
 pub returns-in_default : goal.returns-in_default
 returns-in_default g c =
     let k = kept _ _ _ _ c.self.view_is c.self.invariant in
-    let walk = subst (IsWalk c.args.self.now (notice_of 0 c.args.entry.now)) c.in_default.is c.loop-before.invariant in
+    let walk = subst (IsWalk c.args.self.now (notice_of 0 c.args.entry.now)) c.in_default.is c.loop-before.invariant
+    in
     ap (place_at c.args.entry.now.class) (c.in_default.is ∙ sym (walk-ends_first _ _ walk (told _ _ _ k)))

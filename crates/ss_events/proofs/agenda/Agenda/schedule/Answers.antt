@@ -11,7 +11,13 @@ put_in-requires g c =
     let k = kept _ _ _ _ c.self.view_is c.self.invariant in
     let same = c.in_ok-keys.ensures.items_if_clones_equal (λ x y e. e) in
     let idle = no-slot c.slot.result _ c.is_some.result c.slot.ensures c.is_some.ensures c.if-is_some.false in
-    stepped-can _ c.args.self.now c.give_seat.new.self c.file-filing.new.self _ c.args.notice (record { time = to_z w64 (of_z w64 c.args.time); class = c.args.class; keys = c.in_ok-keys.keys; filing = c.file-filing.result }) k (record {
+    stepped-can _ c.args.self.now c.give_seat.new.self c.file-filing.new.self _ c.args.notice (record {
+      time = to_z
+          w64 (of_z w64 c.args.time);
+      class = c.args.class;
+      keys = c.in_ok-keys.keys;
+      filing = c.file-filing.result;
+    }) k (record {
       first = c.in_ok-seated.ensures.ok.1;
       second = c.file-filing.ensures.state;
       filing = c.file-filing.ensures.number;
@@ -26,12 +32,23 @@ returns g c =
     let same = c.in_ok-keys.ensures.items_if_clones_equal (λ x y e. e) in
     let idle = no-slot c.slot.result _ c.is_some.result c.slot.ensures c.is_some.ensures c.if-is_some.false in
     let free = ap (λ (s : AgendaState). s.agenda.next_filing) c.self.view_is in
-    let small : c.args.self.now.agenda.next_filing ≤ filing_limit = omega (arith, free, c.if-self-gt-FILING_LIMIT.false) in
+    let small : c.args.self.now.agenda.next_filing ≤ filing_limit = omega (
+      arith,
+      free,
+      c.if-self-gt-FILING_LIMIT.false,
+    ) in
     let time_fits : SFits w64 c.args.time = search rules in
     let clock_fits : SFits w64 c.args.clock = search rules in
     let late = simp to_z-of_z at c.if-time-clock.false in
     let time : to_z w64 (of_z w64 c.args.time) ≡ c.args.time = simp to_z-of_z in
-    stepped-went _ c.args.self.now c.give_seat.new.self c.file-filing.new.self c.put_in.new.self _ c.args.notice c.args.time c.args.clock c.args.keys.now (record { time = to_z w64 (of_z w64 c.args.time); class = c.args.class; keys = c.in_ok-keys.keys; filing = c.file-filing.result }) c.in_ok-seated.seated k (record {
+    stepped-went _ c.args.self.now c.give_seat.new.self c.file-filing.new.self c.put_in.new.self _ c.args.notice
+    c.args.time c.args.clock c.args.keys.now (record {
+      time = to_z w64 (of_z w64 c.args.time);
+      class = c.args.class;
+      keys = c.in_ok-keys.keys;
+      filing = c.file-filing.result;
+    }) c.in_ok-seated.seated k
+    (record {
       first = c.in_ok-seated.ensures.ok.1;
       second = c.file-filing.ensures.state;
       filing = c.file-filing.ensures.number;

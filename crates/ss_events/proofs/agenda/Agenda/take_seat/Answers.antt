@@ -7,7 +7,8 @@ use Rattle.ss_events.proofs.agenda.Agenda.take_seat.Goals as goal
 pub take_last_seat-requires-clause-free : goal.take_last_seat-requires-clause-free
 take_last_seat-requires-clause-free g c =
     let l = subst (λ (s : AgendaState). IsLastSeat s c.args.notice) (sym c.self.view_is) c.requires.last in
-    let i = subst (λ (s : AgendaState). NoneNoted c.args.notice s.agenda.pending) (sym c.self.view_is) c.requires.idle in
+    let i = subst (λ (s : AgendaState). NoneNoted c.args.notice s.agenda.pending) (sym c.self.view_is)
+    c.requires.idle in
     unseated-free _ _ _ _ c.self.invariant l i
 
 pub overflow_sub-notice : goal.overflow_sub-notice
@@ -24,12 +25,25 @@ index_mut-requires g c =
 pub invariant_of-self : goal.invariant_of-self
 invariant_of-self g c =
     let l = subst (λ (s : AgendaState). IsLastSeat s c.args.notice) (sym c.self.view_is) c.requires.last in
-    let i = subst (λ (s : AgendaState). NoneNoted c.args.notice s.agenda.pending) (sym c.self.view_is) c.requires.idle in
-    let same : c.len.result ≡ length c.self.inside.notices.items = omega (arith, c.len.ensures, c.self.inside.notices.ok) in
-    unseat-closed _ _ _ _ _ _ _ (c.truncate.ensures.items ∙ ap (λ (k : ℕ). take (k - 1) c.self.inside.notices.items) same) c.self.invariant l i c.take_last_seat.ensures.board c.take_last_seat.ensures.sound.1 c.index_mut.ensures.value
+    let i = subst (λ (s : AgendaState). NoneNoted c.args.notice s.agenda.pending) (sym c.self.view_is)
+    c.requires.idle in
+    let same : c.len.result ≡ length c.self.inside.notices.items = omega (
+      arith,
+      c.len.ensures,
+      c.self.inside.notices.ok,
+    ) in
+    unseat-closed _ _ _ _ _ _ _ (c.truncate.ensures.items ∙
+    ap (λ (k : ℕ). take (k - 1) c.self.inside.notices.items) same) c.self.invariant l i
+    c.take_last_seat.ensures.board c.take_last_seat.ensures.sound.1 c.index_mut.ensures.value
 
 pub returns : goal.returns
 returns g c =
     let l = subst (λ (s : AgendaState). IsLastSeat s c.args.notice) (sym c.self.view_is) c.requires.last in
-    let same : c.len.result ≡ length c.self.inside.notices.items = omega (arith, c.len.ensures, c.self.inside.notices.ok) in
-    unseat-view _ _ _ _ _ _ _ (c.truncate.ensures.items ∙ ap (λ (k : ℕ). take (k - 1) c.self.inside.notices.items) same) c.self.view_is c.self.invariant l c.index_mut.ensures.value
+    let same : c.len.result ≡ length c.self.inside.notices.items = omega (
+      arith,
+      c.len.ensures,
+      c.self.inside.notices.ok,
+    ) in
+    unseat-view _ _ _ _ _ _ _ (c.truncate.ensures.items ∙
+    ap (λ (k : ℕ). take (k - 1) c.self.inside.notices.items) same) c.self.view_is c.self.invariant l
+    c.index_mut.ensures.value

@@ -5,7 +5,10 @@ use Rattle.ss_events.proofs.Going.{NoneNoted-without, newest-free}
 use Rattle.ss_events.proofs.agenda.Agenda.undo.Goals as goal
 
 pub take_seat-requires-clause-idle : goal.take_seat-requires-clause-idle
-take_seat-requires-clause-idle g c = rw (c.unfile.ensures, c.take_out-entry.ensures.state) (NoneNoted-without c.in-Scheduled.notice c.args.self.now.agenda.pending)
+take_seat-requires-clause-idle g c = rw (
+  c.unfile.ensures,
+  c.take_out-entry.ensures.state,
+) (NoneNoted-without c.in-Scheduled.notice c.args.self.now.agenda.pending)
 
 pub unfile-requires-clause-any : goal.unfile-requires-clause-any
 unfile-requires-clause-any g c =

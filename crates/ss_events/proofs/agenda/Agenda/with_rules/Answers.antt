@@ -15,5 +15,16 @@ loop-preserved g c = c.in_ok-try_add_head.ensures.ok ∙ (ap with_head c.loop.in
 
 pub invariant_of-result : goal.invariant_of-result
 invariant_of-result g c =
-    let all : c.loop.counter ≡ length (map rule_of c.args.rules.items) = omega (arith, c.len-end.ensures, c.args.rules.ok, c.loop-test.false, c.loop.auto.counter-end, length-map c.args.rules.items rule_of) in
-    begins-on _ _ _ _ _ c.new.ensures.items c.new-2.ensures.items all c.requires.ranked (omega (arith, c.requires.few, length-map c.args.rules.items rule_of)) c.loop.invariant
+    let all : c.loop.counter ≡ length (map rule_of c.args.rules.items) = omega (
+      arith,
+      c.len-end.ensures,
+      c.args.rules.ok,
+      c.loop-test.false,
+      c.loop.auto.counter-end,
+      length-map c.args.rules.items rule_of,
+    ) in
+    begins-on _ _ _ _ _ c.new.ensures.items c.new-2.ensures.items all c.requires.ranked (omega (
+      arith,
+      c.requires.few,
+      length-map c.args.rules.items rule_of,
+    )) c.loop.invariant
