@@ -24,8 +24,8 @@ pub record DataRead : Type 0 where
   pub taken : ℕ
 
 -- the data with nothing taken
-abbrev pub untaken : List ℕ → DataRead
-untaken text = record { items = items text; taken = 0 }
+abbrev pub data_at_start : List ℕ → DataRead
+data_at_start text = record { items = items text; taken = 0 }
 
 -- the same data with so many taken
 abbrev pub with_taken : DataRead → ℕ → DataRead

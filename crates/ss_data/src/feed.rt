@@ -27,7 +27,7 @@ impl Model for Feed {
 
 impl Feed {
     ghost use Rattle.std.specs.Prelude.{◌≡◌, ◌+◌, ◌≤◌, length, IfOk, OnOk, OnErr};
-    ghost use Rattle.ss_data.specs.Items.{untaken, next_value, with_taken};
+    ghost use Rattle.ss_data.specs.Items.{data_at_start, next_value, with_taken};
 
     /// Cuts data into its pieces, in one pass; nothing is taken yet.
     ///
@@ -35,7 +35,7 @@ impl Feed {
     ///
     /// `AllocError` where memory is refused.
     pub fn new(alloc: Global, text: &[u8]) -> Result<Feed, AllocError>
-        ensures { IfOk result (λ feed. feed ≡ untaken text.now) }
+        ensures { IfOk result (λ feed. feed ≡ data_at_start text.now) }
     {
         let pieces = cut_pieces(alloc, text)?;
         Ok(Feed { pieces, taken: 0 })

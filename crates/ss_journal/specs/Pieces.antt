@@ -2,6 +2,6 @@
 use Rattle.std.specs.Prelude.{ℕ, List, [], ◌∷◌, take, drop}
 
 -- a list cut into pieces of these lengths
-abbrev pub pieces : {C : Type 0} → List ℕ → List C → List (List C)
-pieces [] cs = []
-pieces (k ∷ ks) cs = take k cs ∷ pieces ks (drop k cs)
+abbrev pub cut_by_lengths : {C : Type 0} → List ℕ → List C → List (List C)
+cut_by_lengths [] cs = []
+cut_by_lengths (k ∷ ks) cs = take k cs ∷ cut_by_lengths ks (drop k cs)

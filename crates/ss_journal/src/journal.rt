@@ -21,12 +21,12 @@ pub struct Journal<C> {
 impl<C> Model for Journal<C> {
     ghost use Rattle.std.specs.Prelude.{◌≡◌, ◌+◌, ◌-◌, sum, reverse, take, drop, vec_len, vec_capacity};
     ghost use Rattle.ss_journal.specs.Log.{Log};
-    ghost use Rattle.ss_journal.specs.Pieces.{pieces};
+    ghost use Rattle.ss_journal.specs.Pieces.{cut_by_lengths};
 
     ghost Value = { Log C };
 
     ghost view = { λ a. record {
-      steps = pieces (reverse a.sizes.items) (drop a.unclosed (reverse a.changes.items));
+      steps = cut_by_lengths (reverse a.sizes.items) (drop a.unclosed (reverse a.changes.items));
       current = take a.unclosed (reverse a.changes.items);
       notes = vec_capacity a.changes - vec_len a.changes;
       closes = vec_capacity a.sizes - vec_len a.sizes;

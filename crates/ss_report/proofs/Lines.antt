@@ -2,7 +2,7 @@
 use Rattle.std.proofs.Common.{◌≡◌, ◌==◌, ℕ, suc, ◌+◌, ◌<◌, Bool, true, false, List, [], ◌∷◌, ◌++◌, length, map, take, drop, replicate, refl, sym, ap, ◌∙◌, append_assoc, arith, rules}
 use Rattle.std.specs.List.{position_or_len, prefix_len}
 use Rattle.ss_report.specs.Pictures.{Part, field, byte, line_end, with_asterisk, line_parts, picture_parts}
-use Rattle.ss_report.specs.Pieces.{before_first_line, lines_of}
+use Rattle.ss_report.specs.Pieces.{before_first_line, lines_with_parts}
 
 abbrev pub is_asterisk : ℕ → Bool
 is_asterisk b = b == 42
@@ -78,19 +78,19 @@ before_first_line-twice : (cs bs : List ℕ) (ls : List (List ℕ)) → before_f
 before_first_line-twice cs bs [] = refl
 before_first_line-twice cs bs (l ∷ ls) = ap (λ (x : List ℕ). x ∷ ls) (sym (append_assoc cs bs l))
 
-lines_of-with_asterisk : (ps rest : List Part) → lines_of (with_asterisk ps ++ rest) ≡ before_first_line (42 ∷ []) (lines_of (ps ++ rest))
-lines_of-with_asterisk [] rest = refl
-lines_of-with_asterisk (field n ∷ ps) rest =
-    rw one-add (sym (before_first_line-twice (42 ∷ []) (replicate n 42) (lines_of (ps ++ rest))))
-lines_of-with_asterisk (byte b ∷ ps) rest = refl
-lines_of-with_asterisk (line_end ∷ ps) rest = refl
+lines_with_parts-with_asterisk : (ps rest : List Part) → lines_with_parts (with_asterisk ps ++ rest) ≡ before_first_line (42 ∷ []) (lines_with_parts (ps ++ rest))
+lines_with_parts-with_asterisk [] rest = refl
+lines_with_parts-with_asterisk (field n ∷ ps) rest =
+    rw one-add (sym (before_first_line-twice (42 ∷ []) (replicate n 42) (lines_with_parts (ps ++ rest))))
+lines_with_parts-with_asterisk (byte b ∷ ps) rest = refl
+lines_with_parts-with_asterisk (line_end ∷ ps) rest = refl
 
 abbrev IsReadBack : List ℕ → List Part → Type 0
-IsReadBack l rest = lines_of (line_parts l ++ line_end ∷ rest) ≡ l ∷ lines_of rest
+IsReadBack l rest = lines_with_parts (line_parts l ++ line_end ∷ rest) ≡ l ∷ lines_with_parts rest
 
 IsReadBack-cons : (b : ℕ) (bs : List ℕ) (rest : List Part) (t : Bool) → is_asterisk b ≡ t → (t ≡ true → 42 ≡ b) → IsReadBack bs rest → IsReadBack (b ∷ bs) rest
 IsReadBack-cons b bs rest true e star ih =
-    rw e (lines_of-with_asterisk (line_parts bs) (line_end ∷ rest) ∙ rw ih (ap (λ (x : ℕ). (x ∷ bs) ∷ lines_of rest) (star refl)))
+    rw e (lines_with_parts-with_asterisk (line_parts bs) (line_end ∷ rest) ∙ rw ih (ap (λ (x : ℕ). (x ∷ bs) ∷ lines_with_parts rest) (star refl)))
 IsReadBack-cons b bs rest false e star ih = rw e (rw ih refl)
 
 IsReadBack-all : (l : List ℕ) (rest : List Part) → IsReadBack l rest
@@ -99,7 +99,7 @@ IsReadBack-all (b ∷ bs) rest =
     IsReadBack-cons b bs rest (is_asterisk b) refl (λ e. search (rules, e)) (IsReadBack-all bs rest)
 
 -- the lines of a picture's parts are its lines
-pub lines_of-picture_parts : (ls : List (List ℕ)) → lines_of (picture_parts ls) ≡ ls
-lines_of-picture_parts [] = refl
-lines_of-picture_parts (l ∷ ls) =
-    rw append_assoc (IsReadBack-all l (picture_parts ls) ∙ ap (λ (x : List (List ℕ)). l ∷ x) (lines_of-picture_parts ls))
+pub lines_with_parts-picture_parts : (ls : List (List ℕ)) → lines_with_parts (picture_parts ls) ≡ ls
+lines_with_parts-picture_parts [] = refl
+lines_with_parts-picture_parts (l ∷ ls) =
+    rw append_assoc (IsReadBack-all l (picture_parts ls) ∙ ap (λ (x : List (List ℕ)). l ∷ x) (lines_with_parts-picture_parts ls))

@@ -5,11 +5,11 @@ use Rattle.std.proofs.lemmas.List.{drop_more, take_more}
 use Rattle.std.proofs.lemmas.List.Concat.{flat_map-append}
 use Rattle.std.proofs.lemmas.List.Sums.{sum_by-append, sum_by-cons}
 use Rattle.std.specs.List.{count_by, list_any}
-use Rattle.ss_report.specs.Pictures.{Part, field, byte, line_end, is_field, field_text, filled, has_decimal}
+use Rattle.ss_report.specs.Pictures.{Part, field, byte, line_end, is_field, field_text, parts_text, has_decimal}
 use Rattle.ss_report.specs.Pieces.{is_field_piece, part_len, parts_len, parts_of, piece_parts}
 use Rattle.ss_report.specs.declared.piece.Piece.{Piece}
 use Rattle.ss_report.specs.declared.piece.Piece.TheVariants as p
-use Rattle.ss_report.proofs.Texts.{count_by-bytes, filled-bytes, parts_len-bytes}
+use Rattle.ss_report.proofs.Texts.{count_by-bytes, parts_text-bytes, parts_len-bytes}
 
 -- what is left begins with the parts of the next piece
 pub parts_of-drop : (ps : List Piece) (i : ℕ) (p : Piece) → i < length ps → p ≡ get_or ps i p → parts_of (drop i ps) ≡ piece_parts p ++ parts_of (drop (i + 1) ps)
@@ -52,25 +52,25 @@ list_any-map f [] = refl
 list_any-map f (x ∷ xs) = rw (list_any-map f xs) refl
 
 -- what is written so far, and the text of what is left
-pub written-text : (old new all : List ℕ) (left rest : List Part) (bs : List ℕ) (vs : List ℤ) → left ≡ map (λ b. byte b) bs ++ rest → new ≡ old ++ bs → old ++ filled left vs ≡ all → new ++ filled rest vs ≡ all
+pub written-text : (old new all : List ℕ) (left rest : List Part) (bs : List ℕ) (vs : List ℤ) → left ≡ map (λ b. byte b) bs ++ rest → new ≡ old ++ bs → old ++ parts_text left vs ≡ all → new ++ parts_text rest vs ≡ all
 written-text old new all left rest bs vs e n h =
-    rw (n, append_assoc, ← filled-bytes bs rest vs, ← e) h
+    rw (n, append_assoc, ← parts_text-bytes bs rest vs, ← e) h
 
-filled-field : (width : ℕ) (ps : List Part) (vs : List ℤ) → filled (field width ∷ ps) vs ≡ filled (field width ∷ []) vs ++ filled ps (drop 1 vs)
-filled-field width ps [] = rw append-nil refl
-filled-field width ps (v ∷ vs) = rw append-nil refl
+parts_text-field : (width : ℕ) (ps : List Part) (vs : List ℤ) → parts_text (field width ∷ ps) vs ≡ parts_text (field width ∷ []) vs ++ parts_text ps (drop 1 vs)
+parts_text-field width ps [] = rw append-nil refl
+parts_text-field width ps (v ∷ vs) = rw append-nil refl
 
-pub written-field : (old new all : List ℕ) (left rest : List Part) (width : ℕ) (vs others : List ℤ) → left ≡ field width ∷ rest → new ≡ old ++ filled (field width ∷ []) vs → others ≡ drop 1 vs → old ++ filled left vs ≡ all → new ++ filled rest others ≡ all
+pub written-field : (old new all : List ℕ) (left rest : List Part) (width : ℕ) (vs others : List ℤ) → left ≡ field width ∷ rest → new ≡ old ++ parts_text (field width ∷ []) vs → others ≡ drop 1 vs → old ++ parts_text left vs ≡ all → new ++ parts_text rest others ≡ all
 written-field old new all left rest width vs others e n o h =
-    rw (n, append_assoc, o, ← filled-field width rest vs, ← e) h
+    rw (n, append_assoc, o, ← parts_text-field width rest vs, ← e) h
 
 -- the text of one field with the first of some values
-pub filled-first : (width : ℕ) (vs : List ℤ) → 0 < length vs → filled (field width ∷ []) vs ≡ field_text width (get_or vs 0 (pos 0))
-filled-first width [] h = absurd (omega arith)
-filled-first width (v ∷ vs) h = append-nil _
+pub parts_text-first : (width : ℕ) (vs : List ℤ) → 0 < length vs → parts_text (field width ∷ []) vs ≡ field_text width (get_or vs 0 (pos 0))
+parts_text-first width [] h = absurd (omega arith)
+parts_text-first width (v ∷ vs) h = append-nil _
 
-pub written-line_end : (old new all : List ℕ) (left rest : List Part) (vs : List ℤ) → left ≡ line_end ∷ rest → new ≡ old ++ 10 ∷ [] → old ++ filled left vs ≡ all → new ++ filled rest vs ≡ all
+pub written-line_end : (old new all : List ℕ) (left rest : List Part) (vs : List ℤ) → left ≡ line_end ∷ rest → new ≡ old ++ 10 ∷ [] → old ++ parts_text left vs ≡ all → new ++ parts_text rest vs ≡ all
 written-line_end old new all left rest vs e n h = rw (n, append_assoc) (rw e at h)
 
 -- that, and that a value read is itself
-pub ruleset first_value = (filled-first, to_z-of_z)
+pub ruleset first_value = (parts_text-first, to_z-of_z)

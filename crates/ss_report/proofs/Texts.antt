@@ -4,7 +4,7 @@ use Rattle.std.proofs.lemmas.List.Sums.{sum_by-cons}
 use Rattle.std.specs.List.{count_by}
 use Rattle.std.specs.Fmt.{signed_decimal}
 use lib.ListN.{length-replicate}
-use Rattle.ss_report.specs.Pictures.{Part, field, byte, line_end, is_field, field_text, filled}
+use Rattle.ss_report.specs.Pictures.{Part, field, byte, line_end, is_field, field_text, parts_text}
 use Rattle.ss_report.specs.Pieces.{part_len, parts_len}
 
 length_padded : (n : ℕ) (text : List ℕ) (t : Bool) → leb (length text) n ≡ t → (t ≡ true → length text ≤ n) → length (cond t (replicate (n - length text) 32 ++ text) (replicate n 42)) ≡ n
@@ -19,19 +19,19 @@ pub parts_len-cons : (p : Part) (ps : List Part) → parts_len (p ∷ ps) ≡ pa
 parts_len-cons p ps = sum_by-cons part_len p ps
 
 -- whatever the values, the text is as long as the parts
-pub length-filled : (ps : List Part) (vs : List ℤ) → length (filled ps vs) ≡ parts_len ps
-length-filled [] vs = refl
-length-filled (field n ∷ ps) [] =
-    length-append (replicate n 42) (filled ps []) ∙ omega (arith, length-replicate {A = ℕ} n 42, length-filled ps [], parts_len-cons (field n) ps)
-length-filled (field n ∷ ps) (v ∷ vs) =
-    length-append (field_text n v) (filled ps vs) ∙ omega (arith, length-field_text n v, length-filled ps vs, parts_len-cons (field n) ps)
-length-filled (byte b ∷ ps) vs = omega (arith, length-filled ps vs, parts_len-cons (byte b) ps)
-length-filled (line_end ∷ ps) vs = omega (arith, length-filled ps vs, parts_len-cons line_end ps)
+pub length-parts_text : (ps : List Part) (vs : List ℤ) → length (parts_text ps vs) ≡ parts_len ps
+length-parts_text [] vs = refl
+length-parts_text (field n ∷ ps) [] =
+    length-append (replicate n 42) (parts_text ps []) ∙ omega (arith, length-replicate {A = ℕ} n 42, length-parts_text ps [], parts_len-cons (field n) ps)
+length-parts_text (field n ∷ ps) (v ∷ vs) =
+    length-append (field_text n v) (parts_text ps vs) ∙ omega (arith, length-field_text n v, length-parts_text ps vs, parts_len-cons (field n) ps)
+length-parts_text (byte b ∷ ps) vs = omega (arith, length-parts_text ps vs, parts_len-cons (byte b) ps)
+length-parts_text (line_end ∷ ps) vs = omega (arith, length-parts_text ps vs, parts_len-cons line_end ps)
 
 -- bytes that are no fields stay
-pub filled-bytes : (bs : List ℕ) (ps : List Part) (vs : List ℤ) → filled (map (λ b. byte b) bs ++ ps) vs ≡ bs ++ filled ps vs
-filled-bytes [] ps vs = refl
-filled-bytes (b ∷ bs) ps vs = ap (λ (x : List ℕ). b ∷ x) (filled-bytes bs ps vs)
+pub parts_text-bytes : (bs : List ℕ) (ps : List Part) (vs : List ℤ) → parts_text (map (λ b. byte b) bs ++ ps) vs ≡ bs ++ parts_text ps vs
+parts_text-bytes [] ps vs = refl
+parts_text-bytes (b ∷ bs) ps vs = ap (λ (x : List ℕ). b ∷ x) (parts_text-bytes bs ps vs)
 
 pub parts_len-bytes : (bs : List ℕ) → parts_len (map (λ b. byte b) bs) ≡ length bs
 parts_len-bytes [] = refl

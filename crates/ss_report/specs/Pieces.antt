@@ -27,11 +27,11 @@ before_first_line bs [] = bs ∷ []
 before_first_line bs (l ∷ ls) = (bs ++ l) ∷ ls
 
 -- the lines with these parts
-abbrev pub lines_of : List Part → List (List ℕ)
-lines_of [] = []
-lines_of (field n ∷ ps) = before_first_line (replicate n 42) (lines_of ps)
-lines_of (byte b ∷ ps) = before_first_line (b ∷ []) (lines_of ps)
-lines_of (line_end ∷ ps) = [] ∷ lines_of ps
+abbrev pub lines_with_parts : List Part → List (List ℕ)
+lines_with_parts [] = []
+lines_with_parts (field n ∷ ps) = before_first_line (replicate n 42) (lines_with_parts ps)
+lines_with_parts (byte b ∷ ps) = before_first_line (b ∷ []) (lines_with_parts ps)
+lines_with_parts (line_end ∷ ps) = [] ∷ lines_with_parts ps
 
 -- how many bytes a part has in the text, whatever the values
 abbrev pub part_len : Part → ℕ

@@ -55,11 +55,11 @@ impl Model for Picture {
 
     ghost Value = { List (List ℕ) };
 
-    ghost use Rattle.ss_report.specs.Pieces.{lines_of, parts_len, parts_of};
+    ghost use Rattle.ss_report.specs.Pieces.{lines_with_parts, parts_len, parts_of};
 
-    ghost view = { λ a. lines_of (parts_of a.pieces.items) };
+    ghost view = { λ a. lines_with_parts (parts_of a.pieces.items) };
 
-    ghost invariant = { λ a. (picture_parts (lines_of (parts_of a.pieces.items)) ≡ parts_of a.pieces.items)
+    ghost invariant = { λ a. (picture_parts (lines_with_parts (parts_of a.pieces.items)) ≡ parts_of a.pieces.items)
         × (a.fields ≡ count_by is_field (parts_of a.pieces.items))
         × (a.text_len ≡ min (parts_len (parts_of a.pieces.items)) (2 ^ 64 - 1)) };
 }

@@ -1,6 +1,6 @@
 ghost use Rattle.std.specs.Prelude.{◌≡◌, ◌==◌, ◌+◌, ◌-◌, ◌^◌, ◌<◌, ◌≤◌, ◌++◌, ◌∷◌, [], drop, length, map, min, count_by, IfOk, OnOk, vec_len, vec_capacity};
 ghost use Rattle.std.specs.List.{position_or_len, prefix_len};
-ghost use Rattle.ss_report.specs.Pictures.{line_end, field, field_text, filled, is_field, line_parts, picture_parts};
+ghost use Rattle.ss_report.specs.Pictures.{line_end, field, field_text, parts_text, is_field, line_parts, picture_parts};
 ghost use Rattle.ss_report.specs.Pieces.{is_field_piece, parts_len, parts_of, piece_parts};
 
 use crate::append::{append, append_times};
@@ -113,7 +113,7 @@ fn piece_len(piece: &Piece) -> usize
 pub(crate) fn write_pieces(bytes: &mut Vec<u8>, pieces: &[Piece], values: &[i64])
     requires values { length values.now ≡ count_by is_field (parts_of pieces.now) }
     requires room { vec_len bytes.old + parts_len (parts_of pieces.now) ≤ vec_capacity bytes.old }
-    ensures { bytes.new.items ≡ bytes.old.items ++ filled (parts_of pieces.now) values.now }
+    ensures { bytes.new.items ≡ bytes.old.items ++ parts_text (parts_of pieces.now) values.now }
 {
     let mut values = values;
     for piece in pieces {
@@ -131,7 +131,7 @@ pub(crate) fn write_pieces(bytes: &mut Vec<u8>, pieces: &[Piece], values: &[i64]
 fn append_first<'a>(bytes: &mut Vec<u8>, width: usize, values: &'a [i64]) -> &'a [i64]
     requires some { 0 < length values.now }
     requires room { vec_len bytes.old + width ≤ vec_capacity bytes.old }
-    ensures items { bytes.new.items ≡ bytes.old.items ++ filled (field width ∷ []) values.now }
+    ensures items { bytes.new.items ≡ bytes.old.items ++ parts_text (field width ∷ []) values.now }
     ensures others { result.now ≡ drop 1 values.now }
     ensures len { vec_len bytes.new ≡ vec_len bytes.old + width }
     ensures capacity { vec_capacity bytes.old ≤ vec_capacity bytes.new }

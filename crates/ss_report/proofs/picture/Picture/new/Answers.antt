@@ -1,9 +1,9 @@
 use Rattle.std.proofs.Common.{◌≡◌, ◌∙◌, true, false, map, refl, sym, ap}
 use Rattle.std.proofs.lemmas.Bool.{false≢true}
 use Rattle.ss_report.specs.Pictures.{has_decimal_field, picture_parts}
-use Rattle.ss_report.specs.Pieces.{lines_of, parts_of}
+use Rattle.ss_report.specs.Pieces.{lines_with_parts, parts_of}
 use Rattle.ss_report.specs.declared.picture.PictureFault.TheVariants.{DecimalField, Memory}
-use Rattle.ss_report.proofs.Lines.{lines_of-picture_parts}
+use Rattle.ss_report.proofs.Lines.{lines_with_parts-picture_parts}
 use Rattle.ss_report.proofs.PieceSteps.{count_by-parts_of, list_any-map}
 use Rattle.ss_report.proofs.picture.Picture.new.Goals as goal
 
@@ -20,7 +20,7 @@ returns-in_err-pieces-clause-decimal_field c =
 pub invariant_of-result : goal.invariant_of-result
 invariant_of-result c =
     let parts : parts_of c.in_ok-pieces.pieces.items ≡ picture_parts (map (λ l. l.items) c.args.lines.items) = c.in_ok-pieces.ensures ∙ ap (λ ls. picture_parts (map (λ l. l.items) ls)) c.deref-2.ensures.value in (
-      rw (parts, lines_of-picture_parts) refl,
+      rw (parts, lines_with_parts-picture_parts) refl,
       c.count_fields-fields.ensures ∙ rw c.deref-3.ensures.value (sym (count_by-parts_of c.in_ok-pieces.pieces.items)),
       rw (← c.deref-4.ensures.value) c.text_len-text_len.ensures,
     )
@@ -28,7 +28,7 @@ invariant_of-result c =
 pub returns-clause-ok : goal.returns-clause-ok
 returns-clause-ok c =
     let parts : parts_of c.in_ok-pieces.pieces.items ≡ picture_parts (map (λ l. l.items) c.args.lines.items) = c.in_ok-pieces.ensures ∙ ap (λ ls. picture_parts (map (λ l. l.items) ls)) c.deref-2.ensures.value in
-    ap lines_of parts ∙ lines_of-picture_parts _
+    ap lines_with_parts parts ∙ lines_with_parts-picture_parts _
 
 pub returns-clause-decimal_field : goal.returns-clause-decimal_field
 returns-clause-decimal_field c =
