@@ -5,7 +5,6 @@ use Rattle.ss_words.specs.declared.fault.TextFault.TheVariants.{Refused, Memory}
 use Rattle.ss_words.specs.declared.fault.TextRule.{TextRule}
 use Rattle.ss_words.specs.Words.{WordAt}
 use Rattle.ss_words.specs.TextWords.{Found, word, breach as broken, breaches_in, words_in, answer_of, found_in_text, words_of}
-use Rattle.ss_words.specs.Plain.{PlainAt}
 use Rattle.ss_words.specs.PlainRules.{plain_words_of}
 use Rattle.ss_routines.specs.Places.{Section}
 use Rattle.ss_routines.specs.Refused.{Answers, AreSections, words_from}
@@ -13,6 +12,7 @@ use Rattle.ss_routines.specs.Laws.{IsDefinite}
 use Rattle.ss_routines.proofs.LimitWords.{always}
 use Rattle.ss_routines.proofs.Unique.{one_answer}
 use Rattle.ss_check.specs.declared.fault.CheckRule.{CheckRule}
+use Rattle.ss_words.specs.Plain.{PlainAt}
 use Rattle.ss_check.specs.Breach.{breach}
 use Rattle.ss_check.specs.Resolved.{resolved}
 use Rattle.ss_session.specs.Model.{Outcome, refused_text, refused_check, accepted, Spells, IsOutcome}
