@@ -13,6 +13,7 @@ use Rattle.ss_routines.specs.Laws.{IsDefinite}
 use Rattle.ss_routines.proofs.LimitWords.{always}
 use Rattle.ss_routines.proofs.Unique.{one_answer}
 use Rattle.ss_check.specs.declared.fault.CheckRule.{CheckRule}
+use Rattle.ss_words.specs.Plain.{PlainAt}
 use Rattle.ss_check.specs.Breach.{breach}
 use Rattle.ss_check.specs.Resolved.{resolved}
 use Rattle.ss_session.specs.Model.{Outcome, refused_text, refused_check, accepted, Spells, IsOutcome}
