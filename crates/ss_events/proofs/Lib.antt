@@ -15,3 +15,4 @@ pub mod RuleLaws
 pub mod Begins
 pub mod Steps
 pub mod WellLaws
+pub mod FirstLaws

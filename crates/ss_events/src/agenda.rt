@@ -1,4 +1,4 @@
-ghost use Rattle.std.specs.Prelude.{◌≡◌, ◌+◌, ◌-◌, ◌<◌, ℕ, map, ◌≤◌, not, length, take, Some, IfOk, OnErr, slice_get, is_some, if◌then◌else◌, true};
+ghost use Rattle.std.specs.Prelude.{◌≡◌, [], ◌+◌, ◌-◌, ◌<◌, ℕ, map, ◌≤◌, not, length, take, Some, IfOk, OnErr, slice_get, is_some, if◌then◌else◌, true};
 ghost use Rattle.std.specs.Option.{option_map, IsSome};
 ghost use Rattle.ss_links.specs.Board.{empty_board, list_at};
 ghost use Rattle.ss_links.specs.Seats.{has};
@@ -29,7 +29,7 @@ ghost use Rattle.ss_events.specs.Changes.{
   IsScheduled,
   IsCancelled,
 };
-ghost use Rattle.ss_events.specs.Places.{rank_place, notice_on, IsTaken, IsTakenIfSome, earlier, pending_on};
+ghost use Rattle.ss_events.specs.Places.{passed, rank_place, notice_on, IsTaken, IsTakenIfSome, earlier, pending_on};
 ghost use Rattle.ss_events.specs.Listings.{IsListing};
 ghost use Rattle.ss_events.specs.Rows.{notice_of, rule_of, IsEntry};
 ghost use Rattle.ss_events.specs.WellAgenda.{IsWellAgenda};
@@ -166,13 +166,32 @@ impl<S: SetBoard> Agenda<S> {
         entry_of(&self.rows, self.notices[seat as usize]).unwrap()
     }
 
-    /// Where a notice with this entry belongs on the board.
+    /// Whether a notice with this entry comes before all those of its class.
+    fn is_first(&self, entry: &Entry) -> bool
+        requires { IsEntry self.now.rules entry.now }
+        ensures { result ≡ true →
+            passed (before self.now.rules) (notice_of 0 entry.now) (of_class entry.now.class (order self.now)) ≡ [] }
+    {
+        let board = &self.board;
+        let head = entry.class as u32;
+        let first = board.first(head);
+        match first {
+            None => true,
+            Some(seat) => is_before(&self.rules, entry, self.entry_on(seat)),
+        }
+    }
+
+    /// Where a notice with this entry belongs on the board: in front of all those of its class, or
+    /// looked for from their end.
     fn rank_place(&self, entry: &Entry) -> Place
         requires { IsEntry self.now.rules entry.now }
         ensures { result ≡ rank_place self.now (notice_of 0 entry.now) }
     {
         let board = &self.board;
         let head = entry.class as u32;
+        if self.is_first(entry) {
+            return Place { head, before: None };
+        }
         let mut before = board.last(head);
         while let Some(seat) = before {
             if !is_before(&self.rules, entry, self.entry_on(seat)) {
@@ -264,9 +283,7 @@ impl<S: SetBoard> Agenda<S> {
     ///
     /// A time before the clock (F9), a notice that is pending already (F10), and want of filing
     /// numbers (F20) are refused, the first of these first (docs/LANGUAGE.md, "Run faults"), and then
-    /// want of memory. A refusal leaves all as it was. A notice that comes behind those that are
-    /// pending in its class is put there at once; another passes those of its class that it comes
-    /// before.
+    /// want of memory. A refusal leaves all as it was.
     pub fn schedule(
         &mut self,
         notice: u32,

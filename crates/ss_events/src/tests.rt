@@ -360,7 +360,7 @@ fn mixture<S: SetBoard>(
         before: Vec::new(alloc),
     };
     let mut dice = Dice { state: 19 };
-    for number in 0..600 {
+    for number in 0..300 {
         turn(rt, agenda, journal, &mut plains, &mut dice, number)?;
         agrees(rt, agenda, &plains.now);
     }

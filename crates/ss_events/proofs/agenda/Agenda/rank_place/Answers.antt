@@ -1,6 +1,9 @@
 use Rattle.std.proofs.Common.{sym, ap, ◌∙◌, arith, subst, map, ℕ, Option}
 use Rattle.ss_links.specs.declared.board.Place.{Place}
-use Rattle.ss_events.specs.State.{AgendaState}
+use Rattle.ss_links.specs.Seats.{last_of}
+use Rattle.ss_events.specs.Agenda.{Pending}
+use Rattle.std.proofs.Common.{List}
+use Rattle.ss_events.specs.State.{seats_of, AgendaState}
 use Rattle.ss_events.specs.Rows.{notice_of, rule_of}
 use Rattle.ss_events.proofs.Standing.{kept, told, sound_board, entry-pending, length-lists}
 use Rattle.ss_events.proofs.Walk.{IsWalk, walk-begins, walk-taken, walk-on, walk-less, walk-ends, walk-ends_first}
@@ -75,3 +78,8 @@ returns-in_default g c =
     let walk = subst (IsWalk c.args.self.now (notice_of 0 c.args.entry.now)) c.in_default.is c.loop-before.invariant
     in
     ap (place_at c.args.entry.now.class) (c.in_default.is ∙ sym (walk-ends_first _ _ walk (told _ _ _ k)))
+
+pub returns-then-is_first : goal.returns-then-is_first
+returns-then-is_first g c =
+    ap (λ (l : List Pending). place_at c.args.entry.now.class (last_of (seats_of c.args.self.now.notices l)))
+    (sym (c.is_first.ensures c.if-is_first.true))
