@@ -9,7 +9,6 @@ use Rattle.ss_words.specs.PlainRules.{plain_words_of}
 use Rattle.ss_routines.specs.Expr.{Expr, expr, no_sums, term, no_products, digits, variable}
 use Rattle.ss_routines.specs.Places.{Reference, lets, adds, prints}
 use Rattle.ss_routines.specs.Tree.{no_statements, statement, simple, assignment, report, halt, main, Tree, spell}
-use Rattle.ss_routines.specs.Refused.{words_from}
 use Rattle.ss_check.specs.declared.kinds.SectionKind.TheVariants.{Main}
 use Rattle.ss_check.specs.declared.variable.Variable.TheVariants.{Local}
 use Rattle.ss_check.specs.declared.place.Assign.TheVariants.{Let, Add}
