@@ -1,4 +1,4 @@
-use Rattle.std.proofs.Common.{◌≡◌, sym, ap, ◌∙◌, arith, subst, map}
+use Rattle.std.proofs.Common.{sym, ap, ◌∙◌, arith, subst, map}
 use Rattle.ss_events.specs.State.{AgendaState}
 use Rattle.ss_events.specs.Rows.{notice_of, rule_of}
 use Rattle.ss_events.proofs.Standing.{kept, entry-pending, length-lists}
