@@ -1,0 +1,12 @@
+mod Pushed
+mod Texts
+pub mod Sound
+pub mod NoFurther
+pub mod AgainItems
+pub mod Counting
+pub mod Passing
+pub mod Whole
+pub mod Told
+pub mod Indexes
+pub mod Unique
+pub mod Programs

@@ -1,0 +1,10 @@
+use Rattle.std.proofs.Common.{◌≡◌, length}
+use Rattle.ss_words.specs.Plain.{plains_of}
+use Rattle.ss_preamble.specs.Roles.{defined}
+use Rattle.ss_preamble.proofs.limits.defined.Given as goal
+
+abbrev pub invariant-loop-rest : goal.invariant-loop-rest
+invariant-loop-rest l = record { same : defined (plains_of l.fn.words) ≡ defined (plains_of l.rest) }
+
+abbrev pub decreases-loop-rest : goal.decreases-loop-rest
+decreases-loop-rest l = length l.rest

@@ -1,0 +1,8 @@
+use Rattle.std.proofs.Common.{sym, ◌∙◌}
+use Rattle.ss_preamble.proofs.Told.{no_preamble}
+use Rattle.ss_preamble.proofs.text.read.Goals as goal
+
+pub returns-then-not-is_next-clause-declared : goal.returns-then-not-is_next-clause-declared
+returns-then-not-is_next-clause-declared c =
+    let asked = rw c.new-cursor.ensures at c.is_next.ensures in
+    no_preamble c.args.text.now _ (sym asked ∙ c.if-not-is_next.true) c.nothing.ensures

@@ -1,0 +1,75 @@
+-- Laws on the spelling of preambles and on what is refused.
+use Rattle.std.specs.Prelude.{◌≡◌, ◌<◌, ℕ, ◌+◌, List, [], ◌++◌, length, take, Option, Some, None, Result, Ok, Err}
+use Rattle.ss_words.specs.declared.fault.TextRule.TheVariants.{PastLimit}
+use Rattle.ss_words.specs.declared.fault.TextFault.{TextFault}
+use Rattle.ss_words.specs.declared.fault.TextFault.TheVariants.{Refused, Memory}
+use Rattle.ss_words.specs.Plain.{Plain, PlainAt, plains}
+use Rattle.ss_words.specs.Noting.{line}
+use Rattle.ss_words.specs.Farthest.{IsFarthest}
+use Rattle.ss_preamble.specs.Tree.{Preamble, Decls}
+use Rattle.ss_preamble.specs.Spelling.{spell}
+use Rattle.ss_preamble.specs.Limits.{IsWithin}
+use Rattle.ss_preamble.specs.Written.{written}
+use Rattle.ss_preamble.specs.Refused.{HasPreamble, PassesLimit, CountUpTo, Answers, spell_text, lines, word_behind}
+
+-- no two preambles have one spelling
+abbrev pub SpellingIsUnique : Type 0
+SpellingIsUnique = (t u : Preamble) → spell t ≡ spell u → t ≡ u
+
+-- an answer that says something
+abbrev pub IsDefinite : Result (Decls × ℕ) TextFault → Type 0
+IsDefinite (Ok d) = Unit {0}
+IsDefinite (Err (Refused rule l)) = Unit {0}
+IsDefinite (Err Memory) = ⊥
+
+-- words have one answer at most
+abbrev pub AnswerIsUnique : Type 0
+AnswerIsUnique =
+    (ws : List PlainAt) (a b : Result (Decls × ℕ) TextFault) → IsDefinite a → IsDefinite b → Answers a ws
+    → Answers b ws → a ≡ b
+
+-- a preamble within the limits is answered with its items and the number of the first word behind it
+abbrev pub LimitsLetPass : Type 0
+LimitsLetPass =
+    (ws : List PlainAt) (is : Preamble) (behind : List Plain) (a : Result (Decls × ℕ) TextFault) → IsWithin is
+    → plains ws ≡ spell is ++ behind → IsDefinite a → Answers a ws
+    → a ≡ Ok (written (lines ws) is, word_behind ws (length (spell is)))
+
+-- a preamble past the limits is refused by P3, at a word that passes one
+abbrev pub LimitsHold : Type 0
+LimitsHold =
+    (ws : List PlainAt) (is : Preamble) (behind : List Plain) (a : Result (Decls × ℕ) TextFault)
+    → plains ws ≡ spell is ++ behind → (IsWithin is → ⊥) → IsDefinite a → Answers a ws
+    → (k : ℕ) × PassesLimit (spell is) k × (a ≡ Err (Refused PastLimit (line (lines ws) k)))
+
+-- a word that passes a limit and is not the text's last is refused by P3
+abbrev pub LimitsRefuse : Type 0
+LimitsRefuse =
+    (ws : List PlainAt) (n k : ℕ) (a : Result (Decls × ℕ) TextFault) → HasPreamble (plains ws)
+    → CountUpTo (plains ws) n → PassesLimit (take n (plains ws)) k → k + 1 < length ws → IsDefinite a → Answers a ws
+    → a ≡ Err (Refused PastLimit (line (lines ws) k))
+
+-- ---- a whole program: a preamble or none, and sections, whatever the grammar of the sections is
+
+-- a preamble or none, and sections
+pub record Program (S : Type 0) : Type 0 where
+  pub preamble : Option Preamble
+  pub sections : S
+
+-- what a preamble spells, if there is one
+abbrev pub spell_head : Option Preamble → List Plain
+spell_head None = []
+spell_head (Some p) = spell p
+
+-- what a program spells, where sp spells sections
+abbrev pub spell_program : {S : Type 0} → (S → List Plain) → Program S → List Plain
+spell_program sp t = spell_head t.preamble ++ sp t.sections
+
+-- The farthest word of a whole program: where a preamble begins and is not read, it is the preamble's; where it is
+-- read, it is that of the sections, behind the preamble. There is some list of sections, and none begins with PREAMBLE.
+abbrev pub FarthestOfProgram : {S : Type 0} → (S → List Plain) → Type 0
+FarthestOfProgram {S} sp =
+    (some : S) → ((s : S) → HasPreamble (sp s) → ⊥) → (ws : List Plain) → HasPreamble ws
+    → ((k : ℕ) → IsFarthest spell_text ws k → IsFarthest (spell_program sp) ws k)
+    × ((is : Preamble) (behind : List Plain) (k : ℕ) → ws ≡ spell is ++ behind → IsFarthest sp behind k
+    → IsFarthest (spell_program sp) ws (length (spell is) + k))

@@ -1,0 +1,11 @@
+pub mod Tree
+pub mod Spelling
+pub mod Roles
+pub mod Limits
+pub mod Tally
+pub mod Written
+pub mod Refused
+pub mod View
+pub mod ItemReading
+pub mod Onto
+pub mod Laws

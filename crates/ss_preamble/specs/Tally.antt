@@ -1,0 +1,77 @@
+-- Counting from word to word.
+use Rattle.std.specs.Prelude.{ℕ, ◌+◌, Bool, true, leb, List, [], ◌∷◌, ◌++◌, length, map, bytes_eq, count_by}
+use Rattle.std.specs.List.{flat_map}
+use Rattle.std.specs.Borrow.{Bor}
+use Rattle.ss_words.specs.Lists.{Name}
+use Rattle.ss_words.specs.Reading.{option_view}
+use Rattle.ss_preamble.specs.declared.limits.Role.{Role as CodeRole}
+use Rattle.ss_preamble.specs.declared.limits.Role.TheVariants as c
+use Rattle.ss_preamble.specs.declared.limits.Standing.{Standing as CodeStanding}
+use Rattle.ss_preamble.specs.declared.limits.Tally.{Tally as CodeTally}
+use Rattle.ss_preamble.specs.Roles.{Role, AClass, AnAttribute, AVariable, ASet, AKey, Nothing, Standing}
+use Rattle.ss_preamble.specs.Limits.{class_of, set_of, is_variable, with_name, distinct}
+
+-- the bytes of names
+abbrev pub texts : List (Bor (List ℕ)) → List Name
+texts ns = map (λ n. n.now) ns
+
+-- a standing of the code
+abbrev pub standing_view : CodeStanding → Standing
+standing_view a = record { counted = a.counted; owner = option_view (λ n. n.now) a.owner; keys = a.keys }
+
+-- a role of the code
+abbrev pub role_view : CodeRole → Role
+role_view (c.Class n) = AClass n.now
+role_view (c.Attribute n) = AnAttribute n.now
+role_view c.Variable = AVariable
+role_view (c.Set n) = ASet n.now
+role_view (c.Key k) = AKey k
+role_view c.Nothing = Nothing
+
+-- distinct classes, the class of each attribute, how many variables, distinct sets
+pub record Counts : Type 0 where
+  pub classes : List Name
+  pub attributes : List Name
+  pub variables : ℕ
+  pub sets : List Name
+
+-- counts of the code
+abbrev pub tally_view : CodeTally → Counts
+tally_view a =
+    record {
+      classes = texts a.classes.items;
+      attributes = texts a.attributes.items;
+      variables = a.variables;
+      sets = texts a.sets.items;
+    }
+
+-- the class of an attribute
+abbrev pub attribute_owner : Role → List Name
+attribute_owner (AnAttribute n) = n ∷ []
+attribute_owner _ = []
+
+-- what names count to, counted
+abbrev pub tally_of : List Role → Counts
+tally_of rs = record {
+  classes = distinct (flat_map class_of rs);
+  attributes = flat_map attribute_owner rs;
+  variables = count_by is_variable rs;
+  sets = distinct (flat_map set_of rs);
+}
+
+-- counts and one more name
+abbrev pub with_role : Counts → Role → Counts
+with_role a (AClass n) = record a { classes = with_name a.classes n }
+with_role a (AnAttribute n) = record a { attributes = a.attributes ++ n ∷ [] }
+with_role a AVariable = record a { variables = a.variables + 1 }
+with_role a (ASet n) = record a { sets = with_name a.sets n }
+with_role a _ = a
+
+-- whether what this name was counted to is within its limit
+abbrev pub is_in_room : Counts → Role → Bool
+is_in_room a (AClass n) = leb (length a.classes) 64
+is_in_room a (AnAttribute n) = leb (count_by (bytes_eq n) a.attributes) 32
+is_in_room a AVariable = leb a.variables 256
+is_in_room a (ASet n) = leb (length a.sets) 64
+is_in_room a (AKey k) = leb k 8
+is_in_room a Nothing = true

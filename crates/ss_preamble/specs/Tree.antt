@@ -1,0 +1,53 @@
+-- The items of a preamble as they are written, with names as lists of bytes.
+use Rattle.std.specs.Prelude.{ℕ, List, Option}
+use Rattle.ss_words.specs.Lists.{Name, Several}
+use Rattle.ss_preamble.specs.declared.item.Heading.{Heading}
+use Rattle.ss_preamble.specs.declared.item.Rank.{Rank}
+
+-- BY HIGH or BY LOW, and a name
+pub record Key : Type 0 where
+  pub rank : Rank
+  pub name : Name
+
+-- HAS names, OWNS names, BELONGS TO names
+pub data Clause : Type 0 where
+  Has Owns BelongsTo : Several Name → Clause
+
+-- FIFO SETS, LIFO SETS, SETS RANKED by keys
+pub data SetKind : Type 0 where
+  Fifo Lifo : SetKind
+  Ranked : Several Key → SetKind
+
+-- DEFINE of variables, DEFINE of sets
+pub data Definition : Type 0 where
+  Variables : Several Name → Definition
+  Sets : Several Name → SetKind → Definition
+
+-- PRIORITY ORDER IS names; BREAK name TIES keys; EXTERNAL EVENTS ARE names
+pub data EventRule : Type 0 where
+  PriorityOrder : Several Name → EventRule
+  BreakTies : Name → Several Key → EventRule
+  ExternalEvents : Several Name → EventRule
+
+-- NORMALLY MODE IS INTEGER; a heading, with the names behind INCLUDE or without; EVERY name or SYSTEM, with its clauses
+pub data Item : Type 0 where
+  Normally : Item
+  Headed : Heading → Option (Several Name) → Item
+  OfEvery : Name → Several Clause → Item
+  OfSystem : Several Clause → Item
+  Defines : Definition → Item
+  Orders : EventRule → Item
+
+-- the items of a preamble, in order
+abbrev pub Preamble : Type 0
+Preamble = List Item
+
+-- an item and the line of its first plain word
+pub record ItemAt : Type 0 where
+  pub line : ℕ
+  pub item : Item
+
+-- the items of a text with their lines, and the line of the preamble's END; none where the text has no preamble
+pub record Decls : Type 0 where
+  pub items : List ItemAt
+  pub end : Option ℕ

@@ -1,0 +1,104 @@
+use ss_words::Several;
+
+/// One or more names, in upper case.
+pub type Names = Several<Vec<u8>>;
+
+/// A heading of classes.
+#[derive(Clone, Copy, Debug, PartialEq, Eq)]
+pub enum Heading {
+    PermanentEntities,
+    TemporaryEntities,
+    EventNotices,
+}
+
+/// A clause of EVERY or SYSTEM.
+#[derive(Debug, Drop)]
+pub enum Clause {
+    /// `HAS names`
+    Has(Names),
+    /// `OWNS names`
+    Owns(Names),
+    /// `BELONGS TO names`
+    BelongsTo(Names),
+}
+
+/// Which of two values of a key ranks first: the greater or the less.
+#[derive(Clone, Copy, Debug, PartialEq, Eq)]
+pub enum Rank {
+    High,
+    Low,
+}
+
+/// A key of a ranking: `BY HIGH name` or `BY LOW name`.
+#[derive(Debug, Drop)]
+pub struct Key {
+    pub rank: Rank,
+    pub name: Vec<u8>,
+}
+
+/// What DEFINE makes of sets.
+#[derive(Debug, Drop)]
+pub enum SetKind {
+    /// `FIFO SETS`
+    Fifo,
+    /// `LIFO SETS`
+    Lifo,
+    /// `SETS RANKED keys`
+    Ranked(Several<Key>),
+}
+
+/// A DEFINE.
+#[derive(Debug, Drop)]
+pub enum Definition {
+    /// `DEFINE names AS INTEGER VARIABLES`
+    Variables(Names),
+    /// `DEFINE names AS` and what they are.
+    Sets { names: Names, kind: SetKind },
+}
+
+/// An item on the order of events, or on events from outside.
+#[derive(Debug, Drop)]
+pub enum EventRule {
+    /// `PRIORITY ORDER IS names`
+    PriorityOrder(Names),
+    /// `BREAK event TIES keys`
+    BreakTies { event: Vec<u8>, keys: Several<Key> },
+    /// `EXTERNAL EVENTS ARE names`
+    ExternalEvents(Names),
+}
+
+/// An item of the preamble (docs/LANGUAGE.md, "The preamble").
+#[derive(Debug, Drop)]
+pub enum Item {
+    /// `NORMALLY MODE IS INTEGER`
+    Normally,
+    /// A heading, with the names behind INCLUDE or without.
+    Headed {
+        heading: Heading,
+        included: Option<Names>,
+    },
+    /// `EVERY class` and its clauses.
+    OfEvery {
+        class: Vec<u8>,
+        clauses: Several<Clause>,
+    },
+    /// `SYSTEM` and its clauses.
+    OfSystem(Several<Clause>),
+    Defines(Definition),
+    Orders(EventRule),
+}
+
+/// An item and the line on which its first plain word stands; lines count from 1.
+#[derive(Debug, Drop)]
+pub struct ItemAt {
+    pub line: usize,
+    pub item: Item,
+}
+
+/// What a text declares: the items of its preamble, in order.
+#[derive(Debug, Drop)]
+pub struct Decls {
+    pub items: Vec<ItemAt>,
+    /// The line of the preamble's END; `None` where the text has no preamble.
+    pub end: Option<usize>,
+}

@@ -1,0 +1,18 @@
+//! The preamble of a program: its grammar and the list of its items.
+#![tactic(auto)]
+
+mod clause;
+mod item;
+mod key;
+pub mod laws;
+mod limits;
+mod reader;
+mod text;
+
+pub use item::{
+    Clause, Decls, Definition, EventRule, Heading, Item, ItemAt, Key, Names, Rank, SetKind,
+};
+pub use text::preamble;
+
+#[cfg(test)]
+mod tests;

@@ -1,0 +1,236 @@
+//! Reading the items of a preamble.
+ghost use Rattle.std.specs.Prelude.{IfSome, IfOk, IsTrue, length, ◌≤◌, ◌<◌};
+ghost use Rattle.ss_words.specs.declared.mark.Mark.TheVariants as mark;
+ghost use Rattle.ss_words.specs.Plain.{word_lines};
+ghost use Rattle.ss_words.specs.Reading.{Gives, option_view};
+ghost use Rattle.ss_words.specs.Lists.{several_view};
+ghost use Rattle.ss_preamble.specs.ItemReading as reading;
+ghost use Rattle.ss_preamble.specs.Onto as onto;
+ghost use Rattle.ss_preamble.specs.View.{definition_view, event_rule_view, item_view, items_view, decls_view};
+
+use crate::clause::clauses;
+use crate::item::{Decls, Definition, EventRule, Heading, Item, ItemAt, Names, SetKind};
+use crate::key::keys;
+use ss_words::{Cursor, Mark, Plain, PlainWord, Refusal, Reserved};
+
+/// `preamble = PREAMBLE {item} END`, whose words are the last ones of `text`.
+#[tactic(auto, unfolding(ss_words::specs::Reading::bind, ss_words::specs::Reading::pure, ss_words::specs::Noting::here, crate::specs::Onto::preamble_onto))]
+pub fn declarations(cursor: &mut Cursor<'_>, text: &[PlainWord]) -> Result<Decls, Refusal>
+    ensures exact { Gives decls_view result cursor.new (onto.preamble_onto (word_lines text.now) cursor.old) }
+    ensures shorter { length cursor.new ≤ length cursor.old }
+{
+    cursor.expect(Mark::Reserved(Reserved::Preamble))?;
+    let mut items = Vec::new(cursor.alloc());
+    item_list(cursor, text, &mut items)?;
+    let end = cursor.line(text);
+    cursor.expect(Mark::Reserved(Reserved::End))?;
+    Ok(Decls {
+        items,
+        end: Some(end),
+    })
+}
+
+/// Reads items, as long as one begins, and pushes them.
+fn item_list(
+    cursor: &mut Cursor<'_>,
+    text: &[PlainWord],
+    out: &mut Vec<ItemAt>,
+) -> Result<(), Refusal>
+    ensures exact { Gives (λ u. items_view out.new.items) result cursor.new (onto.items_onto (word_lines text.now) (items_view out.old.items) cursor.old) }
+    ensures shorter { length cursor.new ≤ length cursor.old }
+{
+    while item_onto(cursor, text, out)? {}
+    Ok(())
+}
+
+/// Reads an item, if one begins here, and pushes it.
+#[tactic(auto, using(crate::proofs::Pushed::pushed), unfolding(ss_words::specs::Reading::bind, ss_words::specs::Reading::pure, ss_words::specs::Noting::here, crate::specs::Onto::next_onto))]
+fn item_onto(
+    cursor: &mut Cursor<'_>,
+    text: &[PlainWord],
+    out: &mut Vec<ItemAt>,
+) -> Result<bool, Refusal>
+    ensures exact { Gives (λ b. (b, items_view out.new.items)) result cursor.new (onto.next_onto (word_lines text.now) (items_view out.old.items) cursor.old) }
+    ensures shorter { length cursor.new ≤ length cursor.old }
+    ensures taken { IfOk result (λ b. IsTrue b → length cursor.new < length cursor.old) }
+{
+    let line = cursor.line(text);
+    let Some(item) = next_item(cursor)? else {
+        return Ok(false);
+    };
+    out.push(ItemAt { line, item })?;
+    Ok(true)
+}
+
+/// An item, or nothing where none begins here.
+#[tactic(auto, unfolding(ss_words::specs::Reading::look, ss_words::specs::Reading::skip, ss_words::specs::Reading::bind, ss_words::specs::Reading::pure, crate::specs::ItemReading::next_item))]
+fn next_item(cursor: &mut Cursor<'_>) -> Result<Option<Item>, Refusal>
+    ensures exact { Gives (option_view item_view) result cursor.new (reading.next_item cursor.old) }
+    ensures shorter { length cursor.new ≤ length cursor.old }
+    ensures taken { IfOk result (λ o. IfSome o (λ _. length cursor.new < length cursor.old)) }
+{
+    let Some(Plain::Mark(Mark::Reserved(word))) = cursor.peek() else {
+        return Ok(None);
+    };
+    Ok(match *word {
+        Reserved::Normally => {
+            cursor.pass();
+            Some(normally(cursor)?)
+        }
+        Reserved::Permanent => {
+            cursor.pass();
+            Some(heading(cursor, Heading::PermanentEntities, Reserved::Entities)?)
+        }
+        Reserved::Temporary => {
+            cursor.pass();
+            Some(heading(cursor, Heading::TemporaryEntities, Reserved::Entities)?)
+        }
+        Reserved::Event => {
+            cursor.pass();
+            Some(heading(cursor, Heading::EventNotices, Reserved::Notices)?)
+        }
+        Reserved::Every => {
+            cursor.pass();
+            Some(every(cursor)?)
+        }
+        Reserved::System => {
+            cursor.pass();
+            Some(Item::OfSystem(clauses(cursor)?))
+        }
+        Reserved::Define => {
+            cursor.pass();
+            Some(Item::Defines(definition(cursor)?))
+        }
+        Reserved::Priority => {
+            cursor.pass();
+            Some(Item::Orders(priority(cursor)?))
+        }
+        Reserved::Break => {
+            cursor.pass();
+            Some(Item::Orders(ties(cursor)?))
+        }
+        Reserved::External => {
+            cursor.pass();
+            Some(Item::Orders(external(cursor)?))
+        }
+        _ => None,
+    })
+}
+
+/// `MODE IS INTEGER`, behind NORMALLY.
+#[tactic(auto, unfolding(ss_words::specs::Reading::bind, ss_words::specs::Reading::pure, crate::specs::ItemReading::normally_with))]
+fn normally(cursor: &mut Cursor<'_>) -> Result<Item, Refusal>
+    ensures exact { Gives item_view result cursor.new (reading.normally_with cursor.old) }
+    ensures shorter { length cursor.new ≤ length cursor.old }
+{
+    cursor.expect(Mark::Reserved(Reserved::Mode))?;
+    cursor.expect(Mark::Reserved(Reserved::Is))?;
+    cursor.expect(Mark::Reserved(Reserved::Integer))?;
+    Ok(Item::Normally)
+}
+
+/// The second word of a heading and `[INCLUDE names]`.
+#[tactic(auto, unfolding(ss_words::specs::Reading::bind, ss_words::specs::Reading::pure, crate::specs::ItemReading::heading_with))]
+fn heading(cursor: &mut Cursor<'_>, heading: Heading, second: Reserved) -> Result<Item, Refusal>
+    ensures exact { Gives item_view result cursor.new (reading.heading_with heading (mark.Reserved second) cursor.old) }
+    ensures shorter { length cursor.new ≤ length cursor.old }
+{
+    cursor.expect(Mark::Reserved(second))?;
+    let included = cursor.names_behind(Mark::Reserved(Reserved::Include))?;
+    Ok(Item::Headed { heading, included })
+}
+
+/// `name clause {clause}`, behind EVERY.
+#[tactic(auto, unfolding(ss_words::specs::Reading::bind, ss_words::specs::Reading::pure, crate::specs::ItemReading::every_with))]
+fn every(cursor: &mut Cursor<'_>) -> Result<Item, Refusal>
+    ensures exact { Gives item_view result cursor.new (reading.every_with cursor.old) }
+    ensures shorter { length cursor.new ≤ length cursor.old }
+{
+    let class = cursor.name()?;
+    let clauses = clauses(cursor)?;
+    Ok(Item::OfEvery { class, clauses })
+}
+
+/// `names AS` and what they are, behind DEFINE.
+#[tactic(auto, unfolding(ss_words::specs::Reading::bind, ss_words::specs::Reading::pure, crate::specs::ItemReading::definition_with))]
+fn definition(cursor: &mut Cursor<'_>) -> Result<Definition, Refusal>
+    ensures exact { Gives definition_view result cursor.new (reading.definition_with cursor.old) }
+    ensures shorter { length cursor.new ≤ length cursor.old }
+{
+    let names = cursor.names()?;
+    cursor.expect(Mark::Reserved(Reserved::As))?;
+    definition_of(cursor, names)
+}
+
+/// `INTEGER VARIABLES | FIFO SETS | LIFO SETS | SETS RANKED keys`, behind the names of a DEFINE and
+/// its AS.
+#[tactic(auto, unfolding(ss_words::specs::Reading::look, ss_words::specs::Reading::skip, ss_words::specs::Reading::refuse, ss_words::specs::Reading::bind, ss_words::specs::Reading::pure, crate::specs::ItemReading::definition_of))]
+fn definition_of(cursor: &mut Cursor<'_>, names: Names) -> Result<Definition, Refusal>
+    ensures exact { Gives definition_view result cursor.new (reading.definition_of (several_view (λ n. n.items) names) cursor.old) }
+    ensures shorter { length cursor.new ≤ length cursor.old }
+{
+    match cursor.peek() {
+        Some(Plain::Mark(Mark::Reserved(Reserved::Integer))) => {
+            cursor.pass();
+            cursor.expect(Mark::Reserved(Reserved::Variables))?;
+            Ok(Definition::Variables(names))
+        }
+        Some(Plain::Mark(Mark::Reserved(Reserved::Fifo))) => {
+            cursor.pass();
+            cursor.expect(Mark::Reserved(Reserved::Sets))?;
+            Ok(Definition::Sets {
+                names,
+                kind: SetKind::Fifo,
+            })
+        }
+        Some(Plain::Mark(Mark::Reserved(Reserved::Lifo))) => {
+            cursor.pass();
+            cursor.expect(Mark::Reserved(Reserved::Sets))?;
+            Ok(Definition::Sets {
+                names,
+                kind: SetKind::Lifo,
+            })
+        }
+        Some(Plain::Mark(Mark::Reserved(Reserved::Sets))) => {
+            cursor.pass();
+            cursor.expect(Mark::Reserved(Reserved::Ranked))?;
+            let kind = SetKind::Ranked(keys(cursor)?);
+            Ok(Definition::Sets { names, kind })
+        }
+        _ => Err(Refusal::Unexpected),
+    }
+}
+
+/// `ORDER IS names`, behind PRIORITY.
+#[tactic(auto, unfolding(ss_words::specs::Reading::bind, ss_words::specs::Reading::pure, crate::specs::ItemReading::priority_with))]
+fn priority(cursor: &mut Cursor<'_>) -> Result<EventRule, Refusal>
+    ensures exact { Gives event_rule_view result cursor.new (reading.priority_with cursor.old) }
+    ensures shorter { length cursor.new ≤ length cursor.old }
+{
+    cursor.expect(Mark::Reserved(Reserved::Order))?;
+    cursor.expect(Mark::Reserved(Reserved::Is))?;
+    Ok(EventRule::PriorityOrder(cursor.names()?))
+}
+
+/// `name TIES keys`, behind BREAK.
+#[tactic(auto, unfolding(ss_words::specs::Reading::bind, ss_words::specs::Reading::pure, crate::specs::ItemReading::break_with))]
+fn ties(cursor: &mut Cursor<'_>) -> Result<EventRule, Refusal>
+    ensures exact { Gives event_rule_view result cursor.new (reading.break_with cursor.old) }
+    ensures shorter { length cursor.new ≤ length cursor.old }
+{
+    let event = cursor.name()?;
+    cursor.expect(Mark::Reserved(Reserved::Ties))?;
+    let keys = keys(cursor)?;
+    Ok(EventRule::BreakTies { event, keys })
+}
+
+/// `EVENTS ARE names`, behind EXTERNAL.
+#[tactic(auto, unfolding(ss_words::specs::Reading::bind, ss_words::specs::Reading::pure, crate::specs::ItemReading::external_with))]
+fn external(cursor: &mut Cursor<'_>) -> Result<EventRule, Refusal>
+    ensures exact { Gives event_rule_view result cursor.new (reading.external_with cursor.old) }
+    ensures shorter { length cursor.new ≤ length cursor.old }
+{
+    cursor.expect(Mark::Reserved(Reserved::Events))?;
+    cursor.expect(Mark::Reserved(Reserved::Are))?;
+    Ok(EventRule::ExternalEvents(cursor.names()?))
+}
