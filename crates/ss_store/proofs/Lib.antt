@@ -11,3 +11,4 @@ pub mod Walked
 pub mod Named
 pub mod Values
 pub mod Undone
+pub mod Kept

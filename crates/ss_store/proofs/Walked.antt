@@ -32,7 +32,7 @@ pub has-first : (l : List ℕ) (t : ℕ) → first_of l ≡ Some t → has l t �
 has-first [] t e = cc
 has-first (y ∷ l) t e = let is : y ≡ t = some_eq e in grind (arith, nat_tests, is)
 
-map-seat_behind : (f : ℕ → ℕ) (l : List ℕ) (t : ℕ) → Apart f l t → seat_behind (map f l) (f t) ≡ option_map f (seat_behind l t)
+pub map-seat_behind : (f : ℕ → ℕ) (l : List ℕ) (t : ℕ) → Apart f l t → seat_behind (map f l) (f t) ≡ option_map f (seat_behind l t)
 map-seat_behind f [] t a = refl
 map-seat_behind f (y ∷ l) t a =
     rw (tests_same f y t (a y (has_head y l))) (elim (y == t) as (λ k. cond k (first_of (map f l)) (seat_behind (map f l) (f t)) ≡ option_map f (cond k (first_of l) (seat_behind l t))) [
@@ -40,7 +40,7 @@ map-seat_behind f (y ∷ l) t a =
       | false ↦ map-seat_behind f l t (apart_tail f y l t a)
     ])
 
-has-seat_behind : (l : List ℕ) (t u : ℕ) → seat_behind l t ≡ Some u → has l u ≡ true
+pub has-seat_behind : (l : List ℕ) (t u : ℕ) → seat_behind l t ≡ Some u → has l u ≡ true
 has-seat_behind [] t u e = cc
 has-seat_behind (y ∷ l) t u e =
     (elim (y == t) as (λ k. cond k (first_of l) (seat_behind l t) ≡ Some u → has (y ∷ l) u ≡ true) [
@@ -52,7 +52,7 @@ begins-map : (f : ℕ → ℕ) (l : List ℕ) (t : ℕ) → Apart f l t → begi
 begins-map f [] t a = refl
 begins-map f (y ∷ l) t a = tests_same f y t (a y (has_head y l))
 
-map-seat_before : (f : ℕ → ℕ) (l : List ℕ) (t : ℕ) → Apart f l t → seat_before (map f l) (f t) ≡ option_map f (seat_before l t)
+pub map-seat_before : (f : ℕ → ℕ) (l : List ℕ) (t : ℕ) → Apart f l t → seat_before (map f l) (f t) ≡ option_map f (seat_before l t)
 map-seat_before f [] t a = refl
 map-seat_before f (y ∷ l) t a =
     rw (begins-map f l t (apart_tail f y l t a)) (elim (begins_with l t) as (λ k. cond k (Some (f y)) (seat_before (map f l) (f t)) ≡ option_map f (cond k (Some y) (seat_before l t))) [
@@ -84,7 +84,7 @@ last_is g v set rule o h q r k e w z = sym (over g v set rule (λ p s. last_memb
     (ap Ok (ap last_of (members_look g rule o h k.store k.is_set e) ∙ last-map (number_at g.numbers) (list_at g.board.lists h) ∙ ap (option_map (number_at g.numbers)) (sym w) ∙ sym z))))
 
 -- a seat in the list of a head has a number
-in_list : (g : Held) (rule : SetShape) (o h at : ℕ) → IsStore g → IsSet g.tables.sets rule → head_at g.rows rule o ≡ Some h → has (list_at g.board.lists h) at ≡ true → at < length g.numbers
+pub in_list : (g : Held) (rule : SetShape) (o h at : ℕ) → IsStore g → IsSet g.tables.sets rule → head_at g.rows rule o ≡ Some h → has (list_at g.board.lists h) at ≡ true → at < length g.numbers
 in_list g rule o h at s is e f =
     let m = member_of g rule o h at s is e f in
     let l = seat_below g rule m.number at s is m.seat in

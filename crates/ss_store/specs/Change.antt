@@ -65,7 +65,8 @@ IsOutcome (Ok c) (Err f) old new = ⊥
 IsOutcome (Err e) (Ok s) old new = ⊥
 
 -- one that gives a number too
-abbrev pub IsRemoval : Result (ℕ × StoreChange) RunFault → Result (ℕ × Store) RunFault → StoreValue → StoreValue → Type 0
+abbrev pub IsRemoval : Result (ℕ × StoreChange) RunFault → Result (ℕ × Store) RunFault
+    → StoreValue → StoreValue → Type 0
 IsRemoval (Ok r) (Ok s) old new = (r.0 ≡ s.0) × Leaves r.1 s.1 old new
 IsRemoval (Err e) (Err f) old new = (e ≡ f) × (new ≡ old)
 IsRemoval (Ok r) (Err f) old new = ⊥

@@ -20,7 +20,11 @@ job size age = Some (record { class = 0; attributes = size ∷ age ∷ []; owned
 
 -- jobs 1 to 4, and a set of the system whose list is this
 abbrev pub jobs : List ℕ → Store
-jobs row = record { made = [] ∷ []; references = job (pos 1) (pos 0) ∷ job (pos 0) (pos 0) ∷ job (pos 1) (pos 0) ∷ job (pos 0) (pos 1) ∷ []; system = row ∷ [] }
+jobs row = record {
+  made = [] ∷ [];
+  references = job (pos 1) (pos 0) ∷ job (pos 0) (pos 0) ∷ job (pos 1) (pos 0) ∷ job (pos 0) (pos 1) ∷ [];
+  system = row ∷ [];
+}
 
 abbrev pub set_by : Discipline → SetShape
 set_by d = record { discipline = d; owner = System; list = 0; member = 0; slot = 0 }
@@ -47,7 +51,8 @@ then_removed s w (Err f) = Err f
 
 -- 1, 2, 3 and 4 filed in turn by the discipline
 abbrev pub all_filed : SetShape → Result (List ℕ) RunFault
-all_filed s = list_after s (then_filed s 4 ByRule (then_filed s 3 ByRule (then_filed s 2 ByRule (filed s (jobs []) 0 1 ByRule))))
+all_filed s = list_after s
+    (then_filed s 4 ByRule (then_filed s 3 ByRule (then_filed s 2 ByRule (filed s (jobs []) 0 1 ByRule))))
 
 -- FIFO files last, LIFO first
 abbrev pub FifoFilesLast : Type 0
@@ -62,7 +67,10 @@ RankedByTwoKeys = all_filed (set_by high_size_low_age) ≡ Ok (1 ∷ 3 ∷ 2 ∷
 
 -- 2 grows to size 5 once it is filed: it stays where it is, and 3 is filed by the sizes as they are then
 abbrev pub RankedByPresentKeys : Type 0
-RankedByPresentKeys = list_after (set_by high_size_low_age) (then_filed (set_by high_size_low_age) 3 ByRule (with_attribute (jobs (1 ∷ 2 ∷ [])) 0 0 2 (pos 5))) ≡ Ok (1 ∷ 2 ∷ 3 ∷ [])
+RankedByPresentKeys =
+    list_after (set_by high_size_low_age)
+    (then_filed (set_by high_size_low_age) 3 ByRule (with_attribute (jobs (1 ∷ 2 ∷ [])) 0 0 2 (pos 5)))
+    ≡ Ok (1 ∷ 2 ∷ 3 ∷ [])
 
 -- BEFORE and AFTER the first and the last
 abbrev pub FiledBesideEnds : Type 0
@@ -77,7 +85,8 @@ abbrev pub RemovedAnywhere : Type 0
 RemovedAnywhere =
     (list_after (set_by Fifo) (then_removed (set_by Fifo) which.First (Ok (jobs (1 ∷ 2 ∷ 3 ∷ [])))) ≡ Ok (2 ∷ 3 ∷ []))
     × (list_after (set_by Fifo) (then_removed (set_by Fifo) which.Last (Ok (jobs (1 ∷ 2 ∷ 3 ∷ [])))) ≡ Ok (1 ∷ 2 ∷ []))
-    × (list_after (set_by Fifo) (then_removed (set_by Fifo) (which.Member (pos 2)) (Ok (jobs (1 ∷ 2 ∷ 3 ∷ [])))) ≡ Ok (1 ∷ 3 ∷ []))
+    × (list_after (set_by Fifo) (then_removed (set_by Fifo) (which.Member (pos 2)) (Ok (jobs (1 ∷ 2 ∷ 3 ∷ []))))
+    ≡ Ok (1 ∷ 3 ∷ []))
     × (list_after (set_by Fifo) (then_removed (set_by Fifo) (which.Member (pos 4)) (Ok (jobs (4 ∷ [])))) ≡ Ok [])
 
 -- the lowest fault that applies: F3 before F4, F4 before F5

@@ -14,7 +14,7 @@ use Rattle.ss_store.specs.declared.shape.How.TheVariants.{ByRule, First, Last, B
 use Rattle.ss_store.specs.declared.shape.Which.{Which}
 use Rattle.ss_store.specs.declared.shape.Which.TheVariants as which
 use Rattle.ss_store.specs.Lists.{placed_before}
-use Rattle.ss_store.specs.Store.{Store, entity, exists, number_of, unless, is_owner, members_of, is_filed, with_list}
+use Rattle.ss_store.specs.Store.{Store, entity, exists, number_of, unless, is_owner, members_of, is_filed, list_holding, with_list}
 
 -- ---- filing
 
@@ -73,7 +73,8 @@ or_fault f (Some k) = Ok k
 abbrev pub named_in : SetShape → Store → List ℕ → Which → Result ℕ RunFault
 named_in s st ks which.First = or_fault EmptySet (first_of ks)
 named_in s st ks which.Last = or_fault EmptySet (last_of ks)
-named_in s st ks (which.Member x) = unless NoEntity (exists st s.member (number_of x)) (unless NotInList (has ks (number_of x)) (Ok (number_of x)))
+named_in s st ks (which.Member x) =
+    unless NoEntity (exists st s.member (number_of x)) (unless NotInList (has ks (number_of x)) (Ok (number_of x)))
 
 -- the member, and the store with the list of o without it
 abbrev pub taken_out : SetShape → Store → ℕ → Result ℕ RunFault → Result (ℕ × Store) RunFault
@@ -88,7 +89,8 @@ removed s st o w = unless NoEntity (is_owner s st o) (taken_out s st o (named_in
 
 -- whether k is in the list of o, or F3
 abbrev pub is_in : SetShape → Store → ℕ → ℕ → Result Bool RunFault
-is_in s st o k = unless NoEntity (is_owner s st o) (unless NoEntity (exists st s.member k) (Ok (has (members_of s st o) k)))
+is_in s st o k =
+    unless NoEntity (is_owner s st o) (unless NoEntity (exists st s.member k) (Ok (has (members_of s st o) k)))
 
 -- how many members the list of o has, or F3
 abbrev pub count : SetShape → Store → ℕ → Result ℕ RunFault
@@ -103,7 +105,9 @@ last_member s st o = unless NoEntity (is_owner s st o) (Ok (last_of (members_of 
 
 -- what is read at member k of the list of o: F3, F14 where k isn't in it
 abbrev pub at_member : {A : Type 0} → SetShape → Store → ℕ → ℕ → A → Result A RunFault
-at_member s st o k a = unless NoEntity (is_owner s st o) (unless NoEntity (exists st s.member k) (unless MemberLeft (has (members_of s st o) k) (Ok a)))
+at_member s st o k a =
+    unless NoEntity (is_owner s st o)
+    (unless NoEntity (exists st s.member k) (unless MemberLeft (has (members_of s st o) k) (Ok a)))
 
 -- the member directly behind k, and directly before it
 abbrev pub next_member : SetShape → Store → ℕ → ℕ → Result (Option ℕ) RunFault
@@ -111,3 +115,17 @@ next_member s st o k = at_member s st o k (seat_behind (members_of s st o) k)
 
 abbrev pub previous_member : SetShape → Store → ℕ → ℕ → Result (Option ℕ) RunFault
 previous_member s st o k = at_member s st o k (seat_before (members_of s st o) k)
+
+-- ---- kept attributes of a member
+
+-- P.s: the member directly before k in the list that holds it, or F3
+abbrev pub predecessor : SetShape → Store → ℕ → Result (Option ℕ) RunFault
+predecessor s st k = unless NoEntity (exists st s.member k) (Ok (seat_before (list_holding s st k) k))
+
+-- S.s: the member directly behind k in the list that holds it, or F3
+abbrev pub successor : SetShape → Store → ℕ → Result (Option ℕ) RunFault
+successor s st k = unless NoEntity (exists st s.member k) (Ok (seat_behind (list_holding s st k) k))
+
+-- M.s: whether k is in a list of the set, or F3
+abbrev pub membership : SetShape → Store → ℕ → Result Bool RunFault
+membership s st k = unless NoEntity (exists st s.member k) (Ok (is_filed s st k))

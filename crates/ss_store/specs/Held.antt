@@ -1,4 +1,5 @@
--- What a store holds, and the state that it stands for. Cited by the store's view and invariant and by private functions alone.
+-- What a store holds, and the state that it stands for. Cited by the store's view and invariant and by private
+-- functions alone.
 use Rattle.std.specs.Prelude.{◌≡◌, ℕ, ℤ, zero, suc, ◌+◌, ◌<◌, ◌==◌, if◌then◌else◌, true, false, List, [], ◌∷◌, length, map, slice_get, slice_index_or, Option, Some, None, Result, Ok, Err, Bool, option_map, unwrap_or}
 use Rattle.ss_words.specs.declared.fault.RunFault.{RunFault}
 use Rattle.ss_words.specs.declared.fault.RunFault.TheVariants.{NoEntity, NotInList, EmptySet}
@@ -62,7 +63,8 @@ owned_from at h (suc n) = at h ∷ owned_from at (suc h) n
 
 -- the entity of a row with these attributes
 abbrev pub entity_with : List ClassShape → (ℕ → List ℕ) → Row → List ℤ → Entity
-entity_with cs at r v = record { class = r.class; attributes = v; owned = owned_from at r.head (class_in cs r.class).owned }
+entity_with cs at r v =
+    record { class = r.class; attributes = v; owned = owned_from at r.head (class_in cs r.class).owned }
 
 -- what a reference stands for
 abbrev pub reference_with : List ClassShape → (ℕ → List ℕ) → Row → Option (List ℤ) → Option Entity
@@ -103,7 +105,12 @@ pub record Kept : Type 0 where
   pub seats : ℕ
 
 abbrev pub kept_of : Held → Kept
-kept_of g = record { made = map (λ t. t.rows) g.rows.made; references = g.rows.references.rows; heads = length g.board.lists; seats = g.board.seats }
+kept_of g = record {
+  made = map (λ t. t.rows) g.rows.made;
+  references = g.rows.references.rows;
+  heads = length g.board.lists;
+  seats = g.board.seats;
+}
 
 -- a store: the tables, the state, and what is kept for undoing
 pub record StoreValue : Type 0 where
@@ -163,8 +170,10 @@ pub record Joins (g : Held) (h t : ℕ) : Type 0 where
 -- the heads and the seats of row number i are those of entity number i + 1 of its class
 pub record IsRow (g : Held) (i : ℕ) (r : Row) : Type 0 where
   pub class : r.class < length g.tables.classes
-  pub heads : (k : ℕ) → k < (class_of g.tables r.class).owned → slice_get g.owners (r.head + k) ≡ Some (record { owner = OwnedBy r.class; list = k; number = suc i })
-  pub seats : (k : ℕ) → k < (class_of g.tables r.class).joined → slice_get g.members (r.seat + k) ≡ Some (record { member = r.class; slot = k; number = suc i })
+  pub heads : (k : ℕ) → k < (class_of g.tables r.class).owned
+      → slice_get g.owners (r.head + k) ≡ Some (record { owner = OwnedBy r.class; list = k; number = suc i })
+  pub seats : (k : ℕ) → k < (class_of g.tables r.class).joined
+      → slice_get g.members (r.seat + k) ≡ Some (record { member = r.class; slot = k; number = suc i })
 
 pub record IsStore (g : Held) : Type 0 where
   pub tables : AreTables g.tables
@@ -175,11 +184,15 @@ pub record IsStore (g : Held) : Type 0 where
   pub classes : length g.rows.made ≡ length g.tables.classes
   pub rows : (w : Option ℕ) → length (rows_in g.rows w).rows ≡ length (rows_in g.rows w).values
   pub each : (w : Option ℕ) (i : ℕ) (r : Row) → slice_get (rows_in g.rows w).rows i ≡ Some r → IsRow g i r
-  pub valued : (w : Option ℕ) (i : ℕ) (r : Row) (v : List ℤ) → slice_get (rows_in g.rows w).rows i ≡ Some r → slice_get (rows_in g.rows w).values i ≡ Some (Some v) → length v ≡ (class_of g.tables r.class).attributes
-  pub made : (c i : ℕ) (r : Row) → slice_get (rows_in g.rows (Some c)).rows i ≡ Some r → (r.class ≡ c) × ((class_of g.tables c).permanent ≡ true)
+  pub valued : (w : Option ℕ) (i : ℕ) (r : Row) (v : List ℤ) → slice_get (rows_in g.rows w).rows i ≡ Some r
+      → slice_get (rows_in g.rows w).values i ≡ Some (Some v) → length v ≡ (class_of g.tables r.class).attributes
+  pub made : (c i : ℕ) (r : Row) → slice_get (rows_in g.rows (Some c)).rows i ≡ Some r
+      → (r.class ≡ c) × ((class_of g.tables c).permanent ≡ true)
   pub stays : (c i : ℕ) → slice_get (rows_in g.rows (Some c)).values i ≡ Some None → ⊥
-  pub given : (i : ℕ) (r : Row) → slice_get g.rows.references.rows i ≡ Some r → (class_of g.tables r.class).permanent ≡ false
-  pub system : (k : ℕ) → k < g.tables.system → slice_get g.owners k ≡ Some (record { owner = System; list = k; number = 0 })
+  pub given : (i : ℕ) (r : Row) → slice_get g.rows.references.rows i ≡ Some r
+      → (class_of g.tables r.class).permanent ≡ false
+  pub system : (k : ℕ) → k < g.tables.system
+      → slice_get g.owners k ≡ Some (record { owner = System; list = k; number = 0 })
   pub joined : (h t : ℕ) → has (list_at g.board.lists h) t ≡ true → Joins g h t
 
 -- ---- what private calls find
@@ -229,12 +242,14 @@ rule_place es ns c k l Fifo = last_of l
 rule_place es ns c k l Lifo = None
 rule_place es ns c k l (Ranked keys) = rank_before (seat_behind_in es ns keys c k) None l
 
--- the seat behind which it is filed, or none where it is filed first; F5 where the member named isn't in the list of the head
+-- the seat behind which it is filed, or none where it is filed first; F5 where the member named isn't in the list of
+-- the head
 abbrev pub place_by : EntityTable → List ℕ → List (List ℕ) → SetShape → ℕ → ℕ → Spot → Result (Option ℕ) RunFault
 place_by es ns ls s h k spot.First = Ok None
 place_by es ns ls s h k spot.Last = Ok (last_of (list_at ls h))
 place_by es ns ls s h k spot.ByRule = Ok (rule_place es ns s.member k (list_at ls h) s.discipline)
-place_by es ns ls s h k (spot.Before t) = if is_at (head_of ls t) h then Ok (seat_before (list_of ls t) t) else Err NotInList
+place_by es ns ls s h k (spot.Before t) =
+    if is_at (head_of ls t) h then Ok (seat_before (list_of ls t) t) else Err NotInList
 place_by es ns ls s h k (spot.After t) = if is_at (head_of ls t) h then Ok (Some t) else Err NotInList
 
 -- the seat of the member that is to be removed

@@ -12,14 +12,15 @@ use Rattle.ss_store.specs.declared.shape.SetShape.{SetShape}
 use Rattle.ss_store.specs.Lists.{change_at}
 use Rattle.ss_store.specs.Tables.{Tables}
 
--- an entity: its class, the values of its attributes, and the lists of the sets that its class owns, in order of declaration
+-- an entity: its class, the values of its attributes, and the lists of the sets that its class owns, in order of
+-- declaration
 pub record Entity : Type 0 where
   pub class : ℕ
   pub attributes : List ℤ
   pub owned : List (List ℕ)
 
--- for each class the entities 1, 2, .. of it, where it is permanent and made; the entities with references 1, 2, .., None where one has
--- ended; the lists of the system's sets, in order of declaration
+-- for each class the entities 1, 2, .. of it, where it is permanent and made; the entities with references 1, 2, ..,
+-- None where one has ended; the lists of the system's sets, in order of declaration
 pub record Store : Type 0 where
   pub made : List (List Entity)
   pub references : List (Option Entity)
@@ -162,7 +163,8 @@ with_reference st e = record st { references = st.references ++ Some e ∷ [] }
 
 -- the store with one more entity of class c, which has the last reference; F20 where there are too many
 abbrev pub with_new : Store → ℕ → ClassShape → Result Store RunFault
-with_new st c shape = unless TooManyReferences (nat_lt (length st.references) reference_limit) (Ok (with_reference st (fresh c shape)))
+with_new st c shape =
+    unless TooManyReferences (nat_lt (length st.references) reference_limit) (Ok (with_reference st (fresh c shape)))
 
 -- the reference that was given last
 abbrev pub last_reference : Store → ℕ

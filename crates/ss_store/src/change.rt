@@ -3,7 +3,8 @@ use ss_check::Owner;
 /// What one call of a [`Store`](crate::Store) changed, enough to take it back.
 #[derive(Debug, Drop)]
 pub enum StoreChange {
-    /// The member was filed in the list of this set for this owner; `owner` and `list` are the set's own.
+    /// The member was filed in the list of this set for this owner; `owner` and `list` are the
+    /// set's own.
     Filed {
         set: usize,
         owner: Owner,

@@ -11,8 +11,8 @@ pub fn lifo_files_first()
     ensures { LifoFilesFirst }
 {}
 
-/// A set ranked by HIGH and then by LOW files before the first member that ranks strictly behind, and so behind those
-/// with which it ties.
+/// A set ranked by HIGH and then by LOW files before the first member that ranks strictly behind,
+/// and so behind those with which it ties.
 pub fn ranked_by_two_keys()
     ensures { RankedByTwoKeys }
 {}

@@ -116,8 +116,8 @@ fn stands<S: SetBoard>(board: &S, head: u32, seat: u32) -> bool
     }
 }
 
-/// The seat behind which a member is filed, or none where it is filed first; F5 where the member named is not in the
-/// list of the head.
+/// The seat behind which a member is filed, or none where it is filed first; F5 where the member
+/// named is not in the list of the head.
 pub(crate) fn place_for<S: SetBoard>(
     entities: &Entities,
     numbers: &[u32],
@@ -245,7 +245,8 @@ pub(crate) fn seat_if(entities: &Entities, set: &SetShape, member: Option<u32>) 
     }
 }
 
-/// The seat of a member where it is in the list of an owner, and none where it isn't; F3 where one does not exist.
+/// The seat of a member where it is in the list of an owner, and none where it isn't; F3 where one
+/// does not exist.
 pub(crate) fn seat_in<S: SetBoard>(
     entities: &Entities,
     board: &S,

@@ -13,7 +13,8 @@ use crate::rows::{Entities, Rows};
 use ss_check::{Key, Keys, Rank};
 use ss_links::SetBoard;
 
-/// The values of the attributes of the entity with this index, if it is of this class and has not ended.
+/// The values of the attributes of the entity with this index, if it is of this class and has not
+/// ended.
 fn values_in(rows: &Rows, class: usize, index: usize) -> Option<&[i64]>
     ensures { option_map (λ v. v.now) result ≡ table.values_in rows.now class index }
 {
@@ -58,7 +59,8 @@ pub(crate) fn value_at(values: &[i64], attribute: usize) -> i64
     }
 }
 
-/// Whether an entity with these values ranks strictly behind one with those: by the first key that tells them apart.
+/// Whether an entity with these values ranks strictly behind one with those: by the first key that
+/// tells them apart.
 fn ranks_behind(keys: &[Key], theirs: &[i64], ours: &[i64]) -> bool
     ensures { result ≡ is_gt (by_keys keys.now (key_values keys.now theirs.now) (key_values keys.now ours.now)) }
 {
@@ -85,7 +87,8 @@ fn seat_behind(
     ours: &[i64],
 ) -> bool
     requires { seat < length numbers.now }
-    ensures { result ≡ is_gt (by_keys keys.now (keys_in entities.now keys.now class (number_at numbers.now seat)) (key_values keys.now ours.now)) }
+    ensures { result ≡ is_gt (by_keys keys.now
+        (keys_in entities.now keys.now class (number_at numbers.now seat)) (key_values keys.now ours.now)) }
 {
     let number = number_of(numbers, seat) as usize;
     match values_of(entities, class, number) {
@@ -94,7 +97,8 @@ fn seat_behind(
     }
 }
 
-/// The seat behind which the list of a head has an entity with these values filed, or none where it is filed first.
+/// The seat behind which the list of a head has an entity with these values filed, or none where it
+/// is filed first.
 fn place_among<S: SetBoard>(
     entities: &Entities,
     numbers: &[u32],
@@ -107,7 +111,9 @@ fn place_among<S: SetBoard>(
     requires head { head < length (S.board board.now).lists }
     requires numbers { length numbers.now ≡ (S.board board.now).seats }
     requires sound { IsSound (S.board board.now) }
-    ensures { result ≡ rank_before (λ t. is_gt (by_keys keys.now (keys_in entities.now keys.now class (number_at numbers.now t)) (key_values keys.now ours.now))) None (list_at (S.board board.now).lists head) }
+    ensures { result ≡ rank_before
+        (λ t. is_gt (by_keys keys.now (keys_in entities.now keys.now class (number_at numbers.now t)) (key_values keys.now ours.now)))
+        None (list_at (S.board board.now).lists head) }
 {
     let mut before = None;
     let mut at = board.first(head);
@@ -121,7 +127,8 @@ fn place_among<S: SetBoard>(
     before
 }
 
-/// The seat behind which a ranked set files entity number `member`, or none where it files it first.
+/// The seat behind which a ranked set files entity number `member`, or none where it files it
+/// first.
 pub(crate) fn ranked_place<S: SetBoard>(
     entities: &Entities,
     numbers: &[u32],
@@ -134,7 +141,8 @@ pub(crate) fn ranked_place<S: SetBoard>(
     requires head { head < length (S.board board.now).lists }
     requires numbers { length numbers.now ≡ (S.board board.now).seats }
     requires sound { IsSound (S.board board.now) }
-    ensures { result ≡ rank_before (seat_behind_in entities.now numbers.now keys.now class member) None (list_at (S.board board.now).lists head) }
+    ensures { result ≡ rank_before (seat_behind_in entities.now numbers.now keys.now class member) None
+        (list_at (S.board board.now).lists head) }
 {
     match values_of(entities, class, member) {
         None => place_among(entities, numbers, board, class, &keys.list, head, &[]),

@@ -8,7 +8,8 @@ pub struct Row {
     pub seat: u32,
 }
 
-/// Entities 1, 2, .. of one numbering: the row of each, and the values of its attributes, none where it has ended.
+/// Entities 1, 2, .. of one numbering: the row of each, and the values of its attributes, none
+/// where it has ended.
 #[derive(Drop)]
 pub(crate) struct Rows {
     pub(crate) rows: Vec<Row>,
@@ -22,7 +23,10 @@ impl Model for Rows {
 
     ghost Value = { RowTable };
 
-    ghost view = { λ a. record { rows = a.rows.items; values = map (λ o. option_map (λ v. v.items) o) a.values.items } };
+    ghost view = { λ a. record {
+      rows = a.rows.items;
+      values = map (λ o. option_map (λ v. v.items) o) a.values.items;
+    } };
 }
 
 /// All entities: those of each permanent class, and those with references.

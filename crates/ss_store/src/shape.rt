@@ -1,7 +1,7 @@
 use ss_check::{Discipline, Owner};
 
-/// What is kept of a class: how many attributes its entities have, how many sets they own, in how many sets they
-/// may be, and whether it is permanent.
+/// What is kept of a class: how many attributes its entities have, how many sets they own, in how
+/// many sets they may be, and whether it is permanent.
 #[derive(Clone, Copy)]
 pub struct ClassShape {
     pub attributes: usize,
@@ -10,8 +10,8 @@ pub struct ClassShape {
     pub permanent: bool,
 }
 
-/// What is kept of a set: its discipline; whose its lists are, and its number among the sets of that owner; the
-/// class of its members, and its number among the sets of that class.
+/// What is kept of a set: its discipline; whose its lists are, and its number among the sets of
+/// that owner; the class of its members, and its number among the sets of that class.
 #[derive(Drop)]
 pub struct SetShape {
     pub discipline: Discipline,
@@ -21,7 +21,8 @@ pub struct SetShape {
     pub slot: u32,
 }
 
-/// Where a member is filed. A value names the entity with that number, and none where it is below 1.
+/// Where a member is filed. A value names the entity with that number, and none where it is below
+/// 1.
 #[derive(Clone, Copy)]
 pub enum How {
     /// By the set's discipline.

@@ -1,7 +1,7 @@
 ghost use Rattle.std.specs.Prelude.{◌≡◌, ◌<◌, length};
 ghost use Rattle.ss_store.specs.Tables.{set_of};
 ghost use Rattle.ss_store.specs.Store as pure;
-ghost use Rattle.ss_store.specs.Filing.{filed, removed, is_in, count, first_member, last_member, next_member, previous_member};
+ghost use Rattle.ss_store.specs.Filing.{filed, removed, is_in, count, first_member, last_member, next_member, previous_member, predecessor, successor, membership};
 ghost use Rattle.ss_store.specs.Change.{FitsStore, unapply_store, IsOutcome, IsRemoval};
 
 use crate::change::StoreChange;
@@ -19,8 +19,8 @@ use std::marker::Model;
 
 /// Entities with their attributes, and the lists of the sets that they own, over a set board.
 ///
-/// A value names the entity of a class with that number; one below 1 names none. Only [`create`](Store::create) and
-/// [`create_all`](Store::create_all) can want memory. A call that faults changes nothing.
+/// A value names the entity of a class with that number; one below 1 names none. No call here wants
+/// memory, and one that faults changes nothing.
 #[derive(Drop)]
 pub struct Store<S: SetBoard> {
     classes: Vec<ClassShape>,
@@ -37,16 +37,30 @@ impl<S: SetBoard> Model for Store<S> {
 
     ghost Value = { StoreValue };
 
-    ghost view = { λ a. value_of (record { tables = record { classes = a.classes.items; sets = a.sets.items; system = a.system }; rows = a.entities; numbers = a.numbers.items; owners = []; members = []; board = S.board a.board }) };
+    ghost view = { λ a. value_of (record {
+      tables = record { classes = a.classes.items; sets = a.sets.items; system = a.system };
+      rows = a.entities;
+      numbers = a.numbers.items;
+      owners = [];
+      members = [];
+      board = S.board a.board;
+    }) };
 
-    ghost invariant = { λ a. (ws : List HeadEntry) × (ms : List SeatEntry) × IsStore (record { tables = record { classes = a.classes.items; sets = a.sets.items; system = a.system }; rows = a.entities; numbers = a.numbers.items; owners = ws; members = ms; board = S.board a.board }) };
+    ghost invariant = { λ a. (ws : List HeadEntry) × (ms : List SeatEntry) × IsStore (record {
+      tables = record { classes = a.classes.items; sets = a.sets.items; system = a.system };
+      rows = a.entities;
+      numbers = a.numbers.items;
+      owners = ws;
+      members = ms;
+      board = S.board a.board;
+    }) };
 }
 
 impl<S: SetBoard> Store<S> {
     /// Files a member in the list of a set for this owner, where `how` says.
     ///
-    /// Faults: F3 where the owner, the member, or the one that `how` names does not exist; F4 where the member is in
-    /// a list of the set; F5 where the one that `how` names is not in this list.
+    /// Faults: F3 where the owner, the member, or the one that `how` names does not exist; F4 where
+    /// the member is in a list of the set; F5 where the one that `how` names is not in this list.
     pub fn file(
         &mut self,
         set: usize,
@@ -55,7 +69,9 @@ impl<S: SetBoard> Store<S> {
         how: How,
     ) -> Result<StoreChange, RunFault>
         requires { set < length self.old.tables.sets }
-        ensures { IsOutcome result (filed (set_of self.old.tables set) self.old.state (pure.number_of owner) (pure.number_of x) how) self.old self.new }
+        ensures { IsOutcome result
+            (filed (set_of self.old.tables set) self.old.state (pure.number_of owner) (pure.number_of x) how)
+            self.old self.new }
     {
         let shape = &self.sets[set];
         let number = named(owner);
@@ -102,8 +118,8 @@ impl<S: SetBoard> Store<S> {
 
     /// Removes a member from the list of a set for this owner, and gives its number.
     ///
-    /// Faults: F3 where the owner or the member named does not exist; F5 where the member named is not in the list;
-    /// F6 where the first or the last of an empty list is asked for.
+    /// Faults: F3 where the owner or the member named does not exist; F5 where the member named is
+    /// not in the list; F6 where the first or the last of an empty list is asked for.
     pub fn remove(
         &mut self,
         set: usize,
@@ -111,7 +127,9 @@ impl<S: SetBoard> Store<S> {
         which: Which,
     ) -> Result<(u32, StoreChange), RunFault>
         requires { set < length self.old.tables.sets }
-        ensures { IsRemoval result (removed (set_of self.old.tables set) self.old.state (pure.number_of owner) which) self.old self.new }
+        ensures { IsRemoval result
+            (removed (set_of self.old.tables set) self.old.state (pure.number_of owner) which)
+            self.old self.new }
     {
         let shape = &self.sets[set];
         let number = named(owner);
@@ -160,7 +178,8 @@ impl<S: SetBoard> Store<S> {
         }
     }
 
-    /// The number of members in the list of a set for this owner; F3 where the owner does not exist.
+    /// The number of members in the list of a set for this owner; F3 where the owner does not
+    /// exist.
     pub fn count(&self, set: usize, owner: i64) -> Result<u32, RunFault>
         requires { set < length self.now.tables.sets }
         ensures { result ≡ count (set_of self.now.tables set) self.now.state (pure.number_of owner) }
@@ -173,7 +192,8 @@ impl<S: SetBoard> Store<S> {
         }
     }
 
-    /// The first member of the list of a set for this owner, or none; F3 where the owner does not exist.
+    /// The first member of the list of a set for this owner, or none; F3 where the owner does not
+    /// exist.
     pub fn walk_first(&self, set: usize, owner: i64) -> Result<Option<u32>, RunFault>
         requires { set < length self.now.tables.sets }
         ensures { result ≡ first_member (set_of self.now.tables set) self.now.state (pure.number_of owner) }
@@ -189,7 +209,8 @@ impl<S: SetBoard> Store<S> {
         }
     }
 
-    /// The last member of the list of a set for this owner, or none; F3 where the owner does not exist.
+    /// The last member of the list of a set for this owner, or none; F3 where the owner does not
+    /// exist.
     pub fn walk_last(&self, set: usize, owner: i64) -> Result<Option<u32>, RunFault>
         requires { set < length self.now.tables.sets }
         ensures { result ≡ last_member (set_of self.now.tables set) self.now.state (pure.number_of owner) }
@@ -205,7 +226,8 @@ impl<S: SetBoard> Store<S> {
         }
     }
 
-    /// Whether a member is in the list of a set for this owner; F3 where the owner or the member does not exist.
+    /// Whether a member is in the list of a set for this owner; F3 where the owner or the member
+    /// does not exist.
     pub fn is_in(&self, set: usize, owner: i64, x: i64) -> Result<bool, RunFault>
         requires { set < length self.now.tables.sets }
         ensures { result ≡ is_in (set_of self.now.tables set) self.now.state (pure.number_of owner) (pure.number_of x) }
@@ -220,12 +242,15 @@ impl<S: SetBoard> Store<S> {
         }
     }
 
-    /// The member directly behind one of the list of a set for this owner, or none where it is the last.
+    /// The member directly behind one of the list of a set for this owner, or none where it is the
+    /// last.
     ///
-    /// Faults: F3 where the owner or the member does not exist; F14 where the member is not in the list.
+    /// Faults: F3 where the owner or the member does not exist; F14 where the member is not in the
+    /// list.
     pub fn walk_next(&self, set: usize, owner: i64, x: i64) -> Result<Option<u32>, RunFault>
         requires { set < length self.now.tables.sets }
-        ensures { result ≡ next_member (set_of self.now.tables set) self.now.state (pure.number_of owner) (pure.number_of x) }
+        ensures { result
+            ≡ next_member (set_of self.now.tables set) self.now.state (pure.number_of owner) (pure.number_of x) }
     {
         let shape = &self.sets[set];
         let _heads = self.board.heads();
@@ -240,12 +265,15 @@ impl<S: SetBoard> Store<S> {
         }
     }
 
-    /// The member directly before one of the list of a set for this owner, or none where it is the first.
+    /// The member directly before one of the list of a set for this owner, or none where it is the
+    /// first.
     ///
-    /// Faults: F3 where the owner or the member does not exist; F14 where the member is not in the list.
+    /// Faults: F3 where the owner or the member does not exist; F14 where the member is not in the
+    /// list.
     pub fn walk_prev(&self, set: usize, owner: i64, x: i64) -> Result<Option<u32>, RunFault>
         requires { set < length self.now.tables.sets }
-        ensures { result ≡ previous_member (set_of self.now.tables set) self.now.state (pure.number_of owner) (pure.number_of x) }
+        ensures { result
+            ≡ previous_member (set_of self.now.tables set) self.now.state (pure.number_of owner) (pure.number_of x) }
     {
         let shape = &self.sets[set];
         let _heads = self.board.heads();
@@ -257,6 +285,55 @@ impl<S: SetBoard> Store<S> {
                 let before = self.board.prev(seat);
                 Ok(number_if(&self.numbers, before))
             }
+        }
+    }
+}
+
+impl<S: SetBoard> Store<S> {
+    /// `P.s`: the member directly before one in the list that holds it, or none where it is the
+    /// first or in no list; F3 where it does not exist.
+    pub fn predecessor(&self, set: usize, x: i64) -> Result<Option<u32>, RunFault>
+        requires { set < length self.now.tables.sets }
+        ensures { result ≡ predecessor (set_of self.now.tables set) self.now.state (pure.number_of x) }
+    {
+        let shape = &self.sets[set];
+        let _seats = self.board.seats();
+        match seat_of(&self.entities, shape, named(x)) {
+            None => Err(RunFault::NoEntity),
+            Some(seat) => {
+                let before = self.board.prev(seat);
+                Ok(number_if(&self.numbers, before))
+            }
+        }
+    }
+
+    /// `S.s`: the member directly behind one in the list that holds it, or none where it is the
+    /// last or in no list; F3 where it does not exist.
+    pub fn successor(&self, set: usize, x: i64) -> Result<Option<u32>, RunFault>
+        requires { set < length self.now.tables.sets }
+        ensures { result ≡ successor (set_of self.now.tables set) self.now.state (pure.number_of x) }
+    {
+        let shape = &self.sets[set];
+        let _seats = self.board.seats();
+        match seat_of(&self.entities, shape, named(x)) {
+            None => Err(RunFault::NoEntity),
+            Some(seat) => {
+                let next = self.board.next(seat);
+                Ok(number_if(&self.numbers, next))
+            }
+        }
+    }
+
+    /// `M.s`: whether an entity is in a list of the set; F3 where it does not exist.
+    pub fn membership(&self, set: usize, x: i64) -> Result<bool, RunFault>
+        requires { set < length self.now.tables.sets }
+        ensures { result ≡ membership (set_of self.now.tables set) self.now.state (pure.number_of x) }
+    {
+        let shape = &self.sets[set];
+        let _seats = self.board.seats();
+        match seat_of(&self.entities, shape, named(x)) {
+            None => Err(RunFault::NoEntity),
+            Some(seat) => Ok(self.board.place(seat).is_some()),
         }
     }
 }
