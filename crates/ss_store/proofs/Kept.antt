@@ -1,6 +1,6 @@
 -- Kept attributes of a member.
-use Rattle.std.proofs.Common.{◌≡◌, ℕ, zero, suc, ◌<◌, ◌||◌, List, [], ◌∷◌, length, map, refl, ap, sym, subst, ◌∙◌, arith, slice_get, Option, Some, None, Bool, true, false}
-use Rattle.std.specs.Prelude.{Result, Ok, Err, find, is_some, unwrap_or}
+use Rattle.std.proofs.Common.{◌≡◌, ℕ, suc, ◌<◌, ◌||◌, List, [], ◌∷◌, length, map, refl, ap, sym, ◌∙◌, slice_get, Option, Some, None, Bool, true, false}
+use Rattle.std.specs.Prelude.{Ok, Err, find, is_some, unwrap_or}
 use Rattle.std.specs.Option.{option_map, ForSome}
 use Rattle.std.specs.List.{list_any}
 use Rattle.ss_words.specs.declared.fault.RunFault.TheVariants.{NoEntity}
@@ -10,9 +10,9 @@ use Rattle.ss_links.proofs.BoardLaws.{head_of-found, head_of-list_at, times-free
 use Rattle.ss_links.proofs.SeatLaws.{has-seat_before}
 use Rattle.ss_store.specs.declared.shape.SetShape.{SetShape}
 use Rattle.ss_store.specs.Tables.{set_of}
-use Rattle.ss_store.specs.Store.{Store, exists, lists_by, is_filed, list_holding}
+use Rattle.ss_store.specs.Store.{lists_by, list_holding}
 use Rattle.ss_store.specs.Filing.{predecessor, successor, membership}
-use Rattle.ss_store.specs.Held.{Held, StoreValue, IsStore, IsSet, head_at, seat_at, number_at, look, state_of}
+use Rattle.ss_store.specs.Held.{Held, StoreValue, IsStore, IsSet, seat_at, number_at, look, state_of}
 use Rattle.ss_store.proofs.Core.{some_eq, seat_number, owner_of_seat}
 use Rattle.ss_store.proofs.Agree.{member_is, is_filed_is, list_owner, stands_is, apart, seat_below}
 use Rattle.ss_store.proofs.Walked.{map-seat_before, map-seat_behind, has-seat_behind, in_list}

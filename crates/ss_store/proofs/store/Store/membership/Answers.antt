@@ -1,10 +1,8 @@
-use Rattle.std.proofs.Common.{rules, w64, FitsSigned, ap, sym, ◌∙◌, length, arith, ℕ, ◌<◌}
-use Rattle.std.specs.Option.{option_map}
+use Rattle.std.proofs.Common.{rules, w64, FitsSigned, ap, sym, ◌∙◌}
 use Rattle.std.proofs.lemmas.Int.{to_z-of_z}
 use Rattle.ss_store.specs.Tables.{set_of}
 use Rattle.ss_store.specs.Store.{number_of}
 use Rattle.ss_store.specs.Filing.{membership}
-use Rattle.ss_store.specs.Held.{number_at}
 use Rattle.ss_store.proofs.Calls.{case_of, seat_small}
 use Rattle.ss_store.proofs.Kept.{kept_seat, membership_none, membership_is}
 use Rattle.ss_store.proofs.store.Store.membership.Goals as goal

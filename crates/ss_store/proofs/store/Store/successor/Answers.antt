@@ -1,4 +1,4 @@
-use Rattle.std.proofs.Common.{rules, w64, FitsSigned, ap, sym, ◌∙◌, length, arith, ℕ, ◌<◌}
+use Rattle.std.proofs.Common.{rules, w64, FitsSigned, ap, sym, ◌∙◌, length, arith, ℕ}
 use Rattle.std.specs.Option.{option_map}
 use Rattle.std.proofs.lemmas.Int.{to_z-of_z}
 use Rattle.ss_store.specs.Tables.{set_of}
