@@ -1,0 +1,14 @@
+pub mod Core
+pub mod Relist
+pub mod Boards
+pub mod Agree
+pub mod Ranked
+pub mod Among
+pub mod Filed
+pub mod Calls
+pub mod Removed
+pub mod Walked
+pub mod Named
+pub mod Values
+pub mod Undone
+pub mod Kept

@@ -1,0 +1,49 @@
+use Rattle.std.proofs.Common.{ap, sym, subst, ◌∙◌}
+use Rattle.ss_store.specs.declared.change.StoreChange.{StoreChange}
+use Rattle.ss_store.specs.Change.{FitsFiled, FitsRemoved, FitsStore, unapply_store}
+use Rattle.ss_store.proofs.Calls.{case_of, head_small, seat_small}
+use Rattle.ss_store.proofs.Removed.{unfiles, unfile_below, unfile_linked, unfile_store, unfile_left, refiles, refile_can, refile_store, refile_left}
+use Rattle.ss_store.proofs.Undone.{undoes, behind, filed_seat, removed_head, removed_seat}
+use Rattle.ss_store.proofs.store.StoreUndo.undo.Goals as goal
+
+pub seat_of-requires : goal.seat_of-requires
+seat_of-requires g c = let f : FitsFiled c.args.self.now c.in-Filed.set c.in-Filed.owner c.in-Filed.list c.in-Filed.number c.in-Filed.member = subst (λ (z : StoreChange). FitsStore z c.args.self.now) c.in-Filed.is c.requires in let k = case_of _ _ c.in-Filed.set c.index-shape.result.now c.self.view_is c.self.invariant.2 f.is_set c.index-shape.ensures in seat_small _ _ c.in-Filed.set c.index-shape.result.now c.seats-seats.result k c.seats-seats.ensures.count c.seats-seats.type_inv c.in-Filed.member
+
+pub unwrap-seat-requires : goal.unwrap-seat-requires
+unwrap-seat-requires g c = let f : FitsFiled c.args.self.now c.in-Filed.set c.in-Filed.owner c.in-Filed.list c.in-Filed.number c.in-Filed.member = subst (λ (z : StoreChange). FitsStore z c.args.self.now) c.in-Filed.is c.requires in let k = case_of _ _ c.in-Filed.set c.index-shape.result.now c.self.view_is c.self.invariant.2 f.is_set c.index-shape.ensures in filed_seat _ _ c.in-Filed.set c.index-shape.result.now c.in-Filed.owner c.in-Filed.list c.in-Filed.number c.in-Filed.member _ k f c.seat_of.ensures
+
+pub unlink-place-requires-clause-is_seat : goal.unlink-place-requires-clause-is_seat
+unlink-place-requires-clause-is_seat g c = let f : FitsFiled c.args.self.now c.in-Filed.set c.in-Filed.owner c.in-Filed.list c.in-Filed.number c.in-Filed.member = subst (λ (z : StoreChange). FitsStore z c.args.self.now) c.in-Filed.is c.requires in let k = case_of _ _ c.in-Filed.set c.index-shape.result.now c.self.view_is c.self.invariant.2 f.is_set c.index-shape.ensures in unfile_below _ c.index-shape.result.now c.in-Filed.number c.in-Filed.member c.unwrap-seat.result c.self.invariant.2 (unfiles _ _ c.in-Filed.set c.index-shape.result.now c.in-Filed.owner c.in-Filed.list c.in-Filed.number c.in-Filed.member (undoes _ _ c.in-Filed.set c.index-shape.result.now k) f) (sym c.seat_of.ensures ∙ c.unwrap-seat.ensures)
+
+pub unlink-place-requires-clause-is_linked : goal.unlink-place-requires-clause-is_linked
+unlink-place-requires-clause-is_linked g c = let f : FitsFiled c.args.self.now c.in-Filed.set c.in-Filed.owner c.in-Filed.list c.in-Filed.number c.in-Filed.member = subst (λ (z : StoreChange). FitsStore z c.args.self.now) c.in-Filed.is c.requires in let k = case_of _ _ c.in-Filed.set c.index-shape.result.now c.self.view_is c.self.invariant.2 f.is_set c.index-shape.ensures in unfile_linked _ c.index-shape.result.now c.in-Filed.number c.in-Filed.member c.unwrap-seat.result (unfiles _ _ c.in-Filed.set c.index-shape.result.now c.in-Filed.owner c.in-Filed.list c.in-Filed.number c.in-Filed.member (undoes _ _ c.in-Filed.set c.index-shape.result.now k) f) (sym c.seat_of.ensures ∙ c.unwrap-seat.ensures)
+
+pub invariant_of-self : goal.invariant_of-self
+invariant_of-self g c = let f : FitsFiled c.args.self.now c.in-Filed.set c.in-Filed.owner c.in-Filed.list c.in-Filed.number c.in-Filed.member = subst (λ (z : StoreChange). FitsStore z c.args.self.now) c.in-Filed.is c.requires in let k = case_of _ _ c.in-Filed.set c.index-shape.result.now c.self.view_is c.self.invariant.2 f.is_set c.index-shape.ensures in (c.self.invariant.0, c.self.invariant.1, unfile_store _ _ c.index-shape.result.now c.in-Filed.number c.in-Filed.member c.unwrap-seat.result c.self.invariant.2 (unfiles _ _ c.in-Filed.set c.index-shape.result.now c.in-Filed.owner c.in-Filed.list c.in-Filed.number c.in-Filed.member (undoes _ _ c.in-Filed.set c.index-shape.result.now k) f) (sym c.seat_of.ensures ∙ c.unwrap-seat.ensures) c.unlink-place.ensures.board c.unlink-place.ensures.sound.1)
+
+pub returns-in-Filed : goal.returns-in-Filed
+returns-in-Filed g c = let f : FitsFiled c.args.self.now c.in-Filed.set c.in-Filed.owner c.in-Filed.list c.in-Filed.number c.in-Filed.member = subst (λ (z : StoreChange). FitsStore z c.args.self.now) c.in-Filed.is c.requires in let k = case_of _ _ c.in-Filed.set c.index-shape.result.now c.self.view_is c.self.invariant.2 f.is_set c.index-shape.ensures in unfile_left _ _ _ c.in-Filed.set c.index-shape.result.now c.in-Filed.owner c.in-Filed.list c.in-Filed.number c.in-Filed.member c.unwrap-seat.result (undoes _ _ c.in-Filed.set c.index-shape.result.now k) f (sym c.seat_of.ensures ∙ c.unwrap-seat.ensures) c.unlink-place.ensures.board c.unlink-place.ensures.sound.1 ∙ ap (λ (z : StoreChange). unapply_store z c.args.self.now) (sym c.in-Filed.is)
+
+pub seat_if-before-requires : goal.seat_if-before-requires
+seat_if-before-requires g c = let f : FitsRemoved c.args.self.now c.in-Removed.set c.in-Removed.owner c.in-Removed.list c.in-Removed.number c.in-Removed.member c.in-Removed.before = subst (λ (z : StoreChange). FitsStore z c.args.self.now) c.in-Removed.is c.requires in let k = case_of _ _ c.in-Removed.set c.index-shape-in-Removed.result.now c.self.view_is c.self.invariant.2 f.is_set c.index-shape-in-Removed.ensures in seat_small _ _ c.in-Removed.set c.index-shape-in-Removed.result.now c.seats-seats.result k c.seats-seats.ensures.count c.seats-seats.type_inv
+
+pub head_of-requires : goal.head_of-requires
+head_of-requires g c = let f : FitsRemoved c.args.self.now c.in-Removed.set c.in-Removed.owner c.in-Removed.list c.in-Removed.number c.in-Removed.member c.in-Removed.before = subst (λ (z : StoreChange). FitsStore z c.args.self.now) c.in-Removed.is c.requires in let k = case_of _ _ c.in-Removed.set c.index-shape-in-Removed.result.now c.self.view_is c.self.invariant.2 f.is_set c.index-shape-in-Removed.ensures in head_small _ _ c.in-Removed.set c.index-shape-in-Removed.result.now c.in-Removed.number c.heads-heads.result k c.heads-heads.ensures.count c.heads-heads.type_inv
+
+pub unwrap-head-requires : goal.unwrap-head-requires
+unwrap-head-requires g c = let f : FitsRemoved c.args.self.now c.in-Removed.set c.in-Removed.owner c.in-Removed.list c.in-Removed.number c.in-Removed.member c.in-Removed.before = subst (λ (z : StoreChange). FitsStore z c.args.self.now) c.in-Removed.is c.requires in let k = case_of _ _ c.in-Removed.set c.index-shape-in-Removed.result.now c.self.view_is c.self.invariant.2 f.is_set c.index-shape-in-Removed.ensures in removed_head _ _ c.in-Removed.set c.index-shape-in-Removed.result.now c.in-Removed.owner c.in-Removed.list c.in-Removed.number c.in-Removed.member c.in-Removed.before _ k f c.head_of.ensures
+
+pub seat_of-requires-in-Removed : goal.seat_of-requires-in-Removed
+seat_of-requires-in-Removed g c = let f : FitsRemoved c.args.self.now c.in-Removed.set c.in-Removed.owner c.in-Removed.list c.in-Removed.number c.in-Removed.member c.in-Removed.before = subst (λ (z : StoreChange). FitsStore z c.args.self.now) c.in-Removed.is c.requires in let k = case_of _ _ c.in-Removed.set c.index-shape-in-Removed.result.now c.self.view_is c.self.invariant.2 f.is_set c.index-shape-in-Removed.ensures in seat_small _ _ c.in-Removed.set c.index-shape-in-Removed.result.now c.seats-seats.result k c.seats-seats.ensures.count c.seats-seats.type_inv c.in-Removed.member
+
+pub unwrap-seat-requires-in-Removed : goal.unwrap-seat-requires-in-Removed
+unwrap-seat-requires-in-Removed g c = let f : FitsRemoved c.args.self.now c.in-Removed.set c.in-Removed.owner c.in-Removed.list c.in-Removed.number c.in-Removed.member c.in-Removed.before = subst (λ (z : StoreChange). FitsStore z c.args.self.now) c.in-Removed.is c.requires in let k = case_of _ _ c.in-Removed.set c.index-shape-in-Removed.result.now c.self.view_is c.self.invariant.2 f.is_set c.index-shape-in-Removed.ensures in removed_seat _ _ c.in-Removed.set c.index-shape-in-Removed.result.now c.in-Removed.owner c.in-Removed.list c.in-Removed.number c.in-Removed.member c.in-Removed.before _ k f c.seat_of-in-Removed.ensures
+
+pub relink-requires : goal.relink-requires
+relink-requires g c = let f : FitsRemoved c.args.self.now c.in-Removed.set c.in-Removed.owner c.in-Removed.list c.in-Removed.number c.in-Removed.member c.in-Removed.before = subst (λ (z : StoreChange). FitsStore z c.args.self.now) c.in-Removed.is c.requires in let k = case_of _ _ c.in-Removed.set c.index-shape-in-Removed.result.now c.self.view_is c.self.invariant.2 f.is_set c.index-shape-in-Removed.ensures in refile_can _ c.index-shape-in-Removed.result.now c.in-Removed.number c.in-Removed.member c.unwrap-head.result c.unwrap-seat-in-Removed.result c.in-Removed.before c.seat_if-before.result c.self.invariant.2 (refiles _ _ c.in-Removed.set c.index-shape-in-Removed.result.now c.in-Removed.owner c.in-Removed.list c.in-Removed.number c.in-Removed.member c.in-Removed.before (undoes _ _ c.in-Removed.set c.index-shape-in-Removed.result.now k) f) (sym c.head_of.ensures ∙ c.unwrap-head.ensures) (sym c.seat_of-in-Removed.ensures ∙ c.unwrap-seat-in-Removed.ensures) (behind _ c.index-shape-in-Removed.result.now c.in-Removed.before c.seat_if-before.result c.seat_if-before.ensures.none c.seat_if-before.ensures.some)
+
+pub invariant_of-self-in-Removed : goal.invariant_of-self-in-Removed
+invariant_of-self-in-Removed g c = let f : FitsRemoved c.args.self.now c.in-Removed.set c.in-Removed.owner c.in-Removed.list c.in-Removed.number c.in-Removed.member c.in-Removed.before = subst (λ (z : StoreChange). FitsStore z c.args.self.now) c.in-Removed.is c.requires in let k = case_of _ _ c.in-Removed.set c.index-shape-in-Removed.result.now c.self.view_is c.self.invariant.2 f.is_set c.index-shape-in-Removed.ensures in (c.self.invariant.0, c.self.invariant.1, refile_store _ _ c.index-shape-in-Removed.result.now c.in-Removed.number c.in-Removed.member c.unwrap-head.result c.unwrap-seat-in-Removed.result c.in-Removed.before c.seat_if-before.result c.self.invariant.2 (refiles _ _ c.in-Removed.set c.index-shape-in-Removed.result.now c.in-Removed.owner c.in-Removed.list c.in-Removed.number c.in-Removed.member c.in-Removed.before (undoes _ _ c.in-Removed.set c.index-shape-in-Removed.result.now k) f) (sym c.head_of.ensures ∙ c.unwrap-head.ensures) (sym c.seat_of-in-Removed.ensures ∙ c.unwrap-seat-in-Removed.ensures) (behind _ c.index-shape-in-Removed.result.now c.in-Removed.before c.seat_if-before.result c.seat_if-before.ensures.none c.seat_if-before.ensures.some) c.relink.ensures.board c.relink.ensures.sound.1)
+
+pub returns-in-Removed : goal.returns-in-Removed
+returns-in-Removed g c = let f : FitsRemoved c.args.self.now c.in-Removed.set c.in-Removed.owner c.in-Removed.list c.in-Removed.number c.in-Removed.member c.in-Removed.before = subst (λ (z : StoreChange). FitsStore z c.args.self.now) c.in-Removed.is c.requires in let k = case_of _ _ c.in-Removed.set c.index-shape-in-Removed.result.now c.self.view_is c.self.invariant.2 f.is_set c.index-shape-in-Removed.ensures in refile_left _ _ _ c.in-Removed.set c.index-shape-in-Removed.result.now c.in-Removed.owner c.in-Removed.list c.in-Removed.number c.in-Removed.member c.unwrap-head.result c.unwrap-seat-in-Removed.result c.in-Removed.before c.seat_if-before.result (undoes _ _ c.in-Removed.set c.index-shape-in-Removed.result.now k) f (sym c.head_of.ensures ∙ c.unwrap-head.ensures) (sym c.seat_of-in-Removed.ensures ∙ c.unwrap-seat-in-Removed.ensures) (behind _ c.index-shape-in-Removed.result.now c.in-Removed.before c.seat_if-before.result c.seat_if-before.ensures.none c.seat_if-before.ensures.some) c.relink.ensures.board c.relink.ensures.sound.1 ∙ ap (λ (z : StoreChange). unapply_store z c.args.self.now) (sym c.in-Removed.is)

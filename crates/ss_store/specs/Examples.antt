@@ -1,0 +1,98 @@
+-- Filing and removing, on small stores.
+use Rattle.std.specs.Prelude.{◌≡◌, ℕ, ℤ, pos, List, [], ◌∷◌, Option, Some, Result, Ok, Err}
+use Rattle.ss_words.specs.declared.fault.RunFault.{RunFault}
+use Rattle.ss_words.specs.declared.fault.RunFault.TheVariants.{NoEntity, AlreadyInSet, NotInList, EmptySet}
+use Rattle.ss_check.specs.declared.keys.Rank.TheVariants.{High, Low}
+use Rattle.ss_check.specs.declared.kinds.Discipline.{Discipline}
+use Rattle.ss_check.specs.declared.kinds.Discipline.TheVariants.{Fifo, Lifo, Ranked}
+use Rattle.ss_check.specs.declared.kinds.Owner.TheVariants.{System}
+use Rattle.ss_store.specs.declared.shape.SetShape.{SetShape}
+use Rattle.ss_store.specs.declared.shape.How.{How}
+use Rattle.ss_store.specs.declared.shape.How.TheVariants.{ByRule, Before, After}
+use Rattle.ss_store.specs.declared.shape.Which.{Which}
+use Rattle.ss_store.specs.declared.shape.Which.TheVariants as which
+use Rattle.ss_store.specs.Store.{Entity, Store, members_of, with_attribute}
+use Rattle.ss_store.specs.Filing.{filed, removed}
+
+-- a job with a size and an age
+abbrev pub job : ℤ → ℤ → Option Entity
+job size age = Some (record { class = 0; attributes = size ∷ age ∷ []; owned = [] })
+
+-- jobs 1 to 4, and a set of the system whose list is this
+abbrev pub jobs : List ℕ → Store
+jobs row = record {
+  made = [] ∷ [];
+  references = job (pos 1) (pos 0) ∷ job (pos 0) (pos 0) ∷ job (pos 1) (pos 0) ∷ job (pos 0) (pos 1) ∷ [];
+  system = row ∷ [];
+}
+
+abbrev pub set_by : Discipline → SetShape
+set_by d = record { discipline = d; owner = System; list = 0; member = 0; slot = 0 }
+
+abbrev pub high_size_low_age : Discipline
+high_size_low_age = Ranked (record { rank = High; attribute = 0 } ∷ record { rank = Low; attribute = 1 } ∷ [])
+
+-- the list once these were filed, each where it says, or the fault
+abbrev pub list_after : SetShape → Result Store RunFault → Result (List ℕ) RunFault
+list_after s (Ok st) = Ok (members_of s st 0)
+list_after s (Err f) = Err f
+
+abbrev pub then_filed : SetShape → ℕ → How → Result Store RunFault → Result Store RunFault
+then_filed s k how (Ok st) = filed s st 0 k how
+then_filed s k how (Err f) = Err f
+
+abbrev pub store_of : Result (ℕ × Store) RunFault → Result Store RunFault
+store_of (Ok r) = Ok r.1
+store_of (Err f) = Err f
+
+abbrev pub then_removed : SetShape → Which → Result Store RunFault → Result Store RunFault
+then_removed s w (Ok st) = store_of (removed s st 0 w)
+then_removed s w (Err f) = Err f
+
+-- 1, 2, 3 and 4 filed in turn by the discipline
+abbrev pub all_filed : SetShape → Result (List ℕ) RunFault
+all_filed s = list_after s
+    (then_filed s 4 ByRule (then_filed s 3 ByRule (then_filed s 2 ByRule (filed s (jobs []) 0 1 ByRule))))
+
+-- FIFO files last, LIFO first
+abbrev pub FifoFilesLast : Type 0
+FifoFilesLast = all_filed (set_by Fifo) ≡ Ok (1 ∷ 2 ∷ 3 ∷ 4 ∷ [])
+
+abbrev pub LifoFilesFirst : Type 0
+LifoFilesFirst = all_filed (set_by Lifo) ≡ Ok (4 ∷ 3 ∷ 2 ∷ 1 ∷ [])
+
+-- HIGH size, then LOW age; 3 ties with 1 and is filed behind it
+abbrev pub RankedByTwoKeys : Type 0
+RankedByTwoKeys = all_filed (set_by high_size_low_age) ≡ Ok (1 ∷ 3 ∷ 2 ∷ 4 ∷ [])
+
+-- 2 grows to size 5 once it is filed: it stays where it is, and 3 is filed by the sizes as they are then
+abbrev pub RankedByPresentKeys : Type 0
+RankedByPresentKeys =
+    list_after (set_by high_size_low_age)
+    (then_filed (set_by high_size_low_age) 3 ByRule (with_attribute (jobs (1 ∷ 2 ∷ [])) 0 0 2 (pos 5)))
+    ≡ Ok (1 ∷ 2 ∷ 3 ∷ [])
+
+-- BEFORE and AFTER the first and the last
+abbrev pub FiledBesideEnds : Type 0
+FiledBesideEnds =
+    (list_after (set_by Fifo) (filed (set_by Fifo) (jobs (1 ∷ 2 ∷ [])) 0 3 (Before (pos 1))) ≡ Ok (3 ∷ 1 ∷ 2 ∷ []))
+    × (list_after (set_by Fifo) (filed (set_by Fifo) (jobs (1 ∷ 2 ∷ [])) 0 3 (After (pos 1))) ≡ Ok (1 ∷ 3 ∷ 2 ∷ []))
+    × (list_after (set_by Fifo) (filed (set_by Fifo) (jobs (1 ∷ 2 ∷ [])) 0 3 (Before (pos 2))) ≡ Ok (1 ∷ 3 ∷ 2 ∷ []))
+    × (list_after (set_by Fifo) (filed (set_by Fifo) (jobs (1 ∷ 2 ∷ [])) 0 3 (After (pos 2))) ≡ Ok (1 ∷ 2 ∷ 3 ∷ []))
+
+-- the first, the last, the middle and the only member removed
+abbrev pub RemovedAnywhere : Type 0
+RemovedAnywhere =
+    (list_after (set_by Fifo) (then_removed (set_by Fifo) which.First (Ok (jobs (1 ∷ 2 ∷ 3 ∷ [])))) ≡ Ok (2 ∷ 3 ∷ []))
+    × (list_after (set_by Fifo) (then_removed (set_by Fifo) which.Last (Ok (jobs (1 ∷ 2 ∷ 3 ∷ [])))) ≡ Ok (1 ∷ 2 ∷ []))
+    × (list_after (set_by Fifo) (then_removed (set_by Fifo) (which.Member (pos 2)) (Ok (jobs (1 ∷ 2 ∷ 3 ∷ []))))
+    ≡ Ok (1 ∷ 3 ∷ []))
+    × (list_after (set_by Fifo) (then_removed (set_by Fifo) (which.Member (pos 4)) (Ok (jobs (4 ∷ [])))) ≡ Ok [])
+
+-- the lowest fault that applies: F3 before F4, F4 before F5
+abbrev pub LowestFaultFirst : Type 0
+LowestFaultFirst =
+    (list_after (set_by Fifo) (filed (set_by Fifo) (jobs (1 ∷ [])) 0 1 (Before (pos 9))) ≡ Err NoEntity)
+    × (list_after (set_by Fifo) (filed (set_by Fifo) (jobs (1 ∷ [])) 0 1 (Before (pos 2))) ≡ Err AlreadyInSet)
+    × (list_after (set_by Fifo) (filed (set_by Fifo) (jobs (1 ∷ [])) 0 3 (Before (pos 2))) ≡ Err NotInList)
+    × (list_after (set_by Fifo) (then_removed (set_by Fifo) which.First (Ok (jobs []))) ≡ Err EmptySet)

@@ -1,0 +1,279 @@
+-- What a store holds, and the state that it stands for. Cited by the store's view and invariant and by private
+-- functions alone.
+use Rattle.std.specs.Prelude.{◌≡◌, ℕ, ℤ, zero, suc, ◌+◌, ◌<◌, ◌==◌, if◌then◌else◌, true, false, List, [], ◌∷◌, length, map, slice_get, slice_index_or, Option, Some, None, Result, Ok, Err, Bool, option_map, unwrap_or}
+use Rattle.ss_words.specs.declared.fault.RunFault.{RunFault}
+use Rattle.ss_words.specs.declared.fault.RunFault.TheVariants.{NoEntity, NotInList, EmptySet}
+use Rattle.ss_links.specs.Board.{Board, IsSound, list_at, list_of, head_of}
+use Rattle.ss_links.specs.Seats.{has, first_of, last_of, seat_before}
+use Rattle.ss_check.specs.declared.kinds.Owner.{Owner}
+use Rattle.ss_check.specs.declared.kinds.Owner.TheVariants.{System, OwnedBy}
+use Rattle.ss_check.specs.declared.kinds.Discipline.{Discipline}
+use Rattle.ss_check.specs.declared.kinds.Discipline.TheVariants.{Fifo, Lifo, Ranked}
+use Rattle.ss_store.specs.declared.shape.ClassShape.{ClassShape}
+use Rattle.ss_store.specs.declared.shape.SetShape.{SetShape}
+use Rattle.ss_store.specs.declared.shape.How.{How}
+use Rattle.ss_store.specs.declared.shape.How.TheVariants.{ByRule, First, Last, Before, After}
+use Rattle.ss_store.specs.declared.shape.Which.{Which}
+use Rattle.ss_store.specs.declared.shape.Which.TheVariants as which
+use Rattle.ss_store.specs.declared.rows.Row.{Row}
+use Rattle.ss_store.specs.declared.places.Spot.{Spot}
+use Rattle.ss_store.specs.declared.places.Spot.TheVariants as spot
+use Rattle.ss_check.specs.declared.keys.Key.{Key}
+use Rattle.std.specs.Ordering.{is_gt}
+use Rattle.ss_check.specs.Keys.{by_keys, key_values}
+use Rattle.ss_store.specs.Tables.{Tables, class_in, class_of}
+use Rattle.ss_store.specs.Store.{Entity, Store, number_of}
+use Rattle.ss_store.specs.Filing.{or_fault}
+use Rattle.ss_store.specs.Rows.{RowTable, EntityTable, rows_in, row_of, values_of}
+
+-- what a head is of: an owner's list; what a seat is of: a member in one of its sets
+pub record HeadEntry : Type 0 where
+  pub owner : Owner
+  pub list : ℕ
+  pub number : ℕ
+
+pub record SeatEntry : Type 0 where
+  pub member : ℕ
+  pub slot : ℕ
+  pub number : ℕ
+
+-- the tables; the rows of all entities; the number of each seat's member; what each head and each seat is of; the board
+pub record Held : Type 0 where
+  pub tables : Tables
+  pub rows : EntityTable
+  pub numbers : List ℕ
+  pub owners : List HeadEntry
+  pub members : List SeatEntry
+  pub board : Board
+
+-- the number of the member whose seat it is
+abbrev pub number_at : List ℕ → ℕ → ℕ
+number_at ns t = slice_index_or ns t 0
+
+-- the members' numbers in the list of a head
+abbrev pub look : Board → List ℕ → ℕ → List ℕ
+look b ns h = map (number_at ns) (list_at b.lists h)
+
+-- ---- the state
+
+-- the lists of n heads, from head h on
+abbrev pub owned_from : (ℕ → List ℕ) → ℕ → ℕ → List (List ℕ)
+owned_from at h zero = []
+owned_from at h (suc n) = at h ∷ owned_from at (suc h) n
+
+-- the entity of a row with these attributes
+abbrev pub entity_with : List ClassShape → (ℕ → List ℕ) → Row → List ℤ → Entity
+entity_with cs at r v =
+    record { class = r.class; attributes = v; owned = owned_from at r.head (class_in cs r.class).owned }
+
+-- what a reference stands for
+abbrev pub reference_with : List ClassShape → (ℕ → List ℕ) → Row → Option (List ℤ) → Option Entity
+reference_with cs at r None = None
+reference_with cs at r (Some v) = Some (entity_with cs at r v)
+
+-- an entity that was made
+abbrev pub made_with : List ClassShape → (ℕ → List ℕ) → Row → Option (List ℤ) → Entity
+made_with cs at r None = entity_with cs at r []
+made_with cs at r (Some v) = entity_with cs at r v
+
+-- rows and values taken together
+abbrev pub zipped : {A : Type 0} → (Row → Option (List ℤ) → A) → List Row → List (Option (List ℤ)) → List A
+zipped f [] vs = []
+zipped f (r ∷ rs) [] = []
+zipped f (r ∷ rs) (v ∷ vs) = f r v ∷ zipped f rs vs
+
+-- the same of a numbering
+abbrev pub zipped_of : {A : Type 0} → (Row → Option (List ℤ) → A) → RowTable → List A
+zipped_of f t = zipped f t.rows t.values
+
+-- the state of rows, where the lists of heads are these
+abbrev pub state_at : Tables → (ℕ → List ℕ) → EntityTable → Store
+state_at t at es = record {
+  made = map (zipped_of (made_with t.classes at)) es.made;
+  references = zipped_of (reference_with t.classes at) es.references;
+  system = owned_from at 0 t.system;
+}
+
+abbrev pub state_of : Held → Store
+state_of g = state_at g.tables (look g.board g.numbers) g.rows
+
+-- what is kept beside the state: the rows, and how many heads and seats the board has
+pub record Kept : Type 0 where
+  pub made : List (List Row)
+  pub references : List Row
+  pub heads : ℕ
+  pub seats : ℕ
+
+abbrev pub kept_of : Held → Kept
+kept_of g = record {
+  made = map (λ t. t.rows) g.rows.made;
+  references = g.rows.references.rows;
+  heads = length g.board.lists;
+  seats = g.board.seats;
+}
+
+-- a store: the tables, the state, and what is kept for undoing
+pub record StoreValue : Type 0 where
+  pub tables : Tables
+  pub state : Store
+  pub kept : Kept
+
+abbrev pub value_of : Held → StoreValue
+value_of g = record { tables = g.tables; state = state_of g; kept = kept_of g }
+
+-- ---- where a list and a member are on the board
+
+-- the head of a set's list, by its owner's number, where the owner exists
+abbrev pub head_by : Owner → EntityTable → SetShape → ℕ → Option ℕ
+head_by System es s o = Some s.list
+head_by (OwnedBy c) es s o = option_map (λ r. r.head + s.list) (row_of es c o)
+
+abbrev pub head_at : EntityTable → SetShape → ℕ → Option ℕ
+head_at es s o = head_by s.owner es s o
+
+-- the seat of a member in a set, where the member exists
+abbrev pub seat_at : EntityTable → SetShape → ℕ → Option ℕ
+seat_at es s k = option_map (λ r. r.seat + s.slot) (row_of es s.member k)
+
+-- the number by which a head knows its owner; the system's is 0
+abbrev pub owner_number : Owner → ℕ → ℕ
+owner_number System o = 0
+owner_number (OwnedBy c) o = o
+
+-- ---- the invariant
+
+-- a set of the program
+abbrev pub IsSet : List SetShape → SetShape → Type 0
+IsSet sets s = (i : ℕ) × (slice_get sets i ≡ Some s)
+
+-- how many sets an owner has
+abbrev pub owned_by : Owner → Tables → ℕ
+owned_by System t = t.system
+owned_by (OwnedBy c) t = (class_of t c).owned
+
+-- each set has a number of its own among those of its owner and among those of its members
+pub record AreTables (t : Tables) : Type 0 where
+  pub lists : (s : SetShape) → IsSet t.sets s → s.list < owned_by s.owner t
+  pub slots : (s : SetShape) → IsSet t.sets s → s.slot < (class_of t s.member).joined
+  pub one_list : (a b : SetShape) → IsSet t.sets a → IsSet t.sets b → a.owner ≡ b.owner → a.list ≡ b.list → a ≡ b
+  pub one_slot : (a b : SetShape) → IsSet t.sets a → IsSet t.sets b → a.member ≡ b.member → a.slot ≡ b.slot → a ≡ b
+
+-- the list is of an owner that exists, and the seat of a member that exists, in one set
+pub record Joins (g : Held) (h t : ℕ) : Type 0 where
+  pub set : SetShape
+  pub owner : ℕ
+  pub member : ℕ
+  pub is_set : IsSet g.tables.sets set
+  pub head : head_at g.rows set owner ≡ Some h
+  pub seat : seat_at g.rows set member ≡ Some t
+
+-- the heads and the seats of row number i are those of entity number i + 1 of its class
+pub record IsRow (g : Held) (i : ℕ) (r : Row) : Type 0 where
+  pub class : r.class < length g.tables.classes
+  pub heads : (k : ℕ) → k < (class_of g.tables r.class).owned
+      → slice_get g.owners (r.head + k) ≡ Some (record { owner = OwnedBy r.class; list = k; number = suc i })
+  pub seats : (k : ℕ) → k < (class_of g.tables r.class).joined
+      → slice_get g.members (r.seat + k) ≡ Some (record { member = r.class; slot = k; number = suc i })
+
+pub record IsStore (g : Held) : Type 0 where
+  pub tables : AreTables g.tables
+  pub sound : IsSound g.board
+  pub heads : length g.owners ≡ length g.board.lists
+  pub seats : length g.members ≡ g.board.seats
+  pub numbers : g.numbers ≡ map (λ (m : SeatEntry). m.number) g.members
+  pub classes : length g.rows.made ≡ length g.tables.classes
+  pub rows : (w : Option ℕ) → length (rows_in g.rows w).rows ≡ length (rows_in g.rows w).values
+  pub each : (w : Option ℕ) (i : ℕ) (r : Row) → slice_get (rows_in g.rows w).rows i ≡ Some r → IsRow g i r
+  pub valued : (w : Option ℕ) (i : ℕ) (r : Row) (v : List ℤ) → slice_get (rows_in g.rows w).rows i ≡ Some r
+      → slice_get (rows_in g.rows w).values i ≡ Some (Some v) → length v ≡ (class_of g.tables r.class).attributes
+  pub made : (c i : ℕ) (r : Row) → slice_get (rows_in g.rows (Some c)).rows i ≡ Some r
+      → (r.class ≡ c) × ((class_of g.tables c).permanent ≡ true)
+  pub stays : (c i : ℕ) → slice_get (rows_in g.rows (Some c)).values i ≡ Some None → ⊥
+  pub given : (i : ℕ) (r : Row) → slice_get g.rows.references.rows i ≡ Some r
+      → (class_of g.tables r.class).permanent ≡ false
+  pub system : (k : ℕ) → k < g.tables.system
+      → slice_get g.owners k ≡ Some (record { owner = System; list = k; number = 0 })
+  pub joined : (h t : ℕ) → has (list_at g.board.lists h) t ≡ true → Joins g h t
+
+-- ---- what private calls find
+
+-- a seat where it stands in the list of a head
+abbrev pub is_at : Option ℕ → ℕ → Bool
+is_at None h = false
+is_at (Some k) h = k == h
+
+-- the seat, or F3 where there is none and F5 where it isn't in the list of the head
+abbrev pub standing_by : List (List ℕ) → ℕ → Option ℕ → Result ℕ RunFault
+standing_by ls h None = Err NoEntity
+standing_by ls h (Some t) = if is_at (head_of ls t) h then Ok t else Err NotInList
+
+-- the place that FILE names, in seats, or F3 where the member that it names does not exist
+abbrev pub spot_before : Option ℕ → Result Spot RunFault
+spot_before None = Err NoEntity
+spot_before (Some t) = Ok (spot.Before t)
+
+abbrev pub spot_after : Option ℕ → Result Spot RunFault
+spot_after None = Err NoEntity
+spot_after (Some t) = Ok (spot.After t)
+
+abbrev pub spot_by : EntityTable → SetShape → How → Result Spot RunFault
+spot_by es s ByRule = Ok spot.ByRule
+spot_by es s First = Ok spot.First
+spot_by es s Last = Ok spot.Last
+spot_by es s (Before y) = spot_before (seat_at es s (number_of y))
+spot_by es s (After y) = spot_after (seat_at es s (number_of y))
+
+-- the key values of entity number k of class c
+abbrev pub keys_in : EntityTable → List Key → ℕ → ℕ → List ℤ
+keys_in es keys c k = key_values keys (unwrap_or (values_of es c k) [])
+
+-- whether the member whose seat it is ranks strictly behind entity number k
+abbrev pub seat_behind_in : EntityTable → List ℕ → List Key → ℕ → ℕ → ℕ → Bool
+seat_behind_in es ns keys c k t = is_gt (by_keys keys (keys_in es keys c (number_at ns t)) (keys_in es keys c k))
+
+-- the seat before the first that passes the test, p standing before them all
+abbrev pub rank_before : (ℕ → Bool) → Option ℕ → List ℕ → Option ℕ
+rank_before test p [] = p
+rank_before test p (t ∷ ts) = if test t then p else rank_before test (Some t) ts
+
+-- the seat behind which a discipline files entity number k
+abbrev pub rule_place : EntityTable → List ℕ → ℕ → ℕ → List ℕ → Discipline → Option ℕ
+rule_place es ns c k l Fifo = last_of l
+rule_place es ns c k l Lifo = None
+rule_place es ns c k l (Ranked keys) = rank_before (seat_behind_in es ns keys c k) None l
+
+-- the seat behind which it is filed, or none where it is filed first; F5 where the member named isn't in the list of
+-- the head
+abbrev pub place_by : EntityTable → List ℕ → List (List ℕ) → SetShape → ℕ → ℕ → Spot → Result (Option ℕ) RunFault
+place_by es ns ls s h k spot.First = Ok None
+place_by es ns ls s h k spot.Last = Ok (last_of (list_at ls h))
+place_by es ns ls s h k spot.ByRule = Ok (rule_place es ns s.member k (list_at ls h) s.discipline)
+place_by es ns ls s h k (spot.Before t) =
+    if is_at (head_of ls t) h then Ok (seat_before (list_of ls t) t) else Err NotInList
+place_by es ns ls s h k (spot.After t) = if is_at (head_of ls t) h then Ok (Some t) else Err NotInList
+
+-- the seat of the member that is to be removed
+abbrev pub seat_for : EntityTable → List (List ℕ) → SetShape → ℕ → Which → Result ℕ RunFault
+seat_for es ls s h which.First = or_fault EmptySet (first_of (list_at ls h))
+seat_for es ls s h which.Last = or_fault EmptySet (last_of (list_at ls h))
+seat_for es ls s h (which.Member x) = standing_by ls h (seat_at es s (number_of x))
+
+-- a seat that a place names is one of these
+abbrev pub SpotBelow : Spot → ℕ → Type 0
+SpotBelow (spot.Before t) n = t < n
+SpotBelow (spot.After t) n = t < n
+SpotBelow spot.First n = Unit {0}
+SpotBelow spot.Last n = Unit {0}
+SpotBelow spot.ByRule n = Unit {0}
+
+-- the seat of member k, where it is in the list of owner o; F3 where one of them does not exist
+abbrev pub seat_among : List (List ℕ) → ℕ → Option ℕ → Result (Option ℕ) RunFault
+seat_among ls h None = Err NoEntity
+seat_among ls h (Some t) = Ok (if is_at (head_of ls t) h then Some t else None)
+
+abbrev pub seat_under : List (List ℕ) → Option ℕ → Option ℕ → Result (Option ℕ) RunFault
+seat_under ls None q = Err NoEntity
+seat_under ls (Some h) q = seat_among ls h q
+
+abbrev pub seat_in : EntityTable → List (List ℕ) → SetShape → ℕ → ℕ → Result (Option ℕ) RunFault
+seat_in es ls s o k = seat_under ls (head_at es s o) (seat_at es s k)

@@ -1,0 +1,53 @@
+-- Where entities lie on a board. Cited by the store's view and invariant alone.
+use Rattle.std.specs.Prelude.{ℕ, ℤ, zero, suc, ◌==◌, if◌then◌else◌, List, [], slice_get, slice_index_or, Option, Some, None}
+use Rattle.std.specs.Option.{option_or}
+use Rattle.ss_store.specs.declared.rows.Row.{Row}
+
+-- the rows of entities 1, 2, .. of one numbering, and the values of their attributes, none where one has ended
+pub record RowTable : Type 0 where
+  pub rows : List Row
+  pub values : List (Option (List ℤ))
+
+-- those of each permanent class, and those with references
+pub record EntityTable : Type 0 where
+  pub made : List RowTable
+  pub references : RowTable
+
+abbrev pub no_rows : RowTable
+no_rows = record { rows = []; values = [] }
+
+-- a numbering: that of a permanent class, or that of the references
+abbrev pub rows_in : EntityTable → Option ℕ → RowTable
+rows_in es None = es.references
+rows_in es (Some c) = slice_index_or es.made c no_rows
+
+-- the row of an entity of class c that has not ended
+abbrev pub row_if : ℕ → Option Row → Option (Option (List ℤ)) → Option Row
+row_if c (Some r) (Some (Some v)) = if r.class == c then Some r else None
+row_if c (Some r) (Some None) = None
+row_if c (Some r) None = None
+row_if c None v = None
+
+-- row number i of a numbering, if it is of class c and has not ended
+abbrev pub living_in : RowTable → ℕ → ℕ → Option Row
+living_in t c i = row_if c (slice_get t.rows i) (slice_get t.values i)
+
+-- the row of entity number k of class c
+abbrev pub row_of : EntityTable → ℕ → ℕ → Option Row
+row_of es c zero = None
+row_of es c (suc i) = option_or (living_in (rows_in es (Some c)) c i) (living_in es.references c i)
+
+-- the values of the attributes of an entity of class c that has not ended
+abbrev pub values_if : ℕ → Option Row → Option (Option (List ℤ)) → Option (List ℤ)
+values_if c (Some r) (Some (Some v)) = if r.class == c then Some v else None
+values_if c (Some r) (Some None) = None
+values_if c (Some r) None = None
+values_if c None v = None
+
+abbrev pub values_in : RowTable → ℕ → ℕ → Option (List ℤ)
+values_in t c i = values_if c (slice_get t.rows i) (slice_get t.values i)
+
+-- the values of the attributes of entity number k of class c
+abbrev pub values_of : EntityTable → ℕ → ℕ → Option (List ℤ)
+values_of es c zero = None
+values_of es c (suc i) = option_or (values_in (rows_in es (Some c)) c i) (values_in es.references c i)

@@ -1,0 +1,210 @@
+-- What the store holds: entities and the lists of their sets. How they are made, changed and ended.
+use Rattle.std.specs.Prelude.{ℕ, zero, suc, ◌-◌, ◌==◌, Bool, true, false, ◌&&◌, not, nat_lt, nat_le, if◌then◌else◌, ℤ, pos, negsuc, List, [], ◌∷◌, ◌++◌, length, map, replicate, filter_map, find, slice_get, slice_set, slice_index_or, Option, Some, None, is_some, option_map, option_and_then, unwrap_or, Result, Ok, Err}
+use Rattle.std.specs.Option.{option_or}
+use Rattle.std.specs.List.{list_any}
+use Rattle.ss_words.specs.declared.fault.RunFault.{RunFault}
+use Rattle.ss_words.specs.declared.fault.RunFault.TheVariants.{NoEntity, EndedInUse, EndedOwner, AlreadyCreated, CountOutOfRange, TooManyReferences}
+use Rattle.ss_links.specs.Seats.{has}
+use Rattle.ss_check.specs.declared.kinds.Owner.{Owner}
+use Rattle.ss_check.specs.declared.kinds.Owner.TheVariants.{System, OwnedBy}
+use Rattle.ss_store.specs.declared.shape.ClassShape.{ClassShape}
+use Rattle.ss_store.specs.declared.shape.SetShape.{SetShape}
+use Rattle.ss_store.specs.Lists.{change_at}
+use Rattle.ss_store.specs.Tables.{Tables}
+
+-- an entity: its class, the values of its attributes, and the lists of the sets that its class owns, in order of
+-- declaration
+pub record Entity : Type 0 where
+  pub class : ℕ
+  pub attributes : List ℤ
+  pub owned : List (List ℕ)
+
+-- for each class the entities 1, 2, .. of it, where it is permanent and made; the entities with references 1, 2, ..,
+-- None where one has ended; the lists of the system's sets, in order of declaration
+pub record Store : Type 0 where
+  pub made : List (List Entity)
+  pub references : List (Option Entity)
+  pub system : List (List ℕ)
+
+-- the number of an entity that a value names, 0 naming none
+abbrev pub number_of : ℤ → ℕ
+number_of (pos n) = n
+number_of (negsuc n) = 0
+
+-- a result where the test is true, and else a fault
+abbrev pub unless : {A : Type 0} → RunFault → Bool → Result A RunFault → Result A RunFault
+unless f true r = r
+unless f false r = Err f
+
+-- list number n
+abbrev pub list_number : List (List ℕ) → ℕ → List ℕ
+list_number ls n = slice_index_or ls n []
+
+-- ---- the entities that there are
+
+-- a reference's entity, if it is of class c
+abbrev pub of_class : ℕ → Option Entity → Option Entity
+of_class c None = None
+of_class c (Some e) = if e.class == c then Some e else None
+
+-- the entities that were made of permanent class c
+abbrev pub made_of : Store → ℕ → List Entity
+made_of st c = slice_index_or st.made c []
+
+-- entity number k of class c: of a permanent class one that was made, else one that has a reference
+abbrev pub entity : Store → ℕ → ℕ → Option Entity
+entity st c zero = None
+entity st c (suc k) = option_or (slice_get (made_of st c) k) (option_and_then (of_class c) (slice_get st.references k))
+
+-- all entities of class c
+abbrev pub entities : Store → ℕ → List Entity
+entities st c = made_of st c ++ filter_map (of_class c) st.references
+
+-- whether there is entity number k of class c
+abbrev pub exists : Store → ℕ → ℕ → Bool
+exists st c k = is_some (entity st c k)
+
+-- ---- attributes
+
+-- attribute number a of an entity, or F3 where there is none
+abbrev pub attribute_in : ℕ → Option Entity → Result ℤ RunFault
+attribute_in a None = Err NoEntity
+attribute_in a (Some e) = Ok (slice_index_or e.attributes a (pos 0))
+
+-- attribute number a of entity number k of class c, or F3
+abbrev pub attribute_of : Store → ℕ → ℕ → ℕ → Result ℤ RunFault
+attribute_of st c a k = attribute_in a (entity st c k)
+
+-- ---- the lists of sets; n is the number of a set among those of its owner
+
+-- the list of a set for owner number k, if that exists; the system is any number
+abbrev pub list_by : Owner → ℕ → Store → ℕ → Option (List ℕ)
+list_by System n st k = Some (list_number st.system n)
+list_by (OwnedBy c) n st k = option_map (λ e. list_number e.owned n) (entity st c k)
+
+-- the lists of a set, of all its owners
+abbrev pub lists_by : Owner → ℕ → Store → List (List ℕ)
+lists_by System n st = list_number st.system n ∷ []
+lists_by (OwnedBy c) n st = map (λ e. list_number e.owned n) (entities st c)
+
+-- whether the owner of a list of this set exists
+abbrev pub is_owner : SetShape → Store → ℕ → Bool
+is_owner s st k = is_some (list_by s.owner s.list st k)
+
+-- the members of the list of this set for owner number k
+abbrev pub members_of : SetShape → Store → ℕ → List ℕ
+members_of s st k = unwrap_or (list_by s.owner s.list st k) []
+
+-- whether k is in one of these lists
+abbrev pub stands_in : List (List ℕ) → ℕ → Bool
+stands_in ls k = list_any (λ ks. has ks k) ls
+
+-- whether k is in a list of this set
+abbrev pub is_filed : SetShape → Store → ℕ → Bool
+is_filed s st k = stands_in (lists_by s.owner s.list st) k
+
+-- the list of this set that holds member number k, or the empty one
+abbrev pub list_holding : SetShape → Store → ℕ → List ℕ
+list_holding s st k = unwrap_or (find (λ ks. has ks k) (lists_by s.owner s.list st)) []
+
+-- ---- changing
+
+-- a reference's entity changed, if it is of class c
+abbrev pub changed_reference : (Entity → Entity) → ℕ → Option Entity → Option Entity
+changed_reference change c None = None
+changed_reference change c (Some e) = if e.class == c then Some (change e) else Some e
+
+-- the store with entity number k of class c changed
+abbrev pub with_changed : (Entity → Entity) → Store → ℕ → ℕ → Store
+with_changed change st c zero = st
+with_changed change st c (suc k) = record st {
+  made = change_at (λ row. change_at change row k) st.made c;
+  references = change_at (changed_reference change c) st.references k;
+}
+
+-- an entity with an attribute changed
+abbrev pub with_value : ℕ → ℤ → Entity → Entity
+with_value a value e = record e { attributes = slice_set e.attributes a value }
+
+-- the store with attribute number a of entity number k of class c changed, or F3
+abbrev pub with_attribute : Store → ℕ → ℕ → ℕ → ℤ → Result Store RunFault
+with_attribute st c a k value = unless NoEntity (exists st c k) (Ok (with_changed (with_value a value) st c k))
+
+-- an entity with one of its lists changed
+abbrev pub with_owned : ℕ → List ℕ → Entity → Entity
+with_owned n ks e = record e { owned = slice_set e.owned n ks }
+
+-- the store with the list of a set for owner number k changed
+abbrev pub with_list_by : Owner → ℕ → Store → ℕ → List ℕ → Store
+with_list_by System n st k ks = record st { system = slice_set st.system n ks }
+with_list_by (OwnedBy c) n st k ks = with_changed (with_owned n ks) st c k
+
+-- the same of this set
+abbrev pub with_list : SetShape → Store → ℕ → List ℕ → Store
+with_list s st k ks = with_list_by s.owner s.list st k ks
+
+-- ---- making
+
+-- a new entity of class c: its attributes are 0, its lists empty
+abbrev pub fresh : ℕ → ClassShape → Entity
+fresh c shape = record { class = c; attributes = replicate shape.attributes (pos 0); owned = replicate shape.owned [] }
+
+-- nothing made
+abbrev pub empty_store : Tables → Store
+empty_store t = record { made = replicate (length t.classes) []; references = []; system = replicate t.system [] }
+
+-- no more references than these
+abbrev pub reference_limit : ℕ
+reference_limit = 1000000
+
+-- the store with one more reference
+abbrev pub with_reference : Store → Entity → Store
+with_reference st e = record st { references = st.references ++ Some e ∷ [] }
+
+-- the store with one more entity of class c, which has the last reference; F20 where there are too many
+abbrev pub with_new : Store → ℕ → ClassShape → Result Store RunFault
+with_new st c shape =
+    unless TooManyReferences (nat_lt (length st.references) reference_limit) (Ok (with_reference st (fresh c shape)))
+
+-- the reference that was given last
+abbrev pub last_reference : Store → ℕ
+last_reference st = length st.references
+
+-- the store with these entities of permanent class c
+abbrev pub with_made : Store → ℕ → List Entity → Store
+with_made st c es = record st { made = slice_set st.made c es }
+
+-- the store with n entities of permanent class c; F12 where it was made, F13 where n isn't 1 to 10,000
+abbrev pub with_class : Store → ℕ → ClassShape → ℤ → Result Store RunFault
+with_class st c shape n =
+    unless AlreadyCreated (length (made_of st c) == 0)
+    (unless CountOutOfRange (nat_lt 0 (number_of n) && nat_le (number_of n) 10000)
+    (Ok (with_made st c (replicate (number_of n) (fresh c shape)))))
+
+-- ---- ending
+
+-- whether entity number k of class c is in a list of any of these sets
+abbrev pub is_member : List SetShape → Store → ℕ → ℕ → Bool
+is_member sets st c k = list_any (λ s. (s.member == c) && is_filed s st k) sets
+
+-- whether a list has members
+abbrev pub is_filled : List ℕ → Bool
+is_filled [] = false
+is_filled (k ∷ ks) = true
+
+-- whether a set that an entity owns has members
+abbrev pub owns_members : Option Entity → Bool
+owns_members None = false
+owns_members (Some e) = list_any is_filled e.owned
+
+-- the store without reference number k
+abbrev pub without_reference : Store → ℕ → Store
+without_reference st k = record st { references = slice_set st.references (k - 1) None }
+
+-- the store without entity number k of class c; F3; F7 where it is a member, F8 where it owns members
+abbrev pub without_entity : Tables → Store → ℕ → ℕ → Result Store RunFault
+without_entity t st c k =
+    unless NoEntity (exists st c k)
+    (unless EndedInUse (not (is_member t.sets st c k))
+    (unless EndedOwner (not (owns_members (entity st c k)))
+    (Ok (without_reference st k))))

@@ -1,0 +1,276 @@
+//! Where the lists and the members of a set are on the board.
+ghost use Rattle.std.specs.Prelude.{◌≡◌, ◌<◌, ◌^◌, length, IfOk, None, Some, ℕ, option_map};
+ghost use Rattle.std.specs.Option.{ForNone, ForSome};
+ghost use Rattle.ss_store.specs.Store as pure;
+ghost use Rattle.ss_store.specs.Rows as table;
+ghost use Rattle.ss_store.specs.Held as held;
+ghost use Rattle.ss_store.specs.Held.{head_at, seat_at, standing_by, seat_for, number_at, is_at, spot_by, place_by, SpotBelow};
+ghost use Rattle.ss_links.specs.Board.{head_of, IsSound};
+
+use crate::ranking::ranked_place;
+use crate::rows::{Entities, Row, Rows};
+use crate::shape::{How, SetShape, Which};
+use ss_check::{Discipline, Owner};
+use ss_links::SetBoard;
+use ss_words::RunFault;
+
+/// The number of the entity that a value names, 0 where it is below 1 and names none.
+pub(crate) fn named(value: i64) -> usize
+    ensures { result ≡ pure.number_of value }
+{
+    if value < 1 { 0 } else { value as usize }
+}
+
+/// The row of the entity with this index, if it is of this class and has not ended.
+fn living(rows: &Rows, class: usize, index: usize) -> Option<Row>
+    ensures { result ≡ table.living_in rows.now class index }
+{
+    let row = *rows.rows.get(index)?;
+    match rows.values.get(index)? {
+        None => None,
+        Some(_) => { if row.class == class { Some(row) } else { None } }
+    }
+}
+
+/// The row of an entity, where it exists.
+pub(crate) fn row_of(entities: &Entities, class: usize, number: usize) -> Option<Row>
+    ensures { result ≡ table.row_of entities.now class number }
+{
+    if number == 0 {
+        return None;
+    }
+    let index = number - 1;
+    let made = match entities.made.get(class) {
+        None => None,
+        Some(rows) => living(rows, class, index),
+    };
+    match made {
+        None => living(&entities.references, class, index),
+        Some(row) => Some(row),
+    }
+}
+
+/// The head of a set's list, where its owner exists.
+pub(crate) fn head_of(entities: &Entities, set: &SetShape, owner: usize) -> Option<u32>
+    requires { (h : ℕ) → head_at entities.now set.now owner ≡ Some h → h < 2 ^ 32 }
+    ensures { result ≡ head_at entities.now set.now owner }
+{
+    match set.owner {
+        Owner::System => Some(set.list),
+        Owner::OwnedBy(class) => {
+            match row_of(entities, class, owner) {
+                None => None,
+                Some(row) => Some(row.head + set.list),
+            }
+        }
+    }
+}
+
+/// The seat of a member in a set, where it exists.
+pub(crate) fn seat_of(entities: &Entities, set: &SetShape, member: usize) -> Option<u32>
+    requires { (t : ℕ) → seat_at entities.now set.now member ≡ Some t → t < 2 ^ 32 }
+    ensures { result ≡ seat_at entities.now set.now member }
+{
+    let row = row_of(entities, set.member, member)?;
+    Some(row.seat + set.slot)
+}
+
+/// A place that FILE names, in seats.
+#[derive(Clone, Copy)]
+pub enum Spot {
+    ByRule,
+    First,
+    Last,
+    Before(u32),
+    After(u32),
+}
+
+/// The place that FILE names; F3 where the member that it names does not exist.
+pub(crate) fn spot_of(entities: &Entities, set: &SetShape, how: How) -> Result<Spot, RunFault>
+    requires { (y t : ℕ) → seat_at entities.now set.now y ≡ Some t → t < 2 ^ 32 }
+    ensures { result ≡ spot_by entities.now set.now how }
+{
+    match how {
+        How::ByRule => Ok(Spot::ByRule),
+        How::First => Ok(Spot::First),
+        How::Last => Ok(Spot::Last),
+        How::Before(y) => match seat_of(entities, set, named(y)) {
+            None => Err(RunFault::NoEntity),
+            Some(at) => Ok(Spot::Before(at)),
+        },
+        How::After(y) => match seat_of(entities, set, named(y)) {
+            None => Err(RunFault::NoEntity),
+            Some(at) => Ok(Spot::After(at)),
+        },
+    }
+}
+
+/// Whether a seat stands in the list of a head.
+fn stands<S: SetBoard>(board: &S, head: u32, seat: u32) -> bool
+    requires { seat < (S.board board.now).seats }
+    ensures { result ≡ is_at (head_of (S.board board.now).lists seat) head }
+{
+    match board.place(seat) {
+        None => false,
+        Some(h) => h == head,
+    }
+}
+
+/// The seat behind which a member is filed, or none where it is filed first; F5 where the member
+/// named is not in the list of the head.
+pub(crate) fn place_for<S: SetBoard>(
+    entities: &Entities,
+    numbers: &[u32],
+    board: &S,
+    set: &SetShape,
+    head: u32,
+    member: usize,
+    spot: Spot,
+) -> Result<Option<u32>, RunFault>
+    requires head { head < length (S.board board.now).lists }
+    requires spot { SpotBelow spot (S.board board.now).seats }
+    requires numbers { length numbers.now ≡ (S.board board.now).seats }
+    requires sound { IsSound (S.board board.now) }
+    ensures { result ≡ place_by entities.now numbers.now (S.board board.now).lists set.now head member spot }
+{
+    match spot {
+        Spot::First => Ok(None),
+        Spot::Last => Ok(board.last(head)),
+        Spot::ByRule => match &set.discipline {
+            Discipline::Fifo => Ok(board.last(head)),
+            Discipline::Lifo => Ok(None),
+            Discipline::Ranked(keys) => Ok(ranked_place(
+                entities, numbers, board, set.member, keys, head, member,
+            )),
+        },
+        Spot::Before(at) => {
+            if stands(board, head, at) {
+                Ok(board.prev(at))
+            } else {
+                Err(RunFault::NotInList)
+            }
+        }
+        Spot::After(at) => {
+            if stands(board, head, at) {
+                Ok(Some(at))
+            } else {
+                Err(RunFault::NotInList)
+            }
+        }
+    }
+}
+
+/// The seat of a member in the list of a head.
+pub(crate) fn standing<S: SetBoard>(
+    entities: &Entities,
+    board: &S,
+    set: &SetShape,
+    head: u32,
+    member: usize,
+) -> Result<u32, RunFault>
+    requires seats { (y t : ℕ) → seat_at entities.now set.now y ≡ Some t → t < (S.board board.now).seats }
+    requires small { (S.board board.now).seats < 2 ^ 32 }
+    ensures value { result ≡ standing_by (S.board board.now).lists head (seat_at entities.now set.now member) }
+    ensures within { IfOk result (λ at. at < (S.board board.now).seats) }
+{
+    match seat_of(entities, set, member) {
+        None => Err(RunFault::NoEntity),
+        Some(at) => match board.place(at) {
+            None => Err(RunFault::NotInList),
+            Some(h) => {
+                if h == head {
+                    Ok(at)
+                } else {
+                    Err(RunFault::NotInList)
+                }
+            }
+        },
+    }
+}
+
+/// The seat of the member that is to be removed from the list of a head.
+pub(crate) fn seat_named<S: SetBoard>(
+    entities: &Entities,
+    board: &S,
+    set: &SetShape,
+    head: u32,
+    which: Which,
+) -> Result<u32, RunFault>
+    requires head { head < length (S.board board.now).lists }
+    requires seats { (y t : ℕ) → seat_at entities.now set.now y ≡ Some t → t < (S.board board.now).seats }
+    requires small { (S.board board.now).seats < 2 ^ 32 }
+    ensures { result ≡ seat_for entities.now (S.board board.now).lists set.now head which }
+{
+    match which {
+        Which::First => match board.first(head) {
+            None => Err(RunFault::EmptySet),
+            Some(seat) => Ok(seat),
+        },
+        Which::Last => match board.last(head) {
+            None => Err(RunFault::EmptySet),
+            Some(seat) => Ok(seat),
+        },
+        Which::Member(x) => standing(entities, board, set, head, named(x)),
+    }
+}
+
+/// The number of the member whose seat it is.
+pub(crate) fn number_of(numbers: &[u32], seat: u32) -> u32
+    requires { seat < length numbers.now }
+    ensures { result ≡ number_at numbers.now seat }
+{
+    numbers[seat as usize]
+}
+
+/// The number of the member whose seat it is, or none.
+pub(crate) fn number_if(numbers: &[u32], seat: Option<u32>) -> Option<u32>
+    requires { ForSome seat (λ at. at < length numbers.now) }
+    ensures { result ≡ option_map (number_at numbers.now) seat }
+{
+    match seat {
+        None => None,
+        Some(at) => Some(number_of(numbers, at)),
+    }
+}
+
+/// The seat of the member with this number, or none where no member is named.
+pub(crate) fn seat_if(entities: &Entities, set: &SetShape, member: Option<u32>) -> Option<u32>
+    requires { (y t : ℕ) → seat_at entities.now set.now y ≡ Some t → t < 2 ^ 32 }
+    ensures none { ForNone member (result ≡ None) }
+    ensures some { ForSome member (λ y. result ≡ seat_at entities.now set.now y) }
+{
+    match member {
+        None => None,
+        Some(number) => seat_of(entities, set, number as usize),
+    }
+}
+
+/// The seat of a member where it is in the list of an owner, and none where it isn't; F3 where one
+/// does not exist.
+pub(crate) fn seat_in<S: SetBoard>(
+    entities: &Entities,
+    board: &S,
+    set: &SetShape,
+    owner: usize,
+    member: usize,
+) -> Result<Option<u32>, RunFault>
+    requires heads { (h : ℕ) → head_at entities.now set.now owner ≡ Some h → h < 2 ^ 32 }
+    requires seats { (y t : ℕ) → seat_at entities.now set.now y ≡ Some t → t < (S.board board.now).seats }
+    requires small { (S.board board.now).seats < 2 ^ 32 }
+    ensures { result ≡ held.seat_in entities.now (S.board board.now).lists set.now owner member }
+{
+    let head = match head_of(entities, set, owner) {
+        None => return Err(RunFault::NoEntity),
+        Some(head) => head,
+    };
+    match seat_of(entities, set, member) {
+        None => Err(RunFault::NoEntity),
+        Some(seat) => {
+            if stands(board, head, seat) {
+                Ok(Some(seat))
+            } else {
+                Ok(None)
+            }
+        }
+    }
+}

@@ -1,0 +1,45 @@
+use ss_check::{Discipline, Owner};
+
+/// What is kept of a class: how many attributes its entities have, how many sets they own, in how
+/// many sets they may be, and whether it is permanent.
+#[derive(Clone, Copy)]
+pub struct ClassShape {
+    pub attributes: usize,
+    pub owned: u32,
+    pub joined: u32,
+    pub permanent: bool,
+}
+
+/// What is kept of a set: its discipline; whose its lists are, and its number among the sets of
+/// that owner; the class of its members, and its number among the sets of that class.
+#[derive(Drop)]
+pub struct SetShape {
+    pub discipline: Discipline,
+    pub owner: Owner,
+    pub list: u32,
+    pub member: usize,
+    pub slot: u32,
+}
+
+/// Where a member is filed. A value names the entity with that number, and none where it is below
+/// 1.
+#[derive(Clone, Copy)]
+pub enum How {
+    /// By the set's discipline.
+    ByRule,
+    First,
+    Last,
+    /// Directly before this member of the list.
+    Before(i64),
+    /// Directly behind this member of the list.
+    After(i64),
+}
+
+/// Which member is removed.
+#[derive(Clone, Copy)]
+pub enum Which {
+    First,
+    Last,
+    /// The one that the value names.
+    Member(i64),
+}

@@ -1,0 +1,379 @@
+ghost use Rattle.std.specs.Prelude.{◌≡◌, ◌<◌, length};
+ghost use Rattle.ss_store.specs.Tables.{set_of};
+ghost use Rattle.ss_store.specs.Store as pure;
+ghost use Rattle.ss_store.specs.Filing.{filed, removed, is_in, count, first_member, last_member, next_member, previous_member, predecessor, successor, membership};
+ghost use Rattle.ss_store.specs.Change.{FitsStore, unapply_store, IsOutcome, IsRemoval};
+
+use crate::change::StoreChange;
+use crate::places::{
+    head_of, named, number_if, number_of, place_for, row_of, seat_if, seat_in, seat_named, seat_of,
+    spot_of, standing,
+};
+use crate::ranking::{value_at, values_of};
+use crate::rows::Entities;
+use crate::shape::{ClassShape, How, SetShape, Which};
+use ss_journal::Undo;
+use ss_links::{Place, SetBoard};
+use ss_words::RunFault;
+use std::marker::Model;
+
+/// Entities with their attributes, and the lists of the sets that they own, over a set board.
+///
+/// A value names the entity of a class with that number; one below 1 names none. No call here wants
+/// memory, and one that faults changes nothing.
+#[derive(Drop)]
+pub struct Store<S: SetBoard> {
+    classes: Vec<ClassShape>,
+    sets: Vec<SetShape>,
+    system: u32,
+    entities: Entities,
+    numbers: Vec<u32>,
+    board: S,
+}
+
+impl<S: SetBoard> Model for Store<S> {
+    ghost use Rattle.std.specs.Prelude.{List, []};
+    ghost use Rattle.ss_store.specs.Held.{HeadEntry, SeatEntry, Held, StoreValue, value_of, IsStore};
+
+    ghost Value = { StoreValue };
+
+    ghost view = { λ a. value_of (record {
+      tables = record { classes = a.classes.items; sets = a.sets.items; system = a.system };
+      rows = a.entities;
+      numbers = a.numbers.items;
+      owners = [];
+      members = [];
+      board = S.board a.board;
+    }) };
+
+    ghost invariant = { λ a. (ws : List HeadEntry) × (ms : List SeatEntry) × IsStore (record {
+      tables = record { classes = a.classes.items; sets = a.sets.items; system = a.system };
+      rows = a.entities;
+      numbers = a.numbers.items;
+      owners = ws;
+      members = ms;
+      board = S.board a.board;
+    }) };
+}
+
+impl<S: SetBoard> Store<S> {
+    /// Files a member in the list of a set for this owner, where `how` says.
+    ///
+    /// Faults: F3 where the owner, the member, or the one that `how` names does not exist; F4 where
+    /// the member is in a list of the set; F5 where the one that `how` names is not in this list.
+    pub fn file(
+        &mut self,
+        set: usize,
+        owner: i64,
+        x: i64,
+        how: How,
+    ) -> Result<StoreChange, RunFault>
+        requires { set < length self.old.tables.sets }
+        ensures { IsOutcome result
+            (filed (set_of self.old.tables set) self.old.state (pure.number_of owner) (pure.number_of x) how)
+            self.old self.new }
+    {
+        let shape = &self.sets[set];
+        let number = named(owner);
+        let member = named(x);
+        let _heads = self.board.heads();
+        let _seats = self.board.seats();
+        let head = match head_of(&self.entities, shape, number) {
+            None => return Err(RunFault::NoEntity),
+            Some(head) => head,
+        };
+        let seat = match seat_of(&self.entities, shape, member) {
+            None => return Err(RunFault::NoEntity),
+            Some(seat) => seat,
+        };
+        let spot = match spot_of(&self.entities, shape, how) {
+            Err(fault) => return Err(fault),
+            Ok(spot) => spot,
+        };
+        match self.board.place(seat) {
+            Some(_) => return Err(RunFault::AlreadyInSet),
+            None => {}
+        }
+        let before = match place_for(
+            &self.entities,
+            &self.numbers,
+            &self.board,
+            shape,
+            head,
+            member,
+            spot,
+        ) {
+            Err(fault) => return Err(fault),
+            Ok(before) => before,
+        };
+        self.board.relink(seat, Place { head, before });
+        Ok(StoreChange::Filed {
+            set,
+            owner: shape.owner,
+            list: shape.list,
+            number,
+            member,
+        })
+    }
+
+    /// Removes a member from the list of a set for this owner, and gives its number.
+    ///
+    /// Faults: F3 where the owner or the member named does not exist; F5 where the member named is
+    /// not in the list; F6 where the first or the last of an empty list is asked for.
+    pub fn remove(
+        &mut self,
+        set: usize,
+        owner: i64,
+        which: Which,
+    ) -> Result<(u32, StoreChange), RunFault>
+        requires { set < length self.old.tables.sets }
+        ensures { IsRemoval result
+            (removed (set_of self.old.tables set) self.old.state (pure.number_of owner) which)
+            self.old self.new }
+    {
+        let shape = &self.sets[set];
+        let number = named(owner);
+        let _heads = self.board.heads();
+        let _seats = self.board.seats();
+        let head = match head_of(&self.entities, shape, number) {
+            None => return Err(RunFault::NoEntity),
+            Some(head) => head,
+        };
+        let seat = match seat_named(&self.entities, &self.board, shape, head, which) {
+            Err(fault) => return Err(fault),
+            Ok(seat) => seat,
+        };
+        let place = self.board.unlink(seat);
+        let member = number_of(&self.numbers, seat);
+        let before = number_if(&self.numbers, place.before);
+        Ok((
+            member,
+            StoreChange::Removed {
+                set,
+                owner: shape.owner,
+                list: shape.list,
+                number,
+                member: member as usize,
+                before,
+            },
+        ))
+    }
+}
+
+impl<S: SetBoard> Store<S> {
+    /// Whether there is an entity of this class with this number.
+    pub fn exists(&self, class: usize, x: i64) -> bool
+        ensures { result ≡ pure.exists self.now.state class (pure.number_of x) }
+    {
+        row_of(&self.entities, class, named(x)).is_some()
+    }
+
+    /// The value of an attribute, by its number in the class; F3 where the entity does not exist.
+    pub fn get(&self, class: usize, attribute: usize, x: i64) -> Result<i64, RunFault>
+        ensures { result ≡ pure.attribute_of self.now.state class attribute (pure.number_of x) }
+    {
+        match values_of(&self.entities, class, named(x)) {
+            None => Err(RunFault::NoEntity),
+            Some(values) => Ok(value_at(values, attribute)),
+        }
+    }
+
+    /// The number of members in the list of a set for this owner; F3 where the owner does not
+    /// exist.
+    pub fn count(&self, set: usize, owner: i64) -> Result<u32, RunFault>
+        requires { set < length self.now.tables.sets }
+        ensures { result ≡ count (set_of self.now.tables set) self.now.state (pure.number_of owner) }
+    {
+        let shape = &self.sets[set];
+        let _heads = self.board.heads();
+        match head_of(&self.entities, shape, named(owner)) {
+            None => Err(RunFault::NoEntity),
+            Some(head) => Ok(self.board.len(head)),
+        }
+    }
+
+    /// The first member of the list of a set for this owner, or none; F3 where the owner does not
+    /// exist.
+    pub fn walk_first(&self, set: usize, owner: i64) -> Result<Option<u32>, RunFault>
+        requires { set < length self.now.tables.sets }
+        ensures { result ≡ first_member (set_of self.now.tables set) self.now.state (pure.number_of owner) }
+    {
+        let shape = &self.sets[set];
+        let _heads = self.board.heads();
+        match head_of(&self.entities, shape, named(owner)) {
+            None => Err(RunFault::NoEntity),
+            Some(head) => {
+                let first = self.board.first(head);
+                Ok(number_if(&self.numbers, first))
+            }
+        }
+    }
+
+    /// The last member of the list of a set for this owner, or none; F3 where the owner does not
+    /// exist.
+    pub fn walk_last(&self, set: usize, owner: i64) -> Result<Option<u32>, RunFault>
+        requires { set < length self.now.tables.sets }
+        ensures { result ≡ last_member (set_of self.now.tables set) self.now.state (pure.number_of owner) }
+    {
+        let shape = &self.sets[set];
+        let _heads = self.board.heads();
+        match head_of(&self.entities, shape, named(owner)) {
+            None => Err(RunFault::NoEntity),
+            Some(head) => {
+                let last = self.board.last(head);
+                Ok(number_if(&self.numbers, last))
+            }
+        }
+    }
+
+    /// Whether a member is in the list of a set for this owner; F3 where the owner or the member
+    /// does not exist.
+    pub fn is_in(&self, set: usize, owner: i64, x: i64) -> Result<bool, RunFault>
+        requires { set < length self.now.tables.sets }
+        ensures { result ≡ is_in (set_of self.now.tables set) self.now.state (pure.number_of owner) (pure.number_of x) }
+    {
+        let shape = &self.sets[set];
+        let _heads = self.board.heads();
+        let _seats = self.board.seats();
+        match seat_in(&self.entities, &self.board, shape, named(owner), named(x)) {
+            Err(fault) => Err(fault),
+            Ok(None) => Ok(false),
+            Ok(Some(_)) => Ok(true),
+        }
+    }
+
+    /// The member directly behind one of the list of a set for this owner, or none where it is the
+    /// last.
+    ///
+    /// Faults: F3 where the owner or the member does not exist; F14 where the member is not in the
+    /// list.
+    pub fn walk_next(&self, set: usize, owner: i64, x: i64) -> Result<Option<u32>, RunFault>
+        requires { set < length self.now.tables.sets }
+        ensures { result
+            ≡ next_member (set_of self.now.tables set) self.now.state (pure.number_of owner) (pure.number_of x) }
+    {
+        let shape = &self.sets[set];
+        let _heads = self.board.heads();
+        let _seats = self.board.seats();
+        match seat_in(&self.entities, &self.board, shape, named(owner), named(x)) {
+            Err(fault) => Err(fault),
+            Ok(None) => Err(RunFault::MemberLeft),
+            Ok(Some(seat)) => {
+                let next = self.board.next(seat);
+                Ok(number_if(&self.numbers, next))
+            }
+        }
+    }
+
+    /// The member directly before one of the list of a set for this owner, or none where it is the
+    /// first.
+    ///
+    /// Faults: F3 where the owner or the member does not exist; F14 where the member is not in the
+    /// list.
+    pub fn walk_prev(&self, set: usize, owner: i64, x: i64) -> Result<Option<u32>, RunFault>
+        requires { set < length self.now.tables.sets }
+        ensures { result
+            ≡ previous_member (set_of self.now.tables set) self.now.state (pure.number_of owner) (pure.number_of x) }
+    {
+        let shape = &self.sets[set];
+        let _heads = self.board.heads();
+        let _seats = self.board.seats();
+        match seat_in(&self.entities, &self.board, shape, named(owner), named(x)) {
+            Err(fault) => Err(fault),
+            Ok(None) => Err(RunFault::MemberLeft),
+            Ok(Some(seat)) => {
+                let before = self.board.prev(seat);
+                Ok(number_if(&self.numbers, before))
+            }
+        }
+    }
+}
+
+impl<S: SetBoard> Store<S> {
+    /// `P.s`: the member directly before one in the list that holds it, or none where it is the
+    /// first or in no list; F3 where it does not exist.
+    pub fn predecessor(&self, set: usize, x: i64) -> Result<Option<u32>, RunFault>
+        requires { set < length self.now.tables.sets }
+        ensures { result ≡ predecessor (set_of self.now.tables set) self.now.state (pure.number_of x) }
+    {
+        let shape = &self.sets[set];
+        let _seats = self.board.seats();
+        match seat_of(&self.entities, shape, named(x)) {
+            None => Err(RunFault::NoEntity),
+            Some(seat) => {
+                let before = self.board.prev(seat);
+                Ok(number_if(&self.numbers, before))
+            }
+        }
+    }
+
+    /// `S.s`: the member directly behind one in the list that holds it, or none where it is the
+    /// last or in no list; F3 where it does not exist.
+    pub fn successor(&self, set: usize, x: i64) -> Result<Option<u32>, RunFault>
+        requires { set < length self.now.tables.sets }
+        ensures { result ≡ successor (set_of self.now.tables set) self.now.state (pure.number_of x) }
+    {
+        let shape = &self.sets[set];
+        let _seats = self.board.seats();
+        match seat_of(&self.entities, shape, named(x)) {
+            None => Err(RunFault::NoEntity),
+            Some(seat) => {
+                let next = self.board.next(seat);
+                Ok(number_if(&self.numbers, next))
+            }
+        }
+    }
+
+    /// `M.s`: whether an entity is in a list of the set; F3 where it does not exist.
+    pub fn membership(&self, set: usize, x: i64) -> Result<bool, RunFault>
+        requires { set < length self.now.tables.sets }
+        ensures { result ≡ membership (set_of self.now.tables set) self.now.state (pure.number_of x) }
+    {
+        let shape = &self.sets[set];
+        let _seats = self.board.seats();
+        match seat_of(&self.entities, shape, named(x)) {
+            None => Err(RunFault::NoEntity),
+            Some(seat) => Ok(self.board.place(seat).is_some()),
+        }
+    }
+}
+
+impl<S: SetBoard> Undo for Store<S> {
+    type Change = StoreChange;
+
+    ghost fits = { FitsStore };
+
+    ghost unapply = { unapply_store };
+
+    fn undo(&mut self, change: StoreChange) {
+        let _heads = self.board.heads();
+        let _seats = self.board.seats();
+        match change {
+            StoreChange::Filed {
+                set,
+                owner: _,
+                list: _,
+                number: _,
+                member,
+            } => {
+                let shape = &self.sets[set];
+                let seat = seat_of(&self.entities, shape, member).unwrap();
+                let _place = self.board.unlink(seat);
+            }
+            StoreChange::Removed {
+                set,
+                owner: _,
+                list: _,
+                number,
+                member,
+                before,
+            } => {
+                let shape = &self.sets[set];
+                let before = seat_if(&self.entities, shape, before);
+                let head = head_of(&self.entities, shape, number).unwrap();
+                let seat = seat_of(&self.entities, shape, member).unwrap();
+                self.board.relink(seat, Place { head, before });
+            }
+        }
+    }
+}
