@@ -1,0 +1,9 @@
+mod Tally
+mod Form
+mod Law
+mod ExprLaw
+mod Items
+mod SimpleLaw
+mod ConditionLaw
+mod LoopLaw
+mod Rooms

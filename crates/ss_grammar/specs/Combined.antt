@@ -1,0 +1,75 @@
+-- Readings that are made of readings.
+use Rattle.std.specs.Prelude.{◌⊎◌, ℕ, zero, suc, Bool, true, false, List, [], ◌∷◌, Option, Some, None}
+use mathlib.Core.Logic.{inl, inr}
+use Rattle.ss_words.specs.declared.mark.Mark.{Mark}
+use Rattle.ss_words.specs.declared.mark.Mark.TheVariants as m
+use Rattle.ss_words.specs.declared.word.Sign.TheVariants as s
+use Rattle.ss_words.specs.declared.refusal.Refusal.TheVariants.{Unexpected, PastLimit}
+use Rattle.ss_words.specs.Plain.{Plain, number, mark}
+use Rattle.ss_words.specs.Reading.{Reading, ◌>>=◌, pure, refuse, look, skip, many}
+use Rattle.ss_words.specs.Marks.{is, expect, eat}
+use Rattle.ss_words.specs.Lists.{Several}
+
+-- one reading and then another
+unfoldable pub pair : {A B : Type 0} → Reading A → Reading B → Reading (A × B)
+pair p q = p >>= λ a. q >>= λ b. pure (a, b)
+
+-- a mark and then what p reads
+unfoldable pub behind : {A : Type 0} → Mark → Reading A → Reading A
+behind k p = expect k >>= λ u. p
+
+-- what p reads and then a mark
+unfoldable pub before : {A : Type 0} → Reading A → Mark → Reading A
+before p k = p >>= λ a. expect k >>= λ u. pure a
+
+-- what f makes of what p reads
+unfoldable pub made : {A B : Type 0} → (A → B) → Reading A → Reading B
+made f p = p >>= λ a. pure (f a)
+
+-- a mark and what p reads, if the mark stands here
+unfoldable pub if_mark : {A : Type 0} → Mark → Reading A → Reading (Option A)
+if_mark k p = eat k >>= λ b. elim b [ true ↦ (p >>= λ a. pure (Some a)) | false ↦ pure None ]
+
+-- a word of a table and what p reads, if such a word stands here
+unfoldable pub if_word : {W A : Type 0} → Reading (Option W) → Reading A → Reading (Option (W × A))
+if_word t p = t >>= λ o. elim o [ Some w ↦ (p >>= λ a. pure (Some (w, a))) | None ↦ pure None ]
+
+-- what i reads, or else what q reads
+unfoldable pub either : {A B : Type 0} → Reading (Option A) → Reading B → Reading (A ⊎ B)
+either i q = i >>= λ o. elim o [ Some a ↦ pure (inl a) | None ↦ (q >>= λ b. pure (inr b)) ]
+
+-- items as long as there is one
+unfoldable pub star : {A : Type 0} → Reading (Option A) → Reading (List A)
+star i = many i [] (λ a xs. a ∷ xs)
+
+-- a word by a table, if it stands here
+unfoldable pub by_table : {W : Type 0} → (Option Plain → Option W) → Reading (Option W)
+by_table of = look (λ v. elim (of v) [ Some w ↦ skip (pure (Some w)) | None ↦ pure None ])
+
+-- whether a parenthesis opens here, which is then passed; refused where none more may be open
+unfoldable pub opened : ℕ → Reading Bool
+opened zero = look (λ w. elim (is (m.Sign s.Open) w) [ true ↦ refuse PastLimit | false ↦ pure false ])
+opened (suc n) = eat (m.Sign s.Open)
+
+-- what p reads in parentheses, if one opens here
+unfoldable pub if_open : {A : Type 0} → ℕ → Reading A → Reading (Option A)
+if_open n p = opened n >>= λ b. elim b [ true ↦ (p >>= λ a. expect (m.Sign s.Close) >>= λ u. pure (Some a)) | false ↦ pure None ]
+
+-- one or more with commas between
+unfoldable pub several : {A : Type 0} → Reading A → Reading (Several A)
+several p = made (λ x. record { first = x.0; others = x.1 }) (pair p (star (if_mark (m.Sign s.Comma) p)))
+
+-- what i reads, or else what j reads, if one of them stands here
+unfoldable pub either_of : {A B : Type 0} → Reading (Option A) → Reading (Option B) → Reading (Option (A ⊎ B))
+either_of i j = i >>= λ o. elim o [
+  | Some a ↦ pure (Some (inl a))
+  | None ↦ (j >>= λ q. elim q [ Some b ↦ pure (Some (inr b)) | None ↦ pure None ])
+]
+
+-- what f makes of what i reads, if it stands here
+unfoldable pub made_of : {A B : Type 0} → (A → B) → Reading (Option A) → Reading (Option B)
+made_of f i = i >>= λ o. elim o [ Some a ↦ pure (Some (f a)) | None ↦ pure None ]
+
+-- what i reads, which must stand here
+unfoldable pub must : {A : Type 0} → Reading (Option A) → Reading A
+must i = i >>= λ o. elim o [ Some a ↦ pure a | None ↦ refuse Unexpected ]

@@ -1,0 +1,15 @@
+pub mod Expr
+pub mod Condition
+pub mod Simple
+pub mod SimpleSpelling
+pub mod Loops
+pub mod Tree
+pub mod Places
+pub mod Written
+pub mod Combined
+pub mod Counts
+pub mod ExprReading
+pub mod SimpleReading
+pub mod ConditionReading
+pub mod View
+pub mod LoopReading

@@ -1,0 +1,43 @@
+-- Sections as lists of places, each with its line.
+use Rattle.std.specs.Prelude.{ℕ, Bool, List}
+use Rattle.ss_words.specs.Lists.{Name, Several}
+use Rattle.ss_grammar.specs.Expr.{Expr}
+use Rattle.ss_grammar.specs.Simple.{Simple}
+use Rattle.ss_grammar.specs.Loops.{Phrase, Computed, Question}
+use Rattle.ss_grammar.specs.Tree.{Head}
+
+-- a place of an IF statement
+pub data Branch : Type 0 where
+  If : Question → Branch
+  Else Always : Branch
+
+-- a place of a FOR statement: a phrase, with whether DO stands behind it; LOOP; FIND FIRST CASE; the two places of COMPUTE
+pub data Loop : Type 0 where
+  For : Phrase → Bool → Loop
+  Next Find : Loop
+  Gather : Expr → Loop
+  Compute : Several Computed → Loop
+
+-- a place of a section
+pub data Place : Type 0 where
+  Simply : Simple → Place
+  Branches : Branch → Place
+  Loops : Loop → Place
+  EndOfSection : Place
+
+-- a place and the line of its first plain word
+pub record Spot : Type 0 where
+  pub line : ℕ
+  pub place : Place
+
+-- the names of a local DEFINE and the line of its first plain word
+pub record LocalNames : Type 0 where
+  pub line : ℕ
+  pub names : Several Name
+
+-- the line of the head's first plain word, the head, the local DEFINEs, and the places, of which END is the last
+pub record Section : Type 0 where
+  pub line : ℕ
+  pub head : Head
+  pub locals : List LocalNames
+  pub places : List Spot

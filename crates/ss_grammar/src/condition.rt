@@ -1,0 +1,67 @@
+use crate::expr::Expr;
+
+/// A name, in upper case, with a subscript or without: what a statement assigns to, or a set (docs/LANGUAGE.md, "References").
+#[derive(Debug, Drop)]
+pub struct Reference {
+    pub name: Vec<u8>,
+    pub subscript: Option<Expr>,
+}
+
+/// How two values are compared.
+#[derive(Clone, Copy, Debug, PartialEq, Eq)]
+pub enum Comparison {
+    Equal,
+    Unequal,
+    Less,
+    Greater,
+    AtMost,
+    AtLeast,
+}
+
+/// Whether NOT stands behind IS.
+#[derive(Clone, Copy, Debug, PartialEq, Eq)]
+pub enum Copula {
+    Is,
+    IsNot,
+}
+
+/// A condition: conjunctions joined by OR (docs/LANGUAGE.md, "Conditions").
+#[derive(Debug, Drop)]
+#[cycle(condition)]
+pub struct Condition {
+    pub first: Conjunction,
+    pub more: Vec<Conjunction>,
+}
+
+/// Relations joined by AND.
+#[derive(Debug, Drop)]
+#[cycle(condition)]
+pub struct Conjunction {
+    pub first: Relation,
+    pub more: Vec<Relation>,
+}
+
+/// What holds or does not hold of values and sets.
+#[derive(Debug, Drop)]
+#[cycle(condition)]
+pub enum Relation {
+    /// `left comparison right`
+    Compared {
+        left: Expr,
+        comparison: Comparison,
+        right: Expr,
+    },
+    /// `set IS [NOT] EMPTY`
+    Empty {
+        set: Reference,
+        copula: Copula,
+    },
+    /// `member IS [NOT] IN set`
+    Member {
+        member: Expr,
+        copula: Copula,
+        set: Reference,
+    },
+    /// A condition between parentheses.
+    Within(Box<Condition>),
+}

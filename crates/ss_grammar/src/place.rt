@@ -1,0 +1,137 @@
+use crate::condition::{Condition, Reference};
+use crate::expr::Expr;
+use crate::simple::Simple;
+use ss_words::Several;
+
+/// The way in which a FOR phrase goes.
+#[derive(Clone, Copy, Debug, PartialEq, Eq)]
+pub enum Direction {
+    Onward,
+    Backward,
+}
+
+/// Where the walk of a set begins.
+#[derive(Debug, Drop)]
+pub enum WalkStart {
+    /// At the first member, or at the last one in reverse order.
+    AtEnd,
+    /// `FROM member`
+    From(Expr),
+    /// `AFTER member`
+    After(Expr),
+}
+
+/// What a FOR phrase goes through (docs/LANGUAGE.md, "FOR").
+#[derive(Debug, Drop)]
+pub enum Range {
+    /// `variable = first TO last [BY step]`, or `variable BACK FROM first TO last [BY step]`
+    Counting {
+        direction: Direction,
+        variable: Vec<u8>,
+        first: Expr,
+        last: Expr,
+        step: Option<Expr>,
+    },
+    /// `EVERY class [CALLED variable]`
+    Each {
+        class: Vec<u8>,
+        variable: Option<Vec<u8>>,
+    },
+    /// `EVERY variable IN set [FROM member | AFTER member] [IN REVERSE ORDER]`
+    Walking {
+        direction: Direction,
+        variable: Vec<u8>,
+        set: Reference,
+        start: WalkStart,
+    },
+}
+
+/// What a qualifier does with its condition.
+#[derive(Clone, Copy, Debug, PartialEq, Eq)]
+pub enum QualifierWord {
+    With,
+    Unless,
+    While,
+    Until,
+}
+
+/// A condition on the candidates of a FOR phrase.
+#[derive(Debug, Drop)]
+pub struct Qualifier {
+    pub word: QualifierWord,
+    pub condition: Condition,
+}
+
+/// A FOR phrase: what it goes through, and its qualifiers in written order.
+#[derive(Debug, Drop)]
+pub struct Phrase {
+    pub range: Range,
+    pub qualifiers: Vec<Qualifier>,
+}
+
+/// What a COMPUTE tells of its values.
+#[derive(Clone, Copy, Debug, PartialEq, Eq)]
+pub enum Statistic {
+    Number,
+    Sum,
+    Maximum,
+    Minimum,
+}
+
+/// A target of a COMPUTE and the statistic that it is given.
+#[derive(Debug, Drop)]
+pub struct Computed {
+    pub target: Reference,
+    pub statistic: Statistic,
+}
+
+/// What an IF asks.
+#[derive(Debug, Drop)]
+pub enum Question {
+    Holds(Condition),
+    Found,
+    NoneFound,
+}
+
+/// A place of an IF statement.
+#[derive(Debug, Drop)]
+pub enum Branch {
+    If(Question),
+    Else,
+    Always,
+}
+
+/// A place of a FOR statement.
+#[derive(Debug, Drop)]
+pub enum Loop {
+    /// A FOR phrase; `repeats` says whether DO stands behind it.
+    For {
+        phrase: Phrase,
+        repeats: bool,
+    },
+    /// LOOP
+    Next,
+    /// `FIND FIRST CASE`
+    Find,
+    /// The first place of a COMPUTE, which takes in the value.
+    Gather(Expr),
+    /// The second place of a COMPUTE, which assigns the statistics.
+    Compute(Several<Computed>),
+}
+
+/// One place of a section (docs/LANGUAGE.md, "Sections").
+#[derive(Debug, Drop)]
+pub enum Place {
+    Simple(Simple),
+    Branch(Branch),
+    Loop(Loop),
+    /// The END of the section.
+    End,
+}
+
+/// A place and the line on which its first plain word stands; lines count from 1.
+#[derive(Debug, Drop)]
+pub struct Spot {
+    pub line: usize,
+    pub place: Place,
+}
