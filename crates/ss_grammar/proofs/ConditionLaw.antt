@@ -13,8 +13,8 @@ use Rattle.ss_words.specs.Reading.{Read, Reading, bind, pure, refuse}
 use Rattle.ss_words.specs.Marks.{is, expect, eat}
 use Rattle.ss_words.proofs.Laws.{Good, Any, fits_option, spell_option, pure_good, refuse_good, bind_good, then_good}
 use Rattle.ss_words.proofs.Local.{Rooms, same, more, Local, pure_local, refuse_local, bind_local}
-use Rattle.ss_words.proofs.Marks.{spell_mark, spell_eaten, expect_good, eat_good, expect_local, eat_local, expect_again, eat_again, not_eaten}
-use Rattle.ss_words.proofs.Again.{then}
+use Rattle.ss_words.proofs.Marks.{spell_mark, spell_eaten, expect_good, eat_good, expect_local, eat_local, expect_read_back, eat_read_back, not_eaten}
+use Rattle.ss_words.proofs.ReadBack.{then}
 use Rattle.ss_grammar.specs.declared.expr.TermSign.{TermSign}
 use Rattle.ss_grammar.specs.declared.expr.TermSign.TheVariants.{Plus, Minus}
 use Rattle.ss_grammar.specs.declared.condition.Comparison.{Comparison}
@@ -164,10 +164,10 @@ copula_counted : (n : ℕ) → Tally n copula
 unfolding copula
 copula_counted n = bind_tally n _ (elim [ true ↦ pure_tally n IsNot | false ↦ pure_tally n Is ]) (eat (m.Reserved r.Not)) (eat_tally n (m.Reserved r.Not) not_leaves)
 
-copula_again : (c : Copula) (y : List Plain) → is (m.Reserved r.Not) (first y) ≡ false → copula (spell_not c ++ y) ≡ (Ok c, y)
+copula_read_back : (c : Copula) (y : List Plain) → is (m.Reserved r.Not) (first y) ≡ false → copula (spell_not c ++ y) ≡ (Ok c, y)
 unfolding copula spell_not pure
-copula_again IsNot y e = then (eat (m.Reserved r.Not)) _ true (mark (m.Reserved r.Not) ∷ y) y (eat_again (m.Reserved r.Not) y)
-copula_again Is y e = then (eat (m.Reserved r.Not)) _ false y y (not_eaten (m.Reserved r.Not) y e)
+copula_read_back IsNot y e = then (eat (m.Reserved r.Not)) _ true (mark (m.Reserved r.Not) ∷ y) y (eat_read_back (m.Reserved r.Not) y)
+copula_read_back Is y e = then (eat (m.Reserved r.Not)) _ false y y (not_eaten (m.Reserved r.Not) y e)
 
 abbrev pub SpellValue : Expr ⊎ Relation → List Plain
 SpellValue (inl e) = spell_expr e
@@ -277,29 +277,29 @@ module _ (rooms : Rooms) (n k : ℕ) (w : Wider rooms n k) where
   set_empty e v c y h =
       then (eat (m.Reserved r.In)) _ false (mark (m.Reserved r.Empty) ∷ y) (mark (m.Reserved r.Empty) ∷ y) (not_eaten (m.Reserved r.In) _ refl)
       ∙ ap (λ (o : Option Reference). let p : Reading Relation = elim o [ Some u ↦ bind (expect (m.Reserved r.Empty)) (λ z. pure (is_empty u c)) | None ↦ refuse Unexpected ] in p (mark (m.Reserved r.Empty) ∷ y)) h
-      ∙ then (expect (m.Reserved r.Empty)) _ tt (mark (m.Reserved r.Empty) ∷ y) y (expect_again (m.Reserved r.Empty) y)
+      ∙ then (expect (m.Reserved r.Empty)) _ tt (mark (m.Reserved r.Empty) ∷ y) y (expect_read_back (m.Reserved r.Empty) y)
 
   set_in : (e : Expr) (v : Reference) (c : Copula) (y : List Plain) → depth_reference v ≤ n → Ends y → set_with n e c (mark (m.Reserved r.In) ∷ (spell_reference v ++ y)) ≡ (Ok (is_in e c v), y)
   unfolding set_with pure
   set_in e v c y h ends =
-      then (eat (m.Reserved r.In)) _ true (mark (m.Reserved r.In) ∷ (spell_reference v ++ y)) (spell_reference v ++ y) (eat_again (m.Reserved r.In) _)
+      then (eat (m.Reserved r.In)) _ true (mark (m.Reserved r.In) ∷ (spell_reference v ++ y)) (spell_reference v ++ y) (eat_read_back (m.Reserved r.In) _)
       ∙ then (reference_at n) _ v (spell_reference v ++ y) y (v_law.again v y h ends.no_open)
 
   -- behind IS
-  is_again : (e : Expr) (c : Copula) (q : Relation) (u y : List Plain) → is (m.Reserved r.Not) (first u) ≡ false → set_with n e c u ≡ (Ok q, y) → behind_value n e (spell_copula c ++ u) ≡ (Ok (inr q), y)
+  is_read_back : (e : Expr) (c : Copula) (q : Relation) (u y : List Plain) → is (m.Reserved r.Not) (first u) ≡ false → set_with n e c u ≡ (Ok q, y) → behind_value n e (spell_copula c ++ u) ≡ (Ok (inr q), y)
   unfolding behind_value pure
-  is_again e c q u y not_next h =
+  is_read_back e c q u y not_next h =
       let z = spell_not c ++ u in
       let is_word : List Plain = mark (m.Reserved r.Is) ∷ z in
       ap (λ (t : List Plain). behind_value n e (t ++ u)) (copula_words c)
       ∙ then (by_table comparison_of) _ None is_word is_word (table_stops rooms n comparison_table is_word refl)
-      ∙ then (eat (m.Reserved r.Is)) _ true is_word z (eat_again (m.Reserved r.Is) z)
-      ∙ then copula _ c z u (copula_again c u not_next)
+      ∙ then (eat (m.Reserved r.Is)) _ true is_word z (eat_read_back (m.Reserved r.Is) z)
+      ∙ then copula _ c z u (copula_read_back c u not_next)
       ∙ then (set_with n e c) _ q u y h
 
-  compared_again : (e f : Expr) (c : Comparison) (y : List Plain) → depth_expr f ≤ n → Ends y → behind_value n e (spell_comparison c ∷ (spell_expr f ++ y)) ≡ (Ok (inr (compared e c f)), y)
+  compared_read_back : (e f : Expr) (c : Comparison) (y : List Plain) → depth_expr f ≤ n → Ends y → behind_value n e (spell_comparison c ∷ (spell_expr f ++ y)) ≡ (Ok (inr (compared e c f)), y)
   unfolding behind_value pure
-  compared_again e f c y h ends =
+  compared_read_back e f c y h ends =
       then (by_table comparison_of) _ (Some c) (spell_comparison c ∷ (spell_expr f ++ y)) (spell_expr f ++ y) (table_goes rooms n comparison_table c _)
       ∙ then (expr_at n) _ f (spell_expr f ++ y) y (x.again f y h ends)
 
@@ -307,9 +307,9 @@ module _ (rooms : Rooms) (n k : ℕ) (w : Wider rooms n k) where
   abbrev pub EndsValue : List Plain → Type 0
   EndsValue y = Ends y × (comparison_of (first y) ≡ None) × (is (m.Reserved r.Is) (first y) ≡ false)
 
-  alone_again : (e : Expr) (y : List Plain) → EndsValue y → behind_value n e y ≡ (Ok (inl e), y)
+  alone_read_back : (e : Expr) (y : List Plain) → EndsValue y → behind_value n e y ≡ (Ok (inl e), y)
   unfolding behind_value pure
-  alone_again e y h =
+  alone_read_back e y h =
       then (by_table comparison_of) _ None y y (table_stops rooms n comparison_table y h.1)
       ∙ then (eat (m.Reserved r.Is)) _ false y y (not_eaten (m.Reserved r.Is) y h.2)
 
@@ -373,40 +373,40 @@ module _ (rooms : Rooms) (n k : ℕ) (w : Wider rooms n k) where
     ]) (if_open n q) lo.counted
 
     -- a value that begins with no parenthesis
-    plain_again : (e : Expr) (y : List Plain) → is (m.Sign s.Open) (first (spell_expr e ++ y)) ≡ false → depth_expr e ≤ n → Ends y → value_with n q (spell_expr e ++ y) ≡ behind_value n e y
+    plain_read_back : (e : Expr) (y : List Plain) → is (m.Sign s.Open) (first (spell_expr e ++ y)) ≡ false → depth_expr e ≤ n → Ends y → value_with n q (spell_expr e ++ y) ≡ behind_value n e y
     unfolding value_with
-    plain_again e y closed h ends =
+    plain_read_back e y closed h ends =
         then (if_open n q) _ None (spell_expr e ++ y) (spell_expr e ++ y) (lo.stops (spell_expr e ++ y) closed)
         ∙ then (expr_at n) (behind_value n) e (spell_expr e ++ y) y (x.again e y h ends)
 
     -- a value that begins with one
-    within_again : (e : Expr) (z : List Factor × List (TermSign × Term)) (y : List Plain) → suc (depth_expr e) ≤ n → RestFits n z → Ends y → value_with n q (spell_expr (around e z) ++ y) ≡ behind_value n (around e z) y
+    within_read_back : (e : Expr) (z : List Factor × List (TermSign × Term)) (y : List Plain) → suc (depth_expr e) ≤ n → RestFits n z → Ends y → value_with n q (spell_expr (around e z) ++ y) ≡ behind_value n (around e z) y
     unfolding value_with
-    within_again e z y h f ends =
+    within_read_back e z y h f ends =
         let v = RestSpelled z ++ y in
         ap (λ (u : List Plain). value_with n q (u ++ y)) (around_words e z)
         ∙ ap (value_with n q) (append_assoc (spell_within (spell_expr e)) (RestSpelled z) y)
         ∙ then (if_open n q) _ (Some (inl e)) (spell_within (spell_expr e) ++ v) v (lo.goes (inl e) v h)
         ∙ then (rest_with n) _ z v y (z_law.again z y f ends)
 
-    value_again : (e : Expr) (y : List Plain) → depth_expr e ≤ n → Ends y → value_with n q (spell_expr e ++ y) ≡ behind_value n e y
-    value_again (expr (Some Plus) t ss) y h ends = plain_again (expr (Some Plus) t ss) y refl h ends
-    value_again (expr (Some Minus) t ss) y h ends = plain_again (expr (Some Minus) t ss) y refl h ends
-    value_again (expr None (term (digits i) ps) ss) y h ends = plain_again (expr None (term (digits i) ps) ss) y refl h ends
-    value_again (expr None (term (named i) ps) ss) y h ends = plain_again (expr None (term (named i) ps) ss) y refl h ends
-    value_again (expr None (term (applied i e es) ps) ss) y h ends = plain_again (expr None (term (applied i e es) ps) ss) y refl h ends
-    value_again (expr None (term (within e) ps) ss) y h ends =
+    value_read_back : (e : Expr) (y : List Plain) → depth_expr e ≤ n → Ends y → value_with n q (spell_expr e ++ y) ≡ behind_value n e y
+    value_read_back (expr (Some Plus) t ss) y h ends = plain_read_back (expr (Some Plus) t ss) y refl h ends
+    value_read_back (expr (Some Minus) t ss) y h ends = plain_read_back (expr (Some Minus) t ss) y refl h ends
+    value_read_back (expr None (term (digits i) ps) ss) y h ends = plain_read_back (expr None (term (digits i) ps) ss) y refl h ends
+    value_read_back (expr None (term (named i) ps) ss) y h ends = plain_read_back (expr None (term (named i) ps) ss) y refl h ends
+    value_read_back (expr None (term (applied i e es) ps) ss) y h ends = plain_read_back (expr None (term (applied i e es) ps) ss) y refl h ends
+    value_read_back (expr None (term (within e) ps) ss) y h ends =
         let z : List Factor × List (TermSign × Term) = (list_products ps, list_sums ss) in
         let whole : around e z ≡ expr None (term (within e) ps) ss = ap (λ (u : _). expr None (term (within e) u) (sums_of (list_sums ss))) (products_list ps) ∙ ap (λ (u : _). expr None (term (within e) ps) u) (sums_list ss) in
-        subst (λ (u : Expr). value_with n q (spell_expr u ++ y) ≡ behind_value n u y) whole (within_again e z y (omega (arith, h)) (fit_products n ps (omega (arith, h)), fit_sums n ss (omega (arith, h))) ends)
+        subst (λ (u : Expr). value_with n q (spell_expr u ++ y) ≡ behind_value n u y) whole (within_read_back e z y (omega (arith, h)) (fit_products n ps (omega (arith, h)), fit_sums n ss (omega (arith, h))) ends)
 
     copula_ends : (c : Copula) (u : List Plain) → Ends (spell_copula c ++ u)
     copula_ends Is u = ends_at _ _ refl refl refl
     copula_ends IsNot u = ends_at _ _ refl refl refl
 
-    empty_again : (v : List ℕ) (o : Option Expr) (c : Copula) (y : List Plain) → depth_reference (with_subscript v o) ≤ n
+    empty_read_back : (v : List ℕ) (o : Option Expr) (c : Copula) (y : List Plain) → depth_reference (with_subscript v o) ≤ n
         → value_with n q ((spell_reference (with_subscript v o) ++ spell_copula c ++ mark (m.Reserved r.Empty) ∷ []) ++ y) ≡ (Ok (inr (is_empty (with_subscript v o) c)), y)
-    empty_again v o c y h =
+    empty_read_back v o c y h =
         let t = with_subscript v o in
         let u = mark (m.Reserved r.Empty) ∷ y in
         let e = expr_of t in
@@ -414,24 +414,24 @@ module _ (rooms : Rooms) (n k : ℕ) (w : Wider rooms n k) where
         let regroup : (spell_reference t ++ spell_copula c ++ mark (m.Reserved r.Empty) ∷ []) ++ y ≡ spell_reference t ++ (spell_copula c ++ u) = simp append_assoc in
         ap (value_with n q) regroup
         ∙ ap (λ (z : List Plain). value_with n q (z ++ (spell_copula c ++ u))) (sym (expr_of_words v o))
-        ∙ value_again e (spell_copula c ++ u) (omega (arith, h, d)) (copula_ends c u)
-        ∙ is_again e c (is_empty t c) u y refl (set_empty e t c y (expr_of_is v o))
+        ∙ value_read_back e (spell_copula c ++ u) (omega (arith, h, d)) (copula_ends c u)
+        ∙ is_read_back e c (is_empty t c) u y refl (set_empty e t c y (expr_of_is v o))
 
-    relation_again : (p : Relation) (y : List Plain) → depth_relation p ≤ n → Ends y → value_with n q (spell_relation p ++ y) ≡ (Ok (inr p), y)
+    relation_read_back : (p : Relation) (y : List Plain) → depth_relation p ≤ n → Ends y → value_with n q (spell_relation p ++ y) ≡ (Ok (inr p), y)
     unfolding value_with pure
-    relation_again (compared e c f) y h ends =
+    relation_read_back (compared e c f) y h ends =
         let u = spell_comparison c ∷ (spell_expr f ++ y) in
         ap (value_with n q) (append_assoc (spell_expr e) (spell_comparison c ∷ spell_expr f) y)
-        ∙ value_again e u (omega (arith, h)) (comparison_ends c _)
-        ∙ compared_again e f c y (omega (arith, h)) ends
-    relation_again (is_empty v c) y h ends = empty_again v.name v.subscript c y h
-    relation_again (is_in e c v) y h ends =
+        ∙ value_read_back e u (omega (arith, h)) (comparison_ends c _)
+        ∙ compared_read_back e f c y (omega (arith, h)) ends
+    relation_read_back (is_empty v c) y h ends = empty_read_back v.name v.subscript c y h
+    relation_read_back (is_in e c v) y h ends =
         let u = mark (m.Reserved r.In) ∷ (spell_reference v ++ y) in
         let regroup : (spell_expr e ++ spell_copula c ++ mark (m.Reserved r.In) ∷ spell_reference v) ++ y ≡ spell_expr e ++ (spell_copula c ++ u) = simp append_assoc in
         ap (value_with n q) regroup
-        ∙ value_again e (spell_copula c ++ u) (omega (arith, h)) (copula_ends c u)
-        ∙ is_again e c (is_in e c v) u y refl (set_in e v c y (omega (arith, h)) ends)
-    relation_again (nested c) y h ends = then (if_open n q) _ (Some (inr c)) (spell_within (spell_condition c) ++ y) y (lo.goes (inr c) y h)
+        ∙ value_read_back e (spell_copula c ++ u) (omega (arith, h)) (copula_ends c u)
+        ∙ is_read_back e c (is_in e c v) u y refl (set_in e v c y (omega (arith, h)) ends)
+    relation_read_back (nested c) y h ends = then (if_open n q) _ (Some (inr c)) (spell_within (spell_condition c) ++ y) y (lo.goes (inr c) y h)
 
     -- ---- relations
 
@@ -447,7 +447,7 @@ module _ (rooms : Rooms) (n k : ℕ) (w : Wider rooms n k) where
       ]) (value_with n q) value_good;
       near = bind_local rooms _ _ (elim [ inl e ↦ refuse_local rooms | inr p ↦ pure_local rooms p ]) (value_with k q') (value_with n q) value_local;
       counted = bind_tally n _ (elim [ inl e ↦ refuse_tally n | inr p ↦ pure_tally n p ]) (value_with n q) value_counted;
-      again = λ p y h e. then (value_with n q) _ (inr p) (spell_relation p ++ y) y (relation_again p y h e);
+      again = λ p y h e. then (value_with n q) _ (inr p) (spell_relation p ++ y) y (relation_read_back p y h e);
     }
 
     abbrev a_relation : Form rooms n Relation
@@ -512,15 +512,15 @@ module _ (rooms : Rooms) (n k : ℕ) (w : Wider rooms n k) where
     relations_end [] y e = e
     relations_end (p ∷ ps) y e = ends_at _ _ refl refl refl
 
-    conjoined_again : (c : Conjunction) (y : List Plain) → depth_conjunction c ≤ n → EndsConjunction y → conjoined_with n q (spell_conjunction c ++ y) ≡ (Ok (inr c), y)
+    conjoined_read_back : (c : Conjunction) (y : List Plain) → depth_conjunction c ≤ n → EndsConjunction y → conjoined_with n q (spell_conjunction c ++ y) ≡ (Ok (inr c), y)
     unfolding conjoined_with pure
-    conjoined_again (conjunction p ps) y h e =
+    conjoined_read_back (conjunction p ps) y h e =
         let xs = list_additions ps in
         let z = relations.sp xs ++ y in
         let words : spell_additions ps ≡ relations.sp xs = ap spell_additions (sym (additions_list ps)) ∙ additions_words xs in
         ap (conjoined_with n q) (append_assoc (spell_relation p) (spell_additions ps) y)
         ∙ ap (λ (u : List Plain). conjoined_with n q (spell_relation p ++ (u ++ y))) words
-        ∙ then (value_with n q) _ (inr p) (spell_relation p ++ z) z (relation_again p z (omega (arith, h)) (relations_end xs y e.0))
+        ∙ then (value_with n q) _ (inr p) (spell_relation p ++ z) z (relation_read_back p z (omega (arith, h)) (relations_end xs y e.0))
         ∙ then relations.p _ xs z y (relations.again xs y (fit_additions ps (omega (arith, h))) e)
         ∙ ap (λ (u : Additions). let o : Read (Expr ⊎ Conjunction) = (Ok (inr (conjunction p u)), y) in o) (additions_list ps)
 
@@ -533,7 +533,7 @@ module _ (rooms : Rooms) (n k : ℕ) (w : Wider rooms n k) where
       ]) (conjoined_with n q) conjoined_good;
       near = bind_local rooms _ _ (elim [ inl e ↦ refuse_local rooms | inr c ↦ pure_local rooms c ]) (conjoined_with k q') (conjoined_with n q) conjoined_local;
       counted = bind_tally n _ (elim [ inl e ↦ refuse_tally n | inr c ↦ pure_tally n c ]) (conjoined_with n q) conjoined_counted;
-      again = λ c y h e. then (conjoined_with n q) _ (inr c) (spell_conjunction c ++ y) y (conjoined_again c y h e);
+      again = λ c y h e. then (conjoined_with n q) _ (inr c) (spell_conjunction c ++ y) y (conjoined_read_back c y h e);
     }
 
     abbrev a_conjunction : Form rooms n Conjunction
@@ -590,12 +590,12 @@ module _ (rooms : Rooms) (n k : ℕ) (w : Wider rooms n k) where
     conjunctions_end [] y e = e
     conjunctions_end (c ∷ cs) y e = (ends_at _ _ refl refl refl, refl)
 
-    either_again : (a : Expr ⊎ Condition) (y : List Plain) → FitsEither a → EndsEither y → either_with n q (SpellEither a ++ y) ≡ (Ok a, y)
+    either_read_back : (a : Expr ⊎ Condition) (y : List Plain) → FitsEither a → EndsEither y → either_with n q (SpellEither a ++ y) ≡ (Ok a, y)
     unfolding either_with conjoined_with pure
-    either_again (inl e) y h d =
+    either_read_back (inl e) y h d =
         let g = d.0 in
-        then (conjoined_with n q) _ (inl e) (spell_expr e ++ y) y (then (value_with n q) _ (inl e) (spell_expr e ++ y) y (value_again e y h g.0 ∙ alone_again e y g))
-    either_again (inr (condition c cs)) y h d =
+        then (conjoined_with n q) _ (inl e) (spell_expr e ++ y) y (then (value_with n q) _ (inl e) (spell_expr e ++ y) y (value_read_back e y h g.0 ∙ alone_read_back e y g))
+    either_read_back (inr (condition c cs)) y h d =
         let g = d.0 in
         let ends : EndsConjunction y = (g.0, d.1) in
         let xs = list_alternatives cs in
@@ -603,12 +603,12 @@ module _ (rooms : Rooms) (n k : ℕ) (w : Wider rooms n k) where
         let words : spell_alternatives cs ≡ conjunctions.sp xs = ap spell_alternatives (sym (alternatives_list cs)) ∙ alternatives_words xs in
         ap (either_with n q) (append_assoc (spell_conjunction c) (spell_alternatives cs) y)
         ∙ ap (λ (u : List Plain). either_with n q (spell_conjunction c ++ (u ++ y))) words
-        ∙ then (conjoined_with n q) _ (inr c) (spell_conjunction c ++ z) z (conjoined_again c z (omega (arith, h)) (conjunctions_end xs y ends))
+        ∙ then (conjoined_with n q) _ (inr c) (spell_conjunction c ++ z) z (conjoined_read_back c z (omega (arith, h)) (conjunctions_end xs y ends))
         ∙ then conjunctions.p _ xs z y (conjunctions.again xs y (fit_alternatives cs (omega (arith, h))) (ends, d.2))
         ∙ ap (λ (u : Alternatives). let o : Read (Expr ⊎ Condition) = (Ok (inr (condition c u)), y) in o) (alternatives_list cs)
 
     pub either_level : Law rooms n (λ a. depth_either a ≤ n) SpellEither EndsEither (either_with n q) (either_with k q')
-    either_level = record { good = either_good; near = either_local; counted = either_counted; again = either_again }
+    either_level = record { good = either_good; near = either_local; counted = either_counted; again = either_read_back }
 
 -- ---- all levels
 

@@ -11,8 +11,8 @@ use Rattle.ss_words.specs.Reading.{Read, Reading, bind, pure, refuse, look, skip
 use Rattle.ss_words.specs.Marks.{is, expect, eat, a_name, a_number, a_picture}
 use Rattle.ss_words.proofs.Laws.{IsRead, Good, GoodAt, Any, fits_option, spell_option, pure_good, refuse_good, bind_good, look_good, skip_good, good_at, many_read}
 use Rattle.ss_words.proofs.Local.{Rooms, same, more, Local, LocalAt, anywhere, pure_local, refuse_local, bind_local, look_local, skip_local, many_local}
-use Rattle.ss_words.proofs.Marks.{spell_mark, spell_eaten, spell_name, spell_number, spell_picture, expect_good, eat_good, name_good, number_good, picture_good, expect_local, eat_local, name_local, number_local, picture_local, expect_again, eat_again, not_eaten, name_again, number_again, picture_again}
-use Rattle.ss_words.proofs.Again.{then, many_ends, many_goes}
+use Rattle.ss_words.proofs.Marks.{spell_mark, spell_eaten, spell_name, spell_number, spell_picture, expect_good, eat_good, name_good, number_good, picture_good, expect_local, eat_local, name_local, number_local, picture_local, expect_read_back, eat_read_back, not_eaten, name_read_back, number_read_back, picture_read_back}
+use Rattle.ss_words.proofs.ReadBack.{then, many_ends, many_goes}
 use Rattle.ss_grammar.specs.Combined.{pair, behind, before, made, if_mark, if_word, either, star, by_table}
 use Rattle.ss_grammar.proofs.Tally as tally
 use Rattle.ss_grammar.proofs.Tally.{Leaves, Tally, TallyAt, pure_tally, bind_tally, look_tally, skip_tally, expect_tally, eat_tally, name_tally, number_tally, picture_tally, many_tally}
@@ -54,23 +54,23 @@ Anything y = Unit {0}
 
 module _ (rooms : Rooms) (n : ℕ) where
   abbrev pub name_form : Form rooms n (List ℕ)
-  name_form = record { sp = spell_name; fits = Any; ends = Anything; p = a_name; p' = a_name; good = name_good; near = name_local rooms; counted = name_tally n; again = λ a y f e. name_again a y }
+  name_form = record { sp = spell_name; fits = Any; ends = Anything; p = a_name; p' = a_name; good = name_good; near = name_local rooms; counted = name_tally n; again = λ a y f e. name_read_back a y }
 
   abbrev pub number_form : Form rooms n ℕ
-  number_form = record { sp = spell_number; fits = Any; ends = Anything; p = a_number; p' = a_number; good = number_good; near = number_local rooms; counted = number_tally n; again = λ a y f e. number_again a y }
+  number_form = record { sp = spell_number; fits = Any; ends = Anything; p = a_number; p' = a_number; good = number_good; near = number_local rooms; counted = number_tally n; again = λ a y f e. number_read_back a y }
 
   abbrev pub picture_form : Form rooms n (List (List ℕ))
-  picture_form = record { sp = spell_picture; fits = Any; ends = Anything; p = a_picture; p' = a_picture; good = picture_good; near = picture_local rooms; counted = picture_tally n; again = λ a y f e. picture_again a y }
+  picture_form = record { sp = spell_picture; fits = Any; ends = Anything; p = a_picture; p' = a_picture; good = picture_good; near = picture_local rooms; counted = picture_tally n; again = λ a y f e. picture_read_back a y }
 
   abbrev pub mark_form : (k : Mark) → Leaves 0 (mark k ∷ []) → Form rooms n (Unit {0})
-  mark_form k l = record { sp = spell_mark k; fits = Any; ends = Anything; p = expect k; p' = expect k; good = expect_good k; near = expect_local rooms k; counted = expect_tally n k l; again = λ a y f e. expect_again k y }
+  mark_form k l = record { sp = spell_mark k; fits = Any; ends = Anything; p = expect k; p' = expect k; good = expect_good k; near = expect_local rooms k; counted = expect_tally n k l; again = λ a y f e. expect_read_back k y }
 
-  pub nothing_again : (a : Unit {0}) (y : List Plain) → pure tt y ≡ (Ok a, y)
+  pub nothing_read_back : (a : Unit {0}) (y : List Plain) → pure tt y ≡ (Ok a, y)
   unfolding pure
-  nothing_again a y = refl
+  nothing_read_back a y = refl
 
   abbrev pub nothing_form : Form rooms n (Unit {0})
-  nothing_form = record { sp = λ u. []; fits = Any; ends = Anything; p = pure tt; p' = pure tt; good = pure_good Any (λ u. []) [] tt tt refl; near = pure_local rooms tt; counted = pure_tally n tt; again = λ a y f e. nothing_again a y }
+  nothing_form = record { sp = λ u. []; fits = Any; ends = Anything; p = pure tt; p' = pure tt; good = pure_good Any (λ u. []) [] tt tt refl; near = pure_local rooms tt; counted = pure_tally n tt; again = λ a y f e. nothing_read_back a y }
 
 -- ---- one part and then another
 
@@ -94,15 +94,15 @@ module _ {rooms : Rooms} {n : ℕ} {A B : Type 0} (F : Form rooms n A) (G : Form
   pair_counted = bind_tally n _ (λ a. bind_tally n _ (λ b. pure_tally n (a, b)) G.p G.counted) F.p F.counted
 
   module _ (c : (b : B) (y : List Plain) → G.fits b → G.ends y → F.ends (G.sp b ++ y)) where
-    pub pair_again : (x : A × B) (y : List Plain) → pair_fits x → G.ends y → pair F.p G.p (pair_sp x ++ y) ≡ (Ok x, y)
+    pub pair_read_back : (x : A × B) (y : List Plain) → pair_fits x → G.ends y → pair F.p G.p (pair_sp x ++ y) ≡ (Ok x, y)
     unfolding pair pure
-    pair_again (a, b) y (fa, fb) e =
+    pair_read_back (a, b) y (fa, fb) e =
         ap (pair F.p G.p) (append_assoc (F.sp a) (G.sp b) y)
         ∙ then F.p _ a (F.sp a ++ (G.sp b ++ y)) (G.sp b ++ y) (F.again a (G.sp b ++ y) fa (c b y fb e))
         ∙ then G.p _ b (G.sp b ++ y) y (G.again b y fb e)
 
     abbrev pub pair_form : Form rooms n (A × B)
-    pair_form = record { sp = pair_sp; fits = pair_fits; ends = G.ends; p = pair F.p G.p; p' = pair F.p' G.p'; good = pair_good; near = pair_near; counted = pair_counted; again = pair_again }
+    pair_form = record { sp = pair_sp; fits = pair_fits; ends = G.ends; p = pair F.p G.p; p' = pair F.p' G.p'; good = pair_good; near = pair_near; counted = pair_counted; again = pair_read_back }
 
 -- ---- a mark before a part or behind it
 
@@ -129,12 +129,12 @@ module _ {rooms : Rooms} {n : ℕ} {A : Type 0} (k : Mark) (l : Leaves 0 (mark k
   unfolding behind
   behind_counted = bind_tally n _ (λ u. F.counted) (expect k) (expect_tally n k l)
 
-  pub behind_again : (a : A) (y : List Plain) → F.fits a → F.ends y → behind k F.p (behind_sp a ++ y) ≡ (Ok a, y)
+  pub behind_read_back : (a : A) (y : List Plain) → F.fits a → F.ends y → behind k F.p (behind_sp a ++ y) ≡ (Ok a, y)
   unfolding behind
-  behind_again a y f e = then (expect k) _ tt (mark k ∷ (F.sp a ++ y)) (F.sp a ++ y) (expect_again k _) ∙ F.again a y f e
+  behind_read_back a y f e = then (expect k) _ tt (mark k ∷ (F.sp a ++ y)) (F.sp a ++ y) (expect_read_back k _) ∙ F.again a y f e
 
   abbrev pub behind_form : Form rooms n A
-  behind_form = record { sp = behind_sp; fits = F.fits; ends = F.ends; p = behind k F.p; p' = behind k F.p'; good = behind_good; near = behind_near; counted = behind_counted; again = behind_again }
+  behind_form = record { sp = behind_sp; fits = F.fits; ends = F.ends; p = behind k F.p; p' = behind k F.p'; good = behind_good; near = behind_near; counted = behind_counted; again = behind_read_back }
 
 module _ {rooms : Rooms} {n : ℕ} {A : Type 0} (F : Form rooms n A) (k : Mark) (l : Leaves 0 (mark k ∷ [])) where
   abbrev pub before_sp : A → List Plain
@@ -153,15 +153,15 @@ module _ {rooms : Rooms} {n : ℕ} {A : Type 0} (F : Form rooms n A) (k : Mark) 
   before_counted = bind_tally n _ (λ a. bind_tally n _ (λ u. pure_tally n a) (expect k) (expect_tally n k l)) F.p F.counted
 
   module _ (c : (y : List Plain) → F.ends (mark k ∷ y)) where
-    pub before_again : (a : A) (y : List Plain) → F.fits a → Anything y → before F.p k (before_sp a ++ y) ≡ (Ok a, y)
+    pub before_read_back : (a : A) (y : List Plain) → F.fits a → Anything y → before F.p k (before_sp a ++ y) ≡ (Ok a, y)
     unfolding before pure
-    before_again a y f e =
+    before_read_back a y f e =
         ap (before F.p k) (append_assoc (F.sp a) (mark k ∷ []) y)
         ∙ then F.p _ a (F.sp a ++ mark k ∷ y) (mark k ∷ y) (F.again a (mark k ∷ y) f (c y))
-        ∙ then (expect k) _ tt (mark k ∷ y) y (expect_again k y)
+        ∙ then (expect k) _ tt (mark k ∷ y) y (expect_read_back k y)
 
     abbrev pub before_form : Form rooms n A
-    before_form = record { sp = before_sp; fits = F.fits; ends = Anything; p = before F.p k; p' = before F.p' k; good = before_good; near = before_near; counted = before_counted; again = before_again }
+    before_form = record { sp = before_sp; fits = F.fits; ends = Anything; p = before F.p k; p' = before F.p' k; good = before_good; near = before_near; counted = before_counted; again = before_read_back }
 
 -- ---- the same parts under other names
 
@@ -179,16 +179,16 @@ module _ {rooms : Rooms} {n : ℕ} {A B : Type 0} (F : Form rooms n A) (sp : B �
   unfolding made
   made_counted = bind_tally n _ (λ a. pure_tally n (f a)) F.p F.counted
 
-  pub made_again : (b : B) (y : List Plain) → fits b → F.ends y → made f F.p (sp b ++ y) ≡ (Ok b, y)
+  pub made_read_back : (b : B) (y : List Plain) → fits b → F.ends y → made f F.p (sp b ++ y) ≡ (Ok b, y)
   unfolding made pure
-  made_again b y h e =
+  made_read_back b y h e =
       let same : sp b ≡ F.sp (g b) = ap sp (sym (inverse b)) ∙ spelled (g b) in
       ap (λ (u : List Plain). made f F.p (u ++ y)) same
       ∙ then F.p _ (g b) (F.sp (g b) ++ y) y (F.again (g b) y (back b h) e)
       ∙ ap (λ (c : B). let x : Read B = (Ok c, y) in x) (inverse b)
 
   abbrev pub made_form : Form rooms n B
-  made_form = record { sp = sp; fits = fits; ends = F.ends; p = made f F.p; p' = made f F.p'; good = made_good; near = made_near; counted = made_counted; again = made_again }
+  made_form = record { sp = sp; fits = fits; ends = F.ends; p = made f F.p; p' = made f F.p'; good = made_good; near = made_near; counted = made_counted; again = made_read_back }
 
 -- ---- a mark and a part, if the mark stands there
 
@@ -213,7 +213,7 @@ module _ {rooms : Rooms} {n : ℕ} {A : Type 0} (k : Mark) (l : Leaves 0 (mark k
 
   pub mark_goes : (a : A) (y : List Plain) → F.fits a → F.ends y → if_mark k F.p (mark_sp a ++ y) ≡ (Ok (Some a), y)
   unfolding if_mark pure
-  mark_goes a y f e = then (eat k) _ true (mark k ∷ (F.sp a ++ y)) (F.sp a ++ y) (eat_again k _) ∙ then F.p _ a (F.sp a ++ y) y (F.again a y f e)
+  mark_goes a y f e = then (eat k) _ true (mark k ∷ (F.sp a ++ y)) (F.sp a ++ y) (eat_read_back k _) ∙ then F.p _ a (F.sp a ++ y) y (F.again a y f e)
 
   pub mark_stops : (y : List Plain) → is k (first y) ≡ false → if_mark k F.p y ≡ (Ok None, y)
   unfolding if_mark pure
@@ -225,12 +225,12 @@ module _ {rooms : Rooms} {n : ℕ} {A : Type 0} (k : Mark) (l : Leaves 0 (mark k
 -- ---- a part or nothing
 
 module _ {rooms : Rooms} {n : ℕ} {A : Type 0} (I : Item rooms n A) where
-  pub option_again : (a : Option A) (y : List Plain) → fits_option I.fits a → I.ends y × I.none y → I.p (spell_option I.sp a ++ y) ≡ (Ok a, y)
-  option_again (Some a) y f e = I.goes a y f e.0
-  option_again None y f e = I.stops y e.1
+  pub option_read_back : (a : Option A) (y : List Plain) → fits_option I.fits a → I.ends y × I.none y → I.p (spell_option I.sp a ++ y) ≡ (Ok a, y)
+  option_read_back (Some a) y f e = I.goes a y f e.0
+  option_read_back None y f e = I.stops y e.1
 
   abbrev pub option_form : Form rooms n (Option A)
-  option_form = record { sp = spell_option I.sp; fits = fits_option I.fits; ends = λ y. I.ends y × I.none y; p = I.p; p' = I.p'; good = I.good; near = I.near; counted = I.counted; again = option_again }
+  option_form = record { sp = spell_option I.sp; fits = fits_option I.fits; ends = λ y. I.ends y × I.none y; p = I.p; p' = I.p'; good = I.good; near = I.near; counted = I.counted; again = option_read_back }
 
 -- ---- a part, or else another
 
@@ -259,13 +259,13 @@ module _ {rooms : Rooms} {n : ℕ} {A B : Type 0} (I : Item rooms n A) (G : Form
   either_counted = bind_tally n _ (elim [ Some a ↦ pure_tally n (inl a) | None ↦ bind_tally n _ (λ b. pure_tally n (inr b)) G.p G.counted ]) I.p I.counted
 
   module _ (c : (b : B) (y : List Plain) → G.fits b → G.ends y → I.none (G.sp b ++ y)) where
-    pub either_again : (x : A ⊎ B) (y : List Plain) → either_fits x → I.ends y × G.ends y → either I.p G.p (either_sp x ++ y) ≡ (Ok x, y)
+    pub either_read_back : (x : A ⊎ B) (y : List Plain) → either_fits x → I.ends y × G.ends y → either I.p G.p (either_sp x ++ y) ≡ (Ok x, y)
     unfolding either pure
-    either_again (inl a) y f e = then I.p _ (Some a) (I.sp a ++ y) y (I.goes a y f e.0)
-    either_again (inr b) y f e = then I.p _ None (G.sp b ++ y) (G.sp b ++ y) (I.stops (G.sp b ++ y) (c b y f e.1)) ∙ then G.p _ b (G.sp b ++ y) y (G.again b y f e.1)
+    either_read_back (inl a) y f e = then I.p _ (Some a) (I.sp a ++ y) y (I.goes a y f e.0)
+    either_read_back (inr b) y f e = then I.p _ None (G.sp b ++ y) (G.sp b ++ y) (I.stops (G.sp b ++ y) (c b y f e.1)) ∙ then G.p _ b (G.sp b ++ y) y (G.again b y f e.1)
 
     abbrev pub either_form : Form rooms n (A ⊎ B)
-    either_form = record { sp = either_sp; fits = either_fits; ends = λ y. I.ends y × G.ends y; p = either I.p G.p; p' = either I.p' G.p'; good = either_good; near = either_near; counted = either_counted; again = either_again }
+    either_form = record { sp = either_sp; fits = either_fits; ends = λ y. I.ends y × G.ends y; p = either I.p G.p; p' = either I.p' G.p'; good = either_good; near = either_near; counted = either_counted; again = either_read_back }
 
 -- ---- parts as long as there is one
 
@@ -298,12 +298,12 @@ module _ {rooms : Rooms} {n : ℕ} {A : Type 0} (I : Item rooms n A) where
         (I.goes a z f.0 (star_ends xs y e))
         (star_each xs y k f.1 e stop (omega (arith, lt, I.some a, length-append (I.sp a ++ flat_map I.sp xs) y, length-append (I.sp a) (flat_map I.sp xs), length-append (flat_map I.sp xs) y)))
 
-    pub star_again : (xs : List A) (y : List Plain) → Each I.fits xs → I.ends y × I.none y → star I.p (flat_map I.sp xs ++ y) ≡ (Ok xs, y)
+    pub star_read_back : (xs : List A) (y : List Plain) → Each I.fits xs → I.ends y × I.none y → star I.p (flat_map I.sp xs ++ y) ≡ (Ok xs, y)
     unfolding star many
-    star_again xs y f e = star_each xs y (suc (length (flat_map I.sp xs ++ y))) f e.0 e.1 (omega arith)
+    star_read_back xs y f e = star_each xs y (suc (length (flat_map I.sp xs ++ y))) f e.0 e.1 (omega arith)
 
     abbrev pub star_form : Form rooms n (List A)
-    star_form = record { sp = flat_map I.sp; fits = Each I.fits; ends = λ y. I.ends y × I.none y; p = star I.p; p' = star I.p'; good = star_good; near = star_near; counted = star_counted; again = star_again }
+    star_form = record { sp = flat_map I.sp; fits = Each I.fits; ends = λ y. I.ends y × I.none y; p = star I.p; p' = star I.p'; good = star_good; near = star_near; counted = star_counted; again = star_read_back }
 
 -- ---- a word of a table and a part, if such a word stands there
 

@@ -7,7 +7,7 @@ use Rattle.ss_words.specs.Plain.{Plain}
 use Rattle.ss_words.specs.Reading.{Read, Reading, bind, pure, refuse}
 use Rattle.ss_words.proofs.Laws.{Good, fits_option, spell_option, pure_good, refuse_good, bind_good}
 use Rattle.ss_words.proofs.Local.{Rooms, Local, pure_local, refuse_local, bind_local}
-use Rattle.ss_words.proofs.Again.{then}
+use Rattle.ss_words.proofs.ReadBack.{then}
 use Rattle.ss_grammar.specs.Combined.{if_word, either_of, made_of, must}
 use Rattle.ss_grammar.proofs.Tally.{Tally, pure_tally, refuse_tally, bind_tally}
 use Rattle.ss_grammar.proofs.Form.{Form, Item}
@@ -171,9 +171,9 @@ module _ {rooms : Rooms} {n : ℕ} {A : Type 0} (I : Item rooms n A) (a0 : A) (f
   unfolding must
   must_counted = bind_tally n _ (elim [ Some a ↦ pure_tally n a | None ↦ refuse_tally n ]) I.p I.counted
 
-  pub must_again : (a : A) (y : List Plain) → I.fits a → I.ends y → must I.p (I.sp a ++ y) ≡ (Ok a, y)
+  pub must_read_back : (a : A) (y : List Plain) → I.fits a → I.ends y → must I.p (I.sp a ++ y) ≡ (Ok a, y)
   unfolding must pure
-  must_again a y f e = then I.p _ (Some a) (I.sp a ++ y) y (I.goes a y f e)
+  must_read_back a y f e = then I.p _ (Some a) (I.sp a ++ y) y (I.goes a y f e)
 
   abbrev pub must_form : Form rooms n A
-  must_form = record { sp = I.sp; fits = I.fits; ends = I.ends; p = must I.p; p' = must I.p'; good = must_good; near = must_near; counted = must_counted; again = must_again }
+  must_form = record { sp = I.sp; fits = I.fits; ends = I.ends; p = must I.p; p' = must I.p'; good = must_good; near = must_near; counted = must_counted; again = must_read_back }

@@ -9,8 +9,8 @@ use Rattle.ss_words.specs.Reading.{Read, Reading, goes_on, bind, pure, refuse, l
 use Rattle.ss_words.specs.Marks.{is, expect, eat}
 use Rattle.ss_words.proofs.Laws.{IsRead, Good, GoodAt, Any, fits_option, spell_option, pure_good, refuse_good, bind_good, look_good, good_at}
 use Rattle.ss_words.proofs.Local.{Rooms, same, more, IsLimited, Local, Stops, pure_local, bind_local}
-use Rattle.ss_words.proofs.Marks.{is_mark, spell_mark, spell_eaten, expect_good, eat_good, expect_local, eat_local, expect_again, eat_again, not_eaten}
-use Rattle.ss_words.proofs.Again.{then}
+use Rattle.ss_words.proofs.Marks.{is_mark, spell_mark, spell_eaten, expect_good, eat_good, expect_local, eat_local, expect_read_back, eat_read_back, not_eaten}
+use Rattle.ss_words.proofs.ReadBack.{then}
 use Rattle.ss_grammar.specs.Expr.{spell_within}
 use Rattle.ss_grammar.specs.Combined.{opened, if_open}
 use Rattle.ss_grammar.proofs.Tally.{Leaves, Under, Out, Tally, nothing, opened_one, opened_under, opened_some, enclosed}
@@ -90,9 +90,9 @@ module _ {A : Type 0} (rooms : Rooms) (n k : ℕ) (d : A → ℕ) (sp : A → Li
       let shut = mark (m.Sign s.Close) in
       let z = shut ∷ y in
       ap (λ (u : List Plain). if_open (suc n) q (mark (m.Sign s.Open) ∷ u)) (append_assoc (sp a) (shut ∷ []) y)
-      ∙ then (eat (m.Sign s.Open)) _ true (mark (m.Sign s.Open) ∷ (sp a ++ z)) (sp a ++ z) (eat_again (m.Sign s.Open) _)
+      ∙ then (eat (m.Sign s.Open)) _ true (mark (m.Sign s.Open) ∷ (sp a ++ z)) (sp a ++ z) (eat_read_back (m.Sign s.Open) _)
       ∙ then q _ a (sp a ++ z) z (l.again a z (omega arith) (c y))
-      ∙ then (expect (m.Sign s.Close)) _ tt z y (expect_again (m.Sign s.Close) y)
+      ∙ then (expect (m.Sign s.Close)) _ tt z y (expect_read_back (m.Sign s.Close) y)
 
   close_out : (a : A) (ws q2 r : List Plain) (b : Bool) → ws ≡ q2 ++ r → Leaves 0 q2 → is (m.Sign s.Close) (first r) ≡ b
       → (let h : Reading (Unit {0}) = elim b [ true ↦ skip (pure tt) | false ↦ refuse Unexpected ] in let x : Read (Option A) = goes_on (λ u. pure (Some a)) (h r).0 (h r).1 in Out (suc n) x.0 (mark (m.Sign s.Open) ∷ ws) x.1)
@@ -184,7 +184,7 @@ module _ {A : Type 0} (d : A → ℕ) (sp : A → List Plain) (q : Reading A) wh
     unfolding if_open opened
     goes_past v ws e =
         let c = λ (b : Bool). let h : Reading (Option A) = elim b [ true ↦ close q' | false ↦ pure None ] in h in
-        let step : bind (eat (m.Sign s.Open)) c (mark (m.Sign s.Open) ∷ ws) ≡ close q' ws = then (eat (m.Sign s.Open)) c true (mark (m.Sign s.Open) ∷ ws) ws (eat_again (m.Sign s.Open) ws) in
+        let step : bind (eat (m.Sign s.Open)) c (mark (m.Sign s.Open) ∷ ws) ≡ close q' ws = then (eat (m.Sign s.Open)) c true (mark (m.Sign s.Open) ∷ ws) ws (eat_read_back (m.Sign s.Open) ws) in
         rw e (subst (λ (x : Read (Option A)). length x.1 ≤ length ws) (sym step) ((close_local.at ws).2))
 
     shut_more_at : (ws : List Plain) (b : Bool) → is (m.Sign s.Open) (first ws) ≡ b → Stops more (if_open (suc k) q') (shut_answer b ws).0 ws (shut_answer b ws).1

@@ -2,7 +2,7 @@ mod Pushed
 mod Texts
 pub mod Sound
 pub mod NoFurther
-pub mod AgainItems
+pub mod ReadBackItems
 pub mod Counting
 pub mod Passing
 pub mod Whole

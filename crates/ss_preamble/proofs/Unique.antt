@@ -20,13 +20,13 @@ use Rattle.ss_preamble.specs.Limits.{AreWithin, IsWithin}
 use Rattle.ss_preamble.specs.Written.{written}
 use Rattle.ss_preamble.specs.Refused.{Text, spell_text, HasPreamble, PassesLimit, CountUpTo, IsUnexpectedWord, IsUnexpectedEnd, IsPastLimit, IsRefusedBy, IsRefused, AreDecls, lines, word_behind}
 use Rattle.ss_preamble.specs.Laws.{SpellingIsUnique, AnswerIsUnique, LimitsLetPass, LimitsHold, LimitsRefuse}
-use Rattle.ss_preamble.proofs.AgainItems.{preamble-again}
+use Rattle.ss_preamble.proofs.ReadBackItems.{preamble-read_back}
 use Rattle.ss_preamble.proofs.Counting.{within_less}
 
 -- the head of a text is one preamble at most
 pub one_head : (t u : Preamble) (x y : List Plain) → spell t ++ x ≡ spell u ++ y → (t ≡ u) × (x ≡ y)
 one_head t u x y e =
-    let both : (let r : Read Preamble = (Ok t, x) in r) ≡ (Ok u, y) = sym (preamble-again t x) ∙ ap preamble_with e ∙ preamble-again u y in
+    let both : (let r : Read Preamble = (Ok t, x) in r) ≡ (Ok u, y) = sym (preamble-read_back t x) ∙ ap preamble_with e ∙ preamble-read_back u y in
     let same : (let o : Result Preamble Refusal = Ok t in o) ≡ Ok u = ap (λ (r : Read Preamble). r.0) both in
     (cc, ap (λ (r : Read Preamble). r.1) both)
 

@@ -16,8 +16,8 @@ use Rattle.ss_words.proofs.Laws.{IsRead, Good, Any, fits_option, pure_good, bind
 use Rattle.ss_words.proofs.Local.{more, Local, Stops, pure_local, bind_local}
 use Rattle.ss_words.proofs.Loop.{on_ok}
 use Rattle.ss_words.proofs.Marks.{spell_mark, expect_good}
-use Rattle.ss_words.proofs.Again.{then}
-use Rattle.ss_words.proofs.Lays.{Lays, pure_lays, here_lays, bind_lays, same_lays, noted, many_lays}
+use Rattle.ss_words.proofs.ReadBack.{then}
+use Rattle.ss_words.proofs.Writes.{Writes, pure_writes, here_writes, bind_writes, same_writes, noted, many_writes}
 use Rattle.ss_words.proofs.Goal as goal
 use Rattle.ss_preamble.specs.Tree.{Item, Preamble, ItemAt, Decls}
 use Rattle.ss_preamble.specs.Spelling.{spell, spell_item, spell_items}
@@ -27,7 +27,7 @@ use Rattle.ss_preamble.specs.Written.{written_items, written}
 use Rattle.ss_preamble.specs.Refused.{Text, spell_text, lines}
 use Rattle.ss_preamble.proofs.Sound.{next_item-good, items-good, preamble-good}
 use Rattle.ss_preamble.proofs.NoFurther.{preamble-local}
-use Rattle.ss_preamble.proofs.AgainItems.{preamble-again}
+use Rattle.ss_preamble.proofs.ReadBackItems.{preamble-read_back}
 
 -- ---- a preamble and all that stands behind it
 
@@ -63,9 +63,9 @@ text_local : Local more text_with text_with
 unfolding text_with
 text_local = bind_local more _ _ (λ p. bind_local more _ _ (λ z. pure_local more (record { preamble = p; behind = z })) rest_of_text rest_of_text rest_local) preamble_with preamble_with (preamble-local more)
 
-text_again : (t : Text) → text_with (spell_text t) ≡ (Ok t, [])
+text_read_back : (t : Text) → text_with (spell_text t) ≡ (Ok t, [])
 unfolding text_with rest_of_text pure
-text_again t = then preamble_with _ t.preamble (spell_text t) t.behind (preamble-again t.preamble t.behind) ∙ then rest_of_text _ t.behind t.behind [] refl
+text_read_back t = then preamble_with _ t.preamble (spell_text t) t.behind (preamble-read_back t.preamble t.behind) ∙ then rest_of_text _ t.behind t.behind [] refl
 
 -- what stops the preamble stops the text
 stops_text : (g : Refusal) (ws rest : List Plain) → preamble_with ws ≡ (Err g, rest) → whole text_with ws ≡ (Err g, rest)
@@ -73,7 +73,7 @@ unfolding whole text_with bind
 stops_text g ws rest e = rw e refl
 
 pub farthest : (ws rest : List Plain) → preamble_with ws ≡ (Err Unexpected, rest) → IsFarthest spell_text ws (length ws - length rest)
-farthest ws rest e = goal.farthest spell_text Any text_with text_good (λ t. (text_with, text_local, text_again t)) ws rest (stops_text Unexpected ws rest e)
+farthest ws rest e = goal.farthest spell_text Any text_with text_good (λ t. (text_with, text_local, text_read_back t)) ws rest (stops_text Unexpected ws rest e)
 
 -- what is left is the text's end
 pub left : (ws rest : List Plain) (g : Refusal) → preamble_with ws ≡ (Err g, rest) → (q : List Plain) × (ws ≡ q ++ rest)
@@ -103,7 +103,7 @@ module _ (ls : List ℕ) where
   abbrev noting_next : List ItemAt → ℕ → Option Item → Reading (Bool × List ItemAt)
   noting_next acc l o = elim o [ Some i ↦ pure (true, acc ++ (record { line = l; item = i }) ∷ []) | None ↦ pure (false, acc) ]
 
-  noted_next : (k : ℕ) (acc : List ItemAt) → Lays words (noted (at_line k) acc) k next_item (bind next_item (noting_next acc (line ls k)))
+  noted_next : (k : ℕ) (acc : List ItemAt) → Writes words (noted (at_line k) acc) k next_item (bind next_item (noting_next acc (line ls k)))
   unfolding bind pure
   noted_next k acc = record { at = λ ws e. put (next_item ws).0 (next_item ws).1 }
     where
@@ -112,25 +112,25 @@ module _ (ls : List ℕ) where
       put (Ok None) rest = refl
       put (Err g) rest = refl
 
-  next_lays : (k : ℕ) (acc : List ItemAt) → Lays words (noted (at_line k) acc) k next_item (next_onto ls acc)
+  next_writes : (k : ℕ) (acc : List ItemAt) → Writes words (noted (at_line k) acc) k next_item (next_onto ls acc)
   unfolding next_onto
-  next_lays k acc = here_lays words (noted (at_line k) acc) k ls next_item (λ l. bind next_item (noting_next acc l)) refl (noted_next k acc)
+  next_writes k acc = here_writes words (noted (at_line k) acc) k ls next_item (λ l. bind next_item (noting_next acc l)) refl (noted_next k acc)
 
-  items_lays : (k : ℕ) (acc : List ItemAt) → Lays words (λ is. acc ++ written_items ls k is) k items_with (items_onto ls acc)
+  items_writes : (k : ℕ) (acc : List ItemAt) → Writes words (λ is. acc ++ written_items ls k is) k items_with (items_onto ls acc)
   unfolding items_with items_onto
-  items_lays k acc = many_lays words (fits_option Any) spell_item next_item [] (λ i is. i ∷ is) (next_onto ls) at_line (written_items ls) next_item-good (λ k. refl) (λ k i is. refl) next_lays k acc
+  items_writes k acc = many_writes words (fits_option Any) spell_item next_item [] (λ i is. i ∷ is) (next_onto ls) at_line (written_items ls) next_item-good (λ k. refl) (λ k i is. refl) next_writes k acc
 
-  preamble_lays : Lays words (written ls) 0 preamble_with (preamble_onto ls)
+  preamble_writes : Writes words (written ls) 0 preamble_with (preamble_onto ls)
   unfolding preamble_with preamble_onto
-  preamble_lays = same_lays words Any (spell_mark (m.Reserved r.Preamble)) (written ls) 0 _ _ (λ u.
-      bind_lays words Any spell_items (λ is. [] ++ written_items ls 1 is) (written ls) 1 _ _ (λ is.
+  preamble_writes = same_writes words Any (spell_mark (m.Reserved r.Preamble)) (written ls) 0 _ _ (λ u.
+      bind_writes words Any spell_items (λ is. [] ++ written_items ls 1 is) (written ls) 1 _ _ (λ is.
       let j = 1 + length (spell_items is) in
-      here_lays words _ j ls _ _ refl (same_lays words Any (spell_mark (m.Reserved r.End)) _ j _ _ (λ v. pure_lays words _ _ is _ refl) (expect (m.Reserved r.End)) (expect_good (m.Reserved r.End))))
-      items_with _ items-good (items_lays 1 [])) (expect (m.Reserved r.Preamble)) (expect_good (m.Reserved r.Preamble))
+      here_writes words _ j ls _ _ refl (same_writes words Any (spell_mark (m.Reserved r.End)) _ j _ _ (λ v. pure_writes words _ _ is _ refl) (expect (m.Reserved r.End)) (expect_good (m.Reserved r.End))))
+      items_with _ items-good (items_writes 1 [])) (expect (m.Reserved r.Preamble)) (expect_good (m.Reserved r.Preamble))
 
 module _ (ls : List ℕ) (ws : List Plain) (len : length ws ≡ length ls) where
   as_items : preamble_onto ls ws ≡ (on_ok (written ls) (preamble_with ws).0, (preamble_with ws).1)
-  as_items = (preamble_lays ls).at ws (omega (arith, len))
+  as_items = (preamble_writes ls).at ws (omega (arith, len))
 
   abbrev Same : Refusal → List Plain → Result Preamble Refusal → List Plain → Type 0
   Same g rest o rest' = (let x : Read Decls = (Err g, rest) in x) ≡ (on_ok (written ls) o, rest') → (let y : Read Preamble = (o, rest') in y) ≡ (Err g, rest)

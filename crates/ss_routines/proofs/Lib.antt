@@ -2,8 +2,8 @@ pub mod Sound
 pub mod LocalExpr
 pub mod SoundSection
 pub mod LocalSection
-pub mod AgainSection
-pub mod LaysSection
+pub mod ReadBackSection
+pub mod WritesSection
 pub mod Pushed
 pub mod Ended
 pub mod Rooms

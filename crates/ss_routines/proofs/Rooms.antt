@@ -3,7 +3,7 @@ use Rattle.std.proofs.Common.{◌≡◌, ◌≢◌, ℕ, suc, ◌-◌, refl, ap,
 use Rattle.ss_words.specs.declared.refusal.Refusal.TheVariants.{PastLimit}
 use Rattle.ss_words.specs.Reading.{refuse}
 use Rattle.ss_routines.specs.ExprReading.{expr_with, paren_with, paren_at}
-use Rattle.ss_routines.specs.AgainExpr.{expr_at-is}
+use Rattle.ss_routines.specs.ReadBackExpr.{expr_at-is}
 
 pub paren_shut : (n : ℕ) → n ≡ 0 → paren_at n ≡ refuse PastLimit
 paren_shut n h = rw h refl

@@ -18,15 +18,15 @@ use Rattle.ss_routines.specs.SectionReading.{sections_at}
 use Rattle.ss_routines.specs.Written.{written}
 use Rattle.ss_routines.specs.Refused.{lines, IsWithin, Begins, BeginsWithin, PassesLimit, IsUnexpectedWord, IsUnexpectedEnd, IsPastLimit, IsRefused, AreSections}
 use Rattle.ss_routines.specs.Laws.{SpellingIsUnique, AnswerIsUnique, LimitsLetPass, LimitsHold, LimitsRefuse}
-use Rattle.ss_routines.proofs.AgainSection.{sections_at-again}
+use Rattle.ss_routines.proofs.ReadBackSection.{sections_at-read_back}
 use Rattle.ss_routines.proofs.Whole.{within_less}
 
 pub unique : SpellingIsUnique
 unique t u e =
     let n = max (depth t) (depth u) in
     let k = max (length t) (length u) in
-    let one : sections_at n k (spell t) ≡ (Ok t, []) = sections_at-again n k t (omega arith) (omega arith) in
-    let two : sections_at n k (spell u) ≡ (Ok u, []) = sections_at-again n k u (omega arith) (omega arith) in
+    let one : sections_at n k (spell t) ≡ (Ok t, []) = sections_at-read_back n k t (omega arith) (omega arith) in
+    let two : sections_at n k (spell u) ≡ (Ok u, []) = sections_at-read_back n k u (omega arith) (omega arith) in
     let both : (let x : Read Tree = (Ok t, []) in x) ≡ (Ok u, []) = sym one ∙ ap (sections_at n k) e ∙ two in
     let same : (let o : Result Tree Refusal = Ok t in o) ≡ Ok u = ap (λ (x : Read Tree). x.0) both in
     cc

@@ -28,8 +28,8 @@ use Rattle.ss_routines.specs.Refused.{lines, IsWithin, Begins, BeginsWithin, Pas
 use Rattle.ss_routines.proofs.Sound.{expr_at-good}
 use Rattle.ss_routines.proofs.SoundSection.{FitsTree, sections_at-good}
 use Rattle.ss_routines.proofs.LocalSection.{sections_at-local}
-use Rattle.ss_routines.proofs.AgainSection.{sections_at-again}
-use Rattle.ss_routines.proofs.LaysSection.{whole_lays}
+use Rattle.ss_routines.proofs.ReadBackSection.{sections_at-read_back}
+use Rattle.ss_routines.proofs.WritesSection.{whole_writes}
 
 abbrev pub reading : Reading Tree
 reading = sections_at 50 256
@@ -41,7 +41,7 @@ within : (t : Tree) → FitsTree 50 256 t → IsWithin t
 within t f = record { parentheses = f.0; sections = f.1 }
 
 again : (t : Tree) → IsWithin t → reading (spell t) ≡ (Ok t, [])
-again t w = sections_at-again 50 256 t w.parentheses w.sections
+again t w = sections_at-read_back 50 256 t w.parentheses w.sections
 
 -- what is read is a program within the limits
 pub read_sections : (ws r : List Plain) (t : Tree) → whole reading ws ≡ (Ok t, r) → IsWithin t × (ws ≡ spell t)
@@ -52,7 +52,7 @@ rest_ended ws r t e = goal.rest_ended (FitsTree 50 256) spell reading good ws r 
 
 -- a reading with more room, in which this tree is read
 larger : (t : Tree) → (p' : Reading Tree) × (Local more reading p') × (p' (spell t) ≡ (Ok t, []))
-larger t = (sections_at (51 + depth t) (257 + length t), sections_at-local more 50 (51 + depth t) 256 (257 + length t) (omega arith) (omega arith), sections_at-again (51 + depth t) (257 + length t) t (omega arith) (omega arith))
+larger t = (sections_at (51 + depth t) (257 + length t), sections_at-local more 50 (51 + depth t) 256 (257 + length t) (omega arith) (omega arith), sections_at-read_back (51 + depth t) (257 + length t) t (omega arith) (omega arith))
 
 wider : Local more reading (sections_at 51 257)
 wider = sections_at-local more 50 51 256 257 (omega arith) (omega arith)
@@ -204,7 +204,7 @@ module _ (text : List PlainWord) where
   noting = whole (sections_onto (word_lines text) (expr_at 50) 256)
 
   as_tree : noting (plains_of text) ≡ (on_ok (written (word_lines text)) (whole reading (plains_of text)).0, (whole reading (plains_of text)).1)
-  as_tree = (whole_lays (word_lines text) 50 (expr_at 50) (expr_at-good 50) 256).at (plains_of text) (omega (arith, length-map text (λ w. plain_of w.kind), length-map text (λ w. w.line)))
+  as_tree = (whole_writes (word_lines text) 50 (expr_at 50) (expr_at-good 50) 256).at (plains_of text) (omega (arith, length-map text (λ w. plain_of w.kind), length-map text (λ w. w.line)))
 
   abbrev Reads : Refusal → List Plain → Result Tree Refusal → List Plain → Type 0
   Reads g rest o rest' = (let x : Read (List Section) = (Err g, rest) in x) ≡ (on_ok (written (word_lines text)) o, rest') → (let y : Read Tree = (o, rest') in y) ≡ (Err g, rest)

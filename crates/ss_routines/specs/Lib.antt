@@ -4,7 +4,7 @@ pub mod Tree
 pub mod Written
 pub mod View
 pub mod Ended
-pub mod AgainExpr
+pub mod ReadBackExpr
 pub mod ExprCode
 pub mod Refused
 pub mod ExprReading

@@ -88,9 +88,9 @@ module _ {A : Type 0} (sp : A → List Plain) where
   not_both : (t : A) (x y : Read A) (g : Refusal) (z : List Plain) → x ≡ (Ok t, []) → x ≡ (Err g, z) → ⊥
   not_both t x y g z e f = let h : x.0 ≡ Ok t = ap (λ (u : Read A). u.0) e in let k : x.0 ≡ Err g = ap (λ (u : Read A). u.0) f in cc
 
-  pub whole_again : (p : Reading A) (t : A) → p (sp t) ≡ (Ok t, []) → whole p (sp t) ≡ (Ok t, [])
+  pub whole_read_back : (p : Reading A) (t : A) → p (sp t) ≡ (Ok t, []) → whole p (sp t) ≡ (Ok t, [])
   unfolding whole bind ended look pure
-  whole_again p t again = ap (λ (x : Read A). goes_on (λ a. bind ended (λ u. pure a)) x.0 x.1) again
+  whole_read_back p t again = ap (λ (x : Read A). goes_on (λ a. bind ended (λ u. pure a)) x.0 x.1) again
 
   pub whole_local : (rooms : Rooms) (p p' : Reading A) → Local rooms p p' → Local rooms (whole p) (whole p')
   unfolding whole
@@ -106,7 +106,7 @@ module _ {A : Type 0} (sp : A → List Plain) where
           let (p', loc, again) = larger t in
           let (q, k, le, g) = subst (λ (y : Read A). Stops more (whole p') y.0 ws y.1) e ((whole_local more p p' loc).at ws) in
           let text : sp t ≡ q ++ z = begins ∙ ap (λ (u : List Plain). u ++ z) (front_is ws q r k) in
-          not_both t (whole p' (sp t)) (Ok t, []) Unexpected z (whole_again p' t again) (ap (whole p') text ∙ g z (is ∙ ap first (back_is ws q r k)));
+          not_both t (whole p' (sp t)) (Ok t, []) Unexpected z (whole_read_back p' t again) (ap (whole p') text ∙ g z (is ∙ ap first (back_is ws q r k)));
     }
 
     -- no tree within the limits goes on with a word that passes one
@@ -114,7 +114,7 @@ module _ {A : Type 0} (sp : A → List Plain) where
     no_room loc t again ws r e z begins is =
         let (q, k, le, g) = subst (λ (y : Read A). Stops same (whole p) y.0 ws y.1) e ((whole_local same p p loc).at ws) in
         let text : sp t ≡ q ++ z = begins ∙ ap (λ (u : List Plain). u ++ z) (front_is ws q r k) in
-        not_both t (whole p (sp t)) (Ok t, []) PastLimit z (whole_again p t again) (ap (whole p) text ∙ g z is)
+        not_both t (whole p (sp t)) (Ok t, []) PastLimit z (whole_read_back p t again) (ap (whole p) text ∙ g z is)
 
     -- a word that passes a limit is one that may
     pub limited : (p' : Reading A) → Local more p p' → (ws r : List Plain) → whole p ws ≡ (Err PastLimit, r) → IsLimited (first r)

@@ -3,9 +3,9 @@ pub mod Local
 pub mod Loop
 pub mod Marks
 pub mod Lists
-pub mod Lays
+pub mod Writes
 pub mod Goal
-pub mod Again
+pub mod ReadBack
 pub mod PlainFollowing
 pub mod TextFinds
 pub mod TextBytesLemmas

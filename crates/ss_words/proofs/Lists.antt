@@ -9,8 +9,8 @@ use Rattle.ss_words.specs.Marks.{is, eat, a_name}
 use Rattle.ss_words.specs.Lists.{Name, Several, spell_others, spell_names, spell_names_behind, next_name, other_names, names, names_behind}
 use Rattle.ss_words.proofs.Laws.{Good, Any, fits_option, pure_good, bind_good, many_read, spell_option}
 use Rattle.ss_words.proofs.Local.{Rooms, Local, pure_local, bind_local, many_local}
-use Rattle.ss_words.proofs.Marks.{spell_eaten, spell_name, eat_good, name_good, eat_local, name_local, eat_again, not_eaten, name_again}
-use Rattle.ss_words.proofs.Again.{then, many_ends, many_goes}
+use Rattle.ss_words.proofs.Marks.{spell_eaten, spell_name, eat_good, name_good, eat_local, name_local, eat_read_back, not_eaten, name_read_back}
+use Rattle.ss_words.proofs.ReadBack.{then, many_ends, many_goes}
 
 abbrev pub spell_next_name : Name → List Plain
 spell_next_name n = mark (m.Sign s.Comma) ∷ name n ∷ []
@@ -70,31 +70,31 @@ module _ (rooms : Rooms) where
 abbrev pub no_comma : List Plain → Type 0
 no_comma y = is (m.Sign s.Comma) (first y) ≡ false
 
-other_again : (ns : List Name) (y : List Plain) (k : ℕ) → no_comma y → length (spell_other_names ns ++ y) < k → many_from next_name [] (λ n ns. n ∷ ns) k (spell_other_names ns ++ y) ≡ (Ok ns, y)
+other_read_back : (ns : List Name) (y : List Plain) (k : ℕ) → no_comma y → length (spell_other_names ns ++ y) < k → many_from next_name [] (λ n ns. n ∷ ns) k (spell_other_names ns ++ y) ≡ (Ok ns, y)
 unfolding next_name pure
-other_again [] y zero none lt = absurd (omega arith)
-other_again [] y (suc k) none lt = many_ends next_name [] (λ n ns. n ∷ ns) k y y (then (eat (m.Sign s.Comma)) _ false y y (not_eaten (m.Sign s.Comma) y none))
-other_again (n ∷ ns) y zero none lt = absurd (omega arith)
-other_again (n ∷ ns) y (suc k) none lt =
+other_read_back [] y zero none lt = absurd (omega arith)
+other_read_back [] y (suc k) none lt = many_ends next_name [] (λ n ns. n ∷ ns) k y y (then (eat (m.Sign s.Comma)) _ false y y (not_eaten (m.Sign s.Comma) y none))
+other_read_back (n ∷ ns) y zero none lt = absurd (omega arith)
+other_read_back (n ∷ ns) y (suc k) none lt =
     let z = spell_other_names ns ++ y in
     many_goes next_name [] (λ n ns. n ∷ ns) k n ns (mark (m.Sign s.Comma) ∷ name n ∷ z) z y
-    (then (eat (m.Sign s.Comma)) _ true (mark (m.Sign s.Comma) ∷ name n ∷ z) (name n ∷ z) (eat_again (m.Sign s.Comma) _) ∙ then a_name _ n (name n ∷ z) z (name_again n z))
-    (other_again ns y k none (omega arith))
+    (then (eat (m.Sign s.Comma)) _ true (mark (m.Sign s.Comma) ∷ name n ∷ z) (name n ∷ z) (eat_read_back (m.Sign s.Comma) _) ∙ then a_name _ n (name n ∷ z) z (name_read_back n z))
+    (other_read_back ns y k none (omega arith))
 
-pub other_names-again : (ns : List Name) (y : List Plain) → no_comma y → other_names (spell_other_names ns ++ y) ≡ (Ok ns, y)
+pub other_names-read_back : (ns : List Name) (y : List Plain) → no_comma y → other_names (spell_other_names ns ++ y) ≡ (Ok ns, y)
 unfolding other_names many
-other_names-again ns y none = other_again ns y (suc (length (spell_other_names ns ++ y))) none (omega arith)
+other_names-read_back ns y none = other_read_back ns y (suc (length (spell_other_names ns ++ y))) none (omega arith)
 
-pub names-again : (ns : Several Name) (y : List Plain) → no_comma y → names (spell_names ns ++ y) ≡ (Ok ns, y)
+pub names-read_back : (ns : Several Name) (y : List Plain) → no_comma y → names (spell_names ns ++ y) ≡ (Ok ns, y)
 unfolding names pure
-names-again ns y none =
+names-read_back ns y none =
     let z = spell_other_names ns.others ++ y in
-    then a_name _ ns.first (name ns.first ∷ z) z (name_again ns.first z)
-    ∙ then other_names _ ns.others z y (other_names-again ns.others y none)
+    then a_name _ ns.first (name ns.first ∷ z) z (name_read_back ns.first z)
+    ∙ then other_names _ ns.others z y (other_names-read_back ns.others y none)
 
-pub names_behind-again : (k : Mark) (ns : Option (Several Name)) (y : List Plain) → no_comma y → is k (first y) ≡ false → names_behind k (spell_names_behind k ns ++ y) ≡ (Ok ns, y)
+pub names_behind-read_back : (k : Mark) (ns : Option (Several Name)) (y : List Plain) → no_comma y → is k (first y) ≡ false → names_behind k (spell_names_behind k ns ++ y) ≡ (Ok ns, y)
 unfolding names_behind pure
-names_behind-again k None y none other = then (eat k) _ false y y (not_eaten k y other)
-names_behind-again k (Some ns) y none other =
+names_behind-read_back k None y none other = then (eat k) _ false y y (not_eaten k y other)
+names_behind-read_back k (Some ns) y none other =
     let z = spell_names ns ++ y in
-    then (eat k) _ true (mark k ∷ z) z (eat_again k z) ∙ then names _ ns z y (names-again ns y none)
+    then (eat k) _ true (mark k ∷ z) z (eat_read_back k z) ∙ then names _ ns z y (names-read_back ns y none)

@@ -69,13 +69,13 @@ pub eat_local : (rooms : Rooms) (k : Mark) → Local rooms (eat k) (eat k)
 unfolding eat
 eat_local rooms k = test_local rooms (is k) _ _ _ _ refl (pure_local rooms true) (pure_local rooms false)
 
-pub expect_again : (k : Mark) (y : List Plain) → expect k (mark k ∷ y) ≡ (Ok tt, y)
+pub expect_read_back : (k : Mark) (y : List Plain) → expect k (mark k ∷ y) ≡ (Ok tt, y)
 unfolding expect look skip pure refuse
-expect_again k y = ap (λ (b : Bool). let p : Reading (Unit {0}) = elim b [ true ↦ skip (pure tt) | false ↦ refuse Unexpected ] in p (mark k ∷ y)) (is_same k)
+expect_read_back k y = ap (λ (b : Bool). let p : Reading (Unit {0}) = elim b [ true ↦ skip (pure tt) | false ↦ refuse Unexpected ] in p (mark k ∷ y)) (is_same k)
 
-pub eat_again : (k : Mark) (y : List Plain) → eat k (mark k ∷ y) ≡ (Ok true, y)
+pub eat_read_back : (k : Mark) (y : List Plain) → eat k (mark k ∷ y) ≡ (Ok true, y)
 unfolding eat look skip pure
-eat_again k y = ap (λ (b : Bool). let p : Reading Bool = elim b [ true ↦ skip (pure true) | false ↦ pure false ] in p (mark k ∷ y)) (is_same k)
+eat_read_back k y = ap (λ (b : Bool). let p : Reading Bool = elim b [ true ↦ skip (pure true) | false ↦ pure false ] in p (mark k ∷ y)) (is_same k)
 
 pub not_eaten : (k : Mark) (y : List Plain) → is k (first y) ≡ false → eat k y ≡ (Ok false, y)
 unfolding eat look skip pure
@@ -102,9 +102,9 @@ pub name_local : (rooms : Rooms) → Local rooms a_name a_name
 unfolding a_name
 name_local rooms = look_local rooms _ _ (name_local_at rooms)
 
-pub name_again : (n : List ℕ) (y : List Plain) → a_name (name n ∷ y) ≡ (Ok n, y)
+pub name_read_back : (n : List ℕ) (y : List Plain) → a_name (name n ∷ y) ≡ (Ok n, y)
 unfolding a_name look skip pure
-name_again n y = refl
+name_read_back n y = refl
 
 abbrev pub spell_number : ℕ → List Plain
 spell_number n = number n ∷ []
@@ -125,9 +125,9 @@ pub number_local : (rooms : Rooms) → Local rooms a_number a_number
 unfolding a_number
 number_local rooms = look_local rooms _ _ (number_local_at rooms)
 
-pub number_again : (n : ℕ) (y : List Plain) → a_number (number n ∷ y) ≡ (Ok n, y)
+pub number_read_back : (n : ℕ) (y : List Plain) → a_number (number n ∷ y) ≡ (Ok n, y)
 unfolding a_number look skip pure
-number_again n y = refl
+number_read_back n y = refl
 
 abbrev pub spell_picture : List (List ℕ) → List Plain
 spell_picture ls = picture ls ∷ []
@@ -148,15 +148,15 @@ pub picture_local : (rooms : Rooms) → Local rooms a_picture a_picture
 unfolding a_picture
 picture_local rooms = look_local rooms _ _ (picture_local_at rooms)
 
-pub picture_again : (ls : List (List ℕ)) (y : List Plain) → a_picture (picture ls ∷ y) ≡ (Ok ls, y)
+pub picture_read_back : (ls : List (List ℕ)) (y : List Plain) → a_picture (picture ls ∷ y) ≡ (Ok ls, y)
 unfolding a_picture look skip pure
-picture_again ls y = refl
+picture_read_back ls y = refl
 
 -- ---- passing a mark takes a word
 
 pub expect_shorter : {A : Type 0} (k : Mark) (f : Unit {0} → Reading A) → ((ws : List Plain) → length (f tt ws).1 ≤ length ws) → (ws : List Plain) → length (bind (expect k) f (mark k ∷ ws)).1 ≤ length ws
 unfolding bind
-expect_shorter k f h ws = rw (expect_again k ws) (h ws)
+expect_shorter k f h ws = rw (expect_read_back k ws) (h ws)
 
 -- a text that begins with this mark has a word
 pub taken : (k : Mark) (ws : List Plain) → is k (first ws) ≡ true → 0 < length ws

@@ -1,6 +1,6 @@
 use Rattle.std.proofs.Common.{length, ◌≤◌}
 use Rattle.ss_words.specs.Plain.{word_lines}
-use Rattle.ss_words.proofs.Lays.{Noted}
+use Rattle.ss_words.proofs.Writes.{Noted}
 use Rattle.ss_preamble.specs.Onto.{next_onto, items_onto}
 use Rattle.ss_preamble.specs.View.{items_view}
 use Rattle.ss_preamble.proofs.reader.item_list.Given as goal

@@ -1,4 +1,4 @@
-use Rattle.ss_routines.specs.AgainExpr.{expr_at-is}
+use Rattle.ss_routines.specs.ReadBackExpr.{expr_at-is}
 use Rattle.ss_routines.proofs.expression.expression.Goals as goal
 
 pub returns-clause-exact : goal.returns-clause-exact

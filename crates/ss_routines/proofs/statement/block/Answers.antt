@@ -2,7 +2,7 @@ use Rattle.std.proofs.Common.{refl, arith}
 use Rattle.std.proofs.lemmas.Result.{err_from_is_err_and}
 use Rattle.ss_words.specs.Plain.{word_lines}
 use Rattle.ss_words.proofs.Loop.{passes_on}
-use Rattle.ss_words.proofs.Lays.{noting_begins, noting_turns, noting_stops, noting_fails}
+use Rattle.ss_words.proofs.Writes.{noting_begins, noting_turns, noting_stops, noting_fails}
 use Rattle.ss_routines.specs.ExprReading.{expr_at}
 use Rattle.ss_routines.specs.Onto.{next_onto, block_onto}
 use Rattle.ss_routines.specs.View.{spots}

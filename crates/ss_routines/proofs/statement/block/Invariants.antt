@@ -1,6 +1,6 @@
 use Rattle.std.proofs.Common.{length, ◌≤◌}
 use Rattle.ss_words.specs.Plain.{word_lines}
-use Rattle.ss_words.proofs.Lays.{Noted}
+use Rattle.ss_words.proofs.Writes.{Noted}
 use Rattle.ss_routines.specs.ExprReading.{expr_at}
 use Rattle.ss_routines.specs.Onto.{next_onto, block_onto}
 use Rattle.ss_routines.specs.View.{spots}

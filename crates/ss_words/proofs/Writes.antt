@@ -9,68 +9,68 @@ use Rattle.ss_words.proofs.Laws.{IsRead, Good, spell_option}
 use Rattle.ss_words.proofs.Loop.{on_ok}
 
 -- p' answers what out makes of what p reads, from word number k of a text of so many words
-pub record Lays {A B : Type 0} (words : ℕ) (out : A → B) (k : ℕ) (p : Reading A) (p' : Reading B) : Type 0 where
+pub record Writes {A B : Type 0} (words : ℕ) (out : A → B) (k : ℕ) (p : Reading A) (p' : Reading B) : Type 0 where
   pub at : (ws : List Plain) → k + length ws ≡ words → p' ws ≡ (on_ok out (p ws).0, (p ws).1)
 
-abbrev pub LaysAt : {A B : Type 0} → ℕ → (A → B) → ℕ → Option Plain → Reading A → Reading B → Type 0
-LaysAt words out k w p p' = (ws : List Plain) → first ws ≡ w → k + length ws ≡ words → p' ws ≡ (on_ok out (p ws).0, (p ws).1)
+abbrev pub WritesAt : {A B : Type 0} → ℕ → (A → B) → ℕ → Option Plain → Reading A → Reading B → Type 0
+WritesAt words out k w p p' = (ws : List Plain) → first ws ≡ w → k + length ws ≡ words → p' ws ≡ (on_ok out (p ws).0, (p ws).1)
 
 module _ {A B : Type 0} (words : ℕ) (out : A → B) (k : ℕ) where
-  pub pure_lays : (a : A) (b : B) → b ≡ out a → Lays words out k (pure a) (pure b)
+  pub pure_writes : (a : A) (b : B) → b ≡ out a → Writes words out k (pure a) (pure b)
   unfolding pure
-  pure_lays a b e = record { at = λ ws h. λ i. (Ok (e i), ws) }
+  pure_writes a b e = record { at = λ ws h. λ i. (Ok (e i), ws) }
 
-  pub refuse_lays : (f : Refusal) → Lays words out k (refuse f) (refuse f)
+  pub refuse_writes : (f : Refusal) → Writes words out k (refuse f) (refuse f)
   unfolding refuse
-  refuse_lays f = record { at = λ ws h. refl }
+  refuse_writes f = record { at = λ ws h. refl }
 
-  pub here_lays : (lines : List ℕ) (p : Reading A) (f : ℕ → Reading B) → length lines ≡ words → Lays words out k p (f (line lines k)) → Lays words out k p (here lines f)
+  pub here_writes : (lines : List ℕ) (p : Reading A) (f : ℕ → Reading B) → length lines ≡ words → Writes words out k p (f (line lines k)) → Writes words out k p (here lines f)
   unfolding here
-  here_lays lines p f e l = record {
+  here_writes lines p f e l = record {
     at = λ ws h.
         let same : length lines - length ws ≡ k = omega arith in
         ap (λ (j : ℕ). f (line lines j) ws) same ∙ l.at ws h;
   }
 
-  pub here_at : (lines : List ℕ) (w : Option Plain) (p : Reading A) (f : ℕ → Reading B) → length lines ≡ words → LaysAt words out k w p (f (line lines k)) → LaysAt words out k w p (here lines f)
+  pub here_at : (lines : List ℕ) (w : Option Plain) (p : Reading A) (f : ℕ → Reading B) → length lines ≡ words → WritesAt words out k w p (f (line lines k)) → WritesAt words out k w p (here lines f)
   unfolding here
   here_at lines w p f e l ws first_is h =
       let same : length lines - length ws ≡ k = omega arith in
       ap (λ (j : ℕ). f (line lines j) ws) same ∙ l ws first_is h
 
-  pub look_lays : (f : Option Plain → Reading A) (f' : Option Plain → Reading B) → ((w : Option Plain) → LaysAt words out k w (f w) (f' w)) → Lays words out k (look f) (look f')
+  pub look_writes : (f : Option Plain → Reading A) (f' : Option Plain → Reading B) → ((w : Option Plain) → WritesAt words out k w (f w) (f' w)) → Writes words out k (look f) (look f')
   unfolding look
-  look_lays f f' l = record { at = λ ws h. l (first ws) ws refl h }
+  look_writes f f' l = record { at = λ ws h. l (first ws) ws refl h }
 
-  pub skip_lays : (w : Plain) (p : Reading A) (p' : Reading B) → Lays words out (k + 1) p p' → LaysAt words out k (Some w) (skip p) (skip p')
+  pub skip_writes : (w : Plain) (p : Reading A) (p' : Reading B) → Writes words out (k + 1) p p' → WritesAt words out k (Some w) (skip p) (skip p')
   unfolding skip
-  skip_lays w p p' l [] e h = absurd cc
-  skip_lays w p p' l (v ∷ ws) e h = l.at ws (omega arith)
+  skip_writes w p p' l [] e h = absurd cc
+  skip_writes w p p' l (v ∷ ws) e h = l.at ws (omega arith)
 
-  pub all_lays : (w : Option Plain) (p : Reading A) (p' : Reading B) → Lays words out k p p' → LaysAt words out k w p p'
-  all_lays w p p' l ws e h = l.at ws h
+  pub all_writes : (w : Option Plain) (p : Reading A) (p' : Reading B) → Writes words out k p p' → WritesAt words out k w p p'
+  all_writes w p p' l ws e h = l.at ws h
 
 -- a part that notes
 module _ {A A' B B' : Type 0} (words : ℕ) (fits : A → Type 0) (sp : A → List Plain) (outA : A → A') (out : B → B') (k : ℕ) (f : A → Reading B) (f' : A' → Reading B')
-    (l : (a : A) → Lays words out (k + length (sp a)) (f a) (f' (outA a))) where
+    (l : (a : A) → Writes words out (k + length (sp a)) (f a) (f' (outA a))) where
   bound : (o : Result A Refusal) (ws r : List Plain) → k + length ws ≡ words → IsRead fits sp [] o ws r → goes_on f' (on_ok outA o) r ≡ (on_ok out (goes_on f o r).0, (goes_on f o r).1)
   bound (Ok a) ws r h (fa, q, e, s) = (l a).at r (omega (arith, ap length e, ap length s, length-append q r))
   bound (Err e) ws r h read = refl
 
-  pub bind_lays : (p : Reading A) (p' : Reading A') → Good fits sp [] p → Lays words outA k p p' → Lays words out k (bind p f) (bind p' f')
+  pub bind_writes : (p : Reading A) (p' : Reading A') → Good fits sp [] p → Writes words outA k p p' → Writes words out k (bind p f) (bind p' f')
   unfolding bind
-  bind_lays p p' good lp = record { at = λ ws h. ap (λ (x : Read A'). goes_on f' x.0 x.1) (lp.at ws h) ∙ bound (p ws).0 ws (p ws).1 h (good.read ws) }
+  bind_writes p p' good lp = record { at = λ ws h. ap (λ (x : Read A'). goes_on f' x.0 x.1) (lp.at ws h) ∙ bound (p ws).0 ws (p ws).1 h (good.read ws) }
 
 -- a part that notes nothing
 module _ {A B B' : Type 0} (words : ℕ) (fits : A → Type 0) (sp : A → List Plain) (out : B → B') (k : ℕ) (f : A → Reading B) (f' : A → Reading B')
-    (l : (a : A) → Lays words out (k + length (sp a)) (f a) (f' a)) where
+    (l : (a : A) → Writes words out (k + length (sp a)) (f a) (f' a)) where
   alike : (o : Result A Refusal) (ws r : List Plain) → k + length ws ≡ words → IsRead fits sp [] o ws r → goes_on f' o r ≡ (on_ok out (goes_on f o r).0, (goes_on f o r).1)
   alike (Ok a) ws r h (fa, q, e, s) = (l a).at r (omega (arith, ap length e, ap length s, length-append q r))
   alike (Err e) ws r h read = refl
 
-  pub same_lays : (p : Reading A) → Good fits sp [] p → Lays words out k (bind p f) (bind p f')
+  pub same_writes : (p : Reading A) → Good fits sp [] p → Writes words out k (bind p f) (bind p f')
   unfolding bind
-  same_lays p good = record { at = λ ws h. alike (p ws).0 ws (p ws).1 h (good.read ws) }
+  same_writes p good = record { at = λ ws h. alike (p ws).0 ws (p ws).1 h (good.read ws) }
 
 -- a part that is put into a larger one
 module _ {A B B' : Type 0} (words : ℕ) (outA : A → B') (out : B → B') (k : ℕ) (g : A → B) (same : (a : A) → outA a ≡ out (g a)) where
@@ -79,9 +79,9 @@ module _ {A B B' : Type 0} (words : ℕ) (outA : A → B') (out : B → B') (k :
   put (Ok a) r = λ i. (Ok (same a i), r)
   put (Err e) r = refl
 
-  pub map_lays : (p : Reading A) (p' : Reading B') → Lays words outA k p p' → Lays words out k (bind p (λ a. pure (g a))) p'
+  pub map_writes : (p : Reading A) (p' : Reading B') → Writes words outA k p p' → Writes words out k (bind p (λ a. pure (g a))) p'
   unfolding bind
-  map_lays p p' l = record { at = λ ws h. l.at ws h ∙ put (p ws).0 (p ws).1 }
+  map_writes p p' l = record { at = λ ws h. l.at ws h ∙ put (p ws).0 (p ws).1 }
 
 -- one after the other
 abbrev pub noted : {S A : Type 0} → (A → List S) → List S → Option A → Bool × List S
@@ -91,19 +91,19 @@ noted flat acc None = (false, acc)
 module _ {S A B : Type 0} (words : ℕ) (fits : Option A → Type 0) (spA : A → List Plain) (item : Reading (Option A)) (none : B) (one : A → B → B) (item' : List S → Reading (Bool × List S))
     (flatA : ℕ → A → List S) (flatB : ℕ → B → List S) (good : Good fits (spell_option spA) [] item)
     (e0 : (k : ℕ) → flatB k none ≡ []) (e1 : (k : ℕ) (a : A) (b : B) → flatB k (one a b) ≡ flatA k a ++ flatB (k + length (spA a)) b)
-    (l : (k : ℕ) (acc : List S) → Lays words (noted (flatA k) acc) k item (item' acc)) where
-  pub many_from_lays : (n : ℕ) (k : ℕ) (acc : List S) → Lays words (λ b. acc ++ flatB k b) k (many_from item none one n) (repeat_from item' n acc)
+    (l : (k : ℕ) (acc : List S) → Writes words (noted (flatA k) acc) k item (item' acc)) where
+  pub many_from_writes : (n : ℕ) (k : ℕ) (acc : List S) → Writes words (λ b. acc ++ flatB k b) k (many_from item none one n) (repeat_from item' n acc)
   unfolding many_from repeat_from
-  many_from_lays zero k acc = pure_lays words _ k none acc (sym (append-nil acc) ∙ ap (λ (u : List S). acc ++ u) (sym (e0 k)))
-  many_from_lays (suc n) k acc = bind_lays words fits (spell_option spA) (noted (flatA k) acc) _ k _ _ (elim [
-    | Some a ↦ map_lays words (λ b. (acc ++ flatA k a) ++ flatB (k + length (spA a)) b) _ _ (one a) (λ b. append_assoc acc (flatA k a) (flatB (k + length (spA a)) b) ∙ ap (λ (u : List S). acc ++ u) (sym (e1 k a b)))
-        (many_from item none one n) _ (many_from_lays n (k + length (spA a)) (acc ++ flatA k a))
-    | None ↦ pure_lays words _ _ none acc (sym (append-nil acc) ∙ ap (λ (u : List S). acc ++ u) (sym (e0 k)))
+  many_from_writes zero k acc = pure_writes words _ k none acc (sym (append-nil acc) ∙ ap (λ (u : List S). acc ++ u) (sym (e0 k)))
+  many_from_writes (suc n) k acc = bind_writes words fits (spell_option spA) (noted (flatA k) acc) _ k _ _ (elim [
+    | Some a ↦ map_writes words (λ b. (acc ++ flatA k a) ++ flatB (k + length (spA a)) b) _ _ (one a) (λ b. append_assoc acc (flatA k a) (flatB (k + length (spA a)) b) ∙ ap (λ (u : List S). acc ++ u) (sym (e1 k a b)))
+        (many_from item none one n) _ (many_from_writes n (k + length (spA a)) (acc ++ flatA k a))
+    | None ↦ pure_writes words _ _ none acc (sym (append-nil acc) ∙ ap (λ (u : List S). acc ++ u) (sym (e0 k)))
   ]) item (item' acc) good (l k acc)
 
-  pub many_lays : (k : ℕ) (acc : List S) → Lays words (λ b. acc ++ flatB k b) k (many item none one) (repeat item' acc)
+  pub many_writes : (k : ℕ) (acc : List S) → Writes words (λ b. acc ++ flatB k b) k (many item none one) (repeat item' acc)
   unfolding many repeat
-  many_lays k acc = record { at = λ ws h. (many_from_lays (suc (length ws)) k acc).at ws h }
+  many_writes k acc = record { at = λ ws h. (many_from_writes (suc (length ws)) k acc).at ws h }
 
 -- ---- a loop that notes
 
@@ -131,9 +131,9 @@ module _ {S : Type 0} (item : List S → Reading (Bool × List S)) where
   noting_fails total acc ws r f e (suc k, lt, so_far) = so_far ∙ rw e refl
 
 -- a part behind which nothing is read
-pub maps_lays : {A B C : Type 0} (words : ℕ) (out : B → C) (k : ℕ) (g : A → B) (h : A → C) → ((a : A) → h a ≡ out (g a)) → (p : Reading A) → Lays words out k (bind p (λ a. pure (g a))) (bind p (λ a. pure (h a)))
+pub maps_writes : {A B C : Type 0} (words : ℕ) (out : B → C) (k : ℕ) (g : A → B) (h : A → C) → ((a : A) → h a ≡ out (g a)) → (p : Reading A) → Writes words out k (bind p (λ a. pure (g a))) (bind p (λ a. pure (h a)))
 unfolding bind pure
-maps_lays {A} words out k g h same p = record { at = λ ws e. put (p ws).0 (p ws).1 }
+maps_writes {A} words out k g h same p = record { at = λ ws e. put (p ws).0 (p ws).1 }
   where
     put : (o : Result A Refusal) (r : List Plain) → goes_on (λ a. pure (h a)) o r ≡ (on_ok out (goes_on (λ a. pure (g a)) o r).0, (goes_on (λ a. pure (g a)) o r).1)
     put (Ok a) r = λ i. (Ok (same a i), r)
