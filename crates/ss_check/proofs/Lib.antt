@@ -5,6 +5,9 @@ pub mod Breaches
 pub mod Known
 pub mod Distinct
 pub mod Few
+pub mod Linked
+pub mod WaysKept
+pub mod Backward
 pub mod SoundResolved
 pub mod LookedUpAgain
 pub mod Indexed

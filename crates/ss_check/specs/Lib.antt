@@ -12,3 +12,7 @@ pub mod Examples
 pub mod Keys
 pub mod EventTable
 pub mod Indexed
+pub mod ProgramCondition
+pub mod ProgramConditionCode
+pub mod Match
+pub mod Pairings

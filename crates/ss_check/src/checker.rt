@@ -12,7 +12,7 @@ use crate::name::Name;
 use crate::name_table::NameTable;
 use crate::place::Spot;
 use crate::program::Program;
-use crate::section::Section;
+use crate::section::{Head, Section};
 use ss_routines::Sections;
 use std::alloc::Global;
 
@@ -101,7 +101,7 @@ fn check_section(alloc: Global, section: ss_routines::Section) -> Result<Section
 {
     let locals = locals_of(alloc, &section.places)?;
     let places = check_places(alloc, &locals, section.places)?;
-    Ok(Section {
+    let head = Head {
         name: Name {
             bytes: section.name,
         },
@@ -110,9 +110,8 @@ fn check_section(alloc: Global, section: ss_routines::Section) -> Result<Section
         given: 0,
         yielded: 0,
         saving: false,
-        locals: locals.into_names(),
-        places,
-    })
+    };
+    Ok(Section::new(alloc, head, locals.into_names(), places)?)
 }
 
 fn kind_of(kind: ss_routines::SectionKind) -> SectionKind
