@@ -5,5 +5,8 @@ pub mod Breaches
 pub mod Known
 pub mod Distinct
 pub mod Few
+pub mod Linked
+pub mod WaysKept
+pub mod Backward
 pub mod SoundResolved
 pub mod LookedUpAgain

@@ -21,6 +21,7 @@ use Rattle.ss_check.proofs.Breaches.{breach_behind, no_breach_cons, no_breach_pl
 use Rattle.ss_check.proofs.Known.{known, known_parts, any_position, all_known}
 use Rattle.ss_check.proofs.Distinct.{distinct_locals, sound_names, sound_tables}
 use Rattle.ss_check.proofs.Few.{AreFew}
+use Rattle.ss_check.proofs.Linked.{IsPlain, ArePlain, plain_linked}
 
 -- ---- names and expressions
 
@@ -121,6 +122,7 @@ sound_section : (s : Section) → IsEnded s.places → length s.places < 2 ^ 63 
 sound_section s e f b = record {
   distinct = distinct_locals (flat_map (λ s. names_written s.place) s.places);
   parameters = omega arith;
+  few_parameters = omega arith;
   places = sound_places (locals_written s.places) s.places (all_known (flat_map (λ s. names_written s.place) s.places) []) b;
   ended = ended_places (locals_written s.places) s.places e;
   few = rw (length-map s.places (resolved_spot (locals_written s.places))) f;
@@ -148,11 +150,28 @@ mains_counted (s ∷ ss) has_main n b =
     rw (sum_by-cons (λ (t : SectionTable). cond (is_main t) 1 0) (resolved_section s) (map resolved_section ss))
     (one_more has_main (is_main_section s) s.line (count_by is_main (map resolved_section ss)) none.0 behind)
 
+-- every place that is resolved so far is plain
+plain_place : (table : List (List ℕ)) (p : Place) → IsPlain (resolved_place table p)
+plain_place table (assign a) = tt
+plain_place table (output o) = tt
+plain_place table (control c) = tt
+
+plain_places : (table : List (List ℕ)) (ss : List Spot) → ArePlain (map (resolved_spot table) ss)
+plain_places table [] = tt
+plain_places table (s ∷ ss) = (plain_place table s.place, plain_places table ss)
+
+linked_sections : (all : List SectionTable) (ss : List Section) → AreEnded ss → sound.AreLinkedSections all (map resolved_section ss)
+linked_sections all [] e = tt
+linked_sections all (s ∷ ss) e =
+    let plain = plain_places (locals_written s.places) s.places in
+    (plain_linked all _ _ 0 plain plain (ended_places (locals_written s.places) s.places e.0) (omega arith), linked_sections all ss e.1)
+
 pub sound_resolved : (ss : List Section) → AreEnded ss → AreFew ss → length ss < 2 ^ 63 → breach ss ≡ None → sound.IsSound (resolved ss)
 sound_resolved ss e f l b = record {
   main = let one = mains_counted ss false 1 b in omega (arith, one);
   sections = sound_sections ss false 1 e f b;
   few = rw (length-map ss resolved_section) l;
+  linked = linked_sections (map resolved_section ss) ss e;
   names = sound_names (map resolved_section ss);
   tables = sound_tables (map resolved_section ss);
   few_names = omega arith;

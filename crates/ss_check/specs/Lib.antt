@@ -11,3 +11,7 @@ pub mod Found
 pub mod Examples
 pub mod Keys
 pub mod EventTable
+pub mod ProgramCondition
+pub mod ProgramConditionCode
+pub mod Match
+pub mod Pairings

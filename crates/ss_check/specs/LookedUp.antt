@@ -60,12 +60,16 @@ module _ (globals locals : List (List ℕ)) where
 
   abbrev pub written_control : Control → w.Control
   written_control c.Stop = w.stops
+  -- no text has a RETURN yet
+  written_control c.Return = w.ends
   written_control c.End = w.ends
 
   abbrev pub written_place : Place → w.Place
   written_place (p.Assign x) = w.assign (written_assign x)
   written_place (p.Output x) = w.output (written_output x)
   written_place (p.Control x) = w.control (written_control x)
+  -- no text has another place yet
+  written_place other = w.control w.ends
 
   abbrev pub written_spot : Spot → w.Spot
   written_spot s = record { line = s.line; place = written_place s.place }

@@ -9,7 +9,7 @@ use Rattle.ss_check.specs.declared.kinds.Discipline.TheVariants.{Fifo}
 use Rattle.ss_check.specs.declared.kinds.Owner.{Owner}
 use Rattle.ss_check.specs.declared.kinds.Owner.TheVariants.{System, OwnedBy}
 use Rattle.ss_check.specs.declared.kinds.SectionKind.{SectionKind}
-use Rattle.ss_check.specs.declared.kinds.SectionKind.TheVariants.{Main, Event as EventSection}
+use Rattle.ss_check.specs.declared.kinds.SectionKind.TheVariants.{Main, Routine, Event as EventSection}
 use Rattle.ss_check.specs.declared.place.Spot.{Spot}
 
 -- a class: its name, its kind, the global variable of its name, and the names of its attributes
@@ -55,6 +55,15 @@ is_main_kind _ = false
 abbrev pub is_event_kind : SectionKind → Bool
 is_event_kind EventSection = true
 is_event_kind _ = false
+
+-- a routine, by the kind of a section
+abbrev pub is_routine_kind : SectionKind → Bool
+is_routine_kind Routine = true
+is_routine_kind _ = false
+
+-- a routine
+abbrev pub is_routine : SectionTable → Bool
+is_routine s = is_routine_kind s.kind
 
 -- the section MAIN
 abbrev pub is_main : SectionTable → Bool

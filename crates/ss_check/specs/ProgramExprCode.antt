@@ -1,4 +1,5 @@
--- How the logic stores the tree of an expression: as a list of numbered tokens, each part before its own parts, read back from the last.
+-- Private: how the logic stores the tree of an expression: as a list of numbered tokens, each part before its own parts,
+-- read back from the last.
 use Rattle.std.specs.Prelude.{◌≡◌, ℕ, zero, suc, List, [], ◌∷◌, Option, Some, None}
 use Rattle.std.proofs.Common.{refl, ap, ◌∙◌}
 use Rattle.std.specs.Coded.{Coded, code_by, coded×, coded_ℕ, coded_list}
@@ -16,15 +17,18 @@ pub data Part : Type 0 where
   some_products : Products → Part
   a_factor : Factor → Part
 
+-- the token of a sign at the head
 abbrev pub lead_token : Option TermSign → ℕ × ℕ
 lead_token None = (0, 0)
 lead_token (Some Plus) = (0, 1)
 lead_token (Some Minus) = (0, 2)
 
+-- the token of a term's sign
 abbrev pub sign_token : TermSign → ℕ × ℕ
 sign_token Plus = (2, 0)
 sign_token Minus = (2, 1)
 
+-- the token of a variable
 abbrev pub variable_token : Variable → ℕ × ℕ
 variable_token (v.Global i) = (7, i)
 variable_token (v.Local i) = (8, i)
@@ -51,11 +55,13 @@ abbrev mutual
   factor_tokens (variable x) k = variable_token x ∷ k
   factor_tokens (within e) k = (10, 0) ∷ expr_tokens e k
 
+-- the sign at the head of this number
 abbrev pub lead_of : ℕ → Option TermSign
 lead_of zero = None
 lead_of (suc zero) = Some Plus
 lead_of (suc (suc n)) = Some Minus
 
+-- the sign of this number
 abbrev pub sign_of : ℕ → TermSign
 sign_of zero = Plus
 sign_of (suc n) = Minus
@@ -65,22 +71,27 @@ abbrev pub expr_read : ℕ → List Part → List Part
 expr_read n (a_term t ∷ some_sums ss ∷ st) = an_expr (expr (lead_of n) t ss) ∷ st
 expr_read n st = st
 
+-- the same of a further term
 abbrev pub sum_read : ℕ → List Part → List Part
 sum_read n (a_term t ∷ some_sums ss ∷ st) = some_sums (sum (sign_of n) t ss) ∷ st
 sum_read n st = st
 
+-- of a term
 abbrev pub term_read : List Part → List Part
 term_read (a_factor f ∷ some_products ps ∷ st) = a_term (term f ps) ∷ st
 term_read st = st
 
+-- of a further factor
 abbrev pub product_read : List Part → List Part
 product_read (a_factor f ∷ some_products ps ∷ st) = some_products (product f ps) ∷ st
 product_read st = st
 
+-- of parentheses
 abbrev pub within_read : List Part → List Part
 within_read (an_expr e ∷ st) = a_factor (within e) ∷ st
 within_read st = st
 
+-- of a token by its numbers
 abbrev pub token_read : ℕ → ℕ → List Part → List Part
 token_read zero n st = expr_read n st
 token_read (suc zero) n st = some_sums no_sums ∷ st
@@ -94,10 +105,12 @@ token_read (suc (suc (suc (suc (suc (suc (suc (suc zero)))))))) n st = a_factor 
 token_read (suc (suc (suc (suc (suc (suc (suc (suc (suc zero))))))))) n st = a_factor (variable v.Clock) ∷ st
 token_read k n st = within_read st
 
+-- the parts of a list of tokens
 abbrev pub parts : List (ℕ × ℕ) → List Part
 parts [] = []
 parts (w ∷ ws) = token_read w.0 w.1 (parts ws)
 
+-- the expression that stands first
 abbrev pub first_expr : List Part → Expr
 first_expr (an_expr e ∷ st) = e
 first_expr st = expr None (term (digits 0) no_products) no_sums
@@ -143,14 +156,17 @@ mutual
   factor_again (variable x) k = variable_again x (parts k)
   factor_again (within e) k = ap within_read (expr_again e k)
 
+-- an expression as its tokens
 abbrev pub written : Expr → List (ℕ × ℕ)
 written e = expr_tokens e []
 
+-- and read back from them
 abbrev pub read_back : List (ℕ × ℕ) → Expr
 read_back ws = first_expr (parts ws)
 
 pub read_written : (e : Expr) → read_back (written e) ≡ e
 read_written e = ap first_expr (expr_again e [])
 
+-- how an expression is stored
 abbrev pub expr_code : Coded Expr
 expr_code = code_by (List (ℕ × ℕ)) (coded_list (coded× coded_ℕ coded_ℕ)) written read_back read_written

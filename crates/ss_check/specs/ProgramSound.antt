@@ -1,5 +1,5 @@
 -- What is sound about every checked program.
-use Rattle.std.specs.Prelude.{◌≡◌, ℕ, ◌<◌, ◌≤◌, ◌+◌, ◌^◌, ◌==◌, List, [], ◌∷◌, length, map, count_by, bytes_eq, slice_get, Some, Bool, true, false}
+use Rattle.std.specs.Prelude.{◌≡◌, ℕ, ◌<◌, ◌≤◌, ◌+◌, ◌^◌, ◌==◌, List, [], ◌∷◌, length, map, count_by, bytes_eq, slice_get, Option, Some, None, Bool, true, false}
 use Rattle.std.specs.List.{All, IsDistinct, list_all, list_any}
 use Rattle.ss_report.specs.Pictures.{field_count, has_decimal_field}
 use Rattle.ss_check.specs.declared.variable.Variable.{Variable}
@@ -8,9 +8,23 @@ use Rattle.ss_check.specs.declared.place.Assign.{Assign as AnAssign}
 use Rattle.ss_check.specs.declared.place.Assign.TheVariants.{Let, Add, Subtract}
 use Rattle.ss_check.specs.declared.place.Output.{Output as AnOutput}
 use Rattle.ss_check.specs.declared.place.Output.TheVariants.{Print}
-use Rattle.ss_check.specs.declared.place.Control.TheVariants.{Stop, End}
+use Rattle.ss_check.specs.declared.place.Control.TheVariants.{Stop, Return, End}
 use Rattle.ss_check.specs.declared.place.Place.{Place}
-use Rattle.ss_check.specs.declared.place.Place.TheVariants.{Assign, Output, Control}
+use Rattle.ss_check.specs.declared.place.Place.TheVariants.{Assign, Output, Control, Branch, Looping, Call}
+use Rattle.ss_check.specs.declared.branch.Question.{Question}
+use Rattle.ss_check.specs.declared.branch.Question.TheVariants.{Whether, WasFound, WasNone}
+use Rattle.ss_check.specs.declared.branch.Branch.{Branch as ABranch}
+use Rattle.ss_check.specs.declared.branch.Branch.TheVariants.{If, Else, Always}
+use Rattle.ss_check.specs.declared.looping.Qualifier.{Qualifier}
+use Rattle.ss_check.specs.declared.looping.Phrase.{Phrase}
+use Rattle.ss_check.specs.declared.looping.Phrase.TheVariants.{Counting}
+use Rattle.ss_check.specs.declared.looping.Telling.{Telling}
+use Rattle.ss_check.specs.declared.looping.Looping.{Looping as ALooping}
+use Rattle.ss_check.specs.declared.looping.Looping.TheVariants.{For, Loop, Find, Gather, Tell}
+use Rattle.ss_check.specs.declared.call.Call.{Call as ACall}
+use Rattle.ss_check.specs.declared.ways.Ways.{Ways}
+use Rattle.ss_check.specs.ProgramCondition.{Condition, any, Conjunctions, no_conjunctions, or_else, Conjunction, all, Relations, no_relations, and_also, Relation, compared, nested}
+use Rattle.ss_check.specs.Match.{ways_of}
 use Rattle.ss_check.specs.declared.place.Spot.{Spot}
 use Rattle.ss_check.specs.ProgramExpr.{Expr, expr, Sums, no_sums, sum, Term, term, Products, no_products, product, Factor, digits, variable, within}
 use Rattle.ss_check.specs.declared.keys.Key.{Key}
@@ -21,7 +35,7 @@ use Rattle.ss_check.specs.declared.kinds.Discipline.TheVariants.{Fifo, Lifo, Ran
 use Rattle.ss_check.specs.declared.kinds.Owner.{Owner}
 use Rattle.ss_check.specs.declared.kinds.Owner.TheVariants.{System, OwnedBy}
 use Rattle.ss_check.specs.EventTable.{EventTable}
-use Rattle.ss_check.specs.Program.{ClassTable, SetTable, SectionTable, ProgramTable, is_main, class_of, is_event, is_event_section, section_of}
+use Rattle.ss_check.specs.Program.{ClassTable, SetTable, SectionTable, ProgramTable, is_main, is_routine, class_of, is_event, is_event_section, section_of}
 
 -- a variable is one of the n global ones, one of the m locals, or the clock
 abbrev pub IsSoundVariable : ℕ → ℕ → Variable → Type 0
@@ -70,20 +84,92 @@ IsSoundAssign n m (Subtract value target) = IsTarget n m target × IsSoundExpr n
 abbrev pub IsSoundOutput : ℕ → ℕ → AnOutput → Type 0
 IsSoundOutput n m (Print count values picture) = (length values ≡ field_count picture) × (has_decimal_field picture ≡ false) × AreSoundExprs n m values
 
+-- each value of a condition is sound
+abbrev mutual
+  pub IsSoundCondition : ℕ → ℕ → Condition → Type 0
+  IsSoundCondition n m (any c cs) = IsSoundConjunction n m c × AreSoundConjunctions n m cs
+
+  pub AreSoundConjunctions : ℕ → ℕ → Conjunctions → Type 0
+  AreSoundConjunctions n m no_conjunctions = Unit {0}
+  AreSoundConjunctions n m (or_else c cs) = IsSoundConjunction n m c × AreSoundConjunctions n m cs
+
+  pub IsSoundConjunction : ℕ → ℕ → Conjunction → Type 0
+  IsSoundConjunction n m (all r rs) = IsSoundRelation n m r × AreSoundRelations n m rs
+
+  pub AreSoundRelations : ℕ → ℕ → Relations → Type 0
+  AreSoundRelations n m no_relations = Unit {0}
+  AreSoundRelations n m (and_also r rs) = IsSoundRelation n m r × AreSoundRelations n m rs
+
+  pub IsSoundRelation : ℕ → ℕ → Relation → Type 0
+  IsSoundRelation n m (compared e c f) = IsSoundExpr n m e × IsSoundExpr n m f
+  IsSoundRelation n m (nested c) = IsSoundCondition n m c
+
+-- what an IF asks
+abbrev pub IsSoundQuestion : ℕ → ℕ → Question → Type 0
+IsSoundQuestion n m (Whether c) = IsSoundCondition n m c
+IsSoundQuestion n m WasFound = Unit {0}
+IsSoundQuestion n m WasNone = Unit {0}
+
+-- IF, ELSE, ALWAYS
+abbrev pub IsSoundBranch : ℕ → ℕ → ABranch → Type 0
+IsSoundBranch n m (If q) = IsSoundQuestion n m q
+IsSoundBranch n m Else = Unit {0}
+IsSoundBranch n m Always = Unit {0}
+
+-- the conditions of qualifiers
+abbrev pub AreSoundQualifiers : ℕ → ℕ → List Qualifier → Type 0
+AreSoundQualifiers n m [] = Unit {0}
+AreSoundQualifiers n m (q ∷ qs) = IsSoundCondition n m q.condition × AreSoundQualifiers n m qs
+
+-- an expression that may be left out
+abbrev pub IsSoundOption : ℕ → ℕ → Option Expr → Type 0
+IsSoundOption n m None = Unit {0}
+IsSoundOption n m (Some e) = IsSoundExpr n m e
+
+-- what a FOR phrase goes through: its variable is a target, and its bounds and its step are sound
+abbrev pub IsSoundPhrase : ℕ → ℕ → Phrase → Type 0
+IsSoundPhrase n m (Counting d x first last step) =
+    IsTarget n m x × IsSoundExpr n m first × IsSoundExpr n m last × IsSoundOption n m step
+
+-- the targets of a COMPUTE
+abbrev pub AreSoundTellings : ℕ → ℕ → List Telling → Type 0
+AreSoundTellings n m [] = Unit {0}
+AreSoundTellings n m (t ∷ ts) = IsTarget n m t.target × AreSoundTellings n m ts
+
+-- FOR phrases, and what only they control
+abbrev pub IsSoundLooping : ℕ → ℕ → ALooping → Type 0
+IsSoundLooping n m (For f) = IsSoundPhrase n m f.phrase × AreSoundQualifiers n m f.qualifiers
+IsSoundLooping n m Loop = Unit {0}
+IsSoundLooping n m Find = Unit {0}
+IsSoundLooping n m (Gather e) = IsSoundExpr n m e
+IsSoundLooping n m (Tell ts) = AreSoundTellings n m ts
+
+-- the targets of a CALL
+abbrev pub AreTargets : ℕ → ℕ → List Variable → Type 0
+AreTargets n m [] = Unit {0}
+AreTargets n m (x ∷ xs) = IsTarget n m x × AreTargets n m xs
+
+-- the values and targets of a CALL
+abbrev pub IsSoundCall : ℕ → ℕ → ACall → Type 0
+IsSoundCall n m c = AreSoundExprs n m c.given × AreTargets n m c.targets
+
+-- a place, by its kind
 abbrev pub IsSoundPlace : ℕ → ℕ → Place → Type 0
 IsSoundPlace n m (Assign a) = IsSoundAssign n m a
 IsSoundPlace n m (Output o) = IsSoundOutput n m o
 IsSoundPlace n m (Control c) = Unit {0}
+IsSoundPlace n m (Branch b) = IsSoundBranch n m b
+IsSoundPlace n m (Looping l) = IsSoundLooping n m l
+IsSoundPlace n m (Call c) = IsSoundCall n m c
 
 abbrev pub AreSoundPlaces : ℕ → ℕ → List Spot → Type 0
 AreSoundPlaces n m [] = Unit {0}
 AreSoundPlaces n m (s ∷ ss) = IsSoundPlace n m s.place × AreSoundPlaces n m ss
 
+-- the END of a section
 abbrev pub is_end : Place → Bool
-is_end (Assign a) = false
-is_end (Output o) = false
-is_end (Control Stop) = false
 is_end (Control End) = true
+is_end _ = false
 
 -- the last place is END, and no other is
 abbrev pub IsEnded : List Spot → Type 0
@@ -91,14 +177,61 @@ IsEnded [] = ⊥
 IsEnded (s ∷ []) = is_end s.place ≡ true
 IsEnded (s ∷ t ∷ ts) = (is_end s.place ≡ false) × IsEnded (t ∷ ts)
 
+-- ---- where places go on
+
+-- a place of a section with `count` places goes on to one of them; END goes on nowhere
+abbrev pub GoesOn : ℕ → Bool → ℕ → Type 0
+GoesOn count true next = Unit {0}
+GoesOn count false next = next < count
+
+-- a routine that takes these values and yields to these targets
+abbrev pub IsCalledBy : ACall → Option SectionTable → Type 0
+IsCalledBy c None = ⊥
+IsCalledBy c (Some t) =
+    (is_routine t ≡ true) × (length c.given ≡ t.given) × (length c.targets ≡ t.yielded)
+
+-- no chain is longer, and so no more loops are open at once in a section
+abbrev pub loop_limit : ℕ
+loop_limit = 16
+
+-- a place with these ways, in a section with `count` places: where else it may go on is a place, too; FIND closes few loops; a CALL is
+-- one of a routine
+abbrev pub LeadsOn : List SectionTable → ℕ → Ways → Place → Type 0
+LeadsOn ss count w (Branch (If q)) = w.exit < count
+LeadsOn ss count w (Looping (For f)) = w.exit < count
+LeadsOn ss count w (Looping Find) = w.chain ≤ loop_limit
+LeadsOn ss count w (Call c) = IsCalledBy c (slice_get ss c.section)
+LeadsOn ss count w other = Unit {0}
+
+-- what holds of the place with these ways
+pub record IsLinkedPlace (ss : List SectionTable) (count : ℕ) (w : Ways) (x : Place) : Type 0 where
+  pub next : GoesOn count (is_end x) w.next
+  pub leads : LeadsOn ss count w x
+
+-- the places of a section from number i on
+abbrev pub AreLinkedPlaces : List SectionTable → List Spot → ℕ → List Spot → Type 0
+AreLinkedPlaces ss places i [] = Unit {0}
+AreLinkedPlaces ss places i (x ∷ xs) =
+    IsLinkedPlace ss (length places) (ways_of places i x.place) x.place × AreLinkedPlaces ss places (i + 1) xs
+
+-- the places of each section
+abbrev pub AreLinkedSections : List SectionTable → List SectionTable → Type 0
+AreLinkedSections ss [] = Unit {0}
+AreLinkedSections ss (s ∷ more) = AreLinkedPlaces ss s.places 0 s.places × AreLinkedSections ss more
+
 -- no two names of a table are alike
 abbrev pub AreDistinct : List (List ℕ) → Type 0
 AreDistinct names = IsDistinct bytes_eq names
+
+-- the most parameters of a section
+abbrev pub parameter_limit : ℕ
+parameter_limit = 32
 
 -- a section of a program with n global variables
 pub record IsSoundSection (n : ℕ) (s : SectionTable) : Type 0 where
   pub distinct : AreDistinct s.locals
   pub parameters : s.given + s.yielded ≤ length s.locals
+  pub few_parameters : s.given + s.yielded ≤ parameter_limit
   pub places : AreSoundPlaces n (length s.locals) s.places
   pub ended : IsEnded s.places
   pub few : length s.places < 2 ^ 63
@@ -197,6 +330,7 @@ pub record IsSound (p : ProgramTable) : Type 0 where
   pub main : count_by is_main p.sections ≡ 1
   pub sections : AreSoundSections (length p.globals) p.sections
   pub few : length p.sections < 2 ^ 63
+  pub linked : AreLinkedSections p.sections p.sections
   pub names : HasSoundNames p
   pub tables : HasSoundTables p
   pub few_names : length p.globals + length p.classes + length p.sets < 2 ^ 32

@@ -11,7 +11,7 @@ use crate::locals::locals_of;
 use crate::name::Name;
 use crate::place::Spot;
 use crate::program::Program;
-use crate::section::Section;
+use crate::section::{Head, Section};
 use ss_routines::Sections;
 use std::alloc::Global;
 
@@ -100,7 +100,7 @@ fn check_section(alloc: Global, section: ss_routines::Section) -> Result<Section
 {
     let locals = locals_of(alloc, &section.places)?;
     let places = check_places(alloc, &locals, section.places)?;
-    Ok(Section {
+    let head = Head {
         name: Name {
             bytes: section.name,
         },
@@ -109,9 +109,8 @@ fn check_section(alloc: Global, section: ss_routines::Section) -> Result<Section
         given: 0,
         yielded: 0,
         saving: false,
-        locals,
-        places,
-    })
+    };
+    Ok(Section::new(alloc, head, locals, places)?)
 }
 
 fn kind_of(kind: ss_routines::SectionKind) -> SectionKind

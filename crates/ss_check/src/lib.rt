@@ -3,9 +3,12 @@
 #![tactic(auto)]
 
 mod assign;
+mod branch;
+mod call;
 mod calls;
 mod check_place;
 mod checker;
+mod condition;
 mod expr;
 mod fault;
 mod find;
@@ -13,6 +16,7 @@ mod keys;
 mod kinds;
 pub mod laws;
 mod locals;
+mod looping;
 mod name;
 mod names;
 mod place;
@@ -24,13 +28,21 @@ mod tables;
 #[cfg(test)]
 mod tests;
 mod variable;
+mod ways;
 
+pub use branch::{Branch, Question};
+pub use call::{Call, Targets};
 pub use checker::check;
+pub use condition::{Comparison, Condition, Conjunction, Disjunction, Relation};
 pub use expr::{Expr, Values};
 pub use fault::{CheckFault, CheckRule};
 pub use find::Named;
 pub use keys::{Key, Keys, Rank};
 pub use kinds::{ClassKind, Discipline, EventClass, Owner, SectionKind};
+pub use looping::{
+    Direction, ForPhrase, Looping, Phrase, Qualifier, QualifierWord, Qualifiers, Statistic,
+    Telling, Tellings,
+};
 pub use name::Name;
 pub use place::{Assign, Control, Output, Place, Spot};
 pub use program::Program;
@@ -39,3 +51,4 @@ pub use ss_routines::TermSign;
 pub use sum::{Factor, SignedTerm, Sum, Term};
 pub use tables::{Class, Set};
 pub use variable::Variable;
+pub use ways::{Resets, Ways};

@@ -1,4 +1,7 @@
+use crate::branch::Branch;
+use crate::call::Call;
 use crate::expr::{Expr, Values};
+use crate::looping::Looping;
 use crate::variable::Variable;
 use ss_report::Picture;
 
@@ -8,6 +11,9 @@ pub enum Place {
     Assign(Assign),
     Output(Output),
     Control(Control),
+    Branch(Branch),
+    Looping(Looping),
+    Call(Call),
 }
 
 /// An assignment.
@@ -46,6 +52,7 @@ pub enum Output {
 #[derive(Clone, Copy, Debug, PartialEq, Eq)]
 pub enum Control {
     Stop,
+    Return,
     End,
 }
 

@@ -1,12 +1,14 @@
 ghost use Rattle.std.specs.Prelude.{◌≡◌, ◌<◌, length, position, slice_get, Some};
 ghost use Rattle.ss_check.specs.Program.{ProgramTable, is_main, main_number, places_of, spot_at};
 ghost use Rattle.ss_check.specs.ProgramSound.{IsSound};
+ghost use Rattle.ss_check.specs.Match.{section_ways};
 
 use crate::kinds::SectionKind;
 use crate::name::Name;
 use crate::place::Spot;
 use crate::section::Section;
 use crate::tables::{Class, Set};
+use crate::ways::Ways;
 use std::marker::Model;
 
 /// A checked program. The names of its global variables, classes and sets, those of a class's attributes and those of a
@@ -126,5 +128,14 @@ impl Program {
         ensures { spot_at self.now section place ≡ Some result.now }
     {
         &self.sections[section].places[place]
+    }
+
+    /// Where the place with this number of the section with this number goes on.
+    pub fn ways(&self, section: usize, place: usize) -> Ways
+        requires section { section < length self.now.sections }
+        requires place { place < length (places_of (slice_get self.now.sections section)) }
+        ensures { slice_get (section_ways (places_of (slice_get self.now.sections section))) place ≡ Some result }
+    {
+        self.sections[section].ways(place)
     }
 }

@@ -1,10 +1,17 @@
 -- the laws on the definitions
-use Rattle.std.proofs.Common.{◌≤◌, ◌+◌, ◌*◌, Option, Some, None, arith}
-use Rattle.ss_check.specs.declared.place.Place.TheVariants.{Assign, Output, Control}
+use Rattle.std.proofs.Common.{◌≡◌, ◌≤◌, ◌+◌, ◌*◌, Option, Some, None, arith, refl}
+use Rattle.ss_check.specs.declared.place.Place.{Place}
+use Rattle.ss_check.specs.declared.place.Place.TheVariants.{Assign, Output, Control, Branch, Looping, Call}
+use Rattle.ss_check.specs.declared.looping.Looping.TheVariants.{For, Loop, Find, Gather, Tell}
 use Rattle.ss_check.specs.declared.place.Spot.{Spot}
-use Rattle.ss_check.specs.Program.{spot_at}
+use Rattle.ss_check.specs.declared.ways.Ways.{Ways}
+use Rattle.ss_check.specs.Program.{ProgramTable, spot_at}
+use Rattle.ss_check.specs.ProgramSound.{IsSound, loop_limit}
+use Rattle.ss_machine.specs.State.{State}
+use Rattle.ss_machine.specs.Step.{ways_here}
 use Rattle.ss_machine.specs.Moment.{most_changes, most_changes_by, targets_at, targets_by}
 use Rattle.ss_machine.specs.Laws.{ProgramsKeepStatesWell, StepsNoteFew}
+use Rattle.ss_machine.proofs.Sounds.{spot_linked, chain_few}
 use Rattle.ss_machine.proofs.Wells.{well_start, well_step, well_run}
 
 pub states_well : ProgramsKeepStatesWell
@@ -14,17 +21,24 @@ states_well p sound = record {
   run = λ k. well_run p k sound;
 }
 
-few_at : (spot : Spot) → most_changes spot.place ≤ 64 + 2 * targets_at spot.place
-few_at spot = by_place spot.place
-  where
-    by_place : (place : _) → most_changes place ≤ 64 + 2 * targets_at place
-    by_place (Assign a) = omega arith
-    by_place (Output o) = omega arith
-    by_place (Control c) = omega arith
+few_at : (p : ProgramTable) (s : State) (w : Ways) (x : Place) → w.chain ≤ loop_limit → most_changes p s w x ≤ 64 + 2 * targets_at p s x
+few_at p s w (Assign a) h = omega arith
+few_at p s w (Output o) h = omega arith
+few_at p s w (Control c) h = omega arith
+few_at p s w (Branch b) h = omega arith
+few_at p s w (Looping (For f)) h = omega arith
+few_at p s w (Looping Loop) h = omega arith
+few_at p s w (Looping Find) h = omega (arith, h)
+few_at p s w (Looping (Gather e)) h = omega arith
+few_at p s w (Looping (Tell ts)) h = omega arith
+few_at p s w (Call c) h = omega arith
 
-few_by : (o : Option Spot) → most_changes_by o ≤ 64 + 2 * targets_by o
-few_by None = omega arith
-few_by (Some spot) = few_at spot
+few_by : (p : ProgramTable) (s : State) (o : Option Spot) → IsSound p → spot_at p s.frame.section s.frame.place ≡ o →
+    most_changes_by p s o ≤ 64 + 2 * targets_by p s o
+few_by p s None sound e = omega arith
+few_by p s (Some spot) sound e =
+    few_at p s (ways_here p s spot.place) spot.place
+    (chain_few p.sections _ _ s.frame.place spot.place (spot_linked p s.frame.section s.frame.place spot sound e).leads)
 
 pub few_changes : StepsNoteFew
-few_changes p s sound = few_by (spot_at p s.frame.section s.frame.place)
+few_changes p s sound = few_by p s (spot_at p s.frame.section s.frame.place) sound refl

@@ -1,6 +1,9 @@
 pub mod Sets
+pub mod Parts
 pub mod Moments
+pub mod Notings
 pub mod Sounds
+pub mod Returns
 pub mod Ranges
 pub mod Evaluated
 pub mod Wells

@@ -1,9 +1,16 @@
 -- what is sound about each place of a program
-use Rattle.std.proofs.Common.{◌≡◌, ℕ, zero, suc, ◌+◌, ◌<◌, List, [], ◌∷◌, length, Bool, true, false, Option, Some, None, arith, refl, ap, sym, subst, ◌∙◌}
+use Rattle.std.proofs.Common.{◌≡◌, ℕ, zero, suc, ◌+◌, ◌<◌, ◌≤◌, List, [], ◌∷◌, length, Bool, true, false, Option, Some, None, arith, refl, ap, sym, subst, ◌∙◌}
 use Rattle.std.specs.Prelude.{slice_get, ◌^◌}
 use Rattle.ss_check.specs.declared.place.Spot.{Spot}
-use Rattle.ss_check.specs.Program.{SectionTable, ProgramTable, places_of, locals_of, spot_at}
-use Rattle.ss_check.specs.ProgramSound.{IsSound, IsSoundSection, AreSoundSections, IsSoundPlace, AreSoundPlaces, IsEnded, is_end}
+use Rattle.ss_check.specs.declared.place.Place.{Place}
+use Rattle.ss_check.specs.declared.place.Place.TheVariants.{Assign, Output, Control, Branch, Looping, Call}
+use Rattle.ss_check.specs.declared.looping.Looping.TheVariants.{For, Loop, Find, Gather, Tell}
+use Rattle.ss_check.specs.declared.call.Call.{Call as ACall}
+use Rattle.ss_check.specs.declared.ways.Ways.{Ways}
+use Rattle.ss_check.specs.Match.{ways_of, ways_from, section_ways}
+use Rattle.ss_check.specs.Program.{SectionTable, ProgramTable, places_of, locals_of, section_of, spot_at}
+use Rattle.ss_check.specs.ProgramSound.{IsSound, IsSoundSection, AreSoundSections, IsSoundPlace, AreSoundPlaces, IsEnded, is_end, GoesOn, LeadsOn, IsCalledBy, IsLinkedPlace, AreLinkedPlaces, AreLinkedSections, loop_limit, parameter_limit}
+use Rattle.ss_machine.specs.Moment.{call_targets}
 
 -- what stands at a place of a list that is long enough
 pub there : {A : Type 0} (xs : List A) (i : ℕ) → i < length xs → (x : A) × (slice_get xs i ≡ Some x)
@@ -27,17 +34,6 @@ place_sound n m [] i s h e = cc
 place_sound n m (t ∷ ts) zero s h e = let f : t ≡ s = cc in subst (λ (u : Spot). IsSoundPlace n m u.place) f h.0
 place_sound n m (t ∷ ts) (suc i) s h e = place_sound n m ts i s h.1 e
 
--- behind a place that is no END stands another
-pub ended_next : (ps : List Spot) (i : ℕ) (s : Spot) → IsEnded ps → slice_get ps i ≡ Some s → is_end s.place ≡ false → i + 1 < length ps
-ended_next [] i s h e f = absurd h
-ended_next (p ∷ []) zero s h e f = let g : p ≡ s = cc in let k : is_end p.place ≡ true = h in absurd (clash (is_end s.place) (ap (λ (u : Spot). is_end u.place) (sym g) ∙ k) f)
-  where
-    clash : (b : Bool) → b ≡ true → b ≡ false → ⊥
-    clash b t f = cc
-ended_next (p ∷ []) (suc i) s h e f = cc
-ended_next (p ∷ q ∷ ps) zero s h e f = omega arith
-ended_next (p ∷ q ∷ ps) (suc i) s h e f = omega (arith, ended_next (q ∷ ps) i s h.1 e f)
-
 pub ended_some : (ps : List Spot) → IsEnded ps → 0 < length ps
 ended_some [] h = absurd h
 ended_some (p ∷ ps) h = omega arith
@@ -52,19 +48,116 @@ pub spot_sound : (p : ProgramTable) (i j : ℕ) (spot : Spot) → IsSound p → 
     IsSoundPlace (length p.globals) (length (locals_of (slice_get p.sections i))) spot.place
 spot_sound p i j spot h e = spot_sound_of p i j spot (slice_get p.sections i) h refl e
 
-spot_next_of : (p : ProgramTable) (i j : ℕ) (spot : Spot) (o : Option SectionTable) → IsSound p → slice_get p.sections i ≡ o → slice_get (places_of o) j ≡ Some spot →
-    is_end spot.place ≡ false → j + 1 < length (places_of o)
-spot_next_of p i j spot None h e f g = cc
-spot_next_of p i j spot (Some s) h e f g = ended_next s.places j spot (section_sound _ p.sections i s h.sections e).ended f g
+linked_section : (ss more : List SectionTable) (i : ℕ) (s : SectionTable) → AreLinkedSections ss more → slice_get more i ≡ Some s →
+    AreLinkedPlaces ss s.places 0 s.places
+linked_section ss [] i s h e = cc
+linked_section ss (t ∷ ts) zero s h e =
+    let f : t ≡ s = cc in subst (λ (u : SectionTable). AreLinkedPlaces ss u.places 0 u.places) f h.0
+linked_section ss (t ∷ ts) (suc i) s h e = linked_section ss ts i s h.1 e
 
-pub spot_next : (p : ProgramTable) (i j : ℕ) (spot : Spot) → IsSound p → spot_at p i j ≡ Some spot → is_end spot.place ≡ false →
-    j + 1 < length (places_of (slice_get p.sections i))
-spot_next p i j spot h e g = spot_next_of p i j spot (slice_get p.sections i) h refl e g
+linked_place : (ss : List SectionTable) (ps xs : List Spot) (k i : ℕ) (s : Spot) → AreLinkedPlaces ss ps k xs → slice_get xs i ≡ Some s →
+    IsLinkedPlace ss (length ps) (ways_of ps (k + i) s.place) s.place
+linked_place ss ps [] k i s h e = cc
+linked_place ss ps (t ∷ ts) k zero s h e =
+    let f : t ≡ s = cc in
+    let z : k + 0 ≡ k = omega arith in
+    rw z (subst (λ (u : Spot). IsLinkedPlace ss (length ps) (ways_of ps k u.place) u.place) f h.0)
+linked_place ss ps (t ∷ ts) k (suc i) s h e =
+    let z : k + suc i ≡ (k + 1) + i = omega arith in
+    rw z (linked_place ss ps ts (k + 1) i s h.1 e)
 
-few_of : (n : ℕ) (ss : List SectionTable) (i : ℕ) (o : Option SectionTable) → AreSoundSections n ss → slice_get ss i ≡ o → length (places_of o) < 2 ^ 63
-few_of n ss i None h e = omega arith
-few_of n ss i (Some s) h e = (section_sound n ss i s h e).few
+spot_linked_of : (p : ProgramTable) (i j : ℕ) (spot : Spot) (o : Option SectionTable) → IsSound p → slice_get p.sections i ≡ o →
+    slice_get (places_of o) j ≡ Some spot → IsLinkedPlace p.sections (length (places_of o)) (ways_of (places_of o) j spot.place) spot.place
+spot_linked_of p i j spot None h e f = cc
+spot_linked_of p i j spot (Some s) h e f =
+    let z : 0 + j ≡ j = omega arith in
+    subst (λ (n : ℕ). IsLinkedPlace p.sections (length s.places) (ways_of s.places n spot.place) spot.place) z
+    (linked_place p.sections s.places s.places 0 j spot (linked_section p.sections p.sections i s h.linked e) f)
 
--- a section has few places
-pub few_places : (p : ProgramTable) (i : ℕ) → IsSound p → length (places_of (slice_get p.sections i)) < 2 ^ 63
-few_places p i h = few_of _ p.sections i (slice_get p.sections i) h.sections refl
+-- where a place of a program goes on is in its section
+pub spot_linked : (p : ProgramTable) (i j : ℕ) (spot : Spot) → IsSound p → spot_at p i j ≡ Some spot →
+    IsLinkedPlace p.sections (length (places_of (slice_get p.sections i))) (ways_of (places_of (slice_get p.sections i)) j spot.place) spot.place
+spot_linked p i j spot h e = spot_linked_of p i j spot (slice_get p.sections i) h refl e
+
+-- FIND closes few loops
+pub chain_few : (ss : List SectionTable) (ps : List Spot) (n i : ℕ) (x : Place) → LeadsOn ss n (ways_of ps i x) x → (ways_of ps i x).chain ≤ loop_limit
+chain_few ss ps n i (Assign a) h = omega arith
+chain_few ss ps n i (Output o) h = omega arith
+chain_few ss ps n i (Control c) h = omega arith
+chain_few ss ps n i (Branch b) h = omega arith
+chain_few ss ps n i (Looping (For f)) h = omega arith
+chain_few ss ps n i (Looping Loop) h = omega arith
+chain_few ss ps n i (Looping Find) h = h
+chain_few ss ps n i (Looping (Gather e)) h = omega arith
+chain_few ss ps n i (Looping (Tell ts)) h = omega arith
+chain_few ss ps n i (Call c) h = omega arith
+
+ways_at : (ps xs : List Spot) (k i : ℕ) (s : Spot) (w : Ways) → slice_get (ways_from ps k xs) i ≡ Some w → slice_get xs i ≡ Some s →
+    w ≡ ways_of ps (k + i) s.place
+ways_at ps [] k i s w e f = cc
+ways_at ps (t ∷ ts) k zero s w e f =
+    let g : t ≡ s = cc in
+    let h : ways_of ps k t.place ≡ w = cc in
+    let z : k + 0 ≡ k = omega arith in
+    rw z (sym h ∙ ap (λ (u : Spot). ways_of ps k u.place) g)
+ways_at ps (t ∷ ts) k (suc i) s w e f =
+    let z : k + suc i ≡ (k + 1) + i = omega arith in
+    rw z (ways_at ps ts (k + 1) i s w e f)
+
+-- the ways that are kept for a place are those counted
+pub ways_found : (ps : List Spot) (i : ℕ) (s : Spot) (w : Ways) → slice_get (section_ways ps) i ≡ Some w → slice_get ps i ≡ Some s → w ≡ ways_of ps i s.place
+ways_found ps i s w e f =
+    let z : 0 + i ≡ i = omega arith in
+    subst (λ (n : ℕ). w ≡ ways_of ps n s.place) z (ways_at ps ps 0 i s w e f)
+
+called_there_by : (ss : List SectionTable) (c : ACall) (o : Option SectionTable) → slice_get ss c.section ≡ o → IsCalledBy c o → c.section < length ss
+called_there_by ss c None e h = absurd h
+called_there_by ss c (Some t) e h = within ss c.section t e
+
+-- a CALL is of a section that is there
+pub called_there : (ss : List SectionTable) (c : ACall) → IsCalledBy c (slice_get ss c.section) → c.section < length ss
+called_there ss c h = called_there_by ss c (slice_get ss c.section) refl h
+
+called_few_by : (p : ProgramTable) (c : ACall) (o : Option SectionTable) → IsSound p → slice_get p.sections c.section ≡ o → IsCalledBy c o →
+    length c.given ≤ length (locals_of o)
+called_few_by p c None sound e h = absurd h
+called_few_by p c (Some t) sound e h = omega (arith, h.1, (section_sound _ p.sections c.section t sound.sections e).parameters)
+
+-- and its values have room in the locals of that section
+pub called_few : (p : ProgramTable) (c : ACall) → IsSound p → IsCalledBy c (slice_get p.sections c.section) →
+    length c.given ≤ length (locals_of (slice_get p.sections c.section))
+called_few p c sound h = called_few_by p c (slice_get p.sections c.section) sound refl h
+
+-- the section with a number
+pub section_found : (p : ProgramTable) (i : ℕ) (t : SectionTable) → slice_get p.sections i ≡ Some t → section_of p i ≡ t
+section_found p i t e = rw e refl
+
+-- a section has few parameters
+pub few_parameters : (p : ProgramTable) (i : ℕ) (t : SectionTable) → IsSound p → slice_get p.sections i ≡ Some t → t.given ≤ parameter_limit
+few_parameters p i t h e = omega (arith, (section_sound _ p.sections i t h.sections e).few_parameters)
+
+few_yielded_by : (p : ProgramTable) (c : ACall) (o : Option SectionTable) → IsSound p → slice_get p.sections c.section ≡ o → IsCalledBy c o →
+    length c.targets ≤ parameter_limit
+few_yielded_by p c None sound e h = absurd h
+few_yielded_by p c (Some t) sound e h = omega (arith, h.2, (section_sound _ p.sections c.section t sound.sections e).few_parameters)
+
+few_targets_of : (p : ProgramTable) (n : ℕ) (w : Ways) (x : Place) → IsSound p → LeadsOn p.sections n w x → call_targets x ≤ parameter_limit
+few_targets_of p n w (Assign a) sound h = omega arith
+few_targets_of p n w (Output o) sound h = omega arith
+few_targets_of p n w (Control c) sound h = omega arith
+few_targets_of p n w (Branch b) sound h = omega arith
+few_targets_of p n w (Looping l) sound h = omega arith
+few_targets_of p n w (Call c) sound h = few_yielded_by p c (slice_get p.sections c.section) sound refl h
+
+-- a CALL has few targets
+pub few_targets : (p : ProgramTable) (i j : ℕ) (spot : Spot) → IsSound p → spot_at p i j ≡ Some spot → call_targets spot.place ≤ parameter_limit
+few_targets p i j spot sound e =
+    few_targets_of p (length (places_of (slice_get p.sections i))) (ways_of (places_of (slice_get p.sections i)) j spot.place) spot.place sound
+    (spot_linked p i j spot sound e).leads
+
+-- and FIND closes few loops
+pub chain_at : (p : ProgramTable) (i j : ℕ) (spot : Spot) → IsSound p → spot_at p i j ≡ Some spot →
+    (ways_of (places_of (slice_get p.sections i)) j spot.place).chain ≤ loop_limit
+chain_at p i j spot sound e =
+    chain_few p.sections (places_of (slice_get p.sections i)) (length (places_of (slice_get p.sections i))) j spot.place
+    (spot_linked p i j spot sound e).leads

@@ -1,4 +1,9 @@
 pub mod State
+pub mod Faults
+pub mod Conditions
+pub mod Loops
+pub mod Nodes
+pub mod Dropping
 pub mod Values
 pub mod Step
 pub mod Run

@@ -5,15 +5,18 @@ use Rattle.ss_journal.specs.Undoing.{past, Kept}
 use Rattle.ss_check.specs.Program.{ProgramTable, spot_at}
 use Rattle.ss_check.specs.ProgramSound.{IsSound}
 use Rattle.ss_check.specs.declared.place.Place.{Place}
-use Rattle.ss_check.specs.declared.place.Place.TheVariants.{Assign, Output, Control}
+use Rattle.ss_check.specs.declared.place.Place.TheVariants.{Assign, Output, Control, Branch, Looping, Call}
+use Rattle.ss_check.specs.declared.looping.Looping.{Looping as ALooping}
+use Rattle.ss_check.specs.declared.looping.Looping.TheVariants.{For, Loop, Find, Gather, Tell}
+use Rattle.ss_check.specs.declared.ways.Ways.{Ways}
 use Rattle.ss_check.specs.declared.place.Spot.{Spot}
 use Rattle.ss_machine.specs.declared.change.Change.{Change}
 use Rattle.ss_machine.specs.declared.status.Status.TheVariants.{Ready}
 use Rattle.ss_machine.specs.declared.stepped.Stepped.{Stepped}
 use Rattle.ss_machine.specs.declared.stepped.Stepped.TheVariants.{Moved, AtEnd}
-use Rattle.ss_machine.specs.State.{State}
+use Rattle.ss_machine.specs.State.{State, FrameState}
 use Rattle.ss_machine.specs.Change.{unapply, Fits}
-use Rattle.ss_machine.specs.Step.{step}
+use Rattle.ss_machine.specs.Step.{step, ways_here}
 use Rattle.ss_machine.specs.Run.{run}
 
 -- a program, its state, and the changes of each step that led there, the newest step and the newest change first
@@ -30,38 +33,71 @@ position m = length m.steps
 abbrev pub past_of : Moment → List State
 past_of m = past unapply m.state m.steps
 
--- the most changes that the step of a place notes
-abbrev pub most_changes : Place → ℕ
-most_changes (Assign a) = 2
-most_changes (Output o) = 2
-most_changes (Control c) = 1
+-- how many targets a CALL has
+abbrev pub call_targets : Place → ℕ
+call_targets (Call c) = length c.targets
+call_targets other = 0
 
 -- the same of the place that stands there, if one does
-abbrev pub most_changes_by : Option Spot → ℕ
-most_changes_by (Some spot) = most_changes spot.place
-most_changes_by None = 0
+abbrev pub call_targets_by : Option Spot → ℕ
+call_targets_by (Some spot) = call_targets spot.place
+call_targets_by None = 0
+
+-- how many targets the CALL where the last frame stands has
+abbrev pub place_targets : ProgramTable → State → ℕ
+place_targets p s = call_targets_by (spot_at p s.frame.section s.frame.place)
+
+-- how many values come back from the last frame to the one below it
+abbrev pub yield_count : ProgramTable → List FrameState → ℕ
+yield_count p [] = 0
+yield_count p (f ∷ fs) = call_targets_by (spot_at p f.section f.place)
+
+-- the most changes that LOOP, FIND, COMPUTE and a FOR phrase note, with these ways: FIND one for each loop that it
+-- closes
+abbrev pub most_looping_changes : Ways → ALooping → ℕ
+most_looping_changes w (For f) = 4
+most_looping_changes w Loop = 1
+most_looping_changes w Find = 2 + w.chain
+most_looping_changes w (Gather e) = 2
+most_looping_changes w (Tell ts) = 1 + length ts
+
+-- the most changes that the step of a place notes, with these ways: RETURN and END one for each value that comes back
+abbrev pub most_changes : ProgramTable → State → Ways → Place → ℕ
+most_changes p s w (Assign a) = 2
+most_changes p s w (Output o) = 2
+most_changes p s w (Control c) = 2 + yield_count p s.below
+most_changes p s w (Branch b) = 1
+most_changes p s w (Looping l) = most_looping_changes w l
+most_changes p s w (Call c) = 1
+
+-- the same of the place that stands there, if one does
+abbrev pub most_changes_by : ProgramTable → State → Option Spot → ℕ
+most_changes_by p s (Some spot) = most_changes p s (ways_here p s spot.place) spot.place
+most_changes_by p s None = 0
 
 -- the most changes that the next step notes
 abbrev pub change_bound : ProgramTable → State → ℕ
-change_bound p s = most_changes_by (spot_at p s.frame.section s.frame.place)
+change_bound p s = most_changes_by p s (spot_at p s.frame.section s.frame.place)
 
--- how many targets the statement at a place has
-abbrev pub targets_at : Place → ℕ
-targets_at (Assign a) = 1
-targets_at (Output o) = 0
-targets_at (Control c) = 0
+-- how many targets the statement at a place has; those of the CALL to which RETURN and END go back are theirs
+abbrev pub targets_at : ProgramTable → State → Place → ℕ
+targets_at p s (Assign a) = 1
+targets_at p s (Control c) = yield_count p s.below
+targets_at p s (Looping (Tell ts)) = length ts
+targets_at p s (Call c) = length c.targets
+targets_at p s other = 0
 
 -- the same of the place that stands there, if one does
-abbrev pub targets_by : Option Spot → ℕ
-targets_by (Some spot) = targets_at spot.place
-targets_by None = 0
+abbrev pub targets_by : ProgramTable → State → Option Spot → ℕ
+targets_by p s (Some spot) = targets_at p s spot.place
+targets_by p s None = 0
 
 -- how many targets the next statement has
 abbrev pub target_count : ProgramTable → State → ℕ
-target_count p s = targets_by (spot_at p s.frame.section s.frame.place)
+target_count p s = targets_by p s (spot_at p s.frame.section s.frame.place)
 
--- one step forward: the state is the definition's step of the old one, which now ends the past; the earlier steps are as
--- they were, and one more is kept, of as many changes at most as its place may note
+-- one step forward: the state is the definition's step of the old one, which now ends the past; the earlier steps are
+-- as they were, and one more is kept, of as many changes at most as its place may note
 pub record HasMoved (old new : Moment) : Type 0 where
   pub ready : old.state.status ≡ Ready
   pub program : new.program ≡ old.program
@@ -88,8 +124,8 @@ abbrev pub GoesBack : Bool → Moment → Moment → Type 0
 GoesBack true old new = HasGoneBack old new
 GoesBack false old new = (old.steps ≡ []) × (new ≡ old)
 
--- what every machine keeps: a sound program, no open step, the state of the run with the machine's position, and changes
--- that fit and lead back through the states of the run
+-- what every machine keeps: a sound program, no open step, the state of the run with the machine's position, and
+-- changes that fit and lead back through the states of the run
 pub record Stands (p : ProgramTable) (s : State) (j : Log Change) : Type 0 where
   pub sound : IsSound p
   pub closed : j.current ≡ []

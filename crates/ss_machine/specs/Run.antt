@@ -1,23 +1,15 @@
 -- The one run of a program.
-use Rattle.std.specs.Prelude.{ℕ, zero, suc, pos, List, [], ◌∷◌, ◌++◌, length, replicate, slice_get, if◌then◌else◌}
-use Rattle.ss_check.specs.Program.{ProgramTable, main_number, locals_of}
+use Rattle.std.specs.Prelude.{ℕ, zero, suc, pos, List, [], ◌∷◌, ◌++◌, length, replicate, if◌then◌else◌}
+use Rattle.ss_check.specs.Program.{ProgramTable, main_number}
 use Rattle.ss_machine.specs.declared.status.Status.TheVariants.{Ready}
-use Rattle.ss_machine.specs.State.{State, FrameState, is_ready}
+use Rattle.ss_machine.specs.State.{State, is_ready, new_frame}
 use Rattle.ss_machine.specs.Step.{step}
-
--- the frame of MAIN at its first place, all its locals 0
-abbrev pub main_frame : ProgramTable → FrameState
-main_frame p = record {
-  section = main_number p;
-  place = 0;
-  locals = replicate (length (locals_of (slice_get p.sections (main_number p)))) (pos 0);
-}
 
 -- MAIN at its first place, all variables and the clock 0, nothing printed
 abbrev pub start : ProgramTable → State
 start p = record {
   variables = replicate (length p.globals) (pos 0);
-  frame = main_frame p;
+  frame = new_frame p (main_number p) [];
   below = [];
   clock = pos 0;
   report = [];

@@ -1,13 +1,20 @@
 -- The state of a run.
-use Rattle.std.specs.Prelude.{ℕ, ℤ, Bool, true, false, List}
+use Rattle.std.specs.Prelude.{ℕ, ℤ, pos, ◌+◌, ◌-◌, Bool, true, false, List, [], ◌∷◌, ◌++◌, length, replicate, slice_get}
+use Rattle.ss_check.specs.Program.{ProgramTable, locals_of}
 use Rattle.ss_machine.specs.declared.status.Status.{Status}
 use Rattle.ss_machine.specs.declared.status.Status.TheVariants.{Ready, Stopped, Finished, Faulted}
+use Rattle.ss_machine.specs.declared.statistics.Statistics.{Statistics}
+use Rattle.ss_machine.specs.declared.loops.OpenLoop.{OpenLoop}
 
--- a frame: its section, the place where it stands, and the values of its locals, in the order of the section's table
+-- a frame: its section, the place where it stands, the values of its locals in the order of the section's table, its
+-- open loops, the innermost first, whether the last FIND found a case, and what COMPUTE has gathered
 pub record FrameState : Type 0 where
   pub section : ℕ
   pub place : ℕ
   pub locals : List ℤ
+  pub loops : List OpenLoop
+  pub found : Bool
+  pub statistics : Statistics
 
 -- the values of the global variables, in the order of their table; the last frame; the frames below it, the nearest
 -- first; the clock; the bytes of the report; the status
@@ -18,6 +25,25 @@ pub record State : Type 0 where
   pub clock : ℤ
   pub report : List ℕ
   pub status : Status
+
+-- the most frames below the last one
+abbrev pub most_below : ℕ
+most_below = 199
+
+-- the statistics over no case
+abbrev pub no_statistics : Statistics
+no_statistics = record { number = pos 0; sum = pos 0; greatest = pos 0; least = pos 0 }
+
+-- the frame of a section at its first place: the values that it is given, and 0 in all other locals
+abbrev pub new_frame : ProgramTable → ℕ → List ℤ → FrameState
+new_frame p section xs = record {
+  section = section;
+  place = 0;
+  locals = xs ++ replicate (length (locals_of (slice_get p.sections section)) - length xs) (pos 0);
+  loops = [];
+  found = false;
+  statistics = no_statistics;
+}
 
 -- whether a run goes on from a state with this status
 abbrev pub is_ready : Status → Bool

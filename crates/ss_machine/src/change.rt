@@ -1,4 +1,6 @@
-use crate::status;
+use crate::frame::FrameBox;
+use crate::loops::ClosedLoop;
+use crate::{statistics, status};
 
 /// What is noted of a change of the state, enough to take it back.
 #[derive(Drop)]
@@ -13,4 +15,18 @@ pub enum Change {
     Report(usize),
     /// The status was changed; the old one.
     Status(status::Status),
+    /// A loop was opened in the last frame.
+    LoopOpened,
+    /// The innermost loop went to its next candidate; the old one.
+    LoopMoved(Option<i64>),
+    /// The innermost loop was closed.
+    LoopClosed(ClosedLoop),
+    /// A frame was opened.
+    FrameOpened,
+    /// The last frame was dropped.
+    FrameDropped(FrameBox),
+    /// What FIND answers changed; what it was.
+    Found(bool),
+    /// What COMPUTE has gathered changed; what it was.
+    Statistics(statistics::Statistics),
 }

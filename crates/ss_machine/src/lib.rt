@@ -5,15 +5,20 @@
 //! back restores the state before it, whole.
 #![tactic(auto)]
 
+mod candidates;
 mod change;
+mod conditions;
 mod executor;
 mod frame;
 pub mod laws;
+mod loops;
 mod machine;
 mod state;
+mod statistics;
 mod status;
 mod stepped;
 mod values;
+mod verdict;
 mod view;
 
 pub use machine::Machine;

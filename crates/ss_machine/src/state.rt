@@ -1,15 +1,20 @@
-ghost use Rattle.std.specs.Prelude.{◌≡◌, ◌<◌, ◌+◌, ◌^◌, length, IfOk, IfErr, OnErr, Ok};
-ghost use Rattle.ss_check.specs.declared.variable.Variable.TheVariants as variable;
+ghost use Rattle.std.specs.Prelude.{◌≡◌, ◌<◌, ◌≤◌, ◌∷◌, ◌++◌, [], length, drop, OnOk, slice_set, IfOk, OnErr, IfErr, MatchOption, Ok};
 ghost use Rattle.ss_report.specs.Pictures.{field_count, picture_text};
 ghost use Rattle.ss_check.specs.ProgramSound.{IsTarget};
 ghost use Rattle.ss_machine.specs.Seen.{view_readings};
 ghost use Rattle.ss_machine.specs.Values.{readings, FaultIs};
-ghost use Rattle.ss_machine.specs.Step.{state_after_assignment, longer_report, state_at_next_place};
+ghost use Rattle.ss_machine.specs.Step.{state_after_assignment, longer_report, state_at_place, state_with_loops, state_with_found, state_with_statistics};
+ghost use Rattle.ss_machine.specs.Loops.{loop_of_phrase, innermost, loops_with_candidate};
 ghost use Rattle.ss_machine.specs.Run.{start};
 ghost use Rattle.ss_machine.specs.Change.{Fits, unapply};
+ghost use Rattle.ss_machine.specs.State.{most_below};
+ghost use Rattle.ss_check.specs.declared.variable.Variable.TheVariants as variable;
+ghost use Rattle.ss_machine.specs.Dropping.{HasDropped, caller_place};
 
 use crate::change::Change;
-use crate::frame::Frame;
+use crate::frame::{Frame, FrameBox};
+use crate::loops::OpenLoop;
+use crate::statistics::{Statistics, no_statistics};
 use crate::status::Status;
 use crate::view::View;
 use ss_check::{Program, Variable};
@@ -18,20 +23,24 @@ use ss_report::{Picture, Report};
 use ss_words::StepFault;
 use std::alloc::{AllocError, Global};
 use std::marker::Model;
+use std::mem;
+
+/// The most frames below the last one.
+pub const MOST_BELOW: usize = 199;
 
 /// The state of a run. Each call that writes gives what takes its change back.
 #[derive(Drop)]
 pub struct State {
     variables: Vec<i64>,
-    frame: Frame,
-    below: Vec<Frame>,
+    frame: FrameBox,
+    below: Vec<FrameBox>,
     clock: i64,
     report: Report,
     status: Status,
 }
 
 impl Model for State {
-    ghost use Rattle.std.specs.Prelude.{reverse};
+    ghost use Rattle.std.specs.Prelude.{reverse, ◌≤◌, vec_capacity};
     ghost use Rattle.ss_machine.specs.State.{State as RunState};
 
     ghost Value = { RunState };
@@ -44,6 +53,8 @@ impl Model for State {
       report = a.report;
       status = a.status;
     } };
+
+    ghost invariant = { λ a. 199 ≤ vec_capacity a.below };
 }
 
 impl State {
@@ -51,16 +62,13 @@ impl State {
     pub fn new(alloc: Global, program: &Program) -> Result<Self, AllocError>
         ensures { IfOk result (λ state. state ≡ start program.now) }
     {
-        let section = program.main();
-        let locals = program.section(section).locals.len();
+        let frame = FrameBox::new(alloc, program, program.main(), Vec::new(alloc))?;
+        let mut below = Vec::new(alloc);
+        below.reserve(MOST_BELOW)?;
         Ok(State {
             variables: vec![in alloc; 0; program.globals.len()]?,
-            frame: Frame {
-                section,
-                place: 0,
-                locals: vec![in alloc; 0; locals]?,
-            },
-            below: Vec::new(alloc),
+            frame,
+            below,
             clock: 0,
             report: Report::new(alloc),
             status: Status::Ready,
@@ -73,7 +81,7 @@ impl State {
     {
         View {
             variables: self.variables.as_slice(),
-            locals: self.frame.locals.as_slice(),
+            locals: self.last().locals.as_slice(),
             clock: self.clock,
         }
     }
@@ -82,7 +90,8 @@ impl State {
     pub fn place(&self) -> (usize, usize)
         ensures { result ≡ (self.now.frame.section, self.now.frame.place) }
     {
-        (self.frame.section, self.frame.place)
+        let frame = self.last();
+        (frame.section, frame.place)
     }
 
     /// The clock.
@@ -137,23 +146,176 @@ impl State {
         ensures fits { Fits result self.new }
         ensures back { unapply result self.new ≡ self.old }
     {
-        let frame = &mut self.frame;
-        let old = frame.locals[number];
-        frame.locals[number] = value;
+        let frame = &mut *self.frame.frame;
+        let old = frame.assign(number, value);
         Change::Local { number, old }
     }
 
-    /// The last frame goes to its next place.
-    pub fn go_on(&mut self) -> Change
-        requires { self.old.frame.place + 1 < 2 ^ 64 }
-        ensures state { self.new ≡ state_at_next_place self.old }
+    fn last(&self) -> &Frame
+        ensures { result.now ≡ self.now.frame }
+    {
+        &self.frame.frame
+    }
+
+    /// The innermost loop of the last frame, if it is that of the phrase where the frame stands.
+    pub fn loop_here(&self) -> Option<OpenLoop>
+        ensures { result ≡ loop_of_phrase self.now.frame.place (innermost self.now.frame.loops) }
+    {
+        let frame = self.last();
+        match frame.loops.top() {
+            None => None,
+            Some(top) => {
+                if top.phrase == frame.place {
+                    Some(top)
+                } else {
+                    None
+                }
+            }
+        }
+    }
+
+    /// What FIND answers.
+    pub fn found(&self) -> bool
+        ensures { result ≡ self.now.frame.found }
+    {
+        self.last().found
+    }
+
+    /// What COMPUTE has gathered.
+    pub fn statistics(&self) -> Statistics
+        ensures { result ≡ self.now.frame.statistics }
+    {
+        self.last().statistics
+    }
+
+    /// Appends to `values` the locals of the last frame.
+    pub fn append_locals(&self, values: &mut Vec<i64>) -> Result<(), AllocError>
+        ensures { OnOk result (values.new.items ≡ values.old.items ++ self.now.frame.locals) }
+    {
+        append_all(self.last().locals.as_slice(), values)
+    }
+
+    /// How many frames stand below the last one.
+    pub fn below(&self) -> usize
+        ensures { result ≡ length self.now.below }
+    {
+        self.below.len()
+    }
+
+    /// The section of the nearest frame below the last one, and the place where it stands.
+    pub fn caller(&self) -> Option<(usize, usize)>
+        ensures { result ≡ caller_place self.now.below }
+    {
+        match self.below.last() {
+            None => None,
+            Some(below) => {
+                let frame = &below.frame;
+                Some((frame.section, frame.place))
+            }
+        }
+    }
+
+    /// The last frame goes to another place.
+    pub fn go_to(&mut self, place: usize) -> Change
+        ensures state { self.new ≡ state_at_place place self.old }
         ensures fits { Fits result self.new }
         ensures back { unapply result self.new ≡ self.old }
     {
-        let frame = &mut self.frame;
+        let frame = &mut *self.frame.frame;
         let old = frame.place;
-        frame.place = old + 1;
+        frame.place = place;
         Change::Place(old)
+    }
+
+    /// Sets what FIND answers.
+    pub fn set_found(&mut self, found: bool) -> Change
+        ensures state { self.new ≡ state_with_found self.old found }
+        ensures fits { Fits result self.new }
+        ensures back { unapply result self.new ≡ self.old }
+    {
+        let frame = &mut *self.frame.frame;
+        let old = frame.found;
+        frame.found = found;
+        Change::Found(old)
+    }
+
+    /// Sets what COMPUTE has gathered.
+    pub fn set_statistics(&mut self, statistics: Statistics) -> Change
+        ensures state { self.new ≡ state_with_statistics self.old statistics }
+        ensures fits { Fits result self.new }
+        ensures back { unapply result self.new ≡ self.old }
+    {
+        let frame = &mut *self.frame.frame;
+        let old = frame.statistics;
+        frame.statistics = statistics;
+        Change::Statistics(old)
+    }
+
+    /// Opens a loop in the last frame. After an error nothing has changed.
+    pub fn open_loop(&mut self, alloc: Global, open_loop: OpenLoop) -> Result<Change, AllocError>
+        ensures state { IfOk result (λ _. self.new ≡ state_with_loops self.old (open_loop ∷ self.old.frame.loops)) }
+        ensures fits { IfOk result (λ c. Fits c self.new) }
+        ensures back { IfOk result (λ c. unapply c self.new ≡ self.old) }
+        ensures err { OnErr result (self.new ≡ self.old) }
+    {
+        let frame = &mut *self.frame.frame;
+        frame.loops.open(alloc, open_loop)?;
+        Ok(Change::LoopOpened)
+    }
+
+    /// Gives the innermost loop another candidate.
+    pub fn move_loop(&mut self, candidate: Option<i64>) -> Change
+        requires { 0 < length self.old.frame.loops }
+        ensures state { self.new ≡ state_with_loops self.old (loops_with_candidate candidate self.old.frame.loops) }
+        ensures fits { Fits result self.new }
+        ensures back { unapply result self.new ≡ self.old }
+    {
+        let frame = &mut *self.frame.frame;
+        let old = match frame.loops.top() {
+            None => None,
+            Some(top) => top.candidate,
+        };
+        frame.loops.advance(candidate);
+        Change::LoopMoved(old)
+    }
+
+    /// Closes the innermost loop; none where none is open, and then nothing changes.
+    pub fn close_loop(&mut self) -> Option<Change>
+        ensures state { self.new ≡ state_with_loops self.old (drop 1 self.old.frame.loops) }
+        ensures fits { MatchOption result (self.new ≡ self.old) (λ c. Fits c self.new) }
+        ensures back { MatchOption result (self.new ≡ self.old) (λ c. unapply c self.new ≡ self.old) }
+    {
+        let frame = &mut *self.frame.frame;
+        match frame.loops.close() {
+            None => None,
+            Some(closed) => Some(Change::LoopClosed(closed)),
+        }
+    }
+
+    /// A frame becomes the last one.
+    pub fn open_frame(&mut self, frame: FrameBox) -> Change
+        requires { length self.old.below < most_below }
+        ensures state { self.new ≡ record self.old { frame = frame; below = self.old.frame ∷ self.old.below } }
+        ensures fits { Fits result self.new }
+        ensures back { unapply result self.new ≡ self.old }
+    {
+        let last = mem::replace(&mut self.frame, frame);
+        self.below.push_reserved(last);
+        Change::FrameOpened
+    }
+
+    /// Drops the last frame; none where none stands below it, and then nothing changes.
+    pub fn drop_frame(&mut self) -> Option<Change>
+        requires { length self.old.below ≤ most_below }
+        ensures state { MatchOption result ((self.old.below ≡ []) × (self.new ≡ self.old))
+            (λ _. HasDropped self.old self.new) }
+        ensures fits { MatchOption result (Unit {0}) (λ c. Fits c self.new) }
+        ensures back { MatchOption result (Unit {0}) (λ c. unapply c self.new ≡ self.old) }
+    {
+        match self.below.pop() {
+            None => None,
+            Some(next) => Some(Change::FrameDropped(mem::replace(&mut self.frame, next))),
+        }
     }
 
     /// Gives the state another status.
@@ -195,16 +357,54 @@ impl Undo for State {
     fn undo(&mut self, change: Change) {
         match change {
             Change::Variable { number, old } => self.variables[number] = old,
+            Change::Report(old_len) => self.report.cut(old_len),
+            Change::Status(old) => self.status = old,
+            Change::FrameOpened => {
+                if let Some(frame) = self.below.pop() {
+                    self.frame = frame;
+                }
+            }
+            Change::FrameDropped(dropped) => {
+                let last = mem::replace(&mut self.frame, dropped);
+                self.below.push_reserved(last);
+            }
             Change::Local { number, old } => {
-                let frame = &mut self.frame;
+                let frame = &mut *self.frame.frame;
                 frame.locals[number] = old;
             }
             Change::Place(old) => {
-                let frame = &mut self.frame;
+                let frame = &mut *self.frame.frame;
                 frame.place = old;
             }
-            Change::Report(old_len) => self.report.cut(old_len),
-            Change::Status(old) => self.status = old,
+            Change::LoopOpened => {
+                let frame = &mut *self.frame.frame;
+                let _ = frame.loops.close();
+            }
+            Change::LoopMoved(old) => {
+                let frame = &mut *self.frame.frame;
+                frame.loops.advance(old);
+            }
+            Change::LoopClosed(closed) => {
+                let frame = &mut *self.frame.frame;
+                frame.loops.reopen(closed);
+            }
+            Change::Found(old) => {
+                let frame = &mut *self.frame.frame;
+                frame.found = old;
+            }
+            Change::Statistics(old) => {
+                let frame = &mut *self.frame.frame;
+                frame.statistics = old;
+            }
         }
     }
+}
+
+fn append_all(part: &[i64], values: &mut Vec<i64>) -> Result<(), AllocError>
+    ensures { OnOk result (values.new.items ≡ values.old.items ++ part.now) }
+{
+    for &value in part {
+        values.push(value)?;
+    }
+    Ok(())
 }

@@ -10,7 +10,8 @@ use crate::view::View;
 use ss_check::{Assign, Expr, Factor, Sum, Term, TermSign, Values, Variable};
 use ss_words::{RunFault, StepFault};
 
-fn sum(x: i64, y: i64) -> Result<i64, RunFault>
+/// A sum, or F1.
+pub fn sum(x: i64, y: i64) -> Result<i64, RunFault>
     ensures { result ≡ result_in_range (x +ℤ y) }
 {
     x.checked_add(y).ok_or(RunFault::OutOfRange)

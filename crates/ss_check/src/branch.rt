@@ -1,0 +1,20 @@
+use crate::condition::Condition;
+
+/// What an IF asks.
+#[derive(Debug, Drop)]
+pub enum Question {
+    /// Whether a condition holds.
+    Whether(Condition),
+    /// `FOUND`: whether the FIND before it found a case.
+    WasFound,
+    /// `NONE`: whether it found none.
+    WasNone,
+}
+
+/// IF, and the places that belong to it.
+#[derive(Debug, Drop)]
+pub enum Branch {
+    If(Question),
+    Else,
+    Always,
+}

@@ -1,0 +1,58 @@
+use crate::expr::Expr;
+use std::marker::Model;
+
+/// A condition of a place. Contracts see it as the tree of its text.
+#[derive(Debug, Drop)]
+pub struct Condition {
+    pub any: Disjunction,
+}
+
+impl Model for Condition {
+    ghost use Rattle.ss_check.specs.ProgramCondition.{Condition as Tree, condition_of};
+    ghost use Rattle.ss_check.specs.ProgramConditionCode.{condition_code};
+
+    ghost Value = { Tree };
+
+    ghost coded = { condition_code };
+
+    ghost view = { λ a. condition_of a.any };
+}
+
+/// Conjunctions joined by OR.
+#[derive(Debug, Drop)]
+#[cycle(condition)]
+pub struct Disjunction {
+    pub first: Conjunction,
+    pub more: Vec<Conjunction>,
+}
+
+/// Relations joined by AND.
+#[derive(Debug, Drop)]
+#[cycle(condition)]
+pub struct Conjunction {
+    pub first: Relation,
+    pub more: Vec<Relation>,
+}
+
+/// A comparison, or a condition within parentheses.
+#[derive(Debug, Drop)]
+#[cycle(condition)]
+pub enum Relation {
+    Compared {
+        left: Expr,
+        comparison: Comparison,
+        right: Expr,
+    },
+    Within(Box<Disjunction>),
+}
+
+/// How two values are compared: `=`, `NE`, `<`, `>`, `<=`, `>=`.
+#[derive(Clone, Copy, Debug, PartialEq, Eq)]
+pub enum Comparison {
+    Equals,
+    Differs,
+    Below,
+    Above,
+    AtMost,
+    AtLeast,
+}

@@ -1,0 +1,111 @@
+use crate::condition::Condition;
+use crate::expr::Expr;
+use crate::variable::Variable;
+use std::marker::Model;
+
+/// The word before a condition of a FOR phrase.
+#[derive(Clone, Copy, Debug, PartialEq, Eq)]
+pub enum QualifierWord {
+    With,
+    Unless,
+    While,
+    Until,
+}
+
+/// A qualifier of a FOR phrase.
+#[derive(Debug, Drop)]
+pub struct Qualifier {
+    pub word: QualifierWord,
+    pub condition: Condition,
+}
+
+/// The qualifiers of a FOR phrase, in order.
+#[derive(Debug, Drop)]
+pub struct Qualifiers {
+    pub list: Vec<Qualifier>,
+}
+
+impl Model for Qualifiers {
+    ghost use Rattle.std.specs.Prelude.{List};
+    ghost use Rattle.std.specs.Coded.{codes};
+    ghost use Rattle.ss_check.specs.declared.looping.Qualifier.{Qualifier};
+    ghost use Rattle.ss_check.specs.contracts.looping.Qualifier as one;
+
+    ghost Value = { List Qualifier };
+
+    ghost coded = { Prim.hlevel (codes, one.the_row.coded) };
+
+    ghost view = { λ a. a.list.items };
+}
+
+/// Upwards and from the first, or BACK.
+#[derive(Clone, Copy, Debug, PartialEq, Eq)]
+pub enum Direction {
+    Onward,
+    Backward,
+}
+
+/// What a FOR phrase goes through.
+#[derive(Debug, Drop)]
+pub enum Phrase {
+    /// `variable = first TO last [BY step]`, or `variable BACK FROM first TO last [BY step]`.
+    Counting {
+        direction: Direction,
+        variable: Variable,
+        first: Expr,
+        last: Expr,
+        step: Option<Expr>,
+    },
+}
+
+/// A FOR phrase with its qualifiers, and whether DO stands behind it.
+#[derive(Debug, Drop)]
+pub struct ForPhrase {
+    pub phrase: Phrase,
+    pub qualifiers: Qualifiers,
+    pub has_do: bool,
+}
+
+/// What COMPUTE tells of the values that it gathered.
+#[derive(Clone, Copy, Debug, PartialEq, Eq)]
+pub enum Statistic {
+    Number,
+    Sum,
+    Maximum,
+    Minimum,
+}
+
+/// A target of COMPUTE, and what is assigned to it.
+#[derive(Clone, Copy, Debug, PartialEq, Eq)]
+pub struct Telling {
+    pub target: Variable,
+    pub statistic: Statistic,
+}
+
+/// The targets of a COMPUTE, in order.
+#[derive(Debug, Drop)]
+pub struct Tellings {
+    pub list: Vec<Telling>,
+}
+
+impl Model for Tellings {
+    ghost use Rattle.std.specs.Prelude.{List};
+    ghost use Rattle.ss_check.specs.declared.looping.Telling.{Telling};
+
+    ghost Value = { List Telling };
+
+    ghost view = { λ a. a.list.items };
+}
+
+/// FOR phrases, and the places that only they control.
+#[derive(Debug, Drop)]
+pub enum Looping {
+    For(ForPhrase),
+    Loop,
+    /// `FIND FIRST CASE`.
+    Find,
+    /// The first place of a COMPUTE, which gathers the value.
+    Gather(Expr),
+    /// Its second place, which assigns the statistics.
+    Tell(Tellings),
+}

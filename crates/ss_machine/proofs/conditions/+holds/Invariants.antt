@@ -1,0 +1,32 @@
+use Rattle.std.proofs.Common.{◌≡◌, drop}
+use Rattle.std.specs.Prelude.{map}
+use Rattle.ss_check.specs.ProgramCondition.{condition_of, conjunction_of, relation_of, conjunctions_of, relations_of}
+use Rattle.ss_check.specs.ProgramSound.{AreSoundConjunctions, AreSoundRelations}
+use Rattle.ss_machine.specs.Conditions.{holds, any_holds, conjunction_holds, all_hold}
+use Rattle.ss_machine.specs.Seen.{view_readings, InView}
+use Rattle.ss_machine.proofs.conditions.+holds.Given as goal
+
+abbrev pub decreases-any_holds : goal.decreases-any_holds
+decreases-any_holds l = goal.size-any_holds l
+
+abbrev pub decreases-all_hold : goal.decreases-all_hold
+decreases-all_hold l = goal.size-all_hold l
+
+abbrev pub decreases-relation_holds : goal.decreases-relation_holds
+decreases-relation_holds l = goal.size-relation_holds l
+
+-- the conjunctions that are left, behind this truth, decide
+abbrev pub invariant-any_holds-loop-further : goal.invariant-any_holds-loop-further
+invariant-any_holds-loop-further l = record {
+  sound : InView l.view AreSoundConjunctions (conjunctions_of (map conjunction_of (drop l.further-index l.further-items)));
+  truth : any_holds (view_readings l.view) l.truth (conjunctions_of (map conjunction_of (drop l.further-index l.further-items)))
+      ≡ holds (view_readings l.view) (condition_of l.fn.c);
+}
+
+-- the relations that are left, behind this truth, decide
+abbrev pub invariant-all_hold-loop-further : goal.invariant-all_hold-loop-further
+invariant-all_hold-loop-further l = record {
+  sound : InView l.view AreSoundRelations (relations_of (map relation_of (drop l.further-index l.further-items)));
+  truth : all_hold (view_readings l.view) l.truth (relations_of (map relation_of (drop l.further-index l.further-items)))
+      ≡ conjunction_holds (view_readings l.view) (conjunction_of l.fn.c);
+}
