@@ -3,13 +3,10 @@ use Rattle.std.proofs.Common.{◌≡◌, ℕ, zero, suc, ◌+◌, ◌≤◌, ◌
 use Rattle.std.specs.Prelude.{map, option_map, option_to_list, slice_index_or}
 use Rattle.std.specs.List.{enumerate_from}
 use Rattle.ss_words.specs.declared.mark.Mark.{Mark}
-use Rattle.ss_words.specs.declared.plain_rules.Rule.{Rule}
-use Rattle.ss_words.specs.declared.plain_rules.Rule.TheVariants as rule
-use Rattle.ss_words.specs.declared.plain_rules.Around.{Around}
 use Rattle.ss_words.specs.declared.plain_word.PlainWord.{PlainWord}
 use Rattle.ss_words.specs.Words.{WordAt}
 use Rattle.ss_words.specs.Plain.{Plain, PlainAt, name, number, mark, picture, plains, plain_at}
-use Rattle.ss_words.specs.PlainRules.{around, ruled, ruled_word, follow_behind, plain_from, spelled, plain_words_of}
+use Rattle.ss_words.specs.PlainRules.{PlainRule, Surroundings, surroundings, ruled_word, follow_behind, plain_from, spelled, as_follows, without_fillers, governed, single_commas, parting_commas, plain_words_of}
 
 -- the words rise from l on, below n
 abbrev pub Rising : ℕ → ℕ → List PlainAt → Type 0
@@ -24,15 +21,15 @@ kept_or_dropped : (o : Option Mark) (w : PlainAt) (l n : ℕ) (ws : List PlainAt
 kept_or_dropped (Some k) w l n ws a b h = (a, b, h)
 kept_or_dropped None w l n ws a b h = lower l (w.index + 1) n ws (omega (arith, a)) h
 
-rising_word : (q : Rule) (x : Around) (line index : ℕ) (v : Plain) (l n : ℕ) (ws : List PlainAt) → l ≤ index → index < n → Rising (index + 1) n ws → Rising l n (ruled_word q x (record { line = line; index = index; word = v }) ++ ws)
+rising_word : (q : PlainRule) (x : Surroundings) (line index : ℕ) (v : Plain) (l n : ℕ) (ws : List PlainAt) → l ≤ index → index < n → Rising (index + 1) n ws → Rising l n (ruled_word q x (record { line = line; index = index; word = v }) ++ ws)
 rising_word q x line index (name k) l n ws a b h = (a, b, h)
 rising_word q x line index (number k) l n ws a b h = (a, b, h)
 rising_word q x line index (picture k) l n ws a b h = (a, b, h)
-rising_word q x line index (mark k) l n ws a b h = kept_or_dropped (ruled q x k) (record { line = line; index = index; word = mark k }) l n ws a b h
+rising_word q x line index (mark k) l n ws a b h = kept_or_dropped (q x k) (record { line = line; index = index; word = mark k }) l n ws a b h
 
-rising_follow : (q : Rule) (before ws : List PlainAt) (l n : ℕ) → Rising l n ws → Rising l n (follow_behind q before ws)
+rising_follow : (q : PlainRule) (before ws : List PlainAt) (l n : ℕ) → Rising l n ws → Rising l n (follow_behind q before ws)
 rising_follow q before [] l n h = tt
-rising_follow q before (w ∷ ws) l n (a, b, c) = rising_word q (around (plains before) (plains ws)) w.line w.index w.word l n (follow_behind q (w ∷ before) ws) a b (rising_follow q (w ∷ before) ws (w.index + 1) n c)
+rising_follow q before (w ∷ ws) l n (a, b, c) = rising_word q (surroundings (plains before) (plains ws)) w.line w.index w.word l n (follow_behind q (w ∷ before) ws) a b (rising_follow q (w ∷ before) ws (w.index + 1) n c)
 
 rising_spelled : (i n : ℕ) (ws : List WordAt) → i + length ws ≤ n → Rising i n (map (λ e. plain_from e.0 e.1) (enumerate_from i ws))
 rising_spelled i n [] le = tt
@@ -41,11 +38,11 @@ rising_spelled i n (w ∷ ws) le = (omega arith, omega (arith, le), rising_spell
 pub rising : (ws : List WordAt) → Rising 0 (length ws) (plain_words_of ws)
 rising ws =
     let n = length ws in
-    let a = rising_follow rule.AsFollows [] (spelled ws) 0 n (rising_spelled 0 n ws (omega arith)) in
-    let b = rising_follow rule.WithoutFillers [] _ 0 n a in
-    let c = rising_follow rule.Governed [] _ 0 n b in
-    let d = rising_follow rule.SingleCommas [] _ 0 n c in
-    rising_follow rule.PartingCommas [] _ 0 n d
+    let a = rising_follow as_follows [] (spelled ws) 0 n (rising_spelled 0 n ws (omega arith)) in
+    let b = rising_follow without_fillers [] _ 0 n a in
+    let c = rising_follow governed [] _ 0 n b in
+    let d = rising_follow single_commas [] _ 0 n c in
+    rising_follow parting_commas [] _ 0 n d
 
 below : (ps : List PlainWord) (l n : ℕ) → Rising l n (map plain_at ps) → (k : ℕ) (d : PlainWord) → k < length ps → (slice_index_or ps k d).index < n
 below [] l n h k d lt = absurd (omega (arith, lt))
