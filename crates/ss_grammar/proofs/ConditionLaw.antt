@@ -210,7 +210,7 @@ module _ (rooms : Rooms) (n k : ℕ) (w : Wider rooms n k) where
   empty_good e c h (Some v) is_so =
       let (words, deep) = reference_is e v is_so in
       bind_good Any FitsRelation (spell_mark (m.Reserved r.Empty)) spell_relation _ _ (λ u f. pure_good FitsRelation spell_relation _ (is_empty v c) (omega (arith, h, deep))
-        (ap (λ (z : List Plain). z ++ mark (m.Reserved r.Empty) ∷ []) (append-nil (spell_expr e ++ spell_copula c)) ∙ ap (λ (z : List Plain). (z ++ spell_copula c) ++ mark (m.Reserved r.Empty) ∷ []) (sym words))) (expect (m.Reserved r.Empty)) (expect_good (m.Reserved r.Empty))
+      (ap (λ (z : List Plain). z ++ mark (m.Reserved r.Empty) ∷ []) (append-nil (spell_expr e ++ spell_copula c)) ∙ ap (λ (z : List Plain). (z ++ spell_copula c) ++ mark (m.Reserved r.Empty) ∷ []) (sym words))) (expect (m.Reserved r.Empty)) (expect_good (m.Reserved r.Empty))
   empty_good e c h None is_so = refuse_good FitsRelation spell_relation _ Unexpected (is_in e c (record { name = []; subscript = None })) (omega (arith, h)) (mark (m.Reserved r.In) ∷ name [] ∷ []) (ap (λ (z : List Plain). z ++ mark (m.Reserved r.In) ∷ name [] ∷ []) (sym (append-nil (spell_expr e ++ spell_copula c))))
 
   set_good : (e : Expr) (c : Copula) → depth_expr e ≤ n → Good FitsRelation spell_relation (spell_expr e ++ spell_copula c) (set_with n e c)

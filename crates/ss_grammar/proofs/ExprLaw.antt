@@ -256,8 +256,8 @@ module _ (rooms : Rooms) (n k : ℕ) (q q' : Reading Expr) (lw : OpenLaw rooms n
   unfolding term_with
   term_law =
       let f = made_form (pair_form a_factor (star_form (mark_item (m.Sign s.Star) star_leaves a_factor) (λ a y. refl)) (λ fs y h e. factors_end fs y e))
-          spell_term (λ t. depth_term t ≤ n) (λ x. term x.0 (products_of x.1)) (λ t. elim t [ term f ps ↦ (f, list_products ps) ])
-          whole_term (λ x. ap (λ (u : List Plain). spell_factor x.0 ++ u) (spell_products_of x.1)) (λ x h. let i = products_fit n x.1 h.1 in let j = h.0 in omega (arith, i, j)) term_back in
+      spell_term (λ t. depth_term t ≤ n) (λ x. term x.0 (products_of x.1)) (λ t. elim t [ term f ps ↦ (f, list_products ps) ])
+      whole_term (λ x. ap (λ (u : List Plain). spell_factor x.0 ++ u) (spell_products_of x.1)) (λ x h. let i = products_fit n x.1 h.1 in let j = h.0 in omega (arith, i, j)) term_back in
       record { good = f.good; near = f.near; counted = f.counted; again = f.again }
 
   abbrev a_term : Form rooms n Term
@@ -301,7 +301,7 @@ module _ (rooms : Rooms) (n k : ℕ) (q q' : Reading Expr) (lw : OpenLaw rooms n
   unfolding expr_with
   level_law =
       let f = made_form signed_part spell_expr (λ e. depth_expr e ≤ n) (λ x. expr x.0 x.1.0 (sums_of x.1.1)) split_expr
-          whole_expr expr_spelled (λ x h. let i = sums_fit n x.1.1 h.1.1 in let j = h.1.0 in omega (arith, i, j)) expr_back in
+      whole_expr expr_spelled (λ x h. let i = sums_fit n x.1.1 h.1.1 in let j = h.1.0 in omega (arith, i, j)) expr_back in
       record { good = f.good; near = f.near; counted = f.counted; again = λ a y h e. f.again a y h ((e.no_open, e.no_star), e.no_sign) }
 
   -- what stands behind a first factor
@@ -335,7 +335,7 @@ deeper_law : (rooms : Rooms) (n k : ℕ) → ExprLaw rooms n (expr_at n) (expr_a
 deeper_law rooms n k l = level_law rooms (suc n) (suc k) (expr_at n) (expr_at k)
     (open_law rooms n k depth_expr spell_expr Ends (expr_at n) (expr_at k) l close_ends)
     (open_law rooms n k (greatest_of depth_expr) (spell_several spell_expr) (EndsList Ends) (several (expr_at n)) (several (expr_at k))
-      (several_law depth_expr spell_expr Ends (expr_at n) (expr_at k) l comma_ends) (λ y. (close_ends y, refl)))
+    (several_law depth_expr spell_expr Ends (expr_at n) (expr_at k) l comma_ends) (λ y. (close_ends y, refl)))
 
 pub same_law : (n : ℕ) → ExprLaw same n (expr_at n) (expr_at n)
 unfolding expr_at
@@ -352,7 +352,7 @@ expr_law more zero zero w = absurd (omega arith)
 expr_law more zero (suc k) w = level_law more 0 (suc k) (refuse PastLimit) (expr_at k)
     (shut_more_law depth_expr spell_expr (refuse PastLimit) k (expr_at k) ((same_law k).near))
     (shut_more_law (greatest_of depth_expr) (spell_several spell_expr) (several (refuse PastLimit)) k (several (expr_at k))
-      ((several_law depth_expr spell_expr Ends (expr_at k) (expr_at k) (same_law k) comma_ends).near))
+    ((several_law depth_expr spell_expr Ends (expr_at k) (expr_at k) (same_law k) comma_ends).near))
 expr_law more (suc n) zero w = absurd (omega arith)
 expr_law more (suc n) (suc k) w = deeper_law more n k (expr_law more n k (omega arith))
 

@@ -7,3 +7,4 @@ mod SimpleLaw
 mod ConditionLaw
 mod LoopLaw
 mod Rooms
+mod Absent

@@ -245,7 +245,7 @@ module _ (rooms : Rooms) (n k : ℕ) (w : Wider rooms n k) where
   computed_law : Law rooms n (λ t. depth_computed t ≤ n) spell_computed (λ y. Unit {0}) (computed_at n) (computed_at k)
   unfolding computed_at
   computed_law = let f = made_form computed_part spell_computed (λ t. depth_computed t ≤ n) (λ x. record { target = x.0; statistic = x.1 }) (λ t. (t.target, t.statistic)) (λ t. refl)
-          (λ x. sym (append_assoc (spell_reference x.0) (mark (m.Reserved r.As) ∷ []) (spell_statistic x.1 ∷ []))) (λ x h. h.0) (λ t h. (h, tt)) in
+      (λ x. sym (append_assoc (spell_reference x.0) (mark (m.Reserved r.As) ∷ []) (spell_statistic x.1 ∷ []))) (λ x h. h.0) (λ t h. (h, tt)) in
       record { good = f.good; near = f.near; counted = f.counted; again = f.again }
 
   abbrev several_computed : Form rooms n (Several Computed)
@@ -488,9 +488,14 @@ module _ (rooms : Rooms) (n k : ℕ) (w : Wider rooms n k) where
   range_law : Law rooms n (λ x. depth_range x ≤ n) spell_range Quiet (range_at n) (range_at k)
   unfolding range_at
   range_law = let f = made_form range_part spell_range (λ x. depth_range x ≤ n) range_of split_range whole_range range_spelled range_there range_back in
-      record { good = f.good; near = f.near; counted = f.counted; again = λ a y h e.
-          let g = quiet_ends y e in
-          f.again a y h ((((g, e.no_from, e.no_after), e.no_in), (e.no_called, e.no_in)), (g, e.no_by)) }
+      record {
+        good = f.good;
+        near = f.near;
+        counted = f.counted;
+        again = λ a y h e.
+            let g = quiet_ends y e in
+            f.again a y h ((((g, e.no_from, e.no_after), e.no_in), (e.no_called, e.no_in)), (g, e.no_by));
+      }
 
   abbrev the_range : Form rooms n Range
   the_range = form_of rooms n (λ x. depth_range x ≤ n) spell_range Quiet (range_at n) (range_at k) range_law

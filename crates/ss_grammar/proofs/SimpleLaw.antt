@@ -48,7 +48,6 @@ ends_at w y a b c = record { no_open = a; no_star = b; no_sign = c }
 pub calm_at : (w : Plain) (y : List Plain) → Ends (w ∷ y) → is (m.Sign s.Comma) (Some w) ≡ false → is (m.Reserved r.Called) (Some w) ≡ false → is (m.Reserved r.Given) (Some w) ≡ false → is (m.Reserved r.Yielding) (Some w) ≡ false → Calm (w ∷ y)
 calm_at w y e a b c d = record { ends = e; no_comma = a; no_called = b; no_given = c; no_yielding = d }
 
-
 -- the laws of a part behind which nothing of a statement follows
 pub record ItemLawOf {A : Type 0} (rooms : Rooms) (n : ℕ) (none : List Plain → Type 0) (fits : A → Type 0) (sp : A → List Plain) (p p' : Reading (Option A)) : Type 0 where
   pub good : Good (fits_option fits) (word.spell_option sp) [] p
@@ -61,12 +60,12 @@ pub record ItemLawOf {A : Type 0} (rooms : Rooms) (n : ℕ) (none : List Plain �
 -- no statement that holds no other begins there
 abbrev pub NoSimple : List Plain → Type 0
 NoSimple y = ((is (m.Reserved r.Create) (first y) ≡ false) × (is (m.Reserved r.Destroy) (first y) ≡ false)) × (((is (m.Reserved r.File) (first y) ≡ false) × (is (m.Reserved r.Remove) (first y) ≡ false)) × (((is (m.Reserved r.Call) (first y) ≡ false) ×
-  ((is (m.Reserved r.Return) (first y) ≡ false) × (is (m.Reserved r.Stop) (first y) ≡ false))) × (((is (m.Reserved r.Schedule) (first y) ≡ false) ×
-  ((is (m.Reserved r.Cancel) (first y) ≡ false) × (is (m.Reserved r.Start) (first y) ≡ false))) × (((is (m.Reserved r.Read) (first y) ≡ false) ×
-  ((is (m.Reserved r.Print) (first y) ≡ false) × (is (m.Reserved r.Skip) (first y) ≡ false))) ×
-  ((is (m.Reserved r.Let) (first y) ≡ false) ×
-  ((is (m.Reserved r.Add) (first y) ≡ false) ×
-  ((is (m.Reserved r.Subtract) (first y) ≡ false) × (name_of (first y) ≡ None))))))))
+    ((is (m.Reserved r.Return) (first y) ≡ false) × (is (m.Reserved r.Stop) (first y) ≡ false))) × (((is (m.Reserved r.Schedule) (first y) ≡ false) ×
+    ((is (m.Reserved r.Cancel) (first y) ≡ false) × (is (m.Reserved r.Start) (first y) ≡ false))) × (((is (m.Reserved r.Read) (first y) ≡ false) ×
+    ((is (m.Reserved r.Print) (first y) ≡ false) × (is (m.Reserved r.Skip) (first y) ≡ false))) ×
+    ((is (m.Reserved r.Let) (first y) ≡ false) ×
+    ((is (m.Reserved r.Add) (first y) ≡ false) ×
+    ((is (m.Reserved r.Subtract) (first y) ≡ false) × (name_of (first y) ≡ None))))))))
 
 -- ---- tables
 
@@ -137,8 +136,6 @@ module _ {A : Type 0} {rooms : Rooms} {n : ℕ} (d : A → ℕ) (sp : A → List
 
   -- in parentheses or behind GIVEN
   module _ (j : ℕ) (q q' : Reading A) (lo : OpenLaw rooms n (greatest_of d) (spell_several sp) (if_open n (several q)) (if_open j (several q'))) where
-
-
     abbrev in_parentheses : Form rooms n (Option (Several A))
     in_parentheses = option_form (open_item rooms n (greatest_of d) (spell_several sp) (if_open n (several q)) (if_open j (several q')) lo)
 
@@ -274,6 +271,7 @@ module _ (rooms : Rooms) (n k : ℕ) (w : Wider rooms n k) where
   -- the parts that the readings name
   abbrev the_subscript : Form rooms n (Option Expr)
   the_subscript = form_of rooms n a_subscript.fits a_subscript.sp EndsName (subscript_at n) (subscript_at k) subscript_law
+
   abbrev the_called : Form rooms n (Option Reference)
   the_called = form_of rooms n a_called.fits a_called.sp EndsCalled (called_at n) (called_at k) called_law
 

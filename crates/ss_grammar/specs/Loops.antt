@@ -72,10 +72,10 @@ spell_name n = name n ∷ []
 -- what a FOR phrase goes through
 abbrev pub spell_range : Range → List Plain
 spell_range (Counting d n a b c) =
-  name n ∷ (spell_direction d ++ spell_expr a ++ mark (m.Reserved r.To) ∷ (spell_expr b ++ spell_option (m.Reserved r.By) spell_expr c))
+    name n ∷ (spell_direction d ++ spell_expr a ++ mark (m.Reserved r.To) ∷ (spell_expr b ++ spell_option (m.Reserved r.By) spell_expr c))
 spell_range (Each c v) = mark (m.Reserved r.Every) ∷ name c ∷ spell_option (m.Reserved r.Called) spell_name v
 spell_range (Walking d n v b) =
-  mark (m.Reserved r.Every) ∷ name n ∷ mark (m.Reserved r.In) ∷ (spell_reference v ++ spell_walk_start b ++ spell_order d)
+    mark (m.Reserved r.Every) ∷ name n ∷ mark (m.Reserved r.In) ∷ (spell_reference v ++ spell_walk_start b ++ spell_order d)
 
 -- WITH, UNLESS, WHILE or UNTIL
 abbrev pub spell_qualifier_word : QualifierWord → Plain

@@ -70,17 +70,17 @@ spell_file_place (After e) = mark (m.Reserved r.After) ∷ spell_expr e
 -- FILE and REMOVE
 abbrev pub spell_filing : Filing → List Plain
 spell_filing (File e h v) =
-  mark (m.Reserved r.File) ∷ (spell_expr e ++ spell_file_place h ++ mark (m.Reserved r.In) ∷ spell_reference v)
+    mark (m.Reserved r.File) ∷ (spell_expr e ++ spell_file_place h ++ mark (m.Reserved r.In) ∷ spell_reference v)
 spell_filing (FileAt b e v) =
-  mark (m.Reserved r.File) ∷ spell_end b ∷ (spell_expr e ++ mark (m.Reserved r.In) ∷ spell_reference v)
+    mark (m.Reserved r.File) ∷ spell_end b ∷ (spell_expr e ++ mark (m.Reserved r.In) ∷ spell_reference v)
 spell_filing (RemoveEnd b u v) =
-  mark (m.Reserved r.Remove) ∷ spell_end b ∷ (spell_reference u ++ mark (m.Reserved r.From) ∷ spell_reference v)
+    mark (m.Reserved r.Remove) ∷ spell_end b ∷ (spell_reference u ++ mark (m.Reserved r.From) ∷ spell_reference v)
 spell_filing (Remove e v) = mark (m.Reserved r.Remove) ∷ (spell_expr e ++ mark (m.Reserved r.From) ∷ spell_reference v)
 
 -- CALL, RETURN, STOP
 abbrev pub spell_transfer : Transfer → List Plain
 spell_transfer (Call n es vs) =
-  mark (m.Reserved r.Call) ∷ name n ∷ (spell_listing spell_expr es ++ spell_behind (m.Reserved r.Yielding) spell_reference vs)
+    mark (m.Reserved r.Call) ∷ name n ∷ (spell_listing spell_expr es ++ spell_behind (m.Reserved r.Yielding) spell_reference vs)
 spell_transfer Return = mark (m.Reserved r.Return) ∷ []
 spell_transfer Stop = mark (m.Reserved r.Stop) ∷ []
 
@@ -110,7 +110,7 @@ spell_timing StartSimulation = mark (m.Reserved r.Start) ∷ mark (m.Reserved r.
 abbrev pub spell_exchange : Exchange → List Plain
 spell_exchange (Read vs) = mark (m.Reserved r.Read) ∷ spell_several spell_reference vs
 spell_exchange (Print n es p) =
-  mark (m.Reserved r.Print) ∷ number n ∷ mark (m.Reserved r.Lines)
+    mark (m.Reserved r.Print) ∷ number n ∷ mark (m.Reserved r.Lines)
     ∷ (spell_behind (m.Reserved r.With) spell_expr es ++ mark (m.Reserved r.Thus) ∷ picture p ∷ [])
 spell_exchange (Skip e) = mark (m.Reserved r.Skip) ∷ (spell_expr e ++ mark (m.Reserved r.Lines) ∷ [])
 

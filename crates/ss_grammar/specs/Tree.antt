@@ -73,7 +73,7 @@ abbrev mutual
   pub spell_one : One → List Plain
   spell_one (simple a) = spell_simple a
   spell_one (branch q b e) =
-    mark (m.Reserved r.If) ∷ (spell_question q ++ spell_block b ++ spell_otherwise e ++ mark (m.Reserved r.Always) ∷ [])
+      mark (m.Reserved r.If) ∷ (spell_question q ++ spell_block b ++ spell_otherwise e ++ mark (m.Reserved r.Always) ∷ [])
 
   pub spell_otherwise : Otherwise → List Plain
   spell_otherwise no_else = []
@@ -95,19 +95,19 @@ spell_saving false = []
 abbrev pub spell_head : Head → List Plain
 spell_head MainHead = mark (m.Reserved r.Main) ∷ []
 spell_head (RoutineHead n ps ys) =
-  mark (m.Reserved r.Routine) ∷ name n ∷ (spell_listing spell_name ps ++ spell_behind (m.Reserved r.Yielding) spell_name ys)
+    mark (m.Reserved r.Routine) ∷ name n ∷ (spell_listing spell_name ps ++ spell_behind (m.Reserved r.Yielding) spell_name ys)
 spell_head (EventHead n ps b) = mark (m.Reserved r.Event) ∷ name n ∷ (spell_listing spell_name ps ++ spell_saving b)
 
 -- a local DEFINE
 abbrev pub spell_define : Several Name → List Plain
 spell_define ns =
-  mark (m.Reserved r.Define)
+    mark (m.Reserved r.Define)
     ∷ (spell_names ns ++ mark (m.Reserved r.As) ∷ mark (m.Reserved r.Integer) ∷ mark (m.Reserved r.Variables) ∷ [])
 
 -- a section, up to its END
 abbrev pub spell_section : SectionTree → List Plain
 spell_section t =
-  spell_head t.head ++ flat_map spell_define t.locals ++ spell_block t.block ++ mark (m.Reserved r.End) ∷ []
+    spell_head t.head ++ flat_map spell_define t.locals ++ spell_block t.block ++ mark (m.Reserved r.End) ∷ []
 
 -- the plain words of a program
 abbrev pub spell : Tree → List Plain

@@ -26,9 +26,9 @@ module _ (lines : List ℕ) where
     pub flat_one : ℕ → One → List Spot
     flat_one k (simple a) = spot k (Simply a) ∷ []
     flat_one k (branch q b e) =
-      let i = k + 1 + length (spell_question q) in
-      let j = i + length (spell_block b) in
-      spot k (Branches (If q)) ∷ (flat_block i b ++ flat_otherwise j e ++ spot (j + length (spell_otherwise e)) (Branches Always) ∷ [])
+        let i = k + 1 + length (spell_question q) in
+        let j = i + length (spell_block b) in
+        spot k (Branches (If q)) ∷ (flat_block i b ++ flat_otherwise j e ++ spot (j + length (spell_otherwise e)) (Branches Always) ∷ [])
 
     pub flat_otherwise : ℕ → Otherwise → List Spot
     flat_otherwise k no_else = []
@@ -38,11 +38,11 @@ module _ (lines : List ℕ) where
     pub flat_loop : ℕ → Phrase → ℕ → Controlled → List Spot
     flat_loop k f j (further g c) = spot k (Loops (For f false)) ∷ flat_loop j g (j + length (spell_phrase g)) c
     flat_loop k f j (repeated b) =
-      spot k (Loops (For f true)) ∷ (flat_block (j + 1) b ++ spot (j + 1 + length (spell_block b)) (Loops Next) ∷ [])
+        spot k (Loops (For f true)) ∷ (flat_block (j + 1) b ++ spot (j + 1 + length (spell_block b)) (Loops Next) ∷ [])
     flat_loop k f j (single o) = spot k (Loops (For f false)) ∷ flat_one j o
     flat_loop k f j find = spot k (Loops (For f false)) ∷ spot j (Loops Find) ∷ []
     flat_loop k f j (compute ts e) =
-      spot k (Loops (For f false)) ∷ spot j (Loops (Gather e)) ∷ spot j (Loops (Compute ts)) ∷ []
+        spot k (Loops (For f false)) ∷ spot j (Loops (Gather e)) ∷ spot j (Loops (Compute ts)) ∷ []
 
   -- the local DEFINEs
   abbrev pub written_locals : ℕ → List (Several Name) → List LocalNames
@@ -52,14 +52,14 @@ module _ (lines : List ℕ) where
   -- a section
   abbrev pub written_section : ℕ → SectionTree → Section
   written_section k t =
-    let i = k + length (spell_head t.head) in
-    let j = i + length (flat_map spell_define t.locals) in
-    record {
-      line = line lines k;
-      head = t.head;
-      locals = written_locals i t.locals;
-      places = flat_block j t.block ++ spot (j + length (spell_block t.block)) EndOfSection ∷ [];
-    }
+      let i = k + length (spell_head t.head) in
+      let j = i + length (flat_map spell_define t.locals) in
+      record {
+        line = line lines k;
+        head = t.head;
+        locals = written_locals i t.locals;
+        places = flat_block j t.block ++ spot (j + length (spell_block t.block)) EndOfSection ∷ [];
+      }
 
   -- sections, one behind the other
   abbrev pub written_from : ℕ → Tree → List Section

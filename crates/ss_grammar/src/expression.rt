@@ -185,7 +185,7 @@ fn factor(cursor: &mut Cursor<'_>, room: u32) -> Result<Factor, Refusal>
 /// An expression in parentheses, if one opens here.
 #[cycle(expression)]
 #[tactic(auto, unfolding(ss_words::specs::Reading::bind, ss_words::specs::Reading::pure, crate::specs::Combined::if_open))]
-fn within(cursor: &mut Cursor<'_>, room: u32) -> Result<Option<Expr>, Refusal>
+pub fn within(cursor: &mut Cursor<'_>, room: u32) -> Result<Option<Expr>, Refusal>
     ensures exact { Gives (option_view expr_view) result cursor.new (if_open room (reading.inner_at room) cursor.old) }
     ensures shorter { length cursor.new ≤ length cursor.old }
     ensures taken { IfOk result (λ o. IfSome o (λ _. length cursor.new < length cursor.old)) }

@@ -105,10 +105,7 @@ pub enum Branch {
 #[derive(Debug, Drop)]
 pub enum Loop {
     /// A FOR phrase; `repeats` says whether DO stands behind it.
-    For {
-        phrase: Phrase,
-        repeats: bool,
-    },
+    For { phrase: Phrase, repeats: bool },
     /// LOOP
     Next,
     /// `FIND FIRST CASE`

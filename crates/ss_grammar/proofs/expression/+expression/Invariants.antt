@@ -72,4 +72,3 @@ invariant-inner_others-loop-values l = record {
 
 abbrev pub decreases-inner_others-loop-values : goal.decreases-inner_others-loop-values
 decreases-inner_others-loop-values l = length l.cursor
-

@@ -1,0 +1,150 @@
+ghost use Rattle.std.specs.Prelude.{IfSome, IfOk, List, length, ◌≡◌, ◌≤◌, ◌<◌, Ok};
+ghost use Rattle.ss_words.specs.Reading.{Gives, option_view};
+ghost use Rattle.ss_grammar.specs.Combined.{by_table};
+ghost use Rattle.ss_grammar.specs.SimpleReading as reading;
+ghost use Rattle.ss_grammar.specs.View.{expr_view, reference_view, assign_view, making_view};
+
+use crate::condition::Reference;
+use crate::expr::Expr;
+use crate::expression::{expression, within};
+use crate::simple::{Assign, Making};
+use ss_words::{Cursor, Mark, Plain, Refusal, Reserved, Sign};
+
+/// `["(" expression ")"]`
+#[tactic(auto, unfolding(crate::specs::SimpleReading::subscript_at))]
+pub fn subscript(cursor: &mut Cursor<'_>, room: u32) -> Result<Option<Expr>, Refusal>
+    ensures exact { Gives (option_view expr_view) result cursor.new (reading.subscript_at room cursor.old) }
+    ensures shorter { length cursor.new ≤ length cursor.old }
+{
+    within(cursor, room)
+}
+
+/// `reference = name ["(" expression ")"]`
+#[tactic(auto, unfolding(ss_words::specs::Reading::bind, ss_words::specs::Reading::pure, crate::specs::Combined::made, crate::specs::Combined::pair, crate::specs::SimpleReading::reference_at))]
+pub fn reference(cursor: &mut Cursor<'_>, room: u32) -> Result<Reference, Refusal>
+    ensures exact { Gives reference_view result cursor.new (reading.reference_at room cursor.old) }
+    ensures shorter { length cursor.new ≤ length cursor.old }
+{
+    let name = cursor.name()?;
+    let subscript = subscript(cursor, room)?;
+    Ok(Reference { name, subscript })
+}
+
+/// `[CALLED reference]`
+#[tactic(auto, unfolding(ss_words::specs::Reading::bind, ss_words::specs::Reading::pure, crate::specs::Combined::if_mark, crate::specs::SimpleReading::called_at))]
+pub fn called(cursor: &mut Cursor<'_>, room: u32) -> Result<Option<Reference>, Refusal>
+    ensures exact { Gives (option_view reference_view) result cursor.new (reading.called_at room cursor.old) }
+    ensures shorter { length cursor.new ≤ length cursor.old }
+{
+    if !cursor.eat(Mark::Reserved(Reserved::Called)) {
+        return Ok(None);
+    }
+    Ok(Some(reference(cursor, room)?))
+}
+
+/// `name [CALLED reference]`
+#[tactic(auto, unfolding(ss_words::specs::Reading::bind, ss_words::specs::Reading::pure, crate::specs::Combined::pair, crate::specs::SimpleReading::named_at))]
+fn named(cursor: &mut Cursor<'_>, room: u32) -> Result<(Vec<u8>, Option<Reference>), Refusal>
+    ensures exact { Gives (λ x. (x.0.items, option_view reference_view x.1)) result cursor.new (reading.named_at room cursor.old) }
+    ensures shorter { length cursor.new ≤ length cursor.old }
+{
+    let name = cursor.name()?;
+    let called = called(cursor, room)?;
+    Ok((name, called))
+}
+
+/// `reference "=" expression`
+#[tactic(auto, unfolding(ss_words::specs::Reading::bind, ss_words::specs::Reading::pure, crate::specs::Combined::pair, crate::specs::Combined::before, crate::specs::SimpleReading::equation_at))]
+fn equation(cursor: &mut Cursor<'_>, room: u32) -> Result<(Reference, Expr), Refusal>
+    ensures exact { Gives (λ x. (reference_view x.0, expr_view x.1)) result cursor.new (reading.equation_at room cursor.old) }
+    ensures shorter { length cursor.new ≤ length cursor.old }
+{
+    let target = reference(cursor, room)?;
+    cursor.expect(Mark::Sign(Sign::Equal))?;
+    let value = expression(cursor, room)?;
+    Ok((target, value))
+}
+
+/// `expression mark reference`
+#[tactic(auto, unfolding(ss_words::specs::Reading::bind, ss_words::specs::Reading::pure, crate::specs::Combined::pair, crate::specs::Combined::before, crate::specs::SimpleReading::moved_at))]
+fn moved(cursor: &mut Cursor<'_>, mark: Mark, room: u32) -> Result<(Expr, Reference), Refusal>
+    ensures exact { Gives (λ x. (expr_view x.0, reference_view x.1)) result cursor.new (reading.moved_at room mark cursor.old) }
+    ensures shorter { length cursor.new ≤ length cursor.old }
+{
+    let value = expression(cursor, room)?;
+    cursor.expect(mark)?;
+    let target = reference(cursor, room)?;
+    Ok((value, target))
+}
+
+/// CREATE EVERY, CREATE or DESTROY, if one stands here.
+#[tactic(auto, unfolding(ss_words::specs::Reading::bind, ss_words::specs::Reading::pure, crate::specs::Combined::pair, crate::specs::Combined::if_mark, crate::specs::Combined::either, crate::specs::Combined::either_of, crate::specs::Combined::made_of, crate::specs::SimpleReading::making_at))]
+pub fn making(cursor: &mut Cursor<'_>, room: u32) -> Result<Option<Making>, Refusal>
+    ensures exact { Gives (option_view making_view) result cursor.new (reading.making_at room cursor.old) }
+    ensures shorter { length cursor.new ≤ length cursor.old }
+    ensures taken { IfOk result (λ o. IfSome o (λ _. length cursor.new < length cursor.old)) }
+{
+    if cursor.eat(Mark::Reserved(Reserved::Create)) {
+        if cursor.eat(Mark::Reserved(Reserved::Every)) {
+            let class = cursor.name()?;
+            let count = subscript(cursor, room)?;
+            return Ok(Some(Making::CreateEvery { class, count }));
+        }
+        let (class, target) = named(cursor, room)?;
+        return Ok(Some(Making::Create { class, target }));
+    }
+    if cursor.eat(Mark::Reserved(Reserved::Destroy)) {
+        let (class, entity) = named(cursor, room)?;
+        return Ok(Some(Making::Destroy { class, entity }));
+    }
+    Ok(None)
+}
+
+/// The name that stands here, if one does.
+#[tactic(auto, unfolding(ss_words::specs::Reading::look, ss_words::specs::Reading::skip, ss_words::specs::Reading::pure, ss_words::specs::Reading::refuse, ss_words::specs::Marks::a_name, crate::specs::Combined::by_table))]
+fn bare_name(cursor: &mut Cursor<'_>) -> Result<Option<Vec<u8>>, Refusal>
+    ensures exact { Gives (option_view (λ v. v.items)) result cursor.new (by_table reading.name_of cursor.old) }
+    ensures shorter { length cursor.new ≤ length cursor.old }
+    ensures taken { IfOk result (λ o. IfSome o (λ _. length cursor.new < length cursor.old)) }
+{
+    match cursor.peek() {
+        Some(Plain::Name(_)) => Ok(Some(cursor.name()?)),
+        _ => Ok(None),
+    }
+}
+
+/// LET, ADD, SUBTRACT or an assignment without LET, if one stands here.
+#[tactic(auto, unfolding(ss_words::specs::Reading::bind, ss_words::specs::Reading::pure, crate::specs::Combined::pair, crate::specs::Combined::before, crate::specs::Combined::if_mark, crate::specs::Combined::if_word, crate::specs::Combined::either_of, crate::specs::Combined::made_of, crate::specs::SimpleReading::assign_at))]
+pub fn assignment(cursor: &mut Cursor<'_>, room: u32) -> Result<Option<Assign>, Refusal>
+    ensures exact { Gives (option_view assign_view) result cursor.new (reading.assign_at room cursor.old) }
+    ensures shorter { length cursor.new ≤ length cursor.old }
+    ensures taken { IfOk result (λ o. IfSome o (λ _. length cursor.new < length cursor.old)) }
+{
+    if cursor.eat(Mark::Reserved(Reserved::Let)) {
+        let (target, value) = equation(cursor, room)?;
+        return Ok(Some(Assign::Let {
+            written: true,
+            target,
+            value,
+        }));
+    }
+    if cursor.eat(Mark::Reserved(Reserved::Add)) {
+        let (value, target) = moved(cursor, Mark::Reserved(Reserved::To), room)?;
+        return Ok(Some(Assign::Add { value, target }));
+    }
+    if cursor.eat(Mark::Reserved(Reserved::Subtract)) {
+        let (value, target) = moved(cursor, Mark::Reserved(Reserved::From), room)?;
+        return Ok(Some(Assign::Subtract { value, target }));
+    }
+    let Some(name) = bare_name(cursor)? else {
+        return Ok(None);
+    };
+    let subscript = subscript(cursor, room)?;
+    cursor.expect(Mark::Sign(Sign::Equal))?;
+    let value = expression(cursor, room)?;
+    Ok(Some(Assign::Let {
+        written: false,
+        target: Reference { name, subscript },
+        value,
+    }))
+}
