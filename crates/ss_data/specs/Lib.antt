@@ -1,4 +1,5 @@
 pub mod Pieces
 pub mod Numbers
 pub mod Items
+pub mod Entries
 pub mod Packed

@@ -1,3 +1,4 @@
+use crate::entry::{Kind, is_mark, kind_of, writes_name};
 use crate::number::parse_number;
 use crate::pieces::Pieces;
 use ss_words::RunFault;
@@ -26,8 +27,9 @@ impl Model for Feed {
 }
 
 impl Feed {
-    ghost use Rattle.std.specs.Prelude.{◌≡◌, ◌+◌, ◌≤◌, length, IfOk, OnOk, OnErr};
+    ghost use Rattle.std.specs.Prelude.{◌≡◌, ◌≢◌, ◌+◌, ◌<◌, ◌≤◌, true, length, Ok, Err, IfOk, OnOk, OnErr, MatchOption};
     ghost use Rattle.ss_data.specs.Items.{data_at_start, next_value, with_taken};
+    ghost use Rattle.ss_data.specs.Entries.{next_kind, next_writes, place_behind_mark};
 
     /// Cuts data into its pieces, in one pass; nothing is taken yet.
     ///
@@ -54,8 +56,55 @@ impl Feed {
     {
         let piece = self.pieces.get(self.taken).ok_or(RunFault::NoMoreData)?;
         let value = parse_number(piece).ok_or(RunFault::NotANumber)?;
-        self.taken += 1;
+        self.pass();
         Ok(value)
+    }
+
+    /// What the next piece is.
+    pub fn kind(&self) -> Kind
+        ensures kind { result ≡ next_kind self.now }
+        ensures left { result ≢ Kind.End → self.now.taken < length self.now.items }
+    {
+        match self.pieces.get(self.taken) {
+            None => Kind::End,
+            Some(piece) => kind_of(piece),
+        }
+    }
+
+    /// Whether the next piece is this name: a run of letters, digits and stops with a letter, of at
+    /// most 80 bytes, that is the name but for capitals and the stops at its end.
+    pub fn names(&self, name: &[u8]) -> bool
+        ensures writes { result ≡ next_writes name.now self.now }
+        ensures left { result ≡ true → self.now.taken < length self.now.items }
+    {
+        let Some(piece) = self.pieces.get(self.taken) else {
+            return false;
+        };
+        writes_name(piece, name)
+    }
+
+    /// Passes the next piece, whatever it is.
+    pub fn pass(&mut self)
+        requires { self.old.taken < length self.old.items }
+        ensures { self.new ≡ with_taken self.old (self.old.taken + 1) }
+    {
+        if self.taken < self.pieces.len() {
+            self.taken += 1;
+        }
+    }
+
+    /// Passes all pieces up to and with the next mark `*`, whatever they are.
+    ///
+    /// # Errors
+    ///
+    /// `OutsideEntry` (F22) where no mark is left. Then nothing is taken.
+    pub fn pass_entry(&mut self) -> Result<(), RunFault>
+        ensures { MatchOption (place_behind_mark self.old)
+            ((result ≡ Err RunFault.OutsideEntry) × (self.new ≡ self.old))
+            (λ place. (result ≡ Ok tt) × (self.new ≡ with_taken self.old place)) }
+    {
+        self.taken = behind_mark(&self.pieces, self.taken).ok_or(RunFault::OutsideEntry)?;
+        Ok(())
     }
 
     /// How many pieces are taken.
@@ -66,7 +115,8 @@ impl Feed {
         self.taken
     }
 
-    /// Gives back all that was taken since `old_taken` pieces were, which is at most `taken` now.
+    /// Gives back all that was taken or passed since `old_taken` pieces were, which is at most
+    /// `taken` now.
     pub fn undo(&mut self, old_taken: usize)
         requires { old_taken ≤ self.old.taken }
         ensures { self.new ≡ with_taken self.old old_taken }
@@ -75,8 +125,10 @@ impl Feed {
     }
 }
 
-ghost use Rattle.std.specs.Prelude.{◌≡◌, IfOk};
+ghost use Rattle.std.specs.Prelude.{◌≡◌, ◌≤◌, map, length, IfOk, IfSome};
 ghost use Rattle.ss_data.specs.Pieces.{is_separator, pieces};
+ghost use Rattle.ss_data.specs.Items.{item};
+ghost use Rattle.ss_data.specs.Entries.{behind_mark};
 
 /// The pieces of data, in order.
 fn cut_pieces(alloc: Global, text: &[u8]) -> Result<Pieces, AllocError>
@@ -95,4 +147,19 @@ fn is_separator(byte: &u8) -> bool
     ensures { result ≡ is_separator byte.now }
 {
     matches!(*byte, b' ' | b'\t' | b'\r' | b'\n')
+}
+
+/// The place behind the next mark, from a place on.
+fn behind_mark(pieces: &Pieces, from: usize) -> Option<usize>
+    ensures place { result ≡ behind_mark (map item pieces.now) from }
+    ensures within { IfSome result (λ place. place ≤ length pieces.now) }
+{
+    let mut place = from;
+    while let Some(piece) = pieces.get(place) {
+        place += 1;
+        if is_mark(piece) {
+            return Some(place);
+        }
+    }
+    None
 }

@@ -1,10 +1,13 @@
 //! The data of a run: its pieces in order, and how many of them are taken.
 #![tactic(auto)]
 
+mod entry;
 mod feed;
+mod laws;
 mod number;
 mod pieces;
 #[cfg(test)]
 mod tests;
 
+pub use entry::Kind;
 pub use feed::Feed;

@@ -42,6 +42,13 @@ impl Pieces {
         Ok(())
     }
 
+    /// How many pieces there are.
+    pub(crate) fn len(&self) -> usize
+        ensures { result ≡ length self.now }
+    {
+        self.ends.len()
+    }
+
     /// The piece at an index from 0, if there is one.
     pub(crate) fn get(&self, index: usize) -> Option<&[u8]>
         ensures piece { option_copied result ≡ slice_get self.now index }

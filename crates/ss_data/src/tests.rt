@@ -1,4 +1,4 @@
-use crate::Feed;
+use crate::{Feed, Kind};
 use ss_words::RunFault;
 use std::alloc::{AllocError, Global};
 use std::process::Abort;
@@ -110,5 +110,72 @@ fn what_is_given_back_is_taken_again(rt: HostRuntime) -> Result<(), Fail> {
     feed.undo(0);
     assert_eq!(rt; feed.take(), Ok(10));
     assert_eq!(rt; feed.taken(), 1);
+    Ok(())
+}
+
+// Passes the next piece, and says what it was.
+fn passed(feed: &mut Feed) -> Kind {
+    let kind = feed.kind();
+    if feed.names(b"SKIPPED") || kind != Kind::End {
+        feed.pass();
+    }
+    kind
+}
+
+#[test]
+fn each_piece_has_its_kind(rt: HostRuntime) -> Result<(), Fail> {
+    let mut feed = feed_of(rt.alloc(), b"5 * ** arrival. -3 9223372036854775808 5*")?;
+    let kinds = [
+        Kind::Number,
+        Kind::Mark,
+        Kind::Other,
+        Kind::Other,
+        Kind::Number,
+        Kind::Other,
+        Kind::Other,
+        Kind::End,
+        Kind::End,
+    ];
+    for kind in kinds {
+        assert_eq!(rt; passed(&mut feed), kind);
+    }
+    assert_eq!(rt; feed.taken(), 7);
+    feed.undo(0);
+    assert_eq!(rt; feed.kind(), Kind::Number);
+    Ok(())
+}
+
+#[test]
+fn a_name_is_told_whatever_its_capitals(rt: HostRuntime) -> Result<(), Fail> {
+    let mut feed = feed_of(rt.alloc(), b"arrival Arrival.. ARRIVALS .arrival 5 *")?;
+    for told in [true, true, false, false, false, false, false] {
+        assert_eq!(rt; feed.names(b"ARRIVAL"), told);
+        passed(&mut feed);
+    }
+    feed.undo(0);
+    assert!(rt; feed.names(b"ARRIVAL"));
+    assert!(rt; !feed.names(b"ARRIVE"));
+    assert!(rt; !feed.names(b""));
+    Ok(())
+}
+
+#[test]
+fn an_entry_is_passed_with_its_mark(rt: HostRuntime) -> Result<(), Fail> {
+    let mut feed = feed_of(rt.alloc(), b"a 1 * b ** 2 * * c 3")?;
+    for place in [3, 7, 8] {
+        assert_eq!(rt; feed.pass_entry(), Ok(()));
+        assert_eq!(rt; feed.taken(), place);
+    }
+    for _ in 0..2 {
+        assert_eq!(rt; feed.pass_entry(), Err(RunFault::OutsideEntry));
+        assert_eq!(rt; feed.taken(), 8);
+    }
+    feed.undo(0);
+    assert_eq!(rt; feed.take(), Err(RunFault::NotANumber));
+    assert_eq!(rt; passed(&mut feed), Kind::Other);
+    assert_eq!(rt; feed.take(), Ok(1));
+    assert_eq!(rt; feed.take(), Err(RunFault::NotANumber));
+    assert_eq!(rt; feed.pass_entry(), Ok(()));
+    assert_eq!(rt; feed.taken(), 3);
     Ok(())
 }

@@ -1,10 +1,10 @@
 -- what follows from the definitions of undoing, for any changes and any states
-use Rattle.std.proofs.Common.{◌≡◌, ℕ, ◌+◌, ◌≤◌, List, [], ◌∷◌, ◌++◌, length, refl, ap, sym, subst, ◌∙◌, arith, add-one}
+use Rattle.std.proofs.Common.{◌≡◌, ℕ, ◌+◌, ◌-◌, ◌≤◌, List, [], ◌∷◌, ◌++◌, length, take, drop, refl, ap, sym, subst, ◌∙◌, zero, suc, arith, add-one, length-take}
 use Rattle.std.specs.Prelude.{map}
 use Rattle.std.specs.List.{range_with_len}
-use Rattle.std.proofs.lemmas.List.{length_push}
+use Rattle.std.proofs.lemmas.List.{length_push, drop-append-le, drop_all}
 use Rattle.std.proofs.lemmas.List.FromFn.{map-range_with_len_more}
-use Rattle.ss_journal.specs.Log.{Log}
+use Rattle.ss_journal.specs.Log.{Log, newest}
 use Rattle.ss_journal.specs.Undoing.{unapply_all, FitsAll, FitsSteps, past, Kept, GoesOn}
 
 -- two lists of changes, one after the other
@@ -159,3 +159,34 @@ Kept-GoesOn fits unapply state_at n s s' j j' kept here none work =
     let closed : Kept fits unapply state_at (j'.current ∷ j.steps) s' =
     Kept-close fits unapply state_at s s' j'.current j.steps kept here (GoesOn-fitting fits unapply n s s' j j' none work) (GoesOn-origin fits unapply n s s' j j' none work) in
     subst (λ (steps : List (List _)). Kept fits unapply state_at (j'.current ∷ steps) s') (sym work.steps) closed
+
+-- the newest steps of those that fit
+pub FitsSteps-newest : {S C : Type 0} (fits : C → S → Type 0) (unapply : C → S → S) (n : ℕ) (steps : List (List C)) (s : S) →
+    FitsSteps fits unapply steps s → FitsSteps fits unapply (newest n steps) s
+FitsSteps-newest fits unapply zero steps s fit = tt
+FitsSteps-newest fits unapply (suc n) [] s fit = tt
+FitsSteps-newest fits unapply (suc n) (step ∷ earlier) s fit =
+    (fit.0, FitsSteps-newest fits unapply n earlier (unapply_all unapply step s) fit.1)
+
+-- the past of the newest steps is the end of the past
+pub past-newest : {S C : Type 0} (unapply : C → S → S) (n : ℕ) (s : S) (steps : List (List C)) →
+    past unapply s (newest n steps) ≡ drop (length steps - n) (past unapply s steps)
+past-newest unapply zero s steps = sym (drop_all (length steps - 0) (past unapply s steps) (omega (arith, length-past unapply s steps)))
+past-newest unapply (suc n) s [] = sym (drop_all (0 - suc n) [] (omega arith))
+past-newest unapply (suc n) s (step ∷ earlier) =
+    let before = unapply_all unapply step s in
+    let states = past unapply before earlier in
+    let forgotten : length earlier - n ≡ length (step ∷ earlier) - suc n = omega arith in
+    ap (λ (kept : List _). kept ++ before ∷ []) (past-newest unapply n before earlier)
+    ∙ sym (drop-append-le (length earlier - n) states (before ∷ []) (omega (arith, length-past unapply before earlier)))
+    ∙ ap (λ k. drop k (states ++ before ∷ [])) forgotten
+
+-- the newest steps of those that are kept, with the states counted from the earliest that is left
+pub Kept-newest : {S C : Type 0} (fits : C → S → Type 0) (unapply : C → S → S) (state_at : ℕ → S) (n low : ℕ) (steps : List (List C)) (s : S) →
+    low ≡ length steps - n → Kept fits unapply state_at steps s → Kept fits unapply (λ i. state_at (low + i)) (newest n steps) s
+Kept-newest fits unapply state_at zero low steps s is kept = tt
+Kept-newest fits unapply state_at (suc n) low [] s is kept = tt
+Kept-newest fits unapply state_at (suc n) low (step ∷ earlier) s is kept =
+    let forgotten : low ≡ length earlier - n = omega (arith, is) in
+    let place : length earlier ≡ low + length (take n earlier) = omega (arith, forgotten, length-take n earlier) in
+    (kept.0, kept.1 ∙ ap state_at place, Kept-newest fits unapply state_at n low earlier (unapply_all unapply step s) forgotten kept.2)

@@ -1,5 +1,5 @@
 -- what a journal holds
-use Rattle.std.specs.Prelude.{ℕ, List}
+use Rattle.std.specs.Prelude.{ℕ, List, length, map, sum, take}
 
 -- the closed steps, the newest first, each with its newest change first; the open step, likewise; the rooms for notes
 -- and for closes
@@ -8,3 +8,11 @@ pub record Log (C : Type 0) : Type 0 where
   pub current : List C
   pub notes : ℕ
   pub closes : ℕ
+
+-- the newest n steps, or all where there are fewer
+abbrev pub newest : {C : Type 0} → ℕ → List (List C) → List (List C)
+newest n steps = take n steps
+
+-- how many changes the steps have
+abbrev pub change_count : {C : Type 0} → List (List C) → ℕ
+change_count steps = sum (map length steps)

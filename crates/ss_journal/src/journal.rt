@@ -1,4 +1,4 @@
-ghost use Rattle.std.specs.Prelude.{◌≡◌, ◌+◌, ◌<◌, ◌≤◌, ◌∷◌, [], length, IsOk, OnOk, MatchOption, MatchBool};
+ghost use Rattle.std.specs.Prelude.{◌≡◌, ◌+◌, ◌^◌, ◌<◌, ◌≤◌, ◌∷◌, [], length, sum, IsOk, OnOk, MatchOption, MatchBool};
 
 use std::alloc::{AllocError, Global};
 use std::marker::Model;
@@ -143,4 +143,32 @@ impl<C> Journal<C> {
     {
         self.sizes.len()
     }
+}
+
+impl<C: Drop> Journal<C> {
+    ghost use Rattle.ss_journal.specs.Log.{newest, change_count};
+
+    /// Forgets the oldest closed steps, so that the newest `n` are left, or all where there are
+    /// fewer. The room of what is forgotten is free again.
+    ///
+    /// It takes no memory, and its time is in proportion to the changes forgotten and kept.
+    pub fn keep_last(&mut self, n: usize)
+        requires { self.old.current ≡ [] }
+        ensures steps { self.new.steps ≡ newest n self.old.steps }
+        ensures current { self.new.current ≡ [] }
+        ensures notes { self.new.notes + change_count self.new.steps ≡ self.old.notes + change_count self.old.steps }
+        ensures closes { self.new.closes + length self.new.steps ≡ self.old.closes + length self.old.steps }
+    {
+        let forgotten = self.steps().saturating_sub(n);
+        let changes = total(&self.sizes[..forgotten]);
+        self.changes.drain(..changes);
+        self.sizes.drain(..forgotten);
+    }
+}
+
+fn total(sizes: &[usize]) -> usize
+    requires { sum sizes.now < 2 ^ 64 }
+    ensures { result ≡ sum sizes.now }
+{
+    sizes.iter().sum()
 }

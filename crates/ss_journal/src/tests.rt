@@ -71,6 +71,16 @@ fn back(dial: &mut Dial, journal: &mut Journal<Turn>) -> bool
     true
 }
 
+// Forgets all steps but the newest.
+fn forget(dial: &Dial, journal: &mut Journal<Turn>, kept: usize)
+    requires closed { journal.old.current ≡ [] }
+    requires fits { FitsSteps ⟦<Dial as Undo>⟧.fits ⟦<Dial as Undo>⟧.unapply journal.old.steps dial.now }
+    ensures closed { journal.new.current ≡ [] }
+    ensures fits { FitsSteps ⟦<Dial as Undo>⟧.fits ⟦<Dial as Undo>⟧.unapply journal.new.steps dial.now }
+{
+    journal.keep_last(kept);
+}
+
 // Six steps forward and all back, each state compared. A step that is refused memory is tried
 // again, with nothing changed.
 fn there_and_back(
@@ -139,5 +149,30 @@ fn work_that_was_not_closed_is_taken_back(rt: HostRuntime) -> Result<(), Fail> {
     assert_eq!(rt; journal.steps(), 0);
     assert!(rt; journal.pop_open().is_none());
     assert!(rt; !journal.reopen_last());
+    Ok(())
+}
+
+#[test]
+fn what_is_kept_comes_back(rt: HostRuntime) -> Result<(), Fail> {
+    let mut dial = Dial { value: 0 };
+    let mut journal = Journal::new(rt.alloc());
+    forward(&mut dial, &mut journal, &[3])?;
+    forward(&mut dial, &mut journal, &[5, 7])?;
+    forward(&mut dial, &mut journal, &[11])?;
+    forget(&dial, &mut journal, 5);
+    assert_eq!(rt; journal.steps(), 3);
+    forget(&dial, &mut journal, 2);
+    assert_eq!(rt; journal.steps(), 2);
+    assert!(rt; back(&mut dial, &mut journal));
+    assert_eq!(rt; dial.value, 7);
+    assert!(rt; back(&mut dial, &mut journal));
+    assert_eq!(rt; dial.value, 3);
+    assert!(rt; !back(&mut dial, &mut journal));
+    assert_eq!(rt; dial.value, 3);
+    forward(&mut dial, &mut journal, &[13])?;
+    forget(&dial, &mut journal, 0);
+    assert_eq!(rt; journal.steps(), 0);
+    assert!(rt; !back(&mut dial, &mut journal));
+    assert_eq!(rt; dial.value, 13);
     Ok(())
 }

@@ -38,3 +38,5 @@ run_fault_number f.NotANumber = 17
 run_fault_number f.TooManyFrames = 18
 run_fault_number f.ReportFull = 19
 run_fault_number f.TooManyReferences = 20
+run_fault_number f.NotExternal = 21
+run_fault_number f.OutsideEntry = 22

@@ -120,13 +120,17 @@ pub enum RunFault {
     ReportFull,
     #[error("too many references or schedulings")]
     TooManyReferences,
+    #[error("the entry's name is no external event")]
+    NotExternal,
+    #[error("the mark * is missing or met, or the entry still waits")]
+    OutsideEntry,
 }
 
 impl RunFault {
     ghost use Rattle.std.specs.Prelude.{◌≡◌};
     ghost use Rattle.ss_words.specs.Faults.{run_fault_number};
 
-    /// The fault's number as `FAULT F1` prints it, from 1 to 20.
+    /// The fault's number as `FAULT F1` prints it, from 1 to 22.
     pub fn number(self) -> u8
         ensures { result ≡ run_fault_number self }
     {
@@ -151,6 +155,8 @@ impl RunFault {
             RunFault::TooManyFrames => 18,
             RunFault::ReportFull => 19,
             RunFault::TooManyReferences => 20,
+            RunFault::NotExternal => 21,
+            RunFault::OutsideEntry => 22,
         }
     }
 }
