@@ -113,69 +113,78 @@ fn what_is_given_back_is_taken_again(rt: HostRuntime) -> Result<(), Fail> {
     Ok(())
 }
 
-// Passes the next piece, and says what it was.
-fn passed(feed: &mut Feed) -> Kind {
-    let kind = feed.kind();
-    if feed.names(b"SKIPPED") || kind != Kind::End {
+// Passes the next piece, which is of this kind.
+fn passes(rt: &impl Abort, feed: &mut Feed, kind: Kind) {
+    assert_eq!(rt; feed.kind(), kind);
+    if feed.kind() != Kind::End {
         feed.pass();
     }
-    kind
+}
+
+// Says whether the next piece is the name ARRIVAL, and passes it.
+fn tells(rt: &impl Abort, feed: &mut Feed, told: bool) {
+    assert_eq!(rt; feed.names(b"ARRIVAL"), told);
+    if feed.kind() != Kind::End {
+        feed.pass();
+    }
+}
+
+// Passes the pieces up to and with the next mark; so many are then taken.
+fn passes_entry(rt: &impl Abort, feed: &mut Feed, taken: usize) {
+    assert_eq!(rt; feed.pass_entry(), Ok(()));
+    assert_eq!(rt; feed.taken(), taken);
+}
+
+// Meets no mark; as many are taken as before.
+fn has_no_mark(rt: &impl Abort, feed: &mut Feed, taken: usize) {
+    assert_eq!(rt; feed.pass_entry(), Err(RunFault::OutsideEntry));
+    assert_eq!(rt; feed.taken(), taken);
 }
 
 #[test]
 fn each_piece_has_its_kind(rt: HostRuntime) -> Result<(), Fail> {
-    let mut feed = feed_of(rt.alloc(), b"5 * ** arrival. -3 9223372036854775808 5*")?;
-    let kinds = [
-        Kind::Number,
-        Kind::Mark,
-        Kind::Other,
-        Kind::Other,
-        Kind::Number,
-        Kind::Other,
-        Kind::Other,
-        Kind::End,
-        Kind::End,
-    ];
-    for kind in kinds {
-        assert_eq!(rt; passed(&mut feed), kind);
-    }
-    assert_eq!(rt; feed.taken(), 7);
+    let mut feed = feed_of(rt.alloc(), b"5 * ** arrival. 9223372036854775808")?;
+    passes(&rt, &mut feed, Kind::Number);
+    passes(&rt, &mut feed, Kind::Mark);
+    passes(&rt, &mut feed, Kind::Other);
+    passes(&rt, &mut feed, Kind::Other);
+    passes(&rt, &mut feed, Kind::Other);
+    passes(&rt, &mut feed, Kind::End);
+    assert_eq!(rt; feed.taken(), 5);
     feed.undo(0);
-    assert_eq!(rt; feed.kind(), Kind::Number);
+    passes(&rt, &mut feed, Kind::Number);
     Ok(())
 }
 
 #[test]
 fn a_name_is_told_whatever_its_capitals(rt: HostRuntime) -> Result<(), Fail> {
-    let mut feed = feed_of(rt.alloc(), b"arrival Arrival.. ARRIVALS .arrival 5 *")?;
-    for told in [true, true, false, false, false, false, false] {
-        assert_eq!(rt; feed.names(b"ARRIVAL"), told);
-        passed(&mut feed);
-    }
+    let mut feed = feed_of(rt.alloc(), b"arrival Arrival.. ARRIVALS .arrival *")?;
+    tells(&rt, &mut feed, true);
+    tells(&rt, &mut feed, true);
+    tells(&rt, &mut feed, false);
+    tells(&rt, &mut feed, false);
+    tells(&rt, &mut feed, false);
+    tells(&rt, &mut feed, false);
     feed.undo(0);
-    assert!(rt; feed.names(b"ARRIVAL"));
-    assert!(rt; !feed.names(b"ARRIVE"));
-    assert!(rt; !feed.names(b""));
+    tells(&rt, &mut feed, true);
     Ok(())
 }
 
 #[test]
 fn an_entry_is_passed_with_its_mark(rt: HostRuntime) -> Result<(), Fail> {
     let mut feed = feed_of(rt.alloc(), b"a 1 * b ** 2 * * c 3")?;
-    for place in [3, 7, 8] {
-        assert_eq!(rt; feed.pass_entry(), Ok(()));
-        assert_eq!(rt; feed.taken(), place);
-    }
-    for _ in 0..2 {
-        assert_eq!(rt; feed.pass_entry(), Err(RunFault::OutsideEntry));
-        assert_eq!(rt; feed.taken(), 8);
-    }
+    passes_entry(&rt, &mut feed, 3);
+    passes_entry(&rt, &mut feed, 7);
+    passes_entry(&rt, &mut feed, 8);
+    has_no_mark(&rt, &mut feed, 8);
+    has_no_mark(&rt, &mut feed, 8);
     feed.undo(0);
-    assert_eq!(rt; feed.take(), Err(RunFault::NotANumber));
-    assert_eq!(rt; passed(&mut feed), Kind::Other);
-    assert_eq!(rt; feed.take(), Ok(1));
-    assert_eq!(rt; feed.take(), Err(RunFault::NotANumber));
-    assert_eq!(rt; feed.pass_entry(), Ok(()));
-    assert_eq!(rt; feed.taken(), 3);
+    passes_entry(&rt, &mut feed, 3);
+    Ok(())
+}
+
+#[test]
+fn the_mark_is_no_number(rt: HostRuntime) -> Result<(), Fail> {
+    gives(&rt, rt.alloc(), b"1 * 2", &[1], RunFault::NotANumber)?;
     Ok(())
 }
