@@ -118,8 +118,8 @@ fn other_words_of_one_meaning_do_not_matter(rt: HostRuntime) -> Result<(), Fail>
     Ok(())
 }
 
-/// `PREAMBLE|`, so many lines made of a line in which `#` is their number, and `END|`.
-fn numbered(alloc: Global, line: &str, count: usize) -> Result<String, AllocError> {
+/// `PREAMBLE|`, and so many lines made of a line in which `#` is their number.
+fn numbered_items(alloc: Global, line: &str, count: usize) -> Result<String, AllocError> {
     let mut text = String::new(alloc);
     text.push_str("PREAMBLE|")?;
     for number in 0..count {
@@ -129,6 +129,12 @@ fn numbered(alloc: Global, line: &str, count: usize) -> Result<String, AllocErro
         text.push_str(written.as_str())?;
         text.push('|')?;
     }
+    Ok(text)
+}
+
+/// The same, and `END|`.
+fn numbered(alloc: Global, line: &str, count: usize) -> Result<String, AllocError> {
+    let mut text = numbered_items(alloc, line, count)?;
     text.push_str("END|")?;
     Ok(text)
 }
@@ -198,8 +204,7 @@ fn variables_pass_at_their_name(rt: HostRuntime) -> Result<(), Fail> {
 
 #[test]
 fn a_limit_passed_at_the_last_word_is_told_as_the_missing_end(rt: HostRuntime) -> Result<(), Fail> {
-    let mut text = numbered(rt.alloc(), "EVERY C# OWNS S", 64)?;
-    text.truncate(text.len().saturating_sub(4));
+    let mut text = numbered_items(rt.alloc(), "EVERY C# OWNS S", 64)?;
     text.push_str("EVERY|MORE")?;
     assert_eq!(rt; told(rt.alloc(), text.as_str())?.as_str(), "P2 67");
     Ok(())
