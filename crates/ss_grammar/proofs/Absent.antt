@@ -4,7 +4,7 @@ use Rattle.ss_words.specs.declared.mark.Mark.{Mark}
 use Rattle.ss_words.specs.Plain.{Plain}
 use Rattle.ss_words.specs.Reading.{Reading, pure}
 use Rattle.ss_words.specs.Marks.{eat}
-use Rattle.ss_words.proofs.Again.{then}
+use Rattle.ss_words.proofs.ReadBack.{then}
 use Rattle.ss_grammar.specs.Combined.{if_mark, if_word, either_of, made_of}
 
 pub no_mark : {A : Type 0} (k : Mark) (p : Reading A) (b : Bool) (ws r : List Plain) → eat k ws ≡ (Ok b, r) → b ≡ false → if_mark k p ws ≡ (Ok None, r)
