@@ -6,8 +6,6 @@ mod feed;
 mod laws;
 mod number;
 mod pieces;
-#[cfg(test)]
-mod tests;
 
 pub use entry::Kind;
 pub use feed::Feed;

@@ -6,8 +6,6 @@ mod append;
 mod picture;
 mod piece;
 mod report;
-#[cfg(test)]
-mod tests;
 
 pub use picture::{Picture, PictureFault};
 pub use report::Report;

@@ -13,6 +13,3 @@ pub use expr::{Added, Expr, Factor, Term, TermSign};
 pub use place::{Assign, Control, Output, Place, Reference, Spot};
 pub use program::sections;
 pub use section::{Section, SectionKind, Sections};
-
-#[cfg(test)]
-mod tests;

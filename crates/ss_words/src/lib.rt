@@ -17,8 +17,6 @@ mod reserved;
 mod scan;
 mod several;
 mod spelling;
-#[cfg(test)]
-mod tests;
 mod text_laws;
 mod word;
 

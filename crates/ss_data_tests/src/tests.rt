@@ -1,4 +1,4 @@
-use crate::{Feed, Kind};
+use ss_data::{Feed, Kind};
 use ss_words::RunFault;
 use std::alloc::{AllocError, Global};
 use std::process::Abort;

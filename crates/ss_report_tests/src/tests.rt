@@ -1,4 +1,4 @@
-use crate::{Picture, PictureFault, Report};
+use ss_report::{Picture, PictureFault, Report};
 use ss_words::{RunFault, StepFault};
 use std::alloc::Global;
 use std::process::Abort;

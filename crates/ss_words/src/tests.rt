@@ -1,2 +1,0 @@
-mod plain;
-mod words;

@@ -1,0 +1,67 @@
+use crate::answer::or_refusal;
+use ss_check::{CheckFault, Program, check};
+use ss_routines::{Sections, sections};
+use ss_words::{TextFault, words};
+use std::alloc::{AllocError, Global};
+
+fn sections_of(alloc: Global, text: &[u8]) -> Result<Sections, TextFault> {
+    sections(alloc, &words(alloc, text)?, 0)
+}
+
+/// The program of a text, or the rule and the line of its refusal.
+pub fn program(alloc: Global, text: &[u8]) -> Result<Result<Program, Vec<u8>>, AllocError> {
+    let sections = match sections_of(alloc, text) {
+        Ok(sections) => sections,
+        Err(fault) => return Ok(Err(or_refusal(alloc, Err(fault))?)),
+    };
+    match check(alloc, sections) {
+        Ok(program) => Ok(Ok(program)),
+        Err(CheckFault::Broken { rule, line }) => {
+            let code = rule.code();
+            Ok(Err(format!(in alloc; "{code} {line}")?.into_bytes()))
+        }
+        Err(CheckFault::Memory) => Err(AllocError),
+    }
+}
+
+/// That a program is checked, or its refusal.
+pub fn outcome(alloc: Global, text: &[u8]) -> Result<Vec<u8>, AllocError> {
+    match program(alloc, text)? {
+        Ok(_) => Vec::from_slice(alloc, b"checked"),
+        Err(refusal) => Ok(refusal),
+    }
+}
+
+/// The number of the local variable of MAIN, and what the whole program knows, by the name that is
+/// the first line; the program stands behind it.
+pub fn local(alloc: Global, text: &[u8]) -> Result<Vec<u8>, AllocError> {
+    let end = text.iter().position(|byte| *byte == b'\n').unwrap_or(0);
+    let (name, rest) = text.split_at(end);
+    match program(alloc, rest)? {
+        Ok(program) => {
+            let local = program.local(program.main(), name);
+            let global = program.find(name);
+            Ok(format!(in alloc; "{local:?} {global:?}")?.into_bytes())
+        }
+        Err(refusal) => Ok(refusal),
+    }
+}
+
+/// The number and the line of MAIN, how many local variables it has, and the line of each place.
+pub fn places(alloc: Global, text: &[u8]) -> Result<Vec<u8>, AllocError> {
+    match program(alloc, text)? {
+        Ok(program) => {
+            let main = program.main();
+            let section = program.section(main);
+            let line = section.line;
+            let count = section.locals.len();
+            let mut out = format!(in alloc; "{main} {line} {count}:")?;
+            for spot in &section.places {
+                let line = spot.line;
+                out.push_str(format!(in alloc; " {line}")?.as_str())?;
+            }
+            Ok(out.into_bytes())
+        }
+        Err(refusal) => Ok(refusal),
+    }
+}

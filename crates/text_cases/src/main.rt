@@ -1,0 +1,78 @@
+//! Reads the cases of its standard input, one a line, `WAY TEXT -> ANSWER`: the text, read in that
+//! way, is to give that answer. It prints each case that has another, with what it gave, and last
+//! how many cases there were. A line that begins with no capital is a remark.
+//!
+//! - `WORDS`: each word behind its line and a colon.
+//! - `COUNT`: how many words there are.
+//! - `PLAIN`: the plain words; `PLACED`: each behind its line and its place in the list of words.
+//! - `LINES`: the line of each item of the preamble, that of END, and the first word behind it.
+//! - `ITEMS`: the items of the preamble, and the first word behind it.
+//! - `CHECK`: that the program is checked, or the rule that it breaks and its line.
+//! - `LOCAL`: the number of MAIN's local variable of the name that is the first line, and what the
+//!   whole program knows by it; the program stands behind that line.
+//! - `PLACES`: the number and the line of MAIN, how many local variables it has, and the line of
+//!   each of its places.
+//! - `SECTIONS`: each section's line, and its places, each behind its line.
+//! - `LAST`: how many sections there are, and the last one's line and last place.
+//! - `PROGRAM`: how many items the preamble has, and how many sections stand behind it.
+//! - `BEGINNINGS`, `BEGINNINGS.OF.SECTIONS`: what `LINES` and `SECTIONS` give for each beginning of
+//!   the text that ends with a line.
+//!
+//! A text that is refused gives its rule and line. How a text is noted says `notation`.
+#![tactic(auto)]
+
+mod answer;
+mod checked;
+mod items;
+mod notation;
+mod places;
+mod plain;
+mod raw;
+
+use answer::answer;
+use std::alloc::{AllocError, Global};
+use std::io;
+use std::io::Write;
+
+/// A case: the way, the text, and the answer that it is to give.
+#[derive(Drop)]
+struct Case<'a> {
+    way: &'a str,
+    text: &'a str,
+    wanted: &'a str,
+}
+
+/// The case of a line; `None` for a remark.
+fn case_of(line: &str) -> Option<Case<'_>> {
+    if !line.as_bytes().first().is_some_and(u8::is_ascii_uppercase) {
+        return None;
+    }
+    let (way, rest) = line.split_once(' ')?;
+    let (text, wanted) = rest.split_once(" -> ")?;
+    Some(Case { way, text, wanted })
+}
+
+/// What a case gives, where it is not the answer that it is to give.
+fn wrong(alloc: Global, case: &Case<'_>) -> Result<Option<Vec<u8>>, AllocError> {
+    let given = answer(alloc, case.way, case.text)?;
+    if given.as_slice() == case.wanted.as_bytes() {
+        return Ok(None);
+    }
+    Ok(Some(given))
+}
+
+fn main(rt: HostRuntime) -> io::Result<()> {
+    let mut count = 0;
+    for line in rt.lines(rt.alloc()) {
+        let line = line?;
+        if let Some(case) = case_of(line.as_str()) {
+            count = usize::wrapping_add(count, 1);
+            if let Some(given) = wrong(rt.alloc(), &case)? {
+                println!(rt; "{line}")?;
+                io::writer(&rt).write_all(&given)?;
+                println!(rt; "")?;
+            }
+        }
+    }
+    println!(rt; "{count} cases")
+}
