@@ -1,6 +1,7 @@
 -- The order by which notices are compared as lists of numbers is the order of their times, classes, keys and filing
 -- numbers.
-use Rattle.std.proofs.Common.{◌≡◌, ℕ, ℤ, pos, ◌<◌, ◌++◌, Bool, true, false, cond, eqb, int_lt, List, [], ◌∷◌, length, Option, Some, None, refl, sym, ap, ◌∙◌, arith, suc, zero}
+use Rattle.std.proofs.Common.{◌≡◌, ℕ, ℤ, pos, ◌<◌, ◌++◌, Bool, true, false, cond, eqb, int_lt, List, [], ◌∷◌, length}
+use Rattle.std.proofs.Common.{Option, Some, None, refl, sym, ap, ◌∙◌, arith, suc, zero}
 use Rattle.std.proofs.lemmas.Bool.Decides.{nat_tests}
 use Rattle.std.proofs.lemmas.Int.{ints}
 use Rattle.std.specs.Ordering.{is_lt, ordering_then, nat_cmp, int_cmp}
@@ -15,7 +16,8 @@ use Rattle.ss_events.specs.State.{AreRanked}
 use Rattle.ss_events.specs.Agenda.{Pending, Agenda, by_time, least_of, least, without_notice, first_notices, in_order}
 use Rattle.ss_events.specs.Weights.{weight, compared, less, before}
 use Rattle.ss_events.specs.State.{Each, AreFiled}
-use Rattle.ss_events.proofs.OrderLaws.{IsOrder, AreNoted, sorted, first_of_two, least_by, taken_in_turn, in_turn-sorted, Each-least, Each-without, AreFiled-without}
+use Rattle.ss_events.proofs.OrderLaws.{IsOrder, AreNoted, sorted, first_of_two, least_by, taken_in_turn}
+use Rattle.ss_events.proofs.OrderLaws.{in_turn-sorted, Each-least, Each-without, AreFiled-without}
 use Rattle.ss_events.proofs.WeightLaws.{IsOrder-before}
 
 -- a notice of a class, with a key for each of the class's

@@ -1,5 +1,6 @@
 -- Laws of the board of a state.
-use Rattle.std.proofs.Common.{◌≡◌, ℕ, ◌+◌, ◌<◌, ◌++◌, Bool, true, false, cond, eqb, ltb, List, [], ◌∷◌, length, Option, Some, None, refl, sym, ap, ◌∙◌, arith, suc, length-append}
+use Rattle.std.proofs.Common.{◌≡◌, ℕ, ◌+◌, ◌<◌, ◌++◌, Bool, true, false, cond, eqb, ltb, List, [], ◌∷◌, length}
+use Rattle.std.proofs.Common.{Option, Some, None, refl, sym, ap, ◌∙◌, arith, suc, length-append}
 use Rattle.std.proofs.lemmas.Bool.Decides.{nat_tests}
 use Rattle.std.proofs.lemmas.List.FromFn.{length-map-range_with_len}
 use Rattle.ss_links.specs.Board.{Board, list_at, head_of, IsSound, CanRelink, with_seat, relinked, unlinked}
@@ -11,7 +12,10 @@ use Rattle.ss_events.specs.Agenda.{Pending, without_notice, of_class}
 use Rattle.ss_events.specs.Weights.{before}
 use Rattle.ss_events.specs.Agenda.{pending_at, with_notice}
 use Rattle.ss_events.specs.State.{AgendaState, seat_in, seats_of, order, board_of, Each, NoneNoted, NoneFiled, AreFiled}
-use Rattle.ss_events.proofs.OrderLaws.{AreNoted, AreNoted-without, AreFiled-without, placed, sorted, Each-sorted, Each-of_class, Each-without, Each-with, sorted-with, without-sorted, of_class-placed, of_class-placed_other, of_class-without, IsSorted, IsSorted-sorted}
+use Rattle.ss_events.proofs.OrderLaws.{AreNoted, AreNoted-without, AreFiled-without, placed, sorted, Each-sorted}
+use Rattle.ss_events.proofs.OrderLaws.{Each-of_class, Each-without, Each-with, sorted-with, without-sorted}
+use Rattle.ss_events.proofs.OrderLaws.{of_class-placed, of_class-placed_other, of_class-without, IsSorted}
+use Rattle.ss_events.proofs.OrderLaws.{IsSorted-sorted}
 use Rattle.ss_events.proofs.WeightLaws.{IsOrder-before}
 use Rattle.ss_events.specs.State.{AreRanked}
 use Rattle.ss_events.specs.Agenda.{least}
@@ -20,7 +24,9 @@ use Rattle.ss_events.proofs.OrderLaws.{first-sorted}
 use Rattle.ss_events.proofs.Agreement.{IsKeyed, in_order-sorted, least-first}
 use Rattle.ss_events.specs.Places.{passed, rank_place}
 use Rattle.ss_events.specs.Changes.{with_pending, with_notices}
-use Rattle.ss_events.proofs.StateLaws.{seat_in-below, AreSeated, AreNoted-sorted, AreNoted-of_class, seats_of-placed, seats_of-without, seats_of-more, has-seats_of_none, has-seats_of_some, has-passed, list_at-by, lists_by-set, lists_by-map, lists_by-same}
+use Rattle.ss_events.proofs.StateLaws.{seat_in-below, AreSeated, AreNoted-sorted, AreNoted-of_class, seats_of-placed}
+use Rattle.ss_events.proofs.StateLaws.{seats_of-without, seats_of-more, has-seats_of_none, has-seats_of_some}
+use Rattle.ss_events.proofs.StateLaws.{has-passed, list_at-by, lists_by-set, lists_by-map, lists_by-same}
 
 abbrev pub board_with : List (List ℕ) → ℕ → Board
 board_with ls k = record { lists = ls; seats = k }

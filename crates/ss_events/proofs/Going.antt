@@ -1,5 +1,6 @@
 -- What the agenda's changes say: that they fit, and lead back.
-use Rattle.std.proofs.Common.{◌≡◌, ℕ, ℤ, ◌+◌, ◌-◌, ◌<◌, ◌≤◌, ◌++◌, Bool, true, false, cond, not, eqb, ltb, List, [], ◌∷◌, length, take, Option, Some, None, Ok, refl, sym, ap, ◌∙◌, arith}
+use Rattle.std.proofs.Common.{◌≡◌, ℕ, ℤ, ◌+◌, ◌-◌, ◌<◌, ◌≤◌, ◌++◌, Bool, true, false, cond, not, eqb, ltb, List, []}
+use Rattle.std.proofs.Common.{◌∷◌, length, take, Option, Some, None, Ok, refl, sym, ap, ◌∙◌, arith}
 use Rattle.std.proofs.lemmas.Bool.Decides.{nat_tests}
 use Rattle.std.specs.Option.{is_some, option_map}
 use Rattle.std.specs.Prelude.{int_lt}
@@ -17,7 +18,8 @@ use Rattle.ss_events.specs.Slots.{slot_of}
 use Rattle.ss_events.specs.Agenda.{pending_at, with_notice}
 use Rattle.ss_events.specs.State.{AgendaState, Each, NoneNoted, NoneFiled, AreFiled, IsPending}
 use Rattle.ss_events.specs.Rows.{notice_of, IsAgenda}
-use Rattle.ss_events.specs.Changes.{with_pending, with_notices, with_filing, seated, CanPend, IsLastSeat, IsNewest, Went, after_scheduling, IsScheduled}
+use Rattle.ss_events.specs.Changes.{with_pending, with_notices, with_filing, seated, CanPend, IsLastSeat, IsNewest}
+use Rattle.ss_events.specs.Changes.{Went, after_scheduling, IsScheduled}
 use Rattle.ss_events.proofs.OrderLaws.{Each-map, Each-without}
 use Rattle.ss_events.proofs.RowLaws.{Ascend, Ascend-from, pending_at-each, without-with, with-without}
 use Rattle.ss_events.proofs.Seating.{take-last}

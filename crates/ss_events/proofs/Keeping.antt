@@ -1,5 +1,6 @@
 -- How the agenda's invariant is kept.
-use Rattle.std.proofs.Common.{◌≡◌, ℕ, ◌+◌, ◌-◌, ◌<◌, true, false, cond, eqb, List, [], ◌∷◌, length, get_or, Option, Some, None, refl, sym, ap, ◌∙◌, arith, suc, zero}
+use Rattle.std.proofs.Common.{◌≡◌, ℕ, ◌+◌, ◌-◌, ◌<◌, true, false, cond, eqb, List, [], ◌∷◌, length, get_or, Option}
+use Rattle.std.proofs.Common.{Some, None, refl, sym, ap, ◌∙◌, arith, suc, zero}
 use Rattle.std.proofs.Math.ListN.{set, length-set}
 use Rattle.std.proofs.lemmas.List.{get_or-set_same, get_or-set_other}
 use Rattle.std.proofs.lemmas.Bool.Decides.{nat_tests}
@@ -19,7 +20,8 @@ use Rattle.ss_events.specs.Changes.{with_pending, CanPend}
 use Rattle.ss_events.proofs.OrderLaws.{Each-with, Each-without}
 use Rattle.ss_events.proofs.RowLaws.{pending_row, pending_at-none, pending_at-each, from-with, from-without}
 use Rattle.ss_events.proofs.StateLaws.{seat_in-below}
-use Rattle.ss_events.proofs.BoardOf.{IsTold-with, IsTold-without, IsNew, relinked-with, unlinked-without, linked-seat, CanRelink-rank}
+use Rattle.ss_events.proofs.BoardOf.{IsTold-with, IsTold-without, IsNew, relinked-with, unlinked-without, linked-seat}
+use Rattle.ss_events.proofs.BoardOf.{CanRelink-rank}
 use Rattle.ss_events.proofs.Standing.{told, sound_board}
 
 -- what may become pending is new

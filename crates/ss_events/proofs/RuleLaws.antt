@@ -1,5 +1,6 @@
 -- Laws of the rules of a program's classes.
-use Rattle.std.proofs.Common.{◌≡◌, ℕ, ◌+◌, ◌<◌, ◌++◌, Bool, true, false, not, cond, eqb, ltb, List, [], ◌∷◌, length, get_or, map, unwrap_or, refl, sym, ap, ◌∙◌, arith, suc, subst}
+use Rattle.std.proofs.Common.{◌≡◌, ℕ, ◌+◌, ◌<◌, ◌++◌, Bool, true, false, not, cond, eqb, ltb, List, [], ◌∷◌, length}
+use Rattle.std.proofs.Common.{get_or, map, unwrap_or, refl, sym, ap, ◌∙◌, arith, suc, subst}
 use Rattle.std.specs.List.{position_or_len, range_with_len}
 use Rattle.std.specs.Prelude.{position}
 use Rattle.std.proofs.lemmas.Bool.Decides.{nat_tests}

@@ -1,5 +1,7 @@
 -- How the agenda's invariant is kept as rows and seats are made and taken off.
-use Rattle.std.proofs.Common.{◌≡◌, ℕ, ◌+◌, ◌-◌, ◌≤◌, ◌<◌, ◌++◌, ◌||◌, Bool, true, false, cond, eqb, ltb, List, [], ◌∷◌, length, replicate, take, get_or, Option, Some, None, refl, sym, ap, ◌∙◌, arith, suc, zero, length-append, append_assoc, Result, Ok, Err}
+use Rattle.std.proofs.Common.{◌≡◌, ℕ, ◌+◌, ◌-◌, ◌≤◌, ◌<◌, ◌++◌, ◌||◌, Bool, true, false, cond, eqb, ltb, List, []}
+use Rattle.std.proofs.Common.{◌∷◌, length, replicate, take, get_or, Option, Some, None, refl, sym, ap, ◌∙◌, arith}
+use Rattle.std.proofs.Common.{suc, zero, length-append, append_assoc, Result, Ok, Err}
 use Rattle.std.proofs.Math.ListN.{set, length-set}
 use Rattle.std.proofs.lemmas.List.{get_or-set_same, get_or-set_other, replicate_more}
 use Rattle.std.proofs.lemmas.Bool.Decides.{nat_tests}

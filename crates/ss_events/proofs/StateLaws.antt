@@ -1,5 +1,6 @@
 -- Laws of the seats of notices, and of the board of a state.
-use Rattle.std.proofs.Common.{◌≡◌, ℕ, ◌<◌, ◌++◌, ◌||◌, Bool, true, false, cond, eqb, List, [], ◌∷◌, length, map, get_or, Option, Some, None, unwrap_or, refl, sym, ap, ◌∙◌, arith, suc}
+use Rattle.std.proofs.Common.{◌≡◌, ℕ, ◌<◌, ◌++◌, ◌||◌, Bool, true, false, cond, eqb, List, [], ◌∷◌, length, map}
+use Rattle.std.proofs.Common.{get_or, Option, Some, None, unwrap_or, refl, sym, ap, ◌∙◌, arith, suc}
 use Rattle.std.proofs.Math.ListN.{set, length-set}
 use Rattle.std.proofs.lemmas.List.{length-map, get_or-set_same, get_or-set_other}
 use Rattle.ss_links.proofs.SeatLaws.{has-last_of}

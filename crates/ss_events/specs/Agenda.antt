@@ -1,5 +1,6 @@
 -- The pending notices, and which of them is the next.
-use Rattle.std.specs.Prelude.{ℕ, zero, suc, ◌+◌, ◌^◌, ◌==◌, nat_lt, Bool, if◌then◌else◌, ℤ, int_lt, List, [], ◌∷◌, length, fold, Option, Some, None, is_some, Result, Ok, Err}
+use Rattle.std.specs.Prelude.{ℕ, zero, suc, ◌+◌, ◌^◌, ◌==◌, nat_lt, Bool, if◌then◌else◌, ℤ, int_lt, List, [], ◌∷◌}
+use Rattle.std.specs.Prelude.{length, fold, Option, Some, None, is_some, Result, Ok, Err}
 use Rattle.std.specs.Ordering.{is_lt, ordering_then, nat_cmp, int_cmp}
 use Rattle.std.specs.declared.cmp.Ordering.{Ordering}
 use Rattle.ss_words.specs.declared.fault.RunFault.{RunFault}
@@ -10,15 +11,22 @@ use Rattle.ss_check.specs.Keys.{by_keys}
 -- a pending notice: its reference, its time, its class, the BREAK keys as they were when it was scheduled, and its
 -- filing number
 pub record Pending : Type 0 where
+  -- its reference
   pub notice : ℕ
+  -- when it is due
   pub time : ℤ
+  -- its class
   pub class : ℕ
+  -- the values of the class's BREAK keys
   pub keys : List ℤ
+  -- its filing number
   pub filing : ℕ
 
 -- the pending notices in order of their references, and the next filing number
 pub record Agenda : Type 0 where
+  -- in order of their references
   pub pending : List Pending
+  -- what the next scheduling gets
   pub next_filing : ℕ
 
 -- nothing pending

@@ -1,5 +1,6 @@
 -- The agenda's changes.
-use Rattle.std.specs.Prelude.{◌≡◌, ℕ, ℤ, ◌+◌, ◌-◌, ◌<◌, ◌++◌, true, if◌then◌else◌, List, [], ◌∷◌, length, take, Option, Some, None, Result, Ok, Err}
+use Rattle.std.specs.Prelude.{◌≡◌, ℕ, ℤ, ◌+◌, ◌-◌, ◌<◌, ◌++◌, true, if◌then◌else◌, List, [], ◌∷◌, length, take}
+use Rattle.std.specs.Prelude.{Option, Some, None, Result, Ok, Err}
 use Rattle.ss_links.specs.Seats.{has}
 use Rattle.ss_words.specs.declared.fault.RunFault.{RunFault}
 use Rattle.ss_words.specs.declared.fault.RunFault.TheVariants.{NotScheduled}
@@ -29,13 +30,18 @@ seated ns n = if has ns n then ns else ns ++ n ∷ []
 
 -- a notice may become pending: neither it nor its filing number is in use, and the rest is kept for it
 pub record CanPend (s : AgendaState) (e : Pending) : Type 0 where
+  -- no pending notice has its reference
   pub notice : NoneNoted e.notice s.agenda.pending
+  -- no pending notice has its filing number
   pub filing : NoneFiled e.filing s.agenda.pending
+  -- what is kept of it is of its class, and its seat is made
   pub kept : IsPending s.rules s.notices s.agenda.next_filing e
 
 -- a notice has the last seat
 pub record IsLastSeat (s : AgendaState) (n : ℕ) : Type 0 where
+  -- the notices of the other seats
   pub others : List ℕ
+  -- its seat is behind theirs
   pub last : s.notices ≡ others ++ n ∷ []
 
 -- the agenda before a scheduling: without the notice, and its filing number is the next again
@@ -56,10 +62,15 @@ unapply (TakenOff n x) s = record s { agenda = put_back s.agenda (notice_of n x)
 
 -- a notice is pending, and all others were filed before it
 pub record IsNewest (s : AgendaState) (n : ℕ) : Type 0 where
+  -- what is kept of it
   pub newest : Pending
+  -- it is pending
   pub pending : pending_at s.agenda.pending n ≡ Some newest
+  -- its filing number is 1 or more
   pub first : 0 < newest.filing
+  -- its filing number was the last
   pub filing : newest.filing + 1 ≡ s.agenda.next_filing
+  -- each other was filed before it
   pub others : Each (λ e. e.filing < newest.filing) (without_notice n s.agenda.pending)
 
 -- a change fits a state: it can have been the last
@@ -69,8 +80,11 @@ Fits (TakenOff n x) s = (0 < n) × CanPend s (notice_of n x)
 
 -- the agenda went from one state to another by a change
 pub record Went (c : AgendaChange) (s old new : AgendaState) : Type 0 where
+  -- the state behind the change
   pub state : new ≡ s
+  -- the change fits it
   pub fits : Fits c new
+  -- undoing the change gives the state before it
   pub back : unapply c new ≡ old
 
 -- the state with a notice taken off

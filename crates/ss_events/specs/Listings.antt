@@ -15,6 +15,8 @@ left_of s l = drop l.listed (order s)
 
 -- a listing of the agenda: it keeps for each class the seat of the first notice that it has not listed yet
 pub record IsListing (s : AgendaState) (l : Listing) : Type 0 where
+  -- there is a place for each class that may be
   pub all : length l.seats ≡ 64
+  -- the place of a class is the seat that is listed next of it
   pub seats : (c : ℕ) → c < length s.rules →
       seat_of_class l c ≡ first_of (seats_of s.notices (of_class c (left_of s l)))

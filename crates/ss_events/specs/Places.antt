@@ -25,7 +25,9 @@ notice_on s seat = slice_index s.notices seat
 
 -- a seat whose notice is pending
 pub record IsTaken (s : AgendaState) (seat : ℕ) : Type 0 where
+  -- there is such a seat
   pub made : seat < length s.notices
+  -- its notice is pending
   pub pending : IsSome (pending_at s.agenda.pending (notice_on s seat))
 
 -- the first of perhaps one notice and perhaps another

@@ -1,5 +1,6 @@
 -- The agenda's state, read off the rows that it keeps, one for each number of a notice.
-use Rattle.std.specs.Prelude.{◌≡◌, ℕ, ◌+◌, ◌<◌, ◌≤◌, true, List, [], ◌∷◌, ◌++◌, replicate, length, map, slice_index_or, Option, Some, None}
+use Rattle.std.specs.Prelude.{◌≡◌, ℕ, ◌+◌, ◌<◌, ◌≤◌, true, List, [], ◌∷◌, ◌++◌, replicate, length, map}
+use Rattle.std.specs.Prelude.{slice_index_or, Option, Some, None}
 use Rattle.ss_links.specs.Board.{Board, IsSound}
 use Rattle.ss_links.specs.Seats.{has, times_in}
 use Rattle.ss_events.specs.declared.entry.ClassRule.{ClassRule}
@@ -46,18 +47,31 @@ state_of rules rows next notices = record {
 
 -- what is kept, the rows, the state and the board, agrees
 pub record IsAgenda (rows : List Row) (s : AgendaState) (b : Board) : Type 0 where
+  -- the rows are the pending notices
   pub read : s.agenda.pending ≡ notices_from 1 rows
+  -- the board is that of the state
   pub board : b ≡ board_of s
+  -- no seat stands twice on the board
   pub sound : IsSound b
+  -- each row has its notice's seat
   pub seats : (i : ℕ) → i < length rows → (row_at rows i).seat ≡ seat_at s.notices (i + 1)
+  -- a seat is a row's notice's
   pub seated : (n : ℕ) → has s.notices n ≡ true → (0 < n) × (n ≤ length rows)
+  -- no notice has two seats
   pub once : (n : ℕ) → times_in s.notices n ≤ 1
+  -- there are at most as many rows as references
   pub few : length rows ≤ 1000000
+  -- what is kept of each pending notice fits its class
   pub pending : Each (IsPending s.rules s.notices s.agenda.next_filing) s.agenda.pending
+  -- no two have one filing number
   pub filed : AreFiled s.agenda.pending
+  -- filing numbers begin with 1
   pub next : 0 < s.agenda.next_filing
+  -- and end with the limit
   pub filing : s.agenda.next_filing ≤ filing_limit + 1
+  -- no two classes have one place in the order of priority
   pub ranked : AreRanked s.rules
+  -- there are at most 64 classes
   pub classes : length s.rules ≤ 64
 
 -- an entry's class is one, and it has a key for each of the class's
@@ -66,6 +80,9 @@ IsEntry rules x = (x.class < length rules) × (length x.keys.items ≡ length (r
 
 -- rows became more, the new ones empty, but not more than a count
 pub record IsGrown (old new : List Row) (count : ℕ) : Type 0 where
+  -- how many rows are new
   pub more : ℕ
+  -- they are empty, behind the old ones
   pub whole : new ≡ old ++ replicate more empty_row
+  -- there are no more rows than were wanted or there
   pub few : (n : ℕ) → count ≤ n → length old ≤ n → length new ≤ n

@@ -6,7 +6,9 @@ use Rattle.ss_check.specs.Program.{ProgramTable, priority_of, event_of}
 
 -- a class's place in the order of priority, and the keys of its BREAK ties
 pub record Rule : Type 0 where
+  -- its place in the order of priority
   pub priority : ℕ
+  -- the keys of its BREAK ties
   pub ties : List Key
 
 -- the rule of class c of a program

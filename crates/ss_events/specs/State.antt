@@ -1,5 +1,6 @@
 -- The agenda's state, with the board on which its notices have their seats.
-use Rattle.std.specs.Prelude.{◌≡◌, ℕ, suc, ◌<◌, true, false, ◌==◌, if◌then◌else◌, List, [], ◌∷◌, length, map, Option, Some, None}
+use Rattle.std.specs.Prelude.{◌≡◌, ℕ, suc, ◌<◌, true, false, ◌==◌, if◌then◌else◌, List, [], ◌∷◌, length, map, Option}
+use Rattle.std.specs.Prelude.{Some, None}
 use Rattle.std.specs.List.{range_with_len}
 use Rattle.ss_links.specs.Board.{Board}
 use Rattle.ss_links.specs.Seats.{has}
@@ -8,8 +9,11 @@ use Rattle.ss_events.specs.Agenda.{Pending, Agenda, empty_agenda, in_order, of_c
 
 -- the classes' rules, the pending notices with the next filing number, and the notice of each seat
 pub record AgendaState : Type 0 where
+  -- the classes' rules
   pub rules : List Rule
+  -- the pending notices and the next filing number
   pub agenda : Agenda
+  -- the notice of each seat
   pub notices : List ℕ
 
 -- the state without notices
@@ -60,10 +64,15 @@ AreFiled (e ∷ es) = NoneFiled e.filing es × AreFiled es
 
 -- a notice's class is one, it has a key for each of the class's, a seat, and a filing number from 1 below the next
 pub record IsPending (rules : List Rule) (notices : List ℕ) (next_filing : ℕ) (e : Pending) : Type 0 where
+  -- its class is one
   pub class : e.class < length rules
+  -- it has a key for each of the class's
   pub keys : length e.keys ≡ length (rule_at rules e.class).ties
+  -- it has a seat
   pub seat : has notices e.notice ≡ true
+  -- filing numbers begin with 1
   pub first : 0 < e.filing
+  -- its filing number was given
   pub filing : e.filing < next_filing
 
 -- no two classes have one place in the order of priority

@@ -11,15 +11,25 @@ IsRising n (e ∷ es) = (n < e.notice) × IsRising e.notice es
 
 -- a notice of a class, with as many keys as its class has, and a filing number that was given
 pub record IsWellNotice (rules : List Rule) (next : ℕ) (e : Pending) : Type 0 where
+  -- its reference is within the limit of references
   pub reference : e.notice ≤ 1000000
+  -- its class is one
   pub class : e.class < length rules
+  -- it has a key for each of the class's
   pub keys : length e.keys ≡ length (rule_at rules e.class).ties
+  -- filing numbers begin with 1
   pub first : 0 < e.filing
+  -- its filing number was given
   pub filing : e.filing < next
 
 pub record IsWellAgenda (rules : List Rule) (a : Agenda) : Type 0 where
+  -- each pending notice is well-formed
   pub notices : Each (IsWellNotice rules a.next_filing) a.pending
+  -- they stand in order of their references
   pub references : IsRising 0 a.pending
+  -- no two have one filing number
   pub filings : AreFiled a.pending
+  -- filing numbers begin with 1
   pub next : 0 < a.next_filing
+  -- and end with the limit
   pub limit : a.next_filing ≤ filing_limit + 1

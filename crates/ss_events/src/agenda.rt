@@ -1,4 +1,5 @@
-ghost use Rattle.std.specs.Prelude.{◌≡◌, [], ◌+◌, ◌-◌, ◌<◌, ℕ, map, ◌≤◌, not, length, take, Some, IfOk, OnErr, slice_get, is_some, if◌then◌else◌, true};
+ghost use Rattle.std.specs.Prelude.{◌≡◌, [], ◌+◌, ◌-◌, ◌<◌, ℕ, map, ◌≤◌, not, length, take, Some, IfOk, OnErr};
+ghost use Rattle.std.specs.Prelude.{slice_get, is_some, if◌then◌else◌, true};
 ghost use Rattle.std.specs.Option.{option_map, IsSome};
 ghost use Rattle.ss_links.specs.Board.{empty_board, list_at};
 ghost use Rattle.ss_links.specs.Seats.{has};

@@ -8,5 +8,6 @@ pub mod Passing
 pub mod Whole
 pub mod Told
 pub mod Indexes
+pub mod Behind
 pub mod Unique
 pub mod Programs

@@ -67,3 +67,6 @@ stops_at words rest behind word a t t' r k split counted is_role now b tested b_
 
 pub ends_at : (words rest : List PlainWord) (a : Standing) (t : Counts) → rest ≡ [] → CountedBefore (plains_of words) a t (plains_of rest) → AreWithin (roles (plains_of words))
 ends_at words rest a t none counted = ends (plains_of words) a t (subst (λ (us : List PlainWord). CountedBefore (plains_of words) a t (plains_of us)) none counted)
+
+-- what the search for a word that passes a limit rests on
+pub ruleset past_limits = (begins, turns_at, stops_at, ends_at, few_variables)

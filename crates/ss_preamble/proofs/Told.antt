@@ -20,7 +20,7 @@ use Rattle.ss_preamble.specs.Tree.{Preamble, Decls}
 use Rattle.ss_preamble.specs.Spelling.{word, spell, spell_items}
 use Rattle.ss_preamble.specs.Roles.{Role, Nothing, Standing, at_start, behind_word, role, roles_from, roles}
 use Rattle.ss_preamble.specs.Limits.{AreWithin}
-use Rattle.ss_preamble.specs.Onto.{preamble_onto}
+use Rattle.ss_preamble.specs.ItemsAtLines.{preamble_at}
 use Rattle.ss_preamble.specs.Written.{written}
 use Rattle.ss_preamble.specs.Refused.{HasPreamble, InRoom, PassesLimit, CountUpTo, IsUnexpectedWord, IsUnexpectedEnd, IsPastLimit, IsRefused, AreDecls, no_decls, spell_text, word_behind, lines}
 use Rattle.ss_preamble.proofs.Counting.{within_more, within_less, no_le}
@@ -98,7 +98,7 @@ module _ (text : List PlainWord) where
 
     -- ---- a preamble that was read
 
-    module _ (d : Decls) (read : preamble_onto (word_lines text) ws ≡ (Ok d, rest)) where
+    module _ (d : Decls) (read : preamble_at (word_lines text) ws ≡ (Ok d, rest)) where
       items : (is : Preamble) × (ws ≡ spell is ++ rest) × (d ≡ written (word_lines text) is)
       items = found (word_lines text) ws same_length d rest read
 
@@ -129,7 +129,7 @@ module _ (text : List PlainWord) where
 
     -- ---- a preamble that was not read
 
-    module _ (stopped : preamble_onto (word_lines text) ws ≡ (Err Unexpected, rest)) where
+    module _ (stopped : preamble_at (word_lines text) ws ≡ (Err Unexpected, rest)) where
       far : IsFarthest spell_text ws reached
       far = subst (λ (k : ℕ). IsFarthest spell_text ws k) place (farthest ws rest (failed (word_lines text) ws same_length Unexpected rest stopped))
 
@@ -176,7 +176,7 @@ module _ (text : List PlainWord) where
               subst (InRoom ws) (let e = text_length in omega (arith, e, is_word, last)) here.before
 
 -- no word is refused as past a limit by the grammar
-pub never_limited : (text : List PlainWord) (rest : List Plain) → preamble_onto (word_lines text) (plains_of text) ≡ (Err g.PastLimit, rest) → ⊥
+pub never_limited : (text : List PlainWord) (rest : List Plain) → preamble_at (word_lines text) (plains_of text) ≡ (Err g.PastLimit, rest) → ⊥
 never_limited text rest e = unlimited (plains_of text) rest (failed (word_lines text) (plains_of text) (same_length text) g.PastLimit rest e)
 
 -- ---- for the functions of the code
@@ -189,22 +189,22 @@ no_preamble text d none e = inl ((λ h. no_both _ (subst HasPreamble (words_are 
     no_both false h g = absurd cc
 
 module _ (text : List PlainWord) (rest : List Plain) (n : ℕ) (at : n ≡ length text - length rest) where
-  pub told_past : (d : Decls) → preamble_onto (word_lines text) (plains_of text) ≡ (Ok d, rest) → HasPreamble (plains_of text) → (k : ℕ) → PassesLimit (plains_of (take n text)) k → IsRefused rule.PastLimit (line (word_lines text) k) (map plain_at text)
+  pub told_past : (d : Decls) → preamble_at (word_lines text) (plains_of text) ≡ (Ok d, rest) → HasPreamble (plains_of text) → (k : ℕ) → PassesLimit (plains_of (take n text)) k → IsRefused rule.PastLimit (line (word_lines text) k) (map plain_at text)
   told_past d read h k passes = read_past text rest d read h k (subst (λ (i : ℕ). PassesLimit (plains_of (take i text)) k) at passes)
 
-  pub told_items : (d : Decls) (j : ℕ) → preamble_onto (word_lines text) (plains_of text) ≡ (Ok d, rest) → AreWithin (roles (plains_of (take n text))) → j ≡ slice_index (map (λ w. w.index + 1) text) (n - 1) → AreDecls d j (map plain_at text)
+  pub told_items : (d : Decls) (j : ℕ) → preamble_at (word_lines text) (plains_of text) ≡ (Ok d, rest) → AreWithin (roles (plains_of (take n text))) → j ≡ slice_index (map (λ w. w.index + 1) text) (n - 1) → AreDecls d j (map plain_at text)
   told_items d j read within number = read_items text rest d read j (subst (λ (i : ℕ). AreWithin (roles (plains_of (take i text)))) at within) (subst (λ (i : ℕ). j ≡ slice_index (map (λ w. w.index + 1) text) (i - 1)) at number)
 
-  pub told_limit : preamble_onto (word_lines text) (plains_of text) ≡ (Err Unexpected, rest) → HasPreamble (plains_of text) → (k : ℕ) → PassesLimit (plains_of (take n text)) k → k + 1 < length text → IsRefused rule.PastLimit (line (word_lines text) k) (map plain_at text)
+  pub told_limit : preamble_at (word_lines text) (plains_of text) ≡ (Err Unexpected, rest) → HasPreamble (plains_of text) → (k : ℕ) → PassesLimit (plains_of (take n text)) k → k + 1 < length text → IsRefused rule.PastLimit (line (word_lines text) k) (map plain_at text)
   told_limit stopped h k passes lt = stopped_past text rest stopped h k (subst (λ (i : ℕ). PassesLimit (plains_of (take i text)) k) at passes) lt
 
-  pub told_word : preamble_onto (word_lines text) (plains_of text) ≡ (Err Unexpected, rest) → HasPreamble (plains_of text) → AreWithin (roles (plains_of (take n text))) → n < length text → IsRefused rule.UnexpectedWord (line (word_lines text) n) (map plain_at text)
+  pub told_word : preamble_at (word_lines text) (plains_of text) ≡ (Err Unexpected, rest) → HasPreamble (plains_of text) → AreWithin (roles (plains_of (take n text))) → n < length text → IsRefused rule.UnexpectedWord (line (word_lines text) n) (map plain_at text)
   told_word stopped h within lt = subst (λ (i : ℕ). IsRefused rule.UnexpectedWord (line (word_lines text) i) (map plain_at text)) (sym at) (stopped_word text rest stopped h None (subst (λ (i : ℕ). AreWithin (roles (plains_of (take i text)))) at within) (omega (arith, at, lt)))
 
-  pub told_end : preamble_onto (word_lines text) (plains_of text) ≡ (Err Unexpected, rest) → HasPreamble (plains_of text) → AreWithin (roles (plains_of (take n text))) → length text ≤ n → IsRefused rule.UnexpectedEnd (line (word_lines text) (length text - 1)) (map plain_at text)
+  pub told_end : preamble_at (word_lines text) (plains_of text) ≡ (Err Unexpected, rest) → HasPreamble (plains_of text) → AreWithin (roles (plains_of (take n text))) → length text ≤ n → IsRefused rule.UnexpectedEnd (line (word_lines text) (length text - 1)) (map plain_at text)
   told_end stopped h within le = stopped_end text rest stopped h None (subst (λ (i : ℕ). AreWithin (roles (plains_of (take i text)))) at within) (omega (arith, at, le))
 
-  pub told_last : preamble_onto (word_lines text) (plains_of text) ≡ (Err Unexpected, rest) → HasPreamble (plains_of text) → (k : ℕ) → PassesLimit (plains_of (take n text)) k → length text ≤ k + 1 → IsRefused rule.UnexpectedEnd (line (word_lines text) (length text - 1)) (map plain_at text)
+  pub told_last : preamble_at (word_lines text) (plains_of text) ≡ (Err Unexpected, rest) → HasPreamble (plains_of text) → (k : ℕ) → PassesLimit (plains_of (take n text)) k → length text ≤ k + 1 → IsRefused rule.UnexpectedEnd (line (word_lines text) (length text - 1)) (map plain_at text)
   told_last stopped h k passes le =
       let here : PassesLimit (plains_of (take (length text - length rest) text)) k = subst (λ (i : ℕ). PassesLimit (plains_of (take i text)) k) at passes in
       let is_word = here.is_word in
@@ -212,7 +212,7 @@ module _ (text : List PlainWord) (rest : List Plain) (n : ℕ) (at : n ≡ lengt
       stopped_end text rest stopped h (Some k) (here, le) (omega (arith, is_word, le, c))
 
 -- what stops the reading is a word, since no word is refused as past a limit by the grammar
-pub unexpected_of : (text : List PlainWord) (rest : List Plain) (e : Refusal) → (e ≡ g.Unexpected) ⊎ (e ≡ g.PastLimit) → Fails e rest (preamble_onto (word_lines text) (plains_of text)) → preamble_onto (word_lines text) (plains_of text) ≡ (Err Unexpected, rest)
+pub unexpected_of : (text : List PlainWord) (rest : List Plain) (e : Refusal) → (e ≡ g.Unexpected) ⊎ (e ≡ g.PastLimit) → Fails e rest (preamble_at (word_lines text) (plains_of text)) → preamble_at (word_lines text) (plains_of text) ≡ (Err Unexpected, rest)
 unexpected_of text rest g.Unexpected kind h = h
 unexpected_of text rest g.PastLimit kind h = absurd (never_limited text rest h)
 unexpected_of text rest g.Memory (inl e) h = absurd cc

@@ -22,7 +22,7 @@ use Rattle.ss_words.proofs.Goal as goal
 use Rattle.ss_preamble.specs.Tree.{Item, Preamble, ItemAt, Decls}
 use Rattle.ss_preamble.specs.Spelling.{spell, spell_item, spell_items}
 use Rattle.ss_preamble.specs.ItemReading.{next_item, items_with, preamble_with}
-use Rattle.ss_preamble.specs.Onto.{next_onto, items_onto, preamble_onto}
+use Rattle.ss_preamble.specs.ItemsAtLines.{next_item_at, items_at, preamble_at}
 use Rattle.ss_preamble.specs.Written.{written_items, written}
 use Rattle.ss_preamble.specs.Refused.{Text, spell_text, lines}
 use Rattle.ss_preamble.proofs.Sound.{next_item-good, items-good, preamble-good}
@@ -112,16 +112,16 @@ module _ (ls : List ℕ) where
       put (Ok None) rest = refl
       put (Err g) rest = refl
 
-  next_writes : (k : ℕ) (acc : List ItemAt) → Writes words (noted (at_line k) acc) k next_item (next_onto ls acc)
-  unfolding next_onto
+  next_writes : (k : ℕ) (acc : List ItemAt) → Writes words (noted (at_line k) acc) k next_item (next_item_at ls acc)
+  unfolding next_item_at
   next_writes k acc = here_writes words (noted (at_line k) acc) k ls next_item (λ l. bind next_item (noting_next acc l)) refl (noted_next k acc)
 
-  items_writes : (k : ℕ) (acc : List ItemAt) → Writes words (λ is. acc ++ written_items ls k is) k items_with (items_onto ls acc)
-  unfolding items_with items_onto
-  items_writes k acc = many_writes words (fits_option Any) spell_item next_item [] (λ i is. i ∷ is) (next_onto ls) at_line (written_items ls) next_item-good (λ k. refl) (λ k i is. refl) next_writes k acc
+  items_writes : (k : ℕ) (acc : List ItemAt) → Writes words (λ is. acc ++ written_items ls k is) k items_with (items_at ls acc)
+  unfolding items_with items_at
+  items_writes k acc = many_writes words (fits_option Any) spell_item next_item [] (λ i is. i ∷ is) (next_item_at ls) at_line (written_items ls) next_item-good (λ k. refl) (λ k i is. refl) next_writes k acc
 
-  preamble_writes : Writes words (written ls) 0 preamble_with (preamble_onto ls)
-  unfolding preamble_with preamble_onto
+  preamble_writes : Writes words (written ls) 0 preamble_with (preamble_at ls)
+  unfolding preamble_with preamble_at
   preamble_writes = same_writes words Any (spell_mark (m.Reserved r.Preamble)) (written ls) 0 _ _ (λ u.
       bind_writes words Any spell_items (λ is. [] ++ written_items ls 1 is) (written ls) 1 _ _ (λ is.
       let j = 1 + length (spell_items is) in
@@ -129,7 +129,7 @@ module _ (ls : List ℕ) where
       items_with _ items-good (items_writes 1 [])) (expect (m.Reserved r.Preamble)) (expect_good (m.Reserved r.Preamble))
 
 module _ (ls : List ℕ) (ws : List Plain) (len : length ws ≡ length ls) where
-  as_items : preamble_onto ls ws ≡ (on_ok (written ls) (preamble_with ws).0, (preamble_with ws).1)
+  as_items : preamble_at ls ws ≡ (on_ok (written ls) (preamble_with ws).0, (preamble_with ws).1)
   as_items = (preamble_writes ls).at ws (omega (arith, len))
 
   abbrev Same : Refusal → List Plain → Result Preamble Refusal → List Plain → Type 0
@@ -143,7 +143,7 @@ module _ (ls : List ℕ) (ws : List Plain) (len : length ws ≡ length ls) where
       let same_refusal : g ≡ f = cc in
       λ i. (Err (sym same_refusal i), sym same_end i)
 
-  pub failed : (g : Refusal) (rest : List Plain) → preamble_onto ls ws ≡ (Err g, rest) → preamble_with ws ≡ (Err g, rest)
+  pub failed : (g : Refusal) (rest : List Plain) → preamble_at ls ws ≡ (Err g, rest) → preamble_with ws ≡ (Err g, rest)
   failed g rest e = same g rest (preamble_with ws).0 (preamble_with ws).1 (sym e ∙ as_items)
 
   pick : (d : Decls) (rest : List Plain) (o : Result Preamble Refusal) (rest' : List Plain) → preamble_with ws ≡ (o, rest') → (let x : Read Decls = (Ok d, rest) in x) ≡ (on_ok (written ls) o, rest') → (is : Preamble) × (ws ≡ spell is ++ rest) × (d ≡ written ls is)
@@ -153,7 +153,7 @@ module _ (ls : List ℕ) (ws : List Plain) (len : length ws ≡ length ls) where
       (is, spelled ws rest' is e ∙ ap (λ (u : List Plain). spell is ++ u) (sym same_end), cc)
   pick d rest (Err b) rest' e h = let g : (let o : Result Decls Refusal = Ok d in o) ≡ Err b = ap (λ (x : Read Decls). x.0) h in absurd cc
 
-  pub found : (d : Decls) (rest : List Plain) → preamble_onto ls ws ≡ (Ok d, rest) → (is : Preamble) × (ws ≡ spell is ++ rest) × (d ≡ written ls is)
+  pub found : (d : Decls) (rest : List Plain) → preamble_at ls ws ≡ (Ok d, rest) → (is : Preamble) × (ws ≡ spell is ++ rest) × (d ≡ written ls is)
   found d rest e = pick d rest (preamble_with ws).0 (preamble_with ws).1 refl (sym e ∙ as_items)
 
 -- ---- plain words of the code

@@ -3,7 +3,9 @@ use Rattle.std.specs.Prelude.{◌≡◌, ◌<◌, ℕ, ◌+◌, List, [], ◌++�
 use Rattle.ss_words.specs.declared.fault.TextRule.TheVariants.{PastLimit}
 use Rattle.ss_words.specs.declared.fault.TextFault.{TextFault}
 use Rattle.ss_words.specs.declared.fault.TextFault.TheVariants.{Refused, Memory}
+use Rattle.ss_words.specs.Words.{WordAt}
 use Rattle.ss_words.specs.Plain.{Plain, PlainAt, plains}
+use Rattle.ss_words.specs.PlainRules.{plain_words_of}
 use Rattle.ss_words.specs.Noting.{line}
 use Rattle.ss_words.specs.Farthest.{IsFarthest}
 use Rattle.ss_preamble.specs.Tree.{Preamble, Decls}
@@ -11,6 +13,7 @@ use Rattle.ss_preamble.specs.Spelling.{spell}
 use Rattle.ss_preamble.specs.Limits.{IsWithin}
 use Rattle.ss_preamble.specs.Written.{written}
 use Rattle.ss_preamble.specs.Refused.{HasPreamble, PassesLimit, CountUpTo, Answers, spell_text, lines, word_behind}
+use Rattle.ss_preamble.specs.Refused.{IsPreamble, words_from}
 
 -- no two preambles have one spelling
 abbrev pub SpellingIsUnique : Type 0
@@ -49,11 +52,19 @@ LimitsRefuse =
     → CountUpTo (plains ws) n → PassesLimit (take n (plains ws)) k → k + 1 < length ws → IsDefinite a → Answers a ws
     → a ≡ Err (Refused PastLimit (line (lines ws) k))
 
+-- from the number that is given with a preamble on, the words are those behind its END
+abbrev pub WordsStandBehind : Type 0
+WordsStandBehind =
+    (ws : List WordAt) (d : Decls) (number : ℕ) (p : IsPreamble d number (plain_words_of ws))
+    → plains (words_from number (plain_words_of ws)) ≡ p.behind
+
 -- ---- a whole program: a preamble or none, and sections, whatever the grammar of the sections is
 
 -- a preamble or none, and sections
 pub record Program (S : Type 0) : Type 0 where
+  -- the items of the preamble, if the text has one
   pub preamble : Option Preamble
+  -- what stands behind it
   pub sections : S
 
 -- what a preamble spells, if there is one

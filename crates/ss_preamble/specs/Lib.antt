@@ -7,5 +7,5 @@ pub mod Written
 pub mod Refused
 pub mod View
 pub mod ItemReading
-pub mod Onto
+pub mod ItemsAtLines
 pub mod Laws

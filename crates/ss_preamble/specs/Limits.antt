@@ -1,5 +1,6 @@
 -- What is within the limits.
-use Rattle.std.specs.Prelude.{◌≡◌, ◌≤◌, Bool, false, true, List, [], ◌∷◌, ◌++◌, length, if◌then◌else◌, bytes_eq, fold, count_by, leb, not}
+use Rattle.std.specs.Prelude.{◌≡◌, ◌≤◌, Bool, false, true, List, [], ◌∷◌, ◌++◌, length, if◌then◌else◌, bytes_eq, fold}
+use Rattle.std.specs.Prelude.{count_by, leb, not}
 use Rattle.std.specs.List.{flat_map, list_any}
 use Rattle.ss_words.specs.Lists.{Name}
 use Rattle.ss_preamble.specs.Tree.{Preamble}
@@ -42,10 +43,15 @@ distinct ns = fold with_name [] ns
 -- what names count to is within the limits: classes and sets by their distinct names; attributes of one
 -- class, variables and keys of one ranking as they are written
 pub record AreWithin (rs : List Role) : Type 0 where
+  -- at most 64 classes
   pub classes : length (distinct (flat_map class_of rs)) ≤ 64
+  -- at most 32 attributes of each class
   pub attributes : (c : Name) → count_by (is_attribute_of c) rs ≤ 32
+  -- at most 256 variables
   pub variables : count_by is_variable rs ≤ 256
+  -- at most 64 sets
   pub sets : length (distinct (flat_map set_of rs)) ≤ 64
+  -- no key is the ninth of its ranking, or a later one
   pub keys : count_by is_late_key rs ≡ 0
 
 -- a preamble is within the limits

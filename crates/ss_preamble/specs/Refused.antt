@@ -1,5 +1,6 @@
 -- What stands at the head of a list of plain words: no preamble, a preamble, or the word at which it is refused.
-use Rattle.std.specs.Prelude.{◌≡◌, ◌<◌, ◌⊎◌, ℕ, ◌+◌, ◌-◌, true, List, [], ◌++◌, length, take, map, slice_index, leb, None, Result, Ok, Err}
+use Rattle.std.specs.Prelude.{◌≡◌, ◌<◌, ◌⊎◌, ℕ, ◌+◌, ◌-◌, true, List, [], ◌++◌, length, take, map, slice_index, leb}
+use Rattle.std.specs.Prelude.{None, Result, Ok, Err}
 use Rattle.std.specs.List.{filter}
 use Rattle.ss_words.specs.declared.fault.TextRule.{TextRule}
 use Rattle.ss_words.specs.declared.fault.TextRule.TheVariants.{UnexpectedWord, UnexpectedEnd, PastLimit}
@@ -23,7 +24,9 @@ lines ws = map (λ w. w.line) ws
 
 -- a preamble and the words behind its END
 pub record Text : Type 0 where
+  -- the items
   pub preamble : Preamble
+  -- the words behind END
   pub behind : List Plain
 
 -- its words
@@ -41,8 +44,11 @@ InRoom ws k = AreWithin (take k (roles ws))
 -- Word k passes a limit, where ws are the words that count: the words before it are within the limits, and with it they
 -- aren't.
 pub record PassesLimit (ws : List Plain) (k : ℕ) : Type 0 where
+  -- there is such a word
   pub is_word : k < length ws
+  -- the words before it are within the limits
   pub before : InRoom ws k
+  -- with it they aren't
   pub no_room : InRoom ws (k + 1) → ⊥
 
 -- The words before number n count to the limits: n is the farthest place, or the place behind the preamble's END.
@@ -53,20 +59,29 @@ CountUpTo ws n =
 
 -- P1: word k is the farthest word, and no word before it passes a limit.
 pub record IsUnexpectedWord (ws : List Plain) (k : ℕ) : Type 0 where
+  -- there is such a word
   pub is_word : k < length ws
+  -- with it no preamble goes on
   pub farthest : IsFarthest spell_text ws k
+  -- no word before it passes a limit
   pub in_room : AreWithin (roles (take k ws))
 
 -- P2: the text's end is the farthest word, and no word before the last passes a limit.
 pub record IsUnexpectedEnd (ws : List Plain) : Type 0 where
+  -- a preamble goes on behind the last word
   pub farthest : IsFarthest spell_text ws (length ws)
+  -- no word before the last passes a limit
   pub in_room : InRoom ws (length ws - 1)
 
 -- P3: word k is among the words that count, passes a limit, and is not the last word of the text.
 pub record IsPastLimit (ws : List Plain) (k : ℕ) : Type 0 where
+  -- how many words count
   pub last : ℕ
+  -- these words do
   pub count : CountUpTo ws last
+  -- the word passes a limit
   pub passes : PassesLimit (take last ws) k
+  -- a word stands behind it
   pub goes_on : k + 1 < length ws
 
 -- a preamble begins here and is refused by this rule at this line
@@ -76,8 +91,11 @@ IsRefusedBy UnexpectedEnd l ws = IsUnexpectedEnd (plains ws) × (l ≡ line (lin
 IsRefusedBy PastLimit l ws = (k : ℕ) × IsPastLimit (plains ws) k × (l ≡ line (lines ws) k)
 IsRefusedBy _ l ws = ⊥
 
+-- a preamble that begins here is refused
 pub record IsRefused (rule : TextRule) (l : ℕ) (ws : List PlainAt) : Type 0 where
+  -- a preamble begins here
   pub begins : HasPreamble (plains ws)
+  -- by this rule, at this line
   pub refused : IsRefusedBy rule l ws
 
 -- nothing is declared
@@ -92,11 +110,17 @@ word_behind ws n = slice_index (map (λ w. w.index + 1) ws) (n - 1)
 -- the words begin with a preamble within the limits, these are its items, and this is the number of the first word
 -- behind its END
 pub record IsPreamble (d : Decls) (number : ℕ) (ws : List PlainAt) : Type 0 where
+  -- the items
   pub items : Preamble
+  -- the words behind END
   pub behind : List Plain
+  -- they are within the limits
   pub within : IsWithin items
+  -- the text is what they spell, and those words
   pub words : plains ws ≡ spell items ++ behind
+  -- with their lines they are what is declared
   pub declared : d ≡ written (lines ws) items
+  -- the number is that of the first word behind END
   pub number_is : number ≡ word_behind ws (length (spell items))
 
 -- the plain words from the word with number k on

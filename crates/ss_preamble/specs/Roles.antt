@@ -25,8 +25,11 @@ pub data Role : Type 0 where
 -- BELONGS; variables; keys), the class that HAS gives to, none where it gives to the system, and the keys of the
 -- ranking so far
 pub record Standing : Type 0 where
+  -- what the next names count to
   pub counted : Counted
+  -- the class that HAS gives to; none: the system
   pub owner : Option Name
+  -- the keys of the ranking so far
   pub keys : ℕ
 
 -- before the first word

@@ -10,7 +10,9 @@ use Rattle.ss_preamble.specs.declared.item.Heading.{Heading}
 use Rattle.ss_preamble.specs.declared.item.Heading.TheVariants as h
 use Rattle.ss_preamble.specs.declared.item.Rank.{Rank}
 use Rattle.ss_preamble.specs.declared.item.Rank.TheVariants as rank
-use Rattle.ss_preamble.specs.Tree.{Key, Clause, Has, Owns, BelongsTo, SetKind, Fifo, Lifo, Ranked, Definition, Variables, Sets, EventRule, PriorityOrder, BreakTies, ExternalEvents, Item, Normally, Headed, OfEvery, OfSystem, Defines, Orders, Preamble}
+use Rattle.ss_preamble.specs.Tree.{Key, Clause, Has, Owns, BelongsTo, SetKind, Fifo, Lifo, Ranked, Definition}
+use Rattle.ss_preamble.specs.Tree.{Variables, Sets, EventRule, PriorityOrder, BreakTies, ExternalEvents, Item}
+use Rattle.ss_preamble.specs.Tree.{Normally, Headed, OfEvery, OfSystem, Defines, Orders, Preamble}
 
 -- a reserved word
 abbrev pub word : Reserved → Plain

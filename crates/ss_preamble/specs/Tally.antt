@@ -30,9 +30,13 @@ role_view c.Nothing = Nothing
 
 -- distinct classes, the class of each attribute, how many variables, distinct sets
 pub record Counts : Type 0 where
+  -- the distinct classes
   pub classes : List Name
+  -- the class of each attribute
   pub attributes : List Name
+  -- how many variables
   pub variables : ℕ
+  -- the distinct sets
   pub sets : List Name
 
 -- counts of the code

@@ -6,7 +6,9 @@ use Rattle.ss_preamble.specs.declared.item.Rank.{Rank}
 
 -- BY HIGH or BY LOW, and a name
 pub record Key : Type 0 where
+  -- which of two values comes first
   pub rank : Rank
+  -- the attribute that is compared
   pub name : Name
 
 -- HAS names, OWNS names, BELONGS TO names
@@ -44,10 +46,14 @@ Preamble = List Item
 
 -- an item and the line of its first plain word
 pub record ItemAt : Type 0 where
+  -- the line of its first plain word
   pub line : ℕ
+  -- what it says
   pub item : Item
 
 -- the items of a text with their lines, and the line of the preamble's END; none where the text has no preamble
 pub record Decls : Type 0 where
+  -- each item, in the order of the text
   pub items : List ItemAt
+  -- the line of END
   pub end : Option ℕ

@@ -15,7 +15,9 @@ use Rattle.ss_preamble.specs.declared.item.Item.{Item as CodeItem}
 use Rattle.ss_preamble.specs.declared.item.Item.TheVariants as i
 use Rattle.ss_preamble.specs.declared.item.ItemAt.{ItemAt as CodeItemAt}
 use Rattle.ss_preamble.specs.declared.item.Decls.{Decls as CodeDecls}
-use Rattle.ss_preamble.specs.Tree.{Key, Clause, Has, Owns, BelongsTo, SetKind, Fifo, Lifo, Ranked, Definition, Variables, Sets, EventRule, PriorityOrder, BreakTies, ExternalEvents, Item, Normally, Headed, OfEvery, OfSystem, Defines, Orders, ItemAt, Decls}
+use Rattle.ss_preamble.specs.Tree.{Key, Clause, Has, Owns, BelongsTo, SetKind, Fifo, Lifo, Ranked, Definition}
+use Rattle.ss_preamble.specs.Tree.{Variables, Sets, EventRule, PriorityOrder, BreakTies, ExternalEvents, Item}
+use Rattle.ss_preamble.specs.Tree.{Normally, Headed, OfEvery, OfSystem, Defines, Orders, ItemAt, Decls}
 
 -- a clause
 abbrev pub clause_view : CodeClause → Clause

@@ -1,5 +1,6 @@
 //! Laws on the definitions. Each function does nothing, and its contract says the law.
-ghost use Rattle.ss_preamble.specs.Laws.{SpellingIsUnique, AnswerIsUnique, LimitsLetPass, LimitsHold, LimitsRefuse};
+ghost use Rattle.ss_preamble.specs.Laws.{SpellingIsUnique, AnswerIsUnique, WordsStandBehind};
+ghost use Rattle.ss_preamble.specs.Laws.{LimitsLetPass, LimitsHold, LimitsRefuse};
 
 /// No two preambles have one spelling.
 pub fn spelling_is_unique()
@@ -24,4 +25,9 @@ pub fn limits_hold()
 /// A word that passes a limit is refused.
 pub fn limits_refuse()
     ensures { LimitsRefuse }
+{}
+
+/// From the number that is given with a preamble on, the words are those behind its END.
+pub fn words_stand_behind()
+    ensures { WordsStandBehind }
 {}

@@ -13,6 +13,3 @@ pub use item::{
     Clause, Decls, Definition, EventRule, Heading, Item, ItemAt, Key, Names, Rank, SetKind,
 };
 pub use text::preamble;
-
-#[cfg(test)]
-mod tests;

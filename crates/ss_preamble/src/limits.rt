@@ -1,5 +1,6 @@
 //! Counting what is limited.
-ghost use Rattle.std.specs.Prelude.{IfOk, IfSome, IfNone, MatchOption, [], ◌∷◌, bytes_eq, count_by, ◌≡◌, ◌≤◌, ◌<◌, ◌+◌, ◌^◌};
+ghost use Rattle.std.specs.Prelude.{IfOk, IfSome, IfNone, MatchOption, [], ◌∷◌, bytes_eq, count_by, ◌≡◌, ◌≤◌, ◌<◌};
+ghost use Rattle.std.specs.Prelude.{◌+◌, ◌^◌};
 ghost use Rattle.std.specs.List.{list_any};
 ghost use Rattle.ss_words.specs.Plain.{plain_of, plains_of};
 ghost use Rattle.ss_preamble.specs.Roles as roles;
@@ -76,7 +77,7 @@ pub struct Tally<'a> {
 }
 
 /// The number of the first of these words that passes a limit; `None` where none does.
-#[tactic(auto, using(crate::proofs::Passing::begins, crate::proofs::Passing::turns_at, crate::proofs::Passing::stops_at, crate::proofs::Passing::ends_at, crate::proofs::Passing::few_variables))]
+#[tactic(auto, using(crate::proofs::Passing::past_limits))]
 pub fn past_limit(alloc: Global, words: &[PlainWord]) -> Result<Option<usize>, AllocError>
     ensures none { IfOk result (λ o. IfNone o (AreWithin (roles.roles (plains_of words.now)))) }
     ensures some { IfOk result (λ o. IfSome o (λ k. PassesLimit (plains_of words.now) k)) }
@@ -139,7 +140,8 @@ impl<'a> Standing<'a> {
     /// Behind a word that these words follow.
     fn behind(self, word: &'a Plain, rest: &[PlainWord]) -> Self
         requires { self.keys < 2 ^ 63 }
-        ensures exact { standing_view result ≡ roles.behind_word (standing_view self.entry) (plain_of word.now) (plains_of rest.now) }
+        ensures exact { standing_view result
+            ≡ roles.behind_word (standing_view self.entry) (plain_of word.now) (plains_of rest.now) }
         ensures keys { result.keys ≤ self.entry.keys + 1 }
     {
         match word {
@@ -166,7 +168,8 @@ impl<'a> Standing<'a> {
     /// Behind a reserved word that these words follow.
     fn behind_reserved(self, word: Reserved, rest: &[PlainWord]) -> Self
         requires { self.keys < 2 ^ 63 }
-        ensures exact { standing_view result ≡ roles.behind_reserved (standing_view self.entry) word (plains_of rest.now) }
+        ensures exact { standing_view result
+            ≡ roles.behind_reserved (standing_view self.entry) word (plains_of rest.now) }
         ensures keys { result.keys ≤ self.entry.keys + 1 }
     {
         match word {
@@ -256,7 +259,8 @@ impl<'a> Tally<'a> {
     /// Counts this too, and tells whether it is within its limit.
     fn takes(&mut self, role: Role<'a>) -> Result<bool, AllocError>
         requires { self.now.variables ≤ 256 }
-        ensures exact { IfOk result (λ b. tally_view self.new ≡ with_role (tally_view self.old) (role_view role.entry)) }
+        ensures exact { IfOk result
+            (λ b. tally_view self.new ≡ with_role (tally_view self.old) (role_view role.entry)) }
         ensures fits { IfOk result (λ b. b ≡ is_in_room (tally_view self.new) (role_view role.entry)) }
     {
         Ok(match role {

@@ -5,7 +5,7 @@ ghost use Rattle.ss_words.specs.Plain.{word_lines};
 ghost use Rattle.ss_words.specs.Reading.{Gives, option_view};
 ghost use Rattle.ss_words.specs.Lists.{several_view};
 ghost use Rattle.ss_preamble.specs.ItemReading as reading;
-ghost use Rattle.ss_preamble.specs.Onto as onto;
+ghost use Rattle.ss_preamble.specs.ItemsAtLines as lined;
 ghost use Rattle.ss_preamble.specs.View.{definition_view, event_rule_view, item_view, items_view, decls_view};
 
 use crate::clause::clauses;
@@ -14,9 +14,9 @@ use crate::key::keys;
 use ss_words::{Cursor, Mark, Plain, PlainWord, Refusal, Reserved};
 
 /// `preamble = PREAMBLE {item} END`, whose words are the last ones of `text`.
-#[tactic(auto, unfolding(ss_words::specs::Reading::bind, ss_words::specs::Reading::pure, ss_words::specs::Noting::here, crate::specs::Onto::preamble_onto))]
+#[tactic(auto, unfolding(ss_words::specs::Reading::bind, ss_words::specs::Reading::pure, ss_words::specs::Noting::here, crate::specs::ItemsAtLines::preamble_at))]
 pub fn declarations(cursor: &mut Cursor<'_>, text: &[PlainWord]) -> Result<Decls, Refusal>
-    ensures exact { Gives decls_view result cursor.new (onto.preamble_onto (word_lines text.now) cursor.old) }
+    ensures exact { Gives decls_view result cursor.new (lined.preamble_at (word_lines text.now) cursor.old) }
     ensures shorter { length cursor.new ≤ length cursor.old }
 {
     cursor.expect(Mark::Reserved(Reserved::Preamble))?;
@@ -36,21 +36,23 @@ fn item_list(
     text: &[PlainWord],
     out: &mut Vec<ItemAt>,
 ) -> Result<(), Refusal>
-    ensures exact { Gives (λ u. items_view out.new.items) result cursor.new (onto.items_onto (word_lines text.now) (items_view out.old.items) cursor.old) }
+    ensures exact { Gives (λ u. items_view out.new.items) result cursor.new
+        (lined.items_at (word_lines text.now) (items_view out.old.items) cursor.old) }
     ensures shorter { length cursor.new ≤ length cursor.old }
 {
-    while item_onto(cursor, text, out)? {}
+    while push_item(cursor, text, out)? {}
     Ok(())
 }
 
 /// Reads an item, if one begins here, and pushes it.
-#[tactic(auto, using(crate::proofs::Pushed::pushed), unfolding(ss_words::specs::Reading::bind, ss_words::specs::Reading::pure, ss_words::specs::Noting::here, crate::specs::Onto::next_onto))]
-fn item_onto(
+#[tactic(auto, using(crate::proofs::Pushed::pushed), unfolding(ss_words::specs::Reading::bind, ss_words::specs::Reading::pure, ss_words::specs::Noting::here, crate::specs::ItemsAtLines::next_item_at))]
+fn push_item(
     cursor: &mut Cursor<'_>,
     text: &[PlainWord],
     out: &mut Vec<ItemAt>,
 ) -> Result<bool, Refusal>
-    ensures exact { Gives (λ b. (b, items_view out.new.items)) result cursor.new (onto.next_onto (word_lines text.now) (items_view out.old.items) cursor.old) }
+    ensures exact { Gives (λ b. (b, items_view out.new.items)) result cursor.new
+        (lined.next_item_at (word_lines text.now) (items_view out.old.items) cursor.old) }
     ensures shorter { length cursor.new ≤ length cursor.old }
     ensures taken { IfOk result (λ b. IsTrue b → length cursor.new < length cursor.old) }
 {
@@ -166,7 +168,8 @@ fn definition(cursor: &mut Cursor<'_>) -> Result<Definition, Refusal>
 /// its AS.
 #[tactic(auto, unfolding(ss_words::specs::Reading::look, ss_words::specs::Reading::skip, ss_words::specs::Reading::refuse, ss_words::specs::Reading::bind, ss_words::specs::Reading::pure, crate::specs::ItemReading::definition_of))]
 fn definition_of(cursor: &mut Cursor<'_>, names: Names) -> Result<Definition, Refusal>
-    ensures exact { Gives definition_view result cursor.new (reading.definition_of (several_view (λ n. n.items) names) cursor.old) }
+    ensures exact { Gives definition_view result cursor.new
+        (reading.definition_of (several_view (λ n. n.items) names) cursor.old) }
     ensures shorter { length cursor.new ≤ length cursor.old }
 {
     match cursor.peek() {

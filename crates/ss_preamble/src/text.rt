@@ -3,7 +3,7 @@ ghost use Rattle.ss_words.specs.Plain.{plain_at, plains_of, word_lines};
 ghost use Rattle.ss_words.specs.declared.refusal.Refusal.TheVariants.{Unexpected};
 ghost use Rattle.ss_words.specs.Reading.{Fails};
 ghost use Rattle.ss_words.specs.Noting.{line};
-ghost use Rattle.ss_preamble.specs.Onto.{preamble_onto};
+ghost use Rattle.ss_preamble.specs.ItemsAtLines.{preamble_at};
 ghost use Rattle.ss_words.specs.PlainRules.{plain_words_of};
 ghost use Rattle.ss_words.specs.declared.fault.TextFault.TheVariants.{Refused};
 ghost use Rattle.ss_preamble.specs.Refused.{AreDecls, HasPreamble, IsFault, no_decls};
@@ -69,7 +69,7 @@ fn declared(
 ) -> Result<(Decls, usize), TextFault>
     requires indexes { All (λ w. w.index < count) text.now }
     requires begins { HasPreamble (plains_of text.now) }
-    requires read { preamble_onto (word_lines text.now) (plains_of text.now) ≡ (Ok (decls_view decls), cursor.now) }
+    requires read { preamble_at (word_lines text.now) (plains_of text.now) ≡ (Ok (decls_view decls), cursor.now) }
     ensures declared { IfOk result (λ d. AreDecls (decls_view d.0) d.1 (map plain_at text.now)) }
     ensures refused { IfErr result (λ f. IsFault f (map plain_at text.now)) }
 {
@@ -84,7 +84,7 @@ fn declared(
 /// reached.
 fn fault(refusal: Refusal, cursor: &Cursor<'_>, text: &[PlainWord]) -> TextFault
     requires begins { HasPreamble (plains_of text.now) }
-    requires stopped { Fails refusal cursor.now (preamble_onto (word_lines text.now) (plains_of text.now)) }
+    requires stopped { Fails refusal cursor.now (preamble_at (word_lines text.now) (plains_of text.now)) }
     ensures { IsFault result (map plain_at text.now) }
 {
     match refusal {
@@ -98,7 +98,7 @@ fn fault(refusal: Refusal, cursor: &Cursor<'_>, text: &[PlainWord]) -> TextFault
 /// text's last word passes is told as the missing end, since no preamble ends with that word.
 fn unexpected(cursor: &Cursor<'_>, text: &[PlainWord]) -> TextFault
     requires begins { HasPreamble (plains_of text.now) }
-    requires stopped { preamble_onto (word_lines text.now) (plains_of text.now) ≡ (Err Unexpected, cursor.now) }
+    requires stopped { preamble_at (word_lines text.now) (plains_of text.now) ≡ (Err Unexpected, cursor.now) }
     ensures { IsFault result (map plain_at text.now) }
 {
     let reached = text.len().saturating_sub(cursor.len());

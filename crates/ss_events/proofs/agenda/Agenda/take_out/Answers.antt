@@ -5,7 +5,8 @@ use Rattle.ss_events.specs.Agenda.{without_notice}
 use Rattle.ss_events.specs.Agenda.{pending_at}
 use Rattle.ss_events.specs.State.{AgendaState}
 use Rattle.ss_events.proofs.Standing.{is-some-map}
-use Rattle.ss_events.proofs.Keeping.{pending-row, read-seat, taken-linked, taken-entry, take_out-closed, take_out-read, view-with}
+use Rattle.ss_events.proofs.Keeping.{pending-row, read-seat, taken-linked, taken-entry, take_out-closed}
+use Rattle.ss_events.proofs.Keeping.{take_out-read, view-with}
 use Rattle.ss_events.proofs.agenda.Agenda.take_out.Goals as goal
 
 pub index-requires : goal.index-requires

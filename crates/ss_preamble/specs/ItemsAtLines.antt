@@ -11,8 +11,8 @@ use Rattle.ss_preamble.specs.ItemReading.{next_item}
 -- lines: of each word of the text
 module _ (lines : List ℕ) where
   -- an item behind those that were noted before, if one stands here
-  unfoldable pub next_onto : List ItemAt → Reading (Bool × List ItemAt)
-  next_onto acc =
+  unfoldable pub next_item_at : List ItemAt → Reading (Bool × List ItemAt)
+  next_item_at acc =
       here lines (λ l. next_item >>= λ o. elim o [
         | Some i ↦ pure (
           true,
@@ -25,11 +25,11 @@ module _ (lines : List ℕ) where
       ])
 
   -- items, as long as there are
-  unfoldable pub items_onto : Noting ItemAt
-  items_onto acc = repeat next_onto acc
+  unfoldable pub items_at : Noting ItemAt
+  items_at acc = repeat next_item_at acc
 
   -- a preamble
-  unfoldable pub preamble_onto : Reading Decls
-  preamble_onto =
-      expect (m.Reserved r.Preamble) >>= λ _. items_onto [] >>= λ is.
+  unfoldable pub preamble_at : Reading Decls
+  preamble_at =
+      expect (m.Reserved r.Preamble) >>= λ _. items_at [] >>= λ is.
       here lines (λ l. expect (m.Reserved r.End) >>= λ _. pure (record { items = is; end = Some l }))
