@@ -13,7 +13,7 @@ use Rattle.ss_words.proofs.Marks.{is_mark, spell_mark, spell_eaten, expect_good,
 use Rattle.ss_words.proofs.ReadBack.{then}
 use Rattle.ss_grammar.specs.Expr.{spell_within}
 use Rattle.ss_grammar.specs.Combined.{opened, if_open}
-use Rattle.ss_grammar.proofs.Tally.{Leaves, Under, Out, Tally, nothing, opened_one, opened_under, opened_some, enclosed}
+use Rattle.ss_grammar.proofs.Tally.{Leaves, Under, Refused, Out, Tally, nothing, opened_refused, opened_under, opened_some, enclosed}
 use Rattle.ss_grammar.proofs.Form.{Form, Item}
 
 -- the laws of a part
@@ -111,7 +111,7 @@ module _ {A : Type 0} (rooms : Rooms) (n k : ℕ) (d : A → ℕ) (sp : A → Li
   inner_out (Ok a) ws r (q2, is_so, h) = close_out a ws q2 r (is (m.Sign s.Close) (first r)) is_so h refl
   inner_out (Err Unexpected) ws r (q2, is_so, h) = (mark (m.Sign s.Open) ∷ q2, ap (λ (u : List Plain). mark (m.Sign s.Open) ∷ u) is_so, opened_under n q2 h)
   inner_out (Err Memory) ws r out = out
-  inner_out (Err PastLimit) ws r (q2, is_so, f, h) = (mark (m.Sign s.Open) ∷ q2, ap (λ (u : List Plain). mark (m.Sign s.Open) ∷ u) is_so, f, opened_one n q2 h)
+  inner_out (Err PastLimit) ws r (q2, is_so, h) = (mark (m.Sign s.Open) ∷ q2, ap (λ (u : List Plain). mark (m.Sign s.Open) ∷ u) is_so, opened_refused n q2 (first r) h)
 
   open_out : (ws : List Plain) (b : Bool) → is (m.Sign s.Open) (first ws) ≡ b
       → (let h : Reading Bool = elim b [ true ↦ skip (pure true) | false ↦ pure false ] in let x : Read (Option A) = goes_on (λ c. elim c [ true ↦ close q | false ↦ pure None ]) (h ws).0 (h ws).1 in Out (suc n) x.0 ws x.1)
@@ -151,7 +151,7 @@ module _ {A : Type 0} (d : A → ℕ) (sp : A → List Plain) (q : Reading A) wh
 
   shut_out : (ws : List Plain) (b : Bool) → is (m.Sign s.Open) (first ws) ≡ b → Out 0 (shut_answer b ws).0 ws (shut_answer b ws).1
   shut_out [] true e = absurd cc
-  shut_out (v ∷ ws) true e = ([], refl, ap (λ (u : Plain). Some u) (is_mark (m.Sign s.Open) v e), nothing)
+  shut_out (v ∷ ws) true e = ([], refl, subst (λ (u : Plain). Refused 0 [] (Some u)) (sym (is_mark (m.Sign s.Open) v e)) nothing)
   shut_out ws false e = ([], refl, nothing)
 
   shut_counted : Tally 0 (if_open 0 q)

@@ -27,7 +27,7 @@ use Rattle.ss_grammar.specs.SimpleSpelling.{greatest, greatest_of, if_there, spe
 use Rattle.ss_grammar.specs.SimpleReading.{reference_at}
 use Rattle.ss_grammar.specs.ConditionReading.{comparison_of, condition_at}
 use Rattle.ss_grammar.specs.Loops.{WalkStart, AtEnd, From, After, Range, Counting, Each, Walking, Qualifier, Phrase, Computed, Question, Holds, Found, NoneFound, spell_walk_start, spell_direction, spell_order, spell_name, spell_range, spell_qualifier_word, spell_qualifier, spell_phrase, depth_qualifier, depth_phrase, spell_statistic, spell_computed, spell_question, depth_walk_start, depth_range, depth_computed, depth_question}
-use Rattle.ss_grammar.specs.LoopReading.{qualifier_of, statistic_of, start_of, order_of, direction_of, range_of, question_of, start_at, order_at, walk_at, direction_at, counting_at, range_at, qualifiers_at, phrase_at, computed_at, compute_at, question_at}
+use Rattle.ss_grammar.specs.LoopReading.{qualifier_of, statistic_of, start_of, order_of, direction_of, range_of, question_of, start_at, an_order, walk_at, a_direction, counting_at, range_at, qualifiers_at, phrase_at, computed_at, compute_at, question_at}
 use Rattle.ss_grammar.proofs.Tally.{Leaves, plain_word}
 use Rattle.ss_grammar.proofs.Form.{Form, Item, Each as EachOf, Table, name_form, nothing_form, pair_form, behind_form, before_form, made_form, mark_item, option_form, either_form, star_form, table_item, word_item}
 use Rattle.ss_grammar.proofs.Items.{ending, made_item, must_form}
@@ -335,13 +335,13 @@ module _ (rooms : Rooms) (n k : ℕ) (w : Wider rooms n k) where
   order_back Onward = tt
   order_back Backward = tt
 
-  order_law : Law rooms n Any spell_order (λ y. is (m.Reserved r.In) (first y) ≡ false) (order_at n) (order_at k)
-  unfolding order_at
+  order_law : Law rooms n Any spell_order (λ y. is (m.Reserved r.In) (first y) ≡ false) an_order an_order
+  unfolding an_order
   order_law = let f = made_form order_part spell_order Any order_of split_order whole_order order_spelled (λ x h. tt) (λ d h. order_back d) in
       record { good = f.good; near = f.near; counted = f.counted; again = λ a y h e. f.again a y h (tt, e) }
 
   abbrev the_order : Form rooms n Direction
-  the_order = form_of rooms n Any spell_order (λ y. is (m.Reserved r.In) (first y) ≡ false) (order_at n) (order_at k) order_law
+  the_order = form_of rooms n Any spell_order (λ y. is (m.Reserved r.In) (first y) ≡ false) an_order an_order order_law
 
   -- ---- what a FOR phrase goes through
 
@@ -405,13 +405,13 @@ module _ (rooms : Rooms) (n k : ℕ) (w : Wider rooms n k) where
   direction_back Onward = tt
   direction_back Backward = tt
 
-  direction_law : Law rooms n Any spell_direction (λ y. Unit {0}) (direction_at n) (direction_at k)
-  unfolding direction_at
+  direction_law : Law rooms n Any spell_direction (λ y. Unit {0}) a_direction a_direction
+  unfolding a_direction
   direction_law = let f = made_form direction_part spell_direction Any direction_of split_direction whole_direction direction_spelled (λ x h. tt) (λ d h. direction_back d) in
       record { good = f.good; near = f.near; counted = f.counted; again = λ a y h e. f.again a y h (tt, tt) }
 
   abbrev the_direction : Form rooms n Direction
-  the_direction = form_of rooms n Any spell_direction (λ y. Unit {0}) (direction_at n) (direction_at k) direction_law
+  the_direction = form_of rooms n Any spell_direction (λ y. Unit {0}) a_direction a_direction direction_law
 
   abbrev by_part : Form rooms n (Option Expr)
   by_part = option_form (mark_item (m.Reserved r.By) by_leaves value)

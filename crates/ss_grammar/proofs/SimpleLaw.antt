@@ -26,7 +26,7 @@ use Rattle.ss_grammar.specs.ExprReading.{sign_of, expr_at, inner_at}
 use Rattle.ss_grammar.specs.Condition.{Reference, spell_subscript, spell_reference, depth_subscript, depth_reference}
 use Rattle.ss_grammar.specs.Simple.{Assign, Let, Add, Subtract, Making, Create, CreateEvery, Destroy, FilePlace, ByDiscipline, AtEnd, Before, After, Filing, File, FileAt, RemoveEnd, Remove, Listing, Unwritten, BehindGiven, InParentheses, Transfer, Call, Return, Stop, Details, ValuesFirst, CalledFirst, When, At, Now, In, Timing, Schedule, Cancel, StartSimulation, Exchange, Read, Print, Skip, Simple, Assigns, Makes, Files, Transfers, Times, Exchanges}
 use Rattle.ss_grammar.specs.SimpleSpelling.{spell_behind, spell_option, spell_listing, spell_called, spell_assign, spell_making, spell_end, spell_file_place, spell_filing, spell_transfer, spell_article, spell_details, spell_when, spell_timing, spell_exchange, spell_simple, greatest, greatest_of, if_there, depth_listing, depth_called, depth_assign, depth_making, depth_file_place, depth_filing, depth_transfer, depth_details, depth_when, depth_timing, depth_exchange, depth_simple}
-use Rattle.ss_grammar.specs.SimpleReading.{end_of, name_of, listing_of, list_of, list_behind, listing_with, subscript_at, reference_at, called_at, equation_at, moved_at, assign_at, named_at, making_at, file_place_at, file_at, remove_at, filing_at, call_at, transfer_at, details_at, when_at, article_at, schedule_at, timing_at, print_at, exchange_at, simple_at, assign_of, making_of, file_place_of, filing_of, transfer_of, article_of, details_of, when_of, timing_of, exchange_of, simple_of}
+use Rattle.ss_grammar.specs.SimpleReading.{end_of, name_of, listing_of, list_of, list_behind, listing_with, subscript_at, reference_at, called_at, equation_at, moved_at, assign_at, named_at, making_at, file_place_at, file_at, remove_at, filing_at, call_at, transfer_at, details_at, when_at, an_article, schedule_at, timing_at, print_at, exchange_at, simple_at, assign_of, making_of, file_place_of, filing_of, transfer_of, article_of, details_of, when_of, timing_of, exchange_of, simple_of}
 use Rattle.ss_grammar.proofs.Tally.{Leaves, Tally, plain_word}
 use Rattle.ss_grammar.proofs.Form.{Form, Item, Table, Anything, name_form, number_form, picture_form, nothing_form, pair_form, behind_form, before_form, made_form, mark_item, option_form, either_form, table_item, word_item}
 use Rattle.ss_grammar.proofs.Items.{ending, ending_item, and_item, or_item, made_item}
@@ -822,13 +822,13 @@ module _ (rooms : Rooms) (n k : ℕ) (w : Wider rooms n k) where
   article_back article.A = tt
   article_back article.The = tt
 
-  article_law : Law rooms n Any spell_an_article (λ y. Unit {0}) (article_at n) (article_at k)
-  unfolding article_at
+  article_law : Law rooms n Any spell_an_article (λ y. Unit {0}) an_article an_article
+  unfolding an_article
   article_law = let f = made_form article_part spell_an_article Any article_of split_article whole_article article_spelled (λ x h. tt) (λ a h. article_back a) in
       record { good = f.good; near = f.near; counted = f.counted; again = λ a y h e. f.again a y h (tt, tt) }
 
   abbrev the_article : Form rooms n Article
-  the_article = form_of rooms n Any spell_an_article (λ y. Unit {0}) (article_at n) (article_at k) article_law
+  the_article = form_of rooms n Any spell_an_article (λ y. Unit {0}) an_article an_article article_law
 
   abbrev EndsDetails : List Plain → Type 0
   EndsDetails y = Ends y × (is (m.Sign s.Comma) (first y) ≡ false) × (is (m.Reserved r.Called) (first y) ≡ false) × (is (m.Reserved r.Given) (first y) ≡ false)

@@ -1,4 +1,5 @@
--- Reading a condition from left to right. A parenthesis may open a condition or an expression: which of them is told where it closes.
+-- Reading a condition from left to right.
+-- A parenthesis may open a condition or an expression: which of them is told where it closes.
 use Rattle.std.specs.Prelude.{◌⊎◌, ℕ, zero, suc, true, false, List, [], ◌∷◌, Option, Some, None}
 use mathlib.Core.Logic.{inl, inr}
 use Rattle.ss_words.specs.declared.mark.Mark.TheVariants as m
@@ -13,9 +14,12 @@ use Rattle.ss_grammar.specs.declared.condition.Comparison.TheVariants.{Equal, Un
 use Rattle.ss_grammar.specs.declared.condition.Copula.{Copula}
 use Rattle.ss_grammar.specs.declared.condition.Copula.TheVariants.{Is, IsNot}
 use Rattle.ss_grammar.specs.Combined.{if_mark, star, by_table, if_open}
-use Rattle.ss_grammar.specs.Expr.{Expr, expr, no_sums, Term, term, no_products, Factor, named, applied, within, no_exprs, sums_of, products_of}
+use Rattle.ss_grammar.specs.Expr.{Expr, expr, no_sums, term, no_products, named, applied, within}
+use Rattle.ss_grammar.specs.Expr.{no_exprs, sums_of, products_of}
 use Rattle.ss_grammar.specs.ExprReading.{rest_with, expr_at}
-use Rattle.ss_grammar.specs.Condition.{Reference, Condition, condition, Alternatives, no_alternatives, alternative, Conjunction, conjunction, Additions, no_additions, addition, Relation, compared, is_empty, is_in, nested}
+use Rattle.ss_grammar.specs.Condition.{Reference, Condition, condition, Alternatives, no_alternatives, alternative}
+use Rattle.ss_grammar.specs.Condition.{Conjunction, conjunction, Additions, no_additions, addition}
+use Rattle.ss_grammar.specs.Condition.{Relation, compared, is_empty, is_in, nested}
 use Rattle.ss_grammar.specs.SimpleReading.{reference_at}
 
 -- the sign of a comparison, or NE
@@ -31,7 +35,8 @@ comparison_of _ = None
 -- the reference that an expression is, if it is one
 abbrev pub reference_of : Expr → Option Reference
 reference_of (expr None (term (named n) no_products) no_sums) = Some (record { name = n; subscript = None })
-reference_of (expr None (term (applied n e no_exprs) no_products) no_sums) = Some (record { name = n; subscript = Some e })
+reference_of (expr None (term (applied n e no_exprs) no_products) no_sums) =
+    Some (record { name = n; subscript = Some e })
 reference_of _ = None
 
 -- the conjunctions behind a first one
@@ -54,14 +59,20 @@ module _ (n : ℕ) where
   unfoldable pub set_with : Expr → Copula → Reading Relation
   set_with e c = eat (m.Reserved r.In) >>= λ b. elim b [
     | true ↦ (reference_at n >>= λ v. pure (is_in e c v))
-    | false ↦ elim (reference_of e) [ Some v ↦ (expect (m.Reserved r.Empty) >>= λ u. pure (is_empty v c)) | None ↦ refuse Unexpected ]
+    | false ↦ elim (reference_of e) [
+      | Some v ↦ (expect (m.Reserved r.Empty) >>= λ u. pure (is_empty v c))
+      | None ↦ refuse Unexpected
+    ]
   ]
 
   -- behind a value: a comparison and a value, IS, or nothing of a relation
   unfoldable pub behind_value : Expr → Reading (Expr ⊎ Relation)
   behind_value e = by_table comparison_of >>= λ o. elim o [
     | Some c ↦ (expr_at n >>= λ f. pure (inr (compared e c f)))
-    | None ↦ (eat (m.Reserved r.Is) >>= λ b. elim b [ true ↦ (copula >>= λ c. set_with e c >>= λ q. pure (inr q)) | false ↦ pure (inl e) ])
+    | None ↦ (eat (m.Reserved r.Is) >>= λ b. elim b [
+      | true ↦ (copula >>= λ c. set_with e c >>= λ q. pure (inr q))
+      | false ↦ pure (inl e)
+    ])
   ]
 
 -- n parentheses may be open; in one more, inner reads
@@ -82,7 +93,11 @@ module _ (n : ℕ) (inner : Reading (Expr ⊎ Condition)) where
 
   -- an expression or a conjunction
   unfoldable pub conjoined_with : Reading (Expr ⊎ Conjunction)
-  conjoined_with = value_with >>= λ x. elim x [ inl e ↦ pure (inl e) | inr q ↦ (star (if_mark (m.Reserved r.And) relation_with) >>= λ qs. pure (inr (conjunction q (additions_of qs)))) ]
+  conjoined_with = value_with >>= λ x. elim x [
+    | inl e ↦ pure (inl e)
+    | inr q ↦ (star (if_mark (m.Reserved r.And) relation_with)
+        >>= λ qs. pure (inr (conjunction q (additions_of qs))))
+  ]
 
   -- a conjunction
   unfoldable pub conjunction_with : Reading Conjunction
@@ -90,7 +105,11 @@ module _ (n : ℕ) (inner : Reading (Expr ⊎ Condition)) where
 
   -- an expression or a condition
   unfoldable pub either_with : Reading (Expr ⊎ Condition)
-  either_with = conjoined_with >>= λ x. elim x [ inl e ↦ pure (inl e) | inr c ↦ (star (if_mark (m.Reserved r.Or) conjunction_with) >>= λ cs. pure (inr (condition c (alternatives_of cs)))) ]
+  either_with = conjoined_with >>= λ x. elim x [
+    | inl e ↦ pure (inl e)
+    | inr c ↦ (star (if_mark (m.Reserved r.Or) conjunction_with)
+        >>= λ cs. pure (inr (condition c (alternatives_of cs))))
+  ]
 
 -- with at most so many parentheses open at once
 unfoldable pub either_at : ℕ → Reading (Expr ⊎ Condition)

@@ -20,12 +20,10 @@ abbrev pub closes : Plain → Bool
 closes (mark (m.Sign s.Close)) = true
 closes _ = false
 
--- a word of a head, or one that opens or closes an IF
-abbrev pub shapes : Plain → Bool
-shapes (mark (m.Reserved r.Main)) = true
-shapes (mark (m.Reserved r.Routine)) = true
-shapes (mark (m.Reserved r.Event)) = true
-shapes (mark (m.Reserved r.Saving)) = true
-shapes (mark (m.Reserved r.If)) = true
-shapes (mark (m.Reserved r.Always)) = true
-shapes _ = false
+-- a reserved word that stands in heads alone
+abbrev pub heads : Plain → Bool
+heads (mark (m.Reserved r.Main)) = true
+heads (mark (m.Reserved r.Routine)) = true
+heads (mark (m.Reserved r.Event)) = true
+heads (mark (m.Reserved r.Saving)) = true
+heads _ = false

@@ -4,14 +4,15 @@ use mathlib.Core.Logic.{inl, inr}
 use Rattle.ss_words.specs.declared.mark.Mark.TheVariants as m
 use Rattle.ss_words.specs.declared.word.Sign.TheVariants as s
 use Rattle.ss_words.specs.declared.refusal.Refusal.TheVariants.{PastLimit}
-use Rattle.ss_words.specs.Plain.{Plain, name, number, mark}
+use Rattle.ss_words.specs.Plain.{Plain, number, mark}
 use Rattle.ss_words.specs.Reading.{Reading, refuse}
 use Rattle.ss_words.specs.Marks.{a_name}
 use Rattle.ss_words.specs.Lists.{Name, Several}
 use Rattle.ss_grammar.specs.Combined.{pair, made, if_mark, if_word, either, star, by_table, if_open, several}
 use Rattle.ss_grammar.specs.declared.expr.TermSign.{TermSign}
 use Rattle.ss_grammar.specs.declared.expr.TermSign.TheVariants.{Plus, Minus}
-use Rattle.ss_grammar.specs.Expr.{Expr, expr, Term, term, Factor, digits, named, applied, within, sums_of, products_of, exprs_of}
+use Rattle.ss_grammar.specs.Expr.{Expr, expr, Term, term, Factor, digits, named, applied, within}
+use Rattle.ss_grammar.specs.Expr.{sums_of, products_of, exprs_of}
 
 -- the sign of a term
 abbrev pub sign_of : Option Plain → Option TermSign
@@ -43,7 +44,8 @@ factor_of (inr (inr x)) = named_factor x
 module _ (n : ℕ) (inner : Reading Expr) where
   -- a factor
   unfoldable pub factor_with : Reading Factor
-  factor_with = made factor_of (either (if_open n inner) (either (by_table number_of) (pair a_name (if_open n (several inner)))))
+  factor_with = made factor_of
+      (either (if_open n inner) (either (by_table number_of) (pair a_name (if_open n (several inner)))))
 
   -- a first factor and those behind it
   unfoldable pub term_with : Reading Term
@@ -63,6 +65,22 @@ abbrev pub inner_at : ℕ → Reading Expr
 inner_at zero = refuse PastLimit
 inner_at (suc n) = expr_at n
 
+-- ["*" factor]
+abbrev pub next_factor_at : ℕ → Reading (Option Factor)
+next_factor_at n = if_mark (m.Sign s.Star) (factor_with n (inner_at n))
+
+-- [("+" | "-") term]
+abbrev pub next_term_at : ℕ → Reading (Option (TermSign × Term))
+next_term_at n = if_word lead (term_with n (inner_at n))
+
+-- ["," expression], in one more parenthesis
+abbrev pub next_inner_at : ℕ → Reading (Option Expr)
+next_inner_at n = if_mark (m.Sign s.Comma) (inner_at n)
+
+-- ["(" expressions ")"]
+abbrev pub arguments_at : ℕ → Reading (Option (Several Expr))
+arguments_at n = if_open n (several (inner_at n))
+
 -- what stands behind a first factor: {"*" factor} {("+" | "-") term}
 unfoldable pub rest_with : ℕ → Reading (List Factor × List (TermSign × Term))
-rest_with n = pair (star (if_mark (m.Sign s.Star) (factor_with n (inner_at n)))) (star (if_word lead (term_with n (inner_at n))))
+rest_with n = pair (star (next_factor_at n)) (star (next_term_at n))

@@ -11,5 +11,12 @@ pub mod Counts
 pub mod ExprReading
 pub mod SimpleReading
 pub mod ConditionReading
+pub mod OrValueView
+pub mod PartView
 pub mod View
 pub mod LoopReading
+pub mod BlockReading
+pub mod SectionReading
+pub mod Refused
+pub mod Laws
+pub mod Onto

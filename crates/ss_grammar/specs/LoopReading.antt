@@ -14,13 +14,15 @@ use Rattle.ss_grammar.specs.declared.place.QualifierWord.{QualifierWord}
 use Rattle.ss_grammar.specs.declared.place.QualifierWord.TheVariants.{With, Unless, While, Until}
 use Rattle.ss_grammar.specs.declared.place.Statistic.{Statistic}
 use Rattle.ss_grammar.specs.declared.place.Statistic.TheVariants as statistic
-use Rattle.ss_grammar.specs.Combined.{pair, behind, before, made, if_mark, if_word, either, star, by_table, several, made_of, must}
+use Rattle.ss_grammar.specs.Combined.{pair, behind, before, made, if_mark, if_word, either, star, by_table, several}
+use Rattle.ss_grammar.specs.Combined.{made_of, must}
 use Rattle.ss_grammar.specs.Expr.{Expr}
 use Rattle.ss_grammar.specs.ExprReading.{expr_at}
 use Rattle.ss_grammar.specs.Condition.{Reference, Condition}
 use Rattle.ss_grammar.specs.SimpleReading.{reference_at}
 use Rattle.ss_grammar.specs.ConditionReading.{condition_at}
-use Rattle.ss_grammar.specs.Loops.{WalkStart, AtEnd, From, After, Range, Counting, Each, Walking, Qualifier, Phrase, Computed, Question, Holds, Found, NoneFound}
+use Rattle.ss_grammar.specs.Loops.{WalkStart, AtEnd, From, After, Range, Counting, Each, Walking}
+use Rattle.ss_grammar.specs.Loops.{Qualifier, Phrase, Computed, Question, Holds, Found, NoneFound}
 
 -- WITH, UNLESS, WHILE or UNTIL
 abbrev pub qualifier_of : Option Plain → Option QualifierWord
@@ -54,8 +56,16 @@ abbrev pub direction_of : Unit {0} ⊎ Unit {0} → Direction
 direction_of (inl u) = Backward
 direction_of (inr u) = Onward
 
+-- behind EVERY name: a set, where its walk begins and the way in which it goes; or a variable or none
+abbrev pub Walk : Type 0
+Walk = (Reference × (WalkStart × Direction)) ⊎ Option Name
+
+-- a variable, the way in which it counts, the first value, the last one, and the step if it is written
+abbrev pub Count : Type 0
+Count = Name × (Direction × (Expr × (Expr × Option Expr)))
+
 -- which range
-abbrev pub range_of : (Name × ((Reference × (WalkStart × Direction)) ⊎ Option Name)) ⊎ (Name × (Direction × (Expr × (Expr × Option Expr)))) → Range
+abbrev pub range_of : (Name × Walk) ⊎ Count → Range
 range_of (inl (c, inl (v, (b, d)))) = Walking d c v b
 range_of (inl (c, inr v)) = Each c v
 range_of (inr (v, (d, (a, (b, c))))) = Counting d v a b c
@@ -66,35 +76,44 @@ question_of (inl u) = Found
 question_of (inr (inl u)) = NoneFound
 question_of (inr (inr c)) = Holds c
 
+-- [IN REVERSE ORDER]
+unfoldable pub an_order : Reading Direction
+an_order =
+    made order_of (if_mark (m.Reserved r.In) (behind (m.Reserved r.Reverse) (behind (m.Reserved r.Order) (pure tt))))
+
+-- "=" or BACK FROM
+unfoldable pub a_direction : Reading Direction
+a_direction = made direction_of
+    (either (if_mark (m.Reserved r.Back) (behind (m.Reserved r.From) (pure tt))) (behind (m.Sign s.Equal) (pure tt)))
+
 -- with at most n parentheses open at once
 module _ (n : ℕ) where
   -- [(FROM | AFTER) expr]
   unfoldable pub start_at : Reading WalkStart
   start_at = made start_of (either (if_mark (m.Reserved r.From) (expr_at n)) (if_mark (m.Reserved r.After) (expr_at n)))
 
-  -- [IN REVERSE ORDER]
-  unfoldable pub order_at : Reading Direction
-  order_at = made order_of (if_mark (m.Reserved r.In) (behind (m.Reserved r.Reverse) (behind (m.Reserved r.Order) (pure tt))))
-
   -- behind EVERY name: IN ref [(FROM | AFTER) expr] [IN REVERSE ORDER], or [CALLED name]
-  unfoldable pub walk_at : Reading ((Reference × (WalkStart × Direction)) ⊎ Option Name)
-  walk_at = either (if_mark (m.Reserved r.In) (pair (reference_at n) (pair start_at order_at))) (if_mark (m.Reserved r.Called) a_name)
-
-  -- "=" or BACK FROM
-  unfoldable pub direction_at : Reading Direction
-  direction_at = made direction_of (either (if_mark (m.Reserved r.Back) (behind (m.Reserved r.From) (pure tt))) (behind (m.Sign s.Equal) (pure tt)))
+  unfoldable pub walk_at : Reading Walk
+  walk_at = either (if_mark (m.Reserved r.In) (pair (reference_at n) (pair start_at an_order)))
+      (if_mark (m.Reserved r.Called) a_name)
 
   -- name ("=" | BACK FROM) expr TO expr [BY expr]
-  unfoldable pub counting_at : Reading (Name × (Direction × (Expr × (Expr × Option Expr))))
-  counting_at = pair a_name (pair direction_at (pair (before (expr_at n) (m.Reserved r.To)) (pair (expr_at n) (if_mark (m.Reserved r.By) (expr_at n)))))
+  unfoldable pub counting_at : Reading Count
+  counting_at = pair a_name (pair a_direction
+      (pair (before (expr_at n) (m.Reserved r.To)) (pair (expr_at n) (if_mark (m.Reserved r.By) (expr_at n)))))
 
   -- what a FOR phrase goes through
   unfoldable pub range_at : Reading Range
   range_at = made range_of (either (if_mark (m.Reserved r.Every) (pair a_name walk_at)) counting_at)
 
+  -- (WITH | UNLESS | WHILE | UNTIL) cond, if one stands here
+  abbrev pub next_qualifier : Reading (Option Qualifier)
+  next_qualifier =
+      made_of (λ x. record { word = x.0; condition = x.1 }) (if_word (by_table qualifier_of) (condition_at n))
+
   -- {(WITH | UNLESS | WHILE | UNTIL) cond}
   unfoldable pub qualifiers_at : Reading (List Qualifier)
-  qualifiers_at = star (made_of (λ x. record { word = x.0; condition = x.1 }) (if_word (by_table qualifier_of) (condition_at n)))
+  qualifiers_at = star next_qualifier
 
   -- a FOR phrase, behind FOR
   unfoldable pub phrase_at : Reading Phrase
@@ -102,7 +121,8 @@ module _ (n : ℕ) where
 
   -- ref AS (NUMBER | SUM | MAXIMUM | MINIMUM)
   unfoldable pub computed_at : Reading Computed
-  computed_at = made (λ x. record { target = x.0; statistic = x.1 }) (pair (before (reference_at n) (m.Reserved r.As)) (must (by_table statistic_of)))
+  computed_at = made (λ x. record { target = x.0; statistic = x.1 })
+      (pair (before (reference_at n) (m.Reserved r.As)) (must (by_table statistic_of)))
 
   -- behind COMPUTE: ref AS stat {"," ref AS stat} IN expr
   unfoldable pub compute_at : Reading (Several Computed × Expr)
@@ -110,4 +130,6 @@ module _ (n : ℕ) where
 
   -- FOUND, NONE or a condition
   unfoldable pub question_at : Reading Question
-  question_at = made question_of (either (if_mark (m.Reserved r.Found) (pure tt)) (either (if_mark (m.Reserved r.NoneFound) (pure tt)) (condition_at n)))
+  question_at = made question_of
+      (either (if_mark (m.Reserved r.Found) (pure tt))
+      (either (if_mark (m.Reserved r.NoneFound) (pure tt)) (condition_at n)))

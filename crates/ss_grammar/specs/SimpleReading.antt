@@ -1,5 +1,5 @@
 -- Reading statements that hold no other from left to right.
-use Rattle.std.specs.Prelude.{◌⊎◌, ℕ, Bool, true, false, List, [], Option, Some, None}
+use Rattle.std.specs.Prelude.{◌⊎◌, ℕ, true, false, List, [], Option, Some, None}
 use mathlib.Core.Logic.{inl, inr}
 use Rattle.ss_words.specs.declared.mark.Mark.{Mark}
 use Rattle.ss_words.specs.declared.mark.Mark.TheVariants as m
@@ -13,11 +13,18 @@ use Rattle.ss_grammar.specs.declared.simple.SetEnd.{SetEnd}
 use Rattle.ss_grammar.specs.declared.simple.SetEnd.TheVariants as end
 use Rattle.ss_grammar.specs.declared.simple.Article.{Article}
 use Rattle.ss_grammar.specs.declared.simple.Article.TheVariants as article
-use Rattle.ss_grammar.specs.Combined.{pair, behind, before, made, if_mark, if_word, either, by_table, if_open, several, either_of, made_of}
+use Rattle.ss_grammar.specs.Combined.{pair, behind, before, made, if_mark, if_word, either, by_table, if_open, several}
+use Rattle.ss_grammar.specs.Combined.{either_of, made_of}
 use Rattle.ss_grammar.specs.Expr.{Expr}
 use Rattle.ss_grammar.specs.ExprReading.{expr_at, inner_at}
 use Rattle.ss_grammar.specs.Condition.{Reference}
-use Rattle.ss_grammar.specs.Simple.{Assign, Let, Add, Subtract, Making, Create, CreateEvery, Destroy, FilePlace, ByDiscipline, AtEnd, Before, After, Filing, File, FileAt, RemoveEnd, Remove, Listing, Unwritten, BehindGiven, InParentheses, Transfer, Call, Return, Stop, Details, ValuesFirst, CalledFirst, When, At, Now, In, Timing, Schedule, Cancel, StartSimulation, Exchange, Read, Print, Skip, Simple, Assigns, Makes, Files, Transfers, Times, Exchanges}
+use Rattle.ss_grammar.specs.Simple.{Assign, Let, Add, Subtract, Making, Create, CreateEvery, Destroy}
+use Rattle.ss_grammar.specs.Simple.{FilePlace, ByDiscipline, AtEnd, Before, After}
+use Rattle.ss_grammar.specs.Simple.{Filing, File, FileAt, RemoveEnd, Remove}
+use Rattle.ss_grammar.specs.Simple.{Listing, Unwritten, BehindGiven, InParentheses, Transfer, Call, Return, Stop}
+use Rattle.ss_grammar.specs.Simple.{Details, ValuesFirst, CalledFirst, When, At, Now, In}
+use Rattle.ss_grammar.specs.Simple.{Timing, Schedule, Cancel, StartSimulation, Exchange, Read, Print, Skip}
+use Rattle.ss_grammar.specs.Simple.{Simple, Assigns, Makes, Files, Transfers, Times, Exchanges}
 
 -- FIRST or LAST
 abbrev pub end_of : Option Plain → Option SetEnd
@@ -50,7 +57,8 @@ unfoldable pub listing_with : {A : Type 0} → ℕ → Reading A → Reading A �
 listing_with n p inner = made listing_of (either (if_mark (m.Reserved r.Given) (several p)) (if_open n (several inner)))
 
 -- which assignment
-abbrev pub assign_of : (Reference × Expr) ⊎ ((Expr × Reference) ⊎ ((Expr × Reference) ⊎ (Name × (Option Expr × Expr)))) → Assign
+abbrev pub assign_of :
+    (Reference × Expr) ⊎ ((Expr × Reference) ⊎ ((Expr × Reference) ⊎ (Name × (Option Expr × Expr)))) → Assign
 assign_of (inl (v, e)) = Let true v e
 assign_of (inr (inl (e, v))) = Add e v
 assign_of (inr (inr (inl (e, v)))) = Subtract e v
@@ -69,8 +77,16 @@ file_place_of (inr (inl e)) = Before e
 file_place_of (inr (inr (Some e))) = After e
 file_place_of (inr (inr None)) = ByDiscipline
 
+-- behind FILE: an end, a member and a set; or a member, its place and a set
+abbrev pub Filed : Type 0
+Filed = (SetEnd × (Expr × Reference)) ⊎ (Expr × (FilePlace × Reference))
+
+-- behind REMOVE: an end, a target and a set; or a member and a set
+abbrev pub Removed : Type 0
+Removed = (SetEnd × (Reference × Reference)) ⊎ (Expr × Reference)
+
 -- which filing
-abbrev pub filing_of : ((SetEnd × (Expr × Reference)) ⊎ (Expr × (FilePlace × Reference))) ⊎ ((SetEnd × (Reference × Reference)) ⊎ (Expr × Reference)) → Filing
+abbrev pub filing_of : Filed ⊎ Removed → Filing
 filing_of (inl (inl (b, (e, v)))) = FileAt b e v
 filing_of (inl (inr (e, (h, v)))) = File e h v
 filing_of (inr (inl (b, (u, v)))) = RemoveEnd b u v
@@ -119,6 +135,10 @@ simple_of (inr (inr (inr (inl a)))) = Times a
 simple_of (inr (inr (inr (inr (inl a))))) = Exchanges a
 simple_of (inr (inr (inr (inr (inr a))))) = Assigns a
 
+-- A or THE
+unfoldable pub an_article : Reading Article
+an_article = made article_of (either (if_mark (m.Reserved r.A) (pure tt)) (behind (m.Reserved r.The) (pure tt)))
+
 -- with at most n parentheses open at once
 module _ (n : ℕ) where
   -- an expression in parentheses, if one opens here
@@ -143,7 +163,10 @@ module _ (n : ℕ) where
 
   -- LET ref "=" expr, ADD expr TO ref, SUBTRACT expr FROM ref, or ref "=" expr
   unfoldable pub assign_at : Reading (Option Assign)
-  assign_at = made_of assign_of (either_of (if_mark (m.Reserved r.Let) equation_at) (either_of (if_mark (m.Reserved r.Add) (moved_at (m.Reserved r.To))) (either_of (if_mark (m.Reserved r.Subtract) (moved_at (m.Reserved r.From)))
+  assign_at = made_of assign_of
+      (either_of (if_mark (m.Reserved r.Let) equation_at)
+      (either_of (if_mark (m.Reserved r.Add) (moved_at (m.Reserved r.To)))
+      (either_of (if_mark (m.Reserved r.Subtract) (moved_at (m.Reserved r.From)))
       (if_word (by_table name_of) (pair (before subscript_at (m.Sign s.Equal)) (expr_at n))))))
 
   -- name [CALLED ref]
@@ -152,60 +175,84 @@ module _ (n : ℕ) where
 
   -- CREATE EVERY name ["(" expr ")"], CREATE name [CALLED ref], or DESTROY name [CALLED ref]
   unfoldable pub making_at : Reading (Option Making)
-  making_at = made_of making_of (either_of (if_mark (m.Reserved r.Create) (either (if_mark (m.Reserved r.Every) (pair a_name subscript_at)) named_at)) (if_mark (m.Reserved r.Destroy) named_at))
+  making_at = made_of making_of
+      (either_of
+      (if_mark (m.Reserved r.Create) (either (if_mark (m.Reserved r.Every) (pair a_name subscript_at)) named_at))
+      (if_mark (m.Reserved r.Destroy) named_at))
 
   -- [FIRST | LAST | (BEFORE | AFTER) expr]
   unfoldable pub file_place_at : Reading FilePlace
-  file_place_at = made file_place_of (either (by_table end_of) (either (if_mark (m.Reserved r.Before) (expr_at n)) (if_mark (m.Reserved r.After) (expr_at n))))
+  file_place_at = made file_place_of
+      (either (by_table end_of)
+      (either (if_mark (m.Reserved r.Before) (expr_at n)) (if_mark (m.Reserved r.After) (expr_at n))))
 
   -- behind FILE: (FIRST | LAST) expr IN ref, or expr [FIRST | LAST | (BEFORE | AFTER) expr] IN ref
-  unfoldable pub file_at : Reading ((SetEnd × (Expr × Reference)) ⊎ (Expr × (FilePlace × Reference)))
-  file_at = either (if_word (by_table end_of) (moved_at (m.Reserved r.In))) (pair (expr_at n) (pair (before file_place_at (m.Reserved r.In)) reference_at))
+  unfoldable pub file_at : Reading Filed
+  file_at = either (if_word (by_table end_of) (moved_at (m.Reserved r.In)))
+      (pair (expr_at n) (pair (before file_place_at (m.Reserved r.In)) reference_at))
 
   -- behind REMOVE: (FIRST | LAST) ref FROM ref, or expr FROM ref
-  unfoldable pub remove_at : Reading ((SetEnd × (Reference × Reference)) ⊎ (Expr × Reference))
-  remove_at = either (if_word (by_table end_of) (pair (before reference_at (m.Reserved r.From)) reference_at)) (moved_at (m.Reserved r.From))
+  unfoldable pub remove_at : Reading Removed
+  remove_at = either (if_word (by_table end_of) (pair (before reference_at (m.Reserved r.From)) reference_at))
+      (moved_at (m.Reserved r.From))
 
   -- FILE or REMOVE
   unfoldable pub filing_at : Reading (Option Filing)
-  filing_at = made_of filing_of (either_of (if_mark (m.Reserved r.File) file_at) (if_mark (m.Reserved r.Remove) remove_at))
+  filing_at =
+      made_of filing_of (either_of (if_mark (m.Reserved r.File) file_at) (if_mark (m.Reserved r.Remove) remove_at))
 
   -- behind CALL: name [GIVEN exprs | "(" exprs ")"] [YIELDING refs]
   unfoldable pub call_at : Reading (Name × (Listing Expr × List Reference))
-  call_at = pair a_name (pair (listing_with n (expr_at n) (inner_at n)) (list_behind (m.Reserved r.Yielding) reference_at))
+  call_at =
+      pair a_name (pair (listing_with n (expr_at n) (inner_at n)) (list_behind (m.Reserved r.Yielding) reference_at))
 
   -- CALL, RETURN or STOP
   unfoldable pub transfer_at : Reading (Option Transfer)
-  transfer_at = made_of transfer_of (either_of (if_mark (m.Reserved r.Call) call_at) (either_of (if_mark (m.Reserved r.Return) (pure tt)) (if_mark (m.Reserved r.Stop) (pure tt))))
+  transfer_at = made_of transfer_of
+      (either_of (if_mark (m.Reserved r.Call) call_at)
+      (either_of (if_mark (m.Reserved r.Return) (pure tt)) (if_mark (m.Reserved r.Stop) (pure tt))))
 
   -- "(" exprs ")" [CALLED ref], or [CALLED ref] [GIVEN exprs]
   unfoldable pub details_at : Reading Details
-  details_at = made details_of (either (if_word (if_open n (several (inner_at n))) called_at) (pair called_at (list_behind (m.Reserved r.Given) (expr_at n))))
+  details_at = made details_of
+      (either (if_word (if_open n (several (inner_at n))) called_at)
+      (pair called_at (list_behind (m.Reserved r.Given) (expr_at n))))
 
   -- AT expr, NOW, or IN expr DAYS
   unfoldable pub when_at : Reading When
-  when_at = made when_of (either (if_mark (m.Reserved r.At) (expr_at n)) (either (if_mark (m.Reserved r.Now) (pure tt)) (behind (m.Reserved r.In) (before (expr_at n) (m.Reserved r.Days)))))
-
-  -- A or THE
-  unfoldable pub article_at : Reading Article
-  article_at = made article_of (either (if_mark (m.Reserved r.A) (pure tt)) (behind (m.Reserved r.The) (pure tt)))
+  when_at = made when_of
+      (either (if_mark (m.Reserved r.At) (expr_at n))
+      (either (if_mark (m.Reserved r.Now) (pure tt))
+      (behind (m.Reserved r.In) (before (expr_at n) (m.Reserved r.Days)))))
 
   -- behind SCHEDULE: (A | THE) name details time
   unfoldable pub schedule_at : Reading (Article × (Name × (Details × When)))
-  schedule_at = pair article_at (pair a_name (pair details_at when_at))
+  schedule_at = pair an_article (pair a_name (pair details_at when_at))
 
   -- SCHEDULE, CANCEL name [CALLED ref], or START SIMULATION
   unfoldable pub timing_at : Reading (Option Timing)
-  timing_at = made_of timing_of (either_of (if_mark (m.Reserved r.Schedule) schedule_at) (either_of (if_mark (m.Reserved r.Cancel) named_at) (if_mark (m.Reserved r.Start) (behind (m.Reserved r.Simulation) (pure tt)))))
+  timing_at = made_of timing_of
+      (either_of (if_mark (m.Reserved r.Schedule) schedule_at)
+      (either_of (if_mark (m.Reserved r.Cancel) named_at)
+      (if_mark (m.Reserved r.Start) (behind (m.Reserved r.Simulation) (pure tt)))))
 
   -- behind PRINT: number LINES [WITH exprs] THUS picture
   unfoldable pub print_at : Reading (ℕ × (List Expr × List (List ℕ)))
-  print_at = pair (before a_number (m.Reserved r.Lines)) (pair (before (list_behind (m.Reserved r.With) (expr_at n)) (m.Reserved r.Thus)) a_picture)
+  print_at = pair (before a_number (m.Reserved r.Lines))
+      (pair (before (list_behind (m.Reserved r.With) (expr_at n)) (m.Reserved r.Thus)) a_picture)
 
   -- READ refs, PRINT, or SKIP expr LINES
   unfoldable pub exchange_at : Reading (Option Exchange)
-  exchange_at = made_of exchange_of (either_of (if_mark (m.Reserved r.Read) (several reference_at)) (either_of (if_mark (m.Reserved r.Print) print_at) (if_mark (m.Reserved r.Skip) (before (expr_at n) (m.Reserved r.Lines)))))
+  exchange_at = made_of exchange_of
+      (either_of (if_mark (m.Reserved r.Read) (several reference_at))
+      (either_of (if_mark (m.Reserved r.Print) print_at)
+      (if_mark (m.Reserved r.Skip) (before (expr_at n) (m.Reserved r.Lines)))))
 
   -- a statement that holds no other, if one stands here
   unfoldable pub simple_at : Reading (Option Simple)
-  simple_at = made_of simple_of (either_of making_at (either_of filing_at (either_of transfer_at (either_of timing_at (either_of exchange_at assign_at)))))
+  simple_at = made_of simple_of
+      (either_of making_at
+      (either_of filing_at
+      (either_of transfer_at
+      (either_of timing_at
+      (either_of exchange_at assign_at)))))

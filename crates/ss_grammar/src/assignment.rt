@@ -2,6 +2,7 @@ ghost use Rattle.std.specs.Prelude.{IfSome, IfOk, List, length, ◌≡◌, ◌�
 ghost use Rattle.ss_words.specs.Reading.{Gives, option_view};
 ghost use Rattle.ss_grammar.specs.Combined.{by_table};
 ghost use Rattle.ss_grammar.specs.SimpleReading as reading;
+ghost use Rattle.ss_grammar.specs.PartView.{named_view, equation_view, moved_view};
 ghost use Rattle.ss_grammar.specs.View.{expr_view, reference_view, assign_view, making_view};
 
 use crate::condition::Reference;
@@ -44,8 +45,8 @@ pub fn called(cursor: &mut Cursor<'_>, room: u32) -> Result<Option<Reference>, R
 
 /// `name [CALLED reference]`
 #[tactic(auto, unfolding(ss_words::specs::Reading::bind, ss_words::specs::Reading::pure, crate::specs::Combined::pair, crate::specs::SimpleReading::named_at))]
-fn named(cursor: &mut Cursor<'_>, room: u32) -> Result<(Vec<u8>, Option<Reference>), Refusal>
-    ensures exact { Gives (λ x. (x.0.items, option_view reference_view x.1)) result cursor.new (reading.named_at room cursor.old) }
+pub fn named(cursor: &mut Cursor<'_>, room: u32) -> Result<(Vec<u8>, Option<Reference>), Refusal>
+    ensures exact { Gives named_view result cursor.new (reading.named_at room cursor.old) }
     ensures shorter { length cursor.new ≤ length cursor.old }
 {
     let name = cursor.name()?;
@@ -56,7 +57,7 @@ fn named(cursor: &mut Cursor<'_>, room: u32) -> Result<(Vec<u8>, Option<Referenc
 /// `reference "=" expression`
 #[tactic(auto, unfolding(ss_words::specs::Reading::bind, ss_words::specs::Reading::pure, crate::specs::Combined::pair, crate::specs::Combined::before, crate::specs::SimpleReading::equation_at))]
 fn equation(cursor: &mut Cursor<'_>, room: u32) -> Result<(Reference, Expr), Refusal>
-    ensures exact { Gives (λ x. (reference_view x.0, expr_view x.1)) result cursor.new (reading.equation_at room cursor.old) }
+    ensures exact { Gives equation_view result cursor.new (reading.equation_at room cursor.old) }
     ensures shorter { length cursor.new ≤ length cursor.old }
 {
     let target = reference(cursor, room)?;
@@ -67,8 +68,8 @@ fn equation(cursor: &mut Cursor<'_>, room: u32) -> Result<(Reference, Expr), Ref
 
 /// `expression mark reference`
 #[tactic(auto, unfolding(ss_words::specs::Reading::bind, ss_words::specs::Reading::pure, crate::specs::Combined::pair, crate::specs::Combined::before, crate::specs::SimpleReading::moved_at))]
-fn moved(cursor: &mut Cursor<'_>, mark: Mark, room: u32) -> Result<(Expr, Reference), Refusal>
-    ensures exact { Gives (λ x. (expr_view x.0, reference_view x.1)) result cursor.new (reading.moved_at room mark cursor.old) }
+pub fn moved(cursor: &mut Cursor<'_>, mark: Mark, room: u32) -> Result<(Expr, Reference), Refusal>
+    ensures exact { Gives moved_view result cursor.new (reading.moved_at room mark cursor.old) }
     ensures shorter { length cursor.new ≤ length cursor.old }
 {
     let value = expression(cursor, room)?;

@@ -1,6 +1,7 @@
 use crate::expr::Expr;
 
-/// A name, in upper case, with a subscript or without: what a statement assigns to, or a set (docs/LANGUAGE.md, "References").
+/// A name, in upper case, with a subscript or without: what a statement assigns to, or a set
+/// (docs/LANGUAGE.md, "References").
 #[derive(Debug, Drop)]
 pub struct Reference {
     pub name: Vec<u8>,

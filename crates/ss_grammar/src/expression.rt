@@ -1,10 +1,8 @@
 ghost use Rattle.std.specs.Prelude.{IfSome, IfOk, IsTrue, List, [], length, map, ◌≡◌, ◌≤◌, ◌<◌, ◌∷◌, Ok};
-ghost use Rattle.ss_words.specs.declared.mark.Mark.TheVariants as m;
-ghost use Rattle.ss_words.specs.declared.word.Sign.TheVariants as s;
-ghost use Rattle.ss_words.specs.Lists.{several_view};
 ghost use Rattle.ss_words.specs.Reading.{Gives, option_view};
-ghost use Rattle.ss_grammar.specs.Combined.{by_table, opened, if_open, if_mark, if_word, star, several};
+ghost use Rattle.ss_grammar.specs.Combined.{by_table, opened, if_open, star, several};
 ghost use Rattle.ss_grammar.specs.ExprReading as reading;
+ghost use Rattle.ss_grammar.specs.PartView.{rest_view, factors_view, terms_view, values_view, several_values_view};
 ghost use Rattle.ss_grammar.specs.View.{expr_view, term_view, factor_view, added_view};
 
 use crate::expr::{Added, Expr, Factor, Term, TermSign};
@@ -77,6 +75,17 @@ pub fn open(cursor: &mut Cursor<'_>, room: u32) -> Result<bool, Refusal>
     Ok(false)
 }
 
+/// What stands behind a first factor: `{"*" factor} {("+" | "-") term}`
+#[tactic(auto, unfolding(ss_words::specs::Reading::bind, ss_words::specs::Reading::pure, crate::specs::Combined::pair, crate::specs::ExprReading::rest_with))]
+pub fn rest(cursor: &mut Cursor<'_>, room: u32) -> Result<(Vec<Factor>, Vec<Added>), Refusal>
+    ensures exact { Gives rest_view result cursor.new (reading.rest_with room cursor.old) }
+    ensures shorter { length cursor.new ≤ length cursor.old }
+{
+    let factors = products(cursor, room)?;
+    let terms = sums(cursor, room)?;
+    Ok((factors, terms))
+}
+
 /// `expression = ["+" | "-"] term {("+" | "-") term}`
 #[cycle(expression)]
 #[tactic(auto, unfolding(ss_words::specs::Reading::bind, ss_words::specs::Reading::pure, crate::specs::Combined::made, crate::specs::Combined::pair, crate::specs::ExprReading::expr_with))]
@@ -93,7 +102,7 @@ fn expr(cursor: &mut Cursor<'_>, room: u32) -> Result<Expr, Refusal>
 /// `{("+" | "-") term}`
 #[cycle(expression)]
 fn sums(cursor: &mut Cursor<'_>, room: u32) -> Result<Vec<Added>, Refusal>
-    ensures exact { Gives (λ v. map added_view v.items) result cursor.new (star (if_word reading.lead (reading.term_with room (reading.inner_at room))) cursor.old) }
+    ensures exact { Gives terms_view result cursor.new (star (reading.next_term_at room) cursor.old) }
     ensures shorter { length cursor.new ≤ length cursor.old }
 {
     let mut more = Vec::new(cursor.alloc());
@@ -107,7 +116,7 @@ fn sums(cursor: &mut Cursor<'_>, room: u32) -> Result<Vec<Added>, Refusal>
 #[cycle(expression)]
 #[tactic(auto, unfolding(ss_words::specs::Reading::bind, ss_words::specs::Reading::pure, crate::specs::Combined::if_word))]
 fn next_sum(cursor: &mut Cursor<'_>, room: u32) -> Result<Option<Added>, Refusal>
-    ensures exact { Gives (option_view added_view) result cursor.new (if_word reading.lead (reading.term_with room (reading.inner_at room)) cursor.old) }
+    ensures exact { Gives (option_view added_view) result cursor.new (reading.next_term_at room cursor.old) }
     ensures shorter { length cursor.new ≤ length cursor.old }
     ensures taken { IfOk result (λ o. IfSome o (λ _. length cursor.new < length cursor.old)) }
 {
@@ -133,7 +142,7 @@ fn term(cursor: &mut Cursor<'_>, room: u32) -> Result<Term, Refusal>
 /// `{"*" factor}`
 #[cycle(expression)]
 fn products(cursor: &mut Cursor<'_>, room: u32) -> Result<Vec<Factor>, Refusal>
-    ensures exact { Gives (λ v. map factor_view v.items) result cursor.new (star (if_mark (m.Sign s.Star) (reading.factor_with room (reading.inner_at room))) cursor.old) }
+    ensures exact { Gives factors_view result cursor.new (star (reading.next_factor_at room) cursor.old) }
     ensures shorter { length cursor.new ≤ length cursor.old }
 {
     let mut more = Vec::new(cursor.alloc());
@@ -147,7 +156,7 @@ fn products(cursor: &mut Cursor<'_>, room: u32) -> Result<Vec<Factor>, Refusal>
 #[cycle(expression)]
 #[tactic(auto, unfolding(ss_words::specs::Reading::bind, ss_words::specs::Reading::pure, crate::specs::Combined::if_mark))]
 fn next_product(cursor: &mut Cursor<'_>, room: u32) -> Result<Option<Factor>, Refusal>
-    ensures exact { Gives (option_view factor_view) result cursor.new (if_mark (m.Sign s.Star) (reading.factor_with room (reading.inner_at room)) cursor.old) }
+    ensures exact { Gives (option_view factor_view) result cursor.new (reading.next_factor_at room cursor.old) }
     ensures shorter { length cursor.new ≤ length cursor.old }
     ensures taken { IfOk result (λ o. IfSome o (λ _. length cursor.new < length cursor.old)) }
 {
@@ -201,8 +210,8 @@ pub fn within(cursor: &mut Cursor<'_>, room: u32) -> Result<Option<Expr>, Refusa
 /// Arguments in parentheses, if one opens here.
 #[cycle(expression)]
 #[tactic(auto, unfolding(ss_words::specs::Reading::bind, ss_words::specs::Reading::pure, crate::specs::Combined::if_open))]
-fn arguments(cursor: &mut Cursor<'_>, room: u32) -> Result<Option<Several<Expr>>, Refusal>
-    ensures exact { Gives (option_view (several_view expr_view)) result cursor.new (if_open room (several (reading.inner_at room)) cursor.old) }
+pub fn arguments(cursor: &mut Cursor<'_>, room: u32) -> Result<Option<Several<Expr>>, Refusal>
+    ensures exact { Gives (option_view several_values_view) result cursor.new (reading.arguments_at room cursor.old) }
     ensures shorter { length cursor.new ≤ length cursor.old }
     ensures taken { IfOk result (λ o. IfSome o (λ _. length cursor.new < length cursor.old)) }
 {
@@ -218,7 +227,7 @@ fn arguments(cursor: &mut Cursor<'_>, room: u32) -> Result<Option<Several<Expr>>
 #[cycle(expression)]
 #[tactic(auto, unfolding(ss_words::specs::Reading::bind, ss_words::specs::Reading::pure, crate::specs::Combined::made, crate::specs::Combined::pair, crate::specs::Combined::several))]
 fn inner_values(cursor: &mut Cursor<'_>, room: u32) -> Result<Several<Expr>, Refusal>
-    ensures exact { Gives (several_view expr_view) result cursor.new (several (reading.inner_at room) cursor.old) }
+    ensures exact { Gives several_values_view result cursor.new (several (reading.inner_at room) cursor.old) }
     ensures shorter { length cursor.new ≤ length cursor.old }
 {
     let first = inner(cursor, room)?;
@@ -229,7 +238,7 @@ fn inner_values(cursor: &mut Cursor<'_>, room: u32) -> Result<Several<Expr>, Ref
 /// `{"," expression}` in one more parenthesis.
 #[cycle(expression)]
 fn inner_others(cursor: &mut Cursor<'_>, room: u32) -> Result<Vec<Expr>, Refusal>
-    ensures exact { Gives (λ v. map expr_view v.items) result cursor.new (star (if_mark (m.Sign s.Comma) (reading.inner_at room)) cursor.old) }
+    ensures exact { Gives values_view result cursor.new (star (reading.next_inner_at room) cursor.old) }
     ensures shorter { length cursor.new ≤ length cursor.old }
 {
     let mut values = Vec::new(cursor.alloc());
@@ -243,7 +252,7 @@ fn inner_others(cursor: &mut Cursor<'_>, room: u32) -> Result<Vec<Expr>, Refusal
 #[cycle(expression)]
 #[tactic(auto, unfolding(ss_words::specs::Reading::bind, ss_words::specs::Reading::pure, crate::specs::Combined::if_mark))]
 fn next_inner(cursor: &mut Cursor<'_>, room: u32) -> Result<Option<Expr>, Refusal>
-    ensures exact { Gives (option_view expr_view) result cursor.new (if_mark (m.Sign s.Comma) (reading.inner_at room) cursor.old) }
+    ensures exact { Gives (option_view expr_view) result cursor.new (reading.next_inner_at room cursor.old) }
     ensures shorter { length cursor.new ≤ length cursor.old }
     ensures taken { IfOk result (λ o. IfSome o (λ _. length cursor.new < length cursor.old)) }
 {

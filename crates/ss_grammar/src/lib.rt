@@ -2,12 +2,28 @@
 #![tactic(auto)]
 
 mod assignment;
+mod block;
+mod compute;
 mod condition;
+mod conditions;
+mod exchange;
 mod expr;
 mod expression;
+mod filing;
+mod find;
+mod head;
+pub mod laws;
+mod lists;
+mod phrase;
 mod place;
+mod question;
 mod section;
 mod simple;
+mod statement;
+#[cfg(test)]
+mod statement_tests;
+mod timing;
+mod transfer;
 
 pub use condition::{Comparison, Condition, Conjunction, Copula, Reference, Relation};
 pub use expr::{Added, Expr, Factor, Term, TermSign};

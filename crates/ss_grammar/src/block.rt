@@ -1,0 +1,308 @@
+//! Reading statements, and noting their places.
+
+ghost use Rattle.std.specs.Prelude.{IfOk, IsTrue, length, ◌≤◌, ◌<◌};
+ghost use Rattle.ss_words.specs.Plain.{word_lines};
+ghost use Rattle.ss_words.specs.Reading.{Gives};
+ghost use Rattle.ss_grammar.specs.Combined as combined;
+ghost use Rattle.ss_grammar.specs.Onto as onto;
+ghost use Rattle.ss_grammar.specs.View.{phrase_view, spots};
+
+use crate::compute::compute;
+use crate::find::first_case;
+use crate::phrase::phrase;
+use crate::place::{Branch, Loop, Phrase, Place, Spot};
+use crate::question::question;
+use crate::statement::simple;
+use ss_words::{Cursor, Mark, PlainWord, Refusal, Reserved};
+
+/// How many parentheses may be open at once, and how many more IFs and FOR phrases.
+#[derive(Clone, Copy)]
+pub struct Room {
+    pub parentheses: u32,
+    pub ifs: u32,
+    pub phrases: u32,
+}
+
+/// Whether a mark stands here, which is then passed; refused where no more of them may be open.
+fn allowed(cursor: &mut Cursor<'_>, room: u32, mark: Mark) -> Result<bool, Refusal>
+    ensures exact { Gives (λ b. b) result cursor.new (combined.allowed room mark cursor.old) }
+    ensures shorter { length cursor.new ≤ length cursor.old }
+    ensures taken { IfOk result (λ b. IsTrue b → length cursor.new < length cursor.old) }
+    ensures free { IfOk result (λ b. IsTrue b → 0 < room) }
+{
+    if room > 0 {
+        return Ok(cursor.eat(mark));
+    }
+    if cursor.is_next(mark) {
+        return Err(Refusal::PastLimit);
+    }
+    Ok(false)
+}
+
+/// `{statement}`: pushes the places of statements, as long as one begins.
+#[cycle(statements)]
+pub fn block(
+    cursor: &mut Cursor<'_>,
+    text: &[PlainWord],
+    room: Room,
+    out: &mut Vec<Spot>,
+) -> Result<(), Refusal>
+    ensures exact { Gives (λ u. spots out.new.items) result cursor.new
+        (onto.statements_onto (word_lines text.now) room.parentheses room.ifs room.phrases
+        (spots out.old.items) cursor.old) }
+    ensures shorter { length cursor.new ≤ length cursor.old }
+{
+    while statement(cursor, text, room, out)? {}
+    Ok(())
+}
+
+/// Pushes the places of a statement, if one begins here.
+#[cycle(statements)]
+#[tactic(auto, unfolding(ss_words::specs::Reading::bind, ss_words::specs::Reading::pure, crate::specs::Onto::statement_onto))]
+fn statement(
+    cursor: &mut Cursor<'_>,
+    text: &[PlainWord],
+    room: Room,
+    out: &mut Vec<Spot>,
+) -> Result<bool, Refusal>
+    ensures exact { Gives (λ b. (b, spots out.new.items)) result cursor.new
+        (onto.statement_onto (word_lines text.now) room.parentheses
+        (onto.if_onto (word_lines text.now) room.parentheses room.ifs room.phrases)
+        (onto.loop_onto (word_lines text.now) room.parentheses
+        (onto.if_onto (word_lines text.now) room.parentheses room.ifs) room.phrases)
+        (spots out.old.items) cursor.old) }
+    ensures shorter { length cursor.new ≤ length cursor.old }
+    ensures taken { IfOk result (λ b. IsTrue b → length cursor.new < length cursor.old) }
+{
+    if one(cursor, text, room, out)? {
+        return Ok(true);
+    }
+    for_loop(cursor, text, room, out)
+}
+
+/// Pushes the places of a statement that is no loop, if one begins here.
+#[cycle(statements)]
+#[tactic(auto, using(crate::proofs::Pushed::pushed), unfolding(ss_words::specs::Reading::bind, ss_words::specs::Reading::pure, ss_words::specs::Noting::here, crate::specs::Onto::one_onto))]
+fn one(
+    cursor: &mut Cursor<'_>,
+    text: &[PlainWord],
+    room: Room,
+    out: &mut Vec<Spot>,
+) -> Result<bool, Refusal>
+    ensures exact { Gives (λ b. (b, spots out.new.items)) result cursor.new
+        (onto.one_onto (word_lines text.now) room.parentheses
+        (onto.if_onto (word_lines text.now) room.parentheses room.ifs room.phrases)
+        (onto.loop_onto (word_lines text.now) room.parentheses
+        (onto.if_onto (word_lines text.now) room.parentheses room.ifs) room.phrases)
+        (spots out.old.items) cursor.old) }
+    ensures shorter { length cursor.new ≤ length cursor.old }
+    ensures taken { IfOk result (λ b. IsTrue b → length cursor.new < length cursor.old) }
+{
+    let line = cursor.line(text);
+    if let Some(statement) = simple(cursor, room.parentheses)? {
+        let place = Place::Simple(statement);
+        out.push(Spot { line, place })?;
+        return Ok(true);
+    }
+    branch(cursor, text, room, out)
+}
+
+/// Pushes the places of an IF statement, if one begins here.
+#[cycle(statements)]
+fn branch(
+    cursor: &mut Cursor<'_>,
+    text: &[PlainWord],
+    room: Room,
+    out: &mut Vec<Spot>,
+) -> Result<bool, Refusal>
+    ensures exact { Gives (λ b. (b, spots out.new.items)) result cursor.new
+        (onto.if_onto (word_lines text.now) room.parentheses room.ifs room.phrases
+        (spots out.old.items) cursor.old) }
+    ensures shorter { length cursor.new ≤ length cursor.old }
+    ensures taken { IfOk result (λ b. IsTrue b → length cursor.new < length cursor.old) }
+{
+    let line = cursor.line(text);
+    if !allowed(cursor, room.ifs, Mark::Reserved(Reserved::If))? {
+        return Ok(false);
+    }
+    let inside = Room {
+        ifs: room.ifs - 1,
+        ..room
+    };
+    behind_if(cursor, text, line, inside, out)?;
+    Ok(true)
+}
+
+/// `question {statement} [ELSE {statement}] ALWAYS`, behind an IF in this line.
+#[cycle(statements)]
+#[tactic(auto, using(crate::proofs::Pushed::pushed), unfolding(ss_words::specs::Reading::bind, ss_words::specs::Reading::pure, ss_words::specs::Noting::here, crate::specs::Onto::branch_onto))]
+fn behind_if(
+    cursor: &mut Cursor<'_>,
+    text: &[PlainWord],
+    line: usize,
+    room: Room,
+    out: &mut Vec<Spot>,
+) -> Result<(), Refusal>
+    ensures exact { Gives (λ u. spots out.new.items) result cursor.new
+        (onto.branch_onto (word_lines text.now) room.parentheses
+        (onto.statements_onto (word_lines text.now) room.parentheses room.ifs room.phrases) line
+        (spots out.old.items) cursor.old) }
+    ensures shorter { length cursor.new ≤ length cursor.old }
+{
+    let question = question(cursor, room.parentheses)?;
+    let place = Place::Branch(Branch::If(question));
+    out.push(Spot { line, place })?;
+    block(cursor, text, room, out)?;
+    otherwise(cursor, text, room, out)?;
+    let line = cursor.line(text);
+    cursor.expect(Mark::Reserved(Reserved::Always))?;
+    let place = Place::Branch(Branch::Always);
+    out.push(Spot { line, place })?;
+    Ok(())
+}
+
+/// `[ELSE {statement}]`
+#[cycle(statements)]
+#[tactic(auto, using(crate::proofs::Pushed::pushed), unfolding(ss_words::specs::Reading::bind, ss_words::specs::Reading::pure, ss_words::specs::Noting::here, crate::specs::Onto::else_onto))]
+fn otherwise(
+    cursor: &mut Cursor<'_>,
+    text: &[PlainWord],
+    room: Room,
+    out: &mut Vec<Spot>,
+) -> Result<(), Refusal>
+    ensures exact { Gives (λ u. spots out.new.items) result cursor.new
+        (onto.else_onto (word_lines text.now) room.parentheses
+        (onto.statements_onto (word_lines text.now) room.parentheses room.ifs room.phrases)
+        (spots out.old.items) cursor.old) }
+    ensures shorter { length cursor.new ≤ length cursor.old }
+{
+    let line = cursor.line(text);
+    if !cursor.eat(Mark::Reserved(Reserved::Else)) {
+        return Ok(());
+    }
+    let place = Place::Branch(Branch::Else);
+    out.push(Spot { line, place })?;
+    block(cursor, text, room, out)
+}
+
+/// Pushes the places of a loop, if one begins here.
+#[cycle(statements)]
+fn for_loop(
+    cursor: &mut Cursor<'_>,
+    text: &[PlainWord],
+    room: Room,
+    out: &mut Vec<Spot>,
+) -> Result<bool, Refusal>
+    ensures exact { Gives (λ b. (b, spots out.new.items)) result cursor.new
+        (onto.loop_onto (word_lines text.now) room.parentheses
+        (onto.if_onto (word_lines text.now) room.parentheses room.ifs) room.phrases
+        (spots out.old.items) cursor.old) }
+    ensures shorter { length cursor.new ≤ length cursor.old }
+    ensures taken { IfOk result (λ b. IsTrue b → length cursor.new < length cursor.old) }
+{
+    let line = cursor.line(text);
+    if !allowed(cursor, room.phrases, Mark::Reserved(Reserved::For))? {
+        return Ok(false);
+    }
+    let phrase = phrase(cursor, room.parentheses)?;
+    let inside = Room {
+        phrases: room.phrases - 1,
+        ..room
+    };
+    controlled(cursor, text, line, phrase, inside, out)?;
+    Ok(true)
+}
+
+/// What stands behind a phrase, whose FOR stands in this line.
+#[cycle(statements)]
+#[tactic(auto, using(crate::proofs::Pushed::pushed), unfolding(ss_words::specs::Reading::bind, ss_words::specs::Reading::pure, ss_words::specs::Noting::here, crate::specs::Onto::controlled_onto))]
+fn controlled(
+    cursor: &mut Cursor<'_>,
+    text: &[PlainWord],
+    line: usize,
+    phrase: Phrase,
+    room: Room,
+    out: &mut Vec<Spot>,
+) -> Result<(), Refusal>
+    ensures exact { Gives (λ u. spots out.new.items) result cursor.new
+        (onto.controlled_onto (word_lines text.now) room.parentheses
+        (onto.if_onto (word_lines text.now) room.parentheses room.ifs room.phrases)
+        (onto.loop_onto (word_lines text.now) room.parentheses
+        (onto.if_onto (word_lines text.now) room.parentheses room.ifs) room.phrases)
+        line (phrase_view phrase) (spots out.old.items) cursor.old) }
+    ensures shorter { length cursor.new ≤ length cursor.old }
+{
+    let repeats = cursor.eat(Mark::Reserved(Reserved::Do));
+    let place = Place::Loop(Loop::For { phrase, repeats });
+    out.push(Spot { line, place })?;
+    if repeats {
+        return repeated(cursor, text, room, out);
+    }
+    if for_loop(cursor, text, room, out)? {
+        return Ok(());
+    }
+    last(cursor, text, room, out)
+}
+
+/// `{statement} LOOP`, behind DO.
+#[cycle(statements)]
+#[tactic(auto, using(crate::proofs::Pushed::pushed), unfolding(ss_words::specs::Reading::bind, ss_words::specs::Reading::pure, ss_words::specs::Noting::here, crate::specs::Onto::repeated_onto))]
+fn repeated(
+    cursor: &mut Cursor<'_>,
+    text: &[PlainWord],
+    room: Room,
+    out: &mut Vec<Spot>,
+) -> Result<(), Refusal>
+    ensures exact { Gives (λ u. spots out.new.items) result cursor.new
+        (onto.repeated_onto (word_lines text.now) room.parentheses
+        (onto.if_onto (word_lines text.now) room.parentheses room.ifs room.phrases)
+        (onto.loop_onto (word_lines text.now) room.parentheses
+        (onto.if_onto (word_lines text.now) room.parentheses room.ifs) room.phrases)
+        (spots out.old.items) cursor.old) }
+    ensures shorter { length cursor.new ≤ length cursor.old }
+{
+    block(cursor, text, room, out)?;
+    let line = cursor.line(text);
+    cursor.expect(Mark::Reserved(Reserved::Loop))?;
+    let place = Place::Loop(Loop::Next);
+    out.push(Spot { line, place })?;
+    Ok(())
+}
+
+/// `FIND FIRST CASE`, a COMPUTE, or one statement that is no loop.
+#[cycle(statements)]
+#[tactic(auto, using(crate::proofs::Pushed::pushed), unfolding(ss_words::specs::Reading::bind, ss_words::specs::Reading::pure, ss_words::specs::Reading::refuse, ss_words::specs::Noting::here, crate::specs::Onto::last_onto, crate::specs::Onto::must_onto))]
+fn last(
+    cursor: &mut Cursor<'_>,
+    text: &[PlainWord],
+    room: Room,
+    out: &mut Vec<Spot>,
+) -> Result<(), Refusal>
+    ensures exact { Gives (λ u. spots out.new.items) result cursor.new
+        (onto.last_onto (word_lines text.now) room.parentheses
+        (onto.if_onto (word_lines text.now) room.parentheses room.ifs room.phrases)
+        (onto.loop_onto (word_lines text.now) room.parentheses
+        (onto.if_onto (word_lines text.now) room.parentheses room.ifs) room.phrases)
+        (spots out.old.items) cursor.old) }
+    ensures shorter { length cursor.new ≤ length cursor.old }
+{
+    let line = cursor.line(text);
+    if cursor.eat(Mark::Reserved(Reserved::Find)) {
+        first_case(cursor)?;
+        let place = Place::Loop(Loop::Find);
+        out.push(Spot { line, place })?;
+        return Ok(());
+    }
+    if cursor.eat(Mark::Reserved(Reserved::Compute)) {
+        let (targets, value) = compute(cursor, room.parentheses)?;
+        let place = Place::Loop(Loop::Gather(value));
+        out.push(Spot { line, place })?;
+        let place = Place::Loop(Loop::Compute(targets));
+        out.push(Spot { line, place })?;
+        return Ok(());
+    }
+    if one(cursor, text, room, out)? {
+        return Ok(());
+    }
+    Err(Refusal::Unexpected)
+}

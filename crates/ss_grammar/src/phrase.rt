@@ -1,0 +1,182 @@
+//! Reading FOR phrases.
+
+ghost use Rattle.std.specs.Prelude.{IfSome, IfOk, length, ◌≡◌, ◌≤◌, ◌<◌, Ok};
+ghost use Rattle.ss_words.specs.declared.mark.Mark.TheVariants as m;
+ghost use Rattle.ss_words.specs.declared.reserved.Reserved.TheVariants as r;
+ghost use Rattle.ss_words.specs.Marks.{a_name};
+ghost use Rattle.ss_words.specs.Reading.{Gives, option_view};
+ghost use Rattle.ss_grammar.specs.Combined.{by_table, if_mark};
+ghost use Rattle.ss_grammar.specs.ExprReading.{expr_at};
+ghost use Rattle.ss_grammar.specs.LoopReading as reading;
+ghost use Rattle.ss_grammar.specs.PartView.{qualifiers_view};
+ghost use Rattle.ss_grammar.specs.View.{expr_view, walk_start_view, range_view, qualifier_view, phrase_view};
+
+use crate::assignment::reference;
+use crate::conditions::condition;
+use crate::expr::Expr;
+use crate::expression::expression;
+use crate::place::{Direction, Phrase, Qualifier, QualifierWord, Range, WalkStart};
+use ss_words::{Cursor, Mark, Plain, Refusal, Reserved, Sign};
+
+/// A FOR phrase, behind FOR.
+#[tactic(auto, unfolding(ss_words::specs::Reading::bind, ss_words::specs::Reading::pure, crate::specs::Combined::made, crate::specs::Combined::pair, crate::specs::LoopReading::phrase_at))]
+pub fn phrase(cursor: &mut Cursor<'_>, room: u32) -> Result<Phrase, Refusal>
+    ensures exact { Gives phrase_view result cursor.new (reading.phrase_at room cursor.old) }
+    ensures shorter { length cursor.new ≤ length cursor.old }
+{
+    let range = range(cursor, room)?;
+    let qualifiers = qualifiers(cursor, room)?;
+    Ok(Phrase { range, qualifiers })
+}
+
+/// What a FOR phrase goes through.
+#[tactic(auto, unfolding(ss_words::specs::Reading::bind, ss_words::specs::Reading::pure, crate::specs::Combined::made, crate::specs::Combined::pair, crate::specs::Combined::before, crate::specs::Combined::if_mark, crate::specs::Combined::either, crate::specs::LoopReading::walk_at, crate::specs::LoopReading::counting_at, crate::specs::LoopReading::range_at))]
+fn range(cursor: &mut Cursor<'_>, room: u32) -> Result<Range, Refusal>
+    ensures exact { Gives range_view result cursor.new (reading.range_at room cursor.old) }
+    ensures shorter { length cursor.new ≤ length cursor.old }
+{
+    if cursor.eat(Mark::Reserved(Reserved::Every)) {
+        let name = cursor.name()?;
+        if cursor.eat(Mark::Reserved(Reserved::In)) {
+            let set = reference(cursor, room)?;
+            let start = walk_start(cursor, room)?;
+            let direction = order(cursor)?;
+            return Ok(Range::Walking {
+                direction,
+                variable: name,
+                set,
+                start,
+            });
+        }
+        let variable = called_name(cursor)?;
+        return Ok(Range::Each {
+            class: name,
+            variable,
+        });
+    }
+    let variable = cursor.name()?;
+    let direction = direction(cursor)?;
+    let first = expression(cursor, room)?;
+    cursor.expect(Mark::Reserved(Reserved::To))?;
+    let last = expression(cursor, room)?;
+    let step = step(cursor, room)?;
+    Ok(Range::Counting {
+        direction,
+        variable,
+        first,
+        last,
+        step,
+    })
+}
+
+/// `[CALLED name]`
+#[tactic(auto, unfolding(ss_words::specs::Reading::bind, ss_words::specs::Reading::pure, crate::specs::Combined::if_mark))]
+fn called_name(cursor: &mut Cursor<'_>) -> Result<Option<Vec<u8>>, Refusal>
+    ensures exact { Gives (option_view (λ v. v.items)) result cursor.new (if_mark (m.Reserved r.Called) a_name cursor.old) }
+    ensures shorter { length cursor.new ≤ length cursor.old }
+{
+    if !cursor.eat(Mark::Reserved(Reserved::Called)) {
+        return Ok(None);
+    }
+    Ok(Some(cursor.name()?))
+}
+
+/// `[(FROM | AFTER) expression]`
+#[tactic(auto, unfolding(ss_words::specs::Reading::bind, ss_words::specs::Reading::pure, crate::specs::Combined::made, crate::specs::Combined::if_mark, crate::specs::Combined::either, crate::specs::LoopReading::start_at))]
+fn walk_start(cursor: &mut Cursor<'_>, room: u32) -> Result<WalkStart, Refusal>
+    ensures exact { Gives walk_start_view result cursor.new (reading.start_at room cursor.old) }
+    ensures shorter { length cursor.new ≤ length cursor.old }
+{
+    if cursor.eat(Mark::Reserved(Reserved::From)) {
+        return Ok(WalkStart::From(expression(cursor, room)?));
+    }
+    if cursor.eat(Mark::Reserved(Reserved::After)) {
+        return Ok(WalkStart::After(expression(cursor, room)?));
+    }
+    Ok(WalkStart::AtEnd)
+}
+
+/// `[IN REVERSE ORDER]`
+#[tactic(auto, unfolding(ss_words::specs::Reading::bind, ss_words::specs::Reading::pure, crate::specs::Combined::made, crate::specs::Combined::behind, crate::specs::Combined::if_mark, crate::specs::LoopReading::an_order))]
+fn order(cursor: &mut Cursor<'_>) -> Result<Direction, Refusal>
+    ensures exact { Gives (λ d. d) result cursor.new (reading.an_order cursor.old) }
+    ensures shorter { length cursor.new ≤ length cursor.old }
+{
+    if !cursor.eat(Mark::Reserved(Reserved::In)) {
+        return Ok(Direction::Onward);
+    }
+    cursor.expect(Mark::Reserved(Reserved::Reverse))?;
+    cursor.expect(Mark::Reserved(Reserved::Order))?;
+    Ok(Direction::Backward)
+}
+
+/// `"="` or BACK FROM.
+#[tactic(auto, unfolding(ss_words::specs::Reading::bind, ss_words::specs::Reading::pure, crate::specs::Combined::made, crate::specs::Combined::behind, crate::specs::Combined::if_mark, crate::specs::Combined::either, crate::specs::LoopReading::a_direction))]
+fn direction(cursor: &mut Cursor<'_>) -> Result<Direction, Refusal>
+    ensures exact { Gives (λ d. d) result cursor.new (reading.a_direction cursor.old) }
+    ensures shorter { length cursor.new ≤ length cursor.old }
+{
+    if cursor.eat(Mark::Reserved(Reserved::Back)) {
+        cursor.expect(Mark::Reserved(Reserved::From))?;
+        return Ok(Direction::Backward);
+    }
+    cursor.expect(Mark::Sign(Sign::Equal))?;
+    Ok(Direction::Onward)
+}
+
+/// `[BY expression]`
+#[tactic(auto, unfolding(ss_words::specs::Reading::bind, ss_words::specs::Reading::pure, crate::specs::Combined::if_mark))]
+fn step(cursor: &mut Cursor<'_>, room: u32) -> Result<Option<Expr>, Refusal>
+    ensures exact { Gives (option_view expr_view) result cursor.new (if_mark (m.Reserved r.By) (expr_at room) cursor.old) }
+    ensures shorter { length cursor.new ≤ length cursor.old }
+{
+    if !cursor.eat(Mark::Reserved(Reserved::By)) {
+        return Ok(None);
+    }
+    Ok(Some(expression(cursor, room)?))
+}
+
+/// `{(WITH | UNLESS | WHILE | UNTIL) condition}`
+#[tactic(auto, unfolding(crate::specs::LoopReading::qualifiers_at))]
+fn qualifiers(cursor: &mut Cursor<'_>, room: u32) -> Result<Vec<Qualifier>, Refusal>
+    ensures exact { Gives qualifiers_view result cursor.new (reading.qualifiers_at room cursor.old) }
+    ensures shorter { length cursor.new ≤ length cursor.old }
+{
+    let mut qualifiers = Vec::new(cursor.alloc());
+    while let Some(qualifier) = next_qualifier(cursor, room)? {
+        qualifiers.push(qualifier)?;
+    }
+    Ok(qualifiers)
+}
+
+/// A qualifier, if one begins here.
+#[tactic(auto, unfolding(ss_words::specs::Reading::bind, ss_words::specs::Reading::pure, crate::specs::Combined::if_word, crate::specs::Combined::made_of))]
+fn next_qualifier(cursor: &mut Cursor<'_>, room: u32) -> Result<Option<Qualifier>, Refusal>
+    ensures exact { Gives (option_view qualifier_view) result cursor.new (reading.next_qualifier room cursor.old) }
+    ensures shorter { length cursor.new ≤ length cursor.old }
+    ensures taken { IfOk result (λ o. IfSome o (λ _. length cursor.new < length cursor.old)) }
+{
+    let Some(word) = qualifier_word(cursor) else {
+        return Ok(None);
+    };
+    let condition = condition(cursor, room)?;
+    Ok(Some(Qualifier { word, condition }))
+}
+
+/// WITH, UNLESS, WHILE or UNTIL, if one stands here.
+#[tactic(auto, unfolding(ss_words::specs::Reading::look, ss_words::specs::Reading::skip, ss_words::specs::Reading::pure, crate::specs::Combined::by_table))]
+fn qualifier_word(cursor: &mut Cursor<'_>) -> Option<QualifierWord>
+    ensures exact { by_table reading.qualifier_of cursor.old ≡ (Ok result, cursor.new) }
+    ensures shorter { length cursor.new ≤ length cursor.old }
+    ensures taken { IfSome result (λ _. length cursor.new < length cursor.old) }
+{
+    let word = match cursor.peek() {
+        Some(Plain::Mark(Mark::Reserved(Reserved::With))) => QualifierWord::With,
+        Some(Plain::Mark(Mark::Reserved(Reserved::Unless))) => QualifierWord::Unless,
+        Some(Plain::Mark(Mark::Reserved(Reserved::While))) => QualifierWord::While,
+        Some(Plain::Mark(Mark::Reserved(Reserved::Until))) => QualifierWord::Until,
+        _ => return None,
+    };
+    cursor.pass();
+    Some(word)
+}

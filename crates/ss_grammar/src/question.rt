@@ -1,0 +1,25 @@
+//! Reading what an IF asks.
+
+ghost use Rattle.std.specs.Prelude.{length, ◌≤◌};
+ghost use Rattle.ss_words.specs.Reading.{Gives};
+ghost use Rattle.ss_grammar.specs.LoopReading as reading;
+ghost use Rattle.ss_grammar.specs.View.{question_view};
+
+use crate::conditions::condition;
+use crate::place::Question;
+use ss_words::{Cursor, Mark, Refusal, Reserved};
+
+/// FOUND, NONE or a condition, behind IF.
+#[tactic(auto, unfolding(ss_words::specs::Reading::bind, ss_words::specs::Reading::pure, crate::specs::Combined::made, crate::specs::Combined::if_mark, crate::specs::Combined::either, crate::specs::LoopReading::question_at))]
+pub fn question(cursor: &mut Cursor<'_>, room: u32) -> Result<Question, Refusal>
+    ensures exact { Gives question_view result cursor.new (reading.question_at room cursor.old) }
+    ensures shorter { length cursor.new ≤ length cursor.old }
+{
+    if cursor.eat(Mark::Reserved(Reserved::Found)) {
+        return Ok(Question::Found);
+    }
+    if cursor.eat(Mark::Reserved(Reserved::NoneFound)) {
+        return Ok(Question::NoneFound);
+    }
+    Ok(Question::Holds(condition(cursor, room)?))
+}

@@ -1,0 +1,36 @@
+//! Reading the statements that leave their place.
+
+ghost use Rattle.std.specs.Prelude.{IfSome, IfOk, length, ◌≤◌, ◌<◌};
+ghost use Rattle.ss_words.specs.Reading.{Gives, option_view};
+ghost use Rattle.ss_grammar.specs.SimpleReading as reading;
+ghost use Rattle.ss_grammar.specs.View.{transfer_view};
+
+use crate::lists::{references_behind, values};
+use crate::simple::Transfer;
+use ss_words::{Cursor, Mark, Refusal, Reserved};
+
+/// CALL, RETURN or STOP, if one stands here.
+#[tactic(auto, unfolding(ss_words::specs::Reading::bind, ss_words::specs::Reading::pure, crate::specs::Combined::pair, crate::specs::Combined::if_mark, crate::specs::Combined::either_of, crate::specs::Combined::made_of, crate::specs::SimpleReading::call_at, crate::specs::SimpleReading::transfer_at))]
+pub fn transfer(cursor: &mut Cursor<'_>, room: u32) -> Result<Option<Transfer>, Refusal>
+    ensures exact { Gives (option_view transfer_view) result cursor.new (reading.transfer_at room cursor.old) }
+    ensures shorter { length cursor.new ≤ length cursor.old }
+    ensures taken { IfOk result (λ o. IfSome o (λ _. length cursor.new < length cursor.old)) }
+{
+    if cursor.eat(Mark::Reserved(Reserved::Call)) {
+        let routine = cursor.name()?;
+        let values = values(cursor, room)?;
+        let targets = references_behind(cursor, Mark::Reserved(Reserved::Yielding), room)?;
+        return Ok(Some(Transfer::Call {
+            routine,
+            values,
+            targets,
+        }));
+    }
+    if cursor.eat(Mark::Reserved(Reserved::Return)) {
+        return Ok(Some(Transfer::Return));
+    }
+    if cursor.eat(Mark::Reserved(Reserved::Stop)) {
+        return Ok(Some(Transfer::Stop));
+    }
+    Ok(None)
+}
