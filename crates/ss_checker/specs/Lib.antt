@@ -1,0 +1,12 @@
+pub mod Facts
+pub mod NameKinds
+pub mod Declarations
+pub mod Uses
+pub mod Statements
+pub mod ItemRules
+pub mod PlaceRules
+pub mod Breach
+pub mod Examples
+pub mod UseView
+pub mod Counted
+pub mod Adding

@@ -1,0 +1,8 @@
+/// The kind of class that a statement needs.
+#[derive(Clone, Copy, Debug, PartialEq, Eq)]
+pub enum ClassNeed {
+    Permanent,
+    /// A class whose entities can end: a temporary class or an event class.
+    Ending,
+    Event,
+}

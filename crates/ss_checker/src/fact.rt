@@ -1,0 +1,8 @@
+use ss_check::Name;
+
+/// A name, and what holds of it.
+#[derive(Debug, Drop)]
+pub struct Fact<T> {
+    pub name: Name,
+    pub what: T,
+}

@@ -1,0 +1,14 @@
+/// A function of the language (docs/LANGUAGE.md, "Names and values").
+#[derive(Clone, Copy, Debug, PartialEq, Eq)]
+pub enum Function {
+    /// `ABS.F`
+    Absolute,
+    /// `MAX.F`
+    Greatest,
+    /// `MIN.F`
+    Least,
+    /// `DIV.F`
+    Quotient,
+    /// `MOD.F`
+    Remainder,
+}

@@ -1,0 +1,56 @@
+ghost use Rattle.std.specs.Prelude.{◌≡◌, [], ◌∷◌, ◌++◌, OnErr, OnOk};
+ghost use Rattle.ss_checker.specs.Facts.{is_among, repeats};
+
+use crate::fact_table::FactTable;
+use std::alloc::{AllocError, Global};
+use std::marker::Model;
+
+/// Names in the order in which they were put in. A name is found in time that grows with the
+/// logarithm of their number.
+#[derive(Drop)]
+pub struct NameList {
+    table: FactTable<()>,
+}
+
+impl Model for NameList {
+    ghost use Rattle.std.specs.Prelude.{List, ℕ};
+    ghost use Rattle.ss_checker.specs.Facts.{names_of};
+
+    ghost Value = { List (List ℕ) };
+
+    ghost view = { λ a. names_of a.table };
+}
+
+impl NameList {
+    /// A list without names.
+    pub fn new(alloc: Global) -> Self
+        ensures { result ≡ [] }
+    {
+        NameList {
+            table: FactTable::new(alloc),
+        }
+    }
+
+    /// Whether this name is in the list.
+    pub fn has(&self, name: &[u8]) -> bool
+        ensures { result ≡ is_among name.now self.now }
+    {
+        self.table.has(name)
+    }
+
+    /// Whether some name stands twice in the list.
+    pub fn has_repeat(&self) -> bool
+        ensures { result ≡ repeats [] self.now }
+    {
+        self.table.has_repeat()
+    }
+
+    /// Puts a name at the end. Where memory is refused the list is as before.
+    #[tactic(auto, using(crate::proofs::FactTables::names_of_push))]
+    pub fn add(&mut self, name: &[u8]) -> Result<(), AllocError>
+        ensures ok { OnOk result (self.new ≡ self.old ++ name.now ∷ []) }
+        ensures err { OnErr result (self.new ≡ self.old) }
+    {
+        self.table.add(name, ())
+    }
+}
