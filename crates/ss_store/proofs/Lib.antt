@@ -12,3 +12,13 @@ pub mod Named
 pub mod Values
 pub mod Undone
 pub mod Kept
+pub mod More
+pub mod Grown
+pub mod GrownState
+pub mod Cut
+pub mod Made
+pub mod Room
+pub mod Taken
+pub mod Begun
+pub mod Chained
+pub mod Written

@@ -49,6 +49,10 @@ relisted_store g new h m k r f = record {
     | inl is ↦ let d = f t (ap (λ l. has l t) (sym r.here ∙ ap (list_at new.lists) (sym is)) ∙ e) in record { set = d.set; owner = d.owner; member = d.member; is_set = d.is_set; head = d.head ∙ ap Some (sym is); seat = d.seat }
     | inr far ↦ let d = k.joined j t (ap (λ l. has l t) (sym (r.others j far)) ∙ e) in record { set = d.set; owner = d.owner; member = d.member; is_set = d.is_set; head = d.head; seat = d.seat }
   ];
+  few_made = k.few_made;
+  few_references = k.few_references;
+  used_heads = k.used_heads;
+  used_seats = k.used_seats;
 }
 
 -- ---- rows and values taken together

@@ -1,14 +1,17 @@
 -- What is noted of a change, and how it is taken back.
-use Rattle.std.specs.Prelude.{◌≡◌, ℕ, ◌<◌, true, false, List, [], length, Option, unwrap_or, Result, Ok, Err}
+use Rattle.std.specs.Prelude.{◌≡◌, ℕ, ℤ, ◌-◌, ◌<◌, true, false, List, [], length, replicate, slice_get, slice_set, Option, Some, None, unwrap_or, Result, Ok, Err}
 use Rattle.std.specs.Option.{ForSome}
 use Rattle.ss_words.specs.declared.fault.RunFault.{RunFault}
+use Rattle.ss_words.specs.declared.fault.StepFault.{StepFault}
+use Rattle.ss_words.specs.declared.fault.StepFault.TheVariants.{Fault, Memory}
 use Rattle.ss_links.specs.Seats.{has, put_at, without}
 use Rattle.ss_check.specs.declared.kinds.Owner.{Owner}
 use Rattle.ss_store.specs.declared.change.StoreChange.{StoreChange}
-use Rattle.ss_store.specs.declared.change.StoreChange.TheVariants.{Filed, Removed}
-use Rattle.ss_store.specs.Tables.{set_of}
-use Rattle.ss_store.specs.Store.{Store, list_by, with_list_by, is_owner, members_of, exists, is_filed}
+use Rattle.ss_store.specs.declared.change.StoreChange.TheVariants.{Filed, Removed, Created, ClassCreated, AttributeSet}
+use Rattle.ss_store.specs.Tables.{class_of, set_of}
+use Rattle.ss_store.specs.Store.{Store, last_reference, with_made, with_value, with_changed, list_by, with_list_by, is_owner, members_of, exists, is_filed}
 use Rattle.ss_store.specs.Held.{Kept, StoreValue}
+use Rattle.ss_store.specs.Making.{kept_with, but_last, without_last, FitsLast, Less}
 
 -- the list of a set for owner number o, by the set's owner and its number among that owner's sets
 abbrev pub list_in : Owner → ℕ → Store → ℕ → List ℕ
@@ -18,11 +21,17 @@ list_in w n s o = unwrap_or (list_by w n s o) []
 abbrev pub unapply_state : StoreChange → Store → Store
 unapply_state (Filed set w n o k) s = with_list_by w n s o (without (list_in w n s o) k)
 unapply_state (Removed set w n o k before) s = with_list_by w n s o (put_at (list_in w n s o) before k)
+unapply_state (Created c k heads seats) s = without_last None s
+unapply_state (ClassCreated c n heads seats) s = with_made s c []
+unapply_state (AttributeSet c a k old) s = with_changed (with_value a old) s c k
 
 -- what is kept, before a change
 abbrev pub unapply_kept : StoreChange → Kept → Kept
 unapply_kept (Filed set w n o k) kept = kept
 unapply_kept (Removed set w n o k before) kept = kept
+unapply_kept (Created c k heads seats) kept = kept_with but_last kept None heads seats
+unapply_kept (ClassCreated c n heads seats) kept = kept_with (λ rows. []) kept (Some c) heads seats
+unapply_kept (AttributeSet c a k old) kept = kept
 
 -- the store before a change
 abbrev pub unapply_store : StoreChange → StoreValue → StoreValue
@@ -46,10 +55,28 @@ pub record FitsRemoved (v : StoreValue) (set : ℕ) (w : Owner) (n o k : ℕ) (b
   pub out : is_filed (set_of v.tables set) v.state k ≡ false
   pub before : ForSome b (λ y. has (members_of (set_of v.tables set) v.state o) y ≡ true)
 
+-- the reference was given last
+pub record FitsCreated (v : StoreValue) (c k heads seats : ℕ) : Type 0 where
+  pub given : (class_of v.tables c).permanent ≡ false
+  pub newest : FitsLast c k heads seats v
+
+-- the class's entities can be taken off, last first, and what is left then is the store before
+pub record FitsClassCreated (v : StoreValue) (c n heads seats : ℕ) : Type 0 where
+  pub permanent : (class_of v.tables c).permanent ≡ true
+  pub less : Less c n v (unapply_store (ClassCreated c n heads seats) v)
+
+-- the entity whose attribute was set exists
+pub record FitsSet (v : StoreValue) (c k : ℕ) : Type 0 where
+  pub is_class : c < length v.tables.classes
+  pub there : exists v.state c k ≡ true
+
 -- a change that can be taken back
 abbrev pub FitsStore : StoreChange → StoreValue → Type 0
 FitsStore (Filed set w n o k) v = FitsFiled v set w n o k
 FitsStore (Removed set w n o k before) v = FitsRemoved v set w n o k before
+FitsStore (Created c k heads seats) v = FitsCreated v c k heads seats
+FitsStore (ClassCreated c n heads seats) v = FitsClassCreated v c n heads seats
+FitsStore (AttributeSet c a k old) v = FitsSet v c k
 
 -- a writing call left this state, and gave a change that fits and takes it back
 pub record Leaves (c : StoreChange) (s : Store) (old new : StoreValue) : Type 0 where
@@ -71,3 +98,22 @@ IsRemoval (Ok r) (Ok s) old new = (r.0 ≡ s.0) × Leaves r.1 s.1 old new
 IsRemoval (Err e) (Err f) old new = (e ≡ f) × (new ≡ old)
 IsRemoval (Ok r) (Err f) old new = ⊥
 IsRemoval (Err e) (Ok s) old new = ⊥
+
+-- a refusal leaves everything as before; memory is refused only where there is no fault
+abbrev pub IsRefusal : StepFault → Result Store RunFault → StoreValue → StoreValue → Type 0
+IsRefusal (Fault e) (Err f) old new = (e ≡ f) × (new ≡ old)
+IsRefusal Memory (Ok s) old new = new ≡ old
+IsRefusal (Fault e) (Ok s) old new = ⊥
+IsRefusal Memory (Err f) old new = ⊥
+
+-- an entity was made, which has the last reference, or not
+abbrev pub IsCreation : Result (ℕ × StoreChange) StepFault → Result Store RunFault → StoreValue → StoreValue → Type 0
+IsCreation (Ok r) (Ok s) old new = (r.0 ≡ last_reference s) × Leaves r.1 s old new
+IsCreation (Err e) s old new = IsRefusal e s old new
+IsCreation (Ok r) (Err f) old new = ⊥
+
+-- the entities of a class were made, or not
+abbrev pub IsMaking : Result StoreChange StepFault → Result Store RunFault → StoreValue → StoreValue → Type 0
+IsMaking (Ok c) (Ok s) old new = Leaves c s old new
+IsMaking (Err e) s old new = IsRefusal e s old new
+IsMaking (Ok c) (Err f) old new = ⊥

@@ -1,6 +1,6 @@
 -- What a store holds, and the state that it stands for. Cited by the store's view and invariant and by private
 -- functions alone.
-use Rattle.std.specs.Prelude.{◌≡◌, ℕ, ℤ, zero, suc, ◌+◌, ◌<◌, ◌==◌, if◌then◌else◌, true, false, List, [], ◌∷◌, length, map, slice_get, slice_index_or, Option, Some, None, Result, Ok, Err, Bool, option_map, unwrap_or}
+use Rattle.std.specs.Prelude.{◌≡◌, ℕ, ℤ, zero, suc, ◌+◌, ◌<◌, ◌≤◌, ◌==◌, if◌then◌else◌, true, false, List, [], ◌∷◌, length, map, replicate, slice_get, slice_index_or, Option, Some, None, Result, Ok, Err, Bool, option_map, unwrap_or}
 use Rattle.ss_words.specs.declared.fault.RunFault.{RunFault}
 use Rattle.ss_words.specs.declared.fault.RunFault.TheVariants.{NoEntity, NotInList, EmptySet}
 use Rattle.ss_links.specs.Board.{Board, IsSound, list_at, list_of, head_of}
@@ -22,7 +22,7 @@ use Rattle.ss_check.specs.declared.keys.Key.{Key}
 use Rattle.std.specs.Ordering.{is_gt}
 use Rattle.ss_check.specs.Keys.{by_keys, key_values}
 use Rattle.ss_store.specs.Tables.{Tables, class_in, class_of}
-use Rattle.ss_store.specs.Store.{Entity, Store, number_of}
+use Rattle.ss_store.specs.Store.{Entity, Store, number_of, empty_store, class_limit, reference_limit}
 use Rattle.ss_store.specs.Filing.{or_fault}
 use Rattle.ss_store.specs.Rows.{RowTable, EntityTable, rows_in, row_of, values_of}
 
@@ -121,6 +121,14 @@ pub record StoreValue : Type 0 where
 abbrev pub value_of : Held → StoreValue
 value_of g = record { tables = g.tables; state = state_of g; kept = kept_of g }
 
+-- a store with nothing made
+abbrev pub empty_value : Tables → StoreValue
+empty_value t = record {
+  tables = t;
+  state = empty_store t;
+  kept = record { made = replicate (length t.classes) []; references = []; heads = t.system; seats = 0 };
+}
+
 -- ---- where a list and a member are on the board
 
 -- the head of a set's list, by its owner's number, where the owner exists
@@ -151,12 +159,20 @@ abbrev pub owned_by : Owner → Tables → ℕ
 owned_by System t = t.system
 owned_by (OwnedBy c) t = (class_of t c).owned
 
+-- no more classes than these, nor sets
+abbrev pub table_limit : ℕ
+table_limit = 64
+
 -- each set has a number of its own among those of its owner and among those of its members
 pub record AreTables (t : Tables) : Type 0 where
   pub lists : (s : SetShape) → IsSet t.sets s → s.list < owned_by s.owner t
   pub slots : (s : SetShape) → IsSet t.sets s → s.slot < (class_of t s.member).joined
   pub one_list : (a b : SetShape) → IsSet t.sets a → IsSet t.sets b → a.owner ≡ b.owner → a.list ≡ b.list → a ≡ b
   pub one_slot : (a b : SetShape) → IsSet t.sets a → IsSet t.sets b → a.member ≡ b.member → a.slot ≡ b.slot → a ≡ b
+  pub few_classes : length t.classes ≤ table_limit
+  pub few_owned : (c : ℕ) → (class_of t c).owned ≤ table_limit
+  pub few_joined : (c : ℕ) → (class_of t c).joined ≤ table_limit
+  pub few_system : t.system ≤ table_limit
 
 -- the list is of an owner that exists, and the seat of a member that exists, in one set
 pub record Joins (g : Held) (h t : ℕ) : Type 0 where
@@ -174,6 +190,18 @@ pub record IsRow (g : Held) (i : ℕ) (r : Row) : Type 0 where
       → slice_get g.owners (r.head + k) ≡ Some (record { owner = OwnedBy r.class; list = k; number = suc i })
   pub seats : (k : ℕ) → k < (class_of g.tables r.class).joined
       → slice_get g.members (r.seat + k) ≡ Some (record { member = r.class; slot = k; number = suc i })
+
+-- how many heads, or seats, the entities of these rows have, and those of all numberings
+abbrev pub used_of : (ClassShape → ℕ) → List ClassShape → List Row → ℕ
+used_of count cs [] = 0
+used_of count cs (r ∷ rs) = count (class_in cs r.class) + used_of count cs rs
+
+abbrev pub used_made : (ClassShape → ℕ) → List ClassShape → List RowTable → ℕ
+used_made count cs [] = 0
+used_made count cs (t ∷ ts) = used_of count cs t.rows + used_made count cs ts
+
+abbrev pub used_in : (ClassShape → ℕ) → List ClassShape → EntityTable → ℕ
+used_in count cs es = used_made count cs es.made + used_of count cs es.references.rows
 
 pub record IsStore (g : Held) : Type 0 where
   pub tables : AreTables g.tables
@@ -194,6 +222,10 @@ pub record IsStore (g : Held) : Type 0 where
   pub system : (k : ℕ) → k < g.tables.system
       → slice_get g.owners k ≡ Some (record { owner = System; list = k; number = 0 })
   pub joined : (h t : ℕ) → has (list_at g.board.lists h) t ≡ true → Joins g h t
+  pub few_made : (c : ℕ) → length (rows_in g.rows (Some c)).rows ≤ class_limit
+  pub few_references : length g.rows.references.rows ≤ reference_limit
+  pub used_heads : length g.owners ≡ g.tables.system + used_in (λ k. k.owned) g.tables.classes g.rows
+  pub used_seats : length g.members ≡ used_in (λ k. k.joined) g.tables.classes g.rows
 
 -- ---- what private calls find
 

@@ -4,5 +4,7 @@ pub mod Store
 pub mod Filing
 pub mod Rows
 pub mod Held
+pub mod Making
+pub mod Writing
 pub mod Change
 pub mod Examples

@@ -174,11 +174,15 @@ last_reference st = length st.references
 abbrev pub with_made : Store → ℕ → List Entity → Store
 with_made st c es = record st { made = slice_set st.made c es }
 
+-- no more entities of a permanent class than these
+abbrev pub class_limit : ℕ
+class_limit = 10000
+
 -- the store with n entities of permanent class c; F12 where it was made, F13 where n isn't 1 to 10,000
 abbrev pub with_class : Store → ℕ → ClassShape → ℤ → Result Store RunFault
 with_class st c shape n =
     unless AlreadyCreated (length (made_of st c) == 0)
-    (unless CountOutOfRange (nat_lt 0 (number_of n) && nat_le (number_of n) 10000)
+    (unless CountOutOfRange (nat_lt 0 (number_of n) && nat_le (number_of n) class_limit)
     (Ok (with_made st c (replicate (number_of n) (fresh c shape)))))
 
 -- ---- ending

@@ -1,7 +1,12 @@
 -- What a store needs of a program: its classes and its sets, in order of declaration.
-use Rattle.std.specs.Prelude.{ℕ, List, slice_get, unwrap_or, false}
+use Rattle.std.specs.Prelude.{ℕ, ◌==◌, Bool, true, false, List, length, take, map, count_by, slice_get, unwrap_or}
+use Rattle.std.specs.List.{range_with_len}
+use Rattle.ss_check.specs.declared.kinds.ClassKind.{ClassKind}
+use Rattle.ss_check.specs.declared.kinds.ClassKind.TheVariants.{Permanent}
 use Rattle.ss_check.specs.declared.kinds.Discipline.TheVariants.{Fifo}
-use Rattle.ss_check.specs.declared.kinds.Owner.TheVariants.{System}
+use Rattle.ss_check.specs.declared.kinds.Owner.TheVariants.{System, OwnedBy}
+use Rattle.ss_check.specs.Program as program
+use Rattle.ss_check.specs.Program.{SetTable, ProgramTable, owned_among, list_number}
 use Rattle.ss_store.specs.declared.shape.ClassShape.{ClassShape}
 use Rattle.ss_store.specs.declared.shape.SetShape.{SetShape}
 
@@ -27,3 +32,39 @@ no_set = record { discipline = Fifo; owner = System; list = 0; member = 0; slot 
 -- set number s
 abbrev pub set_of : Tables → ℕ → SetShape
 set_of t s = unwrap_or (slice_get t.sets s) no_set
+
+-- ---- the tables of a program
+
+abbrev pub is_permanent : ClassKind → Bool
+is_permanent (Permanent n) = true
+is_permanent _ = false
+
+-- in how many of these sets the entities of class c may be
+abbrev pub joined_among : ℕ → List SetTable → ℕ
+joined_among c sets = count_by (λ t. c == t.member) sets
+
+-- what is kept of class c
+abbrev pub class_shape : ProgramTable → ℕ → ClassShape
+class_shape p c = record {
+  attributes = length (program.class_of p c).attributes;
+  owned = owned_among (OwnedBy c) p.sets;
+  joined = joined_among c p.sets;
+  permanent = is_permanent (program.class_of p c).kind;
+}
+
+-- what is kept of set s
+abbrev pub set_shape : ProgramTable → ℕ → SetShape
+set_shape p s = record {
+  discipline = (program.set_of p s).discipline;
+  owner = (program.set_of p s).owner;
+  list = list_number p s;
+  member = (program.set_of p s).member;
+  slot = joined_among (program.set_of p s).member (take s p.sets);
+}
+
+abbrev pub tables_of : ProgramTable → Tables
+tables_of p = record {
+  classes = map (class_shape p) (range_with_len 0 (length p.classes));
+  sets = map (set_shape p) (range_with_len 0 (length p.sets));
+  system = owned_among System p.sets;
+}

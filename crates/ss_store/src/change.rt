@@ -21,4 +21,27 @@ pub enum StoreChange {
         member: usize,
         before: Option<u32>,
     },
+    /// An entity of a temporary or event class was made, with the last reference; before it the
+    /// board had so many heads and seats.
+    Created {
+        class: usize,
+        number: usize,
+        heads: u32,
+        seats: u32,
+    },
+    /// The entities of a permanent class were made; before them the board had so many heads and
+    /// seats.
+    ClassCreated {
+        class: usize,
+        count: usize,
+        heads: u32,
+        seats: u32,
+    },
+    /// An attribute of an entity got another value than this one.
+    AttributeSet {
+        class: usize,
+        attribute: usize,
+        number: usize,
+        old: i64,
+    },
 }

@@ -2,12 +2,16 @@
 #![tactic(auto)]
 
 mod change;
+mod growing;
 pub mod laws;
+mod making;
 mod places;
 mod ranking;
 mod rows;
 mod shape;
 mod store;
+mod tables;
+mod writing;
 
 pub use change::StoreChange;
 pub use shape::{ClassShape, How, SetShape, Which};

@@ -1,10 +1,13 @@
-ghost use Rattle.std.specs.Prelude.{◌≡◌, ◌<◌, length};
-ghost use Rattle.ss_store.specs.Tables.{set_of};
+ghost use Rattle.std.specs.Prelude.{◌≡◌, ◌<◌, IfOk, length};
+ghost use Rattle.ss_links.specs.Board.{empty_board};
+ghost use Rattle.ss_store.specs.Tables.{set_of, tables_of};
+ghost use Rattle.ss_store.specs.Held.{empty_value};
 ghost use Rattle.ss_store.specs.Store as pure;
 ghost use Rattle.ss_store.specs.Filing.{filed, removed, is_in, count, first_member, last_member, next_member, previous_member, predecessor, successor, membership};
 ghost use Rattle.ss_store.specs.Change.{FitsStore, unapply_store, IsOutcome, IsRemoval};
 
 use crate::change::StoreChange;
+use crate::growing::add_heads;
 use crate::places::{
     head_of, named, number_if, number_of, place_for, row_of, seat_if, seat_in, seat_named, seat_of,
     spot_of, standing,
@@ -12,9 +15,12 @@ use crate::places::{
 use crate::ranking::{value_at, values_of};
 use crate::rows::Entities;
 use crate::shape::{ClassShape, How, SetShape, Which};
+use crate::tables::{class_shapes, count_owned, set_shapes};
+use ss_check::{Owner, Program};
 use ss_journal::Undo;
 use ss_links::{Place, SetBoard};
 use ss_words::RunFault;
+use std::alloc::{AllocError, Global};
 use std::marker::Model;
 
 /// Entities with their attributes, and the lists of the sets that they own, over a set board.
@@ -23,12 +29,13 @@ use std::marker::Model;
 /// memory, and one that faults changes nothing.
 #[derive(Drop)]
 pub struct Store<S: SetBoard> {
-    classes: Vec<ClassShape>,
-    sets: Vec<SetShape>,
-    system: u32,
-    entities: Entities,
-    numbers: Vec<u32>,
-    board: S,
+    pub(crate) alloc: Global,
+    pub(crate) classes: Vec<ClassShape>,
+    pub(crate) sets: Vec<SetShape>,
+    pub(crate) system: u32,
+    pub(crate) entities: Entities,
+    pub(crate) numbers: Vec<u32>,
+    pub(crate) board: S,
 }
 
 impl<S: SetBoard> Model for Store<S> {
@@ -54,6 +61,31 @@ impl<S: SetBoard> Model for Store<S> {
       members = ms;
       board = S.board a.board;
     }) };
+}
+
+impl<S: SetBoard> Store<S> {
+    /// A store of a program, with nothing made, on a board without heads and seats.
+    pub fn new(alloc: Global, program: &Program, board: S) -> Result<Self, AllocError>
+        requires { S.board board ≡ empty_board }
+        ensures { IfOk result (λ store. store ≡ empty_value (tables_of program.now)) }
+    {
+        program.known();
+        let classes = class_shapes(alloc, program)?;
+        let sets = set_shapes(alloc, program)?;
+        let system = count_owned(&program.sets, Owner::System, program.sets.len()) as u32;
+        let entities = Entities::new(alloc, classes.len())?;
+        let mut board = board;
+        add_heads(&mut board, system)?;
+        Ok(Store {
+            alloc,
+            classes,
+            sets,
+            system,
+            entities,
+            numbers: Vec::new(alloc),
+            board,
+        })
+    }
 }
 
 impl<S: SetBoard> Store<S> {
@@ -346,8 +378,6 @@ impl<S: SetBoard> Undo for Store<S> {
     ghost unapply = { unapply_store };
 
     fn undo(&mut self, change: StoreChange) {
-        let _heads = self.board.heads();
-        let _seats = self.board.seats();
         match change {
             StoreChange::Filed {
                 set,
@@ -356,6 +386,7 @@ impl<S: SetBoard> Undo for Store<S> {
                 number: _,
                 member,
             } => {
+                let _seats = self.board.seats();
                 let shape = &self.sets[set];
                 let seat = seat_of(&self.entities, shape, member).unwrap();
                 let _place = self.board.unlink(seat);
@@ -368,12 +399,32 @@ impl<S: SetBoard> Undo for Store<S> {
                 member,
                 before,
             } => {
+                let _heads = self.board.heads();
+                let _seats = self.board.seats();
                 let shape = &self.sets[set];
                 let before = seat_if(&self.entities, shape, before);
                 let head = head_of(&self.entities, shape, number).unwrap();
                 let seat = seat_of(&self.entities, shape, member).unwrap();
                 self.board.relink(seat, Place { head, before });
             }
+            StoreChange::Created {
+                class,
+                number: _,
+                heads: _,
+                seats: _,
+            } => self.take_entity(class),
+            StoreChange::ClassCreated {
+                class,
+                count,
+                heads: _,
+                seats: _,
+            } => self.take_entities(class, count),
+            StoreChange::AttributeSet {
+                class,
+                attribute,
+                number,
+                old,
+            } => self.reset(class, attribute, number, old),
         }
     }
 }

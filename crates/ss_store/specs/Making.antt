@@ -1,0 +1,178 @@
+-- An entity more, and the last one less. Cited by private functions of the store alone.
+use Rattle.std.specs.Prelude.{◌≡◌, ℕ, ℤ, pos, zero, suc, ◌-◌, ◌+◌, ◌<◌, ◌≤◌, Bool, true, false, if◌then◌else◌, List, [], ◌∷◌, ◌++◌, length, take, replicate, slice_get, slice_index_or, Option, Some, None}
+use Rattle.ss_links.specs.Board.{Board, list_at, head_of}
+use Rattle.ss_check.specs.declared.kinds.Owner.TheVariants.{OwnedBy}
+use Rattle.ss_store.specs.declared.rows.Row.{Row}
+use Rattle.ss_store.specs.declared.shape.ClassShape.{ClassShape}
+use Rattle.ss_store.specs.Lists.{change_at}
+use Rattle.ss_store.specs.Tables.{class_of}
+use Rattle.ss_store.specs.Rows.{RowTable, EntityTable, rows_in}
+use Rattle.ss_store.specs.Store.{Entity, Store, entity, exists, fresh, class_limit, reference_limit, with_reference, is_member, owns_members}
+use Rattle.ss_store.specs.Held.{Held, HeadEntry, SeatEntry, Kept, StoreValue}
+
+-- the numbering of the entities of class c: its own, or that of the references
+abbrev pub numbering_by : Bool → ℕ → Option ℕ
+numbering_by permanent c = if permanent then Some c else None
+
+abbrev pub numbering : ClassShape → ℕ → Option ℕ
+numbering shape c = numbering_by shape.permanent c
+
+-- ---- rows
+
+-- a numbering with one more row
+abbrev pub more : Row → List ℤ → RowTable → RowTable
+more r v t = record { rows = t.rows ++ r ∷ []; values = t.values ++ Some v ∷ [] }
+
+-- a numbering changed
+abbrev pub with_table : (RowTable → RowTable) → EntityTable → Option ℕ → EntityTable
+with_table change es None = record es { references = change es.references }
+with_table change es (Some c) = record es { made = change_at change es.made c }
+
+-- a numbering without its last row
+abbrev pub less : RowTable → RowTable
+less t = record { rows = take (length t.rows - 1) t.rows; values = take (length t.rows - 1) t.values }
+
+-- what n heads and n seats of entity number k of class c are of, from its list number i on
+abbrev pub heads_for : ℕ → ℕ → ℕ → ℕ → List HeadEntry
+heads_for c k i zero = []
+heads_for c k i (suc n) = record { owner = OwnedBy c; list = i; number = k } ∷ heads_for c k (suc i) n
+
+abbrev pub seats_for : ℕ → ℕ → ℕ → ℕ → List SeatEntry
+seats_for c k i zero = []
+seats_for c k i (suc n) = record { member = c; slot = i; number = k } ∷ seats_for c k (suc i) n
+
+-- a board with so many heads more, whose lists are empty
+abbrev pub with_heads : ℕ → Board → Board
+with_heads n b = record { lists = b.lists ++ replicate n []; seats = b.seats }
+
+-- a board with so many seats more, which are in no list
+abbrev pub with_seats : ℕ → Board → Board
+with_seats n b = record { lists = b.lists; seats = b.seats + n }
+
+abbrev pub with_places : ℕ → ℕ → Board → Board
+with_places heads seats b = with_seats seats (with_heads heads b)
+
+-- the number that the next entity of a numbering gets
+abbrev pub next_number : Held → Option ℕ → ℕ
+next_number g w = suc (length (rows_in g.rows w).rows)
+
+-- its row
+abbrev pub next_row : Held → ℕ → Row
+next_row g c = record { class = c; head = length g.board.lists; seat = g.board.seats }
+
+-- what is held once an entity of class c with these attributes is made
+abbrev pub grown : Held → Option ℕ → ℕ → ClassShape → List ℤ → Held
+grown g w c shape v = record g {
+  rows = with_table (more (next_row g c) v) g.rows w;
+  numbers = g.numbers ++ replicate shape.joined (next_number g w);
+  owners = g.owners ++ heads_for c (next_number g w) 0 shape.owned;
+  members = g.members ++ seats_for c (next_number g w) 0 shape.joined;
+  board = with_places shape.owned shape.joined g.board;
+}
+
+-- what is held without the last entity of a numbering, whose heads and seats are these and those behind them
+abbrev pub cut : Held → Option ℕ → ℕ → ℕ → Held
+cut g w head seat = record g {
+  rows = with_table less g.rows w;
+  numbers = take seat g.numbers;
+  owners = take head g.owners;
+  members = take seat g.members;
+  board = record { lists = take head g.board.lists; seats = seat };
+}
+
+-- a board whose heads and seats from these on can be taken off
+pub record CanShrink (b : Board) (head seat : ℕ) : Type 0 where
+  pub heads : head ≤ length b.lists
+  pub empty : (h : ℕ) → head ≤ h → list_at b.lists h ≡ []
+  pub seats : seat ≤ b.seats
+  pub free : (t : ℕ) → seat ≤ t → head_of b.lists t ≡ None
+
+-- ---- the store
+
+-- no more entities in a numbering than these
+abbrev pub numbering_limit : ClassShape → ℕ
+numbering_limit shape = if shape.permanent then class_limit else reference_limit
+
+-- the state with one more entity in a numbering
+abbrev pub with_entity : Option ℕ → Store → Entity → Store
+with_entity None st e = with_reference st e
+with_entity (Some c) st e = record st { made = change_at (λ es. es ++ e ∷ []) st.made c }
+
+-- the state with one more entity of class c, which is the last of its numbering
+abbrev pub with_more : Store → ℕ → ClassShape → Store
+with_more st c shape =
+    with_entity (numbering shape c) st (fresh c shape)
+
+-- the rows of a numbering
+abbrev pub kept_rows : Kept → Option ℕ → List Row
+kept_rows k None = k.references
+kept_rows k (Some c) = slice_index_or k.made c []
+
+-- what is kept, with the rows of a numbering changed, and so many heads and seats
+abbrev pub kept_with : (List Row → List Row) → Kept → Option ℕ → ℕ → ℕ → Kept
+kept_with change k None heads seats = record k { references = change k.references; heads = heads; seats = seats }
+kept_with change k (Some c) heads seats = record k { made = change_at change k.made c; heads = heads; seats = seats }
+
+-- the store with one more entity of class c
+abbrev pub one_more : ℕ → StoreValue → StoreValue
+one_more c v = record v {
+  state = with_more v.state c (class_of v.tables c);
+  kept = kept_with (λ rs. rs ++ record { class = c; head = v.kept.heads; seat = v.kept.seats } ∷ [])
+      v.kept (numbering (class_of v.tables c) c)
+      (v.kept.heads + (class_of v.tables c).owned) (v.kept.seats + (class_of v.tables c).joined);
+}
+
+-- a list without its last item
+abbrev pub but_last : {A : Type 0} → List A → List A
+but_last xs = take (length xs - 1) xs
+
+-- the state without the last entity of a numbering
+abbrev pub without_last : Option ℕ → Store → Store
+without_last None st = record st { references = but_last st.references }
+without_last (Some c) st = record st { made = change_at but_last st.made c }
+
+-- the store without it, where these were the counts of heads and seats before it was made
+abbrev pub one_less : ℕ → ℕ → ℕ → StoreValue → StoreValue
+one_less c heads seats v = record v {
+  state = without_last (numbering (class_of v.tables c) c) v.state;
+  kept = kept_with but_last v.kept (numbering (class_of v.tables c) c) heads seats;
+}
+
+-- entity number k is the last of the numbering of class c, its heads and seats are the board's last, from these on, it is
+-- in no list and owns no member
+pub record FitsLast (c k heads seats : ℕ) (v : StoreValue) : Type 0 where
+  pub is_class : c < length v.tables.classes
+  pub last : length (kept_rows v.kept (numbering (class_of v.tables c) c)) ≡ k
+  pub row : slice_get (kept_rows v.kept (numbering (class_of v.tables c) c)) (k - 1)
+      ≡ Some (record { class = c; head = heads; seat = seats })
+  pub last_heads : heads + (class_of v.tables c).owned ≡ v.kept.heads
+  pub last_seats : seats + (class_of v.tables c).joined ≡ v.kept.seats
+  pub there : exists v.state c k ≡ true
+  pub free : is_member v.tables.sets v.state c k ≡ false
+  pub empty : owns_members (entity v.state c k) ≡ false
+
+-- there may be one more entity of class c
+abbrev pub HasRoom : ℕ → StoreValue → Type 0
+HasRoom c v = length (kept_rows v.kept (numbering (class_of v.tables c) c)) < numbering_limit (class_of v.tables c)
+
+-- an entity of class c was made, and can be taken off again
+pub record Makes (c : ℕ) (old new : StoreValue) : Type 0 where
+  pub is : new ≡ one_more c old
+  pub fits : FitsLast c (suc (length (kept_rows old.kept (numbering (class_of old.tables c) c)))) old.kept.heads old.kept.seats new
+  pub back : one_less c old.kept.heads old.kept.seats new ≡ old
+
+-- so many entities of class c can be taken off, last first, and this store is what is left
+abbrev pub Less : ℕ → ℕ → StoreValue → StoreValue → Type 0
+Less c zero v rest = v ≡ rest
+Less c (suc n) v rest = (k heads seats : ℕ) × FitsLast c k heads seats v × Less c n (one_less c heads seats v) rest
+
+-- so many entities of permanent class c were made, and can be taken off again
+pub record MakesAll (c n : ℕ) (old new : StoreValue) : Type 0 where
+  pub tables : new.tables ≡ old.tables
+  pub state : new.state ≡ record old.state { made = change_at (λ es. es ++ replicate n (fresh c (class_of old.tables c))) old.state.made c }
+  pub rows : List Row
+  pub heads : ℕ
+  pub seats : ℕ
+  pub kept : new.kept ≡ kept_with (λ rs. rs ++ rows) old.kept (Some c) heads seats
+  pub count : length rows ≡ n
+  pub less : Less c n new old

@@ -1,0 +1,177 @@
+//! Entities made, and what takes them off again.
+ghost use Rattle.std.specs.Prelude.{◌≡◌, ◌<◌, ◌≤◌, IfOk, OnErr, length, true, false, ℕ};
+ghost use Rattle.ss_store.specs.Tables.{class_of};
+ghost use Rattle.ss_store.specs.Store.{made_of, with_new, with_class};
+ghost use Rattle.ss_store.specs.Making.{numbering, kept_rows, HasRoom, Makes, MakesAll, FitsLast, Less, one_less};
+ghost use Rattle.ss_store.specs.Held.{StoreValue};
+ghost use Rattle.ss_store.specs.Change.{IsCreation, IsMaking};
+
+use crate::change::StoreChange;
+use crate::growing::{grow, shrink};
+use crate::store::Store;
+use ss_links::SetBoard;
+use ss_words::{RunFault, StepFault};
+use std::alloc::AllocError;
+
+/// The most references that a run gives.
+const REFERENCE_LIMIT: usize = 1_000_000;
+
+/// The most entities of a permanent class.
+const CLASS_LIMIT: i64 = 10_000;
+
+impl<S: SetBoard> Store<S> {
+    /// How many entities were made in the numbering of a class.
+    fn count_made(&self, class: usize) -> usize
+        requires { class < length self.now.tables.classes }
+        ensures kept { result ≡ length (kept_rows self.now.kept (numbering (class_of self.now.tables class) class)) }
+        ensures given { (class_of self.now.tables class).permanent ≡ false → result ≡ length self.now.state.references }
+        ensures made { (class_of self.now.tables class).permanent ≡ true → result ≡ length (made_of self.now.state class) }
+    {
+        let shape = self.classes[class];
+        self.entities.count(shape.permanent, class)
+    }
+
+    /// How many heads the board has.
+    fn count_heads(&self) -> u32
+        ensures { result ≡ self.now.kept.heads }
+    {
+        let board = &self.board;
+        board.heads()
+    }
+
+    /// How many seats the board has.
+    fn count_seats(&self) -> u32
+        ensures { result ≡ self.now.kept.seats }
+    {
+        let board = &self.board;
+        board.seats()
+    }
+
+    /// Makes an entity of a class, the next of its numbering.
+    fn add_entity(&mut self, class: usize) -> Result<(), AllocError>
+        requires class { class < length self.old.tables.classes }
+        requires few { HasRoom class self.old }
+        ensures ok { IfOk result (λ _. Makes class self.old self.new) }
+        ensures err { OnErr result (self.new ≡ self.old) }
+    {
+        let shape = self.classes[class];
+        let grown = grow(
+            self.alloc,
+            &mut self.entities,
+            &mut self.numbers,
+            &mut self.board,
+            shape,
+            class,
+        );
+        match grown {
+            Err(refused) => Err(refused),
+            Ok(_) => Ok(()),
+        }
+    }
+
+    /// Takes the last entity of a class off.
+    pub(crate) fn take_entity(&mut self, class: usize)
+        requires class { class < length self.old.tables.classes }
+        requires fits { (k heads seats : ℕ) × FitsLast class k heads seats self.old }
+        ensures { (k heads seats : ℕ) → FitsLast class k heads seats self.old →
+            self.new ≡ one_less class heads seats self.old }
+    {
+        let shape = self.classes[class];
+        shrink(
+            &mut self.entities,
+            &mut self.numbers,
+            &mut self.board,
+            shape.permanent,
+            class,
+        );
+    }
+
+    /// Takes so many entities of a class off, last first.
+    pub(crate) fn take_entities(&mut self, class: usize, count: usize)
+        requires { (rest : StoreValue) × Less class count self.old rest }
+        ensures { (rest : StoreValue) → Less class count self.old rest → self.new ≡ rest }
+    {
+        for _ in 0..count {
+            self.take_entity(class);
+        }
+    }
+
+    /// Makes so many entities of a class, or none where memory is refused.
+    fn add_entities(&mut self, class: usize, count: usize) -> Result<(), AllocError>
+        requires class { class < length self.old.tables.classes }
+        requires kind { (class_of self.old.tables class).permanent ≡ true }
+        requires none { length (kept_rows self.old.kept (numbering (class_of self.old.tables class) class)) ≡ 0 }
+        requires few { count ≤ 10000 }
+        ensures ok { IfOk result (λ _. MakesAll class count self.old self.new) }
+        ensures err { OnErr result (self.new ≡ self.old) }
+    {
+        for made in 0..count {
+            if let Err(refused) = self.add_entity(class) {
+                self.take_entities(class, made);
+                return Err(refused);
+            }
+        }
+        Ok(())
+    }
+
+    /// Makes an entity of a temporary or event class, whose attributes are 0 and whose lists are
+    /// empty, and gives its reference: 1, 2, 3, .. over all such classes.
+    ///
+    /// Want of references (F20) and then of memory is refused; a refusal leaves all as it was.
+    pub fn create(&mut self, class: usize) -> Result<(u32, StoreChange), StepFault>
+        requires class { class < length self.old.tables.classes }
+        requires kind { (class_of self.old.tables class).permanent ≡ false }
+        ensures { IsCreation result (with_new self.old.state class (class_of self.old.tables class)) self.old self.new }
+    {
+        let count = self.count_made(class);
+        if count >= REFERENCE_LIMIT {
+            return Err(StepFault::Fault(RunFault::TooManyReferences));
+        }
+        let heads = self.count_heads();
+        let seats = self.count_seats();
+        match self.add_entity(class) {
+            Err(_) => Err(StepFault::Memory),
+            Ok(()) => {
+                let number = count + 1;
+                Ok((
+                    number as u32,
+                    StoreChange::Created {
+                        class,
+                        number,
+                        heads,
+                        seats,
+                    },
+                ))
+            }
+        }
+    }
+
+    /// Makes entities 1 to `n` of a permanent class, whose attributes are 0 and whose lists are empty.
+    ///
+    /// A class that was made already (F12), a number that is not 1 to 10,000 (F13), and then want of
+    /// memory are refused; a refusal leaves all as it was.
+    pub fn create_all(&mut self, class: usize, n: i64) -> Result<StoreChange, StepFault>
+        requires class { class < length self.old.tables.classes }
+        requires kind { (class_of self.old.tables class).permanent ≡ true }
+        ensures { IsMaking result (with_class self.old.state class (class_of self.old.tables class) n) self.old self.new }
+    {
+        if self.count_made(class) > 0 {
+            return Err(StepFault::Fault(RunFault::AlreadyCreated));
+        }
+        if n < 1 || n > CLASS_LIMIT {
+            return Err(StepFault::Fault(RunFault::CountOutOfRange));
+        }
+        let count = n as usize;
+        let heads = self.count_heads();
+        let seats = self.count_seats();
+        match self.add_entities(class, count) {
+            Err(_) => Err(StepFault::Memory),
+            Ok(()) => Ok(StoreChange::ClassCreated {
+                class,
+                count,
+                heads,
+                seats,
+            }),
+        }
+    }
+}
