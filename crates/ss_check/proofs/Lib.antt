@@ -6,6 +6,7 @@ pub mod Known
 pub mod Distinct
 pub mod Few
 pub mod Linked
+pub mod Nested
 pub mod WaysKept
 pub mod Backward
 pub mod SoundResolved

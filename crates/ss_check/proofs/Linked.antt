@@ -2,7 +2,7 @@
 use Rattle.std.proofs.Common.{◌≡◌, ℕ, zero, suc, ◌+◌, ◌-◌, ◌<◌, ◌==◌, List, [], ◌∷◌, length, Bool, true, false, Option, Some, None, arith, refl}
 use Rattle.std.specs.Prelude.{slice_get, if◌then◌else◌}
 use Rattle.ss_check.specs.declared.place.Place.{Place}
-use Rattle.ss_check.specs.declared.place.Place.TheVariants.{Assign, Output, Control, Branch, Looping, Call}
+use Rattle.ss_check.specs.declared.place.Place.TheVariants.{Assign, Output, Control, Branch, Looping, Call, Read}
 use Rattle.ss_check.specs.declared.place.Spot.{Spot}
 use Rattle.ss_check.specs.Program.{SectionTable}
 use Rattle.ss_check.specs.ProgramSound.{IsEnded, is_end, GoesOn, LeadsOn, IsLinkedPlace, AreLinkedPlaces}
@@ -26,6 +26,7 @@ plain_is_not_bare (Control c) h = refl
 plain_is_not_bare (Branch b) h = absurd h
 plain_is_not_bare (Looping l) h = absurd h
 plain_is_not_bare (Call c) h = absurd h
+plain_is_not_bare (Read ts) h = absurd h
 
 none_bare : (ps : List Spot) (i : ℕ) → ArePlain ps → passes is_bare (slice_get ps i) ≡ false
 none_bare [] i h = refl
@@ -53,6 +54,7 @@ next_plain ps i (Control c) h k = next_behind ps i h
 next_plain ps i (Branch b) h k = absurd k
 next_plain ps i (Looping l) h k = absurd k
 next_plain ps i (Call c) h k = absurd k
+next_plain ps i (Read ts) h k = absurd k
 
 leads_plain : (ss : List SectionTable) (ps : List Spot) (n i : ℕ) (x : Place) → IsPlain x → LeadsOn ss n (ways_of ps i x) x
 leads_plain ss ps n i (Assign a) k = tt
@@ -61,6 +63,7 @@ leads_plain ss ps n i (Control c) k = tt
 leads_plain ss ps n i (Branch b) k = absurd k
 leads_plain ss ps n i (Looping l) k = absurd k
 leads_plain ss ps n i (Call c) k = absurd k
+leads_plain ss ps n i (Read ts) k = absurd k
 
 goes_nowhere : (b : Bool) (count next : ℕ) → b ≡ true → GoesOn count b next
 goes_nowhere true count next e = tt

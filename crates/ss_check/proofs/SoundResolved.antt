@@ -22,6 +22,7 @@ use Rattle.ss_check.proofs.Known.{known, known_parts, any_position, all_known}
 use Rattle.ss_check.proofs.Distinct.{distinct_locals, sound_names, sound_tables}
 use Rattle.ss_check.proofs.Few.{AreFew}
 use Rattle.ss_check.proofs.Linked.{IsPlain, ArePlain, plain_linked}
+use Rattle.ss_check.proofs.Nested.{plain_nested}
 
 -- ---- names and expressions
 
@@ -116,6 +117,16 @@ ended_places table [] h = h
 ended_places table (s ∷ []) h = end_stays table s.place ∙ h
 ended_places table (s ∷ t ∷ ts) h = (end_stays table s.place ∙ h.0, ended_places table (t ∷ ts) h.1)
 
+-- every place that is resolved so far is plain
+plain_place : (table : List (List ℕ)) (p : Place) → IsPlain (resolved_place table p)
+plain_place table (assign a) = tt
+plain_place table (output o) = tt
+plain_place table (control c) = tt
+
+plain_places : (table : List (List ℕ)) (ss : List Spot) → ArePlain (map (resolved_spot table) ss)
+plain_places table [] = tt
+plain_places table (s ∷ ss) = (plain_place table s.place, plain_places table ss)
+
 -- ---- sections
 
 sound_section : (s : Section) → IsEnded s.places → length s.places < 2 ^ 63 → first_breach (map place_statement s.places) ≡ None → sound.IsSoundSection 0 (resolved_section s)
@@ -125,6 +136,9 @@ sound_section s e f b = record {
   few_parameters = omega arith;
   places = sound_places (locals_written s.places) s.places (all_known (flat_map (λ s. names_written s.place) s.places) []) b;
   ended = ended_places (locals_written s.places) s.places e;
+  nested =
+      let plain = plain_places (locals_written s.places) s.places in
+      plain_nested (map (resolved_spot (locals_written s.places)) s.places) _ 0 plain plain;
   few = rw (length-map s.places (resolved_spot (locals_written s.places))) f;
 }
 
@@ -149,16 +163,6 @@ mains_counted (s ∷ ss) has_main n b =
     let behind = mains_counted ss _ _ none.2 in
     rw (sum_by-cons (λ (t : SectionTable). cond (is_main t) 1 0) (resolved_section s) (map resolved_section ss))
     (one_more has_main (is_main_section s) s.line (count_by is_main (map resolved_section ss)) none.0 behind)
-
--- every place that is resolved so far is plain
-plain_place : (table : List (List ℕ)) (p : Place) → IsPlain (resolved_place table p)
-plain_place table (assign a) = tt
-plain_place table (output o) = tt
-plain_place table (control c) = tt
-
-plain_places : (table : List (List ℕ)) (ss : List Spot) → ArePlain (map (resolved_spot table) ss)
-plain_places table [] = tt
-plain_places table (s ∷ ss) = (plain_place table s.place, plain_places table ss)
 
 linked_sections : (all : List SectionTable) (ss : List Section) → AreEnded ss → sound.AreLinkedSections all (map resolved_section ss)
 linked_sections all [] e = tt

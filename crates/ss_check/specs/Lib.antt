@@ -15,4 +15,5 @@ pub mod Indexed
 pub mod ProgramCondition
 pub mod ProgramConditionCode
 pub mod Match
+pub mod Nesting
 pub mod Pairings

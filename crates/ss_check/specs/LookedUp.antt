@@ -46,6 +46,8 @@ module _ (globals locals : List (List ℕ)) where
     written_factor (digits n) = written.digits n
     written_factor (variable x) = written.variable (name_of x)
     written_factor (within e) = written.within (written_expr e)
+    -- no text has a function of arguments yet
+    written_factor other = written.digits 0
 
   abbrev pub target_of : Variable → w.Reference
   target_of x = record { name = name_of x }
@@ -57,6 +59,8 @@ module _ (globals locals : List (List ℕ)) where
 
   abbrev pub written_output : Output → w.Output
   written_output (o.Print n es ls) = w.prints n (map written_expr es) ls
+  -- no text has a SKIP yet
+  written_output (o.Skip e) = w.prints 0 [] []
 
   abbrev pub written_control : Control → w.Control
   written_control c.Stop = w.stops

@@ -5,8 +5,9 @@ use Rattle.ss_check.specs.declared.variable.Variable.{Variable}
 use Rattle.ss_check.specs.declared.sum.Sum.{Sum as Code, fold-Sum}
 use Rattle.ss_check.specs.declared.sum.Term.{Term as CodeTerm, fold-Term}
 use Rattle.ss_check.specs.declared.sum.SignedTerm.{SignedTerm as CodeSigned, fold-SignedTerm}
+use Rattle.ss_check.specs.declared.sum.Arguments.{Arguments as CodeArguments, fold-Arguments}
 use Rattle.ss_check.specs.declared.sum.Factor.{Factor as CodeFactor, fold-Factor}
-use Rattle.ss_check.specs.declared.sum.Factor.TheOpen.{Factor-F, SignedTerm-F, Sum-F, Term-F}
+use Rattle.ss_check.specs.declared.sum.Factor.TheOpen.{Arguments-F, Factor-F, SignedTerm-F, Sum-F, Term-F}
 
 mutual
   -- a sign at the head or none, a first term, and the terms behind it
@@ -25,11 +26,19 @@ mutual
     no_products : Products
     product : Factor → Products → Products
 
-  -- a number, a variable, or an expression in parentheses
+  -- a number; a variable; ABS.F of an expression; MAX.F and MIN.F of a first expression and further ones; DIV.F and MOD.F of a dividend
+  -- and a divisor; an expression in parentheses
   pub data Factor : Type 0 where
     digits : ℕ → Factor
     variable : Variable → Factor
+    absolute : Expr → Factor
+    greatest least : Expr → Exprs → Factor
+    quotient remainder : Expr → Expr → Factor
     within : Expr → Factor
+
+  pub data Exprs : Type 0 where
+    no_exprs : Exprs
+    exprs : Expr → Exprs → Exprs
 
 -- ---- the tree that an expression of the code stands for
 
@@ -41,29 +50,44 @@ abbrev pub products_of : List Factor → Products
 products_of [] = no_products
 products_of (f ∷ fs) = product f (products_of fs)
 
+abbrev pub exprs_of : List Expr → Exprs
+exprs_of [] = no_exprs
+exprs_of (e ∷ es) = exprs e (exprs_of es)
+
 -- one level, with each part already seen as its tree
-abbrev pub factor_level : Factor-F Factor (TermSign × Term) Expr Term → Factor
+abbrev pub arguments_level : Arguments-F Factor (Expr × Exprs) (TermSign × Term) Expr Term → Expr × Exprs
+arguments_level a = (a.first.value, exprs_of a.more.items)
+
+abbrev pub factor_level : Factor-F Factor (Expr × Exprs) (TermSign × Term) Expr Term → Factor
 factor_level (Factor-F.Number n) = digits n
 factor_level (Factor-F.Variable v) = variable v
+factor_level (Factor-F.Absolute e) = absolute e.value
+factor_level (Factor-F.Greatest a) = greatest a.0 a.1
+factor_level (Factor-F.Least a) = least a.0 a.1
+factor_level (Factor-F.Quotient e f) = quotient e.value f.value
+factor_level (Factor-F.Remainder e f) = remainder e.value f.value
 factor_level (Factor-F.Within e) = within e.value
 
-abbrev pub signed_level : SignedTerm-F Factor (TermSign × Term) Expr Term → TermSign × Term
+abbrev pub signed_level : SignedTerm-F Factor (Expr × Exprs) (TermSign × Term) Expr Term → TermSign × Term
 signed_level a = (a.sign, a.term)
 
-abbrev pub sum_level : Sum-F Factor (TermSign × Term) Expr Term → Expr
+abbrev pub sum_level : Sum-F Factor (Expr × Exprs) (TermSign × Term) Expr Term → Expr
 sum_level e = expr e.sign e.first (sums_of e.more.items)
 
-abbrev pub term_level : Term-F Factor (TermSign × Term) Expr Term → Term
+abbrev pub term_level : Term-F Factor (Expr × Exprs) (TermSign × Term) Expr Term → Term
 term_level t = term t.first (products_of t.more.items)
 
 abbrev pub expr_of : Code → Expr
-expr_of = fold-Sum Factor (TermSign × Term) Expr Term factor_level signed_level sum_level term_level
+expr_of = fold-Sum Factor (Expr × Exprs) (TermSign × Term) Expr Term factor_level arguments_level signed_level sum_level term_level
 
 abbrev pub term_of : CodeTerm → Term
-term_of = fold-Term Factor (TermSign × Term) Expr Term factor_level signed_level sum_level term_level
+term_of = fold-Term Factor (Expr × Exprs) (TermSign × Term) Expr Term factor_level arguments_level signed_level sum_level term_level
 
 abbrev pub factor_of : CodeFactor → Factor
-factor_of = fold-Factor Factor (TermSign × Term) Expr Term factor_level signed_level sum_level term_level
+factor_of = fold-Factor Factor (Expr × Exprs) (TermSign × Term) Expr Term factor_level arguments_level signed_level sum_level term_level
 
 abbrev pub signed_of : CodeSigned → TermSign × Term
-signed_of = fold-SignedTerm Factor (TermSign × Term) Expr Term factor_level signed_level sum_level term_level
+signed_of = fold-SignedTerm Factor (Expr × Exprs) (TermSign × Term) Expr Term factor_level arguments_level signed_level sum_level term_level
+
+abbrev pub arguments_of : CodeArguments → Expr × Exprs
+arguments_of = fold-Arguments Factor (Expr × Exprs) (TermSign × Term) Expr Term factor_level arguments_level signed_level sum_level term_level

@@ -7,7 +7,7 @@ use Rattle.ss_routines.specs.declared.expr.TermSign.{TermSign}
 use Rattle.ss_routines.specs.declared.expr.TermSign.TheVariants.{Plus, Minus}
 use Rattle.ss_check.specs.declared.variable.Variable.{Variable}
 use Rattle.ss_check.specs.declared.variable.Variable.TheVariants as v
-use Rattle.ss_check.specs.ProgramExpr.{Expr, expr, Sums, no_sums, sum, Term, term, Products, no_products, product, Factor, digits, variable, within}
+use Rattle.ss_check.specs.ProgramExpr.{Expr, expr, Sums, no_sums, sum, Term, term, Products, no_products, product, Factor, digits, variable, absolute, greatest, least, quotient, remainder, within, Exprs, no_exprs, exprs}
 
 -- a part of a tree
 pub data Part : Type 0 where
@@ -16,6 +16,7 @@ pub data Part : Type 0 where
   a_term : Term → Part
   some_products : Products → Part
   a_factor : Factor → Part
+  some_exprs : Exprs → Part
 
 -- the token of a sign at the head
 abbrev pub lead_token : Option TermSign → ℕ × ℕ
@@ -53,7 +54,16 @@ abbrev mutual
   pub factor_tokens : Factor → List (ℕ × ℕ) → List (ℕ × ℕ)
   factor_tokens (digits n) k = (6, n) ∷ k
   factor_tokens (variable x) k = variable_token x ∷ k
+  factor_tokens (absolute e) k = (11, 0) ∷ expr_tokens e k
+  factor_tokens (greatest e es) k = (12, 0) ∷ expr_tokens e (exprs_tokens es k)
+  factor_tokens (least e es) k = (13, 0) ∷ expr_tokens e (exprs_tokens es k)
+  factor_tokens (quotient e f) k = (14, 0) ∷ expr_tokens e (expr_tokens f k)
+  factor_tokens (remainder e f) k = (15, 0) ∷ expr_tokens e (expr_tokens f k)
   factor_tokens (within e) k = (10, 0) ∷ expr_tokens e k
+
+  pub exprs_tokens : Exprs → List (ℕ × ℕ) → List (ℕ × ℕ)
+  exprs_tokens no_exprs k = (16, 0) ∷ k
+  exprs_tokens (exprs e es) k = (17, 0) ∷ expr_tokens e (exprs_tokens es k)
 
 -- the sign at the head of this number
 abbrev pub lead_of : ℕ → Option TermSign
@@ -91,6 +101,36 @@ abbrev pub within_read : List Part → List Part
 within_read (an_expr e ∷ st) = a_factor (within e) ∷ st
 within_read st = st
 
+-- of ABS.F
+abbrev pub absolute_read : List Part → List Part
+absolute_read (an_expr e ∷ st) = a_factor (absolute e) ∷ st
+absolute_read st = st
+
+-- of MAX.F
+abbrev pub greatest_read : List Part → List Part
+greatest_read (an_expr e ∷ some_exprs es ∷ st) = a_factor (greatest e es) ∷ st
+greatest_read st = st
+
+-- of MIN.F
+abbrev pub least_read : List Part → List Part
+least_read (an_expr e ∷ some_exprs es ∷ st) = a_factor (least e es) ∷ st
+least_read st = st
+
+-- of DIV.F
+abbrev pub quotient_read : List Part → List Part
+quotient_read (an_expr e ∷ an_expr f ∷ st) = a_factor (quotient e f) ∷ st
+quotient_read st = st
+
+-- of MOD.F
+abbrev pub remainder_read : List Part → List Part
+remainder_read (an_expr e ∷ an_expr f ∷ st) = a_factor (remainder e f) ∷ st
+remainder_read st = st
+
+-- of a further argument
+abbrev pub argument_read : List Part → List Part
+argument_read (an_expr e ∷ some_exprs es ∷ st) = some_exprs (exprs e es) ∷ st
+argument_read st = st
+
 -- of a token by its numbers
 abbrev pub token_read : ℕ → ℕ → List Part → List Part
 token_read zero n st = expr_read n st
@@ -103,7 +143,14 @@ token_read (suc (suc (suc (suc (suc (suc zero)))))) n st = a_factor (digits n) �
 token_read (suc (suc (suc (suc (suc (suc (suc zero))))))) n st = a_factor (variable (v.Global n)) ∷ st
 token_read (suc (suc (suc (suc (suc (suc (suc (suc zero)))))))) n st = a_factor (variable (v.Local n)) ∷ st
 token_read (suc (suc (suc (suc (suc (suc (suc (suc (suc zero))))))))) n st = a_factor (variable v.Clock) ∷ st
-token_read k n st = within_read st
+token_read (suc (suc (suc (suc (suc (suc (suc (suc (suc (suc zero)))))))))) n st = within_read st
+token_read (suc (suc (suc (suc (suc (suc (suc (suc (suc (suc (suc zero))))))))))) n st = absolute_read st
+token_read (suc (suc (suc (suc (suc (suc (suc (suc (suc (suc (suc (suc zero)))))))))))) n st = greatest_read st
+token_read (suc (suc (suc (suc (suc (suc (suc (suc (suc (suc (suc (suc (suc zero))))))))))))) n st = least_read st
+token_read (suc (suc (suc (suc (suc (suc (suc (suc (suc (suc (suc (suc (suc (suc zero)))))))))))))) n st = quotient_read st
+token_read (suc (suc (suc (suc (suc (suc (suc (suc (suc (suc (suc (suc (suc (suc (suc zero))))))))))))))) n st = remainder_read st
+token_read (suc (suc (suc (suc (suc (suc (suc (suc (suc (suc (suc (suc (suc (suc (suc (suc zero)))))))))))))))) n st = some_exprs no_exprs ∷ st
+token_read k n st = argument_read st
 
 -- the parts of a list of tokens
 abbrev pub parts : List (ℕ × ℕ) → List Part
@@ -154,7 +201,16 @@ mutual
   factor_again : (f : Factor) (k : List (ℕ × ℕ)) → parts (factor_tokens f k) ≡ a_factor f ∷ parts k
   factor_again (digits n) k = refl
   factor_again (variable x) k = variable_again x (parts k)
+  factor_again (absolute e) k = ap absolute_read (expr_again e k)
+  factor_again (greatest e es) k = ap greatest_read (expr_again e (exprs_tokens es k) ∙ ap (λ st. an_expr e ∷ st) (exprs_again es k))
+  factor_again (least e es) k = ap least_read (expr_again e (exprs_tokens es k) ∙ ap (λ st. an_expr e ∷ st) (exprs_again es k))
+  factor_again (quotient e f) k = ap quotient_read (expr_again e (expr_tokens f k) ∙ ap (λ st. an_expr e ∷ st) (expr_again f k))
+  factor_again (remainder e f) k = ap remainder_read (expr_again e (expr_tokens f k) ∙ ap (λ st. an_expr e ∷ st) (expr_again f k))
   factor_again (within e) k = ap within_read (expr_again e k)
+
+  exprs_again : (es : Exprs) (k : List (ℕ × ℕ)) → parts (exprs_tokens es k) ≡ some_exprs es ∷ parts k
+  exprs_again no_exprs k = refl
+  exprs_again (exprs e es) k = ap argument_read (expr_again e (exprs_tokens es k) ∙ ap (λ st. an_expr e ∷ st) (exprs_again es k))
 
 -- an expression as its tokens
 abbrev pub written : Expr → List (ℕ × ℕ)

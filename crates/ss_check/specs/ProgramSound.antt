@@ -7,17 +7,17 @@ use Rattle.ss_check.specs.declared.variable.Variable.TheVariants.{Global, Local,
 use Rattle.ss_check.specs.declared.place.Assign.{Assign as AnAssign}
 use Rattle.ss_check.specs.declared.place.Assign.TheVariants.{Let, Add, Subtract}
 use Rattle.ss_check.specs.declared.place.Output.{Output as AnOutput}
-use Rattle.ss_check.specs.declared.place.Output.TheVariants.{Print}
+use Rattle.ss_check.specs.declared.place.Output.TheVariants.{Print, Skip}
 use Rattle.ss_check.specs.declared.place.Control.TheVariants.{Stop, Return, End}
 use Rattle.ss_check.specs.declared.place.Place.{Place}
-use Rattle.ss_check.specs.declared.place.Place.TheVariants.{Assign, Output, Control, Branch, Looping, Call}
+use Rattle.ss_check.specs.declared.place.Place.TheVariants.{Assign, Output, Control, Branch, Looping, Call, Read}
 use Rattle.ss_check.specs.declared.branch.Question.{Question}
 use Rattle.ss_check.specs.declared.branch.Question.TheVariants.{Whether, WasFound, WasNone}
 use Rattle.ss_check.specs.declared.branch.Branch.{Branch as ABranch}
 use Rattle.ss_check.specs.declared.branch.Branch.TheVariants.{If, Else, Always}
 use Rattle.ss_check.specs.declared.looping.Qualifier.{Qualifier}
 use Rattle.ss_check.specs.declared.looping.Phrase.{Phrase}
-use Rattle.ss_check.specs.declared.looping.Phrase.TheVariants.{Counting}
+use Rattle.ss_check.specs.declared.looping.Phrase.TheVariants.{Counting, Each}
 use Rattle.ss_check.specs.declared.looping.Telling.{Telling}
 use Rattle.ss_check.specs.declared.looping.Looping.{Looping as ALooping}
 use Rattle.ss_check.specs.declared.looping.Looping.TheVariants.{For, Loop, Find, Gather, Tell}
@@ -25,8 +25,9 @@ use Rattle.ss_check.specs.declared.call.Call.{Call as ACall}
 use Rattle.ss_check.specs.declared.ways.Ways.{Ways}
 use Rattle.ss_check.specs.ProgramCondition.{Condition, any, Conjunctions, no_conjunctions, or_else, Conjunction, all, Relations, no_relations, and_also, Relation, compared, nested}
 use Rattle.ss_check.specs.Match.{ways_of}
+use Rattle.ss_check.specs.Nesting.{AreNestedPlaces}
 use Rattle.ss_check.specs.declared.place.Spot.{Spot}
-use Rattle.ss_check.specs.ProgramExpr.{Expr, expr, Sums, no_sums, sum, Term, term, Products, no_products, product, Factor, digits, variable, within}
+use Rattle.ss_check.specs.ProgramExpr.{Expr, expr, Sums, no_sums, sum, Term, term, Products, no_products, product, Factor, digits, variable, absolute, greatest, least, quotient, remainder, within, Exprs, no_exprs, exprs}
 use Rattle.ss_check.specs.declared.keys.Key.{Key}
 use Rattle.ss_check.specs.declared.kinds.ClassKind.{ClassKind}
 use Rattle.ss_check.specs.declared.kinds.ClassKind.TheVariants.{Permanent, Temporary, Event}
@@ -68,7 +69,16 @@ abbrev mutual
   pub IsSoundFactor : ℕ → ℕ → Factor → Type 0
   IsSoundFactor n m (digits k) = Unit {0}
   IsSoundFactor n m (variable x) = IsSoundVariable n m x
+  IsSoundFactor n m (absolute e) = IsSoundExpr n m e
+  IsSoundFactor n m (greatest e es) = IsSoundExpr n m e × AreSoundArguments n m es
+  IsSoundFactor n m (least e es) = IsSoundExpr n m e × AreSoundArguments n m es
+  IsSoundFactor n m (quotient e f) = IsSoundExpr n m e × IsSoundExpr n m f
+  IsSoundFactor n m (remainder e f) = IsSoundExpr n m e × IsSoundExpr n m f
   IsSoundFactor n m (within e) = IsSoundExpr n m e
+
+  pub AreSoundArguments : ℕ → ℕ → Exprs → Type 0
+  AreSoundArguments n m no_exprs = Unit {0}
+  AreSoundArguments n m (exprs e es) = IsSoundExpr n m e × AreSoundArguments n m es
 
 abbrev pub AreSoundExprs : ℕ → ℕ → List Expr → Type 0
 AreSoundExprs n m [] = Unit {0}
@@ -80,9 +90,10 @@ IsSoundAssign n m (Let written target value) = IsTarget n m target × IsSoundExp
 IsSoundAssign n m (Add value target) = IsTarget n m target × IsSoundExpr n m value
 IsSoundAssign n m (Subtract value target) = IsTarget n m target × IsSoundExpr n m value
 
--- a PRINT has sound values, as many as its picture has fields, and no decimal field
+-- a PRINT has sound values, as many as its picture has fields, and no decimal field; a SKIP has a sound value
 abbrev pub IsSoundOutput : ℕ → ℕ → AnOutput → Type 0
 IsSoundOutput n m (Print count values picture) = (length values ≡ field_count picture) × (has_decimal_field picture ≡ false) × AreSoundExprs n m values
+IsSoundOutput n m (Skip count) = IsSoundExpr n m count
 
 -- each value of a condition is sound
 abbrev mutual
@@ -126,10 +137,12 @@ abbrev pub IsSoundOption : ℕ → ℕ → Option Expr → Type 0
 IsSoundOption n m None = Unit {0}
 IsSoundOption n m (Some e) = IsSoundExpr n m e
 
--- what a FOR phrase goes through: its variable is a target, and its bounds and its step are sound
+-- what a FOR phrase goes through: its variable is a target, its bounds and its step are sound, and the number of a class's entities is a
+-- global variable
 abbrev pub IsSoundPhrase : ℕ → ℕ → Phrase → Type 0
 IsSoundPhrase n m (Counting d x first last step) =
     IsTarget n m x × IsSoundExpr n m first × IsSoundExpr n m last × IsSoundOption n m step
+IsSoundPhrase n m (Each class is_called x count) = IsTarget n m x × (count < n)
 
 -- the targets of a COMPUTE
 abbrev pub AreSoundTellings : ℕ → ℕ → List Telling → Type 0
@@ -144,7 +157,7 @@ IsSoundLooping n m Find = Unit {0}
 IsSoundLooping n m (Gather e) = IsSoundExpr n m e
 IsSoundLooping n m (Tell ts) = AreSoundTellings n m ts
 
--- the targets of a CALL
+-- the targets of a CALL, or of a READ
 abbrev pub AreTargets : ℕ → ℕ → List Variable → Type 0
 AreTargets n m [] = Unit {0}
 AreTargets n m (x ∷ xs) = IsTarget n m x × AreTargets n m xs
@@ -161,6 +174,7 @@ IsSoundPlace n m (Control c) = Unit {0}
 IsSoundPlace n m (Branch b) = IsSoundBranch n m b
 IsSoundPlace n m (Looping l) = IsSoundLooping n m l
 IsSoundPlace n m (Call c) = IsSoundCall n m c
+IsSoundPlace n m (Read ts) = AreTargets n m ts
 
 abbrev pub AreSoundPlaces : ℕ → ℕ → List Spot → Type 0
 AreSoundPlaces n m [] = Unit {0}
@@ -234,6 +248,7 @@ pub record IsSoundSection (n : ℕ) (s : SectionTable) : Type 0 where
   pub few_parameters : s.given + s.yielded ≤ parameter_limit
   pub places : AreSoundPlaces n (length s.locals) s.places
   pub ended : IsEnded s.places
+  pub nested : AreNestedPlaces s.places 0 s.places
   pub few : length s.places < 2 ^ 63
 
 abbrev pub AreSoundSections : ℕ → List SectionTable → Type 0

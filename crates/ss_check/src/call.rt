@@ -2,7 +2,7 @@ use crate::expr::Values;
 use crate::variable::Variable;
 use std::marker::Model;
 
-/// The targets of the values that a routine yields, in order.
+/// The targets of the values that a routine yields, or that a READ takes, in order.
 #[derive(Debug, Drop)]
 pub struct Targets {
     pub list: Vec<Variable>,

@@ -26,8 +26,6 @@ mod resolve;
 mod section;
 mod sum;
 mod tables;
-#[cfg(test)]
-mod tests;
 mod variable;
 mod ways;
 
@@ -49,7 +47,7 @@ pub use place::{Assign, Control, Output, Place, Spot};
 pub use program::Program;
 pub use section::Section;
 pub use ss_routines::TermSign;
-pub use sum::{Factor, SignedTerm, Sum, Term};
+pub use sum::{Arguments, Factor, SignedTerm, Sum, Term};
 pub use tables::{Class, Set};
 pub use variable::Variable;
 pub use ways::{Resets, Ways};

@@ -56,6 +56,14 @@ pub enum Phrase {
         last: Expr,
         step: Option<Expr>,
     },
+    /// `EACH class [CALLED variable]`: the numbers from 1 up to the global variable `count`, which
+    /// is that of `N.class`. Without CALLED the variable is that of the class's name.
+    Each {
+        class: usize,
+        is_called: bool,
+        variable: Variable,
+        count: usize,
+    },
 }
 
 /// A FOR phrase with its qualifiers, and whether DO stands behind it.

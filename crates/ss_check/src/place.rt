@@ -1,5 +1,5 @@
 use crate::branch::Branch;
-use crate::call::Call;
+use crate::call::{Call, Targets};
 use crate::expr::{Expr, Values};
 use crate::looping::Looping;
 use crate::variable::Variable;
@@ -14,6 +14,8 @@ pub enum Place {
     Branch(Branch),
     Looping(Looping),
     Call(Call),
+    /// `READ` of its targets.
+    Read(Targets),
 }
 
 /// An assignment.
@@ -46,6 +48,8 @@ pub enum Output {
         values: Values,
         picture: Picture,
     },
+    /// `SKIP count LINES`.
+    Skip(Expr),
 }
 
 /// What ends a section or the run.

@@ -26,12 +26,30 @@ pub struct Term {
     pub more: Vec<Factor>,
 }
 
-/// A number, a variable, or a sum within parentheses.
+/// A number, a variable, a function of its arguments, or a sum within parentheses.
 #[derive(Debug, Drop)]
 #[cycle(sum)]
 pub enum Factor {
     /// From 0 to 2^63 - 1.
     Number(u64),
     Variable(Variable),
+    /// `ABS.F`.
+    Absolute(Box<Sum>),
+    /// `MAX.F`.
+    Greatest(Arguments),
+    /// `MIN.F`.
+    Least(Arguments),
+    /// `DIV.F` of dividend and divisor.
+    Quotient(Box<Sum>, Box<Sum>),
+    /// `MOD.F` of dividend and divisor.
+    Remainder(Box<Sum>, Box<Sum>),
     Within(Box<Sum>),
+}
+
+/// The arguments of `MAX.F` and `MIN.F`: a first one, and further ones.
+#[derive(Debug, Drop)]
+#[cycle(sum)]
+pub struct Arguments {
+    pub first: Box<Sum>,
+    pub more: Vec<Sum>,
 }

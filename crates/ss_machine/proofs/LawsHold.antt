@@ -1,25 +1,29 @@
 -- the laws on the definitions
 use Rattle.std.proofs.Common.{◌≡◌, ◌≤◌, ◌+◌, ◌*◌, Option, Some, None, arith, refl}
 use Rattle.ss_check.specs.declared.place.Place.{Place}
-use Rattle.ss_check.specs.declared.place.Place.TheVariants.{Assign, Output, Control, Branch, Looping, Call}
+use Rattle.ss_check.specs.declared.place.Place.TheVariants.{Assign, Output, Control, Branch, Looping, Call, Read}
 use Rattle.ss_check.specs.declared.looping.Looping.TheVariants.{For, Loop, Find, Gather, Tell}
 use Rattle.ss_check.specs.declared.place.Spot.{Spot}
 use Rattle.ss_check.specs.declared.ways.Ways.{Ways}
 use Rattle.ss_check.specs.Program.{ProgramTable, spot_at}
 use Rattle.ss_check.specs.ProgramSound.{IsSound, loop_limit}
 use Rattle.ss_machine.specs.State.{State}
+use Rattle.ss_machine.specs.Run.{input_with}
 use Rattle.ss_machine.specs.Step.{ways_here}
 use Rattle.ss_machine.specs.Moment.{most_changes, most_changes_by, targets_at, targets_by}
 use Rattle.ss_machine.specs.Laws.{ProgramsKeepStatesWell, StepsNoteFew}
 use Rattle.ss_machine.proofs.Sounds.{spot_linked, chain_few}
+use Rattle.ss_machine.proofs.Items.{items_in}
 use Rattle.ss_machine.proofs.Wells.{well_start, well_step, well_run}
 
 pub states_well : ProgramsKeepStatesWell
-states_well p sound = record {
-  start = well_start p sound;
-  step = λ s w. well_step p s sound w;
-  run = λ k. well_run p k sound;
-}
+states_well p text sound =
+    let i = input_with p text in
+    record {
+      start = well_start i sound (items_in text);
+      step = λ s w. well_step p s sound w;
+      run = λ k. well_run i k sound (items_in text);
+    }
 
 few_at : (p : ProgramTable) (s : State) (w : Ways) (x : Place) → w.chain ≤ loop_limit → most_changes p s w x ≤ 64 + 2 * targets_at p s x
 few_at p s w (Assign a) h = omega arith
@@ -32,6 +36,7 @@ few_at p s w (Looping Find) h = omega (arith, h)
 few_at p s w (Looping (Gather e)) h = omega arith
 few_at p s w (Looping (Tell ts)) h = omega arith
 few_at p s w (Call c) h = omega arith
+few_at p s w (Read ts) h = omega arith
 
 few_by : (p : ProgramTable) (s : State) (o : Option Spot) → IsSound p → spot_at p s.frame.section s.frame.place ≡ o →
     most_changes_by p s o ≤ 64 + 2 * targets_by p s o

@@ -1,10 +1,14 @@
 pub mod Sets
 pub mod Parts
-pub mod Moments
+pub mod Takes
 pub mod Notings
 pub mod Sounds
 pub mod Returns
 pub mod Ranges
 pub mod Evaluated
+pub mod Items
+pub mod Kept
+pub mod Moments
+pub mod Nesting
 pub mod Wells
 pub mod LawsHold

@@ -3,11 +3,12 @@ use Rattle.std.proofs.Common.{◌≡◌, ℕ, zero, suc, ◌+◌, ◌<◌, ◌�
 use Rattle.std.specs.Prelude.{slice_get, ◌^◌}
 use Rattle.ss_check.specs.declared.place.Spot.{Spot}
 use Rattle.ss_check.specs.declared.place.Place.{Place}
-use Rattle.ss_check.specs.declared.place.Place.TheVariants.{Assign, Output, Control, Branch, Looping, Call}
+use Rattle.ss_check.specs.declared.place.Place.TheVariants.{Assign, Output, Control, Branch, Looping, Call, Read}
 use Rattle.ss_check.specs.declared.looping.Looping.TheVariants.{For, Loop, Find, Gather, Tell}
 use Rattle.ss_check.specs.declared.call.Call.{Call as ACall}
 use Rattle.ss_check.specs.declared.ways.Ways.{Ways}
 use Rattle.ss_check.specs.Match.{ways_of, ways_from, section_ways}
+use Rattle.ss_check.specs.Nesting.{is_nested, AreNestedPlaces}
 use Rattle.ss_check.specs.Program.{SectionTable, ProgramTable, places_of, locals_of, section_of, spot_at}
 use Rattle.ss_check.specs.ProgramSound.{IsSound, IsSoundSection, AreSoundSections, IsSoundPlace, AreSoundPlaces, IsEnded, is_end, GoesOn, LeadsOn, IsCalledBy, IsLinkedPlace, AreLinkedPlaces, AreLinkedSections, loop_limit, parameter_limit}
 use Rattle.ss_machine.specs.Moment.{call_targets}
@@ -91,6 +92,7 @@ chain_few ss ps n i (Looping Find) h = h
 chain_few ss ps n i (Looping (Gather e)) h = omega arith
 chain_few ss ps n i (Looping (Tell ts)) h = omega arith
 chain_few ss ps n i (Call c) h = omega arith
+chain_few ss ps n i (Read ts) h = omega arith
 
 ways_at : (ps xs : List Spot) (k i : ℕ) (s : Spot) (w : Ways) → slice_get (ways_from ps k xs) i ≡ Some w → slice_get xs i ≡ Some s →
     w ≡ ways_of ps (k + i) s.place
@@ -147,6 +149,7 @@ few_targets_of p n w (Output o) sound h = omega arith
 few_targets_of p n w (Control c) sound h = omega arith
 few_targets_of p n w (Branch b) sound h = omega arith
 few_targets_of p n w (Looping l) sound h = omega arith
+few_targets_of p n w (Read ts) sound h = omega arith
 few_targets_of p n w (Call c) sound h = few_yielded_by p c (slice_get p.sections c.section) sound refl h
 
 -- a CALL has few targets
@@ -161,3 +164,27 @@ pub chain_at : (p : ProgramTable) (i j : ℕ) (spot : Spot) → IsSound p → sp
 chain_at p i j spot sound e =
     chain_few p.sections (places_of (slice_get p.sections i)) (length (places_of (slice_get p.sections i))) j spot.place
     (spot_linked p i j spot sound e).leads
+
+nested_place : (ps xs : List Spot) (k i : ℕ) (s : Spot) → AreNestedPlaces ps k xs → slice_get xs i ≡ Some s →
+    is_nested ps (k + i) (ways_of ps (k + i) s.place) s.place ≡ true
+nested_place ps [] k i s h e = cc
+nested_place ps (t ∷ ts) k zero s h e =
+    let f : t ≡ s = cc in
+    let z : k + 0 ≡ k = omega arith in
+    rw z (subst (λ (u : Spot). is_nested ps k (ways_of ps k u.place) u.place ≡ true) f h.0)
+nested_place ps (t ∷ ts) k (suc i) s h e =
+    let z : k + suc i ≡ (k + 1) + i = omega arith in
+    rw z (nested_place ps ts (k + 1) i s h.1 e)
+
+spot_nested_of : (p : ProgramTable) (i j : ℕ) (spot : Spot) (o : Option SectionTable) → IsSound p → slice_get p.sections i ≡ o →
+    slice_get (places_of o) j ≡ Some spot → is_nested (places_of o) j (ways_of (places_of o) j spot.place) spot.place ≡ true
+spot_nested_of p i j spot None h e f = cc
+spot_nested_of p i j spot (Some s) h e f =
+    let z : 0 + j ≡ j = omega arith in
+    subst (λ (n : ℕ). is_nested s.places n (ways_of s.places n spot.place) spot.place ≡ true) z
+    (nested_place s.places s.places 0 j spot (section_sound _ p.sections i s h.sections e).nested f)
+
+-- a place of a program leads to places at which the loops that it leaves open may be open
+pub spot_nested : (p : ProgramTable) (i j : ℕ) (spot : Spot) → IsSound p → spot_at p i j ≡ Some spot →
+    is_nested (places_of (slice_get p.sections i)) j (ways_of (places_of (slice_get p.sections i)) j spot.place) spot.place ≡ true
+spot_nested p i j spot h e = spot_nested_of p i j spot (slice_get p.sections i) h refl e

@@ -1,22 +1,27 @@
 -- What is said of the definitions, for every checked program.
-use Rattle.std.specs.Prelude.{ℕ, ◌+◌, ◌*◌, ◌≤◌}
+use Rattle.std.specs.Prelude.{◌≡◌, ℕ, List, ◌+◌, ◌*◌, ◌≤◌}
 use Rattle.ss_check.specs.Program.{ProgramTable}
 use Rattle.ss_check.specs.ProgramSound.{IsSound}
 use Rattle.ss_machine.specs.State.{State}
 use Rattle.ss_machine.specs.Step.{step}
-use Rattle.ss_machine.specs.Run.{start, run}
+use Rattle.ss_machine.specs.Run.{Input, input_with, start, run}
 use Rattle.ss_machine.specs.Well.{IsWell}
 use Rattle.ss_machine.specs.Moment.{change_bound, target_count}
 
 -- the start is well-formed, a step keeps every state well-formed, and so all states of the run are
-pub record StatesAreWell (p : ProgramTable) : Type 0 where
-  pub start : IsWell p (start p)
-  pub step : (s : State) → IsWell p s → IsWell p (step p s)
-  pub run : (k : ℕ) → IsWell p (run p k)
+pub record StatesAreWell (i : Input) : Type 0 where
+  pub start : IsWell i.program (start i)
+  pub step : (s : State) → IsWell i.program s → IsWell i.program (step i.program s)
+  pub run : (k : ℕ) → IsWell i.program (run i k)
 
--- for every program that the checker makes
+-- for every program that the checker makes, and all data
 abbrev pub ProgramsKeepStatesWell : Type 0
-ProgramsKeepStatesWell = (p : ProgramTable) → IsSound p → StatesAreWell p
+ProgramsKeepStatesWell =
+    (p : ProgramTable) (text : List ℕ) → IsSound p → StatesAreWell (input_with p text)
+
+-- no step changes the items of the data
+abbrev pub StepsKeepItems : Type 0
+StepsKeepItems = (p : ProgramTable) (s : State) → (step p s).feed.items ≡ s.feed.items
 
 -- no step notes more than 64 changes and two for each target of its statement
 abbrev pub StepsNoteFew : Type 0

@@ -11,5 +11,6 @@ pub mod Change
 pub mod Well
 pub mod Moment
 pub mod Laws
+pub mod Examples
 pub mod Seen
 pub mod Noting

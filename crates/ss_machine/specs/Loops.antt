@@ -3,10 +3,11 @@ use Rattle.std.specs.Prelude.{ℕ, ℤ, pos, ◌+ℤ◌, ◌-ℤ◌, int_lt, int
 use Rattle.ss_words.specs.declared.fault.RunFault.{RunFault}
 use Rattle.ss_words.specs.declared.fault.RunFault.TheVariants.{StepBelowOne}
 use Rattle.ss_check.specs.declared.variable.Variable.{Variable}
+use Rattle.ss_check.specs.declared.variable.Variable.TheVariants.{Global}
 use Rattle.ss_check.specs.declared.looping.Direction.{Direction}
 use Rattle.ss_check.specs.declared.looping.Direction.TheVariants.{Onward, Backward}
 use Rattle.ss_check.specs.declared.looping.Phrase.{Phrase}
-use Rattle.ss_check.specs.declared.looping.Phrase.TheVariants.{Counting}
+use Rattle.ss_check.specs.declared.looping.Phrase.TheVariants.{Counting, Each}
 use Rattle.ss_check.specs.declared.looping.Qualifier.{Qualifier}
 use Rattle.ss_check.specs.declared.looping.QualifierWord.{QualifierWord}
 use Rattle.ss_check.specs.declared.looping.QualifierWord.TheVariants.{With, Unless, While, Until}
@@ -17,7 +18,7 @@ use Rattle.ss_machine.specs.declared.loops.Walk.TheVariants.{Numbers}
 use Rattle.ss_machine.specs.declared.verdict.Verdict.{Verdict}
 use Rattle.ss_machine.specs.declared.verdict.Verdict.TheVariants.{Runs, Passes, Closes}
 use Rattle.ss_machine.specs.Faults.{◌>>=◌, ◌>>◌, refuse_if}
-use Rattle.ss_machine.specs.Values.{Readings, in_range, value_of}
+use Rattle.ss_machine.specs.Values.{Readings, in_range, variable_value, value_of}
 use Rattle.ss_machine.specs.Conditions.{holds}
 
 -- ---- open loops
@@ -65,14 +66,17 @@ number_loop place d first last step =
     refuse_if (int_lt step (pos 1)) StepBelowOne
     >> Ok (record { phrase = place; candidate = candidate_within d last first; walk = Numbers d last step })
 
--- what the entry of the phrase at a place opens: its bounds and its step are got once
+-- what the entry of the phrase at a place opens: its bounds and its step are got once; EACH goes from 1 up to N.c by 1
 abbrev pub loop_at_entry : Readings → ℕ → Phrase → Result OpenLoop RunFault
 loop_at_entry v place (Counting d x first last step) =
     value_of v first >>= λ a. value_of v last >>= λ b. step_value v step >>= λ c. number_loop place d a b c
+loop_at_entry v place (Each class is_called x count) =
+    number_loop place Onward (pos 1) (variable_value v (Global count)) (pos 1)
 
 -- the variable to which a candidate goes
 abbrev pub loop_variable : Phrase → Variable
 loop_variable (Counting d x first last step) = x
+loop_variable (Each class is_called x count) = x
 
 -- ---- qualifiers
 

@@ -5,7 +5,7 @@ use Rattle.ss_journal.specs.Undoing.{past, Kept}
 use Rattle.ss_check.specs.Program.{ProgramTable, spot_at}
 use Rattle.ss_check.specs.ProgramSound.{IsSound}
 use Rattle.ss_check.specs.declared.place.Place.{Place}
-use Rattle.ss_check.specs.declared.place.Place.TheVariants.{Assign, Output, Control, Branch, Looping, Call}
+use Rattle.ss_check.specs.declared.place.Place.TheVariants.{Assign, Output, Control, Branch, Looping, Call, Read}
 use Rattle.ss_check.specs.declared.looping.Looping.{Looping as ALooping}
 use Rattle.ss_check.specs.declared.looping.Looping.TheVariants.{For, Loop, Find, Gather, Tell}
 use Rattle.ss_check.specs.declared.ways.Ways.{Ways}
@@ -15,13 +15,15 @@ use Rattle.ss_machine.specs.declared.status.Status.TheVariants.{Ready}
 use Rattle.ss_machine.specs.declared.stepped.Stepped.{Stepped}
 use Rattle.ss_machine.specs.declared.stepped.Stepped.TheVariants.{Moved, AtEnd}
 use Rattle.ss_machine.specs.State.{State, FrameState}
+use Rattle.ss_machine.specs.Well.{AreItemsInRange}
 use Rattle.ss_machine.specs.Change.{unapply, Fits}
 use Rattle.ss_machine.specs.Step.{step, ways_here}
-use Rattle.ss_machine.specs.Run.{run}
+use Rattle.ss_machine.specs.Run.{Input, run}
 
--- a program, its state, and the changes of each step that led there, the newest step and the newest change first
+-- what the run is of, its state, and the changes of each step that led there, the newest step and the newest change
+-- first
 pub record Moment : Type 0 where
-  pub program : ProgramTable
+  pub input : Input
   pub state : State
   pub steps : List (List Change)
 
@@ -69,6 +71,7 @@ most_changes p s w (Control c) = 2 + yield_count p s.below
 most_changes p s w (Branch b) = 1
 most_changes p s w (Looping l) = most_looping_changes w l
 most_changes p s w (Call c) = 1
+most_changes p s w (Read ts) = 2 + length ts
 
 -- the same of the place that stands there, if one does
 abbrev pub most_changes_by : ProgramTable → State → Option Spot → ℕ
@@ -85,6 +88,7 @@ targets_at p s (Assign a) = 1
 targets_at p s (Control c) = yield_count p s.below
 targets_at p s (Looping (Tell ts)) = length ts
 targets_at p s (Call c) = length c.targets
+targets_at p s (Read ts) = length ts
 targets_at p s other = 0
 
 -- the same of the place that stands there, if one does
@@ -100,12 +104,13 @@ target_count p s = targets_by p s (spot_at p s.frame.section s.frame.place)
 -- as they were, and one more is kept, of as many changes at most as its place may note
 pub record HasMoved (old new : Moment) : Type 0 where
   pub ready : old.state.status ≡ Ready
-  pub program : new.program ≡ old.program
-  pub state : new.state ≡ step old.program old.state
+  pub input : new.input ≡ old.input
+  pub state : new.state ≡ step old.input.program old.state
   pub position : position new ≡ position old + 1
   pub past : past_of new ≡ past_of old ++ old.state ∷ []
   pub steps :
-      (added : List Change) × (new.steps ≡ added ∷ old.steps) × (length added ≤ change_bound old.program old.state)
+      (added : List Change) × (new.steps ≡ added ∷ old.steps)
+      × (length added ≤ change_bound old.input.program old.state)
 
 -- what a step did
 abbrev pub Steps : Stepped → Moment → Moment → Type 0
@@ -114,7 +119,7 @@ Steps AtEnd old new = (old.state.status ≢ Ready) × (new ≡ old)
 
 -- one step back: the state is the last of the past, which no longer holds it, and the newest step is no longer kept
 pub record HasGoneBack (old new : Moment) : Type 0 where
-  pub program : new.program ≡ old.program
+  pub input : new.input ≡ old.input
   pub past : past_of old ≡ past_of new ++ new.state ∷ []
   pub position : position old ≡ position new + 1
   pub steps : (dropped : List Change) × (old.steps ≡ dropped ∷ new.steps)
@@ -124,10 +129,11 @@ abbrev pub GoesBack : Bool → Moment → Moment → Type 0
 GoesBack true old new = HasGoneBack old new
 GoesBack false old new = (old.steps ≡ []) × (new ≡ old)
 
--- what every machine keeps: a sound program, no open step, the state of the run with the machine's position, and
--- changes that fit and lead back through the states of the run
-pub record Stands (p : ProgramTable) (s : State) (j : Log Change) : Type 0 where
-  pub sound : IsSound p
+-- what every machine keeps: a sound program, numbers in range, no open step, the state of the run with the machine's
+-- position, and changes that fit and lead back through the states of the run
+pub record Stands (i : Input) (s : State) (j : Log Change) : Type 0 where
+  pub sound : IsSound i.program
+  pub items : AreItemsInRange i.items
   pub closed : j.current ≡ []
-  pub here : s ≡ run p (length j.steps)
-  pub kept : Kept Fits unapply (run p) j.steps s
+  pub here : s ≡ run i (length j.steps)
+  pub kept : Kept Fits unapply (run i) j.steps s

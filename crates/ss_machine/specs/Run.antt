@@ -1,17 +1,28 @@
 -- The one run of a program.
 use Rattle.std.specs.Prelude.{ℕ, zero, suc, pos, List, [], ◌∷◌, ◌++◌, length, replicate, if◌then◌else◌}
 use Rattle.ss_check.specs.Program.{ProgramTable, main_number}
+use Rattle.ss_data.specs.Items.{Item, items}
 use Rattle.ss_machine.specs.declared.status.Status.TheVariants.{Ready}
 use Rattle.ss_machine.specs.State.{State, is_ready, new_frame}
 use Rattle.ss_machine.specs.Step.{step}
 
--- MAIN at its first place, all variables and the clock 0, nothing printed
-abbrev pub start : ProgramTable → State
-start p = record {
-  variables = replicate (length p.globals) (pos 0);
-  frame = new_frame p (main_number p) [];
+-- what a run is of: a program, and the items of its data
+pub record Input : Type 0 where
+  pub program : ProgramTable
+  pub items : List Item
+
+-- a program over data
+abbrev pub input_with : ProgramTable → List ℕ → Input
+input_with p text = record { program = p; items = items text }
+
+-- MAIN at its first place, all variables and the clock 0, nothing taken or printed
+abbrev pub start : Input → State
+start i = record {
+  variables = replicate (length i.program.globals) (pos 0);
+  frame = new_frame i.program (main_number i.program) [];
   below = [];
   clock = pos 0;
+  feed = record { items = i.items; taken = 0 };
   report = [];
   status = Ready;
 }
@@ -21,11 +32,11 @@ abbrev pub next : ProgramTable → State → State
 next p s = if is_ready s.status then step p s else s
 
 -- state number k
-abbrev pub run : ProgramTable → ℕ → State
-run p zero = start p
-run p (suc k) = next p (run p k)
+abbrev pub run : Input → ℕ → State
+run i zero = start i
+run i (suc k) = next i.program (run i k)
 
 -- states number 0 to k - 1
-abbrev pub states_before : ProgramTable → ℕ → List State
-states_before p zero = []
-states_before p (suc k) = states_before p k ++ run p k ∷ []
+abbrev pub states_before : Input → ℕ → List State
+states_before i zero = []
+states_before i (suc k) = states_before i k ++ run i k ∷ []

@@ -1,6 +1,7 @@
 -- The state of a run.
 use Rattle.std.specs.Prelude.{ℕ, ℤ, pos, ◌+◌, ◌-◌, Bool, true, false, List, [], ◌∷◌, ◌++◌, length, replicate, slice_get}
 use Rattle.ss_check.specs.Program.{ProgramTable, locals_of}
+use Rattle.ss_data.specs.Items.{DataRead}
 use Rattle.ss_machine.specs.declared.status.Status.{Status}
 use Rattle.ss_machine.specs.declared.status.Status.TheVariants.{Ready, Stopped, Finished, Faulted}
 use Rattle.ss_machine.specs.declared.statistics.Statistics.{Statistics}
@@ -17,12 +18,13 @@ pub record FrameState : Type 0 where
   pub statistics : Statistics
 
 -- the values of the global variables, in the order of their table; the last frame; the frames below it, the nearest
--- first; the clock; the bytes of the report; the status
+-- first; the clock; the items of the data, and how many of them are taken; the bytes of the report; the status
 pub record State : Type 0 where
   pub variables : List ℤ
   pub frame : FrameState
   pub below : List FrameState
   pub clock : ℤ
+  pub feed : DataRead
   pub report : List ℕ
   pub status : Status
 

@@ -1,8 +1,8 @@
 -- One step of the language, by the kind of place: values first, from the left; a fault changes the status alone.
-use Rattle.std.specs.Prelude.{ℕ, ℤ, pos, ◌+◌, ◌+ℤ◌, ◌-ℤ◌, int_lt, nat_le, nat_lt, Bool, true, false, not, if◌then◌else◌, List, [], ◌∷◌, ◌++◌, length, take, drop, Option, Some, None, Result, Ok, Err, slice_get, slice_set, slice_index_or}
+use Rattle.std.specs.Prelude.{ℕ, ℤ, pos, ◌+◌, ◌+ℤ◌, ◌-ℤ◌, int_lt, unsigned_abs, ◌||◌, nat_le, nat_lt, Bool, true, false, not, if◌then◌else◌, List, [], ◌∷◌, ◌++◌, length, replicate, take, drop, Option, Some, None, Result, Ok, Err, slice_get, slice_set, slice_index_or}
 use Rattle.std.specs.Int.{int_min, int_max}
 use Rattle.ss_words.specs.declared.fault.RunFault.{RunFault}
-use Rattle.ss_words.specs.declared.fault.RunFault.TheVariants.{ReportFull, TooManyFrames}
+use Rattle.ss_words.specs.declared.fault.RunFault.TheVariants.{CountOutOfRange, ReportFull, TooManyFrames}
 use Rattle.ss_report.specs.Pictures.{picture_text}
 use Rattle.ss_report.specs.Reports.{report_limit}
 use Rattle.ss_check.specs.declared.variable.Variable.{Variable}
@@ -10,7 +10,7 @@ use Rattle.ss_check.specs.declared.variable.Variable.TheVariants.{Global, Local,
 use Rattle.ss_check.specs.declared.place.Assign.{Assign as AnAssign}
 use Rattle.ss_check.specs.declared.place.Assign.TheVariants.{Let, Add, Subtract}
 use Rattle.ss_check.specs.declared.place.Output.{Output as AnOutput}
-use Rattle.ss_check.specs.declared.place.Output.TheVariants.{Print}
+use Rattle.ss_check.specs.declared.place.Output.TheVariants.{Print, Skip}
 use Rattle.ss_check.specs.declared.place.Control.{Control as AControl}
 use Rattle.ss_check.specs.declared.place.Control.TheVariants.{Stop, Return, End}
 use Rattle.ss_check.specs.declared.branch.Question.{Question}
@@ -30,11 +30,12 @@ use Rattle.ss_check.specs.declared.ways.Ways.{Ways}
 use Rattle.ss_check.specs.declared.kinds.SectionKind.{SectionKind}
 use Rattle.ss_check.specs.declared.kinds.SectionKind.TheVariants as kinds
 use Rattle.ss_check.specs.declared.place.Place.{Place}
-use Rattle.ss_check.specs.declared.place.Place.TheVariants.{Assign, Output, Control, Branch, Looping, Call}
+use Rattle.ss_check.specs.declared.place.Place.TheVariants.{Assign, Output, Control, Branch, Looping, Call, Read}
 use Rattle.ss_check.specs.declared.place.Spot.{Spot}
 use Rattle.ss_check.specs.Program.{ProgramTable, places_of, section_of, spot_at}
 use Rattle.ss_check.specs.ProgramExpr.{Expr}
 use Rattle.ss_check.specs.Match.{ways_of}
+use Rattle.ss_data.specs.Items.{Item, with_taken, value_or_fault}
 use Rattle.ss_machine.specs.declared.status.Status.TheVariants.{Stopped, Finished, Faulted}
 use Rattle.ss_machine.specs.declared.statistics.Statistics.{Statistics}
 use Rattle.ss_machine.specs.declared.loops.OpenLoop.{OpenLoop}
@@ -97,9 +98,53 @@ state_after_print s next values picture =
     state_after_result s (values_of (readings s) values >>= λ xs. longer_report s.report (picture_text picture xs))
     (λ report. state_at_place next (record s { report = report }))
 
+-- the most lines that one SKIP appends
+abbrev pub skip_limit : ℕ
+skip_limit = 1000
+
+-- how many lines a value asks for, or F13
+abbrev pub line_count : ℤ → Result ℕ RunFault
+line_count n =
+    refuse_if (int_lt n (pos 0) || int_lt (pos skip_limit) n) CountOutOfRange >> Ok (unsigned_abs n)
+
+-- how many lines the value of an expression asks for
+abbrev pub lines_asked : Readings → Expr → Result ℕ RunFault
+lines_asked v e = value_of v e >>= line_count
+
+-- the state after a SKIP, which appends as many line feeds
+abbrev pub state_after_skip : State → ℕ → Result ℕ RunFault → State
+state_after_skip s next count =
+    state_after_result s (count >>= λ n. longer_report s.report (replicate n 10))
+    (λ report. state_at_place next (record s { report = report }))
+
 -- one step of what appends to the report
 abbrev pub step_output : State → ℕ → AnOutput → State
 step_output s next (Print count values picture) = state_after_print s next values picture
+step_output s next (Skip e) = state_after_skip s next (lines_asked (readings s) e)
+
+-- ---- READ
+
+-- the numbers of the next items, one for each target, from item number i on; or the first fault
+abbrev pub values_taken : List Item → ℕ → List Variable → Result (List ℤ) RunFault
+values_taken items i [] = Ok []
+values_taken items i (t ∷ ts) =
+    value_or_fault (slice_get items i) >>= λ x. values_taken items (i + 1) ts >>= λ xs. Ok (x ∷ xs)
+
+-- the state in which so many items are taken
+abbrev pub state_with_taken : State → ℕ → State
+state_with_taken s n = record s { feed = with_taken s.feed n }
+
+-- the state in which targets have the values from number k on, target by target
+abbrev pub state_after_assignments : List ℤ → State → ℕ → List Variable → State
+state_after_assignments vs s k [] = s
+state_after_assignments vs s k (x ∷ xs) =
+    state_after_assignments vs (state_after_assignment s x (slice_index_or vs k (pos 0))) (k + 1) xs
+
+-- one step of a READ: all values are taken before the first target is assigned
+abbrev pub step_read : State → ℕ → List Variable → State
+step_read s next ts =
+    state_after_result s (values_taken s.feed.items s.feed.taken ts)
+    (λ xs. state_at_place next (state_after_assignments xs (state_with_taken s (s.feed.taken + length ts)) 0 ts))
 
 -- ---- IF, ELSE and ALWAYS
 
@@ -230,15 +275,9 @@ step_call p s c =
     state_after_result s (values_of (readings s) c.given >>= room_for_frame s.below)
     (λ xs. record s { frame = new_frame p c.section xs; below = s.frame ∷ s.below })
 
--- the state in which targets have the values from number k on, target by target
-abbrev pub state_after_yield : List ℤ → State → ℕ → List Variable → State
-state_after_yield vs s k [] = s
-state_after_yield vs s k (x ∷ xs) =
-    state_after_yield vs (state_after_assignment s x (slice_index_or vs k (pos 0))) (k + 1) xs
-
 -- the state behind a CALL, which goes on at `next`, to which these locals came back
 abbrev pub state_behind_call : List ℤ → ℕ → ℕ → State → Place → State
-state_behind_call vs k next s (Call c) = state_at_place next (state_after_yield vs s k c.targets)
+state_behind_call vs k next s (Call c) = state_at_place next (state_after_assignments vs s k c.targets)
 state_behind_call vs k next s other = s
 
 -- the same by the place where the frame stands
@@ -280,6 +319,7 @@ step_at p s w (Control c) = step_control p s c
 step_at p s w (Branch b) = step_branch s w b
 step_at p s w (Looping l) = step_looping s w l
 step_at p s w (Call c) = step_call p s c
+step_at p s w (Read ts) = step_read s w.next ts
 
 -- one step of the place that stands there, if one does
 abbrev pub step_by : ProgramTable → State → Option Spot → State

@@ -6,7 +6,9 @@ use Rattle.ss_check.specs.declared.kinds.SectionKind.TheVariants.{Main, Routine,
 use Rattle.ss_check.specs.declared.place.Place.{Place}
 use Rattle.ss_check.specs.declared.place.Place.TheVariants.{Call}
 use Rattle.ss_check.specs.declared.place.Spot.{Spot}
+use Rattle.ss_check.specs.Nesting.{may_be_open}
 use Rattle.ss_check.specs.Program.{ProgramTable, places_of, locals_of, section_of, is_main, spot_at}
+use Rattle.ss_data.specs.Items.{Item}
 use Rattle.ss_machine.specs.declared.statistics.Statistics.{Statistics}
 use Rattle.ss_machine.specs.declared.loops.OpenLoop.{OpenLoop}
 use Rattle.ss_machine.specs.State.{State, FrameState, most_below}
@@ -17,15 +19,20 @@ abbrev pub AreInRange : List ℤ → Type 0
 AreInRange [] = Unit {0}
 AreInRange (z ∷ zs) = (in_range z ≡ true) × AreInRange zs
 
--- a candidate that is left is in range
-abbrev pub IsCandidateInRange : Option ℤ → Type 0
-IsCandidateInRange None = Unit {0}
-IsCandidateInRange (Some x) = in_range x ≡ true
+-- a value that may be missing is in range
+abbrev pub IsNoneOrInRange : Option ℤ → Type 0
+IsNoneOrInRange None = Unit {0}
+IsNoneOrInRange (Some x) = in_range x ≡ true
 
--- the candidates of open loops are
+-- the candidates of open loops are in range
 abbrev pub AreLoopsInRange : List OpenLoop → Type 0
 AreLoopsInRange [] = Unit {0}
-AreLoopsInRange (l ∷ ls) = IsCandidateInRange l.candidate × AreLoopsInRange ls
+AreLoopsInRange (l ∷ ls) = IsNoneOrInRange l.candidate × AreLoopsInRange ls
+
+-- the numbers of the data are
+abbrev pub AreItemsInRange : List Item → Type 0
+AreItemsInRange [] = Unit {0}
+AreItemsInRange (i ∷ is) = IsNoneOrInRange i.value × AreItemsInRange is
 
 -- statistics are
 pub record AreStatisticsInRange (g : Statistics) : Type 0 where
@@ -69,8 +76,9 @@ abbrev pub IsStack : ProgramTable → ℕ → List FrameState → Type 0
 IsStack p section [] = is_main (section_of p section) ≡ true
 IsStack p section (f ∷ fs) = StandsOn p (section_of p section).kind section f × IsStack p f.section fs
 
--- 1 to 200 frames, the first of which is MAIN's; all values in range; a report within its limit
-pub record IsWell (p : ProgramTable) (s : State) : Type 0 where
+-- 1 to 200 frames, the first of which is MAIN's; all values in range; no more items taken than there are; a report
+-- within its limit
+pub record IsInBounds (p : ProgramTable) (s : State) : Type 0 where
   pub variables : length s.variables ≡ length p.globals
   pub values : AreInRange s.variables
   pub frame : IsWellFrame p s.frame
@@ -78,4 +86,25 @@ pub record IsWell (p : ProgramTable) (s : State) : Type 0 where
   pub stack : IsStack p s.frame.section s.below
   pub few : length s.below ≤ most_below
   pub clock : in_range s.clock ≡ true
+  pub items : AreItemsInRange s.feed.items
+  pub taken : s.feed.taken ≤ length s.feed.items
   pub report : length s.report ≤ report_limit
+
+-- the places of the phrases of loops
+abbrev pub phrases_of : List OpenLoop → List ℕ
+phrases_of [] = []
+phrases_of (l ∷ ls) = l.phrase ∷ phrases_of ls
+
+-- the open loops of a frame are those of the FOR phrases around its place, with or without that of the place itself
+abbrev pub HasItsLoops : ProgramTable → FrameState → Type 0
+HasItsLoops p f = may_be_open (places_of (slice_get p.sections f.section)) (phrases_of f.loops) f.place ≡ true
+
+-- so do all frames
+abbrev pub HaveTheirLoops : ProgramTable → List FrameState → Type 0
+HaveTheirLoops p [] = Unit {0}
+HaveTheirLoops p (f ∷ fs) = HasItsLoops p f × HaveTheirLoops p fs
+
+-- a well-formed state
+pub record IsWell (p : ProgramTable) (s : State) : Type 0 where
+  pub bounds : IsInBounds p s
+  pub loops : HaveTheirLoops p (s.frame ∷ s.below)

@@ -5,7 +5,7 @@ ghost use Rattle.ss_machine.specs.Seen.{view_readings, InView};
 
 use crate::conditions::holds;
 use crate::loops::{OpenLoop, Walk};
-use crate::values::value;
+use crate::values::{value, variable};
 use crate::verdict::Verdict;
 use crate::view::View;
 use ss_check::{Direction, Expr, Phrase, QualifierWord, Qualifiers, Variable};
@@ -53,6 +53,30 @@ fn step_value(view: View<'_>, step: &Option<Expr>) -> Result<i64, RunFault>
     }
 }
 
+/// The loop over numbers of the phrase at a place, or F15.
+fn number_loop(
+    place: usize,
+    direction: Direction,
+    first: i64,
+    last: i64,
+    step: i64,
+) -> Result<OpenLoop, RunFault>
+    ensures { result ≡ loops.number_loop place direction first last step }
+{
+    if step < 1 {
+        return Err(RunFault::StepBelowOne);
+    }
+    Ok(OpenLoop {
+        phrase: place,
+        candidate: candidate_within(direction, last, first),
+        walk: Walk::Numbers {
+            direction,
+            last,
+            step,
+        },
+    })
+}
+
 /// The loop that the entry of the phrase at a place opens, or the first fault.
 pub fn loop_at_entry(view: View<'_>, place: usize, phrase: &Phrase) -> Result<OpenLoop, RunFault>
     requires { InView view IsSoundPhrase phrase.now }
@@ -66,22 +90,14 @@ pub fn loop_at_entry(view: View<'_>, place: usize, phrase: &Phrase) -> Result<Op
             step,
             ..
         } => {
-            let direction = *direction;
             let first = value(view, first)?;
             let last = value(view, last)?;
             let step = step_value(view, step)?;
-            if step < 1 {
-                return Err(RunFault::StepBelowOne);
-            }
-            Ok(OpenLoop {
-                phrase: place,
-                candidate: candidate_within(direction, last, first),
-                walk: Walk::Numbers {
-                    direction,
-                    last,
-                    step,
-                },
-            })
+            number_loop(place, *direction, first, last, step)
+        }
+        Phrase::Each { count, .. } => {
+            let last = variable(view, Variable::Global(*count));
+            number_loop(place, Direction::Onward, 1, last, 1)
         }
     }
 }
@@ -92,6 +108,7 @@ pub fn loop_variable(phrase: &Phrase) -> Variable
 {
     match phrase {
         Phrase::Counting { variable, .. } => *variable,
+        Phrase::Each { variable, .. } => *variable,
     }
 }
 

@@ -11,6 +11,8 @@ pub enum Change {
     Local { number: usize, old: i64 },
     /// The last frame went to another place; where it stood.
     Place(usize),
+    /// Items of the data were taken; how many were before.
+    Taken(usize),
     /// The report was lengthened; its old length.
     Report(usize),
     /// The status was changed; the old one.

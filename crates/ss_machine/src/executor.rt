@@ -12,9 +12,9 @@ ghost use Rattle.ss_machine.specs.Moment as changes;
 ghost use Rattle.ss_machine.specs.Dropping.{HasDropped};
 ghost use Rattle.ss_machine.specs.Seen.{InState};
 ghost use Rattle.ss_machine.specs.Loops.{innermost, loops_with_candidate, loop_of_phrase};
-ghost use Rattle.ss_machine.specs.Step.{state_after_result, state_after_assignment, target_of, state_at_place, state_after_print, step, step_at, step_assign, step_output, step_control, step_branch, step_looping, step_phrase, step_call, state_with_loops, state_with_found, state_with_statistics, state_after_reset, state_after_entry, state_after_closing, state_after_turn, state_after_telling, statistics_after, state_after_yield, state_behind_call, state_behind_place, state_after_return, state_after_event, state_after_section, question_answer, ways_here};
+ghost use Rattle.ss_machine.specs.Step.{state_after_result, state_after_assignment, target_of, state_at_place, state_after_print, state_after_skip, step, step_at, step_assign, step_output, step_control, step_branch, step_looping, step_phrase, step_call, step_read, state_with_loops, state_with_found, state_with_statistics, state_after_reset, state_after_entry, state_after_closing, state_after_turn, state_after_telling, statistics_after, state_after_assignments, state_behind_call, state_behind_place, state_after_return, state_after_event, state_after_section, question_answer, ways_here};
 ghost use Rattle.ss_machine.specs.Run.{start};
-ghost use Rattle.ss_machine.specs.Well.{IsWell, IsWellFrame};
+ghost use Rattle.ss_machine.specs.Well.{IsInBounds, IsWellFrame};
 
 use crate::candidates::{loop_at_entry, loop_variable, next_candidate, verdict};
 use crate::change::Change;
@@ -24,18 +24,19 @@ use crate::loops::OpenLoop;
 use crate::state::{MOST_BELOW, State};
 use crate::statistics::{Statistics, no_statistics, statistic_value, statistics_with};
 use crate::status::Status;
-use crate::values::{assigned_value, value, values};
+use crate::values::{assigned_value, line_count, value, values};
 use crate::verdict::Verdict;
 use ss_check::{
     Assign, Branch, Call, Control, Expr, ForPhrase, Looping, Output, Place, Program, Question,
     Resets, Section, SectionKind, Spot, Targets, Tellings, Values, Variable, Ways,
 };
+use ss_data::Feed;
 use ss_journal::{Journal, roll_back};
 use ss_report::Picture;
 use ss_words::{RunFault, StepFault};
 use std::alloc::{AllocError, Global};
 
-/// A state, the journal of its changes, and room for the values of one PRINT or RETURN.
+/// A state, the journal of its changes, and room for the values of one PRINT, READ or RETURN.
 ///
 /// Each statement leaves the open step so that it leads back to the state before, also where memory
 /// was refused: none cleans up.
@@ -49,13 +50,15 @@ pub struct Executor {
 
 impl Executor {
     /// The start of a program's run, with an empty journal.
-    pub fn new(alloc: Global, program: &Program) -> Result<Self, AllocError>
-        ensures state { IfOk result (λ executor. executor.state ≡ start program.now) }
+    pub fn new(alloc: Global, program: &Program, feed: Feed) -> Result<Self, AllocError>
+        requires { feed.taken ≡ 0 }
+        ensures state { IfOk result
+            (λ executor. executor.state ≡ start (record { program = program.now; items = feed.items })) }
         ensures steps { IfOk result (λ executor. executor.journal.steps ≡ []) }
         ensures current { IfOk result (λ executor. executor.journal.current ≡ []) }
     {
         Ok(Executor {
-            state: State::new(alloc, program)?,
+            state: State::new(alloc, program, feed)?,
             journal: Journal::new(alloc),
             values: Vec::new(alloc),
             alloc,
@@ -144,6 +147,30 @@ impl Executor {
         }
     }
 
+    /// Appends so many line feeds and goes on, or marks the fault.
+    fn skip(&mut self, next: usize, count: Result<usize, RunFault>) -> Result<(), AllocError>
+        requires room { 1 < self.old.journal.notes }
+        ensures state { OnOk result (self.new.state ≡ state_after_skip self.old.state next count) }
+        ensures notes { Notes 2 self.old self.new }
+    {
+        let skipped = match count {
+            Ok(lines) => self.state.skip(lines),
+            Err(fault) => Err(StepFault::Fault(fault)),
+        };
+        match skipped {
+            Ok(change) => {
+                self.journal.note(change);
+                self.go_to(next);
+                Ok(())
+            }
+            Err(StepFault::Fault(fault)) => {
+                self.mark(Status::Faulted(fault));
+                Ok(())
+            }
+            Err(StepFault::Memory) => Err(AllocError),
+        }
+    }
+
     fn run_output(&mut self, next: usize, output: &Output) -> Result<(), AllocError>
         requires sound { InState self.old.state IsSoundOutput output.now }
         requires room { 1 < self.old.journal.notes }
@@ -156,6 +183,10 @@ impl Executor {
                 picture,
                 ..
             } => self.print(next, values, picture),
+            Output::Skip(count) => {
+                let count = line_count(self.state.view(), count);
+                self.skip(next, count)
+            }
         }
     }
 
@@ -423,12 +454,12 @@ impl Executor {
     }
 
     /// Assigns to the targets, in order, the values kept for this from number `first` on.
-    fn yield_to(&mut self, first: usize, targets: &Targets)
+    fn assign_kept(&mut self, first: usize, targets: &Targets)
         requires sound { InState self.old.state AreTargets targets.now }
-        requires parameters { first ≤ parameter_limit }
-        requires few { length targets.now ≤ parameter_limit }
+        requires few { first + length targets.now < 2 ^ 64 }
         requires room { length targets.now < self.old.journal.notes }
-        ensures state { self.new.state ≡ state_after_yield self.old.values.items self.old.state first targets.now }
+        ensures state { self.new.state
+            ≡ state_after_assignments self.old.values.items self.old.state first targets.now }
         ensures notes { Notes (length targets.now) self.old self.new }
     {
         let mut number = first;
@@ -463,6 +494,29 @@ impl Executor {
         }
     }
 
+    /// Takes the values of a READ, assigns them to its targets and goes on, or marks the first
+    /// fault.
+    fn read(&mut self, next: usize, targets: &Targets) -> Result<(), AllocError>
+        requires sound { InState self.old.state AreTargets targets.now }
+        requires room { 1 + length targets.now < self.old.journal.notes }
+        ensures state { OnOk result (self.new.state ≡ step_read self.old.state next targets.now) }
+        ensures notes { Notes (2 + length targets.now) self.old self.new }
+    {
+        match self.state.take(targets, &mut self.values) {
+            Ok(change) => {
+                self.journal.note(change);
+                self.assign_kept(0, targets);
+                self.go_to(next);
+                Ok(())
+            }
+            Err(StepFault::Fault(fault)) => {
+                self.mark(Status::Faulted(fault));
+                Ok(())
+            }
+            Err(StepFault::Memory) => Err(AllocError),
+        }
+    }
+
     /// Behind a CALL, to which the values kept from number `first` on came back.
     fn behind_call(&mut self, first: usize, next: usize, place: &Place)
         requires sound { InState self.old.state IsSoundPlace place.now }
@@ -473,7 +527,7 @@ impl Executor {
         ensures notes { Notes (1 + changes.call_targets place.now) self.old self.new }
     {
         if let Place::Call(call) = place {
-            self.yield_to(first, &call.targets);
+            self.assign_kept(first, &call.targets);
             self.go_to(next);
         }
     }
@@ -497,7 +551,7 @@ impl Executor {
 
     /// RETURN or END of a routine, which is given so many values.
     fn run_return(&mut self, program: &Program, given: usize) -> Result<(), AllocError>
-        requires well { IsWell program.now self.old.state }
+        requires well { IsInBounds program.now self.old.state }
         requires given { given ≡ (section_of program.now self.old.state.frame.section).given }
         requires parameters { given ≤ parameter_limit }
         requires room { 1 + yield_count program.now self.old.state.below < self.old.journal.notes }
@@ -528,7 +582,7 @@ impl Executor {
     }
 
     fn run_control(&mut self, program: &Program, control: Control) -> Result<(), AllocError>
-        requires well { IsWell program.now self.old.state }
+        requires well { IsInBounds program.now self.old.state }
         requires room { 1 + yield_count program.now self.old.state.below < self.old.journal.notes }
         ensures state { OnOk result (self.new.state ≡ step_control program.now self.old.state control) }
         ensures notes { Notes (2 + yield_count program.now self.old.state.below) self.old self.new }
@@ -542,7 +596,7 @@ impl Executor {
 
     #[tactic(auto, using(crate::proofs::Sounds::section_found, crate::proofs::Sounds::few_parameters))]
     fn end_section(&mut self, program: &Program) -> Result<(), AllocError>
-        requires well { IsWell program.now self.old.state }
+        requires well { IsInBounds program.now self.old.state }
         requires room { 1 + yield_count program.now self.old.state.below < self.old.journal.notes }
         ensures state { OnOk result (self.new.state ≡ state_after_section program.now self.old.state
             (section_of program.now self.old.state.frame.section).kind) }
@@ -561,7 +615,7 @@ impl Executor {
 
     /// Runs a place. After an error the changes made so far stand in the open step.
     fn run_place(&mut self, program: &Program, ways: Ways, place: &Place) -> Result<(), AllocError>
-        requires well { IsWell program.now self.old.state }
+        requires well { IsInBounds program.now self.old.state }
         requires sound { InState self.old.state IsSoundPlace place.now }
         requires leads { LeadsOn program.now.sections
             (length (places_of (slice_get program.now.sections self.old.state.frame.section))) ways place.now }
@@ -578,6 +632,7 @@ impl Executor {
             Place::Branch(branch) => self.run_branch(ways, branch),
             Place::Looping(looping) => self.run_looping(ways, looping)?,
             Place::Call(call) => self.run_call(program, call)?,
+            Place::Read(targets) => self.read(ways.next, targets)?,
         }
         Ok(())
     }
@@ -585,7 +640,7 @@ impl Executor {
     /// Runs the place where the state stands. After an error the changes made so far stand in the
     /// open step.
     pub fn run(&mut self, program: &Program) -> Result<(), AllocError>
-        requires well { IsWell program.now self.old.state }
+        requires well { IsInBounds program.now self.old.state }
         requires none { self.old.journal.current ≡ [] }
         requires room { change_bound program.now self.old.state ≤ self.old.journal.notes }
         ensures state { OnOk result (self.new.state ≡ step program.now self.old.state) }
@@ -600,7 +655,7 @@ impl Executor {
 
     /// The most changes that the next step notes.
     pub fn change_bound(&self, program: &Program) -> usize
-        requires well { IsWell program.now self.now.state }
+        requires well { IsInBounds program.now self.now.state }
         ensures { result ≡ change_bound program.now self.now.state }
     {
         program.known();
@@ -612,13 +667,14 @@ impl Executor {
             Place::Control(_) => 2 + self.yield_count(program),
             Place::Branch(_) | Place::Call(_) => 1,
             Place::Looping(looping) => most_looping_changes(ways, looping),
+            Place::Read(targets) => 2 + targets.list.len(),
         }
     }
 
     /// How many values come back from the last frame.
     #[tactic(auto, using(crate::proofs::Returns::caller_none))]
     fn yield_count(&self, program: &Program) -> usize
-        requires well { IsWell program.now self.now.state }
+        requires well { IsInBounds program.now self.now.state }
         ensures count { result ≡ yield_count program.now self.now.state.below }
         ensures small { result < 2 ^ 63 }
     {

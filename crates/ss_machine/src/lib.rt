@@ -8,6 +8,7 @@
 mod candidates;
 mod change;
 mod conditions;
+mod examples;
 mod executor;
 mod frame;
 pub mod laws;
@@ -24,6 +25,3 @@ mod view;
 pub use machine::Machine;
 pub use status::Status;
 pub use stepped::Stepped;
-
-#[cfg(test)]
-mod tests;

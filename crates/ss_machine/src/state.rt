@@ -1,9 +1,9 @@
-ghost use Rattle.std.specs.Prelude.{◌≡◌, ◌<◌, ◌≤◌, ◌∷◌, ◌++◌, [], length, drop, OnOk, slice_set, IfOk, OnErr, IfErr, MatchOption, Ok};
+ghost use Rattle.std.specs.Prelude.{◌≡◌, ◌+◌, ◌^◌, ◌<◌, ◌≤◌, ◌∷◌, ◌++◌, [], length, drop, replicate, OnOk, slice_set, IfOk, OnErr, IfErr, MatchOption, Ok};
 ghost use Rattle.ss_report.specs.Pictures.{field_count, picture_text};
 ghost use Rattle.ss_check.specs.ProgramSound.{IsTarget};
 ghost use Rattle.ss_machine.specs.Seen.{view_readings};
 ghost use Rattle.ss_machine.specs.Values.{readings, FaultIs};
-ghost use Rattle.ss_machine.specs.Step.{state_after_assignment, longer_report, state_at_place, state_with_loops, state_with_found, state_with_statistics};
+ghost use Rattle.ss_machine.specs.Step.{state_after_assignment, longer_report, state_at_place, state_with_loops, state_with_found, state_with_statistics, state_with_taken, values_taken};
 ghost use Rattle.ss_machine.specs.Loops.{loop_of_phrase, innermost, loops_with_candidate};
 ghost use Rattle.ss_machine.specs.Run.{start};
 ghost use Rattle.ss_machine.specs.Change.{Fits, unapply};
@@ -17,7 +17,8 @@ use crate::loops::OpenLoop;
 use crate::statistics::{Statistics, no_statistics};
 use crate::status::Status;
 use crate::view::View;
-use ss_check::{Program, Variable};
+use ss_check::{Program, Targets, Variable};
+use ss_data::Feed;
 use ss_journal::Undo;
 use ss_report::{Picture, Report};
 use ss_words::StepFault;
@@ -35,6 +36,7 @@ pub struct State {
     frame: FrameBox,
     below: Vec<FrameBox>,
     clock: i64,
+    feed: Feed,
     report: Report,
     status: Status,
 }
@@ -50,6 +52,7 @@ impl Model for State {
       frame = a.frame;
       below = reverse a.below.items;
       clock = a.clock;
+      feed = a.feed;
       report = a.report;
       status = a.status;
     } };
@@ -58,9 +61,10 @@ impl Model for State {
 }
 
 impl State {
-    /// The state at the start of a program's run.
-    pub fn new(alloc: Global, program: &Program) -> Result<Self, AllocError>
-        ensures { IfOk result (λ state. state ≡ start program.now) }
+    /// The state at the start of a program's run over its data.
+    pub fn new(alloc: Global, program: &Program, feed: Feed) -> Result<Self, AllocError>
+        requires { feed.taken ≡ 0 }
+        ensures { IfOk result (λ state. state ≡ start (record { program = program.now; items = feed.items })) }
     {
         let frame = FrameBox::new(alloc, program, program.main(), Vec::new(alloc))?;
         let mut below = Vec::new(alloc);
@@ -70,6 +74,7 @@ impl State {
             frame,
             below,
             clock: 0,
+            feed,
             report: Report::new(alloc),
             status: Status::Ready,
         })
@@ -329,6 +334,30 @@ impl State {
         Change::Status(old)
     }
 
+    /// Takes the next numbers of the data, one for each target, and puts them in place of what was
+    /// in `values`. After an error nothing is taken.
+    pub fn take(&mut self, targets: &Targets, values: &mut Vec<i64>) -> Result<Change, StepFault>
+        ensures state { IfOk result
+            (λ _. self.new ≡ state_with_taken self.old (self.old.feed.taken + length targets.now)) }
+        ensures few { OnOk result (length targets.now < 2 ^ 64) }
+        ensures values { IfOk result
+            (λ _. values_taken self.old.feed.items self.old.feed.taken targets.now ≡ Ok values.new.items) }
+        ensures fits { IfOk result (λ c. Fits c self.new) }
+        ensures back { IfOk result (λ c. unapply c self.new ≡ self.old) }
+        ensures fault { IfErr result
+            (λ e. FaultIs e (values_taken self.old.feed.items self.old.feed.taken targets.now)) }
+        ensures err { OnErr result (self.new ≡ self.old) }
+    {
+        let old = self.feed.taken();
+        match take_values(&mut self.feed, targets, values) {
+            Ok(()) => Ok(Change::Taken(old)),
+            Err(e) => {
+                self.feed.undo(old);
+                Err(e)
+            }
+        }
+    }
+
     /// Appends the text of a picture to the report. After a fault nothing has changed.
     pub fn print(&mut self, picture: &Picture, values: &[i64]) -> Result<Change, StepFault>
         requires { length values.now ≡ field_count picture.now }
@@ -345,6 +374,40 @@ impl State {
         self.report.print(picture, values)?;
         Ok(Change::Report(old))
     }
+
+    /// Appends so many line feeds to the report. After a fault nothing has changed.
+    pub fn skip(&mut self, lines: usize) -> Result<Change, StepFault>
+        ensures state { IfOk result (λ _. self.new ≡ record self.old { report = self.new.report }) }
+        ensures report { IfOk result
+            (λ _. longer_report self.old.report (replicate lines 10) ≡ Ok self.new.report) }
+        ensures fits { IfOk result (λ c. Fits c self.new) }
+        ensures back { IfOk result (λ c. unapply c self.new ≡ self.old) }
+        ensures fault { IfErr result (λ e. FaultIs e (longer_report self.old.report (replicate lines 10))) }
+        ensures err { OnErr result (self.new ≡ self.old) }
+    {
+        let old = self.report.len();
+        self.report.skip(lines)?;
+        Ok(Change::Report(old))
+    }
+}
+
+/// Puts the next numbers of the data, one for each target, in place of what was in `values`. After
+/// an error some may be taken.
+fn take_values(feed: &mut Feed, targets: &Targets, values: &mut Vec<i64>) -> Result<(), StepFault>
+    ensures items { feed.new.items ≡ feed.old.items }
+    ensures later { feed.old.taken ≤ feed.new.taken }
+    ensures few { OnOk result (length targets.now < 2 ^ 64) }
+    ensures taken { OnOk result (feed.new.taken ≡ feed.old.taken + length targets.now) }
+    ensures values { OnOk result (values_taken feed.old.items feed.old.taken targets.now ≡ Ok values.new.items) }
+    ensures fault { IfErr result (λ e. FaultIs e (values_taken feed.old.items feed.old.taken targets.now)) }
+{
+    values.clear();
+    values.reserve(targets.list.len())?;
+    for _target in &targets.list {
+        let value = feed.take()?;
+        values.push(value)?;
+    }
+    Ok(())
 }
 
 impl Undo for State {
@@ -357,6 +420,7 @@ impl Undo for State {
     fn undo(&mut self, change: Change) {
         match change {
             Change::Variable { number, old } => self.variables[number] = old,
+            Change::Taken(old) => self.feed.undo(old),
             Change::Report(old_len) => self.report.cut(old_len),
             Change::Status(old) => self.status = old,
             Change::FrameOpened => {

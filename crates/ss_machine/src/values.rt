@@ -1,14 +1,18 @@
-ghost use Rattle.std.specs.Prelude.{◌≡◌, ℤ, pos, neg_ℤ, ◌+ℤ◌, ◌-ℤ◌, ◌*ℤ◌, length, Ok, OnOk, IfErr};
-ghost use Rattle.ss_check.specs.ProgramExpr.{expr_of, term_of, factor_of};
-ghost use Rattle.ss_check.specs.ProgramSound.{IsSoundVariable, IsSoundExpr, IsSoundTerm, IsSoundFactor, AreSoundExprs, IsSoundAssign};
+ghost use Rattle.std.specs.Prelude.{◌≡◌, ℤ, pos, neg_ℤ, ◌+ℤ◌, ◌-ℤ◌, ◌*ℤ◌, unsigned_abs, length, Ok, OnOk, IfErr};
+ghost use Rattle.ss_check.specs.ProgramExpr.{expr_of, arguments_of, term_of, factor_of};
+ghost use Rattle.ss_check.specs.ProgramExpr as tree;
+ghost use Rattle.ss_check.specs.ProgramSound.{IsSoundVariable, IsSoundExpr, IsSoundTerm, IsSoundFactor, AreSoundArguments, AreSoundExprs, IsSoundAssign};
 ghost use Rattle.ss_machine.specs.Values.{result_in_range, variable_value, with_sign, sum_or_difference, value_of, values_of, FaultIs};
 ghost use Rattle.ss_machine.specs.Values as terms;
 ghost use Rattle.ss_machine.specs.Step as steps;
 ghost use Rattle.ss_machine.specs.Seen.{view_readings, InView};
 
 use crate::view::View;
-use ss_check::{Assign, Expr, Factor, Sum, Term, TermSign, Values, Variable};
+use ss_check::{Arguments, Assign, Expr, Factor, Sum, Term, TermSign, Values, Variable};
 use ss_words::{RunFault, StepFault};
+
+/// The most lines that one SKIP appends.
+const MOST_LINES: i64 = 1000;
 
 /// A sum, or F1.
 pub fn sum(x: i64, y: i64) -> Result<i64, RunFault>
@@ -33,6 +37,30 @@ fn negation(x: i64) -> Result<i64, RunFault>
     ensures { result ≡ result_in_range (neg_ℤ x) }
 {
     x.checked_neg().ok_or(RunFault::OutOfRange)
+}
+
+fn size(x: i64) -> Result<i64, RunFault>
+    ensures { result ≡ result_in_range (pos (unsigned_abs x)) }
+{
+    x.checked_abs().ok_or(RunFault::OutOfRange)
+}
+
+fn quotient(x: i64, y: i64) -> Result<i64, RunFault>
+    ensures { result ≡ terms.quotient_value x y }
+{
+    if y == 0 {
+        return Err(RunFault::ZeroDivisor);
+    }
+    x.checked_div(y).ok_or(RunFault::OutOfRange)
+}
+
+fn remainder(x: i64, y: i64) -> Result<i64, RunFault>
+    ensures { result ≡ terms.remainder_value x y }
+{
+    if y == 0 {
+        return Err(RunFault::ZeroDivisor);
+    }
+    Ok(x.wrapping_rem(y))
 }
 
 fn number(n: u64) -> Result<i64, RunFault>
@@ -114,8 +142,49 @@ fn factor_value(view: View<'_>, f: &Factor) -> Result<i64, RunFault>
     match f {
         Factor::Number(n) => number(*n),
         Factor::Variable(x) => Ok(variable(view, *x)),
+        Factor::Absolute(e) => size(sum_value(view, e)?),
+        Factor::Greatest(arguments) => greatest_value(view, arguments),
+        Factor::Least(arguments) => least_value(view, arguments),
+        Factor::Quotient(dividend, divisor) => {
+            let x = sum_value(view, dividend)?;
+            quotient(x, sum_value(view, divisor)?)
+        }
+        Factor::Remainder(dividend, divisor) => {
+            let x = sum_value(view, dividend)?;
+            remainder(x, sum_value(view, divisor)?)
+        }
         Factor::Within(e) => sum_value(view, e),
     }
+}
+
+#[cycle(value)]
+fn greatest_value(view: View<'_>, arguments: &Arguments) -> Result<i64, RunFault>
+    requires first { InView view IsSoundExpr (arguments_of arguments.now).0 }
+    requires more { InView view AreSoundArguments (arguments_of arguments.now).1 }
+    ensures { result ≡ terms.factor_value (view_readings view.entry)
+        (tree.greatest (arguments_of arguments.now).0 (arguments_of arguments.now).1) }
+{
+    let mut greatest = sum_value(view, &arguments.first)?;
+    for further in &arguments.more {
+        let next = sum_value(view, further)?;
+        greatest = greatest.max(next);
+    }
+    Ok(greatest)
+}
+
+#[cycle(value)]
+fn least_value(view: View<'_>, arguments: &Arguments) -> Result<i64, RunFault>
+    requires first { InView view IsSoundExpr (arguments_of arguments.now).0 }
+    requires more { InView view AreSoundArguments (arguments_of arguments.now).1 }
+    ensures { result ≡ terms.factor_value (view_readings view.entry)
+        (tree.least (arguments_of arguments.now).0 (arguments_of arguments.now).1) }
+{
+    let mut least = sum_value(view, &arguments.first)?;
+    for further in &arguments.more {
+        let next = sum_value(view, further)?;
+        least = least.min(next);
+    }
+    Ok(least)
 }
 
 /// The value that a LET, an ADD or a SUBTRACT assigns: the expression first, then the target's old
@@ -135,6 +204,18 @@ pub fn assigned_value(view: View<'_>, assign: &Assign) -> Result<i64, RunFault>
             difference(variable(view, *target), x)
         }
     }
+}
+
+/// How many lines a SKIP appends, or the first fault: F13 where they are more than 1000.
+pub fn line_count(view: View<'_>, count: &Expr) -> Result<usize, RunFault>
+    requires { InView view IsSoundExpr count.now }
+    ensures { result ≡ steps.lines_asked (view_readings view.entry) count.now }
+{
+    let count = value(view, count)?;
+    if count < 0 || MOST_LINES < count {
+        return Err(RunFault::CountOutOfRange);
+    }
+    Ok(count.unsigned_abs() as usize)
 }
 
 /// Puts the values of expressions in order in place of what was in `values`, or answers the first

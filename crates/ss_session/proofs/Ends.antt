@@ -6,7 +6,7 @@ use Rattle.ss_check.specs.declared.fault.CheckRule.{CheckRule}
 use Rattle.ss_check.specs.CheckRules.{check_rule_code}
 use Rattle.ss_check.specs.Program.{ProgramTable}
 use Rattle.ss_machine.specs.Moment.{Moment, position}
-use Rattle.ss_machine.specs.Run.{run}
+use Rattle.ss_machine.specs.Run.{Input, input_with, run}
 use Rattle.ss_debug.specs.CommandLines.{command_lines}
 use Rattle.ss_debug.specs.Turn.{initial_session_state}
 use Rattle.ss_debug.specs.View.{DebuggerView, debugger_state_of}
@@ -28,7 +28,7 @@ pub start_is : (m : Moment) (h : DebuggerView) → h ≡ record { machine = m; b
 start_is m h e z = rw (e, z) refl
 
 -- turns that are cut short cut a session over a program short
-pub commands_cut : (k : Cut) (t : ProgramTable) (h next : DebuggerView) (lines : List (List ℕ))
+pub commands_cut : (k : Cut) (t : Input) (h next : DebuggerView) (lines : List (List ℕ))
     (old new : Option (List ℕ)) (f g : ℕ) →
     open_session_state (debugger_state_of h) ≡ initial_session_state →
     TurnsEnd (Err k) t h next lines old new f g → ProgramEnds (Err k) t lines old new f g
@@ -37,83 +37,83 @@ commands_cut cut.Memory t h next lines old new f g s e = let w = rw s at e in (w
 commands_cut cut.Write t h next lines old new f g s e = let w = rw s at e in (part_left _ _ _ _ w.0, w.1)
 
 -- how the line of a refused text ends a session
-pub text_written : (m c : List ℕ) (old new : Option (List ℕ)) (f g : ℕ) (rule : TextRule) (line : ℕ) →
+pub text_written : (m d c : List ℕ) (old new : Option (List ℕ)) (f g : ℕ) (rule : TextRule) (line : ℕ) →
     IsOutcome m (refused_text rule line) →
-    Appends old new (refusal_line (text_rule_code rule) line) × (g ≡ f) → SessionEnds (Err Text) m c old new f g
+    Appends old new (refusal_line (text_rule_code rule) line) × (g ≡ f) → SessionEnds (Err Text) m d c old new f g
 unfolding SessionEnds
-text_written m c old new f g rule line o h = ((rule, line, o), (refused_text rule line, o, h.0), h.1)
+text_written m d c old new f g rule line o h = ((rule, line, o), (refused_text rule line, o, h.0), h.1)
 
 -- how the line of a refused program ends a session
-pub check_written : (m c : List ℕ) (old new : Option (List ℕ)) (f g : ℕ) (rule : CheckRule) (line : ℕ) →
+pub check_written : (m d c : List ℕ) (old new : Option (List ℕ)) (f g : ℕ) (rule : CheckRule) (line : ℕ) →
     IsOutcome m (refused_check rule line) →
-    Appends old new (refusal_line (check_rule_code rule) line) × (g ≡ f) → SessionEnds (Err Check) m c old new f g
+    Appends old new (refusal_line (check_rule_code rule) line) × (g ≡ f) → SessionEnds (Err Check) m d c old new f g
 unfolding SessionEnds
-check_written m c old new f g rule line o h = ((rule, line, o), (refused_check rule line, o, h.0), h.1)
+check_written m d c old new f g rule line o h = ((rule, line, o), (refused_check rule line, o, h.0), h.1)
 
 -- how it ends where that line is cut short
-pub line_cut : (m c : List ℕ) (old new : Option (List ℕ)) (f g : ℕ) (o : Outcome) (k : Cut) → IsOutcome m o →
-    LineEnds (Err k) (transcript o c) old new f g → SessionEnds (Err (fault_of k)) m c old new f g
+pub line_cut : (m d c : List ℕ) (old new : Option (List ℕ)) (f g : ℕ) (o : Outcome) (k : Cut) → IsOutcome m o →
+    LineEnds (Err k) (transcript o d c) old new f g → SessionEnds (Err (fault_of k)) m d c old new f g
 unfolding SessionEnds LineEnds
-line_cut m c old new f g o cut.Memory i h = (inl h.0, h.1)
-line_cut m c old new f g o cut.Write i h = ((o, i, h.0), h.1)
+line_cut m d c old new f g o cut.Memory i h = (inl h.0, h.1)
+line_cut m d c old new f g o cut.Write i h = ((o, i, h.0), h.1)
 
 -- memory was refused before anything was written
-pub none_yet : (m c : List ℕ) (a : Option (List ℕ)) (f : ℕ) → SessionEnds (Err Memory) m c a a f f
+pub none_yet : (m d c : List ℕ) (a : Option (List ℕ)) (f : ℕ) → SessionEnds (Err Memory) m d c a a f f
 unfolding SessionEnds
-none_yet m c a f = (inl (appends_none a), refl)
+none_yet m d c a f = (inl (appends_none a), refl)
 
 -- how a session over a program ends
-pub program_ends : (m c : List ℕ) (old new : Option (List ℕ)) (f g : ℕ) (t : ProgramTable) (end : End) →
+pub program_ends : (m d c : List ℕ) (old new : Option (List ℕ)) (f g : ℕ) (t : ProgramTable) (end : End) →
     IsOutcome m (accepted t) →
-    ProgramEnds (Ok end) t (command_lines c) old new f g → SessionEnds (Ok end) m c old new f g
+    ProgramEnds (Ok end) (input_with t d) (command_lines c) old new f g → SessionEnds (Ok end) m d c old new f g
 unfolding SessionEnds ProgramEnds
-program_ends m c old new f g t end o h = ((t, o, h.0), (accepted t, o, h.1), h.2)
+program_ends m d c old new f g t end o h = ((t, o, h.0), (accepted t, o, h.1), h.2)
 
-pub program_cut : (m c : List ℕ) (old new : Option (List ℕ)) (f g : ℕ) (t : ProgramTable) (k : Cut) →
+pub program_cut : (m d c : List ℕ) (old new : Option (List ℕ)) (f g : ℕ) (t : ProgramTable) (k : Cut) →
     IsOutcome m (accepted t) →
-    ProgramEnds (Err k) t (command_lines c) old new f g → SessionEnds (Err (fault_of k)) m c old new f g
+    ProgramEnds (Err k) (input_with t d) (command_lines c) old new f g → SessionEnds (Err (fault_of k)) m d c old new f g
 unfolding SessionEnds ProgramEnds
-program_cut m c old new f g t cut.Memory o h = (inr (t, o, h.0), h.1)
-program_cut m c old new f g t cut.Write o h = ((accepted t, o, h.0), h.1)
+program_cut m d c old new f g t cut.Memory o h = (inr (t, o, h.0), h.1)
+program_cut m d c old new f g t cut.Write o h = ((accepted t, o, h.0), h.1)
 
 -- ---- what follows from how a session ends
 
-pub whole_written : (r : Result End SessionFault) (m c : List ℕ) (old new : Option (List ℕ)) (f g : ℕ) →
-    SessionEnds r m c old new f g → IsWhole r → WritesTranscript m c old new
+pub whole_written : (r : Result End SessionFault) (m d c : List ℕ) (old new : Option (List ℕ)) (f g : ℕ) →
+    SessionEnds r m d c old new f g → IsWhole r → WritesTranscript m d c old new
 unfolding SessionEnds
-whole_written (Ok end) m c old new f g h w = h.1
-whole_written (Err Text) m c old new f g h w = h.1
-whole_written (Err Check) m c old new f g h w = h.1
-whole_written (Err Memory) m c old new f g h w = absurd w
-whole_written (Err Write) m c old new f g h w = absurd w
+whole_written (Ok end) m d c old new f g h w = h.1
+whole_written (Err Text) m d c old new f g h w = h.1
+whole_written (Err Check) m d c old new f g h w = h.1
+whole_written (Err Memory) m d c old new f g h w = absurd w
+whole_written (Err Write) m d c old new f g h w = absurd w
 
-pub memory_written : (r : Result End SessionFault) (m c : List ℕ) (old new : Option (List ℕ)) (f g : ℕ) →
-    SessionEnds r m c old new f g → r ≡ Err Memory → WritesFirstAnswers m c old new
+pub memory_written : (r : Result End SessionFault) (m d c : List ℕ) (old new : Option (List ℕ)) (f g : ℕ) →
+    SessionEnds r m d c old new f g → r ≡ Err Memory → WritesFirstAnswers m d c old new
 unfolding SessionEnds
-memory_written r m c old new f g h e = let t = rw e at h in t.0
+memory_written r m d c old new f g h e = let t = rw e at h in t.0
 
-pub write_written : (r : Result End SessionFault) (m c : List ℕ) (old new : Option (List ℕ)) (f g : ℕ) →
-    SessionEnds r m c old new f g → r ≡ Err Write → WritesPartOfTranscript m c old new
+pub write_written : (r : Result End SessionFault) (m d c : List ℕ) (old new : Option (List ℕ)) (f g : ℕ) →
+    SessionEnds r m d c old new f g → r ≡ Err Write → WritesPartOfTranscript m d c old new
 unfolding SessionEnds
-write_written r m c old new f g h e = let t = rw e at h in t.0
+write_written r m d c old new f g h e = let t = rw e at h in t.0
 
-pub failure_counted : (r : Result End SessionFault) (m c : List ℕ) (old new : Option (List ℕ)) (f g : ℕ) →
-    SessionEnds r m c old new f g → (r ≡ Err Write) ↔ (f < g)
+pub failure_counted : (r : Result End SessionFault) (m d c : List ℕ) (old new : Option (List ℕ)) (f g : ℕ) →
+    SessionEnds r m d c old new f g → (r ≡ Err Write) ↔ (f < g)
 unfolding SessionEnds
-failure_counted (Ok end) m c old new f g h = (λ e. absurd (cc), λ lt. absurd (omega (arith, h.2)))
-failure_counted (Err Text) m c old new f g h = (λ e. absurd (cc), λ lt. absurd (omega (arith, h.2)))
-failure_counted (Err Check) m c old new f g h = (λ e. absurd (cc), λ lt. absurd (omega (arith, h.2)))
-failure_counted (Err Memory) m c old new f g h = (λ e. absurd (cc), λ lt. absurd (omega (arith, h.1)))
-failure_counted (Err Write) m c old new f g h = (λ e. omega (arith, h.1), λ lt. refl)
+failure_counted (Ok end) m d c old new f g h = (λ e. absurd (cc), λ lt. absurd (omega (arith, h.2)))
+failure_counted (Err Text) m d c old new f g h = (λ e. absurd (cc), λ lt. absurd (omega (arith, h.2)))
+failure_counted (Err Check) m d c old new f g h = (λ e. absurd (cc), λ lt. absurd (omega (arith, h.2)))
+failure_counted (Err Memory) m d c old new f g h = (λ e. absurd (cc), λ lt. absurd (omega (arith, h.1)))
+failure_counted (Err Write) m d c old new f g h = (λ e. omega (arith, h.1), λ lt. refl)
 
-pub failures_counted : (r : Result End SessionFault) (m c : List ℕ) (old new : Option (List ℕ)) (f g : ℕ) →
-    SessionEnds r m c old new f g → g ≡ f + count_failed r
+pub failures_counted : (r : Result End SessionFault) (m d c : List ℕ) (old new : Option (List ℕ)) (f g : ℕ) →
+    SessionEnds r m d c old new f g → g ≡ f + count_failed r
 unfolding SessionEnds
-failures_counted (Ok end) m c old new f g h = omega (arith, h.2)
-failures_counted (Err Text) m c old new f g h = omega (arith, h.2)
-failures_counted (Err Check) m c old new f g h = omega (arith, h.2)
-failures_counted (Err Memory) m c old new f g h = omega (arith, h.1)
-failures_counted (Err Write) m c old new f g h = h.1
+failures_counted (Ok end) m d c old new f g h = omega (arith, h.2)
+failures_counted (Err Text) m d c old new f g h = omega (arith, h.2)
+failures_counted (Err Check) m d c old new f g h = omega (arith, h.2)
+failures_counted (Err Memory) m d c old new f g h = omega (arith, h.1)
+failures_counted (Err Write) m d c old new f g h = h.1
 
 -- outcomes of different kinds are not one model's
 abbrev IsOfText : Outcome → Type 0
@@ -135,46 +135,46 @@ text_not_accepted m p t a = subst IsOfText (one_outcome m (refused_text t.0 t.1)
 check_not_accepted : (m : List ℕ) (p : ProgramTable) → IsCheckRefused m → IsOutcome m (accepted p) → ⊥
 check_not_accepted m p c a = subst IsOfCheck (one_outcome m (refused_check c.0 c.1) (accepted p) c.2 a) tt
 
-pub text_end : (r : Result End SessionFault) (m c : List ℕ) (old new : Option (List ℕ)) (f g : ℕ) →
-    SessionEnds r m c old new f g → IsWhole r → (r ≡ Err Text) ↔ IsTextRefused m
+pub text_end : (r : Result End SessionFault) (m d c : List ℕ) (old new : Option (List ℕ)) (f g : ℕ) →
+    SessionEnds r m d c old new f g → IsWhole r → (r ≡ Err Text) ↔ IsTextRefused m
 unfolding SessionEnds
-text_end (Ok end) m c old new f g h w = (λ e. absurd (cc), λ t. absurd (text_not_accepted m h.0.0 t h.0.1))
-text_end (Err Text) m c old new f g h w = (λ e. h.0, λ t. refl)
-text_end (Err Check) m c old new f g h w = (λ e. absurd (cc), λ t. absurd (text_not_check m t h.0))
-text_end (Err Memory) m c old new f g h w = absurd w
-text_end (Err Write) m c old new f g h w = absurd w
+text_end (Ok end) m d c old new f g h w = (λ e. absurd (cc), λ t. absurd (text_not_accepted m h.0.0 t h.0.1))
+text_end (Err Text) m d c old new f g h w = (λ e. h.0, λ t. refl)
+text_end (Err Check) m d c old new f g h w = (λ e. absurd (cc), λ t. absurd (text_not_check m t h.0))
+text_end (Err Memory) m d c old new f g h w = absurd w
+text_end (Err Write) m d c old new f g h w = absurd w
 
-pub check_end : (r : Result End SessionFault) (m c : List ℕ) (old new : Option (List ℕ)) (f g : ℕ) →
-    SessionEnds r m c old new f g → IsWhole r → (r ≡ Err Check) ↔ IsCheckRefused m
+pub check_end : (r : Result End SessionFault) (m d c : List ℕ) (old new : Option (List ℕ)) (f g : ℕ) →
+    SessionEnds r m d c old new f g → IsWhole r → (r ≡ Err Check) ↔ IsCheckRefused m
 unfolding SessionEnds
-check_end (Ok end) m c old new f g h w = (λ e. absurd (cc), λ t. absurd (check_not_accepted m h.0.0 t h.0.1))
-check_end (Err Text) m c old new f g h w = (λ e. absurd (cc), λ t. absurd (text_not_check m h.0 t))
-check_end (Err Check) m c old new f g h w = (λ e. h.0, λ t. refl)
-check_end (Err Memory) m c old new f g h w = absurd w
-check_end (Err Write) m c old new f g h w = absurd w
+check_end (Ok end) m d c old new f g h w = (λ e. absurd (cc), λ t. absurd (check_not_accepted m h.0.0 t h.0.1))
+check_end (Err Text) m d c old new f g h w = (λ e. absurd (cc), λ t. absurd (text_not_check m h.0 t))
+check_end (Err Check) m d c old new f g h w = (λ e. h.0, λ t. refl)
+check_end (Err Memory) m d c old new f g h w = absurd w
+check_end (Err Write) m d c old new f g h w = absurd w
 
 abbrev program_of : ProgramTable → Outcome → ProgramTable
 program_of p (refused_text rule line) = p
 program_of p (refused_check rule line) = p
 program_of p (accepted q) = q
 
-same_end : (m c : List ℕ) (a b : End) → EndsBy m c a → EndsBy m c b → a ≡ b
-same_end m c a b h k =
+same_end : (m d c : List ℕ) (a b : End) → EndsBy m d c a → EndsBy m d c b → a ≡ b
+same_end m d c a b h k =
     let p : h.0 ≡ k.0 = ap (program_of h.0) (one_outcome m (accepted h.0) (accepted k.0) h.1 k.1) in
-    h.2 ∙ ap (λ t. end_of (ends_faulted t (command_lines c))) p ∙ sym k.2
+    h.2 ∙ ap (λ t. end_of (ends_faulted (input_with t d) (command_lines c))) p ∙ sym k.2
 
-pub accepted_end : (r : Result End SessionFault) (m c : List ℕ) (old new : Option (List ℕ)) (f g : ℕ) →
-    SessionEnds r m c old new f g → IsWhole r →
-    (end : End) → (r ≡ Ok end) ↔ EndsBy m c end
+pub accepted_end : (r : Result End SessionFault) (m d c : List ℕ) (old new : Option (List ℕ)) (f g : ℕ) →
+    SessionEnds r m d c old new f g → IsWhole r →
+    (end : End) → (r ≡ Ok end) ↔ EndsBy m d c end
 unfolding SessionEnds
-accepted_end (Ok a) m c old new f g h w b =
-    (λ e. let same : a ≡ b = cc in subst (EndsBy m c) same h.0, λ k. ap Ok (same_end m c a b h.0 k))
-accepted_end (Err Text) m c old new f g h w b = (λ e. absurd (cc), λ k. absurd (text_not_accepted m k.0 h.0 k.1))
-accepted_end (Err Check) m c old new f g h w b = (λ e. absurd (cc), λ k. absurd (check_not_accepted m k.0 h.0 k.1))
-accepted_end (Err Memory) m c old new f g h w b = absurd w
-accepted_end (Err Write) m c old new f g h w b = absurd w
+accepted_end (Ok a) m d c old new f g h w b =
+    (λ e. let same : a ≡ b = cc in subst (EndsBy m d c) same h.0, λ k. ap Ok (same_end m d c a b h.0 k))
+accepted_end (Err Text) m d c old new f g h w b = (λ e. absurd (cc), λ k. absurd (text_not_accepted m k.0 h.0 k.1))
+accepted_end (Err Check) m d c old new f g h w b = (λ e. absurd (cc), λ k. absurd (check_not_accepted m k.0 h.0 k.1))
+accepted_end (Err Memory) m d c old new f g h w b = absurd w
+accepted_end (Err Write) m d c old new f g h w b = absurd w
 
 -- the state of a machine at the position of a sitting
-pub state_is : (t : ProgramTable) (m : Moment) (p : ℕ) → m.program ≡ t → m.state ≡ run m.program (position m) →
+pub state_is : (t : Input) (m : Moment) (p : ℕ) → m.input ≡ t → m.state ≡ run m.input (position m) →
     position m ≡ p → m.state ≡ run t p
 state_is t m p e f g = f ∙ rw (e, g) refl

@@ -6,7 +6,7 @@ use Rattle.ss_session.proofs.Pieces.{appends_then, appends_none, appends_no_more
 use Rattle.ss_debug.specs.Turn.{DebuggerState, SessionState, session_state_after_line, line_answer, answers, session_state_after}
 use Rattle.ss_debug.specs.Turn.{debugger_state_after, is_quit, go_of}
 use Rattle.ss_debug.specs.Command.{command_of}
-use Rattle.ss_check.specs.Program.{ProgramTable}
+use Rattle.ss_machine.specs.Run.{Input}
 use Rattle.ss_debug.specs.declared.commands.Command.{Command}
 use Rattle.ss_debug.specs.declared.commands.Command.TheVariants.{Quit}
 use Rattle.ss_debug.specs.declared.go.Go.TheVariants as go
@@ -16,29 +16,29 @@ use Rattle.ss_session.specs.declared.ending.Cut.TheVariants as cut
 use Rattle.ss_session.specs.Private.{open_session_state, IsWrittenSoFar, TurnEnds, TurnsEnd}
 use Rattle.ss_session.specs.Written.{WritesFirst, WritesPart}
 
-pub session_state_after-append : (t : ProgramTable) (s : SessionState) (xs ys : List (List ℕ)) →
+pub session_state_after-append : (t : Input) (s : SessionState) (xs ys : List (List ℕ)) →
     session_state_after t s (xs ++ ys) ≡ session_state_after t (session_state_after t s xs) ys
 unfolding session_state_after
 session_state_after-append t s [] ys = refl
 session_state_after-append t s (x ∷ xs) ys = session_state_after-append t (session_state_after_line t s x) xs ys
 
-pub answers-append : (t : ProgramTable) (s : SessionState) (xs ys : List (List ℕ)) →
+pub answers-append : (t : Input) (s : SessionState) (xs ys : List (List ℕ)) →
     answers t s (xs ++ ys) ≡ answers t s xs ++ answers t (session_state_after t s xs) ys
 unfolding session_state_after answers
 answers-append t s [] ys = refl
 answers-append t s (x ∷ xs) ys =
     rw (answers-append t (session_state_after_line t s x) xs ys) (sym (append_assoc (line_answer t s x) _ _))
 
-pub state_after_one : (t : ProgramTable) (s : SessionState) (x : List ℕ) →
+pub state_after_one : (t : Input) (s : SessionState) (x : List ℕ) →
     session_state_after t s (x ∷ []) ≡ session_state_after_line t s x
 unfolding session_state_after
 state_after_one t s x = refl
 
-pub answers_one : (t : ProgramTable) (s : SessionState) (x : List ℕ) → answers t s (x ∷ []) ≡ line_answer t s x
+pub answers_one : (t : Input) (s : SessionState) (x : List ℕ) → answers t s (x ∷ []) ≡ line_answer t s x
 unfolding answers
 answers_one t s x = append-nil (line_answer t s x)
 
-pub answers_first : (t : ProgramTable) (s : SessionState) (x : List ℕ) (xs : List (List ℕ)) →
+pub answers_first : (t : Input) (s : SessionState) (x : List ℕ) (xs : List (List ℕ)) →
     answers t s (x ∷ xs) ≡ line_answer t s x ++ answers t (session_state_after_line t s x) xs
 unfolding answers
 answers_first t s x xs = refl
@@ -47,29 +47,29 @@ cond_yes : {A : Type 0} (b : Bool) (x y : A) → b ≡ true → cond b x y ≡ x
 cond_yes true x y e = refl
 cond_yes false x y e = absurd (cc)
 
-next_over : (t : ProgramTable) (s : SessionState) (x : List ℕ) → s.over ≡ true → session_state_after_line t s x ≡ s
+next_over : (t : Input) (s : SessionState) (x : List ℕ) → s.over ≡ true → session_state_after_line t s x ≡ s
 next_over t s x e = cond_yes s.over _ _ e
 
-line_over : (t : ProgramTable) (s : SessionState) (x : List ℕ) → s.over ≡ true → line_answer t s x ≡ []
+line_over : (t : Input) (s : SessionState) (x : List ℕ) → s.over ≡ true → line_answer t s x ≡ []
 line_over t s x e = cond_yes s.over _ _ e
 
-pub answers_over : (t : ProgramTable) (s : SessionState) (xs : List (List ℕ)) → s.over ≡ true → answers t s xs ≡ []
+pub answers_over : (t : Input) (s : SessionState) (xs : List (List ℕ)) → s.over ≡ true → answers t s xs ≡ []
 unfolding answers
 answers_over t s [] e = refl
 answers_over t s (x ∷ xs) e = rw (line_over t s x e, next_over t s x e) (answers_over t s xs e)
 
-pub state_over : (t : ProgramTable) (s : SessionState) (xs : List (List ℕ)) → s.over ≡ true →
+pub state_over : (t : Input) (s : SessionState) (xs : List (List ℕ)) → s.over ≡ true →
     session_state_after t s xs ≡ s
 unfolding session_state_after
 state_over t s [] e = refl
 state_over t s (x ∷ xs) e = rw (next_over t s x e) (state_over t s xs e)
 
-pub written_none : (t : ProgramTable) (s : SessionState) (lines : List (List ℕ)) (old : Option (List ℕ)) →
+pub written_none : (t : Input) (s : SessionState) (lines : List (List ℕ)) (old : Option (List ℕ)) →
     IsWrittenSoFar t s lines lines s old old
 unfolding session_state_after answers
 written_none t s lines old = record { done = []; split = refl; place = refl; said = appends_none old }
 
-pub written_one : (t : ProgramTable) (s : SessionState) (lines : List (List ℕ)) (line : List ℕ) (more : List (List ℕ))
+pub written_one : (t : Input) (s : SessionState) (lines : List (List ℕ)) (line : List ℕ) (more : List (List ℕ))
     (now next : SessionState) (old mid new : Option (List ℕ)) →
     IsWrittenSoFar t s lines (line ∷ more) now old mid → next ≡ session_state_after_line t now line →
     Appends mid new (line_answer t now line) →
@@ -83,7 +83,7 @@ written_one t s lines line more now next old mid new h e a = record {
       (appends_then old mid new _ _ h.said a);
 }
 
-pub written_first : (t : ProgramTable) (s : SessionState) (lines rest : List (List ℕ)) (now : SessionState)
+pub written_first : (t : Input) (s : SessionState) (lines rest : List (List ℕ)) (now : SessionState)
     (old mid new : Option (List ℕ)) →
     IsWrittenSoFar t s lines rest now old mid → Appends mid new [] → WritesFirst t s lines old new
 written_first t s lines rest now old mid new h a = record {
@@ -92,7 +92,7 @@ written_first t s lines rest now old mid new h a = record {
   said = rw (h.split, take-append_seam h.done rest) (appends_no_more old mid new _ h.said a);
 }
 
-pub written_part : (t : ProgramTable) (s : SessionState) (lines : List (List ℕ)) (line : List ℕ) (more : List (List ℕ))
+pub written_part : (t : Input) (s : SessionState) (lines : List (List ℕ)) (line : List ℕ) (more : List (List ℕ))
     (now : SessionState) (old mid new : Option (List ℕ)) →
     IsWrittenSoFar t s lines (line ∷ more) now old mid → WritesPart (line_answer t now line) mid new →
     WritesPart (answers t s lines) old new
@@ -108,7 +108,7 @@ written_part t s lines line more now old mid new h w =
           rw (whole, take-append-add, take-append-le) (appends_then old mid new _ _ h.said w.said);
     }
 
-pub written_all : (t : ProgramTable) (s : SessionState) (lines : List (List ℕ)) (now : SessionState)
+pub written_all : (t : Input) (s : SessionState) (lines : List (List ℕ)) (now : SessionState)
     (old new : Option (List ℕ)) →
     IsWrittenSoFar t s lines [] now old new →
     (now ≡ session_state_after t s lines) × Appends old new (answers t s lines)
@@ -117,7 +117,7 @@ written_all t s lines now old new h =
     (rw (← e) h.place, rw (← e) h.said)
 
 -- QUIT came: the lines left say nothing
-pub written_quit : (t : ProgramTable) (s : SessionState) (lines rest : List (List ℕ)) (now : SessionState)
+pub written_quit : (t : Input) (s : SessionState) (lines rest : List (List ℕ)) (now : SessionState)
     (old new : Option (List ℕ)) →
     IsWrittenSoFar t s lines rest now old new → now.over ≡ true →
     (now ≡ session_state_after t s lines) × Appends old new (answers t s lines)
@@ -134,17 +134,17 @@ go_quit : (c : Command) → go.Quit ≡ go_of c → is_quit c ≡ true
 go_quit Quit e = refl
 go_quit _ e = absurd (cc)
 
-pub state_after_line : (t : ProgramTable) (d next : DebuggerState) (line : List ℕ) →
+pub state_after_line : (t : Input) (d next : DebuggerState) (line : List ℕ) →
     next ≡ debugger_state_after t d (command_of line) → go.On ≡ go_of (command_of line) →
     open_session_state next ≡ session_state_after_line t (open_session_state d) line
 state_after_line t d next line e f = rw (e, go_on (command_of line) f) refl
 
-pub over_after_quit : (t : ProgramTable) (d : DebuggerState) (line : List ℕ) → go.Quit ≡ go_of (command_of line) →
+pub over_after_quit : (t : Input) (d : DebuggerState) (line : List ℕ) → go.Quit ≡ go_of (command_of line) →
     (session_state_after_line t (open_session_state d) line).over ≡ true
 over_after_quit t d line f = go_quit (command_of line) f
 
 -- a turn that is cut short cuts the turns short
-pub turns_cut : (k : Cut) (t : ProgramTable) (first before next : DebuggerView) (lines : List (List ℕ)) (line : List ℕ)
+pub turns_cut : (k : Cut) (t : Input) (first before next : DebuggerView) (lines : List (List ℕ)) (line : List ℕ)
     (more : List (List ℕ))
     (old mid new : Option (List ℕ)) (f g h : ℕ) →
     IsWrittenSoFar t (open_session_state (debugger_state_of first)) lines (line ∷ more)

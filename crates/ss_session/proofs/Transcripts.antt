@@ -15,6 +15,8 @@ use Rattle.ss_check.specs.CheckRules.{check_rule_code}
 use Rattle.ss_check.specs.Breach.{breach}
 use Rattle.ss_check.specs.Resolved.{resolved}
 use Rattle.ss_check.specs.Program.{ProgramTable}
+use Rattle.std.specs.Prelude.{codes}
+use Rattle.ss_machine.specs.Run.{input_with}
 use Rattle.ss_debug.specs.CommandLines.{command_lines}
 use Rattle.ss_session.specs.Model.{refused_text, refused_check, accepted, Spells}
 use Rattle.ss_session.specs.Transcript.{refusal_line, program_transcript}
@@ -31,7 +33,7 @@ module _ (model : List ℕ) (ws : List WordAt) (ps : List PlainAt) (read : words
 
   pub tells_run : (t : Tree) (p : ProgramTable) → IsWithin t → plains ps ≡ spell t →
       breach (written (lines ps) t) ≡ None → p ≡ resolved (written (lines ps) t) →
-      (commands text : List ℕ) → program_transcript p (command_lines commands) ≡ text →
+      (commands text : List ℕ) → program_transcript (input_with p (codes "")) (command_lines commands) ≡ text →
       HasTranscript model commands text
   tells_run t p within e sound is commands text same =
       (accepted p, (written (lines ps) t, spells t within e, sound, is), same)
@@ -39,13 +41,13 @@ module _ (model : List ℕ) (ws : List WordAt) (ps : List PlainAt) (read : words
   pub tells_breach : (t : Tree) (rule : CheckRule) (n : ℕ) (text : List ℕ) → IsWithin t → plains ps ≡ spell t →
       breach (written (lines ps) t) ≡ Some (rule, n) →
       refusal_line (check_rule_code rule) n ≡ text → AlwaysHasTranscript model text
-  tells_breach t rule n text within e broken same commands =
+  tells_breach t rule n text within e broken same data_text commands =
       (refused_check rule n, (written (lines ps) t, spells t within e, broken), same)
 
   pub tells_refused : (rule : TextRule) (n : ℕ) (text : List ℕ) → IsRefused rule n ps →
       refusal_line (text_rule_code rule) n ≡ text → AlwaysHasTranscript model text
-  tells_refused rule n text refused same commands = (refused_text rule n, inr (ws, read, rw plain refused), same)
+  tells_refused rule n text refused same data_text commands = (refused_text rule n, inr (ws, read, rw plain refused), same)
 
 pub tells_no_words : (model : List ℕ) (rule : TextRule) (n : ℕ) (text : List ℕ) →
     words_of model ≡ Err (Refused rule n) → refusal_line (text_rule_code rule) n ≡ text → AlwaysHasTranscript model text
-tells_no_words model rule n text e same commands = (refused_text rule n, inl e, same)
+tells_no_words model rule n text e same data_text commands = (refused_text rule n, inl e, same)

@@ -3,13 +3,18 @@ use Rattle.std.specs.Prelude.{◌≡◌, ◌++◌, ℕ, List, codes}
 use Rattle.ss_session.specs.Model.{Outcome, IsOutcome}
 use Rattle.ss_session.specs.Transcript.{transcript}
 
--- the transcript of a model under the commands is this text
-abbrev pub HasTranscript : List ℕ → List ℕ → List ℕ → Type 0
-HasTranscript model commands text = (outcome : Outcome) × IsOutcome model outcome × (transcript outcome commands ≡ text)
+-- the transcript of a model over data under the commands is this text
+abbrev pub HasTranscriptOver : List ℕ → List ℕ → List ℕ → List ℕ → Type 0
+HasTranscriptOver data_text model commands text =
+    (outcome : Outcome) × IsOutcome model outcome × (transcript outcome data_text commands ≡ text)
 
--- and so under all commands, as that of a refused model
+-- the same without data
+abbrev pub HasTranscript : List ℕ → List ℕ → List ℕ → Type 0
+HasTranscript = HasTranscriptOver (codes "")
+
+-- and so over all data under all commands, as that of a refused model
 abbrev pub AlwaysHasTranscript : List ℕ → List ℕ → Type 0
-AlwaysHasTranscript model text = (commands : List ℕ) → HasTranscript model commands text
+AlwaysHasTranscript model text = (data_text commands : List ℕ) → HasTranscriptOver data_text model commands text
 
 -- a program that does nothing but stop
 abbrev pub stop : List ℕ

@@ -5,7 +5,7 @@ use Rattle.ss_words.specs.declared.fault.TextFault.{TextFault}
 use Rattle.ss_words.specs.declared.fault.TextFault.TheVariants as text
 use Rattle.ss_check.specs.declared.fault.CheckFault.{CheckFault}
 use Rattle.ss_check.specs.declared.fault.CheckFault.TheVariants as check
-use Rattle.ss_check.specs.Program.{ProgramTable}
+use Rattle.ss_machine.specs.Run.{Input}
 use Rattle.ss_debug.specs.Command.{command_of}
 use Rattle.ss_debug.specs.Turn.{DebuggerState, SessionState, initial_session_state, debugger_state_after}
 use Rattle.ss_debug.specs.Turn.{answer, answers, session_state_after, go_of}
@@ -44,7 +44,7 @@ IsLoadFault load.Memory model = Unit {0}
 -- ---- the turns
 
 -- some of the lines are done, and their whole answers are written
-pub record IsWrittenSoFar (t : ProgramTable) (start : SessionState) (lines rest : List (List ℕ))
+pub record IsWrittenSoFar (t : Input) (start : SessionState) (lines rest : List (List ℕ))
     (now : SessionState) (old new : Option (List ℕ)) : Type 0 where
   pub done : List (List ℕ)
   pub split : lines ≡ done ++ rest
@@ -56,11 +56,11 @@ abbrev pub open_session_state : DebuggerState → SessionState
 open_session_state d = record { debugger = d; over = false }
 
 -- one turn over a program, by how it ends
-unfoldable pub TurnEnds : Result Go Cut → ProgramTable → DebuggerView → DebuggerView → List ℕ →
+unfoldable pub TurnEnds : Result Go Cut → Input → DebuggerView → DebuggerView → List ℕ →
     Option (List ℕ) → Option (List ℕ) → ℕ → ℕ → Type 0
 TurnEnds (Ok go) t view next line old new failures failures' =
     (debugger_state_of next ≡ debugger_state_after t (debugger_state_of view) (command_of line))
-    × (next.machine.program ≡ t) × (go ≡ go_of (command_of line))
+    × (next.machine.input ≡ t) × (go ≡ go_of (command_of line))
     × Appends old new (answer t (debugger_state_of view) (command_of line)) × (failures' ≡ failures)
 TurnEnds (Err cut.Memory) t view next line old new failures failures' =
     Appends old new [] × (failures' ≡ failures)
@@ -68,11 +68,11 @@ TurnEnds (Err cut.Write) t view next line old new failures failures' =
     WritesPart (answer t (debugger_state_of view) (command_of line)) old new × (failures' ≡ failures + 1)
 
 -- the turns of some lines, by how they end
-unfoldable pub TurnsEnd : Result (Unit {0}) Cut → ProgramTable → DebuggerView → DebuggerView → List (List ℕ) →
+unfoldable pub TurnsEnd : Result (Unit {0}) Cut → Input → DebuggerView → DebuggerView → List (List ℕ) →
     Option (List ℕ) → Option (List ℕ) → ℕ → ℕ → Type 0
 TurnsEnd (Ok done) t view next lines old new failures failures' =
     (debugger_state_of next ≡ (session_state_after t (open_session_state (debugger_state_of view)) lines).debugger)
-    × (next.machine.program ≡ t)
+    × (next.machine.input ≡ t)
     × Appends old new (answers t (open_session_state (debugger_state_of view)) lines) × (failures' ≡ failures)
 TurnsEnd (Err cut.Memory) t view next lines old new failures failures' =
     WritesFirst t (open_session_state (debugger_state_of view)) lines old new × (failures' ≡ failures)
@@ -93,7 +93,7 @@ LineEnds (Err cut.Memory) text old new failures failures' = Appends old new [] �
 LineEnds (Err cut.Write) text old new failures failures' = WritesPart text old new × (failures' ≡ failures + 1)
 
 -- a session over a program, by how it ends
-unfoldable pub ProgramEnds : Result End Cut → ProgramTable → List (List ℕ) →
+unfoldable pub ProgramEnds : Result End Cut → Input → List (List ℕ) →
     Option (List ℕ) → Option (List ℕ) → ℕ → ℕ → Type 0
 ProgramEnds (Ok end) t lines old new failures failures' =
     (end ≡ end_of (ends_faulted t lines)) × Appends old new (program_transcript t lines) × (failures' ≡ failures)
@@ -103,15 +103,15 @@ ProgramEnds (Err cut.Write) t lines old new failures failures' =
     WritesPart (program_transcript t lines) old new × (failures' ≡ failures + 1)
 
 -- a session, by how it ends
-unfoldable pub SessionEnds : Result End SessionFault → List ℕ → List ℕ →
+unfoldable pub SessionEnds : Result End SessionFault → List ℕ → List ℕ → List ℕ →
     Option (List ℕ) → Option (List ℕ) → ℕ → ℕ → Type 0
-SessionEnds (Ok end) model commands old new failures failures' =
-    EndsBy model commands end × WritesTranscript model commands old new × (failures' ≡ failures)
-SessionEnds (Err Text) model commands old new failures failures' =
-    IsTextRefused model × WritesTranscript model commands old new × (failures' ≡ failures)
-SessionEnds (Err Check) model commands old new failures failures' =
-    IsCheckRefused model × WritesTranscript model commands old new × (failures' ≡ failures)
-SessionEnds (Err Memory) model commands old new failures failures' =
-    WritesFirstAnswers model commands old new × (failures' ≡ failures)
-SessionEnds (Err Write) model commands old new failures failures' =
-    WritesPartOfTranscript model commands old new × (failures' ≡ failures + 1)
+SessionEnds (Ok end) model data_text commands old new failures failures' =
+    EndsBy model data_text commands end × WritesTranscript model data_text commands old new × (failures' ≡ failures)
+SessionEnds (Err Text) model data_text commands old new failures failures' =
+    IsTextRefused model × WritesTranscript model data_text commands old new × (failures' ≡ failures)
+SessionEnds (Err Check) model data_text commands old new failures failures' =
+    IsCheckRefused model × WritesTranscript model data_text commands old new × (failures' ≡ failures)
+SessionEnds (Err Memory) model data_text commands old new failures failures' =
+    WritesFirstAnswers model data_text commands old new × (failures' ≡ failures)
+SessionEnds (Err Write) model data_text commands old new failures failures' =
+    WritesPartOfTranscript model data_text commands old new × (failures' ≡ failures + 1)

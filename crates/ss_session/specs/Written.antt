@@ -1,11 +1,11 @@
 -- What was written of the answers of a session that was cut short.
 use Rattle.std.specs.Prelude.{ℕ, ◌≤◌, List, length, take, Option}
 use Rattle.std.specs.Io.KnownBytes.{Appends}
-use Rattle.ss_check.specs.Program.{ProgramTable}
+use Rattle.ss_machine.specs.Run.{Input}
 use Rattle.ss_debug.specs.Turn.{SessionState, answers}
 
 -- the whole answers of the first lines, some number of them
-pub record WritesFirst (t : ProgramTable) (start : SessionState) (lines : List (List ℕ))
+pub record WritesFirst (t : Input) (start : SessionState) (lines : List (List ℕ))
     (old new : Option (List ℕ)) : Type 0 where
   pub count : ℕ
   pub within : count ≤ length lines

@@ -47,7 +47,7 @@ pub(crate) fn write_transcript<W: Outlet>(
 ) -> Result<End, Cut>
     requires start { machine.steps ≡ [] }
     requires room { W.failures out.old < 2 ^ 64 - 1 }
-    ensures { ProgramEnds result machine.program (command_lines commands.now) (W.taken out.old) (W.taken out.new)
+    ensures { ProgramEnds result machine.input (command_lines commands.now) (W.taken out.old) (W.taken out.new)
         (W.failures out.old) (W.failures out.new) }
 {
     let mut debugger = Debugger::new(alloc, machine);

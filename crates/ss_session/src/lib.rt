@@ -8,8 +8,6 @@ mod laws;
 mod load;
 mod outlet;
 mod refusal;
-#[cfg(test)]
-mod tests;
 mod turns;
 mod whole;
 

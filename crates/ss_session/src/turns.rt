@@ -15,7 +15,7 @@ fn turn<W: Outlet>(
     out: &mut W,
 ) -> Result<Go, Cut>
     requires { W.failures out.old < 2 ^ 64 - 1 }
-    ensures { TurnEnds result debugger.old.machine.program debugger.old debugger.new line.now
+    ensures { TurnEnds result debugger.old.machine.input debugger.old debugger.new line.now
         (W.taken out.old) (W.taken out.new) (W.failures out.old) (W.failures out.new) }
 {
     bytes.clear();
@@ -33,7 +33,7 @@ pub(crate) fn obey_lines<W: Outlet>(
     out: &mut W,
 ) -> Result<(), Cut>
     requires { W.failures out.old < 2 ^ 64 - 1 }
-    ensures { TurnsEnd result debugger.old.machine.program debugger.old debugger.new (command_lines commands.now)
+    ensures { TurnsEnd result debugger.old.machine.input debugger.old debugger.new (command_lines commands.now)
         (W.taken out.old) (W.taken out.new) (W.failures out.old) (W.failures out.new) }
 {
     let mut rest = commands;

@@ -30,11 +30,12 @@ fn refuse<W: Outlet>(alloc: Global, code: &str, line: usize, out: &mut W) -> Res
 fn session_by_cases<W: Outlet>(
     alloc: Global,
     model: &[u8],
+    data_text: &[u8],
     commands: &[u8],
     out: &mut W,
 ) -> Result<End, SessionFault>
     requires { W.failures out.old < 2 ^ 64 - 1 }
-    ensures { SessionEnds result model.now commands.now (W.taken out.old) (W.taken out.new)
+    ensures { SessionEnds result model.now data_text.now commands.now (W.taken out.old) (W.taken out.new)
         (W.failures out.old) (W.failures out.new) }
 {
     match load(alloc, model) {
@@ -48,15 +49,14 @@ fn session_by_cases<W: Outlet>(
             Err(SessionFault::Check)
         }
         Ok(program) => {
-            let machine = Machine::new(alloc, program)?;
+            let machine = Machine::new(alloc, program, data_text)?;
             Ok(write_transcript(alloc, machine, commands, out)?)
         }
     }
 }
 
-/// Runs a model under the debugger's commands (docs/DEBUGGER.md), and writes what they answer, each
-/// answer before the next command is obeyed, and the report last. No statement of the language
-/// reads `data` yet.
+/// Runs a model over its data under the debugger's commands (docs/DEBUGGER.md), and writes what they
+/// answer, each answer before the next command is obeyed, and the report last.
 ///
 /// `Ok` where the model is a program and all was written: `RunFault` where its last state is
 /// faulted, else `Done`. `Text` and `Check` where the model is refused, once its line is written.
@@ -65,20 +65,21 @@ fn session_by_cases<W: Outlet>(
 pub fn session<W: Outlet>(
     alloc: Global,
     model: &[u8],
-    data: &[u8],
+    data_text: &[u8],
     commands: &[u8],
     out: &mut W,
 ) -> Result<End, SessionFault>
     requires { W.failures out.old < 2 ^ 64 - 1 }
 
-    // What is written is the transcript of the model under the commands, unless memory is refused
-    // or a write fails: then it is the whole answers of the first lines, or a prefix of the
-    // transcript.
-    ensures whole { IsWhole result → WritesTranscript model.now commands.now (W.taken out.old) (W.taken out.new) }
+    // What is written is the transcript of the model over the data under the commands, unless
+    // memory is refused or a write fails: then it is the whole answers of the first lines, or a
+    // prefix of the transcript.
+    ensures whole { IsWhole result
+        → WritesTranscript model.now data_text.now commands.now (W.taken out.old) (W.taken out.new) }
     ensures memory { result ≡ Err Memory
-        → WritesFirstAnswers model.now commands.now (W.taken out.old) (W.taken out.new) }
+        → WritesFirstAnswers model.now data_text.now commands.now (W.taken out.old) (W.taken out.new) }
     ensures write { result ≡ Err Write
-        → WritesPartOfTranscript model.now commands.now (W.taken out.old) (W.taken out.new) }
+        → WritesPartOfTranscript model.now data_text.now commands.now (W.taken out.old) (W.taken out.new) }
 
     // It ends with Write exactly where the outlet counted a failure; it counts one then, and else
     // none.
@@ -90,8 +91,8 @@ pub fn session<W: Outlet>(
     // so.
     ensures text { IsWhole result → (result ≡ Err Text) ↔ IsTextRefused model.now }
     ensures check { IsWhole result → (result ≡ Err Check) ↔ IsCheckRefused model.now }
-    ensures accepted { IsWhole result → (end : End) → (result ≡ Ok end) ↔ EndsBy model.now commands.now end }
+    ensures accepted { IsWhole result
+        → (end : End) → (result ≡ Ok end) ↔ EndsBy model.now data_text.now commands.now end }
 {
-    let _ = data;
-    session_by_cases(alloc, model, commands, out)
+    session_by_cases(alloc, model, data_text, commands, out)
 }

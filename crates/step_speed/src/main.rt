@@ -13,8 +13,44 @@ use anyhow::{Context, Result};
 use model::program;
 use ss_machine::Machine;
 use std::env;
-use std::time::Instant;
+use std::time::{Clock, Instant};
 use steps::{back, forward};
+
+/// Runs one way, and answers how many steps it had.
+fn run_way(machine: &mut Machine, way: &str, places: usize) -> Result<usize> {
+    if way == "back" {
+        return Ok(back(machine, places));
+    }
+    Ok(forward(machine, places)?)
+}
+
+/// Writes where a way of so many steps led.
+fn write_way(rt: &impl Print, machine: &Machine, way: &str, moved: usize) -> Result<()> {
+    println!(rt;
+        "{moved} steps {way}, to position {} with a report of {} bytes",
+        machine.position(),
+        machine.report().len()
+    )?;
+    Ok(())
+}
+
+/// Runs one way and writes where it led and, where times are wanted, how long it took.
+fn measure(
+    rt: &(impl Clock + Print),
+    machine: &mut Machine,
+    way: &str,
+    places: usize,
+    is_timed: bool,
+) -> Result<()> {
+    let start = Instant::now(rt)?;
+    let moved = run_way(machine, way, places)?;
+    let took = start.elapsed(rt)?;
+    write_way(rt, machine, way, moved)?;
+    if is_timed {
+        println!(rt; "in {} microseconds", took.as_micros())?;
+    }
+    Ok(())
+}
 
 fn main(rt: HostRuntime) -> Result<()> {
     let number = env::args(&rt)?.nth(1);
@@ -23,23 +59,9 @@ fn main(rt: HostRuntime) -> Result<()> {
         None => 1_000,
     };
     let program = program(rt.alloc(), places).context("the model")?;
-    let mut machine = Machine::new(rt.alloc(), program)?;
+    let mut machine = Machine::new(rt.alloc(), program, b"")?;
     for way in ["forward", "back", "forward again"] {
-        let start = Instant::now(&rt)?;
-        let moved = if way == "back" {
-            back(&mut machine, places)
-        } else {
-            forward(&mut machine, places)?
-        };
-        let took = start.elapsed(&rt)?;
-        println!(rt;
-            "{moved} steps {way}, to position {} with a report of {} bytes",
-            machine.position(),
-            machine.report().len()
-        )?;
-        if number.is_some() {
-            println!(rt; "in {} microseconds", took.as_micros())?;
-        }
+        measure(&rt, &mut machine, way, places, number.is_some())?;
     }
     Ok(())
 }

@@ -6,10 +6,10 @@ use Rattle.ss_session.proofs.turns.obey_lines.Given as goal
 
 abbrev pub invariant-loop-rest : goal.invariant-loop-rest
 invariant-loop-rest g l = record {
-  so_far : IsWrittenSoFar l.initial.debugger.machine.program (open_session_state (debugger_state_of l.initial.debugger))
+  so_far : IsWrittenSoFar l.initial.debugger.machine.input (open_session_state (debugger_state_of l.initial.debugger))
       (command_lines l.commands) (command_lines l.rest) (open_session_state (debugger_state_of l.debugger))
       (g.W.Outlet.taken l.initial.out) (g.W.Outlet.taken l.out);
-  program : l.debugger.machine.program ≡ l.initial.debugger.machine.program;
+  input : l.debugger.machine.input ≡ l.initial.debugger.machine.input;
   counted : g.W.Outlet.failures l.out ≡ g.W.Outlet.failures l.initial.out;
 }
 

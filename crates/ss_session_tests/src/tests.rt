@@ -1,6 +1,6 @@
 //! Whole sessions over memory: the worked examples of the language and the debugger, each with the
 //! bytes that it must give.
-use crate::{End, MemoryOutlet, Outlet, PutFault, SessionFault, exit_status, session};
+use ss_session::{End, MemoryOutlet, Outlet, PutFault, SessionFault, exit_status, session};
 use std::process::Abort;
 use std::test::Fail;
 

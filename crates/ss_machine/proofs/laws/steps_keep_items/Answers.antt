@@ -1,0 +1,5 @@
+use Rattle.ss_machine.proofs.Kept.{step_items}
+use Rattle.ss_machine.proofs.laws.steps_keep_items.Goals as goal
+
+pub returns : goal.returns
+returns c = step_items
