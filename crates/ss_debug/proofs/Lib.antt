@@ -1,3 +1,4 @@
+pub mod LineTables
 pub mod Names
 pub mod Splits
 pub mod Moves

@@ -1,8 +1,10 @@
-use Rattle.std.proofs.Common.{◌≡◌, ℕ, ◌+◌, ◌<◌, ◌≤◌, Bool, true, false, zero, suc, refl, sym, arith, cond, nat_lt, not, ◌||◌, ◌&&◌, ◌-◌, List, subst, ◌⊎◌, inl, inr, rules}
+use Rattle.std.proofs.Common.{◌≡◌, ℕ, ◌+◌, ◌<◌, ◌≤◌, Bool, true, false, zero, suc, refl, sym, arith, cond, nat_lt}
+use Rattle.std.proofs.Common.{nat_le, min, not, ◌||◌, ◌&&◌, ◌-◌, List, subst, ◌⊎◌, inl, inr, rules}
 use borrow.Author.Count.{below_more}
-use borrow.Author.Tests.{ltb-true, ltb-false}
-use Rattle.ss_check.specs.Program.{ProgramTable}
-use Rattle.ss_debug.specs.Move.{StopCondition, least, stops, forward, meets, is_ready_at, EndsAt}
+use borrow.Author.Tests.{ltb-true, ltb-false, leb-true, leb-false}
+use Rattle.ss_machine.specs.Run.{Input}
+use Rattle.ss_debug.specs.Move.{StopCondition, least, stops, forward, is_ready_at, is_in_time, is_at_break}
+use Rattle.ss_debug.specs.Move.{is_on_break, EndsAt, stops_back, backward, EndsBackAt}
 
 least_step : (b c : Bool) (m n : ℕ) → nat_lt m n ≡ b → m ≤ n → cond b m (cond c n (suc n)) ≤ suc n
 least_step true c m n e h = omega arith
@@ -77,41 +79,59 @@ least_is test n k h none found =
     least_not_above _ test (least test n) k n refl h (least_within test n) (λ j g. least_below test n j g) found in
     omega arith
 
-pub or_false_left : (a b : Bool) → (not a || b) ≡ false → a ≡ true
-or_false_left true b e = refl
-or_false_left false b e = absurd (cc)
+pub or_false_left : (a b c : Bool) → (not a || b || c) ≡ false → a ≡ true
+or_false_left true b c e = refl
+or_false_left false b c e = absurd (cc)
 
-or_false_right : (a b c : Bool) → (not a || (b && c)) ≡ false → b ≡ true → c ≡ false
-or_false_right true true c e f = e
-or_false_right true false c e f = absurd (cc)
-or_false_right false b c e f = absurd (cc)
+or_false_time : (a b c : Bool) → (not a || b || c) ≡ false → b ≡ false
+or_false_time true false c e = refl
+or_false_time true true c e = absurd (cc)
+or_false_time false b c e = absurd (cc)
 
-or_true : (a b c : Bool) → (not a || (b && c)) ≡ true → (a ≡ false) ⊎ ((b ≡ true) × (c ≡ true))
-or_true false b c e = inl refl
-or_true true true c e = inr (refl, e)
-or_true true false c e = absurd (cc)
+or_false_break : (a b c d : Bool) → (not a || b || (c && d)) ≡ false → c ≡ true → d ≡ false
+or_false_break true false true d e f = e
+or_false_break true true c d e f = absurd (cc)
+or_false_break true false false d e f = absurd (cc)
+or_false_break false b c d e f = absurd (cc)
+
+or_true : (a b c d : Bool) → (not a || b || (c && d)) ≡ true →
+    (a ≡ false) ⊎ ((b ≡ true) ⊎ ((c ≡ true) × (d ≡ true)))
+or_true false b c d e = inl refl
+or_true true true c d e = inr (inl refl)
+or_true true false true true e = inr (inr (refl, refl))
+or_true true false true false e = absurd (cc)
+or_true true false false d e = absurd (cc)
 
 lt_is_true : (j : ℕ) → 0 < j → nat_lt 0 j ≡ true
 lt_is_true j h = search rules
 
-reason_is : (t : ProgramTable) (breaks : List ℕ) (condition : StopCondition) (p n k : ℕ) →
-    (is_ready_at t (p + k) ≡ false) ⊎ ((nat_lt 0 k ≡ true) × (meets t breaks condition (p + k) ≡ true)) →
-    (p + k ≡ p + n) ⊎ ((is_ready_at t (p + k) ≡ false) ⊎ ((p < p + k) × (meets t breaks condition (p + k) ≡ true)))
-reason_is t breaks condition p n k (inl r) = inr (inl r)
-reason_is t breaks condition p n k (inr r) =
+-- why a movement that ended at q, less than n positions on, ended there
+abbrev HasStopped : Input → List ℕ → StopCondition → ℕ → ℕ → Type 0
+HasStopped t breaks condition p q =
+    (is_ready_at t q ≡ false) ⊎ ((is_in_time t condition q ≡ true) ⊎ ((p < q)
+    × (is_at_break t breaks condition q ≡ true)))
+
+reason_is : (t : Input) (breaks : List ℕ) (condition : StopCondition) (p k : ℕ) →
+    (is_ready_at t (p + k) ≡ false) ⊎ ((is_in_time t condition (p + k) ≡ true) ⊎ ((nat_lt 0 k ≡ true)
+    × (is_at_break t breaks condition (p + k) ≡ true))) →
+    HasStopped t breaks condition p (p + k)
+reason_is t breaks condition p k (inl r) = inl r
+reason_is t breaks condition p k (inr (inl r)) = inr (inl r)
+reason_is t breaks condition p k (inr (inr r)) =
     let lt : 0 < k = omega (arith, ltb-true _ _ r.0) in inr (inr (omega arith, r.1))
 
-reason_at : (b : Bool) (t : ProgramTable) (breaks : List ℕ) (condition : StopCondition) (p n k : ℕ) → nat_lt k n ≡ b →
+reason_at : (b : Bool) (t : Input) (breaks : List ℕ) (condition : StopCondition) (p n k : ℕ) → nat_lt k n ≡ b →
     k ≤ n → (k < n → stops t breaks condition p k ≡ true) →
-    (p + k ≡ p + n) ⊎ ((is_ready_at t (p + k) ≡ false) ⊎ ((p < p + k) × (meets t breaks condition (p + k) ≡ true)))
+    (p + k ≡ p + n) ⊎ HasStopped t breaks condition p (p + k)
 reason_at true t breaks condition p n k e h found =
     let stopped = found (omega (arith, ltb-true _ _ e)) in
-    reason_is t breaks condition p n k
-    (or_true (is_ready_at t (p + k)) (nat_lt 0 k) (meets t breaks condition (p + k)) stopped)
+    inr (reason_is t breaks condition p k
+    (or_true (is_ready_at t (p + k)) (is_in_time t condition (p + k)) (nat_lt 0 k)
+    (is_at_break t breaks condition (p + k)) stopped))
 reason_at false t breaks condition p n k e h found = inl (omega (arith, ltb-false _ _ e))
 
 -- a movement ends where the one fact says
-pub forward_ends : (t : ProgramTable) (breaks : List ℕ) (condition : StopCondition) (p n : ℕ) →
+pub forward_ends : (t : Input) (breaks : List ℕ) (condition : StopCondition) (p n : ℕ) →
     EndsAt t breaks condition p n (forward t breaks condition p n)
 forward_ends t breaks condition p n =
     let test : ℕ → Bool = stops t breaks condition p in
@@ -122,25 +142,32 @@ forward_ends t breaks condition p n =
       not_past_an_end = λ k h g.
           let e : p + (k - p) ≡ k = omega arith in
           let P : ℕ → Type 0 = λ q. is_ready_at t q ≡ true in
-          subst P e (or_false_left _ _ (least_below test n (k - p) (omega arith)));
-      not_past_the_condition = λ k h g.
+          subst P e (or_false_left _ _ _ (least_below test n (k - p) (omega arith)));
+      not_past_the_time = λ k h g.
           let e : p + (k - p) ≡ k = omega arith in
-          let P : ℕ → Type 0 = λ q. meets t breaks condition q ≡ false in
+          let P : ℕ → Type 0 = λ q. is_in_time t condition q ≡ false in
+          subst P e (or_false_time (is_ready_at t (p + (k - p))) _ _ (least_below test n (k - p) (omega arith)));
+      not_past_a_break = λ k h g.
+          let e : p + (k - p) ≡ k = omega arith in
+          let P : ℕ → Type 0 = λ q. is_at_break t breaks condition q ≡ false in
           subst P e
-          (or_false_right _ _ _ (least_below test n (k - p) (omega arith)) (lt_is_true (k - p) (omega arith)));
+          (or_false_break (is_ready_at t (p + (k - p))) (is_in_time t condition (p + (k - p))) _ _
+          (least_below test n (k - p) (omega arith)) (lt_is_true (k - p) (omega arith)));
       for_a_reason = reason_at _ t breaks condition p n (least test n) refl w (least_passes test n);
     }
 
-no_end_before : (t : ProgramTable) (breaks : List ℕ) (condition : StopCondition) (p n q r : ℕ) →
+no_end_before : (t : Input) (breaks : List ℕ) (condition : StopCondition) (p n q r : ℕ) →
     EndsAt t breaks condition p n q → EndsAt t breaks condition p n r → q < r →
-    (q ≡ p + n) ⊎ ((is_ready_at t q ≡ false) ⊎ ((p < q) × (meets t breaks condition q ≡ true))) → q ≡ r
+    (q ≡ p + n) ⊎ HasStopped t breaks condition p q → q ≡ r
 no_end_before t breaks condition p n q r a b h (inl e) = let w = b.within in absurd (omega arith)
 no_end_before t breaks condition p n q r a b h (inr (inl e)) =
     let ready = b.not_past_an_end q a.no_earlier h in absurd (cc)
-no_end_before t breaks condition p n q r a b h (inr (inr e)) =
-    let unmet = b.not_past_the_condition q e.0 h in let met = e.1 in absurd (cc)
+no_end_before t breaks condition p n q r a b h (inr (inr (inl e))) =
+    let early = b.not_past_the_time q a.no_earlier h in absurd (cc)
+no_end_before t breaks condition p n q r a b h (inr (inr (inr e))) =
+    let unmet = b.not_past_a_break q e.0 h in let met = e.1 in absurd (cc)
 
-end_by_order : (t : ProgramTable) (breaks : List ℕ) (condition : StopCondition) (p n q r : ℕ) (x y : Bool) →
+end_by_order : (t : Input) (breaks : List ℕ) (condition : StopCondition) (p n q r : ℕ) (x y : Bool) →
     nat_lt q r ≡ x → nat_lt r q ≡ y →
     EndsAt t breaks condition p n q → EndsAt t breaks condition p n r → q ≡ r
 end_by_order t breaks condition p n q r true y e f a b =
@@ -150,6 +177,85 @@ end_by_order t breaks condition p n q r false true e f a b =
 end_by_order t breaks condition p n q r false false e f a b = omega (arith, ltb-false _ _ e, ltb-false _ _ f)
 
 -- and nowhere else
-pub one_end : (t : ProgramTable) (breaks : List ℕ) (condition : StopCondition) (p n q r : ℕ) →
+pub one_end : (t : Input) (breaks : List ℕ) (condition : StopCondition) (p n q r : ℕ) →
     EndsAt t breaks condition p n q → EndsAt t breaks condition p n r → q ≡ r
 one_end t breaks condition p n q r a b = end_by_order t breaks condition p n q r _ _ refl refl a b
+
+-- ---- back to a break line
+
+and_false : (a b : Bool) → (a && b) ≡ false → a ≡ true → b ≡ false
+and_false true b e f = e
+and_false false b e f = absurd (cc)
+
+and_true : (a b : Bool) → (a && b) ≡ true → (a ≡ true) × (b ≡ true)
+and_true true true e = (refl, refl)
+and_true true false e = absurd (cc)
+and_true false b e = absurd (cc)
+
+back_at_bound : (b : Bool) (t : Input) (breaks : List ℕ) (p n k : ℕ) → nat_le n p ≡ b → min n p ≤ k →
+    k ≤ min n p →
+    (p - k ≡ 0) ⊎ ((p ≡ (p - k) + n) ⊎ ((p - k < p) × (is_on_break t breaks (p - k) ≡ true)))
+back_at_bound true t breaks p n k e h g = inr (inl (omega (arith, leb-true _ _ e)))
+back_at_bound false t breaks p n k e h g = inl (omega (arith, leb-false _ _ e))
+
+back_reason : (b : Bool) (t : Input) (breaks : List ℕ) (p n k : ℕ) → nat_lt k (min n p) ≡ b →
+    k ≤ min n p → (k < min n p → stops_back t breaks p k ≡ true) →
+    (p - k ≡ 0) ⊎ ((p ≡ (p - k) + n) ⊎ ((p - k < p) × (is_on_break t breaks (p - k) ≡ true)))
+back_reason true t breaks p n k e h found =
+    let low : k < min n p = omega (arith, ltb-true _ _ e) in
+    let stopped = and_true (nat_lt 0 k) _ (found low) in
+    let more : 0 < k = omega (arith, ltb-true _ _ stopped.0) in
+    inr (inr (omega arith, stopped.1))
+back_reason false t breaks p n k e h found =
+    back_at_bound _ t breaks p n k refl (omega (arith, ltb-false _ _ e)) h
+
+-- a movement back to a break line ends where the one fact says
+pub backward_ends : (t : Input) (breaks : List ℕ) (p n : ℕ) → EndsBackAt t breaks p n (backward t breaks p n)
+backward_ends t breaks p n =
+    let test : ℕ → Bool = stops_back t breaks p in
+    let w = least_within test (min n p) in
+    record {
+      no_later = omega arith;
+      within = omega arith;
+      not_past_a_break = λ k h g.
+          let e : p - (p - k) ≡ k = omega arith in
+          let P : ℕ → Type 0 = λ q. is_on_break t breaks q ≡ false in
+          subst P e
+          (and_false _ _ (least_below test (min n p) (p - k) (omega arith)) (lt_is_true (p - k) (omega arith)));
+      for_a_reason = back_reason _ t breaks p n (least test (min n p)) refl w (least_passes test (min n p));
+    }
+
+-- what stops a movement back at q, k positions back
+pub stops_back_here : (t u : Input) (breaks : List ℕ) (p q k : ℕ) → u ≡ t → p ≡ q + k →
+    stops_back t breaks p k ≡ (nat_lt 0 k && is_on_break u breaks q)
+stops_back_here t u breaks p q k e f = let g : p - k ≡ q = omega arith in rw (e, g) refl
+
+-- where a movement back that has come from p to q, k positions back, ends there: it went on from all between, and it is at
+-- its bound, at a break line, or at 0
+pub backward_is : (t : Input) (breaks : List ℕ) (p n k q : ℕ) → p ≡ q + k → k ≤ n →
+    ((j : ℕ) → j < k → stops_back t breaks p j ≡ false) →
+    (k < n → 0 < q → stops_back t breaks p k ≡ true) → backward t breaks p n ≡ q
+backward_is t breaks p n k q e h none found =
+    let found_at : k < min n p → stops_back t breaks p k ≡ true = λ g. found (omega arith) (omega arith) in
+    let f = least_is (stops_back t breaks p) (min n p) k (omega arith) none found_at in omega arith
+
+no_back_end_before : (t : Input) (breaks : List ℕ) (p n q r : ℕ) →
+    EndsBackAt t breaks p n q → EndsBackAt t breaks p n r → q < r →
+    (r ≡ 0) ⊎ ((p ≡ r + n) ⊎ ((r < p) × (is_on_break t breaks r ≡ true))) → q ≡ r
+no_back_end_before t breaks p n q r a b h (inl e) = absurd (omega arith)
+no_back_end_before t breaks p n q r a b h (inr (inl e)) = let w = a.within in absurd (omega arith)
+no_back_end_before t breaks p n q r a b h (inr (inr e)) =
+    let unmet = a.not_past_a_break r h e.0 in let met = e.1 in absurd (cc)
+
+back_end_by_order : (t : Input) (breaks : List ℕ) (p n q r : ℕ) (x y : Bool) → nat_lt q r ≡ x → nat_lt r q ≡ y →
+    EndsBackAt t breaks p n q → EndsBackAt t breaks p n r → q ≡ r
+back_end_by_order t breaks p n q r true y e f a b =
+    no_back_end_before t breaks p n q r a b (omega (arith, ltb-true _ _ e)) b.for_a_reason
+back_end_by_order t breaks p n q r false true e f a b =
+    sym (no_back_end_before t breaks p n r q b a (omega (arith, ltb-true _ _ f)) a.for_a_reason)
+back_end_by_order t breaks p n q r false false e f a b = omega (arith, ltb-false _ _ e, ltb-false _ _ f)
+
+-- and nowhere else
+pub one_back_end : (t : Input) (breaks : List ℕ) (p n q r : ℕ) →
+    EndsBackAt t breaks p n q → EndsBackAt t breaks p n r → q ≡ r
+one_back_end t breaks p n q r a b = back_end_by_order t breaks p n q r _ _ refl refl a b

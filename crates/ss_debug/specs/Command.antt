@@ -3,24 +3,36 @@ use Rattle.std.specs.Prelude.{ℕ, List, [], ◌∷◌, length, map, Option, Som
 use Rattle.std.specs.Char.{to_ascii_uppercase}
 use Rattle.std.specs.Str.{bytes_eq}
 use Rattle.ss_debug.specs.CommandLines.{command_words, number_within, name_of}
-use Rattle.ss_debug.specs.declared.limits.TheConstants.{LINE_LIMIT, GREATEST_BOUND}
+use Rattle.ss_debug.specs.declared.limits.TheConstants.{LINE_LIMIT, GREATEST_BOUND, GREATEST_LINE, GREATEST_TIME}
 use Rattle.ss_debug.specs.declared.commands.Command.{Command}
-use Rattle.ss_debug.specs.declared.commands.Command.TheVariants.{Blank, Bad, Step, Back, Run, ShowVar, ShowReport, Quit}
+use Rattle.ss_debug.specs.declared.commands.Command.TheVariants.{Blank, Bad, Move, Break, Clear, Show, Quit}
+use Rattle.ss_debug.specs.declared.commands.Movement.{Movement}
+use Rattle.ss_debug.specs.declared.commands.Movement.TheVariants.{Step, Run, RunTo, Back, BackBreak}
+use Rattle.ss_debug.specs.declared.commands.Question.TheVariants.{Clock, Where, Variable, Report}
 
 -- the command that is made of what was read, or a bad one
 abbrev pub or_bad : {A : Type 0} → (A → Command) → Option A → Command
 or_bad make None = Bad
 or_bad make (Some x) = make x
 
--- a number of steps, from 1 to the greatest
-abbrev pub count_of : List ℕ → Option ℕ
-count_of word = number_within 1 GREATEST_BOUND word
+-- the number from low to high that is the only word
+abbrev pub only_number_of : ℕ → ℕ → List (List ℕ) → Option ℕ
+only_number_of low high [] = None
+only_number_of low high (word ∷ []) = number_within low high word
+only_number_of low high (word ∷ next ∷ more) = None
 
 -- the bound of a movement: what the only word behind it says, or another where no word is there
 abbrev pub bound_of : ℕ → List (List ℕ) → Option ℕ
 bound_of otherwise [] = Some otherwise
-bound_of otherwise (word ∷ []) = count_of word
-bound_of otherwise (word ∷ next ∷ more) = None
+bound_of otherwise (word ∷ more) = only_number_of 1 GREATEST_BOUND (word ∷ more)
+
+-- the line that is the only word
+abbrev pub only_line_of : List (List ℕ) → Option ℕ
+only_line_of words = only_number_of 1 GREATEST_LINE words
+
+-- a movement, or a bad command
+abbrev pub movement_of : {A : Type 0} → (A → Movement) → Option A → Command
+movement_of make x = or_bad (λ y. Move (make y)) x
 
 -- the name that is the only word
 abbrev pub only_name_of : List (List ℕ) → Option (List ℕ)
@@ -33,20 +45,38 @@ abbrev pub command_alone : Command → List (List ℕ) → Command
 command_alone command [] = command
 command_alone command (word ∷ more) = Bad
 
+-- what stands behind RUN: TO and a time, or a bound
+abbrev pub run_command : List (List ℕ) → Command
+run_command [] = Move (Run GREATEST_BOUND)
+run_command (word ∷ rest) =
+    if bytes_eq word (codes "TO") then movement_of RunTo (only_number_of 0 GREATEST_TIME rest)
+    else movement_of Run (bound_of GREATEST_BOUND (word ∷ rest))
+
+-- what stands behind BACK: BREAK, or a bound
+abbrev pub back_command : List (List ℕ) → Command
+back_command [] = Move (Back 1)
+back_command (word ∷ rest) =
+    if bytes_eq word (codes "BREAK") then command_alone (Move BackBreak) rest
+    else movement_of Back (bound_of 1 (word ∷ rest))
+
 -- what stands behind SHOW
 abbrev pub show_command : List (List ℕ) → Command
 show_command [] = Bad
 show_command (what ∷ rest) =
-    if bytes_eq what (codes "VAR") then or_bad ShowVar (only_name_of rest) else
-    if bytes_eq what (codes "REPORT") then command_alone ShowReport rest else Bad
+    if bytes_eq what (codes "CLOCK") then command_alone (Show Clock) rest else
+    if bytes_eq what (codes "WHERE") then command_alone (Show Where) rest else
+    if bytes_eq what (codes "VAR") then or_bad (λ name. Show (Variable name)) (only_name_of rest) else
+    if bytes_eq what (codes "REPORT") then command_alone (Show Report) rest else Bad
 
 -- what the words of a line say, in upper case
 unfoldable pub command_in_words : List (List ℕ) → Command
 command_in_words [] = Blank
 command_in_words (verb ∷ rest) =
-    if bytes_eq verb (codes "STEP") then or_bad Step (bound_of 1 rest) else
-    if bytes_eq verb (codes "BACK") then or_bad Back (bound_of 1 rest) else
-    if bytes_eq verb (codes "RUN") then or_bad Run (bound_of GREATEST_BOUND rest) else
+    if bytes_eq verb (codes "STEP") then movement_of Step (bound_of 1 rest) else
+    if bytes_eq verb (codes "RUN") then run_command rest else
+    if bytes_eq verb (codes "BACK") then back_command rest else
+    if bytes_eq verb (codes "BREAK") then or_bad Break (only_line_of rest) else
+    if bytes_eq verb (codes "CLEAR") then or_bad Clear (only_line_of rest) else
     if bytes_eq verb (codes "SHOW") then show_command rest else
     if bytes_eq verb (codes "QUIT") then command_alone Quit rest else Bad
 

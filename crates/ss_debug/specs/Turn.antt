@@ -1,13 +1,20 @@
 -- One turn of the debugger, and all turns of a session.
 use Rattle.std.specs.Prelude.{ℕ, ◌-◌, Bool, true, false, List, [], ◌∷◌, ◌++◌, codes, if◌then◌else◌}
-use Rattle.ss_check.specs.Program.{ProgramTable}
+use Rattle.ss_machine.specs.Run.{Input}
 use Rattle.ss_debug.specs.declared.commands.Command.{Command}
-use Rattle.ss_debug.specs.declared.commands.Command.TheVariants.{Blank, Bad, Step, Back, Run, ShowVar, ShowReport, Quit}
+use Rattle.ss_debug.specs.declared.commands.Command.TheVariants.{Blank, Bad, Move, Break, Clear, Show, Quit}
+use Rattle.ss_debug.specs.declared.commands.Movement.{Movement}
+use Rattle.ss_debug.specs.declared.commands.Movement.TheVariants.{Step, Run, RunTo, Back, BackBreak}
+use Rattle.ss_debug.specs.declared.commands.Question.{Question}
+use Rattle.ss_debug.specs.declared.commands.Question.TheVariants.{Clock, Where, Variable, Report}
+use Rattle.ss_debug.specs.declared.limits.TheConstants.{GREATEST_BOUND}
 use Rattle.ss_debug.specs.declared.go.Go.{Go}
 use Rattle.ss_debug.specs.declared.go.Go.TheVariants as go
 use Rattle.ss_debug.specs.Command.{command_of}
-use Rattle.ss_debug.specs.Move.{StopCondition, never, at_break_line, forward}
-use Rattle.ss_debug.specs.Answer.{movement_text, forward_word, back_word, var_text, report_text}
+use Rattle.ss_debug.specs.BreakLines.{breaks_after_set, without_line}
+use Rattle.ss_debug.specs.Move.{StopCondition, never, at_break_line, at_time, forward, backward}
+use Rattle.ss_debug.specs.Answer.{movement_text, forward_word, back_word, back_break_word, break_text, clear_text}
+use Rattle.ss_debug.specs.Answer.{clock_text, state_line, var_text, report_text}
 
 -- the state of the debugger: a position of the run, and the break lines
 pub record DebuggerState : Type 0 where
@@ -23,35 +30,65 @@ abbrev pub debugger_state_at : DebuggerState → ℕ → DebuggerState
 debugger_state_at d p = record { position = p; breaks = d.breaks }
 
 -- the position to which a forward movement leads
-abbrev pub position_after_forward : ProgramTable → DebuggerState → StopCondition → ℕ → ℕ
+abbrev pub position_after_forward : Input → DebuggerState → StopCondition → ℕ → ℕ
 position_after_forward t d condition n = forward t d.breaks condition d.position n
 
 -- what a forward movement answers
-abbrev pub forward_answer : ProgramTable → DebuggerState → StopCondition → ℕ → List ℕ
+abbrev pub forward_answer : Input → DebuggerState → StopCondition → ℕ → List ℕ
 forward_answer t d condition n =
     let q = position_after_forward t d condition n in
     movement_text (forward_word t d.breaks condition d.position q) t q
 
+-- the state of the debugger after a movement
+abbrev pub debugger_state_after_movement : Input → DebuggerState → Movement → DebuggerState
+debugger_state_after_movement t d (Step n) = debugger_state_at d (position_after_forward t d never n)
+debugger_state_after_movement t d (Run n) = debugger_state_at d (position_after_forward t d at_break_line n)
+debugger_state_after_movement t d (RunTo time) =
+    debugger_state_at d (position_after_forward t d (at_time time) GREATEST_BOUND)
+debugger_state_after_movement t d (Back n) = debugger_state_at d (d.position - n)
+debugger_state_after_movement t d BackBreak =
+    debugger_state_at d (backward t d.breaks d.position GREATEST_BOUND)
+
+-- the same position, with other break lines
+abbrev pub debugger_state_with : DebuggerState → List ℕ → DebuggerState
+debugger_state_with d breaks = record { position = d.position; breaks = breaks }
+
 -- the state of the debugger after a command
-unfoldable pub debugger_state_after : ProgramTable → DebuggerState → Command → DebuggerState
-debugger_state_after t d Blank = d
-debugger_state_after t d Bad = d
-debugger_state_after t d (Step n) = debugger_state_at d (position_after_forward t d never n)
-debugger_state_after t d (Back n) = debugger_state_at d (d.position - n)
-debugger_state_after t d (Run n) = debugger_state_at d (position_after_forward t d at_break_line n)
-debugger_state_after t d (ShowVar v) = d
-debugger_state_after t d ShowReport = d
-debugger_state_after t d Quit = d
+unfoldable pub debugger_state_after : Input → DebuggerState → Command → DebuggerState
+debugger_state_after t d (Move m) = debugger_state_after_movement t d m
+debugger_state_after t d (Break line) = debugger_state_with d (breaks_after_set d.breaks line)
+debugger_state_after t d (Clear line) = debugger_state_with d (without_line line d.breaks)
+debugger_state_after t d _ = d
+
+-- what a movement back to a break line answers
+abbrev pub back_break_answer : Input → DebuggerState → List ℕ
+back_break_answer t d =
+    let q = backward t d.breaks d.position GREATEST_BOUND in
+    movement_text (back_break_word t d.breaks d.position q) t q
+
+-- what a movement answers
+abbrev pub movement_answer : Input → DebuggerState → Movement → List ℕ
+movement_answer t d (Step n) = forward_answer t d never n
+movement_answer t d (Run n) = forward_answer t d at_break_line n
+movement_answer t d (RunTo time) = forward_answer t d (at_time time) GREATEST_BOUND
+movement_answer t d (Back n) = movement_text (back_word d.position n) t (d.position - n)
+movement_answer t d BackBreak = back_break_answer t d
+
+-- what a question in state p answers
+abbrev pub question_answer : Input → ℕ → Question → List ℕ
+question_answer t p Clock = clock_text t p
+question_answer t p Where = state_line t p
+question_answer t p (Variable name) = var_text name t p
+question_answer t p Report = report_text t p
 
 -- what a command answers
-unfoldable pub answer : ProgramTable → DebuggerState → Command → List ℕ
+unfoldable pub answer : Input → DebuggerState → Command → List ℕ
 answer t d Blank = []
 answer t d Bad = codes "BAD COMMAND\n"
-answer t d (Step n) = forward_answer t d never n
-answer t d (Back n) = movement_text (back_word d.position n) t (d.position - n)
-answer t d (Run n) = forward_answer t d at_break_line n
-answer t d (ShowVar v) = var_text v t d.position
-answer t d ShowReport = report_text t d.position
+answer t d (Move m) = movement_answer t d m
+answer t d (Break line) = break_text d.breaks line
+answer t d (Clear line) = clear_text d.breaks line
+answer t d (Show q) = question_answer t d.position q
 answer t d Quit = []
 
 -- whether a command gives no answer
@@ -80,21 +117,21 @@ abbrev pub initial_session_state : SessionState
 initial_session_state = record { debugger = initial_debugger_state; over = false }
 
 -- the state of a session after one line; after QUIT no line is obeyed
-abbrev pub session_state_after_line : ProgramTable → SessionState → List ℕ → SessionState
+abbrev pub session_state_after_line : Input → SessionState → List ℕ → SessionState
 session_state_after_line t s line =
     if s.over then s
     else record { debugger = debugger_state_after t s.debugger (command_of line); over = is_quit (command_of line) }
 
 -- the answer to one line
-abbrev pub line_answer : ProgramTable → SessionState → List ℕ → List ℕ
+abbrev pub line_answer : Input → SessionState → List ℕ → List ℕ
 line_answer t s line = if s.over then [] else answer t s.debugger (command_of line)
 
 -- the state of a session after some lines
-unfoldable pub session_state_after : ProgramTable → SessionState → List (List ℕ) → SessionState
+unfoldable pub session_state_after : Input → SessionState → List (List ℕ) → SessionState
 session_state_after t s [] = s
 session_state_after t s (line ∷ lines) = session_state_after t (session_state_after_line t s line) lines
 
 -- the whole answers of some lines
-unfoldable pub answers : ProgramTable → SessionState → List (List ℕ) → List ℕ
+unfoldable pub answers : Input → SessionState → List (List ℕ) → List ℕ
 answers t s [] = []
 answers t s (line ∷ lines) = line_answer t s line ++ answers t (session_state_after_line t s line) lines

@@ -2,14 +2,15 @@
 use Rattle.std.specs.Prelude.{ℕ, List}
 use Rattle.ss_machine.specs.Moment.{Moment, position}
 use Rattle.ss_debug.specs.declared.stop_condition.StopCondition.{StopCondition as StopChoice}
-use Rattle.ss_debug.specs.declared.stop_condition.StopCondition.TheVariants.{Never, AtBreakLine}
-use Rattle.ss_debug.specs.Move.{StopCondition, never, at_break_line}
+use Rattle.ss_debug.specs.declared.stop_condition.StopCondition.TheVariants.{Never, AtBreakLine, AtTime}
+use Rattle.ss_debug.specs.Move.{StopCondition, never, at_break_line, at_time}
 use Rattle.ss_debug.specs.Turn.{DebuggerState}
 
 -- the stop condition that the code names
 abbrev pub condition_of : StopChoice → StopCondition
 condition_of Never = never
 condition_of AtBreakLine = at_break_line
+condition_of (AtTime time) = at_time time
 
 -- a debugger: its machine and its break lines
 pub record DebuggerView : Type 0 where

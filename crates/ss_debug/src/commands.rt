@@ -1,23 +1,49 @@
 //! What a command line says.
 use crate::name::Name;
 
-/// A command (docs/DEBUGGER.md). Bounds of movements are numbers of steps, from 1 to 1,000,000.
+/// A command (docs/DEBUGGER.md).
 #[derive(Drop)]
 pub enum Command {
     /// A line without words: no answer.
     Blank,
     /// A line that is no command.
     Bad,
-    /// STEP: so many steps forward.
-    Step(u64),
-    /// BACK: so many steps back.
-    Back(u64),
-    /// RUN: forward to a break line, at most so many steps.
-    Run(u64),
-    /// SHOW VAR: the variable of this name, and its value.
-    ShowVar(Name),
-    /// SHOW REPORT: the report so far.
-    ShowReport,
+    /// A command that moves the debugger to another state.
+    Move(Movement),
+    /// BREAK: makes this line a break line.
+    Break(u32),
+    /// CLEAR: this line is no break line any more.
+    Clear(u32),
+    /// SHOW: a question.
+    Show(Question),
     /// QUIT: the session is over.
     Quit,
+}
+
+/// A movement. Bounds are numbers of steps, from 1 to 1,000,000 where a line was read.
+#[derive(Clone, Copy, Debug, PartialEq, Eq)]
+pub enum Movement {
+    /// STEP: so many steps forward.
+    Step(u64),
+    /// RUN: forward to a break line, at most so many steps.
+    Run(u64),
+    /// RUN TO: forward to this time or a break line.
+    RunTo(u64),
+    /// BACK: so many steps back.
+    Back(u64),
+    /// BACK BREAK: back to a break line.
+    BackBreak,
+}
+
+/// A question about the state.
+#[derive(Drop)]
+pub enum Question {
+    /// SHOW CLOCK: the time.
+    Clock,
+    /// SHOW WHERE: the state line.
+    Where,
+    /// SHOW VAR: the variable of this name, and its value.
+    Variable(Name),
+    /// SHOW REPORT: the report so far.
+    Report,
 }

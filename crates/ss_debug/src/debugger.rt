@@ -1,17 +1,25 @@
 //! The debugger, and what each command does.
 ghost use Rattle.std.specs.Prelude.{◌≡◌, ◌-◌, ◌++◌, [], true, OnOk, OnErr, IfOk, IsOk};
 ghost use Rattle.ss_machine.specs.Moment.{position};
-ghost use Rattle.ss_debug.specs.Turn.{debugger_state_at, position_after_forward, forward_answer, debugger_state_after, answer, go_of, is_silent};
-ghost use Rattle.ss_debug.specs.Answer.{movement_text, back_word, var_text, report_text};
+ghost use Rattle.ss_debug.specs.Turn.{debugger_state_at, position_after_forward, forward_answer};
+ghost use Rattle.ss_debug.specs.Turn.{debugger_state_after_movement, back_break_answer, movement_answer};
+ghost use Rattle.ss_debug.specs.Turn.{question_answer, debugger_state_after, answer, go_of, is_silent};
+ghost use Rattle.ss_debug.specs.Answer.{movement_text, back_word, break_text, clear_text};
+ghost use Rattle.ss_debug.specs.BreakLines.{breaks_after_set, without_line};
+ghost use Rattle.ss_debug.specs.declared.commands.Movement.TheVariants.{BackBreak};
 ghost use Rattle.ss_debug.specs.View.{debugger_state_of, condition_of};
-ghost use Rattle.ss_debug.specs.AfterRefusal.{IsPartOfMovement, IsStateAfterRefusal};
+ghost use Rattle.ss_debug.specs.AfterRefusal.{IsPartOfMovement, IsStateAfterRefusedMovement, IsStateAfterRefusal};
 
-use crate::commands::Command;
+use crate::break_lines::BreakLines;
+use crate::commands::{Command, Movement, Question};
 use crate::go::Go;
-use crate::movement::{advance, retreat};
-use crate::name::Name;
+use crate::limits::GREATEST_BOUND;
+use crate::movement::{advance, retreat, retreat_to_break};
 use crate::stop_condition::StopCondition;
-use crate::text::{movement_text, movement_word, report_text, retreat_word, var_text};
+use crate::text::{
+    break_text, clear_text, clock_text, movement_text, movement_word, report_text,
+    retreat_to_break_word, retreat_word, var_text, where_text,
+};
 use ss_machine::Machine;
 use std::alloc::{AllocError, Global};
 use std::marker::Model;
@@ -20,7 +28,7 @@ use std::marker::Model;
 #[derive(Drop)]
 pub struct Debugger {
     machine: Machine,
-    breaks: Vec<usize>,
+    breaks: BreakLines,
     alloc: Global,
 }
 
@@ -33,7 +41,7 @@ impl Model for Debugger {
 
     ghost coded = { Prim.hlevel (codes, machine_contracts.the_row.coded) };
 
-    ghost view = { λ d. record { machine = d.machine; breaks = d.breaks.items } };
+    ghost view = { λ d. record { machine = d.machine; breaks = d.breaks } };
 }
 
 impl Debugger {
@@ -43,7 +51,7 @@ impl Debugger {
     {
         Debugger {
             machine,
-            breaks: Vec::new(alloc),
+            breaks: BreakLines::new(alloc),
             alloc,
         }
     }
@@ -62,15 +70,15 @@ impl Debugger {
         bound: u64,
         bytes: &mut Vec<u8>,
     ) -> Result<(), AllocError>
-        ensures program { self.new.machine.program ≡ self.old.machine.program }
+        ensures input { self.new.machine.input ≡ self.old.machine.input }
         ensures place { OnOk result (debugger_state_of self.new ≡ debugger_state_at (debugger_state_of self.old)
-            (position_after_forward self.old.machine.program (debugger_state_of self.old)
+            (position_after_forward self.old.machine.input (debugger_state_of self.old)
             (condition_of condition) bound)) }
         ensures said { OnOk result (bytes.new.items ≡ bytes.old.items
-            ++ forward_answer self.old.machine.program (debugger_state_of self.old) (condition_of condition) bound) }
+            ++ forward_answer self.old.machine.input (debugger_state_of self.old) (condition_of condition) bound) }
         ensures memory { OnErr result ((bytes.new.items ≡ bytes.old.items)
             × IsPartOfMovement (debugger_state_of self.old)
-            (position_after_forward self.old.machine.program (debugger_state_of self.old)
+            (position_after_forward self.old.machine.input (debugger_state_of self.old)
             (condition_of condition) bound) (debugger_state_of self.new)) }
     {
         let from = self.machine.position();
@@ -82,11 +90,11 @@ impl Debugger {
 
     /// A movement back, and its answer.
     fn go_back(&mut self, count: u64, bytes: &mut Vec<u8>) -> Result<(), AllocError>
-        ensures program { self.new.machine.program ≡ self.old.machine.program }
+        ensures input { self.new.machine.input ≡ self.old.machine.input }
         ensures place { debugger_state_of self.new
             ≡ debugger_state_at (debugger_state_of self.old) (position self.old.machine - count) }
         ensures said { OnOk result (bytes.new.items ≡ bytes.old.items
-            ++ movement_text (back_word (position self.old.machine) count) self.old.machine.program
+            ++ movement_text (back_word (position self.old.machine) count) self.old.machine.input
             (position self.old.machine - count)) }
         ensures memory { OnErr result (bytes.new.items ≡ bytes.old.items) }
     {
@@ -96,23 +104,90 @@ impl Debugger {
         bytes.extend_from_slice(&text)
     }
 
-    /// The answer to SHOW VAR.
-    fn show_var(&self, name: &Name, bytes: &mut Vec<u8>) -> Result<(), AllocError>
+    /// A movement back to a break line, and its answer.
+    fn go_back_to_break(&mut self, bytes: &mut Vec<u8>) -> Result<(), AllocError>
+        ensures input { self.new.machine.input ≡ self.old.machine.input }
+        ensures place { debugger_state_of self.new ≡ debugger_state_after_movement self.old.machine.input
+            (debugger_state_of self.old) BackBreak }
         ensures said { OnOk result (bytes.new.items ≡ bytes.old.items
-            ++ var_text name.now self.now.machine.program (position self.now.machine)) }
+            ++ back_break_answer self.old.machine.input (debugger_state_of self.old)) }
         ensures memory { OnErr result (bytes.new.items ≡ bytes.old.items) }
     {
-        let text = var_text(self.alloc, name, &self.machine)?;
+        let from = self.machine.position();
+        retreat_to_break(&mut self.machine, &self.breaks, GREATEST_BOUND);
+        let word = retreat_to_break_word(&self.machine, &self.breaks, from);
+        let text = movement_text(self.alloc, word, &self.machine)?;
         bytes.extend_from_slice(&text)
     }
 
-    /// The answer to SHOW REPORT.
-    fn show_report(&self, bytes: &mut Vec<u8>) -> Result<(), AllocError>
+    /// A movement, and its answer.
+    fn go(&mut self, movement: Movement, bytes: &mut Vec<u8>) -> Result<(), AllocError>
+        ensures input { self.new.machine.input ≡ self.old.machine.input }
+        ensures place { OnOk result (debugger_state_of self.new
+            ≡ debugger_state_after_movement self.old.machine.input (debugger_state_of self.old) movement) }
         ensures said { OnOk result (bytes.new.items ≡ bytes.old.items
-            ++ report_text self.now.machine.program (position self.now.machine)) }
+            ++ movement_answer self.old.machine.input (debugger_state_of self.old) movement) }
+        ensures memory { OnErr result ((bytes.new.items ≡ bytes.old.items)
+            × IsStateAfterRefusedMovement self.old.machine.input (debugger_state_of self.old) movement
+            (debugger_state_of self.new)) }
+    {
+        match movement {
+            Movement::Step(n) => self.go_forward(StopCondition::Never, n, bytes),
+            Movement::Run(n) => self.go_forward(StopCondition::AtBreakLine, n, bytes),
+            Movement::RunTo(time) => {
+                self.go_forward(StopCondition::AtTime(time), GREATEST_BOUND, bytes)
+            }
+            Movement::Back(n) => self.go_back(n, bytes),
+            Movement::BackBreak => self.go_back_to_break(bytes),
+        }
+    }
+
+    /// Makes a line a break line, unless there are too many, and answers.
+    fn set_break(&mut self, line: u32, bytes: &mut Vec<u8>) -> Result<(), AllocError>
+        ensures machine { self.new.machine ≡ self.old.machine }
+        ensures breaks { OnOk result (self.new.breaks ≡ breaks_after_set self.old.breaks line) }
+        ensures said { OnOk result (bytes.new.items ≡ bytes.old.items ++ break_text self.old.breaks line) }
+        ensures memory { OnErr result ((bytes.new.items ≡ bytes.old.items) × (self.new ≡ self.old)) }
+    {
+        let text = break_text(self.alloc, &self.breaks, line)?;
+        let length = bytes.len();
+        let is_full = self.breaks.is_full(line);
+        bytes.extend_from_slice(&text)?;
+        if is_full {
+            return Ok(());
+        }
+        if let Err(error) = self.breaks.set(line) {
+            bytes.truncate(length);
+            return Err(error);
+        }
+        Ok(())
+    }
+
+    /// Makes a line no break line, and answers.
+    fn clear_break(&mut self, line: u32, bytes: &mut Vec<u8>) -> Result<(), AllocError>
+        ensures machine { self.new.machine ≡ self.old.machine }
+        ensures breaks { OnOk result (self.new.breaks ≡ without_line line self.old.breaks) }
+        ensures said { OnOk result (bytes.new.items ≡ bytes.old.items ++ clear_text self.old.breaks line) }
+        ensures memory { OnErr result ((bytes.new.items ≡ bytes.old.items) × (self.new ≡ self.old)) }
+    {
+        let text = clear_text(self.alloc, &self.breaks, line)?;
+        bytes.extend_from_slice(&text)?;
+        self.breaks.clear(line as usize);
+        Ok(())
+    }
+
+    /// The answer to a question.
+    fn show(&self, question: Question, bytes: &mut Vec<u8>) -> Result<(), AllocError>
+        ensures said { OnOk result (bytes.new.items ≡ bytes.old.items
+            ++ question_answer self.now.machine.input (position self.now.machine) question) }
         ensures memory { OnErr result (bytes.new.items ≡ bytes.old.items) }
     {
-        let text = report_text(self.alloc, &self.machine)?;
+        let text = match question {
+            Question::Clock => clock_text(self.alloc, &self.machine)?,
+            Question::Where => where_text(self.alloc, &self.machine)?,
+            Question::Variable(name) => var_text(self.alloc, &name, &self.machine)?,
+            Question::Report => report_text(self.alloc, &self.machine)?,
+        };
         bytes.extend_from_slice(&text)
     }
 }
@@ -129,25 +204,24 @@ pub fn obey(
     command: Command,
     bytes: &mut Vec<u8>,
 ) -> Result<Go, AllocError>
-    ensures program { debugger.new.machine.program ≡ debugger.old.machine.program }
+    ensures input { debugger.new.machine.input ≡ debugger.old.machine.input }
     ensures place { OnOk result (debugger_state_of debugger.new
-        ≡ debugger_state_after debugger.old.machine.program (debugger_state_of debugger.old) command) }
+        ≡ debugger_state_after debugger.old.machine.input (debugger_state_of debugger.old) command) }
     ensures said { OnOk result (bytes.new.items ≡ bytes.old.items
-        ++ answer debugger.old.machine.program (debugger_state_of debugger.old) command) }
+        ++ answer debugger.old.machine.input (debugger_state_of debugger.old) command) }
     ensures quit { IfOk result (λ go. go ≡ go_of command) }
     ensures silent { is_silent command ≡ true → IsOk result }
     ensures memory { OnErr result ((bytes.new.items ≡ bytes.old.items)
-        × IsStateAfterRefusal debugger.old.machine.program (debugger_state_of debugger.old) command
+        × IsStateAfterRefusal debugger.old.machine.input (debugger_state_of debugger.old) command
         (debugger_state_of debugger.new)) }
 {
     match command {
         Command::Blank => {}
         Command::Bad => bytes.extend_from_slice(b"BAD COMMAND\n")?,
-        Command::Step(n) => debugger.go_forward(StopCondition::Never, n, bytes)?,
-        Command::Back(n) => debugger.go_back(n, bytes)?,
-        Command::Run(n) => debugger.go_forward(StopCondition::AtBreakLine, n, bytes)?,
-        Command::ShowVar(name) => debugger.show_var(&name, bytes)?,
-        Command::ShowReport => debugger.show_report(bytes)?,
+        Command::Move(movement) => debugger.go(movement, bytes)?,
+        Command::Break(line) => debugger.set_break(line, bytes)?,
+        Command::Clear(line) => debugger.clear_break(line, bytes)?,
+        Command::Show(question) => debugger.show(question, bytes)?,
         Command::Quit => return Ok(Go::Quit),
     }
     Ok(Go::On)

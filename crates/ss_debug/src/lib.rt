@@ -1,6 +1,7 @@
 //! The debugger: what a command line says, and what each command does and answers.
 #![tactic(auto)]
 
+mod break_lines;
 mod commands;
 mod debugger;
 mod go;
@@ -13,13 +14,10 @@ mod read;
 mod stop_condition;
 mod text;
 
-pub use commands::Command;
+pub use commands::{Command, Movement, Question};
 pub use debugger::{Debugger, obey};
 pub use go::Go;
-pub use laws::a_movement_has_one_end;
+pub use laws::{a_movement_back_has_one_end, a_movement_has_one_end};
 pub use name::Name;
 pub use pieces::split_line;
 pub use read::command;
-
-#[cfg(test)]
-mod tests;

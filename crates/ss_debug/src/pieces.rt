@@ -1,5 +1,5 @@
 //! The lines of the commands, the words of a line, and what digits say.
-ghost use Rattle.std.specs.Prelude.{◌≡◌, ◌<◌, ◌≤◌, ◌≢◌, length, ◌^◌, ◌∷◌, [], MatchOption, SomeIff};
+ghost use Rattle.std.specs.Prelude.{◌≡◌, ◌<◌, ◌≤◌, ◌≢◌, length, ◌-◌, ◌^◌, ◌∷◌, [], MatchOption, IfSome, SomeIff};
 ghost use Rattle.std.specs.List.{list_all, before_first, after_first, position_or_len};
 ghost use Rattle.std.specs.Char.{is_ascii_digit};
 ghost use Rattle.ss_words.specs.TextRuns.{number_of};
@@ -68,12 +68,14 @@ fn is_all_digits(word: &[u8]) -> bool
 
 /// What digits say, where that is not above the limit.
 fn value_up_to(digits: &[u8], limit: u64) -> Option<u64>
-    requires { limit < 2 ^ 59 }
+    requires { limit < 2 ^ 64 - 1 }
     ensures { SomeIff result (number_of digits.now ≤ limit) (number_of digits.now) }
 {
     let mut value = 0u64;
     for b in digits {
-        value = value * 10 + u64::from(b.saturating_sub(b'0'));
+        value = value
+            .saturating_mul(10)
+            .saturating_add(u64::from(b.saturating_sub(b'0')));
         if value > limit {
             return None;
         }
@@ -84,8 +86,9 @@ fn value_up_to(digits: &[u8], limit: u64) -> Option<u64>
 /// What the digits of a word say, where that is from low to high; none where it has another byte.
 #[tactic(auto, unfolding(crate::specs::CommandLines::number_within))]
 pub(crate) fn number(word: &[u8], low: u64, high: u64) -> Option<u64>
-    requires { high < 2 ^ 59 }
-    ensures { result ≡ number_within low high word.now }
+    requires { high < 2 ^ 64 - 1 }
+    ensures number { result ≡ number_within low high word.now }
+    ensures within { IfSome result (λ n. n ≤ high) }
 {
     if word.is_empty() || !is_all_digits(word) {
         return None;

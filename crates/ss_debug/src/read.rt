@@ -1,25 +1,44 @@
 //! Command lines are read.
-ghost use Rattle.std.specs.Prelude.{◌≡◌};
+ghost use Rattle.std.specs.Prelude.{◌≡◌, ◌<◌, ◌≤◌, ◌-◌, ◌^◌, IfSome};
 ghost use Rattle.ss_debug.specs.CommandLines.{command_words};
-ghost use Rattle.ss_debug.specs.Command.{command_of, command_in_words, show_command, bound_of, only_name_of, command_alone};
+ghost use Rattle.ss_debug.specs.Command.{command_of, command_in_words, run_command, back_command, show_command};
+ghost use Rattle.ss_debug.specs.Command.{only_number_of, bound_of, only_line_of, only_name_of, command_alone};
 
-use crate::commands::Command;
-use crate::limits::{GREATEST_BOUND, LINE_LIMIT};
+use crate::commands::{Command, Movement, Question};
+use crate::limits::{GREATEST_BOUND, GREATEST_LINE, GREATEST_TIME, LINE_LIMIT};
 use crate::name::Name;
 use crate::pieces::{next_word, number};
+
+/// The number from low to high that is the only word.
+fn only_number(rest: &[u8], low: u64, high: u64) -> Option<u64>
+    requires { high < 2 ^ 64 - 1 }
+    ensures number { result ≡ only_number_of low high (command_words rest.now) }
+    ensures within { IfSome result (λ n. n ≤ high) }
+{
+    let (word, more) = next_word(rest)?;
+    if next_word(more).is_some() {
+        return None;
+    }
+    number(word, low, high)
+}
 
 /// The bound that stands behind a movement, or another where no word does; none where it is no
 /// bound or not the last word.
 fn bound(rest: &[u8], otherwise: u64) -> Option<u64>
     ensures { result ≡ bound_of otherwise (command_words rest.now) }
 {
-    let Some((word, more)) = next_word(rest) else {
+    if next_word(rest).is_none() {
         return Some(otherwise);
-    };
-    if next_word(more).is_some() {
-        return None;
     }
-    number(word, 1, GREATEST_BOUND)
+    only_number(rest, 1, GREATEST_BOUND)
+}
+
+/// The line that is the only word.
+fn only_line(rest: &[u8]) -> Option<u32>
+    ensures { result ≡ only_line_of (command_words rest.now) }
+{
+    let line = only_number(rest, 1, GREATEST_LINE)?;
+    Some(line as u32)
 }
 
 /// The name that is the only word.
@@ -43,6 +62,33 @@ fn alone_or_bad(command: Command, rest: &[u8]) -> Command
     command
 }
 
+/// What stands behind RUN.
+fn run(rest: &[u8]) -> Command
+    ensures { result ≡ run_command (command_words rest.now) }
+{
+    if let Some((word, more)) = next_word(rest)
+        && word == b"TO".as_slice()
+    {
+        return only_number(more, 0, GREATEST_TIME).map_or(
+            Command::Bad,
+            |time| Command::Move(Movement::RunTo(time)),
+        );
+    }
+    bound(rest, GREATEST_BOUND).map_or(Command::Bad, |n| Command::Move(Movement::Run(n)))
+}
+
+/// What stands behind BACK.
+fn back(rest: &[u8]) -> Command
+    ensures { result ≡ back_command (command_words rest.now) }
+{
+    if let Some((word, more)) = next_word(rest)
+        && word == b"BREAK".as_slice()
+    {
+        return alone_or_bad(Command::Move(Movement::BackBreak), more);
+    }
+    bound(rest, 1).map_or(Command::Bad, |n| Command::Move(Movement::Back(n)))
+}
+
 /// What stands behind SHOW.
 fn show(rest: &[u8]) -> Command
     ensures { result ≡ show_command (command_words rest.now) }
@@ -50,11 +96,19 @@ fn show(rest: &[u8]) -> Command
     let Some((what, more)) = next_word(rest) else {
         return Command::Bad;
     };
+    if what == b"CLOCK".as_slice() {
+        return alone_or_bad(Command::Show(Question::Clock), more);
+    }
+    if what == b"WHERE".as_slice() {
+        return alone_or_bad(Command::Show(Question::Where), more);
+    }
     if what == b"VAR".as_slice() {
-        return only_name(more).map_or(Command::Bad, |name| Command::ShowVar(name));
+        return only_name(more).map_or(Command::Bad, |name| {
+            Command::Show(Question::Variable(name))
+        });
     }
     if what == b"REPORT".as_slice() {
-        return alone_or_bad(Command::ShowReport, more);
+        return alone_or_bad(Command::Show(Question::Report), more);
     }
     Command::Bad
 }
@@ -68,13 +122,19 @@ fn command_in_words(line: &[u8]) -> Command
         return Command::Blank;
     };
     if verb == b"STEP".as_slice() {
-        return bound(rest, 1).map_or(Command::Bad, |n| Command::Step(n));
-    }
-    if verb == b"BACK".as_slice() {
-        return bound(rest, 1).map_or(Command::Bad, |n| Command::Back(n));
+        return bound(rest, 1).map_or(Command::Bad, |n| Command::Move(Movement::Step(n)));
     }
     if verb == b"RUN".as_slice() {
-        return bound(rest, GREATEST_BOUND).map_or(Command::Bad, |n| Command::Run(n));
+        return run(rest);
+    }
+    if verb == b"BACK".as_slice() {
+        return back(rest);
+    }
+    if verb == b"BREAK".as_slice() {
+        return only_line(rest).map_or(Command::Bad, Command::Break);
+    }
+    if verb == b"CLEAR".as_slice() {
+        return only_line(rest).map_or(Command::Bad, Command::Clear);
     }
     if verb == b"SHOW".as_slice() {
         return show(rest);

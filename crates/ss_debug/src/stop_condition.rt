@@ -5,4 +5,6 @@ pub enum StopCondition {
     Never,
     /// At a state whose place is on a break line.
     AtBreakLine,
+    /// At such a state, or at one whose clock is at or past this time.
+    AtTime(u64),
 }

@@ -8,18 +8,18 @@ use Rattle.ss_debug.proofs.movement.advance.Goals as goal
 pub returns-then-is_at_stop-clause-ok : goal.returns-then-is_at_stop-clause-ok
 returns-then-is_at_stop-clause-ok c =
     let m = c.args.machine.now in
-    let found : stops m.program c.args.breaks.now (condition_of c.args.condition) (position m) c.loop-k.k ≡ true =
+    let found : stops m.input c.args.breaks.now (condition_of c.args.condition) (position m) c.loop-k.k ≡ true =
     search rules in
     let e =
-    least_is (stops m.program c.args.breaks.now (condition_of c.args.condition) (position m)) c.args.bound
+    least_is (stops m.input c.args.breaks.now (condition_of c.args.condition) (position m)) c.args.bound
     c.loop-k.k (omega arith) c.loop-k.invariant.went_on (λ _. found) in
-    record { program = c.loop-k.invariant.program; position = rw e c.loop-k.invariant.stepped }
+    record { input = c.loop-k.invariant.input; position = rw e c.loop-k.invariant.stepped }
 
 pub returns-in-Err-clause-memory : goal.returns-in-Err-clause-memory
 returns-in-Err-clause-memory c =
     let m = c.args.machine.now in
     let low =
-    least_at_least (stops m.program c.args.breaks.now (condition_of c.args.condition) (position m)) c.args.bound
+    least_at_least (stops m.input c.args.breaks.now (condition_of c.args.condition) (position m)) c.args.bound
     c.loop-k.k (omega arith) c.loop-k.invariant.went_on in
     let same : c.step_once.new.machine ≡ c.loop-k.machine = search rules in
-    rw (same, c.loop-k.invariant.stepped) (c.loop-k.invariant.program, omega arith, omega arith)
+    rw (same, c.loop-k.invariant.stepped) (c.loop-k.invariant.input, omega arith, omega arith)

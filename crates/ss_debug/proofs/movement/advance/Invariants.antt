@@ -6,8 +6,8 @@ use Rattle.ss_debug.proofs.movement.advance.Given as goal
 
 abbrev pub invariant-loop-k : goal.invariant-loop-k
 invariant-loop-k l = record {
-  program : l.machine.program ≡ l.initial.machine.program;
+  input : l.machine.input ≡ l.initial.machine.input;
   stepped : position l.machine ≡ position l.initial.machine + l.k;
   went_on : (j : ℕ) → j < l.k →
-      stops l.initial.machine.program l.breaks (condition_of l.condition) (position l.initial.machine) j ≡ false;
+      stops l.initial.machine.input l.breaks (condition_of l.condition) (position l.initial.machine) j ≡ false;
 }

@@ -4,6 +4,6 @@ use Rattle.ss_debug.proofs.movement.retreat.Given as goal
 
 abbrev pub invariant-loop-k : goal.invariant-loop-k
 invariant-loop-k l = record {
-  program : l.machine.program ≡ l.initial.machine.program;
+  input : l.machine.input ≡ l.initial.machine.input;
   position : position l.initial.machine ≡ position l.machine + l._k;
 }

@@ -1,0 +1,171 @@
+//! Lines that are read, and one turn of each command with memory at hand, which no clause promises.
+use ss_check::check;
+use ss_debug::{Command, Debugger, Go, Movement, Question, command, obey};
+use ss_machine::Machine;
+use ss_routines::sections;
+use ss_words::words;
+use std::alloc::Global;
+use std::process::Abort;
+use std::test::Fail;
+
+#[test]
+fn lines_without_a_command(rt: HostRuntime) {
+    assert!(rt; matches!(command(b" \t\r"), Command::Blank));
+    assert!(rt; matches!(command(&[b' '; 201]), Command::Blank));
+    assert!(rt; matches!(command(b"run 0"), Command::Bad));
+    assert!(rt; matches!(command(b"step 1000001"), Command::Bad));
+    assert!(rt; matches!(command(b"back 18446744073709551617"), Command::Bad));
+    assert!(rt; matches!(command(&[b'Q'; 201]), Command::Bad));
+}
+
+#[test]
+fn movements_are_read(rt: HostRuntime) {
+    assert!(rt; matches!(command(b"\tStep \r"), Command::Move(Movement::Step(1))));
+    assert!(rt;
+        matches!(
+            command(b"step 1000000"),
+            Command::Move(Movement::Step(1_000_000))
+        )
+    );
+    assert!(rt;
+        matches!(
+            command(b"back 00000000000000000007"),
+            Command::Move(Movement::Back(7))
+        )
+    );
+    assert!(rt; matches!(command(b"RUN"), Command::Move(Movement::Run(1_000_000))));
+    assert!(rt; matches!(command(b"run to 0"), Command::Move(Movement::RunTo(0))));
+    assert!(rt; matches!(command(b"back break"), Command::Move(Movement::BackBreak)));
+}
+
+#[test]
+fn lines_and_questions_are_read(rt: HostRuntime) {
+    assert!(rt; matches!(command(b"break 1000000"), Command::Break(1_000_000)));
+    assert!(rt; matches!(command(b"break 0"), Command::Bad));
+    assert!(rt; matches!(command(b"clear 007"), Command::Clear(7)));
+    assert!(rt; matches!(command(b"show clock 5"), Command::Bad));
+    assert!(rt; matches!(command(b"Show Where"), Command::Show(Question::Where)));
+    assert!(rt; matches!(command(b"Show Report"), Command::Show(Question::Report)));
+}
+
+#[test]
+fn quit_and_a_name_are_read(rt: HostRuntime) {
+    assert!(rt; matches!(command(b"quit\r"), Command::Quit));
+    assert!(rt; matches!(command(b"quit now"), Command::Bad));
+    match command(b"show var 1a.b..") {
+        Command::Show(Question::Variable(name)) => {
+            assert_eq!(rt; name.as_slice(), b"1A.B".as_slice())
+        }
+        _ => assert!(rt; false, "no name"),
+    }
+}
+
+/// An assignment on line 2, PRINT on line 3 with its picture, STOP on line 5 and END.
+const MODEL: &str = "MAIN\nLET X = 5\nPRINT 1 LINE WITH X THUS\nX = ***\nSTOP\nEND\n";
+
+/// A debugger at the start of the model.
+fn debugger(alloc: Global) -> Result<Debugger, Fail> {
+    let sections = sections(alloc, &words(alloc, MODEL.as_bytes())?, 0)?;
+    let program = check(alloc, sections)?;
+    Ok(Debugger::new(alloc, Machine::new(alloc, program, b"")?))
+}
+
+/// Obeys each line, and compares what it appends and where it stands then.
+fn turns(rt: &impl Abort, alloc: Global, table: &[(&str, &str)], go: Go) -> Result<(), Fail> {
+    let mut debugger = debugger(alloc)?;
+    for (line, answer) in table {
+        let mut bytes = Vec::from_slice(alloc, b"before\n")?;
+        let mut wanted = Vec::from_slice(alloc, b"before\n")?;
+        wanted.extend_from_slice(answer.as_bytes())?;
+        let gone = obey(&mut debugger, command(line.as_bytes()), &mut bytes)?;
+        assert_eq!(rt; bytes.as_slice(), wanted.as_slice(), "{line}");
+        assert_eq!(rt; gone, go, "{line}");
+    }
+    Ok(())
+}
+
+#[test]
+fn steps_are_answered(rt: HostRuntime) -> Result<(), Fail> {
+    turns(
+        &rt,
+        rt.alloc(),
+        &[
+            ("BACK", "START: STATE 0 CLOCK 0 READY IN MAIN LINE 2\n"),
+            ("STEP", "DONE: STATE 1 CLOCK 0 READY IN MAIN LINE 3\n"),
+            ("run 1", "BOUND: STATE 2 CLOCK 0 READY IN MAIN LINE 5\n"),
+            ("RUN", "HALTED: STATE 3 CLOCK 0 STOPPED IN MAIN LINE 5\n"),
+            ("STEP 2", "HALTED: STATE 3 CLOCK 0 STOPPED IN MAIN LINE 5\n"),
+            ("BACK 3", "DONE: STATE 0 CLOCK 0 READY IN MAIN LINE 2\n"),
+            ("STEP 3", "HALTED: STATE 3 CLOCK 0 STOPPED IN MAIN LINE 5\n"),
+            ("BACK 4", "START: STATE 0 CLOCK 0 READY IN MAIN LINE 2\n"),
+        ],
+        Go::On,
+    )
+}
+
+#[test]
+fn questions_are_answered(rt: HostRuntime) -> Result<(), Fail> {
+    turns(
+        &rt,
+        rt.alloc(),
+        &[
+            (" \t\r", ""),
+            ("FOO", "BAD COMMAND\n"),
+            ("SHOW REPORT", "REPORT\n"),
+            ("step 2", "DONE: STATE 2 CLOCK 0 READY IN MAIN LINE 5\n"),
+            ("show var x", "X = 5\n"),
+            ("show report", "REPORT\nX =   5\n"),
+            ("SHOW VAR TIME.V", "TIME.V = 0\n"),
+            ("SHOW VAR 1y", "NO VARIABLE 1Y\n"),
+        ],
+        Go::On,
+    )
+}
+
+#[test]
+fn break_lines_are_run_to(rt: HostRuntime) -> Result<(), Fail> {
+    turns(
+        &rt,
+        rt.alloc(),
+        &[
+            ("BREAK 3", "BREAK 3 SET\n"),
+            ("RUN", "BREAK: STATE 1 CLOCK 0 READY IN MAIN LINE 3\n"),
+            ("RUN", "HALTED: STATE 3 CLOCK 0 STOPPED IN MAIN LINE 5\n"),
+            (
+                "BACK BREAK",
+                "BREAK: STATE 1 CLOCK 0 READY IN MAIN LINE 3\n",
+            ),
+            (
+                "BACK BREAK",
+                "START: STATE 0 CLOCK 0 READY IN MAIN LINE 2\n",
+            ),
+            ("CLEAR 3", "BREAK 3 CLEARED\n"),
+            ("CLEAR 3", "NO BREAK 3\n"),
+        ],
+        Go::On,
+    )
+}
+
+#[test]
+fn times_are_run_to(rt: HostRuntime) -> Result<(), Fail> {
+    turns(
+        &rt,
+        rt.alloc(),
+        &[
+            ("BREAK 2", "BREAK 2 SET\n"),
+            ("RUN TO 0", "TIME: STATE 0 CLOCK 0 READY IN MAIN LINE 2\n"),
+            (
+                "RUN TO 1",
+                "HALTED: STATE 3 CLOCK 0 STOPPED IN MAIN LINE 5\n",
+            ),
+            ("SHOW CLOCK", "CLOCK 0\n"),
+            ("SHOW WHERE", "STATE 3 CLOCK 0 STOPPED IN MAIN LINE 5\n"),
+        ],
+        Go::On,
+    )
+}
+
+#[test]
+fn quit_ends(rt: HostRuntime) -> Result<(), Fail> {
+    turns(&rt, rt.alloc(), &[("QUIT", ""), ("quit\r", "")], Go::Quit)
+}
