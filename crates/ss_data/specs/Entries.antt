@@ -1,5 +1,6 @@
 -- What stands next in the data: its end, a number, a mark, a name; and where an entry of an external event ends.
-use Rattle.std.specs.Prelude.{ℕ, ◌+◌, Bool, false, ◌&&◌, nat_le, if◌then◌else◌, List, length, drop, position, codes, bytes_eq, Option, Some, None, option_map, is_some, slice_get}
+use Rattle.std.specs.Prelude.{ℕ, ◌+◌, Bool, false, ◌&&◌, nat_le, if◌then◌else◌, List, length, drop, position, codes}
+use Rattle.std.specs.Prelude.{bytes_eq, Option, Some, None, option_map, is_some, slice_get}
 use Rattle.std.specs.List.{list_all}
 use Rattle.std.specs.Str.{str_eq_ignore_ascii_case}
 use Rattle.ss_words.specs.declared.limits.TheConstants.{LONGEST_RUN}

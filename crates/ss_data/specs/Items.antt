@@ -7,7 +7,9 @@ use Rattle.ss_data.specs.Numbers.{number}
 
 -- a piece, with the number that it writes or none
 pub record Item : Type 0 where
+  -- its bytes
   pub bytes : List ℕ
+  -- the number that it writes
   pub value : Option ℤ
 
 -- a piece as an item
@@ -20,7 +22,9 @@ items text = map item (pieces text)
 
 -- the items of the data, and how many of them are taken
 pub record DataRead : Type 0 where
+  -- the items
   pub items : List Item
+  -- how many are taken
   pub taken : ℕ
 
 -- the data with nothing taken

@@ -10,7 +10,7 @@ use ss_words::characters::STOP;
 use ss_words::limits::LONGEST_RUN;
 use ss_words::without_stops;
 
-/// What the next piece of the data is (docs/LANGUAGE.md, "The data").
+/// What the next piece of the data is (docs/LANGUAGE.md, "READ and the data").
 #[derive(Clone, Copy, Debug, PartialEq, Eq)]
 pub enum Kind {
     /// No piece is left.

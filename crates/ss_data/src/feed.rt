@@ -5,7 +5,7 @@ use ss_words::RunFault;
 use std::alloc::{AllocError, Global};
 use std::marker::Model;
 
-/// The data of a run, from which READ takes number after number (docs/LANGUAGE.md, "The data").
+/// The data of a run, from which READ takes numbers (docs/LANGUAGE.md, "READ and the data").
 ///
 /// Blanks, tabs, carriage returns and line feeds separate its pieces. All pieces are kept, so what
 /// is taken can be given back.

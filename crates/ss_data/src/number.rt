@@ -3,7 +3,7 @@ ghost use Rattle.ss_data.specs.Numbers.{number};
 
 use std::str;
 
-/// The number that a piece writes, if it writes one in range (docs/LANGUAGE.md, "The data").
+/// The number that a piece writes, if one in range (docs/LANGUAGE.md, "READ and the data").
 pub(crate) fn parse_number(piece: &[u8]) -> Option<i64>
     ensures { result ≡ number piece.now }
 {

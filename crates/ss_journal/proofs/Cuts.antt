@@ -1,5 +1,6 @@
 -- lists cut into pieces
-use Rattle.std.proofs.Common.{◌≡◌, ℕ, ◌+◌, ◌-◌, ◌≤◌, List, [], ◌∷◌, ◌++◌, length, take, drop, refl, ap, sym, ◌∙◌, zero, suc, min, arith, length-take, length-drop}
+use Rattle.std.proofs.Common.{◌≡◌, ℕ, ◌+◌, ◌-◌, ◌≤◌, List, [], ◌∷◌, ◌++◌, length, take, drop, refl, ap, sym, ◌∙◌, zero}
+use Rattle.std.proofs.Common.{suc, min, arith, length-take, length-drop}
 use Rattle.std.specs.Prelude.{reverse, sum, map}
 use Rattle.std.proofs.lemmas.List.{reverse-append, length-reverse, take-append-drop, drop-take, take_at, take_min}
 use Rattle.std.proofs.lemmas.List.Sorted.{sum_by-IsPermutation, IsPermutation-reverse}
@@ -25,10 +26,20 @@ rest_of_sizes o all ks k n cs within full none is =
 -- taking off the last size makes its piece the first one
 pub pieces_back : {C : Type 0} (o : ℕ) (all ks : List ℕ) (k n : ℕ) (cs : List C) →
     o + sum all ≡ n → n ≡ length cs → take o (reverse cs) ≡ [] → all ≡ ks ++ k ∷ [] →
-    cut_by_lengths (reverse all) (drop o (reverse cs)) ≡ take k (reverse cs) ∷ cut_by_lengths (reverse ks) (drop k (reverse cs))
+    cut_by_lengths (reverse all) (drop o (reverse cs))
+    ≡ take k (reverse cs) ∷ cut_by_lengths (reverse ks) (drop k (reverse cs))
 pieces_back o all ks k n cs within full none is =
     let zero_open : o ≡ 0 = take-none o (reverse cs) (rw length-reverse (omega arith)) none in
     rw (is, reverse-append, zero_open) refl
+
+-- taking off the newest change, of those of the open step and of the others
+pub open_taken : {C : Type 0} (o k : ℕ) (all cs : List C) (c : C) → k + 1 ≡ o → all ≡ cs ++ c ∷ []
+    → take o (reverse all) ≡ c ∷ take k (reverse cs)
+open_taken o k all cs c one is = let more : o ≡ suc k = omega (arith, one) in rw (more, is, reverse-append) refl
+
+pub open_left : {C : Type 0} (o k : ℕ) (all cs : List C) (c : C) → k + 1 ≡ o → all ≡ cs ++ c ∷ []
+    → drop o (reverse all) ≡ drop k (reverse cs)
+open_left o k all cs c one is = let more : o ≡ suc k = omega (arith, one) in rw (more, is, reverse-append) refl
 
 take-take : {C : Type 0} (k n : ℕ) (cs : List C) → k ≤ n → take k (take n cs) ≡ take k cs
 take-take zero n cs h = refl
@@ -37,26 +48,30 @@ take-take (suc k) (suc n) [] h = refl
 take-take (suc k) (suc n) (c ∷ cs) h = ap (λ (rest : List _). c ∷ rest) (take-take k n cs (omega (arith, h)))
 
 -- the first pieces are those of the first lengths
-take-pieces : {C : Type 0} (n : ℕ) (ks : List ℕ) (cs : List C) → take n (cut_by_lengths ks cs) ≡ cut_by_lengths (take n ks) (take (sum (take n ks)) cs)
+take-pieces : {C : Type 0} (n : ℕ) (ks : List ℕ) (cs : List C)
+    → take n (cut_by_lengths ks cs) ≡ cut_by_lengths (take n ks) (take (sum (take n ks)) cs)
 take-pieces zero ks cs = refl
 take-pieces (suc n) [] cs = refl
 take-pieces (suc n) (k ∷ ks) cs =
     let more = sum (take n ks) in
     let all : sum (k ∷ take n ks) ≡ k + more = sum_by-cons (λ n. n) k (take n ks) in
-    rw (all, take-take k (k + more) cs (omega arith), drop-take k more cs) (ap (λ (ps : List (List _)). take k cs ∷ ps) (take-pieces n ks (drop k cs)))
+    rw (all, take-take k (k + more) cs (omega arith), drop-take k more cs)
+    (ap (λ (ps : List (List _)). take k cs ∷ ps) (take-pieces n ks (drop k cs)))
 
 -- the first of the reversed list are what is left when the others are dropped
 take-reverse : {C : Type 0} (k : ℕ) (cs : List C) → take (length cs - k) (reverse cs) ≡ reverse (drop k cs)
 take-reverse k cs =
     ap (λ (l : List _). take (length cs - k) (reverse l)) (sym (take-append-drop k cs))
     ∙ ap (take (length cs - k)) (reverse-append (take k cs) (drop k cs))
-    ∙ take_at (reverse (drop k cs)) (reverse (take k cs)) (length cs - k) (length-reverse (drop k cs) ∙ length-drop k cs)
+    ∙ take_at (reverse (drop k cs)) (reverse (take k cs)) (length cs - k)
+    (length-reverse (drop k cs) ∙ length-drop k cs)
 
 sum-reverse : (ks : List ℕ) → sum (reverse ks) ≡ sum ks
 sum-reverse ks = sum_by-IsPermutation (λ n. n) ks (reverse ks) (IsPermutation-reverse ks)
 
 -- what the sizes that are kept have is what is left of the changes
-pub sum-kept : {C : Type 0} (f m l : ℕ) (all : List ℕ) (cs : List C) → sum all ≡ l → l ≡ length cs → m ≡ sum (take f all) → sum (drop f all) ≡ length (drop m cs)
+pub sum-kept : {C : Type 0} (f m l : ℕ) (all : List ℕ) (cs : List C) → sum all ≡ l → l ≡ length cs
+    → m ≡ sum (take f all) → sum (drop f all) ≡ length (drop m cs)
 sum-kept f m l all cs within full is = omega (arith, length-drop m cs, sum_by-take-drop (λ n. n) all f)
 
 pieces_kept : {C : Type 0} (n f m l : ℕ) (all : List ℕ) (cs : List C) →
@@ -69,34 +84,48 @@ pieces_kept n f m l all cs within full forgotten is =
     ap sum sizes ∙ sum-reverse (drop f all) ∙ sum-kept f m l all cs within full is ∙ length-drop m cs in
     let count : kept ≡ min n (length (cut_by_lengths (reverse all) (reverse cs))) =
     omega (arith, length-pieces (reverse all) (reverse cs), length-reverse all) in
-    let first : take kept (cut_by_lengths (reverse all) (reverse cs)) ≡ cut_by_lengths (take kept (reverse all)) (take (sum (take kept (reverse all))) (reverse cs)) =
+    let first : take kept (cut_by_lengths (reverse all) (reverse cs))
+    ≡ cut_by_lengths (take kept (reverse all)) (take (sum (take kept (reverse all))) (reverse cs)) =
     take-pieces kept (reverse all) (reverse cs) in
-    sym (sym (ap (λ k. take k (cut_by_lengths (reverse all) (reverse cs))) count ∙ take_min n (cut_by_lengths (reverse all) (reverse cs)))
+    sym (sym (ap (λ k. take k (cut_by_lengths (reverse all) (reverse cs))) count
+    ∙ take_min n (cut_by_lengths (reverse all) (reverse cs)))
     ∙ first ∙ rw (many, sizes, take-reverse m cs) refl)
 
 -- the pieces of the sizes that are kept are the first ones
 pub pieces_newest : {C : Type 0} (n o f m l : ℕ) (all : List ℕ) (cs : List C) →
     o + sum all ≡ l → l ≡ length cs → take o (reverse cs) ≡ [] → f ≡ length all - n → m ≡ sum (take f all) →
-    cut_by_lengths (reverse (drop f all)) (drop o (reverse (drop m cs))) ≡ take n (cut_by_lengths (reverse all) (drop o (reverse cs)))
+    cut_by_lengths (reverse (drop f all)) (drop o (reverse (drop m cs)))
+    ≡ take n (cut_by_lengths (reverse all) (drop o (reverse cs)))
 pieces_newest n o f m l all cs within full none forgotten is =
     let zero_open : o ≡ 0 = take-none o (reverse cs) (rw length-reverse (omega arith)) none in
     rw zero_open (pieces_kept n f m l all cs (omega arith) full forgotten is)
 
 -- the pieces have as many members as their lengths say
-pub sum-pieces : {C : Type 0} (ks : List ℕ) (cs : List C) → sum ks ≤ length cs → sum (map length (cut_by_lengths ks cs)) ≡ sum ks
+pub sum-pieces : {C : Type 0} (ks : List ℕ) (cs : List C) → sum ks ≤ length cs
+    → sum (map length (cut_by_lengths ks cs)) ≡ sum ks
 sum-pieces [] cs fits = refl
 sum-pieces (k ∷ ks) cs fits =
     let all : sum (k ∷ ks) ≡ k + sum ks = sum_by-cons (λ n. n) k ks in
-    let counts : sum (length (take k cs) ∷ map length (cut_by_lengths ks (drop k cs))) ≡ length (take k cs) + sum (map length (cut_by_lengths ks (drop k cs))) =
+    let counts : sum (length (take k cs) ∷ map length (cut_by_lengths ks (drop k cs)))
+    ≡ length (take k cs) + sum (map length (cut_by_lengths ks (drop k cs))) =
     sum_by-cons (λ n. n) (length (take k cs)) (map length (cut_by_lengths ks (drop k cs))) in
-    omega (arith, all, counts, length-take k cs, length-drop k cs, sum-pieces ks (drop k cs) (omega (arith, all, length-drop k cs)))
+    omega (
+      arith,
+      all,
+      counts,
+      length-take k cs,
+      length-drop k cs,
+      sum-pieces ks (drop k cs) (omega (arith, all, length-drop k cs)),
+    )
 
 -- there are as many steps as sizes
-pub step-count : {C : Type 0} (steps : List (List C)) (all : List ℕ) (cs : List C) → cut_by_lengths (reverse all) cs ≡ steps → length steps ≡ length all
+pub step-count : {C : Type 0} (steps : List (List C)) (all : List ℕ) (cs : List C)
+    → cut_by_lengths (reverse all) cs ≡ steps → length steps ≡ length all
 step-count steps all cs is = ap length (sym is) ∙ length-pieces (reverse all) cs ∙ length-reverse all
 
 pub rest_of_kept : {C : Type 0} (o f m l : ℕ) (all : List ℕ) (cs : List C) →
-    o + sum all ≡ l → l ≡ length cs → take o (reverse cs) ≡ [] → m ≡ sum (take f all) → o + sum (drop f all) ≡ length (drop m cs)
+    o + sum all ≡ l → l ≡ length cs → take o (reverse cs) ≡ [] → m ≡ sum (take f all)
+    → o + sum (drop f all) ≡ length (drop m cs)
 rest_of_kept o f m l all cs within full none is =
     let zero_open : o ≡ 0 = take-none o (reverse cs) (rw length-reverse (omega arith)) none in
     omega (arith, zero_open, sum-kept f m l all cs (omega (arith, zero_open)) full is)
@@ -109,9 +138,11 @@ none_kept o m l all cs within full none =
 
 -- where no step is open, the steps have all changes
 pub count_all : {C : Type 0} (o l : ℕ) (all : List ℕ) (cs : List C) →
-    o + sum all ≡ l → l ≡ length cs → take o (reverse cs) ≡ [] → sum (map length (cut_by_lengths (reverse all) (drop o (reverse cs)))) ≡ l
+    o + sum all ≡ l → l ≡ length cs → take o (reverse cs) ≡ []
+    → sum (map length (cut_by_lengths (reverse all) (drop o (reverse cs)))) ≡ l
 count_all o l all cs within full none =
     let zero_open : o ≡ 0 = take-none o (reverse cs) (rw length-reverse (omega arith)) none in
     let fits : sum (reverse all) ≤ length (reverse cs) = omega (arith, sum-reverse all, length-reverse cs) in
-    let counted : sum (map length (cut_by_lengths (reverse all) (reverse cs))) ≡ l = omega (arith, sum-pieces (reverse all) (reverse cs) fits, sum-reverse all) in
+    let counted : sum (map length (cut_by_lengths (reverse all) (reverse cs))) ≡ l =
+    omega (arith, sum-pieces (reverse all) (reverse cs) fits, sum-reverse all) in
     rw zero_open counted

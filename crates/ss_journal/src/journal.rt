@@ -1,25 +1,28 @@
-ghost use Rattle.std.specs.Prelude.{◌≡◌, ◌+◌, ◌^◌, ◌<◌, ◌≤◌, ◌∷◌, [], length, sum, IsOk, OnOk, MatchOption, MatchBool};
+ghost use Rattle.std.specs.Prelude.{◌≡◌, ◌+◌, ◌^◌, ◌<◌, ◌≤◌, ◌∷◌, [], length, sum, take, IsOk, OnOk, MatchOption};
+ghost use Rattle.std.specs.Prelude.{MatchBool};
 
 use std::alloc::{AllocError, Global};
+use std::collections::VecDeque;
 use std::marker::Model;
 
 /// A list of closed steps, each a list of changes, and one open step.
 ///
 /// Beside these a journal has two numbers of room, one for notes and one for closes. Only
-/// [`Journal::reserve`] takes memory; every other call is made of a fixed number of moves, whatever
-/// the journal holds.
+/// [`Journal::reserve`] takes memory. Every other call but [`Journal::keep_last`] is made of a
+/// fixed number of moves, whatever the journal holds.
 #[derive(Drop)]
 pub struct Journal<C> {
     // The changes of all steps, the oldest first; the last `unclosed` of them are those of the open
     // step.
-    changes: Vec<C>,
+    changes: VecDeque<C>,
     // How many changes each closed step has, the oldest step first.
-    sizes: Vec<usize>,
+    sizes: VecDeque<usize>,
     unclosed: usize,
 }
 
 impl<C> Model for Journal<C> {
-    ghost use Rattle.std.specs.Prelude.{◌≡◌, ◌+◌, ◌-◌, sum, reverse, take, drop, vec_len, vec_capacity};
+    ghost use Rattle.std.specs.Prelude.{◌≡◌, ◌+◌, ◌-◌, sum, reverse, take, drop};
+    ghost use Rattle.std.specs.VecDeque.{deque_len, deque_capacity};
     ghost use Rattle.ss_journal.specs.Log.{Log};
     ghost use Rattle.ss_journal.specs.Pieces.{cut_by_lengths};
 
@@ -28,11 +31,11 @@ impl<C> Model for Journal<C> {
     ghost view = { λ a. record {
       steps = cut_by_lengths (reverse a.sizes.items) (drop a.unclosed (reverse a.changes.items));
       current = take a.unclosed (reverse a.changes.items);
-      notes = vec_capacity a.changes - vec_len a.changes;
-      closes = vec_capacity a.sizes - vec_len a.sizes;
+      notes = deque_capacity a.changes - deque_len a.changes;
+      closes = deque_capacity a.sizes - deque_len a.sizes;
     } };
 
-    ghost invariant = { λ a. a.unclosed + sum a.sizes.items ≡ vec_len a.changes };
+    ghost invariant = { λ a. a.unclosed + sum a.sizes.items ≡ deque_len a.changes };
 }
 
 impl<C> Journal<C> {
@@ -44,8 +47,8 @@ impl<C> Journal<C> {
         ensures closes { result.closes ≡ 0 }
     {
         Journal {
-            changes: Vec::new(alloc),
-            sizes: Vec::new(alloc),
+            changes: VecDeque::from_vec(Vec::new(alloc)),
+            sizes: VecDeque::from_vec(Vec::new(alloc)),
             unclosed: 0,
         }
     }
@@ -80,7 +83,7 @@ impl<C> Journal<C> {
         ensures notes { self.new.notes + 1 ≡ self.old.notes }
         ensures closes { self.new.closes ≡ self.old.closes }
     {
-        self.changes.push_reserved(change);
+        self.changes.push_back_reserved(change);
         self.unclosed += 1;
     }
 
@@ -93,7 +96,7 @@ impl<C> Journal<C> {
         ensures notes { self.new.notes ≡ self.old.notes }
         ensures closes { self.new.closes + 1 ≡ self.old.closes }
     {
-        self.sizes.push_reserved(self.unclosed);
+        self.sizes.push_back_reserved(self.unclosed);
         self.unclosed = 0;
     }
 
@@ -112,8 +115,9 @@ impl<C> Journal<C> {
         if self.unclosed == 0 {
             return None;
         }
+        let change = self.changes.pop_back()?;
         self.unclosed -= 1;
-        self.changes.pop()
+        Some(change)
     }
 
     /// Makes the newest closed step the open one again; false where no step is closed, and then
@@ -128,7 +132,7 @@ impl<C> Journal<C> {
             (self.new.closes ≡ self.old.closes + 1)
             (self.new.closes ≡ self.old.closes) }
     {
-        match self.sizes.pop() {
+        match self.sizes.pop_back() {
             None => false,
             Some(size) => {
                 self.unclosed = size;
@@ -151,7 +155,8 @@ impl<C: Drop> Journal<C> {
     /// Forgets the oldest closed steps, so that the newest `n` are left, or all where there are
     /// fewer. The room of what is forgotten is free again.
     ///
-    /// It takes no memory, and its time is in proportion to the changes forgotten and kept.
+    /// It takes no memory, and its time is in proportion to the changes forgotten: those kept stay
+    /// where they are.
     pub fn keep_last(&mut self, n: usize)
         requires { self.old.current ≡ [] }
         ensures steps { self.new.steps ≡ newest n self.old.steps }
@@ -160,15 +165,17 @@ impl<C: Drop> Journal<C> {
         ensures closes { self.new.closes + length self.new.steps ≡ self.old.closes + length self.old.steps }
     {
         let forgotten = self.steps().saturating_sub(n);
-        let changes = total(&self.sizes[..forgotten]);
+        let changes = total(&self.sizes, forgotten);
         self.changes.drain(..changes);
         self.sizes.drain(..forgotten);
     }
 }
 
-fn total(sizes: &[usize]) -> usize
-    requires { sum sizes.now < 2 ^ 64 }
-    ensures { result ≡ sum sizes.now }
+/// How many changes the oldest steps have, of which there are at least so many.
+fn total(sizes: &VecDeque<usize>, steps: usize) -> usize
+    requires steps { steps ≤ length sizes.now.items }
+    requires small { sum (take steps sizes.now.items) < 2 ^ 64 }
+    ensures { result ≡ sum (take steps sizes.now.items) }
 {
-    sizes.iter().sum()
+    sizes.range(..steps).sum()
 }

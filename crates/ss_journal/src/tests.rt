@@ -57,6 +57,23 @@ fn forward(dial: &mut Dial, journal: &mut Journal<Turn>, values: &[u64]) -> Resu
     Ok(())
 }
 
+// The same; a step that is refused memory is tried again.
+fn forward_again(
+    dial: &mut Dial,
+    journal: &mut Journal<Turn>,
+    values: &[u64],
+) -> Result<(), AllocError>
+    requires closed { journal.old.current ≡ [] }
+    requires fits { FitsSteps ⟦<Dial as Undo>⟧.fits ⟦<Dial as Undo>⟧.unapply journal.old.steps dial.old }
+    ensures closed { journal.new.current ≡ [] }
+    ensures fits { FitsSteps ⟦<Dial as Undo>⟧.fits ⟦<Dial as Undo>⟧.unapply journal.new.steps dial.new }
+{
+    if forward(dial, journal, values).is_err() {
+        forward(dial, journal, values)?;
+    }
+    Ok(())
+}
+
 // One step back; false where there is none.
 fn back(dial: &mut Dial, journal: &mut Journal<Turn>) -> bool
     requires closed { journal.old.current ≡ [] }
@@ -156,9 +173,9 @@ fn work_that_was_not_closed_is_taken_back(rt: HostRuntime) -> Result<(), Fail> {
 fn what_is_kept_comes_back(rt: HostRuntime) -> Result<(), Fail> {
     let mut dial = Dial { value: 0 };
     let mut journal = Journal::new(rt.alloc());
-    forward(&mut dial, &mut journal, &[3])?;
-    forward(&mut dial, &mut journal, &[5, 7])?;
-    forward(&mut dial, &mut journal, &[11])?;
+    forward_again(&mut dial, &mut journal, &[3])?;
+    forward_again(&mut dial, &mut journal, &[5, 7])?;
+    forward_again(&mut dial, &mut journal, &[11])?;
     forget(&dial, &mut journal, 5);
     assert_eq!(rt; journal.steps(), 3);
     forget(&dial, &mut journal, 2);
@@ -169,10 +186,43 @@ fn what_is_kept_comes_back(rt: HostRuntime) -> Result<(), Fail> {
     assert_eq!(rt; dial.value, 3);
     assert!(rt; !back(&mut dial, &mut journal));
     assert_eq!(rt; dial.value, 3);
-    forward(&mut dial, &mut journal, &[13])?;
+    forward_again(&mut dial, &mut journal, &[13])?;
     forget(&dial, &mut journal, 0);
     assert_eq!(rt; journal.steps(), 0);
     assert!(rt; !back(&mut dial, &mut journal));
     assert_eq!(rt; dial.value, 13);
+    Ok(())
+}
+
+// Thirty steps forward, after each of which the newest two are kept; then these two back.
+fn two_are_kept(
+    rt: &impl Abort,
+    dial: &mut Dial,
+    journal: &mut Journal<Turn>,
+) -> Result<(), AllocError>
+    requires closed { journal.old.current ≡ [] }
+    requires fits { FitsSteps ⟦<Dial as Undo>⟧.fits ⟦<Dial as Undo>⟧.unapply journal.old.steps dial.old }
+    ensures closed { journal.new.current ≡ [] }
+    ensures fits { FitsSteps ⟦<Dial as Undo>⟧.fits ⟦<Dial as Undo>⟧.unapply journal.new.steps dial.new }
+{
+    for value in 0..30 {
+        forward_again(dial, journal, &[value, value + 1])?;
+        forget(dial, journal, 2);
+    }
+    for before in [29, 28] {
+        assert!(rt; back(dial, journal));
+        assert_eq!(rt; dial.value, before);
+    }
+    assert!(rt; !back(dial, journal));
+    assert_eq!(rt; dial.value, 28);
+    Ok(())
+}
+
+#[test]
+fn room_goes_round(rt: HostRuntime) -> Result<(), Fail> {
+    let mut dial = Dial { value: 0 };
+    let mut journal = Journal::new(rt.alloc());
+    two_are_kept(&rt, &mut dial, &mut journal)?;
+    two_are_kept(&rt, &mut dial, &mut journal)?;
     Ok(())
 }

@@ -1,4 +1,5 @@
-ghost use Rattle.std.specs.Prelude.{◌≡◌, ℤ, ◌+◌, ◌≤◌, ◌↔◌, ◌++◌, [], List, length, map, min, IfOk, IsTrue, vec_len, vec_capacity};
+ghost use Rattle.std.specs.Prelude.{◌≡◌, ℤ, ◌+◌, ◌≤◌, ◌↔◌, ◌++◌, [], List, length, map, min, IfOk, IsTrue, vec_len};
+ghost use Rattle.std.specs.Prelude.{vec_capacity};
 ghost use Rattle.std.specs.List.{list_any};
 ghost use Rattle.ss_report.specs.Pictures.{field_count, has_decimal, has_decimal_field, picture_text};
 
@@ -39,7 +40,7 @@ impl<T: Drop> From<AllocFailed<T>> for PictureFault {
     }
 }
 
-/// The lines that a PRINT writes, with their fields found (docs/LANGUAGE.md, "PRINT").
+/// The lines that a PRINT writes, with their fields found (docs/LANGUAGE.md, "PRINT and SKIP").
 /// Contracts see the list of the lines, each the list of its bytes.
 #[derive(Debug, Drop)]
 pub struct Picture {

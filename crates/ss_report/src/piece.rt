@@ -1,6 +1,8 @@
-ghost use Rattle.std.specs.Prelude.{◌≡◌, ◌==◌, ◌+◌, ◌-◌, ◌^◌, ◌<◌, ◌≤◌, ◌++◌, ◌∷◌, [], drop, length, map, min, count_by, IfOk, OnOk, vec_len, vec_capacity};
+ghost use Rattle.std.specs.Prelude.{◌≡◌, ◌==◌, ◌+◌, ◌-◌, ◌^◌, ◌<◌, ◌≤◌, ◌++◌, ◌∷◌, [], drop, length, map, min};
+ghost use Rattle.std.specs.Prelude.{count_by, IfOk, OnOk, vec_len, vec_capacity};
 ghost use Rattle.std.specs.List.{position_or_len, prefix_len};
-ghost use Rattle.ss_report.specs.Pictures.{line_end, field, field_text, parts_text, is_field, line_parts, picture_parts};
+ghost use Rattle.ss_report.specs.Pictures.{line_end, field, field_text, parts_text, is_field, line_parts};
+ghost use Rattle.ss_report.specs.Pictures.{picture_parts};
 ghost use Rattle.ss_report.specs.Pieces.{is_field_piece, parts_len, parts_of, piece_parts};
 
 use crate::append::{append, append_times};

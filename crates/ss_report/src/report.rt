@@ -1,4 +1,5 @@
-ghost use Rattle.std.specs.Prelude.{◌≡◌, ◌+◌, ◌<◌, ◌≤◌, ◌↔◌, ◌⊎◌, ◌++◌, [], length, take, replicate, OnOk, OnErr, IfErr, vec_len, vec_capacity};
+ghost use Rattle.std.specs.Prelude.{◌≡◌, ◌+◌, ◌<◌, ◌≤◌, ◌↔◌, ◌⊎◌, ◌++◌, [], length, take, replicate, OnOk, OnErr};
+ghost use Rattle.std.specs.Prelude.{IfErr, vec_len, vec_capacity};
 ghost use Rattle.ss_report.specs.Pictures.{field_count, picture_text};
 ghost use Rattle.ss_report.specs.Reports.{report_limit};
 
@@ -62,7 +63,7 @@ impl Report {
         self.bytes.truncate(len);
     }
 
-    /// Appends the text of a picture with these values, one a field (docs/LANGUAGE.md, "PRINT").
+    /// Appends a picture with these values, one a field (docs/LANGUAGE.md, "PRINT and SKIP").
     ///
     /// `ReportFull` (F19) where the report would have more than 16,777,216 bytes, `Memory` where
     /// the room was refused. Either leaves the report as it was.
@@ -80,7 +81,7 @@ impl Report {
         Ok(())
     }
 
-    /// Appends so many line feeds (docs/LANGUAGE.md, "SKIP").
+    /// Appends so many line feeds (docs/LANGUAGE.md, "PRINT and SKIP").
     ///
     /// `ReportFull` (F19) where the report would have more than 16,777,216 bytes, `Memory` where
     /// the room was refused. Either leaves the report as it was.

@@ -1,4 +1,5 @@
 pub mod Laws
+pub mod Unfoldings
 pub mod Local
 pub mod Loop
 pub mod Marks

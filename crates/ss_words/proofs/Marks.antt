@@ -1,5 +1,6 @@
 -- What the readings of one word keep, for all words at once.
-use Rattle.std.proofs.Common.{◌≡◌, ◌≢◌, ℕ, ◌≤◌, ◌<◌, Bool, true, false, List, [], ◌∷◌, ◌++◌, length, Option, Some, None, Ok, refl, sym, ap, arith}
+use Rattle.std.proofs.Common.{◌≡◌, ◌≢◌, ℕ, ◌≤◌, ◌<◌, Bool, true, false, List, [], ◌∷◌, ◌++◌, length, Option, Some, None}
+use Rattle.std.proofs.Common.{Ok, refl, sym, ap, arith}
 use denote.Enum.Bare.{same_true, true_same, false_same}
 use Rattle.ss_words.specs.contracts.reserved.Reserved.{the_type as reserved_type}
 use Rattle.ss_words.specs.contracts.word.Sign.{the_type as sign_type}
@@ -8,9 +9,11 @@ use Rattle.ss_words.specs.declared.mark.Mark.TheVariants as m
 use Rattle.ss_words.specs.declared.refusal.Refusal.TheVariants.{Unexpected}
 use Rattle.ss_words.specs.Plain.{Plain, name, number, mark, picture, first}
 use Rattle.ss_words.specs.Reading.{Reading, look, skip, pure, refuse, bind}
-use Rattle.ss_words.specs.Marks.{same_mark, is, expect, eat, name_by, a_name, number_by, a_number, picture_by, a_picture}
+use Rattle.ss_words.specs.Marks.{same_mark, is, expect, eat, name_by, a_name, number_by, a_number, picture_by}
+use Rattle.ss_words.specs.Marks.{a_picture}
 use Rattle.ss_words.proofs.Laws.{Good, GoodAt, Any, pure_good, refuse_good, look_good, skip_good, good_at}
-use Rattle.ss_words.proofs.Local.{Rooms, Local, LocalAt, anywhere, pure_local, refuse_local, look_local, skip_local, test_local}
+use Rattle.ss_words.proofs.Local.{Rooms, Local, LocalAt, anywhere, pure_local, refuse_local, look_local, skip_local}
+use Rattle.ss_words.proofs.Local.{test_local}
 
 pub is_same : (k : Mark) → is k (Some (mark k)) ≡ true
 is_same (m.Sign a) = true_same sign_type a a refl
@@ -37,13 +40,16 @@ is_mark k (picture ls) e = absurd cc
 abbrev pub spell_mark : Mark → Unit {0} → List Plain
 spell_mark k u = mark k ∷ []
 
-at_mark : {A : Type 0} (fits : A → Type 0) (sp : A → List Plain) (pre : List Plain) (k : Mark) (w : Option Plain) (p : Reading A) → is k w ≡ true → Good fits sp (pre ++ mark k ∷ []) p → GoodAt fits sp pre w (skip p)
+at_mark : {A : Type 0} (fits : A → Type 0) (sp : A → List Plain) (pre : List Plain) (k : Mark) (w : Option Plain)
+    (p : Reading A) → is k w ≡ true → Good fits sp (pre ++ mark k ∷ []) p → GoodAt fits sp pre w (skip p)
 at_mark fits sp pre k None p e good = absurd cc
 at_mark fits sp pre k (Some w) p e good = rw (is_mark k w e) (skip_good fits sp pre (mark k) p good)
 
-expect_at : (k : Mark) (w : Option Plain) (b : Bool) → is k w ≡ b → GoodAt Any (spell_mark k) [] w (elim b [ true ↦ skip (pure tt) | false ↦ refuse Unexpected ])
+expect_at : (k : Mark) (w : Option Plain) (b : Bool) → is k w ≡ b
+    → GoodAt Any (spell_mark k) [] w (elim b [ true ↦ skip (pure tt) | false ↦ refuse Unexpected ])
 expect_at k w true e = at_mark Any (spell_mark k) [] k w (pure tt) e (pure_good Any (spell_mark k) _ tt tt refl)
-expect_at k w false e = good_at Any (spell_mark k) [] w _ (refuse_good Any (spell_mark k) [] Unexpected tt tt (mark k ∷ []) refl)
+expect_at k w false e =
+    good_at Any (spell_mark k) [] w _ (refuse_good Any (spell_mark k) [] Unexpected tt tt (mark k ∷ []) refl)
 
 pub expect_good : (k : Mark) → Good Any (spell_mark k) [] (expect k)
 unfolding expect
@@ -53,7 +59,8 @@ abbrev pub spell_eaten : Mark → Bool → List Plain
 spell_eaten k true = mark k ∷ []
 spell_eaten k false = []
 
-eat_at : (k : Mark) (w : Option Plain) (b : Bool) → is k w ≡ b → GoodAt Any (spell_eaten k) [] w (elim b [ true ↦ skip (pure true) | false ↦ pure false ])
+eat_at : (k : Mark) (w : Option Plain) (b : Bool) → is k w ≡ b
+    → GoodAt Any (spell_eaten k) [] w (elim b [ true ↦ skip (pure true) | false ↦ pure false ])
 eat_at k w true e = at_mark Any (spell_eaten k) [] k w (pure true) e (pure_good Any (spell_eaten k) _ true tt refl)
 eat_at k w false e = good_at Any (spell_eaten k) [] w _ (pure_good Any (spell_eaten k) [] false tt refl)
 
@@ -71,15 +78,20 @@ eat_local rooms k = test_local rooms (is k) _ _ _ _ refl (pure_local rooms true)
 
 pub expect_read_back : (k : Mark) (y : List Plain) → expect k (mark k ∷ y) ≡ (Ok tt, y)
 unfolding expect look skip pure refuse
-expect_read_back k y = ap (λ (b : Bool). let p : Reading (Unit {0}) = elim b [ true ↦ skip (pure tt) | false ↦ refuse Unexpected ] in p (mark k ∷ y)) (is_same k)
+expect_read_back k y =
+    ap (λ (b : Bool). let p : Reading (Unit {0}) = elim b [ true ↦ skip (pure tt) | false ↦ refuse Unexpected ] in
+    p (mark k ∷ y)) (is_same k)
 
 pub eat_read_back : (k : Mark) (y : List Plain) → eat k (mark k ∷ y) ≡ (Ok true, y)
 unfolding eat look skip pure
-eat_read_back k y = ap (λ (b : Bool). let p : Reading Bool = elim b [ true ↦ skip (pure true) | false ↦ pure false ] in p (mark k ∷ y)) (is_same k)
+eat_read_back k y =
+    ap (λ (b : Bool). let p : Reading Bool = elim b [ true ↦ skip (pure true) | false ↦ pure false ] in p (mark k ∷ y))
+    (is_same k)
 
 pub not_eaten : (k : Mark) (y : List Plain) → is k (first y) ≡ false → eat k y ≡ (Ok false, y)
 unfolding eat look skip pure
-not_eaten k y e = ap (λ (b : Bool). let p : Reading Bool = elim b [ true ↦ skip (pure true) | false ↦ pure false ] in p y) e
+not_eaten k y e =
+    ap (λ (b : Bool). let p : Reading Bool = elim b [ true ↦ skip (pure true) | false ↦ pure false ] in p y) e
 
 -- ---- names, numbers, pictures
 
@@ -133,8 +145,10 @@ abbrev pub spell_picture : List (List ℕ) → List Plain
 spell_picture ls = picture ls ∷ []
 
 picture_at : (w : Option Plain) → GoodAt Any spell_picture [] w (picture_by w)
-picture_at (Some (picture ls)) = skip_good Any spell_picture [] (picture ls) (pure ls) (pure_good Any spell_picture _ ls tt refl)
-picture_at _ = good_at Any spell_picture [] _ _ (refuse_good Any spell_picture [] Unexpected [] tt (picture [] ∷ []) refl)
+picture_at (Some (picture ls)) =
+    skip_good Any spell_picture [] (picture ls) (pure ls) (pure_good Any spell_picture _ ls tt refl)
+picture_at _ =
+    good_at Any spell_picture [] _ _ (refuse_good Any spell_picture [] Unexpected [] tt (picture [] ∷ []) refl)
 
 pub picture_good : Good Any spell_picture [] a_picture
 unfolding a_picture
@@ -154,7 +168,9 @@ picture_read_back ls y = refl
 
 -- ---- passing a mark takes a word
 
-pub expect_shorter : {A : Type 0} (k : Mark) (f : Unit {0} → Reading A) → ((ws : List Plain) → length (f tt ws).1 ≤ length ws) → (ws : List Plain) → length (bind (expect k) f (mark k ∷ ws)).1 ≤ length ws
+pub expect_shorter : {A : Type 0} (k : Mark) (f : Unit {0} → Reading A)
+    → ((ws : List Plain) → length (f tt ws).1 ≤ length ws) → (ws : List Plain)
+    → length (bind (expect k) f (mark k ∷ ws)).1 ≤ length ws
 unfolding bind
 expect_shorter k f h ws = rw (expect_read_back k ws) (h ws)
 

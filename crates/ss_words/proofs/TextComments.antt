@@ -1,5 +1,6 @@
 -- Comments, and what the rest of a line behind a call of a picture holds.
-use Rattle.std.proofs.Common.{◌≡◌, ℕ, suc, ◌+◌, ◌<◌, ◌≤◌, Bool, true, false, ◌==◌, ◌&&◌, ◌||◌, not, nat_le, List, [], ◌∷◌, ◌++◌, take, drop, length, get_or, Some, refl, sym, ap, ◌∙◌, subst, arith, inl, inr}
+use Rattle.std.proofs.Common.{◌≡◌, ℕ, suc, ◌+◌, ◌<◌, ◌≤◌, Bool, true, false, ◌==◌, ◌&&◌, ◌||◌, not, nat_le, List, []}
+use Rattle.std.proofs.Common.{◌∷◌, ◌++◌, take, drop, length, get_or, Some, refl, sym, ap, ◌∙◌, subst, arith, inl, inr}
 use Rattle.std.specs.Prelude.{slice_index, is_some}
 use Rattle.std.specs.List.{take_while, list_all}
 use Rattle.std.proofs.lemmas.List.{drop_more}
@@ -32,7 +33,8 @@ hidden_len-cons b [] h = refl
 hidden_len-cons b (c ∷ bs) h = ap (λ (t : Bool). elim t [ true ↦ 2 | false ↦ suc (hidden_len (c ∷ bs)) ]) h
 
 -- a byte that ends no comment
-pub hidden_len-more : (line : List ℕ) (i : ℕ) → i < length line → begins_comment (drop i line) ≡ false → hidden_len (drop i line) ≡ suc (hidden_len (drop (i + 1) line))
+pub hidden_len-more : (line : List ℕ) (i : ℕ) → i < length line → begins_comment (drop i line) ≡ false
+    → hidden_len (drop i line) ≡ suc (hidden_len (drop (i + 1) line))
 hidden_len-more line i within h =
     let e = drop_more line i 0 within in
     ap hidden_len e ∙ hidden_len-cons (get_or line i 0) (drop (i + 1) line) (ap begins_comment (sym e) ∙ h)
@@ -46,59 +48,94 @@ hidden_len-end (b ∷ c ∷ bs) h = ap (λ (t : Bool). elim t [ true ↦ 2 | fal
 
 -- a line of number n with so many lines below it
 module _ (n below : ℕ) where
-  hidden_at : (before : List Kind) (b : ℕ) (bs ps : List ℕ) → found_at n below before 32 (b ∷ bs) (32 ∷ ps) ≡ broken StrayByte n (not (is_allowed b))
+  hidden_at : (before : List Kind) (b : ℕ) (bs ps : List ℕ)
+      → found_at n below before 32 (b ∷ bs) (32 ∷ ps) ≡ broken StrayByte n (not (is_allowed b))
   unfolding found_at begun_at is_stray is_joined is_blank in_run one_byte_sign sign_from
-  hidden_at before b bs ps = elim (is_allowed b) as (λ t. broken StrayByte n (not (t && true)) ++ [] ≡ broken StrayByte n (not t)) [ true ↦ refl | false ↦ refl ]
+  hidden_at before b bs ps =
+      elim (is_allowed b) as (λ t. broken StrayByte n (not (t && true)) ++ [] ≡ broken StrayByte n (not t))
+      [ true ↦ refl | false ↦ refl ]
 
   -- an allowed byte of a comment gives nothing
-  hidden_on : (before : List Kind) (b : ℕ) (bs ps : List ℕ) → is_allowed b ≡ true → found_from_place n below before 32 (b ∷ bs) (32 ∷ ps) ≡ found_from_place n below before 32 bs ps
-  hidden_on before b bs ps allowed = from-here n below before 32 b bs 32 ps [] (hidden_at before b bs ps ∙ ap (λ (t : Bool). broken StrayByte n (not t)) allowed)
+  hidden_on : (before : List Kind) (b : ℕ) (bs ps : List ℕ) → is_allowed b ≡ true
+      → found_from_place n below before 32 (b ∷ bs) (32 ∷ ps) ≡ found_from_place n below before 32 bs ps
+  hidden_on before b bs ps allowed =
+      from-here n below before 32 b bs 32 ps []
+      (hidden_at before b bs ps ∙ ap (λ (t : Bool). broken StrayByte n (not t)) allowed)
 
-  hidden_stray : (before : List Kind) (b : ℕ) (bs ps : List ℕ) → is_allowed b ≡ false → first_breach (found_from_place n below before 32 (b ∷ bs) (32 ∷ ps)) ≡ Some (Refused StrayByte n)
+  hidden_stray : (before : List Kind) (b : ℕ) (bs ps : List ℕ) → is_allowed b ≡ false
+      → first_breach (found_from_place n below before 32 (b ∷ bs) (32 ∷ ps)) ≡ Some (Refused StrayByte n)
   unfolding is_stray
-  hidden_stray before b bs ps stray = place-stray n below before 32 b bs 32 ps (ap (λ (t : Bool). not (t && (in_run 32 || is_blank 32 || is_some (one_byte_sign 32)))) stray)
+  hidden_stray before b bs ps stray =
+      place-stray n below before 32 b bs 32 ps
+      (ap (λ (t : Bool). not (t && (in_run 32 || is_blank 32 || is_some (one_byte_sign 32)))) stray)
 
   -- the bytes of a comment give nothing where each is allowed
-  hidden-pass : (before : List Kind) (bs : List ℕ) → list_all is_allowed (take (hidden_len bs) bs) ≡ true → found_from_place n below before 32 bs (blanked true bs) ≡ found_in_line n below before (drop (hidden_len bs) bs)
+  hidden-pass : (before : List Kind) (bs : List ℕ) → list_all is_allowed (take (hidden_len bs) bs) ≡ true
+      → found_from_place n below before 32 bs (blanked true bs) ≡ found_in_line n below before (drop (hidden_len bs) bs)
   unfolding hidden_len blanked found_from_place
   hidden-pass before [] all = refl
   hidden-pass before (b ∷ []) all = hidden_on before b [] [] (and-left (is_allowed b) true all)
-  hidden-pass before (b ∷ c ∷ bs) all = elim (b == 39 && c == 39) as (λ t. list_all is_allowed (take (elim t [ true ↦ 2 | false ↦ suc (hidden_len (c ∷ bs)) ]) (b ∷ c ∷ bs)) ≡ true
-      → found_from_place n below before 32 (b ∷ c ∷ bs) (elim t [ true ↦ 32 ∷ 32 ∷ blanked false bs | false ↦ 32 ∷ blanked true (c ∷ bs) ]) ≡ found_in_line n below before (drop (elim t [ true ↦ 2 | false ↦ suc (hidden_len (c ∷ bs)) ]) (b ∷ c ∷ bs))) [
-        | true ↦ λ two. hidden_on before b (c ∷ bs) (32 ∷ blanked false bs) (and-left (is_allowed b) (is_allowed c && true) two) ∙ hidden_on before c bs (blanked false bs) (and-left (is_allowed c) true (and-right (is_allowed b) (is_allowed c && true) two))
-        | false ↦ λ more. hidden_on before b (c ∷ bs) (blanked true (c ∷ bs)) (and-left (is_allowed b) _ more) ∙ hidden-pass before (c ∷ bs) (and-right (is_allowed b) _ more)
+  hidden-pass before (b ∷ c ∷ bs) all =
+      elim (b == 39 && c == 39) as (λ t. list_all is_allowed
+      (take (elim t [ true ↦ 2 | false ↦ suc (hidden_len (c ∷ bs)) ]) (b ∷ c ∷ bs)) ≡ true
+      → found_from_place n below before 32 (b ∷ c ∷ bs)
+      (elim t [ true ↦ 32 ∷ 32 ∷ blanked false bs | false ↦ 32 ∷ blanked true (c ∷ bs) ])
+      ≡ found_in_line n below before (drop (elim t [ true ↦ 2 | false ↦ suc (hidden_len (c ∷ bs)) ]) (b ∷ c ∷ bs))) [
+        | true ↦ λ two. hidden_on before b (c ∷ bs) (32 ∷ blanked false bs)
+            (and-left (is_allowed b) (is_allowed c && true) two)
+            ∙ hidden_on before c bs (blanked false bs)
+            (and-left (is_allowed c) true (and-right (is_allowed b) (is_allowed c && true) two))
+        | false ↦ λ more. hidden_on before b (c ∷ bs) (blanked true (c ∷ bs)) (and-left (is_allowed b) _ more)
+            ∙ hidden-pass before (c ∷ bs) (and-right (is_allowed b) _ more)
       ] all
 
-  stray_or_later : (before : List Kind) (b : ℕ) (bs ps : List ℕ) (rest : Bool) → (is_allowed b && rest) ≡ false → (rest ≡ false → first_breach (found_from_place n below before 32 bs ps) ≡ Some (Refused StrayByte n))
+  stray_or_later : (before : List Kind) (b : ℕ) (bs ps : List ℕ) (rest : Bool) → (is_allowed b && rest) ≡ false
+      → (rest ≡ false → first_breach (found_from_place n below before 32 bs ps) ≡ Some (Refused StrayByte n))
       → first_breach (found_from_place n below before 32 (b ∷ bs) (32 ∷ ps)) ≡ Some (Refused StrayByte n)
-  stray_or_later before b bs ps rest some later = elim (is_allowed b) as (λ t. is_allowed b ≡ t → (t && rest) ≡ false → first_breach (found_from_place n below before 32 (b ∷ bs) (32 ∷ ps)) ≡ Some (Refused StrayByte n)) [
-    | true ↦ λ allowed behind. ap first_breach (hidden_on before b bs ps allowed) ∙ later behind
-    | false ↦ λ stray here. hidden_stray before b bs ps stray
-  ] refl some
+  stray_or_later before b bs ps rest some later =
+      elim (is_allowed b) as (λ t. is_allowed b ≡ t → (t && rest) ≡ false
+      → first_breach (found_from_place n below before 32 (b ∷ bs) (32 ∷ ps)) ≡ Some (Refused StrayByte n)) [
+        | true ↦ λ allowed behind. ap first_breach (hidden_on before b bs ps allowed) ∙ later behind
+        | false ↦ λ stray here. hidden_stray before b bs ps stray
+      ] refl some
 
   -- a byte of a comment that is not allowed is the first breach
-  hidden-first : (before : List Kind) (bs : List ℕ) → list_all is_allowed (take (hidden_len bs) bs) ≡ false → first_breach (found_from_place n below before 32 bs (blanked true bs)) ≡ Some (Refused StrayByte n)
+  hidden-first : (before : List Kind) (bs : List ℕ) → list_all is_allowed (take (hidden_len bs) bs) ≡ false
+      → first_breach (found_from_place n below before 32 bs (blanked true bs)) ≡ Some (Refused StrayByte n)
   unfolding hidden_len blanked
   hidden-first before [] some = absurd cc
   hidden-first before (b ∷ []) some = stray_or_later before b [] [] true some (λ never. absurd cc)
-  hidden-first before (b ∷ c ∷ bs) some = elim (b == 39 && c == 39) as (λ t. list_all is_allowed (take (elim t [ true ↦ 2 | false ↦ suc (hidden_len (c ∷ bs)) ]) (b ∷ c ∷ bs)) ≡ false
-      → first_breach (found_from_place n below before 32 (b ∷ c ∷ bs) (elim t [ true ↦ 32 ∷ 32 ∷ blanked false bs | false ↦ 32 ∷ blanked true (c ∷ bs) ])) ≡ Some (Refused StrayByte n)) [
-        | true ↦ λ two. stray_or_later before b (c ∷ bs) (32 ∷ blanked false bs) (is_allowed c && true) two (λ second. stray_or_later before c bs (blanked false bs) true second (λ never. absurd cc))
-        | false ↦ λ more. stray_or_later before b (c ∷ bs) (blanked true (c ∷ bs)) (list_all is_allowed (take (hidden_len (c ∷ bs)) (c ∷ bs))) more (λ later. hidden-first before (c ∷ bs) later)
+  hidden-first before (b ∷ c ∷ bs) some =
+      elim (b == 39 && c == 39) as (λ t. list_all is_allowed
+      (take (elim t [ true ↦ 2 | false ↦ suc (hidden_len (c ∷ bs)) ]) (b ∷ c ∷ bs)) ≡ false
+      → first_breach (found_from_place n below before 32 (b ∷ c ∷ bs)
+      (elim t [ true ↦ 32 ∷ 32 ∷ blanked false bs | false ↦ 32 ∷ blanked true (c ∷ bs) ]))
+      ≡ Some (Refused StrayByte n)) [
+        | true ↦ λ two. stray_or_later before b (c ∷ bs) (32 ∷ blanked false bs) (is_allowed c && true) two
+            (λ second. stray_or_later before c bs (blanked false bs) true second (λ never. absurd cc))
+        | false ↦ λ more. stray_or_later before b (c ∷ bs) (blanked true (c ∷ bs))
+            (list_all is_allowed (take (hidden_len (c ∷ bs)) (c ∷ bs))) more
+            (λ later. hidden-first before (c ∷ bs) later)
       ] some
 
-  opened : (before : List Kind) (bs : List ℕ) → found_in_line n below before (39 ∷ 39 ∷ bs) ≡ found_from_place n below before 32 bs (blanked true bs)
-  unfolding found_from_place found_at begun_at is_stray is_joined is_allowed is_blank in_run one_byte_sign sign_from blanked
+  opened : (before : List Kind) (bs : List ℕ)
+      → found_in_line n below before (39 ∷ 39 ∷ bs) ≡ found_from_place n below before 32 bs (blanked true bs)
+  unfolding found_from_place found_at begun_at is_stray is_joined is_allowed is_blank in_run one_byte_sign sign_from
+      blanked
   opened before bs = refl
 
-  comment-pass : (before : List Kind) (bs : List ℕ) (len : ℕ) → len ≡ suc (suc (hidden_len bs)) → list_all is_allowed (take len (39 ∷ 39 ∷ bs)) ≡ true → found_in_line n below before (39 ∷ 39 ∷ bs) ≡ found_in_line n below before (drop len (39 ∷ 39 ∷ bs))
+  comment-pass : (before : List Kind) (bs : List ℕ) (len : ℕ) → len ≡ suc (suc (hidden_len bs))
+      → list_all is_allowed (take len (39 ∷ 39 ∷ bs)) ≡ true
+      → found_in_line n below before (39 ∷ 39 ∷ bs) ≡ found_in_line n below before (drop len (39 ∷ 39 ∷ bs))
   unfolding is_allowed
   comment-pass before bs len size all =
       opened before bs
       ∙ hidden-pass before bs (ap (λ (k : ℕ). list_all is_allowed (take k (39 ∷ 39 ∷ bs))) (sym size) ∙ all)
       ∙ ap (λ (k : ℕ). found_in_line n below before (drop k (39 ∷ 39 ∷ bs))) (sym size)
 
-  comment-first : (before : List Kind) (bs : List ℕ) (len : ℕ) → len ≡ suc (suc (hidden_len bs)) → list_all is_allowed (take len (39 ∷ 39 ∷ bs)) ≡ false → first_breach (found_in_line n below before (39 ∷ 39 ∷ bs)) ≡ Some (Refused StrayByte n)
+  comment-first : (before : List Kind) (bs : List ℕ) (len : ℕ) → len ≡ suc (suc (hidden_len bs))
+      → list_all is_allowed (take len (39 ∷ 39 ∷ bs)) ≡ false
+      → first_breach (found_in_line n below before (39 ∷ 39 ∷ bs)) ≡ Some (Refused StrayByte n)
   unfolding is_allowed
   comment-first before bs len size some =
       ap first_breach (opened before bs)
@@ -109,23 +146,35 @@ quotes : (line : List ℕ) → begins_comment line ≡ true → (bs : List ℕ) 
 unfolding begins_comment
 quotes [] h = absurd cc
 quotes (b ∷ []) h = absurd cc
-quotes (b ∷ c ∷ bs) h = (bs, ap (λ (x : ℕ). x ∷ c ∷ bs) (eqb-same b 39 (and-left _ _ h)) ∙ ap (λ (x : ℕ). 39 ∷ x ∷ bs) (eqb-same c 39 (and-right (b == 39) _ h)))
+quotes (b ∷ c ∷ bs) h = (
+  bs,
+  ap (λ (x : ℕ). x ∷ c ∷ bs) (eqb-same b 39 (and-left _ _ h))
+      ∙ ap (λ (x : ℕ). 39 ∷ x ∷ bs) (eqb-same c 39 (and-right (b == 39) _ h)),
+)
 
 two_more : (len k : ℕ) → len ≡ 2 + k → len ≡ suc (suc k)
 two_more len k e = omega arith
 
 -- a comment whose bytes are allowed gives nothing
-pub found-comment : (n below : ℕ) (before : List Kind) (line : List ℕ) (len : ℕ) → begins_comment line ≡ true → len ≡ 2 + hidden_len (drop 2 line) → list_all is_allowed (take len line) ≡ true → found_in_line n below before line ≡ found_in_line n below before (drop len line)
+pub found-comment : (n below : ℕ) (before : List Kind) (line : List ℕ) (len : ℕ) → begins_comment line ≡ true
+    → len ≡ 2 + hidden_len (drop 2 line) → list_all is_allowed (take len line) ≡ true
+    → found_in_line n below before line ≡ found_in_line n below before (drop len line)
 found-comment n below before line len begins size all =
     let q = quotes line begins in
-    let P : List ℕ → Type 0 = λ l. len ≡ 2 + hidden_len (drop 2 l) → list_all is_allowed (take len l) ≡ true → found_in_line n below before l ≡ found_in_line n below before (drop len l) in
+    let P : List ℕ → Type 0 =
+    λ l. len ≡ 2 + hidden_len (drop 2 l) → list_all is_allowed (take len l) ≡ true
+    → found_in_line n below before l ≡ found_in_line n below before (drop len l) in
     subst P (sym q.1) (λ s a. comment-pass n below before q.0 len (two_more len (hidden_len q.0) s) a) size all
 
 -- a byte of a comment that is not allowed is the first breach
-pub first-comment : (n below : ℕ) (before : List Kind) (line : List ℕ) (len : ℕ) → begins_comment line ≡ true → len ≡ 2 + hidden_len (drop 2 line) → list_all is_allowed (take len line) ≡ false → first_breach (found_in_line n below before line) ≡ Some (Refused StrayByte n)
+pub first-comment : (n below : ℕ) (before : List Kind) (line : List ℕ) (len : ℕ) → begins_comment line ≡ true
+    → len ≡ 2 + hidden_len (drop 2 line) → list_all is_allowed (take len line) ≡ false
+    → first_breach (found_in_line n below before line) ≡ Some (Refused StrayByte n)
 first-comment n below before line len begins size some =
     let q = quotes line begins in
-    let P : List ℕ → Type 0 = λ l. len ≡ 2 + hidden_len (drop 2 l) → list_all is_allowed (take len l) ≡ false → first_breach (found_in_line n below before l) ≡ Some (Refused StrayByte n) in
+    let P : List ℕ → Type 0 =
+    λ l. len ≡ 2 + hidden_len (drop 2 l) → list_all is_allowed (take len l) ≡ false
+    → first_breach (found_in_line n below before l) ≡ Some (Refused StrayByte n) in
     subst P (sym q.1) (λ s a. comment-first n below before q.0 len (two_more len (hidden_len q.0) s) a) size some
 
 -- what a line has left behind the blanks at its front
@@ -151,14 +200,17 @@ unfolding is_blank
 is_blank-none = refl
 
 no_quote : (b : ℕ) → is_blank b ≡ true → (b == 39) ≡ false
-no_quote b h = elim (is_blank-cases b h) [ inl same ↦ ap (λ (x : ℕ). x == 39) same | inr same ↦ ap (λ (x : ℕ). x == 39) same ]
+no_quote b h =
+    elim (is_blank-cases b h) [ inl same ↦ ap (λ (x : ℕ). x == 39) same | inr same ↦ ap (λ (x : ℕ). x == 39) same ]
 
 comments-plain : (b : ℕ) (bs : List ℕ) → begins_comment (b ∷ bs) ≡ false → comments false (b ∷ bs) ≡ comments false bs
 unfolding comments begins_comment
 comments-plain b [] h = refl
-comments-plain b (c ∷ bs) h = ap (λ (t : Bool). elim t [ true ↦ 1 + comments true bs | false ↦ comments false (c ∷ bs) ]) h
+comments-plain b (c ∷ bs) h =
+    ap (λ (t : Bool). elim t [ true ↦ 1 + comments true bs | false ↦ comments false (c ∷ bs) ]) h
 
-comments-begun : (b c : ℕ) (bs : List ℕ) → begins_comment (b ∷ c ∷ bs) ≡ true → comments false (b ∷ c ∷ bs) ≡ 1 + comments true bs
+comments-begun : (b c : ℕ) (bs : List ℕ) → begins_comment (b ∷ c ∷ bs) ≡ true
+    → comments false (b ∷ c ∷ bs) ≡ 1 + comments true bs
 unfolding comments begins_comment
 comments-begun b c bs h = ap (λ (t : Bool). elim t [ true ↦ 1 + comments true bs | false ↦ comments false (c ∷ bs) ]) h
 
@@ -171,7 +223,8 @@ zero_add k = omega arith
 
 is_bare-holds : (rest : List ℕ) → is_bare rest ≡ holds_only 0 rest
 unfolding is_bare
-is_bare-holds rest = ap (λ (k : ℕ). list_all is_blank (blanked false rest) && nat_le k 1) (sym (zero_add (comments false rest)))
+is_bare-holds rest =
+    ap (λ (k : ℕ). list_all is_blank (blanked false rest) && nat_le k 1) (sym (zero_add (comments false rest)))
 
 holds_only-blank : (k b : ℕ) (bs : List ℕ) → is_blank b ≡ true → holds_only k (b ∷ bs) ≡ holds_only k bs
 holds_only-blank k b bs h =
@@ -180,7 +233,8 @@ holds_only-blank k b bs h =
     ∙ ap (λ (t : Bool). (t && list_all is_blank (blanked false bs)) && nat_le (k + comments false (b ∷ bs)) 1) h
     ∙ ap (λ (m : ℕ). list_all is_blank (blanked false bs) && nat_le (k + m) 1) (comments-plain b bs plain)
 
-holds_only-other : (k b : ℕ) (bs : List ℕ) → is_blank b ≡ false → begins_comment (b ∷ bs) ≡ false → holds_only k (b ∷ bs) ≡ false
+holds_only-other : (k b : ℕ) (bs : List ℕ) → is_blank b ≡ false → begins_comment (b ∷ bs) ≡ false
+    → holds_only k (b ∷ bs) ≡ false
 holds_only-other k b bs h plain =
     ap (λ (l : List ℕ). list_all is_blank l && nat_le (k + comments false (b ∷ bs)) 1) (blanked-plain b bs plain)
     ∙ ap (λ (t : Bool). (t && list_all is_blank (blanked false bs)) && nat_le (k + comments false (b ∷ bs)) 1) h
@@ -196,18 +250,21 @@ holds_only-none_more = refl
 -- blanks at the front do not matter
 holds_only-blanks : (k : ℕ) (rest : List ℕ) → holds_only k rest ≡ holds_only k (behind_blanks rest)
 holds_only-blanks k [] = refl
-holds_only-blanks k (b ∷ bs) = elim (is_blank b) as (λ t. is_blank b ≡ t → holds_only k (b ∷ bs) ≡ holds_only k (behind_blanks (b ∷ bs))) [
-  | true ↦ λ h. holds_only-blank k b bs h ∙ holds_only-blanks k bs ∙ ap (holds_only k) (sym (behind_blanks-yes b bs h))
-  | false ↦ λ h. ap (holds_only k) (sym (behind_blanks-no b bs h))
-] refl
+holds_only-blanks k (b ∷ bs) =
+    elim (is_blank b) as (λ t. is_blank b ≡ t → holds_only k (b ∷ bs) ≡ holds_only k (behind_blanks (b ∷ bs))) [
+      | true ↦ λ h. holds_only-blank k b bs h ∙ holds_only-blanks k bs
+          ∙ ap (holds_only k) (sym (behind_blanks-yes b bs h))
+      | false ↦ λ h. ap (holds_only k) (sym (behind_blanks-no b bs h))
+    ] refl
 
 -- behind the blanks stands no blank
 behind_blanks-head : (rest : List ℕ) → is_blank (slice_index (behind_blanks rest) 0) ≡ false
 behind_blanks-head [] = is_blank-none
-behind_blanks-head (b ∷ bs) = elim (is_blank b) as (λ t. is_blank b ≡ t → is_blank (slice_index (behind_blanks (b ∷ bs)) 0) ≡ false) [
-  | true ↦ λ h. ap (λ (l : List ℕ). is_blank (slice_index l 0)) (behind_blanks-yes b bs h) ∙ behind_blanks-head bs
-  | false ↦ λ h. ap (λ (l : List ℕ). is_blank (slice_index l 0)) (behind_blanks-no b bs h) ∙ h
-] refl
+behind_blanks-head (b ∷ bs) =
+    elim (is_blank b) as (λ t. is_blank b ≡ t → is_blank (slice_index (behind_blanks (b ∷ bs)) 0) ≡ false) [
+      | true ↦ λ h. ap (λ (l : List ℕ). is_blank (slice_index l 0)) (behind_blanks-yes b bs h) ∙ behind_blanks-head bs
+      | false ↦ λ h. ap (λ (l : List ℕ). is_blank (slice_index l 0)) (behind_blanks-no b bs h) ∙ h
+    ] refl
 
 -- without a comment the rest behind the blanks is empty or the line is not bare
 some_length : (bs : List ℕ) → (suc (length bs) == 0) ≡ false
@@ -216,40 +273,52 @@ some_length bs = eqb-not (suc (length bs)) 0 (λ e. omega arith)
 no_length : (bs : List ℕ) → (0 == suc (length bs)) ≡ false
 no_length bs = eqb-not 0 (suc (length bs)) (λ e. omega arith)
 
-holds_only-plain : (rest : List ℕ) → is_blank (slice_index rest 0) ≡ false → begins_comment rest ≡ false → holds_only 0 rest ≡ (length rest == 0)
+holds_only-plain : (rest : List ℕ) → is_blank (slice_index rest 0) ≡ false → begins_comment rest ≡ false
+    → holds_only 0 rest ≡ (length rest == 0)
 holds_only-plain [] head plain = holds_only-none
 holds_only-plain (b ∷ bs) head plain = holds_only-other 0 b bs head plain ∙ sym (some_length bs)
 
-pub is_bare-plain : (rest behind : List ℕ) → behind ≡ behind_blanks rest → begins_comment behind ≡ false → is_bare rest ≡ (length behind == 0)
+pub is_bare-plain : (rest behind : List ℕ) → behind ≡ behind_blanks rest → begins_comment behind ≡ false
+    → is_bare rest ≡ (length behind == 0)
 is_bare-plain rest behind e plain =
-    is_bare-holds rest ∙ holds_only-blanks 0 rest ∙ ap (holds_only 0) (sym e) ∙ holds_only-plain behind (ap (λ (l : List ℕ). is_blank (slice_index l 0)) e ∙ behind_blanks-head rest) plain
+    is_bare-holds rest ∙ holds_only-blanks 0 rest ∙ ap (holds_only 0) (sym e)
+    ∙ holds_only-plain behind (ap (λ (l : List ℕ). is_blank (slice_index l 0)) e ∙ behind_blanks-head rest) plain
 
-hidden-blanked : (bs : List ℕ) → list_all is_blank (blanked true bs) ≡ list_all is_blank (blanked false (drop (hidden_len bs) bs))
+hidden-blanked : (bs : List ℕ)
+    → list_all is_blank (blanked true bs) ≡ list_all is_blank (blanked false (drop (hidden_len bs) bs))
 unfolding hidden_len blanked
 hidden-blanked [] = refl
 hidden-blanked (b ∷ []) = ap (λ (t : Bool). t && true) is_blank-blank
-hidden-blanked (b ∷ c ∷ bs) = elim (b == 39 && c == 39) as (λ t. list_all is_blank (elim t [ true ↦ 32 ∷ 32 ∷ blanked false bs | false ↦ 32 ∷ blanked true (c ∷ bs) ]) ≡ list_all is_blank (blanked false (drop (elim t [ true ↦ 2 | false ↦ suc (hidden_len (c ∷ bs)) ]) (b ∷ c ∷ bs)))) [
-  | true ↦ ap (λ (t : Bool). t && (t && list_all is_blank (blanked false bs))) is_blank-blank
-  | false ↦ ap (λ (t : Bool). t && list_all is_blank (blanked true (c ∷ bs))) is_blank-blank ∙ hidden-blanked (c ∷ bs)
-]
+hidden-blanked (b ∷ c ∷ bs) =
+    elim (b == 39 && c == 39) as (λ t. list_all is_blank
+    (elim t [ true ↦ 32 ∷ 32 ∷ blanked false bs | false ↦ 32 ∷ blanked true (c ∷ bs) ])
+    ≡ list_all is_blank (blanked false (drop (elim t [ true ↦ 2 | false ↦ suc (hidden_len (c ∷ bs)) ]) (b ∷ c ∷ bs)))) [
+      | true ↦ ap (λ (t : Bool). t && (t && list_all is_blank (blanked false bs))) is_blank-blank
+      | false ↦ ap (λ (t : Bool). t && list_all is_blank (blanked true (c ∷ bs))) is_blank-blank
+          ∙ hidden-blanked (c ∷ bs)
+    ]
 
 hidden-comments : (bs : List ℕ) → comments true bs ≡ comments false (drop (hidden_len bs) bs)
 unfolding hidden_len comments
 hidden-comments [] = refl
 hidden-comments (b ∷ []) = refl
-hidden-comments (b ∷ c ∷ bs) = elim (b == 39 && c == 39) as (λ t. (elim t [ true ↦ 0 + comments false bs | false ↦ comments true (c ∷ bs) ]) ≡ comments false (drop (elim t [ true ↦ 2 | false ↦ suc (hidden_len (c ∷ bs)) ]) (b ∷ c ∷ bs))) [
-  | true ↦ zero_add (comments false bs)
-  | false ↦ hidden-comments (c ∷ bs)
-]
+hidden-comments (b ∷ c ∷ bs) =
+    elim (b == 39 && c == 39) as (λ t. (elim t [ true ↦ 0 + comments false bs | false ↦ comments true (c ∷ bs) ])
+    ≡ comments false (drop (elim t [ true ↦ 2 | false ↦ suc (hidden_len (c ∷ bs)) ]) (b ∷ c ∷ bs))) [
+      | true ↦ zero_add (comments false bs)
+      | false ↦ hidden-comments (c ∷ bs)
+    ]
 
 -- a comment at the front counts, and what is behind it remains
 holds_only-comment : (bs : List ℕ) → holds_only 0 (39 ∷ 39 ∷ bs) ≡ holds_only 1 (drop (hidden_len bs) bs)
 unfolding blanked comments
 holds_only-comment bs =
-    ap (λ (t : Bool). (t && (t && list_all is_blank (blanked true bs))) && nat_le (0 + (1 + comments true bs)) 1) is_blank-blank
+    ap (λ (t : Bool). (t && (t && list_all is_blank (blanked true bs))) && nat_le (0 + (1 + comments true bs)) 1)
+    is_blank-blank
     ∙ ap (λ (m : ℕ). list_all is_blank (blanked true bs) && nat_le m 1) (zero_add (1 + comments true bs))
     ∙ ap (λ (t : Bool). t && nat_le (1 + comments true bs) 1) (hidden-blanked bs)
-    ∙ ap (λ (m : ℕ). list_all is_blank (blanked false (drop (hidden_len bs) bs)) && nat_le (1 + m) 1) (hidden-comments bs)
+    ∙ ap (λ (m : ℕ). list_all is_blank (blanked false (drop (hidden_len bs) bs)) && nat_le (1 + m) 1)
+    (hidden-comments bs)
 
 too_many : (k : ℕ) → nat_le (1 + (1 + k)) 1 ≡ false
 too_many k = grind (arith, nat_tests)
@@ -273,17 +342,28 @@ same_more a b = grind (arith, nat_tests)
 -- behind one comment only blanks may stand
 holds_only-last : (rest : List ℕ) → holds_only 1 rest ≡ (length (take_while is_blank rest) == length rest)
 holds_only-last [] = holds_only-none_more
-holds_only-last (b ∷ bs) = elim (is_blank b) as (λ t. is_blank b ≡ t → holds_only 1 (b ∷ bs) ≡ (length (take_while is_blank (b ∷ bs)) == length (b ∷ bs))) [
-  | true ↦ λ h. holds_only-blank 1 b bs h ∙ holds_only-last bs ∙ same_more _ _ ∙ ap (λ (l : List ℕ). length l == length (b ∷ bs)) (sym (take_while-yes is_blank b bs h))
-  | false ↦ λ h. (elim (begins_comment (b ∷ bs)) as (λ t. begins_comment (b ∷ bs) ≡ t → holds_only 1 (b ∷ bs) ≡ false) [
-    | true ↦ λ second. holds_only-second (b ∷ bs) second
-    | false ↦ λ plain. holds_only-other 1 b bs h plain
-  ] refl) ∙ sym (no_length bs) ∙ ap (λ (l : List ℕ). length l == length (b ∷ bs)) (sym (take_while-no is_blank b bs h))
-] refl
+holds_only-last (b ∷ bs) =
+    elim (is_blank b) as (λ t. is_blank b ≡ t
+    → holds_only 1 (b ∷ bs) ≡ (length (take_while is_blank (b ∷ bs)) == length (b ∷ bs))) [
+      | true ↦ λ h. holds_only-blank 1 b bs h ∙ holds_only-last bs ∙ same_more _ _
+          ∙ ap (λ (l : List ℕ). length l == length (b ∷ bs)) (sym (take_while-yes is_blank b bs h))
+      | false ↦ λ h. (elim (begins_comment (b ∷ bs))
+          as (λ t. begins_comment (b ∷ bs) ≡ t → holds_only 1 (b ∷ bs) ≡ false) [
+            | true ↦ λ second. holds_only-second (b ∷ bs) second
+            | false ↦ λ plain. holds_only-other 1 b bs h plain
+          ] refl) ∙ sym (no_length bs)
+          ∙ ap (λ (l : List ℕ). length l == length (b ∷ bs)) (sym (take_while-no is_blank b bs h))
+    ] refl
 
-pub is_bare-comment : (rest behind : List ℕ) (len : ℕ) (last : List ℕ) → behind ≡ behind_blanks rest → begins_comment behind ≡ true → len ≡ 2 + hidden_len (drop 2 behind) → last ≡ drop len behind → is_bare rest ≡ (length (take_while is_blank last) == length last)
+pub is_bare-comment : (rest behind : List ℕ) (len : ℕ) (last : List ℕ) → behind ≡ behind_blanks rest
+    → begins_comment behind ≡ true → len ≡ 2 + hidden_len (drop 2 behind) → last ≡ drop len behind
+    → is_bare rest ≡ (length (take_while is_blank last) == length last)
 is_bare-comment rest behind len last e begins size is =
     let q = quotes behind begins in
-    let P : List ℕ → Type 0 = λ l. len ≡ 2 + hidden_len (drop 2 l) → last ≡ drop len l → holds_only 0 l ≡ (length (take_while is_blank last) == length last) in
+    let P : List ℕ → Type 0 =
+    λ l. len ≡ 2 + hidden_len (drop 2 l) → last ≡ drop len l
+    → holds_only 0 l ≡ (length (take_while is_blank last) == length last) in
     is_bare-holds rest ∙ holds_only-blanks 0 rest ∙ ap (holds_only 0) (sym e)
-    ∙ subst P (sym q.1) (λ s l. holds_only-comment q.0 ∙ ap (holds_only 1) (sym (l ∙ ap (λ (k : ℕ). drop k (39 ∷ 39 ∷ q.0)) (two_more len (hidden_len q.0) s))) ∙ holds_only-last last) size is
+    ∙ subst P (sym q.1) (λ s l. holds_only-comment q.0
+    ∙ ap (holds_only 1) (sym (l ∙ ap (λ (k : ℕ). drop k (39 ∷ 39 ∷ q.0)) (two_more len (hidden_len q.0) s)))
+    ∙ holds_only-last last) size is

@@ -1,5 +1,7 @@
 -- Each word of a text that breaks no rule keeps the limits.
-use Rattle.std.proofs.Common.{◌≡◌, ℕ, zero, suc, ◌+◌, ◌<◌, ◌≤◌, ◌^◌, ◌∙◌, Bool, true, false, ◌==◌, ◌&&◌, ◌||◌, not, cond, nat_lt, nat_le, List, [], ◌∷◌, ◌++◌, map, take, drop, length, Option, Some, None, Ok, Err, refl, sym, ap, ap₂, subst, arith}
+use Rattle.std.proofs.Common.{◌≡◌, ℕ, zero, suc, ◌+◌, ◌≤◌, ◌∙◌, Bool, true, false, ◌==◌, ◌&&◌, ◌||◌, not}
+use Rattle.std.proofs.Common.{cond, nat_lt, nat_le, List, [], ◌∷◌, ◌++◌, map, take, drop, length, Option, Some, None}
+use Rattle.std.proofs.Common.{Ok, Err, refl, sym, ap, ap₂, subst, arith}
 use Rattle.std.specs.Prelude.{slice_index, take_while, All}
 use Rattle.std.specs.List.{list_any, list_all, flat_map}
 use Rattle.std.specs.Char.{is_ascii_alphabetic, is_ascii_digit, to_ascii_uppercase}
@@ -9,15 +11,21 @@ use Rattle.std.proofs.lemmas.Str.Ascii.{uppercase-uppercase}
 use Rattle.std.proofs.lemmas.List.Sums.{take_while-cons}
 use Rattle.std.proofs.lemmas.List.Elements.{All-nil, All-cons, All-same, All-append}
 use Rattle.ss_words.specs.declared.characters.TheConstants.{STOP}
-use Rattle.ss_words.specs.declared.limits.TheConstants.{LONGEST_RUN, LARGEST_NUMBER, MOST_PICTURE_LINES, LONGEST_PICTURE_LINE}
+use Rattle.ss_words.specs.declared.limits.TheConstants.{LONGEST_RUN, LARGEST_NUMBER, MOST_PICTURE_LINES}
+use Rattle.ss_words.specs.declared.limits.TheConstants.{LONGEST_PICTURE_LINE}
 use Rattle.ss_words.specs.declared.word.Sign.{Sign}
 use Rattle.ss_words.specs.declared.fault.TextRule.{TextRule}
-use Rattle.ss_words.specs.declared.fault.TextRule.TheVariants.{StrayByte, BadNumber, LongRun, NoPicture, LongPictureLine}
+use Rattle.ss_words.specs.declared.fault.TextRule.TheVariants.{StrayByte, BadNumber, LongRun, NoPicture}
+use Rattle.ss_words.specs.declared.fault.TextRule.TheVariants.{LongPictureLine}
 use Rattle.ss_words.specs.Words.{Kind, WordAt, name, number, sign, picture}
 use Rattle.ss_words.specs.TextBytes.{in_run, is_allowed, is_joined, is_stray, sign_from}
 use Rattle.ss_words.specs.TextLines.{blanked, text_lines, is_bare}
-use Rattle.ss_words.specs.TextRuns.{without_stops, number_of, has_letter, is_bad_number, word_of_run, line_count, behind_print, calls_picture, picture_lines, is_met, lacks_picture, is_name}
-use Rattle.ss_words.specs.TextWords.{Finding, word, breach, on_line, words_in, breaches_in, nearest_first, broken, sign_found, word_found, run_found, begun_at, found_at, found_from_place, found_in_line, picture_byte, found_in_picture, picture_size, picture_found, found_from_line, found_in_text, answer_of, words_of}
+use Rattle.ss_words.specs.TextRuns.{without_stops, number_of, has_letter, is_bad_number, word_of_run, line_count}
+use Rattle.ss_words.specs.TextRuns.{behind_print, calls_picture, picture_lines, is_met, lacks_picture, is_name}
+use Rattle.ss_words.specs.TextWords.{Finding, word, breach, on_line, words_in, breaches_in, nearest_first, broken}
+use Rattle.ss_words.specs.TextWords.{sign_found, word_found, run_found, begun_at, found_at, found_from_place}
+use Rattle.ss_words.specs.TextWords.{found_in_line, picture_byte, found_in_picture, picture_size, picture_found}
+use Rattle.ss_words.specs.TextWords.{found_from_line, found_in_text, answer_of, words_of}
 use Rattle.ss_words.specs.TextLimits.{KeepsLimits, LimitsHold}
 use Rattle.ss_words.proofs.TextDrawn.{nat_le-true, line_count-some}
 
@@ -66,8 +74,11 @@ is_unbroken r n false none = refl
 not_above : (a b : ℕ) → nat_lt a b ≡ false → b ≤ a
 not_above a b h = grind (arith, nat_tests)
 
-without_stops-one : (b : ℕ) (bs kept : List ℕ) → length kept ≤ length bs → length {A = ℕ} (elim kept [ [] ↦ cond (b == STOP) [] (b ∷ []) | c ∷ cs ↦ b ∷ c ∷ cs ]) ≤ length (b ∷ bs)
-without_stops-one b bs [] within = elim (b == STOP) as (λ t. length (cond t [] (b ∷ [])) ≤ length (b ∷ bs)) [ true ↦ omega arith | false ↦ omega arith ]
+without_stops-one : (b : ℕ) (bs kept : List ℕ) → length kept ≤ length bs
+    → length {A = ℕ} (elim kept [ [] ↦ cond (b == STOP) [] (b ∷ []) | c ∷ cs ↦ b ∷ c ∷ cs ]) ≤ length (b ∷ bs)
+without_stops-one b bs [] within =
+    elim (b == STOP) as (λ t. length (cond t [] (b ∷ [])) ≤ length (b ∷ bs))
+    [ true ↦ omega arith | false ↦ omega arith ]
 without_stops-one b bs (c ∷ cs) within = omega arith
 
 without_stops-within : (run : List ℕ) → length (without_stops run) ≤ length run
@@ -81,10 +92,11 @@ front b kept = elim kept [ [] ↦ cond (b == STOP) [] (b ∷ []) | c ∷ cs ↦ 
 
 front-again : (b : ℕ) (kept : List ℕ) → without_stops kept ≡ kept → without_stops (front b kept) ≡ front b kept
 unfolding without_stops
-front-again b [] again = (elim (b == STOP) as (λ t. (b == STOP) ≡ t → without_stops (cond t [] (b ∷ [])) ≡ cond t [] (b ∷ [])) [
-  | true ↦ λ stop. refl
-  | false ↦ λ other. ap (λ (t : Bool). cond t [] (b ∷ [])) other
-]) refl
+front-again b [] again =
+    (elim (b == STOP) as (λ t. (b == STOP) ≡ t → without_stops (cond t [] (b ∷ [])) ≡ cond t [] (b ∷ [])) [
+      | true ↦ λ stop. refl
+      | false ↦ λ other. ap (λ (t : Bool). cond t [] (b ∷ [])) other
+    ]) refl
 front-again b (c ∷ cs) again = ap (front b) again
 
 without_stops-again : (run : List ℕ) → without_stops (without_stops run) ≡ without_stops run
@@ -110,13 +122,18 @@ upper-has_letter (b ∷ bs) = ap₂ (λ (s t : Bool). s || t) (upper-letter b) (
 upper-in_run : (run : List ℕ) → list_all in_run (map to_ascii_uppercase run) ≡ list_all in_run run
 unfolding in_run
 upper-in_run [] = refl
-upper-in_run (b ∷ bs) = ap₂ (λ (s t : Bool). s && t) (ap₂ (λ (s t : Bool). s || t) (ap₂ (λ (s t : Bool). s || t) (upper-letter b) (upper-digit b)) (upper-stop b)) (upper-in_run bs)
+upper-in_run (b ∷ bs) =
+    ap₂ (λ (s t : Bool). s && t) (ap₂ (λ (s t : Bool). s || t)
+    (ap₂ (λ (s t : Bool). s || t) (upper-letter b) (upper-digit b)) (upper-stop b)) (upper-in_run bs)
 
-upper-front : (b : ℕ) (kept : List ℕ) → front (to_ascii_uppercase b) (map to_ascii_uppercase kept) ≡ map to_ascii_uppercase (front b kept)
-upper-front b [] = ap (λ (t : Bool). cond t [] (to_ascii_uppercase b ∷ [])) (upper-stop b) ∙ (elim (b == STOP) as (λ t. cond t [] (to_ascii_uppercase b ∷ []) ≡ map to_ascii_uppercase (cond t [] (b ∷ []))) [
-  | true ↦ refl
-  | false ↦ refl
-])
+upper-front : (b : ℕ) (kept : List ℕ)
+    → front (to_ascii_uppercase b) (map to_ascii_uppercase kept) ≡ map to_ascii_uppercase (front b kept)
+upper-front b [] =
+    ap (λ (t : Bool). cond t [] (to_ascii_uppercase b ∷ [])) (upper-stop b)
+    ∙ (elim (b == STOP) as (λ t. cond t [] (to_ascii_uppercase b ∷ []) ≡ map to_ascii_uppercase (cond t [] (b ∷ []))) [
+      | true ↦ refl
+      | false ↦ refl
+    ])
 upper-front b (c ∷ cs) = refl
 
 upper-stops : (run : List ℕ) → without_stops (map to_ascii_uppercase run) ≡ map to_ascii_uppercase (without_stops run)
@@ -134,7 +151,8 @@ upper-again (b ∷ bs) = ap₂ (λ (c : ℕ) (cs : List ℕ). c ∷ cs) (upperca
 abbrev IsCut : List ℕ → Type 0
 IsCut run = (length run ≤ LONGEST_RUN) × (list_all in_run run ≡ true) × (without_stops run ≡ run)
 
-name-keeps : (k : Kind) (run : List ℕ) → 1 ≤ length run → IsCut run → has_letter run ≡ true → Some (name (map to_ascii_uppercase run)) ≡ Some k → KeepsLimits k
+name-keeps : (k : Kind) (run : List ℕ) → 1 ≤ length run → IsCut run → has_letter run ≡ true
+    → Some (name (map to_ascii_uppercase run)) ≡ Some k → KeepsLimits k
 name-keeps k run some cut letter e =
     let same : name (map to_ascii_uppercase run) ≡ k = cc in
     let size = length-map run to_ascii_uppercase in
@@ -154,20 +172,27 @@ number-below m false n e = grind (arith, nat_tests)
 number-keeps : (k : Kind) (n : ℕ) → n ≤ LARGEST_NUMBER → Some (number n) ≡ Some k → KeepsLimits k
 number-keeps k n small e = let same : number n ≡ k = cc in subst KeepsLimits same small
 
-either-keeps : (letter stop : Bool) (run : List ℕ) (k : Kind) → 1 ≤ length run → IsCut run → has_letter run ≡ letter → (not letter && (stop || nat_lt LARGEST_NUMBER (number_of run))) ≡ false
+either-keeps : (letter stop : Bool) (run : List ℕ) (k : Kind) → 1 ≤ length run → IsCut run → has_letter run ≡ letter
+    → (not letter && (stop || nat_lt LARGEST_NUMBER (number_of run))) ≡ false
     → Some (cond letter (name (map to_ascii_uppercase run)) (number (number_of run))) ≡ Some k → KeepsLimits k
 either-keeps true stop run k some cut letter good e = name-keeps k run some cut letter e
-either-keeps false stop run k some cut letter good e = number-keeps k (number_of run) (number-below LARGEST_NUMBER stop (number_of run) good) e
+either-keeps false stop run k some cut letter good e =
+    number-keeps k (number_of run) (number-below LARGEST_NUMBER stop (number_of run) good) e
 
 -- the word of a run that is no bad number and not too long
-run_word-keeps : (run : List ℕ) (k : Kind) → is_bad_number run ≡ false → IsCut run → word_of_run run ≡ Some k → KeepsLimits k
+run_word-keeps : (run : List ℕ) (k : Kind) → is_bad_number run ≡ false → IsCut run → word_of_run run ≡ Some k
+    → KeepsLimits k
 unfolding is_bad_number word_of_run
 run_word-keeps [] k good cut e = absurd cc
-run_word-keeps (b ∷ bs) k good cut e = either-keeps (has_letter (b ∷ bs)) (list_any (λ c. c == STOP) (b ∷ bs)) (b ∷ bs) k (omega arith) cut refl good e
+run_word-keeps (b ∷ bs) k good cut e =
+    either-keeps (has_letter (b ∷ bs)) (list_any (λ c. c == STOP) (b ∷ bs)) (b ∷ bs) k (omega arith) cut refl good e
 
 -- the bytes that a run keeps are bytes of it
-front-in_run : (b : ℕ) (kept : List ℕ) → in_run b ≡ true → list_all in_run kept ≡ true → list_all in_run (front b kept) ≡ true
-front-in_run b [] here all = elim (b == STOP) as (λ t. list_all in_run (cond t [] (b ∷ [])) ≡ true) [ true ↦ refl | false ↦ ap (λ (t : Bool). t && true) here ]
+front-in_run : (b : ℕ) (kept : List ℕ) → in_run b ≡ true → list_all in_run kept ≡ true
+    → list_all in_run (front b kept) ≡ true
+front-in_run b [] here all =
+    elim (b == STOP) as (λ t. list_all in_run (cond t [] (b ∷ [])) ≡ true)
+    [ true ↦ refl | false ↦ ap (λ (t : Bool). t && true) here ]
 front-in_run b (c ∷ cs) here all = ap (λ (t : Bool). t && list_all in_run (c ∷ cs)) here ∙ all
 
 both-true : (s t : Bool) → (s && t) ≡ true → (s ≡ true) × (t ≡ true)
@@ -177,25 +202,31 @@ both-true false t e = absurd cc
 kept-in_run : (run : List ℕ) → list_all in_run run ≡ true → list_all in_run (without_stops run) ≡ true
 unfolding without_stops
 kept-in_run [] all = refl
-kept-in_run (b ∷ bs) all = let p = both-true (in_run b) (list_all in_run bs) all in front-in_run b (without_stops bs) p.0 (kept-in_run bs p.1)
+kept-in_run (b ∷ bs) all =
+    let p = both-true (in_run b) (list_all in_run bs) all in front-in_run b (without_stops bs) p.0 (kept-in_run bs p.1)
 
 taken-in_run : (plain : List ℕ) → list_all in_run (take_while in_run plain) ≡ true
 taken-in_run [] = refl
-taken-in_run (b ∷ bs) = ap (list_all in_run) (take_while-cons in_run b bs) ∙ (elim (in_run b) as (λ t. in_run b ≡ t → list_all in_run (cond t (b ∷ take_while in_run bs) []) ≡ true) [
-  | true ↦ λ here. ap (λ (t : Bool). t && list_all in_run (take_while in_run bs)) here ∙ taken-in_run bs
-  | false ↦ λ other. refl
-]) refl
+taken-in_run (b ∷ bs) =
+    ap (list_all in_run) (take_while-cons in_run b bs)
+    ∙ (elim (in_run b) as (λ t. in_run b ≡ t → list_all in_run (cond t (b ∷ take_while in_run bs) []) ≡ true) [
+      | true ↦ λ here. ap (λ (t : Bool). t && list_all in_run (take_while in_run bs)) here ∙ taken-in_run bs
+      | false ↦ λ other. refl
+    ]) refl
 
 -- ---- a line outside pictures
 
 -- a line of number n with so many lines below it
 module _ (n below : ℕ) where
-  keeps-word_found : (before : List Kind) (rest : List ℕ) (o : Option Kind) → ((k : Kind) → o ≡ Some k → KeepsLimits k) → Keeps (word_found n below before rest o)
+  keeps-word_found : (before : List Kind) (rest : List ℕ) (o : Option Kind) → ((k : Kind) → o ≡ Some k → KeepsLimits k)
+      → Keeps (word_found n below before rest o)
   keeps-word_found before rest None all = keeps-nothing
   keeps-word_found before rest (Some k) all =
-      keeps-append (broken NoPicture n (lacks_picture (k ∷ before) rest below)) (word (on_line n k) ∷ []) (keeps-broken NoPicture n (lacks_picture (k ∷ before) rest below)) (keeps-word n k (all k refl))
+      keeps-append (broken NoPicture n (lacks_picture (k ∷ before) rest below)) (word (on_line n k) ∷ [])
+      (keeps-broken NoPicture n (lacks_picture (k ∷ before) rest below)) (keeps-word n k (all k refl))
 
-  keeps-run : (before : List Kind) (rest run : List ℕ) → list_all in_run run ≡ true → Keeps (run_found n below before rest run)
+  keeps-run : (before : List Kind) (rest run : List ℕ) → list_all in_run run ≡ true
+      → Keeps (run_found n below before rest run)
   unfolding run_found
   keeps-run before rest run all none =
       let kept = without_stops run in
@@ -207,8 +238,11 @@ module _ (n below : ℕ) where
       let good = is_unbroken BadNumber n bad each.0 in
       let size = not_above LONGEST_RUN (length run) (is_unbroken LongRun n long each.1) in
       keeps-append (broken BadNumber n bad ++ broken LongRun n long) found
-      (keeps-append (broken BadNumber n bad) (broken LongRun n long) (keeps-broken BadNumber n bad) (keeps-broken LongRun n long))
-      (keeps-word_found before rest (word_of_run kept) (λ k e. run_word-keeps kept k good (omega (arith, size, without_stops-within run), kept-in_run run all, without_stops-again run) e)) none
+      (keeps-append (broken BadNumber n bad) (broken LongRun n long) (keeps-broken BadNumber n bad)
+      (keeps-broken LongRun n long))
+      (keeps-word_found before rest (word_of_run kept)
+      (λ k e. run_word-keeps kept k good
+      (omega (arith, size, without_stops-within run), kept-in_run run all, without_stops-again run) e)) none
 
   keeps-sign : (o : Option Sign) → Keeps (sign_found n o)
   keeps-sign None = keeps-nothing
@@ -216,32 +250,44 @@ module _ (n below : ℕ) where
 
   keeps-begun : (before : List Kind) (line plain : List ℕ) → Keeps (begun_at n below before line plain)
   unfolding begun_at
-  keeps-begun before line plain = elim (in_run (slice_index plain 0)) as (λ r. Keeps (elim r [ true ↦ run_found n below before (drop (length (take_while in_run plain)) line) (take_while in_run plain) | false ↦ sign_found n (sign_from (slice_index plain 0) (slice_index plain 1)) ])) [
-    | true ↦ keeps-run before (drop (length (take_while in_run plain)) line) (take_while in_run plain) (taken-in_run plain)
-    | false ↦ keeps-sign (sign_from (slice_index plain 0) (slice_index plain 1))
-  ]
+  keeps-begun before line plain =
+      elim (in_run (slice_index plain 0)) as
+      (λ r. Keeps (elim r [
+        | true ↦ run_found n below before (drop (length (take_while in_run plain)) line)
+            (take_while in_run plain)
+        | false ↦ sign_found n (sign_from (slice_index plain 0) (slice_index plain 1))
+      ])) [
+        | true ↦ keeps-run before (drop (length (take_while in_run plain)) line) (take_while in_run plain)
+            (taken-in_run plain)
+        | false ↦ keeps-sign (sign_from (slice_index plain 0) (slice_index plain 1))
+      ]
 
   keeps-at : (before : List Kind) (last : ℕ) (line plain : List ℕ) → Keeps (found_at n below before last line plain)
   unfolding found_at
   keeps-at before last line plain =
-      keeps-append (broken StrayByte n (is_stray (slice_index line 0) (slice_index plain 0))) (elim (is_joined last (slice_index plain 0)) [ true ↦ [] | false ↦ begun_at n below before line plain ])
+      keeps-append (broken StrayByte n (is_stray (slice_index line 0) (slice_index plain 0)))
+      (elim (is_joined last (slice_index plain 0)) [ true ↦ [] | false ↦ begun_at n below before line plain ])
       (keeps-broken StrayByte n (is_stray (slice_index line 0) (slice_index plain 0)))
-      (elim (is_joined last (slice_index plain 0)) as (λ j. Keeps (elim j [ true ↦ [] | false ↦ begun_at n below before line plain ])) [
+      (elim (is_joined last (slice_index plain 0)) as
+      (λ j. Keeps (elim j [ true ↦ [] | false ↦ begun_at n below before line plain ])) [
         | true ↦ keeps-nothing
         | false ↦ keeps-begun before line plain
       ])
 
-  keeps-from_place : (before : List Kind) (last : ℕ) (line plain : List ℕ) → Keeps (found_from_place n below before last line plain)
+  keeps-from_place : (before : List Kind) (last : ℕ) (line plain : List ℕ)
+      → Keeps (found_from_place n below before last line plain)
   unfolding found_from_place
   keeps-from_place before last [] plain = keeps-nothing
   keeps-from_place before last (b ∷ bs) [] = keeps-nothing
   keeps-from_place before last (b ∷ bs) (p ∷ ps) =
       let here = found_at n below before last (b ∷ bs) (p ∷ ps) in
-      keeps-append here (found_from_place n below (nearest_first here before) p bs ps) (keeps-at before last (b ∷ bs) (p ∷ ps)) (keeps-from_place (nearest_first here before) p bs ps)
+      keeps-append here (found_from_place n below (nearest_first here before) p bs ps)
+      (keeps-at before last (b ∷ bs) (p ∷ ps)) (keeps-from_place (nearest_first here before) p bs ps)
 
 -- ---- the lines that a picture has below it
 
-nearest_first-append : (fs gs : List Finding) (before : List Kind) → nearest_first (fs ++ gs) before ≡ nearest_first gs (nearest_first fs before)
+nearest_first-append : (fs gs : List Finding) (before : List Kind)
+    → nearest_first (fs ++ gs) before ≡ nearest_first gs (nearest_first fs before)
 nearest_first-append [] gs before = refl
 nearest_first-append (word w ∷ fs) gs before = nearest_first-append fs gs (w.kind ∷ before)
 nearest_first-append (breach r n ∷ fs) gs before = nearest_first-append fs gs before
@@ -276,26 +322,33 @@ quiet-met : (below : ℕ) (words : List Kind) → calls_picture words ≡ false 
 quiet-met below words quiet calls = absurd cc
 
 module _ (n below : ℕ) where
-  meets-append : (before : List Kind) (fs gs : List Finding) → Meets below before fs → Meets below (nearest_first fs before) gs → Meets below before (fs ++ gs)
+  meets-append : (before : List Kind) (fs gs : List Finding) → Meets below before fs
+      → Meets below (nearest_first fs before) gs → Meets below before (fs ++ gs)
   meets-append before fs gs left right none met =
-      let p = breaches-parts fs gs none in subst (IsMet below) (sym (nearest_first-append fs gs before)) (right p.1 (left p.0 met))
+      let p =
+      breaches-parts fs gs none in subst (IsMet below) (sym (nearest_first-append fs gs before))
+      (right p.1 (left p.0 met))
 
   nearest_first-broken : (r : TextRule) (b : Bool) (before : List Kind) → nearest_first (broken r n b) before ≡ before
   nearest_first-broken r true before = refl
   nearest_first-broken r false before = refl
 
   -- a breach in front changes nothing
-  meets-behind : (r : TextRule) (b : Bool) (before : List Kind) (fs : List Finding) → Meets below before fs → Meets below before (broken r n b ++ fs)
+  meets-behind : (r : TextRule) (b : Bool) (before : List Kind) (fs : List Finding) → Meets below before fs
+      → Meets below before (broken r n b ++ fs)
   meets-behind r true before fs all none met = absurd cc
   meets-behind r false before fs all none met = all none met
 
-  meets-word_found : (before : List Kind) (rest : List ℕ) (o : Option Kind) → Meets below before (word_found n below before rest o)
+  meets-word_found : (before : List Kind) (rest : List ℕ) (o : Option Kind)
+      → Meets below before (word_found n below before rest o)
   unfolding lacks_picture
   meets-word_found before rest None none met = met
   meets-word_found before rest (Some k) none met =
       let lacks = lacks_picture (k ∷ before) rest below in
-      let there = is_unbroken NoPicture n lacks (breaches-parts (broken NoPicture n lacks) (word (on_line n k) ∷ []) none).0 in
-      subst (IsMet below) (sym (nearest_first-append (broken NoPicture n lacks) (word (on_line n k) ∷ []) before ∙ ap (λ (ks : List Kind). k ∷ ks) (nearest_first-broken NoPicture lacks before)))
+      let there =
+      is_unbroken NoPicture n lacks (breaches-parts (broken NoPicture n lacks) (word (on_line n k) ∷ []) none).0 in
+      subst (IsMet below) (sym (nearest_first-append (broken NoPicture n lacks) (word (on_line n k) ∷ []) before
+      ∙ ap (λ (ks : List Kind). k ∷ ks) (nearest_first-broken NoPicture lacks before)))
       (is_met-called (calls_picture (k ∷ before)) (is_bare rest) (is_met (picture_lines (k ∷ before)) below) there)
 
   meets-run : (before : List Kind) (rest run : List ℕ) → Meets below before (run_found n below before rest run)
@@ -304,11 +357,16 @@ module _ (n below : ℕ) where
       let kept = without_stops run in
       let bad = is_bad_number kept in
       let long = nat_lt LONGEST_RUN (length run) in
-      let both = breaches-parts (broken BadNumber n bad ++ broken LongRun n long) (word_found n below before rest (word_of_run kept)) none in
+      let both =
+      breaches-parts (broken BadNumber n bad ++ broken LongRun n long)
+      (word_found n below before rest (word_of_run kept)) none in
       subst (IsMet below)
-      (sym (nearest_first-append (broken BadNumber n bad ++ broken LongRun n long) (word_found n below before rest (word_of_run kept)) before
+      (sym (nearest_first-append (broken BadNumber n bad ++ broken LongRun n long)
+      (word_found n below before rest (word_of_run kept)) before
       ∙ ap (nearest_first (word_found n below before rest (word_of_run kept)))
-      (nearest_first-append (broken BadNumber n bad) (broken LongRun n long) before ∙ ap (nearest_first (broken LongRun n long)) (nearest_first-broken BadNumber bad before) ∙ nearest_first-broken LongRun long before)))
+      (nearest_first-append (broken BadNumber n bad) (broken LongRun n long) before
+      ∙ ap (nearest_first (broken LongRun n long)) (nearest_first-broken BadNumber bad before)
+      ∙ nearest_first-broken LongRun long before)))
       (meets-word_found before rest (word_of_run kept) both.1 met)
 
   meets-sign : (before : List Kind) (o : Option Sign) → Meets below before (sign_found n o)
@@ -317,27 +375,37 @@ module _ (n below : ℕ) where
 
   meets-begun : (before : List Kind) (line plain : List ℕ) → Meets below before (begun_at n below before line plain)
   unfolding begun_at
-  meets-begun before line plain = elim (in_run (slice_index plain 0)) as (λ r. Meets below before (elim r [ true ↦ run_found n below before (drop (length (take_while in_run plain)) line) (take_while in_run plain) | false ↦ sign_found n (sign_from (slice_index plain 0) (slice_index plain 1)) ])) [
-    | true ↦ meets-run before (drop (length (take_while in_run plain)) line) (take_while in_run plain)
-    | false ↦ meets-sign before (sign_from (slice_index plain 0) (slice_index plain 1))
-  ]
+  meets-begun before line plain =
+      elim (in_run (slice_index plain 0)) as
+      (λ r. Meets below before (elim r [
+        | true ↦ run_found n below before (drop (length (take_while in_run plain)) line) (take_while in_run plain)
+        | false ↦ sign_found n (sign_from (slice_index plain 0) (slice_index plain 1))
+      ])) [
+        | true ↦ meets-run before (drop (length (take_while in_run plain)) line) (take_while in_run plain)
+        | false ↦ meets-sign before (sign_from (slice_index plain 0) (slice_index plain 1))
+      ]
 
-  meets-at : (before : List Kind) (last : ℕ) (line plain : List ℕ) → Meets below before (found_at n below before last line plain)
+  meets-at : (before : List Kind) (last : ℕ) (line plain : List ℕ)
+      → Meets below before (found_at n below before last line plain)
   unfolding found_at
   meets-at before last line plain =
-      meets-behind StrayByte (is_stray (slice_index line 0) (slice_index plain 0)) before (elim (is_joined last (slice_index plain 0)) [ true ↦ [] | false ↦ begun_at n below before line plain ])
-      (elim (is_joined last (slice_index plain 0)) as (λ j. Meets below before (elim j [ true ↦ [] | false ↦ begun_at n below before line plain ])) [
+      meets-behind StrayByte (is_stray (slice_index line 0) (slice_index plain 0)) before
+      (elim (is_joined last (slice_index plain 0)) [ true ↦ [] | false ↦ begun_at n below before line plain ])
+      (elim (is_joined last (slice_index plain 0)) as
+      (λ j. Meets below before (elim j [ true ↦ [] | false ↦ begun_at n below before line plain ])) [
         | true ↦ λ none met. met
         | false ↦ meets-begun before line plain
       ])
 
-  meets-from_place : (before : List Kind) (last : ℕ) (line plain : List ℕ) → Meets below before (found_from_place n below before last line plain)
+  meets-from_place : (before : List Kind) (last : ℕ) (line plain : List ℕ)
+      → Meets below before (found_from_place n below before last line plain)
   unfolding found_from_place
   meets-from_place before last [] plain none met = met
   meets-from_place before last (b ∷ bs) [] none met = met
   meets-from_place before last (b ∷ bs) (p ∷ ps) none met =
       let here = found_at n below before last (b ∷ bs) (p ∷ ps) in
-      meets-append before here (found_from_place n below (nearest_first here before) p bs ps) (meets-at before last (b ∷ bs) (p ∷ ps)) (meets-from_place (nearest_first here before) p bs ps) none met
+      meets-append before here (found_from_place n below (nearest_first here before) p bs ps)
+      (meets-at before last (b ∷ bs) (p ∷ ps)) (meets-from_place (nearest_first here before) p bs ps) none met
 
 -- how many lines are drawn of a count, where one is called and where none may be
 abbrev lines_counted : Option ℕ → ℕ
@@ -346,23 +414,30 @@ lines_counted o = elim o [ None ↦ 0 | Some k ↦ k ]
 abbrev lines_called : Bool → Option ℕ → ℕ
 lines_called called o = elim called [ true ↦ lines_counted o | false ↦ 0 ]
 
-size-counted : (o : Option ℕ) (below : ℕ) → ((n : ℕ) → o ≡ Some n → 1 ≤ n) → is_met o below ≡ true → (lines_counted o ≡ 0 → true ≡ false) × (lines_counted o ≤ below)
+size-counted : (o : Option ℕ) (below : ℕ) → ((n : ℕ) → o ≡ Some n → 1 ≤ n) → is_met o below ≡ true
+    → (lines_counted o ≡ 0 → true ≡ false) × (lines_counted o ≤ below)
 size-counted None below least met = absurd cc
 size-counted (Some k) below least met = ((λ none. absurd (omega (arith, least k refl))), nat_le-true k below met)
 
 -- words that call a picture which has its lines call at least one of those below
-size-met : (below : ℕ) (words : List Kind) → IsMet below words → (picture_size words ≡ 0 → calls_picture words ≡ false) × (picture_size words ≤ below)
+size-met : (below : ℕ) (words : List Kind) → IsMet below words
+    → (picture_size words ≡ 0 → calls_picture words ≡ false) × (picture_size words ≤ below)
 unfolding picture_size
-size-met below words met = (elim (calls_picture words) as (λ t. calls_picture words ≡ t → (lines_called t (picture_lines words) ≡ 0 → t ≡ false) × (lines_called t (picture_lines words) ≤ below)) [
-  | true ↦ λ calls. size-counted (picture_lines words) below (line_count-some (behind_print None words)) (met calls)
-  | false ↦ λ quiet. ((λ none. refl), omega arith)
-]) refl
+size-met below words met =
+    (elim (calls_picture words) as
+    (λ t. calls_picture words ≡ t → (lines_called t (picture_lines words) ≡ 0 → t ≡ false)
+    × (lines_called t (picture_lines words) ≤ below)) [
+      | true ↦ λ calls. size-counted (picture_lines words) below (line_count-some (behind_print None words)) (met calls)
+      | false ↦ λ quiet. ((λ none. refl), omega arith)
+    ]) refl
 
 -- ---- pictures
 
 keeps-bytes : (n : ℕ) (bs : List ℕ) → Keeps (flat_map (picture_byte n) bs)
 keeps-bytes n [] = keeps-nothing
-keeps-bytes n (b ∷ bs) = keeps-append (picture_byte n b) (flat_map (picture_byte n) bs) (keeps-broken StrayByte n (not (is_allowed b))) (keeps-bytes n bs)
+keeps-bytes n (b ∷ bs) =
+    keeps-append (picture_byte n b) (flat_map (picture_byte n) bs) (keeps-broken StrayByte n (not (is_allowed b)))
+    (keeps-bytes n bs)
 
 keeps-in_picture : (n : ℕ) (line : List ℕ) → Keeps (found_in_picture n line)
 unfolding found_in_picture
@@ -370,9 +445,11 @@ keeps-in_picture n [] = keeps-nothing
 keeps-in_picture n (b ∷ bs) =
     let long = nat_lt LONGEST_PICTURE_LINE (length (b ∷ bs)) in
     keeps-append (picture_byte n b ++ broken LongPictureLine n long) (flat_map (picture_byte n) bs)
-    (keeps-append (picture_byte n b) (broken LongPictureLine n long) (keeps-broken StrayByte n (not (is_allowed b))) (keeps-broken LongPictureLine n long)) (keeps-bytes n bs)
+    (keeps-append (picture_byte n b) (broken LongPictureLine n long) (keeps-broken StrayByte n (not (is_allowed b)))
+    (keeps-broken LongPictureLine n long)) (keeps-bytes n bs)
 
-short-in_picture : (n : ℕ) (line : List ℕ) → breaches_in (found_in_picture n line) ≡ [] → length line ≤ LONGEST_PICTURE_LINE
+short-in_picture : (n : ℕ) (line : List ℕ) → breaches_in (found_in_picture n line) ≡ []
+    → length line ≤ LONGEST_PICTURE_LINE
 unfolding found_in_picture
 short-in_picture n [] none = omega arith
 short-in_picture n (b ∷ bs) none =
@@ -390,24 +467,30 @@ line_count-few None n e = absurd cc
 line_count-few (Some (name s)) n e = absurd cc
 line_count-few (Some (sign g)) n e = absurd cc
 line_count-few (Some (picture ls)) n e = absurd cc
-line_count-few (Some (number m)) n e = elim (nat_le 1 m) as (λ t. cond (t && nat_le m MOST_PICTURE_LINES) (Some m) None ≡ Some n → n ≤ MOST_PICTURE_LINES) [
-  | true ↦ (elim (nat_le m MOST_PICTURE_LINES) as (λ t. nat_le m MOST_PICTURE_LINES ≡ t → cond t (Some m) None ≡ Some n → n ≤ MOST_PICTURE_LINES) [
-    | true ↦ λ few same. let e : m ≡ n = cc in let h : m ≤ MOST_PICTURE_LINES = nat_le-few m few in omega arith
-    | false ↦ λ many none. absurd cc
-  ]) refl
-  | false ↦ λ none. absurd cc
-] e
+line_count-few (Some (number m)) n e =
+    elim (nat_le 1 m)
+    as (λ t. cond (t && nat_le m MOST_PICTURE_LINES) (Some m) None ≡ Some n → n ≤ MOST_PICTURE_LINES) [
+      | true ↦ (elim (nat_le m MOST_PICTURE_LINES) as
+          (λ t. nat_le m MOST_PICTURE_LINES ≡ t → cond t (Some m) None ≡ Some n → n ≤ MOST_PICTURE_LINES) [
+            | true ↦ λ few same. let e : m ≡ n = cc in let h : m ≤ MOST_PICTURE_LINES = nat_le-few m few in omega arith
+            | false ↦ λ many none. absurd cc
+          ]) refl
+      | false ↦ λ none. absurd cc
+    ] e
 
-count-few : (o : Option ℕ) → ((n : ℕ) → o ≡ Some n → n ≤ MOST_PICTURE_LINES) → (elim o [ None ↦ 0 | Some k ↦ k ]) ≤ MOST_PICTURE_LINES
+count-few : (o : Option ℕ) → ((n : ℕ) → o ≡ Some n → n ≤ MOST_PICTURE_LINES)
+    → (elim o [ None ↦ 0 | Some k ↦ k ]) ≤ MOST_PICTURE_LINES
 count-few None few = omega arith
 count-few (Some k) few = few k refl
 
 size-few : (words : List Kind) → picture_size words ≤ MOST_PICTURE_LINES
 unfolding picture_size
-size-few words = elim (calls_picture words) as (λ t. (elim t [ true ↦ (elim (picture_lines words) [ None ↦ 0 | Some k ↦ k ]) | false ↦ 0 ]) ≤ MOST_PICTURE_LINES) [
-  | true ↦ count-few (picture_lines words) (λ n e. line_count-few (behind_print None words) n e)
-  | false ↦ omega arith
-]
+size-few words =
+    elim (calls_picture words) as (λ t.
+    (elim t [ true ↦ (elim (picture_lines words) [ None ↦ 0 | Some k ↦ k ]) | false ↦ 0 ]) ≤ MOST_PICTURE_LINES) [
+      | true ↦ count-few (picture_lines words) (λ n e. line_count-few (behind_print None words) n e)
+      | false ↦ omega arith
+    ]
 
 take-some : (k : ℕ) (ls : List (List ℕ)) → 1 ≤ length ls → 1 ≤ length (take (suc k) ls)
 take-some k [] some = absurd (omega arith)
@@ -423,16 +506,23 @@ take-few (suc k) (l ∷ ls) = let few = take-few k ls in omega arith
 abbrev IsShort : List ℕ → Type 0
 IsShort l = length l ≤ LONGEST_PICTURE_LINE
 
--- from each place on whose words call no picture, what is found in these lines keeps the limits, and so do the lines of the picture before
+-- from each place on whose words call no picture, what is found in these lines keeps the limits, and so do the lines of
+-- the picture before
 abbrev LinesKeep : List (List ℕ) → Type 0
-LinesKeep ls = (before : List Kind) (n k : ℕ) → calls_picture before ≡ false → Keeps (found_from_line before n k ls) × (breaches_in (found_from_line before n k ls) ≡ [] → All IsShort (take k ls))
+LinesKeep ls =
+    (before : List Kind) (n k : ℕ) → calls_picture before ≡ false
+    → Keeps (found_from_line before n k ls)
+    × (breaches_in (found_from_line before n k ls) ≡ [] → All IsShort (take k ls))
 
-keeps-drawn : (now : List Kind) (n k : ℕ) (ls : List (List ℕ)) → k ≤ MOST_PICTURE_LINES → (k ≡ 0 → calls_picture now ≡ false) × (k ≤ length ls) → LinesKeep ls → Keeps (picture_found k n ls ++ found_from_line (nearest_first (picture_found k n ls) now) n k ls)
+keeps-drawn : (now : List Kind) (n k : ℕ) (ls : List (List ℕ)) → k ≤ MOST_PICTURE_LINES
+    → (k ≡ 0 → calls_picture now ≡ false) × (k ≤ length ls) → LinesKeep ls
+    → Keeps (picture_found k n ls ++ found_from_line (nearest_first (picture_found k n ls) now) n k ls)
 keeps-drawn now n zero ls few there below none = (below now n zero (there.0 refl)).0 none
 keeps-drawn now n (suc k) ls few there below none =
     let drawn = picture (take (suc k) ls) in
     let rest = below (drawn ∷ now) n (suc k) (quiet-picture (take (suc k) ls) now) in
-    All-cons WordKeeps (on_line n drawn) (words_in (found_from_line (drawn ∷ now) n (suc k) ls)) (take-some k ls (omega (arith, there.1)), omega (arith, take-few (suc k) ls), rest.1 none) (rest.0 none)
+    All-cons WordKeeps (on_line n drawn) (words_in (found_from_line (drawn ∷ now) n (suc k) ls))
+    (take-some k ls (omega (arith, there.1)), omega (arith, take-few (suc k) ls), rest.1 none) (rest.0 none)
 
 lines_keep : (ls : List (List ℕ)) → LinesKeep ls
 unfolding found_from_line
@@ -442,26 +532,35 @@ lines_keep (l ∷ ls) before n zero quiet =
     let here = found_in_line n (length ls) before l in
     let now = nearest_first here before in
     let drawn = picture_found (picture_size now) (n + 1) ls in (
-      keeps-then here (drawn ++ found_from_line (nearest_first drawn now) (n + 1) (picture_size now) ls) (keeps-from_place n (length ls) before 32 l (blanked false l))
-          (λ none. keeps-drawn now (n + 1) (picture_size now) ls (size-few now) (size-met (length ls) now (meets-from_place n (length ls) before 32 l (blanked false l) none (quiet-met (length ls) before quiet))) (lines_keep ls)),
+      keeps-then here (drawn ++ found_from_line (nearest_first drawn now) (n + 1) (picture_size now) ls)
+          (keeps-from_place n (length ls) before 32 l (blanked false l))
+          (λ none. keeps-drawn now (n + 1) (picture_size now) ls (size-few now)
+          (size-met (length ls) now (meets-from_place n (length ls) before 32 l (blanked false l) none
+          (quiet-met (length ls) before quiet))) (lines_keep ls)),
       λ none. All-nil IsShort,
     )
 lines_keep (l ∷ ls) before n (suc k) quiet =
     let after = lines_keep ls before (n + 1) k quiet in (
       keeps-append (found_in_picture n l) (found_from_line before (n + 1) k ls) (keeps-in_picture n l) after.0,
-      λ none. let p = breaches-parts (found_in_picture n l) (found_from_line before (n + 1) k ls) none in All-cons IsShort l (take k ls) (short-in_picture n l p.0) (after.1 p.1),
+      λ none. let p =
+          breaches-parts (found_in_picture n l) (found_from_line before (n + 1) k ls) none in
+          All-cons IsShort l (take k ls) (short-in_picture n l p.0) (after.1 p.1),
     )
 
 -- an answer that is a list of words
-answer-words : (fs : List Finding) (ws : List WordAt) → answer_of fs ≡ Ok ws → (breaches_in fs ≡ []) × (words_in fs ≡ ws)
+answer-words : (fs : List Finding) (ws : List WordAt) → answer_of fs ≡ Ok ws
+    → (breaches_in fs ≡ []) × (words_in fs ≡ ws)
 unfolding answer_of
-answer-words fs ws e = elim (breaches_in fs) as (λ bs. (elim bs [ [] ↦ Ok (words_in fs) | b ∷ bs ↦ Err b ]) ≡ Ok ws → (bs ≡ []) × (words_in fs ≡ ws)) [
-  | [] ↦ λ same. (refl, cc)
-  | b ∷ bs ↦ λ never. absurd cc
-] e
+answer-words fs ws e =
+    elim (breaches_in fs) as (λ bs. (elim bs [ [] ↦ Ok (words_in fs) | b ∷ bs ↦ Err b ]) ≡ Ok ws
+    → (bs ≡ []) × (words_in fs ≡ ws)) [
+      | [] ↦ λ same. (refl, cc)
+      | b ∷ bs ↦ λ never. absurd cc
+    ] e
 
 pub limits_hold : LimitsHold
 unfolding words_of found_in_text
 limits_hold text ws e =
     let p = answer-words (found_in_text text) ws e in
-    All-same WordKeeps ws (words_in (found_in_text text)) (sym p.1) ((lines_keep (text_lines text) [] 1 0 quiet-nothing).0 p.0)
+    All-same WordKeeps ws (words_in (found_in_text text)) (sym p.1)
+    ((lines_keep (text_lines text) [] 1 0 quiet-nothing).0 p.0)

@@ -1,5 +1,6 @@
 -- The word of a run, and the rules that a run breaks.
-use Rattle.std.proofs.Common.{◌≡◌, ℕ, ◌<◌, Bool, true, false, cond, nat_lt, List, [], ◌∷◌, ◌++◌, map, length, Option, Some, None, refl, sym, ap, ◌∙◌, arith}
+use Rattle.std.proofs.Common.{◌≡◌, ℕ, ◌<◌, Bool, true, false, cond, nat_lt, List, [], ◌∷◌, ◌++◌, map, length, Option}
+use Rattle.std.proofs.Common.{Some, None, refl, sym, ap, ◌∙◌, arith}
 use Rattle.std.specs.Char.{to_ascii_uppercase}
 use Rattle.ss_words.specs.declared.scan.run.Spelling.{Spelling}
 use Rattle.ss_words.specs.declared.scan.run.Spelling.TheVariants.{Name, Number}
@@ -28,7 +29,8 @@ is_bad_number-spelled run s e = good (is_bad_number run) (cond (has_letter run) 
 pub is_bad_number-none : (run : List ℕ) → spelling_of run ≡ None → is_bad_number run ≡ true
 is_bad_number-none run e = bad_if (is_bad_number run) (cond (has_letter run) Name (Number (number_of run))) e
 
-which : (letter : Bool) (run : List ℕ) (s : Spelling) → cond letter Name (Number (number_of run)) ≡ s → cond letter (name (map to_ascii_uppercase run)) (number (number_of run)) ≡ spelled run s
+which : (letter : Bool) (run : List ℕ) (s : Spelling) → cond letter Name (Number (number_of run)) ≡ s
+    → cond letter (name (map to_ascii_uppercase run)) (number (number_of run)) ≡ spelled run s
 which true run s e = ap (spelled run) e
 which false run s e = ap (spelled run) e
 
@@ -37,10 +39,13 @@ only true g s e = absurd cc
 only false g s e = cc
 
 -- the word that a run spells is its word
-pub word_of_run-spelled : (run : List ℕ) (s : Spelling) → 0 < length run → spelling_of run ≡ Some s → word_of_run run ≡ Some (spelled run s)
+pub word_of_run-spelled : (run : List ℕ) (s : Spelling) → 0 < length run → spelling_of run ≡ Some s
+    → word_of_run run ≡ Some (spelled run s)
 unfolding word_of_run
 word_of_run-spelled [] s some e = absurd (omega arith)
-word_of_run-spelled (b ∷ bs) s some e = ap (λ (k : Kind). Some k) (which (has_letter (b ∷ bs)) (b ∷ bs) s (only (is_bad_number (b ∷ bs)) (cond (has_letter (b ∷ bs)) Name (Number (number_of (b ∷ bs)))) s e))
+word_of_run-spelled (b ∷ bs) s some e =
+    ap (λ (k : Kind). Some k) (which (has_letter (b ∷ bs)) (b ∷ bs) s
+    (only (is_bad_number (b ∷ bs)) (cond (has_letter (b ∷ bs)) Name (Number (number_of (b ∷ bs)))) s e))
 
 pub word_of_run-none : (run : List ℕ) → length run ≡ 0 → word_of_run run ≡ None
 unfolding word_of_run
@@ -50,36 +55,50 @@ word_of_run-none (b ∷ bs) none = absurd (omega arith)
 -- a line of number n with so many lines below it
 module _ (n below : ℕ) (before : List Kind) (rest run : List ℕ) where
   -- a bad number is the first breach of its run
-  pub first-bad : is_bad_number (without_stops run) ≡ true → first_breach (run_found n below before rest run) ≡ Some (Refused BadNumber n)
+  pub first-bad : is_bad_number (without_stops run) ≡ true
+      → first_breach (run_found n below before rest run) ≡ Some (Refused BadNumber n)
   unfolding run_found
-  first-bad bad = ap (λ (t : Bool). first_breach (broken BadNumber n t ++ broken LongRun n (nat_lt 80 (length run)) ++ word_found n below before rest (word_of_run (without_stops run)))) bad
+  first-bad bad =
+      ap (λ (t : Bool). first_breach
+      (broken BadNumber n t ++ broken LongRun n (nat_lt 80 (length run))
+      ++ word_found n below before rest (word_of_run (without_stops run)))) bad
 
   -- a long run that is no bad number
-  pub first-long : is_bad_number (without_stops run) ≡ false → nat_lt 80 (length run) ≡ true → first_breach (run_found n below before rest run) ≡ Some (Refused LongRun n)
+  pub first-long : is_bad_number (without_stops run) ≡ false → nat_lt 80 (length run) ≡ true
+      → first_breach (run_found n below before rest run) ≡ Some (Refused LongRun n)
   unfolding run_found
   first-long good long =
-      ap (λ (t : Bool). first_breach (broken BadNumber n t ++ broken LongRun n (nat_lt 80 (length run)) ++ word_found n below before rest (word_of_run (without_stops run)))) good
-      ∙ ap (λ (t : Bool). first_breach (broken LongRun n t ++ word_found n below before rest (word_of_run (without_stops run)))) long
+      ap (λ (t : Bool). first_breach
+      (broken BadNumber n t ++ broken LongRun n (nat_lt 80 (length run))
+      ++ word_found n below before rest (word_of_run (without_stops run)))) good
+      ∙ ap (λ (t : Bool). first_breach
+      (broken LongRun n t ++ word_found n below before rest (word_of_run (without_stops run)))) long
 
   -- a run that breaks neither rule
-  pub run_found-word : (o : Option Kind) → is_bad_number (without_stops run) ≡ false → nat_lt 80 (length run) ≡ false → word_of_run (without_stops run) ≡ o → run_found n below before rest run ≡ word_found n below before rest o
+  pub run_found-word : (o : Option Kind) → is_bad_number (without_stops run) ≡ false → nat_lt 80 (length run) ≡ false
+      → word_of_run (without_stops run) ≡ o → run_found n below before rest run ≡ word_found n below before rest o
   unfolding run_found
   run_found-word o good short e =
-      ap (λ (t : Bool). broken BadNumber n t ++ broken LongRun n (nat_lt 80 (length run)) ++ word_found n below before rest (word_of_run (without_stops run))) good
+      ap (λ (t : Bool). broken BadNumber n t ++ broken LongRun n (nat_lt 80 (length run))
+      ++ word_found n below before rest (word_of_run (without_stops run))) good
       ∙ ap (λ (t : Bool). broken LongRun n t ++ word_found n below before rest (word_of_run (without_stops run))) short
       ∙ ap (λ (k : Option Kind). word_found n below before rest k) e
 
 -- a line of number n with so many lines below it
-module _ (n below : ℕ) (rest : List ℕ) (old new : List WordAt) (kind : Kind) (is : new ≡ old ++ on_line n kind ∷ []) where
-  lacks : lacks_picture (nearest new) rest below ≡ lacks_picture (kind ∷ nearest old) rest below
-  lacks = ap (λ (ks : List Kind). lacks_picture ks rest below) (ap nearest is ∙ nearest-push old (on_line n kind))
+module _ (n below : ℕ) (rest : List ℕ) (old new : List WordAt) (kind : Kind) (is : new ≡ old ++ on_line n kind ∷ [])
+  where
+    lacks : lacks_picture (nearest new) rest below ≡ lacks_picture (kind ∷ nearest old) rest below
+    lacks = ap (λ (ks : List Kind). lacks_picture ks rest below) (ap nearest is ∙ nearest-push old (on_line n kind))
 
-  -- a word that calls no picture, or one that is there
-  pub goes-kept : lacks_picture (nearest new) rest below ≡ false → SameFindings old (word_found n below (nearest old) rest (Some kind)) new []
-  goes-kept there =
-      goes-word (λ _. []) old (on_line n kind) new (word_found n below (nearest old) rest (Some kind))
-      (ap (λ (t : Bool). broken NoPicture n t ++ word (on_line n kind) ∷ []) (sym lacks ∙ there)) is
+    -- a word that calls no picture, or one that is there
+    pub goes-kept : lacks_picture (nearest new) rest below ≡ false
+        → SameFindings old (word_found n below (nearest old) rest (Some kind)) new []
+    goes-kept there =
+        goes-word (λ _. []) old (on_line n kind) new (word_found n below (nearest old) rest (Some kind))
+        (ap (λ (t : Bool). broken NoPicture n t ++ word (on_line n kind) ∷ []) (sym lacks ∙ there)) is
 
-  -- a word whose picture is not there
-  pub first-lacking : lacks_picture (nearest new) rest below ≡ true → first_breach (word_found n below (nearest old) rest (Some kind)) ≡ Some (Refused NoPicture n)
-  first-lacking missing = ap (λ (t : Bool). first_breach (broken NoPicture n t ++ word (on_line n kind) ∷ [])) (sym lacks ∙ missing)
+    -- a word whose picture is not there
+    pub first-lacking : lacks_picture (nearest new) rest below ≡ true
+        → first_breach (word_found n below (nearest old) rest (Some kind)) ≡ Some (Refused NoPicture n)
+    first-lacking missing =
+        ap (λ (t : Bool). first_breach (broken NoPicture n t ++ word (on_line n kind) ∷ [])) (sym lacks ∙ missing)

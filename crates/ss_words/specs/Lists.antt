@@ -15,7 +15,9 @@ Name = List ℕ
 
 -- a list of one or more
 pub record Several (A : Type 0) : Type 0 where
+  -- the first
   pub first : A
+  -- those behind it
   pub others : List A
 
 -- the same as a list

@@ -14,8 +14,11 @@ pub data Plain : Type 0 where
 
 -- a plain word with its line and the place of its word in the list of words, from 0
 pub record PlainAt : Type 0 where
+  -- its line, from 1
   pub line : ℕ
+  -- the place of its word
   pub index : ℕ
+  -- the word
   pub word : Plain
 
 -- a plain word of the code

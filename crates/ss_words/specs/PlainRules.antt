@@ -58,8 +58,11 @@ governing ws = option_and_then mark_in (find (λ w. is_governing (mark_in w)) ws
 -- what stands round a word, each where it is a reserved word or a sign: what is directly before it, its governing word,
 -- and what is directly behind it
 pub record Surroundings : Type 0 where
+  -- the word directly before it
   pub before : Option Mark
+  -- the word that governs it
   pub governing : Option Mark
+  -- the word directly behind it
   pub behind : Option Mark
 
 -- what stands round a word between these; the words before it go backwards

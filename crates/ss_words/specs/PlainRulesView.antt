@@ -2,7 +2,8 @@
 use Rattle.ss_words.specs.declared.plain_rules.Around.{Around}
 use Rattle.ss_words.specs.declared.plain_rules.Rule.{Rule}
 use Rattle.ss_words.specs.declared.plain_rules.Rule.TheVariants as code
-use Rattle.ss_words.specs.PlainRules.{Surroundings, PlainRule, as_follows, without_fillers, governed, single_commas, parting_commas}
+use Rattle.ss_words.specs.PlainRules.{Surroundings, PlainRule, as_follows, without_fillers, governed, single_commas}
+use Rattle.ss_words.specs.PlainRules.{parting_commas}
 
 -- what stands round a word, as the code keeps it
 abbrev pub surroundings_of : Around → Surroundings

@@ -1,9 +1,12 @@
 -- What the bytes of a text are.
 use Rattle.std.specs.Prelude.{ℕ, Bool, ◌&&◌, ◌||◌, not, ◌==◌, nat_le, Option, Some, None, if◌then◌else◌, is_some}
 use Rattle.std.specs.Char.{is_ascii_alphabetic, is_ascii_digit}
-use Rattle.ss_words.specs.declared.characters.TheConstants.{TAB, BLANK, TILDE, STOP, PLUS_SIGN, MINUS_SIGN, ASTERISK, OPENING_PARENTHESIS, CLOSING_PARENTHESIS, COMMA, EQUALS_SIGN, LESS_SIGN, GREATER_SIGN}
+use Rattle.ss_words.specs.declared.characters.TheConstants.{TAB, BLANK, TILDE, STOP, PLUS_SIGN, MINUS_SIGN, ASTERISK}
+use Rattle.ss_words.specs.declared.characters.TheConstants.{OPENING_PARENTHESIS, CLOSING_PARENTHESIS, COMMA}
+use Rattle.ss_words.specs.declared.characters.TheConstants.{EQUALS_SIGN, LESS_SIGN, GREATER_SIGN}
 use Rattle.ss_words.specs.declared.word.Sign.{Sign}
-use Rattle.ss_words.specs.declared.word.Sign.TheVariants.{Plus, Minus, Star, Open, Close, Comma, Equal, Less, Greater, LessEqual, GreaterEqual}
+use Rattle.ss_words.specs.declared.word.Sign.TheVariants.{Plus, Minus, Star, Open, Close, Comma, Equal, Less, Greater}
+use Rattle.ss_words.specs.declared.word.Sign.TheVariants.{LessEqual, GreaterEqual}
 
 -- a byte that may stand in a line: a tab, or a blank to `~`
 unfoldable pub is_allowed : ℕ → Bool

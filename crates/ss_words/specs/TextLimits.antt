@@ -2,7 +2,8 @@
 use Rattle.std.specs.Prelude.{◌≡◌, ◌≤◌, ℕ, true, List, length, map, All, Ok}
 use Rattle.std.specs.Char.{to_ascii_uppercase}
 use Rattle.std.specs.List.{list_all}
-use Rattle.ss_words.specs.declared.limits.TheConstants.{LONGEST_RUN, LARGEST_NUMBER, MOST_PICTURE_LINES, LONGEST_PICTURE_LINE}
+use Rattle.ss_words.specs.declared.limits.TheConstants.{LONGEST_RUN, LARGEST_NUMBER, MOST_PICTURE_LINES}
+use Rattle.ss_words.specs.declared.limits.TheConstants.{LONGEST_PICTURE_LINE}
 use Rattle.ss_words.specs.Words.{Kind, WordAt, name, number, sign, picture}
 use Rattle.ss_words.specs.TextBytes.{in_run}
 use Rattle.ss_words.specs.TextRuns.{without_stops, has_letter}

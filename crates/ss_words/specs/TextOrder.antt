@@ -1,7 +1,9 @@
 -- In which order the rules that are broken at one place are found.
 use Rattle.std.specs.Prelude.{◌≡◌, ℕ, Bool, true, ◌&&◌, nat_lt, List, [], ◌∷◌}
 use Rattle.ss_words.specs.declared.fault.TextRule.{TextRule}
-use Rattle.ss_words.specs.declared.fault.TextRule.TheVariants.{StrayByte, BadNumber, LongRun, NoPicture, LongPictureLine, UnexpectedWord, UnexpectedEnd, PastLimit}
+use Rattle.ss_words.specs.declared.fault.TextRule.TheVariants.{StrayByte, BadNumber, LongRun, NoPicture}
+use Rattle.ss_words.specs.declared.fault.TextRule.TheVariants.{LongPictureLine, UnexpectedWord, UnexpectedEnd}
+use Rattle.ss_words.specs.declared.fault.TextRule.TheVariants.{PastLimit}
 use Rattle.ss_words.specs.Words.{Kind}
 use Rattle.ss_words.specs.TextWords.{Finding, word, breach, found_at, picture_head}
 

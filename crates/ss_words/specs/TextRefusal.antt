@@ -1,6 +1,7 @@
 -- At which places of a text which rules are broken, and where a text is refused. The places of a text are the bytes of
 -- its lines, counted from 0 over all lines.
-use Rattle.std.specs.Prelude.{◌≡◌, ◌≤◌, ◌<◌, ℕ, zero, suc, ◌+◌, false, List, [], ◌∷◌, ◌++◌, map, length, sum_by, Contains, Ok, Err}
+use Rattle.std.specs.Prelude.{◌≡◌, ◌≤◌, ◌<◌, ℕ, zero, suc, ◌+◌, false, List, [], ◌∷◌, ◌++◌, map, length, sum_by}
+use Rattle.std.specs.Prelude.{Contains, Ok, Err}
 use Rattle.ss_words.specs.declared.characters.TheConstants.{BLANK}
 use Rattle.ss_words.specs.declared.fault.TextRule.{TextRule}
 use Rattle.ss_words.specs.declared.fault.TextFault.{TextFault}
@@ -57,8 +58,11 @@ IsBroken text i r n = Contains (at_place (breaches_by_place text) i) (Refused r 
 
 -- a text is refused at place i by rule r on line n: r is broken there, no rule at an earlier place, no lower one there
 pub record IsRefusedAt (text : List ℕ) (i : ℕ) (r : TextRule) (n : ℕ) : Type 0 where
+  -- the rule is broken there
   pub broken : IsBroken text i r n
+  -- none is broken at an earlier place
   pub none_earlier : (j : ℕ) (q : TextRule) (m : ℕ) → j < i → IsBroken text j q m → ⊥
+  -- none with a lower number is broken there
   pub none_lower : (q : TextRule) (m : ℕ) → IsBroken text i q m → rule_number r ≤ rule_number q
 
 -- where the answer is a refusal, it has its place

@@ -1,12 +1,14 @@
 -- How far a scan of a text has come.
-use Rattle.std.specs.Prelude.{◌≡◌, ℕ, suc, Bool, true, false, ◌==◌, ◌&&◌, ◌||◌, List, [], ◌∷◌, ◌++◌, map, length, codes, Option, Some, None, if◌then◌else◌}
+use Rattle.std.specs.Prelude.{◌≡◌, ℕ, suc, Bool, true, false, ◌==◌, ◌&&◌, ◌||◌, List, [], ◌∷◌, ◌++◌, map, length, codes}
+use Rattle.std.specs.Prelude.{Option, Some, None, if◌then◌else◌}
 use Rattle.ss_words.specs.declared.characters.TheConstants.{QUOTE}
 use Rattle.ss_words.specs.declared.fault.TextFault.{TextFault}
 use Rattle.ss_words.specs.declared.fault.TextFault.TheVariants.{Refused, Memory}
 use Rattle.ss_words.specs.Words.{Kind, WordAt}
 use Rattle.ss_words.specs.TextLines.{text_lines}
 use Rattle.ss_words.specs.TextRuns.{is_name, ends_in, calls_picture, line_count, picture_lines}
-use Rattle.ss_words.specs.TextWords.{Finding, word, breach, nearest_first, picture_found, picture_size, found_from_line, found_in_line}
+use Rattle.ss_words.specs.TextWords.{Finding, word, breach, nearest_first, picture_found, picture_size, found_from_line}
+use Rattle.ss_words.specs.TextWords.{found_in_line}
 
 -- the words, the nearest first, in front of those before them
 abbrev pub nearest_before : List WordAt → List Kind → List Kind
@@ -46,9 +48,13 @@ hidden_len (b ∷ c ∷ bs) = elim (b == QUOTE && c == QUOTE) [ true ↦ 2 | fal
 
 -- what is kept of the words: whether they end in AS, end in PRINT or call a picture, and how many lines it has
 pub record IsTracked (behind_as behind_print called : Bool) (count : Option ℕ) (words : List Kind) : Type 0 where
+  -- whether they end in AS
   pub as_last : behind_as ≡ ends_in (codes "AS") words
+  -- whether they end in PRINT
   pub print_last : behind_print ≡ ends_in (codes "PRINT") words
+  -- whether they call a picture
   pub calls : called ≡ calls_picture words
+  -- how many lines it has
   pub lines : count ≡ picture_lines words
 
 -- the words call a picture, once a word joins them

@@ -14,7 +14,9 @@ pub data Kind : Type 0 where
 
 -- a word with the line on which it begins, from 1
 pub record WordAt : Type 0 where
+  -- its line
   pub line : ℕ
+  -- what it is
   pub kind : Kind
 
 -- the bytes of each line

@@ -1,7 +1,8 @@
 //! The cursor over plain words from which a parser reads.
-#![tactic(auto, using(crate::proofs::Marks::taken), unfolding(crate::specs::Reading::look, crate::specs::Reading::skip, crate::specs::Reading::pure, crate::specs::Reading::refuse, crate::specs::Marks::expect, crate::specs::Marks::eat, crate::specs::Marks::a_name, crate::specs::Marks::a_number, crate::specs::Marks::a_picture))]
+#![tactic(auto, using(crate::proofs::Marks::taken), unfolding(crate::proofs::Unfoldings::cursor_together))]
 
-ghost use Rattle.std.specs.Prelude.{IfOk, IfErr, OnErr, IsTrue, length, map, option_map, option_copied, ◌≡◌, ◌==◌, ◌≤◌, ◌<◌, ◌-◌, Ok, Some};
+ghost use Rattle.std.specs.Prelude.{IfOk, IfErr, OnErr, IsTrue, length, map, option_map, option_copied, ◌≡◌, ◌==◌, ◌≤◌};
+ghost use Rattle.std.specs.Prelude.{◌<◌, ◌-◌, Ok, Some};
 ghost use Rattle.ss_words.specs.declared.refusal.Refusal.TheVariants.{Unexpected};
 ghost use Rattle.ss_words.specs.Reading.{Gives, rest_of};
 ghost use Rattle.ss_words.specs.Plain.{first, plain_of, plains_of, word_lines};

@@ -14,7 +14,7 @@ impl<'a> Cursor<'a> {
     /// Passes `name {"," name}` and gives copies of the names. `Unexpected` where the next word
     /// is no name, or the one behind a comma is none; `Memory` where the memory for the copies
     /// was refused.
-    #[tactic(auto, unfolding(crate::specs::Reading::bind, crate::specs::Reading::pure, crate::specs::Lists::names))]
+    #[tactic(auto, unfolding(crate::proofs::Unfoldings::names_together))]
     pub fn names(&mut self) -> Result<Several<Vec<u8>>, Refusal>
         ensures exact { Gives (several_view (λ n. n.items)) result self.new (lists.names self.old) }
         ensures shorter { length self.new ≤ length self.old }
@@ -27,9 +27,10 @@ impl<'a> Cursor<'a> {
 
     /// Passes `[mark name {"," name}]`: this mark and the names behind it, or nothing where the
     /// next word isn't this mark. `Unexpected` and `Memory` as for [`Cursor::names`].
-    #[tactic(auto, unfolding(crate::specs::Reading::bind, crate::specs::Reading::pure, crate::specs::Lists::names_behind))]
+    #[tactic(auto, unfolding(crate::proofs::Unfoldings::names_together))]
     pub fn names_behind(&mut self, mark: Mark) -> Result<Option<Several<Vec<u8>>>, Refusal>
-        ensures exact { Gives (option_view (several_view (λ n. n.items))) result self.new (lists.names_behind mark self.old) }
+        ensures exact { Gives (option_view (several_view (λ n. n.items))) result self.new
+            (lists.names_behind mark self.old) }
         ensures shorter { length self.new ≤ length self.old }
     {
         if !self.eat(mark) {

@@ -1,10 +1,11 @@
 //! What the definition of a text's words gives on small texts: each function is a law, proved by
 //! computing.
-#![tactic(auto, unfolding(crate::specs::TextBytes::is_allowed, crate::specs::TextBytes::is_blank, crate::specs::TextBytes::in_run, crate::specs::TextBytes::one_byte_sign, crate::specs::TextBytes::sign_from, crate::specs::TextBytes::is_joined, crate::specs::TextBytes::is_stray, crate::specs::TextLines::without_return, crate::specs::TextLines::without_empty_last, crate::specs::TextLines::text_lines, crate::specs::TextLines::blanked, crate::specs::TextLines::comments, crate::specs::TextLines::is_bare, crate::specs::TextRuns::without_stops, crate::specs::TextRuns::number_of, crate::specs::TextRuns::is_bad_number, crate::specs::TextRuns::word_of_run, crate::specs::TextRuns::is_name, crate::specs::TextRuns::calls_picture, crate::specs::TextRuns::behind_print, crate::specs::TextRuns::line_count, crate::specs::TextRuns::lacks_picture, crate::specs::TextWords::run_found, crate::specs::TextWords::begun_at, crate::specs::TextWords::found_at, crate::specs::TextWords::found_from_place, crate::specs::TextWords::found_in_picture, crate::specs::TextWords::picture_size, crate::specs::TextWords::found_from_line, crate::specs::TextWords::found_in_text, crate::specs::TextWords::answer_of, crate::specs::TextWords::words_of))]
+#![tactic(auto, unfolding(crate::proofs::Unfoldings::text_together))]
 
 ghost use Rattle.std.specs.Prelude.{◌≡◌, [], ◌∷◌, ◌++◌, Ok, Err, codes, replicate};
 ghost use Rattle.ss_words.specs.declared.characters.TheConstants.{LINE_FEED, CARRIAGE_RETURN};
-ghost use Rattle.ss_words.specs.declared.fault.TextRule.TheVariants.{StrayByte, BadNumber, LongRun, NoPicture, LongPictureLine};
+ghost use Rattle.ss_words.specs.declared.fault.TextRule.TheVariants.{StrayByte, BadNumber, LongRun, NoPicture};
+ghost use Rattle.ss_words.specs.declared.fault.TextRule.TheVariants.{LongPictureLine};
 ghost use Rattle.ss_words.specs.declared.fault.TextFault.TheVariants.{Refused};
 ghost use Rattle.ss_words.specs.declared.word.Sign.TheVariants.{LessEqual, Equal, Less};
 ghost use Rattle.ss_words.specs.Words.{name, number, sign, picture};

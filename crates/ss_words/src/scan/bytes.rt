@@ -1,5 +1,5 @@
 //! What the bytes of a line are.
-#![tactic(auto, unfolding(crate::specs::TextBytes::is_allowed, crate::specs::TextBytes::is_blank, crate::specs::TextBytes::in_run, crate::specs::TextBytes::one_byte_sign, crate::specs::TextBytes::sign_from))]
+#![tactic(auto, unfolding(crate::proofs::Unfoldings::bytes_together))]
 
 ghost use Rattle.std.specs.Prelude.{◌≡◌};
 ghost use Rattle.std.specs.List.{list_all};

@@ -1,5 +1,6 @@
 //! The words of a line outside pictures.
-ghost use Rattle.std.specs.Prelude.{◌≡◌, ℕ, ◌+◌, ◌<◌, ◌≤◌, true, false, [], List, length, drop, take_while, slice_index, Some, MatchResult, IfOk};
+ghost use Rattle.std.specs.Prelude.{◌≡◌, ℕ, ◌+◌, ◌<◌, ◌≤◌, true, false, [], List, length, drop, take_while};
+ghost use Rattle.std.specs.Prelude.{slice_index, Some, MatchResult, IfOk};
 ghost use Rattle.ss_words.specs.Words.{Kind, kind_of};
 ghost use Rattle.ss_words.specs.TextBytes.{is_blank, in_run, sign_len};
 ghost use Rattle.ss_words.specs.TextLines.{text_lines, is_bare};

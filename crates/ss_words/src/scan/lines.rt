@@ -1,5 +1,6 @@
 //! The lines of a text, one after another.
-ghost use Rattle.std.specs.Prelude.{◌≡◌, ◌+◌, ◌<◌, ◌≤◌, ◌^◌, ◌==◌, [], ◌∷◌, length, nat_le, position, MatchOption, IfNone, OnSome};
+ghost use Rattle.std.specs.Prelude.{◌≡◌, ◌+◌, ◌<◌, ◌≤◌, ◌^◌, ◌==◌, [], ◌∷◌, length, nat_le, position, MatchOption};
+ghost use Rattle.std.specs.Prelude.{IfNone, OnSome};
 ghost use Rattle.ss_words.specs.declared.characters.TheConstants.{LINE_FEED};
 ghost use Rattle.ss_words.specs.TextLines.{text_lines, without_return};
 

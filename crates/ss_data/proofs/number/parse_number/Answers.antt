@@ -9,5 +9,6 @@ returns-in_err-text c =
 
 pub returns : goal.returns
 returns c =
-    let text = text-from_utf8 c.from_utf8.result c.in_ok-text.text _ _ c.in_ok-text.ensures.value c.from_utf8.ensures.cases in
+    let text =
+    text-from_utf8 c.from_utf8.result c.in_ok-text.text _ _ c.in_ok-text.ensures.value c.from_utf8.ensures.cases in
     rw (← text.0) (c.ok-2.ensures.value ∙ number-parse c.in_ok-text.text.now c.parse.result c.parse.ensures.value.0)

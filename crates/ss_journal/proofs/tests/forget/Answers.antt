@@ -7,4 +7,5 @@ use Rattle.ss_journal.proofs.tests.forget.Goals as goal
 pub returns-clause-fits : goal.returns-clause-fits
 returns-clause-fits c =
     subst (λ steps. FitsSteps fits-value.it unapply-value.it steps c.args.dial.now) (sym c.keep_last.ensures.steps)
-    (FitsSteps-newest fits-value.it unapply-value.it c.args.kept c.args.journal.now.steps c.args.dial.now c.requires.fits)
+    (FitsSteps-newest fits-value.it unapply-value.it c.args.kept c.args.journal.now.steps c.args.dial.now
+    c.requires.fits)

@@ -8,7 +8,8 @@ invariant-loop-change g l =
     let fits = g.U.Undo.fits in
     let unapply = g.U.Undo.unapply in
     record {
-      leads : unapply_all unapply l.journal.current l.target ≡ unapply_all unapply l.initial.journal.current l.initial.target;
+      leads : unapply_all unapply l.journal.current l.target
+          ≡ unapply_all unapply l.initial.journal.current l.initial.target;
       fit : FitsAll fits unapply l.journal.current l.target;
       steps : l.journal.steps ≡ l.initial.journal.steps;
       notes : l.journal.notes + length l.journal.current ≡ l.initial.journal.notes + length l.initial.journal.current;

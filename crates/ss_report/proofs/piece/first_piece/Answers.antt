@@ -5,7 +5,8 @@ use Rattle.ss_report.proofs.piece.first_piece.Goals as goal
 
 pub returns-clause-parts : goal.returns-clause-parts
 returns-clause-parts c =
-    first_bytes _ _ _ _ c.leading_others.ensures.value (c.in_ok-from_slice.ensures.items ∙ c.split_at-2.ensures.front) c.split_at-2.ensures.back
+    first_bytes _ _ _ _ c.leading_others.ensures.value (c.in_ok-from_slice.ensures.items ∙ c.split_at-2.ensures.front)
+    c.split_at-2.ensures.back
 
 pub returns-clause-shorter : goal.returns-clause-shorter
 returns-clause-shorter c =

@@ -9,5 +9,6 @@ abbrev pub invariant-loop-piece : goal.invariant-loop-piece
 invariant-loop-piece l = record {
   values : length l.values ≡ count_by is_field (parts_of (drop l.piece-index l.pieces));
   room : vec_len l.bytes + parts_len (parts_of (drop l.piece-index l.pieces)) ≤ vec_capacity l.bytes;
-  written : l.bytes.items ++ parts_text (parts_of (drop l.piece-index l.pieces)) l.values ≡ l.initial.bytes.items ++ parts_text (parts_of l.pieces) l.initial.values;
+  written : l.bytes.items ++ parts_text (parts_of (drop l.piece-index l.pieces)) l.values
+      ≡ l.initial.bytes.items ++ parts_text (parts_of l.pieces) l.initial.values;
 }

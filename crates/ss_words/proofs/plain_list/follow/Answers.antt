@@ -4,8 +4,10 @@ use Rattle.ss_words.proofs.plain_list.follow.Goals as goal
 
 pub loop-next-init : goal.loop-next-init
 loop-next-init c =
-    let step = c.next-next in
-    (rw (← step.ensures.items, c.into_iter-rest.ensures.rest, c.in_ok-kept.ensures.items) (following_begins _ _), nothing_left step.result _ _ _ _ step.ensures.cases step.new.self.rest.ok.0)
+    let step = c.next-next in (
+      rw (← step.ensures.items, c.into_iter-rest.ensures.rest, c.in_ok-kept.ensures.items) (following_begins _ _),
+      nothing_left step.result _ _ _ _ step.ensures.cases step.new.self.rest.ok.0,
+    )
 
 pub loop-next-preserved : goal.loop-next-preserved
 loop-next-preserved c =

@@ -7,4 +7,5 @@ use Rattle.ss_words.proofs.plain_list.spell.Given as goal
 
 abbrev pub invariant-loop-index : goal.invariant-loop-index
 invariant-loop-index l =
-    map plain_at l.plain.items ++ map (λ e. plain_from e.0 e.1) (enumerate_from l.index (map word_at (drop l.index l.word-items))) ≡ spelled (map word_at l.word-items)
+    map plain_at l.plain.items ++ map (λ e. plain_from e.0 e.1)
+    (enumerate_from l.index (map word_at (drop l.index l.word-items))) ≡ spelled (map word_at l.word-items)

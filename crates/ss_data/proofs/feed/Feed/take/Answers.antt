@@ -10,4 +10,5 @@ returns-clause-value c =
     let written = sym c.parse_number.ensures ∙ c.in_ok-value.ensures.ok_part in
     let next = sym c.get.ensures.piece ∙ ap option_copied c.in_ok-piece.ensures.ok_part in
     rw (to_z-of_z w64 c.in_ok-value.value (number-fits c.in_ok-piece.piece.now c.in_ok-value.value written))
-    (sym (next_value-at c.self.inside.pieces c.self.inside.taken c.args.self.now c.in_ok-piece.piece.now c.in_ok-value.value c.self.view_is next written))
+    (sym (next_value-at c.self.inside.pieces c.self.inside.taken c.args.self.now c.in_ok-piece.piece.now
+    c.in_ok-value.value c.self.view_is next written))

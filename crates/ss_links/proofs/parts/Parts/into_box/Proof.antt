@@ -1,5 +1,11 @@
 -- `into_box` hands the value, and the right to free its block, to a box.
-use Rattle.ss_links.proofs.Steps.{◌≡◌, List, [], ◌∷◌, ◌++◌, refl, sym, ap, subst, proved_at, id⊢, ftrue, fsep, flft, Val, vptr, fact, tables, WpFn, ‵, raw, ◌⊛◌, some, later, prop, at_ret, ◌$◌, ◌∵◌, !, qed, done, move, drop, use1, split, split3, join, fsplit, fjoin, feq_i, pick, await, rewrite, regoal, suffices, enter, of_opd, stop, fld, no_more, and_then, first, blocks, exec, returns, alloc_all, pass_all, free_all, look_at, get, get_in, sets, env, whole, sub, no, block_ptr, plain, nothing, heard, only, triple_of, Stays, walk_of, says, stay_dropped, ends_at, framed, Goes-blank, after}
+use Rattle.ss_links.proofs.Steps.{◌≡◌, List, [], ◌∷◌, ◌++◌, refl, sym, ap, subst, proved_at, id⊢, ftrue, fsep, flft}
+use Rattle.ss_links.proofs.Steps.{Val, vptr, fact, tables, WpFn, ‵, raw, ◌⊛◌, some, later, prop, at_ret, ◌$◌, ◌∵◌, ! }
+use Rattle.ss_links.proofs.Steps.{qed, done, move, drop, use1, split, split3, join, fsplit, fjoin, feq_i, pick, await}
+use Rattle.ss_links.proofs.Steps.{rewrite, regoal, suffices, enter, of_opd, stop, fld, no_more, and_then, first, blocks}
+use Rattle.ss_links.proofs.Steps.{exec, returns, alloc_all, pass_all, free_all, look_at, get, get_in, sets, env, whole}
+use Rattle.ss_links.proofs.Steps.{sub, no, block_ptr, plain, nothing, heard, only, triple_of, Stays, walk_of, says}
+use Rattle.ss_links.proofs.Steps.{stay_dropped, ends_at, framed, Goes-blank, after}
 use lib.Dec.{T}
 use mir.Syntax.{a_type, dcons, dnil}
 use contract.BorrowLft.{◌⊑◌}

@@ -1,5 +1,12 @@
 -- `of` takes a box apart: the parts own its value, and the right to free its block.
-use Rattle.ss_links.proofs.Steps.{◌≡◌, List, [], ◌∷◌, ◌++◌, refl, ap, ◌∙◌, proved_at, never, fst∗, id⊢, ftrue, fsep, flft, Val, fact, tables, WpFn, sem, ‵, raw, ◌⊛◌, some, later, prop, ◌$◌, ◌∵◌, !, qed, done, move, drop, use1, split, split3, join, fsplit, fjoin, feq_l, pick, await, rewrite, regoal, suffices, enter, of_opd, stop, fld, no_more, and_then, returns, alloc_all, pass_all, free_all, look_at, get, get_in, sets, lands_as, whole, sub, agg, no, Ptr, RawPtr, block_ptr, null_ptr, ptr_val, in_a_block, plain, nothing, heard, only, calls_at, triple_of, owns, Stays, walk_of, says, stay_dropped, ends_at, framed, Goes-blank}
+use Rattle.ss_links.proofs.Steps.{◌≡◌, List, [], ◌∷◌, ◌++◌, refl, ap, ◌∙◌, proved_at, never, fst∗, id⊢, ftrue, fsep}
+use Rattle.ss_links.proofs.Steps.{flft, Val, fact, tables, WpFn, sem, ‵, raw, ◌⊛◌, some, later, prop, ◌$◌, ◌∵◌, !, qed}
+use Rattle.ss_links.proofs.Steps.{done, move, drop, use1, split, split3, join, fsplit, fjoin, feq_l, pick, await}
+use Rattle.ss_links.proofs.Steps.{rewrite, regoal, suffices, enter, of_opd, stop, fld, no_more, and_then, returns}
+use Rattle.ss_links.proofs.Steps.{alloc_all, pass_all, free_all, look_at, get, get_in, sets, lands_as, whole, sub, agg}
+use Rattle.ss_links.proofs.Steps.{no, Ptr, RawPtr, block_ptr, null_ptr, ptr_val, in_a_block, plain, nothing, heard}
+use Rattle.ss_links.proofs.Steps.{only, calls_at, triple_of, owns, Stays, walk_of, says, stay_dropped, ends_at, framed}
+use Rattle.ss_links.proofs.Steps.{Goes-blank}
 use mir.Syntax.{a_type, dcons, dnil}
 use mir.MapTy.{inst_fn}
 use mir.Raw.{raw as bare}

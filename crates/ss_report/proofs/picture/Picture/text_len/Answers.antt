@@ -9,4 +9,5 @@ returns-clause-value c =
 
 pub returns-clause-whatever_the_values : goal.returns-clause-whatever_the_values
 returns-clause-whatever_the_values c =
-    λ values. length-parts_text (picture_parts c.args.self.now) values ∙ sym (length-parts_text (picture_parts c.args.self.now) [])
+    λ values. length-parts_text (picture_parts c.args.self.now) values
+    ∙ sym (length-parts_text (picture_parts c.args.self.now) [])

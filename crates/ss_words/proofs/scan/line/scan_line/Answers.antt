@@ -12,4 +12,6 @@ returns-in_err-len c =
     rw (p.1, p.2) (is_first-goes c.in_err-len.field-0.0 _ _ _ _ c.loop-rest.invariant c.in_err-len.ensures.found)
 
 pub returns : goal.returns
-returns c = c.loop-rest.invariant ∙ ap (λ (fs : List Finding). map word c.loop-rest.words ++ fs) (left_in_line-none _ _ _ _ (eqb-same _ 0 (sym c.loop-rest-test.ensures)))
+returns c =
+    c.loop-rest.invariant ∙ ap (λ (fs : List Finding). map word c.loop-rest.words ++ fs)
+    (left_in_line-none _ _ _ _ (eqb-same _ 0 (sym c.loop-rest-test.ensures)))

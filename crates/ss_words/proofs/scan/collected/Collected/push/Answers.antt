@@ -7,5 +7,10 @@ use Rattle.ss_words.proofs.scan.collected.Collected.push.Goals as goal
 -- what is kept of the words stays true of them
 pub invariant_of-self-2 : goal.invariant_of-self-2
 invariant_of-self-2 c =
-    rw (c.is_name-is_as.ensures, c.is_name-is_print.ensures, c.called_after-calls_picture.ensures, c.count_after-lines.ensures)
+    rw (
+      c.is_name-is_as.ensures,
+      c.is_name-is_print.ensures,
+      c.called_after-calls_picture.ensures,
+      c.count_after-lines.ensures,
+    )
     (tracked-push _ _ _ _ _ _ _ (ap (map word_at) c.in_ok-push.ensures.items ∙ map-append word_at _ _) c.self.invariant)
