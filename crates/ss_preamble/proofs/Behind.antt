@@ -1,13 +1,13 @@
 -- The words behind a preamble.
-use Rattle.std.proofs.Common.{◌≡◌, ℕ, zero, suc, ◌+◌, ◌-◌, ◌≤◌, ◌<◌, List, [], ◌∷◌, ◌++◌, length, length-append}
+use Rattle.std.proofs.Common.{◌≡◌, ℕ, zero, suc, ◌+◌, ◌-◌, ◌≤◌, ◌<◌, List, [], ◌∷◌, length, length-append}
 use Rattle.std.proofs.Common.{drop, drop_at, refl, sym, ap, ◌∙◌, arith, le-leb}
 use Rattle.std.proofs.lemmas.Bool.{lt-leb}
 use Rattle.std.specs.Prelude.{map, slice_index}
-use Rattle.ss_words.specs.Words.{WordAt}
-use Rattle.ss_words.specs.Plain.{Plain, PlainAt, plains}
+use Rattle.ss_words.specs.Plain.{PlainAt, plains}
 use Rattle.ss_words.specs.PlainRules.{plain_words_of}
-use Rattle.ss_preamble.specs.Tree.{Decls}
 use Rattle.ss_preamble.specs.Spelling.{spell}
+use Rattle.ss_words.specs.Words.{WordAt}
+use Rattle.ss_preamble.specs.Tree.{Decls}
 use Rattle.ss_preamble.specs.Refused.{IsPreamble, words_from}
 use Rattle.ss_preamble.specs.Laws.{WordsStandBehind}
 use Rattle.ss_preamble.proofs.Indexes.{Rising, rising}
@@ -51,16 +51,24 @@ length_plains : (ws : List PlainAt) → length (plains ws) ≡ length ws
 length_plains [] = refl
 length_plains (w ∷ ws) = ap suc (length_plains ws)
 
+-- from the number behind a preamble on there are the words behind it
+pub drop_behind : (ws : List WordAt) (d : Decls) (number : ℕ) (p : IsPreamble d number (plain_words_of ws))
+    → words_from number (plain_words_of ws) ≡ drop (length (spell p.items)) (plain_words_of ws)
+drop_behind ws d number p =
+    let all = plain_words_of ws in
+    let size = length (spell p.items) in
+    let some : 0 < size = omega arith in
+    let split : length (plains all) ≡ size + length p.behind =
+    ap length p.words ∙ length-append (spell p.items) p.behind in
+    let count : length all ≡ size + length p.behind = sym (length_plains all) ∙ split in
+    let here : words_from (slice_index (numbers_behind all) (size - 1)) all ≡ drop (suc (size - 1)) all =
+    from_behind 0 (length ws) all (size - 1) (rising ws) (omega (arith, some, count)) in
+    ap (λ (n : ℕ). words_from n all) p.number_is ∙ here
+    ∙ ap (λ (n : ℕ). drop n all) (let h : suc (size - 1) ≡ size = omega (arith, some) in h)
+
 pub words_stand_behind : WordsStandBehind
 words_stand_behind ws d number p =
     let all = plain_words_of ws in
     let size = length (spell p.items) in
-    let some : 0 < size = omega arith in
-    let split : length (plains all) ≡ size + length p.behind = ap length p.words ∙ length-append (spell p.items) p.behind in
-    let count : length all ≡ size + length p.behind = sym (length_plains all) ∙ split in
-    let here : words_from (slice_index (numbers_behind all) (size - 1)) all ≡ drop (suc (size - 1)) all =
-    from_behind 0 (length ws) all (size - 1) (rising ws) (omega (arith, some, count)) in
-    let size_is : suc (size - 1) ≡ size = omega (arith, some) in
-    ap (λ (n : ℕ). plains (words_from n all)) p.number_is ∙ ap plains here ∙ plains_behind (suc (size - 1)) all
-    ∙ ap (λ (n : ℕ). drop n (plains all)) size_is ∙ ap (drop size) p.words
+    ap plains (drop_behind ws d number p) ∙ plains_behind size all ∙ ap (drop size) p.words
     ∙ drop_at (spell p.items) p.behind size refl

@@ -34,7 +34,7 @@ next_clause = look clause_by
 unfoldable pub a_clause : Reading Clause
 a_clause = next_clause >>= λ o. elim o [ Some c ↦ pure c | None ↦ refuse Unexpected ]
 
--- clauses, ks long ks there are
+-- clauses, as long as there are
 unfoldable pub other_clauses : Reading (List Clause)
 other_clauses = many next_clause [] (λ c cs. c ∷ cs)
 
@@ -138,7 +138,7 @@ item_by _ = pure None
 unfoldable pub next_item : Reading (Option Item)
 next_item = look item_by
 
--- items, ks long ks there are
+-- items, as long as there are
 unfoldable pub items_with : Reading (List Item)
 items_with = many next_item [] (λ i is. i ∷ is)
 

@@ -2,6 +2,7 @@ pub mod Tree
 pub mod Spelling
 pub mod Roles
 pub mod Limits
+pub mod WordLimits
 pub mod Tally
 pub mod Written
 pub mod Refused
@@ -9,3 +10,4 @@ pub mod View
 pub mod ItemReading
 pub mod ItemsAtLines
 pub mod Laws
+pub mod Examples

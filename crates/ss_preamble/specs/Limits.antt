@@ -1,36 +1,33 @@
--- What is within the limits.
-use Rattle.std.specs.Prelude.{◌≡◌, ◌≤◌, Bool, false, true, List, [], ◌∷◌, ◌++◌, length, if◌then◌else◌, bytes_eq, fold}
-use Rattle.std.specs.Prelude.{count_by, leb, not}
-use Rattle.std.specs.List.{flat_map, list_any}
-use Rattle.ss_words.specs.Lists.{Name}
-use Rattle.ss_preamble.specs.Tree.{Preamble}
-use Rattle.ss_preamble.specs.Spelling.{spell}
-use Rattle.ss_preamble.specs.Roles.{Role, AClass, AnAttribute, AVariable, ASet, AKey, roles}
+-- The limits, what the items of a preamble have of each thing that is limited, and what is within the limits.
+use Rattle.std.specs.Prelude.{◌≤◌, ℕ, List, [], ◌∷◌, ◌++◌, length, if◌then◌else◌, bytes_eq, fold, All, Some}
+use Rattle.std.specs.List.{flat_map, list_any, sum_by}
+use Rattle.ss_words.specs.Lists.{Name, Several, all_of}
+use Rattle.ss_preamble.specs.Tree.{Clause, Has, Owns, BelongsTo, Ranked, Variables, Sets, BreakTies, Item, Headed}
+use Rattle.ss_preamble.specs.Tree.{OfEvery, OfSystem, Defines, Orders, Preamble}
 
--- the names of classes
-abbrev pub class_of : Role → List Name
-class_of (AClass n) = n ∷ []
-class_of _ = []
+-- ---- the limits
 
--- the names of sets
-abbrev pub set_of : Role → List Name
-set_of (ASet n) = n ∷ []
-set_of _ = []
+-- a program has at most so many classes
+abbrev pub most_classes : ℕ
+most_classes = 64
 
--- whether it is an attribute of this class
-abbrev pub is_attribute_of : Name → Role → Bool
-is_attribute_of c (AnAttribute n) = bytes_eq c n
-is_attribute_of c _ = false
+-- a class has at most so many attributes
+abbrev pub most_attributes : ℕ
+most_attributes = 32
 
--- whether it is a variable
-abbrev pub is_variable : Role → Bool
-is_variable AVariable = true
-is_variable _ = false
+-- the system and the preamble have at most so many variables together
+abbrev pub most_variables : ℕ
+most_variables = 256
 
--- whether it is a key behind eight others of its ranking
-abbrev pub is_late_key : Role → Bool
-is_late_key (AKey k) = not (leb k 8)
-is_late_key _ = false
+-- a program has at most so many sets
+abbrev pub most_sets : ℕ
+most_sets = 64
+
+-- a ranking has at most so many keys
+abbrev pub most_keys : ℕ
+most_keys = 8
+
+-- ---- names that count once
 
 -- some names and one more, if it isn't among them
 abbrev pub with_name : List Name → Name → List Name
@@ -40,20 +37,64 @@ with_name ns n = if list_any (bytes_eq n) ns then ns else ns ++ n ∷ []
 abbrev pub distinct : List Name → List Name
 distinct ns = fold with_name [] ns
 
--- what names count to is within the limits: classes and sets by their distinct names; attributes of one
--- class, variables and keys of one ranking as they are written
-pub record AreWithin (rs : List Role) : Type 0 where
-  -- at most 64 classes
-  pub classes : length (distinct (flat_map class_of rs)) ≤ 64
-  -- at most 32 attributes of each class
-  pub attributes : (c : Name) → count_by (is_attribute_of c) rs ≤ 32
-  -- at most 256 variables
-  pub variables : count_by is_variable rs ≤ 256
-  -- at most 64 sets
-  pub sets : length (distinct (flat_map set_of rs)) ≤ 64
-  -- no key is the ninth of its ranking, or a later one
-  pub keys : count_by is_late_key rs ≡ 0
+-- the names of classes: those behind INCLUDE, and the one behind EVERY
+abbrev pub class_names : Item → List Name
+class_names (Headed h (Some ns)) = all_of ns
+class_names (OfEvery n cs) = n ∷ []
+class_names _ = []
+
+-- the names of sets in a clause: those behind OWNS and BELONGS TO
+abbrev pub clause_sets : Clause → List Name
+clause_sets (Has ns) = []
+clause_sets (Owns ns) = all_of ns
+clause_sets (BelongsTo ns) = all_of ns
+
+-- the names of sets: those in the clauses of EVERY and SYSTEM, and those that a DEFINE makes sets
+abbrev pub set_names : Item → List Name
+set_names (OfEvery n cs) = flat_map clause_sets (all_of cs)
+set_names (OfSystem cs) = flat_map clause_sets (all_of cs)
+set_names (Defines (Sets ns k)) = all_of ns
+set_names _ = []
+
+-- ---- names that count as often as they are written
+
+-- the names behind HAS
+abbrev pub clause_has : Clause → List Name
+clause_has (Has ns) = all_of ns
+clause_has _ = []
+
+-- how many names some clauses have behind HAS
+abbrev pub has_count : Several Clause → ℕ
+has_count cs = length (flat_map clause_has (all_of cs))
+
+-- how many attributes an item gives to class c: the names behind HAS in an EVERY of this class
+abbrev pub attribute_count : Name → Item → ℕ
+attribute_count c (OfEvery n cs) = if bytes_eq c n then has_count cs else 0
+attribute_count c _ = 0
+
+-- how many variables an item declares: the names behind HAS of SYSTEM, and those that a DEFINE makes variables
+abbrev pub variable_count : Item → ℕ
+variable_count (OfSystem cs) = has_count cs
+variable_count (Defines (Variables ns)) = length (all_of ns)
+variable_count _ = 0
+
+-- how many keys the ranking of an item has, in a DEFINE of ranked sets or in BREAK TIES
+abbrev pub key_count : Item → ℕ
+key_count (Defines (Sets ns (Ranked ks))) = length (all_of ks)
+key_count (Orders (BreakTies n ks)) = length (all_of ks)
+key_count _ = 0
+
+-- ---- within the limits
 
 -- a preamble is within the limits
-abbrev pub IsWithin : Preamble → Type 0
-IsWithin is = AreWithin (roles (spell is))
+pub record IsWithin (is : Preamble) : Type 0 where
+  -- its distinct classes
+  pub classes : length (distinct (flat_map class_names is)) ≤ most_classes
+  -- the attributes of each class, over all items EVERY of this class
+  pub attributes : (c : Name) → sum_by (attribute_count c) is ≤ most_attributes
+  -- the variables of the system and of the preamble together
+  pub variables : sum_by variable_count is ≤ most_variables
+  -- its distinct sets
+  pub sets : length (distinct (flat_map set_names is)) ≤ most_sets
+  -- the keys of each ranking
+  pub keys : All (λ i. key_count i ≤ most_keys) is

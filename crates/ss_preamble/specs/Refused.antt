@@ -15,7 +15,8 @@ use Rattle.ss_words.specs.Farthest.{IsFarthest}
 use Rattle.ss_preamble.specs.Tree.{Preamble, Decls}
 use Rattle.ss_preamble.specs.Spelling.{spell}
 use Rattle.ss_preamble.specs.Roles.{roles}
-use Rattle.ss_preamble.specs.Limits.{AreWithin, IsWithin}
+use Rattle.ss_preamble.specs.Limits.{IsWithin}
+use Rattle.ss_preamble.specs.WordLimits.{AreWithin}
 use Rattle.ss_preamble.specs.Written.{written}
 
 -- the line of each
@@ -37,7 +38,7 @@ spell_text t = spell t.preamble ++ t.behind
 abbrev pub HasPreamble : List Plain → Type 0
 HasPreamble ws = is (m.Reserved r.Preamble) (first ws) ≡ true
 
--- the words before number k are within the limits, where ws are the words that count
+-- what the words before number k count to is within the limits, where ws are the words that count
 abbrev pub InRoom : List Plain → ℕ → Type 0
 InRoom ws k = AreWithin (take k (roles ws))
 

@@ -10,8 +10,7 @@ use Rattle.ss_preamble.specs.declared.limits.Counted.{Counted}
 use Rattle.ss_preamble.specs.declared.limits.Counted.TheVariants.{NoNames, Classes, Owned, Sets, Variables, Keys}
 
 -- a class of this name, an attribute of this class, a variable, a set of this name, a key with its number in its
--- ranking, from 1;
--- or nothing that is limited, as words that are no names
+-- ranking, from 1; or nothing that is limited, as words that are no names
 pub data Role : Type 0 where
   AClass : Name → Role
   AnAttribute : Name → Role
@@ -21,9 +20,7 @@ pub data Role : Type 0 where
   Nothing : Role
 
 -- behind a word: what names count to (nothing; classes, as behind INCLUDE and EVERY; what HAS gives to its owner; sets,
--- as behind OWNS and
--- BELONGS; variables; keys), the class that HAS gives to, none where it gives to the system, and the keys of the
--- ranking so far
+-- as behind OWNS and BELONGS; variables; keys), the class that HAS gives to, and the keys of the ranking so far
 pub record Standing : Type 0 where
   -- what the next names count to
   pub counted : Counted

@@ -9,7 +9,9 @@ use Rattle.ss_preamble.specs.declared.limits.Role.TheVariants as c
 use Rattle.ss_preamble.specs.declared.limits.Standing.{Standing as CodeStanding}
 use Rattle.ss_preamble.specs.declared.limits.Tally.{Tally as CodeTally}
 use Rattle.ss_preamble.specs.Roles.{Role, AClass, AnAttribute, AVariable, ASet, AKey, Nothing, Standing}
-use Rattle.ss_preamble.specs.Limits.{class_of, set_of, is_variable, with_name, distinct}
+use Rattle.ss_preamble.specs.Limits.{most_classes, most_attributes, most_variables, most_sets, most_keys}
+use Rattle.ss_preamble.specs.Limits.{with_name, distinct}
+use Rattle.ss_preamble.specs.WordLimits.{class_of, set_of, is_variable}
 
 -- the bytes of names
 abbrev pub texts : List (Bor (List ℕ)) → List Name
@@ -73,9 +75,9 @@ with_role a _ = a
 
 -- whether what this name was counted to is within its limit
 abbrev pub is_in_room : Counts → Role → Bool
-is_in_room a (AClass n) = leb (length a.classes) 64
-is_in_room a (AnAttribute n) = leb (count_by (bytes_eq n) a.attributes) 32
-is_in_room a AVariable = leb a.variables 256
-is_in_room a (ASet n) = leb (length a.sets) 64
-is_in_room a (AKey k) = leb k 8
+is_in_room a (AClass n) = leb (length a.classes) most_classes
+is_in_room a (AnAttribute n) = leb (count_by (bytes_eq n) a.attributes) most_attributes
+is_in_room a AVariable = leb a.variables most_variables
+is_in_room a (ASet n) = leb (length a.sets) most_sets
+is_in_room a (AKey k) = leb k most_keys
 is_in_room a Nothing = true

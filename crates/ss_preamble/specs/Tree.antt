@@ -1,5 +1,5 @@
 -- The items of a preamble as they are written, with names as lists of bytes.
-use Rattle.std.specs.Prelude.{ℕ, List, Option}
+use Rattle.std.specs.Prelude.{ℕ, List, map, Option}
 use Rattle.ss_words.specs.Lists.{Name, Several}
 use Rattle.ss_preamble.specs.declared.item.Heading.{Heading}
 use Rattle.ss_preamble.specs.declared.item.Rank.{Rank}
@@ -57,3 +57,7 @@ pub record Decls : Type 0 where
   pub items : List ItemAt
   -- the line of END
   pub end : Option ℕ
+
+-- what the items say
+abbrev pub items_of : Decls → Preamble
+items_of d = map (λ i. i.item) d.items

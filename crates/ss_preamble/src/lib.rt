@@ -2,6 +2,7 @@
 #![tactic(auto)]
 
 mod clause;
+pub mod examples;
 mod item;
 mod key;
 pub mod laws;

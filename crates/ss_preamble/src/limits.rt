@@ -4,7 +4,7 @@ ghost use Rattle.std.specs.Prelude.{◌+◌, ◌^◌};
 ghost use Rattle.std.specs.List.{list_any};
 ghost use Rattle.ss_words.specs.Plain.{plain_of, plains_of};
 ghost use Rattle.ss_preamble.specs.Roles as roles;
-ghost use Rattle.ss_preamble.specs.Limits.{AreWithin};
+ghost use Rattle.ss_preamble.specs.WordLimits.{AreWithin};
 ghost use Rattle.ss_preamble.specs.Refused.{PassesLimit};
 ghost use Rattle.ss_preamble.specs.Limits.{with_name};
 ghost use Rattle.ss_preamble.specs.Tally.{standing_view, role_view, tally_view, tally_of, with_role, is_in_room, texts};

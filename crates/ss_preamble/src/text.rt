@@ -8,6 +8,8 @@ ghost use Rattle.ss_words.specs.PlainRules.{plain_words_of};
 ghost use Rattle.ss_words.specs.declared.fault.TextFault.TheVariants.{Refused};
 ghost use Rattle.ss_preamble.specs.Refused.{AreDecls, HasPreamble, IsFault, no_decls};
 ghost use Rattle.ss_preamble.specs.View.{decls_view};
+ghost use Rattle.ss_preamble.specs.Limits.{IsWithin};
+ghost use Rattle.ss_preamble.specs.Tree.{items_of};
 
 use crate::item::Decls;
 use crate::limits::past_limit;
@@ -18,24 +20,22 @@ use ss_words::{
 use std::alloc::Global;
 
 /// What the preamble of a program declares (docs/LANGUAGE.md, "The preamble"), and the number of
-/// the first word behind its
-/// END, counted from 0: no items, and 0, where the text begins with no PREAMBLE. The words are left
-/// as they are.
+/// the first word behind its END, counted from 0: no items, and 0, where the text begins with no
+/// PREAMBLE. The words are left as they are.
 ///
 /// # Errors
 ///
-/// - P1 at the word with which no preamble goes on, P2 at the last word where the text ends before
-/// the preamble's END, P3
-/// at the name that passes a limit (64 classes, 32 attributes of a class, 256 variables, 64 sets, 8
-///   keys of a ranking);
-/// where several of them hold, the earliest word counts, then the lowest number (docs/LANGUAGE.md,
-///   "Refusals of the
-///   grammar").
+/// - P1 at the word with which no preamble goes on; P2 at the last word, where the text ends before
+///   the preamble's END; P3 at the name that passes a limit (64 classes, 32 attributes of a class,
+///   256 variables, 64 sets, 8 keys of a ranking). Where several of them hold, the earliest word
+///   counts, then the lowest number (docs/LANGUAGE.md, "Refusals of the grammar").
 /// - `Memory` where memory was refused.
 #[tactic(auto, using(crate::proofs::Indexes::indexes_below))]
 pub fn preamble(alloc: Global, words: &Words) -> Result<(Decls, usize), TextFault>
     // The words begin with no preamble, or with one within the limits, and these are its items.
     ensures declared { IfOk result (λ d. AreDecls (decls_view d.0) d.1 (plain_words_of words.now)) }
+    // They are within the limits.
+    ensures limits { IfOk result (λ d. IsWithin (items_of (decls_view d.0))) }
     // Otherwise a preamble begins there and is refused by this rule at this line.
     ensures refused { IfErr result (λ f. IsFault f (plain_words_of words.now)) }
 {
@@ -44,7 +44,7 @@ pub fn preamble(alloc: Global, words: &Words) -> Result<(Decls, usize), TextFaul
 }
 
 /// What these plain words declare, which come from so many words, and the number of the first word
-/// behind that.
+/// behind it.
 fn read(alloc: Global, text: &[PlainWord], count: usize) -> Result<(Decls, usize), TextFault>
     requires { All (λ w. w.index < count) text.now }
     ensures declared { IfOk result (λ d. AreDecls (decls_view d.0) d.1 (map plain_at text.now)) }
@@ -80,8 +80,7 @@ fn declared(
     }
 }
 
-/// What a text is refused with, by what stopped its reading at the word that the cursor has
-/// reached.
+/// What a text is refused with, by what stopped its reading at the word that the cursor reached.
 fn fault(refusal: Refusal, cursor: &Cursor<'_>, text: &[PlainWord]) -> TextFault
     requires begins { HasPreamble (plains_of text.now) }
     requires stopped { Fails refusal cursor.now (preamble_at (word_lines text.now) (plains_of text.now)) }
@@ -94,8 +93,8 @@ fn fault(refusal: Refusal, cursor: &Cursor<'_>, text: &[PlainWord]) -> TextFault
 }
 
 /// What a text is refused with whose preamble goes on with no word as the one that the cursor has
-/// reached. A limit that the
-/// text's last word passes is told as the missing end, since no preamble ends with that word.
+/// reached. A limit that the text's last word passes is told as the missing end, since no preamble
+/// ends with that word.
 fn unexpected(cursor: &Cursor<'_>, text: &[PlainWord]) -> TextFault
     requires begins { HasPreamble (plains_of text.now) }
     requires stopped { preamble_at (word_lines text.now) (plains_of text.now) ≡ (Err Unexpected, cursor.now) }
@@ -133,7 +132,7 @@ fn refused(rule: TextRule, text: &[PlainWord], word: usize) -> TextFault
     TextFault::Refused { rule, line }
 }
 
-/// The number of the first word behind the first plain words, so many of them, of which there is
+/// The number of the first word behind the first plain words, of which so many were read, at least
 /// one.
 fn number_behind(text: &[PlainWord], reached: usize, count: usize) -> usize
     requires { All (λ w. w.index < count) text.now }
