@@ -21,12 +21,17 @@ mod HeadLaw
 mod HeadNear
 mod HeadAgain
 mod SectionLaw
-mod Whole
-mod Unique
-mod Answered
+pub mod Whole
+pub mod Unique
+pub mod Answered
+pub mod Decided
 mod BlockWrites
 mod LevelWrites
 mod SectionWrites
 mod Told
 mod Pushed
-mod OntoRooms
+mod NotingRooms
+mod NamesLoop
+mod SectionLoop
+pub mod Ended
+mod Examples

@@ -1,15 +1,14 @@
 -- What holds of the reading of FOR phrases, of what IF asks and of COMPUTE.
-use Rattle.std.proofs.Common.{◌≡◌, ◌⊎◌, ℕ, zero, suc, max, ◌≤◌, Bool, true, false, List, [], ◌∷◌, ◌++◌, length, Option, Some, None, Result, Ok, Err, refl, sym, ap, ◌∙◌, append_assoc, arith}
+use Rattle.std.proofs.Common.{◌≡◌, ◌⊎◌, ℕ, ◌≤◌, Bool, false, List, [], ◌∷◌, ◌++◌, Option}
+use Rattle.std.proofs.Common.{Some, None, refl, sym, ap, ◌∙◌, append_assoc, arith}
 use Rattle.std.specs.List.{flat_map}
 use mathlib.Core.Logic.{inl, inr}
-use Rattle.ss_words.specs.declared.mark.Mark.{Mark}
 use Rattle.ss_words.specs.declared.mark.Mark.TheVariants as m
 use Rattle.ss_words.specs.declared.word.Sign.TheVariants as s
 use Rattle.ss_words.specs.declared.reserved.Reserved.TheVariants as r
 use Rattle.ss_words.specs.Plain.{Plain, name, number, mark, first}
-use Rattle.ss_words.specs.Lists.{Name, Several, spell_others, spell_several}
-use Rattle.ss_words.specs.Reading.{Reading}
-use Rattle.ss_words.specs.Marks.{is, a_name}
+use Rattle.ss_words.specs.Lists.{Name, Several, spell_several}
+use Rattle.ss_words.specs.Marks.{is}
 use Rattle.ss_words.proofs.Laws.{Any}
 use Rattle.ss_words.proofs.Local.{Rooms}
 use Rattle.ss_grammar.specs.declared.place.Direction.{Direction}
@@ -22,14 +21,25 @@ use Rattle.ss_grammar.specs.Combined.{several}
 use Rattle.ss_grammar.specs.declared.expr.TermSign.TheVariants.{Plus, Minus}
 use Rattle.ss_grammar.specs.Expr.{Expr, expr, term, digits, named, applied, within, spell_expr, depth_expr}
 use Rattle.ss_grammar.specs.ExprReading.{expr_at}
-use Rattle.ss_grammar.specs.Condition.{Reference, Condition, condition, Conjunction, conjunction, Relation, compared, is_empty, is_in, nested, spell_comparison, spell_copula, spell_reference, spell_condition, spell_alternatives, spell_conjunction, spell_additions, spell_relation, depth_reference, depth_condition}
-use Rattle.ss_grammar.specs.SimpleSpelling.{greatest, greatest_of, if_there, spell_option}
+use Rattle.ss_grammar.specs.Condition.{Reference, Condition, condition, Conjunction, conjunction, Relation, compared}
+use Rattle.ss_grammar.specs.Condition.{is_empty, is_in, nested, spell_comparison, spell_copula, spell_reference}
+use Rattle.ss_grammar.specs.Condition.{spell_condition, spell_alternatives, spell_conjunction, spell_additions}
+use Rattle.ss_grammar.specs.Condition.{spell_relation, depth_reference, depth_condition}
+use Rattle.ss_grammar.specs.SimpleSpelling.{greatest, greatest_of, if_there}
 use Rattle.ss_grammar.specs.SimpleReading.{reference_at}
-use Rattle.ss_grammar.specs.ConditionReading.{comparison_of, condition_at}
-use Rattle.ss_grammar.specs.Loops.{WalkStart, AtEnd, From, After, Range, Counting, Each, Walking, Qualifier, Phrase, Computed, Question, Holds, Found, NoneFound, spell_walk_start, spell_direction, spell_order, spell_name, spell_range, spell_qualifier_word, spell_qualifier, spell_phrase, depth_qualifier, depth_phrase, spell_statistic, spell_computed, spell_question, depth_walk_start, depth_range, depth_computed, depth_question}
-use Rattle.ss_grammar.specs.LoopReading.{qualifier_of, statistic_of, start_of, order_of, direction_of, range_of, question_of, start_at, an_order, walk_at, a_direction, counting_at, range_at, qualifiers_at, phrase_at, computed_at, compute_at, question_at}
+use Rattle.ss_grammar.specs.ConditionReading.{condition_at}
+use Rattle.ss_grammar.specs.Loops.{WalkStart, AtEnd, From, After, Range, Counting, Each, Walking, Qualifier, Phrase}
+use Rattle.ss_grammar.specs.Loops.{Computed, Question, Holds, Found, NoneFound, spell_walk_start, spell_direction}
+use Rattle.ss_grammar.specs.Loops.{spell_order, spell_range, spell_qualifier_word, spell_qualifier}
+use Rattle.ss_grammar.specs.Loops.{depth_qualifier, depth_phrase, spell_statistic, spell_computed}
+use Rattle.ss_grammar.specs.Loops.{spell_question, depth_walk_start, depth_range, depth_computed, depth_question}
+use Rattle.ss_grammar.specs.LoopReading.{qualifier_of, statistic_of, start_of, order_of, direction_of, range_of}
+use Rattle.ss_grammar.specs.LoopReading.{question_of, start_at, an_order, walk_at, a_direction, counting_at, range_at}
+use Rattle.ss_grammar.specs.LoopReading.{qualifiers_at, phrase_at, computed_at, compute_at, question_at}
 use Rattle.ss_grammar.proofs.Tally.{Leaves, plain_word}
-use Rattle.ss_grammar.proofs.Form.{Form, Item, Each as EachOf, Table, name_form, nothing_form, pair_form, behind_form, before_form, made_form, mark_item, option_form, either_form, star_form, table_item, word_item}
+use Rattle.ss_grammar.proofs.Form.{Form, Item, Each as EachOf, Table, name_form, nothing_form, pair_form, behind_form}
+use Rattle.ss_grammar.proofs.Form.{before_form, made_form, mark_item, option_form, either_form, star_form, table_item}
+use Rattle.ss_grammar.proofs.Form.{word_item}
 use Rattle.ss_grammar.proofs.Items.{ending, made_item, must_form}
 use Rattle.ss_grammar.proofs.Law.{Law, form_of}
 use Rattle.ss_grammar.proofs.ExprLaw.{Ends, Wider, EndsList, expr_law, several_law, each_greatest, greatest_each}
@@ -67,7 +77,14 @@ qualifier_leaves While = plain_word _ refl refl refl
 qualifier_leaves Until = plain_word _ refl refl refl
 
 abbrev qualifier_table : Table QualifierWord
-qualifier_table = record { of = qualifier_of; word = spell_qualifier_word; there = qualifier_there; only = qualifier_only; leaves = qualifier_leaves }
+qualifier_table =
+    record {
+      of = qualifier_of;
+      word = spell_qualifier_word;
+      there = qualifier_there;
+      only = qualifier_only;
+      leaves = qualifier_leaves;
+    }
 
 statistic_there : (w : Statistic) → statistic_of (Some (spell_statistic w)) ≡ Some w
 statistic_there statistic.Number = refl
@@ -98,7 +115,14 @@ statistic_leaves statistic.Maximum = plain_word _ refl refl refl
 statistic_leaves statistic.Minimum = plain_word _ refl refl refl
 
 abbrev statistic_table : Table Statistic
-statistic_table = record { of = statistic_of; word = spell_statistic; there = statistic_there; only = statistic_only; leaves = statistic_leaves }
+statistic_table =
+    record {
+      of = statistic_of;
+      word = spell_statistic;
+      there = statistic_there;
+      only = statistic_only;
+      leaves = statistic_leaves;
+    }
 
 -- no part of a FOR phrase goes on there
 pub record Quiet (y : List Plain) : Type 0 where
@@ -111,8 +135,10 @@ pub record Quiet (y : List Plain) : Type 0 where
 
 -- ---- the first word of an expression and of a condition
 
-module _ (t : Option Plain → Bool) (no_number : (i : ℕ) → t (Some (number i)) ≡ false) (no_name : (v : Name) → t (Some (name v)) ≡ false)
-    (no_open : t (Some (mark (m.Sign s.Open))) ≡ false) (no_plus : t (Some (mark (m.Sign s.Plus))) ≡ false) (no_minus : t (Some (mark (m.Sign s.Minus))) ≡ false) where
+module _ (t : Option Plain → Bool) (no_number : (i : ℕ) → t (Some (number i)) ≡ false)
+    (no_name : (v : Name) → t (Some (name v)) ≡ false)
+    (no_open : t (Some (mark (m.Sign s.Open))) ≡ false) (no_plus : t (Some (mark (m.Sign s.Plus))) ≡ false)
+    (no_minus : t (Some (mark (m.Sign s.Minus))) ≡ false) where
   expr_first : (e : Expr) (y : List Plain) → t (first (spell_expr e ++ y)) ≡ false
   expr_first (expr (Some Plus) p ss) y = no_plus
   expr_first (expr (Some Minus) p ss) y = no_minus
@@ -122,18 +148,24 @@ module _ (t : Option Plain → Bool) (no_number : (i : ℕ) → t (Some (number 
   expr_first (expr None (term (within e) ps) ss) y = no_open
 
   relation_first : (q : Relation) (y : List Plain) → t (first (spell_relation q ++ y)) ≡ false
-  relation_first (compared e c f) y = ap (λ (u : List Plain). t (first u)) (append_assoc (spell_expr e) (spell_comparison c ∷ spell_expr f) y) ∙ expr_first e _
+  relation_first (compared e c f) y =
+      ap (λ (u : List Plain). t (first u)) (append_assoc (spell_expr e) (spell_comparison c ∷ spell_expr f) y)
+      ∙ expr_first e _
   relation_first (is_empty v c) y = no_name v.name
   relation_first (is_in e c v) y =
-      let regroup : (spell_expr e ++ spell_copula c ++ mark (m.Reserved r.In) ∷ spell_reference v) ++ y ≡ spell_expr e ++ (spell_copula c ++ (mark (m.Reserved r.In) ∷ (spell_reference v ++ y))) = simp append_assoc in
+      let regroup : (spell_expr e ++ spell_copula c ++ mark (m.Reserved r.In) ∷ spell_reference v) ++ y ≡ spell_expr e
+      ++ (spell_copula c ++ (mark (m.Reserved r.In) ∷ (spell_reference v ++ y))) = simp append_assoc in
       ap (λ (u : List Plain). t (first u)) regroup ∙ expr_first e _
   relation_first (nested c) y = no_open
 
   conjunction_first : (c : Conjunction) (y : List Plain) → t (first (spell_conjunction c ++ y)) ≡ false
-  conjunction_first (conjunction q qs) y = ap (λ (u : List Plain). t (first u)) (append_assoc (spell_relation q) (spell_additions qs) y) ∙ relation_first q _
+  conjunction_first (conjunction q qs) y =
+      ap (λ (u : List Plain). t (first u)) (append_assoc (spell_relation q) (spell_additions qs) y) ∙ relation_first q _
 
   pub condition_first : (c : Condition) (y : List Plain) → t (first (spell_condition c ++ y)) ≡ false
-  condition_first (condition c cs) y = ap (λ (u : List Plain). t (first u)) (append_assoc (spell_conjunction c) (spell_alternatives cs) y) ∙ conjunction_first c _
+  condition_first (condition c cs) y =
+      ap (λ (u : List Plain). t (first u)) (append_assoc (spell_conjunction c) (spell_alternatives cs) y)
+      ∙ conjunction_first c _
 
 module _ (rooms : Rooms) (n k : ℕ) (w : Wider rooms n k) where
   abbrev value : Form rooms n Expr
@@ -143,10 +175,14 @@ module _ (rooms : Rooms) (n k : ℕ) (w : Wider rooms n k) where
   EndsName y = is (m.Sign s.Open) (first y) ≡ false
 
   abbrev target : Form rooms n Reference
-  target = form_of rooms n (λ v. depth_reference v ≤ n) spell_reference EndsName (reference_at n) (reference_at k) (reference_law rooms n k w)
+  target =
+      form_of rooms n (λ v. depth_reference v ≤ n) spell_reference EndsName (reference_at n) (reference_at k)
+      (reference_law rooms n k w)
 
   abbrev a_condition : Form rooms n Condition
-  a_condition = form_of rooms n (λ c. depth_condition c ≤ n) spell_condition EndsCondition (condition_at n) (condition_at k) (condition_law rooms n k w)
+  a_condition =
+      form_of rooms n (λ c. depth_condition c ≤ n) spell_condition EndsCondition (condition_at n) (condition_at k)
+      (condition_law rooms n k w)
 
   abbrev OfForm : {A : Type 0} (F : Form rooms n A) → Law rooms n F.fits F.sp F.ends F.p F.p'
   OfForm F = record { good = F.good; near = F.near; counted = F.counted; again = F.again }
@@ -196,14 +232,19 @@ module _ (rooms : Rooms) (n k : ℕ) (w : Wider rooms n k) where
   equal_leaves = plain_word _ refl refl refl
 
   abbrev condition_or_none : Form rooms n (Unit {0} ⊎ Condition)
-  condition_or_none = either_form (mark_item (m.Reserved r.NoneFound) none_leaves (nothing_form rooms n)) a_condition (λ c y f e. condition_first (is (m.Reserved r.NoneFound)) (λ i. refl) (λ v. refl) refl refl refl c y)
+  condition_or_none =
+      either_form (mark_item (m.Reserved r.NoneFound) none_leaves (nothing_form rooms n)) a_condition
+      (λ c y f e. condition_first (is (m.Reserved r.NoneFound)) (λ i. refl) (λ v. refl) refl refl refl c y)
 
-  not_found : (b : Unit {0} ⊎ Condition) (y : List Plain) → is (m.Reserved r.Found) (first (condition_or_none.sp b ++ y)) ≡ false
+  not_found : (b : Unit {0} ⊎ Condition) (y : List Plain)
+      → is (m.Reserved r.Found) (first (condition_or_none.sp b ++ y)) ≡ false
   not_found (inl u) y = refl
   not_found (inr c) y = condition_first (is (m.Reserved r.Found)) (λ i. refl) (λ v. refl) refl refl refl c y
 
   abbrev question_part : Form rooms n (Unit {0} ⊎ (Unit {0} ⊎ Condition))
-  question_part = either_form (mark_item (m.Reserved r.Found) found_leaves (nothing_form rooms n)) condition_or_none (λ b y f e. not_found b y)
+  question_part =
+      either_form (mark_item (m.Reserved r.Found) found_leaves (nothing_form rooms n)) condition_or_none
+      (λ b y f e. not_found b y)
 
   split_question : Question → Unit {0} ⊎ (Unit {0} ⊎ Condition)
   split_question Found = inl tt
@@ -232,27 +273,39 @@ module _ (rooms : Rooms) (n k : ℕ) (w : Wider rooms n k) where
   question_back NoneFound h = tt
   question_back (Holds c) h = h
 
-  pub question_law : Law rooms n (λ q. depth_question q ≤ n) spell_question EndsCondition (question_at n) (question_at k)
+  pub question_law : Law rooms n (λ q. depth_question q ≤ n) spell_question EndsCondition (question_at n)
+      (question_at k)
   unfolding question_at
-  question_law = let f = made_form question_part spell_question (λ q. depth_question q ≤ n) question_of split_question whole_question question_spelled question_there question_back in
+  question_law =
+      let f = made_form question_part spell_question (λ q. depth_question q ≤ n) question_of split_question
+      whole_question question_spelled question_there question_back in
       record { good = f.good; near = f.near; counted = f.counted; again = λ a y h e. f.again a y h (tt, (tt, e)) }
 
   -- ---- COMPUTE
 
   abbrev computed_part : Form rooms n (Reference × Statistic)
-  computed_part = pair_form (before_form target (m.Reserved r.As) as_leaves (λ y. refl)) (must_form (table_item rooms n statistic_table) statistic.Number tt) (λ b y f e. tt)
+  computed_part =
+      pair_form (before_form target (m.Reserved r.As) as_leaves (λ y. refl))
+      (must_form (table_item rooms n statistic_table) statistic.Number tt) (λ b y f e. tt)
 
   computed_law : Law rooms n (λ t. depth_computed t ≤ n) spell_computed (λ y. Unit {0}) (computed_at n) (computed_at k)
   unfolding computed_at
-  computed_law = let f = made_form computed_part spell_computed (λ t. depth_computed t ≤ n) (λ x. record { target = x.0; statistic = x.1 }) (λ t. (t.target, t.statistic)) (λ t. refl)
-      (λ x. sym (append_assoc (spell_reference x.0) (mark (m.Reserved r.As) ∷ []) (spell_statistic x.1 ∷ []))) (λ x h. h.0) (λ t h. (h, tt)) in
+  computed_law =
+      let f = made_form computed_part spell_computed (λ t. depth_computed t ≤ n)
+      (λ x. record { target = x.0; statistic = x.1 }) (λ t. (t.target, t.statistic)) (λ t. refl)
+      (λ x. sym (append_assoc (spell_reference x.0) (mark (m.Reserved r.As) ∷ []) (spell_statistic x.1 ∷ [])))
+      (λ x h. h.0) (λ t h. (h, tt)) in
       record { good = f.good; near = f.near; counted = f.counted; again = f.again }
 
   abbrev several_computed : Form rooms n (Several Computed)
-  several_computed = form_of rooms n (λ ts. greatest_of depth_computed ts ≤ n) (spell_several spell_computed) (EndsList (λ y. Unit {0})) (several (computed_at n)) (several (computed_at k)) (several_law depth_computed spell_computed (λ y. Unit {0}) (computed_at n) (computed_at k) computed_law (λ y. tt))
+  several_computed =
+      form_of rooms n (λ ts. greatest_of depth_computed ts ≤ n) (spell_several spell_computed)
+      (EndsList (λ y. Unit {0})) (several (computed_at n)) (several (computed_at k))
+      (several_law depth_computed spell_computed (λ y. Unit {0}) (computed_at n) (computed_at k) computed_law (λ y. tt))
 
   abbrev compute_part : Form rooms n (Several Computed × Expr)
-  compute_part = pair_form (before_form several_computed (m.Reserved r.In) in_leaves (λ y. (tt, refl))) value (λ b y f e. tt)
+  compute_part =
+      pair_form (before_form several_computed (m.Reserved r.In) in_leaves (λ y. (tt, refl))) value (λ b y f e. tt)
 
   -- the words behind COMPUTE
   abbrev pub ComputeWords : Several Computed × Expr → List Plain
@@ -273,12 +326,15 @@ module _ (rooms : Rooms) (n k : ℕ) (w : Wider rooms n k) where
   abbrev after_part : Form rooms n (Option Expr)
   after_part = ending (option_form (mark_item (m.Reserved r.After) after_leaves value)) EndsStart (λ y e. (e.0, e.2))
 
-  not_from : (b : Option Expr) (y : List Plain) → EndsStart y → is (m.Reserved r.From) (first (after_part.sp b ++ y)) ≡ false
+  not_from : (b : Option Expr) (y : List Plain) → EndsStart y
+      → is (m.Reserved r.From) (first (after_part.sp b ++ y)) ≡ false
   not_from None y e = e.1
   not_from (Some x) y e = refl
 
   abbrev start_part : Form rooms n (Expr ⊎ Option Expr)
-  start_part = ending (either_form (mark_item (m.Reserved r.From) from_leaves value) after_part (λ b y f e. not_from b y e)) EndsStart (λ y e. (e.0, e))
+  start_part =
+      ending (either_form (mark_item (m.Reserved r.From) from_leaves value) after_part (λ b y f e. not_from b y e))
+      EndsStart (λ y e. (e.0, e))
 
   split_start : WalkStart → Expr ⊎ Option Expr
   split_start AtEnd = inr None
@@ -309,13 +365,19 @@ module _ (rooms : Rooms) (n k : ℕ) (w : Wider rooms n k) where
 
   start_law : Law rooms n (λ b. depth_walk_start b ≤ n) spell_walk_start EndsStart (start_at n) (start_at k)
   unfolding start_at
-  start_law = OfForm (made_form start_part spell_walk_start (λ b. depth_walk_start b ≤ n) start_of split_start whole_start start_spelled start_there start_back)
+  start_law =
+      OfForm (made_form start_part spell_walk_start (λ b. depth_walk_start b ≤ n) start_of split_start whole_start
+      start_spelled start_there start_back)
 
   abbrev the_start : Form rooms n WalkStart
-  the_start = form_of rooms n (λ b. depth_walk_start b ≤ n) spell_walk_start EndsStart (start_at n) (start_at k) start_law
+  the_start =
+      form_of rooms n (λ b. depth_walk_start b ≤ n) spell_walk_start EndsStart (start_at n) (start_at k) start_law
 
   abbrev order_part : Form rooms n (Option (Unit {0}))
-  order_part = option_form (mark_item (m.Reserved r.In) in_leaves (behind_form (m.Reserved r.Reverse) reverse_leaves (behind_form (m.Reserved r.Order) order_leaves (nothing_form rooms n))))
+  order_part =
+      option_form (mark_item (m.Reserved r.In) in_leaves
+      (behind_form (m.Reserved r.Reverse) reverse_leaves
+      (behind_form (m.Reserved r.Order) order_leaves (nothing_form rooms n))))
 
   split_order : Direction → Option (Unit {0})
   split_order Onward = None
@@ -337,7 +399,9 @@ module _ (rooms : Rooms) (n k : ℕ) (w : Wider rooms n k) where
 
   order_law : Law rooms n Any spell_order (λ y. is (m.Reserved r.In) (first y) ≡ false) an_order an_order
   unfolding an_order
-  order_law = let f = made_form order_part spell_order Any order_of split_order whole_order order_spelled (λ x h. tt) (λ d h. order_back d) in
+  order_law =
+      let f = made_form order_part spell_order Any order_of split_order whole_order order_spelled (λ x h. tt)
+      (λ d h. order_back d) in
       record { good = f.good; near = f.near; counted = f.counted; again = λ a y h e. f.again a y h (tt, e) }
 
   abbrev the_order : Form rooms n Direction
@@ -368,9 +432,12 @@ module _ (rooms : Rooms) (n k : ℕ) (w : Wider rooms n k) where
   EndsCalled y = (is (m.Reserved r.Called) (first y) ≡ false) × (is (m.Reserved r.In) (first y) ≡ false)
 
   abbrev called_name : Form rooms n (Option Name)
-  called_name = ending (option_form (mark_item (m.Reserved r.Called) called_leaves (name_form rooms n))) EndsCalled (λ y e. (tt, e.0))
+  called_name =
+      ending (option_form (mark_item (m.Reserved r.Called) called_leaves (name_form rooms n))) EndsCalled
+      (λ y e. (tt, e.0))
 
-  not_in : (b : Option Name) (y : List Plain) → EndsCalled y → is (m.Reserved r.In) (first (called_name.sp b ++ y)) ≡ false
+  not_in : (b : Option Name) (y : List Plain) → EndsCalled y
+      → is (m.Reserved r.In) (first (called_name.sp b ++ y)) ≡ false
   not_in None y e = e.1
   not_in (Some v) y e = refl
 
@@ -385,7 +452,10 @@ module _ (rooms : Rooms) (n k : ℕ) (w : Wider rooms n k) where
   the_walk = form_of rooms n walk_part.fits walk_part.sp walk_part.ends (walk_at n) (walk_at k) walk_law
 
   abbrev direction_part : Form rooms n (Unit {0} ⊎ Unit {0})
-  direction_part = either_form (mark_item (m.Reserved r.Back) back_leaves (behind_form (m.Reserved r.From) from_leaves (nothing_form rooms n))) (behind_form (m.Sign s.Equal) equal_leaves (nothing_form rooms n)) (λ b y f e. refl)
+  direction_part =
+      either_form (mark_item (m.Reserved r.Back) back_leaves
+      (behind_form (m.Reserved r.From) from_leaves (nothing_form rooms n)))
+      (behind_form (m.Sign s.Equal) equal_leaves (nothing_form rooms n)) (λ b y f e. refl)
 
   split_direction : Direction → Unit {0} ⊎ Unit {0}
   split_direction Onward = inr tt
@@ -407,7 +477,9 @@ module _ (rooms : Rooms) (n k : ℕ) (w : Wider rooms n k) where
 
   direction_law : Law rooms n Any spell_direction (λ y. Unit {0}) a_direction a_direction
   unfolding a_direction
-  direction_law = let f = made_form direction_part spell_direction Any direction_of split_direction whole_direction direction_spelled (λ x h. tt) (λ d h. direction_back d) in
+  direction_law =
+      let f = made_form direction_part spell_direction Any direction_of split_direction whole_direction
+      direction_spelled (λ x h. tt) (λ d h. direction_back d) in
       record { good = f.good; near = f.near; counted = f.counted; again = λ a y h e. f.again a y h (tt, tt) }
 
   abbrev the_direction : Form rooms n Direction
@@ -416,25 +488,35 @@ module _ (rooms : Rooms) (n k : ℕ) (w : Wider rooms n k) where
   abbrev by_part : Form rooms n (Option Expr)
   by_part = option_form (mark_item (m.Reserved r.By) by_leaves value)
 
-  last_end : (b : Option Expr) (y : List Plain) → Ends y × (is (m.Reserved r.By) (first y) ≡ false) → Ends (by_part.sp b ++ y)
+  last_end : (b : Option Expr) (y : List Plain) → Ends y × (is (m.Reserved r.By) (first y) ≡ false)
+      → Ends (by_part.sp b ++ y)
   last_end None y e = e.0
   last_end (Some x) y e = ends_at _ _ refl refl refl
 
   abbrev counting_part : Form rooms n (Name × (Direction × (Expr × (Expr × Option Expr))))
-  counting_part = pair_form (name_form rooms n) (pair_form the_direction (pair_form (before_form value (m.Reserved r.To) to_leaves (λ y. ends_at _ y refl refl refl)) (pair_form value by_part (λ b y f e. last_end b y e)) (λ b y f e. tt)) (λ b y f e. tt)) (λ b y f e. tt)
+  counting_part =
+      pair_form (name_form rooms n) (pair_form the_direction
+      (pair_form (before_form value (m.Reserved r.To) to_leaves (λ y. ends_at _ y refl refl refl))
+      (pair_form value by_part (λ b y f e. last_end b y e)) (λ b y f e. tt)) (λ b y f e. tt)) (λ b y f e. tt)
 
   counting_law : Law rooms n counting_part.fits counting_part.sp counting_part.ends (counting_at n) (counting_at k)
   unfolding counting_at
   counting_law = OfForm counting_part
 
   abbrev the_counting : Form rooms n (Name × (Direction × (Expr × (Expr × Option Expr))))
-  the_counting = form_of rooms n counting_part.fits counting_part.sp counting_part.ends (counting_at n) (counting_at k) counting_law
+  the_counting =
+      form_of rooms n counting_part.fits counting_part.sp counting_part.ends (counting_at n) (counting_at k)
+      counting_law
 
   abbrev RangeParts : Type 0
-  RangeParts = (Name × ((Reference × (WalkStart × Direction)) ⊎ Option Name)) ⊎ (Name × (Direction × (Expr × (Expr × Option Expr))))
+  RangeParts =
+      (Name × ((Reference × (WalkStart × Direction)) ⊎ Option Name))
+      ⊎ (Name × (Direction × (Expr × (Expr × Option Expr))))
 
   abbrev range_part : Form rooms n RangeParts
-  range_part = either_form (mark_item (m.Reserved r.Every) every_leaves (pair_form (name_form rooms n) the_walk (λ b y f e. tt))) the_counting (λ b y f e. refl)
+  range_part =
+      either_form (mark_item (m.Reserved r.Every) every_leaves (pair_form (name_form rooms n) the_walk (λ b y f e. tt)))
+      the_counting (λ b y f e. refl)
 
   split_range : Range → RangeParts
   split_range (Counting d v a b c) = inr (v, (d, (a, (b, c))))
@@ -447,17 +529,22 @@ module _ (rooms : Rooms) (n k : ℕ) (w : Wider rooms n k) where
   whole_range (Each c v) = refl
   whole_range (Walking d c v b) = refl
 
-  counting_words : (d : Direction) (v : Name) (a b : Expr) (c : Option Expr) → spell_range (Counting d v a b c) ≡ counting_part.sp (v, (d, (a, (b, c))))
+  counting_words : (d : Direction) (v : Name) (a b : Expr) (c : Option Expr)
+      → spell_range (Counting d v a b c) ≡ counting_part.sp (v, (d, (a, (b, c))))
   counting_words d v a b None =
-      let same : spell_direction d ++ spell_expr a ++ mark (m.Reserved r.To) ∷ (spell_expr b ++ []) ≡ spell_direction d ++ ((spell_expr a ++ mark (m.Reserved r.To) ∷ []) ++ (spell_expr b ++ [])) = simp append_assoc in
+      let same : spell_direction d ++ spell_expr a ++ mark (m.Reserved r.To) ∷ (spell_expr b ++ []) ≡ spell_direction d
+      ++ ((spell_expr a ++ mark (m.Reserved r.To) ∷ []) ++ (spell_expr b ++ [])) = simp append_assoc in
       ap (λ (u : List Plain). name v ∷ u) same
   counting_words d v a b (Some c) =
       let by : List Plain = mark (m.Reserved r.By) ∷ spell_expr c in
-      let same : spell_direction d ++ spell_expr a ++ mark (m.Reserved r.To) ∷ (spell_expr b ++ by) ≡ spell_direction d ++ ((spell_expr a ++ mark (m.Reserved r.To) ∷ []) ++ (spell_expr b ++ by)) = simp append_assoc in
+      let same : spell_direction d ++ spell_expr a ++ mark (m.Reserved r.To) ∷ (spell_expr b ++ by) ≡ spell_direction d
+      ++ ((spell_expr a ++ mark (m.Reserved r.To) ∷ []) ++ (spell_expr b ++ by)) = simp append_assoc in
       ap (λ (u : List Plain). name v ∷ u) same
 
   range_spelled : (x : RangeParts) → spell_range (range_of x) ≡ range_part.sp x
-  range_spelled (inl (c, inl (v, (b, d)))) = ap (λ (u : List Plain). mark (m.Reserved r.Every) ∷ name c ∷ mark (m.Reserved r.In) ∷ u) (append_assoc (spell_reference v) (spell_walk_start b) (spell_order d))
+  range_spelled (inl (c, inl (v, (b, d)))) =
+      ap (λ (u : List Plain). mark (m.Reserved r.Every) ∷ name c ∷ mark (m.Reserved r.In) ∷ u)
+      (append_assoc (spell_reference v) (spell_walk_start b) (spell_order d))
   range_spelled (inl (c, inr None)) = refl
   range_spelled (inl (c, inr (Some v))) = refl
   range_spelled (inr (v, (d, (a, (b, c))))) = counting_words d v a b c
@@ -466,7 +553,8 @@ module _ (rooms : Rooms) (n k : ℕ) (w : Wider rooms n k) where
   range_there (inl (c, inl (v, (b, d)))) h = let i = h.1.0 in let j = h.1.1.0 in omega (arith, i, j)
   range_there (inl (c, inr v)) h = omega arith
   range_there (inr (v, (d, (a, (b, None))))) h = let i = h.1.1.0 in let j = h.1.1.1.0 in omega (arith, i, j)
-  range_there (inr (v, (d, (a, (b, Some c))))) h = let i = h.1.1.0 in let j = h.1.1.1.0 in let l = h.1.1.1.1 in omega (arith, i, j, l)
+  range_there (inr (v, (d, (a, (b, Some c))))) h =
+      let i = h.1.1.0 in let j = h.1.1.1.0 in let l = h.1.1.1.1 in omega (arith, i, j, l)
 
   called_fits : (v : Option Name) → called_name.fits v
   called_fits None = tt
@@ -487,7 +575,9 @@ module _ (rooms : Rooms) (n k : ℕ) (w : Wider rooms n k) where
 
   range_law : Law rooms n (λ x. depth_range x ≤ n) spell_range Quiet (range_at n) (range_at k)
   unfolding range_at
-  range_law = let f = made_form range_part spell_range (λ x. depth_range x ≤ n) range_of split_range whole_range range_spelled range_there range_back in
+  range_law =
+      let f = made_form range_part spell_range (λ x. depth_range x ≤ n) range_of split_range whole_range range_spelled
+      range_there range_back in
       record {
         good = f.good;
         near = f.near;
@@ -503,13 +593,48 @@ module _ (rooms : Rooms) (n k : ℕ) (w : Wider rooms n k) where
   -- ---- qualifiers
 
   abbrev qualifier_item : Item rooms n Qualifier
-  qualifier_item = made_item (word_item qualifier_table a_condition) spell_qualifier (λ q. depth_qualifier q ≤ n) (λ x. record { word = x.0; condition = x.1 }) (λ q. (q.word, q.condition)) (λ q. refl) (λ x. refl) (λ x h. h) (λ q h. h)
+  qualifier_item =
+      made_item (word_item qualifier_table a_condition) spell_qualifier (λ q. depth_qualifier q ≤ n)
+      (λ x. record { word = x.0; condition = x.1 }) (λ q. (q.word, q.condition)) (λ q. refl) (λ x. refl) (λ x h. h)
+      (λ q h. h)
 
   quiet_word : (j : QualifierWord) (y : List Plain) → Quiet (spell_qualifier_word j ∷ y)
-  quiet_word With y = record { condition = ((ends_at _ _ refl refl refl, refl, refl), refl, refl); no_by = refl; no_called = refl; no_in = refl; no_from = refl; no_after = refl }
-  quiet_word Unless y = record { condition = ((ends_at _ _ refl refl refl, refl, refl), refl, refl); no_by = refl; no_called = refl; no_in = refl; no_from = refl; no_after = refl }
-  quiet_word While y = record { condition = ((ends_at _ _ refl refl refl, refl, refl), refl, refl); no_by = refl; no_called = refl; no_in = refl; no_from = refl; no_after = refl }
-  quiet_word Until y = record { condition = ((ends_at _ _ refl refl refl, refl, refl), refl, refl); no_by = refl; no_called = refl; no_in = refl; no_from = refl; no_after = refl }
+  quiet_word With y =
+      record {
+        condition = ((ends_at _ _ refl refl refl, refl, refl), refl, refl);
+        no_by = refl;
+        no_called = refl;
+        no_in = refl;
+        no_from = refl;
+        no_after = refl;
+      }
+  quiet_word Unless y =
+      record {
+        condition = ((ends_at _ _ refl refl refl, refl, refl), refl, refl);
+        no_by = refl;
+        no_called = refl;
+        no_in = refl;
+        no_from = refl;
+        no_after = refl;
+      }
+  quiet_word While y =
+      record {
+        condition = ((ends_at _ _ refl refl refl, refl, refl), refl, refl);
+        no_by = refl;
+        no_called = refl;
+        no_in = refl;
+        no_from = refl;
+        no_after = refl;
+      }
+  quiet_word Until y =
+      record {
+        condition = ((ends_at _ _ refl refl refl, refl, refl), refl, refl);
+        no_by = refl;
+        no_called = refl;
+        no_in = refl;
+        no_from = refl;
+        no_after = refl;
+      }
 
   next_qualifier : (q : Qualifier) (y : List Plain) → EndsCondition (spell_qualifier q ++ y)
   next_qualifier q y = let h = quiet_word q.word (spell_condition q.condition ++ y) in h.condition
@@ -523,10 +648,19 @@ module _ (rooms : Rooms) (n k : ℕ) (w : Wider rooms n k) where
 
   qualifiers_law : Law rooms n qualifiers_part.fits qualifiers_part.sp EndsPhrase (qualifiers_at n) (qualifiers_at k)
   unfolding qualifiers_at
-  qualifiers_law = let f = qualifiers_part in record { good = f.good; near = f.near; counted = f.counted; again = λ a y h e. f.again a y h (let q = e.0 in q.condition, e.1) }
+  qualifiers_law =
+      let f = qualifiers_part in record {
+        good = f.good;
+        near = f.near;
+        counted = f.counted;
+        again = λ a y h e. f.again
+            a y h (let q = e.0 in q.condition, e.1);
+      }
 
   abbrev the_qualifiers : Form rooms n (List Qualifier)
-  the_qualifiers = form_of rooms n qualifiers_part.fits qualifiers_part.sp EndsPhrase (qualifiers_at n) (qualifiers_at k) qualifiers_law
+  the_qualifiers =
+      form_of rooms n qualifiers_part.fits qualifiers_part.sp EndsPhrase (qualifiers_at n) (qualifiers_at k)
+      qualifiers_law
 
   range_end : (qs : List Qualifier) (y : List Plain) → EndsPhrase y → Quiet (flat_map spell_qualifier qs ++ y)
   range_end [] y e = e.0
@@ -541,5 +675,8 @@ module _ (rooms : Rooms) (n k : ℕ) (w : Wider rooms n k) where
 
   pub phrase_law : Law rooms n (λ f. depth_phrase f ≤ n) PhraseWords EndsPhrase (phrase_at n) (phrase_at k)
   unfolding phrase_at
-  phrase_law = OfForm (made_form (pair_form the_range the_qualifiers (λ qs y f e. range_end qs y e)) PhraseWords (λ f. depth_phrase f ≤ n) (λ x. record { range = x.0; qualifiers = x.1 }) (λ f. (f.range, f.qualifiers))
-      (λ f. refl) (λ x. refl) (λ x h. let i = h.0 in let j = each_qualifier x.1 h.1 in omega (arith, i, j)) (λ f h. (omega (arith, h), greatest_each depth_qualifier n f.qualifiers (omega (arith, h)))))
+  phrase_law =
+      OfForm (made_form (pair_form the_range the_qualifiers (λ qs y f e. range_end qs y e)) PhraseWords
+      (λ f. depth_phrase f ≤ n) (λ x. record { range = x.0; qualifiers = x.1 }) (λ f. (f.range, f.qualifiers))
+      (λ f. refl) (λ x. refl) (λ x h. let i = h.0 in let j = each_qualifier x.1 h.1 in omega (arith, i, j))
+      (λ f h. (omega (arith, h), greatest_each depth_qualifier n f.qualifiers (omega (arith, h)))))

@@ -8,11 +8,14 @@ use Rattle.ss_words.specs.Marks.{is}
 use Rattle.ss_grammar.specs.ExprReading.{sign_of}
 use Rattle.ss_grammar.specs.ConditionReading.{comparison_of}
 use Rattle.ss_grammar.specs.LoopReading.{qualifier_of}
-use Rattle.ss_grammar.specs.Simple.{Let, Add, Subtract, Create, CreateEvery, Destroy, File, FileAt, RemoveEnd, Remove, Call, Return, Stop, Schedule, Cancel, StartSimulation, Read, Print, Skip, Simple, Assigns, Makes, Files, Transfers, Times, Exchanges}
+use Rattle.ss_grammar.specs.Simple.{Let, Add, Subtract, Create, CreateEvery, Destroy, File, FileAt, RemoveEnd, Remove}
+use Rattle.ss_grammar.specs.Simple.{Call, Return, Stop, Schedule, Cancel, StartSimulation, Read, Print, Skip, Simple}
+use Rattle.ss_grammar.specs.Simple.{Assigns, Makes, Files, Transfers, Times, Exchanges}
 use Rattle.ss_grammar.specs.SimpleSpelling.{spell_simple}
-use Rattle.ss_grammar.specs.Tree.{Statement, alone, loop, One, simple, branch, Otherwise, no_else, else_with, Controlled, further, repeated, single, find, compute, spell_statement, spell_one, spell_otherwise, spell_controlled}
+use Rattle.ss_grammar.specs.Tree.{Statement, alone, loop, One, simple, branch, Otherwise, no_else, else_with}
+use Rattle.ss_grammar.specs.Tree.{Controlled, further, repeated, single, find, compute, spell_statement, spell_one}
+use Rattle.ss_grammar.specs.Tree.{spell_otherwise, spell_controlled}
 use Rattle.ss_grammar.proofs.SimpleLaw.{Calm, NoSimple, ends_at, calm_at}
-use Rattle.ss_grammar.proofs.ConditionLaw.{EndsCondition}
 use Rattle.ss_grammar.proofs.LoopLaw.{Quiet}
 
 -- whether a statement or a part of one begins or ends so
@@ -51,49 +54,88 @@ pub record Settled (y : List Plain) : Type 0 where
   pub quiet : Quiet y
   pub no_qualifier : qualifier_of (first y) ≡ None
 
-settled_at : (w : Plain) (y : List Plain) → is (m.Sign s.Open) (Some w) ≡ false → is (m.Sign s.Star) (Some w) ≡ false → sign_of (Some w) ≡ None → is (m.Sign s.Comma) (Some w) ≡ false
-    → is (m.Reserved r.Called) (Some w) ≡ false → is (m.Reserved r.Given) (Some w) ≡ false → is (m.Reserved r.Yielding) (Some w) ≡ false → comparison_of (Some w) ≡ None
-    → is (m.Reserved r.Is) (Some w) ≡ false → is (m.Reserved r.And) (Some w) ≡ false → is (m.Reserved r.Or) (Some w) ≡ false → is (m.Reserved r.By) (Some w) ≡ false
-    → is (m.Reserved r.In) (Some w) ≡ false → is (m.Reserved r.From) (Some w) ≡ false → is (m.Reserved r.After) (Some w) ≡ false → qualifier_of (Some w) ≡ None → Settled (w ∷ y)
+settled_at : (w : Plain) (y : List Plain) → is (m.Sign s.Open) (Some w) ≡ false → is (m.Sign s.Star) (Some w) ≡ false
+    → sign_of (Some w) ≡ None → is (m.Sign s.Comma) (Some w) ≡ false
+    → is (m.Reserved r.Called) (Some w) ≡ false → is (m.Reserved r.Given) (Some w) ≡ false
+    → is (m.Reserved r.Yielding) (Some w) ≡ false → comparison_of (Some w) ≡ None
+    → is (m.Reserved r.Is) (Some w) ≡ false → is (m.Reserved r.And) (Some w) ≡ false
+    → is (m.Reserved r.Or) (Some w) ≡ false → is (m.Reserved r.By) (Some w) ≡ false
+    → is (m.Reserved r.In) (Some w) ≡ false → is (m.Reserved r.From) (Some w) ≡ false
+    → is (m.Reserved r.After) (Some w) ≡ false → qualifier_of (Some w) ≡ None → Settled (w ∷ y)
 settled_at w y e1 e2 e3 e4 e5 e6 e7 e8 e9 e10 e11 e12 e13 e14 e15 e16 =
     let ends = ends_at w y e1 e2 e3 in
     record {
       calm = calm_at w y ends e4 e5 e6 e7;
-      quiet = record { condition = ((ends, e8, e9), e10, e11); no_by = e12; no_called = e5; no_in = e13; no_from = e14; no_after = e15 };
+      quiet =
+          record {
+            condition = ((ends, e8, e9), e10, e11);
+            no_by = e12;
+            no_called = e5;
+            no_in = e13;
+            no_from = e14;
+            no_after = e15;
+          };
       no_qualifier = e16;
     }
 
 settled_word : (w : Plain) (y : List Plain) → parts (Some w) ≡ true → Settled (w ∷ y)
-settled_word (name v) y e = settled_at _ y refl refl refl refl refl refl refl refl refl refl refl refl refl refl refl refl
-settled_word (mark (m.Reserved r.Let)) y e = settled_at _ y refl refl refl refl refl refl refl refl refl refl refl refl refl refl refl refl
-settled_word (mark (m.Reserved r.Add)) y e = settled_at _ y refl refl refl refl refl refl refl refl refl refl refl refl refl refl refl refl
-settled_word (mark (m.Reserved r.Subtract)) y e = settled_at _ y refl refl refl refl refl refl refl refl refl refl refl refl refl refl refl refl
-settled_word (mark (m.Reserved r.Create)) y e = settled_at _ y refl refl refl refl refl refl refl refl refl refl refl refl refl refl refl refl
-settled_word (mark (m.Reserved r.Destroy)) y e = settled_at _ y refl refl refl refl refl refl refl refl refl refl refl refl refl refl refl refl
-settled_word (mark (m.Reserved r.File)) y e = settled_at _ y refl refl refl refl refl refl refl refl refl refl refl refl refl refl refl refl
-settled_word (mark (m.Reserved r.Remove)) y e = settled_at _ y refl refl refl refl refl refl refl refl refl refl refl refl refl refl refl refl
-settled_word (mark (m.Reserved r.If)) y e = settled_at _ y refl refl refl refl refl refl refl refl refl refl refl refl refl refl refl refl
-settled_word (mark (m.Reserved r.Schedule)) y e = settled_at _ y refl refl refl refl refl refl refl refl refl refl refl refl refl refl refl refl
-settled_word (mark (m.Reserved r.Cancel)) y e = settled_at _ y refl refl refl refl refl refl refl refl refl refl refl refl refl refl refl refl
-settled_word (mark (m.Reserved r.Start)) y e = settled_at _ y refl refl refl refl refl refl refl refl refl refl refl refl refl refl refl refl
-settled_word (mark (m.Reserved r.Stop)) y e = settled_at _ y refl refl refl refl refl refl refl refl refl refl refl refl refl refl refl refl
-settled_word (mark (m.Reserved r.Return)) y e = settled_at _ y refl refl refl refl refl refl refl refl refl refl refl refl refl refl refl refl
-settled_word (mark (m.Reserved r.Call)) y e = settled_at _ y refl refl refl refl refl refl refl refl refl refl refl refl refl refl refl refl
-settled_word (mark (m.Reserved r.Read)) y e = settled_at _ y refl refl refl refl refl refl refl refl refl refl refl refl refl refl refl refl
-settled_word (mark (m.Reserved r.Print)) y e = settled_at _ y refl refl refl refl refl refl refl refl refl refl refl refl refl refl refl refl
-settled_word (mark (m.Reserved r.Skip)) y e = settled_at _ y refl refl refl refl refl refl refl refl refl refl refl refl refl refl refl refl
-settled_word (mark (m.Reserved r.For)) y e = settled_at _ y refl refl refl refl refl refl refl refl refl refl refl refl refl refl refl refl
-settled_word (mark (m.Reserved r.Do)) y e = settled_at _ y refl refl refl refl refl refl refl refl refl refl refl refl refl refl refl refl
-settled_word (mark (m.Reserved r.Find)) y e = settled_at _ y refl refl refl refl refl refl refl refl refl refl refl refl refl refl refl refl
-settled_word (mark (m.Reserved r.Compute)) y e = settled_at _ y refl refl refl refl refl refl refl refl refl refl refl refl refl refl refl refl
-settled_word (mark (m.Reserved r.Else)) y e = settled_at _ y refl refl refl refl refl refl refl refl refl refl refl refl refl refl refl refl
-settled_word (mark (m.Reserved r.Always)) y e = settled_at _ y refl refl refl refl refl refl refl refl refl refl refl refl refl refl refl refl
-settled_word (mark (m.Reserved r.Loop)) y e = settled_at _ y refl refl refl refl refl refl refl refl refl refl refl refl refl refl refl refl
-settled_word (mark (m.Reserved r.End)) y e = settled_at _ y refl refl refl refl refl refl refl refl refl refl refl refl refl refl refl refl
+settled_word (name v) y e =
+    settled_at _ y refl refl refl refl refl refl refl refl refl refl refl refl refl refl refl refl
+settled_word (mark (m.Reserved r.Let)) y e =
+    settled_at _ y refl refl refl refl refl refl refl refl refl refl refl refl refl refl refl refl
+settled_word (mark (m.Reserved r.Add)) y e =
+    settled_at _ y refl refl refl refl refl refl refl refl refl refl refl refl refl refl refl refl
+settled_word (mark (m.Reserved r.Subtract)) y e =
+    settled_at _ y refl refl refl refl refl refl refl refl refl refl refl refl refl refl refl refl
+settled_word (mark (m.Reserved r.Create)) y e =
+    settled_at _ y refl refl refl refl refl refl refl refl refl refl refl refl refl refl refl refl
+settled_word (mark (m.Reserved r.Destroy)) y e =
+    settled_at _ y refl refl refl refl refl refl refl refl refl refl refl refl refl refl refl refl
+settled_word (mark (m.Reserved r.File)) y e =
+    settled_at _ y refl refl refl refl refl refl refl refl refl refl refl refl refl refl refl refl
+settled_word (mark (m.Reserved r.Remove)) y e =
+    settled_at _ y refl refl refl refl refl refl refl refl refl refl refl refl refl refl refl refl
+settled_word (mark (m.Reserved r.If)) y e =
+    settled_at _ y refl refl refl refl refl refl refl refl refl refl refl refl refl refl refl refl
+settled_word (mark (m.Reserved r.Schedule)) y e =
+    settled_at _ y refl refl refl refl refl refl refl refl refl refl refl refl refl refl refl refl
+settled_word (mark (m.Reserved r.Cancel)) y e =
+    settled_at _ y refl refl refl refl refl refl refl refl refl refl refl refl refl refl refl refl
+settled_word (mark (m.Reserved r.Start)) y e =
+    settled_at _ y refl refl refl refl refl refl refl refl refl refl refl refl refl refl refl refl
+settled_word (mark (m.Reserved r.Stop)) y e =
+    settled_at _ y refl refl refl refl refl refl refl refl refl refl refl refl refl refl refl refl
+settled_word (mark (m.Reserved r.Return)) y e =
+    settled_at _ y refl refl refl refl refl refl refl refl refl refl refl refl refl refl refl refl
+settled_word (mark (m.Reserved r.Call)) y e =
+    settled_at _ y refl refl refl refl refl refl refl refl refl refl refl refl refl refl refl refl
+settled_word (mark (m.Reserved r.Read)) y e =
+    settled_at _ y refl refl refl refl refl refl refl refl refl refl refl refl refl refl refl refl
+settled_word (mark (m.Reserved r.Print)) y e =
+    settled_at _ y refl refl refl refl refl refl refl refl refl refl refl refl refl refl refl refl
+settled_word (mark (m.Reserved r.Skip)) y e =
+    settled_at _ y refl refl refl refl refl refl refl refl refl refl refl refl refl refl refl refl
+settled_word (mark (m.Reserved r.For)) y e =
+    settled_at _ y refl refl refl refl refl refl refl refl refl refl refl refl refl refl refl refl
+settled_word (mark (m.Reserved r.Do)) y e =
+    settled_at _ y refl refl refl refl refl refl refl refl refl refl refl refl refl refl refl refl
+settled_word (mark (m.Reserved r.Find)) y e =
+    settled_at _ y refl refl refl refl refl refl refl refl refl refl refl refl refl refl refl refl
+settled_word (mark (m.Reserved r.Compute)) y e =
+    settled_at _ y refl refl refl refl refl refl refl refl refl refl refl refl refl refl refl refl
+settled_word (mark (m.Reserved r.Else)) y e =
+    settled_at _ y refl refl refl refl refl refl refl refl refl refl refl refl refl refl refl refl
+settled_word (mark (m.Reserved r.Always)) y e =
+    settled_at _ y refl refl refl refl refl refl refl refl refl refl refl refl refl refl refl refl
+settled_word (mark (m.Reserved r.Loop)) y e =
+    settled_at _ y refl refl refl refl refl refl refl refl refl refl refl refl refl refl refl refl
+settled_word (mark (m.Reserved r.End)) y e =
+    settled_at _ y refl refl refl refl refl refl refl refl refl refl refl refl refl refl refl refl
 settled_word _ y e = absurd cc
 
 -- it is neither SAVING nor DEFINE
-pub parts_other : (w : Option Plain) → parts w ≡ true → (is (m.Reserved r.Saving) w ≡ false) × (is (m.Reserved r.Define) w ≡ false)
+pub parts_other : (w : Option Plain) → parts w ≡ true → (is (m.Reserved r.Saving) w ≡ false)
+    × (is (m.Reserved r.Define) w ≡ false)
 parts_other (Some (name v)) e = (refl, refl)
 parts_other (Some (mark (m.Reserved r.Let))) e = (refl, refl)
 parts_other (Some (mark (m.Reserved r.Add))) e = (refl, refl)
@@ -167,7 +209,9 @@ controlled_parts (compute ts e) y = refl
 
 -- no part of a loop begins there
 abbrev pub NoLoop : List Plain → Type 0
-NoLoop y = (is (m.Reserved r.For) (first y) ≡ false) × ((is (m.Reserved r.Do) (first y) ≡ false) × ((is (m.Reserved r.Find) (first y) ≡ false) × (is (m.Reserved r.Compute) (first y) ≡ false)))
+NoLoop y =
+    (is (m.Reserved r.For) (first y) ≡ false) × ((is (m.Reserved r.Do) (first y) ≡ false)
+    × ((is (m.Reserved r.Find) (first y) ≡ false) × (is (m.Reserved r.Compute) (first y) ≡ false)))
 
 simple_no_loop : (a : Simple) (y : List Plain) → NoLoop (spell_simple a ++ y)
 simple_no_loop (Assigns (Let true v e)) y = (refl, (refl, (refl, refl)))
@@ -207,23 +251,123 @@ EndsBlock y = Calm y × NoStatement y
 
 pub if_begins : (y : List Plain) → first y ≡ Some (mark (m.Reserved r.If)) → NoSimple y
 if_begins [] e = absurd cc
-if_begins (w ∷ y) e = let same : w ≡ mark (m.Reserved r.If) = cc in rw same ((refl, refl), ((refl, refl), ((refl, (refl, refl)), ((refl, (refl, refl)), ((refl, (refl, refl)), (refl, (refl, (refl, refl))))))))
+if_begins (w ∷ y) e =
+    let same : w ≡ mark (m.Reserved r.If) = cc in rw same (
+      (refl, refl),
+      (
+        (refl, refl),
+        (
+          (refl, (refl, refl)),
+          ((refl, (refl, refl)), ((refl, (refl, refl)), (refl, (refl, (refl, refl))))),
+        ),
+      ),
+    )
 
-pub for_begins : (y : List Plain) → first y ≡ Some (mark (m.Reserved r.For)) → NoSimple y × (is (m.Reserved r.If) (first y) ≡ false)
+pub for_begins : (y : List Plain) → first y ≡ Some (mark (m.Reserved r.For)) → NoSimple y
+    × (is (m.Reserved r.If) (first y) ≡ false)
 for_begins [] e = absurd cc
-for_begins (w ∷ y) e = let same : w ≡ mark (m.Reserved r.For) = cc in rw same (((refl, refl), ((refl, refl), ((refl, (refl, refl)), ((refl, (refl, refl)), ((refl, (refl, refl)), (refl, (refl, (refl, refl)))))))), refl)
+for_begins (w ∷ y) e =
+    let same : w ≡ mark (m.Reserved r.For) = cc in rw same (
+      (
+        (refl, refl),
+        (
+          (refl, refl),
+          (
+            (refl, (refl, refl)),
+            ((refl, (refl, refl)), ((refl, (refl, refl)), (refl, (refl, (refl, refl))))),
+          ),
+        ),
+      ),
+      refl,
+    )
 
 pub else_ends : (y : List Plain) → EndsBlock (mark (m.Reserved r.Else) ∷ y)
-else_ends y = let h = settled (mark (m.Reserved r.Else) ∷ y) refl in (h.calm, ((((refl, refl), ((refl, refl), ((refl, (refl, refl)), ((refl, (refl, refl)), ((refl, (refl, refl)), (refl, (refl, (refl, refl)))))))), refl), refl))
+else_ends y =
+    let h = settled (mark (m.Reserved r.Else) ∷ y) refl in (
+      h.calm,
+      (
+        (
+          (
+            (refl, refl),
+            (
+              (refl, refl),
+              (
+                (refl, (refl, refl)),
+                ((refl, (refl, refl)), ((refl, (refl, refl)), (refl, (refl, (refl, refl))))),
+              ),
+            ),
+          ),
+          refl,
+        ),
+        refl,
+      ),
+    )
 
 pub always_ends : (y : List Plain) → EndsBlock (mark (m.Reserved r.Always) ∷ y)
-always_ends y = let h = settled (mark (m.Reserved r.Always) ∷ y) refl in (h.calm, ((((refl, refl), ((refl, refl), ((refl, (refl, refl)), ((refl, (refl, refl)), ((refl, (refl, refl)), (refl, (refl, (refl, refl)))))))), refl), refl))
+always_ends y =
+    let h = settled (mark (m.Reserved r.Always) ∷ y) refl in (
+      h.calm,
+      (
+        (
+          (
+            (refl, refl),
+            (
+              (refl, refl),
+              (
+                (refl, (refl, refl)),
+                ((refl, (refl, refl)), ((refl, (refl, refl)), (refl, (refl, (refl, refl))))),
+              ),
+            ),
+          ),
+          refl,
+        ),
+        refl,
+      ),
+    )
 
 pub loop_ends : (y : List Plain) → EndsBlock (mark (m.Reserved r.Loop) ∷ y)
-loop_ends y = let h = settled (mark (m.Reserved r.Loop) ∷ y) refl in (h.calm, ((((refl, refl), ((refl, refl), ((refl, (refl, refl)), ((refl, (refl, refl)), ((refl, (refl, refl)), (refl, (refl, (refl, refl)))))))), refl), refl))
+loop_ends y =
+    let h = settled (mark (m.Reserved r.Loop) ∷ y) refl in (
+      h.calm,
+      (
+        (
+          (
+            (refl, refl),
+            (
+              (refl, refl),
+              (
+                (refl, (refl, refl)),
+                ((refl, (refl, refl)), ((refl, (refl, refl)), (refl, (refl, (refl, refl))))),
+              ),
+            ),
+          ),
+          refl,
+        ),
+        refl,
+      ),
+    )
 
 pub end_ends : (y : List Plain) → EndsBlock (mark (m.Reserved r.End) ∷ y)
-end_ends y = let h = settled (mark (m.Reserved r.End) ∷ y) refl in (h.calm, ((((refl, refl), ((refl, refl), ((refl, (refl, refl)), ((refl, (refl, refl)), ((refl, (refl, refl)), (refl, (refl, (refl, refl)))))))), refl), refl))
+end_ends y =
+    let h = settled (mark (m.Reserved r.End) ∷ y) refl in (
+      h.calm,
+      (
+        (
+          (
+            (refl, refl),
+            (
+              (refl, refl),
+              (
+                (refl, (refl, refl)),
+                ((refl, (refl, refl)), ((refl, (refl, refl)), (refl, (refl, (refl, refl))))),
+              ),
+            ),
+          ),
+          refl,
+        ),
+        refl,
+      ),
+    )
 
 pub otherwise_ends : (e : Otherwise) (y : List Plain) → EndsBlock (spell_otherwise e ++ mark (m.Reserved r.Always) ∷ y)
 otherwise_ends no_else y = always_ends y

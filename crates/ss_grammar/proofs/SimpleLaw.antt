@@ -1,37 +1,55 @@
 -- What holds of the reading of statements that hold no other.
-use Rattle.std.proofs.Common.{◌≡◌, ◌⊎◌, ℕ, zero, suc, max, ◌≤◌, ◌<◌, Bool, true, false, List, [], ◌∷◌, ◌++◌, length, Option, Some, None, Result, Ok, Err, refl, sym, ap, ◌∙◌, append_assoc, arith}
-use Rattle.std.specs.List.{flat_map}
+use Rattle.std.proofs.Common.{◌≡◌, ◌⊎◌, ℕ, suc, ◌≤◌, ◌<◌, true, false, List, [], ◌∷◌, ◌++◌, length}
+use Rattle.std.proofs.Common.{Option, Some, None, Ok, refl, sym, ap, ◌∙◌, append_assoc, arith}
 use mathlib.Core.Logic.{inl, inr}
 use Rattle.ss_words.specs.declared.mark.Mark.{Mark}
 use Rattle.ss_words.specs.declared.mark.Mark.TheVariants as m
 use Rattle.ss_words.specs.declared.word.Sign.TheVariants as s
 use Rattle.ss_words.specs.declared.reserved.Reserved.TheVariants as r
-use Rattle.ss_words.specs.declared.refusal.Refusal.TheVariants.{PastLimit}
 use Rattle.ss_words.specs.Plain.{Plain, name, number, mark, picture, first}
-use Rattle.ss_words.specs.Lists.{Name, Several, all_of, spell_others, spell_several}
-use Rattle.ss_words.specs.Reading.{Reading, refuse}
-use Rattle.ss_words.specs.Marks.{is, a_name}
+use Rattle.ss_words.specs.Lists.{Name, Several, spell_several}
+use Rattle.ss_words.specs.Reading.{Reading}
+use Rattle.ss_words.specs.Marks.{is}
 use Rattle.ss_words.proofs.Laws.{Good, Any, fits_option}
 use Rattle.ss_words.proofs.Laws as word
-use Rattle.ss_words.proofs.Local.{Rooms, same, more, Local}
+use Rattle.ss_words.proofs.Local.{Rooms, Local}
 use Rattle.ss_grammar.specs.declared.simple.SetEnd.{SetEnd}
 use Rattle.ss_grammar.specs.declared.simple.SetEnd.TheVariants as end
 use Rattle.ss_grammar.specs.declared.simple.Article.{Article}
 use Rattle.ss_grammar.specs.declared.simple.Article.TheVariants as article
-use Rattle.ss_grammar.specs.Combined.{if_mark, if_open, several}
+use Rattle.ss_grammar.specs.Combined.{if_open, several}
 use Rattle.ss_grammar.specs.declared.expr.TermSign.TheVariants.{Plus, Minus}
 use Rattle.ss_grammar.specs.Expr as x
 use Rattle.ss_grammar.specs.Expr.{Expr, expr, term, digits, applied, within, spell_within, spell_expr, depth_expr}
 use Rattle.ss_grammar.specs.ExprReading.{sign_of, expr_at, inner_at}
 use Rattle.ss_grammar.specs.Condition.{Reference, spell_subscript, spell_reference, depth_subscript, depth_reference}
-use Rattle.ss_grammar.specs.Simple.{Assign, Let, Add, Subtract, Making, Create, CreateEvery, Destroy, FilePlace, ByDiscipline, AtEnd, Before, After, Filing, File, FileAt, RemoveEnd, Remove, Listing, Unwritten, BehindGiven, InParentheses, Transfer, Call, Return, Stop, Details, ValuesFirst, CalledFirst, When, At, Now, In, Timing, Schedule, Cancel, StartSimulation, Exchange, Read, Print, Skip, Simple, Assigns, Makes, Files, Transfers, Times, Exchanges}
-use Rattle.ss_grammar.specs.SimpleSpelling.{spell_behind, spell_option, spell_listing, spell_called, spell_assign, spell_making, spell_end, spell_file_place, spell_filing, spell_transfer, spell_article, spell_details, spell_when, spell_timing, spell_exchange, spell_simple, greatest, greatest_of, if_there, depth_listing, depth_called, depth_assign, depth_making, depth_file_place, depth_filing, depth_transfer, depth_details, depth_when, depth_timing, depth_exchange, depth_simple}
-use Rattle.ss_grammar.specs.SimpleReading.{end_of, name_of, listing_of, list_of, list_behind, listing_with, subscript_at, reference_at, called_at, equation_at, moved_at, assign_at, named_at, making_at, file_place_at, file_at, remove_at, filing_at, call_at, transfer_at, details_at, when_at, an_article, schedule_at, timing_at, print_at, exchange_at, simple_at, assign_of, making_of, file_place_of, filing_of, transfer_of, article_of, details_of, when_of, timing_of, exchange_of, simple_of}
+use Rattle.ss_grammar.specs.Simple.{Assign, Let, Add, Subtract, Making, Create, CreateEvery, Destroy, FilePlace}
+use Rattle.ss_grammar.specs.Simple.{ByDiscipline, AtEnd, Before, After, Filing, File, FileAt, RemoveEnd, Remove}
+use Rattle.ss_grammar.specs.Simple.{Listing, Unwritten, BehindGiven, InParentheses, Transfer, Call, Return, Stop}
+use Rattle.ss_grammar.specs.Simple.{Details, ValuesFirst, CalledFirst, When, At, Now, In, Timing, Schedule, Cancel}
+use Rattle.ss_grammar.specs.Simple.{StartSimulation, Exchange, Read, Print, Skip, Simple, Assigns, Makes, Files}
+use Rattle.ss_grammar.specs.Simple.{Transfers, Times, Exchanges}
+use Rattle.ss_grammar.specs.SimpleSpelling.{spell_behind, spell_listing, spell_called, spell_assign}
+use Rattle.ss_grammar.specs.SimpleSpelling.{spell_making, spell_end, spell_file_place, spell_filing, spell_transfer}
+use Rattle.ss_grammar.specs.SimpleSpelling.{spell_article, spell_details, spell_when, spell_timing, spell_exchange}
+use Rattle.ss_grammar.specs.SimpleSpelling.{spell_simple, greatest, greatest_of, depth_listing, depth_called}
+use Rattle.ss_grammar.specs.SimpleSpelling.{depth_assign, depth_making, depth_file_place, depth_filing, depth_transfer}
+use Rattle.ss_grammar.specs.SimpleSpelling.{depth_details, depth_when, depth_timing, depth_exchange, depth_simple}
+use Rattle.ss_grammar.specs.SimpleReading.{end_of, name_of, listing_of, list_of, list_behind, listing_with}
+use Rattle.ss_grammar.specs.SimpleReading.{subscript_at, reference_at, called_at, equation_at, moved_at, assign_at}
+use Rattle.ss_grammar.specs.SimpleReading.{named_at, making_at, file_place_at, file_at, remove_at, filing_at, call_at}
+use Rattle.ss_grammar.specs.SimpleReading.{transfer_at, details_at, when_at, an_article, schedule_at, timing_at}
+use Rattle.ss_grammar.specs.SimpleReading.{print_at, exchange_at, simple_at, assign_of, making_of, file_place_of}
+use Rattle.ss_grammar.specs.SimpleReading.{filing_of, transfer_of, article_of, details_of, when_of, timing_of}
+use Rattle.ss_grammar.specs.SimpleReading.{exchange_of, simple_of}
 use Rattle.ss_grammar.proofs.Tally.{Leaves, Tally, plain_word}
-use Rattle.ss_grammar.proofs.Form.{Form, Item, Table, Anything, name_form, number_form, picture_form, nothing_form, pair_form, behind_form, before_form, made_form, mark_item, option_form, either_form, table_item, word_item}
+use Rattle.ss_grammar.proofs.Form.{Form, Item, Table, name_form, number_form, picture_form, nothing_form}
+use Rattle.ss_grammar.proofs.Form.{pair_form, behind_form, before_form, made_form, mark_item, option_form, either_form}
+use Rattle.ss_grammar.proofs.Form.{table_item, word_item}
 use Rattle.ss_grammar.proofs.Items.{ending, ending_item, and_item, or_item, made_item}
-use Rattle.ss_grammar.proofs.Law.{Law, form_of, OpenLaw, open_item, open_law, shut_law, shut_more_law}
-use Rattle.ss_grammar.proofs.ExprLaw.{Ends, Wider, ExprLaw, EndsList, expr_law, several_law, comma_ends, open_expr, open_exprs}
+use Rattle.ss_grammar.proofs.Law.{Law, form_of, OpenLaw, open_item}
+use Rattle.ss_grammar.proofs.ExprLaw.{Ends, Wider, EndsList, expr_law, several_law, comma_ends, open_expr}
+use Rattle.ss_grammar.proofs.ExprLaw.{open_exprs}
 
 -- a text that goes on with no part of a statement
 pub record Calm (y : List Plain) : Type 0 where
@@ -42,14 +60,18 @@ pub record Calm (y : List Plain) : Type 0 where
   pub no_yielding : is (m.Reserved r.Yielding) (first y) ≡ false
 
 -- a word that ends what stands before it
-pub ends_at : (w : Plain) (y : List Plain) → is (m.Sign s.Open) (Some w) ≡ false → is (m.Sign s.Star) (Some w) ≡ false → sign_of (Some w) ≡ None → Ends (w ∷ y)
+pub ends_at : (w : Plain) (y : List Plain) → is (m.Sign s.Open) (Some w) ≡ false → is (m.Sign s.Star) (Some w) ≡ false
+    → sign_of (Some w) ≡ None → Ends (w ∷ y)
 ends_at w y a b c = record { no_open = a; no_star = b; no_sign = c }
 
-pub calm_at : (w : Plain) (y : List Plain) → Ends (w ∷ y) → is (m.Sign s.Comma) (Some w) ≡ false → is (m.Reserved r.Called) (Some w) ≡ false → is (m.Reserved r.Given) (Some w) ≡ false → is (m.Reserved r.Yielding) (Some w) ≡ false → Calm (w ∷ y)
+pub calm_at : (w : Plain) (y : List Plain) → Ends (w ∷ y) → is (m.Sign s.Comma) (Some w) ≡ false
+    → is (m.Reserved r.Called) (Some w) ≡ false → is (m.Reserved r.Given) (Some w) ≡ false
+    → is (m.Reserved r.Yielding) (Some w) ≡ false → Calm (w ∷ y)
 calm_at w y e a b c d = record { ends = e; no_comma = a; no_called = b; no_given = c; no_yielding = d }
 
 -- the laws of a part behind which nothing of a statement follows
-pub record ItemLawOf {A : Type 0} (rooms : Rooms) (n : ℕ) (none : List Plain → Type 0) (fits : A → Type 0) (sp : A → List Plain) (p p' : Reading (Option A)) : Type 0 where
+pub record ItemLawOf {A : Type 0} (rooms : Rooms) (n : ℕ) (none : List Plain → Type 0) (fits : A → Type 0)
+    (sp : A → List Plain) (p p' : Reading (Option A)) : Type 0 where
   pub good : Good (fits_option fits) (word.spell_option sp) [] p
   pub near : Local rooms p p'
   pub counted : Tally n p
@@ -59,9 +81,14 @@ pub record ItemLawOf {A : Type 0} (rooms : Rooms) (n : ℕ) (none : List Plain �
 
 -- no statement that holds no other begins there
 abbrev pub NoSimple : List Plain → Type 0
-NoSimple y = ((is (m.Reserved r.Create) (first y) ≡ false) × (is (m.Reserved r.Destroy) (first y) ≡ false)) × (((is (m.Reserved r.File) (first y) ≡ false) × (is (m.Reserved r.Remove) (first y) ≡ false)) × (((is (m.Reserved r.Call) (first y) ≡ false) ×
-    ((is (m.Reserved r.Return) (first y) ≡ false) × (is (m.Reserved r.Stop) (first y) ≡ false))) × (((is (m.Reserved r.Schedule) (first y) ≡ false) ×
-    ((is (m.Reserved r.Cancel) (first y) ≡ false) × (is (m.Reserved r.Start) (first y) ≡ false))) × (((is (m.Reserved r.Read) (first y) ≡ false) ×
+NoSimple y =
+    ((is (m.Reserved r.Create) (first y) ≡ false) × (is (m.Reserved r.Destroy) (first y) ≡ false))
+    × (((is (m.Reserved r.File) (first y) ≡ false) × (is (m.Reserved r.Remove) (first y) ≡ false))
+    × (((is (m.Reserved r.Call) (first y) ≡ false) ×
+    ((is (m.Reserved r.Return) (first y) ≡ false) × (is (m.Reserved r.Stop) (first y) ≡ false)))
+    × (((is (m.Reserved r.Schedule) (first y) ≡ false) ×
+    ((is (m.Reserved r.Cancel) (first y) ≡ false) × (is (m.Reserved r.Start) (first y) ≡ false)))
+    × (((is (m.Reserved r.Read) (first y) ≡ false) ×
     ((is (m.Reserved r.Print) (first y) ≡ false) × (is (m.Reserved r.Skip) (first y) ≡ false))) ×
     ((is (m.Reserved r.Let) (first y) ≡ false) ×
     ((is (m.Reserved r.Add) (first y) ≡ false) ×
@@ -88,7 +115,8 @@ abbrev pub end_table : Table SetEnd
 end_table = record { of = end_of; word = spell_end; there = end_there; only = end_only; leaves = end_leaves }
 
 pub name_only : (v : Option Plain) (w : Name) → name_of v ≡ Some w → v ≡ Some (name w)
-name_only (Some (name k)) w e = let same : k ≡ w = cc in ap (λ (j : Name). let o : Option Plain = Some (name j) in o) same
+name_only (Some (name k)) w e =
+    let same : k ≡ w = cc in ap (λ (j : Name). let o : Option Plain = Some (name j) in o) same
 name_only _ w e = absurd cc
 
 pub name_leaves : (w : Name) → Leaves 0 (name w ∷ [])
@@ -102,9 +130,13 @@ given_leaves = plain_word _ refl refl refl
 
 -- ---- lists
 
-module _ {A : Type 0} {rooms : Rooms} {n : ℕ} (d : A → ℕ) (sp : A → List Plain) (ends : List Plain → Type 0) (p p' : Reading A) (l : Law rooms n (λ a. d a ≤ n) sp ends p p') (c : (y : List Plain) → ends (mark (m.Sign s.Comma) ∷ y)) where
+module _ {A : Type 0} {rooms : Rooms} {n : ℕ} (d : A → ℕ) (sp : A → List Plain) (ends : List Plain → Type 0)
+    (p p' : Reading A) (l : Law rooms n (λ a. d a ≤ n) sp ends p p')
+    (c : (y : List Plain) → ends (mark (m.Sign s.Comma) ∷ y)) where
   abbrev pub several_part : Form rooms n (Several A)
-  several_part = form_of rooms n (λ xs. greatest_of d xs ≤ n) (spell_several sp) (EndsList ends) (several p) (several p') (several_law d sp ends p p' l c)
+  several_part =
+      form_of rooms n (λ xs. greatest_of d xs ≤ n) (spell_several sp) (EndsList ends) (several p) (several p')
+      (several_law d sp ends p p' l c)
 
   split_list : List A → Option (Several A)
   split_list [] = None
@@ -116,11 +148,13 @@ module _ {A : Type 0} {rooms : Rooms} {n : ℕ} (d : A → ℕ) (sp : A → List
   whole_list (x ∷ xs) = refl
 
   module _ (k : Mark) (lk : Leaves 0 (mark k ∷ [])) where
-    list_spelled : (x : Option (Several A)) → spell_behind k sp (list_of x) ≡ (option_form (mark_item k lk several_part)).sp x
+    list_spelled : (x : Option (Several A)) → spell_behind k sp
+        (list_of x) ≡ (option_form (mark_item k lk several_part)).sp x
     list_spelled None = refl
     list_spelled (Some xs) = refl
 
-    list_there : (x : Option (Several A)) → (option_form (mark_item k lk several_part)).fits x → greatest d (list_of x) ≤ n
+    list_there : (x : Option (Several A)) → (option_form (mark_item k lk several_part)).fits x
+        → greatest d (list_of x) ≤ n
     list_there None h = omega arith
     list_there (Some xs) h = h
 
@@ -129,28 +163,38 @@ module _ {A : Type 0} {rooms : Rooms} {n : ℕ} (d : A → ℕ) (sp : A → List
     list_back [] h = tt
     list_back (x ∷ xs) h = h
 
-    pub list_law : Law rooms n (λ xs. greatest d xs ≤ n) (spell_behind k sp) (λ y. EndsList ends y × (is k (first y) ≡ false)) (list_behind k p) (list_behind k p')
+    pub list_law : Law rooms n (λ xs. greatest d xs ≤ n) (spell_behind k sp)
+        (λ y. EndsList ends y × (is k (first y) ≡ false)) (list_behind k p) (list_behind k p')
     unfolding list_behind
-    list_law = let f = made_form (option_form (mark_item k lk several_part)) (spell_behind k sp) (λ xs. greatest d xs ≤ n) list_of split_list whole_list list_spelled list_there list_back in
+    list_law =
+        let f = made_form (option_form (mark_item k lk several_part)) (spell_behind k sp) (λ xs. greatest d xs ≤ n)
+        list_of split_list whole_list list_spelled list_there list_back in
         record { good = f.good; near = f.near; counted = f.counted; again = f.again }
 
   -- in parentheses or behind GIVEN
-  module _ (j : ℕ) (q q' : Reading A) (lo : OpenLaw rooms n (greatest_of d) (spell_several sp) (if_open n (several q)) (if_open j (several q'))) where
+  module _ (j : ℕ) (q q' : Reading A) (lo : OpenLaw rooms n (greatest_of d) (spell_several sp) (if_open n (several q))
+      (if_open j (several q'))) where
     abbrev in_parentheses : Form rooms n (Option (Several A))
-    in_parentheses = option_form (open_item rooms n (greatest_of d) (spell_several sp) (if_open n (several q)) (if_open j (several q')) lo)
+    in_parentheses =
+        option_form (open_item rooms n (greatest_of d) (spell_several sp) (if_open n (several q))
+        (if_open j (several q')) lo)
 
     abbrev EndsListing : List Plain → Type 0
-    EndsListing y = EndsList ends y × ((is (m.Sign s.Open) (first y) ≡ false) × (is (m.Reserved r.Given) (first y) ≡ false))
+    EndsListing y =
+        EndsList ends y × ((is (m.Sign s.Open) (first y) ≡ false) × (is (m.Reserved r.Given) (first y) ≡ false))
 
     abbrev parentheses_end : Form rooms n (Option (Several A))
     parentheses_end = ending in_parentheses EndsListing (λ y e. (tt, e.1.0))
 
-    not_given : (b : Option (Several A)) (y : List Plain) → EndsListing y → is (m.Reserved r.Given) (first (parentheses_end.sp b ++ y)) ≡ false
+    not_given : (b : Option (Several A)) (y : List Plain) → EndsListing y
+        → is (m.Reserved r.Given) (first (parentheses_end.sp b ++ y)) ≡ false
     not_given None y e = e.1.1
     not_given (Some xs) y e = refl
 
     abbrev listing_part : Form rooms n (Several A ⊎ Option (Several A))
-    listing_part = either_form (mark_item (m.Reserved r.Given) given_leaves several_part) parentheses_end (λ b y f e. not_given b y e)
+    listing_part =
+        either_form (mark_item (m.Reserved r.Given) given_leaves several_part) parentheses_end
+        (λ b y f e. not_given b y e)
 
     split_listing : Listing A → Several A ⊎ Option (Several A)
     split_listing Unwritten = inr None
@@ -179,28 +223,57 @@ module _ {A : Type 0} {rooms : Rooms} {n : ℕ} (d : A → ℕ) (sp : A → List
     listing_back (BehindGiven xs) h = h
     listing_back (InParentheses xs) h = h
 
-    pub listing_law : Law rooms n (λ xs. depth_listing d xs ≤ n) (spell_listing sp) EndsListing (listing_with n p q) (listing_with j p' q')
+    pub listing_law : Law rooms n (λ xs. depth_listing d xs ≤ n) (spell_listing sp) EndsListing (listing_with n p q)
+        (listing_with j p' q')
     unfolding listing_with
-    listing_law = let f = made_form listing_part (spell_listing sp) (λ xs. depth_listing d xs ≤ n) listing_of split_listing whole_listing listing_spelled listing_there listing_back in
+    listing_law =
+        let f = made_form listing_part (spell_listing sp) (λ xs. depth_listing d xs ≤ n) listing_of split_listing
+        whole_listing listing_spelled listing_there listing_back in
         record { good = f.good; near = f.near; counted = f.counted; again = λ a y h e. f.again a y h (e.0, e) }
 
 -- ---- the statements
 
 module _ (rooms : Rooms) (n k : ℕ) (w : Wider rooms n k) where
-  abbrev ItemLaw : {A : Type 0} → (List Plain → Type 0) → (A → Type 0) → (A → List Plain) → Reading (Option A) → Reading (Option A) → Type 0
+  abbrev ItemLaw : {A : Type 0} → (List Plain → Type 0) → (A → Type 0) → (A → List Plain) → Reading (Option A)
+      → Reading (Option A) → Type 0
   ItemLaw none fits sp p p' = ItemLawOf rooms n none fits sp p p'
 
-  abbrev of_item : {A : Type 0} (I : Item rooms n A) → ((y : List Plain) → Calm y → I.ends y) → ItemLaw I.none I.fits I.sp I.p I.p'
-  of_item I h = record { good = I.good; near = I.near; counted = I.counted; some = I.some; goes = λ a y f e. I.goes a y f (h y e); stops = I.stops }
+  abbrev of_item : {A : Type 0} (I : Item rooms n A) → ((y : List Plain) → Calm y → I.ends y)
+      → ItemLaw I.none I.fits I.sp I.p I.p'
+  of_item I h =
+      record {
+        good = I.good;
+        near = I.near;
+        counted = I.counted;
+        some = I.some;
+        goes = λ a y f e. I.goes a y f (h y e);
+        stops = I.stops;
+      }
 
-  abbrev item_of : {A : Type 0} (none : List Plain → Type 0) (fits : A → Type 0) (sp : A → List Plain) (p p' : Reading (Option A)) → ItemLaw none fits sp p p' → Item rooms n A
-  item_of none fits sp p p' l = record { sp = sp; fits = fits; ends = Calm; none = none; p = p; p' = p'; good = l.good; near = l.near; counted = l.counted; some = l.some; goes = l.goes; stops = l.stops }
+  abbrev item_of : {A : Type 0} (none : List Plain → Type 0) (fits : A → Type 0) (sp : A → List Plain)
+      (p p' : Reading (Option A)) → ItemLaw none fits sp p p' → Item rooms n A
+  item_of none fits sp p p' l =
+      record {
+        sp = sp;
+        fits = fits;
+        ends = Calm;
+        none = none;
+        p = p;
+        p' = p';
+        good = l.good;
+        near = l.near;
+        counted = l.counted;
+        some = l.some;
+        goes = l.goes;
+        stops = l.stops;
+      }
 
   abbrev pub an_expr : Form rooms n Expr
   an_expr = form_of rooms n (λ e. depth_expr e ≤ n) spell_expr Ends (expr_at n) (expr_at k) (expr_law rooms n k w)
 
   abbrev subscript_item : Item rooms n Expr
-  subscript_item = open_item rooms n depth_expr spell_expr (if_open n (inner_at n)) (if_open k (inner_at k)) (open_expr rooms n k w)
+  subscript_item =
+      open_item rooms n depth_expr spell_expr (if_open n (inner_at n)) (if_open k (inner_at k)) (open_expr rooms n k w)
 
   abbrev EndsName : List Plain → Type 0
   EndsName y = is (m.Sign s.Open) (first y) ≡ false
@@ -208,11 +281,13 @@ module _ (rooms : Rooms) (n k : ℕ) (w : Wider rooms n k) where
   abbrev a_subscript : Form rooms n (Option Expr)
   a_subscript = ending (option_form subscript_item) EndsName (λ y e. (tt, e))
 
-  reference_spelled : (x : Name × Option Expr) → spell_reference (record { name = x.0; subscript = x.1 }) ≡ (pair_form (name_form rooms n) a_subscript (λ b y f e. tt)).sp x
+  reference_spelled : (x : Name × Option Expr) → spell_reference
+      (record { name = x.0; subscript = x.1 }) ≡ (pair_form (name_form rooms n) a_subscript (λ b y f e. tt)).sp x
   reference_spelled (v, None) = refl
   reference_spelled (v, Some e) = refl
 
-  reference_there : (x : Name × Option Expr) → (pair_form (name_form rooms n) a_subscript (λ b y f e. tt)).fits x → depth_reference (record { name = x.0; subscript = x.1 }) ≤ n
+  reference_there : (x : Name × Option Expr) → (pair_form (name_form rooms n) a_subscript (λ b y f e. tt)).fits x
+      → depth_reference (record { name = x.0; subscript = x.1 }) ≤ n
   reference_there (v, None) h = omega arith
   reference_there (v, Some e) h = h.1
 
@@ -220,14 +295,19 @@ module _ (rooms : Rooms) (n k : ℕ) (w : Wider rooms n k) where
   subscript_fits None h = tt
   subscript_fits (Some e) h = h
 
-  pub reference_law : Law rooms n (λ v. depth_reference v ≤ n) spell_reference EndsName (reference_at n) (reference_at k)
+  pub reference_law : Law rooms n (λ v. depth_reference v ≤ n) spell_reference EndsName (reference_at n)
+      (reference_at k)
   unfolding reference_at subscript_at
-  reference_law = let f = made_form (pair_form (name_form rooms n) a_subscript (λ b y f e. tt)) spell_reference (λ v. depth_reference v ≤ n) (λ x. record { name = x.0; subscript = x.1 }) (λ v. (v.name, v.subscript))
+  reference_law =
+      let f = made_form (pair_form (name_form rooms n) a_subscript (λ b y f e. tt)) spell_reference
+      (λ v. depth_reference v ≤ n) (λ x. record { name = x.0; subscript = x.1 }) (λ v. (v.name, v.subscript))
       (λ v. refl) reference_spelled reference_there (λ v h. (tt, subscript_fits v.subscript h)) in
       record { good = f.good; near = f.near; counted = f.counted; again = f.again }
 
   abbrev pub a_reference : Form rooms n Reference
-  a_reference = form_of rooms n (λ v. depth_reference v ≤ n) spell_reference EndsName (reference_at n) (reference_at k) reference_law
+  a_reference =
+      form_of rooms n (λ v. depth_reference v ≤ n) spell_reference EndsName (reference_at n) (reference_at k)
+      reference_law
 
   -- ---- [CALLED ref]
 
@@ -270,7 +350,8 @@ module _ (rooms : Rooms) (n k : ℕ) (w : Wider rooms n k) where
 
   -- the parts that the readings name
   abbrev the_subscript : Form rooms n (Option Expr)
-  the_subscript = form_of rooms n a_subscript.fits a_subscript.sp EndsName (subscript_at n) (subscript_at k) subscript_law
+  the_subscript =
+      form_of rooms n a_subscript.fits a_subscript.sp EndsName (subscript_at n) (subscript_at k) subscript_law
 
   abbrev the_called : Form rooms n (Option Reference)
   the_called = form_of rooms n a_called.fits a_called.sp EndsCalled (called_at n) (called_at k) called_law
@@ -332,22 +413,30 @@ module _ (rooms : Rooms) (n k : ℕ) (w : Wider rooms n k) where
   let_item = ending_item (mark_item (m.Reserved r.Let) let_leaves the_equation) Calm (λ y e. e.ends)
 
   abbrev add_item : Item rooms n (Expr × Reference)
-  add_item = ending_item (mark_item (m.Reserved r.Add) add_leaves (the_moved (m.Reserved r.To) to_leaves (λ y. ends_at _ y refl refl refl))) Calm (λ y e. let h = e.ends in h.no_open)
+  add_item =
+      ending_item (mark_item (m.Reserved r.Add) add_leaves
+      (the_moved (m.Reserved r.To) to_leaves (λ y. ends_at _ y refl refl refl))) Calm
+      (λ y e. let h = e.ends in h.no_open)
 
   abbrev subtract_item : Item rooms n (Expr × Reference)
-  subtract_item = ending_item (mark_item (m.Reserved r.Subtract) subtract_leaves (the_moved (m.Reserved r.From) from_leaves (λ y. ends_at _ y refl refl refl))) Calm (λ y e. let h = e.ends in h.no_open)
+  subtract_item =
+      ending_item (mark_item (m.Reserved r.Subtract) subtract_leaves
+      (the_moved (m.Reserved r.From) from_leaves (λ y. ends_at _ y refl refl refl))) Calm
+      (λ y e. let h = e.ends in h.no_open)
 
   abbrev assign_2 : Item rooms n ((Expr × Reference) ⊎ (Name × (Option Expr × Expr)))
   assign_2 = or_item subtract_item bare_item (λ b y f e. refl)
 
-  not_add : (b : (Expr × Reference) ⊎ (Name × (Option Expr × Expr))) (y : List Plain) → is (m.Reserved r.Add) (first (assign_2.sp b ++ y)) ≡ false
+  not_add : (b : (Expr × Reference) ⊎ (Name × (Option Expr × Expr))) (y : List Plain)
+      → is (m.Reserved r.Add) (first (assign_2.sp b ++ y)) ≡ false
   not_add (inl x) y = refl
   not_add (inr x) y = refl
 
   abbrev assign_1 : Item rooms n ((Expr × Reference) ⊎ ((Expr × Reference) ⊎ (Name × (Option Expr × Expr))))
   assign_1 = or_item add_item assign_2 (λ b y f e. not_add b y)
 
-  not_let : (b : (Expr × Reference) ⊎ ((Expr × Reference) ⊎ (Name × (Option Expr × Expr)))) (y : List Plain) → is (m.Reserved r.Let) (first (assign_1.sp b ++ y)) ≡ false
+  not_let : (b : (Expr × Reference) ⊎ ((Expr × Reference) ⊎ (Name × (Option Expr × Expr)))) (y : List Plain)
+      → is (m.Reserved r.Let) (first (assign_1.sp b ++ y)) ≡ false
   not_let (inl x) y = refl
   not_let (inr (inl x)) y = refl
   not_let (inr (inr x)) y = refl
@@ -372,11 +461,19 @@ module _ (rooms : Rooms) (n k : ℕ) (w : Wider rooms n k) where
   whole_assign (Subtract e v) = refl
 
   assign_spelled : (x : AssignParts) → spell_assign (assign_of x) ≡ assign_0.sp x
-  assign_spelled (inl (v, e)) = ap (λ (u : List Plain). mark (m.Reserved r.Let) ∷ u) (sym (append_assoc (spell_reference v) (mark (m.Sign s.Equal) ∷ []) (spell_expr e)))
-  assign_spelled (inr (inl (e, v))) = ap (λ (u : List Plain). mark (m.Reserved r.Add) ∷ u) (sym (append_assoc (spell_expr e) (mark (m.Reserved r.To) ∷ []) (spell_reference v)))
-  assign_spelled (inr (inr (inl (e, v)))) = ap (λ (u : List Plain). mark (m.Reserved r.Subtract) ∷ u) (sym (append_assoc (spell_expr e) (mark (m.Reserved r.From) ∷ []) (spell_reference v)))
+  assign_spelled (inl (v, e)) =
+      ap (λ (u : List Plain). mark (m.Reserved r.Let) ∷ u)
+      (sym (append_assoc (spell_reference v) (mark (m.Sign s.Equal) ∷ []) (spell_expr e)))
+  assign_spelled (inr (inl (e, v))) =
+      ap (λ (u : List Plain). mark (m.Reserved r.Add) ∷ u)
+      (sym (append_assoc (spell_expr e) (mark (m.Reserved r.To) ∷ []) (spell_reference v)))
+  assign_spelled (inr (inr (inl (e, v)))) =
+      ap (λ (u : List Plain). mark (m.Reserved r.Subtract) ∷ u)
+      (sym (append_assoc (spell_expr e) (mark (m.Reserved r.From) ∷ []) (spell_reference v)))
   assign_spelled (inr (inr (inr (v, (None, e))))) = refl
-  assign_spelled (inr (inr (inr (v, (Some i, e))))) = ap (λ (u : List Plain). name v ∷ u) (sym (append_assoc (spell_within (spell_expr i)) (mark (m.Sign s.Equal) ∷ []) (spell_expr e)))
+  assign_spelled (inr (inr (inr (v, (Some i, e))))) =
+      ap (λ (u : List Plain). name v ∷ u) (sym (append_assoc (spell_within (spell_expr i)) (mark (m.Sign s.Equal) ∷ [])
+      (spell_expr e)))
 
   assign_there : (x : AssignParts) → assign_0.fits x → depth_assign (assign_of x) ≤ n
   assign_there (inl (v, e)) h = let i = h.0 in let j = h.1 in omega (arith, i, j)
@@ -394,7 +491,9 @@ module _ (rooms : Rooms) (n k : ℕ) (w : Wider rooms n k) where
 
   assign_law : ItemLaw assign_0.none (λ a. depth_assign a ≤ n) spell_assign (assign_at n) (assign_at k)
   unfolding assign_at subscript_at
-  assign_law = of_item (made_item assign_0 spell_assign (λ a. depth_assign a ≤ n) assign_of split_assign whole_assign assign_spelled assign_there assign_back) (λ y e. (e, (e, (e, e))))
+  assign_law =
+      of_item (made_item assign_0 spell_assign (λ a. depth_assign a ≤ n) assign_of split_assign whole_assign
+      assign_spelled assign_there assign_back) (λ y e. (e, (e, (e, e))))
 
   abbrev assign_item : Item rooms n Assign
   assign_item = item_of assign_0.none (λ a. depth_assign a ≤ n) spell_assign (assign_at n) (assign_at k) assign_law
@@ -494,13 +593,17 @@ module _ (rooms : Rooms) (n k : ℕ) (w : Wider rooms n k) where
   the_named = form_of rooms n named.fits named.sp EndsCalled (named_at n) (named_at k) named_law
 
   abbrev created : Form rooms n ((Name × Option Expr) ⊎ (Name × Option Reference))
-  created = either_form (mark_item (m.Reserved r.Every) every_leaves (pair_form (name_form rooms n) the_subscript (λ b y f e. tt))) the_named (λ b y f e. refl)
+  created =
+      either_form (mark_item (m.Reserved r.Every) every_leaves
+      (pair_form (name_form rooms n) the_subscript (λ b y f e. tt))) the_named (λ b y f e. refl)
 
   abbrev MakingParts : Type 0
   MakingParts = ((Name × Option Expr) ⊎ (Name × Option Reference)) ⊎ (Name × Option Reference)
 
   abbrev making_0 : Item rooms n MakingParts
-  making_0 = or_item (mark_item (m.Reserved r.Create) create_leaves created) (mark_item (m.Reserved r.Destroy) destroy_leaves the_named) (λ b y f e. refl)
+  making_0 =
+      or_item (mark_item (m.Reserved r.Create) create_leaves created)
+      (mark_item (m.Reserved r.Destroy) destroy_leaves the_named) (λ b y f e. refl)
 
   split_making : Making → MakingParts
   split_making (Create c v) = inl (inr (c, v))
@@ -540,7 +643,9 @@ module _ (rooms : Rooms) (n k : ℕ) (w : Wider rooms n k) where
 
   making_law : ItemLaw making_0.none (λ a. depth_making a ≤ n) spell_making (making_at n) (making_at k)
   unfolding making_at
-  making_law = of_item (made_item making_0 spell_making (λ a. depth_making a ≤ n) making_of split_making whole_making making_spelled making_there making_back) (λ y e. ((calm_open y e, calm_called y e), calm_called y e))
+  making_law =
+      of_item (made_item making_0 spell_making (λ a. depth_making a ≤ n) making_of split_making whole_making
+      making_spelled making_there making_back) (λ y e. ((calm_open y e, calm_called y e), calm_called y e))
 
   abbrev making_item : Item rooms n Making
   making_item = item_of making_0.none (λ a. depth_making a ≤ n) spell_making (making_at n) (making_at k) making_law
@@ -556,17 +661,22 @@ module _ (rooms : Rooms) (n k : ℕ) (w : Wider rooms n k) where
   expr_no_end (expr None (term (within e) ps) ss) y = refl
 
   abbrev EndsPlace : List Plain → Type 0
-  EndsPlace y = Ends y × (is (m.Reserved r.After) (first y) ≡ false) × (is (m.Reserved r.Before) (first y) ≡ false) × (end_of (first y) ≡ None)
+  EndsPlace y =
+      Ends y × (is (m.Reserved r.After) (first y) ≡ false) × (is (m.Reserved r.Before) (first y) ≡ false)
+      × (end_of (first y) ≡ None)
 
   abbrev place_2 : Form rooms n (Option Expr)
   place_2 = ending (option_form (mark_item (m.Reserved r.After) after_leaves an_expr)) EndsPlace (λ y e. (e.0, e.1))
 
-  not_before : (b : Option Expr) (y : List Plain) → EndsPlace y → is (m.Reserved r.Before) (first (place_2.sp b ++ y)) ≡ false
+  not_before : (b : Option Expr) (y : List Plain) → EndsPlace y
+      → is (m.Reserved r.Before) (first (place_2.sp b ++ y)) ≡ false
   not_before None y e = e.2
   not_before (Some x) y e = refl
 
   abbrev place_1 : Form rooms n (Expr ⊎ Option Expr)
-  place_1 = ending (either_form (mark_item (m.Reserved r.Before) before_leaves an_expr) place_2 (λ b y f e. not_before b y e)) EndsPlace (λ y e. (e.0, e))
+  place_1 =
+      ending (either_form (mark_item (m.Reserved r.Before) before_leaves an_expr) place_2 (λ b y f e. not_before b y e))
+      EndsPlace (λ y e. (e.0, e))
 
   not_end : (b : Expr ⊎ Option Expr) (y : List Plain) → EndsPlace y → end_of (first (place_1.sp b ++ y)) ≡ None
   not_end (inl x) y e = refl
@@ -574,7 +684,8 @@ module _ (rooms : Rooms) (n k : ℕ) (w : Wider rooms n k) where
   not_end (inr (Some x)) y e = refl
 
   abbrev place_0 : Form rooms n (SetEnd ⊎ (Expr ⊎ Option Expr))
-  place_0 = ending (either_form (table_item rooms n end_table) place_1 (λ b y f e. not_end b y e)) EndsPlace (λ y e. (tt, e))
+  place_0 =
+      ending (either_form (table_item rooms n end_table) place_1 (λ b y f e. not_end b y e)) EndsPlace (λ y e. (tt, e))
 
   split_place : FilePlace → SetEnd ⊎ (Expr ⊎ Option Expr)
   split_place ByDiscipline = inr (inr None)
@@ -610,13 +721,19 @@ module _ (rooms : Rooms) (n k : ℕ) (w : Wider rooms n k) where
 
   place_law : Law rooms n (λ h. depth_file_place h ≤ n) spell_file_place EndsPlace (file_place_at n) (file_place_at k)
   unfolding file_place_at
-  place_law = OfForm (made_form place_0 spell_file_place (λ h. depth_file_place h ≤ n) file_place_of split_place whole_place place_spelled place_there place_back)
+  place_law =
+      OfForm (made_form place_0 spell_file_place (λ h. depth_file_place h ≤ n) file_place_of split_place whole_place
+      place_spelled place_there place_back)
 
   abbrev the_place : Form rooms n FilePlace
-  the_place = form_of rooms n (λ h. depth_file_place h ≤ n) spell_file_place EndsPlace (file_place_at n) (file_place_at k) place_law
+  the_place =
+      form_of rooms n (λ h. depth_file_place h ≤ n) spell_file_place EndsPlace (file_place_at n) (file_place_at k)
+      place_law
 
   abbrev placed : Form rooms n (FilePlace × Reference)
-  placed = pair_form (before_form the_place (m.Reserved r.In) in_leaves (λ y. (ends_at _ y refl refl refl, refl, refl, refl))) a_reference (λ b y f e. tt)
+  placed =
+      pair_form (before_form the_place (m.Reserved r.In) in_leaves
+      (λ y. (ends_at _ y refl refl refl, refl, refl, refl))) a_reference (λ b y f e. tt)
 
   placed_ends : (h : FilePlace) (z : List Plain) → Ends (spell_file_place h ++ mark (m.Reserved r.In) ∷ z)
   placed_ends ByDiscipline z = ends_at _ z refl refl refl
@@ -627,14 +744,16 @@ module _ (rooms : Rooms) (n k : ℕ) (w : Wider rooms n k) where
 
   placed_end : (b : FilePlace × Reference) (y : List Plain) → Ends (placed.sp b ++ y)
   placed_end (h, v) y =
-      let same : ((spell_file_place h ++ mark (m.Reserved r.In) ∷ []) ++ spell_reference v) ++ y ≡ spell_file_place h ++ mark (m.Reserved r.In) ∷ (spell_reference v ++ y) = simp append_assoc in
+      let same : ((spell_file_place h ++ mark (m.Reserved r.In) ∷ []) ++ spell_reference v) ++ y ≡ spell_file_place h
+      ++ mark (m.Reserved r.In) ∷ (spell_reference v ++ y) = simp append_assoc in
       rw same (placed_ends h (spell_reference v ++ y))
 
   abbrev valued : Form rooms n (Expr × (FilePlace × Reference))
   valued = pair_form an_expr placed (λ b y f e. placed_end b y)
 
   valued_no_end : (b : Expr × (FilePlace × Reference)) (y : List Plain) → end_of (first (valued.sp b ++ y)) ≡ None
-  valued_no_end (e, x) y = ap (λ (u : List Plain). end_of (first u)) (append_assoc (spell_expr e) (placed.sp x) y) ∙ expr_no_end e _
+  valued_no_end (e, x) y =
+      ap (λ (u : List Plain). end_of (first u)) (append_assoc (spell_expr e) (placed.sp x) y) ∙ expr_no_end e _
 
   abbrev in_moved : Form rooms n (Expr × Reference)
   in_moved = the_moved (m.Reserved r.In) in_leaves (λ y. ends_at _ y refl refl refl)
@@ -643,7 +762,8 @@ module _ (rooms : Rooms) (n k : ℕ) (w : Wider rooms n k) where
   from_moved = the_moved (m.Reserved r.From) from_leaves (λ y. ends_at _ y refl refl refl)
 
   abbrev filed : Form rooms n ((SetEnd × (Expr × Reference)) ⊎ (Expr × (FilePlace × Reference)))
-  filed = ending (either_form (word_item end_table in_moved) valued (λ b y f e. valued_no_end b y)) EndsName (λ y e. (e, e))
+  filed =
+      ending (either_form (word_item end_table in_moved) valued (λ b y f e. valued_no_end b y)) EndsName (λ y e. (e, e))
 
   filed_law : Law rooms n filed.fits filed.sp EndsName (file_at n) (file_at k)
   unfolding file_at
@@ -654,11 +774,15 @@ module _ (rooms : Rooms) (n k : ℕ) (w : Wider rooms n k) where
 
   moved_no_end : (b : Expr × Reference) (y : List Plain) → end_of (first (from_moved.sp b ++ y)) ≡ None
   moved_no_end (e, v) y =
-      let same : ((spell_expr e ++ mark (m.Reserved r.From) ∷ []) ++ spell_reference v) ++ y ≡ spell_expr e ++ (mark (m.Reserved r.From) ∷ [] ++ spell_reference v ++ y) = simp append_assoc in
+      let same : ((spell_expr e ++ mark (m.Reserved r.From) ∷ []) ++ spell_reference v) ++ y ≡ spell_expr e
+      ++ (mark (m.Reserved r.From) ∷ [] ++ spell_reference v ++ y) = simp append_assoc in
       ap (λ (u : List Plain). end_of (first u)) same ∙ expr_no_end e _
 
   abbrev removed : Form rooms n ((SetEnd × (Reference × Reference)) ⊎ (Expr × Reference))
-  removed = ending (either_form (word_item end_table (pair_form (before_form a_reference (m.Reserved r.From) from_leaves (λ y. refl)) a_reference (λ b y f e. tt))) from_moved (λ b y f e. moved_no_end b y)) EndsName (λ y e. (e, e))
+  removed =
+      ending (either_form (word_item end_table (pair_form
+      (before_form a_reference (m.Reserved r.From) from_leaves (λ y. refl)) a_reference (λ b y f e. tt))) from_moved
+      (λ b y f e. moved_no_end b y)) EndsName (λ y e. (e, e))
 
   removed_law : Law rooms n removed.fits removed.sp EndsName (remove_at n) (remove_at k)
   unfolding remove_at
@@ -668,10 +792,14 @@ module _ (rooms : Rooms) (n k : ℕ) (w : Wider rooms n k) where
   the_removed = form_of rooms n removed.fits removed.sp EndsName (remove_at n) (remove_at k) removed_law
 
   abbrev FilingParts : Type 0
-  FilingParts = ((SetEnd × (Expr × Reference)) ⊎ (Expr × (FilePlace × Reference))) ⊎ ((SetEnd × (Reference × Reference)) ⊎ (Expr × Reference))
+  FilingParts =
+      ((SetEnd × (Expr × Reference)) ⊎ (Expr × (FilePlace × Reference)))
+      ⊎ ((SetEnd × (Reference × Reference)) ⊎ (Expr × Reference))
 
   abbrev filing_0 : Item rooms n FilingParts
-  filing_0 = or_item (mark_item (m.Reserved r.File) file_leaves the_filed) (mark_item (m.Reserved r.Remove) remove_leaves the_removed) (λ b y f e. refl)
+  filing_0 =
+      or_item (mark_item (m.Reserved r.File) file_leaves the_filed)
+      (mark_item (m.Reserved r.Remove) remove_leaves the_removed) (λ b y f e. refl)
 
   split_filing : Filing → FilingParts
   split_filing (File e h v) = inl (inr (e, (h, v)))
@@ -687,12 +815,19 @@ module _ (rooms : Rooms) (n k : ℕ) (w : Wider rooms n k) where
   whole_filing (Remove e v) = refl
 
   filing_spelled : (x : FilingParts) → spell_filing (filing_of x) ≡ filing_0.sp x
-  filing_spelled (inl (inl (b, (e, v)))) = ap (λ (u : List Plain). mark (m.Reserved r.File) ∷ spell_end b ∷ u) (sym (append_assoc (spell_expr e) (mark (m.Reserved r.In) ∷ []) (spell_reference v)))
+  filing_spelled (inl (inl (b, (e, v)))) =
+      ap (λ (u : List Plain). mark (m.Reserved r.File) ∷ spell_end b ∷ u)
+      (sym (append_assoc (spell_expr e) (mark (m.Reserved r.In) ∷ []) (spell_reference v)))
   filing_spelled (inl (inr (e, (h, v)))) =
-      let same : spell_expr e ++ spell_file_place h ++ mark (m.Reserved r.In) ∷ spell_reference v ≡ spell_expr e ++ ((spell_file_place h ++ mark (m.Reserved r.In) ∷ []) ++ spell_reference v) = simp append_assoc in
+      let same : spell_expr e ++ spell_file_place h ++ mark (m.Reserved r.In) ∷ spell_reference v ≡ spell_expr e
+      ++ ((spell_file_place h ++ mark (m.Reserved r.In) ∷ []) ++ spell_reference v) = simp append_assoc in
       ap (λ (u : List Plain). mark (m.Reserved r.File) ∷ u) same
-  filing_spelled (inr (inl (b, (u, v)))) = ap (λ (z : List Plain). mark (m.Reserved r.Remove) ∷ spell_end b ∷ z) (sym (append_assoc (spell_reference u) (mark (m.Reserved r.From) ∷ []) (spell_reference v)))
-  filing_spelled (inr (inr (e, v))) = ap (λ (u : List Plain). mark (m.Reserved r.Remove) ∷ u) (sym (append_assoc (spell_expr e) (mark (m.Reserved r.From) ∷ []) (spell_reference v)))
+  filing_spelled (inr (inl (b, (u, v)))) =
+      ap (λ (z : List Plain). mark (m.Reserved r.Remove) ∷ spell_end b ∷ z)
+      (sym (append_assoc (spell_reference u) (mark (m.Reserved r.From) ∷ []) (spell_reference v)))
+  filing_spelled (inr (inr (e, v))) =
+      ap (λ (u : List Plain). mark (m.Reserved r.Remove) ∷ u)
+      (sym (append_assoc (spell_expr e) (mark (m.Reserved r.From) ∷ []) (spell_reference v)))
 
   filing_there : (x : FilingParts) → filing_0.fits x → depth_filing (filing_of x) ≤ n
   filing_there (inl (inl (b, (e, v)))) h = let i = h.0 in let j = h.1 in omega (arith, i, j)
@@ -709,7 +844,9 @@ module _ (rooms : Rooms) (n k : ℕ) (w : Wider rooms n k) where
 
   filing_law : ItemLaw filing_0.none (λ a. depth_filing a ≤ n) spell_filing (filing_at n) (filing_at k)
   unfolding filing_at
-  filing_law = of_item (made_item filing_0 spell_filing (λ a. depth_filing a ≤ n) filing_of split_filing whole_filing filing_spelled filing_there filing_back) (λ y e. (calm_open y e, calm_open y e))
+  filing_law =
+      of_item (made_item filing_0 spell_filing (λ a. depth_filing a ≤ n) filing_of split_filing whole_filing
+      filing_spelled filing_there filing_back) (λ y e. (calm_open y e, calm_open y e))
 
   abbrev filing_item : Item rooms n Filing
   filing_item = item_of filing_0.none (λ a. depth_filing a ≤ n) spell_filing (filing_at n) (filing_at k) filing_law
@@ -720,22 +857,42 @@ module _ (rooms : Rooms) (n k : ℕ) (w : Wider rooms n k) where
   name_comma y = refl
 
   abbrev EndsValues : List Plain → Type 0
-  EndsValues y = EndsList Ends y × ((is (m.Sign s.Open) (first y) ≡ false) × (is (m.Reserved r.Given) (first y) ≡ false))
+  EndsValues y =
+      EndsList Ends y × ((is (m.Sign s.Open) (first y) ≡ false) × (is (m.Reserved r.Given) (first y) ≡ false))
 
-  targets_law : Law rooms n (λ vs. greatest depth_reference vs ≤ n) (spell_behind (m.Reserved r.Yielding) spell_reference) Calm (list_behind (m.Reserved r.Yielding) (reference_at n)) (list_behind (m.Reserved r.Yielding) (reference_at k))
-  targets_law = let f = list_law depth_reference spell_reference EndsName (reference_at n) (reference_at k) reference_law name_comma (m.Reserved r.Yielding) yielding_leaves in
-      record { good = f.good; near = f.near; counted = f.counted; again = λ a y h e. f.again a y h ((calm_open y e, e.no_comma), e.no_yielding) }
+  targets_law : Law rooms n (λ vs. greatest depth_reference vs ≤ n)
+      (spell_behind (m.Reserved r.Yielding) spell_reference) Calm (list_behind (m.Reserved r.Yielding) (reference_at n))
+      (list_behind (m.Reserved r.Yielding) (reference_at k))
+  targets_law =
+      let f = list_law depth_reference spell_reference EndsName (reference_at n) (reference_at k) reference_law
+      name_comma (m.Reserved r.Yielding) yielding_leaves in
+      record {
+        good = f.good;
+        near = f.near;
+        counted = f.counted;
+        again = λ a y h e. f.again a y h
+            ((calm_open y e, e.no_comma), e.no_yielding);
+      }
 
-  values_law : Law rooms n (λ es. depth_listing depth_expr es ≤ n) (spell_listing spell_expr) EndsValues (listing_with n (expr_at n) (inner_at n)) (listing_with k (expr_at k) (inner_at k))
-  values_law = listing_law depth_expr spell_expr Ends (expr_at n) (expr_at k) (expr_law rooms n k w) comma_ends k (inner_at n) (inner_at k) (open_exprs rooms n k w)
+  values_law : Law rooms n (λ es. depth_listing depth_expr es ≤ n) (spell_listing spell_expr) EndsValues
+      (listing_with n (expr_at n) (inner_at n)) (listing_with k (expr_at k) (inner_at k))
+  values_law =
+      listing_law depth_expr spell_expr Ends (expr_at n) (expr_at k) (expr_law rooms n k w) comma_ends k (inner_at n)
+      (inner_at k) (open_exprs rooms n k w)
 
   abbrev targets : Form rooms n (List Reference)
-  targets = form_of rooms n (λ vs. greatest depth_reference vs ≤ n) (spell_behind (m.Reserved r.Yielding) spell_reference) Calm (list_behind (m.Reserved r.Yielding) (reference_at n)) (list_behind (m.Reserved r.Yielding) (reference_at k)) targets_law
+  targets =
+      form_of rooms n (λ vs. greatest depth_reference vs ≤ n) (spell_behind (m.Reserved r.Yielding) spell_reference)
+      Calm (list_behind (m.Reserved r.Yielding) (reference_at n)) (list_behind (m.Reserved r.Yielding) (reference_at k))
+      targets_law
 
   abbrev values : Form rooms n (Listing Expr)
-  values = form_of rooms n (λ es. depth_listing depth_expr es ≤ n) (spell_listing spell_expr) EndsValues (listing_with n (expr_at n) (inner_at n)) (listing_with k (expr_at k) (inner_at k)) values_law
+  values =
+      form_of rooms n (λ es. depth_listing depth_expr es ≤ n) (spell_listing spell_expr) EndsValues
+      (listing_with n (expr_at n) (inner_at n)) (listing_with k (expr_at k) (inner_at k)) values_law
 
-  values_end : (b : List Reference) (y : List Plain) → Calm y → EndsValues (spell_behind (m.Reserved r.Yielding) spell_reference b ++ y)
+  values_end : (b : List Reference) (y : List Plain) → Calm y
+      → EndsValues (spell_behind (m.Reserved r.Yielding) spell_reference b ++ y)
   values_end [] y e = let h = e.ends in ((h, e.no_comma), (h.no_open, e.no_given))
   values_end (x ∷ xs) y e = ((ends_at _ _ refl refl refl, refl), (refl, refl))
 
@@ -753,7 +910,9 @@ module _ (rooms : Rooms) (n k : ℕ) (w : Wider rooms n k) where
   TransferParts = (Name × (Listing Expr × List Reference)) ⊎ (Unit {0} ⊎ Unit {0})
 
   abbrev transfer_1 : Item rooms n (Unit {0} ⊎ Unit {0})
-  transfer_1 = or_item (mark_item (m.Reserved r.Return) return_leaves (nothing_form rooms n)) (mark_item (m.Reserved r.Stop) stop_leaves (nothing_form rooms n)) (λ b y f e. refl)
+  transfer_1 =
+      or_item (mark_item (m.Reserved r.Return) return_leaves (nothing_form rooms n))
+      (mark_item (m.Reserved r.Stop) stop_leaves (nothing_form rooms n)) (λ b y f e. refl)
 
   not_call : (b : Unit {0} ⊎ Unit {0}) (y : List Plain) → is (m.Reserved r.Call) (first (transfer_1.sp b ++ y)) ≡ false
   not_call (inl u) y = refl
@@ -791,15 +950,20 @@ module _ (rooms : Rooms) (n k : ℕ) (w : Wider rooms n k) where
 
   transfer_law : ItemLaw transfer_0.none (λ a. depth_transfer a ≤ n) spell_transfer (transfer_at n) (transfer_at k)
   unfolding transfer_at
-  transfer_law = of_item (made_item transfer_0 spell_transfer (λ a. depth_transfer a ≤ n) transfer_of split_transfer whole_transfer transfer_spelled transfer_there transfer_back) (λ y e. (e, (tt, tt)))
+  transfer_law =
+      of_item (made_item transfer_0 spell_transfer (λ a. depth_transfer a ≤ n) transfer_of split_transfer whole_transfer
+      transfer_spelled transfer_there transfer_back) (λ y e. (e, (tt, tt)))
 
   abbrev transfer_item : Item rooms n Transfer
-  transfer_item = item_of transfer_0.none (λ a. depth_transfer a ≤ n) spell_transfer (transfer_at n) (transfer_at k) transfer_law
+  transfer_item =
+      item_of transfer_0.none (λ a. depth_transfer a ≤ n) spell_transfer (transfer_at n) (transfer_at k) transfer_law
 
   -- ---- SCHEDULE, CANCEL, START SIMULATION
 
   abbrev article_part : Form rooms n (Unit {0} ⊎ Unit {0})
-  article_part = either_form (mark_item (m.Reserved r.A) a_leaves (nothing_form rooms n)) (behind_form (m.Reserved r.The) the_leaves (nothing_form rooms n)) (λ b y f e. refl)
+  article_part =
+      either_form (mark_item (m.Reserved r.A) a_leaves (nothing_form rooms n))
+      (behind_form (m.Reserved r.The) the_leaves (nothing_form rooms n)) (λ b y f e. refl)
 
   split_article : Article → Unit {0} ⊎ Unit {0}
   split_article article.A = inl tt
@@ -824,23 +988,33 @@ module _ (rooms : Rooms) (n k : ℕ) (w : Wider rooms n k) where
 
   article_law : Law rooms n Any spell_an_article (λ y. Unit {0}) an_article an_article
   unfolding an_article
-  article_law = let f = made_form article_part spell_an_article Any article_of split_article whole_article article_spelled (λ x h. tt) (λ a h. article_back a) in
+  article_law =
+      let f = made_form article_part spell_an_article Any article_of split_article whole_article article_spelled
+      (λ x h. tt) (λ a h. article_back a) in
       record { good = f.good; near = f.near; counted = f.counted; again = λ a y h e. f.again a y h (tt, tt) }
 
   abbrev the_article : Form rooms n Article
   the_article = form_of rooms n Any spell_an_article (λ y. Unit {0}) an_article an_article article_law
 
   abbrev EndsDetails : List Plain → Type 0
-  EndsDetails y = Ends y × (is (m.Sign s.Comma) (first y) ≡ false) × (is (m.Reserved r.Called) (first y) ≡ false) × (is (m.Reserved r.Given) (first y) ≡ false)
+  EndsDetails y =
+      Ends y × (is (m.Sign s.Comma) (first y) ≡ false) × (is (m.Reserved r.Called) (first y) ≡ false)
+      × (is (m.Reserved r.Given) (first y) ≡ false)
 
-  given_law : Law rooms n (λ es. greatest depth_expr es ≤ n) (spell_behind (m.Reserved r.Given) spell_expr) EndsDetails (list_behind (m.Reserved r.Given) (expr_at n)) (list_behind (m.Reserved r.Given) (expr_at k))
-  given_law = let f = list_law depth_expr spell_expr Ends (expr_at n) (expr_at k) (expr_law rooms n k w) comma_ends (m.Reserved r.Given) given_leaves in
+  given_law : Law rooms n (λ es. greatest depth_expr es ≤ n) (spell_behind (m.Reserved r.Given) spell_expr) EndsDetails
+      (list_behind (m.Reserved r.Given) (expr_at n)) (list_behind (m.Reserved r.Given) (expr_at k))
+  given_law =
+      let f = list_law depth_expr spell_expr Ends (expr_at n) (expr_at k) (expr_law rooms n k w) comma_ends
+      (m.Reserved r.Given) given_leaves in
       record { good = f.good; near = f.near; counted = f.counted; again = λ a y h e. f.again a y h ((e.0, e.1), e.3) }
 
   abbrev given_values : Form rooms n (List Expr)
-  given_values = form_of rooms n (λ es. greatest depth_expr es ≤ n) (spell_behind (m.Reserved r.Given) spell_expr) EndsDetails (list_behind (m.Reserved r.Given) (expr_at n)) (list_behind (m.Reserved r.Given) (expr_at k)) given_law
+  given_values =
+      form_of rooms n (λ es. greatest depth_expr es ≤ n) (spell_behind (m.Reserved r.Given) spell_expr) EndsDetails
+      (list_behind (m.Reserved r.Given) (expr_at n)) (list_behind (m.Reserved r.Given) (expr_at k)) given_law
 
-  given_end : (b : List Expr) (y : List Plain) → EndsDetails y → EndsCalled (spell_behind (m.Reserved r.Given) spell_expr b ++ y)
+  given_end : (b : List Expr) (y : List Plain) → EndsDetails y
+      → EndsCalled (spell_behind (m.Reserved r.Given) spell_expr b ++ y)
   given_end [] y e = let h = e.0 in (h.no_open, e.2)
   given_end (x ∷ xs) y e = (refl, refl)
 
@@ -848,18 +1022,23 @@ module _ (rooms : Rooms) (n k : ℕ) (w : Wider rooms n k) where
   reference_first = pair_form the_called given_values (λ b y f e. given_end b y e)
 
   abbrev open_values : Item rooms n (Several Expr)
-  open_values = open_item rooms n (greatest_of depth_expr) (spell_several spell_expr) (if_open n (several (inner_at n))) (if_open k (several (inner_at k))) (open_exprs rooms n k w)
+  open_values =
+      open_item rooms n (greatest_of depth_expr) (spell_several spell_expr) (if_open n (several (inner_at n)))
+      (if_open k (several (inner_at k))) (open_exprs rooms n k w)
 
   abbrev values_first : Item rooms n (Several Expr × Option Reference)
   values_first = and_item open_values the_called (λ b y f e. tt)
 
-  not_open : (b : Option Reference × List Expr) (y : List Plain) → EndsDetails y → is (m.Sign s.Open) (first (reference_first.sp b ++ y)) ≡ false
+  not_open : (b : Option Reference × List Expr) (y : List Plain) → EndsDetails y
+      → is (m.Sign s.Open) (first (reference_first.sp b ++ y)) ≡ false
   not_open (None, []) y e = let h = e.0 in h.no_open
   not_open (None, x ∷ xs) y e = refl
   not_open (Some v, es) y e = refl
 
   abbrev details_part : Form rooms n ((Several Expr × Option Reference) ⊎ (Option Reference × List Expr))
-  details_part = ending (either_form values_first reference_first (λ b y f e. not_open b y e)) EndsDetails (λ y e. ((let h = e.0 in h.no_open, e.2), e))
+  details_part =
+      ending (either_form values_first reference_first (λ b y f e. not_open b y e)) EndsDetails
+      (λ y e. ((let h = e.0 in h.no_open, e.2), e))
 
   split_details : Details → (Several Expr × Option Reference) ⊎ (Option Reference × List Expr)
   split_details (ValuesFirst es v) = inl (es, v)
@@ -870,11 +1049,15 @@ module _ (rooms : Rooms) (n k : ℕ) (w : Wider rooms n k) where
   whole_details (ValuesFirst es v) = refl
   whole_details (CalledFirst v es) = refl
 
-  details_spelled : (x : (Several Expr × Option Reference) ⊎ (Option Reference × List Expr)) → spell_details (details_of x) ≡ details_part.sp x
-  details_spelled (inl (es, v)) = ap (λ (u : List Plain). spell_within (spell_several spell_expr es) ++ u) (called_spelled v)
-  details_spelled (inr (v, es)) = ap (λ (u : List Plain). u ++ spell_behind (m.Reserved r.Given) spell_expr es) (called_spelled v)
+  details_spelled : (x : (Several Expr × Option Reference) ⊎ (Option Reference × List Expr))
+      → spell_details (details_of x) ≡ details_part.sp x
+  details_spelled (inl (es, v)) =
+      ap (λ (u : List Plain). spell_within (spell_several spell_expr es) ++ u) (called_spelled v)
+  details_spelled (inr (v, es)) =
+      ap (λ (u : List Plain). u ++ spell_behind (m.Reserved r.Given) spell_expr es) (called_spelled v)
 
-  details_there : (x : (Several Expr × Option Reference) ⊎ (Option Reference × List Expr)) → details_part.fits x → depth_details (details_of x) ≤ n
+  details_there : (x : (Several Expr × Option Reference) ⊎ (Option Reference × List Expr)) → details_part.fits x
+      → depth_details (details_of x) ≤ n
   details_there (inl (es, v)) h = let i = h.0 in let j = called_there v h.1 in omega (arith, i, j)
   details_there (inr (v, es)) h = let i = called_there v h.0 in let j = h.1 in omega (arith, i, j)
 
@@ -885,13 +1068,18 @@ module _ (rooms : Rooms) (n k : ℕ) (w : Wider rooms n k) where
 
   details_law : Law rooms n (λ d. depth_details d ≤ n) spell_details EndsDetails (details_at n) (details_at k)
   unfolding details_at
-  details_law = OfForm (made_form details_part spell_details (λ d. depth_details d ≤ n) details_of split_details whole_details details_spelled details_there details_back)
+  details_law =
+      OfForm (made_form details_part spell_details (λ d. depth_details d ≤ n) details_of split_details whole_details
+      details_spelled details_there details_back)
 
   abbrev the_details : Form rooms n Details
-  the_details = form_of rooms n (λ d. depth_details d ≤ n) spell_details EndsDetails (details_at n) (details_at k) details_law
+  the_details =
+      form_of rooms n (λ d. depth_details d ≤ n) spell_details EndsDetails (details_at n) (details_at k) details_law
 
   abbrev delay : Form rooms n Expr
-  delay = behind_form (m.Reserved r.In) in_leaves (before_form an_expr (m.Reserved r.Days) days_leaves (λ y. ends_at _ y refl refl refl))
+  delay =
+      behind_form (m.Reserved r.In) in_leaves (before_form an_expr (m.Reserved r.Days) days_leaves
+      (λ y. ends_at _ y refl refl refl))
 
   abbrev now_or_delay : Form rooms n (Unit {0} ⊎ Expr)
   now_or_delay = either_form (mark_item (m.Reserved r.Now) now_leaves (nothing_form rooms n)) delay (λ b y f e. refl)
@@ -932,7 +1120,9 @@ module _ (rooms : Rooms) (n k : ℕ) (w : Wider rooms n k) where
 
   when_law : Law rooms n (λ t. depth_when t ≤ n) spell_when Ends (when_at n) (when_at k)
   unfolding when_at
-  when_law = let f = made_form when_part spell_when (λ t. depth_when t ≤ n) when_of split_when whole_when when_spelled when_there when_back in
+  when_law =
+      let f = made_form when_part spell_when (λ t. depth_when t ≤ n) when_of split_when whole_when when_spelled
+      when_there when_back in
       record { good = f.good; near = f.near; counted = f.counted; again = λ a y h e. f.again a y h (e, (tt, tt)) }
 
   abbrev the_when : Form rooms n When
@@ -944,7 +1134,9 @@ module _ (rooms : Rooms) (n k : ℕ) (w : Wider rooms n k) where
   when_details (In e) y = (ends_at _ _ refl refl refl, refl, refl, refl)
 
   abbrev scheduled : Form rooms n (Article × (Name × (Details × When)))
-  scheduled = pair_form the_article (pair_form (name_form rooms n) (pair_form the_details the_when (λ b y f e. when_details b y)) (λ b y f e. tt)) (λ b y f e. tt)
+  scheduled =
+      pair_form the_article (pair_form (name_form rooms n)
+      (pair_form the_details the_when (λ b y f e. when_details b y)) (λ b y f e. tt)) (λ b y f e. tt)
 
   schedule_law : Law rooms n scheduled.fits scheduled.sp Ends (schedule_at n) (schedule_at k)
   unfolding schedule_at
@@ -954,9 +1146,13 @@ module _ (rooms : Rooms) (n k : ℕ) (w : Wider rooms n k) where
   the_schedule = form_of rooms n scheduled.fits scheduled.sp Ends (schedule_at n) (schedule_at k) schedule_law
 
   abbrev timing_1 : Item rooms n ((Name × Option Reference) ⊎ Unit {0})
-  timing_1 = or_item (mark_item (m.Reserved r.Cancel) cancel_leaves the_named) (mark_item (m.Reserved r.Start) start_leaves (behind_form (m.Reserved r.Simulation) simulation_leaves (nothing_form rooms n))) (λ b y f e. refl)
+  timing_1 =
+      or_item (mark_item (m.Reserved r.Cancel) cancel_leaves the_named)
+      (mark_item (m.Reserved r.Start) start_leaves (behind_form (m.Reserved r.Simulation) simulation_leaves
+      (nothing_form rooms n))) (λ b y f e. refl)
 
-  not_schedule : (b : (Name × Option Reference) ⊎ Unit {0}) (y : List Plain) → is (m.Reserved r.Schedule) (first (timing_1.sp b ++ y)) ≡ false
+  not_schedule : (b : (Name × Option Reference) ⊎ Unit {0}) (y : List Plain)
+      → is (m.Reserved r.Schedule) (first (timing_1.sp b ++ y)) ≡ false
   not_schedule (inl x) y = refl
   not_schedule (inr u) y = refl
 
@@ -964,7 +1160,8 @@ module _ (rooms : Rooms) (n k : ℕ) (w : Wider rooms n k) where
   TimingParts = (Article × (Name × (Details × When))) ⊎ ((Name × Option Reference) ⊎ Unit {0})
 
   abbrev timing_0 : Item rooms n TimingParts
-  timing_0 = or_item (mark_item (m.Reserved r.Schedule) schedule_leaves the_schedule) timing_1 (λ b y f e. not_schedule b y)
+  timing_0 =
+      or_item (mark_item (m.Reserved r.Schedule) schedule_leaves the_schedule) timing_1 (λ b y f e. not_schedule b y)
 
   split_timing : Timing → TimingParts
   split_timing (Schedule a c d t) = inl (a, (c, (d, t)))
@@ -996,7 +1193,9 @@ module _ (rooms : Rooms) (n k : ℕ) (w : Wider rooms n k) where
 
   timing_law : ItemLaw timing_0.none (λ a. depth_timing a ≤ n) spell_timing (timing_at n) (timing_at k)
   unfolding timing_at
-  timing_law = of_item (made_item timing_0 spell_timing (λ a. depth_timing a ≤ n) timing_of split_timing whole_timing timing_spelled timing_there timing_back) (λ y e. (e.ends, (calm_called y e, tt)))
+  timing_law =
+      of_item (made_item timing_0 spell_timing (λ a. depth_timing a ≤ n) timing_of split_timing whole_timing
+      timing_spelled timing_there timing_back) (λ y e. (e.ends, (calm_called y e, tt)))
 
   abbrev timing_item : Item rooms n Timing
   timing_item = item_of timing_0.none (λ a. depth_timing a ≤ n) spell_timing (timing_at n) (timing_at k) timing_law
@@ -1004,14 +1203,24 @@ module _ (rooms : Rooms) (n k : ℕ) (w : Wider rooms n k) where
   -- ---- READ, PRINT, SKIP
 
   abbrev read_part : Form rooms n (Several Reference)
-  read_part = form_of rooms n (λ vs. greatest_of depth_reference vs ≤ n) (spell_several spell_reference) (EndsList EndsName) (several (reference_at n)) (several (reference_at k)) (several_law depth_reference spell_reference EndsName (reference_at n) (reference_at k) reference_law name_comma)
+  read_part =
+      form_of rooms n (λ vs. greatest_of depth_reference vs ≤ n) (spell_several spell_reference) (EndsList EndsName)
+      (several (reference_at n)) (several (reference_at k))
+      (several_law depth_reference spell_reference EndsName (reference_at n) (reference_at k) reference_law name_comma)
 
   abbrev with_values : Form rooms n (List Expr)
-  with_values = form_of rooms n (λ es. greatest depth_expr es ≤ n) (spell_behind (m.Reserved r.With) spell_expr) (λ y. EndsList Ends y × (is (m.Reserved r.With) (first y) ≡ false)) (list_behind (m.Reserved r.With) (expr_at n)) (list_behind (m.Reserved r.With) (expr_at k))
-      (list_law depth_expr spell_expr Ends (expr_at n) (expr_at k) (expr_law rooms n k w) comma_ends (m.Reserved r.With) with_leaves)
+  with_values =
+      form_of rooms n (λ es. greatest depth_expr es ≤ n) (spell_behind (m.Reserved r.With) spell_expr)
+      (λ y. EndsList Ends y × (is (m.Reserved r.With) (first y) ≡ false)) (list_behind (m.Reserved r.With) (expr_at n))
+      (list_behind (m.Reserved r.With) (expr_at k))
+      (list_law depth_expr spell_expr Ends (expr_at n) (expr_at k) (expr_law rooms n k w) comma_ends (m.Reserved r.With)
+      with_leaves)
 
   abbrev printed : Form rooms n (ℕ × (List Expr × List (List ℕ)))
-  printed = pair_form (before_form (number_form rooms n) (m.Reserved r.Lines) lines_leaves (λ y. tt)) (pair_form (before_form with_values (m.Reserved r.Thus) thus_leaves (λ y. ((ends_at _ y refl refl refl, refl), refl))) (picture_form rooms n) (λ b y f e. tt)) (λ b y f e. tt)
+  printed =
+      pair_form (before_form (number_form rooms n) (m.Reserved r.Lines) lines_leaves (λ y. tt))
+      (pair_form (before_form with_values (m.Reserved r.Thus) thus_leaves
+      (λ y. ((ends_at _ y refl refl refl, refl), refl))) (picture_form rooms n) (λ b y f e. tt)) (λ b y f e. tt)
 
   print_law : Law rooms n printed.fits printed.sp (λ y. Unit {0}) (print_at n) (print_at k)
   unfolding print_at
@@ -1021,9 +1230,13 @@ module _ (rooms : Rooms) (n k : ℕ) (w : Wider rooms n k) where
   the_print = form_of rooms n printed.fits printed.sp (λ y. Unit {0}) (print_at n) (print_at k) print_law
 
   abbrev exchange_1 : Item rooms n ((ℕ × (List Expr × List (List ℕ))) ⊎ Expr)
-  exchange_1 = or_item (mark_item (m.Reserved r.Print) print_leaves the_print) (mark_item (m.Reserved r.Skip) skip_leaves (before_form an_expr (m.Reserved r.Lines) lines_leaves (λ y. ends_at _ y refl refl refl))) (λ b y f e. refl)
+  exchange_1 =
+      or_item (mark_item (m.Reserved r.Print) print_leaves the_print)
+      (mark_item (m.Reserved r.Skip) skip_leaves (before_form an_expr (m.Reserved r.Lines) lines_leaves
+      (λ y. ends_at _ y refl refl refl))) (λ b y f e. refl)
 
-  not_read : (b : (ℕ × (List Expr × List (List ℕ))) ⊎ Expr) (y : List Plain) → is (m.Reserved r.Read) (first (exchange_1.sp b ++ y)) ≡ false
+  not_read : (b : (ℕ × (List Expr × List (List ℕ))) ⊎ Expr) (y : List Plain)
+      → is (m.Reserved r.Read) (first (exchange_1.sp b ++ y)) ≡ false
   not_read (inl x) y = refl
   not_read (inr e) y = refl
 
@@ -1046,7 +1259,10 @@ module _ (rooms : Rooms) (n k : ℕ) (w : Wider rooms n k) where
 
   exchange_spelled : (x : ExchangeParts) → spell_exchange (exchange_of x) ≡ exchange_0.sp x
   exchange_spelled (inl vs) = refl
-  exchange_spelled (inr (inl (i, (es, p)))) = ap (λ (u : List Plain). mark (m.Reserved r.Print) ∷ number i ∷ mark (m.Reserved r.Lines) ∷ u) (sym (append_assoc (spell_behind (m.Reserved r.With) spell_expr es) (mark (m.Reserved r.Thus) ∷ []) (picture p ∷ [])))
+  exchange_spelled (inr (inl (i, (es, p)))) =
+      ap (λ (u : List Plain). mark (m.Reserved r.Print) ∷ number i ∷ mark (m.Reserved r.Lines) ∷ u)
+      (sym (append_assoc (spell_behind (m.Reserved r.With) spell_expr es) (mark (m.Reserved r.Thus) ∷ [])
+      (picture p ∷ [])))
   exchange_spelled (inr (inr e)) = refl
 
   exchange_there : (x : ExchangeParts) → exchange_0.fits x → depth_exchange (exchange_of x) ≤ n
@@ -1062,10 +1278,13 @@ module _ (rooms : Rooms) (n k : ℕ) (w : Wider rooms n k) where
 
   exchange_law : ItemLaw exchange_0.none (λ a. depth_exchange a ≤ n) spell_exchange (exchange_at n) (exchange_at k)
   unfolding exchange_at
-  exchange_law = of_item (made_item exchange_0 spell_exchange (λ a. depth_exchange a ≤ n) exchange_of split_exchange whole_exchange exchange_spelled exchange_there exchange_back) (λ y e. ((calm_open y e, e.no_comma), (tt, tt)))
+  exchange_law =
+      of_item (made_item exchange_0 spell_exchange (λ a. depth_exchange a ≤ n) exchange_of split_exchange whole_exchange
+      exchange_spelled exchange_there exchange_back) (λ y e. ((calm_open y e, e.no_comma), (tt, tt)))
 
   abbrev exchange_item : Item rooms n Exchange
-  exchange_item = item_of exchange_0.none (λ a. depth_exchange a ≤ n) spell_exchange (exchange_at n) (exchange_at k) exchange_law
+  exchange_item =
+      item_of exchange_0.none (λ a. depth_exchange a ≤ n) spell_exchange (exchange_at n) (exchange_at k) exchange_law
 
   -- ---- a statement that holds no other
 
@@ -1123,7 +1342,8 @@ module _ (rooms : Rooms) (n k : ℕ) (w : Wider rooms n k) where
   abbrev simple_1 : Item rooms n (Filing ⊎ (Transfer ⊎ (Timing ⊎ (Exchange ⊎ Assign))))
   simple_1 = ending_item (or_item filing_item simple_2 (λ b y f e. not_filing b y)) Calm (λ y e. (e, e))
 
-  not_making : (b : Filing ⊎ (Transfer ⊎ (Timing ⊎ (Exchange ⊎ Assign)))) (y : List Plain) → making_0.none ((simple_1).sp b ++ y)
+  not_making : (b : Filing ⊎ (Transfer ⊎ (Timing ⊎ (Exchange ⊎ Assign)))) (y : List Plain)
+      → making_0.none ((simple_1).sp b ++ y)
   not_making (inl (File e h v)) y = (refl, refl)
   not_making (inl (FileAt b e v)) y = (refl, refl)
   not_making (inl (RemoveEnd b u v)) y = (refl, refl)
@@ -1192,4 +1412,6 @@ module _ (rooms : Rooms) (n k : ℕ) (w : Wider rooms n k) where
 
   pub simple_law : ItemLawOf rooms n NoSimple (λ a. depth_simple a ≤ n) spell_simple (simple_at n) (simple_at k)
   unfolding simple_at
-  simple_law = of_item (made_item simple_0 spell_simple (λ a. depth_simple a ≤ n) simple_of split_simple whole_simple simple_spelled simple_there simple_back) (λ y e. e)
+  simple_law =
+      of_item (made_item simple_0 spell_simple (λ a. depth_simple a ≤ n) simple_of split_simple whole_simple
+      simple_spelled simple_there simple_back) (λ y e. e)

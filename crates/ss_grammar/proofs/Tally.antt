@@ -1,6 +1,8 @@
--- What a reading has counted where it stops: what is read closes each parenthesis that it opens, and a parenthesis that is refused
+-- What a reading has counted where it stops: what is read closes each parenthesis that it opens, and a parenthesis that
+-- is refused
 -- stands where all that may be open are open.
-use Rattle.std.proofs.Common.{◌≡◌, ℕ, zero, suc, ◌+◌, ◌≤◌, Bool, true, false, List, [], ◌∷◌, ◌++◌, length, Option, Some, None, Result, Ok, Err, refl, sym, ap, subst, ◌∙◌, append_assoc, arith}
+use Rattle.std.proofs.Common.{◌≡◌, ℕ, zero, suc, ◌+◌, ◌≤◌, Bool, true, false, List, [], ◌∷◌, ◌++◌, length, Option, Some}
+use Rattle.std.proofs.Common.{None, Result, Ok, Err, refl, sym, ap, subst, ◌∙◌, append_assoc, arith}
 use Rattle.ss_words.specs.declared.refusal.Refusal.{Refusal}
 use Rattle.ss_words.specs.declared.refusal.Refusal.TheVariants.{Unexpected, PastLimit, Memory}
 use Rattle.ss_words.specs.declared.mark.Mark.{Mark}
@@ -8,7 +10,7 @@ use Rattle.ss_words.specs.declared.mark.Mark.TheVariants as m
 use Rattle.ss_words.specs.declared.word.Sign.TheVariants as sign
 use Rattle.ss_words.specs.declared.reserved.Reserved.TheVariants as r
 use Rattle.ss_words.specs.Plain.{Plain, name, number, mark, picture, first}
-use Rattle.ss_words.specs.Reading.{Read, Reading, goes_on, bind, pure, refuse, look, skip, many_from, many}
+use Rattle.ss_words.specs.Reading.{Reading, goes_on, bind, pure, refuse, look, skip, many_from, many}
 use Rattle.ss_words.specs.Marks.{is, expect, eat, name_by, a_name, number_by, a_number, picture_by, a_picture}
 use Rattle.ss_words.proofs.Marks.{is_mark}
 use Rattle.ss_grammar.specs.Counts.{count, opens, closes, heads}
@@ -29,7 +31,9 @@ pub record Under (n : ℕ) (q : List Plain) : Type 0 where
 
 under_joined : (n : ℕ) (a b : List Plain) → Leaves 0 a → Under n b → Under n (a ++ b)
 under_joined n a b x y = record {
-  open_ones = (let h = x.open_ones in let k = y.open_ones in omega (arith, h, k, count-append opens a b, count-append closes a b));
+  open_ones =
+      (let h = x.open_ones in let k = y.open_ones in omega
+      (arith, h, k, count-append opens a b, count-append closes a b));
   no_heads = (let h = x.no_heads in let k = y.no_heads in omega (arith, h, k, count-append heads a b));
 }
 
@@ -38,7 +42,9 @@ under_nothing n = record { open_ones = omega arith; no_heads = refl }
 
 pub joined : (d : ℕ) (a b : List Plain) → Leaves 0 a → Leaves d b → Leaves d (a ++ b)
 joined d a b x y = record {
-  open_ones = (let h = x.open_ones in let k = y.open_ones in omega (arith, h, k, count-append opens a b, count-append closes a b));
+  open_ones =
+      (let h = x.open_ones in let k = y.open_ones in omega
+      (arith, h, k, count-append opens a b, count-append closes a b));
   no_heads = (let h = x.no_heads in let k = y.no_heads in omega (arith, h, k, count-append heads a b));
 }
 
@@ -82,11 +88,15 @@ pub refuse_tally : {A : Type 0} (n : ℕ) → Tally {A = A} n (refuse Unexpected
 unfolding refuse
 refuse_tally n = record { at = λ ws. ([], refl, under_nothing n) }
 
-front : {A : Type 0} (n : ℕ) (o : Result A Refusal) (ws r r' q : List Plain) → ws ≡ q ++ r → Leaves 0 q → Out n o r r' → Out n o ws r'
-front n (Ok a) ws r r' q e l (q2, e2, l2) = (q ++ q2, e ∙ ap (λ (u : List Plain). q ++ u) e2 ∙ sym (append_assoc q q2 r'), joined 0 q q2 l l2)
-front n (Err Unexpected) ws r r' q e l (q2, e2, u) = (q ++ q2, e ∙ ap (λ (u : List Plain). q ++ u) e2 ∙ sym (append_assoc q q2 r'), under_joined n q q2 l u)
+front : {A : Type 0} (n : ℕ) (o : Result A Refusal) (ws r r' q : List Plain) → ws ≡ q ++ r → Leaves 0 q → Out n o r r'
+    → Out n o ws r'
+front n (Ok a) ws r r' q e l (q2, e2, l2) =
+    (q ++ q2, e ∙ ap (λ (u : List Plain). q ++ u) e2 ∙ sym (append_assoc q q2 r'), joined 0 q q2 l l2)
+front n (Err Unexpected) ws r r' q e l (q2, e2, u) =
+    (q ++ q2, e ∙ ap (λ (u : List Plain). q ++ u) e2 ∙ sym (append_assoc q q2 r'), under_joined n q q2 l u)
 front n (Err Memory) ws r r' q e l out = out
-front n (Err PastLimit) ws r r' q e l (q2, e2, h) = (q ++ q2, e ∙ ap (λ (u : List Plain). q ++ u) e2 ∙ sym (append_assoc q q2 r'), refused_behind n q q2 (first r') l h)
+front n (Err PastLimit) ws r r' q e l (q2, e2, h) =
+    (q ++ q2, e ∙ ap (λ (u : List Plain). q ++ u) e2 ∙ sym (append_assoc q q2 r'), refused_behind n q q2 (first r') l h)
 
 module _ {A B : Type 0} (n : ℕ) (f : A → Reading B) (tally : (a : A) → Tally n (f a)) where
   bound : (o : Result A Refusal) (ws r : List Plain) → Out n o ws r → Out n (goes_on f o r).0 ws (goes_on f o r).1
@@ -99,12 +109,14 @@ module _ {A B : Type 0} (n : ℕ) (f : A → Reading B) (tally : (a : A) → Tal
   unfolding bind
   bind_tally p h = record { at = λ ws. bound (p ws).0 ws (p ws).1 (h.at ws) }
 
-pub look_tally : {A : Type 0} (n : ℕ) (f : Option Plain → Reading A) → ((w : Option Plain) → TallyAt n w (f w)) → Tally n (look f)
+pub look_tally : {A : Type 0} (n : ℕ) (f : Option Plain → Reading A) → ((w : Option Plain) → TallyAt n w (f w))
+    → Tally n (look f)
 unfolding look
 look_tally n f h = record { at = λ ws. h (first ws) ws refl }
 
 -- a word that is no parenthesis and none of a head
-pub skip_tally : {A : Type 0} (n : ℕ) (w : Plain) (p : Reading A) → Leaves 0 (w ∷ []) → Tally n p → TallyAt n (Some w) (skip p)
+pub skip_tally : {A : Type 0} (n : ℕ) (w : Plain) (p : Reading A) → Leaves 0 (w ∷ []) → Tally n p
+    → TallyAt n (Some w) (skip p)
 unfolding skip
 skip_tally n w p l h [] e = absurd cc
 skip_tally n w p l h (v ∷ ws) e =
@@ -112,18 +124,22 @@ skip_tally n w p l h (v ∷ ws) e =
     front n (p ws).0 (v ∷ ws) ws (p ws).1 (v ∷ []) refl (subst (λ (u : Plain). Leaves 0 (u ∷ [])) same l) (h.at ws)
 
 -- by a test of the next word, which is then passed
-pub test_at : {A : Type 0} (n : ℕ) (k : Mark) (p q : Reading A) → Leaves 0 (mark k ∷ []) → Tally n p → Tally n q → (w : Option Plain) (b : Bool) → is k w ≡ b → TallyAt n w (elim b [ true ↦ skip p | false ↦ q ])
+pub test_at : {A : Type 0} (n : ℕ) (k : Mark) (p q : Reading A) → Leaves 0 (mark k ∷ []) → Tally n p → Tally n q
+    → (w : Option Plain) (b : Bool) → is k w ≡ b → TallyAt n w (elim b [ true ↦ skip p | false ↦ q ])
 test_at n k p q l hp hq None true e = absurd cc
 test_at n k p q l hp hq (Some w) true e = rw (is_mark k w e) (skip_tally n (mark k) p l hp)
 test_at n k p q l hp hq w false e = anywhere n w q hq
 
 pub expect_tally : (n : ℕ) (k : Mark) → Leaves 0 (mark k ∷ []) → Tally n (expect k)
 unfolding expect
-expect_tally n k l = look_tally n _ (λ w. test_at n k (pure tt) (refuse Unexpected) l (pure_tally n tt) (refuse_tally n) w (is k w) refl)
+expect_tally n k l =
+    look_tally n _ (λ w. test_at n k (pure tt) (refuse Unexpected) l (pure_tally n tt) (refuse_tally n) w (is k w) refl)
 
 pub eat_tally : (n : ℕ) (k : Mark) → Leaves 0 (mark k ∷ []) → Tally n (eat k)
 unfolding eat
-eat_tally n k l = look_tally n _ (λ w. test_at n k (pure true) (pure false) l (pure_tally n true) (pure_tally n false) w (is k w) refl)
+eat_tally n k l =
+    look_tally n _ (λ w. test_at n k (pure true) (pure false) l (pure_tally n true) (pure_tally n false) w (is k w)
+    refl)
 
 pub plain_word : (w : Plain) → opens w ≡ false → closes w ≡ false → heads w ≡ false → Leaves 0 (w ∷ [])
 plain_word w a b c = record { open_ones = rw (a, b) refl; no_heads = rw c refl }
@@ -173,7 +189,8 @@ opened_one d q l = record {
 }
 
 -- where one more is open than before
-pub opened_refused : (n : ℕ) (q : List Plain) (w : Option Plain) → Refused n q w → Refused (suc n) (mark (m.Sign sign.Open) ∷ q) w
+pub opened_refused : (n : ℕ) (q : List Plain) (w : Option Plain) → Refused n q w
+    → Refused (suc n) (mark (m.Sign sign.Open) ∷ q) w
 opened_refused n q (Some (mark (m.Sign sign.Open))) h = opened_one n q h
 opened_refused n q (Some (mark (m.Reserved r.If))) h = tt
 opened_refused n q (Some (mark (m.Reserved r.For))) h = tt
@@ -194,6 +211,13 @@ opened_some n q l = record {
 -- and none behind its closing one
 pub enclosed : (q : List Plain) → Leaves 0 q → Leaves 0 (mark (m.Sign sign.Open) ∷ (q ++ mark (m.Sign sign.Close) ∷ []))
 enclosed q l = record {
-  open_ones = (let h = l.open_ones in omega (arith, h, count-append opens q (mark (m.Sign sign.Close) ∷ []), count-append closes q (mark (m.Sign sign.Close) ∷ [])));
+  open_ones =
+      (let h = l.open_ones in omega (
+        arith,
+        h,
+        count-append opens q (mark (m.Sign sign.Close) ∷ []),
+        count-append closes
+            q (mark (m.Sign sign.Close) ∷ []),
+      ));
   no_heads = (let h = l.no_heads in omega (arith, h, count-append heads q (mark (m.Sign sign.Close) ∷ [])));
 }

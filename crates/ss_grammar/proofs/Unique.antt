@@ -1,5 +1,7 @@
 -- One spelling, one answer.
-use Rattle.std.proofs.Common.{◌≡◌, ◌⊎◌, ℕ, zero, suc, max, ◌+◌, ◌-◌, ◌≤◌, ◌<◌, List, [], ◌∷◌, ◌++◌, length, length-append, take, drop, Result, Ok, Err, refl, sym, ap, subst, ◌∙◌, append_assoc, arith}
+use Rattle.std.proofs.Common.{◌≡◌, ◌⊎◌, ℕ, zero, suc, max, ◌+◌, ◌-◌, ◌≤◌, ◌<◌, List, [], ◌∷◌, ◌++◌, length}
+use Rattle.std.proofs.Common.{length-append, take, drop, Result, Ok, Err, refl, sym, ap, subst, ◌∙◌, append_assoc}
+use Rattle.std.proofs.Common.{arith}
 use mathlib.Core.Logic.{inl, inr}
 use Rattle.std.proofs.lemmas.List.{length-map, take-append-drop}
 use Rattle.std.proofs.Math.Seq.{take-add}
@@ -16,7 +18,8 @@ use Rattle.ss_grammar.specs.Places.{Section}
 use Rattle.ss_grammar.specs.Tree.{Tree, spell, depth, ifs, phrases, parameters}
 use Rattle.ss_grammar.specs.SectionReading.{sections_upto}
 use Rattle.ss_grammar.specs.Written.{written}
-use Rattle.ss_grammar.specs.Refused.{lines, IsWithin, Begins, InRoom, PassesLimit, IsUnexpectedWord, IsUnexpectedEnd, IsPastLimit, IsRefused, AreSections}
+use Rattle.ss_grammar.specs.Refused.{lines, IsWithin, Begins, PassesLimit, IsUnexpectedWord, IsUnexpectedEnd}
+use Rattle.ss_grammar.specs.Refused.{IsPastLimit, IsRefused, AreSections}
 use Rattle.ss_grammar.specs.Laws.{SpellingIsUnique, AnswerIsUnique, LimitsLetPass, LimitsHold, LimitsRefuse}
 use Rattle.ss_grammar.proofs.SectionLaw.{sections_again}
 use Rattle.ss_grammar.proofs.Whole.{tree_fits, room_less, room_begins}
@@ -40,10 +43,14 @@ long t u = max (length t) (length u)
 pub unique : SpellingIsUnique
 unique t u e =
     let read = sections_upto (deep t u) (branched t u) (looped t u) (suc (given t u)) (long t u) in
-    let one : read (spell t) ≡ (Ok t, []) = sections_again (deep t u) (branched t u) (looped t u) (given t u) (omega arith) (long t u) t
-    (tree_fits (deep t u) (branched t u) (looped t u) (given t u) (long t u) t (omega arith) (omega arith) (omega arith) (omega arith) (omega arith)) in
-    let two : read (spell u) ≡ (Ok u, []) = sections_again (deep t u) (branched t u) (looped t u) (given t u) (omega arith) (long t u) u
-    (tree_fits (deep t u) (branched t u) (looped t u) (given t u) (long t u) u (omega arith) (omega arith) (omega arith) (omega arith) (omega arith)) in
+    let one : read (spell t) ≡ (Ok t, []) = sections_again (deep t u) (branched t u) (looped t u) (given t u)
+    (omega arith) (long t u) t
+    (tree_fits (deep t u) (branched t u) (looped t u) (given t u) (long t u) t (omega arith) (omega arith) (omega arith)
+    (omega arith) (omega arith)) in
+    let two : read (spell u) ≡ (Ok u, []) = sections_again (deep t u) (branched t u) (looped t u) (given t u)
+    (omega arith) (long t u) u
+    (tree_fits (deep t u) (branched t u) (looped t u) (given t u) (long t u) u (omega arith) (omega arith) (omega arith)
+    (omega arith) (omega arith)) in
     let both : (let x : Read Tree = (Ok t, []) in x) ≡ (Ok u, []) = sym one ∙ ap read e ∙ two in
     let same : (let o : Result Tree Refusal = Ok t in o) ≡ Ok u = ap (λ (x : Read Tree). x.0) both in
     cc
@@ -56,9 +63,20 @@ first_of_more (w ∷ ws) x (suc n) lt some = refl
 -- nothing begins with more words than the farthest place
 pub no_more : (ws : List Plain) (k j : ℕ) → IsFarthest spell ws k → k < j → j ≤ length ws → Begins (take j ws) → ⊥
 no_more ws k j far lt le (t, x, e) =
-    let split : take j ws ≡ take k ws ++ take (j - k) (drop k ws) = ap (λ (i : ℕ). take i ws) (let h : j ≡ k + (j - k) = omega (arith, lt) in h) ∙ take-add k (j - k) ws in
-    let some : 0 < length (drop k ws) = omega (arith, lt, le, ap length (take-append-drop k ws), length-append (take k ws) (drop k ws), front ws k) in
-    far.no_further t (take (j - k) (drop k ws) ++ x) (e ∙ ap (λ (u : List Plain). u ++ x) split ∙ append_assoc (take k ws) (take (j - k) (drop k ws)) x) (first_of_more (drop k ws) x (j - k) (omega (arith, lt)) some)
+    let split : take j ws ≡ take k ws ++ take (j - k) (drop k ws) =
+    ap (λ (i : ℕ). take i ws) (let h : j ≡ k + (j - k) = omega (arith, lt) in h) ∙ take-add k (j - k) ws in
+    let some : 0 < length (drop k ws) = omega (
+      arith,
+      lt,
+      le,
+      ap length (take-append-drop k ws),
+      length-append
+          (take k ws) (drop k ws),
+      front ws k,
+    ) in
+    far.no_further t (take (j - k) (drop k ws) ++ x) (e ∙ ap (λ (u : List Plain). u ++ x) split
+    ∙ append_assoc (take k ws) (take (j - k) (drop k ws)) x)
+    (first_of_more (drop k ws) x (j - k) (omega (arith, lt)) some)
   where
     front : (ws : List Plain) (k : ℕ) → length (take k ws) ≤ k
     front [] zero = omega arith
@@ -83,13 +101,21 @@ pub order : (a b : ℕ) → Order a b
 order zero zero = equal refl
 order zero (suc b) = less (omega arith)
 order (suc a) zero = greater (omega arith)
-order (suc a) (suc b) = elim (order a b) [ less h ↦ less (omega (arith, h)) | equal h ↦ equal (ap suc h) | greater h ↦ greater (omega (arith, h)) ]
+order (suc a) (suc b) =
+    elim (order a b) [
+      | less h ↦ less (omega (arith, h))
+      | equal h ↦ equal (ap suc h)
+      | greater h ↦ greater
+          (omega (arith, h))
+    ]
 
 same_word : (ws : List Plain) (k j : ℕ) → IsUnexpectedWord ws k → IsUnexpectedWord ws j → k ≡ j
 same_word ws k j a b = elim (order k j) [
-  | less h ↦ absurd (no_more ws k j a.farthest h (let i = b.is_word in omega (arith, i)) (room_begins (take j ws) b.in_room))
+  | less h ↦ absurd (no_more ws k j a.farthest h (let i = b.is_word in omega (arith, i))
+      (room_begins (take j ws) b.in_room))
   | equal h ↦ h
-  | greater h ↦ absurd (no_more ws j k b.farthest h (let i = a.is_word in omega (arith, i)) (room_begins (take k ws) a.in_room))
+  | greater h ↦ absurd (no_more ws j k b.farthest h (let i = a.is_word in omega (arith, i))
+      (room_begins (take k ws) a.in_room))
 ]
 
 pub same_limit : (ws : List Plain) (k j : ℕ) → PassesLimit ws k → PassesLimit ws j → k ≡ j
@@ -138,15 +164,22 @@ end_limit : (ws : List PlainAt) (k : ℕ) → IsUnexpectedEnd (plains ws) → Is
 end_limit ws k a b = b.goes_on (end_and_limit (plains ws) k a b.passes) a.farthest
 
 refusals : (ws : List PlainAt) (a b : TextRule) (l n : ℕ) → IsRefused a l ws → IsRefused b n ws → Same a l b n
-refusals ws rule.UnexpectedWord rule.UnexpectedWord l n (k, x, p) (j, y, q) = ap (λ (i : ℕ). let f : TextFault = Refused rule.UnexpectedWord i in f) (p ∙ ap (line (lines ws)) (same_word (plains ws) k j x y) ∙ sym q)
+refusals ws rule.UnexpectedWord rule.UnexpectedWord l n (k, x, p) (j, y, q) =
+    ap (λ (i : ℕ). let f : TextFault = Refused rule.UnexpectedWord i in f)
+    (p ∙ ap (line (lines ws)) (same_word (plains ws) k j x y) ∙ sym q)
 refusals ws rule.UnexpectedWord rule.UnexpectedEnd l n (k, x, p) (y, q) = absurd (word_and_end (plains ws) k x y)
-refusals ws rule.UnexpectedWord rule.PastLimit l n (k, x, p) (j, y, q) = absurd (word_and_limit (plains ws) k j x y.passes)
+refusals ws rule.UnexpectedWord rule.PastLimit l n (k, x, p) (j, y, q) =
+    absurd (word_and_limit (plains ws) k j x y.passes)
 refusals ws rule.UnexpectedEnd rule.UnexpectedWord l n (x, p) (j, y, q) = absurd (word_and_end (plains ws) j y x)
-refusals ws rule.UnexpectedEnd rule.UnexpectedEnd l n (x, p) (y, q) = ap (λ (i : ℕ). let f : TextFault = Refused rule.UnexpectedEnd i in f) (p ∙ sym q)
+refusals ws rule.UnexpectedEnd rule.UnexpectedEnd l n (x, p) (y, q) =
+    ap (λ (i : ℕ). let f : TextFault = Refused rule.UnexpectedEnd i in f) (p ∙ sym q)
 refusals ws rule.UnexpectedEnd rule.PastLimit l n (x, p) (j, y, q) = absurd (end_limit ws j x y)
-refusals ws rule.PastLimit rule.UnexpectedWord l n (k, x, p) (j, y, q) = absurd (word_and_limit (plains ws) j k y x.passes)
+refusals ws rule.PastLimit rule.UnexpectedWord l n (k, x, p) (j, y, q) =
+    absurd (word_and_limit (plains ws) j k y x.passes)
 refusals ws rule.PastLimit rule.UnexpectedEnd l n (k, x, p) (y, q) = absurd (end_limit ws k y x)
-refusals ws rule.PastLimit rule.PastLimit l n (k, x, p) (j, y, q) = ap (λ (i : ℕ). let f : TextFault = Refused rule.PastLimit i in f) (p ∙ ap (line (lines ws)) (same_limit (plains ws) k j x.passes y.passes) ∙ sym q)
+refusals ws rule.PastLimit rule.PastLimit l n (k, x, p) (j, y, q) =
+    ap (λ (i : ℕ). let f : TextFault = Refused rule.PastLimit i in f)
+    (p ∙ ap (line (lines ws)) (same_limit (plains ws) k j x.passes y.passes) ∙ sym q)
 refusals ws rule.StrayByte b l n h g = absurd h
 refusals ws rule.BadNumber b l n h g = absurd h
 refusals ws rule.LongRun b l n h g = absurd h
@@ -171,10 +204,12 @@ refusals ws rule.PastLimit rule.LongPictureLine l n h g = absurd g
 pub one_answer : AnswerIsUnique
 one_answer ws (Ok ss) (Ok rs) da db (t, v, e, s) (u, w, f, r) =
     let same : t ≡ u = unique t u (sym e ∙ f) in
-    ap (λ (x : List Section). let o : Result (List Section) TextFault = Ok x in o) (s ∙ ap (λ (x : Tree). written (lines ws) x) same ∙ sym r)
+    ap (λ (x : List Section). let o : Result (List Section) TextFault = Ok x in o)
+    (s ∙ ap (λ (x : Tree). written (lines ws) x) same ∙ sym r)
 one_answer ws (Ok ss) (Err (Refused b n)) da db h g = absurd (not_both ws ss b n h g)
 one_answer ws (Err (Refused a l)) (Ok rs) da db h g = absurd (not_both ws rs a l g h)
-one_answer ws (Err (Refused a l)) (Err (Refused b n)) da db h g = ap (λ (x : TextFault). let o : Result (List Section) TextFault = Err x in o) (refusals ws a b l n h g)
+one_answer ws (Err (Refused a l)) (Err (Refused b n)) da db h g =
+    ap (λ (x : TextFault). let o : Result (List Section) TextFault = Err x in o) (refusals ws a b l n h g)
 one_answer ws (Err Memory) b da db h g = absurd da
 one_answer ws (Ok ss) (Err Memory) da db h g = absurd db
 one_answer ws (Err (Refused a l)) (Err Memory) da db h g = absurd db
@@ -184,14 +219,20 @@ let_pass ws t a w e definite h = one_answer ws a (Ok (written (lines ws) t)) def
 
 -- what the words with a word that passes a limit are answered with
 limit_told : (ws : List PlainAt) (k : ℕ) (r : TextRule) (l : ℕ) → PassesLimit (plains ws) k → IsRefused r l ws
-    → (told r l ≡ Err (Refused rule.PastLimit (line (lines ws) k))) ⊎ ((k + 1 ≡ length ws) × (told r l ≡ Err (Refused rule.UnexpectedEnd (line (lines ws) k))))
+    → (told r l ≡ Err (Refused rule.PastLimit (line (lines ws) k)))
+    ⊎ ((k + 1 ≡ length ws) × (told r l ≡ Err (Refused rule.UnexpectedEnd (line (lines ws) k))))
 unfolding told
 limit_told ws k rule.UnexpectedWord l past (j, a, at) = absurd (word_and_limit (plains ws) j k a past)
-limit_told ws k rule.PastLimit l past (j, a, at) = inl (ap (λ (i : ℕ). told rule.PastLimit i) (at ∙ ap (line (lines ws)) (same_limit (plains ws) j k a.passes past)))
+limit_told ws k rule.PastLimit l past (j, a, at) =
+    inl (ap (λ (i : ℕ). told rule.PastLimit i) (at ∙ ap (line (lines ws)) (same_limit (plains ws) j k a.passes past)))
 limit_told ws k rule.UnexpectedEnd l past (a, at) =
     let last : k + 1 ≡ length (plains ws) = end_and_limit (plains ws) k a past in
     let all : k + 1 ≡ length ws = omega (arith, last, length-map ws (λ w. w.word)) in
-    inr (all, ap (λ (i : ℕ). told rule.UnexpectedEnd i) (at ∙ ap (line (lines ws)) (let h : length ws - 1 ≡ k = omega (arith, all) in h)))
+    inr (
+      all,
+      ap (λ (i : ℕ). told rule.UnexpectedEnd i)
+          (at ∙ ap (line (lines ws)) (let h : length ws - 1 ≡ k = omega (arith, all) in h)),
+    )
 limit_told ws k rule.StrayByte l past h = absurd h
 limit_told ws k rule.BadNumber l past h = absurd h
 limit_told ws k rule.LongRun l past h = absurd h
@@ -208,9 +249,12 @@ refuse ws k (Err Memory) past definite h = absurd definite
 pub hold : LimitsHold
 unfolding told
 hold ws t (Ok ss) e past definite (u, w, f, s) = absurd (past (subst IsWithin (unique u t (sym f ∙ e)) w))
-hold ws t (Err (Refused rule.UnexpectedWord l)) e past definite (k, a, at) = absurd (not_farthest (plains ws) k t e a.farthest)
-hold ws t (Err (Refused rule.UnexpectedEnd l)) e past definite (a, at) = absurd (not_farthest (plains ws) (length (plains ws)) t e a.farthest)
-hold ws t (Err (Refused rule.PastLimit l)) e past definite (k, a, at) = (k, a.passes, ap (λ (i : ℕ). told rule.PastLimit i) at)
+hold ws t (Err (Refused rule.UnexpectedWord l)) e past definite (k, a, at) =
+    absurd (not_farthest (plains ws) k t e a.farthest)
+hold ws t (Err (Refused rule.UnexpectedEnd l)) e past definite (a, at) =
+    absurd (not_farthest (plains ws) (length (plains ws)) t e a.farthest)
+hold ws t (Err (Refused rule.PastLimit l)) e past definite (k, a, at) =
+    (k, a.passes, ap (λ (i : ℕ). told rule.PastLimit i) at)
 hold ws t (Err (Refused rule.StrayByte l)) e past definite h = absurd h
 hold ws t (Err (Refused rule.BadNumber l)) e past definite h = absurd h
 hold ws t (Err (Refused rule.LongRun l)) e past definite h = absurd h

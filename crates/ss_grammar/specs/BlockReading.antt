@@ -6,13 +6,15 @@ use Rattle.ss_words.specs.declared.reserved.Reserved.TheVariants as r
 use Rattle.ss_words.specs.declared.refusal.Refusal.TheVariants.{PastLimit}
 use Rattle.ss_words.specs.Lists.{Several}
 use Rattle.ss_words.specs.Reading.{Reading, pure, refuse}
-use Rattle.ss_grammar.specs.Combined.{pair, behind, before, made, if_mark, either, star, if_allowed, either_of, made_of, must}
+use Rattle.ss_grammar.specs.Combined.{pair, behind, before, made, if_mark, either, star, if_allowed, either_of, made_of}
+use Rattle.ss_grammar.specs.Combined.{must}
 use Rattle.ss_grammar.specs.Expr.{Expr}
 use Rattle.ss_grammar.specs.Simple.{Simple}
 use Rattle.ss_grammar.specs.SimpleReading.{simple_at}
 use Rattle.ss_grammar.specs.Loops.{Phrase, Computed, Question}
 use Rattle.ss_grammar.specs.LoopReading.{phrase_at, compute_at, question_at}
-use Rattle.ss_grammar.specs.Tree.{Block, no_statements, statement, Statement, alone, loop, One, simple, branch, Otherwise, no_else, else_with, Controlled, further, repeated, single, find, compute}
+use Rattle.ss_grammar.specs.Tree.{Block, no_statements, statement, Statement, alone, loop, One, simple, branch}
+use Rattle.ss_grammar.specs.Tree.{Otherwise, no_else, else_with, Controlled, further, repeated, single, find, compute}
 
 -- what stands behind IF, up to ALWAYS
 abbrev pub Branching : Type 0
@@ -54,7 +56,9 @@ controlled_of (inr (inr (inr (inr o)))) = single o
 module _ (n : ℕ) where
   -- behind IF: (FOUND | NONE | cond) {stmt} [ELSE {stmt}] ALWAYS, where inside reads the statements
   unfoldable pub branch_with : Reading Block → Reading Branching
-  branch_with inside = pair (question_at n) (pair inside (before (made otherwise_of (if_mark (m.Reserved r.Else) inside)) (m.Reserved r.Always)))
+  branch_with inside =
+      pair (question_at n) (pair inside (before (made otherwise_of (if_mark (m.Reserved r.Else) inside))
+      (m.Reserved r.Always)))
 
   -- a_branch reads IF and what stands behind it, if it stands here; a_loop reads FOR likewise
   module _ (a_branch : Reading (Option Branching)) (a_loop : Reading (Option Looping)) where
@@ -72,19 +76,22 @@ module _ (n : ℕ) where
 
     -- behind a phrase: DO {stmt} LOOP, a further phrase and what stands behind it, FIND FIRST CASE, COMPUTE, or one
     unfoldable pub controlled_with : Reading Controlled
-    controlled_with = made controlled_of (either (if_mark (m.Reserved r.Do) (before block_with (m.Reserved r.Loop))) (either a_loop
+    controlled_with =
+        made controlled_of (either (if_mark (m.Reserved r.Do) (before block_with (m.Reserved r.Loop))) (either a_loop
         (either (if_mark (m.Reserved r.Find) (behind (m.Reserved r.First) (behind (m.Reserved r.Case) (pure tt))))
         (either (if_mark (m.Reserved r.Compute) (compute_at n)) (must one_with)))))
 
   -- FOR and what stands behind it, where so many more phrases may be open; a_branch reads IF where so many may be
   unfoldable pub loop_in : (ℕ → Reading (Option Branching)) → ℕ → Reading (Option Looping)
   loop_in a_branch zero = if_allowed 0 (m.Reserved r.For) (pair (phrase_at n) (refuse PastLimit))
-  loop_in a_branch (suc f) = if_allowed (suc f) (m.Reserved r.For) (pair (phrase_at n) (controlled_with (a_branch f) (loop_in a_branch f)))
+  loop_in a_branch (suc f) =
+      if_allowed (suc f) (m.Reserved r.For) (pair (phrase_at n) (controlled_with (a_branch f) (loop_in a_branch f)))
 
   -- IF and what stands behind it, where so many more IFs and so many more phrases may be open
   unfoldable pub branch_at : ℕ → ℕ → Reading (Option Branching)
   branch_at zero f = if_allowed 0 (m.Reserved r.If) (branch_with (refuse PastLimit))
-  branch_at (suc i) f = if_allowed (suc i) (m.Reserved r.If) (branch_with (block_with (branch_at i f) (loop_in (branch_at i) f)))
+  branch_at (suc i) f =
+      if_allowed (suc i) (m.Reserved r.If) (branch_with (block_with (branch_at i f) (loop_in (branch_at i) f)))
 
   -- statements, where so many IFs and so many phrases may be open at once
   unfoldable pub block_at : ℕ → ℕ → Reading Block

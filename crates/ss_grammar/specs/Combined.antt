@@ -5,7 +5,7 @@ use Rattle.ss_words.specs.declared.mark.Mark.{Mark}
 use Rattle.ss_words.specs.declared.mark.Mark.TheVariants as m
 use Rattle.ss_words.specs.declared.word.Sign.TheVariants as s
 use Rattle.ss_words.specs.declared.refusal.Refusal.TheVariants.{Unexpected, PastLimit}
-use Rattle.ss_words.specs.Plain.{Plain, number, mark}
+use Rattle.ss_words.specs.Plain.{Plain}
 use Rattle.ss_words.specs.Reading.{Reading, ◌>>=◌, pure, refuse, look, skip, many}
 use Rattle.ss_words.specs.Marks.{is, expect, eat}
 use Rattle.ss_words.specs.Lists.{Several}

@@ -13,7 +13,9 @@ use Rattle.ss_grammar.specs.Expr.{Expr, spell_within, spell_expr, depth_expr}
 
 -- a name, with a subscript in parentheses or none
 pub record Reference : Type 0 where
+  -- the name
   pub name : Name
+  -- what stands in the parentheses, if they do
   pub subscript : Option Expr
 
 -- disjunctions of conjunctions of relations

@@ -26,18 +26,27 @@ AlwaysAnswered = (ws : List PlainAt) → (a : Result (List Section) TextFault) �
 
 -- and no second
 abbrev pub AnswerIsUnique : Type 0
-AnswerIsUnique = (ws : List PlainAt) (a b : Result (List Section) TextFault) → IsDefinite a → IsDefinite b → Answers a ws → Answers b ws → a ≡ b
+AnswerIsUnique =
+    (ws : List PlainAt) (a b : Result (List Section) TextFault) → IsDefinite a → IsDefinite b → Answers a ws
+    → Answers b ws → a ≡ b
 
 -- a program within the limits is answered with its sections
 abbrev pub LimitsLetPass : Type 0
-LimitsLetPass = (ws : List PlainAt) (t : Tree) (a : Result (List Section) TextFault) → IsWithin t → plains ws ≡ spell t → IsDefinite a → Answers a ws → a ≡ Ok (written (lines ws) t)
+LimitsLetPass =
+    (ws : List PlainAt) (t : Tree) (a : Result (List Section) TextFault) → IsWithin t → plains ws ≡ spell t
+    → IsDefinite a → Answers a ws → a ≡ Ok (written (lines ws) t)
 
 -- a program past the limits is refused by P3, at a word that passes one
 abbrev pub LimitsHold : Type 0
-LimitsHold = (ws : List PlainAt) (t : Tree) (a : Result (List Section) TextFault) → plains ws ≡ spell t → (IsWithin t → ⊥) → IsDefinite a → Answers a ws
+LimitsHold =
+    (ws : List PlainAt) (t : Tree) (a : Result (List Section) TextFault) → plains ws ≡ spell t → (IsWithin t → ⊥)
+    → IsDefinite a → Answers a ws
     → (k : ℕ) × PassesLimit (plains ws) k × (a ≡ Err (Refused PastLimit (line (lines ws) k)))
 
 -- a word that passes a limit is refused, by P3 or, where the text ends at it and cannot end there, by P2
 abbrev pub LimitsRefuse : Type 0
-LimitsRefuse = (ws : List PlainAt) (k : ℕ) (a : Result (List Section) TextFault) → PassesLimit (plains ws) k → IsDefinite a → Answers a ws
-    → (a ≡ Err (Refused PastLimit (line (lines ws) k))) ⊎ ((k + 1 ≡ length ws) × (a ≡ Err (Refused UnexpectedEnd (line (lines ws) k))))
+LimitsRefuse =
+    (ws : List PlainAt) (k : ℕ) (a : Result (List Section) TextFault) → PassesLimit (plains ws) k → IsDefinite a
+    → Answers a ws
+    → (a ≡ Err (Refused PastLimit (line (lines ws) k)))
+    ⊎ ((k + 1 ≡ length ws) × (a ≡ Err (Refused UnexpectedEnd (line (lines ws) k))))

@@ -19,4 +19,9 @@ pub mod BlockReading
 pub mod SectionReading
 pub mod Refused
 pub mod Laws
-pub mod Onto
+pub mod PlacesAtLines
+pub mod Ended
+pub mod ExprCode
+pub mod ConditionCode
+pub mod Examples
+pub mod OfProgram

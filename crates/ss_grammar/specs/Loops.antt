@@ -1,5 +1,5 @@
 -- FOR phrases, what an IF asks and what a COMPUTE tells, with their plain words and how deep their parentheses nest.
-use Rattle.std.specs.Prelude.{ℕ, max, List, [], ◌∷◌, ◌++◌, Option, Some, None}
+use Rattle.std.specs.Prelude.{ℕ, max, List, [], ◌∷◌, ◌++◌, Option}
 use Rattle.std.specs.List.{flat_map}
 use Rattle.ss_words.specs.declared.mark.Mark.TheVariants as m
 use Rattle.ss_words.specs.declared.word.Sign.TheVariants as s
@@ -13,7 +13,8 @@ use Rattle.ss_grammar.specs.declared.place.QualifierWord.TheVariants.{With, Unle
 use Rattle.ss_grammar.specs.declared.place.Statistic.{Statistic}
 use Rattle.ss_grammar.specs.declared.place.Statistic.TheVariants.{Number, Sum, Maximum, Minimum}
 use Rattle.ss_grammar.specs.Expr.{Expr, spell_expr, depth_expr}
-use Rattle.ss_grammar.specs.Condition.{Reference, Condition, spell_reference, spell_condition, depth_reference, depth_condition}
+use Rattle.ss_grammar.specs.Condition.{Reference, Condition, spell_reference, spell_condition, depth_reference}
+use Rattle.ss_grammar.specs.Condition.{depth_condition}
 use Rattle.ss_grammar.specs.SimpleSpelling.{spell_option, greatest, greatest_of, if_there}
 
 -- a set's phrase begins at an end of its list, FROM a member, or AFTER one
@@ -29,17 +30,23 @@ pub data Range : Type 0 where
 
 -- WITH, UNLESS, WHILE or UNTIL, and a condition
 pub record Qualifier : Type 0 where
+  -- which of the four words
   pub word : QualifierWord
+  -- what it asks of each turn
   pub condition : Condition
 
 -- FOR, what it goes through, and its qualifiers
 pub record Phrase : Type 0 where
+  -- what it goes through
   pub range : Range
+  -- its qualifiers, in order
   pub qualifiers : List Qualifier
 
 -- a target of COMPUTE and the statistic that it is given
 pub record Computed : Type 0 where
+  -- what is set
   pub target : Reference
+  -- to what
   pub statistic : Statistic
 
 -- what IF asks: a condition, FOUND or NONE
@@ -72,10 +79,12 @@ spell_name n = name n ∷ []
 -- what a FOR phrase goes through
 abbrev pub spell_range : Range → List Plain
 spell_range (Counting d n a b c) =
-    name n ∷ (spell_direction d ++ spell_expr a ++ mark (m.Reserved r.To) ∷ (spell_expr b ++ spell_option (m.Reserved r.By) spell_expr c))
+    name n ∷ (spell_direction d ++ spell_expr a ++ mark
+    (m.Reserved r.To) ∷ (spell_expr b ++ spell_option (m.Reserved r.By) spell_expr c))
 spell_range (Each c v) = mark (m.Reserved r.Every) ∷ name c ∷ spell_option (m.Reserved r.Called) spell_name v
 spell_range (Walking d n v b) =
-    mark (m.Reserved r.Every) ∷ name n ∷ mark (m.Reserved r.In) ∷ (spell_reference v ++ spell_walk_start b ++ spell_order d)
+    mark (m.Reserved r.Every) ∷ name n ∷ mark (m.Reserved r.In) ∷ (spell_reference v ++ spell_walk_start b
+    ++ spell_order d)
 
 -- WITH, UNLESS, WHILE or UNTIL
 abbrev pub spell_qualifier_word : QualifierWord → Plain
@@ -105,7 +114,8 @@ spell_computed t = spell_reference t.target ++ mark (m.Reserved r.As) ∷ spell_
 
 -- COMPUTE, its targets and its expression
 abbrev pub spell_compute : Several Computed → Expr → List Plain
-spell_compute ts e = mark (m.Reserved r.Compute) ∷ (spell_several spell_computed ts ++ mark (m.Reserved r.In) ∷ spell_expr e)
+spell_compute ts e =
+    mark (m.Reserved r.Compute) ∷ (spell_several spell_computed ts ++ mark (m.Reserved r.In) ∷ spell_expr e)
 
 -- what stands behind IF
 abbrev pub spell_question : Question → List Plain

@@ -11,7 +11,8 @@ pub data Branch : Type 0 where
   If : Question → Branch
   Else Always : Branch
 
--- a place of a FOR statement: a phrase, with whether DO stands behind it; LOOP; FIND FIRST CASE; the two places of COMPUTE
+-- a place of a FOR statement: a phrase, with whether DO stands behind it; LOOP; FIND FIRST CASE; the two places of
+-- COMPUTE
 pub data Loop : Type 0 where
   For : Phrase → Bool → Loop
   Next Find : Loop

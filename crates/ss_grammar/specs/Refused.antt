@@ -1,5 +1,6 @@
 -- What stands in a list of plain words: the sections of a program, or the word at which it is refused.
-use Rattle.std.specs.Prelude.{◌≡◌, ◌≤◌, ◌<◌, ◌⊎◌, ℕ, ◌+◌, ◌-◌, Bool, true, false, List, [], ◌∷◌, ◌++◌, length, take, map, leb, Result, Ok, Err}
+use Rattle.std.specs.Prelude.{◌≡◌, ◌≤◌, ◌<◌, ◌⊎◌, ℕ, ◌+◌, ◌-◌, Bool, true, false, List, [], ◌∷◌, ◌++◌, length, take}
+use Rattle.std.specs.Prelude.{map, leb, Result, Ok, Err}
 use Rattle.std.specs.List.{filter}
 use Rattle.ss_words.specs.declared.fault.TextRule.{TextRule}
 use Rattle.ss_words.specs.declared.fault.TextRule.TheVariants.{UnexpectedWord, UnexpectedEnd, PastLimit}
@@ -27,10 +28,13 @@ lines ws = map (λ w. w.line) ws
 pub record IsWithin (t : Tree) : Type 0 where
   -- open at once
   pub parentheses : depth t ≤ 50
+  -- open at once
   pub ifs : ifs t ≤ 64
+  -- open at once
   pub phrases : phrases t ≤ 16
   -- of a section, given and yielded
   pub parameters : parameters t ≤ 32
+  -- all of them
   pub sections : length t ≤ 256
 
 -- some program begins with these words
@@ -47,13 +51,20 @@ announces (mark (m.Sign s.Comma)) = true
 announces (mark (m.Reserved r.Yielding)) = true
 announces _ = false
 
--- programs begin with these words, and programs within the limits with all of them but the last, which counts to no limit
+-- programs begin with these words, and programs within the limits with all of them but the last, which counts to no
+-- limit
 pub record IsAnnounced (ws : List Plain) : Type 0 where
+  -- all words but the last
   pub front : List Plain
+  -- the last one
   pub last : Plain
+  -- these are the words
   pub words : ws ≡ front ++ last ∷ []
+  -- the last counts to no limit
   pub counts_not : announces last ≡ true
+  -- programs within the limits begin with the others
   pub within : BeginsWithin front
+  -- programs begin with all
   pub begins : Begins ws
 
 -- what is counted in these words is within the limits
@@ -62,25 +73,36 @@ InRoom ws = BeginsWithin ws ⊎ IsAnnounced ws
 
 -- Word k passes a limit: the words before it are within the limits, and with it they begin programs, but aren't.
 pub record PassesLimit (ws : List Plain) (k : ℕ) : Type 0 where
+  -- there is such a word
   pub is_word : k < length ws
+  -- the words before it are within the limits
   pub before : InRoom (take k ws)
+  -- with it they begin programs
   pub with_it : Begins (take (k + 1) ws)
+  -- but aren't within the limits
   pub no_room : InRoom (take (k + 1) ws) → ⊥
 
 -- P1: word k is the farthest word, and no word before it passes a limit.
 pub record IsUnexpectedWord (ws : List Plain) (k : ℕ) : Type 0 where
+  -- there is such a word
   pub is_word : k < length ws
+  -- with it no program goes on
   pub farthest : IsFarthest spell ws k
+  -- no word before it passes a limit
   pub in_room : InRoom (take k ws)
 
 -- P2: the text's end is the farthest word, and no word before the last passes a limit.
 pub record IsUnexpectedEnd (ws : List Plain) : Type 0 where
+  -- programs go on behind the last word, and none ends there
   pub farthest : IsFarthest spell ws (length ws)
+  -- no word before the last passes a limit
   pub in_room : InRoom (take (length ws - 1) ws)
 
 -- P3: word k passes a limit, and it is not the last word of a text whose end is refused.
 pub record IsPastLimit (ws : List Plain) (k : ℕ) : Type 0 where
+  -- the word passes a limit
   pub passes : PassesLimit ws k
+  -- it is not the last word of a text whose end is refused
   pub goes_on : k + 1 ≡ length ws → IsFarthest spell ws (length ws) → ⊥
 
 -- the words are refused by this rule at this line

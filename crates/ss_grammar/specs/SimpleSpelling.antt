@@ -5,14 +5,19 @@ use Rattle.ss_words.specs.declared.mark.Mark.TheVariants as m
 use Rattle.ss_words.specs.declared.word.Sign.TheVariants as s
 use Rattle.ss_words.specs.declared.reserved.Reserved.TheVariants as r
 use Rattle.ss_words.specs.Plain.{Plain, name, number, mark, picture}
-use Rattle.ss_words.specs.Lists.{Name, Several, spell_others, spell_several}
+use Rattle.ss_words.specs.Lists.{Several, spell_others, spell_several}
 use Rattle.ss_grammar.specs.declared.simple.SetEnd.{SetEnd}
 use Rattle.ss_grammar.specs.declared.simple.SetEnd.TheVariants as end
 use Rattle.ss_grammar.specs.declared.simple.Article.{Article}
 use Rattle.ss_grammar.specs.declared.simple.Article.TheVariants as article
-use Rattle.ss_grammar.specs.Expr.{Expr, spell_within, spell_expr, depth_expr}
+use Rattle.ss_grammar.specs.Expr.{spell_within, spell_expr, depth_expr}
 use Rattle.ss_grammar.specs.Condition.{Reference, spell_subscript, spell_reference, depth_subscript, depth_reference}
-use Rattle.ss_grammar.specs.Simple.{Assign, Let, Add, Subtract, Making, Create, CreateEvery, Destroy, FilePlace, ByDiscipline, AtEnd, Before, After, Filing, File, FileAt, RemoveEnd, Remove, Listing, Unwritten, BehindGiven, InParentheses, Transfer, Call, Return, Stop, Details, ValuesFirst, CalledFirst, When, At, Now, In, Timing, Schedule, Cancel, StartSimulation, Exchange, Read, Print, Skip, Simple, Assigns, Makes, Files, Transfers, Times, Exchanges}
+use Rattle.ss_grammar.specs.Simple.{Assign, Let, Add, Subtract, Making, Create, CreateEvery, Destroy, FilePlace}
+use Rattle.ss_grammar.specs.Simple.{ByDiscipline, AtEnd, Before, After, Filing, File, FileAt, RemoveEnd, Remove}
+use Rattle.ss_grammar.specs.Simple.{Listing, Unwritten, BehindGiven, InParentheses, Transfer, Call, Return, Stop}
+use Rattle.ss_grammar.specs.Simple.{Details, ValuesFirst, CalledFirst, When, At, Now, In, Timing, Schedule, Cancel}
+use Rattle.ss_grammar.specs.Simple.{StartSimulation, Exchange, Read, Print, Skip, Simple, Assigns, Makes, Files}
+use Rattle.ss_grammar.specs.Simple.{Transfers, Times, Exchanges}
 
 -- ---- lists and what may be left out
 
@@ -47,7 +52,8 @@ spell_let false = []
 abbrev pub spell_assign : Assign → List Plain
 spell_assign (Let b v e) = spell_let b ++ spell_reference v ++ mark (m.Sign s.Equal) ∷ spell_expr e
 spell_assign (Add e v) = mark (m.Reserved r.Add) ∷ (spell_expr e ++ mark (m.Reserved r.To) ∷ spell_reference v)
-spell_assign (Subtract e v) = mark (m.Reserved r.Subtract) ∷ (spell_expr e ++ mark (m.Reserved r.From) ∷ spell_reference v)
+spell_assign (Subtract e v) =
+    mark (m.Reserved r.Subtract) ∷ (spell_expr e ++ mark (m.Reserved r.From) ∷ spell_reference v)
 
 -- CREATE, CREATE EVERY, DESTROY
 abbrev pub spell_making : Making → List Plain
@@ -80,7 +86,8 @@ spell_filing (Remove e v) = mark (m.Reserved r.Remove) ∷ (spell_expr e ++ mark
 -- CALL, RETURN, STOP
 abbrev pub spell_transfer : Transfer → List Plain
 spell_transfer (Call n es vs) =
-    mark (m.Reserved r.Call) ∷ name n ∷ (spell_listing spell_expr es ++ spell_behind (m.Reserved r.Yielding) spell_reference vs)
+    mark (m.Reserved r.Call) ∷ name n ∷ (spell_listing spell_expr es ++ spell_behind (m.Reserved r.Yielding)
+    spell_reference vs)
 spell_transfer Return = mark (m.Reserved r.Return) ∷ []
 spell_transfer Stop = mark (m.Reserved r.Stop) ∷ []
 
@@ -102,7 +109,8 @@ spell_when (In e) = mark (m.Reserved r.In) ∷ (spell_expr e ++ mark (m.Reserved
 
 -- SCHEDULE, CANCEL, START SIMULATION
 abbrev pub spell_timing : Timing → List Plain
-spell_timing (Schedule a c d w) = mark (m.Reserved r.Schedule) ∷ spell_article a ∷ name c ∷ (spell_details d ++ spell_when w)
+spell_timing (Schedule a c d w) =
+    mark (m.Reserved r.Schedule) ∷ spell_article a ∷ name c ∷ (spell_details d ++ spell_when w)
 spell_timing (Cancel c v) = mark (m.Reserved r.Cancel) ∷ name c ∷ spell_called v
 spell_timing StartSimulation = mark (m.Reserved r.Start) ∷ mark (m.Reserved r.Simulation) ∷ []
 

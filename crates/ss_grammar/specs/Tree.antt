@@ -7,8 +7,10 @@ use Rattle.ss_words.specs.Plain.{Plain, name, mark}
 use Rattle.ss_words.specs.Lists.{Name, Several, all_of, spell_names}
 use Rattle.ss_grammar.specs.Expr.{Expr}
 use Rattle.ss_grammar.specs.Simple.{Listing, Unwritten, BehindGiven, InParentheses, Simple}
-use Rattle.ss_grammar.specs.SimpleSpelling.{spell_behind, spell_listing, spell_simple, greatest, depth_listing, depth_simple}
-use Rattle.ss_grammar.specs.Loops.{Phrase, Computed, Question, spell_name, spell_phrase, spell_compute, spell_question, depth_phrase, depth_compute, depth_question}
+use Rattle.ss_grammar.specs.SimpleSpelling.{spell_behind, spell_listing, spell_simple, greatest, depth_listing}
+use Rattle.ss_grammar.specs.SimpleSpelling.{depth_simple}
+use Rattle.ss_grammar.specs.Loops.{Phrase, Computed, Question, spell_name, spell_phrase, spell_compute, spell_question}
+use Rattle.ss_grammar.specs.Loops.{depth_phrase, depth_compute, depth_question}
 
 -- a list of statements, as a body has it
 mutual
@@ -32,7 +34,8 @@ mutual
     no_else : Otherwise
     else_with : Block → Otherwise
 
-  -- what stands behind a FOR phrase: a further phrase and what stands behind that; DO, statements and LOOP; one statement;
+  -- what stands behind a FOR phrase: a further phrase and what stands behind that; DO, statements and LOOP; one
+  -- statement;
   -- FIND FIRST CASE; COMPUTE with its targets and its expression
   pub data Controlled : Type 0 where
     further : Phrase → Controlled → Controlled
@@ -73,7 +76,8 @@ abbrev mutual
   pub spell_one : One → List Plain
   spell_one (simple a) = spell_simple a
   spell_one (branch q b e) =
-      mark (m.Reserved r.If) ∷ (spell_question q ++ spell_block b ++ spell_otherwise e ++ mark (m.Reserved r.Always) ∷ [])
+      mark (m.Reserved r.If) ∷ (spell_question q ++ spell_block b ++ spell_otherwise e ++ mark
+      (m.Reserved r.Always) ∷ [])
 
   pub spell_otherwise : Otherwise → List Plain
   spell_otherwise no_else = []
@@ -95,7 +99,8 @@ spell_saving false = []
 abbrev pub spell_head : Head → List Plain
 spell_head MainHead = mark (m.Reserved r.Main) ∷ []
 spell_head (RoutineHead n ps ys) =
-    mark (m.Reserved r.Routine) ∷ name n ∷ (spell_listing spell_name ps ++ spell_behind (m.Reserved r.Yielding) spell_name ys)
+    mark (m.Reserved r.Routine) ∷ name n ∷ (spell_listing spell_name ps ++ spell_behind (m.Reserved r.Yielding)
+    spell_name ys)
 spell_head (EventHead n ps b) = mark (m.Reserved r.Event) ∷ name n ∷ (spell_listing spell_name ps ++ spell_saving b)
 
 -- a local DEFINE

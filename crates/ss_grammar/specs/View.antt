@@ -1,8 +1,7 @@
 -- The pure data that expressions, conditions, statements, places and sections of the code stand for.
-use Rattle.std.specs.Prelude.{List, map, Option}
-use Rattle.ss_words.specs.declared.several.Several.{Several as CodeSeveral}
-use Rattle.ss_words.specs.Lists.{Name, Several, several_view}
-use Rattle.ss_words.specs.Reading.{prepend, option_view}
+use Rattle.std.specs.Prelude.{List, map}
+use Rattle.ss_words.specs.Lists.{Name, several_view}
+use Rattle.ss_words.specs.Reading.{option_view}
 use Rattle.ss_grammar.specs.declared.expr.TermSign.{TermSign}
 use Rattle.ss_grammar.specs.declared.expr.Expr.{Expr as CodeExpr, fold-Expr}
 use Rattle.ss_grammar.specs.declared.expr.Term.{Term as CodeTerm, fold-Term}
@@ -56,8 +55,12 @@ use Rattle.ss_grammar.specs.declared.section.SectionKind.{SectionKind as CodeKin
 use Rattle.ss_grammar.specs.declared.section.SectionKind.TheVariants as kind
 use Rattle.ss_grammar.specs.declared.section.LocalNames.{LocalNames as CodeLocalNames}
 use Rattle.ss_grammar.specs.declared.section.Section.{Section as CodeSection}
-use Rattle.ss_grammar.specs.Expr.{Expr, expr, Sums, no_sums, sum, Term, term, Products, no_products, product, Factor, digits, named, applied, within, Exprs, no_exprs, exprs, sums_of, products_of, exprs_of}
-use Rattle.ss_grammar.specs.Condition.{Reference, Condition, condition, Alternatives, no_alternatives, alternative, Conjunction, conjunction, Additions, no_additions, addition, Relation, compared, is_empty, is_in, nested}
+use Rattle.ss_grammar.specs.Expr.{Expr, expr, Term, term, Factor}
+use Rattle.ss_grammar.specs.Expr.{digits, named, applied, within, sums_of, products_of}
+use Rattle.ss_grammar.specs.Expr.{exprs_of}
+use Rattle.ss_grammar.specs.Condition.{Reference, Condition, condition}
+use Rattle.ss_grammar.specs.Condition.{Conjunction, conjunction, Relation, compared}
+use Rattle.ss_grammar.specs.Condition.{is_empty, is_in, nested}
 use Rattle.ss_grammar.specs.ConditionReading.{alternatives_of, additions_of}
 use Rattle.ss_grammar.specs.Simple as s
 use Rattle.ss_grammar.specs.Loops as l
@@ -272,7 +275,8 @@ spots xs = map spot_view xs
 -- a name of the code
 abbrev pub head_view : Name → CodeKind → Head
 head_view n kind.Main = MainHead
-head_view n (kind.Routine given yielded) = RoutineHead n (listing_view (λ v. v.items) given) (map (λ v. v.items) yielded.items)
+head_view n (kind.Routine given yielded) =
+    RoutineHead n (listing_view (λ v. v.items) given) (map (λ v. v.items) yielded.items)
 head_view n (kind.Event given saving) = EventHead n (listing_view (λ v. v.items) given) saving
 
 -- a local DEFINE of the code

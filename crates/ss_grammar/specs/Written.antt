@@ -4,8 +4,12 @@ use Rattle.std.specs.List.{flat_map}
 use Rattle.ss_words.specs.Noting.{line}
 use Rattle.ss_words.specs.Lists.{Name, Several}
 use Rattle.ss_grammar.specs.Loops.{Phrase, spell_phrase, spell_question}
-use Rattle.ss_grammar.specs.Places.{Branch, If, Else, Always, Loop, For, Next, Find, Gather, Compute, Place, Simply, Branches, Loops, EndOfSection, Spot, LocalNames, Section}
-use Rattle.ss_grammar.specs.Tree.{Block, no_statements, statement, Statement, alone, loop, One, simple, branch, Otherwise, no_else, else_with, Controlled, further, repeated, single, find, compute, SectionTree, Tree, spell_block, spell_statement, spell_one, spell_otherwise, spell_controlled, spell_head, spell_define, spell_section}
+use Rattle.ss_grammar.specs.Places.{If, Else, Always, For, Next, Find, Gather, Compute, Place, Simply}
+use Rattle.ss_grammar.specs.Places.{Branches, Loops, EndOfSection, Spot, LocalNames, Section}
+use Rattle.ss_grammar.specs.Tree.{Block, no_statements, statement, Statement, alone, loop, One, simple, branch}
+use Rattle.ss_grammar.specs.Tree.{Otherwise, no_else, else_with, Controlled, further, repeated, single, find, compute}
+use Rattle.ss_grammar.specs.Tree.{SectionTree, Tree, spell_block, spell_statement, spell_otherwise}
+use Rattle.ss_grammar.specs.Tree.{spell_head, spell_define, spell_section}
 
 -- lines: of each plain word. Each part is written out with the number of its first plain word
 module _ (lines : List ℕ) where
@@ -28,7 +32,8 @@ module _ (lines : List ℕ) where
     flat_one k (branch q b e) =
         let i = k + 1 + length (spell_question q) in
         let j = i + length (spell_block b) in
-        spot k (Branches (If q)) ∷ (flat_block i b ++ flat_otherwise j e ++ spot (j + length (spell_otherwise e)) (Branches Always) ∷ [])
+        spot k (Branches (If q)) ∷ (flat_block i b ++ flat_otherwise j e ++ spot (j + length (spell_otherwise e))
+        (Branches Always) ∷ [])
 
     pub flat_otherwise : ℕ → Otherwise → List Spot
     flat_otherwise k no_else = []
@@ -47,7 +52,8 @@ module _ (lines : List ℕ) where
   -- the local DEFINEs
   abbrev pub written_locals : ℕ → List (Several Name) → List LocalNames
   written_locals k [] = []
-  written_locals k (ns ∷ nss) = record { line = line lines k; names = ns } ∷ written_locals (k + length (spell_define ns)) nss
+  written_locals k (ns ∷ nss) =
+      record { line = line lines k; names = ns } ∷ written_locals (k + length (spell_define ns)) nss
 
   -- a section
   abbrev pub written_section : ℕ → SectionTree → Section

@@ -4,7 +4,7 @@ ghost use Rattle.std.specs.Prelude.{IfOk, IsTrue, length, ◌≤◌, ◌<◌};
 ghost use Rattle.ss_words.specs.Plain.{word_lines};
 ghost use Rattle.ss_words.specs.Reading.{Gives};
 ghost use Rattle.ss_grammar.specs.Combined as combined;
-ghost use Rattle.ss_grammar.specs.Onto as onto;
+ghost use Rattle.ss_grammar.specs.PlacesAtLines as places;
 ghost use Rattle.ss_grammar.specs.View.{phrase_view, spots};
 
 use crate::compute::compute;
@@ -48,7 +48,7 @@ pub fn block(
     out: &mut Vec<Spot>,
 ) -> Result<(), Refusal>
     ensures exact { Gives (λ u. spots out.new.items) result cursor.new
-        (onto.statements_onto (word_lines text.now) room.parentheses room.ifs room.phrases
+        (places.noting_statements (word_lines text.now) room.parentheses room.ifs room.phrases
         (spots out.old.items) cursor.old) }
     ensures shorter { length cursor.new ≤ length cursor.old }
 {
@@ -58,7 +58,7 @@ pub fn block(
 
 /// Pushes the places of a statement, if one begins here.
 #[cycle(statements)]
-#[tactic(auto, unfolding(ss_words::specs::Reading::bind, ss_words::specs::Reading::pure, crate::specs::Onto::statement_onto))]
+#[tactic(auto, unfolding(ss_words::specs::Reading::bind, ss_words::specs::Reading::pure, crate::specs::PlacesAtLines::noting_statement))]
 fn statement(
     cursor: &mut Cursor<'_>,
     text: &[PlainWord],
@@ -66,10 +66,10 @@ fn statement(
     out: &mut Vec<Spot>,
 ) -> Result<bool, Refusal>
     ensures exact { Gives (λ b. (b, spots out.new.items)) result cursor.new
-        (onto.statement_onto (word_lines text.now) room.parentheses
-        (onto.if_onto (word_lines text.now) room.parentheses room.ifs room.phrases)
-        (onto.loop_onto (word_lines text.now) room.parentheses
-        (onto.if_onto (word_lines text.now) room.parentheses room.ifs) room.phrases)
+        (places.noting_statement (word_lines text.now) room.parentheses
+        (places.noting_if (word_lines text.now) room.parentheses room.ifs room.phrases)
+        (places.noting_loop (word_lines text.now) room.parentheses
+        (places.noting_if (word_lines text.now) room.parentheses room.ifs) room.phrases)
         (spots out.old.items) cursor.old) }
     ensures shorter { length cursor.new ≤ length cursor.old }
     ensures taken { IfOk result (λ b. IsTrue b → length cursor.new < length cursor.old) }
@@ -82,7 +82,7 @@ fn statement(
 
 /// Pushes the places of a statement that is no loop, if one begins here.
 #[cycle(statements)]
-#[tactic(auto, using(crate::proofs::Pushed::pushed), unfolding(ss_words::specs::Reading::bind, ss_words::specs::Reading::pure, ss_words::specs::Noting::here, crate::specs::Onto::one_onto))]
+#[tactic(auto, using(crate::proofs::Pushed::pushed), unfolding(ss_words::specs::Reading::bind, ss_words::specs::Reading::pure, ss_words::specs::Noting::here, crate::specs::PlacesAtLines::noting_one))]
 fn one(
     cursor: &mut Cursor<'_>,
     text: &[PlainWord],
@@ -90,10 +90,10 @@ fn one(
     out: &mut Vec<Spot>,
 ) -> Result<bool, Refusal>
     ensures exact { Gives (λ b. (b, spots out.new.items)) result cursor.new
-        (onto.one_onto (word_lines text.now) room.parentheses
-        (onto.if_onto (word_lines text.now) room.parentheses room.ifs room.phrases)
-        (onto.loop_onto (word_lines text.now) room.parentheses
-        (onto.if_onto (word_lines text.now) room.parentheses room.ifs) room.phrases)
+        (places.noting_one (word_lines text.now) room.parentheses
+        (places.noting_if (word_lines text.now) room.parentheses room.ifs room.phrases)
+        (places.noting_loop (word_lines text.now) room.parentheses
+        (places.noting_if (word_lines text.now) room.parentheses room.ifs) room.phrases)
         (spots out.old.items) cursor.old) }
     ensures shorter { length cursor.new ≤ length cursor.old }
     ensures taken { IfOk result (λ b. IsTrue b → length cursor.new < length cursor.old) }
@@ -116,7 +116,7 @@ fn branch(
     out: &mut Vec<Spot>,
 ) -> Result<bool, Refusal>
     ensures exact { Gives (λ b. (b, spots out.new.items)) result cursor.new
-        (onto.if_onto (word_lines text.now) room.parentheses room.ifs room.phrases
+        (places.noting_if (word_lines text.now) room.parentheses room.ifs room.phrases
         (spots out.old.items) cursor.old) }
     ensures shorter { length cursor.new ≤ length cursor.old }
     ensures taken { IfOk result (λ b. IsTrue b → length cursor.new < length cursor.old) }
@@ -135,7 +135,7 @@ fn branch(
 
 /// `question {statement} [ELSE {statement}] ALWAYS`, behind an IF in this line.
 #[cycle(statements)]
-#[tactic(auto, using(crate::proofs::Pushed::pushed), unfolding(ss_words::specs::Reading::bind, ss_words::specs::Reading::pure, ss_words::specs::Noting::here, crate::specs::Onto::branch_onto))]
+#[tactic(auto, using(crate::proofs::Pushed::pushed), unfolding(ss_words::specs::Reading::bind, ss_words::specs::Reading::pure, ss_words::specs::Noting::here, crate::specs::PlacesAtLines::noting_branch))]
 fn behind_if(
     cursor: &mut Cursor<'_>,
     text: &[PlainWord],
@@ -144,8 +144,8 @@ fn behind_if(
     out: &mut Vec<Spot>,
 ) -> Result<(), Refusal>
     ensures exact { Gives (λ u. spots out.new.items) result cursor.new
-        (onto.branch_onto (word_lines text.now) room.parentheses
-        (onto.statements_onto (word_lines text.now) room.parentheses room.ifs room.phrases) line
+        (places.noting_branch (word_lines text.now) room.parentheses
+        (places.noting_statements (word_lines text.now) room.parentheses room.ifs room.phrases) line
         (spots out.old.items) cursor.old) }
     ensures shorter { length cursor.new ≤ length cursor.old }
 {
@@ -163,7 +163,7 @@ fn behind_if(
 
 /// `[ELSE {statement}]`
 #[cycle(statements)]
-#[tactic(auto, using(crate::proofs::Pushed::pushed), unfolding(ss_words::specs::Reading::bind, ss_words::specs::Reading::pure, ss_words::specs::Noting::here, crate::specs::Onto::else_onto))]
+#[tactic(auto, using(crate::proofs::Pushed::pushed), unfolding(ss_words::specs::Reading::bind, ss_words::specs::Reading::pure, ss_words::specs::Noting::here, crate::specs::PlacesAtLines::noting_else))]
 fn otherwise(
     cursor: &mut Cursor<'_>,
     text: &[PlainWord],
@@ -171,8 +171,8 @@ fn otherwise(
     out: &mut Vec<Spot>,
 ) -> Result<(), Refusal>
     ensures exact { Gives (λ u. spots out.new.items) result cursor.new
-        (onto.else_onto (word_lines text.now) room.parentheses
-        (onto.statements_onto (word_lines text.now) room.parentheses room.ifs room.phrases)
+        (places.noting_else (word_lines text.now) room.parentheses
+        (places.noting_statements (word_lines text.now) room.parentheses room.ifs room.phrases)
         (spots out.old.items) cursor.old) }
     ensures shorter { length cursor.new ≤ length cursor.old }
 {
@@ -194,8 +194,8 @@ fn for_loop(
     out: &mut Vec<Spot>,
 ) -> Result<bool, Refusal>
     ensures exact { Gives (λ b. (b, spots out.new.items)) result cursor.new
-        (onto.loop_onto (word_lines text.now) room.parentheses
-        (onto.if_onto (word_lines text.now) room.parentheses room.ifs) room.phrases
+        (places.noting_loop (word_lines text.now) room.parentheses
+        (places.noting_if (word_lines text.now) room.parentheses room.ifs) room.phrases
         (spots out.old.items) cursor.old) }
     ensures shorter { length cursor.new ≤ length cursor.old }
     ensures taken { IfOk result (λ b. IsTrue b → length cursor.new < length cursor.old) }
@@ -215,7 +215,7 @@ fn for_loop(
 
 /// What stands behind a phrase, whose FOR stands in this line.
 #[cycle(statements)]
-#[tactic(auto, using(crate::proofs::Pushed::pushed), unfolding(ss_words::specs::Reading::bind, ss_words::specs::Reading::pure, ss_words::specs::Noting::here, crate::specs::Onto::controlled_onto))]
+#[tactic(auto, using(crate::proofs::Pushed::pushed), unfolding(ss_words::specs::Reading::bind, ss_words::specs::Reading::pure, ss_words::specs::Noting::here, crate::specs::PlacesAtLines::noting_controlled))]
 fn controlled(
     cursor: &mut Cursor<'_>,
     text: &[PlainWord],
@@ -225,10 +225,10 @@ fn controlled(
     out: &mut Vec<Spot>,
 ) -> Result<(), Refusal>
     ensures exact { Gives (λ u. spots out.new.items) result cursor.new
-        (onto.controlled_onto (word_lines text.now) room.parentheses
-        (onto.if_onto (word_lines text.now) room.parentheses room.ifs room.phrases)
-        (onto.loop_onto (word_lines text.now) room.parentheses
-        (onto.if_onto (word_lines text.now) room.parentheses room.ifs) room.phrases)
+        (places.noting_controlled (word_lines text.now) room.parentheses
+        (places.noting_if (word_lines text.now) room.parentheses room.ifs room.phrases)
+        (places.noting_loop (word_lines text.now) room.parentheses
+        (places.noting_if (word_lines text.now) room.parentheses room.ifs) room.phrases)
         line (phrase_view phrase) (spots out.old.items) cursor.old) }
     ensures shorter { length cursor.new ≤ length cursor.old }
 {
@@ -246,7 +246,7 @@ fn controlled(
 
 /// `{statement} LOOP`, behind DO.
 #[cycle(statements)]
-#[tactic(auto, using(crate::proofs::Pushed::pushed), unfolding(ss_words::specs::Reading::bind, ss_words::specs::Reading::pure, ss_words::specs::Noting::here, crate::specs::Onto::repeated_onto))]
+#[tactic(auto, using(crate::proofs::Pushed::pushed), unfolding(ss_words::specs::Reading::bind, ss_words::specs::Reading::pure, ss_words::specs::Noting::here, crate::specs::PlacesAtLines::noting_repeated))]
 fn repeated(
     cursor: &mut Cursor<'_>,
     text: &[PlainWord],
@@ -254,10 +254,10 @@ fn repeated(
     out: &mut Vec<Spot>,
 ) -> Result<(), Refusal>
     ensures exact { Gives (λ u. spots out.new.items) result cursor.new
-        (onto.repeated_onto (word_lines text.now) room.parentheses
-        (onto.if_onto (word_lines text.now) room.parentheses room.ifs room.phrases)
-        (onto.loop_onto (word_lines text.now) room.parentheses
-        (onto.if_onto (word_lines text.now) room.parentheses room.ifs) room.phrases)
+        (places.noting_repeated (word_lines text.now) room.parentheses
+        (places.noting_if (word_lines text.now) room.parentheses room.ifs room.phrases)
+        (places.noting_loop (word_lines text.now) room.parentheses
+        (places.noting_if (word_lines text.now) room.parentheses room.ifs) room.phrases)
         (spots out.old.items) cursor.old) }
     ensures shorter { length cursor.new ≤ length cursor.old }
 {
@@ -271,7 +271,7 @@ fn repeated(
 
 /// `FIND FIRST CASE`, a COMPUTE, or one statement that is no loop.
 #[cycle(statements)]
-#[tactic(auto, using(crate::proofs::Pushed::pushed), unfolding(ss_words::specs::Reading::bind, ss_words::specs::Reading::pure, ss_words::specs::Reading::refuse, ss_words::specs::Noting::here, crate::specs::Onto::last_onto, crate::specs::Onto::must_onto))]
+#[tactic(auto, using(crate::proofs::Pushed::pushed), unfolding(ss_words::specs::Reading::bind, ss_words::specs::Reading::pure, ss_words::specs::Reading::refuse, ss_words::specs::Noting::here, crate::specs::PlacesAtLines::noting_last, crate::specs::PlacesAtLines::noting_must))]
 fn last(
     cursor: &mut Cursor<'_>,
     text: &[PlainWord],
@@ -279,10 +279,10 @@ fn last(
     out: &mut Vec<Spot>,
 ) -> Result<(), Refusal>
     ensures exact { Gives (λ u. spots out.new.items) result cursor.new
-        (onto.last_onto (word_lines text.now) room.parentheses
-        (onto.if_onto (word_lines text.now) room.parentheses room.ifs room.phrases)
-        (onto.loop_onto (word_lines text.now) room.parentheses
-        (onto.if_onto (word_lines text.now) room.parentheses room.ifs) room.phrases)
+        (places.noting_last (word_lines text.now) room.parentheses
+        (places.noting_if (word_lines text.now) room.parentheses room.ifs room.phrases)
+        (places.noting_loop (word_lines text.now) room.parentheses
+        (places.noting_if (word_lines text.now) room.parentheses room.ifs) room.phrases)
         (spots out.old.items) cursor.old) }
     ensures shorter { length cursor.new ≤ length cursor.old }
 {

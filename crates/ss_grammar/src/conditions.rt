@@ -162,7 +162,8 @@ fn behind_value(
     value: Expr,
     room: u32,
 ) -> Result<OrValue<Relation>, Refusal>
-    ensures exact { Gives (or_value_view relation_view) result cursor.new (reading.behind_value room (expr_view value) cursor.old) }
+    ensures exact { Gives (or_value_view relation_view) result cursor.new
+        (reading.behind_value room (expr_view value) cursor.old) }
     ensures shorter { length cursor.new ≤ length cursor.old }
 {
     if let Some(comparison) = comparison(cursor) {
@@ -290,7 +291,8 @@ fn next_relation(cursor: &mut Cursor<'_>, room: u32) -> Result<Option<Relation>,
 #[cycle(conditions)]
 #[tactic(auto, unfolding(ss_words::specs::Reading::bind, ss_words::specs::Reading::pure, ss_words::specs::Reading::refuse, crate::specs::ConditionReading::relation_with))]
 fn relation(cursor: &mut Cursor<'_>, room: u32) -> Result<Relation, Refusal>
-    ensures exact { Gives relation_view result cursor.new (reading.relation_with room (reading.inner_either room) cursor.old) }
+    ensures exact { Gives relation_view result cursor.new
+        (reading.relation_with room (reading.inner_either room) cursor.old) }
     ensures shorter { length cursor.new ≤ length cursor.old }
 {
     match value(cursor, room)? {

@@ -5,7 +5,8 @@ pub enum TermSign {
     Minus,
 }
 
-/// An expression: a first term, whose sign may be written before it, and the terms added to it or subtracted from it
+/// An expression: a first term, whose sign may be written before it, and the terms added to it or
+/// subtracted from it
 /// (docs/LANGUAGE.md, "Expressions").
 #[derive(Debug, Drop)]
 #[cycle(ast)]

@@ -109,6 +109,7 @@ fn sums(cursor: &mut Cursor<'_>, room: u32) -> Result<Vec<Added>, Refusal>
     while let Some(added) = next_sum(cursor, room)? {
         more.push(added)?;
     }
+    more.shrink_to_fit();
     Ok(more)
 }
 
@@ -149,6 +150,7 @@ fn products(cursor: &mut Cursor<'_>, room: u32) -> Result<Vec<Factor>, Refusal>
     while let Some(factor) = next_product(cursor, room)? {
         more.push(factor)?;
     }
+    more.shrink_to_fit();
     Ok(more)
 }
 
@@ -245,6 +247,7 @@ fn inner_others(cursor: &mut Cursor<'_>, room: u32) -> Result<Vec<Expr>, Refusal
     while let Some(value) = next_inner(cursor, room)? {
         values.push(value)?;
     }
+    values.shrink_to_fit();
     Ok(values)
 }
 

@@ -1,16 +1,92 @@
 //! Reading heads and local DEFINEs.
 
-ghost use Rattle.std.specs.Prelude.{IfOk, IsTrue, length, map, ◌≤◌, ◌<◌};
+ghost use Rattle.std.specs.Prelude.{IfOk, IsTrue, length, map, ◌≡◌, ◌≤◌, ◌<◌};
 ghost use Rattle.ss_words.specs.Lists.{several_view};
-ghost use Rattle.ss_words.specs.Plain.{word_lines};
+ghost use Rattle.ss_words.specs.Plain.{first, word_lines};
 ghost use Rattle.ss_words.specs.Noting.{repeat};
 ghost use Rattle.ss_words.specs.Reading.{Gives};
-ghost use Rattle.ss_grammar.specs.Onto as onto;
+ghost use Rattle.ss_grammar.specs.PlacesAtLines as places;
 ghost use Rattle.ss_grammar.specs.SectionReading as reading;
-ghost use Rattle.ss_grammar.specs.View.{local_view};
+ghost use Rattle.ss_grammar.specs.View.{head_view, local_view};
 
-use crate::section::LocalNames;
-use ss_words::{Cursor, Mark, PlainWord, Refusal, Reserved, Several};
+use crate::names::{count, given, yielded};
+use crate::section::{LocalNames, SectionKind};
+use ss_words::{Cursor, Mark, Plain, PlainWord, Refusal, Reserved, Several};
+
+/// How many parameters a section may have, given and yielded together.
+const MOST_PARAMETERS: usize = 32;
+
+/// What a section is, and its name in upper case; that of the main section is `MAIN`.
+#[derive(Debug, Drop)]
+pub struct SectionHead {
+    pub kind: SectionKind,
+    pub name: Vec<u8>,
+}
+
+/// Whether a section begins with the next word.
+pub fn begins(cursor: &Cursor<'_>) -> bool
+    ensures { result ≡ reading.is_head (first cursor.now) }
+{
+    matches!(
+        cursor.peek(),
+        Some(Plain::Mark(Mark::Reserved(Reserved::Main | Reserved::Routine | Reserved::Event)))
+    )
+}
+
+/// The head of a section: `MAIN`, `ROUTINE name [GIVEN names | "(" names ")"] [YIELDING names]`,
+/// or `EVENT name [GIVEN names | "(" names ")"] [SAVING EVENT NOTICES]`.
+#[tactic(auto, using(ss_words::proofs::Marks::taken), unfolding(ss_words::specs::Reading::look, ss_words::specs::Reading::skip, ss_words::specs::Reading::pure, ss_words::specs::Reading::refuse, crate::specs::SectionReading::head_at))]
+pub fn head(cursor: &mut Cursor<'_>) -> Result<SectionHead, Refusal>
+    ensures exact { Gives (λ h. head_view h.name.items h.kind) result cursor.new (reading.head_at 32 cursor.old) }
+    ensures shorter { length cursor.new ≤ length cursor.old }
+    ensures taken { IfOk result (λ _. length cursor.new < length cursor.old) }
+{
+    match cursor.peek() {
+        Some(Plain::Mark(Mark::Reserved(Reserved::Main))) => {
+            cursor.pass();
+            let name = Vec::from_slice(cursor.alloc(), b"MAIN")?;
+            Ok(SectionHead {
+                kind: SectionKind::Main,
+                name,
+            })
+        }
+        Some(Plain::Mark(Mark::Reserved(Reserved::Routine))) => {
+            cursor.pass();
+            routine(cursor)
+        }
+        Some(Plain::Mark(Mark::Reserved(Reserved::Event))) => {
+            cursor.pass();
+            event(cursor)
+        }
+        _ => Err(Refusal::Unexpected),
+    }
+}
+
+/// `name [GIVEN names | "(" names ")"] [YIELDING names]`, behind ROUTINE.
+#[tactic(auto, unfolding(ss_words::specs::Reading::bind, ss_words::specs::Reading::pure, crate::specs::SectionReading::routine_at))]
+fn routine(cursor: &mut Cursor<'_>) -> Result<SectionHead, Refusal>
+    ensures exact { Gives (λ h. head_view h.name.items h.kind) result cursor.new (reading.routine_at 32 cursor.old) }
+    ensures shorter { length cursor.new ≤ length cursor.old }
+{
+    let name = cursor.name()?;
+    let given = given(cursor, MOST_PARAMETERS)?;
+    let yielded = yielded(cursor, MOST_PARAMETERS.saturating_sub(count(&given)))?;
+    let kind = SectionKind::Routine { given, yielded };
+    Ok(SectionHead { kind, name })
+}
+
+/// `name [GIVEN names | "(" names ")"] [SAVING EVENT NOTICES]`, behind EVENT.
+#[tactic(auto, unfolding(ss_words::specs::Reading::bind, ss_words::specs::Reading::pure, crate::specs::SectionReading::event_at))]
+fn event(cursor: &mut Cursor<'_>) -> Result<SectionHead, Refusal>
+    ensures exact { Gives (λ h. head_view h.name.items h.kind) result cursor.new (reading.event_at 32 cursor.old) }
+    ensures shorter { length cursor.new ≤ length cursor.old }
+{
+    let name = cursor.name()?;
+    let given = given(cursor, MOST_PARAMETERS)?;
+    let saving = saving(cursor)?;
+    let kind = SectionKind::Event { given, saving };
+    Ok(SectionHead { kind, name })
+}
 
 /// `[SAVING EVENT NOTICES]`, and whether it is written.
 #[tactic(auto, unfolding(ss_words::specs::Reading::bind, ss_words::specs::Reading::pure, crate::specs::SectionReading::saving))]
@@ -40,14 +116,14 @@ fn define(cursor: &mut Cursor<'_>) -> Result<Several<Vec<u8>>, Refusal>
 }
 
 /// Pushes the names of a local DEFINE and its line, if one stands here.
-#[tactic(auto, using(crate::proofs::Pushed::pushed_local), unfolding(ss_words::specs::Reading::bind, ss_words::specs::Reading::pure, ss_words::specs::Noting::here, crate::specs::Onto::local_onto))]
+#[tactic(auto, using(crate::proofs::Pushed::pushed_local), unfolding(ss_words::specs::Reading::bind, ss_words::specs::Reading::pure, ss_words::specs::Noting::here, crate::specs::PlacesAtLines::noting_local))]
 fn next_local(
     cursor: &mut Cursor<'_>,
     text: &[PlainWord],
     out: &mut Vec<LocalNames>,
 ) -> Result<bool, Refusal>
     ensures exact { Gives (λ b. (b, map local_view out.new.items)) result cursor.new
-        (onto.local_onto (word_lines text.now) (map local_view out.old.items) cursor.old) }
+        (places.noting_local (word_lines text.now) (map local_view out.old.items) cursor.old) }
     ensures shorter { length cursor.new ≤ length cursor.old }
     ensures taken { IfOk result (λ b. IsTrue b → length cursor.new < length cursor.old) }
 {
@@ -67,7 +143,7 @@ pub fn local_list(
     out: &mut Vec<LocalNames>,
 ) -> Result<(), Refusal>
     ensures exact { Gives (λ u. map local_view out.new.items) result cursor.new
-        (repeat (onto.local_onto (word_lines text.now)) (map local_view out.old.items) cursor.old) }
+        (repeat (places.noting_local (word_lines text.now)) (map local_view out.old.items) cursor.old) }
     ensures shorter { length cursor.new ≤ length cursor.old }
 {
     while next_local(cursor, text, out)? {}

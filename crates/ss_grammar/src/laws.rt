@@ -1,5 +1,9 @@
 //! Laws on the definitions. Each function does nothing, and its contract says the law.
-ghost use Rattle.ss_grammar.specs.Laws.{SpellingIsUnique, AlwaysAnswered, AnswerIsUnique, LimitsLetPass, LimitsHold, LimitsRefuse};
+ghost use Rattle.ss_grammar.specs.Laws.{SpellingIsUnique, AlwaysAnswered, AnswerIsUnique};
+ghost use Rattle.ss_grammar.specs.Laws.{LimitsLetPass, LimitsHold, LimitsRefuse};
+ghost use Rattle.ss_grammar.specs.Examples.{ElseIsOfTheInnerIf, LoopEndsTheChain};
+ghost use Rattle.ss_grammar.specs.Examples.{ForControlsOneStatement, AndBindsMoreTightly};
+ghost use Rattle.ss_grammar.specs.Examples.{ParenthesesAreTold, ComputeIsTwoPlaces};
 
 /// No two programs have one spelling.
 pub fn spelling_is_unique()
@@ -29,4 +33,34 @@ pub fn limits_hold()
 /// A word that passes a limit is refused.
 pub fn limits_refuse()
     ensures { LimitsRefuse }
+{}
+
+/// `IF FOUND IF NONE ELSE ALWAYS ALWAYS`: the ELSE is of the inner IF.
+pub fn else_is_of_the_inner_if()
+    ensures { ElseIsOfTheInnerIf }
+{}
+
+/// `FOR EVERY T FOR EVERY S DO LOOP STOP`: one LOOP ends the chain, and STOP stands behind it.
+pub fn loop_ends_the_chain()
+    ensures { LoopEndsTheChain }
+{}
+
+/// `FOR EVERY T IF FOUND ALWAYS STOP`: the phrase controls the IF alone.
+pub fn for_controls_one_statement()
+    ensures { ForControlsOneStatement }
+{}
+
+/// `X = 1 OR Y = 1 AND S = 1`: AND binds more tightly than OR.
+pub fn and_binds_more_tightly()
+    ensures { AndBindsMoreTightly }
+{}
+
+/// `(X) = 1` has a value in parentheses, and `(X = 1)` a condition.
+pub fn parentheses_are_told()
+    ensures { ParenthesesAreTold }
+{}
+
+/// A COMPUTE is two places in its line, and DO is none.
+pub fn compute_is_two_places()
+    ensures { ComputeIsTwoPlaces }
 {}

@@ -14,14 +14,14 @@ mod find;
 mod head;
 pub mod laws;
 mod lists;
+mod names;
 mod phrase;
 mod place;
+mod program;
 mod question;
 mod section;
 mod simple;
 mod statement;
-#[cfg(test)]
-mod statement_tests;
 mod timing;
 mod transfer;
 
@@ -31,7 +31,8 @@ pub use place::{
     Branch, Computed, Direction, Loop, Phrase, Place, Qualifier, QualifierWord, Question, Range,
     Spot, Statistic, WalkStart,
 };
-pub use section::{LocalNames, Section, SectionKind};
+pub use program::sections;
+pub use section::{LocalNames, Section, SectionKind, Sections};
 pub use simple::{
     Article, Assign, Details, Exchange, FilePlace, Filing, Listing, Making, SetEnd, Simple, Timing,
     Transfer, When,

@@ -45,7 +45,8 @@ fn other_expressions(cursor: &mut Cursor<'_>, room: u32) -> Result<Vec<Expr>, Re
 /// A comma and an expression, or none.
 #[tactic(auto, unfolding(ss_words::specs::Reading::bind, ss_words::specs::Reading::pure, crate::specs::Combined::if_mark))]
 fn next_expression(cursor: &mut Cursor<'_>, room: u32) -> Result<Option<Expr>, Refusal>
-    ensures exact { Gives (option_view expr_view) result cursor.new (if_mark (m.Sign s.Comma) (expr_at room) cursor.old) }
+    ensures exact { Gives (option_view expr_view) result cursor.new
+        (if_mark (m.Sign s.Comma) (expr_at room) cursor.old) }
     ensures shorter { length cursor.new ≤ length cursor.old }
     ensures taken { IfOk result (λ o. IfSome o (λ _. length cursor.new < length cursor.old)) }
 {
@@ -82,7 +83,8 @@ fn other_references(cursor: &mut Cursor<'_>, room: u32) -> Result<Vec<Reference>
 /// A comma and a reference, or none.
 #[tactic(auto, unfolding(ss_words::specs::Reading::bind, ss_words::specs::Reading::pure, crate::specs::Combined::if_mark))]
 fn next_reference(cursor: &mut Cursor<'_>, room: u32) -> Result<Option<Reference>, Refusal>
-    ensures exact { Gives (option_view reference_view) result cursor.new (if_mark (m.Sign s.Comma) (reference_at room) cursor.old) }
+    ensures exact { Gives (option_view reference_view) result cursor.new
+        (if_mark (m.Sign s.Comma) (reference_at room) cursor.old) }
     ensures shorter { length cursor.new ≤ length cursor.old }
     ensures taken { IfOk result (λ o. IfSome o (λ _. length cursor.new < length cursor.old)) }
 {
@@ -93,7 +95,7 @@ fn next_reference(cursor: &mut Cursor<'_>, room: u32) -> Result<Option<Reference
 }
 
 /// The items of a list of one or more; `Memory` where the memory for them was refused.
-fn listed<T: Drop>(list: Several<T>) -> Result<Vec<T>, Refusal>
+pub fn listed<T: Drop>(list: Several<T>) -> Result<Vec<T>, Refusal>
     ensures items { IfOk result (λ v. v.items ≡ list.first ∷ list.others.items) }
     ensures memory { IfErr result (λ e. e ≡ Memory) }
 {
@@ -137,7 +139,8 @@ pub fn references_behind(
 /// `[GIVEN expressions | "(" expressions ")"]`
 #[tactic(auto, unfolding(ss_words::specs::Reading::bind, ss_words::specs::Reading::pure, crate::specs::Combined::made, crate::specs::Combined::if_mark, crate::specs::Combined::either, crate::specs::SimpleReading::listing_with))]
 pub fn values(cursor: &mut Cursor<'_>, room: u32) -> Result<Listing<Expr>, Refusal>
-    ensures exact { Gives (listing_view expr_view) result cursor.new (listing_with room (expr_at room) (inner_at room) cursor.old) }
+    ensures exact { Gives (listing_view expr_view) result cursor.new
+        (listing_with room (expr_at room) (inner_at room) cursor.old) }
     ensures shorter { length cursor.new ≤ length cursor.old }
 {
     if cursor.eat(Mark::Reserved(Reserved::Given)) {

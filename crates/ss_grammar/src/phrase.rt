@@ -72,7 +72,8 @@ fn range(cursor: &mut Cursor<'_>, room: u32) -> Result<Range, Refusal>
 /// `[CALLED name]`
 #[tactic(auto, unfolding(ss_words::specs::Reading::bind, ss_words::specs::Reading::pure, crate::specs::Combined::if_mark))]
 fn called_name(cursor: &mut Cursor<'_>) -> Result<Option<Vec<u8>>, Refusal>
-    ensures exact { Gives (option_view (λ v. v.items)) result cursor.new (if_mark (m.Reserved r.Called) a_name cursor.old) }
+    ensures exact { Gives (option_view (λ v. v.items)) result cursor.new
+        (if_mark (m.Reserved r.Called) a_name cursor.old) }
     ensures shorter { length cursor.new ≤ length cursor.old }
 {
     if !cursor.eat(Mark::Reserved(Reserved::Called)) {
@@ -127,7 +128,8 @@ fn direction(cursor: &mut Cursor<'_>) -> Result<Direction, Refusal>
 /// `[BY expression]`
 #[tactic(auto, unfolding(ss_words::specs::Reading::bind, ss_words::specs::Reading::pure, crate::specs::Combined::if_mark))]
 fn step(cursor: &mut Cursor<'_>, room: u32) -> Result<Option<Expr>, Refusal>
-    ensures exact { Gives (option_view expr_view) result cursor.new (if_mark (m.Reserved r.By) (expr_at room) cursor.old) }
+    ensures exact { Gives (option_view expr_view) result cursor.new
+        (if_mark (m.Reserved r.By) (expr_at room) cursor.old) }
     ensures shorter { length cursor.new ≤ length cursor.old }
 {
     if !cursor.eat(Mark::Reserved(Reserved::By)) {

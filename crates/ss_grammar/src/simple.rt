@@ -164,7 +164,8 @@ pub enum Timing {
 pub enum Exchange {
     /// `READ targets`
     Read(Several<Reference>),
-    /// `PRINT count LINES [WITH values] THUS` and the lines of the picture; no values where WITH is not written.
+    /// `PRINT count LINES [WITH values] THUS` and the lines of the picture; no values where WITH is
+    /// not written.
     Print {
         count: u64,
         values: Vec<Expr>,

@@ -1,26 +1,29 @@
 use crate::answer::or_refusal;
-use ss_check::{CheckFault, Program, check};
-use ss_routines::{Sections, sections};
+use ss_check::{CheckFault, Program};
+use ss_checker::check;
+use ss_grammar::sections;
+use ss_preamble::preamble;
 use ss_words::{TextFault, words};
 use std::alloc::{AllocError, Global};
 
-fn sections_of(alloc: Global, text: &[u8]) -> Result<Sections, TextFault> {
-    sections(alloc, &words(alloc, text)?, 0)
+/// What a text spells, as it is checked.
+fn checked(alloc: Global, text: &[u8]) -> Result<Result<Program, CheckFault>, TextFault> {
+    let words = words(alloc, text)?;
+    let (decls, from) = preamble(alloc, &words)?;
+    let sections = sections(alloc, &words, from)?;
+    Ok(check(alloc, decls, sections))
 }
 
 /// The program of a text, or the rule and the line of its refusal.
 pub fn program(alloc: Global, text: &[u8]) -> Result<Result<Program, Vec<u8>>, AllocError> {
-    let sections = match sections_of(alloc, text) {
-        Ok(sections) => sections,
-        Err(fault) => return Ok(Err(or_refusal(alloc, Err(fault))?)),
-    };
-    match check(alloc, sections) {
-        Ok(program) => Ok(Ok(program)),
-        Err(CheckFault::Broken { rule, line }) => {
+    match checked(alloc, text) {
+        Ok(Ok(program)) => Ok(Ok(program)),
+        Ok(Err(CheckFault::Broken { rule, line })) => {
             let code = rule.code();
             Ok(Err(format!(in alloc; "{code} {line}")?.into_bytes()))
         }
-        Err(CheckFault::Memory) => Err(AllocError),
+        Ok(Err(CheckFault::Memory)) => Err(AllocError),
+        Err(fault) => Ok(Err(or_refusal(alloc, Err(fault))?)),
     }
 }
 

@@ -12,13 +12,14 @@
 //!   whole program knows by it; the program stands behind that line.
 //! - `PLACES`: the number and the line of MAIN, how many local variables it has, and the line of
 //!   each of its places.
-//! - `SECTIONS`: each section's line, and its places, each behind its line.
-//! - `LAST`: how many sections there are, and the last one's line and last place.
 //! - `PROGRAM`: how many items the preamble has, and how many sections stand behind it.
-//! - `BEGINNINGS`, `BEGINNINGS.OF.SECTIONS`: what `LINES` and `SECTIONS` give for each beginning of
-//!   the text that ends with a line.
+//! - `BEGINNINGS`: what `LINES` gives for each beginning of the text that ends with a line.
 //!
 //! A text that is refused gives its rule and line. How a text is noted says `notation`.
+//!
+//! A line that begins with four blanks is an example as docs/LANGUAGE.md writes it, `TEXT ->
+//! ANSWER`, perhaps with a note behind two blanks: the answer is `P1 LINE 3` or the like, or `NO
+//! REFUSAL`, as the preamble and the sections behind it are read.
 #![tactic(auto)]
 
 mod answer;
@@ -44,6 +45,25 @@ struct Case<'a> {
 
 /// The case of a line; `None` for a remark.
 fn case_of(line: &str) -> Option<Case<'_>> {
+    match line.strip_prefix("    ") {
+        Some(example) => example_of(example),
+        None => noted_case(line),
+    }
+}
+
+/// The case of an example of a document, without its note.
+fn example_of(line: &str) -> Option<Case<'_>> {
+    let (text, rest) = line.split_once(" -> ")?;
+    let (wanted, _note) = rest.split_once("  ").unwrap_or((rest, ""));
+    Some(Case {
+        way: "EXAMPLE",
+        text: text.trim_end(),
+        wanted: wanted.trim_end(),
+    })
+}
+
+/// `WAY TEXT -> ANSWER`
+fn noted_case(line: &str) -> Option<Case<'_>> {
     if !line.as_bytes().first().is_some_and(u8::is_ascii_uppercase) {
         return None;
     }

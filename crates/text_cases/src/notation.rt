@@ -1,20 +1,43 @@
 use std::alloc::{AllocError, Global};
 
+/// What stands between the count and the item of `{n:item}`.
+#[derive(Clone, Copy)]
+pub enum Repeats {
+    /// `{n:item}`, as cases write it
+    BehindColon,
+    /// `{n item}`, as documents do
+    BehindBlank,
+}
+
+impl Repeats {
+    fn mark(self) -> char {
+        match self {
+            Repeats::BehindColon => ':',
+            Repeats::BehindBlank => ' ',
+        }
+    }
+}
+
 /// The text that a case notes: `|` is a line feed, `~` a carriage return, `^` the byte 128, and
 /// `{n:item}` is the item n times, with its number from 0 in place of each `#`.
-pub fn text_of(alloc: Global, noted: &str) -> Result<Vec<u8>, AllocError> {
+pub fn text_of(alloc: Global, noted: &str, repeats: Repeats) -> Result<Vec<u8>, AllocError> {
     let mut text = Vec::new(alloc);
     for piece in noted.split('{') {
         let (repeated, plain) = piece.split_once('}').unwrap_or(("", piece));
-        put_repeated(alloc, &mut text, repeated)?;
+        put_repeated(alloc, &mut text, repeated, repeats)?;
         put_bytes(&mut text, plain)?;
     }
     Ok(text)
 }
 
-/// `n:item`; nothing where there is no colon.
-fn put_repeated(alloc: Global, text: &mut Vec<u8>, noted: &str) -> Result<(), AllocError> {
-    let (count, item) = noted.split_once(':').unwrap_or(("0", noted));
+/// `n:item`, or `n item`; nothing where no count stands there.
+fn put_repeated(
+    alloc: Global,
+    text: &mut Vec<u8>,
+    noted: &str,
+    repeats: Repeats,
+) -> Result<(), AllocError> {
+    let (count, item) = noted.split_once(repeats.mark()).unwrap_or(("0", noted));
     for number in 0..count.parse::<usize>().unwrap_or(0) {
         let digits = format!(in alloc; "{number}")?;
         let item = item.replace(alloc, '#', digits.as_str())?;

@@ -1,7 +1,7 @@
 use Rattle.std.proofs.Common.{length, ◌≤◌, ◌+◌, ◌*◌}
 use Rattle.ss_words.specs.Plain.{word_lines}
 use Rattle.ss_words.proofs.Writes.{Noted}
-use Rattle.ss_grammar.specs.Onto.{statement_onto, if_onto, loop_onto, statements_onto}
+use Rattle.ss_grammar.specs.PlacesAtLines.{noting_statement, noting_if, noting_loop, noting_statements}
 use Rattle.ss_grammar.specs.View.{spots}
 use Rattle.ss_grammar.proofs.block.+statements.Given as goal
 
@@ -38,10 +38,13 @@ decreases-controlled l = 8 * (l.room.ifs + l.room.phrases) + 5
 abbrev pub invariant-block-loop : goal.invariant-block-loop
 invariant-block-loop l =
     let n = l.room.parentheses in
-    let b = if_onto (word_lines l.text) n l.room.ifs in
+    let b = noting_if (word_lines l.text) n l.room.ifs in
     record {
       shorter : length l.cursor ≤ length l.fn.cursor;
-      going : Noted (statement_onto (word_lines l.text) n (b l.room.phrases) (loop_onto (word_lines l.text) n b l.room.phrases)) (statements_onto (word_lines l.text) n l.room.ifs l.room.phrases (spots l.fn.out.items) l.fn.cursor) (spots l.out.items) l.cursor;
+      going : Noted (noting_statement (word_lines l.text) n (b l.room.phrases)
+          (noting_loop (word_lines l.text) n b l.room.phrases))
+          (noting_statements (word_lines l.text) n l.room.ifs l.room.phrases (spots l.fn.out.items) l.fn.cursor)
+          (spots l.out.items) l.cursor;
     }
 
 abbrev pub decreases-block-loop : goal.decreases-block-loop

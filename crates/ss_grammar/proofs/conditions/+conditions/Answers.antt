@@ -14,48 +14,76 @@ use Rattle.ss_grammar.proofs.conditions.+conditions.Goals as goal
 pub additions-loop-more-init : goal.additions-loop-more-init
 additions-loop-more-init t c = record {
   shorter = omega arith;
-  going = list_begins (if_mark (m.Reserved r.And) (relation_with c.args.room (inner_either c.args.room))) relation_view c.args.cursor.now c.new-more.result.items c.new-more.ensures.items;
+  going =
+      list_begins (if_mark (m.Reserved r.And) (relation_with c.args.room (inner_either c.args.room))) relation_view
+      c.args.cursor.now c.new-more.result.items c.new-more.ensures.items;
 }
 
 pub additions-returns-in_err-relation-clause-exact : goal.additions-returns-in_err-relation-clause-exact
 additions-returns-in_err-relation-clause-exact t c =
     let p = err_from_is_err_and c.from_residual.result c.from_residual.ensures.1 in
-    rw (p.1, p.2) (list_fails (if_mark (m.Reserved r.And) (relation_with c.args.room (inner_either c.args.room))) relation_view (star (if_mark (m.Reserved r.And) (relation_with c.args.room (inner_either c.args.room))) c.args.cursor.now) c.loop-more.more.items
-    c.in_err-relation.field-0.0 c.loop-more.cursor c.next_relation.new.cursor c.in_err-relation.ensures.exact c.loop-more.invariant.going)
+    rw (p.1, p.2) (list_fails (if_mark (m.Reserved r.And) (relation_with c.args.room (inner_either c.args.room)))
+    relation_view (star (if_mark (m.Reserved r.And) (relation_with c.args.room (inner_either c.args.room)))
+    c.args.cursor.now) c.loop-more.more.items
+    c.in_err-relation.field-0.0 c.loop-more.cursor c.next_relation.new.cursor c.in_err-relation.ensures.exact
+    c.loop-more.invariant.going)
 
 pub additions-loop-more-preserved : goal.additions-loop-more-preserved
 additions-loop-more-preserved t c = record {
   shorter = omega (arith, c.in_ok-relation.ensures.shorter);
-  going = list_turns (if_mark (m.Reserved r.And) (relation_with c.args.room (inner_either c.args.room))) relation_view (star (if_mark (m.Reserved r.And) (relation_with c.args.room (inner_either c.args.room))) c.args.cursor.now) c.loop-more.more.items c.in-Some.relation c.push.new.self.items
-      c.loop-more.cursor c.next_relation.new.cursor c.in_ok-push.ensures.items (rw c.in-Some.is at c.in_ok-relation.ensures.exact) (rw c.in-Some.is at c.in_ok-relation.ensures.taken) c.loop-more.invariant.going;
+  going =
+      list_turns (if_mark (m.Reserved r.And) (relation_with c.args.room (inner_either c.args.room))) relation_view
+      (star (if_mark (m.Reserved r.And) (relation_with c.args.room (inner_either c.args.room))) c.args.cursor.now)
+      c.loop-more.more.items c.in-Some.relation c.push.new.self.items
+      c.loop-more.cursor c.next_relation.new.cursor c.in_ok-push.ensures.items
+      (rw c.in-Some.is at c.in_ok-relation.ensures.exact) (rw c.in-Some.is at c.in_ok-relation.ensures.taken)
+      c.loop-more.invariant.going;
 }
 
 pub additions-returns-clause-exact : goal.additions-returns-clause-exact
-additions-returns-clause-exact t c = list_stops (if_mark (m.Reserved r.And) (relation_with c.args.room (inner_either c.args.room))) relation_view (star (if_mark (m.Reserved r.And) (relation_with c.args.room (inner_either c.args.room))) c.args.cursor.now) c.loop-more.more.items
-    c.loop-more.cursor c.next_relation.new.cursor (rw c.in_default.is at c.in_ok-relation.ensures.exact) c.loop-more.invariant.going
+additions-returns-clause-exact t c =
+    list_stops (if_mark (m.Reserved r.And) (relation_with c.args.room (inner_either c.args.room))) relation_view
+    (star (if_mark (m.Reserved r.And) (relation_with c.args.room (inner_either c.args.room))) c.args.cursor.now)
+    c.loop-more.more.items
+    c.loop-more.cursor c.next_relation.new.cursor (rw c.in_default.is at c.in_ok-relation.ensures.exact)
+    c.loop-more.invariant.going
 
 pub alternatives-loop-more-init : goal.alternatives-loop-more-init
 alternatives-loop-more-init t c = record {
   shorter = omega arith;
-  going = list_begins (if_mark (m.Reserved r.Or) (conjunction_with c.args.room (inner_either c.args.room))) conjunction_view c.args.cursor.now c.new-more.result.items c.new-more.ensures.items;
+  going =
+      list_begins (if_mark (m.Reserved r.Or) (conjunction_with c.args.room (inner_either c.args.room))) conjunction_view
+      c.args.cursor.now c.new-more.result.items c.new-more.ensures.items;
 }
 
 pub alternatives-returns-in_err-conjunction-clause-exact : goal.alternatives-returns-in_err-conjunction-clause-exact
 alternatives-returns-in_err-conjunction-clause-exact t c =
     let p = err_from_is_err_and c.from_residual.result c.from_residual.ensures.1 in
-    rw (p.1, p.2) (list_fails (if_mark (m.Reserved r.Or) (conjunction_with c.args.room (inner_either c.args.room))) conjunction_view (star (if_mark (m.Reserved r.Or) (conjunction_with c.args.room (inner_either c.args.room))) c.args.cursor.now) c.loop-more.more.items
-    c.in_err-conjunction.field-0.0 c.loop-more.cursor c.next_conjunction.new.cursor c.in_err-conjunction.ensures.exact c.loop-more.invariant.going)
+    rw (p.1, p.2) (list_fails (if_mark (m.Reserved r.Or) (conjunction_with c.args.room (inner_either c.args.room)))
+    conjunction_view (star (if_mark (m.Reserved r.Or) (conjunction_with c.args.room (inner_either c.args.room)))
+    c.args.cursor.now) c.loop-more.more.items
+    c.in_err-conjunction.field-0.0 c.loop-more.cursor c.next_conjunction.new.cursor c.in_err-conjunction.ensures.exact
+    c.loop-more.invariant.going)
 
 pub alternatives-loop-more-preserved : goal.alternatives-loop-more-preserved
 alternatives-loop-more-preserved t c = record {
   shorter = omega (arith, c.in_ok-conjunction.ensures.shorter);
-  going = list_turns (if_mark (m.Reserved r.Or) (conjunction_with c.args.room (inner_either c.args.room))) conjunction_view (star (if_mark (m.Reserved r.Or) (conjunction_with c.args.room (inner_either c.args.room))) c.args.cursor.now) c.loop-more.more.items c.in-Some.conjunction c.push.new.self.items
-      c.loop-more.cursor c.next_conjunction.new.cursor c.in_ok-push.ensures.items (rw c.in-Some.is at c.in_ok-conjunction.ensures.exact) (rw c.in-Some.is at c.in_ok-conjunction.ensures.taken) c.loop-more.invariant.going;
+  going =
+      list_turns (if_mark (m.Reserved r.Or) (conjunction_with c.args.room (inner_either c.args.room))) conjunction_view
+      (star (if_mark (m.Reserved r.Or) (conjunction_with c.args.room (inner_either c.args.room))) c.args.cursor.now)
+      c.loop-more.more.items c.in-Some.conjunction c.push.new.self.items
+      c.loop-more.cursor c.next_conjunction.new.cursor c.in_ok-push.ensures.items
+      (rw c.in-Some.is at c.in_ok-conjunction.ensures.exact) (rw c.in-Some.is at c.in_ok-conjunction.ensures.taken)
+      c.loop-more.invariant.going;
 }
 
 pub alternatives-returns-clause-exact : goal.alternatives-returns-clause-exact
-alternatives-returns-clause-exact t c = list_stops (if_mark (m.Reserved r.Or) (conjunction_with c.args.room (inner_either c.args.room))) conjunction_view (star (if_mark (m.Reserved r.Or) (conjunction_with c.args.room (inner_either c.args.room))) c.args.cursor.now) c.loop-more.more.items
-    c.loop-more.cursor c.next_conjunction.new.cursor (rw c.in_default.is at c.in_ok-conjunction.ensures.exact) c.loop-more.invariant.going
+alternatives-returns-clause-exact t c =
+    list_stops (if_mark (m.Reserved r.Or) (conjunction_with c.args.room (inner_either c.args.room))) conjunction_view
+    (star (if_mark (m.Reserved r.Or) (conjunction_with c.args.room (inner_either c.args.room))) c.args.cursor.now)
+    c.loop-more.more.items
+    c.loop-more.cursor c.next_conjunction.new.cursor (rw c.in_default.is at c.in_ok-conjunction.ensures.exact)
+    c.loop-more.invariant.going
 
 pub inner-returns-then-room-eq0-clause-exact : goal.inner-returns-then-room-eq0-clause-exact
 unfolding refuse

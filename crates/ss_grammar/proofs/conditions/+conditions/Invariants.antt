@@ -43,7 +43,9 @@ decreases-either l = 16 * l.room + 11
 abbrev pub invariant-additions-loop-more : goal.invariant-additions-loop-more
 invariant-additions-loop-more l = record {
   shorter : length l.cursor ≤ length l.fn.cursor;
-  going : Listing (if_mark (m.Reserved r.And) (relation_with l.room (inner_either l.room))) (star (if_mark (m.Reserved r.And) (relation_with l.room (inner_either l.room))) l.fn.cursor) (map relation_view l.more.items) l.cursor;
+  going : Listing (if_mark (m.Reserved r.And) (relation_with l.room (inner_either l.room)))
+      (star (if_mark (m.Reserved r.And) (relation_with l.room (inner_either l.room))) l.fn.cursor)
+      (map relation_view l.more.items) l.cursor;
 }
 
 abbrev pub decreases-additions-loop-more : goal.decreases-additions-loop-more
@@ -52,7 +54,9 @@ decreases-additions-loop-more l = length l.cursor
 abbrev pub invariant-alternatives-loop-more : goal.invariant-alternatives-loop-more
 invariant-alternatives-loop-more l = record {
   shorter : length l.cursor ≤ length l.fn.cursor;
-  going : Listing (if_mark (m.Reserved r.Or) (conjunction_with l.room (inner_either l.room))) (star (if_mark (m.Reserved r.Or) (conjunction_with l.room (inner_either l.room))) l.fn.cursor) (map conjunction_view l.more.items) l.cursor;
+  going : Listing (if_mark (m.Reserved r.Or) (conjunction_with l.room (inner_either l.room)))
+      (star (if_mark (m.Reserved r.Or) (conjunction_with l.room (inner_either l.room))) l.fn.cursor)
+      (map conjunction_view l.more.items) l.cursor;
 }
 
 abbrev pub decreases-alternatives-loop-more : goal.decreases-alternatives-loop-more

@@ -12,11 +12,17 @@ pub returns-in-len1-up-as_slice : goal.returns-in-len1-up-as_slice
 returns-in-len1-up-as_slice c =
     let e = out-Expr c.args.value in
     rw (fold_out-Expr Factor (TermSign × Term) Expr Term factor_step added_step expr_step term_step)
-    (sym (more_terms e.sign (term_view e.first) added_view e.more.items (omega (arith, c.in-len1-up-as_slice.len_at_least, ap length c.as_slice-in-empty.ensures.value))))
+    (sym (more_terms e.sign (term_view e.first) added_view e.more.items
+    (omega (arith, c.in-len1-up-as_slice.len_at_least, ap length c.as_slice-in-empty.ensures.value))))
 
 pub returns-in-len1-up : goal.returns-in-len1-up
 returns-in-len1-up c =
     let e = out-Expr c.args.value in
     let t = out-Term e.first in
-    rw (fold_out-Expr Factor (TermSign × Term) Expr Term factor_step added_step expr_step term_step, fold_out-Term Factor (TermSign × Term) Expr Term factor_step added_step expr_step term_step)
-    (sym (more_factors e.sign (factor_view t.first) factor_view t.more.items (sums_of (map added_view e.more.items)) (omega (arith, c.in-len1-up.len_at_least, ap length c.as_slice.ensures.value))))
+    rw (
+      fold_out-Expr Factor (TermSign × Term) Expr Term factor_step added_step expr_step term_step,
+      fold_out-Term
+          Factor (TermSign × Term) Expr Term factor_step added_step expr_step term_step,
+    )
+    (sym (more_factors e.sign (factor_view t.first) factor_view t.more.items (sums_of (map added_view e.more.items))
+    (omega (arith, c.in-len1-up.len_at_least, ap length c.as_slice.ensures.value))))

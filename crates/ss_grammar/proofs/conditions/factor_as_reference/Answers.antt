@@ -11,6 +11,10 @@ use Rattle.ss_grammar.proofs.conditions.factor_as_reference.Goals as goal
 pub returns-in-Applied : goal.returns-in-Applied
 returns-in-Applied c =
     let x = c.in-Applied in
-    let seen : factor_view c.args.factor ≡ applied x.name.items (expr_view x.first.value) (exprs_of (map expr_view x.others.items)) =
-    ap factor_view (x.is ∙ sym (rolls-Applied x.name x.first x.others)) ∙ fold-roll-Factor Factor (TermSign × Term) Expr Term factor_step added_step expr_step term_step _ in
-    sym (ap (λ f. reference_of (expr None (term f no_products) no_sums)) seen ∙ more_arguments x.name.items (expr_view x.first.value) expr_view x.others.items (omega (arith, c.in-len1-up.len_at_least, ap length c.as_slice.ensures.value)))
+    let seen : factor_view c.args.factor ≡ applied x.name.items (expr_view x.first.value)
+    (exprs_of (map expr_view x.others.items)) =
+    ap factor_view (x.is ∙ sym (rolls-Applied x.name x.first x.others))
+    ∙ fold-roll-Factor Factor (TermSign × Term) Expr Term factor_step added_step expr_step term_step _ in
+    sym (ap (λ f. reference_of (expr None (term f no_products) no_sums)) seen
+    ∙ more_arguments x.name.items (expr_view x.first.value) expr_view x.others.items
+    (omega (arith, c.in-len1-up.len_at_least, ap length c.as_slice.ensures.value)))

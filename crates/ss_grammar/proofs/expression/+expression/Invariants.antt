@@ -49,7 +49,8 @@ decreases-sums l = 16 * l.room + 12
 abbrev pub invariant-sums-loop-more : goal.invariant-sums-loop-more
 invariant-sums-loop-more l = record {
   shorter : length l.cursor ≤ length l.fn.cursor;
-  going : Listing (if_word lead (term_with l.room (inner_at l.room))) (star (if_word lead (term_with l.room (inner_at l.room))) l.fn.cursor) (map added_view l.more.items) l.cursor;
+  going : Listing (if_word lead (term_with l.room (inner_at l.room)))
+      (star (if_word lead (term_with l.room (inner_at l.room))) l.fn.cursor) (map added_view l.more.items) l.cursor;
 }
 
 abbrev pub decreases-sums-loop-more : goal.decreases-sums-loop-more
@@ -58,7 +59,9 @@ decreases-sums-loop-more l = length l.cursor
 abbrev pub invariant-products-loop-more : goal.invariant-products-loop-more
 invariant-products-loop-more l = record {
   shorter : length l.cursor ≤ length l.fn.cursor;
-  going : Listing (if_mark (m.Sign s.Star) (factor_with l.room (inner_at l.room))) (star (if_mark (m.Sign s.Star) (factor_with l.room (inner_at l.room))) l.fn.cursor) (map factor_view l.more.items) l.cursor;
+  going : Listing (if_mark (m.Sign s.Star) (factor_with l.room (inner_at l.room)))
+      (star (if_mark (m.Sign s.Star) (factor_with l.room (inner_at l.room))) l.fn.cursor) (map factor_view l.more.items)
+      l.cursor;
 }
 
 abbrev pub decreases-products-loop-more : goal.decreases-products-loop-more
@@ -67,7 +70,8 @@ decreases-products-loop-more l = length l.cursor
 abbrev pub invariant-inner_others-loop-values : goal.invariant-inner_others-loop-values
 invariant-inner_others-loop-values l = record {
   shorter : length l.cursor ≤ length l.fn.cursor;
-  going : Listing (if_mark (m.Sign s.Comma) (inner_at l.room)) (star (if_mark (m.Sign s.Comma) (inner_at l.room)) l.fn.cursor) (map expr_view l.values.items) l.cursor;
+  going : Listing (if_mark (m.Sign s.Comma) (inner_at l.room))
+      (star (if_mark (m.Sign s.Comma) (inner_at l.room)) l.fn.cursor) (map expr_view l.values.items) l.cursor;
 }
 
 abbrev pub decreases-inner_others-loop-values : goal.decreases-inner_others-loop-values

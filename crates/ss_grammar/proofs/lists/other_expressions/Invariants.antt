@@ -10,7 +10,8 @@ use Rattle.ss_grammar.proofs.lists.other_expressions.Given as goal
 abbrev pub invariant-loop-values : goal.invariant-loop-values
 invariant-loop-values l = record {
   shorter : length l.cursor ≤ length l.fn.cursor;
-  going : Listing (if_mark (m.Sign s.Comma) (expr_at l.room)) (star (if_mark (m.Sign s.Comma) (expr_at l.room)) l.fn.cursor) (map expr_view l.values.items) l.cursor;
+  going : Listing (if_mark (m.Sign s.Comma) (expr_at l.room))
+      (star (if_mark (m.Sign s.Comma) (expr_at l.room)) l.fn.cursor) (map expr_view l.values.items) l.cursor;
 }
 
 abbrev pub decreases-loop-values : goal.decreases-loop-values

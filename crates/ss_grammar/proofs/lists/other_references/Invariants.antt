@@ -10,7 +10,8 @@ use Rattle.ss_grammar.proofs.lists.other_references.Given as goal
 abbrev pub invariant-loop-targets : goal.invariant-loop-targets
 invariant-loop-targets l = record {
   shorter : length l.cursor ≤ length l.fn.cursor;
-  going : Listing (if_mark (m.Sign s.Comma) (reference_at l.room)) (star (if_mark (m.Sign s.Comma) (reference_at l.room)) l.fn.cursor) (map reference_view l.targets.items) l.cursor;
+  going : Listing (if_mark (m.Sign s.Comma) (reference_at l.room))
+      (star (if_mark (m.Sign s.Comma) (reference_at l.room)) l.fn.cursor) (map reference_view l.targets.items) l.cursor;
 }
 
 abbrev pub decreases-loop-targets : goal.decreases-loop-targets

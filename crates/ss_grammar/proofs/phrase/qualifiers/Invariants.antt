@@ -8,7 +8,8 @@ use Rattle.ss_grammar.proofs.phrase.qualifiers.Given as goal
 abbrev pub invariant-loop-qualifiers : goal.invariant-loop-qualifiers
 invariant-loop-qualifiers l = record {
   shorter : length l.cursor ≤ length l.fn.cursor;
-  going : Listing (next_qualifier l.room) (star (next_qualifier l.room) l.fn.cursor) (map qualifier_view l.qualifiers.items) l.cursor;
+  going : Listing (next_qualifier l.room) (star (next_qualifier l.room) l.fn.cursor)
+      (map qualifier_view l.qualifiers.items) l.cursor;
 }
 
 abbrev pub decreases-loop-qualifiers : goal.decreases-loop-qualifiers

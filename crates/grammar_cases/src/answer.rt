@@ -1,0 +1,72 @@
+use crate::beginnings::beginnings;
+use crate::notation::text_of;
+use crate::shown::{put_places, put_section};
+use ss_grammar::{Sections, sections};
+use ss_words::{TextFault, words};
+use std::alloc::{AllocError, Global};
+
+/// What a noted text gives, read in a way.
+pub fn answer(alloc: Global, way: &str, noted: &str) -> Result<Vec<u8>, AllocError> {
+    let text = text_of(alloc, noted)?;
+    let given = match way {
+        "SECTIONS" => written(alloc, &text),
+        "BODY" => body(alloc, &text),
+        "COUNT" => counts(alloc, &text),
+        "BEGINNINGS" => return beginnings(alloc, &text),
+        _ => Ok(Vec::from_slice(alloc, b"no such way")?),
+    };
+    or_refusal(alloc, given)
+}
+
+/// What is given, or the rule and the line of the refusal.
+fn or_refusal(alloc: Global, given: Result<Vec<u8>, TextFault>) -> Result<Vec<u8>, AllocError> {
+    match given {
+        Ok(given) => Ok(given),
+        Err(TextFault::Refused { rule, line }) => {
+            let code = rule.code();
+            Ok(format!(in alloc; "{code} {line}")?.into_bytes())
+        }
+        Err(TextFault::Memory) => Err(AllocError),
+    }
+}
+
+/// The sections of a text.
+pub fn sections_of(alloc: Global, text: &[u8]) -> Result<Sections, TextFault> {
+    sections(alloc, &words(alloc, text)?, 0)
+}
+
+/// Each section, in a pair of brackets.
+fn written(alloc: Global, text: &[u8]) -> Result<Vec<u8>, TextFault> {
+    let sections = sections_of(alloc, text)?;
+    let mut out = Vec::new(alloc);
+    for section in sections.list() {
+        put_section(alloc, &mut out, section)?;
+    }
+    Ok(out)
+}
+
+/// The places of MAIN but its END, where the text stands between MAIN and END.
+fn body(alloc: Global, text: &[u8]) -> Result<Vec<u8>, TextFault> {
+    let mut whole = Vec::from_slice(alloc, b"MAIN ")?;
+    whole.extend_from_slice(text)?;
+    whole.extend_from_slice(b"\nEND")?;
+    let sections = sections_of(alloc, &whole)?;
+    let mut out = Vec::new(alloc);
+    if let Some(section) = sections.list().first() {
+        if let Some((_, places)) = section.places.split_last() {
+            put_places(alloc, &mut out, places)?;
+        }
+    }
+    Ok(out)
+}
+
+/// How many sections there are, and how many places they have.
+fn counts(alloc: Global, text: &[u8]) -> Result<Vec<u8>, TextFault> {
+    let sections = sections_of(alloc, text)?;
+    let mut places = 0;
+    for section in sections.list() {
+        places = usize::wrapping_add(places, section.places.len());
+    }
+    let count = sections.list().len();
+    Ok(format!(in alloc; "{count} {places}")?.into_bytes())
+}

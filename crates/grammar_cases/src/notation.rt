@@ -1,0 +1,40 @@
+use std::alloc::{AllocError, Global};
+
+/// The text that a case notes: `|` is a line feed, `~` a carriage return, `^` the byte 128, and
+/// `{n:item}` is the item n times, with its number from 0 in place of each `#`.
+pub fn text_of(alloc: Global, noted: &str) -> Result<Vec<u8>, AllocError> {
+    let mut text = Vec::new(alloc);
+    for piece in noted.split('{') {
+        let (repeated, plain) = piece.split_once('}').unwrap_or(("", piece));
+        put_repeated(alloc, &mut text, repeated)?;
+        put_bytes(&mut text, plain)?;
+    }
+    Ok(text)
+}
+
+/// `n:item`; nothing where there is no colon.
+fn put_repeated(alloc: Global, text: &mut Vec<u8>, noted: &str) -> Result<(), AllocError> {
+    let (count, item) = noted.split_once(':').unwrap_or(("0", noted));
+    for number in 0..count.parse::<usize>().unwrap_or(0) {
+        let digits = format!(in alloc; "{number}")?;
+        let item = item.replace(alloc, '#', digits.as_str())?;
+        put_bytes(text, item.as_str())?;
+    }
+    Ok(())
+}
+
+fn put_bytes(text: &mut Vec<u8>, noted: &str) -> Result<(), AllocError> {
+    for byte in noted.as_bytes() {
+        text.push(byte_of(*byte))?;
+    }
+    Ok(())
+}
+
+fn byte_of(noted: u8) -> u8 {
+    match noted {
+        b'|' => b'\n',
+        b'~' => b'\r',
+        b'^' => 128,
+        _ => noted,
+    }
+}

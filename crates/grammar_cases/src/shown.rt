@@ -1,0 +1,70 @@
+use ss_grammar::{Section, Spot};
+use std::alloc::{AllocError, Global};
+
+/// Puts a section: its line, what it is, its name, its local DEFINEs and its places.
+pub fn put_section(alloc: Global, out: &mut Vec<u8>, section: &Section) -> Result<(), AllocError> {
+    let line = section.line;
+    let kind = &section.kind;
+    let head = format!(in alloc; "[{line} {kind:?} ")?;
+    out.extend_from_slice(shown(alloc, head)?.as_str().as_bytes())?;
+    out.extend_from_slice(&section.name)?;
+    for local in &section.locals {
+        let line = local.line;
+        let names = &local.names;
+        let local = format!(in alloc; " ({line} {names:?})")?;
+        out.extend_from_slice(shown(alloc, local)?.as_str().as_bytes())?;
+    }
+    out.extend_from_slice(b": ")?;
+    put_places(alloc, out, &section.places)?;
+    out.extend_from_slice(b"]")
+}
+
+/// Puts places, each behind its line.
+pub fn put_places(alloc: Global, out: &mut Vec<u8>, places: &[Spot]) -> Result<(), AllocError> {
+    for (index, spot) in places.iter().enumerate() {
+        if index > 0 {
+            out.extend_from_slice(b"; ")?;
+        }
+        let line = spot.line;
+        let place = &spot.place;
+        let place = format!(in alloc; "{line} {place:?}")?;
+        out.extend_from_slice(shown(alloc, place)?.as_str().as_bytes())?;
+    }
+    Ok(())
+}
+
+/// The text with each name of one letter, alone or as a reference or a value, as its letter, and
+/// with each value of one digit as that digit.
+fn shown(alloc: Global, text: String) -> Result<String, AllocError> {
+    let mut text = text;
+    for code in b'A'..=b'Z' {
+        let letter = char::from(code);
+        let letter = format!(in alloc; "{letter}")?;
+        let reference = format!(in alloc; "Reference {{ name: [{code}], subscript: None }}")?;
+        text = text.replace(alloc, reference.as_str(), letter.as_str())?;
+        let name = format!(in alloc; "Name([{code}])")?;
+        text = text.replace(
+            alloc,
+            value(alloc, name.as_str())?.as_str(),
+            letter.as_str(),
+        )?;
+        let name = format!(in alloc; "[{code}]")?;
+        text = text.replace(alloc, name.as_str(), letter.as_str())?;
+    }
+    for digit in 0..10u8 {
+        let number = format!(in alloc; "Number({digit})")?;
+        let digit = format!(in alloc; "{digit}")?;
+        text = text.replace(
+            alloc,
+            value(alloc, number.as_str())?.as_str(),
+            digit.as_str(),
+        )?;
+    }
+    Ok(text)
+}
+
+/// How a value of one factor is shown.
+fn value(alloc: Global, factor: &str) -> Result<String, AllocError> {
+    let term = format!(in alloc; "Term {{ first: {factor}, more: [] }}")?;
+    format!(in alloc; "Expr {{ sign: None, first: {term}, more: [] }}")
+}

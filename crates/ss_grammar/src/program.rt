@@ -1,0 +1,158 @@
+//! Reading the sections of a program.
+
+ghost use Rattle.std.specs.Prelude.{IfOk, IfErr, length, map, ◌≡◌, ◌≤◌, ◌<◌, ◌-◌, Ok};
+ghost use Rattle.ss_words.specs.Plain.{plain_at, plains_of, word_lines};
+ghost use Rattle.ss_words.specs.PlainRules.{plain_words_of};
+ghost use Rattle.ss_words.specs.Noting.{line};
+ghost use Rattle.ss_words.specs.Reading.{Fails, Gives, whole};
+ghost use Rattle.ss_grammar.specs.PlacesAtLines as places;
+ghost use Rattle.ss_grammar.specs.Refused.{AreSections, IsFault, words_from};
+ghost use Rattle.ss_grammar.specs.View.{section_view};
+
+use crate::block::{Room, block};
+use crate::head::{SectionHead, begins, head, local_list};
+use crate::place::{Place, Spot};
+use crate::section::{Section, Sections};
+use ss_words::{
+    Cursor, Mark, PlainWord, Refusal, Reserved, TextFault, TextRule, Words, plain_words,
+};
+use std::alloc::Global;
+
+/// How many parentheses may be open at once.
+const MOST_PARENTHESES: u32 = 50;
+
+/// How many IFs may be open at once.
+const MOST_IFS: u32 = 64;
+
+/// How many FOR phrases may be open at once.
+const MOST_PHRASES: u32 = 16;
+
+/// How many sections a program may have.
+const MOST_SECTIONS: usize = 256;
+
+/// A section, up to its END: `head {DEFINE names AS INTEGER VARIABLES} {statement} END`
+#[tactic(auto, using(crate::proofs::Pushed::pushed), unfolding(ss_words::specs::Reading::bind, ss_words::specs::Reading::pure, ss_words::specs::Noting::here, crate::specs::PlacesAtLines::noting_section))]
+fn section(cursor: &mut Cursor<'_>, text: &[PlainWord]) -> Result<Section, Refusal>
+    ensures exact { Gives section_view result cursor.new
+        (places.noting_section (word_lines text.now) 50 64 16 32 cursor.old) }
+    ensures shorter { length cursor.new ≤ length cursor.old }
+    ensures taken { IfOk result (λ _. length cursor.new < length cursor.old) }
+{
+    let line = cursor.line(text);
+    let SectionHead { kind, name } = head(cursor)?;
+    let mut locals = Vec::new(cursor.alloc());
+    local_list(cursor, text, &mut locals)?;
+    let room = Room {
+        parentheses: MOST_PARENTHESES,
+        ifs: MOST_IFS,
+        phrases: MOST_PHRASES,
+    };
+    let mut places = Vec::new(cursor.alloc());
+    block(cursor, text, room, &mut places)?;
+    let end = cursor.line(text);
+    cursor.expect(Mark::Reserved(Reserved::End))?;
+    places.push(Spot {
+        line: end,
+        place: Place::End,
+    })?;
+    Ok(Section {
+        line,
+        kind,
+        name,
+        locals,
+        places,
+    })
+}
+
+/// Reads sections, as long as one begins.
+fn section_list(cursor: &mut Cursor<'_>, text: &[PlainWord]) -> Result<Vec<Section>, Refusal>
+    ensures exact { Gives (λ v. map section_view v.items) result cursor.new
+        (places.noting_sections (word_lines text.now) 50 64 16 32 256 cursor.old) }
+    ensures shorter { length cursor.new ≤ length cursor.old }
+{
+    let mut list = Vec::new(cursor.alloc());
+    while begins(cursor) {
+        if list.len() == MOST_SECTIONS {
+            return Err(Refusal::PastLimit);
+        }
+        list.push(section(cursor, text)?)?;
+    }
+    Ok(list)
+}
+
+/// The sections that the text is made of, and nothing else.
+#[tactic(auto, unfolding(ss_words::specs::Reading::look, ss_words::specs::Reading::refuse, ss_words::specs::Reading::bind, ss_words::specs::Reading::pure, ss_words::specs::Reading::whole, ss_words::specs::Reading::ended))]
+fn whole_text(cursor: &mut Cursor<'_>, text: &[PlainWord]) -> Result<Vec<Section>, Refusal>
+    ensures exact { Gives (λ v. map section_view v.items) result cursor.new
+        (whole (places.noting_sections (word_lines text.now) 50 64 16 32 256) cursor.old) }
+    ensures shorter { length cursor.new ≤ length cursor.old }
+{
+    let list = section_list(cursor, text)?;
+    if !cursor.is_empty() {
+        return Err(Refusal::Unexpected);
+    }
+    Ok(list)
+}
+
+/// What a text is refused with, by what stopped its reading at the word that the cursor has
+/// reached. A refusal of the text's end is told at the last word, and so is a limit that the last
+/// word passes, since no program ends with that word.
+fn fault(refusal: Refusal, cursor: &Cursor<'_>, text: &[PlainWord]) -> TextFault
+    requires { Fails refusal cursor.now
+        (whole (places.noting_sections (word_lines text.now) 50 64 16 32 256) (plains_of text.now)) }
+    ensures { IsFault result (map plain_at text.now) }
+{
+    let left = cursor.len();
+    let (rule, line) = match refusal {
+        Refusal::Memory => return TextFault::Memory,
+        Refusal::Unexpected if left > 0 => (TextRule::UnexpectedWord, cursor.line(text)),
+        Refusal::PastLimit if left > 1 => (TextRule::PastLimit, cursor.line(text)),
+        _ => (TextRule::UnexpectedEnd, last_line(text)),
+    };
+    TextFault::Refused { rule, line }
+}
+
+/// The line of the last word; 0 where there is none.
+fn last_line(text: &[PlainWord]) -> usize
+    ensures { result ≡ line (word_lines text.now) (length text.now - 1) }
+{
+    match text.last() {
+        Some(word) => word.line,
+        None => 0,
+    }
+}
+
+/// The sections that these plain words spell.
+fn read(alloc: Global, text: &[PlainWord]) -> Result<Sections, TextFault>
+    ensures sections { IfOk result (λ s. AreSections s (map plain_at text.now)) }
+    ensures refused { IfErr result (λ f. IsFault f (map plain_at text.now)) }
+{
+    let mut cursor = Cursor::new(alloc, text);
+    match whole_text(&mut cursor, text) {
+        Ok(list) => Ok(Sections::new(list)),
+        Err(refusal) => Err(fault(refusal, &cursor, text)),
+    }
+}
+
+/// The sections of a program (docs/LANGUAGE.md, "Sections"), from its plain words: those that come
+/// from the words with number `from` and above, counted from 0. The words are left as they are.
+/// Where no plain word comes from word `from` or a later one, the answer is `Ok` without sections.
+///
+/// # Errors
+///
+/// - P1 at the word with which no program goes on, P2 at the last word where the text ends and no
+///   program ends there, P3 at the word that passes a limit (50 parentheses, 64 IFs and 16 FOR
+///   phrases open at once, 32 parameters of a section, 256 sections); where several of them hold,
+///   the earliest word counts, then the lowest number (docs/LANGUAGE.md, "Refusals of the
+///   grammar").
+/// - `Memory` where memory was refused.
+pub fn sections(alloc: Global, words: &Words, from: usize) -> Result<Sections, TextFault>
+    // The words spell one program within the limits, and these are its sections.
+    ensures sections { IfOk result (λ s. AreSections s (words_from from (plain_words_of words.now))) }
+    // Otherwise the words are refused by this rule at this line.
+    ensures refused { IfErr result (λ f. IsFault f (words_from from (plain_words_of words.now))) }
+{
+    let mut plain = plain_words(alloc, words)?;
+    plain.retain(|word| word.index >= from);
+    read(alloc, &plain)
+}

@@ -1,5 +1,0 @@
-use Rattle.ss_routines.proofs.LimitWords.{always}
-use Rattle.ss_routines.proofs.laws.words_are_answered.Goals as goal
-
-pub returns : goal.returns
-returns c = always
