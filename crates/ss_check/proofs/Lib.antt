@@ -1,14 +1,4 @@
 pub mod Mains
-pub mod SoundPlaces
-pub mod Terms
-pub mod Breaches
-pub mod Known
-pub mod Distinct
-pub mod Few
-pub mod Linked
-pub mod Nested
 pub mod WaysKept
 pub mod Backward
-pub mod SoundResolved
-pub mod LookedUpAgain
 pub mod Indexed

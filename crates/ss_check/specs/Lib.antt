@@ -4,9 +4,6 @@ pub mod Program
 pub mod ProgramSound
 pub mod CheckRules
 pub mod Names
-pub mod Breach
-pub mod Resolved
-pub mod LookedUp
 pub mod Found
 pub mod Examples
 pub mod Keys

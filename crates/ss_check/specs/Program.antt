@@ -113,6 +113,11 @@ event_of p c = event_of_kind (class_of p c).kind
 
 -- ---- what is read off the rows
 
+-- the class is permanent
+abbrev pub is_permanent : ClassKind → Bool
+is_permanent (Permanent n) = true
+is_permanent _ = false
+
 -- the class is an event class
 abbrev pub is_event : ClassKind → Bool
 is_event (Event e) = true

@@ -1,6 +1,8 @@
 -- The tree of a condition.
 use Rattle.std.specs.Prelude.{List, [], ◌∷◌}
 use Rattle.ss_check.specs.declared.condition.Comparison.{Comparison}
+use Rattle.ss_check.specs.declared.condition.Copula.{Copula}
+use Rattle.ss_check.specs.declared.target.SetRef.{SetRef}
 use Rattle.ss_check.specs.declared.condition.Disjunction.{Disjunction as Code, fold-Disjunction}
 use Rattle.ss_check.specs.declared.condition.Conjunction.{Conjunction as CodeConjunction, fold-Conjunction}
 use Rattle.ss_check.specs.declared.condition.Relation.{Relation as CodeRelation, fold-Relation}
@@ -24,9 +26,11 @@ mutual
     no_relations : Relations
     and_also : Relation → Relations → Relations
 
-  -- a comparison, or a condition in parentheses
+  -- a comparison; a set IS or IS NOT EMPTY; a member IS or IS NOT IN a set; a condition in parentheses
   pub data Relation : Type 0 where
     compared : Expr → Comparison → Expr → Relation
+    is_empty : SetRef → Copula → Relation
+    is_in : Expr → Copula → SetRef → Relation
     nested : Condition → Relation
 
 -- ---- the tree that a condition of the code stands for
@@ -52,6 +56,8 @@ disjunction_level c = any c.first (conjunctions_of c.more.items)
 -- one level of a relation
 abbrev pub relation_level : Relation-F Relation Conjunction Condition → Relation
 relation_level (Relation-F.Compared left comparison right) = compared left comparison right
+relation_level (Relation-F.IsEmpty set copula) = is_empty set copula
+relation_level (Relation-F.IsIn member copula set) = is_in member copula set
 relation_level (Relation-F.Within c) = nested c.value
 
 -- a condition's tree

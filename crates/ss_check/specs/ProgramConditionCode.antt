@@ -4,10 +4,13 @@ use Rattle.std.specs.Prelude.{◌≡◌, ℕ, zero, suc, List, [], ◌∷◌, No
 use Rattle.std.proofs.Common.{refl, ap, ◌∙◌}
 use Rattle.std.specs.Coded.{Coded, code_by, coded×, coded_ℕ, coded_list}
 use Rattle.ss_check.specs.declared.condition.Comparison.{Comparison}
+use Rattle.ss_check.specs.declared.condition.Copula.{Copula}
+use Rattle.ss_check.specs.declared.condition.Copula.TheVariants.{Is, IsNot}
+use Rattle.ss_check.specs.declared.target.SetRef.{SetRef}
 use Rattle.ss_check.specs.declared.condition.Comparison.TheVariants.{Equals, Differs, Below, Above, AtMost, AtLeast}
-use Rattle.ss_check.specs.ProgramExpr.{Expr, expr, no_sums, term, no_products, digits}
+use Rattle.ss_check.specs.ProgramExpr.{Expr, expr, Sums, no_sums, Term, term, no_products, Factor, digits, attribute, of_system}
 use Rattle.ss_check.specs.ProgramExprCode.{expr_code}
-use Rattle.ss_check.specs.ProgramCondition.{Condition, any, Conjunctions, no_conjunctions, or_else, Conjunction, all, Relations, no_relations, and_also, Relation, compared, nested}
+use Rattle.ss_check.specs.ProgramCondition.{Condition, any, Conjunctions, no_conjunctions, or_else, Conjunction, all, Relations, no_relations, and_also, Relation, compared, is_empty, is_in, nested}
 
 -- a number, and the values of a comparison
 abbrev pub Token : Type 0
@@ -28,6 +31,33 @@ no_value = expr None (term (digits 0) no_products) no_sums
 -- a token without values
 abbrev pub mark : ℕ → Token
 mark n = (n, (no_value, no_value))
+
+-- a set as a value: an attribute whose subscript is the set's
+abbrev pub set_written : SetRef → Expr
+set_written r = expr None (term (attribute r.set 0 r.owner) no_products) no_sums
+
+-- the set of a factor
+abbrev pub set_of_factor : Factor → SetRef
+set_of_factor (attribute c a i) = record { set = c; owner = i }
+set_of_factor f = record { set = 0; owner = of_system }
+
+-- the set of a term
+abbrev pub set_of_term : Term → SetRef
+set_of_term (term f ps) = set_of_factor f
+
+-- the set that was written as a value
+abbrev pub set_read : Expr → SetRef
+set_read (expr l t ss) = set_of_term t
+
+-- the numbers of IS EMPTY and IS NOT EMPTY
+abbrev pub empty_number : Copula → ℕ
+empty_number Is = 13
+empty_number IsNot = 14
+
+-- the numbers of IS IN and IS NOT IN
+abbrev pub in_number : Copula → ℕ
+in_number Is = 15
+in_number IsNot = 16
 
 -- the number of a comparison
 abbrev pub comparison_number : Comparison → ℕ
@@ -57,6 +87,8 @@ abbrev mutual
   pub relation_tokens : Relation → List Token → List Token
   relation_tokens (nested c) k = mark 4 ∷ condition_tokens c k
   relation_tokens (compared e c f) k = (comparison_number c, (e, f)) ∷ k
+  relation_tokens (is_empty r is) k = (empty_number is, (no_value, set_written r)) ∷ k
+  relation_tokens (is_in e is r) k = (in_number is, (e, set_written r)) ∷ k
 
 -- a token put before the parts that were read behind it
 abbrev pub any_read : List Part → List Part
@@ -97,7 +129,11 @@ token_read (suc (suc (suc (suc (suc (suc (suc (suc zero)))))))) e f st = a_relat
 token_read (suc (suc (suc (suc (suc (suc (suc (suc (suc zero))))))))) e f st = a_relation (compared e AtMost f) ∷ st
 token_read (suc (suc (suc (suc (suc (suc (suc (suc (suc (suc zero)))))))))) e f st = a_relation (compared e AtLeast f) ∷ st
 token_read (suc (suc (suc (suc (suc (suc (suc (suc (suc (suc (suc zero))))))))))) e f st = some_relations no_relations ∷ st
-token_read n e f st = and_read st
+token_read (suc (suc (suc (suc (suc (suc (suc (suc (suc (suc (suc (suc zero)))))))))))) e f st = and_read st
+token_read (suc (suc (suc (suc (suc (suc (suc (suc (suc (suc (suc (suc (suc zero))))))))))))) e f st = a_relation (is_empty (set_read f) Is) ∷ st
+token_read (suc (suc (suc (suc (suc (suc (suc (suc (suc (suc (suc (suc (suc (suc zero)))))))))))))) e f st = a_relation (is_empty (set_read f) IsNot) ∷ st
+token_read (suc (suc (suc (suc (suc (suc (suc (suc (suc (suc (suc (suc (suc (suc (suc zero))))))))))))))) e f st = a_relation (is_in e Is (set_read f)) ∷ st
+token_read n e f st = a_relation (is_in e IsNot (set_read f)) ∷ st
 
 -- the parts of a list of tokens
 abbrev pub parts : List Token → List Part
@@ -117,6 +153,16 @@ comparison_again Below e f st = refl
 comparison_again Above e f st = refl
 comparison_again AtMost e f st = refl
 comparison_again AtLeast e f st = refl
+
+pub empty_again : (r : SetRef) (is : Copula) (st : List Part) →
+    token_read (empty_number is) no_value (set_written r) st ≡ a_relation (is_empty r is) ∷ st
+empty_again r Is st = refl
+empty_again r IsNot st = refl
+
+pub in_again : (e : Expr) (is : Copula) (r : SetRef) (st : List Part) →
+    token_read (in_number is) e (set_written r) st ≡ a_relation (is_in e is r) ∷ st
+in_again e Is r st = refl
+in_again e IsNot r st = refl
 
 -- what was written is read back
 mutual
@@ -141,6 +187,8 @@ mutual
   relation_again : (r : Relation) (k : List Token) → parts (relation_tokens r k) ≡ a_relation r ∷ parts k
   relation_again (nested c) k = ap nested_read (condition_again c k)
   relation_again (compared e c f) k = comparison_again c e f (parts k)
+  relation_again (is_empty r is) k = empty_again r is (parts k)
+  relation_again (is_in e is r) k = in_again e is r (parts k)
 
 -- a condition as its tokens
 abbrev pub written : Condition → List Token

@@ -1,13 +1,16 @@
 -- The tree of an expression, with a variable where the text has a name.
 use Rattle.std.specs.Prelude.{ℕ, List, [], ◌∷◌, Option}
-use Rattle.ss_routines.specs.declared.expr.TermSign.{TermSign}
+use Rattle.ss_grammar.specs.declared.expr.TermSign.{TermSign}
 use Rattle.ss_check.specs.declared.variable.Variable.{Variable}
 use Rattle.ss_check.specs.declared.sum.Sum.{Sum as Code, fold-Sum}
 use Rattle.ss_check.specs.declared.sum.Term.{Term as CodeTerm, fold-Term}
 use Rattle.ss_check.specs.declared.sum.SignedTerm.{SignedTerm as CodeSigned, fold-SignedTerm}
 use Rattle.ss_check.specs.declared.sum.Arguments.{Arguments as CodeArguments, fold-Arguments}
 use Rattle.ss_check.specs.declared.sum.Factor.{Factor as CodeFactor, fold-Factor}
-use Rattle.ss_check.specs.declared.sum.Factor.TheOpen.{Arguments-F, Factor-F, SignedTerm-F, Sum-F, Term-F}
+use Rattle.ss_check.specs.declared.sum.Factor.TheOpen.{Arguments-F, Factor-F, SignedTerm-F, Subscript-F, Sum-F, Term-F}
+use Rattle.ss_check.specs.declared.sum.Subscript.{Subscript as CodeSubscript, fold-Subscript}
+use Rattle.ss_check.specs.declared.sum.OwnerKept.{OwnerKept}
+use Rattle.ss_check.specs.declared.sum.MemberKept.{MemberKept}
 
 mutual
   -- a sign at the head or none, a first term, and the terms behind it
@@ -27,14 +30,23 @@ mutual
     product : Factor → Products → Products
 
   -- a number; a variable; ABS.F of an expression; MAX.F and MIN.F of a first expression and further ones; DIV.F and MOD.F of a dividend
-  -- and a divisor; an expression in parentheses
+  -- and a divisor; an attribute by its class and its number there; a kept attribute by its set; an expression in parentheses
   pub data Factor : Type 0 where
     digits : ℕ → Factor
     variable : Variable → Factor
     absolute : Expr → Factor
     greatest least : Expr → Exprs → Factor
     quotient remainder : Expr → Expr → Factor
+    attribute : ℕ → ℕ → Subscript → Factor
+    owner_kept : OwnerKept → ℕ → Subscript → Factor
+    member_kept : MemberKept → ℕ → Subscript → Factor
     within : Expr → Factor
+
+  -- which entity is meant: the one that a class's global variable names, where no subscript is written; the system; the one of a value
+  pub data Subscript : Type 0 where
+    implied : ℕ → Subscript
+    of_system : Subscript
+    at : Expr → Subscript
 
   pub data Exprs : Type 0 where
     no_exprs : Exprs
@@ -55,10 +67,10 @@ exprs_of [] = no_exprs
 exprs_of (e ∷ es) = exprs e (exprs_of es)
 
 -- one level, with each part already seen as its tree
-abbrev pub arguments_level : Arguments-F Factor (Expr × Exprs) (TermSign × Term) Expr Term → Expr × Exprs
+abbrev pub arguments_level : Arguments-F Factor Subscript (Expr × Exprs) (TermSign × Term) Expr Term → Expr × Exprs
 arguments_level a = (a.first.value, exprs_of a.more.items)
 
-abbrev pub factor_level : Factor-F Factor (Expr × Exprs) (TermSign × Term) Expr Term → Factor
+abbrev pub factor_level : Factor-F Factor Subscript (Expr × Exprs) (TermSign × Term) Expr Term → Factor
 factor_level (Factor-F.Number n) = digits n
 factor_level (Factor-F.Variable v) = variable v
 factor_level (Factor-F.Absolute e) = absolute e.value
@@ -66,28 +78,39 @@ factor_level (Factor-F.Greatest a) = greatest a.0 a.1
 factor_level (Factor-F.Least a) = least a.0 a.1
 factor_level (Factor-F.Quotient e f) = quotient e.value f.value
 factor_level (Factor-F.Remainder e f) = remainder e.value f.value
+factor_level (Factor-F.Attribute c a i) = attribute c a i
+factor_level (Factor-F.OwnerKept kept s i) = owner_kept kept s i
+factor_level (Factor-F.MemberKept kept s i) = member_kept kept s i
 factor_level (Factor-F.Within e) = within e.value
 
-abbrev pub signed_level : SignedTerm-F Factor (Expr × Exprs) (TermSign × Term) Expr Term → TermSign × Term
+abbrev pub subscript_level : Subscript-F Factor Subscript (Expr × Exprs) (TermSign × Term) Expr Term → Subscript
+subscript_level (Subscript-F.Implied v) = implied v
+subscript_level Subscript-F.System = of_system
+subscript_level (Subscript-F.Written e) = at e.value
+
+abbrev pub signed_level : SignedTerm-F Factor Subscript (Expr × Exprs) (TermSign × Term) Expr Term → TermSign × Term
 signed_level a = (a.sign, a.term)
 
-abbrev pub sum_level : Sum-F Factor (Expr × Exprs) (TermSign × Term) Expr Term → Expr
+abbrev pub sum_level : Sum-F Factor Subscript (Expr × Exprs) (TermSign × Term) Expr Term → Expr
 sum_level e = expr e.sign e.first (sums_of e.more.items)
 
-abbrev pub term_level : Term-F Factor (Expr × Exprs) (TermSign × Term) Expr Term → Term
+abbrev pub term_level : Term-F Factor Subscript (Expr × Exprs) (TermSign × Term) Expr Term → Term
 term_level t = term t.first (products_of t.more.items)
 
 abbrev pub expr_of : Code → Expr
-expr_of = fold-Sum Factor (Expr × Exprs) (TermSign × Term) Expr Term factor_level arguments_level signed_level sum_level term_level
+expr_of = fold-Sum Factor Subscript (Expr × Exprs) (TermSign × Term) Expr Term factor_level subscript_level arguments_level signed_level sum_level term_level
 
 abbrev pub term_of : CodeTerm → Term
-term_of = fold-Term Factor (Expr × Exprs) (TermSign × Term) Expr Term factor_level arguments_level signed_level sum_level term_level
+term_of = fold-Term Factor Subscript (Expr × Exprs) (TermSign × Term) Expr Term factor_level subscript_level arguments_level signed_level sum_level term_level
 
 abbrev pub factor_of : CodeFactor → Factor
-factor_of = fold-Factor Factor (Expr × Exprs) (TermSign × Term) Expr Term factor_level arguments_level signed_level sum_level term_level
+factor_of = fold-Factor Factor Subscript (Expr × Exprs) (TermSign × Term) Expr Term factor_level subscript_level arguments_level signed_level sum_level term_level
 
 abbrev pub signed_of : CodeSigned → TermSign × Term
-signed_of = fold-SignedTerm Factor (Expr × Exprs) (TermSign × Term) Expr Term factor_level arguments_level signed_level sum_level term_level
+signed_of = fold-SignedTerm Factor Subscript (Expr × Exprs) (TermSign × Term) Expr Term factor_level subscript_level arguments_level signed_level sum_level term_level
 
 abbrev pub arguments_of : CodeArguments → Expr × Exprs
-arguments_of = fold-Arguments Factor (Expr × Exprs) (TermSign × Term) Expr Term factor_level arguments_level signed_level sum_level term_level
+arguments_of = fold-Arguments Factor Subscript (Expr × Exprs) (TermSign × Term) Expr Term factor_level subscript_level arguments_level signed_level sum_level term_level
+
+abbrev pub subscript_of : CodeSubscript → Subscript
+subscript_of = fold-Subscript Factor Subscript (Expr × Exprs) (TermSign × Term) Expr Term factor_level subscript_level arguments_level signed_level sum_level term_level

@@ -3,11 +3,15 @@
 use Rattle.std.specs.Prelude.{◌≡◌, ℕ, zero, suc, List, [], ◌∷◌, Option, Some, None}
 use Rattle.std.proofs.Common.{refl, ap, ◌∙◌}
 use Rattle.std.specs.Coded.{Coded, code_by, coded×, coded_ℕ, coded_list}
-use Rattle.ss_routines.specs.declared.expr.TermSign.{TermSign}
-use Rattle.ss_routines.specs.declared.expr.TermSign.TheVariants.{Plus, Minus}
+use Rattle.ss_grammar.specs.declared.expr.TermSign.{TermSign}
+use Rattle.ss_grammar.specs.declared.expr.TermSign.TheVariants.{Plus, Minus}
 use Rattle.ss_check.specs.declared.variable.Variable.{Variable}
 use Rattle.ss_check.specs.declared.variable.Variable.TheVariants as v
-use Rattle.ss_check.specs.ProgramExpr.{Expr, expr, Sums, no_sums, sum, Term, term, Products, no_products, product, Factor, digits, variable, absolute, greatest, least, quotient, remainder, within, Exprs, no_exprs, exprs}
+use Rattle.ss_check.specs.declared.sum.OwnerKept.{OwnerKept}
+use Rattle.ss_check.specs.declared.sum.OwnerKept.TheVariants.{First, Last, Count}
+use Rattle.ss_check.specs.declared.sum.MemberKept.{MemberKept}
+use Rattle.ss_check.specs.declared.sum.MemberKept.TheVariants.{Predecessor, Successor, Membership}
+use Rattle.ss_check.specs.ProgramExpr.{Expr, expr, Sums, no_sums, sum, Term, term, Products, no_products, product, Factor, digits, variable, absolute, greatest, least, quotient, remainder, attribute, owner_kept, member_kept, within, Subscript, implied, of_system, at, Exprs, no_exprs, exprs}
 
 -- a part of a tree
 pub data Part : Type 0 where
@@ -16,6 +20,8 @@ pub data Part : Type 0 where
   a_term : Term → Part
   some_products : Products → Part
   a_factor : Factor → Part
+  a_number : ℕ → Part
+  a_subscript : Subscript → Part
   some_exprs : Exprs → Part
 
 -- the token of a sign at the head
@@ -34,6 +40,18 @@ abbrev pub variable_token : Variable → ℕ × ℕ
 variable_token (v.Global i) = (7, i)
 variable_token (v.Local i) = (8, i)
 variable_token v.Clock = (9, 0)
+
+-- the number of a kept attribute of an owner
+abbrev pub owner_number : OwnerKept → ℕ
+owner_number First = 0
+owner_number Last = 1
+owner_number Count = 2
+
+-- the number of one of a member
+abbrev pub member_number : MemberKept → ℕ
+member_number Predecessor = 0
+member_number Successor = 1
+member_number Membership = 2
 
 -- the tokens of a part, before what follows
 abbrev mutual
@@ -59,7 +77,15 @@ abbrev mutual
   factor_tokens (least e es) k = (13, 0) ∷ expr_tokens e (exprs_tokens es k)
   factor_tokens (quotient e f) k = (14, 0) ∷ expr_tokens e (expr_tokens f k)
   factor_tokens (remainder e f) k = (15, 0) ∷ expr_tokens e (expr_tokens f k)
+  factor_tokens (attribute c a i) k = (18, c) ∷ (19, a) ∷ subscript_tokens i k
+  factor_tokens (owner_kept kept s i) k = (20, s) ∷ (19, owner_number kept) ∷ subscript_tokens i k
+  factor_tokens (member_kept kept s i) k = (21, s) ∷ (19, member_number kept) ∷ subscript_tokens i k
   factor_tokens (within e) k = (10, 0) ∷ expr_tokens e k
+
+  pub subscript_tokens : Subscript → List (ℕ × ℕ) → List (ℕ × ℕ)
+  subscript_tokens (implied v) k = (22, v) ∷ k
+  subscript_tokens of_system k = (23, 0) ∷ k
+  subscript_tokens (at e) k = (24, 0) ∷ expr_tokens e k
 
   pub exprs_tokens : Exprs → List (ℕ × ℕ) → List (ℕ × ℕ)
   exprs_tokens no_exprs k = (16, 0) ∷ k
@@ -131,6 +157,38 @@ abbrev pub argument_read : List Part → List Part
 argument_read (an_expr e ∷ some_exprs es ∷ st) = some_exprs (exprs e es) ∷ st
 argument_read st = st
 
+-- the kept attribute of an owner with this number
+abbrev pub owner_kept_of : ℕ → OwnerKept
+owner_kept_of zero = First
+owner_kept_of (suc zero) = Last
+owner_kept_of (suc (suc n)) = Count
+
+-- the one of a member
+abbrev pub member_kept_of : ℕ → MemberKept
+member_kept_of zero = Predecessor
+member_kept_of (suc zero) = Successor
+member_kept_of (suc (suc n)) = Membership
+
+-- of an attribute
+abbrev pub attribute_read : ℕ → List Part → List Part
+attribute_read c (a_number a ∷ a_subscript i ∷ st) = a_factor (attribute c a i) ∷ st
+attribute_read c st = st
+
+-- of a kept attribute of an owner
+abbrev pub owner_kept_read : ℕ → List Part → List Part
+owner_kept_read s (a_number n ∷ a_subscript i ∷ st) = a_factor (owner_kept (owner_kept_of n) s i) ∷ st
+owner_kept_read s st = st
+
+-- of one of a member
+abbrev pub member_kept_read : ℕ → List Part → List Part
+member_kept_read s (a_number n ∷ a_subscript i ∷ st) = a_factor (member_kept (member_kept_of n) s i) ∷ st
+member_kept_read s st = st
+
+-- of a subscript that is written
+abbrev pub at_read : List Part → List Part
+at_read (an_expr e ∷ st) = a_subscript (at e) ∷ st
+at_read st = st
+
 -- of a token by its numbers
 abbrev pub token_read : ℕ → ℕ → List Part → List Part
 token_read zero n st = expr_read n st
@@ -150,7 +208,14 @@ token_read (suc (suc (suc (suc (suc (suc (suc (suc (suc (suc (suc (suc (suc zero
 token_read (suc (suc (suc (suc (suc (suc (suc (suc (suc (suc (suc (suc (suc (suc zero)))))))))))))) n st = quotient_read st
 token_read (suc (suc (suc (suc (suc (suc (suc (suc (suc (suc (suc (suc (suc (suc (suc zero))))))))))))))) n st = remainder_read st
 token_read (suc (suc (suc (suc (suc (suc (suc (suc (suc (suc (suc (suc (suc (suc (suc (suc zero)))))))))))))))) n st = some_exprs no_exprs ∷ st
-token_read k n st = argument_read st
+token_read (suc (suc (suc (suc (suc (suc (suc (suc (suc (suc (suc (suc (suc (suc (suc (suc (suc zero))))))))))))))))) n st = argument_read st
+token_read (suc (suc (suc (suc (suc (suc (suc (suc (suc (suc (suc (suc (suc (suc (suc (suc (suc (suc zero)))))))))))))))))) n st = attribute_read n st
+token_read (suc (suc (suc (suc (suc (suc (suc (suc (suc (suc (suc (suc (suc (suc (suc (suc (suc (suc (suc zero))))))))))))))))))) n st = a_number n ∷ st
+token_read (suc (suc (suc (suc (suc (suc (suc (suc (suc (suc (suc (suc (suc (suc (suc (suc (suc (suc (suc (suc zero)))))))))))))))))))) n st = owner_kept_read n st
+token_read (suc (suc (suc (suc (suc (suc (suc (suc (suc (suc (suc (suc (suc (suc (suc (suc (suc (suc (suc (suc (suc zero))))))))))))))))))))) n st = member_kept_read n st
+token_read (suc (suc (suc (suc (suc (suc (suc (suc (suc (suc (suc (suc (suc (suc (suc (suc (suc (suc (suc (suc (suc (suc zero)))))))))))))))))))))) n st = a_subscript (implied n) ∷ st
+token_read (suc (suc (suc (suc (suc (suc (suc (suc (suc (suc (suc (suc (suc (suc (suc (suc (suc (suc (suc (suc (suc (suc (suc zero))))))))))))))))))))))) n st = a_subscript of_system ∷ st
+token_read k n st = at_read st
 
 -- the parts of a list of tokens
 abbrev pub parts : List (ℕ × ℕ) → List Part
@@ -177,6 +242,18 @@ pub variable_again : (x : Variable) (st : List Part) → token_read (variable_to
 variable_again (v.Global i) st = refl
 variable_again (v.Local i) st = refl
 variable_again v.Clock st = refl
+
+pub owner_kept_again : (kept : OwnerKept) (s : ℕ) (i : Subscript) (st : List Part) →
+    owner_kept_read s (a_number (owner_number kept) ∷ a_subscript i ∷ st) ≡ a_factor (owner_kept kept s i) ∷ st
+owner_kept_again First s i st = refl
+owner_kept_again Last s i st = refl
+owner_kept_again Count s i st = refl
+
+pub member_kept_again : (kept : MemberKept) (s : ℕ) (i : Subscript) (st : List Part) →
+    member_kept_read s (a_number (member_number kept) ∷ a_subscript i ∷ st) ≡ a_factor (member_kept kept s i) ∷ st
+member_kept_again Predecessor s i st = refl
+member_kept_again Successor s i st = refl
+member_kept_again Membership s i st = refl
 
 -- what was written is read back
 mutual
@@ -206,7 +283,17 @@ mutual
   factor_again (least e es) k = ap least_read (expr_again e (exprs_tokens es k) ∙ ap (λ st. an_expr e ∷ st) (exprs_again es k))
   factor_again (quotient e f) k = ap quotient_read (expr_again e (expr_tokens f k) ∙ ap (λ st. an_expr e ∷ st) (expr_again f k))
   factor_again (remainder e f) k = ap remainder_read (expr_again e (expr_tokens f k) ∙ ap (λ st. an_expr e ∷ st) (expr_again f k))
+  factor_again (attribute c a i) k = ap (λ st. attribute_read c (a_number a ∷ st)) (subscript_again i k)
+  factor_again (owner_kept kept s i) k =
+      ap (λ st. owner_kept_read s (a_number (owner_number kept) ∷ st)) (subscript_again i k) ∙ owner_kept_again kept s i (parts k)
+  factor_again (member_kept kept s i) k =
+      ap (λ st. member_kept_read s (a_number (member_number kept) ∷ st)) (subscript_again i k) ∙ member_kept_again kept s i (parts k)
   factor_again (within e) k = ap within_read (expr_again e k)
+
+  subscript_again : (i : Subscript) (k : List (ℕ × ℕ)) → parts (subscript_tokens i k) ≡ a_subscript i ∷ parts k
+  subscript_again (implied v) k = refl
+  subscript_again of_system k = refl
+  subscript_again (at e) k = ap at_read (expr_again e k)
 
   exprs_again : (es : Exprs) (k : List (ℕ × ℕ)) → parts (exprs_tokens es k) ≡ some_exprs es ∷ parts k
   exprs_again no_exprs k = refl
@@ -226,3 +313,22 @@ read_written e = ap first_expr (expr_again e [])
 -- how an expression is stored
 abbrev pub expr_code : Coded Expr
 expr_code = code_by (List (ℕ × ℕ)) (coded_list (coded× coded_ℕ coded_ℕ)) written read_back read_written
+
+-- how a subscript is stored: as its tokens
+abbrev pub subscript_written : Subscript → List (ℕ × ℕ)
+subscript_written i = subscript_tokens i []
+
+-- the subscript that stands first
+abbrev pub first_subscript : List Part → Subscript
+first_subscript (a_subscript i ∷ st) = i
+first_subscript st = of_system
+
+-- a subscript read back from its tokens
+abbrev pub subscript_read_back : List (ℕ × ℕ) → Subscript
+subscript_read_back ws = first_subscript (parts ws)
+
+pub subscript_read_written : (i : Subscript) → subscript_read_back (subscript_written i) ≡ i
+subscript_read_written i = ap first_subscript (subscript_again i [])
+
+abbrev pub subscript_code : Coded Subscript
+subscript_code = code_by (List (ℕ × ℕ)) (coded_list (coded× coded_ℕ coded_ℕ)) subscript_written subscript_read_back subscript_read_written

@@ -2,7 +2,7 @@
 use Rattle.std.specs.Prelude.{◌≡◌, ℕ, ◌<◌, ◌≤◌, ◌+◌, ◌^◌, ◌==◌, List, [], ◌∷◌, length, map, count_by, bytes_eq, slice_get, Option, Some, None, Bool, true, false}
 use Rattle.std.specs.List.{All, IsDistinct, list_all, list_any}
 use Rattle.ss_report.specs.Pictures.{field_count, has_decimal_field}
-use Rattle.ss_check.specs.declared.variable.Variable.{Variable}
+use Rattle.ss_check.specs.declared.variable.Variable.{Variable as AVariable}
 use Rattle.ss_check.specs.declared.variable.Variable.TheVariants.{Global, Local, Clock}
 use Rattle.ss_check.specs.declared.place.Assign.{Assign as AnAssign}
 use Rattle.ss_check.specs.declared.place.Assign.TheVariants.{Let, Add, Subtract}
@@ -10,24 +10,42 @@ use Rattle.ss_check.specs.declared.place.Output.{Output as AnOutput}
 use Rattle.ss_check.specs.declared.place.Output.TheVariants.{Print, Skip}
 use Rattle.ss_check.specs.declared.place.Control.TheVariants.{Stop, Return, End}
 use Rattle.ss_check.specs.declared.place.Place.{Place}
-use Rattle.ss_check.specs.declared.place.Place.TheVariants.{Assign, Output, Control, Branch, Looping, Call, Read}
+use Rattle.ss_check.specs.declared.place.Place.TheVariants.{Assign, Making, Filing, Output, Control, Branch, Looping, Call, Timing, Read}
 use Rattle.ss_check.specs.declared.branch.Question.{Question}
 use Rattle.ss_check.specs.declared.branch.Question.TheVariants.{Whether, WasFound, WasNone}
 use Rattle.ss_check.specs.declared.branch.Branch.{Branch as ABranch}
 use Rattle.ss_check.specs.declared.branch.Branch.TheVariants.{If, Else, Always}
 use Rattle.ss_check.specs.declared.looping.Qualifier.{Qualifier}
 use Rattle.ss_check.specs.declared.looping.Phrase.{Phrase}
-use Rattle.ss_check.specs.declared.looping.Phrase.TheVariants.{Counting, Each}
+use Rattle.ss_check.specs.declared.looping.Phrase.TheVariants.{Counting, Each, Walking}
+use Rattle.ss_check.specs.declared.looping.Begin.{Begin}
+use Rattle.ss_check.specs.declared.looping.Begin.TheVariants.{AtTheEnd, From, After}
+use Rattle.ss_check.specs.declared.making.Making.{Making as AMaking}
+use Rattle.ss_check.specs.declared.making.Making.TheVariants.{Create, CreateEvery, Destroy}
+use Rattle.ss_check.specs.declared.filing.Position.{Position}
+use Rattle.ss_check.specs.declared.filing.Position.TheVariants as position
+use Rattle.ss_check.specs.declared.filing.Position.TheVariants.{ByRule, AtEnd, Before}
+use Rattle.ss_check.specs.declared.filing.Filing.{Filing as AFiling}
+use Rattle.ss_check.specs.declared.filing.Filing.TheVariants.{File, FileAt, RemoveAt, Remove}
+use Rattle.ss_check.specs.declared.target.SetRef.{SetRef}
+use Rattle.ss_check.specs.declared.timing.Notice.{Notice}
+use Rattle.ss_check.specs.declared.timing.Notice.TheVariants.{New, Known}
+use Rattle.ss_check.specs.declared.timing.When.{When}
+use Rattle.ss_check.specs.declared.timing.When.TheVariants.{At, Now, In}
+use Rattle.ss_check.specs.declared.timing.Timing.{Timing as ATiming}
+use Rattle.ss_check.specs.declared.timing.Timing.TheVariants.{Schedule, Cancel, Start}
+use Rattle.ss_check.specs.declared.target.Target.{Target}
+use Rattle.ss_check.specs.declared.target.Target.TheVariants.{Variable, Attribute}
 use Rattle.ss_check.specs.declared.looping.Telling.{Telling}
 use Rattle.ss_check.specs.declared.looping.Looping.{Looping as ALooping}
 use Rattle.ss_check.specs.declared.looping.Looping.TheVariants.{For, Loop, Find, Gather, Tell}
 use Rattle.ss_check.specs.declared.call.Call.{Call as ACall}
 use Rattle.ss_check.specs.declared.ways.Ways.{Ways}
-use Rattle.ss_check.specs.ProgramCondition.{Condition, any, Conjunctions, no_conjunctions, or_else, Conjunction, all, Relations, no_relations, and_also, Relation, compared, nested}
+use Rattle.ss_check.specs.ProgramCondition.{Condition, any, Conjunctions, no_conjunctions, or_else, Conjunction, all, Relations, no_relations, and_also, Relation, compared, is_empty, is_in, nested}
 use Rattle.ss_check.specs.Match.{ways_of}
 use Rattle.ss_check.specs.Nesting.{AreNestedPlaces}
 use Rattle.ss_check.specs.declared.place.Spot.{Spot}
-use Rattle.ss_check.specs.ProgramExpr.{Expr, expr, Sums, no_sums, sum, Term, term, Products, no_products, product, Factor, digits, variable, absolute, greatest, least, quotient, remainder, within, Exprs, no_exprs, exprs}
+use Rattle.ss_check.specs.ProgramExpr.{Expr, expr, Sums, no_sums, sum, Term, term, Products, no_products, product, Factor, digits, variable, absolute, greatest, least, quotient, remainder, attribute, owner_kept, member_kept, within, Subscript, implied, of_system, at, Exprs, no_exprs, exprs}
 use Rattle.ss_check.specs.declared.keys.Key.{Key}
 use Rattle.ss_check.specs.declared.kinds.ClassKind.{ClassKind}
 use Rattle.ss_check.specs.declared.kinds.ClassKind.TheVariants.{Permanent, Temporary, Event}
@@ -36,149 +54,228 @@ use Rattle.ss_check.specs.declared.kinds.Discipline.TheVariants.{Fifo, Lifo, Ran
 use Rattle.ss_check.specs.declared.kinds.Owner.{Owner}
 use Rattle.ss_check.specs.declared.kinds.Owner.TheVariants.{System, OwnedBy}
 use Rattle.ss_check.specs.EventTable.{EventTable}
-use Rattle.ss_check.specs.Program.{ClassTable, SetTable, SectionTable, ProgramTable, is_main, is_routine, class_of, is_event, is_event_section, section_of}
+use Rattle.ss_check.specs.Program.{ClassTable, SetTable, SectionTable, ProgramTable, is_main, is_routine, class_of, is_permanent, is_event, is_event_section, section_of}
 
--- a variable is one of the n global ones, one of the m locals, or the clock
-abbrev pub IsSoundVariable : ℕ → ℕ → Variable → Type 0
-IsSoundVariable n m (Global i) = i < n
-IsSoundVariable n m (Local i) = i < m
-IsSoundVariable n m Clock = Unit {0}
+-- what a place may name: how many global variables and locals there are, which classes are permanent, and how many sets there are
+pub record Scope : Type 0 where
+  pub globals : ℕ
+  pub locals : ℕ
+  pub permanent : List Bool
+  pub sets : ℕ
 
--- a target is one of the n global variables or one of the m locals
-abbrev pub IsTarget : ℕ → ℕ → Variable → Type 0
-IsTarget n m (Global i) = i < n
-IsTarget n m (Local i) = i < m
-IsTarget n m Clock = ⊥
+-- a variable is one of the global ones, one of the locals, or the clock
+abbrev pub IsSoundVariable : Scope → AVariable → Type 0
+IsSoundVariable sc (Global i) = i < sc.globals
+IsSoundVariable sc (Local i) = i < sc.locals
+IsSoundVariable sc Clock = Unit {0}
+
+-- one to which a value may be assigned is one of the global ones or one of the locals
+abbrev pub IsSettable : Scope → AVariable → Type 0
+IsSettable sc (Global i) = i < sc.globals
+IsSettable sc (Local i) = i < sc.locals
+IsSettable sc Clock = ⊥
+
+-- a class is one of the table
+abbrev pub IsClass : Scope → ℕ → Type 0
+IsClass sc c = c < length sc.permanent
 
 -- each variable of an expression is sound
 abbrev mutual
-  pub IsSoundExpr : ℕ → ℕ → Expr → Type 0
-  IsSoundExpr n m (expr l t ss) = IsSoundTerm n m t × IsSoundSums n m ss
+  pub IsSoundExpr : Scope → Expr → Type 0
+  IsSoundExpr sc (expr l t ss) = IsSoundTerm sc t × IsSoundSums sc ss
 
-  pub IsSoundSums : ℕ → ℕ → Sums → Type 0
-  IsSoundSums n m no_sums = Unit {0}
-  IsSoundSums n m (sum s t ss) = IsSoundTerm n m t × IsSoundSums n m ss
+  pub IsSoundSums : Scope → Sums → Type 0
+  IsSoundSums sc no_sums = Unit {0}
+  IsSoundSums sc (sum s t ss) = IsSoundTerm sc t × IsSoundSums sc ss
 
-  pub IsSoundTerm : ℕ → ℕ → Term → Type 0
-  IsSoundTerm n m (term f ps) = IsSoundFactor n m f × IsSoundProducts n m ps
+  pub IsSoundTerm : Scope → Term → Type 0
+  IsSoundTerm sc (term f ps) = IsSoundFactor sc f × IsSoundProducts sc ps
 
-  pub IsSoundProducts : ℕ → ℕ → Products → Type 0
-  IsSoundProducts n m no_products = Unit {0}
-  IsSoundProducts n m (product f ps) = IsSoundFactor n m f × IsSoundProducts n m ps
+  pub IsSoundProducts : Scope → Products → Type 0
+  IsSoundProducts sc no_products = Unit {0}
+  IsSoundProducts sc (product f ps) = IsSoundFactor sc f × IsSoundProducts sc ps
 
-  pub IsSoundFactor : ℕ → ℕ → Factor → Type 0
-  IsSoundFactor n m (digits k) = Unit {0}
-  IsSoundFactor n m (variable x) = IsSoundVariable n m x
-  IsSoundFactor n m (absolute e) = IsSoundExpr n m e
-  IsSoundFactor n m (greatest e es) = IsSoundExpr n m e × AreSoundArguments n m es
-  IsSoundFactor n m (least e es) = IsSoundExpr n m e × AreSoundArguments n m es
-  IsSoundFactor n m (quotient e f) = IsSoundExpr n m e × IsSoundExpr n m f
-  IsSoundFactor n m (remainder e f) = IsSoundExpr n m e × IsSoundExpr n m f
-  IsSoundFactor n m (within e) = IsSoundExpr n m e
+  pub IsSoundFactor : Scope → Factor → Type 0
+  IsSoundFactor sc (digits k) = Unit {0}
+  IsSoundFactor sc (variable x) = IsSoundVariable sc x
+  IsSoundFactor sc (absolute e) = IsSoundExpr sc e
+  IsSoundFactor sc (greatest e es) = IsSoundExpr sc e × AreSoundArguments sc es
+  IsSoundFactor sc (least e es) = IsSoundExpr sc e × AreSoundArguments sc es
+  IsSoundFactor sc (quotient e f) = IsSoundExpr sc e × IsSoundExpr sc f
+  IsSoundFactor sc (remainder e f) = IsSoundExpr sc e × IsSoundExpr sc f
+  IsSoundFactor sc (attribute c a i) = IsClass sc c × IsSoundSubscript sc i
+  IsSoundFactor sc (owner_kept kept s i) = (s < sc.sets) × IsSoundSubscript sc i
+  IsSoundFactor sc (member_kept kept s i) = (s < sc.sets) × IsSoundSubscript sc i
+  IsSoundFactor sc (within e) = IsSoundExpr sc e
 
-  pub AreSoundArguments : ℕ → ℕ → Exprs → Type 0
-  AreSoundArguments n m no_exprs = Unit {0}
-  AreSoundArguments n m (exprs e es) = IsSoundExpr n m e × AreSoundArguments n m es
+  pub IsSoundSubscript : Scope → Subscript → Type 0
+  IsSoundSubscript sc (implied v) = v < sc.globals
+  IsSoundSubscript sc of_system = Unit {0}
+  IsSoundSubscript sc (at e) = IsSoundExpr sc e
 
-abbrev pub AreSoundExprs : ℕ → ℕ → List Expr → Type 0
-AreSoundExprs n m [] = Unit {0}
-AreSoundExprs n m (e ∷ es) = IsSoundExpr n m e × AreSoundExprs n m es
+  pub AreSoundArguments : Scope → Exprs → Type 0
+  AreSoundArguments sc no_exprs = Unit {0}
+  AreSoundArguments sc (exprs e es) = IsSoundExpr sc e × AreSoundArguments sc es
+
+abbrev pub AreSoundExprs : Scope → List Expr → Type 0
+AreSoundExprs sc [] = Unit {0}
+AreSoundExprs sc (e ∷ es) = IsSoundExpr sc e × AreSoundExprs sc es
+
+-- a target is a variable or an attribute
+abbrev pub IsTarget : Scope → Target → Type 0
+IsTarget sc (Variable x) = IsSettable sc x
+IsTarget sc (Attribute c a i) = IsClass sc c × IsSoundSubscript sc i
+
+-- a set is one of the table, and its owner's subscript is sound
+abbrev pub IsSoundSetRef : Scope → SetRef → Type 0
+IsSoundSetRef sc r = (r.set < sc.sets) × IsSoundSubscript sc r.owner
 
 -- an assignment has a target and a sound value
-abbrev pub IsSoundAssign : ℕ → ℕ → AnAssign → Type 0
-IsSoundAssign n m (Let written target value) = IsTarget n m target × IsSoundExpr n m value
-IsSoundAssign n m (Add value target) = IsTarget n m target × IsSoundExpr n m value
-IsSoundAssign n m (Subtract value target) = IsTarget n m target × IsSoundExpr n m value
+abbrev pub IsSoundAssign : Scope → AnAssign → Type 0
+IsSoundAssign sc (Let written target value) = IsTarget sc target × IsSoundExpr sc value
+IsSoundAssign sc (Add value target) = IsTarget sc target × IsSoundExpr sc value
+IsSoundAssign sc (Subtract value target) = IsTarget sc target × IsSoundExpr sc value
 
 -- a PRINT has sound values, as many as its picture has fields, and no decimal field; a SKIP has a sound value
-abbrev pub IsSoundOutput : ℕ → ℕ → AnOutput → Type 0
-IsSoundOutput n m (Print count values picture) = (length values ≡ field_count picture) × (has_decimal_field picture ≡ false) × AreSoundExprs n m values
-IsSoundOutput n m (Skip count) = IsSoundExpr n m count
+abbrev pub IsSoundOutput : Scope → AnOutput → Type 0
+IsSoundOutput sc (Print count values picture) = (length values ≡ field_count picture) × (has_decimal_field picture ≡ false) × AreSoundExprs sc values
+IsSoundOutput sc (Skip count) = IsSoundExpr sc count
 
 -- each value of a condition is sound
 abbrev mutual
-  pub IsSoundCondition : ℕ → ℕ → Condition → Type 0
-  IsSoundCondition n m (any c cs) = IsSoundConjunction n m c × AreSoundConjunctions n m cs
+  pub IsSoundCondition : Scope → Condition → Type 0
+  IsSoundCondition sc (any c cs) = IsSoundConjunction sc c × AreSoundConjunctions sc cs
 
-  pub AreSoundConjunctions : ℕ → ℕ → Conjunctions → Type 0
-  AreSoundConjunctions n m no_conjunctions = Unit {0}
-  AreSoundConjunctions n m (or_else c cs) = IsSoundConjunction n m c × AreSoundConjunctions n m cs
+  pub AreSoundConjunctions : Scope → Conjunctions → Type 0
+  AreSoundConjunctions sc no_conjunctions = Unit {0}
+  AreSoundConjunctions sc (or_else c cs) = IsSoundConjunction sc c × AreSoundConjunctions sc cs
 
-  pub IsSoundConjunction : ℕ → ℕ → Conjunction → Type 0
-  IsSoundConjunction n m (all r rs) = IsSoundRelation n m r × AreSoundRelations n m rs
+  pub IsSoundConjunction : Scope → Conjunction → Type 0
+  IsSoundConjunction sc (all r rs) = IsSoundRelation sc r × AreSoundRelations sc rs
 
-  pub AreSoundRelations : ℕ → ℕ → Relations → Type 0
-  AreSoundRelations n m no_relations = Unit {0}
-  AreSoundRelations n m (and_also r rs) = IsSoundRelation n m r × AreSoundRelations n m rs
+  pub AreSoundRelations : Scope → Relations → Type 0
+  AreSoundRelations sc no_relations = Unit {0}
+  AreSoundRelations sc (and_also r rs) = IsSoundRelation sc r × AreSoundRelations sc rs
 
-  pub IsSoundRelation : ℕ → ℕ → Relation → Type 0
-  IsSoundRelation n m (compared e c f) = IsSoundExpr n m e × IsSoundExpr n m f
-  IsSoundRelation n m (nested c) = IsSoundCondition n m c
+  pub IsSoundRelation : Scope → Relation → Type 0
+  IsSoundRelation sc (compared e c f) = IsSoundExpr sc e × IsSoundExpr sc f
+  IsSoundRelation sc (is_empty r is) = IsSoundSetRef sc r
+  IsSoundRelation sc (is_in e is r) = IsSoundExpr sc e × IsSoundSetRef sc r
+  IsSoundRelation sc (nested c) = IsSoundCondition sc c
 
 -- what an IF asks
-abbrev pub IsSoundQuestion : ℕ → ℕ → Question → Type 0
-IsSoundQuestion n m (Whether c) = IsSoundCondition n m c
-IsSoundQuestion n m WasFound = Unit {0}
-IsSoundQuestion n m WasNone = Unit {0}
+abbrev pub IsSoundQuestion : Scope → Question → Type 0
+IsSoundQuestion sc (Whether c) = IsSoundCondition sc c
+IsSoundQuestion sc WasFound = Unit {0}
+IsSoundQuestion sc WasNone = Unit {0}
 
 -- IF, ELSE, ALWAYS
-abbrev pub IsSoundBranch : ℕ → ℕ → ABranch → Type 0
-IsSoundBranch n m (If q) = IsSoundQuestion n m q
-IsSoundBranch n m Else = Unit {0}
-IsSoundBranch n m Always = Unit {0}
+abbrev pub IsSoundBranch : Scope → ABranch → Type 0
+IsSoundBranch sc (If q) = IsSoundQuestion sc q
+IsSoundBranch sc Else = Unit {0}
+IsSoundBranch sc Always = Unit {0}
 
 -- the conditions of qualifiers
-abbrev pub AreSoundQualifiers : ℕ → ℕ → List Qualifier → Type 0
-AreSoundQualifiers n m [] = Unit {0}
-AreSoundQualifiers n m (q ∷ qs) = IsSoundCondition n m q.condition × AreSoundQualifiers n m qs
+abbrev pub AreSoundQualifiers : Scope → List Qualifier → Type 0
+AreSoundQualifiers sc [] = Unit {0}
+AreSoundQualifiers sc (q ∷ qs) = IsSoundCondition sc q.condition × AreSoundQualifiers sc qs
 
 -- an expression that may be left out
-abbrev pub IsSoundOption : ℕ → ℕ → Option Expr → Type 0
-IsSoundOption n m None = Unit {0}
-IsSoundOption n m (Some e) = IsSoundExpr n m e
+abbrev pub IsSoundOption : Scope → Option Expr → Type 0
+IsSoundOption sc None = Unit {0}
+IsSoundOption sc (Some e) = IsSoundExpr sc e
+
+-- where a walk through a list begins
+abbrev pub IsSoundBegin : Scope → Begin → Type 0
+IsSoundBegin sc AtTheEnd = Unit {0}
+IsSoundBegin sc (From e) = IsSoundExpr sc e
+IsSoundBegin sc (After e) = IsSoundExpr sc e
 
 -- what a FOR phrase goes through: its variable is a target, its bounds and its step are sound, and the number of a class's entities is a
 -- global variable
-abbrev pub IsSoundPhrase : ℕ → ℕ → Phrase → Type 0
-IsSoundPhrase n m (Counting d x first last step) =
-    IsTarget n m x × IsSoundExpr n m first × IsSoundExpr n m last × IsSoundOption n m step
-IsSoundPhrase n m (Each class is_called x count) = IsTarget n m x × (count < n)
+abbrev pub IsSoundPhrase : Scope → Phrase → Type 0
+IsSoundPhrase sc (Counting d x first last step) =
+    IsSettable sc x × IsSoundExpr sc first × IsSoundExpr sc last × IsSoundOption sc step
+IsSoundPhrase sc (Each class is_called x count) = IsSettable sc x × (count < sc.globals)
+IsSoundPhrase sc (Walking d x r begin) = IsSettable sc x × IsSoundSetRef sc r × IsSoundBegin sc begin
 
 -- the targets of a COMPUTE
-abbrev pub AreSoundTellings : ℕ → ℕ → List Telling → Type 0
-AreSoundTellings n m [] = Unit {0}
-AreSoundTellings n m (t ∷ ts) = IsTarget n m t.target × AreSoundTellings n m ts
+abbrev pub AreSoundTellings : Scope → List Telling → Type 0
+AreSoundTellings sc [] = Unit {0}
+AreSoundTellings sc (t ∷ ts) = IsTarget sc t.target × AreSoundTellings sc ts
 
 -- FOR phrases, and what only they control
-abbrev pub IsSoundLooping : ℕ → ℕ → ALooping → Type 0
-IsSoundLooping n m (For f) = IsSoundPhrase n m f.phrase × AreSoundQualifiers n m f.qualifiers
-IsSoundLooping n m Loop = Unit {0}
-IsSoundLooping n m Find = Unit {0}
-IsSoundLooping n m (Gather e) = IsSoundExpr n m e
-IsSoundLooping n m (Tell ts) = AreSoundTellings n m ts
+abbrev pub IsSoundLooping : Scope → ALooping → Type 0
+IsSoundLooping sc (For f) = IsSoundPhrase sc f.phrase × AreSoundQualifiers sc f.qualifiers
+IsSoundLooping sc Loop = Unit {0}
+IsSoundLooping sc Find = Unit {0}
+IsSoundLooping sc (Gather e) = IsSoundExpr sc e
+IsSoundLooping sc (Tell ts) = AreSoundTellings sc ts
 
 -- the targets of a CALL, or of a READ
-abbrev pub AreTargets : ℕ → ℕ → List Variable → Type 0
-AreTargets n m [] = Unit {0}
-AreTargets n m (x ∷ xs) = IsTarget n m x × AreTargets n m xs
+abbrev pub AreTargets : Scope → List Target → Type 0
+AreTargets sc [] = Unit {0}
+AreTargets sc (x ∷ xs) = IsTarget sc x × AreTargets sc xs
 
 -- the values and targets of a CALL
-abbrev pub IsSoundCall : ℕ → ℕ → ACall → Type 0
-IsSoundCall n m c = AreSoundExprs n m c.given × AreTargets n m c.targets
+abbrev pub IsSoundCall : Scope → ACall → Type 0
+IsSoundCall sc c = AreSoundExprs sc c.given × AreTargets sc c.targets
+
+-- what makes and ends entities: those of permanent classes are made all at once, and not ended
+abbrev pub IsSoundMaking : Scope → AMaking → Type 0
+IsSoundMaking sc (Create c is_called t) = (slice_get sc.permanent c ≡ Some false) × IsTarget sc t
+IsSoundMaking sc (CreateEvery c e count) = (slice_get sc.permanent c ≡ Some true) × IsSoundOption sc e × (count < sc.globals)
+IsSoundMaking sc (Destroy c is_called e) = (slice_get sc.permanent c ≡ Some false) × IsSoundExpr sc e
+
+-- where FILE puts a member
+abbrev pub IsSoundPosition : Scope → Position → Type 0
+IsSoundPosition sc ByRule = Unit {0}
+IsSoundPosition sc (AtEnd end) = Unit {0}
+IsSoundPosition sc (Before e) = IsSoundExpr sc e
+IsSoundPosition sc (position.After e) = IsSoundExpr sc e
+
+-- what files and removes members
+abbrev pub IsSoundFiling : Scope → AFiling → Type 0
+IsSoundFiling sc (File e how r) = IsSoundExpr sc e × IsSoundPosition sc how × IsSoundSetRef sc r
+IsSoundFiling sc (FileAt end e r) = IsSoundExpr sc e × IsSoundSetRef sc r
+IsSoundFiling sc (RemoveAt end t r) = IsTarget sc t × IsSoundSetRef sc r
+IsSoundFiling sc (Remove e r) = IsSoundExpr sc e × IsSoundSetRef sc r
+
+-- which notice is scheduled
+abbrev pub IsSoundNotice : Scope → Notice → Type 0
+IsSoundNotice sc (New is_called t) = IsTarget sc t
+IsSoundNotice sc (Known is_called e) = IsSoundExpr sc e
+
+-- when it is due
+abbrev pub IsSoundWhen : Scope → When → Type 0
+IsSoundWhen sc (At e) = IsSoundExpr sc e
+IsSoundWhen sc Now = Unit {0}
+IsSoundWhen sc (In e) = IsSoundExpr sc e
+
+-- what schedules notices, takes them off, and starts events
+abbrev pub IsSoundTiming : Scope → ATiming → Type 0
+IsSoundTiming sc (Schedule s) =
+    (slice_get sc.permanent s.class ≡ Some false)
+    × IsSoundNotice sc s.notice × AreSoundExprs sc s.arguments × IsSoundWhen sc s.when
+IsSoundTiming sc (Cancel c is_called e) = (slice_get sc.permanent c ≡ Some false) × IsSoundExpr sc e
+IsSoundTiming sc Start = Unit {0}
 
 -- a place, by its kind
-abbrev pub IsSoundPlace : ℕ → ℕ → Place → Type 0
-IsSoundPlace n m (Assign a) = IsSoundAssign n m a
-IsSoundPlace n m (Output o) = IsSoundOutput n m o
-IsSoundPlace n m (Control c) = Unit {0}
-IsSoundPlace n m (Branch b) = IsSoundBranch n m b
-IsSoundPlace n m (Looping l) = IsSoundLooping n m l
-IsSoundPlace n m (Call c) = IsSoundCall n m c
-IsSoundPlace n m (Read ts) = AreTargets n m ts
+abbrev pub IsSoundPlace : Scope → Place → Type 0
+IsSoundPlace sc (Assign a) = IsSoundAssign sc a
+IsSoundPlace sc (Making m) = IsSoundMaking sc m
+IsSoundPlace sc (Filing f) = IsSoundFiling sc f
+IsSoundPlace sc (Output o) = IsSoundOutput sc o
+IsSoundPlace sc (Control c) = Unit {0}
+IsSoundPlace sc (Branch b) = IsSoundBranch sc b
+IsSoundPlace sc (Looping l) = IsSoundLooping sc l
+IsSoundPlace sc (Call c) = IsSoundCall sc c
+IsSoundPlace sc (Timing t) = IsSoundTiming sc t
+IsSoundPlace sc (Read ts) = AreTargets sc ts
 
-abbrev pub AreSoundPlaces : ℕ → ℕ → List Spot → Type 0
-AreSoundPlaces n m [] = Unit {0}
-AreSoundPlaces n m (s ∷ ss) = IsSoundPlace n m s.place × AreSoundPlaces n m ss
+abbrev pub AreSoundPlaces : Scope → List Spot → Type 0
+AreSoundPlaces sc [] = Unit {0}
+AreSoundPlaces sc (s ∷ ss) = IsSoundPlace sc s.place × AreSoundPlaces sc ss
 
 -- the END of a section
 abbrev pub is_end : Place → Bool
@@ -233,6 +330,26 @@ abbrev pub AreLinkedSections : List SectionTable → List SectionTable → Type 
 AreLinkedSections ss [] = Unit {0}
 AreLinkedSections ss (s ∷ more) = AreLinkedPlaces ss s.places 0 s.places × AreLinkedSections ss more
 
+-- ---- events
+
+-- class number c is an event class, with this many attributes at least
+pub record IsEventClass (p : ProgramTable) (c n : ℕ) : Type 0 where
+  pub class : c < length p.classes
+  pub event : is_event (class_of p c).kind ≡ true
+  pub attributes : n ≤ length (class_of p c).attributes
+
+-- notices are of event classes, with no more arguments than attributes; events start in MAIN
+abbrev pub IsTimed : ProgramTable → SectionTable → Place → Type 0
+IsTimed p s (Timing (Schedule x)) = IsEventClass p x.class (length x.arguments)
+IsTimed p s (Timing (Cancel c is_called e)) = IsEventClass p c 0
+IsTimed p s (Timing Start) = is_main s ≡ true
+IsTimed p s other = Unit {0}
+
+-- the same of the places of a section
+abbrev pub AreTimed : ProgramTable → SectionTable → List Spot → Type 0
+AreTimed p s [] = Unit {0}
+AreTimed p s (x ∷ xs) = IsTimed p s x.place × AreTimed p s xs
+
 -- no two names of a table are alike
 abbrev pub AreDistinct : List (List ℕ) → Type 0
 AreDistinct names = IsDistinct bytes_eq names
@@ -241,19 +358,29 @@ AreDistinct names = IsDistinct bytes_eq names
 abbrev pub parameter_limit : ℕ
 parameter_limit = 32
 
--- a section of a program with n global variables
-pub record IsSoundSection (n : ℕ) (s : SectionTable) : Type 0 where
+-- what the places of a section may name
+abbrev pub scope_of : ProgramTable → SectionTable → Scope
+scope_of p s = record {
+  globals = length p.globals;
+  locals = length s.locals;
+  permanent = map (λ c. is_permanent c.kind) p.classes;
+  sets = length p.sets;
+}
+
+-- a section of a program
+pub record IsSoundSection (p : ProgramTable) (s : SectionTable) : Type 0 where
   pub distinct : AreDistinct s.locals
   pub parameters : s.given + s.yielded ≤ length s.locals
   pub few_parameters : s.given + s.yielded ≤ parameter_limit
-  pub places : AreSoundPlaces n (length s.locals) s.places
+  pub places : AreSoundPlaces (scope_of p s) s.places
   pub ended : IsEnded s.places
   pub nested : AreNestedPlaces s.places 0 s.places
+  pub timed : AreTimed p s s.places
   pub few : length s.places < 2 ^ 63
 
-abbrev pub AreSoundSections : ℕ → List SectionTable → Type 0
-AreSoundSections n [] = Unit {0}
-AreSoundSections n (s ∷ ss) = IsSoundSection n s × AreSoundSections n ss
+abbrev pub AreSoundSections : ProgramTable → List SectionTable → Type 0
+AreSoundSections p [] = Unit {0}
+AreSoundSections p (s ∷ ss) = IsSoundSection p s × AreSoundSections p ss
 
 -- no two attributes of one class are alike
 abbrev pub HaveDistinctAttributes : List ClassTable → Type 0
@@ -343,7 +470,7 @@ pub record HasSoundTables (p : ProgramTable) : Type 0 where
 -- a program: one MAIN, sound sections, and tables of sound names, which 32 bits can number
 pub record IsSound (p : ProgramTable) : Type 0 where
   pub main : count_by is_main p.sections ≡ 1
-  pub sections : AreSoundSections (length p.globals) p.sections
+  pub sections : AreSoundSections p p.sections
   pub few : length p.sections < 2 ^ 63
   pub linked : AreLinkedSections p.sections p.sections
   pub names : HasSoundNames p

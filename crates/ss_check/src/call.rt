@@ -1,18 +1,22 @@
 use crate::expr::Values;
-use crate::variable::Variable;
+use crate::target::Target;
 use std::marker::Model;
 
 /// The targets of the values that a routine yields, or that a READ takes, in order.
 #[derive(Debug, Drop)]
 pub struct Targets {
-    pub list: Vec<Variable>,
+    pub list: Vec<Target>,
 }
 
 impl Model for Targets {
     ghost use Rattle.std.specs.Prelude.{List};
-    ghost use Rattle.ss_check.specs.declared.variable.Variable.{Variable as Target};
+    ghost use Rattle.std.specs.Coded.{codes};
+    ghost use Rattle.ss_check.specs.declared.target.Target.{Target};
+    ghost use Rattle.ss_check.specs.contracts.target.Target as one;
 
     ghost Value = { List Target };
+
+    ghost coded = { Prim.hlevel (codes, one.the_row.coded) };
 
     ghost view = { λ a. a.list.items };
 }

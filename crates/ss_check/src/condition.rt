@@ -1,4 +1,5 @@
 use crate::expr::Expr;
+use crate::target::SetRef;
 use std::marker::Model;
 
 /// A condition of a place. Contracts see it as the tree of its text.
@@ -34,7 +35,7 @@ pub struct Conjunction {
     pub more: Vec<Relation>,
 }
 
-/// A comparison, or a condition within parentheses.
+/// A comparison, a question about a set, or a condition within parentheses.
 #[derive(Debug, Drop)]
 #[cycle(condition)]
 pub enum Relation {
@@ -43,7 +44,25 @@ pub enum Relation {
         comparison: Comparison,
         right: Expr,
     },
+    /// `set IS [NOT] EMPTY`.
+    IsEmpty {
+        set: SetRef,
+        copula: Copula,
+    },
+    /// `member IS [NOT] IN set`.
+    IsIn {
+        member: Expr,
+        copula: Copula,
+        set: SetRef,
+    },
     Within(Box<Disjunction>),
+}
+
+/// `IS` or `IS NOT`.
+#[derive(Clone, Copy, Debug, PartialEq, Eq)]
+pub enum Copula {
+    Is,
+    IsNot,
 }
 
 /// How two values are compared: `=`, `NE`, `<`, `>`, `<=`, `>=`.

@@ -3,9 +3,9 @@ ghost use Rattle.std.specs.Option.{ForSome};
 ghost use Rattle.ss_check.specs.Program.{locals_of};
 ghost use Rattle.ss_check.specs.Found.{is_any, named, numbers_of};
 
+use crate::name::Name;
 use crate::names::is_clock;
 use crate::program::Program;
-use crate::resolve::variable_number;
 use crate::tables::{Class, Set};
 
 /// What a name is: its number in the table of the global variables, of the classes and of the sets.
@@ -59,6 +59,16 @@ impl Program {
     {
         variable_number(&self.sections[section].locals, name)
     }
+}
+
+/// The place of a name in a table of variables.
+fn variable_number(variables: &[Name], name: &[u8]) -> Option<usize>
+    ensures value { result ≡ position (bytes_eq name.now) variables.now }
+    ensures within { IfSome result (λ i. i < length variables.now) }
+{
+    variables
+        .iter()
+        .position(|variable| name == variable.bytes.as_slice())
 }
 
 /// The place of a class in their table.

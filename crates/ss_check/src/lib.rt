@@ -2,52 +2,54 @@
 //! number in a table.
 #![tactic(auto)]
 
-mod assign;
 mod branch;
 mod call;
-mod calls;
-mod check_place;
-mod checker;
 mod condition;
 mod expr;
 mod fault;
+mod filing;
 mod find;
 mod keys;
 mod kinds;
 pub mod laws;
-mod locals;
 mod looping;
+mod making;
 mod name;
 mod name_table;
 mod names;
 mod place;
 mod program;
-mod resolve;
 mod section;
 mod sum;
 mod tables;
+mod target;
+mod timing;
 mod variable;
 mod ways;
 
 pub use branch::{Branch, Question};
 pub use call::{Call, Targets};
-pub use checker::check;
-pub use condition::{Comparison, Condition, Conjunction, Disjunction, Relation};
+pub use condition::{Comparison, Condition, Conjunction, Copula, Disjunction, Relation};
 pub use expr::{Expr, Values};
 pub use fault::{CheckFault, CheckRule};
+pub use filing::{End, Filing, Position};
 pub use find::Named;
 pub use keys::{Key, Keys, Rank};
 pub use kinds::{ClassKind, Discipline, EventClass, Owner, SectionKind};
 pub use looping::{
-    Direction, ForPhrase, Looping, Phrase, Qualifier, QualifierWord, Qualifiers, Statistic,
+    Begin, Direction, ForPhrase, Looping, Phrase, Qualifier, QualifierWord, Qualifiers, Statistic,
     Telling, Tellings,
 };
+pub use making::Making;
 pub use name::Name;
+pub use name_table::NameTable;
 pub use place::{Assign, Control, Output, Place, Spot};
 pub use program::Program;
-pub use section::Section;
-pub use ss_routines::TermSign;
-pub use sum::{Arguments, Factor, SignedTerm, Sum, Term};
+pub use section::{Head, Section};
+pub use ss_grammar::TermSign;
+pub use sum::{Arguments, Factor, MemberKept, OwnerKept, SignedTerm, Subscript, Sum, Term};
 pub use tables::{Class, Set};
+pub use target::{Index, SetRef, Target};
+pub use timing::{Listing, Notice, Schedule, Timing, When};
 pub use variable::Variable;
 pub use ways::{Resets, Ways};

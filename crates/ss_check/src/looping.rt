@@ -1,5 +1,6 @@
 use crate::condition::Condition;
 use crate::expr::Expr;
+use crate::target::{SetRef, Target};
 use crate::variable::Variable;
 use std::marker::Model;
 
@@ -64,6 +65,24 @@ pub enum Phrase {
         variable: Variable,
         count: usize,
     },
+    /// `EACH variable IN set [FROM member | AFTER member] [IN REVERSE ORDER]`.
+    Walking {
+        direction: Direction,
+        variable: Variable,
+        set: SetRef,
+        begin: Begin,
+    },
+}
+
+/// Where a walk through a list begins.
+#[derive(Debug, Drop)]
+pub enum Begin {
+    /// At the first member, or at the last in reverse order.
+    AtTheEnd,
+    /// At the member that a value names.
+    From(Expr),
+    /// At the one behind it in the walk's direction.
+    After(Expr),
 }
 
 /// A FOR phrase with its qualifiers, and whether DO stands behind it.
@@ -84,9 +103,9 @@ pub enum Statistic {
 }
 
 /// A target of COMPUTE, and what is assigned to it.
-#[derive(Clone, Copy, Debug, PartialEq, Eq)]
+#[derive(Debug, Drop)]
 pub struct Telling {
-    pub target: Variable,
+    pub target: Target,
     pub statistic: Statistic,
 }
 
@@ -98,9 +117,13 @@ pub struct Tellings {
 
 impl Model for Tellings {
     ghost use Rattle.std.specs.Prelude.{List};
+    ghost use Rattle.std.specs.Coded.{codes};
     ghost use Rattle.ss_check.specs.declared.looping.Telling.{Telling};
+    ghost use Rattle.ss_check.specs.contracts.looping.Telling as one;
 
     ghost Value = { List Telling };
+
+    ghost coded = { Prim.hlevel (codes, one.the_row.coded) };
 
     ghost view = { λ a. a.list.items };
 }

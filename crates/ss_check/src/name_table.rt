@@ -9,7 +9,7 @@ use std::marker::Model;
 /// Names in the order in which they were put in, none twice. A name is found in time that grows with
 /// the logarithm of their number.
 #[derive(Drop)]
-pub(crate) struct NameTable {
+pub struct NameTable {
     alloc: Global,
     names: Vec<Name>,
     places: BTreeMap<Vec<u8>, usize>,
@@ -70,6 +70,13 @@ impl NameTable {
     }
 
     /// The names, in order.
+    pub fn names(&self) -> &[Name]
+        ensures { result.now ≡ self.now }
+    {
+        &self.names
+    }
+
+    /// Gives the names away, in order.
     pub fn into_names(self) -> Vec<Name>
         ensures { result.items ≡ self }
     {

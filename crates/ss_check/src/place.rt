@@ -1,19 +1,25 @@
 use crate::branch::Branch;
 use crate::call::{Call, Targets};
 use crate::expr::{Expr, Values};
+use crate::filing::Filing;
 use crate::looping::Looping;
-use crate::variable::Variable;
+use crate::making::Making;
+use crate::target::Target;
+use crate::timing::Timing;
 use ss_report::Picture;
 
 /// A place of a section: what one step runs.
 #[derive(Debug, Drop)]
 pub enum Place {
     Assign(Assign),
+    Making(Making),
+    Filing(Filing),
     Output(Output),
     Control(Control),
     Branch(Branch),
     Looping(Looping),
     Call(Call),
+    Timing(Timing),
     /// `READ` of its targets.
     Read(Targets),
 }
@@ -24,18 +30,18 @@ pub enum Assign {
     /// `[LET] target = value`; `written` says whether the word LET stands in the text.
     Let {
         written: bool,
-        target: Variable,
+        target: Target,
         value: Expr,
     },
     /// `ADD value TO target`.
     Add {
         value: Expr,
-        target: Variable,
+        target: Target,
     },
     /// `SUBTRACT value FROM target`.
     Subtract {
         value: Expr,
-        target: Variable,
+        target: Target,
     },
 }
 

@@ -62,7 +62,7 @@ pub struct Head {
 
 impl Section {
     /// A section of these places, with where each goes on.
-    pub(crate) fn new(
+    pub fn new(
         alloc: Global,
         head: Head,
         locals: Vec<Name>,

@@ -1,5 +1,5 @@
 use crate::variable::Variable;
-use ss_routines::TermSign;
+use ss_grammar::TermSign;
 
 /// A first term, which may have a sign at its head, and further terms, each with its sign.
 #[derive(Debug, Drop)]
@@ -26,7 +26,7 @@ pub struct Term {
     pub more: Vec<Factor>,
 }
 
-/// A number, a variable, a function of its arguments, or a sum within parentheses.
+/// A number, a variable, a function of its arguments, an attribute, or a sum within parentheses.
 #[derive(Debug, Drop)]
 #[cycle(sum)]
 pub enum Factor {
@@ -43,7 +43,58 @@ pub enum Factor {
     Quotient(Box<Sum>, Box<Sum>),
     /// `MOD.F` of dividend and divisor.
     Remainder(Box<Sum>, Box<Sum>),
+    /// An attribute, by its class and its number there.
+    Attribute {
+        class: usize,
+        attribute: usize,
+        subscript: Subscript,
+    },
+    /// `F.s`, `L.s` or `N.s` of a set.
+    OwnerKept {
+        kept: OwnerKept,
+        set: usize,
+        subscript: Subscript,
+    },
+    /// `P.s`, `S.s` or `M.s` of a set.
+    MemberKept {
+        kept: MemberKept,
+        set: usize,
+        subscript: Subscript,
+    },
     Within(Box<Sum>),
+}
+
+/// Which entity is meant.
+#[derive(Debug, Drop)]
+#[cycle(sum)]
+pub enum Subscript {
+    /// No subscript is written: the global variable of a class's name stands for it.
+    Implied(usize),
+    /// The system, which owns a list and has no subscript.
+    System,
+    Written(Box<Sum>),
+}
+
+/// A kept attribute of a set's owner.
+#[derive(Clone, Copy, Debug, PartialEq, Eq)]
+pub enum OwnerKept {
+    /// `F.s`, the first member.
+    First,
+    /// `L.s`, the last member.
+    Last,
+    /// `N.s`, the number of members.
+    Count,
+}
+
+/// A kept attribute of a set's member.
+#[derive(Clone, Copy, Debug, PartialEq, Eq)]
+pub enum MemberKept {
+    /// `P.s`, the member directly before it.
+    Predecessor,
+    /// `S.s`, the member directly behind it.
+    Successor,
+    /// `M.s`, 1 for a member and else 0.
+    Membership,
 }
 
 /// The arguments of `MAX.F` and `MIN.F`: a first one, and further ones.

@@ -1,5 +1,5 @@
 -- Conflicts among declarations.
-use Rattle.std.proofs.Common.{◌≡◌, ◌||◌, Bool, List, [], ◌∷◌, ◌++◌, refl, sym, ap, ◌∙◌, append_assoc}
+use Rattle.std.proofs.Common.{◌≡◌, ◌||◌, Bool, List, [], ◌∷◌, ◌++◌, sym, ap, ◌∙◌, append_assoc}
 use Rattle.ss_checker.specs.declared.fact.Fact.{Fact}
 use Rattle.ss_checker.specs.declared.name_kind.NameKind.{NameKind}
 use Rattle.ss_checker.specs.Facts.{fact_of}
@@ -14,7 +14,8 @@ push before [] f =
 push before (g ∷ gs) f =
     ap (λ (b : Bool). conflicts (fact_of before g.name) g.what || b) (push (before ++ g ∷ []) gs f)
     ∙ rw (append_assoc before (g ∷ []) gs)
-    (or_assoc (conflicts (fact_of before g.name) g.what) (one_conflicts (before ++ g ∷ []) gs) (conflicts (fact_of (before ++ g ∷ gs) f.name) f.what))
+    (or_assoc (conflicts (fact_of before g.name) g.what) (one_conflicts (before ++ g ∷ []) gs)
+    (conflicts (fact_of (before ++ g ∷ gs) f.name) f.what))
 
 -- one more declaration conflicts with what its name is, or those before it conflict already
 pub conflicts_push : (fs : List (Fact NameKind)) (f : Fact NameKind) →

@@ -1,5 +1,5 @@
 -- What a map of counts tells after each change.
-use Rattle.std.proofs.Common.{◌≡◌, ◌+◌, ℕ, Bool, true, false, cond, List, [], ◌∷◌, ◌++◌, length, Option, Some, None, refl, sym, ap, ◌∙◌, arith, subst}
+use Rattle.std.proofs.Common.{◌≡◌, ◌+◌, ℕ, Bool, true, false, cond, List, [], ◌∷◌, ◌++◌, Option, Some, None, refl, sym, ap, ◌∙◌, arith, subst}
 use Rattle.std.specs.Prelude.{bytes_eq, count_by, unwrap_or}
 use Rattle.std.specs.Global.{Vec}
 use Rattle.std.specs.BTreeMap.{BTreeMap, IsEmpty, IsUnchanged, UpdatesBy}
@@ -20,13 +20,15 @@ unfolding AreCounts
 counts_none m e n = ap (λ (o : Option ℕ). unwrap_or o 0) (ap (lookup (λ k. is_eq (slice_cmp nat_cmp n k.items))) e)
 
 -- a map with the same entries
-pub counts_same : (names : List Name) (m n : BTreeMap (Vec ℕ) ℕ) → IsUnchanged m n → AreCounts names m → AreCounts names n
+pub counts_same : (names : List Name) (m n : BTreeMap (Vec ℕ) ℕ) → IsUnchanged m n → AreCounts names m →
+    AreCounts names n
 unfolding AreCounts
 counts_same names m n e h b =
     ap (λ (o : Option ℕ). unwrap_or o 0) (ap (lookup (λ k. is_eq (slice_cmp nat_cmp b k.items))) e) ∙ h b
 
 -- the count that a map tells
-pub counts_some : (names : List Name) (m : BTreeMap (Vec ℕ) ℕ) (n : Name) (i : ℕ) → AreCounts names m → Some i ≡ entry_of m n →
+pub counts_some : (names : List Name) (m : BTreeMap (Vec ℕ) ℕ) (n : Name) (i : ℕ) → AreCounts names m →
+    Some i ≡ entry_of m n →
     i ≡ count_by (bytes_eq n) names
 unfolding AreCounts
 counts_some names m n i h e = ap (λ (o : Option ℕ). unwrap_or o 0) e ∙ h n
@@ -53,17 +55,20 @@ entry_same m n w k b u e =
     (λ x y. (eq_by_cmp_equiv nat_list_cmp_total).congr b x.items y.items)
     (λ y t. is_eq-slice_cmp b y.items ∙ apart k.items b y.items e (sym (is_eq-slice_cmp k.items y.items) ∙ t))
 
-push : (names : List Name) (m n : BTreeMap (Vec ℕ) ℕ) (k : Vec ℕ) (i : ℕ) (b : Name) (same : Bool) → bytes_eq k.items b ≡ same →
+push : (names : List Name) (m n : BTreeMap (Vec ℕ) ℕ) (k : Vec ℕ) (i : ℕ) (b : Name) (same : Bool) →
+    bytes_eq k.items b ≡ same →
     UpdatesBy (λ x y. slice_cmp nat_cmp x.items y.items) (λ y. slice_cmp nat_cmp k.items y.items) m n (Some (i + 1)) →
     i ≡ count_by (bytes_eq k.items) names → unwrap_or (entry_of m b) 0 ≡ count_by (bytes_eq b) names →
     unwrap_or (entry_of n b) 0 ≡ count_by (bytes_eq b) (names ++ k.items ∷ [])
 push names m n k i b true e u c h =
-    subst (λ (d : Name). unwrap_or (entry_of n d) 0 ≡ count_by (bytes_eq d) (names ++ k.items ∷ [])) ((bytes_eq-Decides k.items b).0 e)
+    subst (λ (d : Name). unwrap_or (entry_of n d) 0 ≡ count_by (bytes_eq d) (names ++ k.items ∷ []))
+    ((bytes_eq-Decides k.items b).0 e)
     (ap (λ (o : Option ℕ). unwrap_or o 0) u.1
     ∙ sym (count_push k.items names k.items ∙ rw (sym c, (bytes_eq-Decides k.items k.items).1 refl) refl))
 push names m n k i b false e u c h =
     ap (λ (o : Option ℕ). unwrap_or o 0) (entry_same m n (Some (i + 1)) k b u e) ∙ h
-    ∙ sym (count_push b names k.items ∙ rw (nat_list_eq_equiv.symm b k.items ∙ e) (plus_none (count_by (bytes_eq b) names)))
+    ∙ sym (count_push b names k.items
+    ∙ rw (nat_list_eq_equiv.symm b k.items ∙ e) (plus_none (count_by (bytes_eq b) names)))
   where
     plus_none : (j : ℕ) → j + 0 ≡ j
     plus_none j = omega arith
@@ -75,4 +80,5 @@ pub counts_more : (names : List Name) (m n : BTreeMap (Vec ℕ) ℕ) (k : Vec �
 unfolding AreCounts
 counts_more names m n k i name e u c h b =
     subst (λ (d : Name). unwrap_or (entry_of n b) 0 ≡ count_by (bytes_eq b) (names ++ d ∷ [])) e
-    (push names m n k i b (bytes_eq k.items b) refl u (c ∙ ap (λ (d : Name). count_by (bytes_eq d) names) (sym e)) (h b))
+    (push names m n k i b (bytes_eq k.items b) refl u (c ∙ ap (λ (d : Name). count_by (bytes_eq d) names) (sym e))
+    (h b))

@@ -1,7 +1,7 @@
 -- What a table of facts finds, and what it is after one more fact.
-use Rattle.std.proofs.Common.{◌≡◌, ◌<◌, ◌≤◌, ◌+◌, suc, ◌||◌, ℕ, Bool, true, false, not, cond, List, [], ◌∷◌, ◌++◌, length, Option, Some, None, refl, sym, ap, ◌∙◌, nat_lt, ◌==◌, arith, subst, append_assoc}
+use Rattle.std.proofs.Common.{◌≡◌, ◌≤◌, ◌+◌, suc, ◌||◌, ℕ, Bool, true, false, not, cond, List, [], ◌∷◌, ◌++◌, length, Option, Some, None, refl, sym, ap, ◌∙◌, nat_lt, ◌==◌, arith, subst, append_assoc}
 use Rattle.std.specs.Prelude.{bytes_eq, option_map, position, is_some, slice_get}
-use Rattle.std.specs.List.{list_any, find, position_or_len}
+use Rattle.std.specs.List.{find, position_or_len}
 use Rattle.std.specs.Option.{option_or}
 use Rattle.std.specs.Global.{Vec}
 use Rattle.std.specs.BTreeMap.{BTreeMap, UpdatesBy}
@@ -43,7 +43,8 @@ or_assoc true b c = refl
 or_assoc false b c = refl
 
 -- the names of facts with one more behind them
-pub names_of_push : {A : Type 0} (fs : List (Fact A)) (f : Fact A) → names_of (fs ++ f ∷ []) ≡ names_of fs ++ f.name ∷ []
+pub names_of_push : {A : Type 0} (fs : List (Fact A)) (f : Fact A) →
+    names_of (fs ++ f ∷ []) ≡ names_of fs ++ f.name ∷ []
 names_of_push [] f = refl
 names_of_push (g ∷ gs) f = ap (λ ns. g.name ∷ ns) (names_of_push gs f)
 
@@ -65,8 +66,10 @@ pub fact_at : {A : Type 0} (n : Name) (fs : List (Fact A)) →
 fact_at n [] = refl
 fact_at {A = A} n (f ∷ fs) = at (bytes_eq n f.name) (fact_at n fs)
   where
-    at : (b : Bool) → option_map (λ f. f.what) (slice_get fs (position_or_len (bytes_eq n) (names_of fs))) ≡ fact_of fs n →
-        option_map {T = Fact A} (λ f. f.what) (slice_get (f ∷ fs) (cond (not b) (1 + position_or_len (bytes_eq n) (names_of fs)) 0))
+    at : (b : Bool) → option_map (λ f. f.what) (slice_get fs (position_or_len (bytes_eq n) (names_of fs)))
+        ≡ fact_of fs n →
+        option_map {T = Fact A} (λ f. f.what)
+        (slice_get (f ∷ fs) (cond (not b) (1 + position_or_len (bytes_eq n) (names_of fs)) 0))
         ≡ option_map (λ f. f.what) (cond b (Some f) (find (λ g. bytes_eq n g.name) fs))
     at true h = refl
     at false h = ap (option_map (λ f. f.what)) (get_behind f fs (position_or_len (bytes_eq n) (names_of fs))) ∙ h
@@ -80,7 +83,8 @@ fact_found n fs i f p e = sym (ap (option_map (λ g. g.what)) (ap (slice_get fs)
 pub fact_none : {A : Type 0} (n : Name) (fs : List (Fact A)) (i : ℕ) →
     i ≡ position_or_len (bytes_eq n) (names_of fs) → nat_lt i (length fs) ≡ false → None ≡ fact_of fs n
 fact_none n fs i p e =
-    sym (ap (option_map (λ g. g.what)) (ap (slice_get fs) (sym p) ∙ slice_get_past fs i (ltb-false i (length fs) e))) ∙ fact_at n fs
+    sym (ap (option_map (λ g. g.what)) (ap (slice_get fs) (sym p)
+    ∙ slice_get_past fs i (ltb-false i (length fs) e))) ∙ fact_at n fs
 
 any_cons : (b c : Bool) (i l : ℕ) → c ≡ nat_lt i l → (b || c) ≡ nat_lt (cond (not b) (1 + i) 0) (suc l)
 any_cons true c i l e = grind (arith, common_steps)
@@ -88,7 +92,8 @@ any_cons false c i l e = grind (arith, common_steps, e)
 
 any_place : (n : Name) (ns : List Name) → is_among n ns ≡ nat_lt (position_or_len (bytes_eq n) ns) (length ns)
 any_place n [] = refl
-any_place n (m ∷ ms) = any_cons (bytes_eq n m) (is_among n ms) (position_or_len (bytes_eq n) ms) (length ms) (any_place n ms)
+any_place n (m ∷ ms) = any_cons (bytes_eq n m) (is_among n ms) (position_or_len (bytes_eq n) ms) (length ms)
+    (any_place n ms)
 
 -- a name has a fact where its place is before the end
 pub among_at : {A : Type 0} (n : Name) (fs : List (Fact A)) (i l : ℕ) →
@@ -139,9 +144,11 @@ kept : (ns : List Name) (n b : Name) → is_among n ns ≡ true → (e : Bool) �
 kept ns n b t false e = or_none_option (position (bytes_eq b) ns)
 kept ns n b t true e =
     or_some (position (bytes_eq b) ns) (Some (length ns))
-    (subst (λ (c : Name). is_some (position (bytes_eq c) ns) ≡ true) (sym ((bytes_eq-Decides b n).0 e)) (sym (any_is ns n) ∙ t))
+    (subst (λ (c : Name). is_some (position (bytes_eq c) ns) ≡ true) (sym ((bytes_eq-Decides b n).0 e))
+    (sym (any_is ns n) ∙ t))
 
-kept_push : (ns : List Name) (m : BTreeMap (Vec ℕ) ℕ) (n : Name) → is_among n ns ≡ true → IsIndex ns m → IsIndex (ns ++ n ∷ []) m
+kept_push : (ns : List Name) (m : BTreeMap (Vec ℕ) ℕ) (n : Name) → is_among n ns ≡ true → IsIndex ns m →
+    IsIndex (ns ++ n ∷ []) m
 unfolding IsIndex
 kept_push ns m n t h b = h b ∙ sym (position_push (bytes_eq b) ns n ∙ kept ns n b t (bytes_eq b n) refl)
 
@@ -151,29 +158,38 @@ pub index_again : {A : Type 0} (fs : List (Fact A)) (f : Fact A) (m : BTreeMap (
 index_again fs f m t h = rw (names_of_push fs f) (kept_push (names_of fs) m f.name t h)
 
 -- a map with the place of the first fact of a name
-pub index_first : {A : Type 0} (fs : List (Fact A)) (f : Fact A) (m n : BTreeMap (Vec ℕ) ℕ) (k : Vec ℕ) (l : ℕ) → k.items ≡ f.name →
-    l ≡ length fs → UpdatesBy (λ x y. slice_cmp nat_cmp x.items y.items) (λ y. slice_cmp nat_cmp k.items y.items) m n (Some l) →
+pub index_first : {A : Type 0} (fs : List (Fact A)) (f : Fact A) (m n : BTreeMap (Vec ℕ) ℕ) (k : Vec ℕ) (l : ℕ) →
+    k.items ≡ f.name →
+    l ≡ length fs → UpdatesBy (λ x y. slice_cmp nat_cmp x.items y.items)
+    (λ y. slice_cmp nat_cmp k.items y.items) m n (Some l) →
     is_among f.name (names_of fs) ≡ false → IsIndex (names_of fs) m → IsIndex (names_of (fs ++ f ∷ [])) n
 index_first fs f m n k l e s u t h =
     let ns = names_of fs in
     let size : l ≡ length ns = s ∙ sym (names_length fs) in
-    let v = subst (λ (i : ℕ). UpdatesBy (λ x y. slice_cmp nat_cmp x.items y.items) (λ y. slice_cmp nat_cmp k.items y.items) m n (Some i)) size u in
-    let none : position (bytes_eq k.items) ns ≡ None = rw e (none_is (position (bytes_eq f.name) ns) (sym (any_is ns f.name) ∙ t)) in
+    let v = subst (λ (i : ℕ). UpdatesBy (λ x y. slice_cmp nat_cmp x.items y.items)
+    (λ y. slice_cmp nat_cmp k.items y.items) m n (Some i)) size u in
+    let none : position (bytes_eq k.items) ns
+    ≡ None = rw e (none_is (position (bytes_eq f.name) ns) (sym (any_is ns f.name) ∙ t)) in
     rw (names_of_push fs f, sym e) (index_more ns m n k v none h)
 
 -- a name behind others repeats one where one of them is repeated or the name is among them
-repeats_push : (before ns : List Name) (n : Name) → repeats before (ns ++ n ∷ []) ≡ (repeats before ns || is_among n (before ++ ns))
-repeats_push before [] n = or_none (is_among n before) ∙ ap (λ (ms : List Name). is_among n ms) (sym (append_none before))
+repeats_push : (before ns : List Name) (n : Name) →
+    repeats before (ns ++ n ∷ []) ≡ (repeats before ns || is_among n (before ++ ns))
+repeats_push before [] n = or_none (is_among n before)
+    ∙ ap (λ (ms : List Name). is_among n ms) (sym (append_none before))
 repeats_push before (m ∷ ms) n =
     ap (λ (b : Bool). is_among m before || b) (repeats_push (before ++ m ∷ []) ms n)
-    ∙ rw (append_assoc before (m ∷ []) ms) (or_assoc (is_among m before) (repeats (before ++ m ∷ []) ms) (is_among n (before ++ m ∷ ms)))
+    ∙ rw (append_assoc before (m ∷ []) ms) (or_assoc (is_among m before) (repeats (before ++ m ∷ []) ms)
+    (is_among n (before ++ m ∷ ms)))
 
 -- behind a second fact of a name there is a repeat
 pub repeats_again : {A : Type 0} (fs : List (Fact A)) (f : Fact A) → is_among f.name (names_of fs) ≡ true →
     true ≡ repeats [] (names_of (fs ++ f ∷ []))
-repeats_again fs f t = rw (names_of_push fs f, repeats_push [] (names_of fs) f.name, t) (sym (or_all (repeats [] (names_of fs))))
+repeats_again fs f t = rw (names_of_push fs f, repeats_push [] (names_of fs) f.name, t)
+    (sym (or_all (repeats [] (names_of fs))))
 
 -- behind the first fact of a name there is one where there was one
 pub repeats_first : {A : Type 0} (fs : List (Fact A)) (f : Fact A) (b : Bool) → is_among f.name (names_of fs) ≡ false →
     b ≡ repeats [] (names_of fs) → b ≡ repeats [] (names_of (fs ++ f ∷ []))
-repeats_first fs f b t h = rw (names_of_push fs f, repeats_push [] (names_of fs) f.name, t) (h ∙ sym (or_none (repeats [] (names_of fs))))
+repeats_first fs f b t h = rw (names_of_push fs f, repeats_push [] (names_of fs) f.name, t) (h
+    ∙ sym (or_none (repeats [] (names_of fs))))

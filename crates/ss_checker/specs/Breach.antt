@@ -1,5 +1,5 @@
 -- The first rule of the checker that a program breaks, in the order of its statements.
-use Rattle.std.specs.Prelude.{ℕ, false, not, List, [], ◌∷◌, ◌++◌, map, Option, Some, None, unwrap_or}
+use Rattle.std.specs.Prelude.{ℕ, false, not, List, [], ◌∷◌, ◌++◌, map, Option, unwrap_or}
 use Rattle.std.specs.List.{list_any}
 use Rattle.ss_preamble.specs.Tree.{Decls}
 use Rattle.ss_grammar.specs.Tree.{Head}

@@ -93,6 +93,11 @@ abbrev pub owned_in : Clause → List Name
 owned_in (Owns names) = all_of names
 owned_in _ = []
 
+-- BELONGS TO
+abbrev pub is_belongs_to : Clause → Bool
+is_belongs_to (BelongsTo names) = true
+is_belongs_to _ = false
+
 -- the sets of which a clause says who belongs to them
 abbrev pub joined_in : Clause → List Name
 joined_in (BelongsTo names) = all_of names
@@ -134,6 +139,16 @@ ties_in _ = []
 abbrev pub tied_events : Item → List Name
 tied_events (Orders (BreakTies c keys)) = c ∷ []
 tied_events _ = []
+
+-- the sets that a clause names
+abbrev pub sets_of : Clause → List Name
+sets_of (Has names) = []
+sets_of (Owns names) = all_of names
+sets_of (BelongsTo names) = all_of names
+
+-- the sets that an item names
+abbrev pub sets_in : Item → List Name
+sets_in i = disciplined_sets i ++ flat_map sets_of (clauses_of i)
 
 -- the external classes that an item names
 abbrev pub external_in : Item → List Name

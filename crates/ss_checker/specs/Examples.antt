@@ -1,15 +1,14 @@
 -- Small programs, and the first rule that each breaks. An item stands on each line from 2 on, and MAIN on line 20.
-use Rattle.std.specs.Prelude.{◌≡◌, ℕ, ◌+◌, true, false, List, [], ◌∷◌, ◌++◌, length, map, codes, Option, Some, None}
+use Rattle.std.specs.Prelude.{◌≡◌, ℕ, ◌+◌, true, false, List, [], ◌∷◌, ◌++◌, length, codes, Option, Some, None}
 use Rattle.ss_words.specs.Lists.{Name, Several}
 use Rattle.ss_preamble.specs.declared.item.Heading.TheVariants.{PermanentEntities, TemporaryEntities, EventNotices}
 use Rattle.ss_preamble.specs.declared.item.Rank.TheVariants.{High}
-use Rattle.ss_preamble.specs.Tree.{Key, Clause, Has, Owns, BelongsTo, SetKind, Fifo, Lifo, Ranked, Variables, Sets, PriorityOrder, BreakTies, ExternalEvents, Item, Headed, OfEvery, OfSystem, Defines, Orders, ItemAt, Decls}
+use Rattle.ss_preamble.specs.Tree.{Key, Clause, Has, Owns, BelongsTo, Fifo, Lifo, Ranked, Variables, Sets, PriorityOrder, BreakTies, ExternalEvents, Item, Headed, OfEvery, OfSystem, Defines, Orders, ItemAt, Decls}
 use Rattle.ss_grammar.specs.declared.place.Direction.TheVariants.{Onward}
 use Rattle.ss_grammar.specs.declared.place.Statistic.TheVariants.{Sum}
-use Rattle.ss_grammar.specs.declared.simple.Article.TheVariants.{A}
-use Rattle.ss_grammar.specs.Expr.{Expr, expr, no_sums, term, no_products, Factor, digits, named, applied, Exprs, no_exprs, exprs}
+use Rattle.ss_grammar.specs.Expr.{Expr, expr, no_sums, term, no_products, Factor, digits, named, applied, no_exprs}
 use Rattle.ss_grammar.specs.Condition.{Reference}
-use Rattle.ss_grammar.specs.Simple.{Let, Create, ByDiscipline, File, Listing, Unwritten, BehindGiven, Call, CalledFirst, Now, Schedule, StartSimulation, Print, Assigns, Makes, Files, Transfers, Times, Exchanges}
+use Rattle.ss_grammar.specs.Simple.{Let, Create, ByDiscipline, File, Listing, Unwritten, BehindGiven, Call, StartSimulation, Print, Assigns, Makes, Files, Transfers, Times, Exchanges}
 use Rattle.ss_grammar.specs.Loops.{Range, Counting, Each, Found, NoneFound}
 use Rattle.ss_grammar.specs.Tree.{Head, MainHead, RoutineHead, EventHead}
 use Rattle.ss_grammar.specs.Places.{If, Always, For, Find, Gather, Compute, Place, Simply, Branches, Loops, EndOfSection, Spot, Section}
@@ -398,7 +397,8 @@ EarlierStatementCounts =
 
 -- COMPUTE of I(1) AS SUM, its second place
 abbrev pub compute_i : Place
-compute_i = Loops (Compute (one (record { target = record { name = name_i; subscript = Some number }; statistic = Sum })))
+compute_i = Loops (Compute
+    (one (record { target = record { name = name_i; subscript = Some number }; statistic = Sum })))
 
 -- LET TIME.V = MOD.F breaks C7 and C9; EXTERNAL EVENTS ARE D, D of no class D breaks C1 and C2; of a COMPUTE the two
 -- places are one statement

@@ -1,6 +1,6 @@
 -- Names in lists, and tables of facts on names.
 use Rattle.std.specs.Prelude.{Bool, false, not, ◌||◌, if◌then◌else◌, List, [], ◌∷◌, ◌++◌, map, bytes_eq, Option, option_map}
-use Rattle.std.specs.List.{list_any, filter, find, fold}
+use Rattle.std.specs.List.{list_any, find, fold}
 use Rattle.ss_words.specs.Lists.{Name}
 use Rattle.ss_checker.specs.declared.fact.Fact.{Fact}
 
@@ -36,7 +36,3 @@ fact_of table n = option_map (λ f. f.what) (find (λ f. bytes_eq n f.name) tabl
 -- the names that have facts
 abbrev pub names_of : {A : Type 0} → List (Fact A) → List Name
 names_of table = map (λ f. f.name) table
-
--- those with a fact that passes a test
-abbrev pub names_where : {A : Type 0} → (A → Bool) → List (Fact A) → List Name
-names_where test table = names_of (filter (λ f. test f.what) table)

@@ -6,12 +6,18 @@ use Rattle.ss_preamble.specs.declared.item.Heading.{Heading}
 use Rattle.ss_preamble.specs.Tree.{Key, SetKind, Ranked, EventRule, BreakTies, ExternalEvents, Item, OfEvery, Orders}
 use Rattle.ss_grammar.specs.Tree.{Head}
 use Rattle.ss_grammar.specs.Places.{LocalNames, Section}
+use Rattle.ss_check.specs.declared.fault.CheckRule.{CheckRule}
 use Rattle.ss_check.specs.declared.fault.CheckRule.TheVariants.{DeclaredTwice, WrongClass, WrongOwner, WrongMember, WrongKey, WrongCount, WrongEvent, WrongMain, WrongPriority}
 use Rattle.ss_checker.specs.declared.tables.Tables.{Tables}
-use Rattle.ss_checker.specs.Facts.{is_among, repeats, is_one_outside, fact_of, names_of, names_where}
-use Rattle.ss_checker.specs.NameKinds.{one_conflicts, is_set, is_attribute_of, names_set}
-use Rattle.ss_checker.specs.Declarations.{Entry, class_of, declarations, owners_in, joined, members_in, disciplined_sets, disciplines_in, tied_events, ties_in, external_in, priority_in, classes_in, given_of, parameters, is_main, routine_facts, events_in, kind_of, is_declared, attribute_count, is_event_class}
-use Rattle.ss_checker.specs.Statements.{Statement, broken}
+use Rattle.ss_checker.specs.Facts.{is_among, repeats, is_one_outside, fact_of, names_of}
+use Rattle.ss_checker.specs.NameKinds.{one_conflicts, is_attribute_of, names_set}
+use Rattle.ss_checker.specs.Declarations.{Entry, class_of, declarations, owners_in, joined, members_in, disciplined_sets, disciplines_in, sets_in, tied_events, ties_in, external_in, priority_in, classes_in, given_of, parameters, is_main, routine_facts, events_in, kind_of, is_declared, attribute_count, is_event_class}
+use Rattle.ss_checker.specs.Statements.{Statement, broken, lowest}
+
+-- BELONGS without a class
+abbrev pub joins_system : Option Name → List Name → Bool
+joins_system None (s ∷ ss) = true
+joins_system _ _ = false
 
 -- d: what the whole program says; b: what the items and heads before say
 module _ (d b : Tables) where
@@ -38,23 +44,18 @@ module _ (d b : Tables) where
   names_wrong_class h _ = false
 
   -- the sets that an item names first
-  abbrev pub new_sets : Entry → List Name
-  new_sets x = filter (λ s. not (names_set (kind_of b s))) (names_where is_set (declarations x))
+  abbrev pub new_sets : Item → List Name
+  new_sets i = filter (λ s. not (names_set (kind_of b s))) (sets_in i)
 
   -- C4: a set, here named first, with no OWNS; a second OWNS
   abbrev pub has_wrong_owner : Entry → Bool
   has_wrong_owner x =
-      is_one_outside (names_of d.owners) (new_sets x) || repeats (names_of b.owners) (names_of (owners_in x.item))
-
-  -- BELONGS without a class
-  abbrev pub joins_system : Option Name → List Name → Bool
-  joins_system None (s ∷ ss) = true
-  joins_system _ _ = false
+      is_one_outside (names_of d.owners) (new_sets x.item) || repeats (names_of b.owners) (names_of (owners_in x.item))
 
   -- C5: a set, here named first, with no BELONGS of a class; a second one; a BELONGS of SYSTEM
   abbrev pub has_wrong_member : Entry → Bool
   has_wrong_member x =
-      is_one_outside (names_of d.members) (new_sets x) ||
+      is_one_outside (names_of d.members) (new_sets x.item) ||
       repeats (names_of b.members) (names_of (members_in x.item)) ||
       joins_system (class_of x.item) (joined x.item)
 
@@ -106,6 +107,10 @@ module _ (d b : Tables) where
         broken WrongPriority (has_wrong_priority b.priority (priority_in x.item));
   }
 
+  -- the lowest rule that an item breaks
+  unfoldable pub item_rule : Entry → Option CheckRule
+  item_rule x = lowest (item_statement x).breaks
+
   -- ---- heads
 
   -- C1: a routine declared before, a second section of an event class, a parameter that is declared or given twice
@@ -143,6 +148,14 @@ module _ (d b : Tables) where
         broken WrongMain (is_second_main s.head);
   }
 
+  -- the lowest rule that the head of a section breaks
+  unfoldable pub head_rule : Section → Option CheckRule
+  head_rule s = lowest (head_statement s).breaks
+
 -- a local DEFINE with the rules that it breaks; C1: a name that is declared
 abbrev pub local_statement : Tables → LocalNames → Statement
 local_statement d l = record { line = l.line; breaks = broken DeclaredTwice (list_any (is_declared d) (all_of l.names)) }
+
+-- the lowest rule that a local DEFINE breaks
+unfoldable pub local_rule : Tables → LocalNames → Option CheckRule
+local_rule d l = lowest (local_statement d l).breaks

@@ -10,3 +10,11 @@ pub mod Examples
 pub mod UseView
 pub mod Counted
 pub mod Adding
+pub mod Sorts
+pub mod ResolvedNames
+pub mod Resolved
+pub mod NamedTree
+pub mod FactsView
+pub mod Scope
+pub mod Readable
+pub mod FurtherExamples

@@ -83,11 +83,6 @@ abbrev pub is_class : NameKind → Bool
 is_class (k.Class h) = true
 is_class _ = false
 
--- a set
-abbrev pub is_set : NameKind → Bool
-is_set k.Set = true
-is_set _ = false
-
 -- a variable, N.c, or a class, which has its own variable
 abbrev pub is_global : NameKind → Bool
 is_global k.Variable = true

@@ -17,7 +17,7 @@ use Rattle.ss_checker.specs.Facts.{fact_of}
 use Rattle.ss_checker.specs.NameKinds.{names_set, names_routine, names_function, names_variable, names_fixed, serves}
 use Rattle.ss_checker.specs.Declarations.{kind_of, is_of_system, attribute_count}
 use Rattle.ss_checker.specs.Uses.{Use, Value, Target, InSet, LoopVariable, OfClass, Notice, Routine, uses}
-use Rattle.ss_checker.specs.Statements.{Statement, broken}
+use Rattle.ss_checker.specs.Statements.{Statement, broken, lowest}
 
 -- no value: a set or a routine
 abbrev pub is_valueless : Option NameKind → Bool
@@ -140,6 +140,11 @@ place_statement d in_main behind_find us p = record {
   breaks =
       use_breaks d us ++ broken WrongPicture (has_wrong_picture p.place) ++ standing_breaks in_main behind_find p.place;
 }
+
+-- the lowest rule that a place breaks, with others behind it
+unfoldable pub place_rule : Tables → Bool → Bool → Spot → List Spot → Option CheckRule
+place_rule d in_main behind_find p ps =
+    lowest (place_statement d in_main behind_find (uses_from p.place ps) p).breaks
 
 -- the places of a section, with whether it is MAIN, and whether a FIND stands directly before
 abbrev pub place_statements : Tables → Bool → Bool → List Spot → List Statement

@@ -16,7 +16,7 @@ use ss_words::Several;
 use std::alloc::{AllocError, Global};
 
 /// A name with letters and a stop before it.
-fn prefixed(alloc: Global, prefix: &[u8], name: &[u8]) -> Result<Vec<u8>, AllocError>
+pub(crate) fn prefixed(alloc: Global, prefix: &[u8], name: &[u8]) -> Result<Vec<u8>, AllocError>
     ensures { IfOk result (λ bytes. bytes.items ≡ prefix.now ++ name.now) }
 {
     let mut bytes = Vec::from_slice(alloc, prefix)?;

@@ -1,4 +1,4 @@
-ghost use Rattle.std.specs.Prelude.{◌≡◌, ◌<◌, true, false, [], ◌∷◌, ◌++◌, bytes_eq, length, option_map, slice_get, Some, OnErr, OnOk};
+ghost use Rattle.std.specs.Prelude.{◌≡◌, ◌<◌, ◌==◌, true, false, [], ◌∷◌, ◌++◌, bytes_eq, length, option_map, slice_get, Some, OnErr, OnOk};
 ghost use Rattle.std.specs.List.{position_or_len};
 ghost use Rattle.ss_checker.specs.Facts.{fact, fact_of, is_among, names_of, repeats};
 
@@ -45,11 +45,25 @@ impl<T: Drop> FactTable<T> {
         }
     }
 
+    /// The facts, in order.
+    pub fn as_slice(&self) -> &[Fact<T>]
+        ensures { result.now ≡ self.now }
+    {
+        &self.facts
+    }
+
     /// How many facts there are.
     fn len(&self) -> usize
         ensures { result ≡ length self.now }
     {
         self.facts.len()
+    }
+
+    /// Whether there is no fact.
+    pub fn is_empty(&self) -> bool
+        ensures { result ≡ (length self.now == 0) }
+    {
+        self.facts.is_empty()
     }
 
     /// The fact at this place.

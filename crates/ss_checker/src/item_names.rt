@@ -8,7 +8,7 @@ use ss_preamble::{Definition, EventRule, Item, Names};
 use std::alloc::AllocError;
 
 /// Adds names at the end of a list.
-fn add_names(list: &mut NameList, names: &Names) -> Result<(), AllocError>
+pub(crate) fn add_names(list: &mut NameList, names: &Names) -> Result<(), AllocError>
     ensures { OnOk result (list.new ≡ list.old ++ all_of (several_view (λ n. n.items) names.now)) }
 {
     list.add(&names.first)?;

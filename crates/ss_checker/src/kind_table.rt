@@ -2,6 +2,7 @@ ghost use Rattle.std.specs.Prelude.{◌≡◌, [], ◌∷◌, ◌++◌, option_m
 ghost use Rattle.ss_checker.specs.Facts.{fact, fact_of, is_among, names_of};
 ghost use Rattle.ss_checker.specs.NameKinds.{one_conflicts};
 
+use crate::fact::Fact;
 use crate::fact_table::FactTable;
 use crate::name_kind::{NameKind, conflicts};
 use std::alloc::{AllocError, Global};
@@ -43,6 +44,13 @@ impl KindTable {
         ensures { option_map (λ kind. kind.now) result ≡ fact_of self.now name.now }
     {
         self.table.get(name)
+    }
+
+    /// The declarations, in order.
+    pub fn as_slice(&self) -> &[Fact<NameKind>]
+        ensures { result.now ≡ self.now }
+    {
+        self.table.as_slice()
     }
 
     /// Whether a name is declared.

@@ -1,4 +1,6 @@
 //! Laws on the definitions. Each function does nothing, and its contract says the law.
+ghost use Rattle.ss_checker.specs.FurtherExamples.{SectionsAreDeclaredOnce, OrdersAreGivenOnce, LocalsHaveNamesOfTheirOwn, OrdersNameEvents, ValuesAreNoRoutines, KeysAreOfTheirClass, NoticesHaveAttributesForValues, YieldedAreCounted, FirstNamingIsRefused, AttributesMayChange, EventsStartNoSimulation};
+ghost use Rattle.ss_checker.specs.NamedTree.{TablesGiveTheText};
 ghost use Rattle.ss_checker.specs.Examples.{VariablesAreDeclaredOnce, ClassesHaveOneKind, SetsAreDeclaredOnce, RoutinesAreDeclaredOnce, ClassesAreNamedUnderHeadings, StatementsNeedClasses, NamesAreUsedAsDeclared, SetsHaveOneOwner, SetsHaveOneMemberClass, KeysAreAttributes, CountsAgree, EventsHaveAttributesForParameters, EventsHaveSections, TargetsMayChange, FieldsHaveValues, ThereIsOneMain, PriorityNamesEventsOnce, SimulationStartsInMain, FoundIsAskedBehindFind, EarlierStatementCounts, LowerRuleCounts};
 
 /// A variable is declared once, and TIME.V is declared before all.
@@ -104,4 +106,66 @@ pub fn earlier_statement_counts()
 /// Of two rules that one statement breaks the lower one is told.
 pub fn lower_rule_counts()
     ensures { LowerRuleCounts }
+{}
+
+/// An event class has one section, and a section's name and parameters are its own.
+pub fn sections_are_declared_once()
+    ensures { SectionsAreDeclaredOnce }
+{}
+
+/// The ties of an event class are broken once, and it is named once as external.
+pub fn orders_are_given_once()
+    ensures { OrdersAreGivenOnce }
+{}
+
+/// A local DEFINE names what is not declared.
+pub fn locals_have_names_of_their_own()
+    ensures { LocalsHaveNamesOfTheirOwn }
+{}
+
+/// EXTERNAL and PRIORITY name event classes, before or behind their headings.
+pub fn orders_name_events()
+    ensures { OrdersNameEvents }
+{}
+
+/// A routine has no value, and TIME.V has no subscript.
+pub fn values_are_no_routines()
+    ensures { ValuesAreNoRoutines }
+{}
+
+/// A tie key is an attribute of the event class, and a rank key one of the members, not of the owners.
+pub fn keys_are_of_their_class()
+    ensures { KeysAreOfTheirClass }
+{}
+
+/// A notice has an attribute for each value of its SCHEDULE.
+pub fn notices_have_attributes_for_values()
+    ensures { NoticesHaveAttributesForValues }
+{}
+
+/// A CALL has a target for each yielded parameter.
+pub fn yielded_are_counted()
+    ensures { YieldedAreCounted }
+{}
+
+/// Of an event class without section the first item that names it is refused, whatever its kind.
+pub fn first_naming_is_refused()
+    ensures { FirstNamingIsRefused }
+{}
+
+/// An attribute is a target with its subscript.
+pub fn attributes_may_change()
+    ensures { AttributesMayChange }
+{}
+
+/// START SIMULATION does not stand in an event.
+pub fn events_start_no_simulation()
+    ensures { EventsStartNoSimulation }
+{}
+
+/// A program without a breach, each number looked up in its table, is its text again: heads,
+/// parameters, places and their names and subscripts. It does not keep the local DEFINEs, nor
+/// whether arguments of CALL and parameters stand in parentheses or behind GIVEN.
+pub fn tables_give_the_text()
+    ensures { TablesGiveTheText }
 {}

@@ -1,6 +1,7 @@
-ghost use Rattle.std.specs.Prelude.{◌≡◌, [], ◌∷◌, ◌++◌, OnErr, OnOk};
-ghost use Rattle.ss_checker.specs.Facts.{is_among, repeats};
+ghost use Rattle.std.specs.Prelude.{◌≡◌, ◌==◌, [], ◌∷◌, ◌++◌, length, OnErr, OnOk};
+ghost use Rattle.ss_checker.specs.Facts.{is_among, names_of, repeats};
 
+use crate::fact::Fact;
 use crate::fact_table::FactTable;
 use std::alloc::{AllocError, Global};
 use std::marker::Model;
@@ -29,6 +30,21 @@ impl NameList {
         NameList {
             table: FactTable::new(alloc),
         }
+    }
+
+    /// Whether there is no name.
+    #[tactic(auto, using(crate::proofs::FactTables::names_length))]
+    pub fn is_empty(&self) -> bool
+        ensures { result ≡ (length self.now == 0) }
+    {
+        self.table.is_empty()
+    }
+
+    /// The names, in order, each as a fact that says nothing.
+    pub(crate) fn facts(&self) -> &[Fact<()>]
+        ensures { names_of result.now ≡ self.now }
+    {
+        self.table.as_slice()
     }
 
     /// Whether this name is in the list.

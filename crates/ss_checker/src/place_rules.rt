@@ -1,17 +1,60 @@
-ghost use Rattle.std.specs.Prelude.{◌≡◌, map};
+ghost use Rattle.std.specs.Prelude.{◌≡◌, ◌++◌, map, IfOk, OnOk};
 ghost use Rattle.ss_grammar.specs.View as view;
 ghost use Rattle.ss_checker.specs.PlaceRules as rules;
 ghost use Rattle.ss_checker.specs.Statements.{lowest};
 ghost use Rattle.ss_checker.specs.UseView.{use_view};
 
+use crate::fields::{has_decimal_field, has_field_count};
+use crate::place_uses::add_place;
 use crate::tables::Tables;
-use crate::use_list::Use;
+use crate::use_list::{Use, UseList};
 use crate::use_rules::{any_fixed, any_misused, any_wrong_class, any_wrong_count};
 use ss_check::CheckRule;
-use ss_grammar::{Branch, Loop, Place, Question, Simple, Timing};
+use ss_grammar::{Branch, Exchange, Loop, Place, Question, Simple, Spot, Timing};
+use std::alloc::{AllocError, Global};
+
+/// The lowest rule that a place breaks, in MAIN or not, directly behind a FIND or not, with others
+/// behind it.
+pub(crate) fn place_rule(
+    alloc: Global,
+    whole: &Tables,
+    in_main: bool,
+    behind_find: bool,
+    spot: &Spot,
+    behind: &[Spot],
+) -> Result<Option<CheckRule>, AllocError>
+    ensures { IfOk result (λ r. r ≡ rules.place_rule whole.now in_main behind_find
+        (view.spot_view spot.now) (view.spots behind.now)) }
+{
+    let mut uses = UseList::new(alloc);
+    add_statement(&mut uses, &spot.place, behind)?;
+    if let Some(rule) = use_rule(whole, uses.as_slice()) {
+        Ok(Some(rule))
+    } else if has_wrong_picture(&spot.place) {
+        Ok(Some(CheckRule::WrongPicture))
+    } else {
+        Ok(standing_rule(in_main, behind_find, &spot.place))
+    }
+}
+
+/// Adds the uses of the statement at a place with others behind it: COMPUTE is one of two places.
+fn add_statement<'a>(
+    uses: &mut UseList<'a>,
+    place: &'a Place,
+    behind: &'a [Spot],
+) -> Result<(), AllocError>
+    ensures { OnOk result
+        (uses.new ≡ uses.old ++ rules.uses_from (view.place_view place.now) (view.spots behind.now)) }
+{
+    add_place(uses, place)?;
+    match (place, behind.first()) {
+        (Place::Loop(Loop::Gather(_)), Some(next)) => add_place(uses, &next.place),
+        _ => Ok(()),
+    }
+}
 
 /// The lowest rule on names that these uses break.
-#[tactic(auto, using(crate::proofs::PlaceRules::any_map))]
+#[tactic(auto, using(crate::proofs::Tests::any_map))]
 pub(crate) fn use_rule(whole: &Tables, uses: &[Use<'_>]) -> Option<CheckRule>
     ensures { result ≡ lowest (rules.use_breaks whole.now (map use_view uses.now)) }
 {
@@ -25,6 +68,24 @@ pub(crate) fn use_rule(whole: &Tables, uses: &[Use<'_>]) -> Option<CheckRule>
         Some(CheckRule::FixedTarget)
     } else {
         None
+    }
+}
+
+/// Whether it is a PRINT whose values are not as many as its fields, or that has a decimal field.
+fn has_wrong_picture(place: &Place) -> bool
+    ensures { result ≡ rules.has_wrong_picture (view.place_view place.now) }
+{
+    match place {
+        Place::Simple(
+            Simple::Exchange(
+                Exchange::Print {
+                    values,
+                    picture,
+                    ..
+                },
+            ),
+        ) => { !has_field_count(picture, values.len()) || has_decimal_field(picture) }
+        _ => false,
     }
 }
 

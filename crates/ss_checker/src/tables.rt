@@ -2,7 +2,7 @@ ghost use Rattle.std.specs.Prelude.{◌≡◌, [], length, IfOk, OnOk};
 ghost use Rattle.ss_preamble.specs.View as items;
 ghost use Rattle.ss_grammar.specs.Tree.{listed};
 ghost use Rattle.ss_grammar.specs.View as heads;
-ghost use Rattle.ss_checker.specs.Adding.{with_entry, with_head};
+ghost use Rattle.ss_checker.specs.Adding.{entry_at, with_entry, with_head};
 ghost use Rattle.ss_checker.specs.Declarations.{tables_of};
 ghost use Rattle.ss_checker.specs.NameKinds.{language_facts};
 
@@ -17,7 +17,7 @@ use crate::name_list::NameList;
 use crate::set_facts::{add_attributes, add_members, add_owners};
 use ss_check::Name;
 use ss_grammar::{Listing, Section, SectionKind};
-use ss_preamble::{Heading, Item};
+use ss_preamble::{Heading, ItemAt};
 use std::alloc::{AllocError, Global};
 
 /// How many given and how many yielded parameters a routine has.
@@ -76,15 +76,16 @@ impl Tables {
     }
 
     /// Adds what an item says, under this heading.
+    #[tactic(auto, unfolding(crate::specs::Adding::with_entry))]
     pub fn add_item(
         &mut self,
         alloc: Global,
         heading: Option<Heading>,
-        item: &Item,
+        one: &ItemAt,
     ) -> Result<(), AllocError>
-        ensures { OnOk result
-            (self.new ≡ with_entry self.old (record { line = 0; heading = heading; item = items.item_view item.now })) }
+        ensures { OnOk result (self.new ≡ with_entry self.old (entry_at heading (items.item_at_view one.now))) }
     {
+        let item = &one.item;
         add_declarations(alloc, &mut self.kinds, heading, item)?;
         add_attributes(&mut self.attributes, item)?;
         add_owners(alloc, &mut self.owners, item)?;
@@ -97,6 +98,7 @@ impl Tables {
     }
 
     /// Adds what the head of a section says.
+    #[tactic(auto, unfolding(crate::specs::Adding::with_head))]
     pub fn add_head(&mut self, section: &Section) -> Result<(), AllocError>
         ensures { OnOk result (self.new ≡ with_head self.old (heads.section_view section.now).head) }
     {
@@ -119,7 +121,7 @@ impl Tables {
 }
 
 /// How many names are listed.
-fn name_count(names: &Listing<Vec<u8>>) -> usize
+pub(crate) fn name_count(names: &Listing<Vec<u8>>) -> usize
     ensures { result ≡ length (listed (heads.listing_view (λ n. n.items) names.now)) }
 {
     match names {

@@ -9,5 +9,7 @@ use Rattle.ss_checker.proofs.declarations.add_clauses.Given as goal
 -- the clauses that are left bring the declarations to all
 abbrev pub invariant-loop-clause : goal.invariant-loop-clause
 invariant-loop-clause l =
-    l.kinds ++ flat_map (clause_facts (option_map (λ c. c.now) l.class)) (map clause_view (drop l.clause-index l.clause-items))
-    ≡ l.fn.kinds ++ flat_map (clause_facts (option_map (λ c. c.now) l.class)) (all_of (several_view clause_view l.fn.clauses))
+    l.kinds ++ flat_map (clause_facts (option_map (λ c. c.now) l.class))
+    (map clause_view (drop l.clause-index l.clause-items))
+    ≡ l.fn.kinds ++ flat_map (clause_facts (option_map (λ c. c.now) l.class))
+    (all_of (several_view clause_view l.fn.clauses))

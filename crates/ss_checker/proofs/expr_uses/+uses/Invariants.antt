@@ -17,14 +17,17 @@ decreases-add_factor l = goal.size-add_factor l
 -- the terms that are left bring the uses to all
 abbrev pub invariant-add_expr-loop-further : goal.invariant-add_expr-loop-further
 invariant-add_expr-loop-further l =
-    l.uses ++ uses_sums (sums_of (map added_view (drop l.further-index l.further-items))) ≡ l.fn.uses ++ uses_expr (expr_view l.fn.e)
+    l.uses ++ uses_sums (sums_of (map added_view (drop l.further-index l.further-items)))
+    ≡ l.fn.uses ++ uses_expr (expr_view l.fn.e)
 
 -- the factors that are left do
 abbrev pub invariant-add_term-loop-further : goal.invariant-add_term-loop-further
 invariant-add_term-loop-further l =
-    l.uses ++ uses_products (products_of (map factor_view (drop l.further-index l.further-items))) ≡ l.fn.uses ++ uses_term (term_view l.fn.t)
+    l.uses ++ uses_products (products_of (map factor_view (drop l.further-index l.further-items)))
+    ≡ l.fn.uses ++ uses_term (term_view l.fn.t)
 
 -- the arguments that are left do
 abbrev pub invariant-add_factor-loop-other : goal.invariant-add_factor-loop-other
 invariant-add_factor-loop-other l =
-    l.uses ++ uses_exprs (exprs_of (map expr_view (drop l.other-index l.other-items))) ≡ l.fn.uses ++ uses_factor (factor_view l.fn.f)
+    l.uses ++ uses_exprs (exprs_of (map expr_view (drop l.other-index l.other-items)))
+    ≡ l.fn.uses ++ uses_factor (factor_view l.fn.f)

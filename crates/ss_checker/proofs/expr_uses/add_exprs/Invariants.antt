@@ -8,4 +8,5 @@ use Rattle.ss_checker.proofs.expr_uses.add_exprs.Given as goal
 -- the expressions that are left bring the uses to all
 abbrev pub invariant-loop-e : goal.invariant-loop-e
 invariant-loop-e l =
-    l.uses ++ flat_map uses_expr (map expr_view (drop l.e-index l.es)) ≡ l.fn.uses ++ flat_map uses_expr (map expr_view l.es)
+    l.uses ++ flat_map uses_expr (map expr_view (drop l.e-index l.es))
+    ≡ l.fn.uses ++ flat_map uses_expr (map expr_view l.es)

@@ -8,4 +8,5 @@ use Rattle.ss_checker.proofs.expr_uses.add_targets.Given as goal
 -- the targets that are left bring the uses to all
 abbrev pub invariant-loop-v : goal.invariant-loop-v
 invariant-loop-v l =
-    l.uses ++ flat_map uses_target (map reference_view (drop l.v-index l.vs)) ≡ l.fn.uses ++ flat_map uses_target (map reference_view l.vs)
+    l.uses ++ flat_map uses_target (map reference_view (drop l.v-index l.vs))
+    ≡ l.fn.uses ++ flat_map uses_target (map reference_view l.vs)

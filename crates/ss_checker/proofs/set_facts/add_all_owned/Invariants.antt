@@ -10,5 +10,7 @@ use Rattle.ss_checker.proofs.set_facts.add_all_owned.Given as goal
 -- the clauses that are left bring the owners to all
 abbrev pub invariant-loop-clause : goal.invariant-loop-clause
 invariant-loop-clause l =
-    l.owners ++ map (λ s. fact s (option_map (λ c. c.now) l.class)) (flat_map owned_in (map clause_view (drop l.clause-index l.clause-items)))
-    ≡ l.fn.owners ++ map (λ s. fact s (option_map (λ c. c.now) l.class)) (flat_map owned_in (all_of (several_view clause_view l.fn.clauses)))
+    l.owners ++ map (λ s. fact s (option_map (λ c. c.now) l.class))
+    (flat_map owned_in (map clause_view (drop l.clause-index l.clause-items)))
+    ≡ l.fn.owners ++ map (λ s. fact s (option_map (λ c. c.now) l.class))
+    (flat_map owned_in (all_of (several_view clause_view l.fn.clauses)))

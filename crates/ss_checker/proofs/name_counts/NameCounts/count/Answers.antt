@@ -11,4 +11,5 @@ returns-in-Some c =
 pub returns-in-None : goal.returns-in-None
 returns-in-None c =
     rw (sym c.self.view_is)
-    (counts_zero c.self.inside.names.items c.self.inside.counts c.args.name.now c.self.invariant c.in-None.ensures.value)
+    (counts_zero c.self.inside.names.items c.self.inside.counts c.args.name.now c.self.invariant
+    c.in-None.ensures.value)

@@ -6,7 +6,8 @@ use Rattle.ss_checker.proofs.name_counts.NameCounts.put.Goals as goal
 pub invariant_of-self-in_err-insert : goal.invariant_of-self-in_err-insert
 invariant_of-self-in_err-insert c =
     rw c.reserve.ensures.items
-    (counts_same c.self.inside.names.items c.self.inside.counts c.insert.new.self c.in_err-insert.ensures.err c.self.invariant)
+    (counts_same c.self.inside.names.items c.self.inside.counts c.insert.new.self c.in_err-insert.ensures.err
+    c.self.invariant)
 
 pub invariant_of-self-2 : goal.invariant_of-self-2
 invariant_of-self-2 c =

@@ -1,0 +1,49 @@
+use crate::expr::Expr;
+use crate::target::{SetRef, Target};
+
+/// An end of a list.
+#[derive(Clone, Copy, Debug, PartialEq, Eq)]
+pub enum End {
+    First,
+    Last,
+}
+
+/// Where FILE puts a member.
+#[derive(Debug, Drop)]
+pub enum Position {
+    /// By the set's discipline.
+    ByRule,
+    AtEnd(End),
+    /// Directly before the member that a value names.
+    Before(Expr),
+    /// Directly behind it.
+    After(Expr),
+}
+
+/// What files members and removes them.
+#[derive(Debug, Drop)]
+pub enum Filing {
+    /// `FILE member [FIRST | LAST | BEFORE other | AFTER other] IN set`.
+    File {
+        member: Expr,
+        position: Position,
+        set: SetRef,
+    },
+    /// `FILE (FIRST | LAST) member IN set`.
+    FileAt {
+        end: End,
+        member: Expr,
+        set: SetRef,
+    },
+    /// `REMOVE (FIRST | LAST) target FROM set`.
+    RemoveAt {
+        end: End,
+        target: Target,
+        set: SetRef,
+    },
+    /// `REMOVE member FROM set`.
+    Remove {
+        member: Expr,
+        set: SetRef,
+    },
+}

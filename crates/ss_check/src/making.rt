@@ -1,0 +1,26 @@
+use crate::expr::Expr;
+use crate::target::Target;
+
+/// What makes and ends entities. `is_called` says whether CALLED is written; without it the target
+/// or the value is the global variable of the class's name.
+#[derive(Debug, Drop)]
+pub enum Making {
+    /// `CREATE class [CALLED target]`.
+    Create {
+        class: usize,
+        is_called: bool,
+        target: Target,
+    },
+    /// `CREATE EVERY class [(number)]`: `count` is the number of the global variable `N.class`.
+    CreateEvery {
+        class: usize,
+        number: Option<Expr>,
+        count: usize,
+    },
+    /// `DESTROY class [CALLED entity]`.
+    Destroy {
+        class: usize,
+        is_called: bool,
+        entity: Expr,
+    },
+}

@@ -1,0 +1,56 @@
+use crate::expr::{Expr, Values};
+use crate::target::Target;
+
+/// What schedules event notices, takes them off, and starts events.
+#[derive(Debug, Drop)]
+pub enum Timing {
+    Schedule(Schedule),
+    /// `CANCEL class [CALLED notice]`; without CALLED the notice is the one that the global
+    /// variable of the class's name names.
+    Cancel {
+        class: usize,
+        is_called: bool,
+        notice: Expr,
+    },
+    /// `START SIMULATION`
+    Start,
+}
+
+/// `SCHEDULE` of a notice of a class, with the values of its first attributes, at a time.
+#[derive(Debug, Drop)]
+pub struct Schedule {
+    pub class: usize,
+    pub notice: Notice,
+    pub listing: Listing,
+    pub arguments: Values,
+    pub when: When,
+}
+
+/// Which notice is scheduled. `is_called` says whether CALLED is written; without it the target or
+/// the value is the global variable of the class's name.
+#[derive(Debug, Drop)]
+pub enum Notice {
+    /// `A class [CALLED target]`: a new one, whose reference goes to the target.
+    New { is_called: bool, target: Target },
+    /// `THE class [CALLED notice]`: the one that a value names.
+    Known { is_called: bool, notice: Expr },
+}
+
+/// How the arguments are written: in parentheses before CALLED, or with GIVEN behind it. Without
+/// arguments it is `Given`.
+#[derive(Clone, Copy, Debug, PartialEq, Eq)]
+pub enum Listing {
+    InParentheses,
+    Given,
+}
+
+/// When a notice is due.
+#[derive(Debug, Drop)]
+pub enum When {
+    /// `AT time`
+    At(Expr),
+    /// `NOW`
+    Now,
+    /// `IN days DAYS`
+    In(Expr),
+}

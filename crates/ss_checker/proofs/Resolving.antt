@@ -1,0 +1,59 @@
+-- The parts of a tree resolved one by one.
+use Rattle.std.proofs.Common.{◌≡◌, List, [], ◌∷◌, refl, ap, ◌∙◌}
+use Rattle.std.specs.Prelude.{map, Result, Ok, Err, IfOk}
+use Rattle.ss_words.specs.Lists.{Name}
+use Rattle.ss_grammar.specs.declared.expr.TermSign.{TermSign as WrittenSign}
+use Rattle.ss_grammar.specs.Expr as e
+use Rattle.ss_grammar.specs.Condition as c
+use Rattle.ss_grammar.specs.ConditionReading.{alternatives_of, additions_of}
+use Rattle.ss_grammar.specs.declared.expr.TermSign.{TermSign}
+use Rattle.ss_check.specs.ProgramExpr as x
+use Rattle.ss_check.specs.ProgramCondition as y
+use Rattle.ss_checker.specs.declared.tables.Tables.{Tables}
+use Rattle.ss_checker.specs.ResolvedNames.{Names}
+use Rattle.ss_checker.specs.Resolved.{resolved_sign, resolved_expr, resolved_sums, resolved_term, resolved_products, resolved_factor, resolved_exprs, resolved_alternatives, resolved_conjunction, resolved_additions, resolved_relation}
+
+-- a result of which something is this, is that too where the two are the same
+pub along : {A B E : Type 0} (r : Result A E) (f : A → B) (y z : B) → IfOk r (λ a. f a ≡ y) → y ≡ z → IfOk r (λ a. f a ≡ z)
+along (Ok a) f y z h e = h ∙ e
+along (Err a) f y z h e = tt
+
+-- a further term with its sign
+abbrev pub resolved_signed : Tables → Names → List Name → WrittenSign × e.Term → TermSign × x.Term
+resolved_signed d v locals s = (resolved_sign s.0, resolved_term d v locals s.1)
+
+pub sums_map : {X : Type 0} (d : Tables) (v : Names) (locals : List Name) (view : X → WrittenSign × e.Term) (xs : List X) →
+    x.sums_of (map (λ a. resolved_signed d v locals (view a)) xs) ≡ resolved_sums d v locals (e.sums_of (map view xs))
+sums_map d v locals view [] = refl
+sums_map d v locals view (a ∷ bs) =
+    ap (λ (ss : x.Sums). x.sum (resolved_sign (view a).0) (resolved_term d v locals (view a).1) ss)
+    (sums_map d v locals view bs)
+
+pub products_map : {X : Type 0} (d : Tables) (v : Names) (locals : List Name) (view : X → e.Factor) (xs : List X) →
+    x.products_of (map (λ a. resolved_factor d v locals (view a)) xs)
+    ≡ resolved_products d v locals (e.products_of (map view xs))
+products_map d v locals view [] = refl
+products_map d v locals view (a ∷ bs) =
+    ap (λ (fs : x.Products). x.product (resolved_factor d v locals (view a)) fs) (products_map d v locals view bs)
+
+pub exprs_map : {X : Type 0} (d : Tables) (v : Names) (locals : List Name) (view : X → e.Expr) (xs : List X) →
+    x.exprs_of (map (λ a. resolved_expr d v locals (view a)) xs) ≡ resolved_exprs d v locals (e.exprs_of (map view xs))
+exprs_map d v locals view [] = refl
+exprs_map d v locals view (a ∷ bs) =
+    ap (λ (es : x.Exprs). x.exprs (resolved_expr d v locals (view a)) es) (exprs_map d v locals view bs)
+
+pub alternatives_map : {X : Type 0} (d : Tables) (v : Names) (locals : List Name) (view : X → c.Conjunction) (xs : List X) →
+    y.conjunctions_of (map (λ a. resolved_conjunction d v locals (view a)) xs)
+    ≡ resolved_alternatives d v locals (alternatives_of (map view xs))
+alternatives_map d v locals view [] = refl
+alternatives_map d v locals view (a ∷ bs) =
+    ap (λ (cs : y.Conjunctions). y.or_else (resolved_conjunction d v locals (view a)) cs)
+    (alternatives_map d v locals view bs)
+
+pub additions_map : {X : Type 0} (d : Tables) (v : Names) (locals : List Name) (view : X → c.Relation) (xs : List X) →
+    y.relations_of (map (λ a. resolved_relation d v locals (view a)) xs)
+    ≡ resolved_additions d v locals (additions_of (map view xs))
+additions_map d v locals view [] = refl
+additions_map d v locals view (a ∷ bs) =
+    ap (λ (rs : y.Relations). y.and_also (resolved_relation d v locals (view a)) rs)
+    (additions_map d v locals view bs)

@@ -1,0 +1,270 @@
+-- What the items of a program without a breach keep to, taken together.
+use Rattle.std.proofs.Common.{◌≡◌, ◌⊎◌, Bool, true, false, not, ◌&&◌, cond, List, [], ◌∷◌, ◌++◌, refl, sym, ap, ◌∙◌, subst, Option, Some, None, append_assoc}
+use Rattle.std.specs.Prelude.{map}
+use Rattle.std.specs.List.{flat_map, filter, list_any}
+use mathlib.Core.Logic.{inl, inr}
+use Rattle.std.proofs.lemmas.Bool.{or_parts, not-false}
+use Rattle.std.proofs.lemmas.Cmp.{nat_list_eq_equiv}
+use Rattle.std.proofs.lemmas.Grind.{flat_map-append}
+use Rattle.std.proofs.lemmas.Map.Keys.{IsDistinct-push}
+use Rattle.ss_words.specs.Lists.{Name}
+use Rattle.ss_grammar.specs.Tree.{Head, MainHead, RoutineHead, EventHead}
+use Rattle.ss_checker.specs.declared.fact.Fact.{Fact}
+use Rattle.ss_checker.specs.declared.name_kind.NameKind.{NameKind}
+use Rattle.ss_checker.specs.declared.name_kind.NameKind.TheVariants as k
+use Rattle.ss_checker.specs.declared.tables.Tables.{Tables}
+use Rattle.ss_checker.specs.Facts.{is_among, repeats, fact, fact_of, names_of}
+use Rattle.ss_checker.specs.NameKinds.{language_facts, conflicts, one_conflicts, is_attribute_of, names_set}
+use Rattle.ss_checker.specs.Declarations.{Entry, declarations, sets_in, classes_in, priority_in, routine_facts, tables_of, kind_of, is_event_class}
+use Rattle.ss_checker.specs.ItemRules.{has_wrong_priority, is_without_section}
+use Rattle.ss_checker.specs.ResolvedNames.{names_where}
+use Rattle.ss_checker.proofs.SoundLists.{In, in_split, in_any, none_in, in_filter, in_among, among_in, fact_in, fact_there, where_from, AreApart, in_map}
+use Rattle.ss_checker.proofs.SoundDeclared.{Facts, closed_entry, declared}
+use Rattle.ss_checker.proofs.SoundUnbroken.{IsItemKept, AreItemsKept}
+
+pub nothing_more : {X : Type 0} (xs : List X) → xs ++ [] ≡ xs
+nothing_more [] = refl
+nothing_more (x ∷ xs) = ap (λ ys. x ∷ ys) (nothing_more xs)
+
+-- a list of pieces with one more piece behind
+in_more : {X Y : Type 0} (f : X → List Y) (y : Y) (xs : List X) (x : X) → In y (flat_map f (xs ++ x ∷ [])) → In y (flat_map f xs) ⊎ In y (f x)
+in_more f y xs x h =
+    let e : flat_map f (xs ++ x ∷ []) ≡ flat_map f xs ++ f x =
+    flat_map-append f xs (x ∷ []) ∙ ap (λ zs. flat_map f xs ++ zs) (nothing_more (f x)) in
+    in_split y (flat_map f xs) (f x) (subst (λ zs. In y zs) e h)
+
+-- each item is kept
+pub item_at : (d : Tables) (before xs : List Entry) (x : Entry) → AreItemsKept d before xs → In x xs → (b : Tables) × IsItemKept d b x
+item_at d before [] x h i = absurd i
+item_at d before (y ∷ ys) x h (inl e) = (tables_of before [], subst (λ (z : Entry). IsItemKept d (tables_of before []) z) (sym e) h.0)
+item_at d before (y ∷ ys) x h (inr i) = item_at d (before ++ y ∷ []) ys x h.1 i
+
+-- ---- sets have members
+
+set_by : (n : Name) (j : Option NameKind) → names_set j ≡ true → j ≡ Some k.Set
+set_by n (Some k.Set) h = refl
+set_by n None h = cc
+set_by n (Some k.Variable) h = cc
+set_by n (Some k.ClassCount) h = cc
+set_by n (Some (k.Class g)) h = cc
+set_by n (Some (k.Attribute c)) h = cc
+set_by n (Some (k.OwnerKept q s)) h = cc
+set_by n (Some (k.MemberKept q s)) h = cc
+set_by n (Some (k.Function f)) h = cc
+set_by n (Some k.Clock) h = cc
+set_by n (Some k.Routine) h = cc
+
+abbrev pub names_a_set : Fact NameKind → Bool
+names_a_set f = names_set (Some f.what)
+
+-- the language declares no set
+pub not_of_language : (s : Name) → In (fact s k.Set) language_facts → ⊥
+not_of_language s h =
+    let t : list_any names_a_set language_facts ≡ true = in_any names_a_set (fact s k.Set) language_facts h refl in cc
+
+-- nothing but items declares sets
+set_of_items : (xs : List Entry) (s : Name) → In (fact s k.Set) (tables_of xs []).kinds → In (fact s k.Set) (declared xs)
+set_of_items xs s h = last (in_split (fact s k.Set) (language_facts ++ declared xs) [] h)
+  where
+    first : In (fact s k.Set) language_facts ⊎ In (fact s k.Set) (declared xs) → In (fact s k.Set) (declared xs)
+    first (inl a) = absurd (not_of_language s a)
+    first (inr b) = b
+
+    last : In (fact s k.Set) (language_facts ++ declared xs) ⊎ In (fact s k.Set) [] → In (fact s k.Set) (declared xs)
+    last (inl a) = first (in_split (fact s k.Set) language_facts (declared xs) a)
+    last (inr b) = absurd b
+
+abbrev HaveMembers : Tables → List Entry → Type 0
+HaveMembers d xs = (s : Name) → In (fact s k.Set) (declared xs) → is_among s (names_of d.members) ≡ true
+
+new_set : (d : Tables) (before : List Entry) (x : Entry) (s : Name) → HaveMembers d before → IsItemKept d (tables_of before []) x →
+    In s (sets_in x.item) → (b : Bool) → names_set (kind_of (tables_of before []) s) ≡ b → is_among s (names_of d.members) ≡ true
+new_set d before x s m h i true e =
+    m s (set_of_items before s
+    (fact_in (tables_of before []).kinds s k.Set (set_by s (kind_of (tables_of before []) s) e)))
+new_set d before x s m h i false e =
+    let new = in_filter (λ n. not (names_set (kind_of (tables_of before []) n))) s (sets_in x.item) i (ap not e) in
+    not-false (is_among s (names_of d.members))
+    (none_in (λ n. not (is_among n (names_of d.members))) s _ h.member new)
+
+members_kept : (d : Tables) (before xs : List Entry) → AreItemsKept d before xs → HaveMembers d before → HaveMembers d (before ++ xs)
+members_kept d before [] h m = subst (HaveMembers d) (sym (nothing_more before)) m
+members_kept d before (x ∷ xs) h m =
+    subst (HaveMembers d) (append_assoc before (x ∷ []) xs) (members_kept d (before ++ x ∷ []) xs h.1 more)
+  where
+    more : HaveMembers d (before ++ x ∷ [])
+    more s i = by (in_more declarations (fact s k.Set) before x i)
+      where
+        by : In (fact s k.Set) (declared before) ⊎ In (fact s k.Set) (declarations x) → is_among s (names_of d.members) ≡ true
+        by (inl a) = m s a
+        by (inr b) =
+            new_set d before x s m h.0 (closed_entry x (fact s k.Set) b) (names_set (kind_of (tables_of before []) s)) refl
+
+-- each set that is declared has members
+pub sets_have_members : (d : Tables) (xs : List Entry) → AreItemsKept d [] xs → (s : Name) → In (fact s k.Set) (declared xs) →
+    is_among s (names_of d.members) ≡ true
+sets_have_members d xs h = members_kept d [] xs h (λ s i. absurd i)
+
+-- ---- event classes have sections
+
+abbrev named_classes : List Entry → List Name
+named_classes xs = flat_map (λ x. classes_in x.item) xs
+
+abbrev HaveSections : Tables → List Entry → Type 0
+HaveSections d xs = (c : Name) → In c (named_classes xs) → is_event_class d c ≡ true → is_among c d.events ≡ true
+
+section_by : (a e s : Bool) → (not a && (e && not s)) ≡ false → (a ≡ true → s ≡ true) → e ≡ true → s ≡ true
+section_by true e s h f g = f refl
+section_by false true true h f g = refl
+section_by false true false h f g = cc
+section_by false false s h f g = cc
+
+sections_kept : (d : Tables) (before xs : List Entry) → AreItemsKept d before xs → HaveSections d before → HaveSections d (before ++ xs)
+sections_kept d before [] h m = subst (HaveSections d) (sym (nothing_more before)) m
+sections_kept d before (x ∷ xs) h m =
+    subst (HaveSections d) (append_assoc before (x ∷ []) xs) (sections_kept d (before ++ x ∷ []) xs h.1 more)
+  where
+    more : HaveSections d (before ++ x ∷ [])
+    more c i e = by (in_more (λ y. classes_in y.item) c before x i)
+      where
+        by : In c (named_classes before) ⊎ In c (classes_in x.item) → is_among c d.events ≡ true
+        by (inl a) = m c a e
+        by (inr b) =
+            section_by (is_among c (named_classes before)) (is_event_class d c) (is_among c d.events)
+            (none_in (λ c. not (is_among c (named_classes before)) && is_without_section d (tables_of before []) c) c (classes_in x.item) h.0.event b)
+            (λ t. m c (among_in c (named_classes before) t) e) e
+
+-- each event class that is named has a section
+pub events_have_sections : (d : Tables) (xs : List Entry) → AreItemsKept d [] xs → (c : Name) → In c (named_classes xs) →
+    is_event_class d c ≡ true → is_among c d.events ≡ true
+events_have_sections d xs h = sections_kept d [] xs h (λ c i e. absurd i)
+
+-- ---- priority
+
+pub record IsPriority (d : Tables) (ns : List Name) : Type 0 where
+  pub once : repeats [] ns ≡ false
+  pub events : list_any (λ c. not (is_event_class d c)) ns ≡ false
+
+one_priority : (d b : Tables) (before ns : List Name) → has_wrong_priority d b before ns ≡ false → IsPriority d before → IsPriority d (before ++ ns)
+one_priority d b before [] h p = rw (nothing_more before) p
+one_priority d b (c ∷ cs) (n ∷ ns) h p = cc
+one_priority d b [] (n ∷ ns) h p =
+    let q = or_parts (repeats [] (n ∷ ns)) (list_any (λ c. not (is_event_class d c)) (n ∷ ns)) h in record { once = q.0; events = q.1 }
+
+abbrev priorities : List Entry → List Name
+priorities xs = flat_map (λ x. priority_in x.item) xs
+
+priorities_kept : (d : Tables) (before xs : List Entry) → AreItemsKept d before xs → IsPriority d (priorities before) →
+    IsPriority d (priorities (before ++ xs))
+priorities_kept d before [] h p = rw (nothing_more before) p
+priorities_kept d before (x ∷ xs) h p =
+    let e : priorities (before ++ x ∷ []) ≡ priorities before ++ priority_in x.item =
+    flat_map-append (λ y. priority_in y.item) before (x ∷ [])
+    ∙ ap (λ (zs : List Name). priorities before ++ zs) (nothing_more (priority_in x.item)) in
+    let a = h.0 in
+    subst (λ (ys : List Entry). IsPriority d (priorities ys)) (append_assoc before (x ∷ []) xs)
+    (priorities_kept d (before ++ x ∷ []) xs h.1
+    (subst (IsPriority d) (sym e) (one_priority d (tables_of before []) (priorities before) (priority_in x.item) a.priority p)))
+
+pub priority_kept : (d : Tables) (xs : List Entry) → AreItemsKept d [] xs → IsPriority d (priorities xs)
+priority_kept d xs h = priorities_kept d [] xs h (record { once = refl; events = refl })
+
+-- ---- attributes
+
+module _ (c : Name) where
+  abbrev attributes : Facts → List Name
+  attributes fs = names_where (is_attribute_of c) fs
+
+  pub attributes_both : (xs ys : Facts) → attributes (xs ++ ys) ≡ attributes xs ++ attributes ys
+  attributes_both [] ys = refl
+  attributes_both (f ∷ fs) ys = by (is_attribute_of c f.what) (attributes_both fs ys)
+    where
+      by : (b : Bool) → attributes (fs ++ ys) ≡ attributes fs ++ attributes ys →
+          map (λ (g : Fact NameKind). g.name) (cond b (f ∷ filter (λ (g : Fact NameKind). is_attribute_of c g.what) (fs ++ ys)) (filter (λ (g : Fact NameKind). is_attribute_of c g.what) (fs ++ ys)))
+          ≡ map (λ (g : Fact NameKind). g.name) (cond b (f ∷ filter (λ (g : Fact NameKind). is_attribute_of c g.what) fs) (filter (λ (g : Fact NameKind). is_attribute_of c g.what) fs)) ++ attributes ys
+      by true e = ap (λ (ns : List Name). f.name ∷ ns) e
+      by false e = e
+
+  -- what is declared before conflicts with an attribute
+  attribute_conflicts : (o : Option NameKind) (j : NameKind) → is_attribute_of c j ≡ true → conflicts o j ≡ false → o ≡ None
+  attribute_conflicts None j a h = refl
+  attribute_conflicts (Some i) (k.Attribute b) a h = by i h
+    where
+      by : (i : NameKind) → not (Rattle.ss_checker.specs.NameKinds.may_repeat i (k.Attribute b)) ≡ false → Some i ≡ None
+      by k.Variable h = cc
+      by k.ClassCount h = cc
+      by (k.Class g) h = cc
+      by (k.Attribute e) h = cc
+      by (k.OwnerKept q s) h = cc
+      by (k.MemberKept q s) h = cc
+      by (k.Function f) h = cc
+      by k.Clock h = cc
+      by k.Set h = cc
+      by k.Routine h = cc
+  attribute_conflicts (Some i) k.Variable a h = cc
+  attribute_conflicts (Some i) k.ClassCount a h = cc
+  attribute_conflicts (Some i) (k.Class g) a h = cc
+  attribute_conflicts (Some i) (k.OwnerKept q s) a h = cc
+  attribute_conflicts (Some i) (k.MemberKept q s) a h = cc
+  attribute_conflicts (Some i) (k.Function f) a h = cc
+  attribute_conflicts (Some i) k.Clock a h = cc
+  attribute_conflicts (Some i) k.Set a h = cc
+  attribute_conflicts (Some i) k.Routine a h = cc
+
+  -- a name without a fact is no attribute
+  not_attribute : (before : Facts) (n : Name) → fact_of before n ≡ None → (b : Bool) → is_among n (attributes before) ≡ b → b ≡ false
+  not_attribute before n e false h = refl
+  not_attribute before n e true h =
+      let p = where_from (is_attribute_of c) n before (among_in n (attributes before) h) in
+      let q = fact_there before n (in_among n (names_of before) (in_map (λ (f : Fact NameKind). f.name) (fact n p.what) before p.there)) in
+      let z : None ≡ Some q.0 = sym e ∙ q.1 in cc
+
+  one_attribute : (before : Facts) (f : Fact NameKind) → conflicts (fact_of before f.name) f.what ≡ false → AreApart (attributes before) →
+      AreApart (attributes (before ++ f ∷ []))
+  one_attribute before f h a = rw (attributes_both before (f ∷ [])) (by (is_attribute_of c f.what) refl)
+    where
+      by : (b : Bool) → is_attribute_of c f.what ≡ b →
+          AreApart (attributes before ++ map (λ (g : Fact NameKind). g.name) (cond b (f ∷ []) []))
+      by true e =
+          IsDistinct-push nat_list_eq_equiv (attributes before) f.name a
+          (not_attribute before f.name (attribute_conflicts (fact_of before f.name) f.what e h) (is_among f.name (attributes before)) refl)
+      by false e = rw (nothing_more (attributes before)) a
+
+  attributes_kept : (fs before : Facts) → one_conflicts before fs ≡ false → AreApart (attributes before) → AreApart (attributes (before ++ fs))
+  attributes_kept [] before h a = rw (nothing_more before) a
+  attributes_kept (f ∷ fs) before h a =
+      let p = or_parts (conflicts (fact_of before f.name) f.what) (one_conflicts (before ++ f ∷ []) fs) h in
+      subst (λ (gs : Facts). AreApart (attributes gs)) (append_assoc before (f ∷ []) fs)
+      (attributes_kept fs (before ++ f ∷ []) p.1 (one_attribute before f p.0 a))
+
+  items_apart : (d : Tables) (before xs : List Entry) → AreItemsKept d before xs → AreApart (attributes (language_facts ++ declared before)) →
+      AreApart (attributes (language_facts ++ declared (before ++ xs)))
+  items_apart d before [] h a = rw (nothing_more before) a
+  items_apart d before (x ∷ xs) h a =
+      let i = h.0 in
+      let e : declared (before ++ x ∷ []) ≡ declared before ++ declarations x =
+      flat_map-append declarations before (x ∷ []) ∙ ap (λ (zs : Facts). declared before ++ zs) (nothing_more (declarations x)) in
+      let once : one_conflicts (language_facts ++ declared before) (declarations x) ≡ false =
+      subst (λ (gs : Facts). one_conflicts gs (declarations x) ≡ false) (nothing_more (language_facts ++ declared before)) i.once in
+      let one = attributes_kept (declarations x) (language_facts ++ declared before) once a in
+      subst (λ (ys : List Entry). AreApart (attributes (language_facts ++ declared ys))) (append_assoc before (x ∷ []) xs)
+      (items_apart d (before ++ x ∷ []) xs h.1
+      (subst (λ (gs : Facts). AreApart (attributes gs))
+      (append_assoc language_facts (declared before) (declarations x) ∙ ap (λ (zs : Facts). language_facts ++ zs) (sym e)) one))
+
+  -- routines are no attributes
+  pub routines_none : (hs : List Head) → attributes (flat_map routine_facts hs) ≡ []
+  routines_none [] = refl
+  routines_none (MainHead ∷ hs) = routines_none hs
+  routines_none (EventHead n given saving ∷ hs) = routines_none hs
+  routines_none (RoutineHead n given yielded ∷ hs) = routines_none hs
+
+  -- the attributes of a class have names of their own
+  pub attributes_apart : (d : Tables) (xs : List Entry) (hs : List Head) → AreItemsKept d [] xs → AreApart (attributes (tables_of xs hs).kinds)
+  attributes_apart d xs hs h =
+      rw (
+        attributes_both (language_facts ++ declared xs) (flat_map routine_facts hs),
+        routines_none hs,
+        nothing_more (attributes (language_facts ++ declared xs)),
+      )
+      (items_apart d [] xs h Rattle.ss_checker.proofs.SoundLists.apart_none)

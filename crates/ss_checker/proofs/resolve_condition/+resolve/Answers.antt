@@ -1,0 +1,39 @@
+use Rattle.std.proofs.Common.{◌≡◌, ap, ◌∙◌, refl, arith}
+use Rattle.std.specs.Prelude.{map}
+use Rattle.std.proofs.lemmas.Grind.{common_steps}
+use Rattle.ss_grammar.specs.declared.condition.Condition.{out-Condition}
+use Rattle.ss_grammar.specs.declared.condition.Conjunction.{out-Conjunction}
+use Rattle.ss_grammar.specs.declared.condition.Relation.TheFolds.{fold_out-Condition, fold_out-Conjunction}
+use Rattle.ss_check.specs.declared.condition.Relation.TheFolds.{fold-roll-Conjunction, fold-roll-Disjunction}
+use Rattle.ss_grammar.specs.Condition as tree
+use Rattle.ss_grammar.specs.ConditionReading.{alternatives_of, additions_of}
+use Rattle.ss_grammar.specs.View as written
+use Rattle.ss_check.specs.ProgramCondition as checked
+use Rattle.ss_checker.specs.Resolved.{resolved_conjunction, resolved_relation, resolved_alternatives, resolved_additions}
+use Rattle.ss_checker.specs.Scope.{in_scope}
+use Rattle.ss_checker.proofs.Resolving.{alternatives_map, additions_map}
+use Rattle.ss_checker.proofs.resolve_condition.+resolve.Goals as goal
+
+pub resolve_disjunction-returns : goal.resolve_disjunction-returns
+resolve_disjunction-returns t c =
+    let s = c.args.scope in
+    let parts = (out-Condition c.args.c.now).more.items in
+    let all : map checked.conjunction_of c.loop-further.more.items
+    ≡ map (λ a. in_scope s resolved_conjunction (written.conjunction_view a)) parts = grind (arith, common_steps) in
+    let others : checked.conjunctions_of (map checked.conjunction_of c.loop-further.more.items)
+    ≡ in_scope s resolved_alternatives (alternatives_of (map written.conjunction_view parts))
+    = ap checked.conjunctions_of all
+    ∙ alternatives_map s.whole.now s.names.now s.locals.now written.conjunction_view parts in
+    rw (fold-roll-Disjunction checked.Relation checked.Conjunction checked.Condition checked.relation_level checked.conjunction_level checked.disjunction_level, fold_out-Condition tree.Relation tree.Condition tree.Conjunction written.relation_step written.condition_step written.conjunction_step, c.in_ok-first.ensures, others) refl
+
+pub resolve_conjunction-returns : goal.resolve_conjunction-returns
+resolve_conjunction-returns t c =
+    let s = c.args.scope in
+    let parts = (out-Conjunction c.args.c.now).more.items in
+    let all : map checked.relation_of c.loop-further.more.items
+    ≡ map (λ a. in_scope s resolved_relation (written.relation_view a)) parts = grind (arith, common_steps) in
+    let others : checked.relations_of (map checked.relation_of c.loop-further.more.items)
+    ≡ in_scope s resolved_additions (additions_of (map written.relation_view parts))
+    = ap checked.relations_of all
+    ∙ additions_map s.whole.now s.names.now s.locals.now written.relation_view parts in
+    rw (fold-roll-Conjunction checked.Relation checked.Conjunction checked.Condition checked.relation_level checked.conjunction_level checked.disjunction_level, fold_out-Conjunction tree.Relation tree.Condition tree.Conjunction written.relation_step written.condition_step written.conjunction_step, c.in_ok-first.ensures, others) refl

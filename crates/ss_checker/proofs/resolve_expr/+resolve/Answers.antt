@@ -1,0 +1,78 @@
+use Rattle.std.proofs.Common.{◌≡◌, ap, ◌∙◌, refl, sym, arith, rules, ℕ, List}
+use Rattle.std.specs.Prelude.{map, option_map}
+use Rattle.std.proofs.lemmas.Grind.{common_steps}
+use Rattle.ss_grammar.specs.declared.expr.TermSign.{TermSign as WrittenSign}
+use Rattle.ss_grammar.specs.declared.expr.Expr.{out-Expr}
+use Rattle.ss_grammar.specs.declared.expr.Term.{out-Term}
+use Rattle.ss_grammar.specs.declared.expr.Factor.TheFolds.{fold_out-Expr, fold_out-Term, fold-roll-Factor}
+use Rattle.ss_grammar.specs.declared.expr.Factor.TheVariants.{rolls-Applied}
+use Rattle.ss_grammar.specs.declared.expr.TermSign.{TermSign}
+use Rattle.ss_check.specs.declared.sum.Factor.TheFolds.{fold-roll-Arguments, fold-roll-Sum, fold-roll-Term}
+use Rattle.ss_grammar.specs.Expr as tree
+use Rattle.ss_grammar.specs.View as written
+use Rattle.ss_check.specs.ProgramExpr as checked
+use Rattle.ss_checker.specs.Resolved.{resolved_expr, resolved_exprs, resolved_factor, resolved_products, resolved_sums}
+use Rattle.ss_checker.specs.Declarations.{kind_of}
+use Rattle.ss_checker.specs.Scope.{in_scope}
+use Rattle.ss_checker.proofs.Resolving.{along, resolved_signed, exprs_map, products_map, sums_map}
+use Rattle.ss_checker.proofs.resolve_expr.+resolve.Goals as goal
+
+pub resolve_sum-returns : goal.resolve_sum-returns
+resolve_sum-returns t c =
+    let s = c.args.scope in
+    let terms = (out-Expr c.args.e.now).more.items in
+    let all : map checked.signed_of c.loop-further.more.items
+    ≡ map (λ a. in_scope s resolved_signed (written.added_view a)) terms = grind (arith, common_steps) in
+    let sums : checked.sums_of (map checked.signed_of c.loop-further.more.items)
+    ≡ in_scope s resolved_sums (tree.sums_of (map written.added_view terms))
+    = ap checked.sums_of all ∙ sums_map s.whole.now s.names.now s.locals.now written.added_view terms in
+    rw (fold-roll-Sum checked.Factor checked.Subscript (checked.Expr × checked.Exprs) (TermSign × checked.Term) checked.Expr checked.Term checked.factor_level checked.subscript_level checked.arguments_level checked.signed_level checked.sum_level checked.term_level, fold_out-Expr tree.Factor (WrittenSign × tree.Term) tree.Expr tree.Term written.factor_step written.added_step written.expr_step written.term_step, c.in_ok-first.ensures, c.resolve_lead-sign.ensures, sums) refl
+
+pub resolve_term-returns : goal.resolve_term-returns
+resolve_term-returns t c =
+    let s = c.args.scope in
+    let factors = (out-Term c.args.t.now).more.items in
+    let all : map checked.factor_of c.loop-further.more.items
+    ≡ map (λ f. in_scope s resolved_factor (written.factor_view f)) factors = grind (arith, common_steps) in
+    let products : checked.products_of (map checked.factor_of c.loop-further.more.items)
+    ≡ in_scope s resolved_products (tree.products_of (map written.factor_view factors))
+    = ap checked.products_of all ∙ products_map s.whole.now s.names.now s.locals.now written.factor_view factors in
+    rw (fold-roll-Term checked.Factor checked.Subscript (checked.Expr × checked.Exprs) (TermSign × checked.Term) checked.Expr checked.Term checked.factor_level checked.subscript_level checked.arguments_level checked.signed_level checked.sum_level checked.term_level, fold_out-Term tree.Factor (WrittenSign × tree.Term) tree.Expr tree.Term written.factor_step written.added_step written.expr_step written.term_step, c.in_ok-first.ensures, products) refl
+
+-- the factor, with what was written
+seen : (t : ℕ) (c : goal.resolve_factor-After-applied_factor t) → written.factor_view c.args.f.now
+    ≡ tree.applied c.in-Applied.name.items (written.expr_view c.in-Applied.first.value)
+    (tree.exprs_of (map written.expr_view c.in-Applied.others.items))
+seen t c =
+    let x = c.in-Applied in
+    ap written.factor_view (x.is ∙ sym (rolls-Applied x.name x.first x.others))
+    ∙ fold-roll-Factor tree.Factor (WrittenSign × tree.Term) tree.Expr tree.Term written.factor_step written.added_step written.expr_step written.term_step _
+
+-- its first argument
+first : (t : ℕ) (c : goal.resolve_factor-After-applied_factor t) →
+    checked.expr_of c.in_ok-first-in-Applied-2.first.value
+    ≡ in_scope c.args.scope resolved_expr (written.expr_view c.in-Applied.first.value)
+first t c = search rules
+
+-- what its name is declared as
+kind : (t : ℕ) (c : goal.resolve_factor-After-applied_factor t) → option_map (λ k. k.now) c.kind-in-Applied.result
+    ≡ kind_of c.args.scope.whole.now c.in-Applied.name.items
+kind t c = search rules
+
+-- its name
+name : (t : ℕ) (c : goal.resolve_factor-After-applied_factor t) →
+    c.deref-in-Applied-3.result.now ≡ c.in-Applied.name.items
+name t c = search rules
+
+pub resolve_factor-returns-after-loop-other : goal.resolve_factor-returns-after-loop-other
+resolve_factor-returns-after-loop-other t c =
+    let s = c.args.scope in
+    let others = c.in-Applied.others.items in
+    let all : map checked.expr_of c.loop-other.more.items
+    ≡ map (λ e. in_scope s resolved_expr (written.expr_view e)) others = grind (arith, common_steps) in
+    let exprs : checked.exprs_of (map checked.expr_of c.loop-other.more.items)
+    ≡ in_scope s resolved_exprs (tree.exprs_of (map written.expr_view others))
+    = ap checked.exprs_of all ∙ exprs_map s.whole.now s.names.now s.locals.now written.expr_view others in
+    let h = rw (fold-roll-Arguments checked.Factor checked.Subscript (checked.Expr × checked.Exprs) (TermSign × checked.Term) checked.Expr checked.Term checked.factor_level checked.subscript_level checked.arguments_level checked.signed_level checked.sum_level checked.term_level, exprs) at c.applied_factor.ensures in
+    along c.applied_factor.result checked.factor_of _ _ h
+    (rw (seen t c, first t c, kind t c, name t c) refl)

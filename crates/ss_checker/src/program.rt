@@ -1,0 +1,87 @@
+ghost use Rattle.std.specs.Prelude.{◌≡◌, false, map, None, IfErr, IfOk};
+ghost use Rattle.std.specs.List.{list_any};
+ghost use Rattle.ss_preamble.specs.Limits.{IsWithin};
+ghost use Rattle.ss_preamble.specs.Tree.{items_of};
+ghost use Rattle.ss_preamble.specs.View as preamble;
+ghost use Rattle.ss_grammar.specs.View as view;
+ghost use Rattle.ss_check.specs.ProgramSound.{IsSound};
+ghost use Rattle.ss_checker.specs.Breach as rules;
+ghost use Rattle.ss_checker.specs.Declarations as declared;
+ghost use Rattle.ss_checker.specs.PlaceRules.{has_wrong_picture};
+ghost use Rattle.ss_checker.specs.Resolved as resolved;
+ghost use Rattle.ss_checker.specs.Statements.{IsBreach};
+
+use crate::breach::check_rules;
+use crate::class_tables::{class_tables, priority};
+use crate::name_tables::NameTables;
+use crate::rankings::Rankings;
+use crate::resolve_section::resolve_section;
+use crate::set_tables::set_tables;
+use crate::tables::Tables;
+use ss_check::{CheckFault, Program};
+use ss_grammar::{Section, Sections};
+use ss_preamble::Decls;
+use std::alloc::{AllocError, Global};
+
+/// The checked program of what a text declares and of its sections: each name is a number in its
+/// table, and each picture has its fields (docs/LANGUAGE.md, "Rules of the checker"). What is
+/// declared is within the limits, as `preamble` ensures.
+///
+/// `Broken` tells the first statement that breaks a rule, by its line, and the lowest of the rules
+/// that it breaks; `Memory` that a growth was refused.
+pub fn check(alloc: Global, decls: Decls, sections: Sections) -> Result<Program, CheckFault>
+    requires { IsWithin (items_of (preamble.decls_view decls)) }
+    ensures sound { IfOk result (λ _. rules.breach (preamble.decls_view decls) sections ≡ None) }
+    ensures ok { IfOk result
+        (λ program. program ≡ resolved.resolved (preamble.decls_view decls) sections) }
+    ensures err { IfErr result (λ f. IsBreach f (rules.breach (preamble.decls_view decls) sections)) }
+{
+    let sections = sections.into_list();
+    let whole = check_rules(alloc, &decls, &sections)?;
+    let program = resolve_program(alloc, &whole, &decls, &sections)?;
+    Ok(program)
+}
+
+/// The program of these items and sections, which say `whole` and break no rule.
+fn resolve_program(
+    alloc: Global,
+    whole: &Tables,
+    decls: &Decls,
+    sections: &[Section],
+) -> Result<Program, AllocError>
+    requires whole { whole.now
+        ≡ declared.tables (preamble.decls_view decls.now).items (map view.section_view sections.now) }
+    requires pictures { list_any (λ q. list_any (λ s. has_wrong_picture s.place) q.places)
+        (map view.section_view sections.now) ≡ false }
+    requires sound { IsSound (resolved.resolved (preamble.decls_view decls.now) (map view.section_view sections.now)) }
+    ensures { IfOk result (λ program. program
+        ≡ resolved.resolved (preamble.decls_view decls.now) (map view.section_view sections.now)) }
+{
+    let names = NameTables::new(alloc, whole, sections)?;
+    let rankings = Rankings::new(alloc, &decls.items)?;
+    let classes = class_tables(alloc, whole, &names, &rankings)?;
+    let sets = set_tables(alloc, whole, &names, &rankings)?;
+    let priority = priority(alloc, whole, &names)?;
+    let sections = resolve_sections(alloc, whole, &names, sections)?;
+    let globals = names.into_globals();
+    Ok(Program::new(globals, classes, sets, priority, sections))
+}
+
+/// The sections of a program, with the numbers of their names.
+fn resolve_sections(
+    alloc: Global,
+    whole: &Tables,
+    names: &NameTables,
+    sections: &[Section],
+) -> Result<Vec<ss_check::Section>, AllocError>
+    requires { list_any (λ q. list_any (λ s. has_wrong_picture s.place) q.places)
+        (map view.section_view sections.now) ≡ false }
+    ensures { IfOk result (λ list. list.items
+        ≡ map (resolved.resolved_section whole.now names.now) (map view.section_view sections.now)) }
+{
+    let mut list = Vec::new(alloc);
+    for section in sections {
+        list.push(resolve_section(alloc, whole, names, section)?)?;
+    }
+    Ok(list)
+}

@@ -1,0 +1,114 @@
+ghost use Rattle.std.specs.Prelude.{◌≡◌, IfOk};
+ghost use Rattle.ss_grammar.specs.View.{condition_view, conjunction_view, relation_view};
+ghost use Rattle.ss_check.specs.ProgramCondition.{condition_of, conjunction_of, relation_of};
+ghost use Rattle.ss_checker.specs.Resolved as resolved;
+ghost use Rattle.ss_checker.specs.Scope.{in_scope};
+
+use crate::resolve_expr::resolve_expr;
+use crate::resolve_reference::resolve_set;
+use crate::scope::Scope;
+use ss_check::{Comparison, Condition, Conjunction, Copula, Disjunction, Relation};
+use std::alloc::AllocError;
+
+/// How two values are compared.
+fn resolve_comparison(comparison: ss_grammar::Comparison) -> Comparison
+    ensures { result ≡ resolved.resolved_comparison comparison }
+{
+    match comparison {
+        ss_grammar::Comparison::Equal => Comparison::Equals,
+        ss_grammar::Comparison::Unequal => Comparison::Differs,
+        ss_grammar::Comparison::Less => Comparison::Below,
+        ss_grammar::Comparison::Greater => Comparison::Above,
+        ss_grammar::Comparison::AtMost => Comparison::AtMost,
+        ss_grammar::Comparison::AtLeast => Comparison::AtLeast,
+    }
+}
+
+/// Whether NOT stands behind IS.
+fn resolve_copula(copula: ss_grammar::Copula) -> Copula
+    ensures { result ≡ resolved.resolved_copula copula }
+{
+    match copula {
+        ss_grammar::Copula::Is => Copula::Is,
+        ss_grammar::Copula::IsNot => Copula::IsNot,
+    }
+}
+
+/// A condition with the numbers of its names.
+pub(crate) fn resolve_condition(
+    scope: Scope<'_>,
+    c: &ss_grammar::Condition,
+) -> Result<Condition, AllocError>
+    ensures { IfOk result
+        (λ x. x ≡ in_scope scope.entry resolved.resolved_condition (condition_view c.now)) }
+{
+    let any = resolve_disjunction(scope, c)?;
+    Ok(Condition { any })
+}
+
+#[cycle(resolve)]
+fn resolve_disjunction(
+    scope: Scope<'_>,
+    c: &ss_grammar::Condition,
+) -> Result<Disjunction, AllocError>
+    ensures { IfOk result (λ x. condition_of x
+        ≡ in_scope scope.entry resolved.resolved_condition (condition_view c.now)) }
+{
+    let first = resolve_conjunction(scope, &c.first)?;
+    let mut more = Vec::new(scope.alloc);
+    for further in &c.more {
+        more.push(resolve_conjunction(scope, further)?)?;
+    }
+    Ok(Disjunction { first, more })
+}
+
+#[cycle(resolve)]
+fn resolve_conjunction(
+    scope: Scope<'_>,
+    c: &ss_grammar::Conjunction,
+) -> Result<Conjunction, AllocError>
+    ensures { IfOk result (λ x. conjunction_of x
+        ≡ in_scope scope.entry resolved.resolved_conjunction (conjunction_view c.now)) }
+{
+    let mut more = Vec::new(scope.alloc);
+    for further in &c.more {
+        more.push(resolve_relation(scope, further)?)?;
+    }
+    let first = resolve_relation(scope, &c.first)?;
+    Ok(Conjunction { first, more })
+}
+
+#[cycle(resolve)]
+fn resolve_relation(scope: Scope<'_>, r: &ss_grammar::Relation) -> Result<Relation, AllocError>
+    ensures { IfOk result (λ x. relation_of x
+        ≡ in_scope scope.entry resolved.resolved_relation (relation_view r.now)) }
+{
+    match r {
+        ss_grammar::Relation::Compared {
+            left,
+            comparison,
+            right,
+        } => Ok(Relation::Compared {
+            left: resolve_expr(scope, left)?,
+            comparison: resolve_comparison(*comparison),
+            right: resolve_expr(scope, right)?,
+        }),
+        ss_grammar::Relation::Empty { set, copula } => Ok(Relation::IsEmpty {
+            set: resolve_set(scope, set)?,
+            copula: resolve_copula(*copula),
+        }),
+        ss_grammar::Relation::Member {
+            member,
+            copula,
+            set,
+        } => Ok(Relation::IsIn {
+            member: resolve_expr(scope, member)?,
+            copula: resolve_copula(*copula),
+            set: resolve_set(scope, set)?,
+        }),
+        ss_grammar::Relation::Within(c) => {
+            let any = resolve_disjunction(scope, c)?;
+            Ok(Relation::Within(Box::new(scope.alloc, any)?))
+        }
+    }
+}

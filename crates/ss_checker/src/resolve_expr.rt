@@ -1,0 +1,283 @@
+ghost use Rattle.std.specs.Prelude.{◌≡◌, ◌++◌, map, option_map, IfOk, OnOk};
+ghost use Rattle.ss_words.specs.Lists.{all_of, several_view};
+ghost use Rattle.ss_words.specs.Reading.{option_view};
+ghost use Rattle.ss_grammar.specs.Tree.{listed};
+ghost use Rattle.ss_grammar.specs.View.{expr_view, term_view, factor_view, listing_view};
+ghost use Rattle.ss_check.specs.ProgramExpr.{expr_of, term_of, factor_of, arguments_of};
+ghost use Rattle.ss_check.specs.ProgramExpr as tree;
+ghost use Rattle.ss_checker.specs.Resolved as resolved;
+ghost use Rattle.ss_checker.specs.ResolvedNames as names;
+ghost use Rattle.ss_checker.specs.Scope.{in_scope};
+
+use crate::function::Function;
+use crate::name_kind::NameKind;
+use crate::scope::{
+    Scope, class_subscript, kind, member_kept, member_subscript, owner_kept, owner_subscript,
+    variable_of,
+};
+use ss_check::{Arguments, Expr, Factor, SignedTerm, Sum, Term, TermSign, Values};
+use ss_grammar::Listing;
+use ss_words::Several;
+use std::alloc::AllocError;
+
+/// The sign before a term.
+fn resolve_sign(sign: ss_grammar::TermSign) -> TermSign
+    ensures { result ≡ resolved.resolved_sign sign }
+{
+    match sign {
+        ss_grammar::TermSign::Plus => TermSign::Plus,
+        ss_grammar::TermSign::Minus => TermSign::Minus,
+    }
+}
+
+/// The sign before a first term, if one is written.
+fn resolve_lead(sign: Option<ss_grammar::TermSign>) -> Option<TermSign>
+    ensures { result ≡ option_map resolved.resolved_sign sign }
+{
+    sign.map(resolve_sign)
+}
+
+/// An expression with the numbers of its names.
+pub(crate) fn resolve_expr(scope: Scope<'_>, e: &ss_grammar::Expr) -> Result<Expr, AllocError>
+    ensures { IfOk result (λ x. x ≡ in_scope scope.entry resolved.resolved_expr (expr_view e.now)) }
+{
+    let sum = resolve_sum(scope, e)?;
+    Ok(Expr { sum })
+}
+
+/// An expression that may be left out.
+pub(crate) fn resolve_option(
+    scope: Scope<'_>,
+    e: &Option<ss_grammar::Expr>,
+) -> Result<Option<Expr>, AllocError>
+    ensures { IfOk result
+        (λ x. x ≡ in_scope scope.entry resolved.resolved_option (option_view expr_view e.now)) }
+{
+    match e {
+        None => Ok(None),
+        Some(e) => Ok(Some(resolve_expr(scope, e)?)),
+    }
+}
+
+/// A subscript, if one is written.
+pub(crate) fn resolve_subscript(
+    scope: Scope<'_>,
+    subscript: &Option<ss_grammar::Expr>,
+) -> Result<Option<Box<Sum>>, AllocError>
+    ensures { IfOk result (λ s. option_map (λ e. expr_of e.value) s
+        ≡ in_scope scope.entry resolved.resolved_option (option_view expr_view subscript.now)) }
+{
+    match subscript {
+        None => Ok(None),
+        Some(e) => {
+            let sum = resolve_sum(scope, e)?;
+            Ok(Some(Box::new(scope.alloc, sum)?))
+        }
+    }
+}
+
+/// Puts expressions at the end of a list.
+fn add_values(
+    scope: Scope<'_>,
+    list: &mut Vec<Expr>,
+    es: &[ss_grammar::Expr],
+) -> Result<(), AllocError>
+    ensures { OnOk result (list.new.items
+        ≡ list.old.items ++ map (in_scope scope.entry resolved.resolved_expr) (map expr_view es.now)) }
+{
+    for e in es {
+        list.push(resolve_expr(scope, e)?)?;
+    }
+    Ok(())
+}
+
+/// The expressions of a list, in order.
+pub(crate) fn resolve_values(
+    scope: Scope<'_>,
+    es: &[ss_grammar::Expr],
+) -> Result<Values, AllocError>
+    ensures { IfOk result
+        (λ xs. xs ≡ map (in_scope scope.entry resolved.resolved_expr) (map expr_view es.now)) }
+{
+    let mut list = Vec::new(scope.alloc);
+    add_values(scope, &mut list, es)?;
+    Ok(Values { list })
+}
+
+/// The expressions of a list of one or more, in order.
+pub(crate) fn resolve_several(
+    scope: Scope<'_>,
+    es: &Several<ss_grammar::Expr>,
+) -> Result<Values, AllocError>
+    ensures { IfOk result (λ xs. xs
+        ≡ map (in_scope scope.entry resolved.resolved_expr) (all_of (several_view expr_view es.now))) }
+{
+    let mut list = Vec::new(scope.alloc);
+    list.push(resolve_expr(scope, &es.first)?)?;
+    add_values(scope, &mut list, &es.others)?;
+    Ok(Values { list })
+}
+
+/// The expressions of a list that may be left out, in order.
+pub(crate) fn resolve_listed(
+    scope: Scope<'_>,
+    es: &Listing<ss_grammar::Expr>,
+) -> Result<Values, AllocError>
+    ensures { IfOk result (λ xs. xs
+        ≡ map (in_scope scope.entry resolved.resolved_expr) (listed (listing_view expr_view es.now))) }
+{
+    match es {
+        Listing::Unwritten => Ok(Values {
+            list: Vec::new(scope.alloc),
+        }),
+        Listing::BehindGiven(es) | Listing::InParentheses(es) => resolve_several(scope, es),
+    }
+}
+
+#[cycle(resolve)]
+fn resolve_sum(scope: Scope<'_>, e: &ss_grammar::Expr) -> Result<Sum, AllocError>
+    ensures { IfOk result
+        (λ x. expr_of x ≡ in_scope scope.entry resolved.resolved_expr (expr_view e.now)) }
+{
+    let first = resolve_term(scope, &e.first)?;
+    let mut more = Vec::new(scope.alloc);
+    for further in &e.more {
+        let term = resolve_term(scope, &further.term)?;
+        let sign = resolve_sign(further.sign);
+        more.push(SignedTerm { sign, term })?;
+    }
+    let sign = resolve_lead(e.sign);
+    Ok(Sum { sign, first, more })
+}
+
+#[cycle(resolve)]
+fn resolve_term(scope: Scope<'_>, t: &ss_grammar::Term) -> Result<Term, AllocError>
+    ensures { IfOk result
+        (λ x. term_of x ≡ in_scope scope.entry resolved.resolved_term (term_view t.now)) }
+{
+    let mut more = Vec::new(scope.alloc);
+    for further in &t.more {
+        more.push(resolve_factor(scope, further)?)?;
+    }
+    let first = resolve_factor(scope, &t.first)?;
+    Ok(Term { first, more })
+}
+
+#[cycle(resolve)]
+fn resolve_factor(scope: Scope<'_>, f: &ss_grammar::Factor) -> Result<Factor, AllocError>
+    ensures { IfOk result
+        (λ x. factor_of x ≡ in_scope scope.entry resolved.resolved_factor (factor_view f.now)) }
+{
+    match f {
+        ss_grammar::Factor::Number(n) => Ok(Factor::Number(*n)),
+        ss_grammar::Factor::Name(name) => Ok(plain_factor(scope, kind(scope, name), name, None)),
+        ss_grammar::Factor::Applied {
+            name,
+            first,
+            others,
+        } => {
+            let first = resolve_sum(scope, first)?;
+            let first = Box::new(scope.alloc, first)?;
+            let mut more = Vec::new(scope.alloc);
+            for other in others {
+                more.push(resolve_sum(scope, other)?)?;
+            }
+            applied_factor(scope, kind(scope, name), name, Arguments { first, more })
+        }
+        ss_grammar::Factor::Within(e) => {
+            let sum = resolve_sum(scope, e)?;
+            Ok(Factor::Within(Box::new(scope.alloc, sum)?))
+        }
+    }
+}
+
+/// A name of this kind with a subscript or none.
+pub(crate) fn plain_factor(
+    scope: Scope<'_>,
+    kind: Option<&NameKind>,
+    name: &[u8],
+    subscript: Option<Box<Sum>>,
+) -> Factor
+    ensures { factor_of result ≡ in_scope scope.entry names.factor_of (option_map (λ k. k.now) kind.entry)
+        name.now (option_map (λ e. expr_of e.value) subscript) }
+{
+    match kind {
+        Some(NameKind::Attribute(class)) => {
+            let number = scope.names.class(&class.bytes);
+            Factor::Attribute {
+                class: number,
+                attribute: scope.names.attribute(number, name),
+                subscript: class_subscript(scope, &class.bytes, subscript),
+            }
+        }
+        Some(NameKind::OwnerKept { kept, set }) => Factor::OwnerKept {
+            kept: owner_kept(*kept),
+            set: scope.names.set(&set.bytes),
+            subscript: owner_subscript(scope, &set.bytes, subscript),
+        },
+        Some(NameKind::MemberKept { kept, set }) => Factor::MemberKept {
+            kept: member_kept(*kept),
+            set: scope.names.set(&set.bytes),
+            subscript: member_subscript(scope, &set.bytes, subscript),
+        },
+        _ => Factor::Variable(variable_of(scope, kind, name)),
+    }
+}
+
+/// A name of this kind with arguments.
+pub(crate) fn applied_factor(
+    scope: Scope<'_>,
+    kind: Option<&NameKind>,
+    name: &[u8],
+    arguments: Arguments,
+) -> Result<Factor, AllocError>
+    ensures { IfOk result
+        (λ f. factor_of f ≡ in_scope scope.entry names.applied_factor (option_map (λ k. k.now) kind.entry)
+        name.now (arguments_of arguments).0 (arguments_of arguments).1) }
+{
+    match kind {
+        Some(NameKind::Function(function)) => function_factor(scope, *function, arguments),
+        _ => Ok(plain_factor(scope, kind, name, Some(arguments.first))),
+    }
+}
+
+/// A function of its arguments.
+fn function_factor(
+    scope: Scope<'_>,
+    function: Function,
+    arguments: Arguments,
+) -> Result<Factor, AllocError>
+    ensures { IfOk result
+        (λ f. factor_of f ≡ in_scope scope.entry names.function_factor function
+        (arguments_of arguments).0 (arguments_of arguments).1) }
+{
+    match function {
+        Function::Absolute => Ok(Factor::Absolute(arguments.first)),
+        Function::Greatest => Ok(Factor::Greatest(arguments)),
+        Function::Least => Ok(Factor::Least(arguments)),
+        Function::Quotient => quotient_factor(scope, arguments),
+        Function::Remainder => remainder_factor(scope, arguments),
+    }
+}
+
+fn quotient_factor(scope: Scope<'_>, arguments: Arguments) -> Result<Factor, AllocError>
+    ensures { IfOk result (λ f. factor_of f ≡ in_scope scope.entry names.factor_of_two tree.quotient
+        (arguments_of arguments).0 (arguments_of arguments).1) }
+{
+    let Arguments { first, more } = arguments;
+    match more.into_iter().next() {
+        Some(second) => Ok(Factor::Quotient(first, Box::new(scope.alloc, second)?)),
+        None => Ok(Factor::Within(first)),
+    }
+}
+
+fn remainder_factor(scope: Scope<'_>, arguments: Arguments) -> Result<Factor, AllocError>
+    ensures { IfOk result (λ f. factor_of f ≡ in_scope scope.entry names.factor_of_two tree.remainder
+        (arguments_of arguments).0 (arguments_of arguments).1) }
+{
+    let Arguments { first, more } = arguments;
+    match more.into_iter().next() {
+        Some(second) => Ok(Factor::Remainder(first, Box::new(scope.alloc, second)?)),
+        None => Ok(Factor::Within(first)),
+    }
+}

@@ -1,0 +1,194 @@
+ghost use Rattle.std.specs.Prelude.{◌≡◌, map, IfOk};
+ghost use Rattle.ss_words.specs.Lists.{all_of, several_view};
+ghost use Rattle.ss_words.specs.Reading.{option_view};
+ghost use Rattle.ss_grammar.specs.View as view;
+ghost use Rattle.ss_checker.specs.Resolved as resolved;
+ghost use Rattle.ss_checker.specs.Scope.{in_scope};
+
+use crate::resolve_condition::resolve_condition;
+use crate::resolve_expr::{resolve_expr, resolve_option};
+use crate::resolve_reference::{resolve_set, resolve_target};
+use crate::scope::{Scope, class_variable, resolve_variable};
+use ss_check::{
+    Begin, Direction, ForPhrase, Looping, Phrase, Qualifier, QualifierWord, Qualifiers, Statistic,
+    Telling, Tellings, Variable,
+};
+use ss_grammar::{Computed, Loop, Range, WalkStart};
+use ss_words::Several;
+use std::alloc::AllocError;
+
+fn resolve_direction(direction: ss_grammar::Direction) -> Direction
+    ensures { result ≡ resolved.resolved_direction direction }
+{
+    match direction {
+        ss_grammar::Direction::Onward => Direction::Onward,
+        ss_grammar::Direction::Backward => Direction::Backward,
+    }
+}
+
+/// Where the walk of a set begins.
+fn resolve_begin(scope: Scope<'_>, start: &WalkStart) -> Result<Begin, AllocError>
+    ensures { IfOk result
+        (λ x. x ≡ in_scope scope.entry resolved.resolved_begin (view.walk_start_view start.now)) }
+{
+    match start {
+        WalkStart::AtEnd => Ok(Begin::AtTheEnd),
+        WalkStart::From(member) => Ok(Begin::From(resolve_expr(scope, member)?)),
+        WalkStart::After(member) => Ok(Begin::After(resolve_expr(scope, member)?)),
+    }
+}
+
+/// The variable behind CALLED, else that of the class's name.
+fn loop_variable(scope: Scope<'_>, class: &[u8], called: &Option<Vec<u8>>) -> Variable
+    ensures { result ≡ in_scope scope.entry resolved.loop_variable class.now
+        (option_view (λ n. n.items) called.now) }
+{
+    match called {
+        Some(name) => resolve_variable(scope, name),
+        None => class_variable(scope, class),
+    }
+}
+
+/// What a FOR phrase goes through.
+fn resolve_range(scope: Scope<'_>, range: &Range) -> Result<Phrase, AllocError>
+    ensures { IfOk result
+        (λ x. x ≡ in_scope scope.entry resolved.resolved_range (view.range_view range.now)) }
+{
+    match range {
+        Range::Counting {
+            direction,
+            variable,
+            first,
+            last,
+            step,
+        } => Ok(Phrase::Counting {
+            direction: resolve_direction(*direction),
+            variable: resolve_variable(scope, variable),
+            first: resolve_expr(scope, first)?,
+            last: resolve_expr(scope, last)?,
+            step: resolve_option(scope, step)?,
+        }),
+        Range::Each { class, variable } => Ok(Phrase::Each {
+            class: scope.names.class(class),
+            is_called: variable.is_some(),
+            variable: loop_variable(scope, class, variable),
+            count: scope.names.count(scope.alloc, class)?,
+        }),
+        Range::Walking {
+            direction,
+            variable,
+            set,
+            start,
+        } => Ok(Phrase::Walking {
+            direction: resolve_direction(*direction),
+            variable: resolve_variable(scope, variable),
+            set: resolve_set(scope, set)?,
+            begin: resolve_begin(scope, start)?,
+        }),
+    }
+}
+
+fn resolve_word(word: ss_grammar::QualifierWord) -> QualifierWord
+    ensures { result ≡ resolved.resolved_word word }
+{
+    match word {
+        ss_grammar::QualifierWord::With => QualifierWord::With,
+        ss_grammar::QualifierWord::Unless => QualifierWord::Unless,
+        ss_grammar::QualifierWord::While => QualifierWord::While,
+        ss_grammar::QualifierWord::Until => QualifierWord::Until,
+    }
+}
+
+fn resolve_qualifier(
+    scope: Scope<'_>,
+    qualifier: &ss_grammar::Qualifier,
+) -> Result<Qualifier, AllocError>
+    ensures { IfOk result
+        (λ x. x ≡ in_scope scope.entry resolved.resolved_qualifier (view.qualifier_view qualifier.now)) }
+{
+    Ok(Qualifier {
+        word: resolve_word(qualifier.word),
+        condition: resolve_condition(scope, &qualifier.condition)?,
+    })
+}
+
+/// The qualifiers of a FOR phrase, in order.
+fn resolve_qualifiers(
+    scope: Scope<'_>,
+    qualifiers: &[ss_grammar::Qualifier],
+) -> Result<Qualifiers, AllocError>
+    ensures { IfOk result (λ xs. xs ≡ map (in_scope scope.entry resolved.resolved_qualifier)
+        (map view.qualifier_view qualifiers.now)) }
+{
+    let mut list = Vec::new(scope.alloc);
+    for qualifier in qualifiers {
+        list.push(resolve_qualifier(scope, qualifier)?)?;
+    }
+    Ok(Qualifiers { list })
+}
+
+fn resolve_statistic(statistic: ss_grammar::Statistic) -> Statistic
+    ensures { result ≡ resolved.resolved_statistic statistic }
+{
+    match statistic {
+        ss_grammar::Statistic::Number => Statistic::Number,
+        ss_grammar::Statistic::Sum => Statistic::Sum,
+        ss_grammar::Statistic::Maximum => Statistic::Maximum,
+        ss_grammar::Statistic::Minimum => Statistic::Minimum,
+    }
+}
+
+fn resolve_telling(scope: Scope<'_>, computed: &Computed) -> Result<Telling, AllocError>
+    ensures { IfOk result
+        (λ x. x ≡ in_scope scope.entry resolved.resolved_telling (view.computed_view computed.now)) }
+{
+    Ok(Telling {
+        target: resolve_target(scope, &computed.target)?,
+        statistic: resolve_statistic(computed.statistic),
+    })
+}
+
+/// The targets of a COMPUTE, in order.
+fn resolve_tellings(scope: Scope<'_>, computed: &Several<Computed>) -> Result<Tellings, AllocError>
+    ensures { IfOk result (λ xs. xs ≡ map (in_scope scope.entry resolved.resolved_telling)
+        (all_of (several_view view.computed_view computed.now))) }
+{
+    let mut list = Vec::new(scope.alloc);
+    list.push(resolve_telling(scope, &computed.first)?)?;
+    for other in &computed.others {
+        list.push(resolve_telling(scope, other)?)?;
+    }
+    Ok(Tellings { list })
+}
+
+/// A FOR phrase, and whether DO stands behind it.
+fn resolve_phrase(
+    scope: Scope<'_>,
+    phrase: &ss_grammar::Phrase,
+    has_do: bool,
+) -> Result<ForPhrase, AllocError>
+    ensures { IfOk result
+        (λ x. x ≡ in_scope scope.entry resolved.resolved_phrase (view.phrase_view phrase.now) has_do) }
+{
+    Ok(ForPhrase {
+        phrase: resolve_range(scope, &phrase.range)?,
+        qualifiers: resolve_qualifiers(scope, &phrase.qualifiers)?,
+        has_do,
+    })
+}
+
+/// A place of a FOR statement with the numbers of its names.
+pub(crate) fn resolve_loop(scope: Scope<'_>, turn: &Loop) -> Result<Looping, AllocError>
+    ensures { IfOk result
+        (λ x. x ≡ in_scope scope.entry resolved.resolved_loop (view.loop_view turn.now)) }
+{
+    match turn {
+        Loop::For { phrase, repeats } => {
+            Ok(Looping::For(resolve_phrase(scope, phrase, *repeats)?))
+        }
+        Loop::Next => Ok(Looping::Loop),
+        Loop::Find => Ok(Looping::Find),
+        Loop::Gather(value) => Ok(Looping::Gather(resolve_expr(scope, value)?)),
+        Loop::Compute(computed) => Ok(Looping::Tell(resolve_tellings(scope, computed)?)),
+    }
+}

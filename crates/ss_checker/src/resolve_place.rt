@@ -1,0 +1,74 @@
+ghost use Rattle.std.specs.Prelude.{◌≡◌, false, map, IfOk};
+ghost use Rattle.std.specs.List.{list_any};
+ghost use Rattle.ss_grammar.specs.View as view;
+ghost use Rattle.ss_checker.specs.PlaceRules.{has_wrong_picture};
+ghost use Rattle.ss_checker.specs.Resolved as resolved;
+ghost use Rattle.ss_checker.specs.Scope.{in_scope};
+
+use crate::resolve_condition::resolve_condition;
+use crate::resolve_phrase::resolve_loop;
+use crate::resolve_statement::resolve_simple;
+use crate::scope::Scope;
+use ss_check::{Branch, Control, Place, Question, Spot};
+use std::alloc::AllocError;
+
+/// What an IF asks.
+fn resolve_question(
+    scope: Scope<'_>,
+    question: &ss_grammar::Question,
+) -> Result<Question, AllocError>
+    ensures { IfOk result
+        (λ x. x ≡ in_scope scope.entry resolved.resolved_question (view.question_view question.now)) }
+{
+    match question {
+        ss_grammar::Question::Holds(c) => Ok(Question::Whether(resolve_condition(scope, c)?)),
+        ss_grammar::Question::Found => Ok(Question::WasFound),
+        ss_grammar::Question::NoneFound => Ok(Question::WasNone),
+    }
+}
+
+/// A place of an IF statement with the numbers of its names.
+fn resolve_branch(scope: Scope<'_>, branch: &ss_grammar::Branch) -> Result<Branch, AllocError>
+    ensures { IfOk result
+        (λ x. x ≡ in_scope scope.entry resolved.resolved_branch (view.branch_view branch.now)) }
+{
+    match branch {
+        ss_grammar::Branch::If(question) => Ok(Branch::If(resolve_question(scope, question)?)),
+        ss_grammar::Branch::Else => Ok(Branch::Else),
+        ss_grammar::Branch::Always => Ok(Branch::Always),
+    }
+}
+
+/// A place with the numbers of its names.
+fn resolve_place(scope: Scope<'_>, place: &ss_grammar::Place) -> Result<Place, AllocError>
+    requires { has_wrong_picture (view.place_view place.now) ≡ false }
+    ensures { IfOk result
+        (λ x. x ≡ in_scope scope.entry resolved.resolved_place (view.place_view place.now)) }
+{
+    match place {
+        ss_grammar::Place::Simple(simple) => resolve_simple(scope, simple),
+        ss_grammar::Place::Branch(branch) => Ok(Place::Branch(resolve_branch(scope, branch)?)),
+        ss_grammar::Place::Loop(turn) => Ok(Place::Looping(resolve_loop(scope, turn)?)),
+        ss_grammar::Place::End => Ok(Place::Control(Control::End)),
+    }
+}
+
+/// The places of a section with the numbers of their names, in order.
+pub(crate) fn resolve_places(
+    scope: Scope<'_>,
+    places: &[ss_grammar::Spot],
+) -> Result<Vec<Spot>, AllocError>
+    requires { list_any (λ s. has_wrong_picture s.place) (view.spots places.now) ≡ false }
+    ensures { IfOk result
+        (λ xs. xs.items ≡ map (in_scope scope.entry resolved.resolved_spot) (view.spots places.now)) }
+{
+    let mut list = Vec::new(scope.alloc);
+    for spot in places {
+        let place = resolve_place(scope, &spot.place)?;
+        list.push(Spot {
+            line: spot.line,
+            place,
+        })?;
+    }
+    Ok(list)
+}

@@ -1,0 +1,78 @@
+ghost use Rattle.std.specs.Prelude.{◌≡◌, false, length, IfOk};
+ghost use Rattle.std.specs.List.{list_any};
+ghost use Rattle.ss_grammar.specs.View as view;
+ghost use Rattle.ss_checker.specs.Declarations.{given_of, yielded_of};
+ghost use Rattle.ss_checker.specs.PlaceRules.{has_wrong_picture};
+ghost use Rattle.ss_checker.specs.Resolved as resolved;
+
+use crate::declarations::copied;
+use crate::name_tables::NameTables;
+use crate::resolve_place::resolve_places;
+use crate::scope::Scope;
+use crate::section_locals::section_locals;
+use crate::tables::{Tables, name_count};
+use ss_check::{Head, Section, SectionKind};
+use std::alloc::{AllocError, Global};
+
+/// A section of a program with these tables, with the numbers of its names.
+pub(crate) fn resolve_section(
+    alloc: Global,
+    whole: &Tables,
+    names: &NameTables,
+    section: &ss_grammar::Section,
+) -> Result<Section, AllocError>
+    requires { list_any (λ s. has_wrong_picture s.place) (view.section_view section.now).places ≡ false }
+    ensures { IfOk result
+        (λ s. s ≡ resolved.resolved_section whole.now names.now (view.section_view section.now)) }
+{
+    let locals = section_locals(alloc, whole, section)?;
+    let scope = Scope {
+        alloc,
+        whole,
+        names,
+        locals: &locals,
+    };
+    let places = resolve_places(scope, &section.places)?;
+    let head = resolve_head(alloc, section)?;
+    Section::new(alloc, head, locals.into_names(), places)
+}
+
+/// What a section is made of, apart from its places.
+fn resolve_head(alloc: Global, section: &ss_grammar::Section) -> Result<Head, AllocError>
+    ensures { IfOk result (λ head. head ≡ record {
+      name = resolved.section_name (view.section_view section.now).head;
+      kind = resolved.section_kind (view.section_view section.now).head;
+      line = section.now.line;
+      given = length (given_of (view.section_view section.now).head);
+      yielded = length (yielded_of (view.section_view section.now).head);
+      saving = resolved.says_saving (view.section_view section.now).head;
+    }) }
+{
+    let line = section.line;
+    match &section.kind {
+        ss_grammar::SectionKind::Main => Ok(Head {
+            name: copied(alloc, b"MAIN")?,
+            kind: SectionKind::Main,
+            line,
+            given: 0,
+            yielded: 0,
+            saving: false,
+        }),
+        ss_grammar::SectionKind::Routine { given, yielded } => Ok(Head {
+            name: copied(alloc, &section.name)?,
+            kind: SectionKind::Routine,
+            line,
+            given: name_count(given),
+            yielded: yielded.len(),
+            saving: false,
+        }),
+        ss_grammar::SectionKind::Event { given, saving } => Ok(Head {
+            name: copied(alloc, &section.name)?,
+            kind: SectionKind::Event,
+            line,
+            given: name_count(given),
+            yielded: 0,
+            saving: *saving,
+        }),
+    }
+}

@@ -1,0 +1,288 @@
+ghost use Rattle.std.specs.Prelude.{◌≡◌, false, map, IfOk};
+ghost use Rattle.ss_words.specs.Reading.{option_view};
+ghost use Rattle.ss_report.specs.Pictures.{has_decimal_field};
+ghost use Rattle.ss_grammar.specs.Places as written;
+ghost use Rattle.ss_grammar.specs.Simple as simple;
+ghost use Rattle.ss_grammar.specs.View as view;
+ghost use Rattle.ss_checker.specs.PlaceRules.{has_wrong_picture};
+ghost use Rattle.ss_checker.specs.Resolved as resolved;
+ghost use Rattle.ss_checker.specs.Scope.{in_scope};
+
+use crate::resolve_expr::{
+    resolve_expr, resolve_listed, resolve_option, resolve_several, resolve_values,
+};
+use crate::resolve_reference::{
+    called_target, called_value, resolve_set, resolve_several_targets, resolve_target,
+    resolve_targets,
+};
+use crate::scope::Scope;
+use ss_check::{
+    Assign, Call, Control, End, Filing, Listing, Making, Notice, Output, Place, Position, Schedule,
+    Timing, When,
+};
+use ss_grammar::{Article, Details, Exchange, FilePlace, Reference, SetEnd, Simple, Transfer};
+use ss_report::{Picture, PictureFault};
+use std::alloc::{AllocError, Global};
+
+/// A statement that holds no other, with the numbers of its names.
+pub(crate) fn resolve_simple(scope: Scope<'_>, one: &Simple) -> Result<Place, AllocError>
+    requires { has_wrong_picture (written.Simply (view.simple_view one.now)) ≡ false }
+    ensures { IfOk result
+        (λ x. x ≡ in_scope scope.entry resolved.resolved_simple (view.simple_view one.now)) }
+{
+    match one {
+        Simple::Assign(assign) => Ok(Place::Assign(resolve_assign(scope, assign)?)),
+        Simple::Make(making) => Ok(Place::Making(resolve_making(scope, making)?)),
+        Simple::File(filing) => Ok(Place::Filing(resolve_filing(scope, filing)?)),
+        Simple::Transfer(transfer) => resolve_transfer(scope, transfer),
+        Simple::Time(timing) => Ok(Place::Timing(resolve_timing(scope, timing)?)),
+        Simple::Exchange(exchange) => resolve_exchange(scope, exchange),
+    }
+}
+
+fn resolve_assign(scope: Scope<'_>, assign: &ss_grammar::Assign) -> Result<Assign, AllocError>
+    ensures { IfOk result
+        (λ x. x ≡ in_scope scope.entry resolved.resolved_assign (view.assign_view assign.now)) }
+{
+    match assign {
+        ss_grammar::Assign::Let {
+            written,
+            target,
+            value,
+        } => Ok(Assign::Let {
+            written: *written,
+            target: resolve_target(scope, target)?,
+            value: resolve_expr(scope, value)?,
+        }),
+        ss_grammar::Assign::Add { value, target } => Ok(Assign::Add {
+            value: resolve_expr(scope, value)?,
+            target: resolve_target(scope, target)?,
+        }),
+        ss_grammar::Assign::Subtract { value, target } => Ok(Assign::Subtract {
+            value: resolve_expr(scope, value)?,
+            target: resolve_target(scope, target)?,
+        }),
+    }
+}
+
+fn resolve_making(scope: Scope<'_>, making: &ss_grammar::Making) -> Result<Making, AllocError>
+    ensures { IfOk result
+        (λ x. x ≡ in_scope scope.entry resolved.resolved_making (view.making_view making.now)) }
+{
+    match making {
+        ss_grammar::Making::Create { class, target } => Ok(Making::Create {
+            class: scope.names.class(class),
+            is_called: target.is_some(),
+            target: called_target(scope, class, target)?,
+        }),
+        ss_grammar::Making::CreateEvery { class, count } => Ok(Making::CreateEvery {
+            class: scope.names.class(class),
+            number: resolve_option(scope, count)?,
+            count: scope.names.count(scope.alloc, class)?,
+        }),
+        ss_grammar::Making::Destroy { class, entity } => Ok(Making::Destroy {
+            class: scope.names.class(class),
+            is_called: entity.is_some(),
+            entity: called_value(scope, class, entity)?,
+        }),
+    }
+}
+
+/// An end of a set's list.
+fn resolve_end(end: SetEnd) -> End
+    ensures { result ≡ resolved.resolved_end end }
+{
+    match end {
+        SetEnd::First => End::First,
+        SetEnd::Last => End::Last,
+    }
+}
+
+fn resolve_position(scope: Scope<'_>, place: &FilePlace) -> Result<Position, AllocError>
+    ensures { IfOk result
+        (λ x. x ≡ in_scope scope.entry resolved.resolved_position (view.file_place_view place.now)) }
+{
+    match place {
+        FilePlace::ByDiscipline => Ok(Position::ByRule),
+        FilePlace::AtEnd(end) => Ok(Position::AtEnd(resolve_end(*end))),
+        FilePlace::Before(other) => Ok(Position::Before(resolve_expr(scope, other)?)),
+        FilePlace::After(other) => Ok(Position::After(resolve_expr(scope, other)?)),
+    }
+}
+
+fn resolve_filing(scope: Scope<'_>, filing: &ss_grammar::Filing) -> Result<Filing, AllocError>
+    ensures { IfOk result
+        (λ x. x ≡ in_scope scope.entry resolved.resolved_filing (view.filing_view filing.now)) }
+{
+    match filing {
+        ss_grammar::Filing::File { member, place, set } => Ok(Filing::File {
+            member: resolve_expr(scope, member)?,
+            position: resolve_position(scope, place)?,
+            set: resolve_set(scope, set)?,
+        }),
+        ss_grammar::Filing::FileAt { end, member, set } => Ok(Filing::FileAt {
+            end: resolve_end(*end),
+            member: resolve_expr(scope, member)?,
+            set: resolve_set(scope, set)?,
+        }),
+        ss_grammar::Filing::RemoveEnd { end, target, set } => Ok(Filing::RemoveAt {
+            end: resolve_end(*end),
+            target: resolve_target(scope, target)?,
+            set: resolve_set(scope, set)?,
+        }),
+        ss_grammar::Filing::Remove { member, set } => Ok(Filing::Remove {
+            member: resolve_expr(scope, member)?,
+            set: resolve_set(scope, set)?,
+        }),
+    }
+}
+
+fn resolve_transfer(scope: Scope<'_>, transfer: &Transfer) -> Result<Place, AllocError>
+    ensures { IfOk result
+        (λ x. x ≡ in_scope scope.entry resolved.resolved_transfer (view.transfer_view transfer.now)) }
+{
+    match transfer {
+        Transfer::Call {
+            routine,
+            values,
+            targets,
+        } => Ok(Place::Call(Call {
+            section: scope.names.routine(routine),
+            given: resolve_listed(scope, values)?,
+            targets: resolve_targets(scope, targets)?,
+        })),
+        Transfer::Return => Ok(Place::Control(Control::Return)),
+        Transfer::Stop => Ok(Place::Control(Control::Stop)),
+    }
+}
+
+/// The notice of an event class that is scheduled: a new one, or one that there is.
+fn resolve_notice(
+    scope: Scope<'_>,
+    article: Article,
+    event: &[u8],
+    called: &Option<Reference>,
+) -> Result<Notice, AllocError>
+    ensures { IfOk result (λ x. x ≡ in_scope scope.entry resolved.resolved_notice article event.now
+        (option_view view.reference_view called.now)) }
+{
+    let is_called = called.is_some();
+    match article {
+        Article::A => Ok(Notice::New {
+            is_called,
+            target: called_target(scope, event, called)?,
+        }),
+        Article::The => Ok(Notice::Known {
+            is_called,
+            notice: called_value(scope, event, called)?,
+        }),
+    }
+}
+
+fn resolve_when(scope: Scope<'_>, when: &ss_grammar::When) -> Result<When, AllocError>
+    ensures { IfOk result
+        (λ x. x ≡ in_scope scope.entry resolved.resolved_when (view.when_view when.now)) }
+{
+    match when {
+        ss_grammar::When::At(time) => Ok(When::At(resolve_expr(scope, time)?)),
+        ss_grammar::When::Now => Ok(When::Now),
+        ss_grammar::When::In(delay) => Ok(When::In(resolve_expr(scope, delay)?)),
+    }
+}
+
+/// A SCHEDULE of a notice of an event class.
+fn resolve_schedule(
+    scope: Scope<'_>,
+    article: Article,
+    event: &[u8],
+    details: &Details,
+    when: &ss_grammar::When,
+) -> Result<Timing, AllocError>
+    ensures { IfOk result (λ x. x ≡ in_scope scope.entry resolved.resolved_schedule article event.now
+        (view.details_view details.now) (view.when_view when.now)) }
+{
+    let class = scope.names.class(event);
+    let when = resolve_when(scope, when)?;
+    match details {
+        Details::ValuesFirst { values, called } => Ok(Timing::Schedule(Schedule {
+            class,
+            notice: resolve_notice(scope, article, event, called)?,
+            listing: Listing::InParentheses,
+            arguments: resolve_several(scope, values)?,
+            when,
+        })),
+        Details::CalledFirst { called, values } => Ok(Timing::Schedule(Schedule {
+            class,
+            notice: resolve_notice(scope, article, event, called)?,
+            listing: Listing::Given,
+            arguments: resolve_values(scope, values)?,
+            when,
+        })),
+    }
+}
+
+fn resolve_timing(scope: Scope<'_>, timing: &ss_grammar::Timing) -> Result<Timing, AllocError>
+    ensures { IfOk result
+        (λ x. x ≡ in_scope scope.entry resolved.resolved_timing (view.timing_view timing.now)) }
+{
+    match timing {
+        ss_grammar::Timing::Schedule {
+            article,
+            event,
+            details,
+            when,
+        } => resolve_schedule(scope, *article, event, details, when),
+        ss_grammar::Timing::Cancel { event, called } => Ok(Timing::Cancel {
+            class: scope.names.class(event),
+            is_called: called.is_some(),
+            notice: called_value(scope, event, called)?,
+        }),
+        ss_grammar::Timing::StartSimulation => Ok(Timing::Start),
+    }
+}
+
+/// Copies of lines.
+fn copied_lines(alloc: Global, lines: &[Vec<u8>]) -> Result<Vec<Vec<u8>>, AllocError>
+    ensures { IfOk result
+        (λ copies. map (λ l. l.items) copies.items ≡ map (λ l. l.items) lines.now) }
+{
+    let mut copies = Vec::new(alloc);
+    for line in lines {
+        copies.push(Vec::from_slice(alloc, line)?)?;
+    }
+    Ok(copies)
+}
+
+/// The picture of these lines.
+fn resolve_picture(alloc: Global, lines: &[Vec<u8>]) -> Result<Picture, AllocError>
+    requires { has_decimal_field (map (λ l. l.items) lines.now) ≡ false }
+    ensures { IfOk result (λ picture. picture ≡ map (λ l. l.items) lines.now) }
+{
+    let copies = copied_lines(alloc, lines)?;
+    match Picture::new(alloc, copies) {
+        Ok(picture) => Ok(picture),
+        Err(PictureFault::Memory) => Err(AllocError),
+        Err(PictureFault::DecimalField) => unreachable!(),
+    }
+}
+
+fn resolve_exchange(scope: Scope<'_>, exchange: &Exchange) -> Result<Place, AllocError>
+    requires { has_wrong_picture (written.Simply (simple.Exchanges (view.exchange_view exchange.now)))
+        ≡ false }
+    ensures { IfOk result
+        (λ x. x ≡ in_scope scope.entry resolved.resolved_exchange (view.exchange_view exchange.now)) }
+{
+    match exchange {
+        Exchange::Read(targets) => Ok(Place::Read(resolve_several_targets(scope, targets)?)),
+        Exchange::Print {
+            count,
+            values,
+            picture,
+        } => Ok(Place::Output(Output::Print {
+            count: *count,
+            values: resolve_values(scope, values)?,
+            picture: resolve_picture(scope.alloc, picture)?,
+        })),
+        Exchange::Skip(lines) => Ok(Place::Output(Output::Skip(resolve_expr(scope, lines)?))),
+    }
+}
