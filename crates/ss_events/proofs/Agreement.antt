@@ -1,6 +1,6 @@
 -- The order by which notices are compared as lists of numbers is the order of their times, classes, keys and filing
 -- numbers.
-use Rattle.std.proofs.Common.{◌≡◌, ℕ, ℤ, pos, ◌<◌, ◌++◌, Bool, true, false, cond, eqb, int_lt, List, [], ◌∷◌, length}
+use Rattle.std.proofs.Common.{◌≡◌, ℕ, ℤ, pos, ◌++◌, Bool, true, false, cond, eqb, int_lt, List, [], ◌∷◌, length}
 use Rattle.std.proofs.Common.{Option, Some, None, refl, sym, ap, ◌∙◌, arith, suc, zero}
 use Rattle.std.proofs.lemmas.Bool.Decides.{nat_tests}
 use Rattle.std.proofs.lemmas.Int.{ints}
@@ -11,18 +11,19 @@ use Rattle.ss_check.specs.declared.keys.Rank.{Rank}
 use Rattle.ss_check.specs.declared.keys.Rank.TheVariants.{High, Low}
 use Rattle.ss_check.specs.declared.keys.Key.{Key}
 use Rattle.ss_check.specs.Keys.{ranked, by_keys}
-use Rattle.ss_events.specs.Rules.{Rule, rule_at}
+use Rattle.ss_events.specs.Rules.{Rule, rule_at, is_event_class}
 use Rattle.ss_events.specs.State.{AreRanked}
 use Rattle.ss_events.specs.Agenda.{Pending, Agenda, by_time, least_of, least, without_notice, first_notices, in_order}
 use Rattle.ss_events.specs.Weights.{weight, compared, less, before}
 use Rattle.ss_events.specs.State.{Each, AreFiled}
 use Rattle.ss_events.proofs.OrderLaws.{IsOrder, AreNoted, sorted, first_of_two, least_by, taken_in_turn}
 use Rattle.ss_events.proofs.OrderLaws.{in_turn-sorted, Each-least, Each-without, AreFiled-without}
+use Rattle.ss_events.proofs.EventLaws.{event-below}
 use Rattle.ss_events.proofs.WeightLaws.{IsOrder-before}
 
 -- a notice of a class, with a key for each of the class's
 abbrev pub IsKeyed : List Rule → Pending → Type 0
-IsKeyed rules e = (e.class < length rules) × (length e.keys ≡ length (rule_at rules e.class).ties)
+IsKeyed rules e = (is_event_class rules e.class ≡ true) × (length e.keys ≡ length (rule_at rules e.class).ties)
 
 -- two numbers decide, or what follows
 abbrev decided : ℤ → ℤ → Bool → Bool
@@ -82,8 +83,9 @@ by_time-before rules r e f h k =
     let q = (rule_at rules f.class).priority in
     let last = ordering_then (by_keys (rule_at rules e.class).ties e.keys f.keys) (nat_cmp e.filing f.filing) in
     let rest : p ≡ q → is_lt last ≡ less (compared (rule_at rules e.class).ties e.keys ++ pos e.filing ∷ [])
-    (compared (rule_at rules f.class).ties f.keys ++ pos f.filing ∷ []) = λ s. let same = r e.class f.class h.0
-    k.0 s in rw (← same) (keys-less (rule_at rules e.class).ties e.keys f.keys (pos e.filing ∷ []) (pos f.filing
+    (compared (rule_at rules f.class).ties f.keys ++ pos f.filing ∷ []) = λ s. let same = r e.class f.class (event-below
+    rules e.class h.0) (event-below rules f.class k.0) s in rw (← same) (keys-less (rule_at rules e.class).ties e.keys
+    f.keys (pos e.filing ∷ []) (pos f.filing
     ∷ []) (nat_cmp e.filing f.filing) h.1 (k.1 ∙ ap (λ c. length (rule_at rules c).ties) (sym same)) (filing-less
     e.filing f.filing)) in
     let class : is_lt (ordering_then (nat_cmp p q) last) ≡ decided (pos p) (pos q) (less (compared (rule_at rules

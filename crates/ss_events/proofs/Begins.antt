@@ -1,19 +1,20 @@
 -- The agenda without notices, and its board by class.
 use Rattle.std.proofs.Common.{◌≡◌, ℕ, ◌+◌, ◌<◌, ◌≤◌, List, [], ◌∷◌, length, map, refl, sym, ap, ◌∙◌, arith, suc, zero}
-use Rattle.std.proofs.Common.{true}
+use Rattle.std.proofs.Common.{true, slice_index}
 use Rattle.std.specs.List.{range_with_len}
 use Rattle.std.proofs.lemmas.List.FromFn.{map-range_with_len_more, length-map-range_with_len}
 use Rattle.ss_links.specs.Board.{Board, times, with_head, list_at}
 use Rattle.ss_links.specs.Seats.{has}
 use Rattle.ss_events.specs.Agenda.{Pending, of_class}
-use Rattle.ss_events.specs.Rules.{Rule}
+use Rattle.ss_events.specs.Rules.{Rule, event_classes}
 use Rattle.ss_events.specs.State.{AreRanked}
 use Rattle.ss_events.specs.State.{AgendaState, seats_of, order, no_notices}
 use Rattle.ss_events.specs.Places.{notice_on}
 use Rattle.ss_events.specs.Rows.{IsAgenda, notices_from}
 use Rattle.ss_events.specs.declared.entry.Row.{Row}
 use Rattle.ss_events.proofs.OrderLaws.{Each-of_class}
-use Rattle.ss_events.proofs.StateLaws.{AreSeated, seat_in-notice, list_at-by}
+use Rattle.ss_events.proofs.EventLaws.{list_at-head}
+use Rattle.ss_events.proofs.StateLaws.{AreSeated, seat_in-notice}
 use Rattle.ss_events.proofs.BoardOf.{class_seats, Each-order}
 use Rattle.ss_events.proofs.Standing.{told}
 
@@ -31,11 +32,17 @@ times-empty : (a n x : ℕ) → times (map (λ c. []) (range_with_len a n)) x �
 times-empty a zero x = refl
 times-empty a (suc n) x = omega (arith, times-empty (a + 1) n x)
 
-pub begins : (rules : List Rule) (n : ℕ) (b : Board) → n ≡ length rules → AreRanked rules → length rules ≤ 64 →
+empty-each : (a : ℕ) (cs : List ℕ) → map {A = ℕ} {B = List ℕ} (λ c. []) (range_with_len a (length cs)) ≡ map (λ c. [])
+    cs
+empty-each a [] = refl
+empty-each a (c ∷ cs) = ap (λ (ls : List (List ℕ)). [] ∷ ls) (empty-each (a + 1) cs)
+
+pub begins : (rules : List Rule) (n : ℕ) (b : Board) → n ≡ length (event_classes rules) → AreRanked rules → length
+    rules ≤ 64 →
     b ≡ empty_heads n → IsAgenda [] (no_notices rules) b
 begins rules n b h r few e = record {
   read = refl;
-  board = e ∙ ap empty_heads h;
+  board = e ∙ (ap empty_heads h ∙ ap board_of_lists (empty-each 0 (event_classes rules)));
   sound = rw e (record { once = λ x. omega (arith, times-empty 0 n x); below = λ x l. times-empty 0 n x });
   seats = λ i l. absurd (omega arith);
   seated = λ m l. absurd (cc);
@@ -55,20 +62,22 @@ notices-of_seats : (s : AgendaState) (es : List Pending) → AreSeated s.notices
 notices-of_seats s [] h = refl
 notices-of_seats s (e ∷ es) h = rw (seat_in-notice s.notices e.notice 0 h.0, notices-of_seats s es h.1) refl
 
-pub by-class : (rows : List Row) (s : AgendaState) (b : Board) → IsAgenda rows s b → (c : ℕ) → c < length s.rules →
-    map (λ seat. notice_on s seat) (list_at b.lists c) ≡ map (λ e. e.notice) (of_class c (order s))
+pub by-class : (rows : List Row) (s : AgendaState) (b : Board) → IsAgenda rows s b → (c : ℕ) →
+    c < length (event_classes s.rules) → map (λ seat. notice_on s seat) (list_at b.lists c) ≡ map (λ e. e.notice)
+    (of_class (slice_index (event_classes s.rules) c) (order s))
 by-class rows s b k c l =
     let t = told rows s b k in
-    let list = ap (λ (d : Board). list_at d.lists c) k.board ∙ list_at-by (class_seats s) (length s.rules) c l in
-    ap (map (λ seat. notice_on s seat)) list ∙ notices-of_seats s (of_class c (order s)) (Each-of_class (λ e. has
-    s.notices e.notice ≡ true) c (order s) (Each-order (λ e. has s.notices e.notice ≡ true) s t t.seated))
+    let own = slice_index (event_classes s.rules) c in
+    let list = ap (λ (d : Board). list_at d.lists c) k.board ∙ list_at-head (class_seats s) s.rules c l in
+    ap (map (λ seat. notice_on s seat)) list ∙ notices-of_seats s (of_class own (order s)) (Each-of_class (λ e. has
+    s.notices e.notice ≡ true) own (order s) (Each-order (λ e. has s.notices e.notice ≡ true) s t t.seated))
 
 pub heads-fit : (b : Board) (n : ℕ) → b ≡ empty_heads n → length b.lists ≡ n
 heads-fit b n e = rw e (length-map-range_with_len (λ c. []) 0 n)
 
 -- the agenda without notices, on its vectors
 pub begins-on : (rows : List Row) (rules : List Rule) (ns : List ℕ) (n : ℕ) (b : Board) → rows ≡ [] → ns ≡ [] →
-    n ≡ length rules → AreRanked rules → length rules ≤ 64 → b ≡ empty_heads n →
+    n ≡ length (event_classes rules) → AreRanked rules → length rules ≤ 64 → b ≡ empty_heads n →
     IsAgenda rows (record {
       rules = rules;
       agenda = record { pending = notices_from 1 rows; next_filing = 1 };

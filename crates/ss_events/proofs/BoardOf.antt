@@ -1,8 +1,7 @@
 -- Laws of the board of a state.
 use Rattle.std.proofs.Common.{◌≡◌, ℕ, ◌+◌, ◌<◌, ◌++◌, Bool, true, false, cond, eqb, ltb, List, [], ◌∷◌, length}
-use Rattle.std.proofs.Common.{Option, Some, None, refl, sym, ap, ◌∙◌, arith, suc, length-append}
+use Rattle.std.proofs.Common.{Option, Some, None, refl, sym, ap, ◌∙◌, arith, suc, length-append, get_or}
 use Rattle.std.proofs.lemmas.Bool.Decides.{nat_tests}
-use Rattle.std.proofs.lemmas.List.FromFn.{length-map-range_with_len}
 use Rattle.ss_links.specs.Board.{Board, list_at, head_of, IsSound, CanRelink, with_seat, relinked, unlinked}
 use Rattle.ss_links.specs.Seats.{has, put_at}
 use Rattle.ss_links.specs.Seats.{without as without_seat}
@@ -26,7 +25,10 @@ use Rattle.ss_events.specs.Places.{passed, rank_place}
 use Rattle.ss_events.specs.Changes.{with_pending, with_notices}
 use Rattle.ss_events.proofs.StateLaws.{seat_in-below, AreSeated, AreNoted-sorted, AreNoted-of_class, seats_of-placed}
 use Rattle.ss_events.proofs.StateLaws.{seats_of-without, seats_of-more, has-seats_of_none, has-seats_of_some}
-use Rattle.ss_events.proofs.StateLaws.{has-passed, list_at-by, lists_by-set, lists_by-map, lists_by-same}
+use Rattle.ss_events.proofs.StateLaws.{has-passed}
+use Rattle.ss_events.specs.Rules.{is_event_class, event_classes, event_number}
+use Rattle.ss_events.proofs.EventLaws.{list_at-by, list_at-head, length-lists_by, lists_by-set, lists_by-map}
+use Rattle.ss_events.proofs.EventLaws.{lists_by-same, event-at}
 
 abbrev pub board_with : List (List ℕ) → ℕ → Board
 board_with ls k = record { lists = ls; seats = k }
@@ -123,7 +125,7 @@ pub relinked-with : (s : AgendaState) (e : Pending) → IsTold s → IsNew s e �
     s.agenda.pending))
 relinked-with s e t n =
     let new = with_pending s (with_notice e s.agenda.pending) in
-    let here = list_at-by (class_seats s) (length s.rules) e.class n.keyed.0 in
+    let here = list_at-by (class_seats s) s.rules e.class n.keyed.0 in
     let same : eqb e.class e.class ≡ true = grind (arith, nat_tests) in
     let own : put_at (class_seats s e.class) (rank_place s e).before (seat_in s.notices e.notice) ≡ class_seats new
     e.class = seats_of-placed s.notices (before s.rules) e (of_class e.class (order s)) (Each-of_class (λ f. has
@@ -131,7 +133,7 @@ relinked-with s e t n =
     (AreNoted-of_class e.class (order s) (AreNoted-order s t)) ∙
     ap (seats_of s.notices) (sym (of_class-placed (before s.rules) (IsOrder-before s.rules) e.class e (order s)
     (IsSorted-order s t) same) ∙ ap (of_class e.class) (sym (order-with s e t n))) in
-    let lists = lists_by-set (class_seats s) (class_seats new) (length s.rules) e.class n.keyed.0 (λ d k a. ap
+    let lists = lists_by-set (class_seats s) (class_seats new) s.rules e.class n.keyed.0 (λ d a. ap
     (seats_of s.notices) (sym (of_class-placed_other (before s.rules) d e (order s) a) ∙
     ap (of_class d) (sym (order-with s e t n)))) in
     rw (here, own) (ap (λ (ls : List (List ℕ)). board_with ls (length s.notices)) lists)
@@ -146,7 +148,7 @@ unlinked-without s n t h =
     ap (seats_of s.notices) (sym (of_class-without c n (order s)) ∙
     ap (of_class c) (sym (order-without s n t))) in
     ap (λ (ls : List (List ℕ)). board_with ls (length s.notices)) (lists_by-map (class_seats s) (class_seats new) (λ
-    l. without_seat l (seat_in s.notices n)) (length s.rules) refl (λ c k. each c))
+    l. without_seat l (seat_in s.notices n)) s.rules each)
 
 -- a seat more
 pub with_seat-more : (s : AgendaState) (n : ℕ) → IsTold s →
@@ -161,7 +163,7 @@ with_seat-more s n t =
       length-append s.notices (n ∷ []),
     ) in
     rw (← count) (ap (λ (ls : List (List ℕ)). board_with ls (length s.notices + 1)) (lists_by-same (class_seats s)
-    (class_seats new) (length s.rules) (λ c k. each c)))
+    (class_seats new) s.rules each))
 
 -- a seat that no list has is free
 head_of-none : (ls : List (List ℕ)) (x : ℕ) → ((c : ℕ) → c < length ls → has (list_at ls c) x ≡ false) →
@@ -173,10 +175,11 @@ pub free-seat : (s : AgendaState) (n : ℕ) → IsTold s → has s.notices n ≡
     head_of (board_of s).lists (seat_in s.notices n) ≡ None
 free-seat s n t h k =
     head_of-none (board_of s).lists (seat_in s.notices n) (λ c d.
-    let within : c < length s.rules = omega (arith, length-map-range_with_len (class_seats s) 0 (length s.rules)) in
-    rw (list_at-by (class_seats s) (length s.rules) c within) (has-seats_of_none s.notices n (of_class c (order s)) h
-    (Each-of_class (λ f. has s.notices f.notice ≡ true) c (order s) (Each-order (λ f. has s.notices f.notice ≡
-    true) s t t.seated)) (Each-of_class (λ f. eqb f.notice n ≡ false) c (order s) (Each-order (λ f. eqb f.notice
+    let own = get_or (event_classes s.rules) c 0 in
+    let within : c < length (event_classes s.rules) = omega (arith, d, length-lists_by (class_seats s) s.rules) in
+    rw (list_at-head (class_seats s) s.rules c within) (has-seats_of_none s.notices n (of_class own (order s)) h
+    (Each-of_class (λ f. has s.notices f.notice ≡ true) own (order s) (Each-order (λ f. has s.notices f.notice ≡
+    true) s t t.seated)) (Each-of_class (λ f. eqb f.notice n ≡ false) own (order s) (Each-order (λ f. eqb f.notice
     n ≡ false) s t k))))
 
 -- the seat of a pending notice is in its class's list
@@ -188,7 +191,8 @@ pending_at-placed lt f (g ∷ gs) n h = elim (lt f g)
     ∷ gs) n)) [
       | true ↦ refl
       | false ↦ rw (pending_at-placed lt f gs n h.1) (elim (eqb f.notice n)
-          as (λ u. eqb f.notice n ≡ u → cond (eqb g.notice n) (Some g) (cond u (Some f) (pending_at gs n)) ≡ cond u (Some
+          as (λ u. eqb f.notice n ≡ u → cond (eqb g.notice n) (Some g) (cond u (Some f) (pending_at gs n)) ≡ cond u
+          (Some
           f) (cond (eqb g.notice n) (Some g) (pending_at gs n))) [
             | true ↦ λ u. let apart : eqb g.notice n ≡ false = grind (arith, nat_tests, u, h.0) in rw apart refl
             | false ↦ λ u. refl
@@ -218,16 +222,22 @@ pending_at-sorted lt (e ∷ es) n h = pending_at-placed lt e (sorted lt es) n (E
     ≡ false) lt es h.0) ∙ ap (λ (o : Option Pending). cond (eqb e.notice n) (Some e) o) (pending_at-sorted lt es n
     h.1)
 
-pub linked-seat : (s : AgendaState) (n : ℕ) (e : Pending) → IsTold s → IsSound (board_of s) →
-    e.class < length s.rules → pending_at s.agenda.pending n ≡ Some e →
-    head_of (board_of s).lists (seat_in s.notices n) ≡ Some e.class
-linked-seat s n e t sound k h =
+-- a pending notice is one of its class's in order
+pub pending_in-class : (s : AgendaState) (n : ℕ) (e : Pending) → IsTold s → pending_at s.agenda.pending n ≡ Some e →
+    pending_at (of_class e.class (order s)) n ≡ Some e
+pending_in-class s n e t h =
     let same : eqb e.class e.class ≡ true = grind (arith, nat_tests) in
     let there : pending_at (order s) n ≡ Some e = rw (order-sorted s t) (pending_at-sorted (before s.rules)
     s.agenda.pending n t.noted ∙ h) in
-    let here = has-seats_of_some s.notices n (of_class e.class (order s)) e (pending_at-of_class e.class n e (order
-    s) same there) in
-    head_of-list_at (board_of s).lists e.class (seat_in s.notices n) (rw (list_at-by (class_seats s) (length s.rules)
+    pending_at-of_class e.class n e (order s) same there
+
+pub linked-seat : (s : AgendaState) (n : ℕ) (e : Pending) → IsTold s → IsSound (board_of s) →
+    is_event_class s.rules e.class ≡ true → pending_at s.agenda.pending n ≡ Some e →
+    head_of (board_of s).lists (seat_in s.notices n) ≡ Some (event_number s.rules e.class)
+linked-seat s n e t sound k h =
+    let here = has-seats_of_some s.notices n (of_class e.class (order s)) e (pending_in-class s n e t h) in
+    head_of-list_at (board_of s).lists (event_number s.rules e.class) (seat_in s.notices n) (rw (list_at-by
+    (class_seats s) s.rules
     e.class k) here) (sound.once (seat_in s.notices n))
 
 -- a notice that isn't pending can be put where it belongs
@@ -236,8 +246,12 @@ pub CanRelink-rank : (s : AgendaState) (e : Pending) → IsTold s → IsNew s e 
 CanRelink-rank s e t n = record {
   is_seat = seat_in-below s.notices e.notice n.seat;
   is_free = free-seat s e.notice t n.seat n.notice;
-  is_head = omega (arith, n.keyed.0, length-map-range_with_len (class_seats s) 0 (length s.rules));
-  is_there = λ at k. rw (list_at-by (class_seats s) (length s.rules) e.class n.keyed.0) (has-passed s.notices (before
+  is_head = omega (
+    arith,
+    (event-at s.rules e.class n.keyed.0).0,
+    length-lists_by (class_seats s) s.rules,
+  );
+  is_there = λ at k. rw (list_at-by (class_seats s) s.rules e.class n.keyed.0) (has-passed s.notices (before
       s.rules) e (of_class e.class (order s)) at (has-last_of (seats_of s.notices (passed (before s.rules) e
       (of_class e.class (order s)))) at k));
 }

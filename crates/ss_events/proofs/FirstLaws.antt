@@ -1,5 +1,5 @@
 -- What is put in front of its class.
-use Rattle.std.proofs.Common.{◌≡◌, ℕ, ◌<◌, Bool, true, List, [], ◌∷◌, length, Option, Some, None, refl, sym, ap, ◌∙◌}
+use Rattle.std.proofs.Common.{◌≡◌, ℕ, Bool, true, List, [], ◌∷◌, Option, Some, None, refl, sym, ap, ◌∙◌}
 use Rattle.ss_links.specs.Board.{Board, list_at}
 use Rattle.ss_links.specs.Seats.{first_of}
 use Rattle.ss_events.specs.declared.entry.Entry.{Entry}
@@ -9,7 +9,8 @@ use Rattle.ss_events.specs.Weights.{before}
 use Rattle.ss_events.specs.State.{AgendaState, seats_of, order}
 use Rattle.ss_events.specs.Places.{passed, first, notice_on, pending_on, IsTakenIfSome}
 use Rattle.ss_events.specs.Rows.{notice_of, IsAgenda}
-use Rattle.ss_events.proofs.StateLaws.{list_at-by}
+use Rattle.ss_events.specs.Rules.{is_event_class, event_number}
+use Rattle.ss_events.proofs.EventLaws.{list_at-by}
 use Rattle.ss_events.proofs.BoardOf.{class_seats}
 use Rattle.ss_events.proofs.Standing.{stands, taken-stands, told, sound_board}
 
@@ -19,9 +20,10 @@ pub record StandsFirst (s : AgendaState) (c : ℕ) (at : Option ℕ) : Type 0 wh
   pub taken : IsTakenIfSome s at
 
 pub stands-first : (rows : List Row) (s : AgendaState) (b : Board) (c : ℕ) (at : Option ℕ) → IsAgenda rows s b →
-    c < length s.rules → at ≡ first_of (list_at b.lists c) → StandsFirst s c at
+    is_event_class s.rules c ≡ true → at ≡ first_of (list_at b.lists (event_number s.rules c)) → StandsFirst s c at
 stands-first rows s b c at k l h =
-    let list = ap (λ (d : Board). list_at d.lists c) k.board ∙ list_at-by (class_seats s) (length s.rules) c l in
+    let list = ap (λ (d : Board). list_at d.lists (event_number s.rules c)) k.board ∙
+    list_at-by (class_seats s) s.rules c l in
     rw (h ∙ ap first_of list) (go (of_class c (order s)) refl)
   where
     go : (es : List Pending) → of_class c (order s) ≡ es →

@@ -1,10 +1,11 @@
 -- What the agenda's changes say: that they fit, and lead back.
 use Rattle.std.proofs.Common.{◌≡◌, ℕ, ℤ, ◌+◌, ◌-◌, ◌<◌, ◌≤◌, ◌++◌, Bool, true, false, cond, not, eqb, ltb, List, []}
+use Rattle.std.proofs.Common.{w64, SFits, pos, negsuc}
 use Rattle.std.proofs.Common.{◌∷◌, length, take, Option, Some, None, Ok, refl, sym, ap, ◌∙◌, arith}
 use Rattle.std.proofs.lemmas.Bool.Decides.{nat_tests}
 use Rattle.std.specs.Option.{is_some, option_map}
 use Rattle.std.specs.Prelude.{int_lt}
-use Rattle.ss_events.specs.Agenda.{filing_limit, may_schedule}
+use Rattle.ss_events.specs.Agenda.{in_range, filing_limit, may_schedule}
 use Rattle.ss_links.specs.Board.{Board}
 use Rattle.ss_links.specs.Seats.{has}
 use Rattle.ss_links.proofs.SeatLaws.{has-append}
@@ -12,11 +13,12 @@ use Rattle.ss_events.specs.declared.entry.Entry.{Entry}
 use Rattle.ss_events.specs.declared.entry.Row.{Row}
 use Rattle.ss_events.specs.declared.agenda.AgendaChange.TheVariants.{Scheduled, TakenOff}
 use Rattle.ss_events.specs.Agenda.{Pending, without_notice}
-use Rattle.ss_events.specs.Rules.{Rule, rule_at}
+use Rattle.ss_events.specs.Rules.{Rule, rule_at, is_event_class}
 use Rattle.ss_events.specs.declared.agenda.Slot.{Slot}
 use Rattle.ss_events.specs.Slots.{slot_of}
 use Rattle.ss_events.specs.Agenda.{pending_at, with_notice}
 use Rattle.ss_events.specs.State.{AgendaState, Each, NoneNoted, NoneFiled, AreFiled, IsPending}
+use Rattle.ss_events.specs.Places.{predecessor_of}
 use Rattle.ss_events.specs.Rows.{notice_of, IsAgenda}
 use Rattle.ss_events.specs.Changes.{with_pending, with_notices, with_filing, seated, CanPend, IsLastSeat, IsNewest}
 use Rattle.ss_events.specs.Changes.{Went, after_scheduling, IsScheduled}
@@ -52,11 +54,12 @@ NoneFiled-without n e (f ∷ fs) a h p = elim (eqb f.notice n)
     ] refl p
 
 -- a pending notice is taken off
-pub went-taken : (rows : List Row) (s new : AgendaState) (b : Board) (n : ℕ) (x : Entry) → IsAgenda rows s b →
+pub went-taken : (rows : List Row) (s new : AgendaState) (b : Board) (n : ℕ) (x : Entry) (p : Option ℕ) →
+    IsAgenda rows s b →
     0 < n → pending_at s.agenda.pending n ≡ Some (notice_of n x) →
-    new ≡ with_pending s (without_notice n s.agenda.pending) →
-    Went (TakenOff n x) (with_pending s (without_notice n s.agenda.pending)) s new
-went-taken rows s new b n x k above h e =
+    new ≡ with_pending s (without_notice n s.agenda.pending) → p ≡ predecessor_of new (notice_of n x) →
+    Went (TakenOff n x p) (with_pending s (without_notice n s.agenda.pending)) s new
+went-taken rows s new b n x p k above h e q =
     let up : Ascend s.agenda.pending = rw k.read (Ascend-from 1 rows) in
     let back : with_notice (notice_of n x) (without_notice n s.agenda.pending) ≡ s.agenda.pending = with-without
     s.agenda.pending n (notice_of n x) up h in
@@ -70,6 +73,7 @@ went-taken rows s new b n x k above h e =
           kept = (pending_at-each (IsPending s.rules s.notices s.agenda.next_filing) s.agenda.pending n (notice_of n
               x) k.pending h).0;
         },
+        rw e at q,
       );
       back = rw (e, back) refl;
     }
@@ -96,14 +100,16 @@ has-seated ns n = elim (has ns n) as (λ t. has ns n ≡ t → has (cond t ns (n
 
 -- what is scheduled may become pending
 pub can-pend : (rows : List Row) (s : AgendaState) (b : Board) (n : ℕ) (x : Entry) → IsAgenda rows s b →
-    NoneNoted n s.agenda.pending → x.class < length s.rules →
-    length x.keys.items ≡ length (rule_at s.rules x.class).ties → x.filing ≡ s.agenda.next_filing →
-    CanPend (with_filing (with_notices s (seated s.notices n)) (s.agenda.next_filing + 1)) (notice_of n x)
-can-pend rows s b n x k h c l f = record {
+    NoneNoted n s.agenda.pending → is_event_class s.rules x.class ≡ true →
+    in_range x.time ≡ true → length x.keys.items ≡ length (rule_at s.rules x.class).ties →
+    x.filing ≡ s.agenda.next_filing → CanPend (with_filing (with_notices s (seated s.notices n)) (s.agenda.next_filing
+    + 1)) (notice_of n x)
+can-pend rows s b n x k h c t l f = record {
   notice = h;
   filing = rw f (none-filed s.rules s.notices s.agenda.next_filing s.agenda.pending k.pending);
   kept = record {
     class = c;
+    time = t;
     keys = l;
     seat = has-seated s.notices n;
     filing = omega arith;
@@ -188,7 +194,8 @@ pub record IsStepped (s s1 s2 : AgendaState) (n : ℕ) (x : Entry) : Type 0 wher
   pub second : s2 ≡ with_filing s1 (s1.agenda.next_filing + 1)
   pub filing : x.filing ≡ s1.agenda.next_filing
   pub idle : is_some (pending_at s.agenda.pending n) ≡ false
-  pub class : x.class < length s.rules
+  pub class : is_event_class s.rules x.class ≡ true
+  pub time : in_range x.time ≡ true
   pub keys : length x.keys.items ≡ length (rule_at s.rules x.class).ties
 
 pub stepped-filing : (s s1 s2 : AgendaState) (n : ℕ) (x : Entry) → IsStepped s s1 s2 n x →
@@ -202,7 +209,7 @@ stepped-state s s1 s2 n x p = rw (p.second, p.first) refl
 pub stepped-can : (rows : List Row) (s s1 s2 : AgendaState) (b : Board) (n : ℕ) (x : Entry) → IsAgenda rows s b →
     IsStepped s s1 s2 n x → CanPend s2 (notice_of n x)
 stepped-can rows s s1 s2 b n x k p = rw (stepped-state s s1 s2 n x p) (can-pend rows s b n x k (none-noted n
-    s.agenda.pending p.idle) p.class p.keys (stepped-filing s s1 s2 n x p))
+    s.agenda.pending p.idle) p.class p.time p.keys (stepped-filing s s1 s2 n x p))
 
 abbrev pending_of : ℕ → ℤ → ℕ → List ℤ → ℕ → Pending
 pending_of n t c ks f = record { notice = n; time = t; class = c; keys = ks; filing = f }
@@ -251,3 +258,8 @@ newest-free s t n e w = rw e (
     w.filing,
   )) (without_notice n s.agenda.pending) w.others,
 )
+
+-- a number that fits 64 bits is in range
+pub fits-range : (z : ℤ) → SFits w64 z → in_range z ≡ true
+fits-range (pos n) h = let fits = h.sfits in grind (arith, nat_tests, fits)
+fits-range (negsuc n) h = let fits = h.sfits in grind (arith, nat_tests, fits)

@@ -11,6 +11,7 @@ use Rattle.ss_links.specs.declared.board.Place.{Place}
 use Rattle.ss_events.specs.declared.entry.Entry.{Entry}
 use Rattle.ss_events.specs.declared.entry.Row.{Row}
 use Rattle.ss_events.specs.Agenda.{Pending, of_class, without_notice}
+use Rattle.ss_events.specs.Rules.{is_event_class, event_number}
 use Rattle.ss_events.specs.Weights.{before}
 use Rattle.ss_events.specs.Agenda.{pending_at, with_notice}
 use Rattle.ss_events.specs.State.{AgendaState, seat_in, seats_of, order, NoneNoted, IsPending}
@@ -50,7 +51,7 @@ seat-is rows s b n k h =
     seat ∙ rw h refl
 
 pub pending-seat : (rows : List Row) (s : AgendaState) (b : Board) (n : ℕ) (e : Pending) → IsAgenda rows s b →
-    pending_at s.agenda.pending n ≡ Some e → (has s.notices n ≡ true) × (e.class < length s.rules)
+    pending_at s.agenda.pending n ≡ Some e → (has s.notices n ≡ true) × (is_event_class s.rules e.class ≡ true)
 pending-seat rows s b n e k h =
     let p = pending_at-each (IsPending s.rules s.notices s.agenda.next_filing) s.agenda.pending n e k.pending h in
     (rw p.1 at p.0.seat, p.0.class)
@@ -144,14 +145,14 @@ take_out-kept rows s b c n r k a h seat e sound = record {
 }
 
 -- where a notice belongs doesn't depend on its number
-passed-number : (s : AgendaState) (m n : ℕ) (x : Entry) (es : List Pending) →
+pub passed-number : (s : AgendaState) (m n : ℕ) (x : Entry) (es : List Pending) →
     passed (before s.rules) (notice_of m x) es ≡ passed (before s.rules) (notice_of n x) es
 passed-number s m n x [] = refl
 passed-number s m n x (f ∷ fs) = ap (λ (l : List Pending). cond (before s.rules (notice_of n x) f) [] (f ∷ l))
     (passed-number s m n x fs)
 
 abbrev place_with : AgendaState → Entry → List Pending → Place
-place_with s x l = record { head = x.class; before = last_of (seats_of s.notices l) }
+place_with s x l = record { head = event_number s.rules x.class; before = last_of (seats_of s.notices l) }
 
 pub rank_place-number : (s : AgendaState) (m n : ℕ) (x : Entry) →
     rank_place s (notice_of m x) ≡ rank_place s (notice_of n x)
@@ -220,7 +221,7 @@ pub record IsRow (rows : List Row) (s : AgendaState) (n : ℕ) : Type 0 where
   pub pending : Pending
   pub there : pending_at s.agenda.pending n ≡ Some pending
   pub seat : has s.notices n ≡ true
-  pub class : pending.class < length s.rules
+  pub class : is_event_class s.rules pending.class ≡ true
   pub row : n - 1 < length rows
 
 pub pending-row : (rows : List Row) (s : AgendaState) (b : Board) (n : ℕ) → IsAgenda rows s b →

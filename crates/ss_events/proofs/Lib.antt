@@ -2,12 +2,14 @@ pub mod OrderLaws
 pub mod WeightLaws
 pub mod Agreement
 pub mod WalkLaws
+pub mod EventLaws
 pub mod RowLaws
 pub mod StateLaws
 pub mod BoardOf
 pub mod Standing
 pub mod Walk
 pub mod Keeping
+pub mod Predecessors
 pub mod Seating
 pub mod Going
 pub mod Listings
@@ -15,4 +17,5 @@ pub mod RuleLaws
 pub mod Begins
 pub mod Steps
 pub mod WellLaws
+pub mod LimitLaws
 pub mod FirstLaws

@@ -1,10 +1,11 @@
 -- How a listing of the pending notices goes on.
 use Rattle.std.proofs.Common.{◌≡◌, ℕ, ◌+◌, ◌≤◌, ◌<◌, ◌++◌, Bool, true, false, cond, eqb, List, [], ◌∷◌, length, drop}
-use Rattle.std.proofs.Common.{take, get_or, slice_get, Option, Some, None, refl, sym, ap, ◌∙◌, arith, suc, zero}
+use Rattle.std.proofs.Common.{take, replicate, get_or, slice_get, Option, Some, None, refl, sym, ap, ◌∙◌, arith, suc}
+use Rattle.std.proofs.Common.{zero}
 use Rattle.std.proofs.Math.ListN.{set, length-set}
 use Rattle.std.proofs.lemmas.List.{get_or-set_same, get_or-set_other}
 use Rattle.std.proofs.lemmas.Bool.Decides.{nat_tests}
-use Rattle.ss_links.specs.Board.{Board, list_at, list_of}
+use Rattle.ss_links.specs.Board.{Board, list_of}
 use Rattle.ss_links.specs.Seats.{times_in, first_of, seat_behind}
 use Rattle.ss_links.proofs.SeatLaws.{times_in-present}
 use Rattle.ss_events.specs.declared.entry.Entry.{Entry}
@@ -12,18 +13,19 @@ use Rattle.ss_events.specs.declared.entry.Row.{Row}
 use Rattle.ss_events.specs.declared.listing.Listing.{Listing}
 use Rattle.ss_events.specs.Agenda.{Pending, pending_at, least, of_class}
 use Rattle.ss_events.specs.Weights.{before}
-use Rattle.ss_events.specs.State.{AgendaState, Each, IsPending, seat_in, seats_of, order, board_of}
+use Rattle.ss_events.specs.State.{AgendaState, Each, IsPending, seat_in, seats_of, order}
 use Rattle.ss_events.specs.Places.{first, earlier, notice_on, pending_on, IsTaken, IsTakenIfSome}
 use Rattle.ss_events.specs.Listings.{seat_of_class, left_of, IsListing}
 use Rattle.ss_events.specs.Rows.{notice_of, and_others, notices_from, IsAgenda}
-use Rattle.ss_events.proofs.OrderLaws.{IsSorted, Each-map, length-sorted}
+use Rattle.ss_events.proofs.OrderLaws.{IsSorted, Each-map, Each-of_class, length-sorted}
 use Rattle.std.specs.Option.{option_map, IsSome}
 use Rattle.ss_events.proofs.RowLaws.{pending_at-each}
 use Rattle.ss_events.proofs.WeightLaws.{IsOrder-before}
 use Rattle.ss_events.proofs.WalkLaws.{of_classes_below, first-earlier, of_classes_below-all, of_classes_below-none}
-use Rattle.ss_events.proofs.StateLaws.{list_at-by}
+use Rattle.ss_events.specs.Rules.{Rule, is_event_class}
+use Rattle.ss_events.proofs.EventLaws.{event-below}
 use Rattle.ss_events.proofs.BoardOf.{class_seats, Each-order, order-sorted, IsSorted-order, least-sorted}
-use Rattle.ss_events.proofs.Standing.{stands, taken-stands, told, sound_board, has-get_or}
+use Rattle.ss_events.proofs.Standing.{stands, taken-stands, told, sound_board, has-get_or, Each-class}
 
 -- the notices of an order that are left behind so many
 Each-drop : (P : Pending → Type 0) (n : ℕ) (es : List Pending) → Each P es → Each P (drop n es)
@@ -77,6 +79,12 @@ pub record IsFirst (s : AgendaState) (es : List Pending) (c : ℕ) (at : Option 
 pub first-none : (s : AgendaState) (es : List Pending) → IsFirst s es 0 None
 first-none s es = record { first = sym (ap first (of_classes_below-none es)); taken = tt }
 
+-- each pending notice is of an event class
+event-each : (rows : List Row) (s : AgendaState) (b : Board) → IsAgenda rows s b →
+    Each (λ e. is_event_class s.rules e.class ≡ true) s.agenda.pending
+event-each rows s b k = Each-map (IsPending s.rules s.notices s.agenda.next_filing) (λ e. is_event_class s.rules
+    e.class ≡ true) (λ e p. p.class) s.agenda.pending k.pending
+
 -- what the first seat of a class is
 pub record IsFirstOf (s : AgendaState) (es : List Pending) (c : ℕ) (at : Option ℕ) : Type 0 where
   pub first : pending_on s at ≡ first (of_class c es)
@@ -93,10 +101,19 @@ first-of_class rows s b l c at k i m h = rw (h ∙ i.seats c m) (go (of_class c 
     whole = ap (of_class c) (front-rear (order s) l.listed) ∙
         of_class-append c (take l.listed (order s)) (drop l.listed (order s))
 
+    own : (f : Pending) (fs : List Pending) → of_class c (left_of s l) ≡ f ∷ fs → is_event_class s.rules c ≡ true
+    own f fs e =
+        let events = Each-of_class (λ g. is_event_class s.rules g.class ≡ true) c (left_of s l) (Each-drop (λ g.
+        is_event_class s.rules g.class ≡ true) l.listed (order s) (Each-order (λ g. is_event_class s.rules g.class ≡
+        true) s (told rows s b k) (event-each rows s b k))) in
+        let same = rw e at (Each-class c (left_of s l)) in
+        let here = rw e at events in
+        rw same.0 at here.0
+
     go : (es : List Pending) → of_class c (left_of s l) ≡ es →
         IsFirstOf s (left_of s l) c (first_of (seats_of s.notices (of_class c (left_of s l))))
     go [] e = rw e (record { first = ap first (sym e); taken = tt })
-    go (f ∷ fs) e = let t = stands s c done f fs (told rows s b k) (sound_board rows s b k) m (whole ∙
+    go (f ∷ fs) e = let t = stands s c done f fs (told rows s b k) (sound_board rows s b k) (own f fs e) (whole ∙
         ap (λ (es : List Pending). done ++ es) e) in rw e (record {
           first = ap (pending_at s.agenda.pending) t.notice
               ∙ (t.pending ∙ ap first (sym e));
@@ -126,7 +143,7 @@ first-all rows s b l c at k h f =
     let t = told rows s b k in
     let below = Each-drop (λ e. e.class < length s.rules) l.listed (order s) (Each-order (λ e. e.class < length
     s.rules) s t (Each-map (IsPending s.rules s.notices s.agenda.next_filing) (λ e. e.class < length s.rules) (λ
-    e p. p.class) s.agenda.pending k.pending)) in
+    e p. event-below s.rules e.class p.class) s.agenda.pending k.pending)) in
     let all : of_classes_below c (left_of s l) ≡ left_of s l = rw h (of_classes_below-all (length s.rules) (left_of s
     l) below) in
     f.first ∙ (ap first all ∙ first-drop (order s) l.listed)
@@ -179,7 +196,7 @@ pub listing-on : (rows : List Row) (s : AgendaState) (b : Board) (l : Listing) (
     (seats : List (Option ℕ)) (n : ℕ) → IsAgenda rows s b → IsListing s l → x < length s.notices →
     pending_at s.agenda.pending (notice_on s x) ≡ Some (notice_of (notice_on s x) y) →
     slice_get (order s) l.listed ≡ Some (notice_of (notice_on s x) y) → at ≡ seat_behind (list_of b.lists x) x →
-    y.class < length s.rules → seats ≡ set l.seats y.class at → n ≡ l.listed + 1 →
+    is_event_class s.rules y.class ≡ true → seats ≡ set l.seats y.class at → n ≡ l.listed + 1 →
     IsListing s (record { seats = seats; listed = n })
 listing-on rows s b l x y at seats n k i m p q h c z u =
     let e = notice_of (notice_on s x) y in
@@ -202,7 +219,12 @@ listing-on rows s b l x y at seats n k i m p q h c z u =
           as (λ v. eqb d y.class ≡ v → get_or (set l.seats y.class at) d None ≡ first_of (seats_of s.notices
           (of_class d (drop (l.listed + 1) (order s))))) [
             | true ↦ λ v. let same : d ≡ y.class = grind (arith, nat_tests, v) in
-                rw same (get_or-set_same l.seats y.class at None (omega (arith, i.all, c, k.classes)) ∙ next)
+                rw same (get_or-set_same l.seats y.class at None (omega (
+                  arith,
+                  i.all,
+                  event-below s.rules y.class c,
+                  k.classes,
+                )) ∙ next)
             | false ↦ λ v. let apart : ¬ (d ≡ y.class) = λ f. absurd (grind (arith, nat_tests, v, f)) in
                 let other : eqb y.class d ≡ false = grind (arith, nat_tests, v) in
                 get_or-set_other l.seats y.class d at None apart ∙ (i.seats d r ∙
@@ -212,13 +234,9 @@ listing-on rows s b l x y at seats n k i m p q h c z u =
 
 -- a listing begins at the first of each class
 pub listing-begins : (s : AgendaState) (seats : List (Option ℕ)) → length seats ≡ 64 → ((c : ℕ) →
-    c < length s.rules → get_or seats c None ≡ first_of (list_at (board_of s).lists c)) →
+    c < length s.rules → get_or seats c None ≡ first_of (class_seats s c)) →
     IsListing s (record { seats = seats; listed = 0 })
-listing-begins s seats a h = record {
-  all = a;
-  seats = λ c l. h c l ∙
-      ap first_of (list_at-by (class_seats s) (length s.rules) c l);
-}
+listing-begins s seats a h = record { all = a; seats = h }
 
 -- past the end of the order is nothing
 none-past : (es : List Pending) (i j : ℕ) → option_map (λ e. e.notice) (slice_get es i) ≡ None → i ≤ j →
@@ -244,12 +262,48 @@ least-notice rows s b x k t = go (pending_at s.agenda.pending (notice_on s x)) r
         s.agenda.pending (notice_on s x) f k.pending e).1
 
 -- the first seats of the classes below a number, and one more
-pub seats-more : (seats : List (Option ℕ)) (n : ℕ) (at : Option ℕ) (ls : List (List ℕ)) → n < length seats →
-    ((c : ℕ) → c < n → get_or seats c None ≡ first_of (list_at ls c)) → at ≡ first_of (list_at ls n) → (c : ℕ) →
-    c < n + 1 → get_or (set seats n at) c None ≡ first_of (list_at ls c)
-seats-more seats n at ls h k e c l = elim (eqb c n)
-    as (λ t. eqb c n ≡ t → get_or (set seats n at) c None ≡ first_of (list_at ls c)) [
+pub seats-more : (seats : List (Option ℕ)) (n : ℕ) (at : Option ℕ) (f : ℕ → List ℕ) → n < length seats →
+    ((c : ℕ) → c < n → get_or seats c None ≡ first_of (f c)) → at ≡ first_of (f n) → (c : ℕ) → c < n + 1 →
+    get_or (set seats n at) c None ≡ first_of (f c)
+seats-more seats n at f h k e c l = elim (eqb c n)
+    as (λ t. eqb c n ≡ t → get_or (set seats n at) c None ≡ first_of (f c)) [
       | true ↦ λ t. let same : c ≡ n = grind (arith, nat_tests, t) in rw same (get_or-set_same seats n at None h ∙ e)
-      | false ↦ λ t. let apart : ¬ (c ≡ n) = λ f. absurd (grind (arith, nat_tests, t, f)) in
+      | false ↦ λ t. let apart : ¬ (c ≡ n) = λ g. absurd (grind (arith, nat_tests, t, g)) in
           let below : c < n = grind (arith, nat_tests, t, l) in get_or-set_other seats n c at None apart ∙ k c below
     ] refl
+
+-- the classes behind keep none
+pub seats-behind : (seats : List (Option ℕ)) (n : ℕ) (at : Option ℕ) → ((c : ℕ) → n ≤ c →
+    get_or seats c None ≡ None) → (c : ℕ) → n + 1 ≤ c → get_or (set seats n at) c None ≡ None
+seats-behind seats n at k c l =
+    let apart : ¬ (c ≡ n) = λ g. absurd (omega (arith, g, l)) in
+    get_or-set_other seats n c at None apart ∙ k c (omega (arith, l))
+
+-- no notice is of a class that is no event class
+none-of_class : (rules : List Rule) (c : ℕ) (es : List Pending) → Each (λ e. is_event_class rules e.class ≡ true) es →
+    is_event_class rules c ≡ false → of_class c es ≡ []
+none-of_class rules c [] h k = refl
+none-of_class rules c (e ∷ es) h k = elim (eqb e.class c)
+    as (λ t. eqb e.class c ≡ t → cond t (e ∷ of_class c es) (of_class c es) ≡ []) [
+      | true ↦ λ t. let same : e.class ≡ c = grind (arith, nat_tests, t) in
+          let event = rw same at h.0 in absurd (cc)
+      | false ↦ λ t. none-of_class rules c es h.1 k
+    ] refl
+
+pub seats-same : (rows : List Row) (s : AgendaState) (b : Board) (seats : List (Option ℕ)) (n : ℕ) →
+    IsAgenda rows s b → is_event_class s.rules n ≡ false → ((c : ℕ) → c < n →
+    get_or seats c None ≡ first_of (class_seats s c)) → ((c : ℕ) → n ≤ c → get_or seats c None ≡ None) → (c : ℕ) →
+    c < n + 1 → get_or seats c None ≡ first_of (class_seats s c)
+seats-same rows s b seats n k e h a c l = elim (eqb c n)
+    as (λ t. eqb c n ≡ t → get_or seats c None ≡ first_of (class_seats s c)) [
+      | true ↦ λ t. let same : c ≡ n = grind (arith, nat_tests, t) in
+          let none = none-of_class s.rules n (order s) (Each-order (λ f. is_event_class s.rules f.class ≡ true) s (told
+          rows s b k) (event-each rows s b k)) e in
+          rw same (a n (omega arith) ∙ sym (ap (λ (es : List Pending). first_of (seats_of s.notices es)) none))
+      | false ↦ λ t. let below : c < n = grind (arith, nat_tests, t, l) in h c below
+    ] refl
+
+pub none-at : (n c : ℕ) → get_or {A = Option ℕ} (replicate n None) c None ≡ None
+none-at zero c = refl
+none-at (suc n) zero = refl
+none-at (suc n) (suc c) = none-at n c

@@ -292,7 +292,8 @@ without-placed_other lt o n e (f ∷ fs) s h = elim (lt e f)
       | true ↦ λ t. rw h (sym (placed-first lt e (without_notice n (f ∷ fs)) (Each-without (λ g. lt e g ≡ true) n (f ∷
           fs) (t, behind-trans lt o e f fs t s.0))))
       | false ↦ λ t. let rest = without-placed_other lt o n e fs s.1 h in elim (eqb f.notice n)
-          as (λ u. cond u (without_notice n (placed lt e fs)) (f ∷ without_notice n (placed lt e fs)) ≡ placed lt e (cond
+          as (λ u. cond u (without_notice n (placed lt e fs)) (f ∷ without_notice n (placed lt e fs)) ≡ placed lt e
+          (cond
           u (without_notice n fs) (f ∷ without_notice n fs))) [
             | true ↦ rest
             | false ↦ rw (t, rest) refl

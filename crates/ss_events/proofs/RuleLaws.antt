@@ -61,6 +61,7 @@ length-rules_of p = length-map-range_with_len (program_rule p) 0 (length p.class
 
 pub rule_at-program : (p : ProgramTable) (c : ℕ) → c < length p.classes → rule_at (rules_of p) c ≡ program_rule p c
 rule_at-program p c h = get_or-map-range_with_len (program_rule p) 0 (length p.classes) c c (record {
+  for_events = false;
   priority = 0;
   ties = [];
 }) h (omega arith)

@@ -233,6 +233,7 @@ seat-closed rows s b c n x r k h a l e sound f i =
       pending = Each-map (IsPending s.rules s.notices s.agenda.next_filing) (IsPending s.rules (s.notices ++ n ∷ [])
           s.agenda.next_filing) (λ p q. record {
             class = q.class;
+            time = q.time;
             keys = q.keys;
             seat = has-more s.notices n p.notice q.seat;
             filing = q.filing;
@@ -312,6 +313,7 @@ each-less rs ms ns n k [] e h p = tt
 each-less rs ms ns n k (f ∷ fs) e h p = let apart : eqb n f.notice ≡ false = grind (arith, nat_tests, h.0) in (
   record {
     class = p.0.class;
+    time = p.0.time;
     keys = p.0.keys;
     seat = has-less ms n f.notice apart (rw e at p.0.seat);
     filing = p.0.filing;

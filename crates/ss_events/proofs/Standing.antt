@@ -13,12 +13,13 @@ use Rattle.ss_events.specs.Agenda.{pending_at}
 use Rattle.ss_events.specs.State.{AgendaState, seat_in, seats_of, order, board_of, Each, NoneNoted, IsPending}
 use Rattle.ss_events.specs.Places.{notice_on, IsTaken}
 use Rattle.ss_events.specs.declared.entry.Row.{Row}
-use Rattle.std.proofs.lemmas.List.FromFn.{length-map-range_with_len}
+use Rattle.ss_events.specs.Rules.{is_event_class, event_classes, event_number}
+use Rattle.ss_events.proofs.EventLaws.{list_at-by, length-lists_by}
 use Rattle.ss_events.specs.declared.entry.Entry.{Entry}
 use Rattle.ss_events.specs.Rows.{IsAgenda, IsEntry, notice_of}
 use Rattle.ss_events.proofs.RowLaws.{AreNoted-from, pending_at-each}
 use Rattle.ss_events.proofs.OrderLaws.{AreNoted, Each-of_class, Each-map}
-use Rattle.ss_events.proofs.StateLaws.{seat_in-below, seat_in-notice, list_at-by}
+use Rattle.ss_events.proofs.StateLaws.{seat_in-below, seat_in-notice}
 use Rattle.ss_events.proofs.Agreement.{IsKeyed}
 use Rattle.ss_events.proofs.BoardOf.{IsTold, class_seats, Each-order, linked-seat}
 
@@ -36,7 +37,7 @@ Each-pending_at (e ∷ es) h =
     later e all n (f ∷ fs) h k = let apart : eqb e.notice f.notice ≡ false = grind (arith, nat_tests, h.0) in
         (rw apart k.0, later e all n fs h.1 k.1)
 
-Each-class : (c : ℕ) (es : List Pending) → Each (λ e. e.class ≡ c) (of_class c es)
+pub Each-class : (c : ℕ) (es : List Pending) → Each (λ e. e.class ≡ c) (of_class c es)
 Each-class c [] = tt
 Each-class c (e ∷ es) = elim (eqb e.class c)
     as (λ t. eqb e.class c ≡ t → Each (λ f. f.class ≡ c) (cond t (e ∷ of_class c es) (of_class c es))) [
@@ -79,21 +80,22 @@ pub record Stands (s : AgendaState) (c : ℕ) (a : List Pending) (f : Pending) (
       first_of (seats_of s.notices b)
 
 pub stands : (s : AgendaState) (c : ℕ) (a : List Pending) (f : Pending) (b : List Pending) → IsTold s →
-    IsSound (board_of s) → c < length s.rules → of_class c (order s) ≡ a ++ f ∷ b → Stands s c a f b
+    IsSound (board_of s) → is_event_class s.rules c ≡ true → of_class c (order s) ≡ a ++ f ∷ b → Stands s c a f b
 stands s c a f b t sound k h =
     let P : (Q : Pending → Type 0) → Each Q s.agenda.pending →
     Q f = λ Q q. each-between Q a b f (rw h at (Each-of_class Q c (order s) (Each-order Q s t q))) in
     let has_seat = P (λ e. has s.notices e.notice ≡ true) t.seated in
     let pending = P (λ e. pending_at s.agenda.pending e.notice ≡ Some e) (Each-pending_at s.agenda.pending t.noted) in
     let class = each-between (λ e. e.class ≡ c) a b f (rw h at (Each-class c (order s))) in
-    let linked : head_of (board_of s).lists (seat_in s.notices f.notice) ≡ Some c = linked-seat s f.notice f t sound
-    (rw class k) pending ∙ ap (λ (d : ℕ). Some d) class in
-    let found = head_of-found (board_of s).lists (seat_in s.notices f.notice) c linked in
-    let here : list_at (board_of s).lists c ≡ seats_of s.notices a ++ seat_in s.notices f.notice ∷ seats_of s.notices
-    b = list_at-by (class_seats s) (length s.rules) c k ∙ (ap (seats_of s.notices) h ∙
+    let linked : head_of (board_of s).lists (seat_in s.notices f.notice) ≡ Some (event_number s.rules c) =
+    linked-seat s f.notice f t sound (rw class k) pending ∙ ap (λ (d : ℕ). Some (event_number s.rules d)) class in
+    let found = head_of-found (board_of s).lists (seat_in s.notices f.notice) (event_number s.rules c) linked in
+    let here : list_at (board_of s).lists (event_number s.rules c) ≡ seats_of s.notices a ++ seat_in s.notices f.notice
+    ∷ seats_of s.notices
+    b = list_at-by (class_seats s) s.rules c k ∙ (ap (seats_of s.notices) h ∙
     seats_of-append s.notices a (f ∷ b)) in
     let apart = once-between (seats_of s.notices a) (seats_of s.notices b) (seat_in s.notices f.notice) (rw here at
-    (once-list_at (board_of s) sound c (seat_in s.notices f.notice))) in
+    (once-list_at (board_of s) sound (event_number s.rules c) (seat_in s.notices f.notice))) in
     record {
       seat = seat_in-below s.notices f.notice has_seat;
       notice = seat_in-notice s.notices f.notice 0 has_seat;
@@ -148,8 +150,8 @@ entry-pending rows s b n y k h = let p = (pending_at-each (IsPending s.rules s.n
     s.agenda.pending n (notice_of n y) k.pending h).0 in (p.class, p.keys)
 
 pub length-lists : (rows : List Row) (s : AgendaState) (b : Board) → IsAgenda rows s b →
-    length b.lists ≡ length s.rules
-length-lists rows s b k = rw k.board (length-map-range_with_len (class_seats s) 0 (length s.rules))
+    length b.lists ≡ length (event_classes s.rules)
+length-lists rows s b k = rw k.board (length-lists_by (class_seats s) s.rules)
 
 pub sound_board : (rows : List Row) (s : AgendaState) (b : Board) → IsAgenda rows s b → IsSound (board_of s)
 sound_board rows s b k = rw k.board at k.sound

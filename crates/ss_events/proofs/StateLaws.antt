@@ -1,14 +1,8 @@
 -- Laws of the seats of notices, and of the board of a state.
-use Rattle.std.proofs.Common.{◌≡◌, ℕ, ◌<◌, ◌++◌, ◌||◌, Bool, true, false, cond, eqb, List, [], ◌∷◌, length, map}
+use Rattle.std.proofs.Common.{◌≡◌, ℕ, ◌<◌, ◌++◌, ◌||◌, Bool, true, false, cond, eqb, List, [], ◌∷◌, length}
 use Rattle.std.proofs.Common.{get_or, Option, Some, None, unwrap_or, refl, sym, ap, ◌∙◌, arith, suc}
-use Rattle.std.proofs.Math.ListN.{set, length-set}
-use Rattle.std.proofs.lemmas.List.{length-map, get_or-set_same, get_or-set_other}
 use Rattle.ss_links.proofs.SeatLaws.{has-last_of}
-use Rattle.ss_links.proofs.BoardLaws.{list_at-map}
 use Rattle.std.proofs.lemmas.Bool.Decides.{nat_tests}
-use Rattle.std.proofs.lemmas.List.FromFn.{length-map-range_with_len, get_or-map-range_with_len, fill_by_all}
-use Rattle.std.specs.List.{range_with_len}
-use Rattle.ss_links.specs.Board.{list_at}
 use Rattle.ss_links.specs.Seats.{has, last_of, put_behind, put_at}
 use Rattle.ss_links.specs.Seats.{without as without_seat}
 use Rattle.ss_events.specs.Agenda.{Pending, without_notice, of_class}
@@ -170,38 +164,3 @@ AreNoted-of_class c (e ∷ es) h = elim (eqb e.class c)
       | true ↦ (Each-of_class (λ f. eqb f.notice e.notice ≡ false) c es h.0, AreNoted-of_class c es h.1)
       | false ↦ AreNoted-of_class c es h.1
     ]
-
--- the lists of a board, by their class
-abbrev pub lists_by : (ℕ → List ℕ) → ℕ → List (List ℕ)
-lists_by f n = map f (range_with_len 0 n)
-
-pub list_at-by : (f : ℕ → List ℕ) (n c : ℕ) → c < n → list_at (lists_by f n) c ≡ f c
-list_at-by f n c h = get_or-map-range_with_len f 0 n c c [] h (omega arith)
-
--- lists that are the same, class by class
-pub lists_by-each : (f : ℕ → List ℕ) (n : ℕ) (ls : List (List ℕ)) → length ls ≡ n → ((c : ℕ) → c < n →
-    list_at ls c ≡ f c) → ls ≡ lists_by f n
-lists_by-each f n ls h each = fill_by_all f ls n [] h each
-
-pub lists_by-same : (f g : ℕ → List ℕ) (n : ℕ) → ((c : ℕ) → c < n → f c ≡ g c) → lists_by f n ≡ lists_by g n
-lists_by-same f g n each = lists_by-each g n (lists_by f n) (length-map-range_with_len f 0 n) (λ c h. list_at-by f n
-    c h ∙ each c h)
-
--- another list of one class
-pub lists_by-set : (f g : ℕ → List ℕ) (n c : ℕ) → c < n → ((d : ℕ) → d < n → eqb c d ≡ false → f d ≡ g d) →
-    set (lists_by f n) c (g c) ≡ lists_by g n
-lists_by-set f g n c h other = lists_by-each g n (set (lists_by f n) c (g c)) (length-set (lists_by f n) c (g c) ∙
-    length-map-range_with_len f 0 n) (λ d k. elim (eqb c d)
-    as (λ t. eqb c d ≡ t → list_at (set (lists_by f n) c (g c)) d ≡ g d) [
-      | true ↦ λ t. let same : c ≡ d = grind (arith, nat_tests, t) in
-          rw (← same) (get_or-set_same (lists_by f n) c (g c) [] (omega (arith, length-map-range_with_len f 0 n)))
-      | false ↦ λ t. let apart : ¬ (d ≡ c) = λ e. absurd (grind (arith, nat_tests, t, e)) in
-          get_or-set_other (lists_by f n) c d (g c) [] apart ∙ (list_at-by f n d k ∙ other d k t)
-    ] refl)
-
--- every list changed
-pub lists_by-map : (f g : ℕ → List ℕ) (h : List ℕ → List ℕ) (n : ℕ) → h [] ≡ [] → ((c : ℕ) → c < n →
-    h (f c) ≡ g c) → map h (lists_by f n) ≡ lists_by g n
-lists_by-map f g h n e each = lists_by-each g n (map h (lists_by f n)) (length-map (lists_by f n) h ∙
-    length-map-range_with_len f 0 n) (λ c k. list_at-map h e (lists_by f n) c ∙ (ap h (list_at-by f n c k) ∙
-    each c k))

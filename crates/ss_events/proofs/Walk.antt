@@ -16,7 +16,8 @@ use Rattle.ss_events.specs.Rows.{notice_of}
 use Rattle.ss_events.proofs.OrderLaws.{AreBehind, IsSorted-of_class}
 use Rattle.ss_events.proofs.WeightLaws.{IsOrder-before}
 use Rattle.ss_events.proofs.WalkLaws.{Stops, passed-stops}
-use Rattle.ss_events.proofs.StateLaws.{list_at-by}
+use Rattle.ss_events.specs.Rules.{is_event_class, event_number}
+use Rattle.ss_events.proofs.EventLaws.{list_at-by}
 use Rattle.ss_events.proofs.BoardOf.{IsTold, class_seats, IsSorted-order}
 use Rattle.ss_events.proofs.Standing.{Stands, stands, taken-stands, seats_of-append, once-between}
 
@@ -74,7 +75,7 @@ pub record WalkStands (s : AgendaState) (e : Pending) (x : ℕ) (w : IsWalk s e 
   pub stands : Stands s e.class others last w.rear
 
 pub walk-stands : (s : AgendaState) (e : Pending) (x : ℕ) (w : IsWalk s e (Some x)) → IsTold s →
-    IsSound (board_of s) → e.class < length s.rules → WalkStands s e x w
+    IsSound (board_of s) → is_event_class s.rules e.class ≡ true → WalkStands s e x w
 walk-stands s e x w t sound k =
     let r = last-of s.notices w.front x w.here in
     let all : of_class e.class (order s) ≡ r.others ++ r.last ∷ w.rear = w.whole ∙
@@ -89,14 +90,14 @@ walk-stands s e x w t sound k =
     }
 
 -- a walk begins at the last seat of the class
-pub walk-begins : (s : AgendaState) (e : Pending) (at : Option ℕ) → e.class < length s.rules →
-    at ≡ last_of (list_at (board_of s).lists e.class) → IsWalk s e at
+pub walk-begins : (s : AgendaState) (e : Pending) (at : Option ℕ) → is_event_class s.rules e.class ≡ true →
+    at ≡ last_of (list_at (board_of s).lists (event_number s.rules e.class)) → IsWalk s e at
 walk-begins s e at k h = record {
   front = of_class e.class (order s);
   rear = [];
   whole = sym (append-nil (of_class e.class (order s)));
   here = h ∙
-      ap last_of (list_at-by (class_seats s) (length s.rules) e.class k);
+      ap last_of (list_at-by (class_seats s) s.rules e.class k);
   behind = tt;
 }
   where
@@ -105,7 +106,7 @@ walk-begins s e at k h = record {
     append-nil (f ∷ fs) = ap (λ (l : List Pending). f ∷ l) (append-nil fs)
 
 pub walk-taken : (s : AgendaState) (e : Pending) (x : ℕ) → IsWalk s e (Some x) → IsTold s → IsSound (board_of s) →
-    e.class < length s.rules → IsTaken s x
+    is_event_class s.rules e.class ≡ true → IsTaken s x
 walk-taken s e x w t sound k = let r = walk-stands s e x w t sound k in
     rw r.seat at (taken-stands s e.class r.others r.last w.rear r.stands)
 
@@ -120,7 +121,7 @@ walk-entry s e x y w r h =
 
 -- the walk goes on in front of a notice behind which the other doesn't belong
 abbrev pub walk-on : (s : AgendaState) (e : Pending) (x : ℕ) (y : Entry) (at : Option ℕ) → IsWalk s e (Some x) →
-    IsTold s → IsSound (board_of s) → e.class < length s.rules →
+    IsTold s → IsSound (board_of s) → is_event_class s.rules e.class ≡ true →
     pending_at s.agenda.pending (notice_on s x) ≡ Some (notice_of (notice_on s x) y) →
     before s.rules e (notice_of 0 y) ≡ true → at ≡ seat_before (list_of (board_of s).lists x) x → IsWalk s e at
 walk-on s e x y at w t sound k h b p =
@@ -137,7 +138,8 @@ walk-on s e x y at w t sound k h b p =
 
 -- the walk ends where the notice belongs
 pub walk-ends : (s : AgendaState) (e : Pending) (x : ℕ) (y : Entry) → IsWalk s e (Some x) → IsTold s →
-    IsSound (board_of s) → e.class < length s.rules → pending_at s.agenda.pending (notice_on s x) ≡ Some (notice_of
+    IsSound (board_of s) → is_event_class s.rules e.class ≡ true → pending_at s.agenda.pending (notice_on s x) ≡ Some
+    (notice_of
     (notice_on s x) y) → before s.rules e (notice_of 0 y) ≡ false → (rank_place s e).before ≡ Some x
 walk-ends s e x y w t sound k h b =
     let r = walk-stands s e x w t sound k in
@@ -164,9 +166,11 @@ walk-ends_first s e w t =
 
 -- the seats left to a walk are those in front
 pub walk-left : (s : AgendaState) (e : Pending) (at : Option ℕ) (w : IsWalk s e at) → IsSound (board_of s) →
-    e.class < length s.rules → seats_left (list_at (board_of s).lists e.class) at ≡ length w.front
+    is_event_class s.rules e.class ≡ true → seats_left (list_at (board_of s).lists (event_number s.rules e.class)) at ≡
+    length w.front
 walk-left s e at w sound k = elim at
-    as (λ o. (v : IsWalk s e o) → seats_left (list_at (board_of s).lists e.class) o ≡ length v.front) [
+    as (λ o. (v : IsWalk s e o) → seats_left (list_at (board_of s).lists (event_number s.rules e.class)) o ≡ length
+    v.front) [
       | None ↦ λ v. none v.front v.here
       | Some x ↦ λ v. some x v
     ] w
@@ -175,16 +179,18 @@ walk-left s e at w sound k = elim at
     none [] h = refl
     none (f ∷ fs) h = absurd (cc)
 
-    some : (x : ℕ) (v : IsWalk s e (Some x)) → suc (seat_in (list_at (board_of s).lists e.class) x) ≡ length v.front
+    some : (x : ℕ) (v : IsWalk s e (Some x)) → suc (seat_in (list_at (board_of s).lists (event_number s.rules e.class))
+        x) ≡ length v.front
     some x v =
         let r = last-of s.notices v.front x v.here in
-        let all : list_at (board_of s).lists e.class ≡ seats_of s.notices r.others ++ x ∷ seats_of s.notices v.rear =
-        list_at-by (class_seats s) (length s.rules) e.class k ∙ (ap (seats_of s.notices) (v.whole ∙
+        let all : list_at (board_of s).lists (event_number s.rules e.class) ≡ seats_of s.notices r.others ++ x ∷
+        seats_of s.notices v.rear =
+        list_at-by (class_seats s) s.rules e.class k ∙ (ap (seats_of s.notices) (v.whole ∙
         (ap (λ (l : List Pending). l ++ v.rear) r.whole ∙ append_assoc r.others (r.last ∷ []) v.rear)) ∙
         (seats_of-append s.notices r.others (r.last ∷ v.rear) ∙
         ap (λ (n : ℕ). seats_of s.notices r.others ++ n ∷ seats_of s.notices v.rear) r.seat)) in
         let apart = once-between (seats_of s.notices r.others) (seats_of s.notices v.rear) x (rw all at (once-list_at
-        (board_of s) sound e.class x)) in
+        (board_of s) sound (event_number s.rules e.class) x)) in
         rw (all, seat_in-between (seats_of s.notices r.others) (seats_of s.notices v.rear) x apart.0) (omega (
           arith,
           length-map r.others (λ (f : Pending). seat_in s.notices f.notice),
@@ -193,10 +199,11 @@ walk-left s e at w sound k = elim at
         ))
 
 pub walk-less : (s : AgendaState) (e : Pending) (x : ℕ) (y : Entry) (at : Option ℕ) → IsWalk s e (Some x) →
-    IsTold s → IsSound (board_of s) → e.class < length s.rules →
+    IsTold s → IsSound (board_of s) → is_event_class s.rules e.class ≡ true →
     pending_at s.agenda.pending (notice_on s x) ≡ Some (notice_of (notice_on s x) y) →
     before s.rules e (notice_of 0 y) ≡ true → at ≡ seat_before (list_of (board_of s).lists x) x →
-    seats_left (list_at (board_of s).lists e.class) at < seats_left (list_at (board_of s).lists e.class) (Some x)
+    seats_left (list_at (board_of s).lists (event_number s.rules e.class)) at < seats_left (list_at (board_of s).lists
+    (event_number s.rules e.class)) (Some x)
 walk-less s e x y at w t sound k h b p =
     let v = walk-on s e x y at w t sound k h b p in
     let r = walk-stands s e x w t sound k in

@@ -62,7 +62,7 @@ of_classes_below-none [] = refl
 of_classes_below-none (e ∷ es) = let above : ltb e.class 0 ≡ false = grind (arith, nat_tests) in
     rw above (of_classes_below-none es)
 
-passed-none : (lt : Pending → Pending → Bool) (e : Pending) (es : List Pending) → AreBehind lt e es →
+pub passed-none : (lt : Pending → Pending → Bool) (e : Pending) (es : List Pending) → AreBehind lt e es →
     passed lt e es ≡ []
 passed-none lt e [] h = refl
 passed-none lt e (f ∷ fs) h = rw h.0 refl

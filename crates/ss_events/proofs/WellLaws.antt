@@ -23,6 +23,7 @@ well-kept rows s b k = record {
       (λ e p. record {
         reference = let r = k.seated e.notice p.seat in omega (arith, r.1, k.few);
         class = p.class;
+        time = p.time;
         keys = p.keys;
         first = p.first;
         filing = p.filing;

@@ -1,5 +1,6 @@
 -- The pending notices, and which of them is the next.
-use Rattle.std.specs.Prelude.{ℕ, zero, suc, ◌+◌, ◌^◌, ◌==◌, nat_lt, Bool, if◌then◌else◌, ℤ, int_lt, List, [], ◌∷◌}
+use Rattle.std.specs.Prelude.{ℕ, zero, suc, ◌+◌, ◌^◌, ◌==◌, nat_lt, Bool, if◌then◌else◌, ℤ, pos, negsuc, int_lt, List}
+use Rattle.std.specs.Prelude.{[], ◌∷◌}
 use Rattle.std.specs.Prelude.{length, fold, Option, Some, None, is_some, Result, Ok, Err}
 use Rattle.std.specs.Ordering.{is_lt, ordering_then, nat_cmp, int_cmp}
 use Rattle.std.specs.declared.cmp.Ordering.{Ordering}
@@ -28,6 +29,11 @@ pub record Agenda : Type 0 where
   pub pending : List Pending
   -- what the next scheduling gets
   pub next_filing : ℕ
+
+-- whether a number is one of 64 bits with a sign
+abbrev pub in_range : ℤ → Bool
+in_range (pos n) = nat_lt n (2 ^ 63)
+in_range (negsuc n) = nat_lt n (2 ^ 63)
 
 -- nothing pending
 abbrev pub empty_agenda : Agenda

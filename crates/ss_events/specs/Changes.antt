@@ -10,6 +10,7 @@ use Rattle.ss_events.specs.declared.agenda.AgendaChange.{AgendaChange}
 use Rattle.ss_events.specs.declared.agenda.AgendaChange.TheVariants.{Scheduled, TakenOff}
 use Rattle.ss_events.specs.Agenda.{Pending, Agenda, pending_at, with_notice, without_notice, scheduled, taken_off}
 use Rattle.ss_events.specs.State.{AgendaState, Each, NoneNoted, NoneFiled, IsPending}
+use Rattle.ss_events.specs.Places.{predecessor_of}
 use Rattle.ss_events.specs.Rows.{notice_of}
 
 -- the state with other pending notices
@@ -58,7 +59,7 @@ unapply (Scheduled n made) s = record s {
   agenda = unscheduled s.agenda n;
   notices = if made then take (length s.notices - 1) s.notices else s.notices;
 }
-unapply (TakenOff n x) s = record s { agenda = put_back s.agenda (notice_of n x) }
+unapply (TakenOff n x before) s = record s { agenda = put_back s.agenda (notice_of n x) }
 
 -- a notice is pending, and all others were filed before it
 pub record IsNewest (s : AgendaState) (n : ℕ) : Type 0 where
@@ -76,7 +77,7 @@ pub record IsNewest (s : AgendaState) (n : ℕ) : Type 0 where
 -- a change fits a state: it can have been the last
 abbrev pub Fits : AgendaChange → AgendaState → Type 0
 Fits (Scheduled n made) s = (0 < n) × IsNewest s n × (made ≡ true → IsLastSeat s n)
-Fits (TakenOff n x) s = (0 < n) × CanPend s (notice_of n x)
+Fits (TakenOff n x before) s = (0 < n) × CanPend s (notice_of n x) × (before ≡ predecessor_of s (notice_of n x))
 
 -- the agenda went from one state to another by a change
 pub record Went (c : AgendaChange) (s old new : AgendaState) : Type 0 where

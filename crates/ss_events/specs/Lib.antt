@@ -8,3 +8,4 @@ pub mod Rows
 pub mod Slots
 pub mod Changes
 pub mod WellAgenda
+pub mod Laws

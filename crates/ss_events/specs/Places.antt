@@ -1,9 +1,11 @@
 -- Where a notice belongs on the board.
 use Rattle.std.specs.Prelude.{ℕ, ◌<◌, if◌then◌else◌, Bool, List, [], ◌∷◌, length, slice_index, Option, Some, None}
-use Rattle.std.specs.Option.{IsSome}
+use Rattle.std.specs.Prelude.{unwrap_or}
+use Rattle.std.specs.Option.{IsSome, option_map}
 use Rattle.ss_links.specs.Seats.{last_of}
 use Rattle.ss_links.specs.declared.board.Place.{Place}
 use Rattle.ss_events.specs.Agenda.{Pending, pending_at, of_class}
+use Rattle.ss_events.specs.Rules.{event_number}
 use Rattle.ss_events.specs.Weights.{before}
 use Rattle.ss_events.specs.State.{AgendaState, seats_of, order}
 
@@ -15,9 +17,18 @@ passed lt e (f ∷ fs) = if lt e f then [] else f ∷ passed lt e fs
 -- where a notice belongs: in its class's list, behind those that it doesn't come before
 abbrev pub rank_place : AgendaState → Pending → Place
 rank_place s e = record {
-  head = e.class;
+  head = event_number s.rules e.class;
   before = last_of (seats_of s.notices (passed (before s.rules) e (of_class e.class (order s))));
 }
+
+-- the last of a list
+abbrev pub last : List Pending → Option Pending
+last [] = None
+last (e ∷ es) = Some (unwrap_or (last es) e)
+
+-- the notice of its class directly behind which a notice belongs, or none where it belongs in front of all
+abbrev pub predecessor_of : AgendaState → Pending → Option ℕ
+predecessor_of s e = option_map (λ f. f.notice) (last (passed (before s.rules) e (of_class e.class (order s))))
 
 -- the notice of a seat
 abbrev pub notice_on : AgendaState → ℕ → ℕ

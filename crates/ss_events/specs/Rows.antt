@@ -6,14 +6,14 @@ use Rattle.ss_links.specs.Seats.{has, times_in}
 use Rattle.ss_events.specs.declared.entry.ClassRule.{ClassRule}
 use Rattle.ss_events.specs.declared.entry.Entry.{Entry}
 use Rattle.ss_events.specs.declared.entry.Row.{Row}
-use Rattle.ss_events.specs.Rules.{Rule, rule_at}
+use Rattle.ss_events.specs.Rules.{Rule, rule_at, is_event_class}
 use Rattle.ss_events.specs.State.{AreRanked}
 use Rattle.ss_events.specs.Agenda.{Pending, filing_limit}
 use Rattle.ss_events.specs.State.{AgendaState, seat_at, board_of, Each, AreFiled, IsPending}
 
 -- a class's rule
 abbrev pub rule_of : ClassRule → Rule
-rule_of k = record { priority = k.priority; ties = k.ties.items }
+rule_of k = record { for_events = k.for_events; priority = k.priority; ties = k.ties.items }
 
 -- the pending notice of an entry
 abbrev pub notice_of : ℕ → Entry → Pending
@@ -74,9 +74,9 @@ pub record IsAgenda (rows : List Row) (s : AgendaState) (b : Board) : Type 0 whe
   -- there are at most 64 classes
   pub classes : length s.rules ≤ 64
 
--- an entry's class is one, and it has a key for each of the class's
+-- an entry's class is an event class, and it has a key for each of the class's
 abbrev pub IsEntry : List Rule → Entry → Type 0
-IsEntry rules x = (x.class < length rules) × (length x.keys.items ≡ length (rule_at rules x.class).ties)
+IsEntry rules x = (is_event_class rules x.class ≡ true) × (length x.keys.items ≡ length (rule_at rules x.class).ties)
 
 -- rows became more, the new ones empty, but not more than a count
 pub record IsGrown (old new : List Row) (count : ℕ) : Type 0 where

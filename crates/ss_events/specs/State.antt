@@ -1,11 +1,10 @@
 -- The agenda's state, with the board on which its notices have their seats.
 use Rattle.std.specs.Prelude.{◌≡◌, ℕ, suc, ◌<◌, true, false, ◌==◌, if◌then◌else◌, List, [], ◌∷◌, length, map, Option}
 use Rattle.std.specs.Prelude.{Some, None}
-use Rattle.std.specs.List.{range_with_len}
 use Rattle.ss_links.specs.Board.{Board}
 use Rattle.ss_links.specs.Seats.{has}
-use Rattle.ss_events.specs.Rules.{Rule, rule_at}
-use Rattle.ss_events.specs.Agenda.{Pending, Agenda, empty_agenda, in_order, of_class}
+use Rattle.ss_events.specs.Rules.{Rule, rule_at, is_event_class, event_classes}
+use Rattle.ss_events.specs.Agenda.{Pending, Agenda, empty_agenda, in_order, of_class, in_range}
 
 -- the classes' rules, the pending notices with the next filing number, and the notice of each seat
 pub record AgendaState : Type 0 where
@@ -37,10 +36,10 @@ seats_of notices es = map (λ e. seat_in notices e.notice) es
 abbrev pub order : AgendaState → List Pending
 order s = in_order s.rules s.agenda
 
--- the board: the list of each class has the seats of its pending notices, in their order
+-- the board: for each event class a list with the seats of its pending notices, in their order
 abbrev pub board_of : AgendaState → Board
 board_of s = record {
-  lists = map (λ c. seats_of s.notices (of_class c (order s))) (range_with_len 0 (length s.rules));
+  lists = map (λ c. seats_of s.notices (of_class c (order s))) (event_classes s.rules);
   seats = length s.notices;
 }
 
@@ -62,10 +61,13 @@ abbrev pub AreFiled : List Pending → Type 0
 AreFiled [] = Unit {0}
 AreFiled (e ∷ es) = NoneFiled e.filing es × AreFiled es
 
--- a notice's class is one, it has a key for each of the class's, a seat, and a filing number from 1 below the next
+-- a notice's class is an event class, its time a number of 64 bits, it has a key for each of the class's, a seat, and a
+-- filing number from 1 below the next
 pub record IsPending (rules : List Rule) (notices : List ℕ) (next_filing : ℕ) (e : Pending) : Type 0 where
-  -- its class is one
-  pub class : e.class < length rules
+  -- its class is an event class
+  pub class : is_event_class rules e.class ≡ true
+  -- its time is a number of 64 bits
+  pub time : in_range e.time ≡ true
   -- it has a key for each of the class's
   pub keys : length e.keys ≡ length (rule_at rules e.class).ties
   -- it has a seat

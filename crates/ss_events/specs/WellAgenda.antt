@@ -1,7 +1,7 @@
 -- A well-formed agenda.
-use Rattle.std.specs.Prelude.{◌≡◌, ℕ, ◌+◌, ◌<◌, ◌≤◌, List, [], ◌∷◌, length}
-use Rattle.ss_events.specs.Rules.{Rule, rule_at}
-use Rattle.ss_events.specs.Agenda.{Pending, Agenda, filing_limit}
+use Rattle.std.specs.Prelude.{◌≡◌, ℕ, ◌+◌, ◌<◌, ◌≤◌, true, List, [], ◌∷◌, length}
+use Rattle.ss_events.specs.Rules.{Rule, rule_at, is_event_class}
+use Rattle.ss_events.specs.Agenda.{Pending, Agenda, in_range, filing_limit}
 use Rattle.ss_events.specs.State.{Each, AreFiled}
 
 -- each reference is above the one before it
@@ -9,12 +9,14 @@ abbrev pub IsRising : ℕ → List Pending → Type 0
 IsRising n [] = Unit {0}
 IsRising n (e ∷ es) = (n < e.notice) × IsRising e.notice es
 
--- a notice of a class, with as many keys as its class has, and a filing number that was given
+-- a notice of an event class, with a time of 64 bits, as many keys as its class has, and a filing number that was given
 pub record IsWellNotice (rules : List Rule) (next : ℕ) (e : Pending) : Type 0 where
   -- its reference is within the limit of references
   pub reference : e.notice ≤ 1000000
-  -- its class is one
-  pub class : e.class < length rules
+  -- its class is an event class
+  pub class : is_event_class rules e.class ≡ true
+  -- its time is a number of 64 bits
+  pub time : in_range e.time ≡ true
   -- it has a key for each of the class's
   pub keys : length e.keys ≡ length (rule_at rules e.class).ties
   -- filing numbers begin with 1
@@ -22,6 +24,7 @@ pub record IsWellNotice (rules : List Rule) (next : ℕ) (e : Pending) : Type 0 
   -- its filing number was given
   pub filing : e.filing < next
 
+-- well-formed notices in order of their references, with different filing numbers below the next
 pub record IsWellAgenda (rules : List Rule) (a : Agenda) : Type 0 where
   -- each pending notice is well-formed
   pub notices : Each (IsWellNotice rules a.next_filing) a.pending

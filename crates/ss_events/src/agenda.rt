@@ -1,9 +1,9 @@
 ghost use Rattle.std.specs.Prelude.{◌≡◌, [], ◌+◌, ◌-◌, ◌<◌, ℕ, map, ◌≤◌, not, length, take, Some, IfOk, OnErr};
-ghost use Rattle.std.specs.Prelude.{slice_get, is_some, if◌then◌else◌, true};
+ghost use Rattle.std.specs.Prelude.{slice_get, slice_index, is_some, IfSome, if◌then◌else◌, true};
 ghost use Rattle.std.specs.Option.{option_map, IsSome};
 ghost use Rattle.ss_links.specs.Board.{empty_board, list_at};
 ghost use Rattle.ss_links.specs.Seats.{has};
-ghost use Rattle.ss_events.specs.Rules.{rule_at, rules_of};
+ghost use Rattle.ss_events.specs.Rules.{rule_at, rules_of, is_event_class, event_classes, event_number};
 ghost use Rattle.ss_events.specs.Agenda.{
   pending_at,
   least,
@@ -30,7 +30,8 @@ ghost use Rattle.ss_events.specs.Changes.{
   IsScheduled,
   IsCancelled,
 };
-ghost use Rattle.ss_events.specs.Places.{passed, rank_place, notice_on, IsTaken, IsTakenIfSome, earlier, pending_on};
+ghost use Rattle.ss_events.specs.Places.{passed, rank_place, predecessor_of, notice_on, IsTaken, IsTakenIfSome};
+ghost use Rattle.ss_events.specs.Places.{earlier, pending_on};
 ghost use Rattle.ss_events.specs.Listings.{IsListing};
 ghost use Rattle.ss_events.specs.Rows.{notice_of, rule_of, IsEntry};
 ghost use Rattle.ss_events.specs.WellAgenda.{IsWellAgenda};
@@ -38,8 +39,8 @@ ghost use Rattle.ss_events.specs.Slots.{slot_of};
 
 use crate::entry::{ClassRule, Entry, Row};
 use crate::listing::{CLASS_LIMIT, Listing};
-use crate::ranking::{entry_of, grow, is_before};
-use crate::rule::class_rules;
+use crate::ranking::{entry_of, grow, is_before, notice_if};
+use crate::rule::{class_rules, event_number};
 use ss_check::Program;
 use ss_journal::Undo;
 use ss_links::{Place, SetBoard};
@@ -75,6 +76,8 @@ pub enum AgendaChange {
         notice: u32,
         /// What was kept of it.
         entry: Entry,
+        /// The notice of its class that stood directly before it, or none where it stood first.
+        predecessor: Option<u32>,
     },
 }
 
@@ -113,20 +116,19 @@ impl<S: SetBoard> Agenda<S> {
         Agenda::with_rules(alloc, rules, board)
     }
 
-    /// An agenda of classes of these rules, without pending notices, on an empty board.
-    pub(crate) fn with_rules(
-        alloc: Global,
-        rules: Vec<ClassRule>,
-        board: S,
-    ) -> Result<Self, AllocError>
+    /// An agenda of classes of these rules, without pending notices, on a board without heads and
+    /// seats. At most 64 classes, no two with one place in the order of priority.
+    pub fn with_rules(alloc: Global, rules: Vec<ClassRule>, board: S) -> Result<Self, AllocError>
         requires ranked { AreRanked (map rule_of rules.items) }
         requires few { length rules.items ≤ 64 }
         requires empty { S.board board ≡ empty_board }
         ensures { IfOk result (λ agenda. agenda ≡ no_notices (map rule_of rules.items)) }
     {
         let mut board = board;
-        for _ in 0..rules.len() {
-            board.try_add_head()?;
+        for class in 0..rules.len() {
+            if rules[class].for_events {
+                board.try_add_head()?;
+            }
         }
         Ok(Agenda {
             alloc,
@@ -144,6 +146,19 @@ impl<S: SetBoard> Agenda<S> {
     {
         // What is kept is known where a field is read.
         let _ = &self.rows;
+    }
+
+    /// How many keys a notice of this class has, or none where it is no event class.
+    pub fn key_count(&self, class: usize) -> Option<usize>
+        ensures event { is_some result ≡ is_event_class self.now.rules class }
+        ensures count { IfSome result (λ count. count ≡ length (rule_at self.now.rules class).ties) }
+    {
+        let rule = self.rules.get(class)?;
+        if rule.for_events {
+            Some(rule.ties.len())
+        } else {
+            None
+        }
     }
 
     /// When the notice is due and of which class it is, or none where it isn't pending.
@@ -167,14 +182,23 @@ impl<S: SetBoard> Agenda<S> {
         entry_of(&self.rows, self.notices[seat as usize]).unwrap()
     }
 
-    /// Whether a notice with this entry comes before all those of its class.
-    fn is_first(&self, entry: &Entry) -> bool
-        requires { IsEntry self.now.rules entry.now }
+    /// The head of an event class: its number among the event classes.
+    fn head(&self, class: usize) -> u32
+        requires { is_event_class self.now.rules class ≡ true }
+        ensures value { result ≡ event_number self.now.rules class }
+        ensures there { result < length (event_classes self.now.rules) }
+    {
+        event_number(&self.rules, class)
+    }
+
+    /// Whether a notice with this entry comes before all those of its class, whose head is given.
+    fn is_first(&self, entry: &Entry, head: u32) -> bool
+        requires entry { IsEntry self.now.rules entry.now }
+        requires head { head ≡ event_number self.now.rules entry.now.class }
         ensures { result ≡ true →
             passed (before self.now.rules) (notice_of 0 entry.now) (of_class entry.now.class (order self.now)) ≡ [] }
     {
         let board = &self.board;
-        let head = entry.class as u32;
         let first = board.first(head);
         match first {
             None => true,
@@ -189,8 +213,8 @@ impl<S: SetBoard> Agenda<S> {
         ensures { result ≡ rank_place self.now (notice_of 0 entry.now) }
     {
         let board = &self.board;
-        let head = entry.class as u32;
-        if self.is_first(entry) {
+        let head = self.head(entry.class);
+        if self.is_first(entry, head) {
             return Place { head, before: None };
         }
         let mut before = board.last(head);
@@ -203,30 +227,68 @@ impl<S: SetBoard> Agenda<S> {
         Place { head, before }
     }
 
-    /// Makes a notice pending.
+    /// The place directly behind a notice of the entry's class, or in front of all of them.
+    fn place_behind(&self, entry: &Entry, predecessor: Option<u32>) -> Place
+        requires entry { IsEntry self.now.rules entry.now }
+        requires predecessor { predecessor ≡ predecessor_of self.now (notice_of 0 entry.now) }
+        ensures { result ≡ rank_place self.now (notice_of 0 entry.now) }
+    {
+        let rows = &self.rows;
+        let head = self.head(entry.class);
+        match predecessor {
+            None => Place { head, before: None },
+            Some(notice) => Place {
+                head,
+                before: rows[notice as usize - 1].seat,
+            },
+        }
+    }
+
+    /// Makes a notice pending, with its seat at the place where it belongs.
+    fn put_at(&mut self, notice: u32, entry: Entry, place: Place)
+        requires can { CanPend self.old (notice_of notice entry) }
+        requires place { place ≡ rank_place self.old (notice_of 0 entry) }
+        ensures { self.new ≡ with_pending self.old (with_notice (notice_of notice entry) self.old.agenda.pending) }
+    {
+        let row = &mut self.rows[notice as usize - 1];
+        let seat = row.seat.unwrap();
+        row.entry = Some(entry);
+        self.board.relink(seat, place);
+    }
+
+    /// Makes a notice pending, at a place that is looked for.
     fn put_in(&mut self, notice: u32, entry: Entry)
         requires { CanPend self.old (notice_of notice entry) }
         ensures { self.new ≡ with_pending self.old (with_notice (notice_of notice entry) self.old.agenda.pending) }
     {
         let place = self.rank_place(&entry);
-        let index = notice as usize - 1;
-        let seat = self.rows[index].seat.unwrap();
-        self.board.relink(seat, place);
-        self.rows[index].entry = Some(entry);
+        self.put_at(notice, entry, place);
     }
 
-    /// Takes a pending notice out, and gives what was kept of it.
-    fn take_out(&mut self, notice: u32) -> Entry
+    /// Makes a notice pending again, directly behind the notice that stood before it.
+    fn put_back(&mut self, notice: u32, entry: Entry, predecessor: Option<u32>)
+        requires can { CanPend self.old (notice_of notice entry) }
+        requires predecessor { predecessor ≡ predecessor_of self.old (notice_of notice entry) }
+        ensures { self.new ≡ with_pending self.old (with_notice (notice_of notice entry) self.old.agenda.pending) }
+    {
+        let place = self.place_behind(&entry, predecessor);
+        self.put_at(notice, entry, place);
+    }
+
+    /// Takes a pending notice out, and gives what was kept of it and the notice before it.
+    fn take_out(&mut self, notice: u32) -> (Entry, Option<u32>)
         requires number { 0 < notice }
         requires pending { IsSome (pending_at self.old.agenda.pending notice) }
-        ensures entry { pending_at self.old.agenda.pending notice ≡ Some (notice_of notice result) }
+        ensures entry { pending_at self.old.agenda.pending notice ≡ Some (notice_of notice result.0) }
         ensures state { self.new ≡ with_pending self.old (without_notice notice self.old.agenda.pending) }
+        ensures predecessor { result.1 ≡ predecessor_of self.new (notice_of notice result.0) }
     {
         let index = notice as usize - 1;
         let seat = self.rows[index].seat.unwrap();
         let entry = self.rows[index].entry.take().unwrap();
-        self.board.unlink(seat);
-        entry
+        let place = self.board.unlink(seat);
+        let predecessor = notice_if(&self.notices, place.before);
+        (entry, predecessor)
     }
 
     /// Makes a seat for a notice, unless it has one, and tells whether it did.
@@ -295,7 +357,7 @@ impl<S: SetBoard> Agenda<S> {
     ) -> Result<AgendaChange, StepFault>
         requires number { 0 < notice }
         requires small { notice ≤ 1000000 }
-        requires class { class < length self.old.rules }
+        requires class { is_event_class self.old.rules class ≡ true }
         requires keys { length keys.now ≡ length (rule_at self.old.rules class).ties }
         ensures { IsScheduled result (may_schedule self.old.agenda notice time clock)
             (after_scheduling self.old notice time class keys.now) self.old self.new }
@@ -330,8 +392,12 @@ impl<S: SetBoard> Agenda<S> {
     {
         // What is kept is known where a field is read.
         let _board = &self.board;
-        let entry = self.take_out(notice);
-        AgendaChange::TakenOff { notice, entry }
+        let (entry, predecessor) = self.take_out(notice);
+        AgendaChange::TakenOff {
+            notice,
+            entry,
+            predecessor,
+        }
     }
 
     /// Takes a notice off, where it is pending; where it isn't (F11), all is left as it was.
@@ -353,13 +419,17 @@ impl<S: SetBoard> Agenda<S> {
     {
         match change {
             AgendaChange::Scheduled { notice, seated } => {
-                let _entry = self.take_out(notice);
+                let _taken = self.take_out(notice);
                 self.unfile();
                 if seated {
                     self.take_seat(notice);
                 }
             }
-            AgendaChange::TakenOff { notice, entry } => self.put_in(notice, entry),
+            AgendaChange::TakenOff {
+                notice,
+                entry,
+                predecessor,
+            } => self.put_back(notice, entry, predecessor),
         }
     }
 
@@ -392,8 +462,12 @@ impl<S: SetBoard> Agenda<S> {
     {
         let board = &self.board;
         let mut seats = [None; CLASS_LIMIT];
-        for head in 0..board.heads() {
-            seats[head as usize] = board.first(head);
+        let mut head = 0;
+        for class in 0..self.rules.len() {
+            if self.rules[class].for_events {
+                seats[class] = board.first(head);
+                head += 1;
+            }
         }
         Listing { seats, listed: 0 }
     }
@@ -405,8 +479,8 @@ impl<S: SetBoard> Agenda<S> {
         ensures taken { IsTakenIfSome self.now result }
     {
         let mut least = None;
-        for head in 0..self.board.heads() {
-            least = self.earlier(least, listing.seats[head as usize]);
+        for class in 0..self.rules.len() {
+            least = self.earlier(least, listing.seats[class]);
         }
         least
     }
@@ -444,12 +518,14 @@ impl<S: SetBoard> Agenda<S> {
         self.list_next(&mut listing)
     }
 
-    /// The board: the list of each class has the seats of its pending notices, in their order.
+    /// The board. It has one head for each event class, in order of declaration, and the list of
+    /// each has the seats of the class's pending notices, in their order.
     pub fn board(&self) -> &S
         ensures board { S.board result.now ≡ board_of self.now }
-        ensures by_class { (c : ℕ) → c < length self.now.rules →
+        ensures heads { length (S.board result.now).lists ≡ length (event_classes self.now.rules) }
+        ensures by_class { (c : ℕ) → c < length (event_classes self.now.rules) →
             map (λ seat. notice_on self.now seat) (list_at (S.board result.now).lists c)
-            ≡ map (λ e. e.notice) (of_class c (order self.now)) }
+            ≡ map (λ e. e.notice) (of_class (slice_index (event_classes self.now.rules) c) (order self.now)) }
     {
         &self.board
     }
@@ -472,21 +548,5 @@ impl<S: SetBoard> Undo for Agenda<S> {
 
     fn undo(&mut self, change: AgendaChange) {
         self.undo(change);
-    }
-}
-
-#[cfg(test)]
-impl<S: SetBoard> Agenda<S> {
-    /// Whether a notice of this class, with these keys, may be handed in.
-    pub(crate) fn takes(&self, notice: u32, class: usize, keys: &[i64]) -> bool
-        ensures number { result ≡ true → 0 < notice }
-        ensures small { result ≡ true → notice ≤ 1000000 }
-        ensures class { result ≡ true → class < length self.now.rules }
-        ensures keys { result ≡ true → length keys.now ≡ length (rule_at self.now.rules class).ties }
-    {
-        0 < notice
-            && notice <= 1_000_000
-            && class < self.rules.len()
-            && keys.len() == self.rules[class].ties.len()
     }
 }

@@ -25,6 +25,8 @@ pub struct Row {
 /// What the order of notices asks of a class.
 #[derive(Drop)]
 pub struct ClassRule {
+    /// Whether notices may be of it: it is an event class.
+    pub for_events: bool,
     /// Its place in the order of priority, which no other class has.
     pub priority: usize,
     /// The keys of its BREAK ties.

@@ -3,12 +3,11 @@
 
 mod agenda;
 mod entry;
+pub mod laws;
 mod listing;
 mod ranking;
 mod rule;
-#[cfg(test)]
-mod tests;
 
 pub use agenda::{Agenda, AgendaChange, Slot};
-pub use entry::Entry;
+pub use entry::{ClassRule, Entry};
 pub use listing::Listing;

@@ -1,5 +1,5 @@
-ghost use Rattle.std.specs.Prelude.{◌≡◌, ◌-◌, ◌<◌, ◌≤◌, ◌++◌, IfOk, ℤ, List, length, map, unwrap_or};
-ghost use Rattle.std.specs.Option.{option_map};
+ghost use Rattle.std.specs.Prelude.{◌≡◌, ◌-◌, ◌<◌, ◌≤◌, ◌++◌, IfOk, ℤ, List, length, map, slice_index, unwrap_or};
+ghost use Rattle.std.specs.Option.{option_map, ForSome};
 ghost use Rattle.ss_events.specs.Rules.{rule_at};
 ghost use Rattle.ss_events.specs.State.{AreRanked};
 ghost use Rattle.ss_events.specs.Weights.{before, less, compared};
@@ -17,6 +17,17 @@ pub(crate) fn entry_of(rows: &[Row], notice: u32) -> Option<&Entry>
     match rows.get(notice as usize - 1) {
         None => None,
         Some(row) => row.entry.as_ref(),
+    }
+}
+
+/// The notice of a seat, if there is a seat.
+pub(crate) fn notice_if(notices: &[u32], seat: Option<u32>) -> Option<u32>
+    requires { ForSome seat (λ x. x < length notices.now) }
+    ensures { result ≡ option_map (λ x. slice_index notices.now x) seat }
+{
+    match seat {
+        None => None,
+        Some(seat) => Some(notices[seat as usize]),
     }
 }
 

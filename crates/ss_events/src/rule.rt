@@ -1,6 +1,6 @@
-ghost use Rattle.std.specs.Prelude.{◌≡◌, ◌<◌, ◌==◌, IfOk, length, map, position};
+ghost use Rattle.std.specs.Prelude.{◌≡◌, ◌<◌, ◌≤◌, ◌==◌, IfOk, length, map, position};
 ghost use Rattle.ss_check.specs.Program.{priority_of};
-ghost use Rattle.ss_events.specs.Rules.{program_rule, rules_of};
+ghost use Rattle.ss_events.specs.Rules.{program_rule, rules_of, event_number};
 ghost use Rattle.ss_events.specs.Rows.{rule_of};
 
 use crate::entry::ClassRule;
@@ -25,8 +25,22 @@ fn class_rule(alloc: Global, program: &Program, class: usize) -> Result<ClassRul
     ensures { IfOk result (λ rule. rule_of rule ≡ program_rule program.now class) }
 {
     let ties = class_ties(alloc, program, class)?;
-    let priority = class_priority(program, class);
-    Ok(ClassRule { priority, ties })
+    Ok(ClassRule {
+        for_events: class_is_event(program, class),
+        priority: class_priority(program, class),
+        ties,
+    })
+}
+
+/// Whether a class is an event class.
+fn class_is_event(program: &Program, class: usize) -> bool
+    requires { class < length program.now.classes }
+    ensures { result ≡ (program_rule program.now class).for_events }
+{
+    match &program.classes[class].kind {
+        ClassKind::Event(_) => true,
+        _ => false,
+    }
 }
 
 /// The keys of a class's BREAK ties; none where it is no event class.
@@ -57,4 +71,19 @@ fn class_priority(program: &Program, class: usize) -> usize
         Some(place) => place,
         None => program.priority.len() + class,
     }
+}
+
+/// The number of a class among the event classes: how many are declared before it.
+pub(crate) fn event_number(rules: &[ClassRule], class: usize) -> u32
+    requires class { class ≤ length rules.now }
+    requires few { length rules.now ≤ 64 }
+    ensures { result ≡ event_number (map rule_of rules.now) class }
+{
+    let mut number = 0;
+    for other in 0..class {
+        if rules[other].for_events {
+            number += 1;
+        }
+    }
+    number
 }

@@ -1,6 +1,7 @@
 -- What each call of a board does to one list, and what that is in numbers.
 use Rattle.std.proofs.lemmas.Bool.Decides.{nat_tests}
-use Rattle.std.proofs.Common.{◌≡◌, ◌≢◌, ℕ, zero, suc, ◌<◌, ◌==◌, ◌||◌, List, [], ◌∷◌, ◌++◌, length, map, refl, ap, sym, subst, ◌∙◌, arith, Some, true, false, cond, set, length-set, inl, inr}
+use Rattle.std.proofs.Common.{◌≡◌, ◌≢◌, ℕ, zero, suc, ◌<◌, ◌==◌, ◌||◌, List, [], ◌∷◌, ◌++◌, length, map, refl, ap, sym}
+use Rattle.std.proofs.Common.{subst, ◌∙◌, arith, Some, true, false, cond, set, length-set, inl, inr}
 use Rattle.std.proofs.lemmas.List.{length-map}
 use Rattle.ss_links.specs.Board.{Board, IsSound, list_at, head_of, with_list}
 use Rattle.ss_links.specs.Seats.{has, put_behind, put_before, without}
@@ -21,7 +22,8 @@ list_set_other (l ∷ ls) zero (suc j) m far = refl
 list_set_other (l ∷ ls) (suc h) zero m far = refl
 list_set_other (l ∷ ls) (suc h) (suc j) m far = list_set_other ls h j m (λ e. far (ap suc e))
 
-pub relisted_set : (b new : Board) (h : ℕ) (m : List ℕ) → h < length b.lists → new ≡ with_list b h m → IsSound new → Relisted b new h m
+pub relisted_set : (b new : Board) (h : ℕ) (m : List ℕ) → h < length b.lists → new ≡ with_list b h m → IsSound new
+    → Relisted b new h m
 relisted_set b new h m lt e s = record {
   here = ap (λ (z : Board). list_at z.lists h) e ∙ list_set b.lists h m lt;
   others = λ j far. ap (λ (z : Board). list_at z.lists j) e ∙ list_set_other b.lists h j m far;
@@ -38,10 +40,13 @@ absent b h j at s e far =
     ]) refl
 
 -- a change of the one list in which a seat stands
-pub relisted_map : (b new : Board) (f : List ℕ → List ℕ) (h at : ℕ) → f [] ≡ [] → ((l : List ℕ) → has l at ≡ false → f l ≡ l) → IsSound b → head_of b.lists at ≡ Some h → new ≡ record b { lists = map f b.lists } → IsSound new → Relisted b new h (f (list_at b.lists h))
+pub relisted_map : (b new : Board) (f : List ℕ → List ℕ) (h at : ℕ) → f [] ≡ []
+    → ((l : List ℕ) → has l at ≡ false → f l ≡ l) → IsSound b → head_of b.lists at ≡ Some h
+    → new ≡ record b { lists = map f b.lists } → IsSound new → Relisted b new h (f (list_at b.lists h))
 relisted_map b new f h at z same s e is w = record {
   here = ap (λ (z : Board). list_at z.lists h) is ∙ list_at-map f z b.lists h;
-  others = λ j far. ap (λ (z : Board). list_at z.lists j) is ∙ list_at-map f z b.lists j ∙ same (list_at b.lists j) (absent b h j at s e far);
+  others = λ j far. ap (λ (z : Board). list_at z.lists j) is ∙ list_at-map f z b.lists j
+      ∙ same (list_at b.lists j) (absent b h j at s e far);
   heads = ap (λ (z : Board). length z.lists) is ∙ length-map b.lists f;
   seats = ap (λ (z : Board). z.seats) is;
   sound = w;
@@ -67,18 +72,24 @@ tests_same f y at a =
 pub apart_tail : (f : ℕ → ℕ) (y : ℕ) (l : List ℕ) (at : ℕ) → Apart f (y ∷ l) at → Apart f l at
 apart_tail f y l at a u e = a u (has_tail y u l e)
 
-pub map-put_behind : (f : ℕ → ℕ) (l : List ℕ) (at t : ℕ) → Apart f l at → map f (put_behind l at t) ≡ put_behind (map f l) (f at) (f t)
+pub map-put_behind : (f : ℕ → ℕ) (l : List ℕ) (at t : ℕ) → Apart f l at
+    → map f (put_behind l at t) ≡ put_behind (map f l) (f at) (f t)
 map-put_behind f [] at t a = refl
 map-put_behind f (y ∷ l) at t a =
-    rw (tests_same f y at (a y (has_head y l))) (elim (y == at) as (λ k. map f (cond k (y ∷ t ∷ l) (y ∷ put_behind l at t)) ≡ cond k (f y ∷ f t ∷ map f l) (f y ∷ put_behind (map f l) (f at) (f t))) [
+    rw (tests_same f y at (a y (has_head y l)))
+    (elim (y == at) as (λ k. map f (cond k (y ∷ t ∷ l) (y ∷ put_behind l at t))
+    ≡ cond k (f y ∷ f t ∷ map f l) (f y ∷ put_behind (map f l) (f at) (f t))) [
       | true ↦ refl
       | false ↦ ap (λ z. f y ∷ z) (map-put_behind f l at t (apart_tail f y l at a))
     ])
 
-pub map-put_before : (f : ℕ → ℕ) (l : List ℕ) (at t : ℕ) → Apart f l at → map f (put_before l at t) ≡ put_before (map f l) (f at) (f t)
+pub map-put_before : (f : ℕ → ℕ) (l : List ℕ) (at t : ℕ) → Apart f l at
+    → map f (put_before l at t) ≡ put_before (map f l) (f at) (f t)
 map-put_before f [] at t a = refl
 map-put_before f (y ∷ l) at t a =
-    rw (tests_same f y at (a y (has_head y l))) (elim (y == at) as (λ k. map f (cond k (t ∷ y ∷ l) (y ∷ put_before l at t)) ≡ cond k (f t ∷ f y ∷ map f l) (f y ∷ put_before (map f l) (f at) (f t))) [
+    rw (tests_same f y at (a y (has_head y l)))
+    (elim (y == at) as (λ k. map f (cond k (t ∷ y ∷ l) (y ∷ put_before l at t))
+    ≡ cond k (f t ∷ f y ∷ map f l) (f y ∷ put_before (map f l) (f at) (f t))) [
       | true ↦ refl
       | false ↦ ap (λ z. f y ∷ z) (map-put_before f l at t (apart_tail f y l at a))
     ])
@@ -86,7 +97,9 @@ map-put_before f (y ∷ l) at t a =
 pub map-without : (f : ℕ → ℕ) (l : List ℕ) (t : ℕ) → Apart f l t → map f (without l t) ≡ without (map f l) (f t)
 map-without f [] t a = refl
 map-without f (y ∷ l) t a =
-    rw (tests_same f y t (a y (has_head y l))) (elim (y == t) as (λ k. map f (cond k (without l t) (y ∷ without l t)) ≡ cond k (without (map f l) (f t)) (f y ∷ without (map f l) (f t))) [
+    rw (tests_same f y t (a y (has_head y l)))
+    (elim (y == t) as (λ k. map f (cond k (without l t) (y ∷ without l t))
+    ≡ cond k (without (map f l) (f t)) (f y ∷ without (map f l) (f t))) [
       | true ↦ map-without f l t (apart_tail f y l t a)
       | false ↦ ap (λ z. f y ∷ z) (map-without f l t (apart_tail f y l t a))
     ])
@@ -97,8 +110,16 @@ map-append f (y ∷ l) m = ap (λ z. f y ∷ z) (map-append f l m)
 
 pub has-map : (f : ℕ → ℕ) (l : List ℕ) (at : ℕ) → Apart f l at → has (map f l) (f at) ≡ has l at
 has-map f [] at a = refl
-has-map f (y ∷ l) at a = rw (tests_same f y at (a y (has_head y l))) (ap (λ z. (y == at) || z) (has-map f l at (apart_tail f y l at a)))
+has-map f (y ∷ l) at a = rw (tests_same f y at (a y (has_head y l)))
+    (ap (λ z. (y == at) || z) (has-map f l at (apart_tail f y l at a)))
 
 -- the same list changed, seen from after
-pub relisted_back : (b new : Board) (h : ℕ) (m : List ℕ) → IsSound b → Relisted b new h m → Relisted new b h (list_at b.lists h)
-relisted_back b new h m s r = record { here = refl; others = λ j far. sym (r.others j far); heads = sym r.heads; seats = sym r.seats; sound = s }
+pub relisted_back : (b new : Board) (h : ℕ) (m : List ℕ) → IsSound b → Relisted b new h m
+    → Relisted new b h (list_at b.lists h)
+relisted_back b new h m s r = record {
+  here = refl;
+  others = λ j far. sym (r.others j far);
+  heads = sym r.heads;
+  seats = sym r.seats;
+  sound = s;
+}

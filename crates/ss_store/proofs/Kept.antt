@@ -1,5 +1,6 @@
 -- Kept attributes of a member.
-use Rattle.std.proofs.Common.{◌≡◌, ℕ, suc, ◌<◌, ◌||◌, List, [], ◌∷◌, length, map, refl, ap, sym, ◌∙◌, slice_get, Option, Some, None, Bool, true, false}
+use Rattle.std.proofs.Common.{◌≡◌, ℕ, suc, ◌<◌, ◌||◌, List, [], ◌∷◌, length, map, refl, ap, sym, ◌∙◌, slice_get, Option}
+use Rattle.std.proofs.Common.{Some, None, Bool, true, false}
 use Rattle.std.specs.Prelude.{Ok, Err, find, is_some, unwrap_or}
 use Rattle.std.specs.Option.{option_map, ForSome}
 use Rattle.std.specs.List.{list_any}
@@ -31,7 +32,8 @@ finds test [] e = cc
 finds test (l ∷ ls) e =
     (elim (test l) as (λ k. test l ≡ k → (k || list_any test ls) ≡ true → Finds test (l ∷ ls) (find test (l ∷ ls))) [
       | true ↦ λ w f. record { list = l; index = 0; is = rw w refl; at = refl; passes = w }
-      | false ↦ λ w f. let d = finds test ls f in record { list = d.list; index = suc d.index; is = rw w d.is; at = d.at; passes = d.passes }
+      | false ↦ λ w f. let d = finds test ls f in
+          record { list = d.list; index = suc d.index; is = rw w d.is; at = d.at; passes = d.passes }
     ]) refl e
 
 finds_none : (test : List ℕ → Bool) (ls : List (List ℕ)) → list_any test ls ≡ false → find test ls ≡ None
@@ -43,25 +45,36 @@ finds_none test (l ∷ ls) e =
     ]) refl e
 
 -- the list that holds a member is that in which its seat stands
-pub holding_is : (g : Held) (rule : SetShape) (t x : ℕ) → IsStore g → IsSet g.tables.sets rule → seat_at g.rows rule x ≡ Some t → list_holding rule (state_of g) x ≡ map (number_at g.numbers) (list_of g.board.lists t)
+pub holding_is : (g : Held) (rule : SetShape) (t x : ℕ) → IsStore g → IsSet g.tables.sets rule
+    → seat_at g.rows rule x ≡ Some t → list_holding rule (state_of g) x
+    ≡ map (number_at g.numbers) (list_of g.board.lists t)
 holding_is g rule t x s is et =
-    (elim (head_of g.board.lists t) as (λ q. head_of g.board.lists t ≡ q → list_holding rule (state_of g) x ≡ map (number_at g.numbers) (list_of g.board.lists t)) [
+    (elim (head_of g.board.lists t) as (λ q. head_of g.board.lists t ≡ q
+    → list_holding rule (state_of g) x ≡ map (number_at g.numbers) (list_of g.board.lists t)) [
       | None ↦ λ e.
-          ap (λ (z : Option (List ℕ)). unwrap_or z []) (finds_none (λ ks. has ks x) (lists_by rule.owner rule.list (state_of g)) (is_filed_is g rule t x s is et ∙ ap is_some e))
+          ap (λ (z : Option (List ℕ)). unwrap_or z [])
+          (finds_none (λ ks. has ks x) (lists_by rule.owner rule.list (state_of g)) (is_filed_is g rule t x s is et
+          ∙ ap is_some e))
           ∙ ap (map (number_at g.numbers)) (sym (list_of-free g.board.lists t (times-free g.board.lists t e)))
       | Some h ↦ λ e.
-          let d = finds (λ ks. has ks x) (lists_by rule.owner rule.list (state_of g)) (is_filed_is g rule t x s is et ∙ ap is_some e) in
+          let d = finds (λ ks. has ks x) (lists_by rule.owner rule.list (state_of g)) (is_filed_is g rule t x s is et
+          ∙ ap is_some e) in
           let o = list_owner g rule.owner rule d.index d.list s (s.tables.lists rule is) d.at in
-          let there : has (list_at g.board.lists o.1) t ≡ true = sym (stands_is g rule o.0 o.1 t x s is o.2 et) ∙ ap (λ l. has l x) o.3 ∙ d.passes in
+          let there : has (list_at g.board.lists o.1) t ≡ true = sym (stands_is g rule o.0 o.1 t x s is o.2 et)
+          ∙ ap (λ l. has l x) o.3 ∙ d.passes in
           let same : h ≡ o.1 = some_eq (sym e ∙ head_of-list_at g.board.lists o.1 t there (s.sound.once t)) in
-          ap (λ (z : Option (List ℕ)). unwrap_or z []) d.is ∙ sym o.3 ∙ ap (look g.board g.numbers) (sym same) ∙ ap (map (number_at g.numbers)) (sym (head_of-found g.board.lists t h e).2)
+          ap (λ (z : Option (List ℕ)). unwrap_or z []) d.is ∙ sym o.3 ∙ ap (look g.board g.numbers) (sym same)
+          ∙ ap (map (number_at g.numbers)) (sym (head_of-found g.board.lists t h e).2)
     ]) refl
 
 -- seats of that list have numbers of their own
-holding_apart : (g : Held) (rule : SetShape) (t x : ℕ) → IsStore g → IsSet g.tables.sets rule → seat_at g.rows rule x ≡ Some t → (u : ℕ) → has (list_of g.board.lists t) u ≡ true → number_at g.numbers u ≡ number_at g.numbers t → u ≡ t
+holding_apart : (g : Held) (rule : SetShape) (t x : ℕ) → IsStore g → IsSet g.tables.sets rule
+    → seat_at g.rows rule x ≡ Some t → (u : ℕ) → has (list_of g.board.lists t) u ≡ true
+    → number_at g.numbers u ≡ number_at g.numbers t → u ≡ t
 holding_apart g rule t x s is et u f e =
     (elim (head_of g.board.lists t) as (λ q. head_of g.board.lists t ≡ q → u ≡ t) [
-      | None ↦ λ w. absurd (let l = list_of-free g.board.lists t (times-free g.board.lists t w) in let bad : has [] u ≡ true = ap (λ z. has z u) (sym l) ∙ f in cc)
+      | None ↦ λ w. absurd (let l = list_of-free g.board.lists t (times-free g.board.lists t w) in
+          let bad : has [] u ≡ true = ap (λ z. has z u) (sym l) ∙ f in cc)
       | Some h ↦ λ w.
           let k = head_of-found g.board.lists t h w in
           let o = owner_of_seat g rule h t x s is et k.1 in
@@ -69,10 +82,12 @@ holding_apart g rule t x s is et u f e =
     ]) refl
 
 -- a seat of that list has a number
-holding_in : (g : Held) (rule : SetShape) (t x at : ℕ) → IsStore g → IsSet g.tables.sets rule → seat_at g.rows rule x ≡ Some t → has (list_of g.board.lists t) at ≡ true → at < length g.numbers
+holding_in : (g : Held) (rule : SetShape) (t x at : ℕ) → IsStore g → IsSet g.tables.sets rule
+    → seat_at g.rows rule x ≡ Some t → has (list_of g.board.lists t) at ≡ true → at < length g.numbers
 holding_in g rule t x at s is et f =
     (elim (head_of g.board.lists t) as (λ q. head_of g.board.lists t ≡ q → at < length g.numbers) [
-      | None ↦ λ w. absurd (let l = list_of-free g.board.lists t (times-free g.board.lists t w) in let bad : has [] at ≡ true = ap (λ z. has z at) (sym l) ∙ f in cc)
+      | None ↦ λ w. absurd (let l = list_of-free g.board.lists t (times-free g.board.lists t w) in
+          let bad : has [] at ≡ true = ap (λ z. has z at) (sym l) ∙ f in cc)
       | Some h ↦ λ w.
           let k = head_of-found g.board.lists t h w in
           let o = owner_of_seat g rule h t x s is et k.1 in
@@ -81,38 +96,64 @@ holding_in g rule t x at s is et f =
 
 -- ---- calls
 
-pub kept_seat : (g : Held) (v : StoreValue) (set : ℕ) (rule : SetShape) (x t : ℕ) → Case g v set rule → seat_at g.rows rule x ≡ Some t → t < g.board.seats
+pub kept_seat : (g : Held) (v : StoreValue) (set : ℕ) (rule : SetShape) (x t : ℕ) → Case g v set rule
+    → seat_at g.rows rule x ≡ Some t → t < g.board.seats
 kept_seat g v set rule x t k e = seat_below g rule x t k.store k.is_set e
 
-pub predecessor_none : (g : Held) (v : StoreValue) (set : ℕ) (rule : SetShape) (x : ℕ) → Case g v set rule → seat_at g.rows rule x ≡ None → Err NoEntity ≡ predecessor (set_of v.tables set) v.state x
-predecessor_none g v set rule x k e = sym (over g v set rule (λ r s. predecessor r s x) (Err NoEntity) k (rw (member_is g rule x k.store ∙ ap is_some e) refl))
+pub predecessor_none : (g : Held) (v : StoreValue) (set : ℕ) (rule : SetShape) (x : ℕ) → Case g v set rule
+    → seat_at g.rows rule x ≡ None → Err NoEntity ≡ predecessor (set_of v.tables set) v.state x
+predecessor_none g v set rule x k e = sym
+    (over g v set rule (λ r s. predecessor r s x) (Err NoEntity) k
+    (rw (member_is g rule x k.store ∙ ap is_some e) refl))
 
-pub predecessor_is : (g : Held) (v : StoreValue) (set : ℕ) (rule : SetShape) (x t : ℕ) (n b : Option ℕ) → Case g v set rule → seat_at g.rows rule x ≡ Some t → n ≡ seat_before (list_of g.board.lists t) t → b ≡ option_map (number_at g.numbers) n → Ok b ≡ predecessor (set_of v.tables set) v.state x
+pub predecessor_is : (g : Held) (v : StoreValue) (set : ℕ) (rule : SetShape) (x t : ℕ) (n b : Option ℕ)
+    → Case g v set rule → seat_at g.rows rule x ≡ Some t → n ≡ seat_before (list_of g.board.lists t) t
+    → b ≡ option_map (number_at g.numbers) n → Ok b ≡ predecessor (set_of v.tables set) v.state x
 predecessor_is g v set rule x t n b k e en eb =
     let value : seat_before (list_holding rule (state_of g) x) x ≡ b =
     (λ i. seat_before (holding_is g rule t x k.store k.is_set e i) (sym (seat_number g rule x t k.store k.is_set e) i))
-    ∙ map-seat_before (number_at g.numbers) (list_of g.board.lists t) t (holding_apart g rule t x k.store k.is_set e) ∙ ap (option_map (number_at g.numbers)) (sym en) ∙ sym eb in
-    sym (over g v set rule (λ r s. predecessor r s x) (Ok b) k (rw (member_is g rule x k.store ∙ ap is_some e) (ap Ok value)))
+    ∙ map-seat_before (number_at g.numbers) (list_of g.board.lists t) t (holding_apart g rule t x k.store k.is_set e)
+    ∙ ap (option_map (number_at g.numbers)) (sym en) ∙ sym eb in
+    sym (over g v set rule (λ r s. predecessor r s x) (Ok b) k
+    (rw (member_is g rule x k.store ∙ ap is_some e) (ap Ok value)))
 
-pub predecessor_below : (g : Held) (v : StoreValue) (set : ℕ) (rule : SetShape) (x t : ℕ) (n : Option ℕ) → Case g v set rule → seat_at g.rows rule x ≡ Some t → n ≡ seat_before (list_of g.board.lists t) t → ForSome n (λ at. at < length g.numbers)
-predecessor_below g v set rule x t n k e en at is = holding_in g rule t x at k.store k.is_set e (has-seat_before (list_of g.board.lists t) t at (sym en ∙ is))
+pub predecessor_below : (g : Held) (v : StoreValue) (set : ℕ) (rule : SetShape) (x t : ℕ) (n : Option ℕ)
+    → Case g v set rule → seat_at g.rows rule x ≡ Some t → n ≡ seat_before (list_of g.board.lists t) t
+    → ForSome n (λ at. at < length g.numbers)
+predecessor_below g v set rule x t n k e en at is =
+    holding_in g rule t x at k.store k.is_set e (has-seat_before (list_of g.board.lists t) t at (sym en ∙ is))
 
-pub successor_none : (g : Held) (v : StoreValue) (set : ℕ) (rule : SetShape) (x : ℕ) → Case g v set rule → seat_at g.rows rule x ≡ None → Err NoEntity ≡ successor (set_of v.tables set) v.state x
-successor_none g v set rule x k e = sym (over g v set rule (λ r s. successor r s x) (Err NoEntity) k (rw (member_is g rule x k.store ∙ ap is_some e) refl))
+pub successor_none : (g : Held) (v : StoreValue) (set : ℕ) (rule : SetShape) (x : ℕ) → Case g v set rule
+    → seat_at g.rows rule x ≡ None → Err NoEntity ≡ successor (set_of v.tables set) v.state x
+successor_none g v set rule x k e = sym (over g v set rule (λ r s. successor r s x) (Err NoEntity) k
+    (rw (member_is g rule x k.store ∙ ap is_some e) refl))
 
-pub successor_is : (g : Held) (v : StoreValue) (set : ℕ) (rule : SetShape) (x t : ℕ) (n b : Option ℕ) → Case g v set rule → seat_at g.rows rule x ≡ Some t → n ≡ seat_behind (list_of g.board.lists t) t → b ≡ option_map (number_at g.numbers) n → Ok b ≡ successor (set_of v.tables set) v.state x
+pub successor_is : (g : Held) (v : StoreValue) (set : ℕ) (rule : SetShape) (x t : ℕ) (n b : Option ℕ)
+    → Case g v set rule → seat_at g.rows rule x ≡ Some t → n ≡ seat_behind (list_of g.board.lists t) t
+    → b ≡ option_map (number_at g.numbers) n → Ok b ≡ successor (set_of v.tables set) v.state x
 successor_is g v set rule x t n b k e en eb =
     let value : seat_behind (list_holding rule (state_of g) x) x ≡ b =
     (λ i. seat_behind (holding_is g rule t x k.store k.is_set e i) (sym (seat_number g rule x t k.store k.is_set e) i))
-    ∙ map-seat_behind (number_at g.numbers) (list_of g.board.lists t) t (holding_apart g rule t x k.store k.is_set e) ∙ ap (option_map (number_at g.numbers)) (sym en) ∙ sym eb in
-    sym (over g v set rule (λ r s. successor r s x) (Ok b) k (rw (member_is g rule x k.store ∙ ap is_some e) (ap Ok value)))
+    ∙ map-seat_behind (number_at g.numbers) (list_of g.board.lists t) t (holding_apart g rule t x k.store k.is_set e)
+    ∙ ap (option_map (number_at g.numbers)) (sym en) ∙ sym eb in
+    sym (over g v set rule (λ r s. successor r s x) (Ok b) k
+    (rw (member_is g rule x k.store ∙ ap is_some e) (ap Ok value)))
 
-pub successor_below : (g : Held) (v : StoreValue) (set : ℕ) (rule : SetShape) (x t : ℕ) (n : Option ℕ) → Case g v set rule → seat_at g.rows rule x ≡ Some t → n ≡ seat_behind (list_of g.board.lists t) t → ForSome n (λ at. at < length g.numbers)
-successor_below g v set rule x t n k e en at is = holding_in g rule t x at k.store k.is_set e (has-seat_behind (list_of g.board.lists t) t at (sym en ∙ is))
+pub successor_below : (g : Held) (v : StoreValue) (set : ℕ) (rule : SetShape) (x t : ℕ) (n : Option ℕ)
+    → Case g v set rule → seat_at g.rows rule x ≡ Some t → n ≡ seat_behind (list_of g.board.lists t) t
+    → ForSome n (λ at. at < length g.numbers)
+successor_below g v set rule x t n k e en at is =
+    holding_in g rule t x at k.store k.is_set e (has-seat_behind (list_of g.board.lists t) t at (sym en ∙ is))
 
-pub membership_none : (g : Held) (v : StoreValue) (set : ℕ) (rule : SetShape) (x : ℕ) → Case g v set rule → seat_at g.rows rule x ≡ None → Err NoEntity ≡ membership (set_of v.tables set) v.state x
-membership_none g v set rule x k e = sym (over g v set rule (λ r s. membership r s x) (Err NoEntity) k (rw (member_is g rule x k.store ∙ ap is_some e) refl))
+pub membership_none : (g : Held) (v : StoreValue) (set : ℕ) (rule : SetShape) (x : ℕ) → Case g v set rule
+    → seat_at g.rows rule x ≡ None → Err NoEntity ≡ membership (set_of v.tables set) v.state x
+membership_none g v set rule x k e = sym
+    (over g v set rule (λ r s. membership r s x) (Err NoEntity) k (rw (member_is g rule x k.store ∙ ap is_some e) refl))
 
-pub membership_is : (g : Held) (v : StoreValue) (set : ℕ) (rule : SetShape) (x t : ℕ) (q : Option ℕ) (b : Bool) → Case g v set rule → seat_at g.rows rule x ≡ Some t → q ≡ head_of g.board.lists t → b ≡ is_some q → Ok b ≡ membership (set_of v.tables set) v.state x
+pub membership_is : (g : Held) (v : StoreValue) (set : ℕ) (rule : SetShape) (x t : ℕ) (q : Option ℕ) (b : Bool)
+    → Case g v set rule → seat_at g.rows rule x ≡ Some t → q ≡ head_of g.board.lists t → b ≡ is_some q
+    → Ok b ≡ membership (set_of v.tables set) v.state x
 membership_is g v set rule x t q b k e eq eb =
-    sym (over g v set rule (λ r s. membership r s x) (Ok b) k (rw (member_is g rule x k.store ∙ ap is_some e) (ap Ok (is_filed_is g rule t x k.store k.is_set e ∙ ap is_some (sym eq) ∙ sym eb))))
+    sym (over g v set rule (λ r s. membership r s x) (Ok b) k
+    (rw (member_is g rule x k.store ∙ ap is_some e)
+    (ap Ok (is_filed_is g rule t x k.store k.is_set e ∙ ap is_some (sym eq) ∙ sym eb))))

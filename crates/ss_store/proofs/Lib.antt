@@ -22,3 +22,7 @@ pub mod Taken
 pub mod Begun
 pub mod Chained
 pub mod Written
+pub mod Ended
+pub mod Destroyed
+pub mod Wells
+pub mod Between

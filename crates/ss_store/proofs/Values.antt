@@ -17,18 +17,27 @@ attribute_if a None = Err NoEntity
 attribute_if a (Some v) = Ok (slice_index_or v a (pos 0))
 
 -- what `values_of` finds is what the state says
-pub values_are : (g : Held) (c k a : ℕ) → IsStore g → attribute_of (state_of g) c a k ≡ attribute_if a (values_of g.rows c k)
+pub values_are : (g : Held) (c k a : ℕ) → IsStore g
+    → attribute_of (state_of g) c a k ≡ attribute_if a (values_of g.rows c k)
 values_are g c k a s =
-    (elim (row_of g.rows c k) as (λ o. row_of g.rows c k ≡ o → attribute_of (state_of g) c a k ≡ attribute_if a (values_of g.rows c k)) [
+    (elim (row_of g.rows c k) as (λ o. row_of g.rows c k ≡ o
+    → attribute_of (state_of g) c a k ≡ attribute_if a (values_of g.rows c k)) [
       | None ↦ λ e. ap (attribute_in a) (entity_none g c k s e) ∙ sym (ap (attribute_if a) (values_none g.rows c k e))
-      | Some r ↦ λ e. let l = found g.rows c k r e in ap (attribute_in a) (entity_some g c k r s l) ∙ sym (ap (attribute_if a) (values_some g.rows c k r l))
+      | Some r ↦ λ e. let l = found g.rows c k r e in ap (attribute_in a) (entity_some g c k r s l)
+          ∙ sym (ap (attribute_if a) (values_some g.rows c k r l))
     ]) refl
 
-pub get_some : (g : Held) (v : StoreValue) (c k a : ℕ) (q : Option (List ℤ)) (xs : List ℤ) → value_of g ≡ v → IsStore g → q ≡ values_of g.rows c k → q ≡ Some xs → Ok (slice_index_or xs a (pos 0)) ≡ attribute_of v.state c a k
-get_some g v c k a q xs w s e f = sym (ap (λ (z : StoreValue). attribute_of z.state c a k) (sym w) ∙ values_are g c k a s ∙ ap (attribute_if a) (sym e ∙ f))
+pub get_some : (g : Held) (v : StoreValue) (c k a : ℕ) (q : Option (List ℤ)) (xs : List ℤ) → value_of g ≡ v → IsStore g
+    → q ≡ values_of g.rows c k → q ≡ Some xs → Ok (slice_index_or xs a (pos 0)) ≡ attribute_of v.state c a k
+get_some g v c k a q xs w s e f = sym (ap (λ (z : StoreValue). attribute_of z.state c a k) (sym w)
+    ∙ values_are g c k a s ∙ ap (attribute_if a) (sym e ∙ f))
 
-pub get_none : (g : Held) (v : StoreValue) (c k a : ℕ) (q : Option (List ℤ)) → value_of g ≡ v → IsStore g → q ≡ values_of g.rows c k → q ≡ None → Err NoEntity ≡ attribute_of v.state c a k
-get_none g v c k a q w s e f = sym (ap (λ (z : StoreValue). attribute_of z.state c a k) (sym w) ∙ values_are g c k a s ∙ ap (attribute_if a) (sym e ∙ f))
+pub get_none : (g : Held) (v : StoreValue) (c k a : ℕ) (q : Option (List ℤ)) → value_of g ≡ v → IsStore g
+    → q ≡ values_of g.rows c k → q ≡ None → Err NoEntity ≡ attribute_of v.state c a k
+get_none g v c k a q w s e f = sym (ap (λ (z : StoreValue). attribute_of z.state c a k) (sym w) ∙ values_are g c k a s
+    ∙ ap (attribute_if a) (sym e ∙ f))
 
-pub exists_is : (g : Held) (v : StoreValue) (c k : ℕ) (q : Option Row) (b : Bool) → value_of g ≡ v → IsStore g → q ≡ row_of g.rows c k → b ≡ is_some q → b ≡ exists v.state c k
-exists_is g v c k q b w s e f = f ∙ ap is_some e ∙ sym (entity_is g c k s) ∙ ap (λ (z : StoreValue). exists z.state c k) w
+pub exists_is : (g : Held) (v : StoreValue) (c k : ℕ) (q : Option Row) (b : Bool) → value_of g ≡ v → IsStore g
+    → q ≡ row_of g.rows c k → b ≡ is_some q → b ≡ exists v.state c k
+exists_is g v c k q b w s e f = f ∙ ap is_some e ∙ sym (entity_is g c k s)
+    ∙ ap (λ (z : StoreValue). exists z.state c k) w

@@ -1,5 +1,6 @@
 -- What is noted of a change, and how it is taken back.
-use Rattle.std.specs.Prelude.{◌≡◌, ℕ, ℤ, ◌-◌, ◌<◌, true, false, List, [], length, replicate, slice_get, slice_set, Option, Some, None, unwrap_or, Result, Ok, Err}
+use Rattle.std.specs.Prelude.{◌≡◌, ℕ, ℤ, ◌-◌, ◌<◌, true, false, List, [], length, slice_get, Option, Some, None}
+use Rattle.std.specs.Prelude.{option_map, unwrap_or, Result, Ok, Err}
 use Rattle.std.specs.Option.{ForSome}
 use Rattle.ss_words.specs.declared.fault.RunFault.{RunFault}
 use Rattle.ss_words.specs.declared.fault.StepFault.{StepFault}
@@ -8,8 +9,11 @@ use Rattle.ss_links.specs.Seats.{has, put_at, without}
 use Rattle.ss_check.specs.declared.kinds.Owner.{Owner}
 use Rattle.ss_store.specs.declared.change.StoreChange.{StoreChange}
 use Rattle.ss_store.specs.declared.change.StoreChange.TheVariants.{Filed, Removed, Created, ClassCreated, AttributeSet}
+use Rattle.ss_store.specs.declared.change.StoreChange.TheVariants.{Ended}
 use Rattle.ss_store.specs.Tables.{class_of, set_of}
-use Rattle.ss_store.specs.Store.{Store, last_reference, with_made, with_value, with_changed, list_by, with_list_by, is_owner, members_of, exists, is_filed}
+use Rattle.ss_store.specs.declared.rows.Row.{Row}
+use Rattle.ss_store.specs.Store.{Store, last_reference, with_made, with_value, with_changed, list_by, with_list_by}
+use Rattle.ss_store.specs.Store.{is_owner, members_of, exists, is_filed, entity_back, with_back, AreInRange}
 use Rattle.ss_store.specs.Held.{Kept, StoreValue}
 use Rattle.ss_store.specs.Making.{kept_with, but_last, without_last, FitsLast, Less}
 
@@ -24,6 +28,7 @@ unapply_state (Removed set w n o k before) s = with_list_by w n s o (put_at (lis
 unapply_state (Created c k heads seats) s = without_last None s
 unapply_state (ClassCreated c n heads seats) s = with_made s c []
 unapply_state (AttributeSet c a k old) s = with_changed (with_value a old) s c k
+unapply_state (Ended c k owned values) s = with_back s k (entity_back c owned values.items)
 
 -- what is kept, before a change
 abbrev pub unapply_kept : StoreChange → Kept → Kept
@@ -32,6 +37,7 @@ unapply_kept (Removed set w n o k before) kept = kept
 unapply_kept (Created c k heads seats) kept = kept_with but_last kept None heads seats
 unapply_kept (ClassCreated c n heads seats) kept = kept_with (λ rows. []) kept (Some c) heads seats
 unapply_kept (AttributeSet c a k old) kept = kept
+unapply_kept (Ended c k owned values) kept = kept
 
 -- the store before a change
 abbrev pub unapply_store : StoreChange → StoreValue → StoreValue
@@ -39,36 +45,73 @@ unapply_store c v = record v { state = unapply_state c v.state; kept = unapply_k
 
 -- what was filed stands in the list
 pub record FitsFiled (v : StoreValue) (set : ℕ) (w : Owner) (n o k : ℕ) : Type 0 where
+  -- there is such a set
   pub is_set : set < length v.tables.sets
+  -- its owner
   pub owner : w ≡ (set_of v.tables set).owner
+  -- the number of its list
   pub list : n ≡ (set_of v.tables set).list
+  -- the owner exists
   pub is_owner : is_owner (set_of v.tables set) v.state o ≡ true
+  -- the member is in the list
   pub stands : has (members_of (set_of v.tables set) v.state o) k ≡ true
 
 -- what was removed exists and stands in no list of its set, and the member before it stands in the list
 pub record FitsRemoved (v : StoreValue) (set : ℕ) (w : Owner) (n o k : ℕ) (b : Option ℕ) : Type 0 where
+  -- there is such a set
   pub is_set : set < length v.tables.sets
+  -- its owner
   pub owner : w ≡ (set_of v.tables set).owner
+  -- the number of its list
   pub list : n ≡ (set_of v.tables set).list
+  -- the owner exists
   pub is_owner : is_owner (set_of v.tables set) v.state o ≡ true
+  -- the member exists
   pub member : exists v.state (set_of v.tables set).member k ≡ true
+  -- it is in no list of the set
   pub out : is_filed (set_of v.tables set) v.state k ≡ false
+  -- the one before it, if any, is in the list
   pub before : ForSome b (λ y. has (members_of (set_of v.tables set) v.state o) y ≡ true)
 
 -- the reference was given last
 pub record FitsCreated (v : StoreValue) (c k heads seats : ℕ) : Type 0 where
+  -- the class is not permanent
   pub given : (class_of v.tables c).permanent ≡ false
+  -- the reference is the last
   pub newest : FitsLast c k heads seats v
 
 -- the class's entities can be taken off, last first, and what is left then is the store before
 pub record FitsClassCreated (v : StoreValue) (c n heads seats : ℕ) : Type 0 where
+  -- the class is permanent
   pub permanent : (class_of v.tables c).permanent ≡ true
+  -- its entities can be taken off
   pub less : Less c n v (unapply_store (ClassCreated c n heads seats) v)
 
 -- the entity whose attribute was set exists
 pub record FitsSet (v : StoreValue) (c k : ℕ) : Type 0 where
+  -- there is such a class
   pub is_class : c < length v.tables.classes
+  -- the entity exists
   pub there : exists v.state c k ≡ true
+
+-- the reference stands for nothing, and what is kept of it is of the class, with so many lists and attributes
+pub record FitsEnded (v : StoreValue) (c k n : ℕ) (xs : List ℤ) : Type 0 where
+  -- there is such a class
+  pub is_class : c < length v.tables.classes
+  -- it is not permanent
+  pub given : (class_of v.tables c).permanent ≡ false
+  -- the reference is 1 or more
+  pub number : 0 < k
+  -- it has ended
+  pub gone : slice_get v.state.references (k - 1) ≡ Some None
+  -- its row is of the class
+  pub row : option_map (λ (r : Row). r.class) (slice_get v.kept.references (k - 1)) ≡ Some c
+  -- the class owns so many sets
+  pub owned : n ≡ (class_of v.tables c).owned
+  -- a value for each attribute of the class
+  pub values : length xs ≡ (class_of v.tables c).attributes
+  -- which are in range
+  pub ranged : AreInRange xs
 
 -- a change that can be taken back
 abbrev pub FitsStore : StoreChange → StoreValue → Type 0
@@ -77,11 +120,15 @@ FitsStore (Removed set w n o k before) v = FitsRemoved v set w n o k before
 FitsStore (Created c k heads seats) v = FitsCreated v c k heads seats
 FitsStore (ClassCreated c n heads seats) v = FitsClassCreated v c n heads seats
 FitsStore (AttributeSet c a k old) v = FitsSet v c k
+FitsStore (Ended c k owned values) v = FitsEnded v c k owned values.items
 
 -- a writing call left this state, and gave a change that fits and takes it back
 pub record Leaves (c : StoreChange) (s : Store) (old new : StoreValue) : Type 0 where
+  -- the state is this
   pub state : new.state ≡ s
+  -- the change fits it
   pub fits : FitsStore c new
+  -- taken back, it gives the store before
   pub back : unapply_store c new ≡ old
 
 -- a writing call that may fault; a fault leaves everything as before
@@ -92,8 +139,8 @@ IsOutcome (Ok c) (Err f) old new = ⊥
 IsOutcome (Err e) (Ok s) old new = ⊥
 
 -- one that gives a number too
-abbrev pub IsRemoval : Result (ℕ × StoreChange) RunFault → Result (ℕ × Store) RunFault
-    → StoreValue → StoreValue → Type 0
+abbrev pub IsRemoval : Result (ℕ × StoreChange) RunFault → Result (ℕ × Store) RunFault → StoreValue → StoreValue
+    → Type 0
 IsRemoval (Ok r) (Ok s) old new = (r.0 ≡ s.0) × Leaves r.1 s.1 old new
 IsRemoval (Err e) (Err f) old new = (e ≡ f) × (new ≡ old)
 IsRemoval (Ok r) (Err f) old new = ⊥

@@ -1,17 +1,21 @@
 -- Filing and removing, on small stores.
-use Rattle.std.specs.Prelude.{◌≡◌, ℕ, ℤ, pos, List, [], ◌∷◌, Option, Some, Result, Ok, Err}
+use Rattle.std.specs.Prelude.{◌≡◌, ℕ, ℤ, pos, false, List, [], ◌∷◌, Option, Some, None, Result, Ok, Err}
 use Rattle.ss_words.specs.declared.fault.RunFault.{RunFault}
-use Rattle.ss_words.specs.declared.fault.RunFault.TheVariants.{NoEntity, AlreadyInSet, NotInList, EmptySet}
+use Rattle.ss_words.specs.declared.fault.RunFault.TheVariants.{NoEntity, AlreadyInSet, NotInList, EmptySet, EndedInUse}
+use Rattle.ss_words.specs.declared.fault.RunFault.TheVariants.{EndedOwner}
 use Rattle.ss_check.specs.declared.keys.Rank.TheVariants.{High, Low}
 use Rattle.ss_check.specs.declared.kinds.Discipline.{Discipline}
 use Rattle.ss_check.specs.declared.kinds.Discipline.TheVariants.{Fifo, Lifo, Ranked}
 use Rattle.ss_check.specs.declared.kinds.Owner.TheVariants.{System}
+use Rattle.ss_store.specs.declared.shape.ClassShape.{ClassShape}
 use Rattle.ss_store.specs.declared.shape.SetShape.{SetShape}
 use Rattle.ss_store.specs.declared.shape.How.{How}
 use Rattle.ss_store.specs.declared.shape.How.TheVariants.{ByRule, Before, After}
 use Rattle.ss_store.specs.declared.shape.Which.{Which}
 use Rattle.ss_store.specs.declared.shape.Which.TheVariants as which
-use Rattle.ss_store.specs.Store.{Entity, Store, members_of, with_attribute}
+use Rattle.ss_store.specs.Tables.{Tables}
+use Rattle.ss_store.specs.Store.{Entity, Store, members_of, exists, with_attribute, with_new, last_reference}
+use Rattle.ss_store.specs.Store.{without_entity}
 use Rattle.ss_store.specs.Filing.{filed, removed}
 
 -- a job with a size and an age
@@ -26,9 +30,11 @@ jobs row = record {
   system = row ∷ [];
 }
 
+-- a set of the system, of this discipline
 abbrev pub set_by : Discipline → SetShape
 set_by d = record { discipline = d; owner = System; list = 0; member = 0; slot = 0 }
 
+-- ranked by HIGH size, and then by LOW age
 abbrev pub high_size_low_age : Discipline
 high_size_low_age = Ranked (record { rank = High; attribute = 0 } ∷ record { rank = Low; attribute = 1 } ∷ [])
 
@@ -37,14 +43,17 @@ abbrev pub list_after : SetShape → Result Store RunFault → Result (List ℕ)
 list_after s (Ok st) = Ok (members_of s st 0)
 list_after s (Err f) = Err f
 
+-- job k filed then, unless there was a fault
 abbrev pub then_filed : SetShape → ℕ → How → Result Store RunFault → Result Store RunFault
 then_filed s k how (Ok st) = filed s st 0 k how
 then_filed s k how (Err f) = Err f
 
+-- the store that is left
 abbrev pub store_of : Result (ℕ × Store) RunFault → Result Store RunFault
 store_of (Ok r) = Ok r.1
 store_of (Err f) = Err f
 
+-- a member removed then, unless there was a fault
 abbrev pub then_removed : SetShape → Which → Result Store RunFault → Result Store RunFault
 then_removed s w (Ok st) = store_of (removed s st 0 w)
 then_removed s w (Err f) = Err f
@@ -54,10 +63,11 @@ abbrev pub all_filed : SetShape → Result (List ℕ) RunFault
 all_filed s = list_after s
     (then_filed s 4 ByRule (then_filed s 3 ByRule (then_filed s 2 ByRule (filed s (jobs []) 0 1 ByRule))))
 
--- FIFO files last, LIFO first
+-- FIFO files last
 abbrev pub FifoFilesLast : Type 0
 FifoFilesLast = all_filed (set_by Fifo) ≡ Ok (1 ∷ 2 ∷ 3 ∷ 4 ∷ [])
 
+-- LIFO files first
 abbrev pub LifoFilesFirst : Type 0
 LifoFilesFirst = all_filed (set_by Lifo) ≡ Ok (4 ∷ 3 ∷ 2 ∷ 1 ∷ [])
 
@@ -96,3 +106,49 @@ LowestFaultFirst =
     × (list_after (set_by Fifo) (filed (set_by Fifo) (jobs (1 ∷ [])) 0 1 (Before (pos 2))) ≡ Err AlreadyInSet)
     × (list_after (set_by Fifo) (filed (set_by Fifo) (jobs (1 ∷ [])) 0 3 (Before (pos 2))) ≡ Err NotInList)
     × (list_after (set_by Fifo) (then_removed (set_by Fifo) which.First (Ok (jobs []))) ≡ Err EmptySet)
+
+-- ---- ending
+
+-- jobs, each of which owns a list of jobs
+abbrev pub job_class : ClassShape
+job_class = record { attributes = 2; owned = 1; joined = 1; permanent = false }
+
+-- their tables
+abbrev pub job_tables : Tables
+job_tables = record { classes = job_class ∷ []; sets = set_by Fifo ∷ []; system = 1 }
+
+-- a job that owns this list
+abbrev pub owning_job : List ℕ → Option Entity
+owning_job row = Some (record { class = 0; attributes = pos 0 ∷ pos 0 ∷ []; owned = row ∷ [] })
+
+-- jobs 1 and 2: the first is in the system's list, the second owns the first
+abbrev pub two_jobs : Store
+two_jobs = record { made = [] ∷ []; references = owning_job [] ∷ owning_job (1 ∷ []) ∷ []; system = (1 ∷ []) ∷ [] }
+
+-- jobs 1 and 2, in no list
+abbrev pub free_jobs : Store
+free_jobs = record { made = [] ∷ []; references = owning_job [] ∷ owning_job [] ∷ []; system = [] ∷ [] }
+
+-- the second was ended
+abbrev pub one_job : Store
+one_job = record { made = [] ∷ []; references = owning_job [] ∷ None ∷ []; system = [] ∷ [] }
+
+-- the reference that the next entity gets, or the fault
+abbrev pub next_of : Result Store RunFault → Result ℕ RunFault
+next_of (Ok st) = Ok (last_reference st)
+next_of (Err f) = Err f
+
+-- what was ended is gone; the next entity gets another reference
+abbrev pub EndedIsGone : Type 0
+EndedIsGone =
+    (without_entity job_tables free_jobs 0 2 ≡ Ok one_job)
+    × (exists one_job 0 2 ≡ false)
+    × (without_entity job_tables one_job 0 2 ≡ Err NoEntity)
+    × (next_of (with_new one_job 0 job_class) ≡ Ok 3)
+
+-- F7 of a member, also of one that owns members; F8 of an owner
+abbrev pub EndedInNoUse : Type 0
+EndedInNoUse =
+    (without_entity job_tables two_jobs 0 1 ≡ Err EndedInUse)
+    × (without_entity job_tables two_jobs 0 2 ≡ Err EndedOwner)
+    × (without_entity job_tables (record two_jobs { system = (2 ∷ []) ∷ [] }) 0 2 ≡ Err EndedInUse)

@@ -1,5 +1,6 @@
 -- Where a member is filed in a list, and which is removed.
-use Rattle.std.specs.Prelude.{ℕ, Bool, true, not, ℤ, List, [], ◌∷◌, ◌++◌, length, Option, Some, None, unwrap_or, option_map, Result, Ok, Err}
+use Rattle.std.specs.Prelude.{ℕ, Bool, true, not, ℤ, List, [], ◌∷◌, ◌++◌, length, Option, Some, None, unwrap_or}
+use Rattle.std.specs.Prelude.{option_map, Result, Ok, Err}
 use Rattle.std.specs.Ordering.{is_gt}
 use Rattle.ss_words.specs.declared.fault.RunFault.{RunFault}
 use Rattle.ss_words.specs.declared.fault.RunFault.TheVariants.{NoEntity, AlreadyInSet, NotInList, EmptySet, MemberLeft}
@@ -14,7 +15,8 @@ use Rattle.ss_store.specs.declared.shape.How.TheVariants.{ByRule, First, Last, B
 use Rattle.ss_store.specs.declared.shape.Which.{Which}
 use Rattle.ss_store.specs.declared.shape.Which.TheVariants as which
 use Rattle.ss_store.specs.Lists.{placed_before}
-use Rattle.ss_store.specs.Store.{Store, entity, exists, number_of, unless, is_owner, members_of, is_filed, list_holding, with_list}
+use Rattle.ss_store.specs.Store.{Store, entity, exists, number_of, unless, is_owner, members_of, is_filed, list_holding}
+use Rattle.ss_store.specs.Store.{with_list}
 
 -- ---- filing
 
@@ -96,10 +98,11 @@ is_in s st o k =
 abbrev pub count : SetShape → Store → ℕ → Result ℕ RunFault
 count s st o = unless NoEntity (is_owner s st o) (Ok (length (members_of s st o)))
 
--- the first and the last member, or F3
+-- the first member of the list of o, or F3
 abbrev pub first_member : SetShape → Store → ℕ → Result (Option ℕ) RunFault
 first_member s st o = unless NoEntity (is_owner s st o) (Ok (first_of (members_of s st o)))
 
+-- the last member of the list of o, or F3
 abbrev pub last_member : SetShape → Store → ℕ → Result (Option ℕ) RunFault
 last_member s st o = unless NoEntity (is_owner s st o) (Ok (last_of (members_of s st o)))
 
@@ -109,10 +112,11 @@ at_member s st o k a =
     unless NoEntity (is_owner s st o)
     (unless NoEntity (exists st s.member k) (unless MemberLeft (has (members_of s st o) k) (Ok a)))
 
--- the member directly behind k, and directly before it
+-- the member directly behind k in the list of o, or F3, F14
 abbrev pub next_member : SetShape → Store → ℕ → ℕ → Result (Option ℕ) RunFault
 next_member s st o k = at_member s st o k (seat_behind (members_of s st o) k)
 
+-- the member directly before k in the list of o, or F3, F14
 abbrev pub previous_member : SetShape → Store → ℕ → ℕ → Result (Option ℕ) RunFault
 previous_member s st o k = at_member s st o k (seat_before (members_of s st o) k)
 

@@ -7,4 +7,6 @@ pub mod Held
 pub mod Making
 pub mod Writing
 pub mod Change
+pub mod WellStore
+pub mod Places
 pub mod Examples

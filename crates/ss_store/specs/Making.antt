@@ -1,5 +1,6 @@
 -- An entity more, and the last one less. Cited by private functions of the store alone.
-use Rattle.std.specs.Prelude.{◌≡◌, ℕ, ℤ, pos, zero, suc, ◌-◌, ◌+◌, ◌<◌, ◌≤◌, Bool, true, false, if◌then◌else◌, List, [], ◌∷◌, ◌++◌, length, take, replicate, slice_get, slice_index_or, Option, Some, None}
+use Rattle.std.specs.Prelude.{◌≡◌, ℕ, ℤ, pos, zero, suc, ◌-◌, ◌+◌, ◌<◌, ◌≤◌, Bool, true, false, if◌then◌else◌, List, []}
+use Rattle.std.specs.Prelude.{◌∷◌, ◌++◌, length, take, replicate, slice_get, slice_index_or, Option, Some, None}
 use Rattle.ss_links.specs.Board.{Board, list_at, head_of}
 use Rattle.ss_check.specs.declared.kinds.Owner.TheVariants.{OwnedBy}
 use Rattle.ss_store.specs.declared.rows.Row.{Row}
@@ -7,13 +8,15 @@ use Rattle.ss_store.specs.declared.shape.ClassShape.{ClassShape}
 use Rattle.ss_store.specs.Lists.{change_at}
 use Rattle.ss_store.specs.Tables.{class_of}
 use Rattle.ss_store.specs.Rows.{RowTable, EntityTable, rows_in}
-use Rattle.ss_store.specs.Store.{Entity, Store, entity, exists, fresh, class_limit, reference_limit, with_reference, is_member, owns_members}
+use Rattle.ss_store.specs.Store.{Entity, Store, entity, exists, fresh, class_limit, reference_limit, with_reference}
+use Rattle.ss_store.specs.Store.{is_member, owns_members}
 use Rattle.ss_store.specs.Held.{Held, HeadEntry, SeatEntry, Kept, StoreValue}
 
 -- the numbering of the entities of class c: its own, or that of the references
 abbrev pub numbering_by : Bool → ℕ → Option ℕ
 numbering_by permanent c = if permanent then Some c else None
 
+-- the same by what is kept of the class
 abbrev pub numbering : ClassShape → ℕ → Option ℕ
 numbering shape c = numbering_by shape.permanent c
 
@@ -32,11 +35,12 @@ with_table change es (Some c) = record es { made = change_at change es.made c }
 abbrev pub less : RowTable → RowTable
 less t = record { rows = take (length t.rows - 1) t.rows; values = take (length t.rows - 1) t.values }
 
--- what n heads and n seats of entity number k of class c are of, from its list number i on
+-- what n heads of entity number k of class c are of, from its list number i on
 abbrev pub heads_for : ℕ → ℕ → ℕ → ℕ → List HeadEntry
 heads_for c k i zero = []
 heads_for c k i (suc n) = record { owner = OwnedBy c; list = i; number = k } ∷ heads_for c k (suc i) n
 
+-- what n seats of entity number k of class c are of, from its set number i on
 abbrev pub seats_for : ℕ → ℕ → ℕ → ℕ → List SeatEntry
 seats_for c k i zero = []
 seats_for c k i (suc n) = record { member = c; slot = i; number = k } ∷ seats_for c k (suc i) n
@@ -49,6 +53,7 @@ with_heads n b = record { lists = b.lists ++ replicate n []; seats = b.seats }
 abbrev pub with_seats : ℕ → Board → Board
 with_seats n b = record { lists = b.lists; seats = b.seats + n }
 
+-- a board with so many heads and seats more
 abbrev pub with_places : ℕ → ℕ → Board → Board
 with_places heads seats b = with_seats seats (with_heads heads b)
 
@@ -82,9 +87,13 @@ cut g w head seat = record g {
 
 -- a board whose heads and seats from these on can be taken off
 pub record CanShrink (b : Board) (head seat : ℕ) : Type 0 where
+  -- there are these heads
   pub heads : head ≤ length b.lists
+  -- their lists are empty
   pub empty : (h : ℕ) → head ≤ h → list_at b.lists h ≡ []
+  -- there are these seats
   pub seats : seat ≤ b.seats
+  -- they are in no list
   pub free : (t : ℕ) → seat ≤ t → head_of b.lists t ≡ None
 
 -- ---- the store
@@ -100,8 +109,7 @@ with_entity (Some c) st e = record st { made = change_at (λ es. es ++ e ∷ [])
 
 -- the state with one more entity of class c, which is the last of its numbering
 abbrev pub with_more : Store → ℕ → ClassShape → Store
-with_more st c shape =
-    with_entity (numbering shape c) st (fresh c shape)
+with_more st c shape = with_entity (numbering shape c) st (fresh c shape)
 
 -- the rows of a numbering
 abbrev pub kept_rows : Kept → Option ℕ → List Row
@@ -111,7 +119,8 @@ kept_rows k (Some c) = slice_index_or k.made c []
 -- what is kept, with the rows of a numbering changed, and so many heads and seats
 abbrev pub kept_with : (List Row → List Row) → Kept → Option ℕ → ℕ → ℕ → Kept
 kept_with change k None heads seats = record k { references = change k.references; heads = heads; seats = seats }
-kept_with change k (Some c) heads seats = record k { made = change_at change k.made c; heads = heads; seats = seats }
+kept_with change k (Some c) heads seats =
+    record k { made = change_at change k.made c; heads = heads; seats = seats }
 
 -- the store with one more entity of class c
 abbrev pub one_more : ℕ → StoreValue → StoreValue
@@ -138,17 +147,25 @@ one_less c heads seats v = record v {
   kept = kept_with but_last v.kept (numbering (class_of v.tables c) c) heads seats;
 }
 
--- entity number k is the last of the numbering of class c, its heads and seats are the board's last, from these on, it is
--- in no list and owns no member
+-- entity number k is the last of the numbering of class c, its heads and seats are the board's last, from these on, it
+-- is in no list and owns no member
 pub record FitsLast (c k heads seats : ℕ) (v : StoreValue) : Type 0 where
+  -- there is such a class
   pub is_class : c < length v.tables.classes
+  -- it is the last
   pub last : length (kept_rows v.kept (numbering (class_of v.tables c) c)) ≡ k
+  -- its row has these heads and seats
   pub row : slice_get (kept_rows v.kept (numbering (class_of v.tables c) c)) (k - 1)
       ≡ Some (record { class = c; head = heads; seat = seats })
+  -- its heads are the last
   pub last_heads : heads + (class_of v.tables c).owned ≡ v.kept.heads
+  -- its seats are the last
   pub last_seats : seats + (class_of v.tables c).joined ≡ v.kept.seats
+  -- it exists
   pub there : exists v.state c k ≡ true
+  -- it is in no list
   pub free : is_member v.tables.sets v.state c k ≡ false
+  -- it owns no member
   pub empty : owns_members (entity v.state c k) ≡ false
 
 -- there may be one more entity of class c
@@ -157,8 +174,12 @@ HasRoom c v = length (kept_rows v.kept (numbering (class_of v.tables c) c)) < nu
 
 -- an entity of class c was made, and can be taken off again
 pub record Makes (c : ℕ) (old new : StoreValue) : Type 0 where
+  -- the store with it
   pub is : new ≡ one_more c old
-  pub fits : FitsLast c (suc (length (kept_rows old.kept (numbering (class_of old.tables c) c)))) old.kept.heads old.kept.seats new
+  -- it is the last
+  pub fits : FitsLast c (suc (length (kept_rows old.kept (numbering (class_of old.tables c) c))))
+      old.kept.heads old.kept.seats new
+  -- without it, the store is as before
   pub back : one_less c old.kept.heads old.kept.seats new ≡ old
 
 -- so many entities of class c can be taken off, last first, and this store is what is left
@@ -168,11 +189,21 @@ Less c (suc n) v rest = (k heads seats : ℕ) × FitsLast c k heads seats v × L
 
 -- so many entities of permanent class c were made, and can be taken off again
 pub record MakesAll (c n : ℕ) (old new : StoreValue) : Type 0 where
+  -- the tables are the same
   pub tables : new.tables ≡ old.tables
-  pub state : new.state ≡ record old.state { made = change_at (λ es. es ++ replicate n (fresh c (class_of old.tables c))) old.state.made c }
+  -- the class has so many more
+  pub state : new.state ≡ record old.state {
+    made = change_at (λ es. es ++ replicate n (fresh c (class_of old.tables c))) old.state.made c;
+  }
+  -- their rows
   pub rows : List Row
+  -- how many heads there are then
   pub heads : ℕ
+  -- how many seats there are then
   pub seats : ℕ
+  -- the rows are kept
   pub kept : new.kept ≡ kept_with (λ rs. rs ++ rows) old.kept (Some c) heads seats
+  -- as many rows as entities
   pub count : length rows ≡ n
+  -- they can be taken off, last first
   pub less : Less c n new old

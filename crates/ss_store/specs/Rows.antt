@@ -1,18 +1,24 @@
 -- Where entities lie on a board. Cited by the store's view and invariant alone.
-use Rattle.std.specs.Prelude.{ℕ, ℤ, zero, suc, ◌==◌, if◌then◌else◌, List, [], slice_get, slice_index_or, Option, Some, None}
+use Rattle.std.specs.Prelude.{ℕ, ℤ, zero, suc, ◌==◌, if◌then◌else◌, List, [], slice_get, slice_index_or, Option, Some}
+use Rattle.std.specs.Prelude.{None}
 use Rattle.std.specs.Option.{option_or}
 use Rattle.ss_store.specs.declared.rows.Row.{Row}
 
 -- the rows of entities 1, 2, .. of one numbering, and the values of their attributes, none where one has ended
 pub record RowTable : Type 0 where
+  -- where each lies on the board
   pub rows : List Row
+  -- the values of each one's attributes
   pub values : List (Option (List ℤ))
 
 -- those of each permanent class, and those with references
 pub record EntityTable : Type 0 where
+  -- by the numbers of their classes
   pub made : List RowTable
+  -- by their references
   pub references : RowTable
 
+-- a numbering in which nothing was made
 abbrev pub no_rows : RowTable
 no_rows = record { rows = []; values = [] }
 
@@ -44,6 +50,7 @@ values_if c (Some r) (Some None) = None
 values_if c (Some r) None = None
 values_if c None v = None
 
+-- the values of row number i of a numbering, if it is of class c and has not ended
 abbrev pub values_in : RowTable → ℕ → ℕ → Option (List ℤ)
 values_in t c i = values_if c (slice_get t.rows i) (slice_get t.values i)
 

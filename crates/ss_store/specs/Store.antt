@@ -1,9 +1,14 @@
 -- What the store holds: entities and the lists of their sets. How they are made, changed and ended.
-use Rattle.std.specs.Prelude.{ℕ, zero, suc, ◌-◌, ◌==◌, Bool, true, false, ◌&&◌, not, nat_lt, nat_le, if◌then◌else◌, ℤ, pos, negsuc, List, [], ◌∷◌, ◌++◌, length, map, replicate, filter_map, find, slice_get, slice_set, slice_index_or, Option, Some, None, is_some, option_map, option_and_then, unwrap_or, Result, Ok, Err}
+use Rattle.std.specs.Prelude.{◌≡◌, ◌^◌, ℕ, zero, suc, ◌-◌, ◌==◌, Bool, true, false, ◌&&◌, not, nat_lt, nat_le}
+use Rattle.std.specs.Prelude.{if◌then◌else◌, ℤ}
+use Rattle.std.specs.Prelude.{pos, negsuc, List, [], ◌∷◌, ◌++◌, length, map, replicate, filter_map, find, slice_get}
+use Rattle.std.specs.Prelude.{slice_set, slice_index_or, Option, Some, None, is_some, option_map, option_and_then}
+use Rattle.std.specs.Prelude.{unwrap_or, Result, Ok, Err}
 use Rattle.std.specs.Option.{option_or}
 use Rattle.std.specs.List.{list_any}
 use Rattle.ss_words.specs.declared.fault.RunFault.{RunFault}
-use Rattle.ss_words.specs.declared.fault.RunFault.TheVariants.{NoEntity, EndedInUse, EndedOwner, AlreadyCreated, CountOutOfRange, TooManyReferences}
+use Rattle.ss_words.specs.declared.fault.RunFault.TheVariants.{NoEntity, EndedInUse, EndedOwner, AlreadyCreated}
+use Rattle.ss_words.specs.declared.fault.RunFault.TheVariants.{CountOutOfRange, TooManyReferences}
 use Rattle.ss_links.specs.Seats.{has}
 use Rattle.ss_check.specs.declared.kinds.Owner.{Owner}
 use Rattle.ss_check.specs.declared.kinds.Owner.TheVariants.{System, OwnedBy}
@@ -15,15 +20,21 @@ use Rattle.ss_store.specs.Tables.{Tables}
 -- an entity: its class, the values of its attributes, and the lists of the sets that its class owns, in order of
 -- declaration
 pub record Entity : Type 0 where
+  -- the number of its class
   pub class : ℕ
+  -- the values of its attributes, in order of declaration
   pub attributes : List ℤ
+  -- the members of each of its lists, by their numbers
   pub owned : List (List ℕ)
 
 -- for each class the entities 1, 2, .. of it, where it is permanent and made; the entities with references 1, 2, ..,
 -- None where one has ended; the lists of the system's sets, in order of declaration
 pub record Store : Type 0 where
+  -- the entities of each class, if it is permanent
   pub made : List (List Entity)
+  -- what each reference stands for
   pub references : List (Option Entity)
+  -- the members of each list of the system, by their numbers
   pub system : List (List ℕ)
 
 -- the number of an entity that a value names, 0 naming none
@@ -65,6 +76,16 @@ abbrev pub exists : Store → ℕ → ℕ → Bool
 exists st c k = is_some (entity st c k)
 
 -- ---- attributes
+
+-- a value of 64 bits with a sign
+abbrev pub in_range : ℤ → Bool
+in_range (pos n) = nat_lt n (2 ^ 63)
+in_range (negsuc n) = nat_lt n (2 ^ 63)
+
+-- all values are such
+abbrev pub AreInRange : List ℤ → Type 0
+AreInRange [] = Unit {0}
+AreInRange (x ∷ xs) = (in_range x ≡ true) × AreInRange xs
 
 -- attribute number a of an entity, or F3 where there is none
 abbrev pub attribute_in : ℕ → Option Entity → Result ℤ RunFault
@@ -204,6 +225,14 @@ owns_members (Some e) = list_any is_filled e.owned
 -- the store without reference number k
 abbrev pub without_reference : Store → ℕ → Store
 without_reference st k = record st { references = slice_set st.references (k - 1) None }
+
+-- the store in which reference number k stands for this entity again
+abbrev pub with_back : Store → ℕ → Entity → Store
+with_back st k e = record st { references = slice_set st.references (k - 1) (Some e) }
+
+-- the entity of class c that comes back: it has these attributes, and so many lists, which are empty
+abbrev pub entity_back : ℕ → ℕ → List ℤ → Entity
+entity_back c owned values = record { class = c; attributes = values; owned = replicate owned [] }
 
 -- the store without entity number k of class c; F3; F7 where it is a member, F8 where it owns members
 abbrev pub without_entity : Tables → Store → ℕ → ℕ → Result Store RunFault

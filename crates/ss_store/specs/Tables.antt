@@ -12,8 +12,11 @@ use Rattle.ss_store.specs.declared.shape.SetShape.{SetShape}
 
 -- the classes, the sets, and how many sets the system owns
 pub record Tables : Type 0 where
+  -- what is kept of each class
   pub classes : List ClassShape
+  -- what is kept of each set
   pub sets : List SetShape
+  -- how many sets the system owns
   pub system : ℕ
 
 -- ---- rows by their numbers; no sound program asks for one that isn't there
@@ -26,6 +29,7 @@ class_in cs c = unwrap_or (slice_get cs c) (record { attributes = 0; owned = 0; 
 abbrev pub class_of : Tables → ℕ → ClassShape
 class_of t c = class_in t.classes c
 
+-- what stands where there is no such set
 abbrev pub no_set : SetShape
 no_set = record { discipline = Fifo; owner = System; list = 0; member = 0; slot = 0 }
 
@@ -35,6 +39,7 @@ set_of t s = unwrap_or (slice_get t.sets s) no_set
 
 -- ---- the tables of a program
 
+-- whether a class is permanent
 abbrev pub is_permanent : ClassKind → Bool
 is_permanent (Permanent n) = true
 is_permanent _ = false
@@ -62,6 +67,7 @@ set_shape p s = record {
   slot = joined_among (program.set_of p s).member (take s p.sets);
 }
 
+-- what a store needs of a program
 abbrev pub tables_of : ProgramTable → Tables
 tables_of p = record {
   classes = map (class_shape p) (range_with_len 0 (length p.classes));

@@ -44,4 +44,12 @@ pub enum StoreChange {
         number: usize,
         old: i64,
     },
+    /// An entity of a temporary or event class ended, which owned so many empty lists and had these
+    /// values of its attributes.
+    Ended {
+        class: usize,
+        number: usize,
+        owned: u32,
+        values: Vec<i64>,
+    },
 }

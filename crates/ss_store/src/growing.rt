@@ -1,9 +1,11 @@
 //! Heads, seats and numbers made for an entity, and taken off again.
-ghost use Rattle.std.specs.Prelude.{◌≡◌, ◌≤◌, ◌<◌, ◌+◌, ◌++◌, ◌^◌, ℕ, ◌-◌, [], length, take, replicate, slice_get, IfOk, OnErr, None, Some, true, pos};
+ghost use Rattle.std.specs.Prelude.{◌≡◌, ◌≤◌, ◌<◌, ◌+◌, ◌++◌, ◌^◌, ℕ, ◌-◌, [], length, take, replicate, slice_get};
+ghost use Rattle.std.specs.Prelude.{IfOk, OnErr, None, Some, true, pos};
 ghost use Rattle.ss_links.specs.Board.{IsSound, list_at, head_of};
 ghost use Rattle.ss_store.specs.declared.rows.Row.{Row as ARow};
 ghost use Rattle.ss_store.specs.Rows.{rows_in};
-ghost use Rattle.ss_store.specs.Making.{with_heads, with_seats, with_places, with_table, more, less, numbering_by, CanShrink};
+ghost use Rattle.ss_store.specs.Making.{with_heads, with_seats, with_places, with_table, more, less, numbering_by};
+ghost use Rattle.ss_store.specs.Making.{CanShrink};
 
 use crate::rows::{Entities, Row};
 use crate::shape::ClassShape;
@@ -128,7 +130,8 @@ pub(crate) fn grow<S: SetBoard>(
     ensures row { IfOk result (λ row. row
         ≡ record { class = class; head = length (S.board board.old).lists; seat = (S.board board.old).seats }) }
     ensures rows { IfOk result (λ row. entities.new
-        ≡ with_table (more row (replicate shape.attributes (pos 0))) entities.old (numbering_by shape.permanent class)) }
+        ≡ with_table (more row (replicate shape.attributes (pos 0)))
+        entities.old (numbering_by shape.permanent class)) }
     ensures numbers { IfOk result (λ _. numbers.new.items ≡ numbers.old.items
         ++ replicate shape.joined (length (rows_in entities.old (numbering_by shape.permanent class)).rows + 1)) }
     ensures board { IfOk result (λ _. S.board board.new

@@ -1,5 +1,8 @@
 //! Laws on the definitions. Each function does nothing, and its contract says the law.
-ghost use Rattle.ss_store.specs.Examples.{FifoFilesLast, LifoFilesFirst, RankedByTwoKeys, RankedByPresentKeys, FiledBesideEnds, RemovedAnywhere, LowestFaultFirst};
+ghost use Rattle.ss_store.specs.Examples.{FifoFilesLast, LifoFilesFirst, RankedByTwoKeys, RankedByPresentKeys};
+ghost use Rattle.ss_store.specs.Examples.{FiledBesideEnds, RemovedAnywhere, LowestFaultFirst, EndedIsGone};
+ghost use Rattle.ss_store.specs.Examples.{EndedInNoUse};
+ghost use Rattle.ss_store.specs.Places.{FiledBetween, OtherListsStay};
 
 /// FIFO files last.
 pub fn fifo_files_last()
@@ -35,4 +38,25 @@ pub fn removed_anywhere()
 /// Where two faults apply, the one with the lower number is told.
 pub fn lowest_fault_first()
     ensures { LowestFaultFirst }
+{}
+
+/// FILE puts a member between two parts of the list, and each discipline and each place that it
+/// names says which.
+pub fn filed_between()
+    ensures { FiledBetween }
+{}
+
+/// Where one list is changed, each other stays.
+pub fn other_lists_stay()
+    ensures { OtherListsStay }
+{}
+
+/// An entity that was ended does not exist, and its reference is not given again.
+pub fn ended_is_gone()
+    ensures { EndedIsGone }
+{}
+
+/// A member and an owner of members are not ended; a member is told first.
+pub fn ended_in_no_use()
+    ensures { EndedInNoUse }
 {}

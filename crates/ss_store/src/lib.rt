@@ -2,6 +2,7 @@
 #![tactic(auto)]
 
 mod change;
+mod ending;
 mod growing;
 pub mod laws;
 mod making;

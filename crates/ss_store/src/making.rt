@@ -24,8 +24,10 @@ impl<S: SetBoard> Store<S> {
     fn count_made(&self, class: usize) -> usize
         requires { class < length self.now.tables.classes }
         ensures kept { result ≡ length (kept_rows self.now.kept (numbering (class_of self.now.tables class) class)) }
-        ensures given { (class_of self.now.tables class).permanent ≡ false → result ≡ length self.now.state.references }
-        ensures made { (class_of self.now.tables class).permanent ≡ true → result ≡ length (made_of self.now.state class) }
+        ensures given { (class_of self.now.tables class).permanent ≡ false
+            → result ≡ length self.now.state.references }
+        ensures made { (class_of self.now.tables class).permanent ≡ true
+            → result ≡ length (made_of self.now.state class) }
     {
         let shape = self.classes[class];
         self.entities.count(shape.permanent, class)
@@ -153,7 +155,8 @@ impl<S: SetBoard> Store<S> {
     pub fn create_all(&mut self, class: usize, n: i64) -> Result<StoreChange, StepFault>
         requires class { class < length self.old.tables.classes }
         requires kind { (class_of self.old.tables class).permanent ≡ true }
-        ensures { IsMaking result (with_class self.old.state class (class_of self.old.tables class) n) self.old self.new }
+        ensures { IsMaking result
+            (with_class self.old.state class (class_of self.old.tables class) n) self.old self.new }
     {
         if self.count_made(class) > 0 {
             return Err(StepFault::Fault(RunFault::AlreadyCreated));

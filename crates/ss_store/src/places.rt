@@ -4,7 +4,8 @@ ghost use Rattle.std.specs.Option.{ForNone, ForSome};
 ghost use Rattle.ss_store.specs.Store as pure;
 ghost use Rattle.ss_store.specs.Rows as table;
 ghost use Rattle.ss_store.specs.Held as held;
-ghost use Rattle.ss_store.specs.Held.{head_at, seat_at, standing_by, seat_for, number_at, is_at, spot_by, place_by, SpotBelow};
+ghost use Rattle.ss_store.specs.Held.{head_at, seat_at, standing_by, seat_for, number_at, is_at, spot_by, place_by};
+ghost use Rattle.ss_store.specs.Held.{SpotBelow};
 ghost use Rattle.ss_links.specs.Board.{head_of, IsSound};
 
 use crate::ranking::ranked_place;

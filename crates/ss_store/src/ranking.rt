@@ -112,7 +112,8 @@ fn place_among<S: SetBoard>(
     requires numbers { length numbers.now ≡ (S.board board.now).seats }
     requires sound { IsSound (S.board board.now) }
     ensures { result ≡ rank_before
-        (λ t. is_gt (by_keys keys.now (keys_in entities.now keys.now class (number_at numbers.now t)) (key_values keys.now ours.now)))
+        (λ t. is_gt (by_keys keys.now
+        (keys_in entities.now keys.now class (number_at numbers.now t)) (key_values keys.now ours.now)))
         None (list_at (S.board board.now).lists head) }
 {
     let mut before = None;

@@ -211,7 +211,8 @@ impl Entities {
     )
         requires there { permanent ≡ true → class < length self.old.made }
         requires index { index < length (rows_in self.old (numbering_by permanent class)).values }
-        ensures { self.new ≡ with_table (with_values index (Some values.items)) self.old (numbering_by permanent class) }
+        ensures { self.new
+            ≡ with_table (with_values index (Some values.items)) self.old (numbering_by permanent class) }
     {
         if permanent {
             let rows = &mut self.made[class];

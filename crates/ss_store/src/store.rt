@@ -1,9 +1,11 @@
 ghost use Rattle.std.specs.Prelude.{◌≡◌, ◌<◌, IfOk, length};
 ghost use Rattle.ss_links.specs.Board.{empty_board};
 ghost use Rattle.ss_store.specs.Tables.{set_of, tables_of};
-ghost use Rattle.ss_store.specs.Held.{empty_value};
+ghost use Rattle.ss_store.specs.Held.{AreTables, empty_value};
+ghost use Rattle.ss_store.specs.WellStore.{IsWellStore};
 ghost use Rattle.ss_store.specs.Store as pure;
-ghost use Rattle.ss_store.specs.Filing.{filed, removed, is_in, count, first_member, last_member, next_member, previous_member, predecessor, successor, membership};
+ghost use Rattle.ss_store.specs.Filing.{filed, removed, is_in, count, first_member, last_member, next_member};
+ghost use Rattle.ss_store.specs.Filing.{previous_member, predecessor, successor, membership};
 ghost use Rattle.ss_store.specs.Change.{FitsStore, unapply_store, IsOutcome, IsRemoval};
 
 use crate::change::StoreChange;
@@ -73,6 +75,23 @@ impl<S: SetBoard> Store<S> {
         let classes = class_shapes(alloc, program)?;
         let sets = set_shapes(alloc, program)?;
         let system = count_owned(&program.sets, Owner::System, program.sets.len()) as u32;
+        Store::with_tables(alloc, classes, sets, system, board)
+    }
+
+    /// A store of these classes and sets, of which the system owns so many, with nothing made, on a
+    /// board without heads and seats.
+    pub fn with_tables(
+        alloc: Global,
+        classes: Vec<ClassShape>,
+        sets: Vec<SetShape>,
+        system: u32,
+        board: S,
+    ) -> Result<Self, AllocError>
+        requires tables { AreTables (record { classes = classes.items; sets = sets.items; system = system }) }
+        requires board { S.board board ≡ empty_board }
+        ensures { IfOk result (λ store. store
+            ≡ empty_value (record { classes = classes.items; sets = sets.items; system = system })) }
+    {
         let entities = Entities::new(alloc, classes.len())?;
         let mut board = board;
         add_heads(&mut board, system)?;
@@ -193,6 +212,14 @@ impl<S: SetBoard> Store<S> {
 }
 
 impl<S: SetBoard> Store<S> {
+    /// Tells its caller that the store is well-formed.
+    pub fn known(&self)
+        ensures { IsWellStore self.now.tables self.now.state }
+    {
+        // What is kept is known where a field is read.
+        let _ = &self.entities;
+    }
+
     /// Whether there is an entity of this class with this number.
     pub fn exists(&self, class: usize, x: i64) -> bool
         ensures { result ≡ pure.exists self.now.state class (pure.number_of x) }
@@ -425,6 +452,12 @@ impl<S: SetBoard> Undo for Store<S> {
                 number,
                 old,
             } => self.reset(class, attribute, number, old),
+            StoreChange::Ended {
+                class,
+                number,
+                owned: _,
+                values,
+            } => self.bring_back(class, number, values),
         }
     }
 }

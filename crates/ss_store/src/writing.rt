@@ -1,5 +1,5 @@
 //! Attributes written.
-ghost use Rattle.std.specs.Prelude.{◌≡◌, ◌<◌, ℤ, List, pos, length, true, slice_get, slice_index_or, slice_set, Some, option_map};
+ghost use Rattle.std.specs.Prelude.{◌≡◌, ◌<◌, ℤ, List, pos, length, true, slice_get, slice_index_or, slice_set, Some};
 ghost use Rattle.ss_store.specs.Rows.{rows_in, values_of};
 ghost use Rattle.ss_store.specs.Making.{with_table, numbering_by};
 ghost use Rattle.ss_store.specs.Writing.{with_values};
@@ -25,11 +25,15 @@ pub(crate) fn replace(
     value: i64,
 ) -> i64
     requires there { permanent ≡ true → class < length entities.old.made }
-    requires living { (v : List ℤ) × (slice_get (rows_in entities.old (numbering_by permanent class)).values index ≡ Some (Some v)) }
-    ensures value { (v : List ℤ) → slice_get (rows_in entities.old (numbering_by permanent class)).values index ≡ Some (Some v) →
-        result ≡ slice_index_or v attribute (pos 0) }
-    ensures rows { (v : List ℤ) → slice_get (rows_in entities.old (numbering_by permanent class)).values index ≡ Some (Some v) →
-        entities.new ≡ with_table (with_values index (Some (slice_set v attribute value))) entities.old (numbering_by permanent class) }
+    requires living { (v : List ℤ)
+        × (slice_get (rows_in entities.old (numbering_by permanent class)).values index ≡ Some (Some v)) }
+    ensures value { (v : List ℤ)
+        → slice_get (rows_in entities.old (numbering_by permanent class)).values index ≡ Some (Some v)
+        → result ≡ slice_index_or v attribute (pos 0) }
+    ensures rows { (v : List ℤ)
+        → slice_get (rows_in entities.old (numbering_by permanent class)).values index ≡ Some (Some v)
+        → entities.new ≡ with_table (with_values index (Some (slice_set v attribute value)))
+        entities.old (numbering_by permanent class) }
 {
     let mut values = entities.take_values(permanent, class, index).unwrap();
     let old = value_at(&values, attribute);

@@ -8,7 +8,9 @@ use Rattle.ss_store.proofs.ranking.place_among.Given as goal
 
 -- the list is what was passed, none of which ranks behind, and what is left
 abbrev pub invariant-loop-at : goal.invariant-loop-at
-invariant-loop-at g l = Among (list_at (g.S.SetBoard.board l.board).lists l.head) (λ t. is_gt (by_keys l.keys (keys_in l.entities l.keys l.class (number_at l.numbers t)) (key_values l.keys l.ours))) l.before l.at
+invariant-loop-at g l = Among (list_at (g.S.SetBoard.board l.board).lists l.head)
+    (λ t. is_gt (by_keys l.keys (keys_in l.entities l.keys l.class (number_at l.numbers t)) (key_values l.keys l.ours)))
+    l.before l.at
 
 abbrev pub decreases-loop-at : goal.decreases-loop-at
 decreases-loop-at g l = length (rest_from (list_at (g.S.SetBoard.board l.board).lists l.head) l.at)

@@ -4,4 +4,6 @@ use Rattle.ss_store.proofs.ranking.ranks_behind.Given as goal
 
 -- the keys that are left tell them apart as all do
 abbrev pub invariant-loop-key : goal.invariant-loop-key
-invariant-loop-key l = by_keys (drop l.key-index l.keys) (key_values (drop l.key-index l.keys) l.theirs) (key_values (drop l.key-index l.keys) l.ours) ≡ by_keys l.keys (key_values l.keys l.theirs) (key_values l.keys l.ours)
+invariant-loop-key l = by_keys (drop l.key-index l.keys) (key_values (drop l.key-index l.keys) l.theirs)
+    (key_values (drop l.key-index l.keys) l.ours)
+    ≡ by_keys l.keys (key_values l.keys l.theirs) (key_values l.keys l.ours)

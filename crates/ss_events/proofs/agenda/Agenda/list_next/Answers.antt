@@ -1,4 +1,5 @@
 use Rattle.std.proofs.Common.{◌∙◌, sym, arith, refl}
+use Rattle.ss_events.proofs.EventLaws.{event-below}
 use Rattle.ss_events.proofs.Standing.{kept, entry-pending}
 use Rattle.ss_events.proofs.Listings.{few-listed, listing-on}
 use Rattle.ss_events.proofs.agenda.Agenda.list_next.Goals as goal
@@ -7,13 +8,13 @@ pub offset_bounds-listing-class : goal.offset_bounds-listing-class
 offset_bounds-listing-class g c =
     let k = kept _ _ _ _ c.self.view_is c.self.invariant in
     let entry = entry-pending _ _ _ _ c.entry_on.result.now k c.entry_on.ensures in
-    omega (arith, entry.0, k.classes)
+    omega (arith, event-below c.args.self.now.rules c.entry_on.result.now.class entry.0, k.classes)
 
 pub bounds-listing-class : goal.bounds-listing-class
 bounds-listing-class g c =
     let k = kept _ _ _ _ c.self.view_is c.self.invariant in
     let entry = entry-pending _ _ _ _ c.entry_on.result.now k c.entry_on.ensures in
-    omega (arith, entry.0, k.classes)
+    omega (arith, event-below c.args.self.now.rules c.entry_on.result.now.class entry.0, k.classes)
 
 pub overflow_add-listing : goal.overflow_add-listing
 overflow_add-listing g c =

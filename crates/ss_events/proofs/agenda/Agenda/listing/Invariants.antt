@@ -1,9 +1,10 @@
-use Rattle.std.proofs.Common.{◌≡◌, ℕ, ◌<◌, get_or, None, length}
-use Rattle.ss_links.specs.Board.{list_at}
+use Rattle.std.proofs.Common.{◌≡◌, ℕ, ◌<◌, ◌≤◌, get_or, None, length}
 use Rattle.ss_links.specs.Seats.{first_of}
-use Rattle.ss_events.specs.State.{board_of}
+use Rattle.ss_events.specs.Rules.{event_number}
+use Rattle.ss_events.proofs.BoardOf.{class_seats}
 use Rattle.ss_events.proofs.agenda.Agenda.listing.Given as goal
 
-abbrev pub invariant-loop-head : goal.invariant-loop-head
-invariant-loop-head g l = (length l.seats ≡ 64) × ((c : ℕ) → c < l.head →
-    get_or l.seats c None ≡ first_of (list_at (board_of l.self).lists c))
+abbrev pub invariant-loop-class : goal.invariant-loop-class
+invariant-loop-class g l = (length l.seats ≡ 64) × (l.head ≡ event_number l.self.rules l.class) × ((c : ℕ) →
+    c < l.class → get_or l.seats c None ≡ first_of (class_seats l.self c)) × ((c : ℕ) → l.class ≤ c →
+    get_or l.seats c None ≡ None)

@@ -1,9 +1,9 @@
-use Rattle.std.proofs.Common.{arith, ◌≤◌, ◌≡◌, ap, ◌∙◌, w64, SFits, to_z, of_z, length, ℤ, List, rules}
-use Rattle.ss_events.specs.Agenda.{filing_limit}
+use Rattle.std.proofs.Common.{true, arith, ◌≤◌, ◌≡◌, ap, ◌∙◌, w64, SFits, to_z, of_z, length, ℤ, List, rules}
+use Rattle.ss_events.specs.Agenda.{in_range, filing_limit}
 use Rattle.ss_events.specs.State.{AgendaState}
 use Rattle.std.proofs.lemmas.Int.{to_z-of_z}
 use Rattle.ss_events.proofs.Standing.{kept}
-use Rattle.ss_events.proofs.Going.{stepped-can, stepped-went, no-slot}
+use Rattle.ss_events.proofs.Going.{stepped-can, stepped-went, no-slot, fits-range}
 use Rattle.ss_events.proofs.agenda.Agenda.schedule.Goals as goal
 
 pub put_in-requires : goal.put_in-requires
@@ -11,6 +11,8 @@ put_in-requires g c =
     let k = kept _ _ _ _ c.self.view_is c.self.invariant in
     let same = c.in_ok-keys.ensures.items_if_clones_equal (λ x y e. e) in
     let idle = no-slot c.slot.result _ c.is_some.result c.slot.ensures c.is_some.ensures c.if-is_some.false in
+    let fits : SFits w64 c.args.time = search rules in
+    let range : in_range (to_z w64 (of_z w64 c.args.time)) ≡ true = simp to_z-of_z (fits-range c.args.time fits) in
     stepped-can _ c.args.self.now c.give_seat.new.self c.file-filing.new.self _ c.args.notice (record {
       time = to_z
           w64 (of_z w64 c.args.time);
@@ -23,6 +25,7 @@ put_in-requires g c =
       filing = c.file-filing.ensures.number;
       idle = idle;
       class = c.requires.class;
+      time = range;
       keys = ap (λ (l : List ℤ). length l) same ∙ c.requires.keys;
     })
 
@@ -31,6 +34,8 @@ returns g c =
     let k = kept _ _ _ _ c.self.view_is c.self.invariant in
     let same = c.in_ok-keys.ensures.items_if_clones_equal (λ x y e. e) in
     let idle = no-slot c.slot.result _ c.is_some.result c.slot.ensures c.is_some.ensures c.if-is_some.false in
+    let fits : SFits w64 c.args.time = search rules in
+    let range : in_range (to_z w64 (of_z w64 c.args.time)) ≡ true = simp to_z-of_z (fits-range c.args.time fits) in
     let free = ap (λ (s : AgendaState). s.agenda.next_filing) c.self.view_is in
     let small : c.args.self.now.agenda.next_filing ≤ filing_limit = omega (
       arith,
@@ -54,5 +59,6 @@ returns g c =
       filing = c.file-filing.ensures.number;
       idle = idle;
       class = c.requires.class;
+      time = range;
       keys = ap (λ (l : List ℤ). length l) same ∙ c.requires.keys;
     }) c.requires.number late small time same c.in_ok-seated.ensures.ok.0 c.put_in.ensures

@@ -6,7 +6,8 @@ use Rattle.ss_events.specs.Agenda.{pending_at}
 use Rattle.ss_events.specs.State.{AgendaState}
 use Rattle.ss_events.proofs.Standing.{is-some-map}
 use Rattle.ss_events.proofs.Keeping.{pending-row, read-seat, taken-linked, taken-entry, take_out-closed}
-use Rattle.ss_events.proofs.Keeping.{take_out-read, view-with}
+use Rattle.ss_events.proofs.Keeping.{take_out-read, view-with, seat-read}
+use Rattle.ss_events.proofs.Predecessors.{predecessor-taken, predecessor-read}
 use Rattle.ss_events.proofs.agenda.Agenda.take_out.Goals as goal
 
 pub index-requires : goal.index-requires
@@ -36,14 +37,14 @@ unwrap-entry-requires g c =
     let row = taken-entry _ _ _ _ _ c.self.invariant c.requires.number p c.index_mut.ensures.value in
     rw c.take.ensures.value (is-some-map _ _ (rw row at p))
 
-pub unlink-requires-clause-is_seat : goal.unlink-requires-clause-is_seat
-unlink-requires-clause-is_seat g c =
+pub unlink-place-requires-clause-is_seat : goal.unlink-place-requires-clause-is_seat
+unlink-place-requires-clause-is_seat g c =
     let p = subst (λ (s : AgendaState). IsSome (pending_at s.agenda.pending c.args.notice)) (sym c.self.view_is)
     c.requires.pending in
     (taken-linked _ _ _ _ _ _ c.self.invariant p c.index.ensures c.unwrap-seat.ensures).0
 
-pub unlink-requires-clause-is_linked : goal.unlink-requires-clause-is_linked
-unlink-requires-clause-is_linked g c =
+pub unlink-place-requires-clause-is_linked : goal.unlink-place-requires-clause-is_linked
+unlink-place-requires-clause-is_linked g c =
     let p = subst (λ (s : AgendaState). IsSome (pending_at s.agenda.pending c.args.notice)) (sym c.self.view_is)
     c.requires.pending in
     (taken-linked _ _ _ _ _ _ c.self.invariant p c.index.ensures c.unwrap-seat.ensures).1
@@ -52,8 +53,9 @@ pub invariant_of-self : goal.invariant_of-self
 invariant_of-self g c =
     let p = subst (λ (s : AgendaState). IsSome (pending_at s.agenda.pending c.args.notice)) (sym c.self.view_is)
     c.requires.pending in
-    take_out-closed _ _ _ _ _ _ _ _ _ c.self.invariant p c.index.ensures c.unwrap-seat.ensures c.unlink.ensures.board
-    c.unlink.ensures.sound.1 c.index_mut.ensures.value c.take.ensures.after
+    take_out-closed _ _ _ _ _ _ _ _ _ c.self.invariant p c.index.ensures c.unwrap-seat.ensures
+    c.unlink-place.ensures.board
+    c.unlink-place.ensures.sound.1 c.index_mut.ensures.value c.take.ensures.after
 
 pub returns-clause-entry : goal.returns-clause-entry
 returns-clause-entry g c =
@@ -73,3 +75,30 @@ returns-clause-state g c =
       entry = c.take.new.self;
     }) c.self.invariant (pending-row _ _ _ _
     c.self.invariant p).seat c.take.ensures.after)
+
+pub notice_if-predecessor-requires : goal.notice_if-predecessor-requires
+notice_if-predecessor-requires g c =
+    let p = subst (λ (s : AgendaState). IsSome (pending_at s.agenda.pending c.args.notice)) (sym c.self.view_is)
+    c.requires.pending in
+    let r = pending-row _ _ _ _ c.self.invariant p in
+    let row = taken-entry _ _ _ _ _ c.self.invariant c.requires.number p c.index_mut.ensures.value in
+    let there = row ∙ ap (option_map (notice_of c.args.notice)) (sym c.take.ensures.value ∙ c.unwrap-entry.ensures) in
+    let seat = seat-read _ _ _ _ _ _ c.self.invariant r.seat c.index.ensures c.unwrap-seat.ensures in
+    rw c.deref.ensures.value (predecessor-taken _ _ _ c.args.notice c.unwrap-entry.result _ _ c.self.invariant there
+    seat c.unlink-place.ensures.before).made
+
+pub returns-clause-predecessor : goal.returns-clause-predecessor
+returns-clause-predecessor g c =
+    let p = subst (λ (s : AgendaState). IsSome (pending_at s.agenda.pending c.args.notice)) (sym c.self.view_is)
+    c.requires.pending in
+    let r = pending-row _ _ _ _ c.self.invariant p in
+    let row = taken-entry _ _ _ _ _ c.self.invariant c.requires.number p c.index_mut.ensures.value in
+    let there = row ∙ ap (option_map (notice_of c.args.notice)) (sym c.take.ensures.value ∙ c.unwrap-entry.ensures) in
+    let seat = seat-read _ _ _ _ _ _ c.self.invariant r.seat c.index.ensures c.unwrap-seat.ensures in
+    let read = take_out-read _ _ _ _ (record {
+      seat = c.index_mut.result.now.seat;
+      entry = c.take.new.self;
+    }) c.self.invariant r.seat c.take.ensures.after in
+    let told = rw c.deref.ensures.value at c.notice_if-predecessor.ensures in
+    told ∙ predecessor-read _ _ c.unwrap-entry.result _ _ (predecessor-taken _ _ _ c.args.notice
+    c.unwrap-entry.result _ _ c.self.invariant there seat c.unlink-place.ensures.before) read

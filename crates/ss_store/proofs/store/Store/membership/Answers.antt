@@ -8,13 +8,25 @@ use Rattle.ss_store.proofs.Kept.{kept_seat, membership_none, membership_is}
 use Rattle.ss_store.proofs.store.Store.membership.Goals as goal
 
 pub seat_of-requires : goal.seat_of-requires
-seat_of-requires g c = seat_small _ _ c.args.set c.index-shape.result.now c.seats-seats.result (case_of _ _ c.args.set c.index-shape.result.now c.self.view_is c.self.invariant.2 c.requires c.index-shape.ensures) c.seats-seats.ensures.count c.seats-seats.type_inv c.named.result
+seat_of-requires g c = seat_small _ _ c.args.set c.index-shape.result.now c.seats-seats.result
+    (case_of _ _ c.args.set c.index-shape.result.now c.self.view_is c.self.invariant.2 c.requires c.index-shape.ensures)
+    c.seats-seats.ensures.count c.seats-seats.type_inv c.named.result
 
 pub returns-in-None : goal.returns-in-None
-returns-in-None g c = membership_none _ _ c.args.set c.index-shape.result.now c.named.result (case_of _ _ c.args.set c.index-shape.result.now c.self.view_is c.self.invariant.2 c.requires c.index-shape.ensures) (sym c.seat_of.ensures ∙ c.in-None.is) ∙ ap (membership (set_of c.args.self.now.tables c.args.set) c.args.self.now.state) (let fits : FitsSigned w64 c.args.x = search rules in c.named.ensures ∙ ap number_of (to_z-of_z w64 _ fits))
+returns-in-None g c = membership_none _ _ c.args.set c.index-shape.result.now c.named.result
+    (case_of _ _ c.args.set c.index-shape.result.now c.self.view_is c.self.invariant.2 c.requires c.index-shape.ensures)
+    (sym c.seat_of.ensures ∙ c.in-None.is) ∙ ap
+    (membership (set_of c.args.self.now.tables c.args.set) c.args.self.now.state) (let fits : FitsSigned w64 c.args.x =
+    search rules in c.named.ensures ∙ ap number_of (to_z-of_z w64 _ fits))
 
 pub place-requires : goal.place-requires
-place-requires g c = kept_seat _ _ c.args.set c.index-shape.result.now c.named.result c.in-Some.seat (case_of _ _ c.args.set c.index-shape.result.now c.self.view_is c.self.invariant.2 c.requires c.index-shape.ensures) (sym c.seat_of.ensures ∙ c.in-Some.is)
+place-requires g c = kept_seat _ _ c.args.set c.index-shape.result.now c.named.result c.in-Some.seat
+    (case_of _ _ c.args.set c.index-shape.result.now c.self.view_is c.self.invariant.2 c.requires c.index-shape.ensures)
+    (sym c.seat_of.ensures ∙ c.in-Some.is)
 
 pub returns-in-Some : goal.returns-in-Some
-returns-in-Some g c = membership_is _ _ c.args.set c.index-shape.result.now c.named.result c.in-Some.seat c.place.result c.is_some.result (case_of _ _ c.args.set c.index-shape.result.now c.self.view_is c.self.invariant.2 c.requires c.index-shape.ensures) (sym c.seat_of.ensures ∙ c.in-Some.is) c.place.ensures.value c.is_some.ensures ∙ ap (membership (set_of c.args.self.now.tables c.args.set) c.args.self.now.state) (let fits : FitsSigned w64 c.args.x = search rules in c.named.ensures ∙ ap number_of (to_z-of_z w64 _ fits))
+returns-in-Some g c = membership_is _ _ c.args.set c.index-shape.result.now c.named.result c.in-Some.seat c.place.result
+    c.is_some.result (case_of _ _ c.args.set c.index-shape.result.now c.self.view_is c.self.invariant.2 c.requires
+    c.index-shape.ensures) (sym c.seat_of.ensures ∙ c.in-Some.is) c.place.ensures.value c.is_some.ensures
+    ∙ ap (membership (set_of c.args.self.now.tables c.args.set) c.args.self.now.state)
+    (let fits : FitsSigned w64 c.args.x = search rules in c.named.ensures ∙ ap number_of (to_z-of_z w64 _ fits))

@@ -8,7 +8,8 @@ pub loop-init : goal.loop-init
 loop-init g c = λ rest l. less_first c.args.class c.args.count _ rest l
 
 pub take_entity-requires-clause-class : goal.take_entity-requires-clause-class
-take_entity-requires-clause-class g c = let e = c.loop.invariant c.requires.0 c.requires.1 in less_class c.args.class c.args.count c.loop.counter _ c.requires.0 c.loop-test.true e
+take_entity-requires-clause-class g c = let e = c.loop.invariant c.requires.0 c.requires.1 in
+    less_class c.args.class c.args.count c.loop.counter _ c.requires.0 c.loop-test.true e
 
 pub take_entity-requires-clause-fits : goal.take_entity-requires-clause-fits
 take_entity-requires-clause-fits g c =
@@ -18,7 +19,9 @@ take_entity-requires-clause-fits g c =
 pub loop-preserved : goal.loop-preserved
 loop-preserved g c = λ rest l.
     let d = less_next c.args.class c.args.count c.loop.counter _ rest c.loop-test.true (c.loop.invariant rest l) in
-    subst (λ z. Less c.args.class (c.args.count - (c.loop.counter + 1)) z rest) (sym (c.take_entity.ensures d.0 d.1 d.2 d.3)) d.4
+    subst (λ z. Less c.args.class (c.args.count - (c.loop.counter + 1)) z rest)
+    (sym (c.take_entity.ensures d.0 d.1 d.2 d.3)) d.4
 
 pub returns : goal.returns
-returns g c = λ rest l. less_last c.args.class c.args.count c.loop.counter _ rest c.loop-test.false (c.loop.invariant rest l)
+returns g c = λ rest l. less_last c.args.class c.args.count c.loop.counter _ rest c.loop-test.false
+    (c.loop.invariant rest l)

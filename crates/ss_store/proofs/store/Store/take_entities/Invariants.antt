@@ -5,4 +5,5 @@ use Rattle.ss_store.proofs.store.Store.take_entities.Given as goal
 
 -- what is left at the end is what is left of those that are still to be taken off
 abbrev pub invariant-loop : goal.invariant-loop
-invariant-loop g l = (rest : StoreValue) → Less l.class l.count l.fn.self rest → Less l.class (l.count - l.counter) l.self rest
+invariant-loop g l = (rest : StoreValue) → Less l.class l.count l.fn.self rest
+    → Less l.class (l.count - l.counter) l.self rest

@@ -12,18 +12,33 @@ use Rattle.ss_store.proofs.Walked.{last_no_owner, last_is, last_below}
 use Rattle.ss_store.proofs.store.Store.walk_last.Goals as goal
 
 pub head_of-requires : goal.head_of-requires
-head_of-requires g c = head_small _ _ c.args.set c.index-shape.result.now c.named.result c.heads-heads.result (case_of _ _ c.args.set c.index-shape.result.now c.self.view_is c.self.invariant.2 c.requires c.index-shape.ensures) c.heads-heads.ensures.count c.heads-heads.type_inv
+head_of-requires g c = head_small _ _ c.args.set c.index-shape.result.now c.named.result c.heads-heads.result
+    (case_of _ _ c.args.set c.index-shape.result.now c.self.view_is c.self.invariant.2 c.requires c.index-shape.ensures)
+    c.heads-heads.ensures.count c.heads-heads.type_inv
 
 pub last-last-requires : goal.last-last-requires
-last-last-requires g c = let k = (case_of _ _ c.args.set c.index-shape.result.now c.self.view_is c.self.invariant.2 c.requires c.index-shape.ensures) in head_below _ c.index-shape.result.now c.named.result c.in-Some.head c.self.invariant.2 k.is_set (sym c.head_of.ensures ∙ c.in-Some.is)
+last-last-requires g c = let k = (case_of _ _ c.args.set c.index-shape.result.now c.self.view_is c.self.invariant.2
+    c.requires c.index-shape.ensures) in head_below _ c.index-shape.result.now c.named.result c.in-Some.head
+    c.self.invariant.2 k.is_set (sym c.head_of.ensures ∙ c.in-Some.is)
 
 pub number_if-requires : goal.number_if-requires
 number_if-requires g c x e =
-    let b = last_below _ _ c.args.set c.index-shape.result.now c.named.result c.in-Some.head c.last-last.result (case_of _ _ c.args.set c.index-shape.result.now c.self.view_is c.self.invariant.2 c.requires c.index-shape.ensures) (sym c.head_of.ensures ∙ c.in-Some.is) c.last-last.ensures.value x e in
+    let b = last_below _ _ c.args.set c.index-shape.result.now c.named.result c.in-Some.head c.last-last.result
+    (case_of _ _ c.args.set c.index-shape.result.now c.self.view_is c.self.invariant.2 c.requires
+    c.index-shape.ensures) (sym c.head_of.ensures ∙ c.in-Some.is) c.last-last.ensures.value x e in
     let is = ap (length {A = ℕ}) c.deref.ensures.value in omega (arith, b, is)
 
 pub returns-in-None : goal.returns-in-None
-returns-in-None g c = last_no_owner _ _ c.args.set c.index-shape.result.now c.named.result (case_of _ _ c.args.set c.index-shape.result.now c.self.view_is c.self.invariant.2 c.requires c.index-shape.ensures) (sym c.head_of.ensures ∙ c.in-None.is) ∙ ap (last_member (set_of c.args.self.now.tables c.args.set) c.args.self.now.state) (let fits : FitsSigned w64 c.args.owner = search rules in c.named.ensures ∙ ap number_of (to_z-of_z w64 _ fits))
+returns-in-None g c = last_no_owner _ _ c.args.set c.index-shape.result.now c.named.result
+    (case_of _ _ c.args.set c.index-shape.result.now c.self.view_is c.self.invariant.2 c.requires c.index-shape.ensures)
+    (sym c.head_of.ensures ∙ c.in-None.is) ∙ ap
+    (last_member (set_of c.args.self.now.tables c.args.set) c.args.self.now.state)
+    (let fits : FitsSigned w64 c.args.owner = search rules in c.named.ensures ∙ ap number_of (to_z-of_z w64 _ fits))
 
 pub returns-in-Some : goal.returns-in-Some
-returns-in-Some g c = last_is _ _ c.args.set c.index-shape.result.now c.named.result c.in-Some.head c.last-last.result c.number_if.result (case_of _ _ c.args.set c.index-shape.result.now c.self.view_is c.self.invariant.2 c.requires c.index-shape.ensures) (sym c.head_of.ensures ∙ c.in-Some.is) c.last-last.ensures.value (c.number_if.ensures ∙ ap (λ z. option_map (number_at z) c.last-last.result) c.deref.ensures.value) ∙ ap (last_member (set_of c.args.self.now.tables c.args.set) c.args.self.now.state) (let fits : FitsSigned w64 c.args.owner = search rules in c.named.ensures ∙ ap number_of (to_z-of_z w64 _ fits))
+returns-in-Some g c = last_is _ _ c.args.set c.index-shape.result.now c.named.result c.in-Some.head c.last-last.result
+    c.number_if.result (case_of _ _ c.args.set c.index-shape.result.now c.self.view_is c.self.invariant.2 c.requires
+    c.index-shape.ensures) (sym c.head_of.ensures ∙ c.in-Some.is) c.last-last.ensures.value (c.number_if.ensures
+    ∙ ap (λ z. option_map (number_at z) c.last-last.result) c.deref.ensures.value)
+    ∙ ap (last_member (set_of c.args.self.now.tables c.args.set) c.args.self.now.state)
+    (let fits : FitsSigned w64 c.args.owner = search rules in c.named.ensures ∙ ap number_of (to_z-of_z w64 _ fits))

@@ -1,0 +1,67 @@
+-- Where FILE puts a member, on every list, and which lists stay. Cited by laws alone.
+use Rattle.std.specs.Prelude.{◌≡◌, ℕ, Bool, true, false, List, [], ◌∷◌, ◌++◌, Some}
+use Rattle.ss_links.specs.Seats.{first_of, last_of}
+use Rattle.ss_check.specs.declared.kinds.Discipline.{Discipline}
+use Rattle.ss_check.specs.declared.kinds.Discipline.TheVariants.{Fifo, Lifo, Ranked}
+use Rattle.ss_check.specs.declared.kinds.Owner.{Owner}
+use Rattle.ss_check.specs.declared.kinds.Owner.TheVariants.{System, OwnedBy}
+use Rattle.ss_store.specs.declared.shape.SetShape.{SetShape}
+use Rattle.ss_store.specs.declared.shape.How.{How}
+use Rattle.ss_store.specs.declared.shape.How.TheVariants.{ByRule, First, Last, Before, After}
+use Rattle.ss_store.specs.Store.{Store, number_of, list_by, with_list_by}
+use Rattle.ss_store.specs.Filing.{ranks_behind, filed_in, names_member}
+
+-- no member of a list passes the test
+abbrev pub NonePasses : (ℕ → Bool) → List ℕ → Type 0
+NonePasses test [] = Unit {0}
+NonePasses test (k ∷ ks) = (test k ≡ false) × NonePasses test ks
+
+-- a list is empty, or its first member passes
+abbrev pub FirstPasses : (ℕ → Bool) → List ℕ → Type 0
+FirstPasses test [] = Unit {0}
+FirstPasses test (k ∷ ks) = test k ≡ true
+
+-- what a discipline says of those before k and of those behind it; ranked: none of the former ranks strictly behind k,
+-- and the first of the latter does
+abbrev pub IsRulePlace : Discipline → Store → ℕ → ℕ → List ℕ → List ℕ → Type 0
+IsRulePlace Fifo st c k front rest = rest ≡ []
+IsRulePlace Lifo st c k front rest = front ≡ []
+IsRulePlace (Ranked keys) st c k front rest =
+    NonePasses (ranks_behind keys st c k) front × FirstPasses (ranks_behind keys st c k) rest
+
+-- what FILE says of them
+abbrev pub IsPlace : SetShape → Store → How → ℕ → List ℕ → List ℕ → Type 0
+IsPlace s st ByRule k front rest = IsRulePlace s.discipline st s.member k front rest
+IsPlace s st First k front rest = front ≡ []
+IsPlace s st Last k front rest = rest ≡ []
+IsPlace s st (Before y) k front rest = first_of rest ≡ Some (number_of y)
+IsPlace s st (After y) k front rest = last_of front ≡ Some (number_of y)
+
+-- the member is filed between two parts of the list
+pub record IsBetween (s : SetShape) (st : Store) (how : How) (k : ℕ) (ks : List ℕ) : Type 0 where
+  -- those before it
+  pub front : List ℕ
+  -- those behind it
+  pub rest : List ℕ
+  -- they were the list
+  pub was : ks ≡ front ++ rest
+  -- it is between them
+  pub is : filed_in s st how k ks ≡ front ++ k ∷ rest
+  -- they are those that FILE says
+  pub place : IsPlace s st how k front rest
+
+-- each way of filing, on every list
+abbrev pub FiledBetween : Type 0
+FiledBetween = (s : SetShape) (st : Store) (how : How) (k : ℕ) (ks : List ℕ) → names_member how ks ≡ true
+    → IsBetween s st how k ks
+
+-- list number m of owner u is another than list number n of owner o
+abbrev pub IsOther : Owner → ℕ → ℕ → Owner → ℕ → ℕ → Type 0
+IsOther System n o System m u = n ≡ m → ⊥
+IsOther (OwnedBy c) n o (OwnedBy d) m u = c ≡ d → n ≡ m → o ≡ u → ⊥
+IsOther _ n o _ m u = Unit {0}
+
+-- where one list is changed, each other stays
+abbrev pub OtherListsStay : Type 0
+OtherListsStay = (w v : Owner) (n o m u : ℕ) (st : Store) (ks : List ℕ) → IsOther w n o v m u
+    → list_by v m (with_list_by w n st o ks) u ≡ list_by v m st u

@@ -1,0 +1,56 @@
+-- A well-formed store: what holds of its entities and lists after any calls.
+use Rattle.std.specs.Prelude.{◌≡◌, ◌<◌, ◌≤◌, ℕ, true, false, List, [], ◌∷◌, length, Option, Some, None}
+use Rattle.ss_links.specs.Board.{times}
+use Rattle.ss_store.specs.declared.shape.SetShape.{SetShape}
+use Rattle.ss_store.specs.Tables.{Tables, class_of}
+use Rattle.ss_store.specs.Held.{IsSet}
+use Rattle.ss_store.specs.Store.{Entity, Store, AreInRange, made_of, exists, lists_by, is_filed, class_limit}
+use Rattle.ss_store.specs.Store.{reference_limit}
+
+-- each item of a list is one of which this is said
+abbrev pub Each : {A : Type 0} → (A → Type 0) → List A → Type 0
+Each P [] = Unit {0}
+Each P (x ∷ xs) = P x × Each P xs
+
+-- an entity of class c
+pub record IsEntity (t : Tables) (c : ℕ) (e : Entity) : Type 0 where
+  -- it is of the class
+  pub class : e.class ≡ c
+  -- it has a value for each attribute of the class
+  pub attributes : length e.attributes ≡ (class_of t c).attributes
+  -- each value is in range
+  pub values : AreInRange e.attributes
+  -- it has a list for each set that the class owns
+  pub owned : length e.owned ≡ (class_of t c).owned
+
+-- what a reference stands for: nothing, or an entity of a class that is not permanent
+abbrev pub IsReference : Tables → Option Entity → Type 0
+IsReference t None = Unit {0}
+IsReference t (Some e) =
+    (e.class < length t.classes) × ((class_of t e.class).permanent ≡ false) × IsEntity t e.class e
+
+-- the members of a set
+pub record AreMembers (st : Store) (s : SetShape) : Type 0 where
+  -- each exists
+  pub exist : (k : ℕ) → is_filed s st k ≡ true → exists st s.member k ≡ true
+  -- each is in one list of the set, and there once
+  pub once : (k : ℕ) → times (lists_by s.owner s.list st) k ≤ 1
+
+-- what holds of a store of these tables
+pub record IsWellStore (t : Tables) (st : Store) : Type 0 where
+  -- each class has a numbering
+  pub classes : length st.made ≡ length t.classes
+  -- what is made of a class are entities of it
+  pub made : (c : ℕ) → Each (IsEntity t c) (made_of st c)
+  -- none is made of a class that is not permanent
+  pub permanent : (c : ℕ) → (class_of t c).permanent ≡ false → made_of st c ≡ []
+  -- of each no more than 10,000
+  pub few_made : (c : ℕ) → length (made_of st c) ≤ class_limit
+  -- what the references stand for
+  pub references : Each (IsReference t) st.references
+  -- no more than 1,000,000 were given
+  pub few_references : length st.references ≤ reference_limit
+  -- the system has a list for each of its sets
+  pub system : length st.system ≡ t.system
+  -- the members of each set
+  pub members : (s : SetShape) → IsSet t.sets s → AreMembers st s

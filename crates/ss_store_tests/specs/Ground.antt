@@ -1,0 +1,54 @@
+-- The tables of the tests' stores, and what a call leaves.
+use Rattle.std.specs.Prelude.{◌≡◌, ◌<◌, ℕ, ℤ, pos, true, false, List, [], ◌∷◌, length, Result, Ok, Err}
+use Rattle.ss_words.specs.declared.fault.RunFault.{RunFault}
+use Rattle.ss_words.specs.declared.fault.StepFault.{StepFault}
+use Rattle.ss_words.specs.declared.fault.StepFault.TheVariants.{Fault}
+use Rattle.ss_check.specs.declared.kinds.Discipline.{Discipline}
+use Rattle.ss_check.specs.declared.kinds.Owner.{Owner}
+use Rattle.ss_check.specs.declared.kinds.Owner.TheVariants.{System, OwnedBy}
+use Rattle.ss_store.specs.declared.change.StoreChange.{StoreChange}
+use Rattle.ss_store.specs.declared.shape.ClassShape.{ClassShape}
+use Rattle.ss_store.specs.declared.shape.SetShape.{SetShape}
+use Rattle.ss_store.specs.Tables.{Tables, class_of}
+use Rattle.ss_store.specs.Held.{StoreValue}
+use Rattle.ss_store.specs.Change.{FitsStore, unapply_store}
+
+-- machines, jobs and parts
+abbrev pub ground_classes : List ClassShape
+ground_classes = record { attributes = 2; owned = 1; joined = 1; permanent = true }
+    ∷ record { attributes = 2; owned = 2; joined = 4; permanent = false }
+    ∷ record { attributes = 1; owned = 1; joined = 1; permanent = false } ∷ []
+
+abbrev pub ground_set : Discipline → Owner → ℕ → ℕ → ℕ → SetShape
+ground_set d w n m k = record { discipline = d; owner = w; list = n; member = m; slot = k }
+
+-- the six sets, whatever their disciplines
+abbrev pub ground_sets : Discipline → Discipline → Discipline → Discipline → Discipline → Discipline → List SetShape
+ground_sets a b c d e f = ground_set a System 0 1 0 ∷ ground_set b (OwnedBy 0) 0 1 1 ∷ ground_set c (OwnedBy 1) 0 2 0
+    ∷ ground_set d (OwnedBy 2) 0 1 2 ∷ ground_set e System 1 0 0 ∷ ground_set f (OwnedBy 1) 1 1 3 ∷ []
+
+pub record AreGroundSets (sets : List SetShape) : Type 0 where
+  pub a : Discipline
+  pub b : Discipline
+  pub c : Discipline
+  pub d : Discipline
+  pub e : Discipline
+  pub f : Discipline
+  pub is : sets ≡ ground_sets a b c d e f
+
+-- three classes, of which the first is permanent, and six sets
+pub record IsGround (t : Tables) : Type 0 where
+  pub classes : length t.classes ≡ 3
+  pub sets : length t.sets ≡ 6
+  pub made : (class_of t 0).permanent ≡ true
+  pub given : (c : ℕ) → 0 < c → (class_of t c).permanent ≡ false
+
+-- the answer of a call that gives no number
+abbrev pub with_number : Result StoreChange RunFault → Result (ℤ × StoreChange) StepFault
+with_number (Ok c) = Ok (pos 0, c)
+with_number (Err f) = Err (Fault f)
+
+-- a call's change can be taken back, and one that is refused changes nothing
+abbrev pub IsMade : Result (ℤ × StoreChange) StepFault → StoreValue → StoreValue → Type 0
+IsMade (Ok r) old new = FitsStore r.1 new × (unapply_store r.1 new ≡ old)
+IsMade (Err e) old new = new ≡ old

@@ -1,0 +1,20 @@
+-- What follows from values that were got, and from tests.
+use Rattle.std.specs.Prelude.{Bool, true, false, Result, Ok, Err}
+use Rattle.ss_words.specs.declared.fault.RunFault.{RunFault}
+
+infixl 10 ◌>>=◌
+infixl 10 ◌>>◌
+-- what comes after a value that was got; a fault stays
+abbrev pub ◌>>=◌ : {A B : Type 0} → Result A RunFault → (A → Result B RunFault) → Result B RunFault
+Ok x >>= f = f x
+Err e >>= f = Err e
+
+-- what comes after a test that was passed; a fault stays
+abbrev pub ◌>>◌ : {A B : Type 0} → Result A RunFault → Result B RunFault → Result B RunFault
+Ok x >> r = r
+Err e >> r = Err e
+
+-- the fault, where the test is true
+abbrev pub refuse_if : Bool → RunFault → Result (Unit {0}) RunFault
+refuse_if true f = Err f
+refuse_if false f = Ok tt

@@ -1,0 +1,29 @@
+-- Private: what a view shows, and what is sound about a place for it.
+use Rattle.std.specs.Prelude.{length, map}
+use Rattle.ss_check.specs.ProgramSound.{Scope}
+use Rattle.ss_store.specs.Held.{StoreValue}
+use Rattle.ss_values.specs.declared.view.View.{View}
+use Rattle.ss_values.specs.Values.{Readings}
+
+-- what values are read of a view
+abbrev pub view_readings : {S : Type 0} → View S → Readings
+view_readings v = record {
+  tables = v.store.now.tables;
+  store = v.store.now.state;
+  variables = v.variables.now;
+  locals = v.locals.now;
+  clock = v.clock;
+}
+
+-- what a place may name, by the readings
+abbrev pub scope_of : Readings → Scope
+scope_of v = record {
+  globals = length v.variables;
+  locals = length v.locals;
+  permanent = map (λ c. c.permanent) v.tables.classes;
+  sets = length v.tables.sets;
+}
+
+-- what is said of as much as a view shows
+abbrev pub InView : {A S : Type 0} → View S → (Scope → A → Type 0) → A → Type 0
+InView v P x = P (scope_of (view_readings v)) x
