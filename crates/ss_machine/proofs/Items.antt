@@ -3,13 +3,15 @@ use Rattle.std.proofs.Common.{◌≡◌, ◌<◌, ◌≤◌, ◌+◌, ◌^◌, �
 use Rattle.std.specs.Prelude.{map, slice_get, nat_lt, nat_le, neg_ℤ, ◌&&◌, ◌==◌, if◌then◌else◌}
 use Rattle.std.proofs.lemmas.Bool.{lt-ltb, leb-true, and_parts}
 use Rattle.ss_words.specs.declared.fault.RunFault.{RunFault}
-use Rattle.ss_check.specs.declared.variable.Variable.{Variable}
+use Rattle.ss_check.specs.declared.target.Target.{Target}
 use Rattle.ss_data.specs.Numbers.{is_numeral, natural, non_negative, non_positive, number}
 use Rattle.ss_data.specs.Pieces.{pieces}
 use Rattle.ss_data.specs.Items.{Item, item, items, number_or_fault, value_or_fault}
-use Rattle.ss_machine.specs.Step.{values_taken}
+use Rattle.ss_words.specs.declared.fault.RunFault.TheVariants.{OutsideEntry}
+use Rattle.ss_data.specs.Entries.{kind_or_end}
+use Rattle.ss_machine.specs.Step.{is_mark, value_taken, values_taken}
 use Rattle.ss_machine.specs.Well.{AreInRange, AreItemsInRange, IsNoneOrInRange}
-use Rattle.ss_machine.proofs.Ranges.{Got, after_got, IsIn}
+use Rattle.ss_machine.proofs.Ranges.{Got, after_got, unless_refused, IsIn}
 
 -- ---- numbers that pieces write
 
@@ -30,7 +32,8 @@ non_positive_in digits = chosen (is_numeral digits && nat_le (natural digits) (2
   where
     chosen : (b : Bool) → (is_numeral digits && nat_le (natural digits) (2 ^ 63)) ≡ b →
         IsNoneOrInRange (if b then Some (neg_ℤ (pos (natural digits))) else None)
-    chosen true e = negated_in (natural digits) (leb-true _ _ (and_parts (is_numeral digits) (nat_le (natural digits) (2 ^ 63)) e).1)
+    chosen true e = negated_in (natural digits) (leb-true _ _
+        (and_parts (is_numeral digits) (nat_le (natural digits) (2 ^ 63)) e).1)
     chosen false e = tt
 
 number_in : (piece : List ℕ) → IsNoneOrInRange (number piece)
@@ -54,29 +57,39 @@ items_in text = pieces_in (pieces text)
 -- ---- values taken
 
 -- a value in range, from an item that is there
-abbrev IsThere : List Item → ℕ → ℤ → Type 0
+abbrev pub IsThere : List Item → ℕ → ℤ → Type 0
 IsThere xs i x = IsIn x × (i < length xs)
 
-first_there : (o : Option ℤ) (xs : List Item) → IsNoneOrInRange o → 0 < length xs → Got (IsThere xs 0) (number_or_fault o)
+first_there : (o : Option ℤ) (xs : List Item) → IsNoneOrInRange o → 0 < length xs →
+    Got (IsThere xs 0) (number_or_fault o)
 first_there None xs h l = tt
 first_there (Some x) xs h l = (h, l)
 
-later_there : (y : Item) (xs : List Item) (i : ℕ) (r : Result ℤ RunFault) → Got (IsThere xs i) r → Got (IsThere (y ∷ xs) (suc i)) r
+later_there : (y : Item) (xs : List Item) (i : ℕ) (r : Result ℤ RunFault) → Got (IsThere xs i) r →
+    Got (IsThere (y ∷ xs) (suc i)) r
 later_there y xs i (Ok x) h = (h.0, omega (arith, h.1))
 later_there y xs i (Err e) h = tt
 
-item_there : (xs : List Item) (i : ℕ) → AreItemsInRange xs → Got (IsThere xs i) (value_or_fault (slice_get xs i))
+pub item_there : (xs : List Item) (i : ℕ) → AreItemsInRange xs → Got (IsThere xs i) (value_or_fault (slice_get xs i))
 item_there [] i h = tt
 item_there (x ∷ xs) zero h = first_there x.value (x ∷ xs) h.0 (omega arith)
 item_there (x ∷ xs) (suc i) h = later_there x xs i (value_or_fault (slice_get xs i)) (item_there xs i h.1)
 
 -- values in range, from items that are there
-abbrev pub AreThere : List Item → ℕ → List Variable → List ℤ → Type 0
+abbrev pub AreThere : List Item → ℕ → List Target → List ℤ → Type 0
 AreThere xs i ts vs = AreInRange vs × (i + length ts ≤ length xs)
 
-pub taken_there : (xs : List Item) (i : ℕ) (ts : List Variable) → AreItemsInRange xs → i ≤ length xs → Got (AreThere xs i ts) (values_taken xs i ts)
-taken_there xs i [] h l = (tt, omega (arith, l))
-taken_there xs i (t ∷ ts) h l =
-    after_got (IsThere xs i) (AreThere xs i (t ∷ ts)) (value_or_fault (slice_get xs i)) _ (item_there xs i h) (λ v a.
-    after_got (AreThere xs (i + 1) ts) (AreThere xs i (t ∷ ts)) (values_taken xs (i + 1) ts) _ (taken_there xs (i + 1) ts h (omega (arith, a.1)))
-    (λ vs b. ((a.0, b.0), omega (arith, b.1))))
+value_there : (external : Bool) (xs : List Item) (i : ℕ) → AreItemsInRange xs →
+    Got (IsThere xs i) (value_taken external (slice_get xs i))
+value_there external xs i h =
+    unless_refused (IsThere xs i) (external && is_mark (kind_or_end (slice_get xs i))) OutsideEntry
+    (value_or_fault (slice_get xs i)) (item_there xs i h)
+
+pub taken_there : (external : Bool) (xs : List Item) (i : ℕ) (ts : List Target) → AreItemsInRange xs → i ≤ length xs →
+    Got (AreThere xs i ts) (values_taken external xs i ts)
+taken_there external xs i [] h l = (tt, omega (arith, l))
+taken_there external xs i (t ∷ ts) h l =
+    after_got (IsThere xs i) (AreThere xs i (t ∷ ts)) (value_taken external (slice_get xs i)) _
+    (value_there external xs i h) (λ v a.
+    after_got (AreThere xs (i + 1) ts) (AreThere xs i (t ∷ ts)) (values_taken external xs (i + 1) ts) _
+    (taken_there external xs (i + 1) ts h (omega (arith, a.1))) (λ vs b. ((a.0, b.0), omega (arith, b.1))))

@@ -1,5 +1,5 @@
 -- a step keeps the open loops of each frame those of the phrases around its place
-use Rattle.std.proofs.Common.{◌≡◌, ◌≢◌, ◌<◌, ◌≤◌, ◌+◌, ℕ, ℤ, zero, suc, List, [], ◌∷◌, drop, Bool, true, false, nat_eq, Option, Some, None, Result, Ok, Err, refl, sym, ap, subst, ◌∙◌, arith}
+use Rattle.std.proofs.Common.{◌≡◌, ◌≢◌, ◌≤◌, ◌+◌, ℕ, ℤ, zero, suc, List, [], ◌∷◌, drop, Bool, true, false, nat_eq, Option, Some, None, Result, Ok, Err, refl, sym, ap, subst, ◌∙◌, arith}
 use Rattle.std.proofs.Math.Logic.{◌⊎◌, inl, inr}
 use Rattle.std.proofs.lemmas.Bool.{eqb-true, eq-eqb, or_cases, and_parts}
 use Rattle.std.proofs.lemmas.Slice.Eq.{bytes_eq-Decides}
@@ -12,34 +12,43 @@ use Rattle.ss_check.specs.declared.branch.Branch.TheVariants.{If, Else, Always}
 use Rattle.ss_check.specs.declared.looping.Direction.{Direction}
 use Rattle.ss_check.specs.declared.looping.Direction.TheVariants.{Onward}
 use Rattle.ss_check.specs.declared.looping.Phrase.{Phrase}
-use Rattle.ss_check.specs.declared.looping.Phrase.TheVariants.{Counting, Each}
+use Rattle.ss_check.specs.declared.looping.Phrase.TheVariants.{Counting, Each, Walking}
 use Rattle.ss_check.specs.declared.looping.ForPhrase.{ForPhrase}
 use Rattle.ss_check.specs.declared.looping.Telling.{Telling}
 use Rattle.ss_check.specs.declared.looping.Looping.TheVariants.{For, Loop, Find, Gather, Tell}
 use Rattle.ss_check.specs.declared.place.Output.TheVariants.{Print, Skip}
 use Rattle.ss_check.specs.declared.place.Control.TheVariants.{Stop, Return, End}
 use Rattle.ss_check.specs.declared.place.Place.{Place}
-use Rattle.ss_check.specs.declared.place.Place.TheVariants.{Assign, Output, Control, Branch, Looping, Call, Read}
+use Rattle.ss_check.specs.declared.place.Place.TheVariants.{Assign, Making, Filing, Output, Control, Branch, Looping, Call, Timing, Read}
 use Rattle.ss_check.specs.declared.place.Spot.{Spot}
+use Rattle.ss_check.specs.declared.timing.Timing.TheVariants.{Schedule, Cancel, Start}
 use Rattle.ss_check.specs.declared.ways.Resets.{Resets}
 use Rattle.ss_check.specs.declared.ways.Resets.TheVariants as resets
 use Rattle.ss_check.specs.declared.ways.Ways.{Ways}
 use Rattle.ss_check.specs.declared.kinds.SectionKind.{SectionKind}
 use Rattle.ss_check.specs.declared.kinds.SectionKind.TheVariants as kinds
-use Rattle.ss_check.specs.Match.{is_at, passes, ways_of}
+use Rattle.ss_check.specs.Match.{is_at, passes}
 use Rattle.ss_check.specs.Nesting.{is_phrase, is_around, phrases_before, phrases_around, may_be_open, is_nested}
-use Rattle.ss_check.specs.Program.{ProgramTable, places_of, section_of, spot_at}
+use Rattle.ss_check.specs.Program.{ProgramTable, has_external, places_of, section_of, spot_at}
 use Rattle.ss_check.specs.ProgramSound.{IsSound}
 use Rattle.ss_machine.specs.declared.statistics.Statistics.{Statistics}
 use Rattle.ss_machine.specs.declared.loops.OpenLoop.{OpenLoop}
 use Rattle.ss_machine.specs.declared.loops.Walk.TheVariants.{Numbers}
 use Rattle.ss_machine.specs.declared.verdict.Verdict.{Verdict}
 use Rattle.ss_machine.specs.declared.verdict.Verdict.TheVariants.{Runs, Passes, Closes}
-use Rattle.ss_machine.specs.State.{State, FrameState, new_frame}
-use Rattle.ss_machine.specs.Faults.{◌>>=◌, ◌>>◌, refuse_if}
-use Rattle.ss_machine.specs.Values.{Readings, readings, variable_value, value_of, values_of}
-use Rattle.ss_machine.specs.Loops.{innermost, loop_of_phrase, loops_with_candidate, next_candidate, candidate_within, loop_variable, number_loop, loop_at_entry, step_value}
-use Rattle.ss_machine.specs.Step.{state_after_result, state_at_place, state_after_assignment, state_after_assignments, state_after_telling, state_with_loops, state_with_taken, state_with_statistics, state_after_reset, state_after_closing, state_with_candidate, state_after_verdict, state_after_turn, state_after_phrase, state_behind_call, state_behind_place, state_after_return, state_after_event, state_after_section, room_for_frame, statistic_value, target_of, ways_here, step, step_at, step_by}
+use Rattle.std.specs.List.{range_with_len}
+use Rattle.ss_words.specs.declared.fault.RunFault.TheVariants.{OutsideEntry, TimeBeforeClock}
+use Rattle.ss_store.specs.Tables.{Tables, tables_of, class_of}
+use Rattle.ss_store.specs.Store.{Store, last_reference, with_new}
+use Rattle.ss_events.specs.Rules.{rules_of}
+use Rattle.ss_events.specs.Agenda.{Pending, least}
+use Rattle.ss_machine.proofs.Rests.{LeavesRest, assigned_rest, assign_rest, making_rest, filing_rest, telling_rest, values_rest, scheduling_rest, schedule_rest, cancel_rest}
+use Rattle.ss_machine.specs.State.{State, FrameState, new_frame, is_waiting}
+use Rattle.ss_values.specs.Faults.{◌>>=◌, ◌>>◌, refuse_if}
+use Rattle.ss_values.specs.Values.{Readings, variable_value, value_of, values_of, subscript_value, counted}
+use Rattle.ss_machine.specs.Readings.{readings}
+use Rattle.ss_machine.specs.Loops.{innermost, loop_of_phrase, loops_with_candidate, next_candidate, candidate_within, candidate_at_begin, loop_variable, number_loop, loop_at_entry, step_value, verdict_of}
+use Rattle.ss_machine.specs.Step.{state_after_result, state_at_place, state_with_loops, state_with_taken, state_with_statistics, state_after_reset, state_after_closing, state_with_candidate, candidate_tried, state_after_verdict, state_after_turn, state_after_phrase, state_with_values, values_taken, room_for_frame, state_behind_call, state_behind_place, state_after_return, state_after_event, state_after_section, ways_here, step, step_by, step_at, attributes_now, event_section, store_at_start, state_after_start, step_simulation, state_with_store, state_after_scheduling, arrival_asked, state_after_load, loads}
 use Rattle.ss_machine.specs.Well.{phrases_of, HasItsLoops, HaveTheirLoops}
 use Rattle.ss_machine.proofs.Ranges.{Got, after_got, anything}
 use Rattle.ss_machine.proofs.Sounds.{spot_nested}
@@ -81,18 +90,21 @@ around_first ps i = earlier_first ps i i i (omega arith)
 abbrev Enters : List Spot → List ℕ → ℕ → Type 0
 Enters ps js n = (js ≡ phrases_around ps n) ⊎ ((is_at ps is_phrase n ≡ true) × (js ≡ n ∷ phrases_around ps n))
 
-second : (ps : List Spot) (js : List ℕ) (n : ℕ) → (is_at ps is_phrase n && bytes_eq js (n ∷ phrases_around ps n)) ≡ true → Enters ps js n
+second : (ps : List Spot) (js : List ℕ) (n : ℕ) →
+    (is_at ps is_phrase n && bytes_eq js (n ∷ phrases_around ps n)) ≡ true → Enters ps js n
 second ps js n h =
     let parts = and_parts (is_at ps is_phrase n) (bytes_eq js (n ∷ phrases_around ps n)) h in
     inr (parts.0, (bytes_eq-Decides js (n ∷ phrases_around ps n)).0 parts.1)
 
 either_case : (ps : List Spot) (js : List ℕ) (n : ℕ) →
-    (bytes_eq js (phrases_around ps n) ≡ true) ⊎ ((is_at ps is_phrase n && bytes_eq js (n ∷ phrases_around ps n)) ≡ true) → Enters ps js n
+    (bytes_eq js (phrases_around ps n) ≡ true) ⊎ ((is_at ps is_phrase n && bytes_eq js (n ∷ phrases_around ps n)) ≡
+    true) → Enters ps js n
 either_case ps js n (inl e) = inl ((bytes_eq-Decides js (phrases_around ps n)).0 e)
 either_case ps js n (inr h) = second ps js n h
 
 enters : (ps : List Spot) (js : List ℕ) (n : ℕ) → may_be_open ps js n ≡ true → Enters ps js n
-enters ps js n h = either_case ps js n (or_cases (bytes_eq js (phrases_around ps n)) (is_at ps is_phrase n && bytes_eq js (n ∷ phrases_around ps n)) h)
+enters ps js n h = either_case ps js n (or_cases (bytes_eq js (phrases_around ps n))
+    (is_at ps is_phrase n && bytes_eq js (n ∷ phrases_around ps n)) h)
 
 or_second : (b c d : Bool) → c ≡ true → d ≡ true → (b || (c && d)) ≡ true
 or_second true c d e f = refl
@@ -100,7 +112,9 @@ or_second false c d e f = rw (e, f) refl
 
 opens : (ps : List Spot) (js : List ℕ) (n : ℕ) → Enters ps js n → may_be_open ps js n ≡ true
 opens ps js n (inl e) = rw ((bytes_eq-Decides js (phrases_around ps n)).1 e) refl
-opens ps js n (inr h) = or_second (bytes_eq js (phrases_around ps n)) (is_at ps is_phrase n) (bytes_eq js (n ∷ phrases_around ps n)) h.0 ((bytes_eq-Decides js (n ∷ phrases_around ps n)).1 h.1)
+opens ps js n (inr h) =
+    or_second (bytes_eq js (phrases_around ps n)) (is_at ps is_phrase n) (bytes_eq js (n ∷ phrases_around ps n)) h.0
+    ((bytes_eq-Decides js (n ∷ phrases_around ps n)).1 h.1)
 
 -- at a place that is no phrase the loops are those around it
 kept : (ps : List Spot) (js : List ℕ) (i : ℕ) → Enters ps js i → is_at ps is_phrase i ≡ false → js ≡ phrases_around ps i
@@ -117,35 +131,27 @@ module _ (p : ProgramTable) where
 
   -- an assignment touches none of these
   abbrev Like : State → State → Type 0
-  Like s t = (t.frame.section ≡ s.frame.section) × (t.frame.loops ≡ s.frame.loops) × (t.below ≡ s.below) × (t.frame.place ≡ s.frame.place)
+  Like s t = (t.frame.section ≡ s.frame.section) × (t.frame.loops ≡ s.frame.loops) × (t.below ≡ s.below)
+      × (t.frame.place ≡ s.frame.place)
 
-  like_assigned : (s : State) (v : Variable) (x : ℤ) → Like s (state_after_assignment s v x)
-  like_assigned s (Global i) x = (refl, refl, refl, refl)
-  like_assigned s (Local i) x = (refl, refl, refl, refl)
-  like_assigned s Clock x = (refl, refl, refl, refl)
+  like : (s t : State) → LeavesRest s t → Like s t
+  like s t h = (h.section, h.loops, h.below, h.place)
 
-  like_then : (s t u : State) → Like s t → Like t u → Like s u
-  like_then s t u h k = (k.0 ∙ h.0, k.1 ∙ h.1, k.2 ∙ h.2, k.3 ∙ h.3)
-
-  like_telling : (g : Statistics) (s : State) (ts : List Telling) → Like s (state_after_telling g s ts)
-  like_telling g s [] = (refl, refl, refl, refl)
-  like_telling g s (t ∷ ts) =
-      let u = state_after_assignment s t.target (statistic_value g t.statistic) in
-      like_then s u (state_after_telling g u ts) (like_assigned s t.target (statistic_value g t.statistic)) (like_telling g u ts)
-
-  like_assignments : (vs : List ℤ) (s : State) (k : ℕ) (xs : List Variable) → Like s (state_after_assignments vs s k xs)
-  like_assignments vs s k [] = (refl, refl, refl, refl)
-  like_assignments vs s k (x ∷ xs) =
-      let u = state_after_assignment s x (slice_index_or vs k (pos 0)) in
-      like_then s u (state_after_assignments vs u (k + 1) xs) (like_assigned s x (slice_index_or vs k (pos 0))) (like_assignments vs u (k + 1) xs)
-
-  settled_nested : {A : Type 0} (s : State) (r : Result A RunFault) (f : A → State) → AreNested s → ((x : A) → AreNested (f x)) →
+  settled_nested : {A : Type 0} (s : State) (r : Result A RunFault) (f : A → State) → AreNested s →
+      ((x : A) → AreNested (f x)) →
       AreNested (state_after_result s r f)
   settled_nested s (Ok x) f h k = k x
   settled_nested s (Err e) f h k = h
 
+  got_nested : {A : Type 0} (P : A → Type 0) (s : State) (r : Result A RunFault) (f : A → State) → Got P r →
+      AreNested s →
+      ((x : A) → P x → AreNested (f x)) → AreNested (state_after_result s r f)
+  got_nested P s (Ok x) f g h k = k x g
+  got_nested P s (Err e) f g h k = h
+
   -- a state with the section and the frames below of another one and these loops, at place n
-  went : (s t : State) (js : List ℕ) (n : ℕ) → t.frame.section ≡ s.frame.section → phrases_of t.frame.loops ≡ js → t.below ≡ s.below →
+  went : (s t : State) (js : List ℕ) (n : ℕ) → t.frame.section ≡ s.frame.section → phrases_of t.frame.loops ≡ js →
+      t.below ≡ s.below →
       may_be_open (Places s.frame.section) js n ≡ true → HaveTheirLoops p s.below → AreNested (state_at_place n t)
   went s t js n a b c h k = (
     subst (λ (x : ℕ). may_be_open (Places x) (phrases_of t.frame.loops) n ≡ true) (sym a)
@@ -165,14 +171,16 @@ module _ (p : ProgramTable) where
   around_here s h f = kept (Places s.frame.section) _ s.frame.place (enters _ _ _ h) f
 
   -- from a place that is no phrase, on with all loops as they are
-  on : (s t : State) (n : ℕ) → Like s t → IsAtPhrase s false → may_be_open (Places s.frame.section) (Around s) n ≡ true → AreNested s →
+  on : (s t : State) (n : ℕ) → Like s t → IsAtPhrase s false →
+      may_be_open (Places s.frame.section) (Around s) n ≡ true → AreNested s →
       AreNested (state_at_place n t)
   on s t n l f e h = went s t (Around s) n l.0 (ap phrases_of l.1 ∙ around_here s h.0 f) l.2 e h.1
 
   -- ---- a phrase
 
   -- with no loop of it on top the loops are those around it
-  entry : (s i : ℕ) (ls : List OpenLoop) → loop_of_phrase i (innermost ls) ≡ None → Enters (Places s) (phrases_of ls) i →
+  entry : (s i : ℕ) (ls : List OpenLoop) → loop_of_phrase i (innermost ls) ≡ None →
+      Enters (Places s) (phrases_of ls) i →
       phrases_of ls ≡ phrases_around (Places s) i
   entry s i ls n (inl e) = e
   entry s i [] n (inr h) = absurd (none (h.1))
@@ -192,11 +200,13 @@ module _ (p : ProgramTable) where
       found false e m = cc
 
   -- with its loop on top they are that loop and those around it
-  turn : (s i : ℕ) (ls : List OpenLoop) (l : OpenLoop) → loop_of_phrase i (innermost ls) ≡ Some l → IsNotFirst i (phrases_around (Places s) i) →
+  turn : (s i : ℕ) (ls : List OpenLoop) (l : OpenLoop) → loop_of_phrase i (innermost ls) ≡ Some l →
+      IsNotFirst i (phrases_around (Places s) i) →
       Enters (Places s) (phrases_of ls) i → phrases_of ls ≡ i ∷ phrases_around (Places s) i
   turn s i ls l n f (inr h) = h.1
   turn s i [] l n f (inl e) = cc
-  turn s i (m ∷ ls) l n f (inl e) = absurd (not_first (phrases_around (Places s) i) f e (top (nat_eq m.phrase i) refl n))
+  turn s i (m ∷ ls) l n f (inl e) =
+      absurd (not_first (phrases_around (Places s) i) f e (top (nat_eq m.phrase i) refl n))
     where
       top : (b : Bool) → nat_eq m.phrase i ≡ b → (if b then Some m else None) ≡ Some l → m.phrase ≡ i
       top true h k = eqb-true _ _ h
@@ -210,11 +220,16 @@ module _ (p : ProgramTable) where
   abbrev IsOf : ℕ → OpenLoop → Type 0
   IsOf place l = l.phrase ≡ place
 
-  number_loop_of : (place : ℕ) (d : Direction) (first last by : ℤ) → Got (IsOf place) (number_loop place d first last by)
+  number_loop_of : (place : ℕ) (d : Direction) (first last by : ℤ) →
+      Got (IsOf place) (number_loop place d first last by)
   number_loop_of place d first last by = chosen (int_lt by (pos 1))
     where
       chosen : (b : Bool) → Got (IsOf place)
-          (refuse_if b StepBelowOne >> Ok (record { phrase = place; candidate = candidate_within d last first; walk = Numbers d last by }))
+          (refuse_if b StepBelowOne >> Ok (record {
+            phrase = place;
+            candidate = candidate_within d last first;
+            walk = Numbers d last by;
+          }))
       chosen true = tt
       chosen false = refl
 
@@ -222,28 +237,44 @@ module _ (p : ProgramTable) where
   entry_of v place (Counting d x first last by) =
       after_got (λ (_ : ℤ). Unit {0}) (IsOf place) (value_of v first) _ (anything _) (λ a _.
       after_got (λ (_ : ℤ). Unit {0}) (IsOf place) (value_of v last) _ (anything _) (λ b _.
-      after_got (λ (_ : ℤ). Unit {0}) (IsOf place) (step_value v by) _ (anything _) (λ c _. number_loop_of place d a b c)))
-  entry_of v place (Each class is_called x count) = number_loop_of place Onward (pos 1) (variable_value v (Global count)) (pos 1)
+      after_got (λ (_ : ℤ). Unit {0}) (IsOf place) (step_value v by) _ (anything _)
+      (λ c _. number_loop_of place d a b c)))
+  entry_of v place (Each class is_called x count) =
+      number_loop_of place Onward (pos 1) (variable_value v (Global count)) (pos 1)
+  entry_of v place (Walking d x r begin) =
+      after_got (λ (_ : ℤ). Unit {0}) (IsOf place) (subscript_value v r.owner) _ (anything _) (λ o _.
+      after_got (λ (_ : Option ℤ). Unit {0}) (IsOf place) (candidate_at_begin v d r.set o begin) _ (anything _)
+      (λ c _. refl))
 
   opened_loops : (x y : ℕ) (xs ys : List ℕ) → x ≡ y → xs ≡ ys → x ∷ xs ≡ y ∷ ys
   opened_loops x y xs ys e f = λ i. e i ∷ f i
 
-  opened_nested : (s : State) (r : Result OpenLoop RunFault) (w : Resets) → Got (IsOf s.frame.place) r → IsAtPhrase s true →
-      phrases_of s.frame.loops ≡ Around s → AreNested s → AreNested (state_after_result s r (λ l. state_after_reset (state_with_loops s (l ∷ s.frame.loops)) w))
+  opened_nested : (s : State) (r : Result OpenLoop RunFault) (w : Resets) → Got (IsOf s.frame.place) r →
+      IsAtPhrase s true →
+      phrases_of s.frame.loops ≡ Around s → AreNested s →
+      AreNested (state_after_result s r (λ l. state_after_reset (state_with_loops s (l ∷ s.frame.loops)) w))
   opened_nested s (Err e) w g t k h = h
-  opened_nested s (Ok l) resets.Nothing g t k h = (opens _ _ _ (inr (t, opened_loops l.phrase s.frame.place _ _ g k)), h.1)
-  opened_nested s (Ok l) resets.Found g t k h = (opens _ _ _ (inr (t, opened_loops l.phrase s.frame.place _ _ g k)), h.1)
-  opened_nested s (Ok l) resets.Statistics g t k h = (opens _ _ _ (inr (t, opened_loops l.phrase s.frame.place _ _ g k)), h.1)
+  opened_nested s (Ok l) resets.Nothing g t k h =
+      (opens _ _ _ (inr (t, opened_loops l.phrase s.frame.place _ _ g k)), h.1)
+  opened_nested s (Ok l) resets.Found g t k h =
+      (opens _ _ _ (inr (t, opened_loops l.phrase s.frame.place _ _ g k)), h.1)
+  opened_nested s (Ok l) resets.Statistics g t k h =
+      (opens _ _ _ (inr (t, opened_loops l.phrase s.frame.place _ _ g k)), h.1)
 
   -- the innermost loop closes
-  closed_nested : (s t : State) (n : ℕ) → t.frame.section ≡ s.frame.section → phrases_of t.frame.loops ≡ s.frame.place ∷ Around s → t.below ≡ s.below →
-      may_be_open (Places s.frame.section) (Around s) n ≡ true → HaveTheirLoops p s.below → AreNested (state_after_closing n t)
+  closed_nested : (s t : State) (n : ℕ) → t.frame.section ≡ s.frame.section →
+      phrases_of t.frame.loops ≡ s.frame.place ∷ Around s → t.below ≡ s.below →
+      may_be_open (Places s.frame.section) (Around s) n ≡ true → HaveTheirLoops p s.below →
+      AreNested (state_after_closing n t)
   closed_nested s t n a b c h k =
-      went s (state_with_loops t (drop 1 t.frame.loops)) (Around s) n a (phrases_drop 1 t.frame.loops ∙ ap (λ (ls : List ℕ). drop 1 ls) b) c h k
+      went s (state_with_loops t (drop 1 t.frame.loops)) (Around s) n a
+      (phrases_drop 1 t.frame.loops ∙ ap (λ (ls : List ℕ). drop 1 ls) b) c h k
 
-  verdict_nested : (s t : State) (w : Ways) (v : Verdict) → t.frame.section ≡ s.frame.section → phrases_of t.frame.loops ≡ phrases_of s.frame.loops →
+  verdict_nested : (s t : State) (w : Ways) (v : Verdict) → t.frame.section ≡ s.frame.section →
+      phrases_of t.frame.loops ≡ phrases_of s.frame.loops →
       t.below ≡ s.below → t.frame.place ≡ s.frame.place → phrases_of s.frame.loops ≡ s.frame.place ∷ Around s →
-      may_be_open (Places s.frame.section) (s.frame.place ∷ Around s) w.next ≡ true → may_be_open (Places s.frame.section) (Around s) w.exit ≡ true →
+      may_be_open (Places s.frame.section) (s.frame.place ∷ Around s) w.next ≡ true →
+      may_be_open (Places s.frame.section) (Around s) w.exit ≡ true →
       AreNested s → AreNested (state_after_verdict w t v)
   verdict_nested s t w Runs a b c d e n x k = went s t (s.frame.place ∷ Around s) w.next a (b ∙ e) c n k.1
   verdict_nested s t w Passes a b c d e n x k = (
@@ -254,24 +285,44 @@ module _ (p : ProgramTable) where
   )
   verdict_nested s t w Closes a b c d e n x k = closed_nested s t w.exit a (b ∙ e) c x k.1
 
-  turn_nested : (s : State) (w : Ways) (f : ForPhrase) (l : OpenLoop) (c : Option ℤ) → phrases_of s.frame.loops ≡ s.frame.place ∷ Around s →
-      may_be_open (Places s.frame.section) (s.frame.place ∷ Around s) w.next ≡ true → may_be_open (Places s.frame.section) (Around s) w.exit ≡ true →
-      AreNested s → AreNested (state_after_turn s w f l c)
-  turn_nested s w f l None e n x k = closed_nested s s w.exit refl e refl x k.1
-  turn_nested s w f l (Some z) e n x k =
-      let a = like_assigned (state_with_loops s (loops_with_candidate (next_candidate l.walk z) s.frame.loops)) (loop_variable f.phrase) z in
-      settled_nested s _ _ k (λ v. verdict_nested s (state_with_candidate s f l z) w v a.0
-      (ap phrases_of a.1 ∙ phrases_moved (next_candidate l.walk z) s.frame.loops) a.2 a.3 e n x k)
+  -- a state with a candidate tried
+  abbrev IsTried : State → (State × Verdict) → Type 0
+  IsTried s r =
+      (r.0.frame.section ≡ s.frame.section) × (phrases_of r.0.frame.loops ≡ phrases_of s.frame.loops)
+      × (r.0.below ≡ s.below)
+      × (r.0.frame.place ≡ s.frame.place)
 
-  phrase_nested : (s : State) (w : Ways) (f : ForPhrase) (o : Option OpenLoop) → loop_of_phrase s.frame.place (innermost s.frame.loops) ≡ o →
+  tried : (t : Tables) (s : State) (f : ForPhrase) (l : OpenLoop) (z : ℤ) → Got (IsTried s) (candidate_tried t s f l z)
+  tried t s f l z =
+      after_got (λ (_ : Option ℤ). Unit {0}) (IsTried s) (next_candidate (readings t s) l.walk z) _ (anything _) (λ c _.
+      after_got (λ (_ : Verdict). Unit {0}) (IsTried s) (verdict_of (readings t (state_with_candidate s f c z))
+      f.qualifiers)
+      (λ v. Ok (state_with_candidate s f c z, v)) (anything _) (λ v _.
+      let a = assigned_rest (state_with_loops s (loops_with_candidate c s.frame.loops)) (loop_variable f.phrase) z in
+      (a.section, ap phrases_of a.loops ∙ phrases_moved c s.frame.loops, a.below, a.place)))
+
+  turn_nested : (t : Tables) (s : State) (w : Ways) (f : ForPhrase) (l : OpenLoop) (c : Option ℤ) →
+      phrases_of s.frame.loops ≡ s.frame.place ∷ Around s →
+      may_be_open (Places s.frame.section) (s.frame.place ∷ Around s) w.next ≡ true →
+      may_be_open (Places s.frame.section) (Around s) w.exit ≡ true →
+      AreNested s → AreNested (state_after_turn t s w f l c)
+  turn_nested t s w f l None e n x k = closed_nested s s w.exit refl e refl x k.1
+  turn_nested t s w f l (Some z) e n x k =
+      got_nested (IsTried s) s (candidate_tried t s f l z) _ (tried t s f l z) k
+      (λ r a. verdict_nested s r.0 w r.1 a.0 a.1 a.2 a.3 e n x k)
+
+  phrase_nested : (t : Tables) (s : State) (w : Ways) (f : ForPhrase) (o : Option OpenLoop) →
+      loop_of_phrase s.frame.place (innermost s.frame.loops) ≡ o →
       IsAtPhrase s true → may_be_open (Places s.frame.section) (s.frame.place ∷ Around s) w.next ≡ true →
-      may_be_open (Places s.frame.section) (Around s) w.exit ≡ true → AreNested s → AreNested (state_after_phrase s w f o)
-  phrase_nested s w f None e t n x h =
-      opened_nested s _ w.resets (entry_of (readings s) s.frame.place f.phrase) t
+      may_be_open (Places s.frame.section) (Around s) w.exit ≡ true → AreNested s →
+      AreNested (state_after_phrase t s w f o)
+  phrase_nested t s w f None e a n x h =
+      opened_nested s _ w.resets (entry_of (readings t s) s.frame.place f.phrase) a
       (entry s.frame.section s.frame.place s.frame.loops e (enters _ _ _ h.0)) h
-  phrase_nested s w f (Some l) e t n x h =
-      turn_nested s w f l l.candidate
-      (turn s.frame.section s.frame.place s.frame.loops l e (around_first (Places s.frame.section) s.frame.place) (enters _ _ _ h.0)) n x h
+  phrase_nested t s w f (Some l) e a n x h =
+      turn_nested t s w f l l.candidate
+      (turn s.frame.section s.frame.place s.frame.loops l e (around_first (Places s.frame.section) s.frame.place)
+      (enters _ _ _ h.0)) n x h
 
   -- ---- the other places
 
@@ -279,43 +330,103 @@ module _ (p : ProgramTable) where
   abbrev IsNestedHere : State → Ways → Place → Type 0
   IsNestedHere s w x = is_nested (Places s.frame.section) s.frame.place w x ≡ true
 
-  behind_call_nested : (s : State) (vs : List ℤ) (k : ℕ) (w : Ways) (x : Place) → IsAtPhrase s (is_phrase x) → IsNestedHere s w x → AreNested s →
-      AreNested (state_behind_call vs k w.next s x)
-  behind_call_nested s vs k w (Assign a) f n h = h
-  behind_call_nested s vs k w (Output o) f n h = h
-  behind_call_nested s vs k w (Control c) f n h = h
-  behind_call_nested s vs k w (Branch b) f n h = h
-  behind_call_nested s vs k w (Looping l) f n h = h
-  behind_call_nested s vs k w (Call c) f n h = on s (state_after_assignments vs s k c.targets) w.next (like_assignments vs s k c.targets) f n h
-  behind_call_nested s vs k w (Read ts) f n h = h
+  behind_call_nested : (t : Tables) (s : State) (vs : List ℤ) (k : ℕ) (w : Ways) (x : Place) →
+      IsAtPhrase s (is_phrase x) → IsNestedHere s w x →
+      AreNested s → Got AreNested (state_behind_call t vs k w.next s x)
+  behind_call_nested t s vs k w (Assign a) f n h = h
+  behind_call_nested t s vs k w (Making m) f n h = h
+  behind_call_nested t s vs k w (Filing g) f n h = h
+  behind_call_nested t s vs k w (Output o) f n h = h
+  behind_call_nested t s vs k w (Control c) f n h = h
+  behind_call_nested t s vs k w (Branch b) f n h = h
+  behind_call_nested t s vs k w (Looping l) f n h = h
+  behind_call_nested t s vs k w (Call c) f n h =
+      after_got (LeavesRest s) AreNested (state_with_values t vs s k c.targets) _ (values_rest t vs s k c.targets)
+      (λ r g. on s r w.next (like s r g) f n h)
+  behind_call_nested t s vs k w (Timing x) f n h = h
+  behind_call_nested t s vs k w (Read ts) f n h = h
 
-  nested_spot : (s : State) (spot : Spot) → IsSound p → spot_at p s.frame.section s.frame.place ≡ Some spot → IsNestedHere s (ways_here p s spot.place) spot.place
+  nested_spot : (s : State) (spot : Spot) → IsSound p → spot_at p s.frame.section s.frame.place ≡ Some spot →
+      IsNestedHere s (ways_here p s spot.place) spot.place
   nested_spot s spot sound e = spot_nested p s.frame.section s.frame.place spot sound e
 
-  behind_place_nested : (s : State) (vs : List ℤ) (k : ℕ) (o : Option Spot) → IsSound p → spot_at p s.frame.section s.frame.place ≡ o → AreNested s →
-      AreNested (state_behind_place p vs k s o)
+  behind_place_nested : (s : State) (vs : List ℤ) (k : ℕ) (o : Option Spot) → IsSound p →
+      spot_at p s.frame.section s.frame.place ≡ o → AreNested s →
+      Got AreNested (state_behind_place p vs k s o)
   behind_place_nested s vs k None sound e h = h
   behind_place_nested s vs k (Some spot) sound e h =
-      behind_call_nested s vs k (ways_here p s spot.place) spot.place (ap (passes is_phrase) e) (nested_spot s spot sound e) h
+      behind_call_nested (tables_of p) s vs k (ways_here p s spot.place) spot.place (ap (passes is_phrase) e)
+      (nested_spot s spot sound e) h
 
-  return_nested : (s : State) (bs : List FrameState) → IsSound p → s.below ≡ bs → AreNested s → AreNested (state_after_return p s bs)
+  return_nested : (s : State) (bs : List FrameState) → IsSound p → s.below ≡ bs → AreNested s →
+      AreNested (state_after_return p s bs)
   return_nested s [] sound e h = h
   return_nested s (f ∷ fs) sound e h =
-      behind_place_nested (record s { frame = f; below = fs }) s.frame.locals (section_of p s.frame.section).given (spot_at p f.section f.place) sound refl
-      (subst (λ (gs : List FrameState). HaveTheirLoops p gs) e h.1)
+      got_nested AreNested s _ _
+      (behind_place_nested (record s { frame = f; below = fs }) s.frame.locals (section_of p s.frame.section).given
+      (spot_at p f.section f.place) sound
+      refl (subst (λ (gs : List FrameState). HaveTheirLoops p gs) e h.1)) h (λ r g. g)
 
   event_nested : (s : State) (bs : List FrameState) → s.below ≡ bs → AreNested s → AreNested (state_after_event s bs)
   event_nested s [] e h = h
-  event_nested s (f ∷ fs) e h = subst (λ (gs : List FrameState). HaveTheirLoops p gs) e h.1
+  event_nested s (f ∷ fs) e h =
+      settled_nested s _ _ h (λ r. subst (λ (gs : List FrameState). HaveTheirLoops p gs) e h.1)
 
   section_nested : (s : State) (k : SectionKind) → IsSound p → AreNested s → AreNested (state_after_section p s k)
   section_nested s kinds.Main sound h = h
   section_nested s kinds.Routine sound h = return_nested s s.below sound refl h
   section_nested s kinds.Event sound h = event_nested s s.below refl h
 
-  place_nested : (s : State) (w : Ways) (x : Place) → IsSound p → IsAtPhrase s (is_phrase x) → IsNestedHere s w x → AreNested s → AreNested (step_at p s w x)
+  start_nested : (s : State) (k c : ℕ) (time : ℤ) → AreNested s → Got AreNested (state_after_start p s k c time)
+  start_nested s k c time h =
+      after_got (λ (_ : List ℤ). Unit {0}) AreNested (attributes_now s.store c k
+      (range_with_len 0 (section_of p (event_section p c)).given)) _ (anything _) (λ xs _.
+      after_got (λ (_ : Store). Unit {0}) AreNested (store_at_start p s.store c k) _ (anything _) (λ st _.
+      after_got (λ (_ : ℤ). Unit {0}) AreNested (counted k) _ (anything _) (λ x _. (refl, h))))
+
+  simulation_nested : (s : State) (next : ℕ) (o : Option Pending) → IsAtPhrase s false →
+      may_be_open (Places s.frame.section) (Around s) next ≡ true →
+      AreNested s → AreNested (step_simulation p s next o)
+  simulation_nested s next None f n h = on s s next (refl, refl, refl, refl) f n h
+  simulation_nested s next (Some x) f n h =
+      got_nested AreNested s _ _ (start_nested s x.notice x.class x.time h) h (λ r g. g)
+
+  load_nested : (s : State) → AreNested s → Got AreNested (state_after_load p s)
+  load_nested s h =
+      after_got (λ (_ : ℕ × ℤ). Unit {0}) AreNested (arrival_asked p s) _ (anything _) (λ a _.
+      let t = state_with_taken s (s.feed.taken + 2) in
+      after_got (λ (_ : Store). Unit {0}) AreNested (refuse_if (int_lt a.1 t.clock) TimeBeforeClock >> with_new t.store
+      a.0 (class_of (tables_of p) a.0)) _ (anything _) (λ st _.
+      let u = state_with_store t st in
+      after_got (LeavesRest u) AreNested (state_after_scheduling p u a.0 (last_reference st) a.1 []) _
+      (scheduling_rest p u a.0 (last_reference st) a.1 [])
+      (λ r g. stays u r g h)))
+    where
+      stays : (u r : State) → LeavesRest u r → AreNested u → AreNested r
+      stays u r g h = (
+        subst (λ (i : ℕ). may_be_open (Places i) (phrases_of r.frame.loops) r.frame.place ≡ true) (sym g.section)
+            (subst (λ (ls : List OpenLoop). may_be_open (Places u.frame.section) (phrases_of ls) r.frame.place ≡ true)
+            (sym g.loops)
+            (subst (λ (i : ℕ). may_be_open (Places u.frame.section) (phrases_of u.frame.loops) i ≡ true) (sym g.place)
+            h.0)),
+        subst (λ (fs : List FrameState). HaveTheirLoops p fs) (sym g.below) h.1,
+      )
+
+  started_nested : (s : State) (next : ℕ) (b : Bool) → IsAtPhrase s false →
+      may_be_open (Places s.frame.section) (Around s) next ≡ true → AreNested s →
+      AreNested (if b then state_after_result s (state_after_load p s) (λ r. r) else step_simulation p s next
+      (least (rules_of p) s.agenda.pending))
+  started_nested s next true f n h = got_nested AreNested s _ _ (load_nested s h) h (λ r g. g)
+  started_nested s next false f n h = simulation_nested s next (least (rules_of p) s.agenda.pending) f n h
+
+  place_nested : (s : State) (w : Ways) (x : Place) → IsSound p → IsAtPhrase s (is_phrase x) → IsNestedHere s w x →
+      AreNested s → AreNested (step_at p s w x)
   place_nested s w (Assign a) sound f n h =
-      settled_nested s _ _ h (λ x. on s (state_after_assignment s (target_of a) x) w.next (like_assigned s (target_of a) x) f n h)
+      got_nested (LeavesRest s) s _ _ (assign_rest (tables_of p) s a) h (λ r g. on s r w.next (like s r g) f n h)
+  place_nested s w (Making m) sound f n h =
+      got_nested (LeavesRest s) s _ _ (making_rest (tables_of p) s m) h (λ r g. on s r w.next (like s r g) f n h)
+  place_nested s w (Filing x) sound f n h =
+      got_nested (LeavesRest s) s _ _ (filing_rest (tables_of p) s x) h (λ r g. on s r w.next (like s r g) f n h)
   place_nested s w (Output (Print count values picture)) sound f n h =
       settled_nested s _ _ h (λ report. on s (record s { report = report }) w.next (refl, refl, refl, refl) f n h)
   place_nested s w (Output (Skip e)) sound f n h =
@@ -326,8 +437,10 @@ module _ (p : ProgramTable) where
   place_nested s w (Branch (If q)) sound f n h =
       settled_nested s _ _ h (λ b. on s s (if b then w.next else w.exit) (refl, refl, refl, refl) f (either b) h)
     where
-      parts : (may_be_open (Places s.frame.section) (Around s) w.next ≡ true) × (may_be_open (Places s.frame.section) (Around s) w.exit ≡ true)
-      parts = and_parts (may_be_open (Places s.frame.section) (Around s) w.next) (may_be_open (Places s.frame.section) (Around s) w.exit) n
+      parts : (may_be_open (Places s.frame.section) (Around s) w.next ≡ true)
+          × (may_be_open (Places s.frame.section) (Around s) w.exit ≡ true)
+      parts = and_parts (may_be_open (Places s.frame.section) (Around s) w.next)
+          (may_be_open (Places s.frame.section) (Around s) w.exit) n
 
       either : (b : Bool) → may_be_open (Places s.frame.section) (Around s) (if b then w.next else w.exit) ≡ true
       either true = parts.0
@@ -335,27 +448,42 @@ module _ (p : ProgramTable) where
   place_nested s w (Branch Else) sound f n h = on s s w.next (refl, refl, refl, refl) f n h
   place_nested s w (Branch Always) sound f n h = on s s w.next (refl, refl, refl, refl) f n h
   place_nested s w (Looping (For g)) sound f n h =
-      let parts = and_parts (may_be_open (Places s.frame.section) (s.frame.place ∷ Around s) w.next) (may_be_open (Places s.frame.section) (Around s) w.exit) n in
-      phrase_nested s w g (loop_of_phrase s.frame.place (innermost s.frame.loops)) refl f parts.0 parts.1 h
+      let parts = and_parts (may_be_open (Places s.frame.section) (s.frame.place ∷ Around s) w.next)
+      (may_be_open (Places s.frame.section) (Around s) w.exit) n in
+      phrase_nested (tables_of p) s w g (loop_of_phrase s.frame.place (innermost s.frame.loops)) refl f parts.0 parts.1
+      h
   place_nested s w (Looping Loop) sound f n h = on s s w.next (refl, refl, refl, refl) f n h
   place_nested s w (Looping Find) sound f n h =
-      let e : phrases_of (drop w.chain s.frame.loops) ≡ drop w.chain (Around s) = phrases_drop w.chain s.frame.loops ∙ ap (λ (ls : List ℕ). drop w.chain ls) (around_here s h.0 f) in
+      let e : phrases_of (drop w.chain s.frame.loops) ≡ drop w.chain (Around s) =
+      phrases_drop w.chain s.frame.loops ∙ ap (λ (ls : List ℕ). drop w.chain ls) (around_here s h.0 f) in
       (subst (λ (ls : List ℕ). may_be_open (Places s.frame.section) ls w.next ≡ true) (sym e) n, h.1)
   place_nested s w (Looping (Gather e)) sound f n h =
       settled_nested s _ _ h (λ g. on s (state_with_statistics s g) w.next (refl, refl, refl, refl) f n h)
   place_nested s w (Looping (Tell ts)) sound f n h =
-      on s (state_after_telling s.frame.statistics s ts) w.next (like_telling s.frame.statistics s ts) f n h
+      got_nested (LeavesRest s) s _ _ (telling_rest (tables_of p) s.frame.statistics s ts) h
+      (λ r g. on s r w.next (like s r g) f n h)
   place_nested s w (Call c) sound f n h =
-      settled_nested s (values_of (readings s) c.given >>= room_for_frame s.below)
+      settled_nested s (values_of (readings (tables_of p) s) c.given >>= room_for_frame s.below)
       (λ (xs : List ℤ). record s { frame = new_frame p c.section xs; below = s.frame ∷ s.below }) h (λ xs. (refl, h))
+  place_nested s w (Timing (Schedule x)) sound f n h =
+      got_nested (LeavesRest s) s _ _ (schedule_rest p s x) h (λ r g. on s r w.next (like s r g) f n h)
+  place_nested s w (Timing (Cancel c is_called e)) sound f n h =
+      got_nested (LeavesRest s) s _ _ (cancel_rest (tables_of p) s c e) h (λ r g. on s r w.next (like s r g) f n h)
+  place_nested s w (Timing Start) sound f n h = started_nested s w.next (loads p s) f n h
   place_nested s w (Read ts) sound f n h =
       let u = state_with_taken s (s.feed.taken + length ts) in
-      settled_nested s _ _ h (λ xs. on s (state_after_assignments xs u 0 ts) w.next
-      (like_then s u (state_after_assignments xs u 0 ts) (refl, refl, refl, refl) (like_assignments xs u 0 ts)) f n h)
+      got_nested (LeavesRest u) s _ _
+      (after_got (λ (_ : List ℤ). Unit {0}) (LeavesRest u) (refuse_if (is_waiting s.entry) OutsideEntry >> values_taken
+      (has_external p) s.feed.items s.feed.taken ts) _ (anything _)
+      (λ xs _. values_rest (tables_of p) xs u 0 ts)) h (λ r g. on s r w.next (g.section, g.loops, g.below, g.place) f n
+      h)
 
-  spot_kept : (s : State) (o : Option Spot) → IsSound p → spot_at p s.frame.section s.frame.place ≡ o → AreNested s → AreNested (step_by p s o)
+  spot_kept : (s : State) (o : Option Spot) → IsSound p → spot_at p s.frame.section s.frame.place ≡ o → AreNested s →
+      AreNested (step_by p s o)
   spot_kept s None sound e h = h
-  spot_kept s (Some spot) sound e h = place_nested s (ways_here p s spot.place) spot.place sound (ap (passes is_phrase) e) (nested_spot s spot sound e) h
+  spot_kept s (Some spot) sound e h =
+      place_nested s (ways_here p s spot.place) spot.place sound (ap (passes is_phrase) e) (nested_spot s spot sound e)
+      h
 
   -- a step keeps it
   pub nested_step : (s : State) → IsSound p → AreNested s → AreNested (step p s)

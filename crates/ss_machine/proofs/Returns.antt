@@ -1,18 +1,17 @@
 -- the frame to which a RETURN comes back
-use Rattle.std.proofs.Common.{◌≡◌, ℕ, ◌<◌, List, [], ◌∷◌, length, Option, Some, None, subst, refl, sym, ap, arith}
-use Rattle.std.specs.Prelude.{slice_get}
-use Rattle.ss_check.specs.declared.place.Spot.{Spot}
-use Rattle.ss_check.specs.Program.{ProgramTable, places_of, spot_at}
+use Rattle.std.proofs.Common.{◌≡◌, List, [], ◌∷◌, length, None, subst, refl}
+use Rattle.ss_check.specs.Program.{ProgramTable}
 use Rattle.ss_machine.specs.State.{State, FrameState}
 use Rattle.ss_machine.specs.Well.{IsInBounds, IsWellFrame, AreWellFrames}
 use Rattle.ss_machine.specs.Dropping.{HasDropped, caller_place}
-use Rattle.ss_machine.specs.Moment.{yield_count, call_targets, call_targets_by, place_targets}
+use Rattle.ss_machine.specs.Moment.{yield_count, place_targets}
 
 -- it is well-formed
 pub caller_well : (p : ProgramTable) (s t : State) → IsInBounds p s → HasDropped s t → IsWellFrame p t.frame
 caller_well p s t w d = (subst (λ (fs : List FrameState). AreWellFrames p fs) d.below w.below).0
 
-pub caller_variables : (p : ProgramTable) (s t : State) → IsInBounds p s → HasDropped s t → length t.variables ≡ length p.globals
+pub caller_variables : (p : ProgramTable) (s t : State) → IsInBounds p s → HasDropped s t →
+    length t.variables ≡ length p.globals
 caller_variables p s t w d = rw d.rest w.variables
 
 pub caller_yield : (p : ProgramTable) (s t : State) → HasDropped s t → yield_count p s.below ≡ place_targets p t

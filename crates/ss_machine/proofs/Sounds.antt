@@ -1,16 +1,20 @@
 -- what is sound about each place of a program
-use Rattle.std.proofs.Common.{◌≡◌, ℕ, zero, suc, ◌+◌, ◌<◌, ◌≤◌, List, [], ◌∷◌, length, Bool, true, false, Option, Some, None, arith, refl, ap, sym, subst, ◌∙◌}
-use Rattle.std.specs.Prelude.{slice_get, ◌^◌}
+use Rattle.std.proofs.Common.{◌≡◌, ℕ, zero, suc, ◌+◌, ◌<◌, ◌≤◌, List, [], ◌∷◌, length, true, false, Option, Some, None, arith, refl, ap, sym, subst, ◌∙◌}
+use Rattle.std.specs.Prelude.{map, slice_get, unwrap_or}
+use Rattle.std.proofs.lemmas.Option.{unwrap_or-slice_get}
 use Rattle.ss_check.specs.declared.place.Spot.{Spot}
 use Rattle.ss_check.specs.declared.place.Place.{Place}
-use Rattle.ss_check.specs.declared.place.Place.TheVariants.{Assign, Output, Control, Branch, Looping, Call, Read}
+use Rattle.ss_check.specs.declared.place.Place.TheVariants.{Assign, Making, Filing, Output, Control, Branch, Looping, Call, Timing, Read}
 use Rattle.ss_check.specs.declared.looping.Looping.TheVariants.{For, Loop, Find, Gather, Tell}
 use Rattle.ss_check.specs.declared.call.Call.{Call as ACall}
 use Rattle.ss_check.specs.declared.ways.Ways.{Ways}
+use Rattle.ss_check.specs.declared.kinds.SectionKind.TheVariants.{Main}
+use Rattle.ss_check.specs.declared.kinds.ClassKind.{ClassKind}
+use Rattle.ss_check.specs.declared.kinds.ClassKind.TheVariants.{Permanent, Temporary, Event}
 use Rattle.ss_check.specs.Match.{ways_of, ways_from, section_ways}
 use Rattle.ss_check.specs.Nesting.{is_nested, AreNestedPlaces}
-use Rattle.ss_check.specs.Program.{SectionTable, ProgramTable, places_of, locals_of, section_of, spot_at}
-use Rattle.ss_check.specs.ProgramSound.{IsSound, IsSoundSection, AreSoundSections, IsSoundPlace, AreSoundPlaces, IsEnded, is_end, GoesOn, LeadsOn, IsCalledBy, IsLinkedPlace, AreLinkedPlaces, AreLinkedSections, loop_limit, parameter_limit}
+use Rattle.ss_check.specs.Program.{ClassTable, SectionTable, ProgramTable, class_of, event_of, event_of_kind, is_event, places_of, locals_of, section_of, spot_at, is_permanent}
+use Rattle.ss_check.specs.ProgramSound.{Scope, IsSound, IsSoundSection, AreSoundSections, IsSoundPlace, AreSoundPlaces, IsEnded, LeadsOn, IsCalledBy, IsLinkedPlace, AreLinkedPlaces, AreLinkedSections, IsTimed, AreTimed, IsEventClass, IsSoundClass, IsSoundEvent, IsSoundKind, HasSoundTables, loop_limit, parameter_limit, attribute_limit}
 use Rattle.ss_machine.specs.Moment.{call_targets}
 
 -- what stands at a place of a list that is long enough
@@ -25,38 +29,56 @@ within [] i x e = cc
 within (y ∷ xs) zero x e = omega arith
 within (y ∷ xs) (suc i) x e = omega (arith, within xs i x e)
 
-pub section_sound : (n : ℕ) (ss : List SectionTable) (i : ℕ) (s : SectionTable) → AreSoundSections n ss → slice_get ss i ≡ Some s → IsSoundSection n s
+pub section_sound : (n : ProgramTable) (ss : List SectionTable) (i : ℕ) (s : SectionTable) → AreSoundSections n ss →
+    slice_get ss i ≡ Some s → IsSoundSection n s
 section_sound n [] i s h e = cc
 section_sound n (t ∷ ts) zero s h e = let f : t ≡ s = cc in subst (λ (u : SectionTable). IsSoundSection n u) f h.0
 section_sound n (t ∷ ts) (suc i) s h e = section_sound n ts i s h.1 e
 
-pub place_sound : (n m : ℕ) (ps : List Spot) (i : ℕ) (s : Spot) → AreSoundPlaces n m ps → slice_get ps i ≡ Some s → IsSoundPlace n m s.place
-place_sound n m [] i s h e = cc
-place_sound n m (t ∷ ts) zero s h e = let f : t ≡ s = cc in subst (λ (u : Spot). IsSoundPlace n m u.place) f h.0
-place_sound n m (t ∷ ts) (suc i) s h e = place_sound n m ts i s h.1 e
+pub place_sound : (sc : Scope) (ps : List Spot) (i : ℕ) (s : Spot) → AreSoundPlaces sc ps → slice_get ps i ≡ Some s →
+    IsSoundPlace sc s.place
+place_sound sc [] i s h e = cc
+place_sound sc (t ∷ ts) zero s h e = let f : t ≡ s = cc in subst (λ (u : Spot). IsSoundPlace sc u.place) f h.0
+place_sound sc (t ∷ ts) (suc i) s h e = place_sound sc ts i s h.1 e
 
 pub ended_some : (ps : List Spot) → IsEnded ps → 0 < length ps
 ended_some [] h = absurd h
 ended_some (p ∷ ps) h = omega arith
 
--- the same for the places of a program
-spot_sound_of : (p : ProgramTable) (i j : ℕ) (spot : Spot) (o : Option SectionTable) → IsSound p → slice_get p.sections i ≡ o → slice_get (places_of o) j ≡ Some spot →
-    IsSoundPlace (length p.globals) (length (locals_of o)) spot.place
+-- what the places of section number i may name
+abbrev scope_by : ProgramTable → Option SectionTable → Scope
+scope_by p o = record {
+  globals = length p.globals;
+  locals = length (locals_of o);
+  permanent = map (λ c. is_permanent c.kind) p.classes;
+  sets = length p.sets;
+}
+
+abbrev pub scope_at : ProgramTable → ℕ → Scope
+scope_at p i = scope_by p (slice_get p.sections i)
+
+-- the places of a program are sound
+spot_sound_of : (p : ProgramTable) (i j : ℕ) (spot : Spot) (o : Option SectionTable) → IsSound p →
+    slice_get p.sections i ≡ o → slice_get (places_of o) j ≡ Some spot →
+    IsSoundPlace (scope_by p o) spot.place
 spot_sound_of p i j spot None h e f = cc
-spot_sound_of p i j spot (Some s) h e f = place_sound _ _ s.places j spot (section_sound _ p.sections i s h.sections e).places f
+spot_sound_of p i j spot (Some s) h e f =
+    place_sound _ s.places j spot (section_sound _ p.sections i s h.sections e).places f
 
 pub spot_sound : (p : ProgramTable) (i j : ℕ) (spot : Spot) → IsSound p → spot_at p i j ≡ Some spot →
-    IsSoundPlace (length p.globals) (length (locals_of (slice_get p.sections i))) spot.place
+    IsSoundPlace (scope_at p i) spot.place
 spot_sound p i j spot h e = spot_sound_of p i j spot (slice_get p.sections i) h refl e
 
-linked_section : (ss more : List SectionTable) (i : ℕ) (s : SectionTable) → AreLinkedSections ss more → slice_get more i ≡ Some s →
+linked_section : (ss more : List SectionTable) (i : ℕ) (s : SectionTable) → AreLinkedSections ss more →
+    slice_get more i ≡ Some s →
     AreLinkedPlaces ss s.places 0 s.places
 linked_section ss [] i s h e = cc
 linked_section ss (t ∷ ts) zero s h e =
     let f : t ≡ s = cc in subst (λ (u : SectionTable). AreLinkedPlaces ss u.places 0 u.places) f h.0
 linked_section ss (t ∷ ts) (suc i) s h e = linked_section ss ts i s h.1 e
 
-linked_place : (ss : List SectionTable) (ps xs : List Spot) (k i : ℕ) (s : Spot) → AreLinkedPlaces ss ps k xs → slice_get xs i ≡ Some s →
+linked_place : (ss : List SectionTable) (ps xs : List Spot) (k i : ℕ) (s : Spot) → AreLinkedPlaces ss ps k xs →
+    slice_get xs i ≡ Some s →
     IsLinkedPlace ss (length ps) (ways_of ps (k + i) s.place) s.place
 linked_place ss ps [] k i s h e = cc
 linked_place ss ps (t ∷ ts) k zero s h e =
@@ -67,8 +89,10 @@ linked_place ss ps (t ∷ ts) k (suc i) s h e =
     let z : k + suc i ≡ (k + 1) + i = omega arith in
     rw z (linked_place ss ps ts (k + 1) i s h.1 e)
 
-spot_linked_of : (p : ProgramTable) (i j : ℕ) (spot : Spot) (o : Option SectionTable) → IsSound p → slice_get p.sections i ≡ o →
-    slice_get (places_of o) j ≡ Some spot → IsLinkedPlace p.sections (length (places_of o)) (ways_of (places_of o) j spot.place) spot.place
+spot_linked_of : (p : ProgramTable) (i j : ℕ) (spot : Spot) (o : Option SectionTable) → IsSound p →
+    slice_get p.sections i ≡ o →
+    slice_get (places_of o) j ≡ Some spot →
+    IsLinkedPlace p.sections (length (places_of o)) (ways_of (places_of o) j spot.place) spot.place
 spot_linked_of p i j spot None h e f = cc
 spot_linked_of p i j spot (Some s) h e f =
     let z : 0 + j ≡ j = omega arith in
@@ -77,12 +101,16 @@ spot_linked_of p i j spot (Some s) h e f =
 
 -- where a place of a program goes on is in its section
 pub spot_linked : (p : ProgramTable) (i j : ℕ) (spot : Spot) → IsSound p → spot_at p i j ≡ Some spot →
-    IsLinkedPlace p.sections (length (places_of (slice_get p.sections i))) (ways_of (places_of (slice_get p.sections i)) j spot.place) spot.place
+    IsLinkedPlace p.sections (length (places_of (slice_get p.sections i)))
+    (ways_of (places_of (slice_get p.sections i)) j spot.place) spot.place
 spot_linked p i j spot h e = spot_linked_of p i j spot (slice_get p.sections i) h refl e
 
 -- FIND closes few loops
-pub chain_few : (ss : List SectionTable) (ps : List Spot) (n i : ℕ) (x : Place) → LeadsOn ss n (ways_of ps i x) x → (ways_of ps i x).chain ≤ loop_limit
+pub chain_few : (ss : List SectionTable) (ps : List Spot) (n i : ℕ) (x : Place) → LeadsOn ss n (ways_of ps i x) x →
+    (ways_of ps i x).chain ≤ loop_limit
 chain_few ss ps n i (Assign a) h = omega arith
+chain_few ss ps n i (Making m) h = omega arith
+chain_few ss ps n i (Filing f) h = omega arith
 chain_few ss ps n i (Output o) h = omega arith
 chain_few ss ps n i (Control c) h = omega arith
 chain_few ss ps n i (Branch b) h = omega arith
@@ -92,9 +120,11 @@ chain_few ss ps n i (Looping Find) h = h
 chain_few ss ps n i (Looping (Gather e)) h = omega arith
 chain_few ss ps n i (Looping (Tell ts)) h = omega arith
 chain_few ss ps n i (Call c) h = omega arith
+chain_few ss ps n i (Timing x) h = omega arith
 chain_few ss ps n i (Read ts) h = omega arith
 
-ways_at : (ps xs : List Spot) (k i : ℕ) (s : Spot) (w : Ways) → slice_get (ways_from ps k xs) i ≡ Some w → slice_get xs i ≡ Some s →
+ways_at : (ps xs : List Spot) (k i : ℕ) (s : Spot) (w : Ways) → slice_get (ways_from ps k xs) i ≡ Some w →
+    slice_get xs i ≡ Some s →
     w ≡ ways_of ps (k + i) s.place
 ways_at ps [] k i s w e f = cc
 ways_at ps (t ∷ ts) k zero s w e f =
@@ -107,12 +137,14 @@ ways_at ps (t ∷ ts) k (suc i) s w e f =
     rw z (ways_at ps ts (k + 1) i s w e f)
 
 -- the ways that are kept for a place are those counted
-pub ways_found : (ps : List Spot) (i : ℕ) (s : Spot) (w : Ways) → slice_get (section_ways ps) i ≡ Some w → slice_get ps i ≡ Some s → w ≡ ways_of ps i s.place
+pub ways_found : (ps : List Spot) (i : ℕ) (s : Spot) (w : Ways) → slice_get (section_ways ps) i ≡ Some w →
+    slice_get ps i ≡ Some s → w ≡ ways_of ps i s.place
 ways_found ps i s w e f =
     let z : 0 + i ≡ i = omega arith in
     subst (λ (n : ℕ). w ≡ ways_of ps n s.place) z (ways_at ps ps 0 i s w e f)
 
-called_there_by : (ss : List SectionTable) (c : ACall) (o : Option SectionTable) → slice_get ss c.section ≡ o → IsCalledBy c o → c.section < length ss
+called_there_by : (ss : List SectionTable) (c : ACall) (o : Option SectionTable) → slice_get ss c.section ≡ o →
+    IsCalledBy c o → c.section < length ss
 called_there_by ss c None e h = absurd h
 called_there_by ss c (Some t) e h = within ss c.section t e
 
@@ -120,10 +152,12 @@ called_there_by ss c (Some t) e h = within ss c.section t e
 pub called_there : (ss : List SectionTable) (c : ACall) → IsCalledBy c (slice_get ss c.section) → c.section < length ss
 called_there ss c h = called_there_by ss c (slice_get ss c.section) refl h
 
-called_few_by : (p : ProgramTable) (c : ACall) (o : Option SectionTable) → IsSound p → slice_get p.sections c.section ≡ o → IsCalledBy c o →
+called_few_by : (p : ProgramTable) (c : ACall) (o : Option SectionTable) → IsSound p →
+    slice_get p.sections c.section ≡ o → IsCalledBy c o →
     length c.given ≤ length (locals_of o)
 called_few_by p c None sound e h = absurd h
-called_few_by p c (Some t) sound e h = omega (arith, h.1, (section_sound _ p.sections c.section t sound.sections e).parameters)
+called_few_by p c (Some t) sound e h =
+    omega (arith, h.1, (section_sound _ p.sections c.section t sound.sections e).parameters)
 
 -- and its values have room in the locals of that section
 pub called_few : (p : ProgramTable) (c : ACall) → IsSound p → IsCalledBy c (slice_get p.sections c.section) →
@@ -135,27 +169,36 @@ pub section_found : (p : ProgramTable) (i : ℕ) (t : SectionTable) → slice_ge
 section_found p i t e = rw e refl
 
 -- a section has few parameters
-pub few_parameters : (p : ProgramTable) (i : ℕ) (t : SectionTable) → IsSound p → slice_get p.sections i ≡ Some t → t.given ≤ parameter_limit
+pub few_parameters : (p : ProgramTable) (i : ℕ) (t : SectionTable) → IsSound p → slice_get p.sections i ≡ Some t →
+    t.given ≤ parameter_limit
 few_parameters p i t h e = omega (arith, (section_sound _ p.sections i t h.sections e).few_parameters)
 
-few_yielded_by : (p : ProgramTable) (c : ACall) (o : Option SectionTable) → IsSound p → slice_get p.sections c.section ≡ o → IsCalledBy c o →
+few_yielded_by : (p : ProgramTable) (c : ACall) (o : Option SectionTable) → IsSound p →
+    slice_get p.sections c.section ≡ o → IsCalledBy c o →
     length c.targets ≤ parameter_limit
 few_yielded_by p c None sound e h = absurd h
-few_yielded_by p c (Some t) sound e h = omega (arith, h.2, (section_sound _ p.sections c.section t sound.sections e).few_parameters)
+few_yielded_by p c (Some t) sound e h =
+    omega (arith, h.2, (section_sound _ p.sections c.section t sound.sections e).few_parameters)
 
-few_targets_of : (p : ProgramTable) (n : ℕ) (w : Ways) (x : Place) → IsSound p → LeadsOn p.sections n w x → call_targets x ≤ parameter_limit
+few_targets_of : (p : ProgramTable) (n : ℕ) (w : Ways) (x : Place) → IsSound p → LeadsOn p.sections n w x →
+    call_targets x ≤ parameter_limit
 few_targets_of p n w (Assign a) sound h = omega arith
+few_targets_of p n w (Making m) sound h = omega arith
+few_targets_of p n w (Filing f) sound h = omega arith
 few_targets_of p n w (Output o) sound h = omega arith
 few_targets_of p n w (Control c) sound h = omega arith
 few_targets_of p n w (Branch b) sound h = omega arith
 few_targets_of p n w (Looping l) sound h = omega arith
+few_targets_of p n w (Timing x) sound h = omega arith
 few_targets_of p n w (Read ts) sound h = omega arith
 few_targets_of p n w (Call c) sound h = few_yielded_by p c (slice_get p.sections c.section) sound refl h
 
 -- a CALL has few targets
-pub few_targets : (p : ProgramTable) (i j : ℕ) (spot : Spot) → IsSound p → spot_at p i j ≡ Some spot → call_targets spot.place ≤ parameter_limit
+pub few_targets : (p : ProgramTable) (i j : ℕ) (spot : Spot) → IsSound p → spot_at p i j ≡ Some spot →
+    call_targets spot.place ≤ parameter_limit
 few_targets p i j spot sound e =
-    few_targets_of p (length (places_of (slice_get p.sections i))) (ways_of (places_of (slice_get p.sections i)) j spot.place) spot.place sound
+    few_targets_of p (length (places_of (slice_get p.sections i)))
+    (ways_of (places_of (slice_get p.sections i)) j spot.place) spot.place sound
     (spot_linked p i j spot sound e).leads
 
 -- and FIND closes few loops
@@ -176,8 +219,10 @@ nested_place ps (t ∷ ts) k (suc i) s h e =
     let z : k + suc i ≡ (k + 1) + i = omega arith in
     rw z (nested_place ps ts (k + 1) i s h.1 e)
 
-spot_nested_of : (p : ProgramTable) (i j : ℕ) (spot : Spot) (o : Option SectionTable) → IsSound p → slice_get p.sections i ≡ o →
-    slice_get (places_of o) j ≡ Some spot → is_nested (places_of o) j (ways_of (places_of o) j spot.place) spot.place ≡ true
+spot_nested_of : (p : ProgramTable) (i j : ℕ) (spot : Spot) (o : Option SectionTable) → IsSound p →
+    slice_get p.sections i ≡ o →
+    slice_get (places_of o) j ≡ Some spot →
+    is_nested (places_of o) j (ways_of (places_of o) j spot.place) spot.place ≡ true
 spot_nested_of p i j spot None h e f = cc
 spot_nested_of p i j spot (Some s) h e f =
     let z : 0 + j ≡ j = omega arith in
@@ -186,5 +231,76 @@ spot_nested_of p i j spot (Some s) h e f =
 
 -- a place of a program leads to places at which the loops that it leaves open may be open
 pub spot_nested : (p : ProgramTable) (i j : ℕ) (spot : Spot) → IsSound p → spot_at p i j ≡ Some spot →
-    is_nested (places_of (slice_get p.sections i)) j (ways_of (places_of (slice_get p.sections i)) j spot.place) spot.place ≡ true
+    is_nested (places_of (slice_get p.sections i)) j (ways_of (places_of (slice_get p.sections i)) j spot.place)
+    spot.place ≡ true
 spot_nested p i j spot h e = spot_nested_of p i j spot (slice_get p.sections i) h refl e
+
+timed_place : (p : ProgramTable) (t : SectionTable) (xs : List Spot) (i : ℕ) (s : Spot) → AreTimed p t xs →
+    slice_get xs i ≡ Some s → IsTimed p t s.place
+timed_place p t [] i s h e = cc
+timed_place p t (x ∷ xs) zero s h e = let f : x ≡ s = cc in subst (λ (u : Spot). IsTimed p t u.place) f h.0
+timed_place p t (x ∷ xs) (suc i) s h e = timed_place p t xs i s h.1 e
+
+spot_timed_of : (p : ProgramTable) (i j : ℕ) (spot : Spot) (o : Option SectionTable) → IsSound p →
+    slice_get p.sections i ≡ o →
+    slice_get (places_of o) j ≡ Some spot →
+    IsTimed p (unwrap_or o (record {
+      name = [];
+      kind = Main;
+      line = 0;
+      given = 0;
+      yielded = 0;
+      saving = false;
+      locals = [];
+      places = [];
+    })) spot.place
+spot_timed_of p i j spot None h e f = cc
+spot_timed_of p i j spot (Some s) h e f =
+    timed_place p s s.places j spot (section_sound _ p.sections i s h.sections e).timed f
+
+-- what schedules notices and starts events is of the program's classes and in MAIN
+pub spot_timed : (p : ProgramTable) (i j : ℕ) (spot : Spot) → IsSound p → spot_at p i j ≡ Some spot →
+    IsTimed p (section_of p i) spot.place
+spot_timed p i j spot h e = spot_timed_of p i j spot (slice_get p.sections i) h refl e
+
+-- a class of the table is sound
+pub class_there : (p : ProgramTable) (i : ℕ) → IsSound p → i < length p.classes → IsSoundClass p (class_of p i)
+class_there p i sound h =
+    let none : ClassTable = record { name = []; kind = Temporary; variable = 0; attributes = [] } in
+    subst (λ (c : ClassTable). IsSoundClass p c) (sym (unwrap_or-slice_get p.classes i none))
+    (sound.tables.classes i none h)
+
+-- notices have few arguments
+pub few_arguments : (p : ProgramTable) (c n : ℕ) → IsSound p → IsEventClass p c n → n ≤ attribute_limit
+few_arguments p c n sound h = omega (arith, h.attributes, (class_there p c sound h.class).few)
+
+event_of_sound : (p : ProgramTable) (n : ℕ) (k : ClassKind) → IsSoundKind p n k → is_event k ≡ true →
+    IsSoundEvent p n (event_of_kind k)
+event_of_sound p n (Permanent count) h e = cc
+event_of_sound p n Temporary h e = cc
+event_of_sound p n (Event x) h e = h
+
+-- an event class is in the table
+pub event_within : (p : ProgramTable) (c : ℕ) → is_event (class_of p c).kind ≡ true → c < length p.classes
+event_within p c e = found (slice_get p.classes c) refl e
+  where
+    found : (o : Option ClassTable) → slice_get p.classes c ≡ o →
+        is_event (unwrap_or o (record { name = []; kind = Temporary; variable = 0; attributes = [] })).kind ≡ true →
+        c < length p.classes
+    found None f g = cc
+    found (Some t) f g = within p.classes c t f
+
+-- what an event class has is sound
+pub event_there : (p : ProgramTable) (c : ℕ) → IsSound p → is_event (class_of p c).kind ≡ true →
+    IsSoundEvent p (length (class_of p c).attributes) (event_of p c)
+event_there p c sound e =
+    event_of_sound p (length (class_of p c).attributes) (class_of p c).kind
+    (class_there p c sound (event_within p c e)).kind e
+
+-- the given parameters of a section are among its locals
+pub given_few : (p : ProgramTable) (i : ℕ) → IsSound p → i < length p.sections →
+    (section_of p i).given ≤ length (locals_of (slice_get p.sections i))
+given_few p i sound h =
+    let t = there p.sections i h in
+    let e : slice_get p.sections i ≡ Some t.0 = t.1 in
+    rw e (omega (arith, (section_sound _ p.sections i t.0 sound.sections e).parameters))

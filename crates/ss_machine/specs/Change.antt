@@ -1,8 +1,11 @@
 -- What is noted of a change, and how it is taken back.
 use Rattle.std.specs.Prelude.{◌<◌, ◌≤◌, List, [], ◌∷◌, length, take, drop, slice_set}
 use Rattle.ss_machine.specs.declared.change.Change.{Change}
-use Rattle.ss_machine.specs.declared.change.Change.TheVariants.{Variable, Local, Place, Taken, Report, Status, LoopOpened, LoopMoved, LoopClosed, FrameOpened, FrameDropped, Found, Statistics}
+use Rattle.ss_machine.specs.declared.change.Change.TheVariants.{Variable, Local, Place, Clock, Store, Agenda, Taken, Report, Status, LoopOpened, LoopMoved, LoopClosed, FrameOpened, FrameDropped, Found, Statistics, Entry}
 use Rattle.ss_data.specs.Items.{with_taken}
+use Rattle.ss_store.specs.Change.{unapply_store, FitsStore}
+use Rattle.ss_events.specs.Changes as notices
+use Rattle.ss_machine.specs.Held.{Held, store_of, agenda_of, with_state, with_store, with_agenda}
 use Rattle.ss_machine.specs.Loops.{loops_with_candidate}
 use Rattle.ss_machine.specs.State.{State, FrameState, most_below}
 
@@ -11,35 +14,49 @@ abbrev pub state_of_caller : List FrameState → State → State
 state_of_caller [] s = s
 state_of_caller (f ∷ fs) s = record s { frame = f; below = fs }
 
--- the state before a change
-abbrev pub unapply : Change → State → State
-unapply (Variable number old) s = record s { variables = slice_set s.variables number old }
-unapply (Local number old) s = record s { frame = record s.frame { locals = slice_set s.frame.locals number old } }
-unapply (Place old) s = record s { frame = record s.frame { place = old } }
-unapply (Taken old) s = record s { feed = with_taken s.feed old }
-unapply (Report old_len) s = record s { report = take old_len s.report }
-unapply (Status old) s = record s { status = old }
-unapply LoopOpened s = record s { frame = record s.frame { loops = drop 1 s.frame.loops } }
-unapply (LoopMoved old) s = record s { frame = record s.frame { loops = loops_with_candidate old s.frame.loops } }
-unapply (LoopClosed closed) s = record s { frame = record s.frame { loops = closed ∷ s.frame.loops } }
-unapply FrameOpened s = state_of_caller s.below s
-unapply (FrameDropped dropped) s = record s { frame = dropped; below = s.frame ∷ s.below }
-unapply (Found old) s = record s { frame = record s.frame { found = old } }
-unapply (Statistics old) s = record s { frame = record s.frame { statistics = old } }
+-- the same with another last frame
+abbrev pub with_frame : Held → FrameState → Held
+with_frame h f = with_state h (record h.state { frame = f })
+
+-- what was held before a change
+abbrev pub unapply : Change → Held → Held
+unapply (Variable number old) h = with_state h (record h.state { variables = slice_set h.state.variables number old })
+unapply (Local number old) h =
+    with_frame h (record h.state.frame { locals = slice_set h.state.frame.locals number old })
+unapply (Place old) h = with_frame h (record h.state.frame { place = old })
+unapply (Clock old) h = with_state h (record h.state { clock = old })
+unapply (Store change) h = with_store h (unapply_store change (store_of h))
+unapply (Agenda change) h = with_agenda h (notices.unapply change (agenda_of h))
+unapply (Taken old) h = with_state h (record h.state { feed = with_taken h.state.feed old })
+unapply (Report old_len) h = with_state h (record h.state { report = take old_len h.state.report })
+unapply (Entry old) h = with_state h (record h.state { entry = old })
+unapply (Status old) h = with_state h (record h.state { status = old })
+unapply LoopOpened h = with_frame h (record h.state.frame { loops = drop 1 h.state.frame.loops })
+unapply (LoopMoved old) h = with_frame h (record h.state.frame { loops = loops_with_candidate old h.state.frame.loops })
+unapply (LoopClosed closed) h = with_frame h (record h.state.frame { loops = closed ∷ h.state.frame.loops })
+unapply FrameOpened h = with_state h (state_of_caller h.state.below h.state)
+unapply (FrameDropped dropped) h =
+    with_state h (record h.state { frame = dropped; below = h.state.frame ∷ h.state.below })
+unapply (Found old) h = with_frame h (record h.state.frame { found = old })
+unapply (Statistics old) h = with_frame h (record h.state.frame { statistics = old })
 
 -- what it changed or opened is there, no old length or number is above the present one, and there is room for a frame
 -- that it dropped
-abbrev pub Fits : Change → State → Type 0
-Fits (Variable number old) s = number < length s.variables
-Fits (Local number old) s = number < length s.frame.locals
-Fits (Place old) s = Unit {0}
-Fits (Taken old) s = old ≤ s.feed.taken
-Fits (Report old_len) s = old_len ≤ length s.report
-Fits (Status old) s = Unit {0}
-Fits LoopOpened s = 0 < length s.frame.loops
-Fits (LoopMoved old) s = 0 < length s.frame.loops
-Fits (LoopClosed closed) s = Unit {0}
-Fits FrameOpened s = 0 < length s.below
-Fits (FrameDropped dropped) s = length s.below < most_below
-Fits (Found old) s = Unit {0}
-Fits (Statistics old) s = Unit {0}
+abbrev pub Fits : Change → Held → Type 0
+Fits (Variable number old) h = number < length h.state.variables
+Fits (Local number old) h = number < length h.state.frame.locals
+Fits (Place old) h = Unit {0}
+Fits (Clock old) h = Unit {0}
+Fits (Store change) h = FitsStore change (store_of h)
+Fits (Agenda change) h = notices.Fits change (agenda_of h)
+Fits (Taken old) h = old ≤ h.state.feed.taken
+Fits (Report old_len) h = old_len ≤ length h.state.report
+Fits (Entry old) h = Unit {0}
+Fits (Status old) h = Unit {0}
+Fits LoopOpened h = 0 < length h.state.frame.loops
+Fits (LoopMoved old) h = 0 < length h.state.frame.loops
+Fits (LoopClosed closed) h = Unit {0}
+Fits FrameOpened h = 0 < length h.state.below
+Fits (FrameDropped dropped) h = length h.state.below < most_below
+Fits (Found old) h = Unit {0}
+Fits (Statistics old) h = Unit {0}

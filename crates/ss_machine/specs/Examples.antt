@@ -1,32 +1,54 @@
 -- Small programs, and what their runs come to.
-use Rattle.std.specs.Prelude.{ℕ, ℤ, pos, List, [], ◌∷◌, map, replicate, length, codes, false, Option, Some, None}
-use Rattle.ss_routines.specs.declared.expr.TermSign.TheVariants.{Plus, Minus}
+use Rattle.std.specs.Prelude.{ℕ, zero, suc, ◌-◌, pos, List, [], ◌∷◌, ◌++◌, map, replicate, codes, Bool, true, false, Some, None}
+use Rattle.ss_grammar.specs.declared.expr.TermSign.TheVariants.{Plus, Minus}
+use Rattle.ss_check.specs.declared.target.Target.TheVariants.{Variable as ToVariable, Attribute}
+use Rattle.ss_check.specs.declared.target.SetRef.{SetRef}
+use Rattle.ss_check.specs.declared.making.Making.TheVariants.{Create, Destroy}
+use Rattle.ss_check.specs.declared.filing.End.TheVariants as ends
+use Rattle.ss_check.specs.declared.filing.Position.TheVariants.{ByRule}
+use Rattle.ss_check.specs.declared.filing.Filing.TheVariants.{File, RemoveAt}
+use Rattle.ss_check.specs.declared.looping.Begin.TheVariants.{AtTheEnd}
+use Rattle.ss_check.specs.declared.keys.Key.{Key}
+use Rattle.ss_check.specs.declared.keys.Rank.TheVariants.{Low}
+use Rattle.ss_check.specs.declared.kinds.ClassKind.TheVariants.{Temporary, Event as OfEvent}
+use Rattle.ss_check.specs.declared.kinds.Discipline.{Discipline}
+use Rattle.ss_check.specs.declared.kinds.Discipline.TheVariants.{Fifo, Ranked}
+use Rattle.ss_check.specs.declared.kinds.Owner.TheVariants.{System}
 use Rattle.ss_check.specs.declared.variable.Variable.{Variable}
 use Rattle.ss_check.specs.declared.variable.Variable.TheVariants.{Global, Local}
 use Rattle.ss_check.specs.declared.condition.Comparison.{Comparison}
+use Rattle.ss_check.specs.declared.looping.Direction.{Direction}
 use Rattle.ss_check.specs.declared.looping.Direction.TheVariants.{Onward}
-use Rattle.ss_check.specs.declared.looping.Phrase.{Phrase}
-use Rattle.ss_check.specs.declared.looping.Phrase.TheVariants.{Counting, Each}
+use Rattle.ss_check.specs.declared.looping.Phrase.TheVariants.{Counting, Each, Walking}
 use Rattle.ss_check.specs.declared.looping.Qualifier.{Qualifier}
 use Rattle.ss_check.specs.declared.looping.QualifierWord.{QualifierWord}
 use Rattle.ss_check.specs.declared.looping.Statistic.TheVariants.{Number, Sum, Maximum, Minimum}
-use Rattle.ss_check.specs.declared.looping.Looping.TheVariants.{For, Loop, Find, Gather, Tell}
+use Rattle.ss_check.specs.declared.looping.Looping.TheVariants.{For, Find, Gather, Tell}
 use Rattle.ss_check.specs.declared.branch.Question.TheVariants.{WasFound}
 use Rattle.ss_check.specs.declared.branch.Branch.TheVariants.{If, Else, Always}
 use Rattle.ss_check.specs.declared.place.Assign.TheVariants.{Let, Add}
 use Rattle.ss_check.specs.declared.place.Output.TheVariants.{Skip}
 use Rattle.ss_check.specs.declared.place.Control.TheVariants.{Return, End}
 use Rattle.ss_check.specs.declared.place.Place.{Place}
-use Rattle.ss_check.specs.declared.place.Place.TheVariants.{Assign, Output, Control, Branch, Looping, Call, Read}
+use Rattle.ss_check.specs.declared.place.Place.TheVariants.{Assign, Making, Filing, Output, Control, Branch, Looping, Call, Timing, Read}
+use Rattle.ss_check.specs.declared.timing.Notice.TheVariants.{New, Known}
+use Rattle.ss_check.specs.declared.timing.Listing.TheVariants.{Given}
+use Rattle.ss_check.specs.declared.timing.When.{When}
+use Rattle.ss_check.specs.declared.timing.When.TheVariants.{At, Now, In}
+use Rattle.ss_check.specs.declared.timing.Timing.TheVariants.{Schedule, Cancel, Start}
 use Rattle.ss_check.specs.declared.place.Spot.{Spot}
-use Rattle.ss_check.specs.declared.kinds.SectionKind.TheVariants.{Main, Routine}
-use Rattle.ss_check.specs.ProgramExpr.{Expr, expr, no_sums, sum, term, no_products, Factor, digits, variable, within}
+use Rattle.ss_check.specs.declared.kinds.SectionKind.TheVariants.{Main, Routine, Event}
+use Rattle.ss_check.specs.ProgramExpr.{Expr, expr, no_sums, sum, term, no_products, product, Factor, digits, variable, attribute, implied, of_system}
 use Rattle.ss_check.specs.ProgramCondition.{Condition, any, no_conjunctions, all, no_relations, compared}
 use Rattle.ss_check.specs.Program.{ProgramTable, SectionTable}
-use Rattle.ss_machine.specs.declared.status.Status.{Status}
 use Rattle.ss_machine.specs.State.{State}
-use Rattle.ss_machine.specs.Values.{Readings}
-use Rattle.ss_machine.specs.Run.{input_with, run}
+use Rattle.ss_values.specs.Values.{Readings}
+use Rattle.ss_journal.specs.Log.{newest}
+use Rattle.ss_machine.specs.declared.change.Change.{Change}
+use Rattle.ss_machine.specs.declared.change.Change.TheVariants.{Local as WasLocal, Place as WasPlace}
+use Rattle.ss_machine.specs.Held.{Beside}
+use Rattle.ss_machine.specs.Moment.{Moment}
+use Rattle.ss_machine.specs.Run.{Input, input_with, run}
 
 -- ---- expressions and conditions
 
@@ -60,16 +82,22 @@ qualifier word i c n = record { word = word; condition = compares i c n }
 
 -- nothing to read
 abbrev pub no_readings : Readings
-no_readings = record { variables = []; locals = []; clock = pos 0 }
+no_readings = record {
+  tables = record { classes = []; sets = []; system = 0 };
+  variables = [];
+  locals = [];
+  clock = pos 0;
+  store = record { made = []; references = []; system = [] };
+}
 
 -- ---- places
 
 -- LET x = e; ADD e TO x; END
 abbrev pub let_be : Variable → Expr → Place
-let_be x e = Assign (Let false x e)
+let_be x e = Assign (Let false (ToVariable x) e)
 
 abbrev pub add_to : Variable → Expr → Place
-add_to x e = Assign (Add e x)
+add_to x e = Assign (Add e (ToVariable x))
 
 abbrev pub ending : Place
 ending = Control End
@@ -139,15 +167,17 @@ first_of_five q =
 abbrev pub statistics_of : Expr → Expr → List Place
 statistics_of a b =
     for_bare 0 a b [] ∷ Looping (Gather (local 0))
-    ∷ Looping (Tell (record { target = Local 1; statistic = Number } ∷ record { target = Local 2; statistic = Sum }
-    ∷ record { target = Local 3; statistic = Maximum } ∷ record { target = Local 4; statistic = Minimum } ∷ []))
+    ∷ Looping (Tell (record { target = ToVariable (Local 1); statistic = Number }
+    ∷ record { target = ToVariable (Local 2); statistic = Sum }
+    ∷ record { target = ToVariable (Local 3); statistic = Maximum }
+    ∷ record { target = ToVariable (Local 4); statistic = Minimum } ∷ []))
     ∷ ending ∷ []
 
 -- a routine yields one more than it is given; MAIN calls it with 4
 abbrev pub one_more : ProgramTable
 one_more =
     program_of 0 (
-    main_of 1 (Call (record { section = 1; given = number 4 ∷ []; targets = Local 0 ∷ [] }) ∷ ending ∷ [])
+    main_of 1 (Call (record { section = 1; given = number 4 ∷ []; targets = ToVariable (Local 0) ∷ [] }) ∷ ending ∷ [])
     ∷ routine_of 1 1 2 (let_be (Local 1) (local 0) ∷ add_to (Local 1) (number 1) ∷ Control Return ∷ ending ∷ [])
     ∷ []
     )
@@ -160,7 +190,7 @@ endless_calls =
 
 -- READ of two locals
 abbrev pub read_two : List Place
-read_two = Read (Local 0 ∷ Local 1 ∷ []) ∷ ending ∷ []
+read_two = Read (ToVariable (Local 0) ∷ ToVariable (Local 1) ∷ []) ∷ ending ∷ []
 
 -- two entities, each of which adds its number to global variable 2
 abbrev pub each_of_two : ProgramTable
@@ -174,3 +204,228 @@ each_of_two =
 -- SKIP of so many lines
 abbrev pub skip_of : Expr → List Place
 skip_of e = Output (Skip e) ∷ ending ∷ []
+
+-- ---- entities and sets
+
+-- MAIN with 2 locals over a temporary class with one attribute, whose variable is global 0, and a set of the system of
+-- this discipline
+abbrev pub jobs_with : Discipline → List Place → ProgramTable
+jobs_with d xs = record {
+  globals = [] ∷ [];
+  classes = record { name = []; kind = Temporary; variable = 0; attributes = [] ∷ [] } ∷ [];
+  sets = record { name = []; discipline = d; owner = System; member = 0 } ∷ [];
+  priority = [];
+  sections = main_of 2 xs ∷ [];
+}
+
+-- the list of that set
+abbrev pub queue : SetRef
+queue = record { set = 0; owner = of_system }
+
+-- the entity that the class's variable names
+abbrev pub job : Expr
+job = alone (variable (Global 0))
+
+-- a new entity with this value, filed by the discipline
+abbrev pub job_of : ℕ → List Place
+job_of n =
+    Making (Create 0 false (ToVariable (Global 0))) ∷ Assign (Let false (Attribute 0 0 (implied 0)) (number n))
+    ∷ Filing (File job ByRule queue) ∷ []
+
+-- FOR EVERY member of the list
+abbrev pub for_every_job : Direction → Place
+for_every_job d =
+    Looping (For (record { phrase = Walking d (Global 0) queue AtTheEnd; qualifiers = []; has_do = false }))
+
+-- the member's value written behind the digits of local 0
+abbrev pub note_value : Place
+note_value =
+    Assign (Let false (ToVariable (Local 0)) (expr None (term (variable (Local 0)) (product (digits 10) no_products))
+    (sum Plus (term (attribute 0 0 (implied 0)) no_products) no_sums)))
+
+-- three entities of the values 3, 1 and 2 are filed, and their list is walked
+abbrev pub three_jobs : Discipline → Direction → ProgramTable
+three_jobs d way =
+    jobs_with d (job_of 3 ++ (job_of 1 ++ (job_of 2 ++ (for_every_job way ∷ note_value ∷ ending ∷ []))))
+
+-- two entities are filed, and the loop removes the last member at its first turn
+abbrev pub next_is_removed : ProgramTable
+next_is_removed =
+    jobs_with Fifo (job_of 1 ++ (job_of 2 ++ (for_every_job Onward
+    ∷ Filing (RemoveAt ends.Last (ToVariable (Local 1)) queue) ∷ ending ∷ [])))
+
+-- an entity is ended though it is filed
+abbrev pub filed_is_ended : ProgramTable
+filed_is_ended = jobs_with Fifo (job_of 1 ++ (Making (Destroy 0 false job) ∷ ending ∷ []))
+
+-- the least value first
+abbrev pub by_least : Discipline
+by_least = Ranked (record { rank = Low; attribute = 0 } ∷ [])
+
+-- ---- event notices
+
+-- MAIN over an event class with one attribute, whose variable is global 0, and a set of the system for its notices; the
+-- keys that break ties, whether the event says SAVING, and its places, with the attribute in its first local
+abbrev pub ticks_with : List Key → Bool → List Place → List Place → ProgramTable
+ticks_with ties saving xs ys = record {
+  globals = [] ∷ [] ∷ [];
+  classes = record {
+    name = [];
+    kind = OfEvent (record { section = 1; ties = ties; external = false });
+    variable = 0;
+    attributes = [] ∷ [];
+  } ∷ [];
+  sets = record { name = []; discipline = Fifo; owner = System; member = 0 } ∷ [];
+  priority = [];
+  sections = main_of 0 xs ∷ record {
+    name = codes "TICK";
+    kind = Event;
+    line = 1;
+    given = 1;
+    yielded = 0;
+    saving = saving;
+    locals = [] ∷ [];
+    places = on_one_line ys;
+  } ∷ [];
+}
+
+-- SCHEDULE A notice with this value
+abbrev pub tick_of : ℕ → When → Place
+tick_of n when = Timing (Schedule (record {
+  class = 0;
+  notice = New false (ToVariable (Global 0));
+  listing = Given;
+  arguments = number n ∷ [];
+  when = when;
+}))
+
+-- SCHEDULE THE notice that the class's variable names
+abbrev pub tick_again : When → Place
+tick_again when = Timing (Schedule (record {
+  class = 0;
+  notice = Known false job;
+  listing = Given;
+  arguments = [];
+  when = when;
+}))
+
+-- AT a number, and AT one below zero
+abbrev pub at : ℕ → When
+at n = At (number n)
+
+abbrev pub at_below : ℕ → When
+at_below n = At (below_zero n)
+
+-- DESTROY it; FILE it in the list
+abbrev pub destroy_tick : Place
+destroy_tick = Making (Destroy 0 false job)
+
+abbrev pub file_tick : Place
+file_tick = Filing (File job ByRule queue)
+
+-- CANCEL it; START SIMULATION
+abbrev pub cancel_tick : Place
+cancel_tick = Timing (Cancel 0 false job)
+
+abbrev pub starting : Place
+starting = Timing Start
+
+-- the event's value written behind the digits of global 1
+abbrev pub note_tick : Place
+note_tick =
+    Assign (Let false (ToVariable (Global 1)) (expr None (term (variable (Global 1)) (product (digits 10) no_products))
+    (sum Plus (term (variable (Local 0)) no_products) no_sums)))
+
+-- the least value first
+abbrev pub by_value : List Key
+by_value = record { rank = Low; attribute = 0 } ∷ []
+
+-- two notices at one time, of the values 2 and 1
+abbrev pub two_ticks : List Key → ProgramTable
+two_ticks ties =
+    ticks_with ties false (tick_of 2 Now ∷ tick_of 1 Now ∷ starting ∷ ending ∷ []) (note_tick ∷ ending ∷ [])
+
+-- the first of two notices gets another value behind its scheduling
+abbrev pub tick_changed : ProgramTable
+tick_changed =
+    ticks_with by_value false (tick_of 1 Now ∷ Assign (Let false (Attribute 0 0 (implied 0)) (number 9))
+    ∷ tick_of 2 Now ∷ starting ∷ ending ∷ []) (note_tick ∷ ending ∷ [])
+
+-- an event schedules another one in five days
+abbrev pub tick_every_five : ProgramTable
+tick_every_five =
+    ticks_with [] false (tick_of 7 (At (number 3)) ∷ starting ∷ ending ∷ []) (tick_of 7 (In (number 5)) ∷ ending ∷ [])
+
+-- an event schedules its own notice, which is saved
+abbrev pub tick_saved : ProgramTable
+tick_saved =
+    ticks_with [] true (tick_of 7 (At (number 3)) ∷ starting ∷ ending ∷ []) (tick_again (In (number 5)) ∷ ending ∷ [])
+
+-- MAIN's places behind a notice due at 3
+abbrev pub behind_tick : List Place → ProgramTable
+behind_tick xs = ticks_with [] false (tick_of 7 (At (number 3)) ∷ (xs ++ ending ∷ [])) (ending ∷ [])
+
+-- ---- external events
+
+-- MAIN over an external event class ARRIVAL with one attribute, whose variable is global 0; its event has two locals
+abbrev pub arrivals_with : List Place → List Place → ProgramTable
+arrivals_with xs ys = record {
+  globals = [] ∷ [] ∷ [];
+  classes = record {
+    name = codes "ARRIVAL";
+    kind = OfEvent (record { section = 1; ties = []; external = true });
+    variable = 0;
+    attributes = [] ∷ [];
+  } ∷ [];
+  sets = [];
+  priority = [];
+  sections = main_of 0 xs ∷ record {
+    name = codes "ARRIVAL";
+    kind = Event;
+    line = 1;
+    given = 1;
+    yielded = 0;
+    saving = false;
+    locals = [] ∷ [];
+    places = on_one_line ys;
+  } ∷ [];
+}
+
+-- each entry's event reads one value, which it writes behind the digits of global 1
+abbrev pub values_of_arrivals : ProgramTable
+values_of_arrivals =
+    arrivals_with (starting ∷ ending ∷ []) (Read (ToVariable (Local 0) ∷ []) ∷ note_tick ∷ ending ∷ [])
+
+-- an event that the model scheduled does this while an entry waits
+abbrev pub while_waiting : Place → ProgramTable
+while_waiting x = arrivals_with (tick_of 7 Now ∷ starting ∷ ending ∷ []) (x ∷ ending ∷ [])
+
+-- CANCEL of notice number n; READ of a local
+abbrev pub cancel_number : ℕ → Place
+cancel_number n = Timing (Cancel 0 true (number n))
+
+abbrev pub read_one : Place
+read_one = Read (ToVariable (Local 0) ∷ [])
+
+-- ---- old steps
+
+-- X, the only local of MAIN, is 1, 2 and then 3
+abbrev pub counting_up : Input
+counting_up =
+    input_with (program_of 0 (main_of 1 (let_be (Local 0) (number 1) ∷ let_be (Local 0) (number 2)
+    ∷ let_be (Local 0) (number 3) ∷ ending ∷ []) ∷ [])) []
+
+-- the changes of its first k steps, the newest first: in state number k X is k
+abbrev pub counted : ℕ → List (List Change)
+counted zero = []
+counted (suc k) = (WasPlace k ∷ WasLocal 0 (pos k) ∷ []) ∷ counted k
+
+-- a machine on that run at position p, of whose steps the oldest a are forgotten
+abbrev pub counting_at : Beside → ℕ → ℕ → Moment
+counting_at beside a p = record {
+  input = counting_up;
+  state = run counting_up p;
+  beside = beside;
+  forgotten = a;
+  steps = newest (p - a) (counted p);
+}

@@ -1,10 +1,9 @@
 pub mod State
-pub mod Faults
-pub mod Conditions
 pub mod Loops
 pub mod Nodes
 pub mod Dropping
-pub mod Values
+pub mod Held
+pub mod Readings
 pub mod Step
 pub mod Run
 pub mod Change
@@ -14,3 +13,4 @@ pub mod Laws
 pub mod Examples
 pub mod Seen
 pub mod Noting
+pub mod Storing

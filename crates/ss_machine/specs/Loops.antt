@@ -1,25 +1,30 @@
 -- The open loops of a frame, their candidates, and what the qualifiers of a FOR phrase say.
-use Rattle.std.specs.Prelude.{ℕ, ℤ, pos, ◌+ℤ◌, ◌-ℤ◌, int_lt, int_le, nat_eq, Bool, true, false, if◌then◌else◌, List, [], ◌∷◌, Option, Some, None, Result, Ok, Err}
+use Rattle.std.specs.Prelude.{ℕ, ◌<◌, ℤ, pos, ◌+ℤ◌, ◌-ℤ◌, int_lt, int_le, nat_eq, Bool, not, if◌then◌else◌, List, [], ◌∷◌, Option, Some, None, Result, Ok, Err}
 use Rattle.ss_words.specs.declared.fault.RunFault.{RunFault}
-use Rattle.ss_words.specs.declared.fault.RunFault.TheVariants.{StepBelowOne}
+use Rattle.ss_words.specs.declared.fault.RunFault.TheVariants.{StepBelowOne, NotInList, MemberLeft}
 use Rattle.ss_check.specs.declared.variable.Variable.{Variable}
 use Rattle.ss_check.specs.declared.variable.Variable.TheVariants.{Global}
 use Rattle.ss_check.specs.declared.looping.Direction.{Direction}
 use Rattle.ss_check.specs.declared.looping.Direction.TheVariants.{Onward, Backward}
 use Rattle.ss_check.specs.declared.looping.Phrase.{Phrase}
-use Rattle.ss_check.specs.declared.looping.Phrase.TheVariants.{Counting, Each}
+use Rattle.ss_check.specs.declared.looping.Phrase.TheVariants.{Counting, Each, Walking}
+use Rattle.ss_check.specs.declared.looping.Begin.{Begin}
+use Rattle.ss_check.specs.declared.looping.Begin.TheVariants.{AtTheEnd, From, After}
 use Rattle.ss_check.specs.declared.looping.Qualifier.{Qualifier}
 use Rattle.ss_check.specs.declared.looping.QualifierWord.{QualifierWord}
 use Rattle.ss_check.specs.declared.looping.QualifierWord.TheVariants.{With, Unless, While, Until}
 use Rattle.ss_check.specs.ProgramExpr.{Expr}
+use Rattle.ss_store.specs.Tables.{set_of}
+use Rattle.ss_store.specs.Store.{number_of}
+use Rattle.ss_store.specs.Filing.{first_member, last_member, next_member, previous_member, is_in}
 use Rattle.ss_machine.specs.declared.loops.OpenLoop.{OpenLoop}
 use Rattle.ss_machine.specs.declared.loops.Walk.{Walk}
-use Rattle.ss_machine.specs.declared.loops.Walk.TheVariants.{Numbers}
+use Rattle.ss_machine.specs.declared.loops.Walk.TheVariants.{Numbers, Members}
 use Rattle.ss_machine.specs.declared.verdict.Verdict.{Verdict}
 use Rattle.ss_machine.specs.declared.verdict.Verdict.TheVariants.{Runs, Passes, Closes}
-use Rattle.ss_machine.specs.Faults.{◌>>=◌, ◌>>◌, refuse_if}
-use Rattle.ss_machine.specs.Values.{Readings, in_range, variable_value, value_of}
-use Rattle.ss_machine.specs.Conditions.{holds}
+use Rattle.ss_values.specs.Faults.{◌>>=◌, ◌>>◌, refuse_if}
+use Rattle.ss_values.specs.Values.{Readings, in_range, variable_value, value_of, subscript_value, counted}
+use Rattle.ss_values.specs.Conditions.{holds}
 
 -- ---- open loops
 
@@ -50,10 +55,48 @@ abbrev pub number_behind : Direction → ℤ → ℤ → ℤ
 number_behind Onward step x = x +ℤ step
 number_behind Backward step x = x -ℤ step
 
--- the candidate behind another one; past the integers' end there is none
-abbrev pub next_candidate : Walk → ℤ → Option ℤ
-next_candidate (Numbers d last step) x =
+-- the number behind another one; past the integers' end there is none
+abbrev pub next_number : Direction → ℤ → ℤ → ℤ → Option ℤ
+next_number d last step x =
     if in_range (number_behind d step x) then candidate_within d last (number_behind d step x) else None
+
+-- ---- members
+
+-- the member at the end where a walk in this direction begins, or none; the set by its number, the owner by a value
+abbrev pub end_member : Readings → Direction → ℕ → ℤ → Result (Option ℕ) RunFault
+end_member v Onward s o = first_member (set_of v.tables s) v.store (number_of o)
+end_member v Backward s o = last_member (set_of v.tables s) v.store (number_of o)
+
+-- the member behind another one in this direction, or none
+abbrev pub member_behind : Readings → Direction → ℕ → ℤ → ℤ → Result (Option ℕ) RunFault
+member_behind v Onward s o x = next_member (set_of v.tables s) v.store (number_of o) (number_of x)
+member_behind v Backward s o x = previous_member (set_of v.tables s) v.store (number_of o) (number_of x)
+
+-- a member, if there is one, as a candidate
+abbrev pub as_candidate : Option ℕ → Result (Option ℤ) RunFault
+as_candidate None = Ok None
+as_candidate (Some k) = counted k >>= λ x. Ok (Some x)
+
+-- F14 where a member is no longer in its list
+abbrev pub unless_left : Result (Option ℕ) RunFault → Result (Option ℤ) RunFault
+unless_left (Ok k) = as_candidate k
+unless_left (Err f) = Err MemberLeft
+
+-- a walk through a list is of one of n sets
+abbrev pub IsSoundWalk : ℕ → Walk → Type 0
+IsSoundWalk n (Numbers d last step) = Unit {0}
+IsSoundWalk n (Members d s o) = s < n
+
+-- so are those of open loops
+abbrev pub AreSoundWalks : ℕ → List OpenLoop → Type 0
+AreSoundWalks n [] = Unit {0}
+AreSoundWalks n (l ∷ ls) = IsSoundWalk n l.walk × AreSoundWalks n ls
+
+-- the candidate behind another one, or none; F14 where that one is no longer in the list
+abbrev pub next_candidate : Readings → Walk → ℤ → Result (Option ℤ) RunFault
+next_candidate v (Numbers d last step) x = Ok (next_number d last step x)
+next_candidate v (Members d s o) x =
+    unless_left (member_behind v d s o x)
 
 -- the value of BY, 1 where it is not written
 abbrev pub step_value : Readings → Option Expr → Result ℤ RunFault
@@ -66,17 +109,37 @@ number_loop place d first last step =
     refuse_if (int_lt step (pos 1)) StepBelowOne
     >> Ok (record { phrase = place; candidate = candidate_within d last first; walk = Numbers d last step })
 
--- what the entry of the phrase at a place opens: its bounds and its step are got once; EACH goes from 1 up to N.c by 1
+-- F5 where the member that FROM or AFTER names is not in the list
+abbrev pub member_named : Readings → ℕ → ℤ → ℤ → Result ℤ RunFault
+member_named v s o y =
+    is_in (set_of v.tables s) v.store (number_of o) (number_of y) >>= λ b. refuse_if (not b) NotInList >> Ok y
+
+-- the first candidate of a walk through the list of a set for the owner that a value names
+abbrev pub candidate_at_begin : Readings → Direction → ℕ → ℤ → Begin → Result (Option ℤ) RunFault
+candidate_at_begin v d s o AtTheEnd = end_member v d s o >>= as_candidate
+candidate_at_begin v d s o (From e) = value_of v e >>= λ y. member_named v s o y >>= λ z. Ok (Some z)
+candidate_at_begin v d s o (After e) =
+    value_of v e >>= λ y. member_named v s o y >>= λ z. member_behind v d s o z >>= as_candidate
+
+-- a loop through the list of a set, for the owner that a value names
+abbrev pub list_loop : ℕ → Direction → ℕ → ℤ → Option ℤ → OpenLoop
+list_loop place d s o c = record { phrase = place; candidate = c; walk = Members d s o }
+
+-- what the entry of the phrase at a place opens: its bounds and its step are got once; EACH goes from 1 up to N.c by 1;
+-- a walk goes through the list of an owner that is got once
 abbrev pub loop_at_entry : Readings → ℕ → Phrase → Result OpenLoop RunFault
 loop_at_entry v place (Counting d x first last step) =
     value_of v first >>= λ a. value_of v last >>= λ b. step_value v step >>= λ c. number_loop place d a b c
 loop_at_entry v place (Each class is_called x count) =
     number_loop place Onward (pos 1) (variable_value v (Global count)) (pos 1)
+loop_at_entry v place (Walking d x r begin) =
+    subscript_value v r.owner >>= λ o. candidate_at_begin v d r.set o begin >>= λ c. Ok (list_loop place d r.set o c)
 
 -- the variable to which a candidate goes
 abbrev pub loop_variable : Phrase → Variable
 loop_variable (Counting d x first last step) = x
 loop_variable (Each class is_called x count) = x
+loop_variable (Walking d x r begin) = x
 
 -- ---- qualifiers
 

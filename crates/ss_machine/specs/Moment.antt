@@ -1,39 +1,55 @@
 -- What a machine stands for, and its steps forward and back.
-use Rattle.std.specs.Prelude.{◌≡◌, ◌≢◌, ℕ, ◌+◌, ◌≤◌, List, [], ◌∷◌, ◌++◌, length, Bool, true, false, Option, Some, None}
-use Rattle.ss_journal.specs.Log.{Log}
+use Rattle.std.specs.Prelude.{◌≡◌, ◌≢◌, ℕ, ◌+◌, ◌-◌, ◌<◌, ◌≤◌, ◌⊎◌, List, [], ◌∷◌, ◌++◌, length, map, drop, Bool, true, false, Option, Some, None}
+use Rattle.ss_journal.specs.Log.{Log, newest}
 use Rattle.ss_journal.specs.Undoing.{past, Kept}
 use Rattle.ss_check.specs.Program.{ProgramTable, spot_at}
 use Rattle.ss_check.specs.ProgramSound.{IsSound}
 use Rattle.ss_check.specs.declared.place.Place.{Place}
-use Rattle.ss_check.specs.declared.place.Place.TheVariants.{Assign, Output, Control, Branch, Looping, Call, Read}
+use Rattle.ss_check.specs.declared.place.Place.TheVariants.{Assign, Making, Filing, Output, Control, Branch, Looping, Call, Timing, Read}
 use Rattle.ss_check.specs.declared.looping.Looping.{Looping as ALooping}
 use Rattle.ss_check.specs.declared.looping.Looping.TheVariants.{For, Loop, Find, Gather, Tell}
+use Rattle.ss_check.specs.declared.timing.Timing.{Timing as ATiming}
+use Rattle.ss_check.specs.declared.timing.Timing.TheVariants.{Schedule, Cancel, Start}
 use Rattle.ss_check.specs.declared.ways.Ways.{Ways}
 use Rattle.ss_check.specs.declared.place.Spot.{Spot}
+use Rattle.ss_store.specs.Tables.{tables_of}
+use Rattle.ss_events.specs.Rules.{rules_of}
 use Rattle.ss_machine.specs.declared.change.Change.{Change}
+use Rattle.ss_machine.specs.declared.limits.TheConstants.{LAST_POSITION}
 use Rattle.ss_machine.specs.declared.status.Status.TheVariants.{Ready}
 use Rattle.ss_machine.specs.declared.stepped.Stepped.{Stepped}
 use Rattle.ss_machine.specs.declared.stepped.Stepped.TheVariants.{Moved, AtEnd}
 use Rattle.ss_machine.specs.State.{State, FrameState}
+use Rattle.ss_machine.specs.Held.{Beside, Held}
 use Rattle.ss_machine.specs.Well.{AreItemsInRange}
 use Rattle.ss_machine.specs.Change.{unapply, Fits}
 use Rattle.ss_machine.specs.Step.{step, ways_here}
 use Rattle.ss_machine.specs.Run.{Input, run}
 
--- what the run is of, its state, and the changes of each step that led there, the newest step and the newest change
--- first
+-- what the run is of, its state, what stands beside it, how many of the oldest steps are forgotten, and the changes of
+-- each step that is kept, the newest step and the newest change first
 pub record Moment : Type 0 where
   pub input : Input
   pub state : State
+  pub beside : Beside
+  pub forgotten : ℕ
   pub steps : List (List Change)
 
--- the number of the state in the run
-abbrev pub position : Moment → ℕ
-position m = length m.steps
+-- what is held there
+abbrev pub held_of : Moment → Held
+held_of m = record { state = m.state; beside = m.beside }
 
--- the states before this one, the earliest first, got by taking the steps back
+-- how many steps are kept
+abbrev pub kept : Moment → ℕ
+kept m = length m.steps
+
+-- the number of the state in the run: the steps that are forgotten count
+abbrev pub position : Moment → ℕ
+position m = m.forgotten + kept m
+
+-- the states before this one to which the kept steps lead back, the earliest first
 abbrev pub past_of : Moment → List State
-past_of m = past unapply m.state m.steps
+past_of m = map (λ h. h.state) (past unapply (held_of m) m.steps)
 
 -- how many targets a CALL has
 abbrev pub call_targets : Place → ℕ
@@ -63,14 +79,24 @@ most_looping_changes w Find = 2 + w.chain
 most_looping_changes w (Gather e) = 2
 most_looping_changes w (Tell ts) = 1 + length ts
 
+-- the most changes that SCHEDULE, CANCEL and START SIMULATION note: SCHEDULE one for each argument, which are at most
+-- 32
+abbrev pub most_timing_changes : ATiming → ℕ
+most_timing_changes (Schedule s) = 4 + length s.arguments
+most_timing_changes (Cancel c is_called e) = 2
+most_timing_changes Start = 6
+
 -- the most changes that the step of a place notes, with these ways: RETURN and END one for each value that comes back
 abbrev pub most_changes : ProgramTable → State → Ways → Place → ℕ
 most_changes p s w (Assign a) = 2
+most_changes p s w (Making m) = 3
+most_changes p s w (Filing f) = 3
 most_changes p s w (Output o) = 2
-most_changes p s w (Control c) = 2 + yield_count p s.below
+most_changes p s w (Control c) = 3 + yield_count p s.below
 most_changes p s w (Branch b) = 1
 most_changes p s w (Looping l) = most_looping_changes w l
 most_changes p s w (Call c) = 1
+most_changes p s w (Timing x) = most_timing_changes x
 most_changes p s w (Read ts) = 2 + length ts
 
 -- the same of the place that stands there, if one does
@@ -85,6 +111,8 @@ change_bound p s = most_changes_by p s (spot_at p s.frame.section s.frame.place)
 -- how many targets the statement at a place has; those of the CALL to which RETURN and END go back are theirs
 abbrev pub targets_at : ProgramTable → State → Place → ℕ
 targets_at p s (Assign a) = 1
+targets_at p s (Making m) = 1
+targets_at p s (Filing f) = 1
 targets_at p s (Control c) = yield_count p s.below
 targets_at p s (Looping (Tell ts)) = length ts
 targets_at p s (Call c) = length c.targets
@@ -103,25 +131,31 @@ target_count p s = targets_by p s (spot_at p s.frame.section s.frame.place)
 -- one step forward: the state is the definition's step of the old one, which now ends the past; the earlier steps are
 -- as they were, and one more is kept, of as many changes at most as its place may note
 pub record HasMoved (old new : Moment) : Type 0 where
+  -- when it moves
   pub ready : old.state.status ≡ Ready
+  pub before_last : position old < LAST_POSITION
+  -- the state, and its number
   pub input : new.input ≡ old.input
   pub state : new.state ≡ step old.input.program old.state
   pub position : position new ≡ position old + 1
+  -- the steps that are kept, and the states to which they lead back
+  pub forgotten : new.forgotten ≡ old.forgotten
   pub past : past_of new ≡ past_of old ++ old.state ∷ []
   pub steps :
       (added : List Change) × (new.steps ≡ added ∷ old.steps)
       × (length added ≤ change_bound old.input.program old.state)
 
--- what a step did
+-- what a step did: at the end, or at the last position, nothing
 abbrev pub Steps : Stepped → Moment → Moment → Type 0
 Steps Moved old new = HasMoved old new
-Steps AtEnd old new = (old.state.status ≢ Ready) × (new ≡ old)
+Steps AtEnd old new = ((old.state.status ≢ Ready) ⊎ (position old ≡ LAST_POSITION)) × (new ≡ old)
 
 -- one step back: the state is the last of the past, which no longer holds it, and the newest step is no longer kept
 pub record HasGoneBack (old new : Moment) : Type 0 where
   pub input : new.input ≡ old.input
   pub past : past_of old ≡ past_of new ++ new.state ∷ []
   pub position : position old ≡ position new + 1
+  pub forgotten : new.forgotten ≡ old.forgotten
   pub steps : (dropped : List Change) × (old.steps ≡ dropped ∷ new.steps)
 
 -- what a step back did
@@ -129,11 +163,32 @@ abbrev pub GoesBack : Bool → Moment → Moment → Type 0
 GoesBack true old new = HasGoneBack old new
 GoesBack false old new = (old.steps ≡ []) × (new ≡ old)
 
+-- all steps but the newest n are forgotten: the state and its position stay, and of the past the last n states are
+-- left, or all where there are fewer
+pub record HasForgotten (n : ℕ) (old new : Moment) : Type 0 where
+  pub input : new.input ≡ old.input
+  pub state : new.state ≡ old.state
+  pub position : position new ≡ position old
+  pub past : past_of new ≡ drop (kept old - n) (past_of old)
+  pub steps : new.steps ≡ newest n old.steps
+
+-- changes that fit and lead back through the states of a run, the first of them to its state number a
+abbrev pub LeadsBack : Input → ℕ → List (List Change) → Held → Type 0
+LeadsBack i a steps h = Kept Fits unapply (λ g. g.state) (λ k. run i (a + k)) steps h
+
 -- what every machine keeps: a sound program, numbers in range, no open step, the state of the run with the machine's
--- position, and changes that fit and lead back through the states of the run
-pub record Stands (i : Input) (s : State) (j : Log Change) : Type 0 where
+-- position, which is not past the last one, the program's tables and rules, and changes that fit and lead back through
+-- the states of the run
+pub record Stands (i : Input) (forgotten : ℕ) (h : Held) (j : Log Change) : Type 0 where
+  -- the program and its data
   pub sound : IsSound i.program
   pub items : AreItemsInRange i.items
+  -- where it stands
   pub closed : j.current ≡ []
-  pub here : s ≡ run i (length j.steps)
-  pub kept : Kept Fits unapply (run i) j.steps s
+  pub here : h.state ≡ run i (forgotten + length j.steps)
+  pub within : forgotten + length j.steps ≤ LAST_POSITION
+  -- what stands beside the state
+  pub tables : h.beside.tables ≡ tables_of i.program
+  pub rules : h.beside.rules ≡ rules_of i.program
+  -- the way back
+  pub kept : LeadsBack i forgotten j.steps h

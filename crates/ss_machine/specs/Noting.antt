@@ -5,5 +5,5 @@ use Rattle.ss_machine.specs.declared.executor.Executor.{Executor}
 use Rattle.ss_machine.specs.Change.{Fits, unapply}
 
 -- it noted at most n changes, which fit and lead back to the state before
-abbrev pub Notes : ℕ → Executor → Executor → Type 0
-Notes n old new = GoesOn Fits unapply n old.state old.journal new.state new.journal
+abbrev pub Notes : {S : Type 0} → ℕ → Executor S → Executor S → Type 0
+Notes n old new = GoesOn Fits unapply n old.held old.journal new.held new.journal

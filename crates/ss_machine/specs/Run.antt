@@ -1,7 +1,11 @@
 -- The one run of a program.
-use Rattle.std.specs.Prelude.{ℕ, zero, suc, pos, List, [], ◌∷◌, ◌++◌, length, replicate, if◌then◌else◌}
+use Rattle.std.specs.Prelude.{ℕ, zero, suc, pos, ◌+◌, List, [], ◌∷◌, ◌++◌, length, replicate, if◌then◌else◌}
 use Rattle.ss_check.specs.Program.{ProgramTable, main_number}
 use Rattle.ss_data.specs.Items.{Item, items}
+use Rattle.ss_store.specs.Tables.{tables_of}
+use Rattle.ss_store.specs.Store.{empty_store}
+use Rattle.ss_events.specs.Agenda.{empty_agenda}
+use Rattle.ss_machine.specs.declared.entry.Entry.TheVariants.{Absent}
 use Rattle.ss_machine.specs.declared.status.Status.TheVariants.{Ready}
 use Rattle.ss_machine.specs.State.{State, is_ready, new_frame}
 use Rattle.ss_machine.specs.Step.{step}
@@ -15,16 +19,19 @@ pub record Input : Type 0 where
 abbrev pub input_with : ProgramTable → List ℕ → Input
 input_with p text = record { program = p; items = items text }
 
--- MAIN at its first place, all variables and the clock 0, nothing taken or printed
+-- MAIN at its first place, all variables and the clock 0, no entities, nothing pending, taken or printed, no entry
 abbrev pub start : Input → State
 start i = record {
   variables = replicate (length i.program.globals) (pos 0);
   frame = new_frame i.program (main_number i.program) [];
   below = [];
   clock = pos 0;
+  store = empty_store (tables_of i.program);
+  agenda = empty_agenda;
   feed = record { items = i.items; taken = 0 };
   report = [];
   status = Ready;
+  entry = Absent;
 }
 
 -- the state behind another one; one that isn't ready stays
@@ -36,7 +43,7 @@ abbrev pub run : Input → ℕ → State
 run i zero = start i
 run i (suc k) = next i.program (run i k)
 
--- states number 0 to k - 1
-abbrev pub states_before : Input → ℕ → List State
-states_before i zero = []
-states_before i (suc k) = states_before i k ++ run i k ∷ []
+-- k states, the first of them number a
+abbrev pub states_from : Input → ℕ → ℕ → List State
+states_from i a zero = []
+states_from i a (suc k) = states_from i a k ++ run i (a + k) ∷ []

@@ -1,7 +1,11 @@
 -- The state of a run.
-use Rattle.std.specs.Prelude.{ℕ, ℤ, pos, ◌+◌, ◌-◌, Bool, true, false, List, [], ◌∷◌, ◌++◌, length, replicate, slice_get}
+use Rattle.std.specs.Prelude.{ℕ, ℤ, pos, ◌-◌, ◌==◌, if◌then◌else◌, Bool, true, false, List, [], ◌++◌, length, replicate, slice_get}
 use Rattle.ss_check.specs.Program.{ProgramTable, locals_of}
 use Rattle.ss_data.specs.Items.{DataRead}
+use Rattle.ss_store.specs.Store.{Store}
+use Rattle.ss_events.specs.Agenda.{Agenda}
+use Rattle.ss_machine.specs.declared.entry.Entry.{Entry}
+use Rattle.ss_machine.specs.declared.entry.Entry.TheVariants.{Absent, Waiting, Running}
 use Rattle.ss_machine.specs.declared.status.Status.{Status}
 use Rattle.ss_machine.specs.declared.status.Status.TheVariants.{Ready, Stopped, Finished, Faulted}
 use Rattle.ss_machine.specs.declared.statistics.Statistics.{Statistics}
@@ -18,15 +22,19 @@ pub record FrameState : Type 0 where
   pub statistics : Statistics
 
 -- the values of the global variables, in the order of their table; the last frame; the frames below it, the nearest
--- first; the clock; the items of the data, and how many of them are taken; the bytes of the report; the status
+-- first; the clock; the entities and the lists of sets; the pending notices; the items of the data, and how many of
+-- them are taken; the bytes of the report; the status; the entry of an external event
 pub record State : Type 0 where
   pub variables : List ℤ
   pub frame : FrameState
   pub below : List FrameState
   pub clock : ℤ
+  pub store : Store
+  pub agenda : Agenda
   pub feed : DataRead
   pub report : List ℕ
   pub status : Status
+  pub entry : Entry
 
 -- the most frames below the last one
 abbrev pub most_below : ℕ
@@ -60,3 +68,29 @@ is_faulted Ready = false
 is_faulted Stopped = false
 is_faulted Finished = false
 is_faulted (Faulted f) = true
+
+-- ---- the entry of an external event
+
+-- there is none
+abbrev pub is_absent : Entry → Bool
+is_absent Absent = true
+is_absent (Waiting c k) = false
+is_absent (Running c k) = false
+
+-- its notice is pending
+abbrev pub is_waiting : Entry → Bool
+is_waiting Absent = false
+is_waiting (Waiting c k) = true
+is_waiting (Running c k) = false
+
+-- its notice is pending, and is number k
+abbrev pub waits_for : ℕ → Entry → Bool
+waits_for k Absent = false
+waits_for k (Waiting c j) = j == k
+waits_for k (Running c j) = false
+
+-- the entry as the event of notice k starts
+abbrev pub entry_at_start : ℕ → Entry → Entry
+entry_at_start k Absent = Absent
+entry_at_start k (Waiting c j) = if j == k then Running c j else Waiting c j
+entry_at_start k (Running c j) = Running c j

@@ -1,11 +1,23 @@
 -- One step of the language, by the kind of place: values first, from the left; a fault changes the status alone.
-use Rattle.std.specs.Prelude.{ℕ, ℤ, pos, ◌+◌, ◌+ℤ◌, ◌-ℤ◌, int_lt, unsigned_abs, ◌||◌, nat_le, nat_lt, Bool, true, false, not, if◌then◌else◌, List, [], ◌∷◌, ◌++◌, length, replicate, take, drop, Option, Some, None, Result, Ok, Err, slice_get, slice_set, slice_index_or}
+use Rattle.std.specs.Prelude.{ℕ, ℤ, pos, ◌+◌, ◌+ℤ◌, ◌-ℤ◌, int_lt, unsigned_abs, ◌&&◌, ◌||◌, nat_le, nat_lt, Bool, true, false, not, if◌then◌else◌, List, [], ◌∷◌, ◌++◌, length, map, position, replicate, drop, Option, Some, None, Result, Ok, Err, slice_get, slice_set, slice_index_or}
 use Rattle.std.specs.Int.{int_min, int_max}
+use Rattle.std.specs.List.{range_with_len}
 use Rattle.ss_words.specs.declared.fault.RunFault.{RunFault}
-use Rattle.ss_words.specs.declared.fault.RunFault.TheVariants.{CountOutOfRange, ReportFull, TooManyFrames}
+use Rattle.ss_words.specs.declared.fault.RunFault.TheVariants.{NoEntity, EndedInUse, TimeBeforeClock, NotScheduled, NotExternal, OutsideEntry, CountOutOfRange, ReportFull, TooManyFrames}
 use Rattle.ss_report.specs.Pictures.{picture_text}
 use Rattle.ss_report.specs.Reports.{report_limit}
-use Rattle.ss_check.specs.declared.variable.Variable.{Variable}
+use Rattle.ss_check.specs.declared.target.SetRef.{SetRef}
+use Rattle.ss_check.specs.declared.target.Target.{Target}
+use Rattle.ss_check.specs.declared.target.Target.TheVariants.{Variable, Attribute}
+use Rattle.ss_check.specs.declared.making.Making.{Making as AMaking}
+use Rattle.ss_check.specs.declared.making.Making.TheVariants.{Create, CreateEvery, Destroy}
+use Rattle.ss_check.specs.declared.filing.End.{End as ListEnd}
+use Rattle.ss_check.specs.declared.filing.End.TheVariants as ends
+use Rattle.ss_check.specs.declared.filing.Position.{Position}
+use Rattle.ss_check.specs.declared.filing.Position.TheVariants.{ByRule, AtEnd, Before, After}
+use Rattle.ss_check.specs.declared.filing.Filing.{Filing as AFiling}
+use Rattle.ss_check.specs.declared.filing.Filing.TheVariants.{File, FileAt, RemoveAt, Remove}
+use Rattle.ss_check.specs.declared.variable.Variable.{Variable as AVariable}
 use Rattle.ss_check.specs.declared.variable.Variable.TheVariants.{Global, Local, Clock}
 use Rattle.ss_check.specs.declared.place.Assign.{Assign as AnAssign}
 use Rattle.ss_check.specs.declared.place.Assign.TheVariants.{Let, Add, Subtract}
@@ -24,27 +36,52 @@ use Rattle.ss_check.specs.declared.looping.Telling.{Telling}
 use Rattle.ss_check.specs.declared.looping.Looping.{Looping as ALooping}
 use Rattle.ss_check.specs.declared.looping.Looping.TheVariants.{For, Loop, Find, Gather, Tell}
 use Rattle.ss_check.specs.declared.call.Call.{Call as ACall}
+use Rattle.ss_check.specs.declared.timing.Notice.{Notice}
+use Rattle.ss_check.specs.declared.timing.Notice.TheVariants.{New, Known}
+use Rattle.ss_check.specs.declared.timing.Listing.{Listing}
+use Rattle.ss_check.specs.declared.timing.Listing.TheVariants.{InParentheses, Given}
+use Rattle.ss_check.specs.declared.timing.When.{When}
+use Rattle.ss_check.specs.declared.timing.When.TheVariants.{At, Now, In}
+use Rattle.ss_check.specs.declared.timing.Schedule.{Schedule as ASchedule}
+use Rattle.ss_check.specs.declared.timing.Timing.{Timing as ATiming}
+use Rattle.ss_check.specs.declared.timing.Timing.TheVariants.{Schedule, Cancel, Start}
 use Rattle.ss_check.specs.declared.ways.Resets.{Resets}
 use Rattle.ss_check.specs.declared.ways.Resets.TheVariants as resets
 use Rattle.ss_check.specs.declared.ways.Ways.{Ways}
 use Rattle.ss_check.specs.declared.kinds.SectionKind.{SectionKind}
 use Rattle.ss_check.specs.declared.kinds.SectionKind.TheVariants as kinds
 use Rattle.ss_check.specs.declared.place.Place.{Place}
-use Rattle.ss_check.specs.declared.place.Place.TheVariants.{Assign, Output, Control, Branch, Looping, Call, Read}
+use Rattle.ss_check.specs.declared.place.Place.TheVariants.{Assign, Making, Filing, Output, Control, Branch, Looping, Call, Timing, Read}
 use Rattle.ss_check.specs.declared.place.Spot.{Spot}
-use Rattle.ss_check.specs.Program.{ProgramTable, places_of, section_of, spot_at}
+use Rattle.ss_check.specs.Program as program
+use Rattle.ss_check.specs.Program.{ProgramTable, places_of, section_of, event_of, event_of_kind, has_external, spot_at}
 use Rattle.ss_check.specs.ProgramExpr.{Expr}
 use Rattle.ss_check.specs.Match.{ways_of}
 use Rattle.ss_data.specs.Items.{Item, with_taken, value_or_fault}
+use Rattle.ss_data.specs.declared.entry.Kind.{Kind}
+use Rattle.ss_data.specs.declared.entry.Kind.TheVariants.{Mark}
+use Rattle.ss_data.specs.Entries.{kind_or_end, item_writes, place_behind_mark}
+use Rattle.ss_store.specs.declared.shape.How.{How}
+use Rattle.ss_store.specs.declared.shape.How.TheVariants as how
+use Rattle.ss_store.specs.declared.shape.Which.{Which}
+use Rattle.ss_store.specs.declared.shape.Which.TheVariants as which
+use Rattle.ss_store.specs.Tables.{Tables, tables_of, class_of, set_of}
+use Rattle.ss_store.specs.Store.{Store, number_of, exists, attribute_of, last_reference, with_attribute, with_new, with_class, without_entity}
+use Rattle.ss_store.specs.Filing.{filed, removed}
+use Rattle.ss_events.specs.Rules.{rules_of}
+use Rattle.ss_events.specs.Agenda.{Pending, Agenda, is_pending, least, may_schedule, scheduled, taken_off}
+use Rattle.ss_machine.specs.declared.entry.Entry.{Entry}
+use Rattle.ss_machine.specs.declared.entry.Entry.TheVariants.{Absent, Waiting, Running}
 use Rattle.ss_machine.specs.declared.status.Status.TheVariants.{Stopped, Finished, Faulted}
 use Rattle.ss_machine.specs.declared.statistics.Statistics.{Statistics}
 use Rattle.ss_machine.specs.declared.loops.OpenLoop.{OpenLoop}
 use Rattle.ss_machine.specs.declared.verdict.Verdict.{Verdict}
 use Rattle.ss_machine.specs.declared.verdict.Verdict.TheVariants.{Runs, Passes, Closes}
-use Rattle.ss_machine.specs.State.{State, FrameState, most_below, no_statistics, new_frame}
-use Rattle.ss_machine.specs.Faults.{◌>>=◌, ◌>>◌, refuse_if}
-use Rattle.ss_machine.specs.Values.{Readings, readings, result_in_range, variable_value, value_of, values_of}
-use Rattle.ss_machine.specs.Conditions.{holds}
+use Rattle.ss_machine.specs.State.{State, FrameState, most_below, no_statistics, new_frame, is_absent, is_waiting, waits_for, entry_at_start}
+use Rattle.ss_values.specs.Faults.{◌>>=◌, ◌>>◌, refuse_if}
+use Rattle.ss_values.specs.Values.{Readings, result_in_range, variable_value, value_of, values_of, subscript_value, assigned_value, counted}
+use Rattle.ss_machine.specs.Readings.{readings}
+use Rattle.ss_values.specs.Conditions.{holds}
 use Rattle.ss_machine.specs.Loops.{innermost, loops_with_candidate, loop_of_phrase, next_candidate, loop_at_entry, loop_variable, verdict_of}
 
 -- the state that follows from what was got; a fault changes the status alone
@@ -57,7 +94,7 @@ abbrev pub state_at_place : ℕ → State → State
 state_at_place place s = record s { frame = record s.frame { place = place } }
 
 -- the state in which a variable has a new value
-abbrev pub state_after_assignment : State → Variable → ℤ → State
+abbrev pub state_after_assignment : State → AVariable → ℤ → State
 state_after_assignment s (Global i) x = record s { variables = slice_set s.variables i x }
 state_after_assignment s (Local i) x =
     record s { frame = record s.frame { locals = slice_set s.frame.locals i x } }
@@ -67,25 +104,32 @@ state_after_assignment s Clock x = s
 abbrev pub ways_here : ProgramTable → State → Place → Ways
 ways_here p s place = ways_of (places_of (slice_get p.sections s.frame.section)) s.frame.place place
 
+-- the state with another store
+abbrev pub state_with_store : State → Store → State
+state_with_store s st = record s { store = st }
+
+-- the state in which a target has a new value; F3 where the attribute's entity does not exist
+abbrev pub state_with_value : Tables → State → Target → ℤ → Result State RunFault
+state_with_value t s (Variable x) z = Ok (state_after_assignment s x z)
+state_with_value t s (Attribute c a i) z =
+    subscript_value (readings t s) i >>= λ x.
+    with_attribute s.store c a (number_of x) z >>= λ st. Ok (state_with_store s st)
+
 -- ---- assignments and PRINT; `next` is the place where each goes on
 
--- what LET, ADD and SUBTRACT assign; the last two get the value, then the target's old value, then the sum
-abbrev pub assigned_value : Readings → AnAssign → Result ℤ RunFault
-assigned_value v (Let written target value) = value_of v value
-assigned_value v (Add value target) = value_of v value >>= λ x. result_in_range (variable_value v target +ℤ x)
-assigned_value v (Subtract value target) = value_of v value >>= λ x. result_in_range (variable_value v target -ℤ x)
-
--- where they assign it
-abbrev pub target_of : AnAssign → Variable
+-- where LET, ADD and SUBTRACT assign
+abbrev pub target_of : AnAssign → Target
 target_of (Let written target value) = target
 target_of (Add value target) = target
 target_of (Subtract value target) = target
 
+-- the state in which they have assigned it
+abbrev pub state_after_assign : Tables → State → AnAssign → Result State RunFault
+state_after_assign t s a = assigned_value (readings t s) a >>= state_with_value t s (target_of a)
+
 -- one step of an assignment
-abbrev pub step_assign : State → ℕ → AnAssign → State
-step_assign s next a =
-    state_after_result s (assigned_value (readings s) a)
-    (λ x. state_at_place next (state_after_assignment s (target_of a) x))
+abbrev pub step_assign : Tables → State → ℕ → AnAssign → State
+step_assign t s next a = state_after_result s (state_after_assign t s a) (state_at_place next)
 
 -- the report with a text behind it, or F19 where it would be too long
 abbrev pub longer_report : List ℕ → List ℕ → Result (List ℕ) RunFault
@@ -93,9 +137,9 @@ longer_report report text =
     if nat_le (length report + length text) report_limit then Ok (report ++ text) else Err ReportFull
 
 -- the state after a PRINT, which gets its values and appends its picture with them
-abbrev pub state_after_print : State → ℕ → List Expr → List (List ℕ) → State
-state_after_print s next values picture =
-    state_after_result s (values_of (readings s) values >>= λ xs. longer_report s.report (picture_text picture xs))
+abbrev pub state_after_print : Tables → State → ℕ → List Expr → List (List ℕ) → State
+state_after_print t s next values picture =
+    state_after_result s (values_of (readings t s) values >>= λ xs. longer_report s.report (picture_text picture xs))
     (λ report. state_at_place next (record s { report = report }))
 
 -- the most lines that one SKIP appends
@@ -118,48 +162,151 @@ state_after_skip s next count =
     (λ report. state_at_place next (record s { report = report }))
 
 -- one step of what appends to the report
-abbrev pub step_output : State → ℕ → AnOutput → State
-step_output s next (Print count values picture) = state_after_print s next values picture
-step_output s next (Skip e) = state_after_skip s next (lines_asked (readings s) e)
+abbrev pub step_output : Tables → State → ℕ → AnOutput → State
+step_output t s next (Print count values picture) = state_after_print t s next values picture
+step_output t s next (Skip e) = state_after_skip s next (lines_asked (readings t s) e)
 
 -- ---- READ
 
+-- the mark that ends an entry
+abbrev pub is_mark : Kind → Bool
+is_mark Mark = true
+is_mark _ = false
+
+-- the number of an item: F16; F22 at a mark, where the program has external events; F17
+abbrev pub value_taken : Bool → Option Item → Result ℤ RunFault
+value_taken external o = refuse_if (external && is_mark (kind_or_end o)) OutsideEntry >> value_or_fault o
+
 -- the numbers of the next items, one for each target, from item number i on; or the first fault
-abbrev pub values_taken : List Item → ℕ → List Variable → Result (List ℤ) RunFault
-values_taken items i [] = Ok []
-values_taken items i (t ∷ ts) =
-    value_or_fault (slice_get items i) >>= λ x. values_taken items (i + 1) ts >>= λ xs. Ok (x ∷ xs)
+abbrev pub values_taken : Bool → List Item → ℕ → List Target → Result (List ℤ) RunFault
+values_taken external items i [] = Ok []
+values_taken external items i (t ∷ ts) =
+    value_taken external (slice_get items i) >>= λ x. values_taken external items (i + 1) ts >>= λ xs. Ok (x ∷ xs)
 
 -- the state in which so many items are taken
 abbrev pub state_with_taken : State → ℕ → State
 state_with_taken s n = record s { feed = with_taken s.feed n }
 
 -- the state in which targets have the values from number k on, target by target
-abbrev pub state_after_assignments : List ℤ → State → ℕ → List Variable → State
-state_after_assignments vs s k [] = s
-state_after_assignments vs s k (x ∷ xs) =
-    state_after_assignments vs (state_after_assignment s x (slice_index_or vs k (pos 0))) (k + 1) xs
+abbrev pub state_with_values : Tables → List ℤ → State → ℕ → List Target → Result State RunFault
+state_with_values t vs s k [] = Ok s
+state_with_values t vs s k (x ∷ xs) =
+    state_with_value t s x (slice_index_or vs k (pos 0)) >>= λ r. state_with_values t vs r (k + 1) xs
 
--- one step of a READ: all values are taken before the first target is assigned
-abbrev pub step_read : State → ℕ → List Variable → State
-step_read s next ts =
-    state_after_result s (values_taken s.feed.items s.feed.taken ts)
-    (λ xs. state_at_place next (state_after_assignments xs (state_with_taken s (s.feed.taken + length ts)) 0 ts))
+-- the state in which a READ has taken its values: all of them before the first target is assigned; F22 where an entry
+-- waits
+abbrev pub state_after_read : ProgramTable → State → List Target → Result State RunFault
+state_after_read p s ts =
+    refuse_if (is_waiting s.entry) OutsideEntry >> values_taken (has_external p) s.feed.items s.feed.taken ts
+    >>= λ xs. state_with_values (tables_of p) xs (state_with_taken s (s.feed.taken + length ts)) 0 ts
+
+-- one step of a READ
+abbrev pub step_read : ProgramTable → State → ℕ → List Target → State
+step_read p s next ts = state_after_result s (state_after_read p s ts) (state_at_place next)
+
+-- ---- entities and sets
+
+-- the state after CREATE: the entity is made, and its reference assigned
+abbrev pub state_after_create : Tables → State → ℕ → Target → Result State RunFault
+state_after_create t s c target =
+    with_new s.store c (class_of t c)
+    >>= λ st. counted (last_reference st) >>= state_with_value t (state_with_store s st) target
+
+-- how many entities CREATE EVERY makes: as many as are written, else N.c
+abbrev pub number_asked : Readings → Option Expr → ℕ → Result ℤ RunFault
+number_asked v None count = Ok (variable_value v (Global count))
+number_asked v (Some e) count = value_of v e
+
+-- the state after CREATE EVERY, in which N.c is their number
+abbrev pub state_after_create_every : Tables → State → ℕ → ℕ → ℤ → Result State RunFault
+state_after_create_every t s c count n =
+    with_class s.store c (class_of t c) n >>= λ st. Ok (state_after_assignment (state_with_store s st) (Global count) n)
+
+-- the number of the entity of class c that a value names, or F3
+abbrev pub existing : Store → ℕ → ℤ → Result ℕ RunFault
+existing st c x = refuse_if (not (exists st c (number_of x))) NoEntity >> Ok (number_of x)
+
+-- the store without entity number k of class c; F7 where it is a pending notice, too
+abbrev pub store_without : Tables → State → ℕ → ℕ → Result Store RunFault
+store_without t s c k = refuse_if (is_pending s.agenda k) EndedInUse >> without_entity t s.store c k
+
+-- the state after DESTROY of the entity that a value names
+abbrev pub state_after_destroy : Tables → State → ℕ → Expr → Result State RunFault
+state_after_destroy t s c e =
+    value_of (readings t s) e >>= existing s.store c >>= store_without t s c >>= λ st. Ok (state_with_store s st)
+
+-- what a statement makes of the state that makes or ends entities
+abbrev pub state_after_making : Tables → State → AMaking → Result State RunFault
+state_after_making t s (Create c is_called target) = state_after_create t s c target
+state_after_making t s (CreateEvery c e count) =
+    number_asked (readings t s) e count >>= state_after_create_every t s c count
+state_after_making t s (Destroy c is_called e) = state_after_destroy t s c e
+
+-- one step of it
+abbrev pub step_making : Tables → State → ℕ → AMaking → State
+step_making t s next m = state_after_result s (state_after_making t s m) (state_at_place next)
+
+-- an end of a list as FILE names it, and as REMOVE does
+abbrev pub how_at : ListEnd → How
+how_at ends.First = how.First
+how_at ends.Last = how.Last
+
+abbrev pub which_at : ListEnd → Which
+which_at ends.First = which.First
+which_at ends.Last = which.Last
+
+-- where FILE puts a member, with the value that names another one
+abbrev pub how_asked : Readings → Position → Result How RunFault
+how_asked v ByRule = Ok how.ByRule
+how_asked v (AtEnd end) = Ok (how_at end)
+how_asked v (Before e) = value_of v e >>= λ y. Ok (how.Before y)
+how_asked v (After e) = value_of v e >>= λ y. Ok (how.After y)
+
+-- the state after FILE of a member
+abbrev pub state_after_file : Tables → State → SetRef → ℤ → How → Result State RunFault
+state_after_file t s r x h =
+    subscript_value (readings t s) r.owner
+    >>= λ o. filed (set_of t r.set) s.store (number_of o) (number_of x) h >>= λ st. Ok (state_with_store s st)
+
+-- the state after REMOVE of an end, whose member's number is assigned
+abbrev pub state_after_remove_end : Tables → State → SetRef → ListEnd → Target → Result State RunFault
+state_after_remove_end t s r end target =
+    subscript_value (readings t s) r.owner
+    >>= λ o. removed (set_of t r.set) s.store (number_of o) (which_at end)
+    >>= λ k. counted k.0 >>= state_with_value t (state_with_store s k.1) target
+
+-- the state after REMOVE of a member
+abbrev pub state_after_remove : Tables → State → SetRef → ℤ → Result State RunFault
+state_after_remove t s r x =
+    subscript_value (readings t s) r.owner
+    >>= λ o. removed (set_of t r.set) s.store (number_of o) (which.Member x) >>= λ k. Ok (state_with_store s k.1)
+
+-- what a statement makes of the state that files or removes: its values from the left, then the deed
+abbrev pub state_after_filing : Tables → State → AFiling → Result State RunFault
+state_after_filing t s (File e position r) =
+    value_of (readings t s) e >>= λ x. how_asked (readings t s) position >>= λ h. state_after_file t s r x h
+state_after_filing t s (FileAt end e r) = value_of (readings t s) e >>= λ x. state_after_file t s r x (how_at end)
+state_after_filing t s (RemoveAt end target r) = state_after_remove_end t s r end target
+state_after_filing t s (Remove e r) = value_of (readings t s) e >>= λ x. state_after_remove t s r x
+
+-- one step of it
+abbrev pub step_filing : Tables → State → ℕ → AFiling → State
+step_filing t s next f = state_after_result s (state_after_filing t s f) (state_at_place next)
 
 -- ---- IF, ELSE and ALWAYS
 
 -- the answer to what an IF asks
-abbrev pub question_answer : State → Question → Result Bool RunFault
-question_answer s (Whether c) = holds (readings s) c
-question_answer s WasFound = Ok s.frame.found
-question_answer s WasNone = Ok (not s.frame.found)
+abbrev pub question_answer : Tables → State → Question → Result Bool RunFault
+question_answer t s (Whether c) = holds (readings t s) c
+question_answer t s WasFound = Ok s.frame.found
+question_answer t s WasNone = Ok (not s.frame.found)
 
 -- a true IF goes on to the next place, a false one behind its ELSE, or to its ALWAYS; ELSE goes on to its ALWAYS
-abbrev pub step_branch : State → Ways → ABranch → State
-step_branch s w (If q) =
-    state_after_result s (question_answer s q) (λ b. state_at_place (if b then w.next else w.exit) s)
-step_branch s w Else = state_at_place w.next s
-step_branch s w Always = state_at_place w.next s
+abbrev pub step_branch : Tables → State → Ways → ABranch → State
+step_branch t s w (If q) =
+    state_after_result s (question_answer t s q) (λ b. state_at_place (if b then w.next else w.exit) s)
+step_branch t s w Else = state_at_place w.next s
+step_branch t s w Always = state_at_place w.next s
 
 -- ---- FOR phrases
 
@@ -182,20 +329,19 @@ state_after_reset s resets.Found = state_with_found s false
 state_after_reset s resets.Statistics = state_with_statistics s no_statistics
 
 -- the state after an entry, which opens the loop and stays
-abbrev pub state_after_entry : State → Ways → ForPhrase → State
-state_after_entry s w f =
-    state_after_result s (loop_at_entry (readings s) s.frame.place f.phrase)
+abbrev pub state_after_entry : Tables → State → Ways → ForPhrase → State
+state_after_entry t s w f =
+    state_after_result s (loop_at_entry (readings t s) s.frame.place f.phrase)
     (λ l. state_after_reset (state_with_loops s (l ∷ s.frame.loops)) w.resets)
 
 -- the state in which the innermost loop is closed and the last frame stands at a place
 abbrev pub state_after_closing : ℕ → State → State
 state_after_closing place s = state_at_place place (state_with_loops s (drop 1 s.frame.loops))
 
--- the state in which the loop variable has the candidate, and the following one is found
-abbrev pub state_with_candidate : State → ForPhrase → OpenLoop → ℤ → State
-state_with_candidate s f l x =
-    state_after_assignment (state_with_loops s (loops_with_candidate (next_candidate l.walk x) s.frame.loops))
-    (loop_variable f.phrase) x
+-- the state in which the loop variable has the candidate x, and c is the following one
+abbrev pub state_with_candidate : State → ForPhrase → Option ℤ → ℤ → State
+state_with_candidate s f c x =
+    state_after_assignment (state_with_loops s (loops_with_candidate c s.frame.loops)) (loop_variable f.phrase) x
 
 -- the state after what the qualifiers said
 abbrev pub state_after_verdict : Ways → State → Verdict → State
@@ -203,21 +349,27 @@ state_after_verdict w s Runs = state_at_place w.next s
 state_after_verdict w s Passes = s
 state_after_verdict w s Closes = state_after_closing w.exit s
 
+-- the state with the candidate x in its variable, and what the qualifiers say in it; F14 where the candidate has left
+-- its list
+abbrev pub candidate_tried : Tables → State → ForPhrase → OpenLoop → ℤ → Result (State × Verdict) RunFault
+candidate_tried t s f l x =
+    next_candidate (readings t s) l.walk x >>= λ c. verdict_of (readings t (state_with_candidate s f c x)) f.qualifiers
+    >>= λ v. Ok (state_with_candidate s f c x, v)
+
 -- the state after a turn of an open loop, by its candidate
-abbrev pub state_after_turn : State → Ways → ForPhrase → OpenLoop → Option ℤ → State
-state_after_turn s w f l None = state_after_closing w.exit s
-state_after_turn s w f l (Some x) =
-    state_after_result s (verdict_of (readings (state_with_candidate s f l x)) f.qualifiers)
-    (state_after_verdict w (state_with_candidate s f l x))
+abbrev pub state_after_turn : Tables → State → Ways → ForPhrase → OpenLoop → Option ℤ → State
+state_after_turn t s w f l None = state_after_closing w.exit s
+state_after_turn t s w f l (Some x) =
+    state_after_result s (candidate_tried t s f l x) (λ r. state_after_verdict w r.0 r.1)
 
 -- the state after a phrase, by its open loop, if it has one
-abbrev pub state_after_phrase : State → Ways → ForPhrase → Option OpenLoop → State
-state_after_phrase s w f None = state_after_entry s w f
-state_after_phrase s w f (Some l) = state_after_turn s w f l l.candidate
+abbrev pub state_after_phrase : Tables → State → Ways → ForPhrase → Option OpenLoop → State
+state_after_phrase t s w f None = state_after_entry t s w f
+state_after_phrase t s w f (Some l) = state_after_turn t s w f l l.candidate
 
 -- one step of a phrase
-abbrev pub step_phrase : State → Ways → ForPhrase → State
-step_phrase s w f = state_after_phrase s w f (loop_of_phrase s.frame.place (innermost s.frame.loops))
+abbrev pub step_phrase : Tables → State → Ways → ForPhrase → State
+step_phrase t s w f = state_after_phrase t s w f (loop_of_phrase s.frame.place (innermost s.frame.loops))
 
 -- ---- FIND and COMPUTE
 
@@ -248,20 +400,22 @@ statistic_value g Maximum = g.greatest
 statistic_value g Minimum = g.least
 
 -- the state in which the statistics are assigned, target by target
-abbrev pub state_after_telling : Statistics → State → List Telling → State
-state_after_telling g s [] = s
-state_after_telling g s (t ∷ ts) =
-    state_after_telling g (state_after_assignment s t.target (statistic_value g t.statistic)) ts
+abbrev pub state_after_telling : Tables → Statistics → State → List Telling → Result State RunFault
+state_after_telling t g s [] = Ok s
+state_after_telling t g s (x ∷ xs) =
+    state_with_value t s x.target (statistic_value g x.statistic) >>= λ r. state_after_telling t g r xs
 
 -- one step of LOOP, FIND and the two places of COMPUTE: LOOP goes on to its phrase, FIND closes the loops of its chain
-abbrev pub step_looping : State → Ways → ALooping → State
-step_looping s w (For f) = step_phrase s w f
-step_looping s w Loop = state_at_place w.next s
-step_looping s w Find = state_at_place w.next (state_with_loops (state_with_found s true) (drop w.chain s.frame.loops))
-step_looping s w (Gather e) =
-    state_after_result s (statistics_after s.frame.statistics (value_of (readings s) e))
+abbrev pub step_looping : Tables → State → Ways → ALooping → State
+step_looping t s w (For f) = step_phrase t s w f
+step_looping t s w Loop = state_at_place w.next s
+step_looping t s w Find =
+    state_at_place w.next (state_with_loops (state_with_found s true) (drop w.chain s.frame.loops))
+step_looping t s w (Gather e) =
+    state_after_result s (statistics_after s.frame.statistics (value_of (readings t s) e))
     (λ g. state_at_place w.next (state_with_statistics s g))
-step_looping s w (Tell ts) = state_at_place w.next (state_after_telling s.frame.statistics s ts)
+step_looping t s w (Tell xs) =
+    state_after_result s (state_after_telling t s.frame.statistics s xs) (state_at_place w.next)
 
 -- ---- CALL and RETURN
 
@@ -272,30 +426,43 @@ room_for_frame below xs = if nat_lt (length below) most_below then Ok xs else Er
 -- one step of a CALL, which opens a frame
 abbrev pub step_call : ProgramTable → State → ACall → State
 step_call p s c =
-    state_after_result s (values_of (readings s) c.given >>= room_for_frame s.below)
+    state_after_result s (values_of (readings (tables_of p) s) c.given >>= room_for_frame s.below)
     (λ xs. record s { frame = new_frame p c.section xs; below = s.frame ∷ s.below })
 
 -- the state behind a CALL, which goes on at `next`, to which these locals came back
-abbrev pub state_behind_call : List ℤ → ℕ → ℕ → State → Place → State
-state_behind_call vs k next s (Call c) = state_at_place next (state_after_assignments vs s k c.targets)
-state_behind_call vs k next s other = s
+abbrev pub state_behind_call : Tables → List ℤ → ℕ → ℕ → State → Place → Result State RunFault
+state_behind_call t vs k next s (Call c) = state_with_values t vs s k c.targets >>= λ r. Ok (state_at_place next r)
+state_behind_call t vs k next s other = Ok s
 
 -- the same by the place where the frame stands
-abbrev pub state_behind_place : ProgramTable → List ℤ → ℕ → State → Option Spot → State
-state_behind_place p vs k s (Some spot) = state_behind_call vs k (ways_here p s spot.place).next s spot.place
-state_behind_place p vs k s None = s
+abbrev pub state_behind_place : ProgramTable → List ℤ → ℕ → State → Option Spot → Result State RunFault
+state_behind_place p vs k s (Some spot) =
+    state_behind_call (tables_of p) vs k (ways_here p s spot.place).next s spot.place
+state_behind_place p vs k s None = Ok s
 
 -- the state after a routine's frame is dropped and what it yields is assigned: its locals behind those that were given
 abbrev pub state_after_return : ProgramTable → State → List FrameState → State
 state_after_return p s [] = s
 state_after_return p s (f ∷ fs) =
-    state_behind_place p s.frame.locals (section_of p s.frame.section).given (record s { frame = f; below = fs })
-    (spot_at p f.section f.place)
+    state_after_result s (state_behind_place p s.frame.locals (section_of p s.frame.section).given
+    (record s { frame = f; below = fs }) (spot_at p f.section f.place)) (λ r. r)
+
+-- the state in which an entry is over that ran: the data is passed up to and with the next mark; F22 where none is left
+abbrev pub state_behind_mark : State → Option ℕ → Result State RunFault
+state_behind_mark s None = Err OutsideEntry
+state_behind_mark s (Some n) = Ok (record (state_with_taken s n) { entry = Absent })
+
+-- the same of an entry that may run
+abbrev pub state_without_entry : State → Entry → Result State RunFault
+state_without_entry s Absent = Ok s
+state_without_entry s (Waiting c k) = Ok s
+state_without_entry s (Running c k) = state_behind_mark s (place_behind_mark s.feed)
 
 -- the state after an event's frame is dropped; MAIN stands where it stood
 abbrev pub state_after_event : State → List FrameState → State
 state_after_event s [] = s
-state_after_event s (f ∷ fs) = record s { frame = f; below = fs }
+state_after_event s (f ∷ fs) =
+    state_after_result s (state_without_entry s s.entry) (λ r. record r { frame = f; below = fs })
 
 -- RETURN and END, by the kind of the section: the run ends in MAIN; the place stays
 abbrev pub state_after_section : ProgramTable → State → SectionKind → State
@@ -309,17 +476,181 @@ step_control p s Stop = record s { status = Stopped }
 step_control p s Return = state_after_section p s (section_of p s.frame.section).kind
 step_control p s End = state_after_section p s (section_of p s.frame.section).kind
 
+-- ---- event notices
+
+-- what names the notice of THE; A names none
+abbrev pub notice_named : Readings → Notice → Result ℤ RunFault
+notice_named v (New is_called target) = Ok (pos 0)
+notice_named v (Known is_called e) = value_of v e
+
+-- what names the notice, and the arguments, in the order in which they are written
+abbrev pub arguments_asked : Readings → Notice → List Expr → Listing → Result (ℤ × List ℤ) RunFault
+arguments_asked v n es InParentheses = values_of v es >>= λ xs. notice_named v n >>= λ x. Ok (x, xs)
+arguments_asked v n es Given = notice_named v n >>= λ x. values_of v es >>= λ xs. Ok (x, xs)
+
+-- when the notice is to be due
+abbrev pub time_asked : Readings → When → Result ℤ RunFault
+time_asked v (At e) = value_of v e
+time_asked v Now = Ok v.clock
+time_asked v (In e) = value_of v e >>= λ n. result_in_range (v.clock +ℤ n)
+
+-- the values of attributes of entity number k of class c, by their numbers, or F3
+abbrev pub attributes_now : Store → ℕ → ℕ → List ℕ → Result (List ℤ) RunFault
+attributes_now st c k [] = Ok []
+attributes_now st c k (a ∷ rest) =
+    attribute_of st c a k >>= λ x. attributes_now st c k rest >>= λ xs. Ok (x ∷ xs)
+
+-- the attributes that break the ties of class c
+abbrev pub tie_attributes : ProgramTable → ℕ → List ℕ
+tie_attributes p c = map (λ key. key.attribute) (event_of p c).ties
+
+-- the state in which entity number k of class c has these values in its attributes from number a on
+abbrev pub state_with_attributes : State → ℕ → ℕ → ℕ → List ℤ → Result State RunFault
+state_with_attributes s c k a [] = Ok s
+state_with_attributes s c k a (x ∷ xs) =
+    with_attribute s.store c a k x >>= λ st. state_with_attributes (state_with_store s st) c k (a + 1) xs
+
+-- the state with other pending notices
+abbrev pub state_with_agenda : State → Agenda → State
+state_with_agenda s a = record s { agenda = a }
+
+-- the state in which notice k of class c is pending at a time with these keys: F9, F10, F20
+abbrev pub state_with_notice : State → ℕ → ℕ → ℤ → List ℤ → Result State RunFault
+state_with_notice s c k time keys =
+    may_schedule s.agenda k time s.clock >> Ok (state_with_agenda s (scheduled s.agenda k time c keys))
+
+-- the state in which notice k of class c has these first attributes, and is pending with its keys as they are then
+abbrev pub state_after_scheduling : ProgramTable → State → ℕ → ℕ → ℤ → List ℤ → Result State RunFault
+state_after_scheduling p s c k time xs =
+    state_with_attributes s c k 0 xs
+    >>= λ r. attributes_now r.store c k (tie_attributes p c) >>= state_with_notice r c k time
+
+-- SCHEDULE A: the notice is made, scheduled, and its reference assigned
+abbrev pub state_after_new : ProgramTable → State → ℕ → Target → ℤ → List ℤ → Result State RunFault
+state_after_new p s c target time xs =
+    refuse_if (int_lt time s.clock) TimeBeforeClock >> with_new s.store c (class_of (tables_of p) c)
+    >>= λ st. state_after_scheduling p (state_with_store s st) c (last_reference st) time xs
+    >>= λ r. counted (last_reference st) >>= state_with_value (tables_of p) r target
+
+-- the notice, by what names it: SCHEDULE THE assigns nothing
+abbrev pub state_after_notice : ProgramTable → State → ℕ → Notice → ℤ → ℤ → List ℤ → Result State RunFault
+state_after_notice p s c (New is_called target) x time xs = state_after_new p s c target time xs
+state_after_notice p s c (Known is_called e) x time xs =
+    existing s.store c x >>= λ k. state_after_scheduling p s c k time xs
+
+-- the state after SCHEDULE: what names the notice and the arguments, then the time, then the deed
+abbrev pub state_after_schedule : ProgramTable → State → ASchedule → Result State RunFault
+state_after_schedule p s x =
+    arguments_asked (readings (tables_of p) s) x.notice x.arguments x.listing
+    >>= λ a. time_asked (readings (tables_of p) s) x.when
+    >>= λ time. state_after_notice p s x.class x.notice a.0 time a.1
+
+-- the agenda without notice k; F11 where it is not pending, or waits for its entry
+abbrev pub agenda_without : State → ℕ → Result Agenda RunFault
+agenda_without s k =
+    refuse_if (waits_for k s.entry || not (is_pending s.agenda k)) NotScheduled >> Ok (taken_off s.agenda k)
+
+-- the state after CANCEL of the notice that a value names
+abbrev pub state_after_cancel : Tables → State → ℕ → Expr → Result State RunFault
+state_after_cancel t s c e =
+    value_of (readings t s) e >>= existing s.store c >>= agenda_without s >>= λ a. Ok (state_with_agenda s a)
+
+-- ---- the timing routine
+
+-- the section of an event class
+abbrev pub event_section : ProgramTable → ℕ → ℕ
+event_section p c = (event_of p c).section
+
+-- the store as the event of notice k starts: without the notice, unless the section says SAVING
+abbrev pub store_at_start : ProgramTable → Store → ℕ → ℕ → Result Store RunFault
+store_at_start p st c k =
+    if (section_of p (event_section p c)).saving then Ok st else without_entity (tables_of p) st c k
+
+-- the state in which notice k is taken off and the clock is at a time, over a store; an entry that waited for it runs
+abbrev pub state_at_time : State → ℕ → ℤ → Store → State
+state_at_time s k time st = record s {
+  clock = time;
+  store = st;
+  agenda = taken_off s.agenda k;
+  entry = entry_at_start k s.entry;
+}
+
+-- the state in which the frame of a section is the last one, with these values in its first locals
+abbrev pub state_with_frame : ProgramTable → State → ℕ → List ℤ → State
+state_with_frame p s section xs = record s { frame = new_frame p section xs; below = s.frame ∷ s.below }
+
+-- the state after the start of the event of notice k of class c at a time: the class's variable has its reference, and
+-- the parameters have its first attributes
+abbrev pub state_after_start : ProgramTable → State → ℕ → ℕ → ℤ → Result State RunFault
+state_after_start p s k c time =
+    attributes_now s.store c k (range_with_len 0 (section_of p (event_section p c)).given)
+    >>= λ xs. store_at_start p s.store c k >>= λ st. counted k
+    >>= λ x. Ok (state_with_frame p (state_after_assignment (state_at_time s k time st)
+    (Global (program.class_of p c).variable) x) (event_section p c) xs)
+
+-- with nothing pending the place behind START SIMULATION follows, else the event of the least notice starts
+abbrev pub step_simulation : ProgramTable → State → ℕ → Option Pending → State
+step_simulation p s next None = state_at_place next s
+step_simulation p s next (Some n) = state_after_result s (state_after_start p s n.notice n.class n.time) (λ r. r)
+
+-- the external class that an item names
+abbrev pub external_class : ProgramTable → Option Item → Option ℕ
+external_class p o = position (λ c. (event_of_kind c.kind).external && item_writes c.name o) p.classes
+
+-- the same, or F21
+abbrev pub class_named : Option ℕ → Result ℕ RunFault
+class_named None = Err NotExternal
+class_named (Some c) = Ok c
+
+-- the state in which a new notice of class c waits for its entry
+abbrev pub state_after_arrival : ProgramTable → State → ℕ → ℤ → Result State RunFault
+state_after_arrival p s c time =
+    refuse_if (int_lt time s.clock) TimeBeforeClock >> with_new s.store c (class_of (tables_of p) c)
+    >>= λ st. state_after_scheduling p (state_with_store s st) c (last_reference st) time []
+    >>= λ r. Ok (record r { entry = Waiting c (last_reference st) })
+
+-- the class and the time of the next entry of the data: F21, then F16 or F17
+abbrev pub arrival_asked : ProgramTable → State → Result (ℕ × ℤ) RunFault
+arrival_asked p s =
+    class_named (external_class p (slice_get s.feed.items s.feed.taken))
+    >>= λ c. value_or_fault (slice_get s.feed.items (s.feed.taken + 1)) >>= λ time. Ok (c, time)
+
+-- the state after the load of that entry
+abbrev pub state_after_load : ProgramTable → State → Result State RunFault
+state_after_load p s =
+    arrival_asked p s >>= λ a. state_after_arrival p (state_with_taken s (s.feed.taken + 2)) a.0 a.1
+
+-- whether an entry of the data is to be loaded
+abbrev pub loads : ProgramTable → State → Bool
+loads p s = is_absent s.entry && nat_lt s.feed.taken (length s.feed.items) && has_external p
+
+-- START SIMULATION: the load of an entry, or the timing routine
+abbrev pub step_start : ProgramTable → State → ℕ → State
+step_start p s next =
+    if loads p s then state_after_result s (state_after_load p s) (λ r. r)
+    else step_simulation p s next (least (rules_of p) s.agenda.pending)
+
+-- one step of what schedules notices, takes them off, and starts events
+abbrev pub step_timing : ProgramTable → State → ℕ → ATiming → State
+step_timing p s next (Schedule x) = state_after_result s (state_after_schedule p s x) (state_at_place next)
+step_timing p s next (Cancel c is_called e) =
+    state_after_result s (state_after_cancel (tables_of p) s c e) (state_at_place next)
+step_timing p s next Start = step_start p s next
+
 -- ---- all places
 
 -- one step of a place with these ways, by its kind
 abbrev pub step_at : ProgramTable → State → Ways → Place → State
-step_at p s w (Assign a) = step_assign s w.next a
-step_at p s w (Output o) = step_output s w.next o
+step_at p s w (Assign a) = step_assign (tables_of p) s w.next a
+step_at p s w (Making m) = step_making (tables_of p) s w.next m
+step_at p s w (Filing f) = step_filing (tables_of p) s w.next f
+step_at p s w (Output o) = step_output (tables_of p) s w.next o
 step_at p s w (Control c) = step_control p s c
-step_at p s w (Branch b) = step_branch s w b
-step_at p s w (Looping l) = step_looping s w l
+step_at p s w (Branch b) = step_branch (tables_of p) s w b
+step_at p s w (Looping l) = step_looping (tables_of p) s w l
 step_at p s w (Call c) = step_call p s c
-step_at p s w (Read ts) = step_read s w.next ts
+step_at p s w (Timing x) = step_timing p s w.next x
+step_at p s w (Read ts) = step_read p s w.next ts
 
 -- one step of the place that stands there, if one does
 abbrev pub step_by : ProgramTable → State → Option Spot → State

@@ -1,18 +1,24 @@
 -- A well-formed state.
-use Rattle.std.specs.Prelude.{◌≡◌, ℕ, ℤ, ◌<◌, ◌≤◌, List, [], ◌∷◌, length, slice_get, true, Option, Some, None}
+use Rattle.std.specs.Prelude.{◌≡◌, ℕ, ℤ, ◌<◌, ◌≤◌, List, [], ◌∷◌, length, slice_get, true, false, int_lt, is_some, Option, Some, None}
 use Rattle.ss_report.specs.Reports.{report_limit}
 use Rattle.ss_check.specs.declared.kinds.SectionKind.{SectionKind}
 use Rattle.ss_check.specs.declared.kinds.SectionKind.TheVariants.{Main, Routine, Event}
 use Rattle.ss_check.specs.declared.place.Place.{Place}
-use Rattle.ss_check.specs.declared.place.Place.TheVariants.{Call}
+use Rattle.ss_check.specs.declared.place.Place.TheVariants.{Call, Timing}
+use Rattle.ss_check.specs.declared.timing.Timing.TheVariants.{Start}
 use Rattle.ss_check.specs.declared.place.Spot.{Spot}
 use Rattle.ss_check.specs.Nesting.{may_be_open}
-use Rattle.ss_check.specs.Program.{ProgramTable, places_of, locals_of, section_of, is_main, spot_at}
+use Rattle.ss_check.specs.Program.{ProgramTable, places_of, locals_of, class_of, event_of, section_of, is_main, is_event, spot_at}
 use Rattle.ss_data.specs.Items.{Item}
+use Rattle.ss_store.specs.Store.{Entity, Store, exists}
+use Rattle.ss_events.specs.Agenda.{Pending, pending_at}
+use Rattle.ss_machine.specs.declared.entry.Entry.{Entry}
+use Rattle.ss_machine.specs.declared.entry.Entry.TheVariants.{Absent, Waiting, Running}
 use Rattle.ss_machine.specs.declared.statistics.Statistics.{Statistics}
 use Rattle.ss_machine.specs.declared.loops.OpenLoop.{OpenLoop}
+use Rattle.ss_machine.specs.Loops.{AreSoundWalks}
 use Rattle.ss_machine.specs.State.{State, FrameState, most_below}
-use Rattle.ss_machine.specs.Values.{in_range}
+use Rattle.ss_values.specs.Values.{in_range}
 
 -- values are in range
 abbrev pub AreInRange : List ℤ → Type 0
@@ -41,13 +47,42 @@ pub record AreStatisticsInRange (g : Statistics) : Type 0 where
   pub greatest : in_range g.greatest ≡ true
   pub least : in_range g.least ≡ true
 
+-- the attributes of entities are
+abbrev pub AreEntitiesInRange : List Entity → Type 0
+AreEntitiesInRange [] = Unit {0}
+AreEntitiesInRange (e ∷ es) = AreInRange e.attributes × AreEntitiesInRange es
+
+-- those of the entities of each class are
+abbrev pub AreClassesInRange : List (List Entity) → Type 0
+AreClassesInRange [] = Unit {0}
+AreClassesInRange (es ∷ rest) = AreEntitiesInRange es × AreClassesInRange rest
+
+-- those of an entity that may have ended are
+abbrev pub IsNoneOrEntityInRange : Option Entity → Type 0
+IsNoneOrEntityInRange None = Unit {0}
+IsNoneOrEntityInRange (Some e) = AreInRange e.attributes
+
+-- those of the entities with references are
+abbrev pub AreReferencesInRange : List (Option Entity) → Type 0
+AreReferencesInRange [] = Unit {0}
+AreReferencesInRange (o ∷ os) = IsNoneOrEntityInRange o × AreReferencesInRange os
+
+-- those of all entities are
+pub record IsStoreInRange (st : Store) : Type 0 where
+  pub made : AreClassesInRange st.made
+  pub references : AreReferencesInRange st.references
+
 -- a frame's section is one of the program's, its place and its locals are of that section, and its values are in range
 pub record IsWellFrame (p : ProgramTable) (f : FrameState) : Type 0 where
+  -- where it stands
   pub section : f.section < length p.sections
   pub place : f.place < length (places_of (slice_get p.sections f.section))
+  -- its locals
   pub locals : length f.locals ≡ length (locals_of (slice_get p.sections f.section))
   pub values : AreInRange f.locals
+  -- its open loops, and what COMPUTE has gathered
   pub loops : AreLoopsInRange f.loops
+  pub walks : AreSoundWalks (length p.sets) f.loops
   pub statistics : AreStatisticsInRange f.statistics
 
 -- so do all frames
@@ -65,30 +100,84 @@ abbrev pub CallsAt : ℕ → Option Spot → Type 0
 CallsAt section None = ⊥
 CallsAt section (Some spot) = Calls section spot.place
 
--- a frame of this kind of section stands on another one: a routine's on a CALL of it
+-- a place is START SIMULATION
+abbrev pub Starts : Place → Type 0
+Starts (Timing Start) = Unit {0}
+Starts other = ⊥
+
+-- the same of the place that stands there
+abbrev pub StartsAt : Option Spot → Type 0
+StartsAt None = ⊥
+StartsAt (Some spot) = Starts spot.place
+
+-- a frame of this kind of section stands on another one: a routine's on a CALL of it, an event's on MAIN at START
+-- SIMULATION
 abbrev pub StandsOn : ProgramTable → SectionKind → ℕ → FrameState → Type 0
 StandsOn p Main section f = ⊥
 StandsOn p Routine section f = CallsAt section (spot_at p f.section f.place)
-StandsOn p Event section f = ⊥
+StandsOn p Event section f = (is_main (section_of p f.section) ≡ true) × StartsAt (spot_at p f.section f.place)
 
 -- the first frame is MAIN's, and each other stands on the one below it
 abbrev pub IsStack : ProgramTable → ℕ → List FrameState → Type 0
 IsStack p section [] = is_main (section_of p section) ≡ true
 IsStack p section (f ∷ fs) = StandsOn p (section_of p section).kind section f × IsStack p f.section fs
 
+-- a pending notice exists, its class is an event class, its time, not before the clock, and its keys are in range
+pub record IsDue (p : ProgramTable) (clock : ℤ) (st : Store) (e : Pending) : Type 0 where
+  -- what it is
+  pub event : is_event (class_of p e.class).kind ≡ true
+  pub exists : exists st e.class e.notice ≡ true
+  -- when it is due
+  pub time : in_range e.time ≡ true
+  pub due : int_lt e.time clock ≡ false
+  -- by what it goes among those due at that time
+  pub keys : AreInRange e.keys
+
+-- so do all pending notices
+abbrev pub AreDue : ProgramTable → ℤ → Store → List Pending → Type 0
+AreDue p clock st [] = Unit {0}
+AreDue p clock st (e ∷ es) = IsDue p clock st e × AreDue p clock st es
+
+-- all pending notices with reference k are of class c
+abbrev pub AreOfClass : ℕ → ℕ → List Pending → Type 0
+AreOfClass k c [] = Unit {0}
+AreOfClass k c (e ∷ es) = (e.notice ≡ k → e.class ≡ c) × AreOfClass k c es
+
+-- the second frame is one of section number i; the last frame's section, and the frames below it
+abbrev pub IsSecond : ℕ → ℕ → List FrameState → Type 0
+IsSecond i section [] = ⊥
+IsSecond i section (f ∷ []) = section ≡ i
+IsSecond i section (f ∷ g ∷ fs) = IsSecond i f.section (g ∷ fs)
+
+-- an entry is of an external class; one that waits is a pending notice of it, one that runs belongs to the second frame
+abbrev pub IsWellEntry : ProgramTable → List Pending → ℕ → List FrameState → Entry → Type 0
+IsWellEntry p es section below Absent = Unit {0}
+IsWellEntry p es section below (Waiting c k) =
+    ((event_of p c).external ≡ true) × (is_some (pending_at es k) ≡ true) × AreOfClass k c es
+IsWellEntry p es section below (Running c k) =
+    ((event_of p c).external ≡ true) × IsSecond (event_of p c).section section below
+
 -- 1 to 200 frames, the first of which is MAIN's; all values in range; no more items taken than there are; a report
--- within its limit
+-- within its limit; all pending notices due; the entry well-formed
 pub record IsInBounds (p : ProgramTable) (s : State) : Type 0 where
+  -- the global variables
   pub variables : length s.variables ≡ length p.globals
   pub values : AreInRange s.variables
+  -- the frames
   pub frame : IsWellFrame p s.frame
   pub below : AreWellFrames p s.below
   pub stack : IsStack p s.frame.section s.below
   pub few : length s.below ≤ most_below
+  -- the clock and the entities
   pub clock : in_range s.clock ≡ true
+  pub store : IsStoreInRange s.store
+  -- the data, and the report
   pub items : AreItemsInRange s.feed.items
   pub taken : s.feed.taken ≤ length s.feed.items
   pub report : length s.report ≤ report_limit
+  -- the pending notices, and the entry of an external event
+  pub due : AreDue p s.clock s.store s.agenda.pending
+  pub entry : IsWellEntry p s.agenda.pending s.frame.section s.below s.entry
 
 -- the places of the phrases of loops
 abbrev pub phrases_of : List OpenLoop → List ℕ
@@ -104,7 +193,7 @@ abbrev pub HaveTheirLoops : ProgramTable → List FrameState → Type 0
 HaveTheirLoops p [] = Unit {0}
 HaveTheirLoops p (f ∷ fs) = HasItsLoops p f × HaveTheirLoops p fs
 
--- a well-formed state
+-- a well-formed state: all within its bounds, and the open loops of each frame those around its place
 pub record IsWell (p : ProgramTable) (s : State) : Type 0 where
   pub bounds : IsInBounds p s
   pub loops : HaveTheirLoops p (s.frame ∷ s.below)

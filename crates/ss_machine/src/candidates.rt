@@ -1,14 +1,13 @@
-ghost use Rattle.std.specs.Prelude.{◌≡◌};
-ghost use Rattle.ss_check.specs.ProgramSound.{IsSoundPhrase, IsSoundOption, AreSoundQualifiers};
+ghost use Rattle.std.specs.Prelude.{◌≡◌, ◌<◌, length, Ok};
+ghost use Rattle.ss_check.specs.ProgramSound.{IsSoundPhrase, IsSoundOption, IsSoundBegin, AreSoundQualifiers};
+ghost use Rattle.ss_values.specs.Seen.{view_readings, InView};
 ghost use Rattle.ss_machine.specs.Loops as loops;
-ghost use Rattle.ss_machine.specs.Seen.{view_readings, InView};
 
-use crate::conditions::holds;
 use crate::loops::{OpenLoop, Walk};
-use crate::values::{value, variable};
 use crate::verdict::Verdict;
-use crate::view::View;
-use ss_check::{Direction, Expr, Phrase, QualifierWord, Qualifiers, Variable};
+use ss_check::{Begin, Direction, Expr, Phrase, QualifierWord, Qualifiers, Variable};
+use ss_links::SetBoard;
+use ss_values::{View, holds, subscript_value, value, variable_value};
 use ss_words::RunFault;
 
 fn candidate_within(direction: Direction, last: i64, x: i64) -> Option<i64>
@@ -21,29 +20,132 @@ fn candidate_within(direction: Direction, last: i64, x: i64) -> Option<i64>
     if is_within { Some(x) } else { None }
 }
 
-/// The candidate behind another one.
-pub fn next_candidate(walk: Walk, x: i64) -> Option<i64>
-    ensures { result ≡ loops.next_candidate walk x }
+/// The number behind another one; none past the last, or past the integers' end.
+fn next_number(direction: Direction, last: i64, step: i64, x: i64) -> Option<i64>
+    ensures { result ≡ loops.next_number direction last step x }
+{
+    let next = match direction {
+        Direction::Onward => x.checked_add(step),
+        Direction::Backward => x.checked_sub(step),
+    };
+    match next {
+        Some(next) => candidate_within(direction, last, next),
+        None => None,
+    }
+}
+
+fn as_candidate(member: Option<u32>) -> Option<i64>
+    ensures { loops.as_candidate member ≡ Ok result }
+{
+    match member {
+        None => None,
+        Some(number) => Some(i64::from(number)),
+    }
+}
+
+/// The member at the end where a walk in this direction begins, or none.
+fn end_member<S: SetBoard>(
+    view: View<'_, S>,
+    direction: Direction,
+    set: usize,
+    owner: i64,
+) -> Result<Option<u32>, RunFault>
+    requires { set < length view.store.now.tables.sets }
+    ensures { result ≡ loops.end_member (view_readings view.entry) direction set owner }
+{
+    match direction {
+        Direction::Onward => view.store.walk_first(set, owner),
+        Direction::Backward => view.store.walk_last(set, owner),
+    }
+}
+
+/// The member behind another one in this direction, or none.
+fn member_behind<S: SetBoard>(
+    view: View<'_, S>,
+    direction: Direction,
+    set: usize,
+    owner: i64,
+    x: i64,
+) -> Result<Option<u32>, RunFault>
+    requires { set < length view.store.now.tables.sets }
+    ensures { result ≡ loops.member_behind (view_readings view.entry) direction set owner x }
+{
+    match direction {
+        Direction::Onward => view.store.walk_next(set, owner, x),
+        Direction::Backward => view.store.walk_prev(set, owner, x),
+    }
+}
+
+/// The candidate behind another one; F14 where that one has left its list.
+pub fn next_candidate<S: SetBoard>(
+    view: View<'_, S>,
+    walk: Walk,
+    x: i64,
+) -> Result<Option<i64>, RunFault>
+    requires { loops.IsSoundWalk (length view.store.now.tables.sets) walk }
+    ensures { result ≡ loops.next_candidate (view_readings view.entry) walk x }
 {
     match walk {
         Walk::Numbers {
             direction,
             last,
             step,
-        } => {
-            let next = match direction {
-                Direction::Onward => x.checked_add(step),
-                Direction::Backward => x.checked_sub(step),
-            };
-            match next {
-                Some(next) => candidate_within(direction, last, next),
-                None => None,
-            }
+        } => Ok(next_number(direction, last, step, x)),
+        Walk::Members {
+            direction,
+            set,
+            owner,
+        } => match member_behind(view, direction, set, owner, x) {
+            Ok(member) => Ok(as_candidate(member)),
+            Err(_) => Err(RunFault::MemberLeft),
+        },
+    }
+}
+
+/// The value that names a member of the list; F5 where that is not in the list.
+fn member_named<S: SetBoard>(
+    view: View<'_, S>,
+    set: usize,
+    owner: i64,
+    member: i64,
+) -> Result<i64, RunFault>
+    requires { set < length view.store.now.tables.sets }
+    ensures { result ≡ loops.member_named (view_readings view.entry) set owner member }
+{
+    if view.store.is_in(set, owner, member)? {
+        Ok(member)
+    } else {
+        Err(RunFault::NotInList)
+    }
+}
+
+/// The first candidate of a walk through a list.
+fn candidate_at_begin<S: SetBoard>(
+    view: View<'_, S>,
+    direction: Direction,
+    set: usize,
+    owner: i64,
+    begin: &Begin,
+) -> Result<Option<i64>, RunFault>
+    requires set { set < length view.store.now.tables.sets }
+    requires sound { InView view IsSoundBegin begin.now }
+    ensures { result ≡ loops.candidate_at_begin (view_readings view.entry) direction set owner begin.now }
+{
+    match begin {
+        Begin::AtTheEnd => Ok(as_candidate(end_member(view, direction, set, owner)?)),
+        Begin::From(e) => {
+            let member = value(view, e)?;
+            Ok(Some(member_named(view, set, owner, member)?))
+        }
+        Begin::After(e) => {
+            let member = value(view, e)?;
+            let member = member_named(view, set, owner, member)?;
+            Ok(as_candidate(member_behind(view, direction, set, owner, member)?))
         }
     }
 }
 
-fn step_value(view: View<'_>, step: &Option<Expr>) -> Result<i64, RunFault>
+fn step_value<S: SetBoard>(view: View<'_, S>, step: &Option<Expr>) -> Result<i64, RunFault>
     requires { InView view IsSoundOption step.now }
     ensures { result ≡ loops.step_value (view_readings view.entry) step.now }
 {
@@ -78,7 +180,11 @@ fn number_loop(
 }
 
 /// The loop that the entry of the phrase at a place opens, or the first fault.
-pub fn loop_at_entry(view: View<'_>, place: usize, phrase: &Phrase) -> Result<OpenLoop, RunFault>
+pub fn loop_at_entry<S: SetBoard>(
+    view: View<'_, S>,
+    place: usize,
+    phrase: &Phrase,
+) -> Result<OpenLoop, RunFault>
     requires { InView view IsSoundPhrase phrase.now }
     ensures { result ≡ loops.loop_at_entry (view_readings view.entry) place phrase.now }
 {
@@ -96,8 +202,26 @@ pub fn loop_at_entry(view: View<'_>, place: usize, phrase: &Phrase) -> Result<Op
             number_loop(place, *direction, first, last, step)
         }
         Phrase::Each { count, .. } => {
-            let last = variable(view, Variable::Global(*count));
+            let last = variable_value(view, Variable::Global(*count));
             number_loop(place, Direction::Onward, 1, last, 1)
+        }
+        Phrase::Walking {
+            direction,
+            set,
+            begin,
+            ..
+        } => {
+            let owner = subscript_value(view, &set.owner)?;
+            let candidate = candidate_at_begin(view, *direction, set.set, owner, begin)?;
+            Ok(OpenLoop {
+                phrase: place,
+                candidate,
+                walk: Walk::Members {
+                    direction: *direction,
+                    set: set.set,
+                    owner,
+                },
+            })
         }
     }
 }
@@ -109,11 +233,12 @@ pub fn loop_variable(phrase: &Phrase) -> Variable
     match phrase {
         Phrase::Counting { variable, .. } => *variable,
         Phrase::Each { variable, .. } => *variable,
+        Phrase::Walking { variable, .. } => *variable,
     }
 }
 
 /// What the qualifiers say, in written order, or the first fault.
-pub fn verdict(view: View<'_>, qualifiers: &Qualifiers) -> Result<Verdict, RunFault>
+pub fn verdict<S: SetBoard>(view: View<'_, S>, qualifiers: &Qualifiers) -> Result<Verdict, RunFault>
     requires { InView view AreSoundQualifiers qualifiers.now }
     ensures { result ≡ loops.verdict_of (view_readings view.entry) qualifiers.now }
 {

@@ -1,6 +1,8 @@
 use crate::frame::FrameBox;
 use crate::loops::ClosedLoop;
-use crate::{statistics, status};
+use crate::{entry, statistics, status};
+use ss_events::AgendaChange;
+use ss_store::StoreChange;
 
 /// What is noted of a change of the state, enough to take it back.
 #[derive(Drop)]
@@ -11,10 +13,18 @@ pub enum Change {
     Local { number: usize, old: i64 },
     /// The last frame went to another place; where it stood.
     Place(usize),
+    /// The clock was set; what it showed.
+    Clock(i64),
+    /// The store was changed; what takes that back.
+    Store(StoreChange),
+    /// A notice was scheduled or taken off; what takes that back.
+    Agenda(AgendaChange),
     /// Items of the data were taken; how many were before.
     Taken(usize),
     /// The report was lengthened; its old length.
     Report(usize),
+    /// The entry of an external event changed; the old one.
+    Entry(entry::Entry),
     /// The status was changed; the old one.
     Status(status::Status),
     /// A loop was opened in the last frame.

@@ -1,13 +1,19 @@
 //! What the definitions give on small programs: each function is a law, proved by computing.
 
-ghost use Rattle.std.specs.Prelude.{◌≡◌, [], ◌∷◌, pos, neg_ℤ, length, codes, Ok, Err};
-ghost use Rattle.ss_words.specs.declared.fault.RunFault.TheVariants.{OutOfRange, ZeroDivisor, CountOutOfRange, NoMoreData, NotANumber, TooManyFrames};
+ghost use Rattle.std.specs.Prelude.{◌≡◌, [], ◌∷◌, pos, neg_ℤ, length, codes, Ok, Err, true, false};
+ghost use Rattle.ss_words.specs.declared.fault.RunFault.TheVariants.{OutOfRange, ZeroDivisor, CountOutOfRange, NoMoreData, NotANumber, TooManyFrames, MemberLeft, EndedInUse, TimeBeforeClock, AlreadyScheduled, NotScheduled, NotExternal, OutsideEntry};
+ghost use Rattle.ss_check.specs.declared.looping.Direction.TheVariants.{Onward, Backward};
+ghost use Rattle.ss_check.specs.declared.kinds.Discipline.TheVariants.{Fifo, Lifo};
 ghost use Rattle.ss_check.specs.declared.condition.Comparison.TheVariants.{Equals, Differs, Below, Above};
 ghost use Rattle.ss_check.specs.declared.looping.QualifierWord.TheVariants.{With, Unless, While, Until};
 ghost use Rattle.ss_check.specs.declared.variable.Variable.TheVariants.{Local};
 ghost use Rattle.ss_check.specs.ProgramExpr.{absolute, greatest, least, quotient, remainder, exprs, no_exprs};
+ghost use Rattle.ss_machine.specs.declared.entry.Entry.TheVariants.{Absent, Waiting, Running};
 ghost use Rattle.ss_machine.specs.declared.status.Status.TheVariants.{Ready, Finished, Faulted};
-ghost use Rattle.ss_machine.specs.Values.{value_of};
+ghost use Rattle.ss_values.specs.Values.{value_of};
+ghost use Rattle.ss_machine.specs.declared.stepped.Stepped.TheVariants.{Moved};
+ghost use Rattle.ss_machine.specs.Held.{Beside};
+ghost use Rattle.ss_machine.specs.Moment.{position, past_of, HasForgotten, GoesBack, Steps};
 ghost use Rattle.ss_machine.specs.Run.{input_with, run};
 ghost use Rattle.ss_machine.specs.Examples as e;
 
@@ -101,4 +107,120 @@ fn frame_201_is_a_fault()
     ensures full { length (run (input_with e.endless_calls []) 199).below ≡ 199 }
     ensures ready { (run (input_with e.endless_calls []) 199).status ≡ Ready }
     ensures fault { (run (input_with e.endless_calls []) 200).status ≡ Faulted TooManyFrames }
+{}
+
+fn a_ranked_list_is_walked_in_its_order()
+    ensures ranked { (run (input_with (e.three_jobs e.by_least Onward) []) 18).frame.locals ≡ pos 123 ∷ pos 0 ∷ [] }
+    ensures back { (run (input_with (e.three_jobs e.by_least Backward) []) 18).frame.locals ≡ pos 321 ∷ pos 0 ∷ [] }
+    ensures first_in { (run (input_with (e.three_jobs Fifo Onward) []) 18).frame.locals ≡ pos 312 ∷ pos 0 ∷ [] }
+    ensures last_in { (run (input_with (e.three_jobs Lifo Onward) []) 18).frame.locals ≡ pos 213 ∷ pos 0 ∷ [] }
+{}
+
+fn a_next_member_that_left_is_a_fault()
+    ensures ready { (run (input_with e.next_is_removed []) 9).status ≡ Ready }
+    ensures fault { (run (input_with e.next_is_removed []) 10).status ≡ Faulted MemberLeft }
+{}
+
+fn a_member_is_not_ended()
+    ensures { (run (input_with e.filed_is_ended []) 4).status ≡ Faulted EndedInUse }
+{}
+
+fn ties_are_broken_by_keys_or_by_scheduling()
+    ensures keys { (run (input_with (e.two_ticks e.by_value) []) 10).variables ≡ pos 1 ∷ pos 12 ∷ [] }
+    ensures scheduling { (run (input_with (e.two_ticks []) []) 10).variables ≡ pos 2 ∷ pos 21 ∷ [] }
+    ensures end { (run (input_with (e.two_ticks []) []) 10).status ≡ Finished }
+{}
+
+fn keys_are_those_of_the_scheduling()
+    ensures { (run (input_with e.tick_changed []) 10).variables ≡ pos 2 ∷ pos 92 ∷ [] }
+{}
+
+fn an_event_schedules_another_one()
+    ensures first { (run (input_with e.tick_every_five []) 2).clock ≡ pos 3 }
+    ensures next { (run (input_with e.tick_every_five []) 5).clock ≡ pos 8 }
+    ensures made { length (run (input_with e.tick_every_five []) 6).store.references ≡ 3 }
+    ensures saved { (run (input_with e.tick_saved []) 5).clock ≡ pos 8 }
+    ensures kept { length (run (input_with e.tick_saved []) 6).store.references ≡ 1 }
+{}
+
+fn what_is_canceled_may_be_scheduled_again()
+    ensures none { (run (input_with (e.behind_tick (e.cancel_tick ∷ e.starting ∷ [])) []) 4).status ≡ Finished }
+    ensures clock { (run (input_with (e.behind_tick (e.cancel_tick ∷ e.starting ∷ [])) []) 4).clock ≡ pos 0 }
+    ensures again { (run (input_with (e.behind_tick (e.cancel_tick ∷ e.tick_again (e.at 9) ∷ e.starting ∷ [])) [])
+        4).clock ≡ pos 9 }
+{}
+
+fn notices_are_scheduled_once_and_not_before_the_clock()
+    ensures before { (run (input_with (e.behind_tick (e.tick_of 1 (e.at_below 1) ∷ [])) []) 2).status
+        ≡ Faulted TimeBeforeClock }
+    ensures again { (run (input_with (e.behind_tick (e.tick_again (e.at 4) ∷ [])) []) 2).status
+        ≡ Faulted AlreadyScheduled }
+    ensures twice { (run (input_with (e.behind_tick (e.cancel_tick ∷ e.cancel_tick ∷ [])) []) 3).status
+        ≡ Faulted NotScheduled }
+    ensures made { length (run (input_with (e.behind_tick (e.tick_of 1 (e.at_below 1) ∷ [])) []) 2).store.references
+        ≡ 1 }
+{}
+
+fn a_pending_notice_is_not_ended()
+    ensures { (run (input_with (e.behind_tick (e.destroy_tick ∷ [])) []) 2).status ≡ Faulted EndedInUse }
+{}
+
+fn an_event_start_that_faults_is_none()
+    ensures fault { (run (input_with (e.behind_tick (e.file_tick ∷ e.starting ∷ [])) []) 3).status
+        ≡ Faulted EndedInUse }
+    ensures clock { (run (input_with (e.behind_tick (e.file_tick ∷ e.starting ∷ [])) []) 3).clock ≡ pos 0 }
+    ensures pending { length (run (input_with (e.behind_tick (e.file_tick ∷ e.starting ∷ [])) []) 3).agenda.pending
+        ≡ 1 }
+    ensures frames { (run (input_with (e.behind_tick (e.file_tick ∷ e.starting ∷ [])) []) 3).below ≡ [] }
+{}
+
+fn an_entry_waits_and_runs()
+    ensures waits { (run (input_with e.values_of_arrivals (codes "arrival 5 4 *")) 1).entry ≡ Waiting 0 1 }
+    ensures taken { (run (input_with e.values_of_arrivals (codes "arrival 5 4 *")) 1).feed.taken ≡ 2 }
+    ensures runs { (run (input_with e.values_of_arrivals (codes "arrival 5 4 *")) 2).entry ≡ Running 0 1 }
+    ensures clock { (run (input_with e.values_of_arrivals (codes "arrival 5 4 *")) 2).clock ≡ pos 5 }
+    ensures over { (run (input_with e.values_of_arrivals (codes "arrival 5 4 *")) 5).entry ≡ Absent }
+    ensures passed { (run (input_with e.values_of_arrivals (codes "arrival 5 4 *")) 5).feed.taken ≡ 4 }
+    ensures end { (run (input_with e.values_of_arrivals (codes "arrival 5 4 *")) 7).status ≡ Finished }
+{}
+
+fn what_an_event_leaves_of_its_entry_is_passed()
+    ensures { (run (input_with e.values_of_arrivals (codes "ARRIVAL 5 4 9 x * ARRIVAL 7 6 *")) 10).variables
+        ≡ pos 2 ∷ pos 46 ∷ [] }
+{}
+
+fn entries_that_fault()
+    ensures name { (run (input_with e.values_of_arrivals (codes "x 5 4 *")) 1).status ≡ Faulted NotExternal }
+    ensures time { (run (input_with e.values_of_arrivals (codes "ARRIVAL x *")) 1).status ≡ Faulted NotANumber }
+    ensures none { (run (input_with e.values_of_arrivals (codes "ARRIVAL")) 1).status ≡ Faulted NoMoreData }
+    ensures before { (run (input_with e.values_of_arrivals (codes "ARRIVAL -1 *")) 1).status
+        ≡ Faulted TimeBeforeClock }
+    ensures kept { (run (input_with e.values_of_arrivals (codes "ARRIVAL -1 *")) 1).feed.taken ≡ 0 }
+    ensures mark { (run (input_with e.values_of_arrivals (codes "ARRIVAL 5 *")) 3).status ≡ Faulted OutsideEntry }
+    ensures no_mark { (run (input_with e.values_of_arrivals (codes "ARRIVAL 5 4")) 5).status
+        ≡ Faulted OutsideEntry }
+{}
+
+fn a_waiting_entry_is_not_canceled_and_not_read()
+    ensures cancel { (run (input_with (e.while_waiting (e.cancel_number 2)) (codes "ARRIVAL 5 *")) 4).status
+        ≡ Faulted NotScheduled }
+    ensures read { (run (input_with (e.while_waiting e.read_one) (codes "ARRIVAL 5 *")) 4).status
+        ≡ Faulted OutsideEntry }
+{}
+
+fn forgetting_leaves_the_newest_steps()
+    ensures none_made { (b : Beside) → HasForgotten 1 (e.counting_at b 0 0) (e.counting_at b 0 0) }
+    ensures fewer { (b : Beside) → HasForgotten 2 (e.counting_at b 0 1) (e.counting_at b 0 1) }
+    ensures one_of_two { (b : Beside) → HasForgotten 1 (e.counting_at b 0 2) (e.counting_at b 1 2) }
+    ensures one_of_three { (b : Beside) → HasForgotten 1 (e.counting_at b 0 3) (e.counting_at b 2 3) }
+    ensures all { (b : Beside) → HasForgotten 0 (e.counting_at b 1 3) (e.counting_at b 3 3) }
+{}
+
+fn the_earliest_kept_state_is_that_of_the_run()
+    ensures past { (b : Beside) → past_of (e.counting_at b 2 3) ≡ run e.counting_up 2 ∷ [] }
+    ensures back { (b : Beside) → GoesBack true (e.counting_at b 2 3) (e.counting_at b 2 2) }
+    ensures earliest { (b : Beside) → (e.counting_at b 2 2).state.frame.locals ≡ pos 2 ∷ [] }
+    ensures position { (b : Beside) → position (e.counting_at b 2 2) ≡ 2 }
+    ensures no_further { (b : Beside) → GoesBack false (e.counting_at b 2 2) (e.counting_at b 2 2) }
+    ensures again { (b : Beside) → Steps Moved (e.counting_at b 2 2) (e.counting_at b 2 3) }
 {}

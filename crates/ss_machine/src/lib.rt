@@ -7,21 +7,25 @@
 
 mod candidates;
 mod change;
-mod conditions;
+mod entry;
 mod examples;
 mod executor;
+mod external;
 mod frame;
 pub mod laws;
+mod limits;
 mod loops;
 mod machine;
+mod questions;
 mod state;
 mod statistics;
 mod status;
 mod stepped;
-mod values;
+mod timing;
 mod verdict;
-mod view;
 
+pub use entry::Entry;
+pub use limits::LAST_POSITION;
 pub use machine::Machine;
 pub use status::Status;
 pub use stepped::Stepped;

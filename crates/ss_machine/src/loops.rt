@@ -14,6 +14,12 @@ pub enum Walk {
         last: i64,
         step: i64,
     },
+    /// The members of the list of a set, for the owner that a value names.
+    Members {
+        direction: Direction,
+        set: usize,
+        owner: i64,
+    },
 }
 
 /// An open loop: the place of its FOR phrase, the candidate that comes next, if one is left, and

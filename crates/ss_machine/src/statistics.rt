@@ -2,8 +2,8 @@ ghost use Rattle.std.specs.Prelude.{◌≡◌};
 ghost use Rattle.ss_machine.specs.Step as steps;
 ghost use Rattle.ss_machine.specs.State as states;
 
-use crate::values::sum;
 use ss_check::Statistic;
+use ss_values::sum;
 use ss_words::RunFault;
 
 /// What a COMPUTE has gathered: how many values, their sum, the greatest and the least; all 0 over

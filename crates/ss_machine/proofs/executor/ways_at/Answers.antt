@@ -1,4 +1,3 @@
-use Rattle.std.proofs.Common.{sym}
 use Rattle.std.specs.Prelude.{slice_get}
 use Rattle.ss_check.specs.Program.{places_of}
 use Rattle.ss_machine.proofs.Sounds.{ways_found}
@@ -6,5 +5,6 @@ use Rattle.ss_machine.proofs.executor.ways_at.Goals as goal
 
 pub returns : goal.returns
 returns c =
-    ways_found (places_of (slice_get c.args.program.now.sections c.args.section)) c.args.place c.args.spot.now c.ways.result
+    ways_found (places_of (slice_get c.args.program.now.sections c.args.section)) c.args.place c.args.spot.now
+    c.ways.result
     c.ways.ensures c.requires.spot

@@ -1,14 +1,17 @@
-use Rattle.std.proofs.Common.{◌≡◌, length, drop}
+use Rattle.std.proofs.Common.{◌≡◌, drop}
 use Rattle.ss_check.specs.ProgramSound.{AreSoundTellings}
-use Rattle.ss_journal.specs.Undoing.{GoesOn}
-use Rattle.ss_machine.specs.Change.{Fits, unapply}
+use Rattle.ss_machine.specs.Noting.{Notes}
+use Rattle.ss_machine.specs.Seen.{scope_held}
 use Rattle.ss_machine.specs.Step.{state_after_telling}
 use Rattle.ss_machine.proofs.executor.Executor.tell.Given as goal
 
 -- the targets that are left bring the state to the result
 abbrev pub invariant-loop-telling : goal.invariant-loop-telling
-invariant-loop-telling l = record {
-  sound : AreSoundTellings (length l.self.state.variables) (length l.self.state.frame.locals) (drop l.telling-index l.tellings);
-  state : state_after_telling l.statistics l.self.state (drop l.telling-index l.tellings) ≡ state_after_telling l.statistics l.fn.self.state l.tellings;
-  notes : GoesOn Fits unapply (l.telling-index) l.fn.self.state l.fn.self.journal l.self.state l.self.journal;
+invariant-loop-telling g l = record {
+  sound : AreSoundTellings (scope_held l.self.held) (drop l.telling-index l.tellings);
+  tables : l.self.held.beside.tables ≡ l.fn.self.held.beside.tables;
+  state : state_after_telling l.fn.self.held.beside.tables l.statistics l.self.held.state
+      (drop l.telling-index l.tellings)
+      ≡ state_after_telling l.fn.self.held.beside.tables l.statistics l.fn.self.held.state l.tellings;
+  notes : Notes (l.telling-index) l.fn.self l.self;
 }

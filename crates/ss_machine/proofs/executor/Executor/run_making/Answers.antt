@@ -1,0 +1,14 @@
+use Rattle.std.proofs.Common.{◌≡◌, rules}
+use Rattle.ss_journal.specs.Undoing.{unapply_all}
+use Rattle.ss_machine.specs.Change.{unapply}
+use Rattle.ss_machine.proofs.Storings.{settled_as}
+use Rattle.ss_machine.proofs.executor.Executor.run_making.Goals as goal
+
+pub returns-clause-state : goal.returns-clause-state
+returns-clause-state g c =
+    let h = c.args.self.now.held in
+    let o : unapply_all unapply c.make-done.new.self.journal.current c.make-done.new.self.held ≡ h = search rules in
+    settled_as c.make-done.result c.settle_or_refuse.result h.state c.make-done.new.self.held.state
+    c.settle_or_refuse.new.self.held.state _ c.args.next
+    c.make-done.ensures.ok c.make-done.ensures.err c.settle_or_refuse.ensures.ok
+    (rw o at c.settle_or_refuse.ensures.err)

@@ -1,0 +1,12 @@
+use Rattle.std.proofs.Common.{◌≡◌, ◌++◌, drop, Ok}
+use Rattle.std.specs.Prelude.{map}
+use Rattle.ss_values.specs.Faults.{◌>>=◌}
+use Rattle.ss_machine.specs.Step.{attributes_now}
+use Rattle.ss_machine.proofs.state.State.keys.Given as goal
+
+-- the values read so far, and behind them those of the keys that are left, are the values of all
+abbrev pub invariant-loop-key : goal.invariant-loop-key
+invariant-loop-key g l =
+    (attributes_now l.self.state.store l.class l.entity (drop l.key-index (map (λ key. key.attribute) l.ties)) >>= λ xs.
+    Ok (l.values.items ++ xs))
+    ≡ attributes_now l.self.state.store l.class l.entity (map (λ key. key.attribute) l.ties)

@@ -1,0 +1,46 @@
+-- Private: what is held of a run.
+use Rattle.std.specs.Prelude.{ℕ, List}
+use Rattle.ss_store.specs.Tables.{Tables}
+use Rattle.ss_store.specs.Held.{Kept, StoreValue}
+use Rattle.ss_events.specs.Rules.{Rule}
+use Rattle.ss_events.specs.State.{AgendaState}
+use Rattle.ss_machine.specs.State.{State}
+
+-- what stands beside the state for undoing: the store's tables, and what the store keeps; the rules of the classes for
+-- notices, and the notice of each seat
+pub record Beside : Type 0 where
+  pub tables : Tables
+  pub kept : Kept
+  pub rules : List Rule
+  pub notices : List ℕ
+
+-- the state, and what stands beside it
+pub record Held : Type 0 where
+  pub state : State
+  pub beside : Beside
+
+-- what is held of the store
+abbrev pub store_of : Held → StoreValue
+store_of h = record { tables = h.beside.tables; state = h.state.store; kept = h.beside.kept }
+
+-- and of the agenda
+abbrev pub agenda_of : Held → AgendaState
+agenda_of h = record { rules = h.beside.rules; agenda = h.state.agenda; notices = h.beside.notices }
+
+-- the same with another state
+abbrev pub with_state : Held → State → Held
+with_state h s = record h { state = s }
+
+-- the same with another store
+abbrev pub with_store : Held → StoreValue → Held
+with_store h v = record {
+  state = record h.state { store = v.state };
+  beside = record h.beside { tables = v.tables; kept = v.kept };
+}
+
+-- the same with another agenda
+abbrev pub with_agenda : Held → AgendaState → Held
+with_agenda h v = record {
+  state = record h.state { agenda = v.agenda };
+  beside = record h.beside { rules = v.rules; notices = v.notices };
+}

@@ -1,0 +1,83 @@
+-- Private: what a change of the store or of the agenda leaves of what is held.
+use Rattle.std.specs.Prelude.{◌≡◌, ℕ, Result, Ok, Err}
+use Rattle.ss_words.specs.declared.fault.RunFault.{RunFault}
+use Rattle.ss_words.specs.declared.fault.StepFault.{StepFault}
+use Rattle.ss_words.specs.declared.fault.StepFault.TheVariants.{Fault, Memory}
+use Rattle.ss_store.specs.Store.{Store, last_reference}
+use Rattle.ss_events.specs.Agenda.{Agenda}
+use Rattle.ss_machine.specs.declared.change.Change.{Change}
+use Rattle.ss_machine.specs.declared.status.Status.TheVariants.{Faulted}
+use Rattle.ss_machine.specs.Held.{Held}
+use Rattle.ss_machine.specs.Change.{unapply, Fits}
+use Rattle.ss_machine.specs.State.{State}
+use Rattle.ss_machine.specs.Step.{state_with_store, state_with_agenda}
+
+-- the store alone is another one, and the change fits and leads back
+pub record LeavesStore (c : Change) (st : Store) (old new : Held) : Type 0 where
+  pub state : new.state ≡ state_with_store old.state st
+  pub tables : new.beside.tables ≡ old.beside.tables
+  pub rules : new.beside.rules ≡ old.beside.rules
+  pub fits : Fits c new
+  pub back : unapply c new ≡ old
+
+-- a call that may fault; a fault changes nothing
+abbrev pub IsStoring : Result Change RunFault → Result Store RunFault → Held → Held → Type 0
+IsStoring (Ok c) (Ok st) old new = LeavesStore c st old new
+IsStoring (Err e) (Err f) old new = (e ≡ f) × (new ≡ old)
+IsStoring (Ok c) (Err f) old new = ⊥
+IsStoring (Err e) (Ok st) old new = ⊥
+
+-- one that gives the number of a member too
+abbrev pub IsRemoving : Result (ℕ × Change) RunFault → Result (ℕ × Store) RunFault → Held → Held → Type 0
+IsRemoving (Ok r) (Ok s) old new = (r.0 ≡ s.0) × LeavesStore r.1 s.1 old new
+IsRemoving (Err e) (Err f) old new = (e ≡ f) × (new ≡ old)
+IsRemoving (Ok r) (Err f) old new = ⊥
+IsRemoving (Err e) (Ok s) old new = ⊥
+
+-- a refusal changes nothing; memory is refused only where there is no fault
+abbrev pub IsRefused : StepFault → Result Store RunFault → Held → Held → Type 0
+IsRefused (Fault e) (Err f) old new = (e ≡ f) × (new ≡ old)
+IsRefused Memory (Ok s) old new = new ≡ old
+IsRefused (Fault e) (Ok s) old new = ⊥
+IsRefused Memory (Err f) old new = ⊥
+
+-- an entity was made, which has the last reference, or not
+abbrev pub IsCreating : Result (ℕ × Change) StepFault → Result Store RunFault → Held → Held → Type 0
+IsCreating (Ok r) (Ok st) old new = (r.0 ≡ last_reference st) × LeavesStore r.1 st old new
+IsCreating (Err e) r old new = IsRefused e r old new
+IsCreating (Ok r) (Err f) old new = ⊥
+
+-- the entities of a class were made, or not
+abbrev pub IsMakingAll : Result Change StepFault → Result Store RunFault → Held → Held → Type 0
+IsMakingAll (Ok c) (Ok st) old new = LeavesStore c st old new
+IsMakingAll (Err e) r old new = IsRefused e r old new
+IsMakingAll (Ok c) (Err f) old new = ⊥
+
+-- the state is another one, with the same tables and rules, and the change fits and leads back
+pub record LeavesState (c : Change) (s : State) (old new : Held) : Type 0 where
+  pub state : new.state ≡ s
+  pub tables : new.beside.tables ≡ old.beside.tables
+  pub rules : new.beside.rules ≡ old.beside.rules
+  pub fits : Fits c new
+  pub back : unapply c new ≡ old
+
+-- a fault was marked in a state; a want of memory is not
+abbrev pub IsMarked : StepFault → State → State → Type 0
+IsMarked (Fault e) s t = t ≡ record s { status = Faulted e }
+IsMarked Memory s t = ⊥
+
+-- a notice was scheduled, or not; a refusal changes nothing, and memory is refused only where there is no fault
+abbrev pub IsScheduling : Result Change StepFault → Result State RunFault → Held → Held → Type 0
+IsScheduling (Ok c) (Ok s) old new = LeavesState c s old new
+IsScheduling (Err (Fault e)) (Err f) old new = (e ≡ f) × (new ≡ old)
+IsScheduling (Err Memory) (Ok s) old new = new ≡ old
+IsScheduling (Ok c) (Err f) old new = ⊥
+IsScheduling (Err (Fault e)) (Ok s) old new = ⊥
+IsScheduling (Err Memory) (Err f) old new = ⊥
+
+-- a notice was taken off, or not
+abbrev pub IsCancelling : Result Change RunFault → Result Agenda RunFault → Held → Held → Type 0
+IsCancelling (Ok c) (Ok a) old new = LeavesState c (state_with_agenda old.state a) old new
+IsCancelling (Err e) (Err f) old new = (e ≡ f) × (new ≡ old)
+IsCancelling (Ok c) (Err f) old new = ⊥
+IsCancelling (Err e) (Ok a) old new = ⊥

@@ -1,0 +1,10 @@
+/// The entry of the data that makes an external event.
+#[derive(Clone, Copy, Debug, PartialEq, Eq)]
+pub enum Entry {
+    /// There is none.
+    Absent,
+    /// Its notice, of this class, is pending.
+    Waiting { class: usize, notice: u32 },
+    /// The event of its notice, of this class, runs.
+    Running { class: usize, notice: u32 },
+}
