@@ -2,3 +2,9 @@ pub mod LineTables
 pub mod Names
 pub mod Splits
 pub mod Moves
+pub mod Pendings
+pub mod Tables
+pub mod Walks
+pub mod Starts
+pub mod Entries
+pub mod Forgets

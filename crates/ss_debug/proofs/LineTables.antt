@@ -1,10 +1,9 @@
 -- Setting and clearing a line of a table, and how many lines it holds.
-use Rattle.std.proofs.Common.{◌≡◌, ℕ, zero, suc, ◌+◌, ◌<◌, ◌≤◌, Bool, true, false, not, cond, List, [], ◌∷◌, ◌++◌}
+use Rattle.std.proofs.Common.{◌≡◌, ℕ, zero, suc, ◌+◌, ◌<◌, ◌≤◌, Bool, true, false, cond, List, [], ◌∷◌, ◌++◌}
 use Rattle.std.proofs.Common.{slice_index_or, ◌||◌}
 use Rattle.std.proofs.Common.{length, refl, sym, arith, rules, subst, replicate, unwrap_or, nat_lt, nat_eq, slice_get}
 use Rattle.std.proofs.Common.{slice_set}
-use Rattle.std.specs.List.{filter, list_any}
-use Rattle.std.proofs.lemmas.Grind.{common_steps}
+use Rattle.std.specs.List.{filter}
 use Rattle.ss_debug.specs.BreakLines.{is_break_line, with_line, without_line}
 use Rattle.ss_debug.specs.LineTable.{lines_from, lines_of}
 

@@ -2,8 +2,9 @@ use Rattle.std.proofs.Common.{◌≡◌, ℕ, ◌+◌, ◌<◌, ◌≤◌, Bool,
 use Rattle.std.proofs.Common.{nat_le, min, not, ◌||◌, ◌&&◌, ◌-◌, List, subst, ◌⊎◌, inl, inr, rules}
 use borrow.Author.Count.{below_more}
 use borrow.Author.Tests.{ltb-true, ltb-false, leb-true, leb-false}
+use Rattle.ss_machine.specs.declared.limits.TheConstants.{LAST_POSITION}
 use Rattle.ss_machine.specs.Run.{Input}
-use Rattle.ss_debug.specs.Move.{StopCondition, least, stops, forward, is_ready_at, is_in_time, is_at_break}
+use Rattle.ss_debug.specs.Move.{StopCondition, least, stops, forward, is_ready_at, is_in_time, is_met}
 use Rattle.ss_debug.specs.Move.{is_on_break, EndsAt, stops_back, backward, EndsBackAt}
 
 least_step : (b c : Bool) (m n : ℕ) → nat_lt m n ≡ b → m ≤ n → cond b m (cond c n (suc n)) ≤ suc n
@@ -109,11 +110,11 @@ lt_is_true j h = search rules
 abbrev HasStopped : Input → List ℕ → StopCondition → ℕ → ℕ → Type 0
 HasStopped t breaks condition p q =
     (is_ready_at t q ≡ false) ⊎ ((is_in_time t condition q ≡ true) ⊎ ((p < q)
-    × (is_at_break t breaks condition q ≡ true)))
+    × (is_met t breaks condition q ≡ true)))
 
 reason_is : (t : Input) (breaks : List ℕ) (condition : StopCondition) (p k : ℕ) →
     (is_ready_at t (p + k) ≡ false) ⊎ ((is_in_time t condition (p + k) ≡ true) ⊎ ((nat_lt 0 k ≡ true)
-    × (is_at_break t breaks condition (p + k) ≡ true))) →
+    × (is_met t breaks condition (p + k) ≡ true))) →
     HasStopped t breaks condition p (p + k)
 reason_is t breaks condition p k (inl r) = inl r
 reason_is t breaks condition p k (inr (inl r)) = inr (inl r)
@@ -127,18 +128,37 @@ reason_at true t breaks condition p n k e h found =
     let stopped = found (omega (arith, ltb-true _ _ e)) in
     inr (reason_is t breaks condition p k
     (or_true (is_ready_at t (p + k)) (is_in_time t condition (p + k)) (nat_lt 0 k)
-    (is_at_break t breaks condition (p + k)) stopped))
+    (is_met t breaks condition (p + k)) stopped))
 reason_at false t breaks condition p n k e h found = inl (omega (arith, ltb-false _ _ e))
 
+-- where a movement has made as many steps as it may, it has made n, or it is at the last position
+bound_at : (b : Bool) (p n q : ℕ) → nat_le n (LAST_POSITION - p) ≡ b → p ≤ LAST_POSITION →
+    q ≡ p + min n (LAST_POSITION - p) → (q ≡ p + n) ⊎ (q ≡ LAST_POSITION)
+bound_at true p n q e h f = inl (omega (arith, leb-true _ _ e, f))
+bound_at false p n q e h f = inr (omega (arith, leb-false _ _ e, f, h))
+
+reason_of : (t : Input) (breaks : List ℕ) (condition : StopCondition) (p n q : ℕ) → p ≤ LAST_POSITION →
+    (q ≡ p + min n (LAST_POSITION - p)) ⊎ HasStopped t breaks condition p q →
+    (q ≡ p + n) ⊎ ((q ≡ LAST_POSITION) ⊎ HasStopped t breaks condition p q)
+reason_of t breaks condition p n q h (inl e) = at_bound (bound_at _ p n q refl h e)
+  where
+    at_bound : (q ≡ p + n) ⊎ (q ≡ LAST_POSITION) →
+        (q ≡ p + n) ⊎ ((q ≡ LAST_POSITION) ⊎ HasStopped t breaks condition p q)
+    at_bound (inl f) = inl f
+    at_bound (inr f) = inr (inl f)
+reason_of t breaks condition p n q h (inr s) = inr (inr s)
+
 -- a movement ends where the one fact says
-pub forward_ends : (t : Input) (breaks : List ℕ) (condition : StopCondition) (p n : ℕ) →
+pub forward_ends : (t : Input) (breaks : List ℕ) (condition : StopCondition) (p n : ℕ) → p ≤ LAST_POSITION →
     EndsAt t breaks condition p n (forward t breaks condition p n)
-forward_ends t breaks condition p n =
+forward_ends t breaks condition p m before =
+    let n : ℕ = min m (LAST_POSITION - p) in
     let test : ℕ → Bool = stops t breaks condition p in
     let w = least_within test n in
     record {
       no_earlier = omega arith;
       within = omega arith;
+      not_past_the_last = omega arith;
       not_past_an_end = λ k h g.
           let e : p + (k - p) ≡ k = omega arith in
           let P : ℕ → Type 0 = λ q. is_ready_at t q ≡ true in
@@ -147,25 +167,28 @@ forward_ends t breaks condition p n =
           let e : p + (k - p) ≡ k = omega arith in
           let P : ℕ → Type 0 = λ q. is_in_time t condition q ≡ false in
           subst P e (or_false_time (is_ready_at t (p + (k - p))) _ _ (least_below test n (k - p) (omega arith)));
-      not_past_a_break = λ k h g.
+      not_past_a_met = λ k h g.
           let e : p + (k - p) ≡ k = omega arith in
-          let P : ℕ → Type 0 = λ q. is_at_break t breaks condition q ≡ false in
+          let P : ℕ → Type 0 = λ q. is_met t breaks condition q ≡ false in
           subst P e
           (or_false_break (is_ready_at t (p + (k - p))) (is_in_time t condition (p + (k - p))) _ _
           (least_below test n (k - p) (omega arith)) (lt_is_true (k - p) (omega arith)));
-      for_a_reason = reason_at _ t breaks condition p n (least test n) refl w (least_passes test n);
+      for_a_reason =
+          reason_of t breaks condition p m (p + least test n) before
+          (reason_at _ t breaks condition p n (least test n) refl w (least_passes test n));
     }
 
 no_end_before : (t : Input) (breaks : List ℕ) (condition : StopCondition) (p n q r : ℕ) →
     EndsAt t breaks condition p n q → EndsAt t breaks condition p n r → q < r →
-    (q ≡ p + n) ⊎ HasStopped t breaks condition p q → q ≡ r
+    (q ≡ p + n) ⊎ ((q ≡ LAST_POSITION) ⊎ HasStopped t breaks condition p q) → q ≡ r
 no_end_before t breaks condition p n q r a b h (inl e) = let w = b.within in absurd (omega arith)
-no_end_before t breaks condition p n q r a b h (inr (inl e)) =
-    let ready = b.not_past_an_end q a.no_earlier h in absurd (cc)
+no_end_before t breaks condition p n q r a b h (inr (inl e)) = let w = b.not_past_the_last in absurd (omega arith)
 no_end_before t breaks condition p n q r a b h (inr (inr (inl e))) =
+    let ready = b.not_past_an_end q a.no_earlier h in absurd (cc)
+no_end_before t breaks condition p n q r a b h (inr (inr (inr (inl e)))) =
     let early = b.not_past_the_time q a.no_earlier h in absurd (cc)
-no_end_before t breaks condition p n q r a b h (inr (inr (inr e))) =
-    let unmet = b.not_past_a_break q e.0 h in let met = e.1 in absurd (cc)
+no_end_before t breaks condition p n q r a b h (inr (inr (inr (inr e)))) =
+    let unmet = b.not_past_a_met q e.0 h in let met = e.1 in absurd (cc)
 
 end_by_order : (t : Input) (breaks : List ℕ) (condition : StopCondition) (p n q r : ℕ) (x y : Bool) →
     nat_lt q r ≡ x → nat_lt r q ≡ y →
@@ -181,7 +204,7 @@ pub one_end : (t : Input) (breaks : List ℕ) (condition : StopCondition) (p n q
     EndsAt t breaks condition p n q → EndsAt t breaks condition p n r → q ≡ r
 one_end t breaks condition p n q r a b = end_by_order t breaks condition p n q r _ _ refl refl a b
 
--- ---- back to a break line
+-- ---- back to where a test holds
 
 and_false : (a b : Bool) → (a && b) ≡ false → a ≡ true → b ≡ false
 and_false true b e f = e
@@ -192,70 +215,72 @@ and_true true true e = (refl, refl)
 and_true true false e = absurd (cc)
 and_true false b e = absurd (cc)
 
-back_at_bound : (b : Bool) (t : Input) (breaks : List ℕ) (p n k : ℕ) → nat_le n p ≡ b → min n p ≤ k →
-    k ≤ min n p →
-    (p - k ≡ 0) ⊎ ((p ≡ (p - k) + n) ⊎ ((p - k < p) × (is_on_break t breaks (p - k) ≡ true)))
-back_at_bound true t breaks p n k e h g = inr (inl (omega (arith, leb-true _ _ e)))
-back_at_bound false t breaks p n k e h g = inl (omega (arith, leb-false _ _ e))
+back_at_bound : (b : Bool) (test : ℕ → Bool) (a p n k : ℕ) → a ≤ p → nat_le n (p - a) ≡ b → min n (p - a) ≤ k →
+    k ≤ min n (p - a) →
+    (p - k ≡ a) ⊎ ((p ≡ (p - k) + n) ⊎ ((p - k < p) × (test (p - k) ≡ true)))
+back_at_bound true test a p n k o e h g = inr (inl (omega (arith, leb-true _ _ e)))
+back_at_bound false test a p n k o e h g = inl (omega (arith, leb-false _ _ e))
 
-back_reason : (b : Bool) (t : Input) (breaks : List ℕ) (p n k : ℕ) → nat_lt k (min n p) ≡ b →
-    k ≤ min n p → (k < min n p → stops_back t breaks p k ≡ true) →
-    (p - k ≡ 0) ⊎ ((p ≡ (p - k) + n) ⊎ ((p - k < p) × (is_on_break t breaks (p - k) ≡ true)))
-back_reason true t breaks p n k e h found =
-    let low : k < min n p = omega (arith, ltb-true _ _ e) in
+back_reason : (b : Bool) (test : ℕ → Bool) (a p n k : ℕ) → a ≤ p → nat_lt k (min n (p - a)) ≡ b →
+    k ≤ min n (p - a) → (k < min n (p - a) → stops_back test p k ≡ true) →
+    (p - k ≡ a) ⊎ ((p ≡ (p - k) + n) ⊎ ((p - k < p) × (test (p - k) ≡ true)))
+back_reason true test a p n k o e h found =
+    let low : k < min n (p - a) = omega (arith, ltb-true _ _ e) in
     let stopped = and_true (nat_lt 0 k) _ (found low) in
     let more : 0 < k = omega (arith, ltb-true _ _ stopped.0) in
     inr (inr (omega arith, stopped.1))
-back_reason false t breaks p n k e h found =
-    back_at_bound _ t breaks p n k refl (omega (arith, ltb-false _ _ e)) h
+back_reason false test a p n k o e h found =
+    back_at_bound _ test a p n k o refl (omega (arith, ltb-false _ _ e)) h
 
--- a movement back to a break line ends where the one fact says
-pub backward_ends : (t : Input) (breaks : List ℕ) (p n : ℕ) → EndsBackAt t breaks p n (backward t breaks p n)
-backward_ends t breaks p n =
-    let test : ℕ → Bool = stops_back t breaks p in
-    let w = least_within test (min n p) in
+-- a movement back ends where the one fact says
+pub backward_ends : (test : ℕ → Bool) (a p n : ℕ) → a ≤ p → EndsBackAt test a p n (backward test a p n)
+backward_ends test a p n o =
+    let stop : ℕ → Bool = stops_back test p in
+    let w = least_within stop (min n (p - a)) in
     record {
       no_later = omega arith;
+      not_before_the_kept = omega arith;
       within = omega arith;
-      not_past_a_break = λ k h g.
+      not_past_a_met = λ k h g.
           let e : p - (p - k) ≡ k = omega arith in
-          let P : ℕ → Type 0 = λ q. is_on_break t breaks q ≡ false in
+          let P : ℕ → Type 0 = λ q. test q ≡ false in
           subst P e
-          (and_false _ _ (least_below test (min n p) (p - k) (omega arith)) (lt_is_true (p - k) (omega arith)));
-      for_a_reason = back_reason _ t breaks p n (least test (min n p)) refl w (least_passes test (min n p));
+          (and_false _ _ (least_below stop (min n (p - a)) (p - k) (omega arith)) (lt_is_true (p - k) (omega arith)));
+      for_a_reason =
+          back_reason _ test a p n (least stop (min n (p - a))) o refl w (least_passes stop (min n (p - a)));
     }
 
--- what stops a movement back at q, k positions back
+-- what stops a movement back to a break line at q, k positions back
 pub stops_back_here : (t u : Input) (breaks : List ℕ) (p q k : ℕ) → u ≡ t → p ≡ q + k →
-    stops_back t breaks p k ≡ (nat_lt 0 k && is_on_break u breaks q)
+    stops_back (is_on_break t breaks) p k ≡ (nat_lt 0 k && is_on_break u breaks q)
 stops_back_here t u breaks p q k e f = let g : p - k ≡ q = omega arith in rw (e, g) refl
 
--- where a movement back that has come from p to q, k positions back, ends there: it went on from all between, and it is at
--- its bound, at a break line, or at 0
-pub backward_is : (t : Input) (breaks : List ℕ) (p n k q : ℕ) → p ≡ q + k → k ≤ n →
-    ((j : ℕ) → j < k → stops_back t breaks p j ≡ false) →
-    (k < n → 0 < q → stops_back t breaks p k ≡ true) → backward t breaks p n ≡ q
-backward_is t breaks p n k q e h none found =
-    let found_at : k < min n p → stops_back t breaks p k ≡ true = λ g. found (omega arith) (omega arith) in
-    let f = least_is (stops_back t breaks p) (min n p) k (omega arith) none found_at in omega arith
+-- where a movement back that has come from p to q, k positions back, ends there: it went on from all between, and it is
+-- at its bound, where the test holds, or at the earliest kept position
+pub backward_is : (test : ℕ → Bool) (a p n k q : ℕ) → p ≡ q + k → k ≤ n → a ≤ q →
+    ((j : ℕ) → j < k → stops_back test p j ≡ false) →
+    (k < n → a < q → stops_back test p k ≡ true) → backward test a p n ≡ q
+backward_is test a p n k q e h o none found =
+    let found_at : k < min n (p - a) → stops_back test p k ≡ true = λ g. found (omega arith) (omega arith) in
+    let f = least_is (stops_back test p) (min n (p - a)) k (omega arith) none found_at in omega arith
 
-no_back_end_before : (t : Input) (breaks : List ℕ) (p n q r : ℕ) →
-    EndsBackAt t breaks p n q → EndsBackAt t breaks p n r → q < r →
-    (r ≡ 0) ⊎ ((p ≡ r + n) ⊎ ((r < p) × (is_on_break t breaks r ≡ true))) → q ≡ r
-no_back_end_before t breaks p n q r a b h (inl e) = absurd (omega arith)
-no_back_end_before t breaks p n q r a b h (inr (inl e)) = let w = a.within in absurd (omega arith)
-no_back_end_before t breaks p n q r a b h (inr (inr e)) =
-    let unmet = a.not_past_a_break r h e.0 in let met = e.1 in absurd (cc)
+no_back_end_before : (test : ℕ → Bool) (o p n q r : ℕ) →
+    EndsBackAt test o p n q → EndsBackAt test o p n r → q < r →
+    (r ≡ o) ⊎ ((p ≡ r + n) ⊎ ((r < p) × (test r ≡ true))) → q ≡ r
+no_back_end_before test o p n q r a b h (inl e) = let w = a.not_before_the_kept in absurd (omega arith)
+no_back_end_before test o p n q r a b h (inr (inl e)) = let w = a.within in absurd (omega arith)
+no_back_end_before test o p n q r a b h (inr (inr e)) =
+    let unmet = a.not_past_a_met r h e.0 in let met = e.1 in absurd (cc)
 
-back_end_by_order : (t : Input) (breaks : List ℕ) (p n q r : ℕ) (x y : Bool) → nat_lt q r ≡ x → nat_lt r q ≡ y →
-    EndsBackAt t breaks p n q → EndsBackAt t breaks p n r → q ≡ r
-back_end_by_order t breaks p n q r true y e f a b =
-    no_back_end_before t breaks p n q r a b (omega (arith, ltb-true _ _ e)) b.for_a_reason
-back_end_by_order t breaks p n q r false true e f a b =
-    sym (no_back_end_before t breaks p n r q b a (omega (arith, ltb-true _ _ f)) a.for_a_reason)
-back_end_by_order t breaks p n q r false false e f a b = omega (arith, ltb-false _ _ e, ltb-false _ _ f)
+back_end_by_order : (test : ℕ → Bool) (o p n q r : ℕ) (x y : Bool) → nat_lt q r ≡ x → nat_lt r q ≡ y →
+    EndsBackAt test o p n q → EndsBackAt test o p n r → q ≡ r
+back_end_by_order test o p n q r true y e f a b =
+    no_back_end_before test o p n q r a b (omega (arith, ltb-true _ _ e)) b.for_a_reason
+back_end_by_order test o p n q r false true e f a b =
+    sym (no_back_end_before test o p n r q b a (omega (arith, ltb-true _ _ f)) a.for_a_reason)
+back_end_by_order test o p n q r false false e f a b = omega (arith, ltb-false _ _ e, ltb-false _ _ f)
 
 -- and nowhere else
-pub one_back_end : (t : Input) (breaks : List ℕ) (p n q r : ℕ) →
-    EndsBackAt t breaks p n q → EndsBackAt t breaks p n r → q ≡ r
-one_back_end t breaks p n q r a b = back_end_by_order t breaks p n q r _ _ refl refl a b
+pub one_back_end : (test : ℕ → Bool) (o p n q r : ℕ) →
+    EndsBackAt test o p n q → EndsBackAt test o p n r → q ≡ r
+one_back_end test o p n q r a b = back_end_by_order test o p n q r _ _ refl refl a b

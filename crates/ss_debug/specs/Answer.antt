@@ -1,20 +1,26 @@
 -- The texts that the debugger answers.
-use Rattle.std.specs.Prelude.{ℕ, List, [], ◌∷◌, ◌++◌, codes, decimal, Option, Some, None}
+use Rattle.std.specs.Prelude.{ℕ, ◌+◌, ◌-◌, Bool, List, [], ◌∷◌, ◌++◌, codes, decimal, Option, Some, None}
 use Rattle.std.specs.Prelude.{if◌then◌else◌, ◌&&◌, nat_lt, nat_eq, slice_get, position}
 use Rattle.std.specs.Option.{option_map, option_or}
 use Rattle.std.specs.Fmt.{signed_decimal}
 use Rattle.std.specs.Str.{bytes_eq}
 use Rattle.ss_words.specs.Faults.{run_fault_number}
-use Rattle.ss_check.specs.Program.{SectionTable, locals_of}
+use Rattle.ss_check.specs.Program.{ProgramTable, SectionTable, class_of, locals_of}
 use Rattle.ss_check.specs.declared.variable.Variable.{Variable}
 use Rattle.ss_check.specs.declared.variable.Variable.TheVariants.{Global, Local, Clock}
+use Rattle.ss_events.specs.declared.agenda.Slot.{Slot}
+use Rattle.ss_events.specs.Rules.{rules_of}
+use Rattle.ss_events.specs.Agenda.{Pending, in_order}
+use Rattle.ss_events.specs.Slots.{slot_of}
+use Rattle.ss_machine.specs.declared.entry.Entry.{Entry}
+use Rattle.ss_machine.specs.declared.entry.Entry.TheVariants.{Absent, Waiting, Running}
 use Rattle.ss_machine.specs.declared.status.Status.{Status}
 use Rattle.ss_machine.specs.declared.status.Status.TheVariants.{Ready, Stopped, Finished, Faulted}
-use Rattle.ss_machine.specs.Values.{readings, variable_value}
+use Rattle.ss_machine.specs.Readings.{variable_in}
 use Rattle.ss_machine.specs.Run.{Input, run}
 use Rattle.ss_debug.specs.BreakLines.{is_break_line, is_full}
-use Rattle.ss_debug.specs.Move.{StopCondition, never, at_break_line, at_time}
-use Rattle.ss_debug.specs.Move.{is_ready_at, is_on_break, is_in_time, is_at_break, line_at}
+use Rattle.ss_debug.specs.Move.{StopCondition, never, at_break_line, at_time, behind_event_start}
+use Rattle.ss_debug.specs.Move.{is_ready_at, is_in_time, is_met, line_at}
 
 -- the word of a status
 abbrev pub status_text : Status → List ℕ
@@ -50,33 +56,49 @@ state_line t p = moment_text t p ++ place_text t p ++ 10 ∷ []
 unfoldable pub movement_text : List ℕ → Input → ℕ → List ℕ
 movement_text word t p = word ++ codes ": " ++ state_line t p
 
--- the word at the bound
-abbrev pub bound_word : StopCondition → List ℕ
-bound_word never = codes "DONE"
-bound_word at_break_line = codes "BOUND"
-bound_word (at_time time) = codes "BOUND"
+-- the word where neither a time has come nor the condition is met: DONE where steps are counted and all were made
+abbrev pub bound_word : StopCondition → Bool → List ℕ
+bound_word never is_whole = if is_whole then codes "DONE" else codes "BOUND"
+bound_word at_break_line is_whole = codes "BOUND"
+bound_word (at_time time) is_whole = codes "BOUND"
+bound_word behind_event_start is_whole = codes "BOUND"
 
--- the word of a movement from p to a state q that is ready: TIME where the time has come, BREAK at a break line later
--- than p, else that of the bound
-abbrev pub ready_word : Input → List ℕ → StopCondition → ℕ → ℕ → List ℕ
-ready_word t breaks condition p q =
+-- the word where the condition is met later than at the beginning
+abbrev pub met_word : StopCondition → List ℕ
+met_word never = codes "DONE"
+met_word at_break_line = codes "BREAK"
+met_word (at_time time) = codes "BREAK"
+met_word behind_event_start = codes "EVENT"
+
+-- the word of a movement from p by at most n steps to a state q that is ready: TIME where the time has come, that of
+-- the condition where it is met later than p, else that of the bound
+abbrev pub ready_word : Input → List ℕ → StopCondition → ℕ → ℕ → ℕ → List ℕ
+ready_word t breaks condition p n q =
     if is_in_time t condition q then codes "TIME" else
-    if nat_lt p q && is_at_break t breaks condition q then codes "BREAK" else bound_word condition
+    if nat_lt p q && is_met t breaks condition q then met_word condition else bound_word condition (nat_eq q (p + n))
 
--- the word of a movement from p to q: HALTED where the status isn't ready
-abbrev pub forward_word : Input → List ℕ → StopCondition → ℕ → ℕ → List ℕ
-forward_word t breaks condition p q =
-    if is_ready_at t q then ready_word t breaks condition p q else codes "HALTED"
+-- the word of a movement from p by at most n steps to q: HALTED where the status isn't ready
+abbrev pub forward_word : Input → List ℕ → StopCondition → ℕ → ℕ → ℕ → List ℕ
+forward_word t breaks condition p n q =
+    if is_ready_at t q then ready_word t breaks condition p n q else codes "HALTED"
+
+-- the word at the earliest kept position
+abbrev pub earliest_word : ℕ → List ℕ
+earliest_word earliest = if nat_eq earliest 0 then codes "START" else codes "NOTHING KEPT"
 
 -- the word of a movement back by n from p
-abbrev pub back_word : ℕ → ℕ → List ℕ
-back_word p n = if nat_lt p n then codes "START" else codes "DONE"
+abbrev pub back_word : ℕ → ℕ → ℕ → List ℕ
+back_word earliest p n = if nat_lt (p - earliest) n then earliest_word earliest else codes "DONE"
 
--- the word of a movement back from p to q, to a break line
-abbrev pub back_break_word : Input → List ℕ → ℕ → ℕ → List ℕ
-back_break_word t breaks p q =
-    if nat_lt q p && is_on_break t breaks q then codes "BREAK" else
-    if nat_eq q 0 then codes "START" else codes "BOUND"
+-- the word of a movement back from p to q, to a state at which the test holds, where the word for that is given
+abbrev pub back_to_word : List ℕ → (ℕ → Bool) → ℕ → ℕ → ℕ → List ℕ
+back_to_word word test earliest p q =
+    if nat_lt q p && test q then word else
+    if nat_eq q earliest then earliest_word earliest else codes "BOUND"
+
+-- the answer to FORGET: how many steps back can be made now
+unfoldable pub kept_text : ℕ → List ℕ
+kept_text n = codes "KEPT " ++ decimal n ++ 10 ∷ []
 
 -- the answer to BREAK: with the greatest number of other lines there is no room for one more
 unfoldable pub break_text : List ℕ → ℕ → List ℕ
@@ -104,12 +126,48 @@ variable_named t p name =
 -- the line of a variable of this name, or that there is none
 abbrev pub value_line : Input → ℕ → List ℕ → Option Variable → List ℕ
 value_line t p name (Some v) =
-    name ++ codes " = " ++ signed_decimal (variable_value (readings (run t p)) v) ++ 10 ∷ []
+    name ++ codes " = " ++ signed_decimal (variable_in (run t p) v) ++ 10 ∷ []
 value_line t p name None = codes "NO VARIABLE " ++ name ++ 10 ∷ []
 
 -- the answer to SHOW VAR in state p
 unfoldable pub var_text : List ℕ → Input → ℕ → List ℕ
 var_text name t p = value_line t p name (variable_named t p name)
+
+-- the answer to SHOW TAKEN in state p
+unfoldable pub taken_text : Input → ℕ → List ℕ
+taken_text t p = codes "TAKEN " ++ decimal (run t p).feed.taken ++ 10 ∷ []
+
+-- the line of an entry: its class, the reference of its notice, and whether it waits or its event runs
+abbrev pub entry_line : ProgramTable → Entry → List ℕ
+entry_line program Absent = codes "ENTRY NONE\n"
+entry_line program (Waiting class notice) =
+    codes "ENTRY " ++ (class_of program class).name ++ codes " " ++ decimal notice ++ codes " WAITING\n"
+entry_line program (Running class notice) =
+    codes "ENTRY " ++ (class_of program class).name ++ codes " " ++ decimal notice ++ codes " RUNNING\n"
+
+-- the answer to SHOW ENTRY in state p
+unfoldable pub entry_text : Input → ℕ → List ℕ
+entry_text t p = entry_line t.program (run t p).entry
+
+-- the line of a pending notice: its class, its reference and its time
+abbrev pub notice_line : ProgramTable → ℕ → Slot → List ℕ
+notice_line program notice slot =
+    (class_of program slot.class).name ++ codes " " ++ decimal notice
+    ++ codes " AT " ++ signed_decimal slot.time ++ 10 ∷ []
+
+-- a line for each notice
+abbrev pub notice_lines : ProgramTable → List Pending → List ℕ
+notice_lines program [] = []
+notice_lines program (n ∷ ns) = notice_line program n.notice (slot_of n) ++ notice_lines program ns
+
+-- a line for each notice, or that there is none
+abbrev pub pending_text : ProgramTable → List Pending → List ℕ
+pending_text program [] = codes "NO EVENTS\n"
+pending_text program (n ∷ ns) = notice_lines program (n ∷ ns)
+
+-- the answer to SHOW EVENTS in state p: the pending notices, the next first
+unfoldable pub events_text : Input → ℕ → List ℕ
+events_text t p = pending_text t.program (in_order (rules_of t.program) (run t p).agenda)
 
 -- the answer to SHOW REPORT in state p: the line REPORT and the report's bytes
 unfoldable pub report_text : Input → ℕ → List ℕ

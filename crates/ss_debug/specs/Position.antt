@@ -3,7 +3,8 @@ use Rattle.std.specs.Prelude.{ℕ, ◌≡◌}
 use Rattle.ss_machine.specs.Run.{Input}
 use Rattle.ss_machine.specs.Moment.{Moment, position}
 
--- a machine holds state number p of the run of this program
-pub record IsAt (t : Input) (p : ℕ) (m : Moment) : Type 0 where
+-- a machine holds state number p of the run of this program, and k steps are forgotten
+pub record IsAt (t : Input) (k p : ℕ) (m : Moment) : Type 0 where
   pub input : m.input ≡ t
+  pub forgotten : m.forgotten ≡ k
   pub position : position m ≡ p

@@ -2,8 +2,8 @@
 use Rattle.std.specs.Prelude.{ℕ, List}
 use Rattle.ss_machine.specs.Moment.{Moment, position}
 use Rattle.ss_debug.specs.declared.stop_condition.StopCondition.{StopCondition as StopChoice}
-use Rattle.ss_debug.specs.declared.stop_condition.StopCondition.TheVariants.{Never, AtBreakLine, AtTime}
-use Rattle.ss_debug.specs.Move.{StopCondition, never, at_break_line, at_time}
+use Rattle.ss_debug.specs.declared.stop_condition.StopCondition.TheVariants.{Never, AtBreakLine, AtTime, BehindEventStart}
+use Rattle.ss_debug.specs.Move.{StopCondition, never, at_break_line, at_time, behind_event_start}
 use Rattle.ss_debug.specs.Turn.{DebuggerState}
 
 -- the stop condition that the code names
@@ -11,6 +11,7 @@ abbrev pub condition_of : StopChoice → StopCondition
 condition_of Never = never
 condition_of AtBreakLine = at_break_line
 condition_of (AtTime time) = at_time time
+condition_of BehindEventStart = behind_event_start
 
 -- a debugger: its machine and its break lines
 pub record DebuggerView : Type 0 where
@@ -19,4 +20,5 @@ pub record DebuggerView : Type 0 where
 
 -- the state of a debugger
 abbrev pub debugger_state_of : DebuggerView → DebuggerState
-debugger_state_of d = record { position = position d.machine; breaks = d.breaks }
+debugger_state_of d =
+    record { position = position d.machine; earliest = d.machine.forgotten; breaks = d.breaks }

@@ -14,6 +14,8 @@ pub enum Command {
     Break(u32),
     /// CLEAR: this line is no break line any more.
     Clear(u32),
+    /// FORGET: all steps but so many newest ones, from 1 to 1,000,000 where a line was read.
+    Forget(u64),
     /// SHOW: a question.
     Show(Question),
     /// QUIT: the session is over.
@@ -29,8 +31,12 @@ pub enum Movement {
     Run(u64),
     /// RUN TO: forward to this time or a break line.
     RunTo(u64),
+    /// NEXT: forward to the state to which the next event start leads.
+    Next,
     /// BACK: so many steps back.
     Back(u64),
+    /// BACK EVENT: back to a state whose next step is an event start.
+    BackEvent,
     /// BACK BREAK: back to a break line.
     BackBreak,
 }
@@ -44,6 +50,17 @@ pub enum Question {
     Where,
     /// SHOW VAR: the variable of this name, and its value.
     Variable(Name),
+    /// SHOW c k: the entity of this class with this number, and its attributes.
+    Entity(Name, i64),
+    /// SHOW SET: the members of the set of this name, for the owner with this number or that which
+    /// the variable of its class names.
+    Set(Name, Option<i64>),
+    /// SHOW EVENTS: the pending notices, the next first.
+    Events,
+    /// SHOW TAKEN: how many values of the data are taken.
+    Taken,
+    /// SHOW ENTRY: the entry of an external event, and whether it waits or runs.
+    Entry,
     /// SHOW REPORT: the report so far.
     Report,
 }

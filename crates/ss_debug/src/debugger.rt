@@ -1,52 +1,59 @@
 //! The debugger, and what each command does.
-ghost use Rattle.std.specs.Prelude.{◌≡◌, ◌-◌, ◌++◌, [], true, OnOk, OnErr, IfOk, IsOk};
+ghost use Rattle.std.specs.Prelude.{◌≡◌, ◌++◌, [], codes, true, OnOk, OnErr, IfOk, IsOk};
 ghost use Rattle.ss_machine.specs.Moment.{position};
 ghost use Rattle.ss_debug.specs.Turn.{debugger_state_at, position_after_forward, forward_answer};
-ghost use Rattle.ss_debug.specs.Turn.{debugger_state_after_movement, back_break_answer, movement_answer};
+ghost use Rattle.ss_debug.specs.Turn.{debugger_state_after_movement, back_to_answer, movement_answer};
+ghost use Rattle.ss_debug.specs.Turn.{debugger_state_after_forget, forget_answer};
 ghost use Rattle.ss_debug.specs.Turn.{question_answer, debugger_state_after, answer, go_of, is_silent};
-ghost use Rattle.ss_debug.specs.Answer.{movement_text, back_word, break_text, clear_text};
+ghost use Rattle.ss_debug.specs.Answer.{break_text, clear_text};
 ghost use Rattle.ss_debug.specs.BreakLines.{breaks_after_set, without_line};
-ghost use Rattle.ss_debug.specs.declared.commands.Movement.TheVariants.{BackBreak};
+ghost use Rattle.ss_debug.specs.declared.commands.Movement.TheVariants.{Back, BackEvent, BackBreak};
+ghost use Rattle.ss_debug.specs.Move.{is_on_break, starts_event};
 ghost use Rattle.ss_debug.specs.View.{debugger_state_of, condition_of};
 ghost use Rattle.ss_debug.specs.AfterRefusal.{IsPartOfMovement, IsStateAfterRefusedMovement, IsStateAfterRefusal};
 
 use crate::break_lines::BreakLines;
 use crate::commands::{Command, Movement, Question};
+use crate::entity_text::entity_text;
+use crate::entry_text::entry_text;
+use crate::events_text::events_text;
 use crate::go::Go;
 use crate::limits::GREATEST_BOUND;
-use crate::movement::{advance, retreat, retreat_to_break};
+use crate::movement::{advance, retreat, retreat_to_break, retreat_to_event};
+use crate::set_text::set_text;
 use crate::stop_condition::StopCondition;
 use crate::text::{
-    break_text, clear_text, clock_text, movement_text, movement_word, report_text,
-    retreat_to_break_word, retreat_word, var_text, where_text,
+    break_text, clear_text, clock_text, kept_text, movement_text, movement_word, report_text,
+    retreat_to_break_word, retreat_to_event_word, retreat_word, taken_text, var_text, where_text,
 };
+use ss_links::SetBoard;
 use ss_machine::Machine;
 use std::alloc::{AllocError, Global};
 use std::marker::Model;
 
 /// A machine under the commands of an analyst. Contracts see the machine and the break lines.
 #[derive(Drop)]
-pub struct Debugger {
-    machine: Machine,
+pub struct Debugger<S: SetBoard> {
+    machine: Machine<S>,
     breaks: BreakLines,
     alloc: Global,
 }
 
-impl Model for Debugger {
+impl<S: SetBoard> Model for Debugger<S> {
     ghost use Rattle.std.specs.Coded.{codes};
     ghost use Rattle.ss_debug.specs.View.{DebuggerView};
-    ghost use Rattle.ss_machine.specs.contracts.machine.Machine as machine_contracts;
+    ghost use Rattle.ss_check.specs.contracts.program.Program as checked;
 
     ghost Value = { DebuggerView };
 
-    ghost coded = { Prim.hlevel (codes, machine_contracts.the_row.coded) };
+    ghost coded = { Prim.hlevel (codes, checked.the_row.coded) };
 
     ghost view = { λ d. record { machine = d.machine; breaks = d.breaks } };
 }
 
-impl Debugger {
+impl<S: SetBoard> Debugger<S> {
     /// A debugger over a machine, without break lines; takes no memory.
-    pub fn new(alloc: Global, machine: Machine) -> Self
+    pub fn new(alloc: Global, machine: Machine<S>) -> Self
         ensures { result ≡ record { machine = machine; breaks = [] } }
     {
         Debugger {
@@ -57,7 +64,7 @@ impl Debugger {
     }
 
     /// The machine, at the position to which the commands so far have led.
-    pub fn machine(&self) -> &Machine
+    pub fn machine(&self) -> &Machine<S>
         ensures { result.now ≡ self.now.machine }
     {
         &self.machine
@@ -82,8 +89,8 @@ impl Debugger {
             (condition_of condition) bound) (debugger_state_of self.new)) }
     {
         let from = self.machine.position();
-        advance(&mut self.machine, &self.breaks, condition, bound)?;
-        let word = movement_word(&self.machine, &self.breaks, condition, from);
+        let started = advance(&mut self.machine, &self.breaks, condition, bound)?;
+        let word = movement_word(&self.machine, &self.breaks, condition, from, bound, started);
         let text = movement_text(self.alloc, word, &self.machine)?;
         bytes.extend_from_slice(&text)
     }
@@ -91,14 +98,13 @@ impl Debugger {
     /// A movement back, and its answer.
     fn go_back(&mut self, count: u64, bytes: &mut Vec<u8>) -> Result<(), AllocError>
         ensures input { self.new.machine.input ≡ self.old.machine.input }
-        ensures place { debugger_state_of self.new
-            ≡ debugger_state_at (debugger_state_of self.old) (position self.old.machine - count) }
+        ensures place { debugger_state_of self.new ≡ debugger_state_after_movement self.old.machine.input
+            (debugger_state_of self.old) (Back count) }
         ensures said { OnOk result (bytes.new.items ≡ bytes.old.items
-            ++ movement_text (back_word (position self.old.machine) count) self.old.machine.input
-            (position self.old.machine - count)) }
+            ++ movement_answer self.old.machine.input (debugger_state_of self.old) (Back count)) }
         ensures memory { OnErr result (bytes.new.items ≡ bytes.old.items) }
     {
-        let word = retreat_word(self.machine.position(), count);
+        let word = retreat_word(&self.machine, count);
         retreat(&mut self.machine, count);
         let text = movement_text(self.alloc, word, &self.machine)?;
         bytes.extend_from_slice(&text)
@@ -110,12 +116,30 @@ impl Debugger {
         ensures place { debugger_state_of self.new ≡ debugger_state_after_movement self.old.machine.input
             (debugger_state_of self.old) BackBreak }
         ensures said { OnOk result (bytes.new.items ≡ bytes.old.items
-            ++ back_break_answer self.old.machine.input (debugger_state_of self.old)) }
+            ++ back_to_answer self.old.machine.input (debugger_state_of self.old) (codes "BREAK")
+            (is_on_break self.old.machine.input self.old.breaks)) }
         ensures memory { OnErr result (bytes.new.items ≡ bytes.old.items) }
     {
         let from = self.machine.position();
         retreat_to_break(&mut self.machine, &self.breaks, GREATEST_BOUND);
         let word = retreat_to_break_word(&self.machine, &self.breaks, from);
+        let text = movement_text(self.alloc, word, &self.machine)?;
+        bytes.extend_from_slice(&text)
+    }
+
+    /// A movement back to an event start, and its answer.
+    fn go_back_to_event(&mut self, bytes: &mut Vec<u8>) -> Result<(), AllocError>
+        ensures input { self.new.machine.input ≡ self.old.machine.input }
+        ensures place { debugger_state_of self.new ≡ debugger_state_after_movement self.old.machine.input
+            (debugger_state_of self.old) BackEvent }
+        ensures said { OnOk result (bytes.new.items ≡ bytes.old.items
+            ++ back_to_answer self.old.machine.input (debugger_state_of self.old) (codes "EVENT")
+            (starts_event self.old.machine.input)) }
+        ensures memory { OnErr result (bytes.new.items ≡ bytes.old.items) }
+    {
+        let from = self.machine.position();
+        let is_met = retreat_to_event(&mut self.machine, GREATEST_BOUND);
+        let word = retreat_to_event_word(&self.machine, from, is_met);
         let text = movement_text(self.alloc, word, &self.machine)?;
         bytes.extend_from_slice(&text)
     }
@@ -137,7 +161,11 @@ impl Debugger {
             Movement::RunTo(time) => {
                 self.go_forward(StopCondition::AtTime(time), GREATEST_BOUND, bytes)
             }
+            Movement::Next => {
+                self.go_forward(StopCondition::BehindEventStart, GREATEST_BOUND, bytes)
+            }
             Movement::Back(n) => self.go_back(n, bytes),
+            Movement::BackEvent => self.go_back_to_event(bytes),
             Movement::BackBreak => self.go_back_to_break(bytes),
         }
     }
@@ -176,6 +204,22 @@ impl Debugger {
         Ok(())
     }
 
+    /// Forgets all steps but the newest `count`, and answers.
+    #[tactic(auto, using(crate::proofs::Forgets::earliest_after, crate::proofs::Forgets::kept_after))]
+    fn forget(&mut self, count: u64, bytes: &mut Vec<u8>) -> Result<(), AllocError>
+        ensures input { self.new.machine.input ≡ self.old.machine.input }
+        ensures place { OnOk result
+            (debugger_state_of self.new ≡ debugger_state_after_forget (debugger_state_of self.old) count) }
+        ensures said { OnOk result (bytes.new.items ≡ bytes.old.items
+            ++ forget_answer (debugger_state_of self.old) count) }
+        ensures memory { OnErr result ((bytes.new.items ≡ bytes.old.items) × (self.new ≡ self.old)) }
+    {
+        let text = kept_text(self.alloc, count.min(self.machine.kept()))?;
+        bytes.extend_from_slice(&text)?;
+        self.machine.forget(count);
+        Ok(())
+    }
+
     /// The answer to a question.
     fn show(&self, question: Question, bytes: &mut Vec<u8>) -> Result<(), AllocError>
         ensures said { OnOk result (bytes.new.items ≡ bytes.old.items
@@ -186,6 +230,11 @@ impl Debugger {
             Question::Clock => clock_text(self.alloc, &self.machine)?,
             Question::Where => where_text(self.alloc, &self.machine)?,
             Question::Variable(name) => var_text(self.alloc, &name, &self.machine)?,
+            Question::Entity(name, x) => entity_text(self.alloc, &name, x, &self.machine)?,
+            Question::Set(name, owner) => set_text(self.alloc, &name, owner, &self.machine)?,
+            Question::Events => events_text(self.alloc, &self.machine)?,
+            Question::Taken => taken_text(self.alloc, &self.machine)?,
+            Question::Entry => entry_text(self.alloc, &self.machine)?,
             Question::Report => report_text(self.alloc, &self.machine)?,
         };
         bytes.extend_from_slice(&text)
@@ -195,12 +244,12 @@ impl Debugger {
 /// One turn: does what a command says, and appends its whole answer to `bytes` (docs/DEBUGGER.md).
 /// `Quit` is answered for QUIT alone.
 ///
-/// `AllocError` where a growth was refused: `bytes` and the break lines are as before, and the
-/// machine stands where the steps that were made led. A command that gives no answer, a blank line
-/// or QUIT, succeeds.
+/// `AllocError` where a growth was refused: `bytes`, the break lines and the earliest kept position
+/// are as before, and the machine stands where the steps that were made led. A command that gives no
+/// answer, a blank line or QUIT, succeeds.
 #[tactic(auto, unfolding(crate::specs::Turn::debugger_state_after, crate::specs::Turn::answer, crate::specs::AfterRefusal::IsStateAfterRefusal))]
-pub fn obey(
-    debugger: &mut Debugger,
+pub fn obey<S: SetBoard>(
+    debugger: &mut Debugger<S>,
     command: Command,
     bytes: &mut Vec<u8>,
 ) -> Result<Go, AllocError>
@@ -221,6 +270,7 @@ pub fn obey(
         Command::Move(movement) => debugger.go(movement, bytes)?,
         Command::Break(line) => debugger.set_break(line, bytes)?,
         Command::Clear(line) => debugger.clear_break(line, bytes)?,
+        Command::Forget(count) => debugger.forget(count, bytes)?,
         Command::Show(question) => debugger.show(question, bytes)?,
         Command::Quit => return Ok(Go::Quit),
     }

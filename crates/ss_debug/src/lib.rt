@@ -4,6 +4,9 @@
 mod break_lines;
 mod commands;
 mod debugger;
+mod entity_text;
+mod entry_text;
+mod events_text;
 mod go;
 mod laws;
 mod limits;
@@ -11,6 +14,8 @@ mod movement;
 mod name;
 mod pieces;
 mod read;
+mod rows;
+mod set_text;
 mod stop_condition;
 mod text;
 

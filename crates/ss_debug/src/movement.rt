@@ -1,18 +1,21 @@
 //! Movements: forward, step by step, to where a condition is met, and back.
-ghost use Rattle.std.specs.Prelude.{◌≡◌, ◌+◌, ◌-◌, ◌<◌, ◌≤◌, OnOk, OnErr, true, ◌&&◌, nat_lt};
+ghost use Rattle.std.specs.Prelude.{◌≡◌, ◌+◌, ◌<◌, ◌≤◌, OnOk, OnErr, IfOk, MatchOption, true, ◌&&◌, nat_lt};
 ghost use Rattle.ss_machine.specs.Moment.{position};
+ghost use Rattle.ss_machine.specs.declared.limits.TheConstants.{LAST_POSITION};
 ghost use Rattle.ss_debug.specs.Move.{is_ready_at, line_at, is_stop, stops, forward, is_on_break, has_come};
-ghost use Rattle.ss_debug.specs.Move.{is_in_time, is_at_break, backward};
+ghost use Rattle.ss_debug.specs.Move.{is_in_time, is_met, is_behind_start, runs_event, starts_event, back_by, backward};
 ghost use Rattle.ss_debug.specs.Position.{IsAt};
 ghost use Rattle.ss_debug.specs.View.{condition_of};
 
 use crate::break_lines::BreakLines;
 use crate::stop_condition::StopCondition;
-use ss_machine::{Machine, Status};
+use ss_check::SectionKind;
+use ss_links::SetBoard;
+use ss_machine::{LAST_POSITION, Machine, Status};
 use std::alloc::AllocError;
 
 /// Whether the next step runs a place.
-pub fn is_ready_now(machine: &Machine) -> bool
+pub fn is_ready_now<S: SetBoard>(machine: &Machine<S>) -> bool
     ensures { result ≡ is_ready_at machine.now.input (position machine.now) }
 {
     machine.known();
@@ -20,7 +23,7 @@ pub fn is_ready_now(machine: &Machine) -> bool
 }
 
 /// The line of the place where the machine stands.
-pub fn present_line(machine: &Machine) -> usize
+pub fn present_line<S: SetBoard>(machine: &Machine<S>) -> usize
     ensures { result ≡ line_at machine.now.input (position machine.now) }
 {
     machine.known();
@@ -29,14 +32,14 @@ pub fn present_line(machine: &Machine) -> usize
 }
 
 /// Whether the machine's place is on a break line.
-pub fn stands_on_break(machine: &Machine, breaks: &BreakLines) -> bool
+pub fn stands_on_break<S: SetBoard>(machine: &Machine<S>, breaks: &BreakLines) -> bool
     ensures { result ≡ is_on_break machine.now.input breaks.now (position machine.now) }
 {
     breaks.contains(present_line(machine))
 }
 
 /// Whether the machine's clock is at or past a time.
-fn has_come(machine: &Machine, time: u64) -> bool
+fn has_come<S: SetBoard>(machine: &Machine<S>, time: u64) -> bool
     ensures { result ≡ has_come machine.now.input time (position machine.now) }
 {
     machine.known();
@@ -44,79 +47,116 @@ fn has_come(machine: &Machine, time: u64) -> bool
 }
 
 /// Whether the machine's state is at or past the time that the condition names.
-pub fn is_in_time(machine: &Machine, condition: StopCondition) -> bool
+pub fn is_in_time<S: SetBoard>(machine: &Machine<S>, condition: StopCondition) -> bool
     ensures { result ≡ is_in_time machine.now.input (condition_of condition) (position machine.now) }
 {
     match condition {
-        StopCondition::Never | StopCondition::AtBreakLine => false,
+        StopCondition::Never | StopCondition::AtBreakLine | StopCondition::BehindEventStart => {
+            false
+        }
         StopCondition::AtTime(time) => has_come(machine, time),
     }
 }
 
-/// Whether the machine stands at a break line that the condition asks for.
-pub fn is_at_break(machine: &Machine, breaks: &BreakLines, condition: StopCondition) -> bool
-    ensures { result ≡ is_at_break machine.now.input breaks.now (condition_of condition) (position machine.now) }
+/// Whether the machine stands at what the condition asks for: at a break line, or behind an event
+/// start, where the last step was one.
+pub fn is_met<S: SetBoard>(
+    machine: &Machine<S>,
+    breaks: &BreakLines,
+    condition: StopCondition,
+    started: bool,
+) -> bool
+    requires { started ≡ is_behind_start machine.now.input (position machine.now) }
+    ensures { result ≡ is_met machine.now.input breaks.now (condition_of condition) (position machine.now) }
 {
     match condition {
         StopCondition::Never => false,
         StopCondition::AtBreakLine | StopCondition::AtTime(_) => stands_on_break(machine, breaks),
+        StopCondition::BehindEventStart => started,
     }
 }
 
-/// Whether a movement stops where the machine stands, after k steps.
-fn is_at_stop(machine: &Machine, breaks: &BreakLines, condition: StopCondition, k: u64) -> bool
+/// Whether a movement stops where the machine stands, after k steps, where the last one was
+/// perhaps an event start.
+fn is_at_stop<S: SetBoard>(
+    machine: &Machine<S>,
+    breaks: &BreakLines,
+    condition: StopCondition,
+    k: u64,
+    started: bool,
+) -> bool
+    requires { 0 < k → started ≡ is_behind_start machine.now.input (position machine.now) }
     ensures { result ≡ is_stop machine.now.input breaks.now (condition_of condition) k (position machine.now) }
 {
     !is_ready_now(machine)
         || is_in_time(machine, condition)
-        || (0 < k && is_at_break(machine, breaks, condition))
+        || (0 < k && is_met(machine, breaks, condition, started))
 }
 
-/// One step from a state that is ready.
-fn step_once(machine: &mut Machine) -> Result<(), AllocError>
-    requires { is_ready_at machine.old.input (position machine.old) ≡ true }
-    ensures ok { OnOk result (IsAt machine.old.input (position machine.old + 1) machine.new) }
+/// Whether the frame of an event is the last one.
+fn runs_event<S: SetBoard>(machine: &Machine<S>) -> bool
+    ensures { result ≡ runs_event machine.now.input machine.now.state }
+{
+    machine.known();
+    let (section, _) = machine.place();
+    matches!(machine.program().section(section).kind, SectionKind::Event)
+}
+
+/// One step from a state that is ready and not the last. Tells whether it was an event start.
+#[tactic(auto, using(crate::proofs::Starts::started))]
+fn step_once<S: SetBoard>(machine: &mut Machine<S>) -> Result<bool, AllocError>
+    requires ready { is_ready_at machine.old.input (position machine.old) ≡ true }
+    requires before_last { position machine.old < LAST_POSITION }
+    ensures place { OnOk result (IsAt machine.old.input machine.old.forgotten (position machine.old + 1) machine.new) }
+    ensures started { IfOk result (λ started. started ≡ is_behind_start machine.old.input (position machine.new)) }
     ensures err { OnErr result (machine.new ≡ machine.old) }
 {
     machine.known();
-    match machine.step() {
-        Ok(_) => Ok(()),
-        Err(error) => Err(error),
-    }
+    let frames = machine.frames();
+    machine.step()?;
+    machine.known();
+    Ok(runs_event(machine) && frames < machine.frames())
 }
 
 /// Steps to the least later position at which the condition is met or the status isn't ready,
-/// within the bound.
+/// within the bound and not past the last position. Tells whether the last step, if there was one, was an event start.
 ///
 /// `AllocError` where a step was refused memory: the machine stands where the steps before it led.
 #[tactic(auto, using(crate::proofs::Moves::least_is, crate::proofs::Moves::least_at_least, crate::proofs::Moves::or_false_left))]
-pub fn advance(
-    machine: &mut Machine,
+pub fn advance<S: SetBoard>(
+    machine: &mut Machine<S>,
     breaks: &BreakLines,
     condition: StopCondition,
     bound: u64,
-) -> Result<(), AllocError>
-    ensures ok { OnOk result (IsAt machine.old.input
+) -> Result<bool, AllocError>
+    ensures ok { OnOk result (IsAt machine.old.input machine.old.forgotten
         (forward machine.old.input breaks.now (condition_of condition) (position machine.old) bound) machine.new) }
+    ensures started { IfOk result (λ started. position machine.old < position machine.new →
+        started ≡ is_behind_start machine.old.input (position machine.new)) }
     ensures memory { OnErr result ((machine.new.input ≡ machine.old.input)
-        × (position machine.old ≤ position machine.new)
+        × (machine.new.forgotten ≡ machine.old.forgotten) × (position machine.old ≤ position machine.new)
         × (position machine.new
         ≤ forward machine.old.input breaks.now (condition_of condition) (position machine.old) bound)) }
 {
-    for k in 0..bound {
-        if is_at_stop(machine, breaks, condition, k) {
-            return Ok(());
+    machine.known();
+    let steps = bound.min(LAST_POSITION - machine.position());
+    let mut started = false;
+    for k in 0..steps {
+        if is_at_stop(machine, breaks, condition, k, started) {
+            return Ok(started);
         }
-        if let Err(error) = step_once(machine) {
-            return Err(error);
+        match step_once(machine) {
+            Ok(is_start) => started = is_start,
+            Err(error) => return Err(error),
         }
     }
-    Ok(())
+    Ok(started)
 }
 
-/// Steps back a number of times, or to the start.
-pub fn retreat(machine: &mut Machine, count: u64)
-    ensures { IsAt machine.old.input (position machine.old - count) machine.new }
+/// Steps back a number of times, or to the earliest kept position.
+pub fn retreat<S: SetBoard>(machine: &mut Machine<S>, count: u64)
+    ensures { IsAt machine.old.input machine.old.forgotten
+        (back_by machine.old.forgotten (position machine.old) count) machine.new }
 {
     for _k in 0..count {
         if !machine.back() {
@@ -126,17 +166,18 @@ pub fn retreat(machine: &mut Machine, count: u64)
 }
 
 /// Whether a movement back to a break line stops where the machine stands, after k steps.
-fn is_at_back_stop(machine: &Machine, breaks: &BreakLines, k: u64) -> bool
+fn is_at_back_stop<S: SetBoard>(machine: &Machine<S>, breaks: &BreakLines, k: u64) -> bool
     ensures { result ≡ (nat_lt 0 k && is_on_break machine.now.input breaks.now (position machine.now)) }
 {
     0 < k && stands_on_break(machine, breaks)
 }
 
-/// Steps back to the greatest earlier position at a break line, or to the start, within the bound.
+/// Steps back to the greatest earlier position at a break line, or to the earliest kept position,
+/// within the bound.
 #[tactic(auto, using(crate::proofs::Moves::backward_is))]
-pub fn retreat_to_break(machine: &mut Machine, breaks: &BreakLines, bound: u64)
-    ensures { IsAt machine.old.input
-        (backward machine.old.input breaks.now (position machine.old) bound) machine.new }
+pub fn retreat_to_break<S: SetBoard>(machine: &mut Machine<S>, breaks: &BreakLines, bound: u64)
+    ensures { IsAt machine.old.input machine.old.forgotten (backward (is_on_break machine.old.input breaks.now)
+        machine.old.forgotten (position machine.old) bound) machine.new }
 {
     for k in 0..bound {
         if is_at_back_stop(machine, breaks, k) {
@@ -146,4 +187,44 @@ pub fn retreat_to_break(machine: &mut Machine, breaks: &BreakLines, bound: u64)
             return;
         }
     }
+}
+
+/// One step back, if one is kept. Tells whether the step that was taken back was an event start.
+#[tactic(auto, using(crate::proofs::Starts::taken_back))]
+fn back_once<S: SetBoard>(machine: &mut Machine<S>) -> Option<bool>
+    ensures none { MatchOption result ((position machine.old ≡ machine.old.forgotten) × (machine.new ≡ machine.old))
+        (λ started. (machine.new.input ≡ machine.old.input) × (machine.new.forgotten ≡ machine.old.forgotten)
+        × (position machine.old ≡ position machine.new + 1)
+        × (started ≡ starts_event machine.old.input (position machine.new))) }
+{
+    machine.known();
+    let frames = machine.frames();
+    let is_event = runs_event(machine);
+    if !machine.back() {
+        return None;
+    }
+    machine.known();
+    Some(is_event && machine.frames() < frames)
+}
+
+/// Steps back to the greatest earlier position whose next step is an event start, or to the earliest
+/// kept position, within the bound. Tells whether the next step is an event start where it then stands.
+#[tactic(auto, using(crate::proofs::Moves::backward_is))]
+pub fn retreat_to_event<S: SetBoard>(machine: &mut Machine<S>, bound: u64) -> bool
+    ensures place { IsAt machine.old.input machine.old.forgotten
+        (backward (starts_event machine.old.input) machine.old.forgotten (position machine.old) bound) machine.new }
+    ensures met { result ≡ (nat_lt (position machine.new) (position machine.old)
+        && starts_event machine.old.input (position machine.new)) }
+{
+    let mut started = false;
+    for _k in 0..bound {
+        if started {
+            return true;
+        }
+        match back_once(machine) {
+            None => return false,
+            Some(is_start) => started = is_start,
+        }
+    }
+    started
 }

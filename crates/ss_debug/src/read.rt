@@ -2,10 +2,13 @@
 ghost use Rattle.std.specs.Prelude.{◌≡◌, ◌<◌, ◌≤◌, ◌-◌, ◌^◌, IfSome};
 ghost use Rattle.ss_debug.specs.CommandLines.{command_words};
 ghost use Rattle.ss_debug.specs.Command.{command_of, command_in_words, run_command, back_command, show_command};
-ghost use Rattle.ss_debug.specs.Command.{only_number_of, bound_of, only_line_of, only_name_of, command_alone};
+ghost use Rattle.ss_debug.specs.Command.{only_number_of, bound_of, only_line_of, command_alone};
+ghost use Rattle.ss_debug.specs.Command.{question_alone, question_of_two, question_of_three, entity_number};
 
 use crate::commands::{Command, Movement, Question};
-use crate::limits::{GREATEST_BOUND, GREATEST_LINE, GREATEST_TIME, LINE_LIMIT};
+use crate::limits::{
+    GREATEST_BOUND, GREATEST_ENTITY, GREATEST_KEPT, GREATEST_LINE, GREATEST_TIME, LINE_LIMIT,
+};
 use crate::name::Name;
 use crate::pieces::{next_word, number};
 
@@ -41,17 +44,6 @@ fn only_line(rest: &[u8]) -> Option<u32>
     Some(line as u32)
 }
 
-/// The name that is the only word.
-fn only_name(rest: &[u8]) -> Option<Name>
-    ensures { result ≡ only_name_of (command_words rest.now) }
-{
-    let (word, more) = next_word(rest)?;
-    if next_word(more).is_some() {
-        return None;
-    }
-    Name::of(word)
-}
-
 /// A command behind which no word may stand.
 fn alone_or_bad(command: Command, rest: &[u8]) -> Command
     ensures { result ≡ command_alone command (command_words rest.now) }
@@ -81,36 +73,104 @@ fn run(rest: &[u8]) -> Command
 fn back(rest: &[u8]) -> Command
     ensures { result ≡ back_command (command_words rest.now) }
 {
-    if let Some((word, more)) = next_word(rest)
-        && word == b"BREAK".as_slice()
-    {
-        return alone_or_bad(Command::Move(Movement::BackBreak), more);
+    if let Some((word, more)) = next_word(rest) {
+        if word == b"EVENT".as_slice() {
+            return alone_or_bad(Command::Move(Movement::BackEvent), more);
+        }
+        if word == b"BREAK".as_slice() {
+            return alone_or_bad(Command::Move(Movement::BackBreak), more);
+        }
     }
     bound(rest, 1).map_or(Command::Bad, |n| Command::Move(Movement::Back(n)))
+}
+
+/// The question that is one word.
+fn question_alone(what: &[u8]) -> Command
+    ensures { result ≡ question_alone what.now }
+{
+    if what == b"CLOCK".as_slice() {
+        return Command::Show(Question::Clock);
+    }
+    if what == b"WHERE".as_slice() {
+        return Command::Show(Question::Where);
+    }
+    if what == b"EVENTS".as_slice() {
+        return Command::Show(Question::Events);
+    }
+    if what == b"TAKEN".as_slice() {
+        return Command::Show(Question::Taken);
+    }
+    if what == b"ENTRY".as_slice() {
+        return Command::Show(Question::Entry);
+    }
+    if what == b"REPORT".as_slice() {
+        return Command::Show(Question::Report);
+    }
+    Command::Bad
+}
+
+/// The number by which a word names an entity.
+fn entity_number(word: &[u8]) -> Option<i64>
+    ensures { result ≡ entity_number word.now }
+{
+    let number = number(word, 0, GREATEST_ENTITY)?;
+    Some(number as i64)
+}
+
+/// The question that is two words: about the entity of a class where the second is a number.
+fn question_of_two(what: &[u8], word: &[u8]) -> Command
+    ensures { result ≡ question_of_two what.now word.now (entity_number word.now) }
+{
+    if let Some(x) = entity_number(word) {
+        return Name::of(what).map_or(Command::Bad, |name| {
+            Command::Show(Question::Entity(name, x))
+        });
+    }
+    if what == b"VAR".as_slice() {
+        return Name::of(word).map_or(Command::Bad, |name| {
+            Command::Show(Question::Variable(name))
+        });
+    }
+    if what == b"SET".as_slice() {
+        return Name::of(word).map_or(Command::Bad, |name| {
+            Command::Show(Question::Set(name, None))
+        });
+    }
+    Command::Bad
+}
+
+/// The question that is three words: SET, a set and the number of an owner.
+fn question_of_three(what: &[u8], word: &[u8], last: &[u8]) -> Command
+    ensures { result ≡ question_of_three what.now word.now last.now }
+{
+    if what != b"SET".as_slice() {
+        return Command::Bad;
+    }
+    let Some(name) = Name::of(word) else {
+        return Command::Bad;
+    };
+    entity_number(last).map_or(Command::Bad, |x| {
+        Command::Show(Question::Set(name, Some(x)))
+    })
 }
 
 /// What stands behind SHOW.
 fn show(rest: &[u8]) -> Command
     ensures { result ≡ show_command (command_words rest.now) }
 {
-    let Some((what, more)) = next_word(rest) else {
+    let Some((what, rest)) = next_word(rest) else {
         return Command::Bad;
     };
-    if what == b"CLOCK".as_slice() {
-        return alone_or_bad(Command::Show(Question::Clock), more);
+    let Some((word, rest)) = next_word(rest) else {
+        return question_alone(what);
+    };
+    let Some((last, rest)) = next_word(rest) else {
+        return question_of_two(what, word);
+    };
+    if next_word(rest).is_some() {
+        return Command::Bad;
     }
-    if what == b"WHERE".as_slice() {
-        return alone_or_bad(Command::Show(Question::Where), more);
-    }
-    if what == b"VAR".as_slice() {
-        return only_name(more).map_or(Command::Bad, |name| {
-            Command::Show(Question::Variable(name))
-        });
-    }
-    if what == b"REPORT".as_slice() {
-        return alone_or_bad(Command::Show(Question::Report), more);
-    }
-    Command::Bad
+    question_of_three(what, word, last)
 }
 
 /// What the words of a line in upper case say.
@@ -127,6 +187,9 @@ fn command_in_words(line: &[u8]) -> Command
     if verb == b"RUN".as_slice() {
         return run(rest);
     }
+    if verb == b"NEXT".as_slice() {
+        return alone_or_bad(Command::Move(Movement::Next), rest);
+    }
     if verb == b"BACK".as_slice() {
         return back(rest);
     }
@@ -135,6 +198,9 @@ fn command_in_words(line: &[u8]) -> Command
     }
     if verb == b"CLEAR".as_slice() {
         return only_line(rest).map_or(Command::Bad, Command::Clear);
+    }
+    if verb == b"FORGET".as_slice() {
+        return only_number(rest, 1, GREATEST_KEPT).map_or(Command::Bad, Command::Forget);
     }
     if verb == b"SHOW".as_slice() {
         return show(rest);

@@ -7,4 +7,6 @@ pub enum StopCondition {
     AtBreakLine,
     /// At such a state, or at one whose clock is at or past this time.
     AtTime(u64),
+    /// At a state to which an event start led.
+    BehindEventStart,
 }

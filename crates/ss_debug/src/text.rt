@@ -1,23 +1,26 @@
 //! The texts that the debugger answers.
-ghost use Rattle.std.specs.Prelude.{◌≡◌, ◌++◌, OnOk, IfOk, decimal, Option};
+ghost use Rattle.std.specs.Prelude.{◌≡◌, ◌++◌, ◌+◌, ◌<◌, ◌≤◌, ◌&&◌, codes, nat_lt, nat_eq, if◌then◌else◌, OnOk, IfOk, decimal, Option};
 ghost use Rattle.std.specs.Fmt.{signed_decimal};
 ghost use Rattle.ss_machine.specs.Moment.{position};
 ghost use Rattle.ss_debug.specs.Answer.{status_text, moment_text, place_text, state_line, movement_text};
-ghost use Rattle.ss_debug.specs.Answer.{forward_word, back_word, back_break_word, bound_word, break_text, clear_text};
-ghost use Rattle.ss_debug.specs.Answer.{clock_text, variable_named, var_text, report_text};
+ghost use Rattle.ss_debug.specs.Answer.{forward_word, back_word, back_to_word, earliest_word, bound_word, met_word};
+ghost use Rattle.ss_debug.specs.Answer.{break_text, clear_text, kept_text};
+ghost use Rattle.ss_debug.specs.Answer.{clock_text, variable_named, var_text, taken_text, report_text};
+ghost use Rattle.ss_debug.specs.Move.{is_on_break, is_behind_start, starts_event};
 ghost use Rattle.ss_debug.specs.View.{condition_of};
 
 use crate::break_lines::BreakLines;
-use crate::movement::{is_at_break, is_in_time, is_ready_now, present_line, stands_on_break};
+use crate::movement::{is_in_time, is_met, is_ready_now, present_line, stands_on_break};
 use crate::name::Name;
 use crate::stop_condition::StopCondition;
 use itoa::Buffer;
 use ss_check::Variable;
+use ss_links::SetBoard;
 use ss_machine::{Machine, Status};
 use std::alloc::{AllocError, Global};
 
 /// Appends a number in least digits.
-fn push_number(text: &mut Vec<u8>, n: usize) -> Result<(), AllocError>
+pub fn push_number(text: &mut Vec<u8>, n: u64) -> Result<(), AllocError>
     ensures ok { OnOk result (text.new.items ≡ text.old.items ++ decimal n) }
 {
     let mut buffer = Buffer::new();
@@ -25,7 +28,7 @@ fn push_number(text: &mut Vec<u8>, n: usize) -> Result<(), AllocError>
 }
 
 /// Appends an integer in least digits, with its sign below 0.
-fn push_integer(text: &mut Vec<u8>, n: i64) -> Result<(), AllocError>
+pub fn push_integer(text: &mut Vec<u8>, n: i64) -> Result<(), AllocError>
     ensures ok { OnOk result (text.new.items ≡ text.old.items ++ signed_decimal n) }
 {
     let mut buffer = Buffer::new();
@@ -42,14 +45,14 @@ fn push_status(text: &mut Vec<u8>, status: Status) -> Result<(), AllocError>
         Status::Finished => text.extend_from_slice(b"FINISHED"),
         Status::Faulted(fault) => {
             text.extend_from_slice(b"FAULT F")?;
-            push_number(text, usize::from(fault.number()))
+            push_number(text, u64::from(fault.number()))
         }
     }
 }
 
 /// Appends the position, the clock and the status.
 #[tactic(auto, unfolding(crate::specs::Answer::moment_text))]
-fn push_moment(text: &mut Vec<u8>, machine: &Machine) -> Result<(), AllocError>
+fn push_moment<S: SetBoard>(text: &mut Vec<u8>, machine: &Machine<S>) -> Result<(), AllocError>
     ensures ok { OnOk result (text.new.items
         ≡ text.old.items ++ moment_text machine.now.input (position machine.now)) }
 {
@@ -64,7 +67,7 @@ fn push_moment(text: &mut Vec<u8>, machine: &Machine) -> Result<(), AllocError>
 
 /// Appends the section and the line of the place where the machine stands.
 #[tactic(auto, unfolding(crate::specs::Answer::place_text))]
-fn push_place(text: &mut Vec<u8>, machine: &Machine) -> Result<(), AllocError>
+fn push_place<S: SetBoard>(text: &mut Vec<u8>, machine: &Machine<S>) -> Result<(), AllocError>
     ensures ok { OnOk result (text.new.items
         ≡ text.old.items ++ place_text machine.now.input (position machine.now)) }
 {
@@ -73,12 +76,12 @@ fn push_place(text: &mut Vec<u8>, machine: &Machine) -> Result<(), AllocError>
     text.extend_from_slice(b" IN ")?;
     text.extend_from_slice(&machine.program().section(section).name.bytes)?;
     text.extend_from_slice(b" LINE ")?;
-    push_number(text, present_line(machine))
+    push_number(text, present_line(machine) as u64)
 }
 
 /// Appends the state line of the machine's state.
 #[tactic(auto, unfolding(crate::specs::Answer::state_line))]
-fn push_state_line(text: &mut Vec<u8>, machine: &Machine) -> Result<(), AllocError>
+fn push_state_line<S: SetBoard>(text: &mut Vec<u8>, machine: &Machine<S>) -> Result<(), AllocError>
     ensures ok { OnOk result (text.new.items
         ≡ text.old.items ++ state_line machine.now.input (position machine.now)) }
 {
@@ -89,7 +92,11 @@ fn push_state_line(text: &mut Vec<u8>, machine: &Machine) -> Result<(), AllocErr
 
 /// The answer of a movement: its word, and the state line of the state that it reached.
 #[tactic(auto, unfolding(crate::specs::Answer::movement_text))]
-pub fn movement_text(alloc: Global, word: &[u8], machine: &Machine) -> Result<Vec<u8>, AllocError>
+pub fn movement_text<S: SetBoard>(
+    alloc: Global,
+    word: &[u8],
+    machine: &Machine<S>,
+) -> Result<Vec<u8>, AllocError>
     ensures { IfOk result (λ text. text.items ≡ movement_text word.now machine.now.input (position machine.now)) }
 {
     let mut text = Vec::from_slice(alloc, word)?;
@@ -98,25 +105,44 @@ pub fn movement_text(alloc: Global, word: &[u8], machine: &Machine) -> Result<Ve
     Ok(text)
 }
 
-/// The word at the bound.
-fn bound_word(condition: StopCondition) -> &'static [u8]
-    ensures { result.now ≡ bound_word (condition_of condition) }
+/// The word where neither a time has come nor the condition is met, by whether all steps were made.
+fn bound_word(condition: StopCondition, is_whole: bool) -> &'static [u8]
+    ensures { result.now ≡ bound_word (condition_of condition) is_whole }
 {
     match condition {
-        StopCondition::Never => b"DONE",
-        StopCondition::AtBreakLine | StopCondition::AtTime(_) => b"BOUND",
+        StopCondition::Never if is_whole => b"DONE",
+        StopCondition::Never => b"BOUND",
+        StopCondition::AtBreakLine | StopCondition::AtTime(_) | StopCondition::BehindEventStart =>
+            b"BOUND",
     }
 }
 
-/// The word of a movement that began at `from` and ended where the machine stands.
-pub fn movement_word(
-    machine: &Machine,
+/// The word where the condition is met later than at the beginning.
+fn met_word(condition: StopCondition) -> &'static [u8]
+    ensures { result.now ≡ met_word (condition_of condition) }
+{
+    match condition {
+        StopCondition::Never => b"DONE",
+        StopCondition::AtBreakLine | StopCondition::AtTime(_) => b"BREAK",
+        StopCondition::BehindEventStart => b"EVENT",
+    }
+}
+
+/// The word of a movement of at most `bound` steps that began at `from` and ended where the machine
+/// stands, where the last step, if there was one, was perhaps an event start.
+pub fn movement_word<S: SetBoard>(
+    machine: &Machine<S>,
     breaks: &BreakLines,
     condition: StopCondition,
-    from: usize,
+    from: u64,
+    bound: u64,
+    started: bool,
 ) -> &'static [u8]
+    requires from { from ≤ position machine.now }
+    requires started { from < position machine.now →
+        started ≡ is_behind_start machine.now.input (position machine.now) }
     ensures { result.now
-        ≡ forward_word machine.now.input breaks.now (condition_of condition) from (position machine.now) }
+        ≡ forward_word machine.now.input breaks.now (condition_of condition) from bound (position machine.now) }
 {
     if !is_ready_now(machine) {
         return b"HALTED";
@@ -124,35 +150,76 @@ pub fn movement_word(
     if is_in_time(machine, condition) {
         return b"TIME";
     }
-    if from < machine.position() && is_at_break(machine, breaks, condition) {
-        return b"BREAK";
+    if from < machine.position() && is_met(machine, breaks, condition, started) {
+        return met_word(condition);
     }
-    bound_word(condition)
+    bound_word(condition, machine.position() - from == bound)
 }
 
-/// The word of a movement back by `count` from `from`.
-pub fn retreat_word(from: usize, count: u64) -> &'static [u8]
-    ensures { result.now ≡ back_word from count }
+/// The word at the earliest kept position.
+fn earliest_word<S: SetBoard>(machine: &Machine<S>) -> &'static [u8]
+    ensures { result.now ≡ earliest_word machine.now.forgotten }
 {
-    if (from as u64) < count {
-        return b"START";
+    if machine.position() == machine.kept() {
+        b"START"
+    } else {
+        b"NOTHING KEPT"
+    }
+}
+
+/// The word of a movement back by `count` from where the machine stands.
+pub fn retreat_word<S: SetBoard>(machine: &Machine<S>, count: u64) -> &'static [u8]
+    ensures { result.now ≡ back_word machine.now.forgotten (position machine.now) count }
+{
+    if machine.kept() < count {
+        return earliest_word(machine);
     }
     b"DONE"
 }
 
+/// The word of a movement back that looked for a state and found none.
+fn earliest_or_bound<S: SetBoard>(machine: &Machine<S>) -> &'static [u8]
+    ensures { result.now ≡ (if nat_eq (position machine.now) machine.now.forgotten
+        then earliest_word machine.now.forgotten else codes "BOUND") }
+{
+    if machine.kept() == 0 {
+        return earliest_word(machine);
+    }
+    b"BOUND"
+}
+
 /// The word of a movement back to a break line that began at `from` and ended where the machine
 /// stands.
-pub fn retreat_to_break_word(machine: &Machine, breaks: &BreakLines, from: usize) -> &'static [u8]
-    ensures { result.now ≡ back_break_word machine.now.input breaks.now from (position machine.now) }
+pub fn retreat_to_break_word<S: SetBoard>(
+    machine: &Machine<S>,
+    breaks: &BreakLines,
+    from: u64,
+) -> &'static [u8]
+    ensures { result.now ≡ back_to_word (codes "BREAK") (is_on_break machine.now.input breaks.now)
+        machine.now.forgotten from (position machine.now) }
 {
     if machine.position() < from && stands_on_break(machine, breaks) {
         return b"BREAK";
     }
-    if machine.position() == 0 {
-        b"START"
-    } else {
-        b"BOUND"
+    earliest_or_bound(machine)
+}
+
+/// The word of a movement back to an event start that began at `from` and ended where the machine
+/// stands; whether that is earlier and the next step is an event start is told.
+pub fn retreat_to_event_word<S: SetBoard>(
+    machine: &Machine<S>,
+    from: u64,
+    is_met: bool,
+) -> &'static [u8]
+    requires { is_met
+        ≡ (nat_lt (position machine.now) from && starts_event machine.now.input (position machine.now)) }
+    ensures { result.now ≡ back_to_word (codes "EVENT") (starts_event machine.now.input)
+        machine.now.forgotten from (position machine.now) }
+{
+    if is_met {
+        return b"EVENT";
     }
+    earliest_or_bound(machine)
 }
 
 /// A word, a line's number and what is said of it.
@@ -160,7 +227,7 @@ fn line_text(alloc: Global, before: &[u8], line: u32, after: &[u8]) -> Result<Ve
     ensures { IfOk result (λ text. text.items ≡ before.now ++ decimal line ++ after.now) }
 {
     let mut text = Vec::from_slice(alloc, before)?;
-    push_number(&mut text, line as usize)?;
+    push_number(&mut text, u64::from(line))?;
     text.extend_from_slice(after)?;
     Ok(text)
 }
@@ -188,9 +255,20 @@ pub fn clear_text(alloc: Global, breaks: &BreakLines, line: u32) -> Result<Vec<u
     }
 }
 
+/// The answer to FORGET, where so many steps are kept then.
+#[tactic(auto, unfolding(crate::specs::Answer::kept_text))]
+pub fn kept_text(alloc: Global, kept: u64) -> Result<Vec<u8>, AllocError>
+    ensures { IfOk result (λ text. text.items ≡ kept_text kept) }
+{
+    let mut text = Vec::from_slice(alloc, b"KEPT ")?;
+    push_number(&mut text, kept)?;
+    text.extend_from_slice(b"\n")?;
+    Ok(text)
+}
+
 /// The clock.
 #[tactic(auto, unfolding(crate::specs::Answer::clock_text))]
-pub fn clock_text(alloc: Global, machine: &Machine) -> Result<Vec<u8>, AllocError>
+pub fn clock_text<S: SetBoard>(alloc: Global, machine: &Machine<S>) -> Result<Vec<u8>, AllocError>
     ensures { IfOk result (λ text. text.items ≡ clock_text machine.now.input (position machine.now)) }
 {
     machine.known();
@@ -201,7 +279,7 @@ pub fn clock_text(alloc: Global, machine: &Machine) -> Result<Vec<u8>, AllocErro
 }
 
 /// The state line.
-pub fn where_text(alloc: Global, machine: &Machine) -> Result<Vec<u8>, AllocError>
+pub fn where_text<S: SetBoard>(alloc: Global, machine: &Machine<S>) -> Result<Vec<u8>, AllocError>
     ensures { IfOk result (λ text. text.items ≡ state_line machine.now.input (position machine.now)) }
 {
     let mut text = Vec::new(alloc);
@@ -210,7 +288,7 @@ pub fn where_text(alloc: Global, machine: &Machine) -> Result<Vec<u8>, AllocErro
 }
 
 /// The variable that a name stands for where the machine stands.
-fn find_variable(machine: &Machine, name: &[u8]) -> Option<Variable>
+fn find_variable<S: SetBoard>(machine: &Machine<S>, name: &[u8]) -> Option<Variable>
     ensures { result ≡ variable_named machine.now.input (position machine.now) name.now }
 {
     machine.known();
@@ -230,7 +308,11 @@ fn find_variable(machine: &Machine, name: &[u8]) -> Option<Variable>
 
 /// `v = value`, or `NO VARIABLE v`.
 #[tactic(auto, unfolding(crate::specs::Answer::var_text))]
-pub fn var_text(alloc: Global, name: &Name, machine: &Machine) -> Result<Vec<u8>, AllocError>
+pub fn var_text<S: SetBoard>(
+    alloc: Global,
+    name: &Name,
+    machine: &Machine<S>,
+) -> Result<Vec<u8>, AllocError>
     ensures { IfOk result (λ text. text.items ≡ var_text name.now machine.now.input (position machine.now)) }
 {
     machine.known();
@@ -247,9 +329,21 @@ pub fn var_text(alloc: Global, name: &Name, machine: &Machine) -> Result<Vec<u8>
     Ok(text)
 }
 
+/// How many values of the data are taken.
+#[tactic(auto, unfolding(crate::specs::Answer::taken_text))]
+pub fn taken_text<S: SetBoard>(alloc: Global, machine: &Machine<S>) -> Result<Vec<u8>, AllocError>
+    ensures { IfOk result (λ text. text.items ≡ taken_text machine.now.input (position machine.now)) }
+{
+    machine.known();
+    let mut text = Vec::from_slice(alloc, b"TAKEN ")?;
+    push_number(&mut text, machine.taken() as u64)?;
+    text.extend_from_slice(b"\n")?;
+    Ok(text)
+}
+
 /// The line REPORT, and the report's bytes.
 #[tactic(auto, unfolding(crate::specs::Answer::report_text))]
-pub fn report_text(alloc: Global, machine: &Machine) -> Result<Vec<u8>, AllocError>
+pub fn report_text<S: SetBoard>(alloc: Global, machine: &Machine<S>) -> Result<Vec<u8>, AllocError>
     ensures { IfOk result (λ text. text.items ≡ report_text machine.now.input (position machine.now)) }
 {
     machine.known();

@@ -1,8 +1,10 @@
 //! Lines that are read, and one turn of each command with memory at hand, which no clause promises.
-use ss_check::check;
+use ss_checker::check;
 use ss_debug::{Command, Debugger, Go, Movement, Question, command, obey};
+use ss_grammar::sections;
+use ss_links::LinkedSets;
 use ss_machine::Machine;
-use ss_routines::sections;
+use ss_preamble::preamble;
 use ss_words::words;
 use std::alloc::Global;
 use std::process::Abort;
@@ -43,7 +45,12 @@ fn lines_and_questions_are_read(rt: HostRuntime) {
     assert!(rt; matches!(command(b"break 1000000"), Command::Break(1_000_000)));
     assert!(rt; matches!(command(b"break 0"), Command::Bad));
     assert!(rt; matches!(command(b"clear 007"), Command::Clear(7)));
-    assert!(rt; matches!(command(b"show clock 5"), Command::Bad));
+    assert!(rt;
+        matches!(
+            command(b"show clock 5"),
+            Command::Show(Question::Entity(_, 5))
+        )
+    );
     assert!(rt; matches!(command(b"Show Where"), Command::Show(Question::Where)));
     assert!(rt; matches!(command(b"Show Report"), Command::Show(Question::Report)));
 }
@@ -64,10 +71,21 @@ fn quit_and_a_name_are_read(rt: HostRuntime) {
 const MODEL: &str = "MAIN\nLET X = 5\nPRINT 1 LINE WITH X THUS\nX = ***\nSTOP\nEND\n";
 
 /// A debugger at the start of the model.
-fn debugger(alloc: Global) -> Result<Debugger, Fail> {
-    let sections = sections(alloc, &words(alloc, MODEL.as_bytes())?, 0)?;
-    let program = check(alloc, sections)?;
-    Ok(Debugger::new(alloc, Machine::new(alloc, program, b"")?))
+fn debugger(alloc: Global) -> Result<Debugger<LinkedSets>, Fail> {
+    let words = words(alloc, MODEL.as_bytes())?;
+    let (decls, from) = preamble(alloc, &words)?;
+    let sections = sections(alloc, &words, from)?;
+    let program = check(alloc, decls, sections)?;
+    Ok(Debugger::new(
+        alloc,
+        Machine::new(
+            alloc,
+            program,
+            b"",
+            LinkedSets::new(alloc),
+            LinkedSets::new(alloc),
+        )?,
+    ))
 }
 
 /// Obeys each line, and compares what it appends and where it stands then.

@@ -1,4 +1,4 @@
-use Rattle.std.proofs.Common.{◌≡◌, ◌+◌, ◌++◌, take, arith}
+use Rattle.std.proofs.Common.{◌≡◌, ◌+◌, take, arith}
 use Rattle.std.proofs.lemmas.Grind.{common_steps}
 use Rattle.ss_debug.proofs.LineTables.{longer}
 use Rattle.ss_debug.proofs.break_lines.make_room.Goals as goal

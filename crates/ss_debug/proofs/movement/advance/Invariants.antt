@@ -1,13 +1,15 @@
 use Rattle.std.proofs.Common.{◌≡◌, ℕ, ◌+◌, ◌<◌, false}
 use Rattle.ss_machine.specs.Moment.{position}
-use Rattle.ss_debug.specs.Move.{stops}
+use Rattle.ss_debug.specs.Move.{stops, is_behind_start}
 use Rattle.ss_debug.specs.View.{condition_of}
 use Rattle.ss_debug.proofs.movement.advance.Given as goal
 
 abbrev pub invariant-loop-k : goal.invariant-loop-k
-invariant-loop-k l = record {
+invariant-loop-k g l = record {
   input : l.machine.input ≡ l.initial.machine.input;
+  forgotten : l.machine.forgotten ≡ l.initial.machine.forgotten;
   stepped : position l.machine ≡ position l.initial.machine + l.k;
+  started : 0 < l.k → l.started ≡ is_behind_start l.initial.machine.input (position l.machine);
   went_on : (j : ℕ) → j < l.k →
       stops l.initial.machine.input l.breaks (condition_of l.condition) (position l.initial.machine) j ≡ false;
 }

@@ -1,0 +1,17 @@
+-- What is left where old steps are forgotten.
+use Rattle.std.proofs.Common.{◌≡◌, ℕ, ◌-◌, min, length, ap, arith, ◌∙◌}
+use Rattle.std.proofs.lemmas.List.{length-take}
+use Rattle.ss_machine.specs.Moment.{Moment, position, kept, HasForgotten}
+use Rattle.ss_debug.specs.Move.{back_by}
+
+-- the earliest kept position is that to which so many steps back lead
+pub earliest_after : (n : ℕ) (old new : Moment) → HasForgotten n old new →
+    new.forgotten ≡ back_by old.forgotten (position old) n
+earliest_after n old new h =
+    let left : length new.steps ≡ min n (length old.steps) = ap length h.steps ∙ length-take n old.steps in
+    let same : position new ≡ position old = h.position in
+    omega (arith, left, same)
+
+-- and the steps from there on are counted
+pub kept_after : (n : ℕ) (m : Moment) → position m - back_by m.forgotten (position m) n ≡ min n (kept m)
+kept_after n m = omega arith
