@@ -5,7 +5,8 @@ use Rattle.ss_words.specs.Faults.{text_rule_code}
 use Rattle.ss_check.specs.declared.fault.CheckRule.{CheckRule}
 use Rattle.ss_check.specs.CheckRules.{check_rule_code}
 use Rattle.ss_check.specs.Program.{ProgramTable}
-use Rattle.ss_machine.specs.Moment.{Moment, position}
+use Rattle.ss_machine.specs.State.{State}
+use Rattle.ss_machine.specs.Moment.{Moment}
 use Rattle.ss_machine.specs.Run.{Input, input_with, run}
 use Rattle.ss_debug.specs.CommandLines.{command_lines}
 use Rattle.ss_debug.specs.Turn.{initial_session_state}
@@ -24,8 +25,9 @@ use Rattle.ss_session.specs.Transcript.{WritesFirstAnswers, WritesTranscript, Wr
 
 -- a debugger over a machine at its start is where a session begins
 pub start_is : (m : Moment) (h : DebuggerView) → h ≡ record { machine = m; breaks = [] } → m.steps ≡ [] →
+    m.forgotten ≡ 0 →
     open_session_state (debugger_state_of h) ≡ initial_session_state
-start_is m h e z = rw (e, z) refl
+start_is m h e z f = rw (e, z, f) refl
 
 -- turns that are cut short cut a session over a program short
 pub commands_cut : (k : Cut) (t : Input) (h next : DebuggerView) (lines : List (List ℕ))
@@ -175,6 +177,5 @@ accepted_end (Err Memory) m d c old new f g h w b = absurd w
 accepted_end (Err Write) m d c old new f g h w b = absurd w
 
 -- the state of a machine at the position of a sitting
-pub state_is : (t : Input) (m : Moment) (p : ℕ) → m.input ≡ t → m.state ≡ run m.input (position m) →
-    position m ≡ p → m.state ≡ run t p
-state_is t m p e f g = f ∙ rw (e, g) refl
+pub state_is : (t i : Input) (s : State) (n p : ℕ) → i ≡ t → s ≡ run i n → n ≡ p → s ≡ run t p
+state_is t i s n p e f g = f ∙ rw (e, g) refl

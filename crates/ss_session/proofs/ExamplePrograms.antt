@@ -6,10 +6,12 @@ use Rattle.ss_words.specs.declared.reserved.Reserved.TheVariants as r
 use Rattle.ss_words.specs.Plain.{PlainAt, name, number, mark, picture, plains}
 use Rattle.ss_words.specs.Spellings.{spellings, mark_of}
 use Rattle.ss_words.specs.PlainRules.{plain_words_of}
-use Rattle.ss_routines.specs.Expr.{Expr, expr, no_sums, term, no_products, digits, variable}
-use Rattle.ss_routines.specs.Places.{Reference, lets, adds, prints}
-use Rattle.ss_routines.specs.Tree.{no_statements, statement, simple, assignment, report, halt, main, Tree, spell}
+use Rattle.ss_grammar.specs.Expr.{Expr, expr, no_sums, term, no_products, digits, named}
+use Rattle.ss_grammar.specs.Condition.{Reference}
+use Rattle.ss_grammar.specs.Simple.{Let as Lets, Add as Adds, Print as Prints, Stop as Stops, Simple, Assigns, Transfers, Exchanges}
+use Rattle.ss_grammar.specs.Tree.{Block, no_statements, statement, alone, simple, MainHead, Tree, spell}
 use Rattle.ss_check.specs.declared.kinds.SectionKind.TheVariants.{Main}
+use Rattle.ss_check.specs.declared.target.Target.TheVariants.{Variable as ToVariable}
 use Rattle.ss_check.specs.declared.variable.Variable.TheVariants.{Local}
 use Rattle.ss_check.specs.declared.place.Assign.TheVariants.{Let, Add}
 use Rattle.ss_check.specs.declared.place.Output.TheVariants.{Print}
@@ -26,10 +28,19 @@ abbrev constant : ℕ → Expr
 constant n = expr None (term (digits n) no_products) no_sums
 
 abbrev value : List ℕ → Expr
-value n = expr None (term (variable n) no_products) no_sums
+value n = expr None (term (named n) no_products) no_sums
 
 abbrev x : Reference
-x = record { name = codes "X" }
+x = record { name = codes "X"; subscript = None }
+
+-- statements one behind the other
+abbrev block_of : List Simple → Block
+block_of [] = no_statements
+block_of (a ∷ rest) = statement (alone (simple a)) (block_of rest)
+
+-- MAIN of these statements
+abbrev main : List Simple → Tree
+main statements = record { head = MainHead; locals = []; block = block_of statements } ∷ []
 
 abbrev the_constant : ℕ → checked.Expr
 the_constant n = checked.expr None (checked.term (checked.digits n) checked.no_products) checked.no_sums
@@ -69,7 +80,7 @@ unfolding mark_of spellings
 stop_spelled = refl
 
 abbrev pub stop_tree : Tree
-stop_tree = main (statement (simple halt) no_statements) ∷ []
+stop_tree = main (Transfers Stops ∷ [])
 
 pub stop_spells : plains stop_plain ≡ spell stop_tree
 stop_spells = refl
@@ -82,9 +93,11 @@ unfolding mark_of spellings
 five_spelled = refl
 
 abbrev pub five_tree : Tree
-five_tree = main (statement (simple (assignment (lets true x (constant 5))))
-    (statement (simple (report (prints 1 (value (codes "X") ∷ []) (codes "X = ***" ∷ []))))
-    (statement (simple halt) no_statements))) ∷ []
+five_tree = main
+    (Assigns (Lets true x (constant 5))
+    ∷ Exchanges (Prints 1 (value (codes "X") ∷ []) (codes "X = ***" ∷ []))
+    ∷ Transfers Stops
+    ∷ [])
 
 pub five_spells : plains five_plain ≡ spell five_tree
 five_spells = refl
@@ -97,8 +110,8 @@ unfolding mark_of spellings
 overflow_spelled = refl
 
 abbrev pub overflow_tree : Tree
-overflow_tree = main (statement (simple (assignment (lets true x (constant 9223372036854775807))))
-    (statement (simple (assignment (adds (constant 1) x))) no_statements)) ∷ []
+overflow_tree = main
+    (Assigns (Lets true x (constant 9223372036854775807)) ∷ Assigns (Adds (constant 1) x) ∷ [])
 
 pub overflow_spells : plains overflow_plain ≡ spell overflow_tree
 overflow_spells = refl
@@ -111,7 +124,8 @@ unfolding mark_of spellings
 two_values_spelled = refl
 
 abbrev pub two_values_tree : Tree
-two_values_tree = main (statement (simple (report (prints 1 (value (codes "X") ∷ value (codes "Y") ∷ []) (codes "*.**" ∷ [])))) no_statements) ∷ []
+two_values_tree = main
+    (Exchanges (Prints 1 (value (codes "X") ∷ value (codes "Y") ∷ []) (codes "*.**" ∷ [])) ∷ [])
 
 pub two_values_spells : plains two_values_plain ≡ spell two_values_tree
 two_values_spells = refl
@@ -135,7 +149,7 @@ stop_program = of_main [] (spot 2 (Control Stop) ∷ spot 3 (Control End) ∷ []
 
 abbrev pub five_program : ProgramTable
 five_program = of_main (codes "X" ∷ [])
-    (spot 2 (Assign (Let true (Local 0) (the_constant 5)))
+    (spot 2 (Assign (Let true (ToVariable (Local 0)) (the_constant 5)))
     ∷ spot 3 (Output (Print 1 (the_local 0 ∷ []) (codes "X = ***" ∷ [])))
     ∷ spot 5 (Control Stop)
     ∷ spot 6 (Control End)
@@ -143,7 +157,7 @@ five_program = of_main (codes "X" ∷ [])
 
 abbrev pub overflow_program : ProgramTable
 overflow_program = of_main (codes "X" ∷ [])
-    (spot 2 (Assign (Let true (Local 0) (the_constant 9223372036854775807)))
-    ∷ spot 3 (Assign (Add (the_constant 1) (Local 0)))
+    (spot 2 (Assign (Let true (ToVariable (Local 0)) (the_constant 9223372036854775807)))
+    ∷ spot 3 (Assign (Add (the_constant 1) (ToVariable (Local 0))))
     ∷ spot 4 (Control End)
     ∷ [])

@@ -2,6 +2,8 @@ pub mod Pieces
 pub mod Parts
 pub mod FirstLine
 pub mod SessionStates
+pub mod Refusals
+pub mod Loads
 pub mod Outcomes
 pub mod Ends
 pub mod Transcripts

@@ -67,6 +67,16 @@ BackEndsAtStart = HasTranscript five (codes "BACK\nSTEP 3\nBACK 10\nSHOW VAR X\n
     ++ codes "HALTED: STATE 3 CLOCK 0 STOPPED IN MAIN LINE 5\n"
     ++ codes "START: STATE 0 CLOCK 0 READY IN MAIN LINE 2\nX = 0\nREPORT\n")
 
+-- FORGET 1 leaves one step back, and the steps made later are kept
+abbrev pub OldStepsAreForgotten : Type 0
+OldStepsAreForgotten = HasTranscript five
+    (codes "STEP 2\nFORGET 1\nBACK\nBACK\nSTEP 5\nBACK 2\nFORGET 5\nSHOW VAR X\n")
+    (codes "DONE: STATE 2 CLOCK 0 READY IN MAIN LINE 5\nKEPT 1\n"
+    ++ codes "DONE: STATE 1 CLOCK 0 READY IN MAIN LINE 3\n"
+    ++ codes "NOTHING KEPT: STATE 1 CLOCK 0 READY IN MAIN LINE 3\n"
+    ++ codes "HALTED: STATE 3 CLOCK 0 STOPPED IN MAIN LINE 5\n"
+    ++ codes "DONE: STATE 1 CLOCK 0 READY IN MAIN LINE 3\nKEPT 0\nX = 5\nREPORT\n")
+
 -- a fault stands at its statement and assigns nothing
 abbrev pub OverflowStands : Type 0
 OverflowStands = HasTranscript overflow (codes "STEP 5\nSHOW VAR X\nBACK 2\nSHOW VAR X\n")

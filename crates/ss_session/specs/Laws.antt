@@ -1,5 +1,15 @@
--- Laws on what models are: each has exactly one outcome.
-use Rattle.std.specs.Prelude.{◌≡◌, ℕ, List}
+-- Laws on what models are: each has exactly one outcome, and a program is refused in one of its parts.
+use Rattle.std.specs.Prelude.{◌≡◌, ◌⊎◌, ℕ, List}
+use Rattle.ss_words.specs.declared.fault.TextRule.{TextRule}
+use Rattle.ss_words.specs.Words.{WordAt}
+use Rattle.ss_words.specs.Plain.{PlainAt}
+use Rattle.ss_words.specs.PlainRules.{plain_words_of}
+use Rattle.ss_preamble.specs.Tree.{Decls}
+use Rattle.ss_preamble.specs.Refused.{AreDecls}
+use Rattle.ss_preamble.specs.Refused as preamble
+use Rattle.ss_grammar.specs.Refused.{words_from}
+use Rattle.ss_grammar.specs.Refused as sections
+use Rattle.ss_session.specs.Refused.{IsRefused}
 use Rattle.ss_session.specs.Model.{Outcome, IsOutcome}
 
 -- each byte string, as a model, has an outcome
@@ -9,3 +19,16 @@ ModelHasOutcome = (model : List ℕ) → (outcome : Outcome) × IsOutcome model 
 -- and no second
 abbrev pub OutcomeIsUnique : Type 0
 OutcomeIsUnique = (model : List ℕ) (a b : Outcome) → IsOutcome model a → IsOutcome model b → a ≡ b
+
+-- plain words are refused in their preamble, or else in the sections behind it
+abbrev pub IsRefusedInPart : TextRule → ℕ → List PlainAt → Type 0
+IsRefusedInPart rule line ws =
+    preamble.IsRefused rule line ws
+    ⊎ ((d : Decls) × (number : ℕ) × AreDecls d number ws × sections.IsRefused rule line (words_from number ws))
+
+-- that is the refusal of the whole program, by the farthest word of preamble and sections together
+abbrev pub ProgramIsRefusedInPart : Type 0
+ProgramIsRefusedInPart =
+    (ws : List WordAt) (rule : TextRule) (line : ℕ)
+    → (IsRefusedInPart rule line (plain_words_of ws) → IsRefused rule line (plain_words_of ws))
+    × (IsRefused rule line (plain_words_of ws) → IsRefusedInPart rule line (plain_words_of ws))

@@ -1,5 +1,6 @@
 pub mod Outlet
 pub mod Exit
+pub mod Refused
 pub mod Model
 pub mod Written
 pub mod Transcript

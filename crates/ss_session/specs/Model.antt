@@ -5,12 +5,16 @@ use Rattle.ss_words.specs.declared.fault.TextFault.TheVariants.{Refused}
 use Rattle.ss_words.specs.Words.{WordAt}
 use Rattle.ss_words.specs.TextWords.{words_of}
 use Rattle.ss_words.specs.PlainRules.{plain_words_of}
-use Rattle.ss_routines.specs.Places.{Section}
-use Rattle.ss_routines.specs.Refused.{AreSections, IsRefused}
+use Rattle.ss_words.specs.Plain.{PlainAt}
+use Rattle.ss_preamble.specs.Tree.{Decls}
+use Rattle.ss_preamble.specs.Refused.{AreDecls}
+use Rattle.ss_grammar.specs.Places.{Section}
+use Rattle.ss_grammar.specs.Refused.{AreSections, words_from}
 use Rattle.ss_check.specs.declared.fault.CheckRule.{CheckRule}
-use Rattle.ss_check.specs.Breach.{breach}
-use Rattle.ss_check.specs.Resolved.{resolved}
+use Rattle.ss_checker.specs.Breach.{breach}
+use Rattle.ss_checker.specs.Resolved.{resolved}
 use Rattle.ss_check.specs.Program.{ProgramTable}
+use Rattle.ss_session.specs.Refused.{IsRefused}
 
 -- refused by a rule L or P, refused by a rule C, or a program
 pub data Outcome : Type 0 where
@@ -18,21 +22,24 @@ pub data Outcome : Type 0 where
   refused_check : CheckRule → ℕ → Outcome
   accepted : ProgramTable → Outcome
 
--- the words of a model spell a program with these sections
-abbrev pub Spells : List ℕ → List Section → Type 0
-Spells model ss = (ws : List WordAt) × (words_of model ≡ Ok ws) × AreSections ss (plain_words_of ws)
+-- plain words are a preamble or none, which declares this, and these sections behind it
+abbrev pub AreProgram : Decls → List Section → List PlainAt → Type 0
+AreProgram d ss ws = (number : ℕ) × AreDecls d number ws × AreSections ss (words_from number ws)
+
+-- the words of a model spell a program with these declarations and these sections
+abbrev pub Spells : List ℕ → Decls → List Section → Type 0
+Spells model d ss = (ws : List WordAt) × (words_of model ≡ Ok ws) × AreProgram d ss (plain_words_of ws)
 
 -- the refusal of the words if there is one, else that of the plain words, else the first breach of the program that
--- they
--- spell, else that program with each name replaced by its place
+-- they spell, else that program with each name replaced by its place
 abbrev pub IsOutcome : List ℕ → Outcome → Type 0
 IsOutcome model (refused_text rule line) =
     (words_of model ≡ Err (Refused rule line))
     ⊎ ((ws : List WordAt) × (words_of model ≡ Ok ws) × IsRefused rule line (plain_words_of ws))
 IsOutcome model (refused_check rule line) =
-    (ss : List Section) × Spells model ss × (breach ss ≡ Some (rule, line))
+    (d : Decls) × (ss : List Section) × Spells model d ss × (breach d ss ≡ Some (rule, line))
 IsOutcome model (accepted program) =
-    (ss : List Section) × Spells model ss × (breach ss ≡ None) × (program ≡ resolved ss)
+    (d : Decls) × (ss : List Section) × Spells model d ss × (breach d ss ≡ None) × (program ≡ resolved d ss)
 
 -- a rule L or P refuses the model
 abbrev pub IsTextRefused : List ℕ → Type 0

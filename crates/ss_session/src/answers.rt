@@ -10,6 +10,7 @@ use crate::ending::{Cut, End};
 use crate::outlet::{Outlet, PutFault, put_all};
 use crate::turns::obey_lines;
 use ss_debug::Debugger;
+use ss_links::SetBoard;
 use ss_machine::{Machine, Status};
 use std::alloc::Global;
 
@@ -39,13 +40,14 @@ fn end(status: Status) -> End
 
 /// Obeys the commands over a machine at the start of its run, and writes the answers and the
 /// report.
-pub(crate) fn write_transcript<W: Outlet>(
+pub(crate) fn write_transcript<S: SetBoard, W: Outlet>(
     alloc: Global,
-    machine: Machine,
+    machine: Machine<S>,
     commands: &[u8],
     out: &mut W,
 ) -> Result<End, Cut>
     requires start { machine.steps ≡ [] }
+    requires forgotten { machine.forgotten ≡ 0 }
     requires room { W.failures out.old < 2 ^ 64 - 1 }
     ensures { ProgramEnds result machine.input (command_lines commands.now) (W.taken out.old) (W.taken out.new)
         (W.failures out.old) (W.failures out.new) }

@@ -1,6 +1,6 @@
 //! Transcripts of whole models, computed on the definitions; the tests of the same names run
 //! `session` on them. Each function does nothing, and its contract says the law.
-ghost use Rattle.ss_session.specs.Examples.{EmptyProgramStops, BadCommandIsAnswered, FiveIsPrintedAgain, BackEndsAtStart, OverflowStands, WrongPictureIsRefused, EmptyTextIsRefused, WordBehindEndIsRefused, TextsEndIsRefused, LargeNumberIsRefused};
+ghost use Rattle.ss_session.specs.Examples.{EmptyProgramStops, BadCommandIsAnswered, FiveIsPrintedAgain, BackEndsAtStart, OldStepsAreForgotten, OverflowStands, WrongPictureIsRefused, EmptyTextIsRefused, WordBehindEndIsRefused, TextsEndIsRefused, LargeNumberIsRefused};
 
 /// A program that was not run has an empty report.
 pub fn an_empty_program_stops()
@@ -20,6 +20,11 @@ pub fn five_is_printed_again_after_a_step_back()
 /// One step back from the start, and ten from state 3, end at the start.
 pub fn back_goes_no_further_than_the_start()
     ensures { BackEndsAtStart }
+{}
+
+/// Steps that were forgotten cannot be taken back, and the state stays.
+pub fn old_steps_are_forgotten()
+    ensures { OldStepsAreForgotten }
 {}
 
 /// A sum past the range faults at its statement, and the state before it comes back.

@@ -1,9 +1,15 @@
-//! A law on the definitions. The function does nothing, and its contract says the law.
-ghost use Rattle.ss_session.specs.Laws.{ModelHasOutcome, OutcomeIsUnique};
+//! Laws on the definitions. Each function does nothing, and its contract says the law.
+ghost use Rattle.ss_session.specs.Laws.{ModelHasOutcome, OutcomeIsUnique, ProgramIsRefusedInPart};
 
 /// A model has exactly one outcome: each byte string is refused by one rule at one line, or is one
 /// program.
 pub fn model_has_one_outcome()
     ensures exists { ModelHasOutcome }
     ensures unique { OutcomeIsUnique }
+{}
+
+/// The refusal of a program's plain words, by the farthest word of preamble and sections together,
+/// is that of the preamble, or, where that is read, that of the sections behind it.
+pub fn program_is_refused_in_one_part()
+    ensures { ProgramIsRefusedInPart }
 {}

@@ -12,6 +12,6 @@ mod turns;
 mod whole;
 
 pub use ending::{End, SessionFault, exit_status};
-pub use laws::model_has_one_outcome;
+pub use laws::{model_has_one_outcome, program_is_refused_in_one_part};
 pub use outlet::{MemoryOutlet, Outlet, PutFault};
-pub use whole::session;
+pub use whole::{session, session_over};

@@ -2,8 +2,10 @@ ghost use Rattle.std.specs.Prelude.{IfOk, IfErr};
 ghost use Rattle.ss_session.specs.Model.{accepted, IsOutcome};
 ghost use Rattle.ss_session.specs.Private.{IsLoadFault};
 
-use ss_check::{CheckFault, CheckRule, Program, check};
-use ss_routines::sections;
+use ss_check::{CheckFault, CheckRule, Program};
+use ss_checker::check;
+use ss_grammar::sections;
+use ss_preamble::preamble;
 use ss_words::{TextFault, TextRule, words};
 use std::alloc::Global;
 
@@ -44,12 +46,15 @@ impl From<CheckFault> for LoadFault {
 }
 
 /// The program that a model is.
-#[tactic(auto, using(crate::proofs::Outcomes::all_words))]
+#[tactic(auto, using(crate::proofs::Loads::loads))]
 pub(crate) fn load(alloc: Global, model: &[u8]) -> Result<Program, LoadFault>
     ensures ok { IfOk result (λ program. IsOutcome model.now (accepted program)) }
     ensures err { IfErr result (λ fault. IsLoadFault fault model.now) }
 {
     let words = words(alloc, model)?;
-    let sections = sections(alloc, &words, 0)?;
-    Ok(check(alloc, sections)?)
+    let (decls, from) = preamble(alloc, &words)?;
+    let sections = sections(alloc, &words, from)?;
+    // The checker reads no words, and its program takes as much memory as they did.
+    drop(words);
+    Ok(check(alloc, decls, sections)?)
 }

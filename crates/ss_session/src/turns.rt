@@ -5,11 +5,12 @@ ghost use Rattle.ss_session.specs.Private.{TurnEnds, TurnsEnd};
 use crate::ending::Cut;
 use crate::outlet::{Outlet, put_all};
 use ss_debug::{Debugger, Go, command, obey, split_line};
+use ss_links::SetBoard;
 
 /// Obeys one line, and writes its whole answer.
 #[tactic(auto, using(crate::proofs::Pieces::appends_none), unfolding(crate::specs::Private::TurnEnds))]
-fn turn<W: Outlet>(
-    debugger: &mut Debugger,
+fn turn<S: SetBoard, W: Outlet>(
+    debugger: &mut Debugger<S>,
     line: &[u8],
     bytes: &mut Vec<u8>,
     out: &mut W,
@@ -26,8 +27,8 @@ fn turn<W: Outlet>(
 
 /// Obeys the lines, up to the last or QUIT, and writes their whole answers.
 #[tactic(auto, unfolding(crate::specs::Private::TurnEnds, crate::specs::Private::TurnsEnd))]
-pub(crate) fn obey_lines<W: Outlet>(
-    debugger: &mut Debugger,
+pub(crate) fn obey_lines<S: SetBoard, W: Outlet>(
+    debugger: &mut Debugger<S>,
     bytes: &mut Vec<u8>,
     commands: &[u8],
     out: &mut W,

@@ -1,5 +1,6 @@
 ghost use Rattle.std.specs.Prelude.{◌≡◌, ℕ, ◌+◌, ◌-◌, ◌^◌, ◌<◌, ◌≤◌, ◌↔◌, List, Option, Ok, Err};
 ghost use Rattle.std.specs.Io.KnownBytes.{Appends};
+ghost use Rattle.ss_links.specs.Board.{empty_board};
 ghost use Rattle.ss_session.specs.declared.ending.End.{End};
 ghost use Rattle.ss_session.specs.declared.ending.SessionFault.TheVariants.{Text, Check, Write, Memory};
 ghost use Rattle.ss_session.specs.Model.{IsTextRefused, IsCheckRefused};
@@ -11,6 +12,7 @@ use crate::ending::{Cut, End, SessionFault};
 use crate::load::{LoadFault, load};
 use crate::outlet::{Outlet, put_all};
 use crate::refusal::refusal_text;
+use ss_links::{LinkedSets, SetBoard};
 use ss_machine::Machine;
 use std::alloc::Global;
 
@@ -27,14 +29,18 @@ fn refuse<W: Outlet>(alloc: Global, code: &str, line: usize, out: &mut W) -> Res
 }
 
 /// The whole session, by one fact on how it ends.
-fn session_by_cases<W: Outlet>(
+fn session_by_cases<S: SetBoard, W: Outlet>(
     alloc: Global,
+    sets: S,
+    pending: S,
     model: &[u8],
     data_text: &[u8],
     commands: &[u8],
     out: &mut W,
 ) -> Result<End, SessionFault>
-    requires { W.failures out.old < 2 ^ 64 - 1 }
+    requires sets { S.board sets ≡ empty_board }
+    requires pending { S.board pending ≡ empty_board }
+    requires room { W.failures out.old < 2 ^ 64 - 1 }
     ensures { SessionEnds result model.now data_text.now commands.now (W.taken out.old) (W.taken out.new)
         (W.failures out.old) (W.failures out.new) }
 {
@@ -49,14 +55,62 @@ fn session_by_cases<W: Outlet>(
             Err(SessionFault::Check)
         }
         Ok(program) => {
-            let machine = Machine::new(alloc, program, data_text)?;
+            let machine = Machine::new(alloc, program, data_text, sets, pending)?;
             Ok(write_transcript(alloc, machine, commands, out)?)
         }
     }
 }
 
-/// Runs a model over its data under the debugger's commands (docs/DEBUGGER.md), and writes what they
-/// answer, each answer before the next command is obeyed, and the report last.
+/// Runs a model over its data under the debugger's commands (docs/DEBUGGER.md), and writes what
+/// they answer, each answer before the next command is obeyed, and the report last. The run keeps
+/// its sets on `sets` and its pending notices on `pending`, boards without heads and seats.
+///
+/// `Ok` where the model is a program and all was written: `RunFault` where its last state is
+/// faulted, else `Done`. `Text` and `Check` where the model is refused, once its line is written.
+/// `Write` where `out` counted a failure; nothing more is put then. `Memory` where a growth was
+/// refused; what was written are the whole answers of the first lines.
+pub fn session_over<S: SetBoard, W: Outlet>(
+    alloc: Global,
+    sets: S,
+    pending: S,
+    model: &[u8],
+    data_text: &[u8],
+    commands: &[u8],
+    out: &mut W,
+) -> Result<End, SessionFault>
+    requires sets { S.board sets ≡ empty_board }
+    requires pending { S.board pending ≡ empty_board }
+    requires room { W.failures out.old < 2 ^ 64 - 1 }
+
+    // What is written is the transcript of the model over the data under the commands, unless
+    // memory is refused or a write fails: then it is the whole answers of the first lines, or a
+    // prefix of the transcript.
+    ensures whole { IsWhole result
+        → WritesTranscript model.now data_text.now commands.now (W.taken out.old) (W.taken out.new) }
+    ensures memory { result ≡ Err Memory
+        → WritesFirstAnswers model.now data_text.now commands.now (W.taken out.old) (W.taken out.new) }
+    ensures write { result ≡ Err Write
+        → WritesPartOfTranscript model.now data_text.now commands.now (W.taken out.old) (W.taken out.new) }
+
+    // It ends with Write exactly where the outlet counted a failure; it counts one then, and else
+    // none.
+    ensures failure { (result ≡ Err Write) ↔ (W.failures out.old < W.failures out.new) }
+    ensures counts { W.failures out.new ≡ W.failures out.old + count_failed result }
+
+    // How else it ends: Text exactly where a rule L or P refuses the model, Check exactly where a
+    // rule C does, and Done or RunFault exactly where the model is a program whose last state says
+    // so.
+    ensures text { IsWhole result → (result ≡ Err Text) ↔ IsTextRefused model.now }
+    ensures check { IsWhole result → (result ≡ Err Check) ↔ IsCheckRefused model.now }
+    ensures accepted { IsWhole result
+        → (end : End) → (result ≡ Ok end) ↔ EndsBy model.now data_text.now commands.now end }
+{
+    session_by_cases(alloc, sets, pending, model, data_text, commands, out)
+}
+
+/// Runs a model over its data under the debugger's commands (docs/DEBUGGER.md), and writes what
+/// they answer, each answer before the next command is obeyed, and the report last. Its sets and
+/// its pending notices stand on boards of linked nodes.
 ///
 /// `Ok` where the model is a program and all was written: `RunFault` where its last state is
 /// faulted, else `Done`. `Text` and `Check` where the model is refused, once its line is written.
@@ -94,5 +148,13 @@ pub fn session<W: Outlet>(
     ensures accepted { IsWhole result
         → (end : End) → (result ≡ Ok end) ↔ EndsBy model.now data_text.now commands.now end }
 {
-    session_by_cases(alloc, model, data_text, commands, out)
+    session_over(
+        alloc,
+        LinkedSets::new(alloc),
+        LinkedSets::new(alloc),
+        model,
+        data_text,
+        commands,
+        out,
+    )
 }

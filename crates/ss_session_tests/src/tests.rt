@@ -51,6 +51,17 @@ fn back_goes_no_further_than_the_start(rt: HostRuntime) {
 }
 
 #[test]
+fn old_steps_are_forgotten(rt: HostRuntime) {
+    let commands = "STEP 2\nFORGET 1\nBACK\nBACK\nSTEP 5\nBACK 2\nFORGET 5\nSHOW VAR X\n";
+    let wanted = "DONE: STATE 2 CLOCK 0 READY IN MAIN LINE 5\nKEPT 1\n\
+         DONE: STATE 1 CLOCK 0 READY IN MAIN LINE 3\n\
+         NOTHING KEPT: STATE 1 CLOCK 0 READY IN MAIN LINE 3\n\
+         HALTED: STATE 3 CLOCK 0 STOPPED IN MAIN LINE 5\n\
+         DONE: STATE 1 CLOCK 0 READY IN MAIN LINE 3\nKEPT 0\nX = 5\nREPORT\n";
+    assert_eq!(rt; end_of_session(&rt, FIVE, commands, wanted), Ok(End::Done));
+}
+
+#[test]
 fn an_overflow_stands_at_its_statement(rt: HostRuntime) {
     let model = "MAIN\nLET X = 9223372036854775807\nADD 1 TO X\nEND\n";
     let wanted = "HALTED: STATE 2 CLOCK 0 FAULT F1 IN MAIN LINE 3\nX = 9223372036854775807\n\

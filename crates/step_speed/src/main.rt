@@ -11,13 +11,14 @@ mod steps;
 
 use anyhow::{Context, Result};
 use model::program;
+use ss_links::LinkedSets;
 use ss_machine::Machine;
 use std::env;
 use std::time::{Clock, Instant};
 use steps::{back, forward};
 
 /// Runs one way, and answers how many steps it had.
-fn run_way(machine: &mut Machine, way: &str, places: usize) -> Result<usize> {
+fn run_way(machine: &mut Machine<LinkedSets>, way: &str, places: usize) -> Result<usize> {
     if way == "back" {
         return Ok(back(machine, places));
     }
@@ -25,7 +26,12 @@ fn run_way(machine: &mut Machine, way: &str, places: usize) -> Result<usize> {
 }
 
 /// Writes where a way of so many steps led.
-fn write_way(rt: &impl Print, machine: &Machine, way: &str, moved: usize) -> Result<()> {
+fn write_way(
+    rt: &impl Print,
+    machine: &Machine<LinkedSets>,
+    way: &str,
+    moved: usize,
+) -> Result<()> {
     println!(rt;
         "{moved} steps {way}, to position {} with a report of {} bytes",
         machine.position(),
@@ -37,7 +43,7 @@ fn write_way(rt: &impl Print, machine: &Machine, way: &str, moved: usize) -> Res
 /// Runs one way and writes where it led and, where times are wanted, how long it took.
 fn measure(
     rt: &(impl Clock + Print),
-    machine: &mut Machine,
+    machine: &mut Machine<LinkedSets>,
     way: &str,
     places: usize,
     is_timed: bool,
@@ -59,7 +65,13 @@ fn main(rt: HostRuntime) -> Result<()> {
         None => 1_000,
     };
     let program = program(rt.alloc(), places).context("the model")?;
-    let mut machine = Machine::new(rt.alloc(), program, b"")?;
+    let mut machine = Machine::new(
+        rt.alloc(),
+        program,
+        b"",
+        LinkedSets::new(rt.alloc()),
+        LinkedSets::new(rt.alloc()),
+    )?;
     for way in ["forward", "back", "forward again"] {
         measure(&rt, &mut machine, way, places, number.is_some())?;
     }

@@ -1,6 +1,8 @@
 use anyhow::{Context, Result};
-use ss_check::{Program, check};
-use ss_routines::sections;
+use ss_check::Program;
+use ss_checker::check;
+use ss_grammar::sections;
+use ss_preamble::preamble;
 use ss_words::words;
 use std::alloc::{AllocError, Global};
 
@@ -8,8 +10,9 @@ use std::alloc::{AllocError, Global};
 pub fn program(alloc: Global, places: usize) -> Result<Program> {
     let text = text(alloc, places)?;
     let words = words(alloc, text.as_slice())?;
-    let sections = sections(alloc, &words, 0)?;
-    Ok(check(alloc, sections)?)
+    let (decls, from) = preamble(alloc, &words)?;
+    let sections = sections(alloc, &words, from)?;
+    Ok(check(alloc, decls, sections)?)
 }
 
 fn text(alloc: Global, places: usize) -> Result<Vec<u8>, AllocError> {

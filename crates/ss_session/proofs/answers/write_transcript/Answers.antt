@@ -10,7 +10,7 @@ use Rattle.ss_session.proofs.answers.write_transcript.Goals as goal
 
 pub returns-in_err-obey_lines : goal.returns-in_err-obey_lines
 returns-in_err-obey_lines g c =
-    let s = start_is c.args.machine _ c.new-debugger.ensures c.requires.start in
+    let s = start_is c.args.machine _ c.new-debugger.ensures c.requires.start c.requires.forgotten in
     let p = ap (λ h. h.machine.input) c.new-debugger.ensures in
     let t = rw p at c.in_err-obey_lines.ensures in
     let e : c.from_residual.result ≡ Err c.in_err-obey_lines.field-0.0 = search rules in
@@ -19,11 +19,11 @@ returns-in_err-obey_lines g c =
 pub returns-in_err-put_both : goal.returns-in_err-put_both
 unfolding TurnsEnd ProgramEnds program_transcript report_text
 returns-in_err-put_both g c =
-    let s = start_is c.args.machine _ c.new-debugger.ensures c.requires.start in
+    let s = start_is c.args.machine _ c.new-debugger.ensures c.requires.start c.requires.forgotten in
     let p = ap (λ h. h.machine.input) c.new-debugger.ensures in
     let t = rw (s, p) at c.in_ok-obey_lines.ensures in
     let k = rw c.machine-machine.ensures at c.known.ensures.state in
-    let r = state_is _ _ _ t.1 k (ap (λ d. d.position) t.0) in
+    let r = state_is _ _ _ _ _ t.1 k (ap (λ d. d.position) t.0) in
     let o = rw (c.report.ensures, c.machine-machine.ensures, r) at c.in_err-put_both.ensures.err in
     let e : c.from_residual-in_err-put_both.result ≡ Err cut.Write = search rules in
     rw e (part_right _ _ _ _ _ t.2 o.0, o.1 ∙ ap (λ n. n + 1) t.3)
@@ -38,11 +38,11 @@ put_both-requires g c =
 pub returns : goal.returns
 unfolding TurnsEnd ProgramEnds program_transcript report_text
 returns g c =
-    let s = start_is c.args.machine _ c.new-debugger.ensures c.requires.start in
+    let s = start_is c.args.machine _ c.new-debugger.ensures c.requires.start c.requires.forgotten in
     let p = ap (λ h. h.machine.input) c.new-debugger.ensures in
     let t = rw (s, p) at c.in_ok-obey_lines.ensures in
     let k = rw c.machine-machine.ensures at c.known.ensures.state in
-    let r = state_is _ _ _ t.1 k (ap (λ d. d.position) t.0) in
+    let r = state_is _ _ _ _ _ t.1 k (ap (λ d. d.position) t.0) in
     let o = rw (c.report.ensures, c.machine-machine.ensures, r) at c.in_ok-put_both.ensures.ok in
     let e = rw (c.status.ensures, c.machine-machine.ensures, r) at c.end.ensures in
     (e, appends_then _ _ _ _ _ t.2 o.0, o.1 ∙ t.3)

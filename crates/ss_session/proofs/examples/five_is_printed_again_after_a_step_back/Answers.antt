@@ -19,5 +19,11 @@ unfolding digits program_transcript answers session_state_after debugger_state_a
     command_in_words command_words command_lines without_empty_last number_within number_of name_of moment_text
     place_text state_line movement_text var_text report_text least without_stops
 returns c =
-    tells_run five five_words five_plain five_read five_spelled five_tree five_program
-    (record { parentheses = omega arith; sections = omega arith }) five_spells refl refl _ _ refl
+    tells_run five five_words five_plain five_read five_spelled (λ h. cc) five_tree five_program
+    (record {
+      parentheses = omega arith;
+      ifs = omega arith;
+      phrases = omega arith;
+      parameters = omega arith;
+      sections = omega arith;
+    }) five_spells refl refl _ _ refl

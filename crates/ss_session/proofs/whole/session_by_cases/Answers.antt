@@ -8,9 +8,9 @@ use Rattle.ss_session.proofs.whole.session_by_cases.Goals as goal
 pub returns-in-Err-Memory : goal.returns-in-Err-Memory
 returns-in-Err-Memory g c = none_yet _ _ _ _ _
 
-pub returns-in_ok-refuse-in-Err-Text : goal.returns-in_ok-refuse-in-Err-Text
+pub returns-in-Err-Text : goal.returns-in-Err-Text
 unfolding LineEnds
-returns-in_ok-refuse-in-Err-Text g c =
+returns-in-Err-Text g c =
     text_written _ _ _ _ _ _ _ _ _ (rw c.in-Err-Text.field-0-is at c.in-Err-Text.ensures.err)
     (rw c.code.ensures at c.in_ok-refuse-in-Err-Text.ensures)
 
@@ -21,9 +21,9 @@ returns-in_err-refuse-in-Err-Text g c =
     (rw c.in-Err-Text.field-0-is at c.in-Err-Text.ensures.err)
     (rw c.code.ensures at c.in_err-refuse-in-Err-Text.ensures))
 
-pub returns-in_ok-refuse-in-Err-Check : goal.returns-in_ok-refuse-in-Err-Check
+pub returns-in-Err-Check : goal.returns-in-Err-Check
 unfolding LineEnds
-returns-in_ok-refuse-in-Err-Check g c =
+returns-in-Err-Check g c =
     check_written _ _ _ _ _ _ _ _ _ (rw c.in-Err-Check.field-0-is at c.in-Err-Check.ensures.err)
     (rw c.code-in-Err-Check.ensures at c.in_ok-refuse-in-Err-Check.ensures)
 
@@ -40,8 +40,8 @@ returns-in_err-machine-in-Ok g c =
     let e : c.from_residual-in_err-machine-in-Ok.result ≡ Err Memory = search rules in
     rw e (none_yet _ _ _ _ _)
 
-pub returns-in_ok-write_transcript-in-Ok : goal.returns-in_ok-write_transcript-in-Ok
-returns-in_ok-write_transcript-in-Ok g c =
+pub returns : goal.returns
+returns g c =
     program_ends _ _ _ _ _ _ _ _ _ c.in-Ok.ensures.ok
     (rw c.in_ok-machine-in-Ok.ensures.input at c.in_ok-write_transcript-in-Ok.ensures)
 

@@ -1,5 +1,5 @@
 use Rattle.ss_session.proofs.Ends.{whole_written, memory_written, write_written, failure_counted, failures_counted, text_end, check_end, accepted_end}
-use Rattle.ss_session.proofs.whole.session.Goals as goal
+use Rattle.ss_session.proofs.whole.session_over.Goals as goal
 
 pub returns-clause-whole : goal.returns-clause-whole
 returns-clause-whole g c = whole_written _ _ _ _ _ _ _ _ c.session_by_cases.ensures
