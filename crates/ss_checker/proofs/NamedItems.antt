@@ -1,0 +1,443 @@
+-- The tables of a program without a breach, each number looked up, say what the items write.
+use Rattle.std.proofs.Common.{◌≡◌, ◌⊎◌, ℕ, ◌+◌, Bool, true, false, not, List, [], ◌∷◌, ◌++◌, length, refl, sym, ap, ◌∙◌, subst, arith, Option, Some, None}
+use Rattle.std.specs.Prelude.{map, codes, slice_get, option_map, unwrap_or}
+use Rattle.std.specs.List.{All, flat_map, list_any}
+use mathlib.Core.Logic.{inl, inr}
+use Rattle.std.proofs.lemmas.Bool.{or_parts, not-false}
+use Rattle.std.proofs.lemmas.List.Elements.{All-nil, All-cons}
+use Rattle.std.proofs.lemmas.Option.{slice_get-map}
+use Rattle.ss_words.specs.Lists.{Name, Several, all_of}
+use Rattle.ss_preamble.specs.declared.item.Heading.{Heading}
+use Rattle.ss_preamble.specs.declared.item.Heading.TheVariants.{PermanentEntities, TemporaryEntities, EventNotices}
+use Rattle.ss_preamble.specs.declared.item.Rank.{Rank as WrittenRank}
+use Rattle.ss_preamble.specs.declared.item.Rank.TheVariants.{High, Low}
+use Rattle.ss_preamble.specs.Tree.{Key as WrittenKey, SetKind, Fifo, Lifo, Ranked, PriorityOrder, BreakTies, ExternalEvents, Item, Normally, Headed, OfEvery, OfSystem, Defines, Orders, ItemAt}
+use Rattle.ss_preamble.specs.Limits.{class_names}
+use Rattle.ss_grammar.specs.Tree.{Head, MainHead, RoutineHead, EventHead}
+use Rattle.ss_grammar.specs.Places.{Section}
+use Rattle.ss_check.specs.declared.kinds.ClassKind.TheVariants.{Temporary}
+use Rattle.ss_check.specs.declared.kinds.Discipline.TheVariants as discipline
+use Rattle.ss_check.specs.declared.kinds.Owner.TheVariants.{System}
+use Rattle.ss_check.specs.EventTable.{EventTable}
+use Rattle.ss_check.specs.Program.{ClassTable, SetTable, SectionTable, ProgramTable, class_of, section_of, event_of_kind, is_event_section}
+use Rattle.ss_checker.specs.declared.fact.Fact.{Fact}
+use Rattle.ss_checker.specs.declared.name_kind.NameKind.{NameKind}
+use Rattle.ss_checker.specs.declared.name_kind.NameKind.TheVariants as k
+use Rattle.ss_checker.specs.declared.tables.Tables.{Tables}
+use Rattle.ss_checker.specs.Facts.{is_among, each_once, fact, fact_of, names_of}
+use Rattle.ss_checker.specs.NameKinds.{is_attribute_of, is_class, is_global, names_event}
+use Rattle.ss_checker.specs.Declarations.{Entry, entries, heads, tables, classes_in, events_in, owners_in, members_in, disciplines_in, ties_in, external_in, priority_in, sets_in, kind_of, is_event_class}
+use Rattle.ss_checker.specs.ItemRules.{names_wrong_class, is_wrong_key, has_wrong_key, has_wrong_rank, has_wrong_keys}
+use Rattle.ss_checker.specs.ResolvedNames.{Names, names, number, names_where, is_set, attributes_of, attribute_names, owner_of, member_class}
+use Rattle.ss_checker.specs.Resolved.{Rankings, rankings, resolved_rank, resolved_key, resolved_discipline, resolved_owner, event_table, class_kind, class_table, set_table, section_name, resolved_section, resolved_with}
+use Rattle.ss_checker.specs.NamedTree.{several, name_at}
+use Rattle.ss_checker.specs.NamedItems.{named_heading, named_rank, named_key, named_discipline, named_owner, said_of, headings_in, IsSaid, IsKindOf, IsClassOf, IsSetOf, IsOfItems, TablesGiveTheItems}
+use Rattle.ss_checker.proofs.SoundLists.{In, none_in, in_among, among_in, number_there, image_at, once_from, fact_in, fact_there, flat_in, in_flat, where_has, where_from}
+use Rattle.ss_checker.proofs.SoundDeclared.{HasClass}
+use Rattle.ss_checker.proofs.SoundItems.{item_at, events_have_sections, priority_kept}
+use Rattle.ss_checker.proofs.SoundNumbers.{event_found}
+use Rattle.ss_checker.proofs.SoundScoped.{L, kind_in, closed_kind, global_in, class_in, class_global, set_of_item, owner_class, member_there, member_is_class, event_class, attributes_are}
+use Rattle.ss_checker.proofs.SoundUnbroken.{AreItemsKept, kept}
+use Rattle.ss_checker.proofs.NamedKinds.{number_finds}
+use Rattle.ss_checker.proofs.NamedUses.{two}
+use Rattle.ss_checker.proofs.NamedItemsNames.{entries_say, class_names_are, set_names_are, globals_are, attributes_written}
+use Rattle.ss_checker.proofs.NamedItemsOnce.{some_list, said_in, AreItemsClear, IsItemClear, clear, clear_at, one_owner, one_member, one_discipline, one_break, sets_have_owners}
+use Rattle.ss_checker.proofs.NamedItemsHeadings.{class_kept, heading_declared, heading_there}
+
+-- ---- lists
+
+all_of_these : {X : Type 0} (P : X → Type 0) (xs : List X) → ((x : X) → In x xs → P x) → All P xs
+all_of_these P [] h = All-nil P
+all_of_these P (x ∷ xs) h = All-cons P x xs (h x (inl refl)) (all_of_these P xs (λ y i. h y (inr i)))
+
+all_mapped : {X Y : Type 0} (P : Y → Type 0) (f : X → Y) (xs : List X) → ((x : X) → In x xs → P (f x)) → All P (map f xs)
+all_mapped P f [] h = All-nil P
+all_mapped P f (x ∷ xs) h = All-cons P (f x) (map f xs) (h x (inl refl)) (all_mapped P f xs (λ y i. h y (inr i)))
+
+same_again : {X Y : Type 0} (f : X → Y) (g : Y → X) (xs : List X) → ((x : X) → In x xs → g (f x) ≡ x) → map g (map f xs) ≡ xs
+same_again f g [] e = refl
+same_again f g (x ∷ xs) e = two (λ y ys. y ∷ ys) (e x (inl refl)) (same_again f g xs (λ y i. e y (inr i)))
+
+name_again : (n : Name) (ns : List Name) → In n ns → name_at ns (number n ns) ≡ n
+name_again n ns i = ap (λ (o : Option Name). unwrap_or o []) (number_finds n ns (number_there n ns i))
+
+-- ---- keys
+
+rank_again : (r : WrittenRank) → named_rank (resolved_rank r) ≡ r
+rank_again High = refl
+rank_again Low = refl
+
+key_again : (ns : List Name) (q : WrittenKey) → In q.name ns → named_key ns (resolved_key ns q) ≡ q
+key_again ns q i =
+    two (λ (r : WrittenRank) (n : Name). record { rank = r; name = n }) (rank_again q.rank) (name_again q.name ns i)
+
+keys_again : (ns : List Name) (qs : List WrittenKey) → ((q : WrittenKey) → In q qs → In q.name ns) →
+    map (named_key ns) (map (resolved_key ns) qs) ≡ qs
+keys_again ns qs h = same_again (resolved_key ns) (named_key ns) qs (λ q i. key_again ns q (h q i))
+
+-- ---- kinds of classes
+
+-- an event class, or none of its kind
+abbrev IsEventOr : Tables → Names → Rankings → Name → Option NameKind → Type 0
+IsEventOr d v r n o =
+    (o ≡ Some (k.Class (Some EventNotices)))
+    ⊎ ((names_event o ≡ false) × (event_of_kind (class_kind d v r n o) ≡ record { section = 0; ties = []; external = false }))
+
+event_or : (d : Tables) (v : Names) (r : Rankings) (n : Name) (o : Option NameKind) → IsEventOr d v r n o
+event_or d v r n None = inr (refl, refl)
+event_or d v r n (Some k.Variable) = inr (refl, refl)
+event_or d v r n (Some k.ClassCount) = inr (refl, refl)
+event_or d v r n (Some (k.Class None)) = inr (refl, refl)
+event_or d v r n (Some (k.Class (Some PermanentEntities))) = inr (refl, refl)
+event_or d v r n (Some (k.Class (Some TemporaryEntities))) = inr (refl, refl)
+event_or d v r n (Some (k.Class (Some EventNotices))) = inl refl
+event_or d v r n (Some (k.Attribute c)) = inr (refl, refl)
+event_or d v r n (Some (k.OwnerKept q s)) = inr (refl, refl)
+event_or d v r n (Some (k.MemberKept q s)) = inr (refl, refl)
+event_or d v r n (Some (k.Function f)) = inr (refl, refl)
+event_or d v r n (Some k.Clock) = inr (refl, refl)
+event_or d v r n (Some k.Set) = inr (refl, refl)
+event_or d v r n (Some k.Routine) = inr (refl, refl)
+
+heading_again : (d : Tables) (v : Names) (r : Rankings) (n : Name) (g : Heading) → named_heading (class_kind d v r n (Some (k.Class (Some g)))) ≡ g
+heading_again d v r n PermanentEntities = refl
+heading_again d v r n TemporaryEntities = refl
+heading_again d v r n EventNotices = refl
+
+class_item : (i : Item) (n : Name) → In n (class_names i) → In n (classes_in i)
+class_item Normally n x = absurd x
+class_item (Headed g None) n x = absurd x
+class_item (Headed g (Some ns)) n x = x
+class_item (OfEvery c cs) n x = x
+class_item (OfSystem cs) n x = absurd x
+class_item (Defines z) n x = absurd x
+class_item (Orders r) n x = absurd x
+
+-- what BREAK and EXTERNAL name is an event class
+tied_event : (d b : Tables) (h : Option Heading) (i : Item) (n : Name) (keys : List WrittenKey) → names_wrong_class d b h i ≡ false →
+    In (fact n keys) (ties_in i) → is_event_class d n ≡ true
+tied_event d b h Normally n keys e x = absurd x
+tied_event d b h (Headed g ns) n keys e x = absurd x
+tied_event d b h (OfEvery c cs) n keys e x = absurd x
+tied_event d b h (OfSystem cs) n keys e x = absurd x
+tied_event d b h (Defines z) n keys e x = absurd x
+tied_event d b h (Orders (PriorityOrder ns)) n keys e x = absurd x
+tied_event d b h (Orders (BreakTies c ks)) n keys e (inl y) =
+    ap (is_event_class d) (ap (λ (f : Fact (List WrittenKey)). f.name) y) ∙ not-false (is_event_class d c) e
+tied_event d b h (Orders (BreakTies c ks)) n keys e (inr y) = absurd y
+tied_event d b h (Orders (ExternalEvents ns)) n keys e x = absurd x
+
+external_event : (d b : Tables) (h : Option Heading) (i : Item) (n : Name) → names_wrong_class d b h i ≡ false → In n (external_in i) →
+    is_event_class d n ≡ true
+external_event d b h Normally n e x = absurd x
+external_event d b h (Headed g ns) n e x = absurd x
+external_event d b h (OfEvery c cs) n e x = absurd x
+external_event d b h (OfSystem cs) n e x = absurd x
+external_event d b h (Defines z) n e x = absurd x
+external_event d b h (Orders (PriorityOrder ns)) n e x = absurd x
+external_event d b h (Orders (BreakTies c ks)) n e x = absurd x
+external_event d b h (Orders (ExternalEvents ns)) n e x =
+    not-false (is_event_class d n) (none_in (λ c. not (is_event_class d c)) n (all_of ns) e x)
+
+event_name : (n : Name) (h : Head) → In n (events_in h) → section_name h ≡ n
+event_name n MainHead i = absurd i
+event_name n (RoutineHead m ps ys) i = absurd i
+event_name n (EventHead m ps saving) (inl e) = sym e
+event_name n (EventHead m ps saving) (inr x) = absurd x
+
+-- ---- the program
+
+module _ (xs : List Entry) (qs : List Section) where
+  abbrev hs : List Head
+  hs = heads qs
+
+  abbrev D : Tables
+  D = Rattle.ss_checker.specs.Declarations.tables_of xs hs
+
+  abbrev V : Names
+  V = names D hs
+
+  abbrev R : Rankings
+  R = record { disciplines = flat_map (λ (x : Entry). disciplines_in x.item) xs; ties = flat_map (λ (x : Entry). ties_in x.item) xs }
+
+  abbrev p : ProgramTable
+  p = resolved_with D V R qs
+
+  module _ (h : AreItemsKept D [] xs) (c : AreItemsClear D [] xs) where
+    class_at : (n : Name) → In n V.classes → class_of p (number n V.classes) ≡ class_table D V R n
+    class_at n i =
+        ap (λ (o : Option ClassTable). unwrap_or o (record { name = []; kind = Temporary; variable = 0; attributes = [] }))
+        (image_at (class_table D V R) n V.classes i)
+
+    declared_class : (n : Name) → In n V.classes → HasClass (L xs hs h) n
+    declared_class n i =
+        let q = where_from is_class n D.kinds (once_from n (names_where is_class D.kinds) i) in
+        as_class q.what q.there q.passes
+      where
+        as_class : (j : NameKind) → In (fact n j) D.kinds → is_class j ≡ true → HasClass (L xs hs h) n
+        as_class (k.Class g) x t = (g, x)
+        as_class k.Variable x t = cc
+        as_class k.ClassCount x t = cc
+        as_class (k.Attribute b) x t = cc
+        as_class (k.OwnerKept q s) x t = cc
+        as_class (k.MemberKept q s) x t = cc
+        as_class (k.Function f) x t = cc
+        as_class k.Clock x t = cc
+        as_class k.Set x t = cc
+        as_class k.Routine x t = cc
+
+    named_somewhere : (n : Name) → In n V.classes → In n (flat_map (λ (x : Entry). classes_in x.item) xs)
+    named_somewhere n i =
+        let named = subst (λ (ns : List Name). In n ns) (class_names_are xs hs) (once_from n (names_where is_class D.kinds) i) in
+        let f = flat_in (λ (x : Entry). class_names x.item) n xs named in
+        let x = f.one in
+        in_flat (λ (y : Entry). classes_in y.item) x n xs f.there (class_item x.item n f.has)
+
+    -- ---- kinds
+
+    event_again : (n : Name) → In n V.classes → is_event_class D n ≡ true →
+        ((section_of p (event_table D V R n).section).name ≡ n) × (is_event_section (section_of p (event_table D V R n).section) ≡ true)
+    event_again n i e =
+        let has = events_have_sections D xs h n (named_somewhere n i) e in
+        let f = event_found qs 0 n (among_in n D.events has) in
+        let q = f.section in
+        let holds = f.holds in
+        let number_is : (event_table D V R n).section ≡ f.place = ap (λ (o : Option ℕ). unwrap_or o 0) f.number ∙ omega arith in
+        let there : slice_get p.sections (event_table D V R n).section ≡ Some (resolved_section D V q) =
+        ap (slice_get p.sections) number_is ∙ slice_get-map (resolved_section D V) qs f.place
+        ∙ ap (option_map (resolved_section D V)) f.there in
+        let same = section_is (event_table D V R n).section (resolved_section D V q) there in
+        (ap (λ (t : SectionTable). t.name) same ∙ event_name n q.head holds.names, ap is_event_section same ∙ holds.kind)
+      where
+        section_is : (j : ℕ) (t : SectionTable) → slice_get p.sections j ≡ Some t → section_of p j ≡ t
+        section_is j t e = rw e refl
+
+    kind_again : (n : Name) (o : Option NameKind) → In n V.classes → kind_of D n ≡ o → IsKindOf p n (class_kind D V R n o)
+    kind_again n None i e = tt
+    kind_again n (Some k.Variable) i e = tt
+    kind_again n (Some k.ClassCount) i e = tt
+    kind_again n (Some (k.Class None)) i e = tt
+    kind_again n (Some (k.Class (Some PermanentEntities))) i e =
+        name_again (codes "N." ++ n) V.globals
+        (global_in xs hs h (codes "N." ++ n) k.ClassCount (closed_kind xs hs h n (k.Class (Some PermanentEntities)) e).1 refl)
+    kind_again n (Some (k.Class (Some TemporaryEntities))) i e = tt
+    kind_again n (Some (k.Class (Some EventNotices))) i e = event_again n i (ap names_event e)
+    kind_again n (Some (k.Attribute b)) i e = tt
+    kind_again n (Some (k.OwnerKept q s)) i e = tt
+    kind_again n (Some (k.MemberKept q s)) i e = tt
+    kind_again n (Some (k.Function f)) i e = tt
+    kind_again n (Some k.Clock) i e = tt
+    kind_again n (Some k.Set) i e = tt
+    kind_again n (Some k.Routine) i e = tt
+
+    headings_again : (n : Name) → All (λ (w : Option Heading). w ≡ Some (named_heading (class_kind D V R n (kind_of D n))))
+        (said_of (flat_map (λ (x : Entry). headings_in x.heading x.item) xs) n)
+    headings_again n =
+        all_of_these (λ (w : Option Heading). w ≡ Some (named_heading (class_kind D V R n (kind_of D n))))
+        (said_of (flat_map (λ (x : Entry). headings_in x.heading x.item) xs) n) one
+      where
+        one : (w : Option Heading) → In w (said_of (flat_map (λ (x : Entry). headings_in x.heading x.item) xs) n) →
+            w ≡ Some (named_heading (class_kind D V R n (kind_of D n)))
+        one w i =
+            let f = flat_in (λ (x : Entry). headings_in x.heading x.item) (fact n w) xs
+            (said_in (flat_map (λ (x : Entry). headings_in x.heading x.item) xs) n w i) in
+            let x = f.one in
+            let clear = clear_at D [] xs x c f.there in
+            let item = clear.1 in
+            let g = heading_there D clear.0 x.heading x.item n w item.class f.has in
+            let kind = class_kept xs hs h x f.there n w (heading_declared x.heading x.item n w f.has) in
+            g.1 ∙ ap (λ (z : Heading). Some z) (sym (heading_again D V R n g.0))
+            ∙ ap (λ (o : Option NameKind). Some (named_heading (class_kind D V R n o)))
+            (sym (kind ∙ ap (λ (z : Option Heading). Some (k.Class z)) g.1))
+
+    -- ---- keys
+
+    is_attribute : (b n : Name) (o : Option NameKind) → kind_of D n ≡ o → not (unwrap_or (option_map (is_attribute_of b) o) false) ≡ false →
+        In n (attributes_of D b)
+    is_attribute b n None e t = cc
+    is_attribute b n (Some j) e t = where_has (is_attribute_of b) n j D.kinds (kind_in xs hs h n j e) (not-false (is_attribute_of b j) t)
+
+    keys_are : (t : Tables) (b : Name) (keys : List WrittenKey) → In b V.classes → list_any (is_wrong_key D t b) keys ≡ false →
+        map (named_key (attributes_of D b)) (map (resolved_key (attribute_names V b)) keys) ≡ keys
+    keys_are t b keys i e =
+        ap (λ (ns : List Name). map (named_key (attributes_of D b)) (map (resolved_key ns) keys)) (attributes_are xs hs h R b i)
+        ∙ keys_again (attributes_of D b) keys
+        (λ q x. is_attribute b q.name (kind_of D q.name) refl (none_in (is_wrong_key D t b) q keys e x))
+
+    -- the rules of the item that breaks ties
+    record IsBreak (n : Name) (keys : List WrittenKey) : Type 0 where
+      before : Tables
+      right : list_any (is_wrong_key D before n) keys ≡ false
+      event : is_event_class D n ≡ true
+
+    break_is : (n : Name) (keys : List WrittenKey) → fact_of R.ties n ≡ Some keys → IsBreak n keys
+    break_is n keys e =
+        let f = flat_in (λ (x : Entry). ties_in x.item) (fact n keys) xs (fact_in R.ties n keys e) in
+        let x = f.one in
+        let item = item_at D [] xs x h f.there in
+        let right = item.1 in
+        let b = item.0 in
+        let parts = or_parts (list_any (λ t. has_wrong_rank D b (fact_of D.members t.name) t.what) (disciplines_in x.item))
+        (list_any (λ t. has_wrong_key D b (Some t.name) t.what) (ties_in x.item)) right.keys in
+        let clear = clear_at D [] xs x c f.there in
+        let once = clear.1 in
+        record {
+          before = b;
+          right = none_in (λ t. has_wrong_key D b (Some t.name) t.what) (fact n keys) (ties_in x.item) parts.1 f.has;
+          event = tied_event D clear.0 x.heading x.item n keys once.class f.has;
+        }
+
+    event_ties : (n : Name) (o : Option (List WrittenKey)) → In n V.classes → fact_of R.ties n ≡ o →
+        IsSaid [] (some_list o) (map (named_key (attributes_of D n)) (map (resolved_key (attribute_names V n)) (unwrap_or o [])))
+    event_ties n None i e = refl
+    event_ties n (Some keys) i e = let b = break_is n keys e in keys_are b.before n keys i b.right
+
+    no_ties : (n : Name) (o : Option (List WrittenKey)) → names_event (kind_of D n) ≡ false → fact_of R.ties n ≡ o → IsSaid [] (some_list o) []
+    no_ties n None e t = refl
+    no_ties n (Some keys) e t = let b = break_is n keys t in let z = b.event in cc
+
+    ties_again : (n : Name) → In n V.classes →
+        IsSaid [] (said_of R.ties n) (map (named_key (attributes_of D n)) (event_of_kind (class_kind D V R n (kind_of D n))).ties)
+    ties_again n i = rw (one_break D xs c n) (by (event_or D V R n (kind_of D n)))
+      where
+        by : IsEventOr D V R n (kind_of D n) →
+            IsSaid [] (some_list (fact_of R.ties n)) (map (named_key (attributes_of D n)) (event_of_kind (class_kind D V R n (kind_of D n))).ties)
+        by (inl e) =
+            subst (λ (o : Option NameKind). IsSaid [] (some_list (fact_of R.ties n)) (map (named_key (attributes_of D n)) (event_of_kind (class_kind D V R n o)).ties))
+            (sym e) (event_ties n (fact_of R.ties n) i refl)
+        by (inr e) =
+            subst (λ (t : EventTable). IsSaid [] (some_list (fact_of R.ties n)) (map (named_key (attributes_of D n)) t.ties))
+            (sym e.1) (no_ties n (fact_of R.ties n) e.0 refl)
+
+    no_external : (n : Name) (b : Bool) → names_event (kind_of D n) ≡ false → is_among n D.external ≡ b → false ≡ b
+    no_external n false e t = refl
+    no_external n true e t =
+        let f = flat_in (λ (x : Entry). external_in x.item) n xs (among_in n D.external t) in
+        let x = f.one in
+        let clear = clear_at D [] xs x c f.there in
+        let item = clear.1 in
+        let z = external_event D clear.0 x.heading x.item n item.class f.has in cc
+
+    external_again : (n : Name) → (event_of_kind (class_kind D V R n (kind_of D n))).external ≡ is_among n D.external
+    external_again n = by (event_or D V R n (kind_of D n))
+      where
+        by : IsEventOr D V R n (kind_of D n) → (event_of_kind (class_kind D V R n (kind_of D n))).external ≡ is_among n D.external
+        by (inl e) = ap (λ (o : Option NameKind). (event_of_kind (class_kind D V R n o)).external) e
+        by (inr e) = ap (λ (t : EventTable). t.external) e.1 ∙ no_external n (is_among n D.external) e.0 refl
+
+    class_again : (n : Name) → In n V.classes → IsClassOf p xs (class_table D V R n)
+    class_again n i = record {
+      variable = name_again n V.globals (class_global xs hs h n (declared_class n i));
+      kind = kind_again n (kind_of D n) i refl;
+      heading = headings_again n;
+      attributes = attributes_written n xs hs;
+      ties = ties_again n i;
+      external = external_again n;
+    }
+
+    -- ---- sets
+
+    discipline_is : (n b : Name) (o : Option SetKind) → fact_of R.disciplines n ≡ o → fact_of D.members n ≡ Some b → In b V.classes →
+        IsSaid Fifo (some_list o) (named_discipline (attributes_of D b) (resolved_discipline (attribute_names V b) o))
+    discipline_is n b None e m i = refl
+    discipline_is n b (Some Fifo) e m i = refl
+    discipline_is n b (Some Lifo) e m i = refl
+    discipline_is n b (Some (Ranked ks)) e m i =
+        let f = flat_in (λ (x : Entry). disciplines_in x.item) (fact n (Ranked ks)) xs (fact_in R.disciplines n (Ranked ks) e) in
+        let x = f.one in
+        let item = item_at D [] xs x h f.there in
+        let right = item.1 in
+        let t = item.0 in
+        let parts = or_parts (list_any (λ y. has_wrong_rank D t (fact_of D.members y.name) y.what) (disciplines_in x.item))
+        (list_any (λ y. has_wrong_key D t (Some y.name) y.what) (ties_in x.item)) right.keys in
+        let rank : has_wrong_key D t (fact_of D.members n) (all_of ks) ≡ false =
+        none_in (λ y. has_wrong_rank D t (fact_of D.members y.name) y.what) (fact n (Ranked ks)) (disciplines_in x.item) parts.0 f.has in
+        let keys : has_wrong_key D t (Some b) (all_of ks) ≡ false = subst (λ (q : Option Name). has_wrong_key D t q (all_of ks) ≡ false) m rank in
+        ap (λ (zs : List WrittenKey). Ranked (several (record { rank = High; name = [] }) zs)) (keys_are t b (all_of ks) i keys)
+
+    owner_is : (n : Name) (w : Option Name) → fact_of D.owners n ≡ Some w → w ∷ [] ≡ named_owner p (resolved_owner V.classes w) ∷ []
+    owner_is n None e = refl
+    owner_is n (Some b) e =
+        let i = class_in xs hs h b (owner_class xs hs h [] n b (ap (λ (o : Option (Option Name)). unwrap_or o None) e)) in
+        ap (λ (m : Name). Some m ∷ []) (sym (ap (λ (t : ClassTable). t.name) (class_at b i)))
+
+    set_declared : (n : Name) → In n V.sets → In (fact n k.Set) (L xs hs h)
+    set_declared n i =
+        let q = where_from is_set n D.kinds (once_from n (names_where is_set D.kinds) i) in
+        subst (λ (j : NameKind). In (fact n j) D.kinds) (is_the_set q.what q.passes) q.there
+      where
+        is_the_set : (j : NameKind) → is_set j ≡ true → j ≡ k.Set
+        is_the_set k.Set t = refl
+        is_the_set k.Variable t = cc
+        is_the_set k.ClassCount t = cc
+        is_the_set (k.Class g) t = cc
+        is_the_set (k.Attribute b) t = cc
+        is_the_set (k.OwnerKept q r) t = cc
+        is_the_set (k.MemberKept q r) t = cc
+        is_the_set (k.Function f) t = cc
+        is_the_set k.Clock t = cc
+        is_the_set k.Routine t = cc
+
+    owner_again : (n : Name) → In n V.sets → said_of D.owners n ≡ named_owner p (resolved_owner V.classes (owner_of D V [] n)) ∷ []
+    owner_again n i =
+        let named = subst (λ (ns : List Name). In n ns) (set_names_are xs hs) (once_from n (names_where is_set D.kinds) i) in
+        let w = fact_there D.owners n (sets_have_owners D xs c n named) in
+        one_owner D xs c n ∙ ap some_list w.1 ∙ owner_is n w.0 w.1
+        ∙ ap (λ (o : Option (Option Name)). named_owner p (resolved_owner V.classes (unwrap_or o None)) ∷ []) (sym w.1)
+
+    set_again : (n : Name) → In n V.sets → IsSetOf p xs (set_table D V R n)
+    set_again n i =
+        let there = set_declared n i in
+        let m = member_there xs hs h n there in
+        let b = member_class D V [] n in
+        let e : m.0 ≡ b = ap (λ (o : Option Name). unwrap_or o []) (sym m.1) in
+        let j : In b V.classes = class_in xs hs h b (member_is_class xs hs h [] n there) in
+        let table = class_at b j in
+        record {
+          owner = owner_again n i;
+          member = one_member D xs c n ∙ ap some_list m.1
+              ∙ ap (λ (z : Name). z ∷ []) (e ∙ sym (ap (λ (t : ClassTable). t.name) table));
+          discipline = rw (one_discipline D xs c n, ap (λ (t : ClassTable). t.attributes) table)
+              (discipline_is n b (fact_of R.disciplines n) refl (m.1 ∙ ap (λ (z : Name). Some z) e) j);
+        }
+
+    -- ---- priority
+
+    prior_class : (n : Name) → In n D.priority → In n V.classes
+    prior_class n i =
+        let order = priority_kept D xs h in
+        let e = not-false (is_event_class D n) (none_in (λ b. not (is_event_class D b)) n D.priority order.events i) in
+        class_in xs hs h n (event_class xs hs h R n (kind_of D n) refl e).0
+
+    priority_again : map (λ b. (class_of p b).name) (map (λ n. number n V.classes) D.priority) ≡ D.priority
+    priority_again =
+        same_again (λ n. number n V.classes) (λ b. (class_of p b).name) D.priority
+        (λ n i. ap (λ (t : ClassTable). t.name) (class_at n (prior_class n i)))
+
+    -- ---- all tables
+
+    pub items_again : IsOfItems p xs
+    items_again = record {
+      globals = ap each_once (globals_are xs hs);
+      named_classes = same_again (class_table D V R) (λ (t : ClassTable). t.name) V.classes (λ n i. refl) ∙ ap each_once (class_names_are xs hs);
+      classes = all_mapped (IsClassOf p xs) (class_table D V R) V.classes class_again;
+      named_sets = same_again (set_table D V R) (λ (t : SetTable). t.name) V.sets (λ n i. refl) ∙ ap each_once (set_names_are xs hs);
+      sets = all_mapped (IsSetOf p xs) (set_table D V R) V.sets set_again;
+      priority = priority_again;
+    }
+
+-- the rankings of items, with their headings or without
+same_rankings : (is : List ItemAt) →
+    rankings is ≡ record { disciplines = flat_map (λ (x : Entry). disciplines_in x.item) (entries is); ties = flat_map (λ (x : Entry). ties_in x.item) (entries is) }
+same_rankings is =
+    two (λ (a : List (Fact SetKind)) (b : List (Fact (List WrittenKey))). record { disciplines = a; ties = b })
+    (sym (entries_say disciplines_in None is)) (sym (entries_say ties_in None is))
+
+-- the tables give the items
+pub tables_again : TablesGiveTheItems
+tables_again decls qs b =
+    let xs = entries decls.items in
+    let d = tables decls.items qs in
+    let k = kept decls qs b in
+    subst (λ (r : Rankings). IsOfItems (resolved_with d (names d (heads qs)) r qs) xs) (sym (same_rankings decls.items))
+    (items_again xs qs k.items (clear decls qs b))
