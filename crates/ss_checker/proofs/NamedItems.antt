@@ -1,12 +1,12 @@
 -- The tables of a program without a breach, each number looked up, say what the items write.
-use Rattle.std.proofs.Common.{◌≡◌, ◌⊎◌, ℕ, ◌+◌, Bool, true, false, not, List, [], ◌∷◌, ◌++◌, length, refl, sym, ap, ◌∙◌, subst, arith, Option, Some, None}
+use Rattle.std.proofs.Common.{◌≡◌, ◌⊎◌, ℕ, ◌+◌, Bool, true, false, not, List, [], ◌∷◌, ◌++◌, refl, sym, ap, ◌∙◌, subst, arith, Option, Some, None}
 use Rattle.std.specs.Prelude.{map, codes, slice_get, option_map, unwrap_or}
 use Rattle.std.specs.List.{All, flat_map, list_any}
 use mathlib.Core.Logic.{inl, inr}
 use Rattle.std.proofs.lemmas.Bool.{or_parts, not-false}
 use Rattle.std.proofs.lemmas.List.Elements.{All-nil, All-cons}
 use Rattle.std.proofs.lemmas.Option.{slice_get-map}
-use Rattle.ss_words.specs.Lists.{Name, Several, all_of}
+use Rattle.ss_words.specs.Lists.{Name, all_of}
 use Rattle.ss_preamble.specs.declared.item.Heading.{Heading}
 use Rattle.ss_preamble.specs.declared.item.Heading.TheVariants.{PermanentEntities, TemporaryEntities, EventNotices}
 use Rattle.ss_preamble.specs.declared.item.Rank.{Rank as WrittenRank}
@@ -17,31 +17,30 @@ use Rattle.ss_grammar.specs.Tree.{Head, MainHead, RoutineHead, EventHead}
 use Rattle.ss_grammar.specs.Places.{Section}
 use Rattle.ss_check.specs.declared.kinds.ClassKind.TheVariants.{Temporary}
 use Rattle.ss_check.specs.declared.kinds.Discipline.TheVariants as discipline
-use Rattle.ss_check.specs.declared.kinds.Owner.TheVariants.{System}
 use Rattle.ss_check.specs.EventTable.{EventTable}
 use Rattle.ss_check.specs.Program.{ClassTable, SetTable, SectionTable, ProgramTable, class_of, section_of, event_of_kind, is_event_section}
 use Rattle.ss_checker.specs.declared.fact.Fact.{Fact}
 use Rattle.ss_checker.specs.declared.name_kind.NameKind.{NameKind}
 use Rattle.ss_checker.specs.declared.name_kind.NameKind.TheVariants as k
 use Rattle.ss_checker.specs.declared.tables.Tables.{Tables}
-use Rattle.ss_checker.specs.Facts.{is_among, each_once, fact, fact_of, names_of}
-use Rattle.ss_checker.specs.NameKinds.{is_attribute_of, is_class, is_global, names_event}
-use Rattle.ss_checker.specs.Declarations.{Entry, entries, heads, tables, classes_in, events_in, owners_in, members_in, disciplines_in, ties_in, external_in, priority_in, sets_in, kind_of, is_event_class}
-use Rattle.ss_checker.specs.ItemRules.{names_wrong_class, is_wrong_key, has_wrong_key, has_wrong_rank, has_wrong_keys}
-use Rattle.ss_checker.specs.ResolvedNames.{Names, names, number, names_where, is_set, attributes_of, attribute_names, owner_of, member_class}
+use Rattle.ss_checker.specs.Facts.{is_among, each_once, fact, fact_of}
+use Rattle.ss_checker.specs.NameKinds.{is_class, names_event}
+use Rattle.ss_checker.specs.Declarations.{Entry, entries, heads, tables, classes_in, events_in, disciplines_in, ties_in, external_in, kind_of, is_event_class}
+use Rattle.ss_checker.specs.ItemRules.{names_wrong_class, is_wrong_key, has_wrong_key, has_wrong_rank}
+use Rattle.ss_checker.specs.ResolvedNames.{Names, names, number, names_where, attributes_of, attribute_names, owner_of, member_class}
 use Rattle.ss_checker.specs.Resolved.{Rankings, rankings, resolved_rank, resolved_key, resolved_discipline, resolved_owner, event_table, class_kind, class_table, set_table, section_name, resolved_section, resolved_with}
 use Rattle.ss_checker.specs.NamedTree.{several, name_at}
 use Rattle.ss_checker.specs.NamedItems.{named_heading, named_rank, named_key, named_discipline, named_owner, said_of, headings_in, IsSaid, IsKindOf, IsClassOf, IsSetOf, IsOfItems, TablesGiveTheItems}
-use Rattle.ss_checker.proofs.SoundLists.{In, none_in, in_among, among_in, number_there, image_at, once_from, fact_in, fact_there, flat_in, in_flat, where_has, where_from}
+use Rattle.ss_checker.proofs.SoundLists.{In, none_in, among_in, number_there, image_at, once_from, fact_in, fact_there, flat_in, in_flat, where_from}
 use Rattle.ss_checker.proofs.SoundDeclared.{HasClass}
-use Rattle.ss_checker.proofs.SoundItems.{item_at, events_have_sections, priority_kept}
+use Rattle.ss_checker.proofs.SoundItems.{item_at, sets_have_owners, events_have_sections, priority_kept}
 use Rattle.ss_checker.proofs.SoundNumbers.{event_found}
-use Rattle.ss_checker.proofs.SoundScoped.{L, kind_in, closed_kind, global_in, class_in, class_global, set_of_item, owner_class, member_there, member_is_class, event_class, attributes_are}
+use Rattle.ss_checker.proofs.SoundScoped.{L, closed_kind, global_in, class_in, class_global, set_of_item, set_declared, is_attribute, owner_class, member_there, member_is_class, event_class, attributes_are}
 use Rattle.ss_checker.proofs.SoundUnbroken.{AreItemsKept, kept}
 use Rattle.ss_checker.proofs.NamedKinds.{number_finds}
 use Rattle.ss_checker.proofs.NamedUses.{two}
 use Rattle.ss_checker.proofs.NamedItemsNames.{entries_say, class_names_are, set_names_are, globals_are, attributes_written}
-use Rattle.ss_checker.proofs.NamedItemsOnce.{some_list, said_in, AreItemsClear, IsItemClear, clear, clear_at, one_owner, one_member, one_discipline, one_break, sets_have_owners}
+use Rattle.ss_checker.proofs.NamedItemsOnce.{some_list, said_in, one_owner, one_member, one_discipline, one_break}
 use Rattle.ss_checker.proofs.NamedItemsHeadings.{class_kept, heading_declared, heading_there}
 
 -- ---- lists
@@ -163,7 +162,7 @@ module _ (xs : List Entry) (qs : List Section) where
   abbrev p : ProgramTable
   p = resolved_with D V R qs
 
-  module _ (h : AreItemsKept D [] xs) (c : AreItemsClear D [] xs) where
+  module _ (h : AreItemsKept D [] xs) where
     class_at : (n : Name) → In n V.classes → class_of p (number n V.classes) ≡ class_table D V R n
     class_at n i =
         ap (λ (o : Option ClassTable). unwrap_or o (record { name = []; kind = Temporary; variable = 0; attributes = [] }))
@@ -242,9 +241,9 @@ module _ (xs : List Entry) (qs : List Section) where
             let f = flat_in (λ (x : Entry). headings_in x.heading x.item) (fact n w) xs
             (said_in (flat_map (λ (x : Entry). headings_in x.heading x.item) xs) n w i) in
             let x = f.one in
-            let clear = clear_at D [] xs x c f.there in
-            let item = clear.1 in
-            let g = heading_there D clear.0 x.heading x.item n w item.class f.has in
+            let kept = item_at D [] xs x h f.there in
+            let item = kept.1 in
+            let g = heading_there D kept.0 x.heading x.item n w item.class f.has in
             let kind = class_kept xs hs h x f.there n w (heading_declared x.heading x.item n w f.has) in
             g.1 ∙ ap (λ (z : Heading). Some z) (sym (heading_again D V R n g.0))
             ∙ ap (λ (o : Option NameKind). Some (named_heading (class_kind D V R n o)))
@@ -252,17 +251,12 @@ module _ (xs : List Entry) (qs : List Section) where
 
     -- ---- keys
 
-    is_attribute : (b n : Name) (o : Option NameKind) → kind_of D n ≡ o → not (unwrap_or (option_map (is_attribute_of b) o) false) ≡ false →
-        In n (attributes_of D b)
-    is_attribute b n None e t = cc
-    is_attribute b n (Some j) e t = where_has (is_attribute_of b) n j D.kinds (kind_in xs hs h n j e) (not-false (is_attribute_of b j) t)
-
     keys_are : (t : Tables) (b : Name) (keys : List WrittenKey) → In b V.classes → list_any (is_wrong_key D t b) keys ≡ false →
         map (named_key (attributes_of D b)) (map (resolved_key (attribute_names V b)) keys) ≡ keys
     keys_are t b keys i e =
         ap (λ (ns : List Name). map (named_key (attributes_of D b)) (map (resolved_key ns) keys)) (attributes_are xs hs h R b i)
         ∙ keys_again (attributes_of D b) keys
-        (λ q x. is_attribute b q.name (kind_of D q.name) refl (none_in (is_wrong_key D t b) q keys e x))
+        (λ q x. is_attribute xs hs h b q.name (kind_of D q.name) refl (none_in (is_wrong_key D t b) q keys e x))
 
     -- the rules of the item that breaks ties
     record IsBreak (n : Name) (keys : List WrittenKey) : Type 0 where
@@ -274,17 +268,15 @@ module _ (xs : List Entry) (qs : List Section) where
     break_is n keys e =
         let f = flat_in (λ (x : Entry). ties_in x.item) (fact n keys) xs (fact_in R.ties n keys e) in
         let x = f.one in
-        let item = item_at D [] xs x h f.there in
-        let right = item.1 in
-        let b = item.0 in
+        let kept = item_at D [] xs x h f.there in
+        let b = kept.0 in
+        let item = kept.1 in
         let parts = or_parts (list_any (λ t. has_wrong_rank D b (fact_of D.members t.name) t.what) (disciplines_in x.item))
-        (list_any (λ t. has_wrong_key D b (Some t.name) t.what) (ties_in x.item)) right.keys in
-        let clear = clear_at D [] xs x c f.there in
-        let once = clear.1 in
+        (list_any (λ t. has_wrong_key D b (Some t.name) t.what) (ties_in x.item)) item.keys in
         record {
           before = b;
           right = none_in (λ t. has_wrong_key D b (Some t.name) t.what) (fact n keys) (ties_in x.item) parts.1 f.has;
-          event = tied_event D clear.0 x.heading x.item n keys once.class f.has;
+          event = tied_event D b x.heading x.item n keys item.class f.has;
         }
 
     event_ties : (n : Name) (o : Option (List WrittenKey)) → In n V.classes → fact_of R.ties n ≡ o →
@@ -298,7 +290,7 @@ module _ (xs : List Entry) (qs : List Section) where
 
     ties_again : (n : Name) → In n V.classes →
         IsSaid [] (said_of R.ties n) (map (named_key (attributes_of D n)) (event_of_kind (class_kind D V R n (kind_of D n))).ties)
-    ties_again n i = rw (one_break D xs c n) (by (event_or D V R n (kind_of D n)))
+    ties_again n i = rw (one_break D xs h n) (by (event_or D V R n (kind_of D n)))
       where
         by : IsEventOr D V R n (kind_of D n) →
             IsSaid [] (some_list (fact_of R.ties n)) (map (named_key (attributes_of D n)) (event_of_kind (class_kind D V R n (kind_of D n))).ties)
@@ -314,9 +306,9 @@ module _ (xs : List Entry) (qs : List Section) where
     no_external n true e t =
         let f = flat_in (λ (x : Entry). external_in x.item) n xs (among_in n D.external t) in
         let x = f.one in
-        let clear = clear_at D [] xs x c f.there in
-        let item = clear.1 in
-        let z = external_event D clear.0 x.heading x.item n item.class f.has in cc
+        let kept = item_at D [] xs x h f.there in
+        let item = kept.1 in
+        let z = external_event D kept.0 x.heading x.item n item.class f.has in cc
 
     external_again : (n : Name) → (event_of_kind (class_kind D V R n (kind_of D n))).external ≡ is_among n D.external
     external_again n = by (event_or D V R n (kind_of D n))
@@ -345,11 +337,11 @@ module _ (xs : List Entry) (qs : List Section) where
     discipline_is n b (Some (Ranked ks)) e m i =
         let f = flat_in (λ (x : Entry). disciplines_in x.item) (fact n (Ranked ks)) xs (fact_in R.disciplines n (Ranked ks) e) in
         let x = f.one in
-        let item = item_at D [] xs x h f.there in
-        let right = item.1 in
-        let t = item.0 in
+        let kept = item_at D [] xs x h f.there in
+        let t = kept.0 in
+        let item = kept.1 in
         let parts = or_parts (list_any (λ y. has_wrong_rank D t (fact_of D.members y.name) y.what) (disciplines_in x.item))
-        (list_any (λ y. has_wrong_key D t (Some y.name) y.what) (ties_in x.item)) right.keys in
+        (list_any (λ y. has_wrong_key D t (Some y.name) y.what) (ties_in x.item)) item.keys in
         let rank : has_wrong_key D t (fact_of D.members n) (all_of ks) ≡ false =
         none_in (λ y. has_wrong_rank D t (fact_of D.members y.name) y.what) (fact n (Ranked ks)) (disciplines_in x.item) parts.0 f.has in
         let keys : has_wrong_key D t (Some b) (all_of ks) ≡ false = subst (λ (q : Option Name). has_wrong_key D t q (all_of ks) ≡ false) m rank in
@@ -361,33 +353,15 @@ module _ (xs : List Entry) (qs : List Section) where
         let i = class_in xs hs h b (owner_class xs hs h [] n b (ap (λ (o : Option (Option Name)). unwrap_or o None) e)) in
         ap (λ (m : Name). Some m ∷ []) (sym (ap (λ (t : ClassTable). t.name) (class_at b i)))
 
-    set_declared : (n : Name) → In n V.sets → In (fact n k.Set) (L xs hs h)
-    set_declared n i =
-        let q = where_from is_set n D.kinds (once_from n (names_where is_set D.kinds) i) in
-        subst (λ (j : NameKind). In (fact n j) D.kinds) (is_the_set q.what q.passes) q.there
-      where
-        is_the_set : (j : NameKind) → is_set j ≡ true → j ≡ k.Set
-        is_the_set k.Set t = refl
-        is_the_set k.Variable t = cc
-        is_the_set k.ClassCount t = cc
-        is_the_set (k.Class g) t = cc
-        is_the_set (k.Attribute b) t = cc
-        is_the_set (k.OwnerKept q r) t = cc
-        is_the_set (k.MemberKept q r) t = cc
-        is_the_set (k.Function f) t = cc
-        is_the_set k.Clock t = cc
-        is_the_set k.Routine t = cc
-
     owner_again : (n : Name) → In n V.sets → said_of D.owners n ≡ named_owner p (resolved_owner V.classes (owner_of D V [] n)) ∷ []
     owner_again n i =
-        let named = subst (λ (ns : List Name). In n ns) (set_names_are xs hs) (once_from n (names_where is_set D.kinds) i) in
-        let w = fact_there D.owners n (sets_have_owners D xs c n named) in
-        one_owner D xs c n ∙ ap some_list w.1 ∙ owner_is n w.0 w.1
+        let w = fact_there D.owners n (sets_have_owners D xs h n (set_of_item xs hs h n (set_declared xs hs h n i))) in
+        one_owner D xs h n ∙ ap some_list w.1 ∙ owner_is n w.0 w.1
         ∙ ap (λ (o : Option (Option Name)). named_owner p (resolved_owner V.classes (unwrap_or o None)) ∷ []) (sym w.1)
 
     set_again : (n : Name) → In n V.sets → IsSetOf p xs (set_table D V R n)
     set_again n i =
-        let there = set_declared n i in
+        let there = set_declared xs hs h n i in
         let m = member_there xs hs h n there in
         let b = member_class D V [] n in
         let e : m.0 ≡ b = ap (λ (o : Option Name). unwrap_or o []) (sym m.1) in
@@ -395,9 +369,9 @@ module _ (xs : List Entry) (qs : List Section) where
         let table = class_at b j in
         record {
           owner = owner_again n i;
-          member = one_member D xs c n ∙ ap some_list m.1
+          member = one_member D xs h n ∙ ap some_list m.1
               ∙ ap (λ (z : Name). z ∷ []) (e ∙ sym (ap (λ (t : ClassTable). t.name) table));
-          discipline = rw (one_discipline D xs c n, ap (λ (t : ClassTable). t.attributes) table)
+          discipline = rw (one_discipline D xs h n, ap (λ (t : ClassTable). t.attributes) table)
               (discipline_is n b (fact_of R.disciplines n) refl (m.1 ∙ ap (λ (z : Name). Some z) e) j);
         }
 
@@ -440,4 +414,4 @@ tables_again decls qs b =
     let d = tables decls.items qs in
     let k = kept decls qs b in
     subst (λ (r : Rankings). IsOfItems (resolved_with d (names d (heads qs)) r qs) xs) (sym (same_rankings decls.items))
-    (items_again xs qs k.items (clear decls qs b))
+    (items_again xs qs k.items)

@@ -1,6 +1,6 @@
 -- A class stands under one kind of heading wherever items name it.
-use Rattle.std.proofs.Common.{◌≡◌, ◌⊎◌, Bool, true, false, not, ◌||◌, cond, List, [], ◌∷◌, ◌++◌, refl, sym, ap, ◌∙◌, subst, Option, Some, None, append_assoc}
-use Rattle.std.specs.Prelude.{map, bytes_eq, option_map}
+use Rattle.std.proofs.Common.{◌≡◌, ◌⊎◌, Bool, true, false, not, cond, List, [], ◌∷◌, ◌++◌, refl, sym, ap, ◌∙◌, subst, Option, Some, None, append_assoc}
+use Rattle.std.specs.Prelude.{bytes_eq, option_map}
 use Rattle.std.specs.List.{flat_map, find, list_any}
 use mathlib.Core.Logic.{inl, inr}
 use Rattle.std.proofs.lemmas.Bool.{or_parts, not-false}
@@ -21,10 +21,9 @@ use Rattle.ss_checker.specs.ItemRules.{names_wrong_class}
 use Rattle.ss_checker.specs.NamedItems.{headings_in}
 use Rattle.ss_checker.proofs.SoundLists.{In, in_left, in_right, in_split, in_any, in_flat, map_in}
 use Rattle.ss_checker.proofs.SoundDeclared.{Facts, declared}
-use Rattle.ss_checker.proofs.SoundItems.{nothing_more}
+use Rattle.ss_checker.proofs.SoundItems.{nothing_more, flat_more}
 use Rattle.ss_checker.proofs.SoundUnbroken.{AreItemsKept}
 use Rattle.ss_checker.proofs.NamedUses.{two}
-use Rattle.ss_checker.proofs.NamedItemsOnce.{flat_more}
 
 -- ---- the first fact of a name, behind others
 

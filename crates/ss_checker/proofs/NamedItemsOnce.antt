@@ -1,31 +1,20 @@
 -- What items say once: each set's owner, members and discipline, and the keys of each event class's ties.
-use Rattle.std.proofs.Common.{◌≡◌, ◌⊎◌, ℕ, Bool, true, false, not, ◌||◌, cond, List, [], ◌∷◌, ◌++◌, refl, sym, ap, ◌∙◌, subst, Option, Some, None, append_assoc}
+use Rattle.std.proofs.Common.{◌≡◌, Bool, true, false, ◌||◌, cond, List, [], ◌∷◌, ◌++◌, refl, sym, ap, ◌∙◌, subst, Option, Some, None, append_assoc}
 use Rattle.std.specs.Prelude.{map, bytes_eq, option_map}
 use Rattle.std.specs.List.{AllByRecursion, IsDistinct, filter, find, flat_map}
 use mathlib.Core.Logic.{inl, inr}
-use Rattle.std.proofs.lemmas.Bool.{or_parts, not-false}
-use Rattle.std.proofs.lemmas.Grind.{flat_map-append}
+use Rattle.std.proofs.lemmas.Bool.{or_parts}
 use Rattle.std.proofs.lemmas.Slice.Eq.{bytes_eq-Decides}
 use Rattle.ss_words.specs.Lists.{Name, all_of}
-use Rattle.ss_preamble.specs.Tree.{Variables, Sets, PriorityOrder, BreakTies, ExternalEvents, Item, Normally, Headed, OfEvery, OfSystem, Defines, Orders, Decls}
-use Rattle.ss_grammar.specs.Places.{Section}
-use Rattle.ss_check.specs.declared.fault.CheckRule.{CheckRule}
-use Rattle.ss_check.specs.declared.fault.CheckRule.TheVariants.{DeclaredTwice, WrongClass, WrongOwner, WrongMember, WrongKey, WrongEvent, WrongPriority}
+use Rattle.ss_preamble.specs.Tree.{Variables, Sets, PriorityOrder, BreakTies, ExternalEvents, Item, Normally, Headed, OfEvery, OfSystem, Defines, Orders}
 use Rattle.ss_checker.specs.declared.fact.Fact.{Fact}
-use Rattle.ss_checker.specs.declared.name_kind.NameKind.{NameKind}
 use Rattle.ss_checker.specs.declared.tables.Tables.{Tables}
-use Rattle.ss_checker.specs.Facts.{is_among, repeats, fact, fact_of, names_of, is_one_outside}
-use Rattle.ss_checker.specs.NameKinds.{one_conflicts, names_set}
-use Rattle.ss_checker.specs.Declarations.{Entry, entries, class_of, declarations, joined, owners_in, members_in, disciplines_in, disciplined_sets, ties_in, tied_events, external_in, priority_in, sets_in, tables_of, tables, kind_of}
-use Rattle.ss_checker.specs.ItemRules.{joins_system, declares_twice, names_wrong_class, new_sets, has_wrong_owner, has_wrong_member, has_wrong_keys, lacks_section, has_wrong_priority, item_statement}
-use Rattle.ss_checker.specs.ResolvedNames.{names_where, is_set}
-use Rattle.ss_checker.specs.Statements.{broken}
-use Rattle.ss_checker.specs.Breach.{item_statements, sections_statements, end_statement, statements, breach}
+use Rattle.ss_checker.specs.Facts.{is_among, repeats, fact, fact_of, names_of}
+use Rattle.ss_checker.specs.Declarations.{Entry, owners_in, members_in, disciplines_in, disciplined_sets, ties_in, tied_events}
 use Rattle.ss_checker.specs.NamedItems.{said_of}
-use Rattle.ss_checker.proofs.SoundLists.{In, in_split, in_filter, none_in, among_in, fact_in, where_has, apart_from, AreApart}
-use Rattle.ss_checker.proofs.SoundItems.{nothing_more}
-use Rattle.ss_checker.proofs.SoundUnbroken.{AreUnbroken, unbroken, unbroken_parts}
-use Rattle.ss_checker.proofs.NamedItemsNames.{set_names_are}
+use Rattle.ss_checker.proofs.SoundLists.{In, apart_from, AreApart}
+use Rattle.ss_checker.proofs.SoundItems.{nothing_more, flat_more}
+use Rattle.ss_checker.proofs.SoundUnbroken.{AreItemsKept}
 
 -- ---- what is said once of a name
 
@@ -96,9 +85,6 @@ repeats_both before (m ∷ ms) ns h g =
     (repeats_both (before ++ m ∷ []) ms ns p.1
     (subst (λ (ks : List Name). repeats ks ns ≡ false) (sym (append_assoc before (m ∷ []) ms)) g))
 
-pub flat_more : {X Y : Type 0} (f : X → List Y) (xs : List X) (x : X) → flat_map f (xs ++ x ∷ []) ≡ flat_map f xs ++ f x
-flat_more {Y = Y} f xs x = flat_map-append f xs (x ∷ []) ∙ ap (λ (ys : List Y). flat_map f xs ++ ys) (nothing_more (f x))
-
 -- no item repeats a name
 abbrev pub AreOnce : (Entry → List Name) → List Entry → List Entry → Type 0
 AreOnce f before [] = Unit {0}
@@ -116,93 +102,10 @@ pub facts_once : {A : Type 0} (g : Entry → List (Fact A)) (f : Entry → List 
 facts_once g f xs e h n =
     said_once (flat_map g xs) n (subst AreApart (sym (names_flat g f xs e)) (apart_from (flat_map f xs) (once_behind f [] xs h)))
 
--- ---- what each item keeps to
-
-pub record IsItemClear (d b : Tables) (x : Entry) : Type 0 where
-  pub class : names_wrong_class d b x.heading x.item ≡ false
-  pub owner : is_one_outside (names_of d.owners) (new_sets d b x.item) ≡ false
-  pub owners : repeats (names_of b.owners) (names_of (owners_in x.item)) ≡ false
-  pub members : repeats (names_of b.members) (names_of (members_in x.item)) ≡ false
-  pub disciplines : repeats b.disciplines (disciplined_sets x.item) ≡ false
-  pub ties : repeats b.ties (tied_events x.item) ≡ false
-
-no_rules : (xs ys : List CheckRule) → xs ++ ys ≡ [] → (xs ≡ []) × (ys ≡ [])
-no_rules [] ys h = (refl, h)
-no_rules (x ∷ xs) ys h = cc
-
-not_broken : (r : CheckRule) (b : Bool) → broken r b ≡ [] → b ≡ false
-not_broken r true h = cc
-not_broken r false h = refl
-
-item_clear : (d b : Tables) (x : Entry) → (item_statement d b x).breaks ≡ [] → IsItemClear d b x
-item_clear d b x h =
-    let r1 = broken DeclaredTwice (declares_twice d b x) in
-    let r2 = broken WrongClass (names_wrong_class d b x.heading x.item) in
-    let r3 = broken WrongOwner (has_wrong_owner d b x) in
-    let r4 = broken WrongMember (has_wrong_member d b x) in
-    let r5 = broken WrongKey (has_wrong_keys d b x.item) in
-    let r6 = broken WrongEvent (lacks_section d b x.item) in
-    let r7 = broken WrongPriority (has_wrong_priority d b b.priority (priority_in x.item)) in
-    let p7 = no_rules (r1 ++ r2 ++ r3 ++ r4 ++ r5 ++ r6) r7 h in
-    let p6 = no_rules (r1 ++ r2 ++ r3 ++ r4 ++ r5) r6 p7.0 in
-    let p5 = no_rules (r1 ++ r2 ++ r3 ++ r4) r5 p6.0 in
-    let p4 = no_rules (r1 ++ r2 ++ r3) r4 p5.0 in
-    let p3 = no_rules (r1 ++ r2) r3 p4.0 in
-    let p2 = no_rules r1 r2 p3.0 in
-    let once = not_broken DeclaredTwice (declares_twice d b x) p2.0 in
-    let owner = not_broken WrongOwner (has_wrong_owner d b x) p3.1 in
-    let member = not_broken WrongMember (has_wrong_member d b x) p4.1 in
-    let q = of_four (one_conflicts b.kinds (declarations x)) (repeats b.disciplines (disciplined_sets x.item))
-    (repeats b.ties (tied_events x.item)) (repeats b.external (external_in x.item)) once in
-    let o = or_parts (is_one_outside (names_of d.owners) (new_sets d b x.item)) (repeats (names_of b.owners) (names_of (owners_in x.item))) owner in
-    record {
-      class = not_broken WrongClass (names_wrong_class d b x.heading x.item) p2.1;
-      owner = o.0;
-      owners = o.1;
-      members = of_three (is_one_outside (names_of d.members) (new_sets d b x.item)) (repeats (names_of b.members) (names_of (members_in x.item)))
-          (joins_system (class_of x.item) (joined x.item)) member;
-      disciplines = q.0;
-      ties = q.1;
-    }
-  where
-    of_four : (a b c e : Bool) → (a || b || c || e) ≡ false → (b ≡ false) × (c ≡ false)
-    of_four true b c e h = cc
-    of_four false true c e h = cc
-    of_four false false true e h = cc
-    of_four false false false e h = (refl, refl)
-
-    of_three : (a b c : Bool) → (a || b || c) ≡ false → b ≡ false
-    of_three true b c h = cc
-    of_three false true c h = cc
-    of_three false false c h = refl
-
-abbrev pub AreItemsClear : Tables → List Entry → List Entry → Type 0
-AreItemsClear d before [] = Unit {0}
-AreItemsClear d before (x ∷ xs) = IsItemClear d (tables_of before []) x × AreItemsClear d (before ++ x ∷ []) xs
-
-items_clear : (d : Tables) (before xs : List Entry) → AreUnbroken (item_statements d before xs) → AreItemsClear d before xs
-items_clear d before [] h = tt
-items_clear d before (x ∷ xs) h = (item_clear d (tables_of before []) x h.0, items_clear d (before ++ x ∷ []) xs h.1)
-
-pub clear : (decls : Decls) (qs : List Section) → breach decls qs ≡ None → AreItemsClear (tables decls.items qs) [] (entries decls.items)
-clear decls qs h =
-    let d = tables decls.items qs in
-    let xs = entries decls.items in
-    let all = unbroken (statements decls qs) h in
-    let p = unbroken_parts (item_statements d [] xs ++ sections_statements d xs [] qs) (end_statement decls.end qs ∷ []) all in
-    let q = unbroken_parts (item_statements d [] xs) (sections_statements d xs [] qs) p.0 in
-    items_clear d [] xs q.0
-
--- each item is clear
-pub clear_at : (d : Tables) (before xs : List Entry) (x : Entry) → AreItemsClear d before xs → In x xs → (b : Tables) × IsItemClear d b x
-clear_at d before [] x h i = absurd i
-clear_at d before (y ∷ ys) x h (inl e) = (tables_of before [], subst (λ (z : Entry). IsItemClear d (tables_of before []) z) (sym e) h.0)
-clear_at d before (y ∷ ys) x h (inr i) = clear_at d (before ++ y ∷ []) ys x h.1 i
-
 -- ---- owners, members, disciplines and ties
 
 module _ (d : Tables) where
-  once_owners : (before xs : List Entry) → AreItemsClear d before xs → AreOnce (λ x. names_of (owners_in x.item)) before xs
+  once_owners : (before xs : List Entry) → AreItemsKept d before xs → AreOnce (λ x. names_of (owners_in x.item)) before xs
   once_owners before [] h = tt
   once_owners before (x ∷ xs) h =
       let c = h.0 in (
@@ -211,7 +114,7 @@ module _ (d : Tables) where
         once_owners (before ++ x ∷ []) xs h.1,
       )
 
-  once_members : (before xs : List Entry) → AreItemsClear d before xs → AreOnce (λ x. names_of (members_in x.item)) before xs
+  once_members : (before xs : List Entry) → AreItemsKept d before xs → AreOnce (λ x. names_of (members_in x.item)) before xs
   once_members before [] h = tt
   once_members before (x ∷ xs) h =
       let c = h.0 in (
@@ -220,11 +123,11 @@ module _ (d : Tables) where
         once_members (before ++ x ∷ []) xs h.1,
       )
 
-  once_disciplines : (before xs : List Entry) → AreItemsClear d before xs → AreOnce (λ x. disciplined_sets x.item) before xs
+  once_disciplines : (before xs : List Entry) → AreItemsKept d before xs → AreOnce (λ x. disciplined_sets x.item) before xs
   once_disciplines before [] h = tt
   once_disciplines before (x ∷ xs) h = let c = h.0 in (c.disciplines, once_disciplines (before ++ x ∷ []) xs h.1)
 
-  once_ties : (before xs : List Entry) → AreItemsClear d before xs → AreOnce (λ x. tied_events x.item) before xs
+  once_ties : (before xs : List Entry) → AreItemsKept d before xs → AreOnce (λ x. tied_events x.item) before xs
   once_ties before [] h = tt
   once_ties before (x ∷ xs) h = let c = h.0 in (c.ties, once_ties (before ++ x ∷ []) xs h.1)
 
@@ -251,7 +154,7 @@ module _ (d : Tables) where
   tie_names (Orders (BreakTies c keys)) = refl
   tie_names (Orders (ExternalEvents ns)) = refl
 
-  module _ (xs : List Entry) (h : AreItemsClear d [] xs) (n : Name) where
+  module _ (xs : List Entry) (h : AreItemsKept d [] xs) (n : Name) where
     pub one_owner : said_of (flat_map (λ x. owners_in x.item) xs) n ≡ some_list (fact_of (flat_map (λ x. owners_in x.item) xs) n)
     one_owner = facts_once (λ x. owners_in x.item) (λ x. names_of (owners_in x.item)) xs (λ x. refl) (once_owners [] xs h) n
 
@@ -265,42 +168,3 @@ module _ (d : Tables) where
 
     pub one_break : said_of (flat_map (λ x. ties_in x.item) xs) n ≡ some_list (fact_of (flat_map (λ x. ties_in x.item) xs) n)
     one_break = facts_once (λ x. ties_in x.item) (λ x. tied_events x.item) xs (λ x. tie_names x.item) (once_ties [] xs h) n
-
--- ---- each set that items name has an owner
-
-module _ (d : Tables) where
-  abbrev HaveOwners : List Entry → Type 0
-  HaveOwners xs = (s : Name) → In s (flat_map (λ x. sets_in x.item) xs) → is_among s (names_of d.owners) ≡ true
-
-  named_before : (before : List Entry) (s : Name) (o : Option NameKind) → kind_of (tables_of before []) s ≡ o → names_set o ≡ true →
-      In s (flat_map (λ x. sets_in x.item) before)
-  named_before before s None e t = cc
-  named_before before s (Some j) e t =
-      subst (λ (ns : List Name). In s ns) (set_names_are before [])
-      (where_has is_set s j (tables_of before []).kinds (fact_in (tables_of before []).kinds s j e) t)
-
-  new_set : (before : List Entry) (x : Entry) (s : Name) → HaveOwners before → IsItemClear d (tables_of before []) x → In s (sets_in x.item) →
-      (b : Bool) → names_set (kind_of (tables_of before []) s) ≡ b → is_among s (names_of d.owners) ≡ true
-  new_set before x s m c i true e = m s (named_before before s (kind_of (tables_of before []) s) refl e)
-  new_set before x s m c i false e =
-      let new = in_filter (λ n. not (names_set (kind_of (tables_of before []) n))) s (sets_in x.item) i (ap not e) in
-      not-false (is_among s (names_of d.owners))
-      (none_in (λ n. not (is_among n (names_of d.owners))) s (new_sets d (tables_of before []) x.item) c.owner new)
-
-  owners_behind : (before xs : List Entry) → AreItemsClear d before xs → HaveOwners before → HaveOwners (before ++ xs)
-  owners_behind before [] h m = subst HaveOwners (sym (nothing_more before)) m
-  owners_behind before (x ∷ xs) h m =
-      subst HaveOwners (append_assoc before (x ∷ []) xs) (owners_behind (before ++ x ∷ []) xs h.1 more)
-    where
-      more : HaveOwners (before ++ x ∷ [])
-      more s i =
-          by (in_split s (flat_map (λ (y : Entry). sets_in y.item) before) (sets_in x.item)
-          (subst (λ (ns : List Name). In s ns) (flat_more (λ (y : Entry). sets_in y.item) before x) i))
-        where
-          by : In s (flat_map (λ (y : Entry). sets_in y.item) before) ⊎ In s (sets_in x.item) → is_among s (names_of d.owners) ≡ true
-          by (inl a) = m s a
-          by (inr b) = new_set before x s m h.0 b (names_set (kind_of (tables_of before []) s)) refl
-
-  pub sets_have_owners : (xs : List Entry) → AreItemsClear d [] xs → (s : Name) → In s (flat_map (λ x. sets_in x.item) xs) →
-      is_among s (names_of d.owners) ≡ true
-  sets_have_owners xs h = owners_behind [] xs h (λ s i. absurd i)

@@ -21,16 +21,16 @@ use Rattle.ss_checker.specs.declared.name_kind.NameKind.{NameKind}
 use Rattle.ss_checker.specs.declared.name_kind.NameKind.TheVariants as k
 use Rattle.ss_checker.specs.declared.tables.Tables.{Tables}
 use Rattle.ss_checker.specs.Facts.{fact, fact_of}
-use Rattle.ss_checker.specs.NameKinds.{is_attribute_of, is_class, is_global, names_event}
+use Rattle.ss_checker.specs.NameKinds.{is_class, is_global, names_event}
 use Rattle.ss_checker.specs.Declarations.{Entry, entries, heads, classes_in, disciplines_in, ties_in, events_in, given_of, kind_of, tables, attribute_count, is_event_class}
 use Rattle.ss_checker.specs.ItemRules.{is_wrong_key, has_wrong_key, has_wrong_rank, has_wrong_keys, has_fewer}
 use Rattle.ss_checker.specs.ResolvedNames.{Names, names, number, names_where, is_set, attribute_names, attributes_of, member_class, owner_of}
 use Rattle.ss_checker.specs.Resolved.{Rankings, rankings, resolved_key, resolved_discipline, resolved_owner, event_table, class_kind, class_table, set_table, resolved_section, resolved_with}
-use Rattle.ss_checker.proofs.SoundLists.{In, none_in, in_among, among_in, number_there, image_at, once_from, once_apart, fact_in, flat_in, in_flat, where_has, where_from, AreApart, apart_from}
+use Rattle.ss_checker.proofs.SoundLists.{In, none_in, in_among, among_in, number_there, image_at, once_from, once_apart, fact_in, flat_in, in_flat, where_from, AreApart, apart_from}
 use Rattle.ss_checker.proofs.SoundDeclared.{HasClass}
 use Rattle.ss_checker.proofs.SoundUnbroken.{AreItemsKept, AreSectionsKept}
 use Rattle.ss_checker.proofs.SoundItems.{item_at, events_have_sections, priority_kept, attributes_apart}
-use Rattle.ss_checker.proofs.SoundScoped.{L, class_is_global, kind_in, closed_kind, global_in, class_in, owner_class, member_there, member_is_class, event_class, attributes_are}
+use Rattle.ss_checker.proofs.SoundScoped.{L, class_is_global, kind_in, closed_kind, global_in, class_in, set_declared, is_attribute, owner_class, member_there, member_is_class, event_class, attributes_are}
 use Rattle.ss_checker.proofs.SoundLimits.{attributes_counted, few_attributes, entry_of, few_keys, class_named, few_classes, few_sets}
 use Rattle.ss_checker.proofs.SoundNumbers.{event_found, section_at, slice_in}
 
@@ -120,18 +120,13 @@ module _ (is : List ItemAt) (qs : List Section) (h : AreItemsKept (tables is qs)
 
   -- ---- keys
 
-  is_attribute : (c n : Name) (o : Option NameKind) → kind_of D n ≡ o → not (unwrap_or (option_map (is_attribute_of c) o) false) ≡ false →
-      In n (attributes_of D c)
-  is_attribute c n None e t = cc
-  is_attribute c n (Some j) e t = where_has (is_attribute_of c) n j D.kinds (kind_in xs hs h n j e) (not-false (is_attribute_of c j) t)
-
   keys_there : (b : Tables) (c : Name) (keys : List WrittenKey) → In c V.classes → list_any (is_wrong_key D b c) keys ≡ false →
       All (λ (q : Key). q.attribute < length (attributes_of D c)) (map (resolved_key (attribute_names V c)) keys)
   keys_there b c keys i t =
       All-map (λ (q : Key). q.attribute < length (attributes_of D c)) (resolved_key (attribute_names V c)) keys
       (all_from (λ (q : WrittenKey). number q.name (attribute_names V c) < length (attributes_of D c)) keys (λ q x.
       rw (attributes_are xs hs h R c i)
-      (number_there q.name (attributes_of D c) (is_attribute c q.name (kind_of D q.name) refl (none_in (is_wrong_key D b c) q keys t x)))))
+      (number_there q.name (attributes_of D c) (is_attribute xs hs h c q.name (kind_of D q.name) refl (none_in (is_wrong_key D b c) q keys t x)))))
 
   sound_keys : (b : Tables) (c : Name) (keys : List WrittenKey) → In c V.classes → list_any (is_wrong_key D b c) keys ≡ false → length keys ≤ 8 →
       AreSoundKeys (length (attributes_of D c)) (map (resolved_key (attribute_names V c)) keys)
@@ -299,26 +294,9 @@ module _ (is : List ItemAt) (qs : List Section) (h : AreItemsKept (tables is qs)
   sound_owner n None e = tt
   sound_owner n (Some c) e = class_place c (class_in xs hs h c (owner_class xs hs h [] n c e))
 
-  set_declared : (n : Name) → In n V.sets → In (fact n k.Set) (L xs hs h)
-  set_declared n i =
-      let q = where_from is_set n D.kinds (once_from n (names_where is_set D.kinds) i) in
-      subst (λ (j : NameKind). In (fact n j) D.kinds) (is_the_set q.what q.passes) q.there
-    where
-      is_the_set : (j : NameKind) → is_set j ≡ true → j ≡ k.Set
-      is_the_set k.Set t = refl
-      is_the_set k.Variable t = cc
-      is_the_set k.ClassCount t = cc
-      is_the_set (k.Class g) t = cc
-      is_the_set (k.Attribute c) t = cc
-      is_the_set (k.OwnerKept q r) t = cc
-      is_the_set (k.MemberKept q r) t = cc
-      is_the_set (k.Function f) t = cc
-      is_the_set k.Clock t = cc
-      is_the_set k.Routine t = cc
-
   sound_set : (n : Name) → In n V.sets → IsSoundSet p (set_table D V R n)
   sound_set n i =
-      let there = set_declared n i in
+      let there = set_declared xs hs h n i in
       let m = member_there xs hs h n there in
       let c = member_class D V [] n in
       let e : c ≡ m.0 = ap (λ (o : Option Name). unwrap_or o []) m.1 in
