@@ -3,8 +3,8 @@ use Rattle.std.proofs.Common.{◌≡◌, ◌⊎◌, ℕ, ◌+◌, Bool, true, fa
 use Rattle.std.specs.Prelude.{map, codes, slice_get, option_map, unwrap_or}
 use Rattle.std.specs.List.{All, flat_map, list_any}
 use mathlib.Core.Logic.{inl, inr}
-use Rattle.std.proofs.lemmas.Bool.{or_parts, not-false}
-use Rattle.std.proofs.lemmas.List.Elements.{All-nil, All-cons}
+use Rattle.std.proofs.lemmas.Bool.{not-false}
+use Rattle.std.proofs.lemmas.List.Elements.{All-nil, All-cons, All-map}
 use Rattle.std.proofs.lemmas.Option.{slice_get-map}
 use Rattle.ss_words.specs.Lists.{Name, all_of}
 use Rattle.ss_preamble.specs.declared.item.Heading.{Heading}
@@ -15,8 +15,7 @@ use Rattle.ss_preamble.specs.Tree.{Key as WrittenKey, SetKind, Fifo, Lifo, Ranke
 use Rattle.ss_preamble.specs.Limits.{class_names}
 use Rattle.ss_grammar.specs.Tree.{Head, MainHead, RoutineHead, EventHead}
 use Rattle.ss_grammar.specs.Places.{Section}
-use Rattle.ss_check.specs.declared.kinds.ClassKind.TheVariants.{Temporary}
-use Rattle.ss_check.specs.declared.kinds.Discipline.TheVariants as discipline
+use Rattle.ss_check.specs.declared.kinds.ClassKind.{ClassKind}
 use Rattle.ss_check.specs.EventTable.{EventTable}
 use Rattle.ss_check.specs.Program.{ClassTable, SetTable, SectionTable, ProgramTable, class_of, section_of, event_of_kind, is_event_section}
 use Rattle.ss_checker.specs.declared.fact.Fact.{Fact}
@@ -25,21 +24,21 @@ use Rattle.ss_checker.specs.declared.name_kind.NameKind.TheVariants as k
 use Rattle.ss_checker.specs.declared.tables.Tables.{Tables}
 use Rattle.ss_checker.specs.Facts.{is_among, each_once, fact, fact_of}
 use Rattle.ss_checker.specs.NameKinds.{is_class, names_event}
-use Rattle.ss_checker.specs.Declarations.{Entry, entries, heads, tables, classes_in, events_in, disciplines_in, ties_in, external_in, kind_of, is_event_class}
-use Rattle.ss_checker.specs.ItemRules.{names_wrong_class, is_wrong_key, has_wrong_key, has_wrong_rank}
+use Rattle.ss_checker.specs.Declarations.{Entry, entries, heads, tables, classes_in, events_in, disciplines_in, ties_in, external_in, tables_of, kind_of, is_event_class}
+use Rattle.ss_checker.specs.ItemRules.{names_wrong_class, is_wrong_key, has_wrong_key}
 use Rattle.ss_checker.specs.ResolvedNames.{Names, names, number, names_where, attributes_of, attribute_names, owner_of, member_class}
 use Rattle.ss_checker.specs.Resolved.{Rankings, rankings, resolved_rank, resolved_key, resolved_discipline, resolved_owner, event_table, class_kind, class_table, set_table, section_name, resolved_section, resolved_with}
 use Rattle.ss_checker.specs.NamedTree.{several, name_at}
 use Rattle.ss_checker.specs.NamedItems.{named_heading, named_rank, named_key, named_discipline, named_owner, said_of, headings_in, IsSaid, IsKindOf, IsClassOf, IsSetOf, IsOfItems, TablesGiveTheItems}
 use Rattle.ss_checker.proofs.SoundLists.{In, none_in, among_in, number_there, image_at, once_from, fact_in, fact_there, flat_in, in_flat, where_from}
 use Rattle.ss_checker.proofs.SoundDeclared.{HasClass}
-use Rattle.ss_checker.proofs.SoundItems.{item_at, sets_have_owners, events_have_sections, priority_kept}
+use Rattle.ss_checker.proofs.SoundItems.{item_at, sets_have_owners, right_ranks, right_ties, events_have_sections, priority_kept}
 use Rattle.ss_checker.proofs.SoundNumbers.{event_found}
 use Rattle.ss_checker.proofs.SoundScoped.{L, closed_kind, global_in, class_in, class_global, set_of_item, set_declared, is_attribute, owner_class, member_there, member_is_class, event_class, attributes_are}
 use Rattle.ss_checker.proofs.SoundUnbroken.{AreItemsKept, kept}
 use Rattle.ss_checker.proofs.NamedKinds.{number_finds}
 use Rattle.ss_checker.proofs.NamedUses.{two}
-use Rattle.ss_checker.proofs.NamedItemsNames.{entries_say, class_names_are, set_names_are, globals_are, attributes_written}
+use Rattle.ss_checker.proofs.NamedItemsNames.{entries_say, class_names_are, set_names_are, globals_are, attributes_are_written}
 use Rattle.ss_checker.proofs.NamedItemsOnce.{some_list, said_in, one_owner, one_member, one_discipline, one_break}
 use Rattle.ss_checker.proofs.NamedItemsHeadings.{class_kept, heading_declared, heading_there}
 
@@ -49,11 +48,8 @@ all_of_these : {X : Type 0} (P : X → Type 0) (xs : List X) → ((x : X) → In
 all_of_these P [] h = All-nil P
 all_of_these P (x ∷ xs) h = All-cons P x xs (h x (inl refl)) (all_of_these P xs (λ y i. h y (inr i)))
 
-all_mapped : {X Y : Type 0} (P : Y → Type 0) (f : X → Y) (xs : List X) → ((x : X) → In x xs → P (f x)) → All P (map f xs)
-all_mapped P f [] h = All-nil P
-all_mapped P f (x ∷ xs) h = All-cons P (f x) (map f xs) (h x (inl refl)) (all_mapped P f xs (λ y i. h y (inr i)))
-
-same_again : {X Y : Type 0} (f : X → Y) (g : Y → X) (xs : List X) → ((x : X) → In x xs → g (f x) ≡ x) → map g (map f xs) ≡ xs
+same_again : {X Y : Type 0} (f : X → Y) (g : Y → X) (xs : List X) → ((x : X) → In x xs → g (f x) ≡ x) →
+    map g (map f xs) ≡ xs
 same_again f g [] e = refl
 same_again f g (x ∷ xs) e = two (λ y ys. y ∷ ys) (e x (inl refl)) (same_again f g xs (λ y i. e y (inr i)))
 
@@ -76,13 +72,19 @@ keys_again ns qs h = same_again (resolved_key ns) (named_key ns) qs (λ q i. key
 
 -- ---- kinds of classes
 
--- an event class, or none of its kind
-abbrev IsEventOr : Tables → Names → Rankings → Name → Option NameKind → Type 0
-IsEventOr d v r n o =
-    (o ≡ Some (k.Class (Some EventNotices)))
-    ⊎ ((names_event o ≡ false) × (event_of_kind (class_kind d v r n o) ≡ record { section = 0; ties = []; external = false }))
+abbrev event : NameKind
+event = k.Class (Some EventNotices)
 
-event_or : (d : Tables) (v : Names) (r : Rankings) (n : Name) (o : Option NameKind) → IsEventOr d v r n o
+-- what a class of no events has besides
+abbrev no_event : EventTable
+no_event = record { section = 0; ties = []; external = false }
+
+-- an event class, or none and nothing besides
+abbrev IsEventOr : Option NameKind → EventTable → Type 0
+IsEventOr o t = (o ≡ Some event) ⊎ ((names_event o ≡ false) × (t ≡ no_event))
+
+event_or : (d : Tables) (v : Names) (r : Rankings) (n : Name) (o : Option NameKind) →
+    IsEventOr o (event_of_kind (class_kind d v r n o))
 event_or d v r n None = inr (refl, refl)
 event_or d v r n (Some k.Variable) = inr (refl, refl)
 event_or d v r n (Some k.ClassCount) = inr (refl, refl)
@@ -98,7 +100,8 @@ event_or d v r n (Some k.Clock) = inr (refl, refl)
 event_or d v r n (Some k.Set) = inr (refl, refl)
 event_or d v r n (Some k.Routine) = inr (refl, refl)
 
-heading_again : (d : Tables) (v : Names) (r : Rankings) (n : Name) (g : Heading) → named_heading (class_kind d v r n (Some (k.Class (Some g)))) ≡ g
+heading_again : (d : Tables) (v : Names) (r : Rankings) (n : Name) (g : Heading) →
+    named_heading (class_kind d v r n (Some (k.Class (Some g)))) ≡ g
 heading_again d v r n PermanentEntities = refl
 heading_again d v r n TemporaryEntities = refl
 heading_again d v r n EventNotices = refl
@@ -113,8 +116,8 @@ class_item (Defines z) n x = absurd x
 class_item (Orders r) n x = absurd x
 
 -- what BREAK and EXTERNAL name is an event class
-tied_event : (d b : Tables) (h : Option Heading) (i : Item) (n : Name) (keys : List WrittenKey) → names_wrong_class d b h i ≡ false →
-    In (fact n keys) (ties_in i) → is_event_class d n ≡ true
+tied_event : (d b : Tables) (h : Option Heading) (i : Item) (n : Name) (keys : List WrittenKey) →
+    names_wrong_class d b h i ≡ false → In (fact n keys) (ties_in i) → is_event_class d n ≡ true
 tied_event d b h Normally n keys e x = absurd x
 tied_event d b h (Headed g ns) n keys e x = absurd x
 tied_event d b h (OfEvery c cs) n keys e x = absurd x
@@ -122,12 +125,12 @@ tied_event d b h (OfSystem cs) n keys e x = absurd x
 tied_event d b h (Defines z) n keys e x = absurd x
 tied_event d b h (Orders (PriorityOrder ns)) n keys e x = absurd x
 tied_event d b h (Orders (BreakTies c ks)) n keys e (inl y) =
-    ap (is_event_class d) (ap (λ (f : Fact (List WrittenKey)). f.name) y) ∙ not-false (is_event_class d c) e
+    ap (λ (f : Fact (List WrittenKey)). is_event_class d f.name) y ∙ not-false (is_event_class d c) e
 tied_event d b h (Orders (BreakTies c ks)) n keys e (inr y) = absurd y
 tied_event d b h (Orders (ExternalEvents ns)) n keys e x = absurd x
 
-external_event : (d b : Tables) (h : Option Heading) (i : Item) (n : Name) → names_wrong_class d b h i ≡ false → In n (external_in i) →
-    is_event_class d n ≡ true
+external_event : (d b : Tables) (h : Option Heading) (i : Item) (n : Name) → names_wrong_class d b h i ≡ false →
+    In n (external_in i) → is_event_class d n ≡ true
 external_event d b h Normally n e x = absurd x
 external_event d b h (Headed g ns) n e x = absurd x
 external_event d b h (OfEvery c cs) n e x = absurd x
@@ -144,29 +147,53 @@ event_name n (RoutineHead m ps ys) i = absurd i
 event_name n (EventHead m ps saving) (inl e) = sym e
 event_name n (EventHead m ps saving) (inr x) = absurd x
 
--- ---- the program
+-- ---- the program; xs: its items under their headings
+
+abbrev headings : List Entry → List (Fact (Option Heading))
+headings xs = flat_map (λ x. headings_in x.heading x.item) xs
+
+abbrev disciplines : List Entry → List (Fact SetKind)
+disciplines xs = flat_map (λ x. disciplines_in x.item) xs
+
+abbrev ties : List Entry → List (Fact (List WrittenKey))
+ties xs = flat_map (λ x. ties_in x.item) xs
 
 module _ (xs : List Entry) (qs : List Section) where
   abbrev hs : List Head
   hs = heads qs
 
   abbrev D : Tables
-  D = Rattle.ss_checker.specs.Declarations.tables_of xs hs
+  D = tables_of xs hs
 
   abbrev V : Names
   V = names D hs
 
   abbrev R : Rankings
-  R = record { disciplines = flat_map (λ (x : Entry). disciplines_in x.item) xs; ties = flat_map (λ (x : Entry). ties_in x.item) xs }
+  R = record { disciplines = disciplines xs; ties = ties xs }
 
   abbrev p : ProgramTable
   p = resolved_with D V R qs
 
+  -- the kind of a class, what it has besides as an event class, and its attributes
+  abbrev kind : Name → ClassKind
+  kind n = class_kind D V R n (kind_of D n)
+
+  abbrev besides : Name → EventTable
+  besides n = event_of_kind (kind n)
+
+  abbrev attributes : Name → List Name
+  attributes n = attributes_of D n
+
+  -- keys as numbers, and their names again
+  abbrev looked_up : Name → List WrittenKey → List WrittenKey
+  looked_up n keys = map (named_key (attributes n)) (map (resolved_key (attribute_names V n)) keys)
+
   module _ (h : AreItemsKept D [] xs) where
     class_at : (n : Name) → In n V.classes → class_of p (number n V.classes) ≡ class_table D V R n
-    class_at n i =
-        ap (λ (o : Option ClassTable). unwrap_or o (record { name = []; kind = Temporary; variable = 0; attributes = [] }))
-        (image_at (class_table D V R) n V.classes i)
+    class_at n i = rw (image_at (class_table D V R) n V.classes i) refl
+
+    class_name : (n : Name) → In n V.classes → (class_of p (number n V.classes)).name ≡ n
+    class_name n i = ap (λ (t : ClassTable). t.name) (class_at n i)
 
     declared_class : (n : Name) → In n V.classes → HasClass (L xs hs h) n
     declared_class n i =
@@ -187,40 +214,53 @@ module _ (xs : List Entry) (qs : List Section) where
 
     named_somewhere : (n : Name) → In n V.classes → In n (flat_map (λ (x : Entry). classes_in x.item) xs)
     named_somewhere n i =
-        let named = subst (λ (ns : List Name). In n ns) (class_names_are xs hs) (once_from n (names_where is_class D.kinds) i) in
-        let f = flat_in (λ (x : Entry). class_names x.item) n xs named in
+        let named = once_from n (names_where is_class D.kinds) i in
+        let f = flat_in (λ (x : Entry). class_names x.item) n xs
+        (subst (λ (ns : List Name). In n ns) (class_names_are xs hs) named) in
         let x = f.one in
         in_flat (λ (y : Entry). classes_in y.item) x n xs f.there (class_item x.item n f.has)
 
     -- ---- kinds
 
-    event_again : (n : Name) → In n V.classes → is_event_class D n ≡ true →
-        ((section_of p (event_table D V R n).section).name ≡ n) × (is_event_section (section_of p (event_table D V R n).section) ≡ true)
-    event_again n i e =
+    -- the section of an event
+    record IsEventSection (n : Name) (t : SectionTable) : Type 0 where
+      name : t.name ≡ n
+      kind : is_event_section t ≡ true
+
+    section_again : (n : Name) → In n V.classes → is_event_class D n ≡ true →
+        IsEventSection n (section_of p (event_table D V R n).section)
+    section_again n i e =
         let has = events_have_sections D xs h n (named_somewhere n i) e in
         let f = event_found qs 0 n (among_in n D.events has) in
         let q = f.section in
         let holds = f.holds in
-        let number_is : (event_table D V R n).section ≡ f.place = ap (λ (o : Option ℕ). unwrap_or o 0) f.number ∙ omega arith in
-        let there : slice_get p.sections (event_table D V R n).section ≡ Some (resolved_section D V q) =
-        ap (slice_get p.sections) number_is ∙ slice_get-map (resolved_section D V) qs f.place
+        let place = (event_table D V R n).section in
+        let place_is : place ≡ f.place = ap (λ (o : Option ℕ). unwrap_or o 0) f.number ∙ omega arith in
+        let there : slice_get p.sections place ≡ Some (resolved_section D V q) =
+        ap (slice_get p.sections) place_is ∙ slice_get-map (resolved_section D V) qs f.place
         ∙ ap (option_map (resolved_section D V)) f.there in
-        let same = section_is (event_table D V R n).section (resolved_section D V q) there in
-        (ap (λ (t : SectionTable). t.name) same ∙ event_name n q.head holds.names, ap is_event_section same ∙ holds.kind)
+        subst (IsEventSection n) (sym (section_is place (resolved_section D V q) there))
+        (record { name = event_name n q.head holds.names; kind = holds.kind })
       where
         section_is : (j : ℕ) (t : SectionTable) → slice_get p.sections j ≡ Some t → section_of p j ≡ t
         section_is j t e = rw e refl
 
-    kind_again : (n : Name) (o : Option NameKind) → In n V.classes → kind_of D n ≡ o → IsKindOf p n (class_kind D V R n o)
+    count_again : (n : Name) → kind_of D n ≡ Some (k.Class (Some PermanentEntities)) →
+        name_at V.globals (number (codes "N." ++ n) V.globals) ≡ codes "N." ++ n
+    count_again n e =
+        let c = closed_kind xs hs h n (k.Class (Some PermanentEntities)) e in
+        name_again (codes "N." ++ n) V.globals (global_in xs hs h (codes "N." ++ n) k.ClassCount c.1 refl)
+
+    kind_again : (n : Name) (o : Option NameKind) → In n V.classes → kind_of D n ≡ o →
+        IsKindOf p n (class_kind D V R n o)
     kind_again n None i e = tt
     kind_again n (Some k.Variable) i e = tt
     kind_again n (Some k.ClassCount) i e = tt
     kind_again n (Some (k.Class None)) i e = tt
-    kind_again n (Some (k.Class (Some PermanentEntities))) i e =
-        name_again (codes "N." ++ n) V.globals
-        (global_in xs hs h (codes "N." ++ n) k.ClassCount (closed_kind xs hs h n (k.Class (Some PermanentEntities)) e).1 refl)
+    kind_again n (Some (k.Class (Some PermanentEntities))) i e = count_again n e
     kind_again n (Some (k.Class (Some TemporaryEntities))) i e = tt
-    kind_again n (Some (k.Class (Some EventNotices))) i e = event_again n i (ap names_event e)
+    kind_again n (Some (k.Class (Some EventNotices))) i e =
+        let s = section_again n i (ap names_event e) in (s.name, s.kind)
     kind_again n (Some (k.Attribute b)) i e = tt
     kind_again n (Some (k.OwnerKept q s)) i e = tt
     kind_again n (Some (k.MemberKept q s)) i e = tt
@@ -229,77 +269,70 @@ module _ (xs : List Entry) (qs : List Section) where
     kind_again n (Some k.Set) i e = tt
     kind_again n (Some k.Routine) i e = tt
 
-    headings_again : (n : Name) → All (λ (w : Option Heading). w ≡ Some (named_heading (class_kind D V R n (kind_of D n))))
-        (said_of (flat_map (λ (x : Entry). headings_in x.heading x.item) xs) n)
-    headings_again n =
-        all_of_these (λ (w : Option Heading). w ≡ Some (named_heading (class_kind D V R n (kind_of D n))))
-        (said_of (flat_map (λ (x : Entry). headings_in x.heading x.item) xs) n) one
-      where
-        one : (w : Option Heading) → In w (said_of (flat_map (λ (x : Entry). headings_in x.heading x.item) xs) n) →
-            w ≡ Some (named_heading (class_kind D V R n (kind_of D n)))
-        one w i =
-            let f = flat_in (λ (x : Entry). headings_in x.heading x.item) (fact n w) xs
-            (said_in (flat_map (λ (x : Entry). headings_in x.heading x.item) xs) n w i) in
-            let x = f.one in
-            let kept = item_at D [] xs x h f.there in
-            let item = kept.1 in
-            let g = heading_there D kept.0 x.heading x.item n w item.class f.has in
-            let kind = class_kept xs hs h x f.there n w (heading_declared x.heading x.item n w f.has) in
-            g.1 ∙ ap (λ (z : Heading). Some z) (sym (heading_again D V R n g.0))
-            ∙ ap (λ (o : Option NameKind). Some (named_heading (class_kind D V R n o)))
-            (sym (kind ∙ ap (λ (z : Option Heading). Some (k.Class z)) g.1))
+    heading_is : (n : Name) (w : Option Heading) → In w (said_of (headings xs) n) → w ≡ Some (named_heading (kind n))
+    heading_is n w i =
+        let f = flat_in (λ (x : Entry). headings_in x.heading x.item) (fact n w) xs (said_in (headings xs) n w i) in
+        let x = f.one in
+        let kept = item_at D [] xs x h f.there in
+        let item = kept.1 in
+        let g = heading_there D kept.0 x.heading x.item n w item.class f.has in
+        let declared = class_kept xs hs h x f.there n w (heading_declared x.heading x.item n w f.has) in
+        let class = declared ∙ ap (λ (z : Option Heading). Some (k.Class z)) g.1 in
+        g.1 ∙ ap (λ (z : Heading). Some z) (sym (heading_again D V R n g.0))
+        ∙ ap (λ (o : Option NameKind). Some (named_heading (class_kind D V R n o))) (sym class)
 
     -- ---- keys
 
-    keys_are : (t : Tables) (b : Name) (keys : List WrittenKey) → In b V.classes → list_any (is_wrong_key D t b) keys ≡ false →
-        map (named_key (attributes_of D b)) (map (resolved_key (attribute_names V b)) keys) ≡ keys
+    keys_are : (t : Tables) (b : Name) (keys : List WrittenKey) → In b V.classes →
+        list_any (is_wrong_key D t b) keys ≡ false → looked_up b keys ≡ keys
     keys_are t b keys i e =
-        ap (λ (ns : List Name). map (named_key (attributes_of D b)) (map (resolved_key ns) keys)) (attributes_are xs hs h R b i)
-        ∙ keys_again (attributes_of D b) keys
+        ap (λ (ns : List Name). map (named_key (attributes b)) (map (resolved_key ns) keys))
+        (attributes_are xs hs h R b i)
+        ∙ keys_again (attributes b) keys
         (λ q x. is_attribute xs hs h b q.name (kind_of D q.name) refl (none_in (is_wrong_key D t b) q keys e x))
 
-    -- the rules of the item that breaks ties
+    -- what the item keeps to that breaks ties
     record IsBreak (n : Name) (keys : List WrittenKey) : Type 0 where
       before : Tables
       right : list_any (is_wrong_key D before n) keys ≡ false
       event : is_event_class D n ≡ true
 
-    break_is : (n : Name) (keys : List WrittenKey) → fact_of R.ties n ≡ Some keys → IsBreak n keys
+    break_is : (n : Name) (keys : List WrittenKey) → fact_of (ties xs) n ≡ Some keys → IsBreak n keys
     break_is n keys e =
-        let f = flat_in (λ (x : Entry). ties_in x.item) (fact n keys) xs (fact_in R.ties n keys e) in
+        let f = flat_in (λ (x : Entry). ties_in x.item) (fact n keys) xs (fact_in (ties xs) n keys e) in
         let x = f.one in
         let kept = item_at D [] xs x h f.there in
         let b = kept.0 in
         let item = kept.1 in
-        let parts = or_parts (list_any (λ t. has_wrong_rank D b (fact_of D.members t.name) t.what) (disciplines_in x.item))
-        (list_any (λ t. has_wrong_key D b (Some t.name) t.what) (ties_in x.item)) item.keys in
         record {
           before = b;
-          right = none_in (λ t. has_wrong_key D b (Some t.name) t.what) (fact n keys) (ties_in x.item) parts.1 f.has;
+          right = right_ties D b x.item n keys item.keys f.has;
           event = tied_event D b x.heading x.item n keys item.class f.has;
         }
 
-    event_ties : (n : Name) (o : Option (List WrittenKey)) → In n V.classes → fact_of R.ties n ≡ o →
-        IsSaid [] (some_list o) (map (named_key (attributes_of D n)) (map (resolved_key (attribute_names V n)) (unwrap_or o [])))
+    event_ties : (n : Name) (o : Option (List WrittenKey)) → In n V.classes → fact_of (ties xs) n ≡ o →
+        IsSaid [] (some_list o) (looked_up n (unwrap_or o []))
     event_ties n None i e = refl
     event_ties n (Some keys) i e = let b = break_is n keys e in keys_are b.before n keys i b.right
 
-    no_ties : (n : Name) (o : Option (List WrittenKey)) → names_event (kind_of D n) ≡ false → fact_of R.ties n ≡ o → IsSaid [] (some_list o) []
+    no_ties : (n : Name) (o : Option (List WrittenKey)) → names_event (kind_of D n) ≡ false →
+        fact_of (ties xs) n ≡ o → IsSaid [] (some_list o) []
     no_ties n None e t = refl
     no_ties n (Some keys) e t = let b = break_is n keys t in let z = b.event in cc
 
+    -- the ties of a class that has this besides
+    abbrev AreTies : Name → EventTable → Type 0
+    AreTies n t = IsSaid [] (some_list (fact_of (ties xs) n)) (map (named_key (attributes n)) t.ties)
+
     ties_again : (n : Name) → In n V.classes →
-        IsSaid [] (said_of R.ties n) (map (named_key (attributes_of D n)) (event_of_kind (class_kind D V R n (kind_of D n))).ties)
+        IsSaid [] (said_of (ties xs) n) (map (named_key (attributes n)) (besides n).ties)
     ties_again n i = rw (one_break D xs h n) (by (event_or D V R n (kind_of D n)))
       where
-        by : IsEventOr D V R n (kind_of D n) →
-            IsSaid [] (some_list (fact_of R.ties n)) (map (named_key (attributes_of D n)) (event_of_kind (class_kind D V R n (kind_of D n))).ties)
+        by : IsEventOr (kind_of D n) (besides n) → AreTies n (besides n)
         by (inl e) =
-            subst (λ (o : Option NameKind). IsSaid [] (some_list (fact_of R.ties n)) (map (named_key (attributes_of D n)) (event_of_kind (class_kind D V R n o)).ties))
-            (sym e) (event_ties n (fact_of R.ties n) i refl)
-        by (inr e) =
-            subst (λ (t : EventTable). IsSaid [] (some_list (fact_of R.ties n)) (map (named_key (attributes_of D n)) t.ties))
-            (sym e.1) (no_ties n (fact_of R.ties n) e.0 refl)
+            subst (λ (o : Option NameKind). AreTies n (event_of_kind (class_kind D V R n o))) (sym e)
+            (event_ties n (fact_of (ties xs) n) i refl)
+        by (inr e) = subst (AreTies n) (sym e.1) (no_ties n (fact_of (ties xs) n) e.0 refl)
 
     no_external : (n : Name) (b : Bool) → names_event (kind_of D n) ≡ false → is_among n D.external ≡ b → false ≡ b
     no_external n false e t = refl
@@ -310,10 +343,10 @@ module _ (xs : List Entry) (qs : List Section) where
         let item = kept.1 in
         let z = external_event D kept.0 x.heading x.item n item.class f.has in cc
 
-    external_again : (n : Name) → (event_of_kind (class_kind D V R n (kind_of D n))).external ≡ is_among n D.external
+    external_again : (n : Name) → (besides n).external ≡ is_among n D.external
     external_again n = by (event_or D V R n (kind_of D n))
       where
-        by : IsEventOr D V R n (kind_of D n) → (event_of_kind (class_kind D V R n (kind_of D n))).external ≡ is_among n D.external
+        by : IsEventOr (kind_of D n) (besides n) → (besides n).external ≡ is_among n D.external
         by (inl e) = ap (λ (o : Option NameKind). (event_of_kind (class_kind D V R n o)).external) e
         by (inr e) = ap (λ (t : EventTable). t.external) e.1 ∙ no_external n (is_among n D.external) e.0 refl
 
@@ -321,43 +354,49 @@ module _ (xs : List Entry) (qs : List Section) where
     class_again n i = record {
       variable = name_again n V.globals (class_global xs hs h n (declared_class n i));
       kind = kind_again n (kind_of D n) i refl;
-      heading = headings_again n;
-      attributes = attributes_written n xs hs;
+      heading =
+          let is_it = λ (w : Option Heading). w ≡ Some (named_heading (kind n)) in
+          all_of_these is_it (said_of (headings xs) n) (heading_is n);
+      attributes = attributes_are_written n xs hs;
       ties = ties_again n i;
       external = external_again n;
     }
 
     -- ---- sets
 
-    discipline_is : (n b : Name) (o : Option SetKind) → fact_of R.disciplines n ≡ o → fact_of D.members n ≡ Some b → In b V.classes →
-        IsSaid Fifo (some_list o) (named_discipline (attributes_of D b) (resolved_discipline (attribute_names V b) o))
+    discipline_is : (n b : Name) (o : Option SetKind) → fact_of (disciplines xs) n ≡ o →
+        fact_of D.members n ≡ Some b → In b V.classes →
+        IsSaid Fifo (some_list o) (named_discipline (attributes b) (resolved_discipline (attribute_names V b) o))
     discipline_is n b None e m i = refl
     discipline_is n b (Some Fifo) e m i = refl
     discipline_is n b (Some Lifo) e m i = refl
     discipline_is n b (Some (Ranked ks)) e m i =
-        let f = flat_in (λ (x : Entry). disciplines_in x.item) (fact n (Ranked ks)) xs (fact_in R.disciplines n (Ranked ks) e) in
+        let written = fact n (Ranked ks) in
+        let f = flat_in (λ (x : Entry). disciplines_in x.item) written xs (fact_in (disciplines xs) n (Ranked ks) e) in
         let x = f.one in
         let kept = item_at D [] xs x h f.there in
         let t = kept.0 in
         let item = kept.1 in
-        let parts = or_parts (list_any (λ y. has_wrong_rank D t (fact_of D.members y.name) y.what) (disciplines_in x.item))
-        (list_any (λ y. has_wrong_key D t (Some y.name) y.what) (ties_in x.item)) item.keys in
-        let rank : has_wrong_key D t (fact_of D.members n) (all_of ks) ≡ false =
-        none_in (λ y. has_wrong_rank D t (fact_of D.members y.name) y.what) (fact n (Ranked ks)) (disciplines_in x.item) parts.0 f.has in
-        let keys : has_wrong_key D t (Some b) (all_of ks) ≡ false = subst (λ (q : Option Name). has_wrong_key D t q (all_of ks) ≡ false) m rank in
-        ap (λ (zs : List WrittenKey). Ranked (several (record { rank = High; name = [] }) zs)) (keys_are t b (all_of ks) i keys)
+        let right = right_ranks D t x.item n (Ranked ks) item.keys f.has in
+        let keys = subst (λ (c : Option Name). has_wrong_key D t c (all_of ks) ≡ false) m right in
+        ap (λ (zs : List WrittenKey). Ranked (several (record { rank = High; name = [] }) zs))
+        (keys_are t b (all_of ks) i keys)
 
-    owner_is : (n : Name) (w : Option Name) → fact_of D.owners n ≡ Some w → w ∷ [] ≡ named_owner p (resolved_owner V.classes w) ∷ []
+    owner_is : (n : Name) (w : Option Name) → fact_of D.owners n ≡ Some w →
+        w ≡ named_owner p (resolved_owner V.classes w)
     owner_is n None e = refl
     owner_is n (Some b) e =
-        let i = class_in xs hs h b (owner_class xs hs h [] n b (ap (λ (o : Option (Option Name)). unwrap_or o None) e)) in
-        ap (λ (m : Name). Some m ∷ []) (sym (ap (λ (t : ClassTable). t.name) (class_at b i)))
+        let owner = owner_class xs hs h [] n b (ap (λ (o : Option (Option Name)). unwrap_or o None) e) in
+        ap (λ (m : Name). Some m) (sym (class_name b (class_in xs hs h b owner)))
 
-    owner_again : (n : Name) → In n V.sets → said_of D.owners n ≡ named_owner p (resolved_owner V.classes (owner_of D V [] n)) ∷ []
-    owner_again n i =
-        let w = fact_there D.owners n (sets_have_owners D xs h n (set_of_item xs hs h n (set_declared xs hs h n i))) in
-        one_owner D xs h n ∙ ap some_list w.1 ∙ owner_is n w.0 w.1
-        ∙ ap (λ (o : Option (Option Name)). named_owner p (resolved_owner V.classes (unwrap_or o None)) ∷ []) (sym w.1)
+    owner_again : (n : Name) → In (fact n k.Set) (L xs hs h) →
+        said_of D.owners n ≡ named_owner p (resolved_owner V.classes (owner_of D V [] n)) ∷ []
+    owner_again n there =
+        let w = fact_there D.owners n (sets_have_owners D xs h n (set_of_item xs hs h n there)) in
+        let owner : w.0 ≡ owner_of D V [] n = ap (λ (o : Option (Option Name)). unwrap_or o None) (sym w.1) in
+        one_owner D xs h n ∙ ap some_list w.1
+        ∙ ap (λ (o : Option Name). o ∷ [])
+        (owner_is n w.0 w.1 ∙ ap (λ (o : Option Name). named_owner p (resolved_owner V.classes o)) owner)
 
     set_again : (n : Name) → In n V.sets → IsSetOf p xs (set_table D V R n)
     set_again n i =
@@ -366,13 +405,13 @@ module _ (xs : List Entry) (qs : List Section) where
         let b = member_class D V [] n in
         let e : m.0 ≡ b = ap (λ (o : Option Name). unwrap_or o []) (sym m.1) in
         let j : In b V.classes = class_in xs hs h b (member_is_class xs hs h [] n there) in
-        let table = class_at b j in
+        let members = ap (λ (t : ClassTable). t.attributes) (class_at b j) in
         record {
-          owner = owner_again n i;
-          member = one_member D xs h n ∙ ap some_list m.1
-              ∙ ap (λ (z : Name). z ∷ []) (e ∙ sym (ap (λ (t : ClassTable). t.name) table));
-          discipline = rw (one_discipline D xs h n, ap (λ (t : ClassTable). t.attributes) table)
-              (discipline_is n b (fact_of R.disciplines n) refl (m.1 ∙ ap (λ (z : Name). Some z) e) j);
+          owner = owner_again n there;
+          member =
+              one_member D xs h n ∙ ap some_list m.1 ∙ ap (λ (z : Name). z ∷ []) (e ∙ sym (class_name b j));
+          discipline = rw (one_discipline D xs h n, members)
+              (discipline_is n b (fact_of (disciplines xs) n) refl (m.1 ∙ ap (λ (z : Name). Some z) e) j);
         }
 
     -- ---- priority
@@ -383,27 +422,28 @@ module _ (xs : List Entry) (qs : List Section) where
         let e = not-false (is_event_class D n) (none_in (λ b. not (is_event_class D b)) n D.priority order.events i) in
         class_in xs hs h n (event_class xs hs h R n (kind_of D n) refl e).0
 
-    priority_again : map (λ b. (class_of p b).name) (map (λ n. number n V.classes) D.priority) ≡ D.priority
-    priority_again =
-        same_again (λ n. number n V.classes) (λ b. (class_of p b).name) D.priority
-        (λ n i. ap (λ (t : ClassTable). t.name) (class_at n (prior_class n i)))
-
     -- ---- all tables
 
-    pub items_again : IsOfItems p xs
-    items_again = record {
-      globals = ap each_once (globals_are xs hs);
-      named_classes = same_again (class_table D V R) (λ (t : ClassTable). t.name) V.classes (λ n i. refl) ∙ ap each_once (class_names_are xs hs);
-      classes = all_mapped (IsClassOf p xs) (class_table D V R) V.classes class_again;
-      named_sets = same_again (set_table D V R) (λ (t : SetTable). t.name) V.sets (λ n i. refl) ∙ ap each_once (set_names_are xs hs);
-      sets = all_mapped (IsSetOf p xs) (set_table D V R) V.sets set_again;
-      priority = priority_again;
-    }
+    items_again : IsOfItems p xs
+    items_again =
+        let classes = same_again (class_table D V R) (λ (t : ClassTable). t.name) V.classes (λ n i. refl) in
+        let sets = same_again (set_table D V R) (λ (t : SetTable). t.name) V.sets (λ n i. refl) in
+        record {
+          globals = ap each_once (globals_are xs hs);
+          named_classes = classes ∙ ap each_once (class_names_are xs hs);
+          classes = All-map (IsClassOf p xs) (class_table D V R) V.classes
+              (all_of_these (λ n. IsClassOf p xs (class_table D V R n)) V.classes class_again);
+          named_sets = sets ∙ ap each_once (set_names_are xs hs);
+          sets = All-map (IsSetOf p xs) (set_table D V R) V.sets
+              (all_of_these (λ n. IsSetOf p xs (set_table D V R n)) V.sets set_again);
+          priority = same_again (λ n. number n V.classes) (λ c. (class_of p c).name) D.priority
+              (λ n i. class_name n (prior_class n i));
+        }
 
--- the rankings of items, with their headings or without
-same_rankings : (is : List ItemAt) →
-    rankings is ≡ record { disciplines = flat_map (λ (x : Entry). disciplines_in x.item) (entries is); ties = flat_map (λ (x : Entry). ties_in x.item) (entries is) }
-same_rankings is =
+-- what items rank, with their headings or without
+rankings_are : (is : List ItemAt) →
+    rankings is ≡ record { disciplines = disciplines (entries is); ties = ties (entries is) }
+rankings_are is =
     two (λ (a : List (Fact SetKind)) (b : List (Fact (List WrittenKey))). record { disciplines = a; ties = b })
     (sym (entries_say disciplines_in None is)) (sym (entries_say ties_in None is))
 
@@ -413,5 +453,5 @@ tables_again decls qs b =
     let xs = entries decls.items in
     let d = tables decls.items qs in
     let k = kept decls qs b in
-    subst (λ (r : Rankings). IsOfItems (resolved_with d (names d (heads qs)) r qs) xs) (sym (same_rankings decls.items))
+    subst (λ (r : Rankings). IsOfItems (resolved_with d (names d (heads qs)) r qs) xs) (sym (rankings_are decls.items))
     (items_again xs qs k.items)

@@ -2,7 +2,9 @@
 use Rattle.std.proofs.Common.{◌≡◌, Bool, true, false, cond, List, [], ◌∷◌, ◌++◌, refl, sym, ap, ◌∙◌, Option, Some, None}
 use Rattle.std.specs.Prelude.{map, bytes_eq}
 use Rattle.std.specs.List.{filter, flat_map}
-use Rattle.ss_words.specs.Lists.{Name, all_of}
+use Rattle.std.proofs.lemmas.List.{append-nil, map-append}
+use Rattle.std.proofs.lemmas.List.Elements.{filter-append}
+use Rattle.ss_words.specs.Lists.{Name, Several, all_of}
 use Rattle.ss_preamble.specs.declared.item.Heading.{Heading}
 use Rattle.ss_preamble.specs.declared.item.Heading.TheVariants.{PermanentEntities, TemporaryEntities, EventNotices}
 use Rattle.ss_preamble.specs.Tree.{Clause, Has, Owns, BelongsTo, Variables, Sets, Item, Normally, Headed, OfEvery, OfSystem, Defines, Orders, ItemAt}
@@ -18,11 +20,10 @@ use Rattle.ss_checker.specs.ResolvedNames.{names_where, is_set}
 use Rattle.ss_checker.specs.NamedItems.{said_of, has_in, class_variables, globals_in}
 use Rattle.ss_checker.proofs.NamedUses.{two}
 use Rattle.ss_checker.proofs.SoundDeclared.{Facts, all_kinds}
-use Rattle.ss_checker.proofs.SoundItems.{nothing_more}
 
 -- ---- lists of pieces
 
-pub flat_same : {X Y : Type 0} (f g : X → List Y) (zs : List X) → ((z : X) → f z ≡ g z) → flat_map f zs ≡ flat_map g zs
+flat_same : {X Y : Type 0} (f g : X → List Y) (zs : List X) → ((z : X) → f z ≡ g z) → flat_map f zs ≡ flat_map g zs
 flat_same f g [] h = refl
 flat_same {Y = Y} f g (z ∷ zs) h = two (λ (a b : List Y). a ++ b) (h z) (flat_same f g zs h)
 
@@ -30,17 +31,33 @@ flat_none : {X Y : Type 0} (f : X → List Y) (zs : List X) → ((z : X) → f z
 flat_none f [] h = refl
 flat_none {Y = Y} f (z ∷ zs) h = two (λ (a b : List Y). a ++ b) (h z) (flat_none f zs h)
 
-flat_each : {X : Type 0} (xs : List X) → flat_map (λ (x : X). x ∷ []) xs ≡ xs
+flat_each : (ns : List Name) → flat_map (λ (n : Name). n ∷ []) ns ≡ ns
 flat_each [] = refl
-flat_each {X = X} (x ∷ xs) = ap (λ (ys : List X). x ∷ ys) (flat_each xs)
+flat_each (n ∷ ns) = ap (λ (ms : List Name). n ∷ ms) (flat_each ns)
 
-flat_cond : {X Y : Type 0} (q : Bool) (f : X → List Y) (zs : List X) → flat_map (λ z. cond q (f z) []) zs ≡ cond q (flat_map f zs) []
-flat_cond true f zs = refl
-flat_cond false f zs = flat_none (λ z. []) zs (λ z. refl)
+-- names that are taken, and names that are not
+each : (ns : Several Name) → flat_map (λ (n : Name). n ∷ []) (all_of ns) ≡ all_of ns
+each ns = flat_each (all_of ns)
 
-cond_none : {X : Type 0} (q : Bool) → cond {A = List X} q [] [] ≡ []
-cond_none true = refl
-cond_none false = refl
+none : (ns : Several Name) → flat_map {A = Name} (λ (n : Name). []) (all_of ns) ≡ []
+none ns = flat_none (λ n. []) (all_of ns) (λ n. refl)
+
+-- a list where a test is passed
+abbrev where_true : {X : Type 0} → Bool → List X → List X
+where_true q xs = cond q xs []
+
+where_none : {X : Type 0} (q : Bool) → where_true {X = X} q [] ≡ []
+where_none true = refl
+where_none false = refl
+
+where_both : {X : Type 0} (q : Bool) (xs ys : List X) → where_true q xs ++ where_true q ys ≡ where_true q (xs ++ ys)
+where_both true xs ys = refl
+where_both false xs ys = refl
+
+where_flat : {X Y : Type 0} (q : Bool) (f : X → List Y) (zs : List X) →
+    flat_map (λ z. where_true q (f z)) zs ≡ where_true q (flat_map f zs)
+where_flat true f zs = refl
+where_flat false f zs = flat_none (λ z. []) zs (λ z. refl)
 
 -- what items say, with their headings or without
 pub entries_say : {A : Type 0} (f : Item → List A) (h : Option Heading) (is : List ItemAt) →
@@ -51,32 +68,35 @@ entries_say {A = A} f h (i ∷ is) = ap (λ (ys : List A). f i.item ++ ys) (entr
 -- ---- what facts say of a name
 
 said_both : {A : Type 0} (n : Name) (xs ys : List (Fact A)) → said_of (xs ++ ys) n ≡ said_of xs n ++ said_of ys n
-said_both n [] ys = refl
-said_both {A = A} n (f ∷ fs) ys = by (bytes_eq n f.name) (said_both n fs ys)
-  where
-    by : (b : Bool) → said_of (fs ++ ys) n ≡ said_of fs n ++ said_of ys n →
-        map (λ (g : Fact A). g.what) (cond b (f ∷ filter (λ (g : Fact A). bytes_eq n g.name) (fs ++ ys)) (filter (λ (g : Fact A). bytes_eq n g.name) (fs ++ ys)))
-        ≡ map (λ (g : Fact A). g.what) (cond b (f ∷ filter (λ (g : Fact A). bytes_eq n g.name) fs) (filter (λ (g : Fact A). bytes_eq n g.name) fs)) ++ said_of ys n
-    by true e = ap (λ (ws : List A). f.what ∷ ws) e
-    by false e = e
+said_both {A = A} n xs ys =
+    let of_name = λ (f : Fact A). bytes_eq n f.name in
+    ap (map (λ (f : Fact A). f.what)) (filter-append of_name xs ys)
+    ∙ map-append (λ (f : Fact A). f.what) (filter of_name xs) (filter of_name ys)
 
-said_flat : {X A : Type 0} (n : Name) (f : X → List (Fact A)) (zs : List X) → said_of (flat_map f zs) n ≡ flat_map (λ z. said_of (f z) n) zs
+said_flat : {X A : Type 0} (n : Name) (f : X → List (Fact A)) (zs : List X) →
+    said_of (flat_map f zs) n ≡ flat_map (λ z. said_of (f z) n) zs
 said_flat n f [] = refl
-said_flat {A = A} n f (z ∷ zs) = said_both n (f z) (flat_map f zs) ∙ ap (λ (ws : List A). said_of (f z) n ++ ws) (said_flat n f zs)
+said_flat {A = A} n f (z ∷ zs) =
+    said_both n (f z) (flat_map f zs) ∙ ap (λ (ws : List A). said_of (f z) n ++ ws) (said_flat n f zs)
 
-said_map : {A : Type 0} (n m : Name) (ws : List A) → said_of (map (λ (w : A). fact m w) ws) n ≡ cond (bytes_eq n m) ws []
-said_map n m [] = sym (cond_none (bytes_eq n m))
-said_map {A = A} n m (w ∷ ws) = by (bytes_eq n m) (said_map n m ws)
+said_fact : {A : Type 0} (n m : Name) (w : A) → said_of (fact m w ∷ []) n ≡ where_true (bytes_eq n m) (w ∷ [])
+said_fact {A = A} n m w = by (bytes_eq n m)
   where
-    by : (b : Bool) → said_of (map (λ (v : A). fact m v) ws) n ≡ cond b ws [] →
-        map (λ (g : Fact A). g.what) (cond b (fact m w ∷ filter (λ (g : Fact A). bytes_eq n g.name) (map (λ (v : A). fact m v) ws)) (filter (λ (g : Fact A). bytes_eq n g.name) (map (λ (v : A). fact m v) ws)))
-        ≡ cond b (w ∷ ws) []
-    by true e = ap (λ (vs : List A). w ∷ vs) e
-    by false e = e
+    by : (q : Bool) → map (λ (f : Fact A). f.what) (cond q (fact m w ∷ []) []) ≡ where_true q (w ∷ [])
+    by true = refl
+    by false = refl
+
+said_map : {A : Type 0} (n m : Name) (ws : List A) →
+    said_of (map (λ (w : A). fact m w) ws) n ≡ where_true (bytes_eq n m) ws
+said_map n m [] = sym (where_none (bytes_eq n m))
+said_map {A = A} n m (w ∷ ws) =
+    said_both n (fact m w ∷ []) (map (λ (v : A). fact m v) ws)
+    ∙ two (λ (a b : List A). a ++ b) (said_fact n m w) (said_map n m ws)
+    ∙ where_both (bytes_eq n m) (w ∷ []) ws
 
 -- ---- the names that pass a test
 
--- what a test takes: of classes under a heading, sets, attributes of a class and variables
+-- what a test takes: of a class under a heading, a set, an attribute of a class and a variable
 record IsTaken (test : NameKind → Bool) : Type 0 where
   class : Option Heading → Name → List Name
   set : Name → List Name
@@ -90,28 +110,28 @@ record IsTaken (test : NameKind → Bool) : Type 0 where
   routines : (n : Name) → names_where test (fact n k.Routine ∷ []) ≡ []
 
 module _ (test : NameKind → Bool) (T : IsTaken test) where
-  taken_both : (xs ys : Facts) → names_where test (xs ++ ys) ≡ names_where test xs ++ names_where test ys
-  taken_both [] ys = refl
-  taken_both (f ∷ fs) ys = by (test f.what) (taken_both fs ys)
-    where
-      by : (b : Bool) → names_where test (fs ++ ys) ≡ names_where test fs ++ names_where test ys →
-          map (λ (g : Fact NameKind). g.name) (cond b (f ∷ filter (λ (g : Fact NameKind). test g.what) (fs ++ ys)) (filter (λ (g : Fact NameKind). test g.what) (fs ++ ys)))
-          ≡ map (λ (g : Fact NameKind). g.name) (cond b (f ∷ filter (λ (g : Fact NameKind). test g.what) fs) (filter (λ (g : Fact NameKind). test g.what) fs)) ++ names_where test ys
-      by true e = ap (λ (ns : List Name). f.name ∷ ns) e
-      by false e = e
+  abbrev taken : Facts → List Name
+  taken fs = names_where test fs
 
-  taken_parts : (xs ys : Facts) (ms ns : List Name) → names_where test xs ≡ ms → names_where test ys ≡ ns → names_where test (xs ++ ys) ≡ ms ++ ns
+  taken_both : (xs ys : Facts) → taken (xs ++ ys) ≡ taken xs ++ taken ys
+  taken_both xs ys =
+      let passes = λ (f : Fact NameKind). test f.what in
+      ap (map (λ (f : Fact NameKind). f.name)) (filter-append passes xs ys)
+      ∙ map-append (λ (f : Fact NameKind). f.name) (filter passes xs) (filter passes ys)
+
+  taken_parts : (xs ys : Facts) (ms ns : List Name) → taken xs ≡ ms → taken ys ≡ ns → taken (xs ++ ys) ≡ ms ++ ns
   taken_parts xs ys ms ns e g = taken_both xs ys ∙ two (λ (a b : List Name). a ++ b) e g
 
-  taken_flat : {X : Type 0} (f : X → Facts) (g : X → List Name) (zs : List X) → ((z : X) → names_where test (f z) ≡ g z) →
-      names_where test (flat_map f zs) ≡ flat_map g zs
+  taken_flat : {X : Type 0} (f : X → Facts) (g : X → List Name) (zs : List X) → ((z : X) → taken (f z) ≡ g z) →
+      taken (flat_map f zs) ≡ flat_map g zs
   taken_flat f g [] h = refl
   taken_flat f g (z ∷ zs) h = taken_parts (f z) (flat_map f zs) (g z) (flat_map g zs) (h z) (taken_flat f g zs h)
 
-  taken_map : (j : NameKind) (g : Name → List Name) (ns : List Name) → ((n : Name) → names_where test (fact n j ∷ []) ≡ g n) →
-      names_where test (map (λ n. fact n j) ns) ≡ flat_map g ns
+  taken_map : (j : NameKind) (g : Name → List Name) (ns : List Name) → ((n : Name) → taken (fact n j ∷ []) ≡ g n) →
+      taken (map (λ n. fact n j) ns) ≡ flat_map g ns
   taken_map j g [] h = refl
-  taken_map j g (n ∷ ns) h = taken_parts (fact n j ∷ []) (map (λ n. fact n j) ns) (g n) (flat_map g ns) (h n) (taken_map j g ns h)
+  taken_map j g (n ∷ ns) h =
+      taken_parts (fact n j ∷ []) (map (λ n. fact n j) ns) (g n) (flat_map g ns) (h n) (taken_map j g ns h)
 
   abbrev clause_taken : Option Name → Clause → List Name
   clause_taken (Some c) (Has ns) = flat_map (T.attribute c) (all_of ns)
@@ -128,45 +148,54 @@ module _ (test : NameKind → Bool) (T : IsTaken test) where
   item_taken h (Defines (Sets ns kind)) = flat_map T.set (all_of ns)
   item_taken h (Orders r) = []
 
-  clause_is : (o : Option Name) (c : Clause) → names_where test (clause_facts o c) ≡ clause_taken o c
+  sets_taken : (ns : Several Name) → taken (flat_map set_facts (all_of ns)) ≡ flat_map T.set (all_of ns)
+  sets_taken ns = taken_flat set_facts T.set (all_of ns) T.sets
+
+  clause_is : (o : Option Name) (c : Clause) → taken (clause_facts o c) ≡ clause_taken o c
   clause_is (Some c) (Has ns) = taken_map (k.Attribute c) (T.attribute c) (all_of ns) (T.attributes c)
   clause_is None (Has ns) = taken_map k.Variable T.variable (all_of ns) T.variables
-  clause_is None (Owns ns) = taken_flat set_facts T.set (all_of ns) T.sets
-  clause_is (Some c) (Owns ns) = taken_flat set_facts T.set (all_of ns) T.sets
-  clause_is None (BelongsTo ns) = taken_flat set_facts T.set (all_of ns) T.sets
-  clause_is (Some c) (BelongsTo ns) = taken_flat set_facts T.set (all_of ns) T.sets
+  clause_is None (Owns ns) = sets_taken ns
+  clause_is (Some c) (Owns ns) = sets_taken ns
+  clause_is None (BelongsTo ns) = sets_taken ns
+  clause_is (Some c) (BelongsTo ns) = sets_taken ns
+
+  clauses_are : (o : Option Name) (cs : List Clause) →
+      taken (flat_map (clause_facts o) cs) ≡ flat_map (clause_taken o) cs
+  clauses_are o cs = taken_flat (clause_facts o) (clause_taken o) cs (clause_is o)
 
   item_is : (h : Option Heading) (i : Item) →
-      names_where test (item_facts h i ++ flat_map (clause_facts (class_of i)) (clauses_of i)) ≡ item_taken h i
+      taken (item_facts h i ++ flat_map (clause_facts (class_of i)) (clauses_of i)) ≡ item_taken h i
   item_is h Normally = refl
   item_is h (Headed g ns) =
-      ap (names_where test) (nothing_more (flat_map (class_facts (Some g)) (included ns)))
+      ap taken (append-nil (flat_map (class_facts (Some g)) (included ns)))
       ∙ taken_flat (class_facts (Some g)) (T.class (Some g)) (included ns) (T.classes (Some g))
   item_is h (OfEvery c cs) =
-      taken_parts (class_facts h c) (flat_map (clause_facts (Some c)) (all_of cs)) (T.class h c) (flat_map (clause_taken (Some c)) (all_of cs))
-      (T.classes h c) (taken_flat (clause_facts (Some c)) (clause_taken (Some c)) (all_of cs) (clause_is (Some c)))
-  item_is h (OfSystem cs) = taken_flat (clause_facts None) (clause_taken None) (all_of cs) (clause_is None)
+      let clauses = all_of cs in
+      taken_parts (class_facts h c) (flat_map (clause_facts (Some c)) clauses) (T.class h c)
+      (flat_map (clause_taken (Some c)) clauses) (T.classes h c) (clauses_are (Some c) clauses)
+  item_is h (OfSystem cs) = clauses_are None (all_of cs)
   item_is h (Defines (Variables ns)) =
-      ap (names_where test) (nothing_more (map (λ n. fact n k.Variable) (all_of ns))) ∙ taken_map k.Variable T.variable (all_of ns) T.variables
-  item_is h (Defines (Sets ns kind)) =
-      ap (names_where test) (nothing_more (flat_map set_facts (all_of ns))) ∙ taken_flat set_facts T.set (all_of ns) T.sets
+      ap taken (append-nil (map (λ n. fact n k.Variable) (all_of ns)))
+      ∙ taken_map k.Variable T.variable (all_of ns) T.variables
+  item_is h (Defines (Sets ns kind)) = ap taken (append-nil (flat_map set_facts (all_of ns))) ∙ sets_taken ns
   item_is h (Orders r) = refl
 
-  head_taken : (h : Head) → names_where test (routine_facts h) ≡ []
-  head_taken MainHead = refl
-  head_taken (EventHead n given saving) = refl
-  head_taken (RoutineHead n given yielded) = T.routines n
+  head_is : (h : Head) → taken (routine_facts h) ≡ []
+  head_is MainHead = refl
+  head_is (EventHead n given saving) = refl
+  head_is (RoutineHead n given yielded) = T.routines n
 
-  -- the names that items write
+  -- what is taken of all that a program declares, where g is what is taken of an item
   kinds_are : (g : Option Heading → Item → List Name) → ((h : Option Heading) (i : Item) → item_taken h i ≡ g h i) →
-      (xs : List Entry) (hs : List Head) → names_where test (all_kinds xs hs) ≡ flat_map (λ (x : Entry). g x.heading x.item) xs
+      (xs : List Entry) (hs : List Head) → taken (all_kinds xs hs) ≡ flat_map (λ (x : Entry). g x.heading x.item) xs
   kinds_are g e xs hs =
       let said = flat_map (λ (x : Entry). g x.heading x.item) xs in
+      let of_items = taken_flat declarations (λ x. g x.heading x.item) xs
+      (λ x. item_is x.heading x.item ∙ e x.heading x.item) in
+      let of_heads = taken_flat routine_facts (λ h. []) hs head_is ∙ flat_none (λ (h : Head). []) hs (λ h. refl) in
       taken_parts (language_facts ++ flat_map declarations xs) (flat_map routine_facts hs) said []
-      (taken_parts language_facts (flat_map declarations xs) [] said T.language
-      (taken_flat declarations (λ x. g x.heading x.item) xs (λ x. item_is x.heading x.item ∙ e x.heading x.item)))
-      (taken_flat routine_facts (λ h. []) hs head_taken ∙ flat_none (λ (h : Head). []) hs (λ h. refl))
-      ∙ nothing_more said
+      (taken_parts language_facts (flat_map declarations xs) [] said T.language of_items) of_heads
+      ∙ append-nil said
 
 -- ---- classes
 
@@ -176,8 +205,8 @@ class_name (Some PermanentEntities) c = refl
 class_name (Some TemporaryEntities) c = refl
 class_name (Some EventNotices) c = refl
 
-abbrev taken_classes : IsTaken is_class
-taken_classes = record {
+abbrev class_taken : IsTaken is_class
+class_taken = record {
   class = λ h c. c ∷ [];
   set = λ s. [];
   attribute = λ c n. [];
@@ -190,27 +219,29 @@ taken_classes = record {
   routines = λ n. refl;
 }
 
-no_classes : (o : Option Name) (c : Clause) → clause_taken is_class taken_classes o c ≡ []
-no_classes (Some c) (Has ns) = flat_none (λ n. []) (all_of ns) (λ n. refl)
-no_classes None (Has ns) = flat_none (λ n. []) (all_of ns) (λ n. refl)
-no_classes None (Owns ns) = flat_none (λ n. []) (all_of ns) (λ n. refl)
-no_classes (Some c) (Owns ns) = flat_none (λ n. []) (all_of ns) (λ n. refl)
-no_classes None (BelongsTo ns) = flat_none (λ n. []) (all_of ns) (λ n. refl)
-no_classes (Some c) (BelongsTo ns) = flat_none (λ n. []) (all_of ns) (λ n. refl)
+no_class : (o : Option Name) (c : Clause) → clause_taken is_class class_taken o c ≡ []
+no_class (Some c) (Has ns) = none ns
+no_class None (Has ns) = none ns
+no_class None (Owns ns) = none ns
+no_class (Some c) (Owns ns) = none ns
+no_class None (BelongsTo ns) = none ns
+no_class (Some c) (BelongsTo ns) = none ns
 
-classes_of : (h : Option Heading) (i : Item) → item_taken is_class taken_classes h i ≡ class_names i
+classes_of : (h : Option Heading) (i : Item) → item_taken is_class class_taken h i ≡ class_names i
 classes_of h Normally = refl
 classes_of h (Headed g None) = refl
-classes_of h (Headed g (Some ns)) = flat_each (all_of ns)
+classes_of h (Headed g (Some ns)) = each ns
 classes_of h (OfEvery c cs) =
-    ap (λ (ns : List Name). c ∷ ns) (flat_none (clause_taken is_class taken_classes (Some c)) (all_of cs) (no_classes (Some c)))
-classes_of h (OfSystem cs) = flat_none (clause_taken is_class taken_classes None) (all_of cs) (no_classes None)
-classes_of h (Defines (Variables ns)) = flat_none (λ n. []) (all_of ns) (λ n. refl)
-classes_of h (Defines (Sets ns kind)) = flat_none (λ n. []) (all_of ns) (λ n. refl)
+    ap (λ (ns : List Name). c ∷ ns)
+    (flat_none (clause_taken is_class class_taken (Some c)) (all_of cs) (no_class (Some c)))
+classes_of h (OfSystem cs) = flat_none (clause_taken is_class class_taken None) (all_of cs) (no_class None)
+classes_of h (Defines (Variables ns)) = none ns
+classes_of h (Defines (Sets ns kind)) = none ns
 classes_of h (Orders r) = refl
 
-pub class_names_are : (xs : List Entry) (hs : List Head) → names_where is_class (all_kinds xs hs) ≡ flat_map (λ (x : Entry). class_names x.item) xs
-class_names_are xs hs = kinds_are is_class taken_classes (λ h i. class_names i) classes_of xs hs
+pub class_names_are : (xs : List Entry) (hs : List Head) →
+    names_where is_class (all_kinds xs hs) ≡ flat_map (λ (x : Entry). class_names x.item) xs
+class_names_are xs hs = kinds_are is_class class_taken (λ h i. class_names i) classes_of xs hs
 
 -- ---- sets
 
@@ -220,8 +251,8 @@ no_set (Some PermanentEntities) c = refl
 no_set (Some TemporaryEntities) c = refl
 no_set (Some EventNotices) c = refl
 
-abbrev taken_sets : IsTaken is_set
-taken_sets = record {
+abbrev set_taken : IsTaken is_set
+set_taken = record {
   class = λ h c. [];
   set = λ s. s ∷ [];
   attribute = λ c n. [];
@@ -234,25 +265,27 @@ taken_sets = record {
   routines = λ n. refl;
 }
 
-clause_sets_are : (o : Option Name) (c : Clause) → clause_taken is_set taken_sets o c ≡ sets_of c
-clause_sets_are (Some c) (Has ns) = flat_none (λ n. []) (all_of ns) (λ n. refl)
-clause_sets_are None (Has ns) = flat_none (λ n. []) (all_of ns) (λ n. refl)
-clause_sets_are None (Owns ns) = flat_each (all_of ns)
-clause_sets_are (Some c) (Owns ns) = flat_each (all_of ns)
-clause_sets_are None (BelongsTo ns) = flat_each (all_of ns)
-clause_sets_are (Some c) (BelongsTo ns) = flat_each (all_of ns)
+clause_sets : (o : Option Name) (c : Clause) → clause_taken is_set set_taken o c ≡ sets_of c
+clause_sets (Some c) (Has ns) = none ns
+clause_sets None (Has ns) = none ns
+clause_sets None (Owns ns) = each ns
+clause_sets (Some c) (Owns ns) = each ns
+clause_sets None (BelongsTo ns) = each ns
+clause_sets (Some c) (BelongsTo ns) = each ns
 
-item_sets : (h : Option Heading) (i : Item) → item_taken is_set taken_sets h i ≡ sets_in i
+item_sets : (h : Option Heading) (i : Item) → item_taken is_set set_taken h i ≡ sets_in i
 item_sets h Normally = refl
 item_sets h (Headed g ns) = flat_none (λ c. []) (included ns) (λ c. refl)
-item_sets h (OfEvery c cs) = flat_same (clause_taken is_set taken_sets (Some c)) sets_of (all_of cs) (clause_sets_are (Some c))
-item_sets h (OfSystem cs) = flat_same (clause_taken is_set taken_sets None) sets_of (all_of cs) (clause_sets_are None)
-item_sets h (Defines (Variables ns)) = flat_none (λ n. []) (all_of ns) (λ n. refl)
-item_sets h (Defines (Sets ns kind)) = flat_each (all_of ns) ∙ sym (nothing_more (all_of ns))
+item_sets h (OfEvery c cs) =
+    flat_same (clause_taken is_set set_taken (Some c)) sets_of (all_of cs) (clause_sets (Some c))
+item_sets h (OfSystem cs) = flat_same (clause_taken is_set set_taken None) sets_of (all_of cs) (clause_sets None)
+item_sets h (Defines (Variables ns)) = none ns
+item_sets h (Defines (Sets ns kind)) = each ns ∙ sym (append-nil (all_of ns))
 item_sets h (Orders r) = refl
 
-pub set_names_are : (xs : List Entry) (hs : List Head) → names_where is_set (all_kinds xs hs) ≡ flat_map (λ (x : Entry). sets_in x.item) xs
-set_names_are xs hs = kinds_are is_set taken_sets (λ h i. sets_in i) item_sets xs hs
+pub set_names_are : (xs : List Entry) (hs : List Head) →
+    names_where is_set (all_kinds xs hs) ≡ flat_map (λ (x : Entry). sets_in x.item) xs
+set_names_are xs hs = kinds_are is_set set_taken (λ h i. sets_in i) item_sets xs hs
 
 -- ---- global variables
 
@@ -262,8 +295,8 @@ class_globals (Some PermanentEntities) c = refl
 class_globals (Some TemporaryEntities) c = refl
 class_globals (Some EventNotices) c = refl
 
-abbrev taken_globals : IsTaken is_global
-taken_globals = record {
+abbrev global_taken : IsTaken is_global
+global_taken = record {
   class = class_variables;
   set = λ s. [];
   attribute = λ c n. [];
@@ -276,53 +309,59 @@ taken_globals = record {
   routines = λ n. refl;
 }
 
-no_globals : (b : Name) (c : Clause) → clause_taken is_global taken_globals (Some b) c ≡ []
-no_globals b (Has ns) = flat_none (λ n. []) (all_of ns) (λ n. refl)
-no_globals b (Owns ns) = flat_none (λ n. []) (all_of ns) (λ n. refl)
-no_globals b (BelongsTo ns) = flat_none (λ n. []) (all_of ns) (λ n. refl)
+no_global : (b : Name) (c : Clause) → clause_taken is_global global_taken (Some b) c ≡ []
+no_global b (Has ns) = none ns
+no_global b (Owns ns) = none ns
+no_global b (BelongsTo ns) = none ns
 
-system_globals : (c : Clause) → clause_taken is_global taken_globals None c ≡ clause_has c
-system_globals (Has ns) = flat_each (all_of ns)
-system_globals (Owns ns) = flat_none (λ n. []) (all_of ns) (λ n. refl)
-system_globals (BelongsTo ns) = flat_none (λ n. []) (all_of ns) (λ n. refl)
+system_globals : (c : Clause) → clause_taken is_global global_taken None c ≡ clause_has c
+system_globals (Has ns) = each ns
+system_globals (Owns ns) = none ns
+system_globals (BelongsTo ns) = none ns
 
-item_globals : (h : Option Heading) (i : Item) → item_taken is_global taken_globals h i ≡ globals_in h i
+item_globals : (h : Option Heading) (i : Item) → item_taken is_global global_taken h i ≡ globals_in h i
 item_globals h Normally = refl
 item_globals h (Headed g ns) = refl
 item_globals h (OfEvery c cs) =
     ap (λ (ns : List Name). class_variables h c ++ ns)
-    (flat_none (clause_taken is_global taken_globals (Some c)) (all_of cs) (no_globals c))
-    ∙ nothing_more (class_variables h c)
-item_globals h (OfSystem cs) = flat_same (clause_taken is_global taken_globals None) clause_has (all_of cs) system_globals
-item_globals h (Defines (Variables ns)) = flat_each (all_of ns)
-item_globals h (Defines (Sets ns kind)) = flat_none (λ n. []) (all_of ns) (λ n. refl)
+    (flat_none (clause_taken is_global global_taken (Some c)) (all_of cs) (no_global c))
+    ∙ append-nil (class_variables h c)
+item_globals h (OfSystem cs) =
+    flat_same (clause_taken is_global global_taken None) clause_has (all_of cs) system_globals
+item_globals h (Defines (Variables ns)) = each ns
+item_globals h (Defines (Sets ns kind)) = none ns
 item_globals h (Orders r) = refl
 
 pub globals_are : (xs : List Entry) (hs : List Head) →
     names_where is_global (all_kinds xs hs) ≡ flat_map (λ (x : Entry). globals_in x.heading x.item) xs
-globals_are xs hs = kinds_are is_global taken_globals globals_in item_globals xs hs
+globals_are xs hs = kinds_are is_global global_taken globals_in item_globals xs hs
 
 -- ---- attributes of a class
 
 module _ (c : Name) where
-  no_attribute : (h : Option Heading) (b : Name) → names_where (is_attribute_of c) (class_facts h b) ≡ []
+  abbrev of_c : NameKind → Bool
+  of_c j = is_attribute_of c j
+
+  no_attribute : (h : Option Heading) (b : Name) → names_where of_c (class_facts h b) ≡ []
   no_attribute None b = refl
   no_attribute (Some PermanentEntities) b = refl
   no_attribute (Some TemporaryEntities) b = refl
   no_attribute (Some EventNotices) b = refl
 
-  one_attribute : (b n : Name) → names_where (is_attribute_of c) (fact n (k.Attribute b) ∷ []) ≡ cond (bytes_eq c b) (n ∷ []) []
+  one_attribute : (b n : Name) →
+      names_where of_c (fact n (k.Attribute b) ∷ []) ≡ where_true (bytes_eq c b) (n ∷ [])
   one_attribute b n = by (bytes_eq c b)
     where
-      by : (q : Bool) → map (λ (g : Fact NameKind). g.name) (cond q (fact n (k.Attribute b) ∷ []) []) ≡ cond q (n ∷ []) []
+      by : (q : Bool) →
+          map (λ (f : Fact NameKind). f.name) (cond q (fact n (k.Attribute b) ∷ []) []) ≡ where_true q (n ∷ [])
       by true = refl
       by false = refl
 
-  abbrev taken_attributes : IsTaken (is_attribute_of c)
-  taken_attributes = record {
+  abbrev attribute_taken : IsTaken of_c
+  attribute_taken = record {
     class = λ h b. [];
     set = λ s. [];
-    attribute = λ b n. cond (bytes_eq c b) (n ∷ []) [];
+    attribute = λ b n. where_true (bytes_eq c b) (n ∷ []);
     variable = λ n. [];
     classes = no_attribute;
     sets = λ s. refl;
@@ -333,32 +372,34 @@ module _ (c : Name) where
   }
 
   clause_attributes : (b : Name) (z : Clause) →
-      clause_taken (is_attribute_of c) taken_attributes (Some b) z ≡ cond (bytes_eq c b) (clause_has z) []
+      clause_taken of_c attribute_taken (Some b) z ≡ where_true (bytes_eq c b) (clause_has z)
   clause_attributes b (Has ns) =
-      flat_cond (bytes_eq c b) (λ (n : Name). n ∷ []) (all_of ns) ∙ ap (λ (ms : List Name). cond (bytes_eq c b) ms []) (flat_each (all_of ns))
-  clause_attributes b (Owns ns) = flat_none (λ n. []) (all_of ns) (λ n. refl) ∙ sym (cond_none (bytes_eq c b))
-  clause_attributes b (BelongsTo ns) = flat_none (λ n. []) (all_of ns) (λ n. refl) ∙ sym (cond_none (bytes_eq c b))
+      where_flat (bytes_eq c b) (λ (n : Name). n ∷ []) (all_of ns) ∙ ap (where_true (bytes_eq c b)) (each ns)
+  clause_attributes b (Owns ns) = none ns ∙ sym (where_none (bytes_eq c b))
+  clause_attributes b (BelongsTo ns) = none ns ∙ sym (where_none (bytes_eq c b))
 
-  system_attributes : (z : Clause) → clause_taken (is_attribute_of c) taken_attributes None z ≡ []
-  system_attributes (Has ns) = flat_none (λ n. []) (all_of ns) (λ n. refl)
-  system_attributes (Owns ns) = flat_none (λ n. []) (all_of ns) (λ n. refl)
-  system_attributes (BelongsTo ns) = flat_none (λ n. []) (all_of ns) (λ n. refl)
+  system_attributes : (z : Clause) → clause_taken of_c attribute_taken None z ≡ []
+  system_attributes (Has ns) = none ns
+  system_attributes (Owns ns) = none ns
+  system_attributes (BelongsTo ns) = none ns
 
-  item_attributes : (h : Option Heading) (i : Item) → item_taken (is_attribute_of c) taken_attributes h i ≡ said_of (has_in i) c
+  item_attributes : (h : Option Heading) (i : Item) → item_taken of_c attribute_taken h i ≡ said_of (has_in i) c
   item_attributes h Normally = refl
   item_attributes h (Headed g ns) = flat_none (λ b. []) (included ns) (λ b. refl)
   item_attributes h (OfEvery b cs) =
-      flat_same (clause_taken (is_attribute_of c) taken_attributes (Some b)) (λ z. cond (bytes_eq c b) (clause_has z) []) (all_of cs)
+      let q = bytes_eq c b in
+      flat_same (clause_taken of_c attribute_taken (Some b)) (λ z. where_true q (clause_has z)) (all_of cs)
       (clause_attributes b)
-      ∙ flat_cond (bytes_eq c b) clause_has (all_of cs)
+      ∙ where_flat q clause_has (all_of cs)
       ∙ sym (said_map c b (flat_map clause_has (all_of cs)))
-  item_attributes h (OfSystem cs) = flat_none (clause_taken (is_attribute_of c) taken_attributes None) (all_of cs) system_attributes
-  item_attributes h (Defines (Variables ns)) = flat_none (λ n. []) (all_of ns) (λ n. refl)
-  item_attributes h (Defines (Sets ns kind)) = flat_none (λ n. []) (all_of ns) (λ n. refl)
+  item_attributes h (OfSystem cs) =
+      flat_none (clause_taken of_c attribute_taken None) (all_of cs) system_attributes
+  item_attributes h (Defines (Variables ns)) = none ns
+  item_attributes h (Defines (Sets ns kind)) = none ns
   item_attributes h (Orders r) = refl
 
-  pub attributes_written : (xs : List Entry) (hs : List Head) →
-      names_where (is_attribute_of c) (all_kinds xs hs) ≡ said_of (flat_map (λ (x : Entry). has_in x.item) xs) c
-  attributes_written xs hs =
-      kinds_are (is_attribute_of c) taken_attributes (λ h i. said_of (has_in i) c) item_attributes xs hs
+  pub attributes_are_written : (xs : List Entry) (hs : List Head) →
+      names_where of_c (all_kinds xs hs) ≡ said_of (flat_map (λ (x : Entry). has_in x.item) xs) c
+  attributes_are_written xs hs =
+      kinds_are of_c attribute_taken (λ h i. said_of (has_in i) c) item_attributes xs hs
       ∙ sym (said_flat c (λ (x : Entry). has_in x.item) xs)

@@ -8,6 +8,7 @@ use Rattle.std.proofs.lemmas.Cmp.{nat_list_eq_equiv}
 use Rattle.std.proofs.lemmas.Grind.{flat_map-append}
 use Rattle.std.proofs.lemmas.Map.Keys.{IsDistinct-push}
 use Rattle.ss_words.specs.Lists.{Name}
+use Rattle.ss_preamble.specs.Tree.{Key, SetKind, Item}
 use Rattle.ss_grammar.specs.Tree.{Head, MainHead, RoutineHead, EventHead}
 use Rattle.ss_checker.specs.declared.fact.Fact.{Fact}
 use Rattle.ss_checker.specs.declared.name_kind.NameKind.{NameKind}
@@ -15,8 +16,8 @@ use Rattle.ss_checker.specs.declared.name_kind.NameKind.TheVariants as k
 use Rattle.ss_checker.specs.declared.tables.Tables.{Tables}
 use Rattle.ss_checker.specs.Facts.{is_among, repeats, is_one_outside, fact, fact_of, names_of}
 use Rattle.ss_checker.specs.NameKinds.{language_facts, conflicts, one_conflicts, is_attribute_of, names_set}
-use Rattle.ss_checker.specs.Declarations.{Entry, declarations, sets_in, classes_in, priority_in, routine_facts, tables_of, kind_of, is_event_class}
-use Rattle.ss_checker.specs.ItemRules.{new_sets, has_wrong_priority, is_without_section}
+use Rattle.ss_checker.specs.Declarations.{Entry, declarations, disciplines_in, ties_in, sets_in, classes_in, priority_in, routine_facts, tables_of, kind_of, is_event_class}
+use Rattle.ss_checker.specs.ItemRules.{new_sets, has_wrong_key, has_wrong_rank, has_wrong_keys, has_wrong_priority, is_without_section}
 use Rattle.ss_checker.specs.ResolvedNames.{names_where}
 use Rattle.ss_checker.proofs.SoundLists.{In, in_split, in_any, none_in, in_filter, in_among, among_in, fact_in, fact_there, where_from, AreApart, in_map}
 use Rattle.ss_checker.proofs.SoundDeclared.{Facts, closed_entry, declared}
@@ -124,6 +125,24 @@ sets_have_owners d xs h = sets_among d (names_of d.owners) [] xs (owners_new d [
 pub sets_have_members : (d : Tables) (xs : List Entry) → AreItemsKept d [] xs → (s : Name) → In (fact s k.Set) (declared xs) →
     is_among s (names_of d.members) ≡ true
 sets_have_members d xs h = sets_among d (names_of d.members) [] xs (members_new d [] xs h) (λ s i. absurd i)
+
+-- ---- keys
+
+-- the keys that rank a set, and those that break ties, are attributes
+pub right_ranks : (d b : Tables) (i : Item) (n : Name) (kind : SetKind) → has_wrong_keys d b i ≡ false →
+    In (fact n kind) (disciplines_in i) → has_wrong_rank d b (fact_of d.members n) kind ≡ false
+right_ranks d b i n kind h x =
+    let ranks = list_any (λ s. has_wrong_rank d b (fact_of d.members s.name) s.what) (disciplines_in i) in
+    let ties = list_any (λ s. has_wrong_key d b (Some s.name) s.what) (ties_in i) in
+    none_in (λ s. has_wrong_rank d b (fact_of d.members s.name) s.what) (fact n kind) (disciplines_in i)
+    (or_parts ranks ties h).0 x
+
+pub right_ties : (d b : Tables) (i : Item) (n : Name) (keys : List Key) → has_wrong_keys d b i ≡ false →
+    In (fact n keys) (ties_in i) → has_wrong_key d b (Some n) keys ≡ false
+right_ties d b i n keys h x =
+    let ranks = list_any (λ s. has_wrong_rank d b (fact_of d.members s.name) s.what) (disciplines_in i) in
+    let ties = list_any (λ s. has_wrong_key d b (Some s.name) s.what) (ties_in i) in
+    none_in (λ s. has_wrong_key d b (Some s.name) s.what) (fact n keys) (ties_in i) (or_parts ranks ties h).1 x
 
 -- ---- event classes have sections
 

@@ -3,7 +3,7 @@ use Rattle.std.proofs.Common.{◌≡◌, ◌≤◌, ◌<◌, ℕ, ◌==◌, Bool
 use Rattle.std.specs.Prelude.{map, codes, bytes_eq, slice_get, unwrap_or, option_map}
 use Rattle.std.specs.List.{All, IsDistinct, AllByRecursion, flat_map, list_any, list_all}
 use mathlib.Core.Logic.{inl, inr}
-use Rattle.std.proofs.lemmas.Bool.{or_parts, not-false, ne_eqb, and_from}
+use Rattle.std.proofs.lemmas.Bool.{not-false, ne_eqb, and_from}
 use Rattle.std.proofs.lemmas.List.{length-map}
 use Rattle.std.proofs.lemmas.List.Elements.{All-nil, All-cons, All-map}
 use Rattle.std.proofs.lemmas.Option.{slice_get-map, slice_get_within}
@@ -23,13 +23,13 @@ use Rattle.ss_checker.specs.declared.tables.Tables.{Tables}
 use Rattle.ss_checker.specs.Facts.{fact, fact_of}
 use Rattle.ss_checker.specs.NameKinds.{is_class, is_global, names_event}
 use Rattle.ss_checker.specs.Declarations.{Entry, entries, heads, classes_in, disciplines_in, ties_in, events_in, given_of, kind_of, tables, attribute_count, is_event_class}
-use Rattle.ss_checker.specs.ItemRules.{is_wrong_key, has_wrong_key, has_wrong_rank, has_wrong_keys, has_fewer}
+use Rattle.ss_checker.specs.ItemRules.{is_wrong_key, has_wrong_key, has_wrong_keys, has_fewer}
 use Rattle.ss_checker.specs.ResolvedNames.{Names, names, number, names_where, is_set, attribute_names, attributes_of, member_class, owner_of}
 use Rattle.ss_checker.specs.Resolved.{Rankings, rankings, resolved_key, resolved_discipline, resolved_owner, event_table, class_kind, class_table, set_table, resolved_section, resolved_with}
 use Rattle.ss_checker.proofs.SoundLists.{In, none_in, in_among, among_in, number_there, image_at, once_from, once_apart, fact_in, flat_in, in_flat, where_from, AreApart, apart_from}
 use Rattle.ss_checker.proofs.SoundDeclared.{HasClass}
 use Rattle.ss_checker.proofs.SoundUnbroken.{AreItemsKept, AreSectionsKept}
-use Rattle.ss_checker.proofs.SoundItems.{item_at, events_have_sections, priority_kept, attributes_apart}
+use Rattle.ss_checker.proofs.SoundItems.{item_at, right_ranks, right_ties, events_have_sections, priority_kept, attributes_apart}
 use Rattle.ss_checker.proofs.SoundScoped.{L, class_is_global, kind_in, closed_kind, global_in, class_in, set_declared, is_attribute, owner_class, member_there, member_is_class, event_class, attributes_are}
 use Rattle.ss_checker.proofs.SoundLimits.{attributes_counted, few_attributes, entry_of, few_keys, class_named, few_classes, few_sets}
 use Rattle.ss_checker.proofs.SoundNumbers.{event_found, section_at, slice_in}
@@ -162,12 +162,9 @@ module _ (is : List ItemAt) (qs : List Section) (h : AreItemsKept (tables is qs)
       let b = kept.0 in
       let y = kept.1 in
       let wrong : has_wrong_keys D b z.item ≡ false = subst (λ (j : Item). has_wrong_keys D b j ≡ false) x.2 y.keys in
-      let parts = or_parts (list_any (λ t. has_wrong_rank D b (fact_of D.members t.name) t.what) (disciplines_in z.item))
-      (list_any (λ t. has_wrong_key D b (Some t.name) t.what) (ties_in z.item)) wrong in
       let count = ties_counted z.item c keys f.has in
       let few = few_keys is z w f.there in
-      sound_keys b c keys i (none_in (λ t. has_wrong_key D b (Some t.name) t.what) (fact c keys) (ties_in z.item) parts.1 f.has)
-      (omega (arith, count, few))
+      sound_keys b c keys i (right_ties D b z.item c keys wrong f.has) (omega (arith, count, few))
 
   discipline_counted : (i : Item) (n : Name) (ks : Several WrittenKey) → In (fact n (Ranked ks)) (disciplines_in i) → length (all_of ks) ≡ key_count i
   discipline_counted Normally n ks x = absurd x
@@ -195,10 +192,7 @@ module _ (is : List ItemAt) (qs : List Section) (h : AreItemsKept (tables is qs)
       let b = kept.0 in
       let y = kept.1 in
       let wrong : has_wrong_keys D b z.item ≡ false = subst (λ (j : Item). has_wrong_keys D b j ≡ false) x.2 y.keys in
-      let parts = or_parts (list_any (λ t. has_wrong_rank D b (fact_of D.members t.name) t.what) (disciplines_in z.item))
-      (list_any (λ t. has_wrong_key D b (Some t.name) t.what) (ties_in z.item)) wrong in
-      let rank : has_wrong_key D b (fact_of D.members n) (all_of ks) ≡ false =
-      none_in (λ t. has_wrong_rank D b (fact_of D.members t.name) t.what) (fact n (Ranked ks)) (disciplines_in z.item) parts.0 f.has in
+      let rank : has_wrong_key D b (fact_of D.members n) (all_of ks) ≡ false = right_ranks D b z.item n (Ranked ks) wrong f.has in
       let keys : has_wrong_key D b (Some c) (all_of ks) ≡ false = subst (λ (q : Option Name). has_wrong_key D b q (all_of ks) ≡ false) m rank in
       let count = discipline_counted z.item n ks f.has in
       let few = few_keys is z w f.there in
