@@ -29,7 +29,7 @@ use Rattle.ss_checker.specs.ItemRules.{names_wrong_class, is_wrong_key, has_wron
 use Rattle.ss_checker.specs.ResolvedNames.{Names, names, number, names_where, attributes_of, attribute_names, owner_of, member_class}
 use Rattle.ss_checker.specs.Resolved.{Rankings, rankings, resolved_rank, resolved_key, resolved_discipline, resolved_owner, event_table, class_kind, class_table, set_table, section_name, resolved_section, resolved_with}
 use Rattle.ss_checker.specs.NamedTree.{several, name_at}
-use Rattle.ss_checker.specs.NamedItems.{named_heading, named_rank, named_key, named_discipline, named_owner, said_of, headings_in, IsSaid, IsKindOf, IsClassOf, IsSetOf, IsOfItems, TablesGiveTheItems}
+use Rattle.ss_checker.specs.NamedItems.{named_heading, named_rank, named_key, named_discipline, named_owner, said_of, headings_in, Written, written, IsSaid, IsKindOf, IsClassOf, IsSetOf, IsOfItems, TablesGiveTheItems}
 use Rattle.ss_checker.proofs.SoundLists.{In, none_in, among_in, number_there, image_at, once_from, fact_in, fact_there, flat_in, in_flat, where_from}
 use Rattle.ss_checker.proofs.SoundDeclared.{HasClass}
 use Rattle.ss_checker.proofs.SoundItems.{item_at, sets_have_owners, right_ranks, right_ties, events_have_sections, priority_kept}
@@ -149,15 +149,6 @@ event_name n (EventHead m ps saving) (inr x) = absurd x
 
 -- ---- the program; xs: its items under their headings
 
-abbrev headings : List Entry → List (Fact (Option Heading))
-headings xs = flat_map (λ x. headings_in x.heading x.item) xs
-
-abbrev disciplines : List Entry → List (Fact SetKind)
-disciplines xs = flat_map (λ x. disciplines_in x.item) xs
-
-abbrev ties : List Entry → List (Fact (List WrittenKey))
-ties xs = flat_map (λ x. ties_in x.item) xs
-
 module _ (xs : List Entry) (qs : List Section) where
   abbrev hs : List Head
   hs = heads qs
@@ -168,8 +159,12 @@ module _ (xs : List Entry) (qs : List Section) where
   abbrev V : Names
   V = names D hs
 
+  -- what the items write
+  abbrev W : Written
+  W = written xs
+
   abbrev R : Rankings
-  R = record { disciplines = disciplines xs; ties = ties xs }
+  R = record { disciplines = W.disciplines; ties = W.ties }
 
   abbrev p : ProgramTable
   p = resolved_with D V R qs
@@ -269,9 +264,9 @@ module _ (xs : List Entry) (qs : List Section) where
     kind_again n (Some k.Set) i e = tt
     kind_again n (Some k.Routine) i e = tt
 
-    heading_is : (n : Name) (w : Option Heading) → In w (said_of (headings xs) n) → w ≡ Some (named_heading (kind n))
+    heading_is : (n : Name) (w : Option Heading) → In w (said_of W.headings n) → w ≡ Some (named_heading (kind n))
     heading_is n w i =
-        let f = flat_in (λ (x : Entry). headings_in x.heading x.item) (fact n w) xs (said_in (headings xs) n w i) in
+        let f = flat_in (λ (x : Entry). headings_in x.heading x.item) (fact n w) xs (said_in W.headings n w i) in
         let x = f.one in
         let kept = item_at D [] xs x h f.there in
         let item = kept.1 in
@@ -297,9 +292,9 @@ module _ (xs : List Entry) (qs : List Section) where
       right : list_any (is_wrong_key D before n) keys ≡ false
       event : is_event_class D n ≡ true
 
-    break_is : (n : Name) (keys : List WrittenKey) → fact_of (ties xs) n ≡ Some keys → IsBreak n keys
+    break_is : (n : Name) (keys : List WrittenKey) → fact_of W.ties n ≡ Some keys → IsBreak n keys
     break_is n keys e =
-        let f = flat_in (λ (x : Entry). ties_in x.item) (fact n keys) xs (fact_in (ties xs) n keys e) in
+        let f = flat_in (λ (x : Entry). ties_in x.item) (fact n keys) xs (fact_in W.ties n keys e) in
         let x = f.one in
         let kept = item_at D [] xs x h f.there in
         let b = kept.0 in
@@ -310,29 +305,29 @@ module _ (xs : List Entry) (qs : List Section) where
           event = tied_event D b x.heading x.item n keys item.class f.has;
         }
 
-    event_ties : (n : Name) (o : Option (List WrittenKey)) → In n V.classes → fact_of (ties xs) n ≡ o →
+    event_ties : (n : Name) (o : Option (List WrittenKey)) → In n V.classes → fact_of W.ties n ≡ o →
         IsSaid [] (some_list o) (looked_up n (unwrap_or o []))
     event_ties n None i e = refl
     event_ties n (Some keys) i e = let b = break_is n keys e in keys_are b.before n keys i b.right
 
     no_ties : (n : Name) (o : Option (List WrittenKey)) → names_event (kind_of D n) ≡ false →
-        fact_of (ties xs) n ≡ o → IsSaid [] (some_list o) []
+        fact_of W.ties n ≡ o → IsSaid [] (some_list o) []
     no_ties n None e t = refl
     no_ties n (Some keys) e t = let b = break_is n keys t in let z = b.event in cc
 
     -- the ties of a class that has this besides
     abbrev AreTies : Name → EventTable → Type 0
-    AreTies n t = IsSaid [] (some_list (fact_of (ties xs) n)) (map (named_key (attributes n)) t.ties)
+    AreTies n t = IsSaid [] (some_list (fact_of W.ties n)) (map (named_key (attributes n)) t.ties)
 
     ties_again : (n : Name) → In n V.classes →
-        IsSaid [] (said_of (ties xs) n) (map (named_key (attributes n)) (besides n).ties)
+        IsSaid [] (said_of W.ties n) (map (named_key (attributes n)) (besides n).ties)
     ties_again n i = rw (one_break D xs h n) (by (event_or D V R n (kind_of D n)))
       where
         by : IsEventOr (kind_of D n) (besides n) → AreTies n (besides n)
         by (inl e) =
             subst (λ (o : Option NameKind). AreTies n (event_of_kind (class_kind D V R n o))) (sym e)
-            (event_ties n (fact_of (ties xs) n) i refl)
-        by (inr e) = subst (AreTies n) (sym e.1) (no_ties n (fact_of (ties xs) n) e.0 refl)
+            (event_ties n (fact_of W.ties n) i refl)
+        by (inr e) = subst (AreTies n) (sym e.1) (no_ties n (fact_of W.ties n) e.0 refl)
 
     no_external : (n : Name) (b : Bool) → names_event (kind_of D n) ≡ false → is_among n D.external ≡ b → false ≡ b
     no_external n false e t = refl
@@ -350,13 +345,13 @@ module _ (xs : List Entry) (qs : List Section) where
         by (inl e) = ap (λ (o : Option NameKind). (event_of_kind (class_kind D V R n o)).external) e
         by (inr e) = ap (λ (t : EventTable). t.external) e.1 ∙ no_external n (is_among n D.external) e.0 refl
 
-    class_again : (n : Name) → In n V.classes → IsClassOf p xs (class_table D V R n)
+    class_again : (n : Name) → In n V.classes → IsClassOf p W (class_table D V R n)
     class_again n i = record {
       variable = name_again n V.globals (class_global xs hs h n (declared_class n i));
       kind = kind_again n (kind_of D n) i refl;
       heading =
           let is_it = λ (w : Option Heading). w ≡ Some (named_heading (kind n)) in
-          all_of_these is_it (said_of (headings xs) n) (heading_is n);
+          all_of_these is_it (said_of W.headings n) (heading_is n);
       attributes = attributes_are_written n xs hs;
       ties = ties_again n i;
       external = external_again n;
@@ -364,7 +359,7 @@ module _ (xs : List Entry) (qs : List Section) where
 
     -- ---- sets
 
-    discipline_is : (n b : Name) (o : Option SetKind) → fact_of (disciplines xs) n ≡ o →
+    discipline_is : (n b : Name) (o : Option SetKind) → fact_of W.disciplines n ≡ o →
         fact_of D.members n ≡ Some b → In b V.classes →
         IsSaid Fifo (some_list o) (named_discipline (attributes b) (resolved_discipline (attribute_names V b) o))
     discipline_is n b None e m i = refl
@@ -372,7 +367,7 @@ module _ (xs : List Entry) (qs : List Section) where
     discipline_is n b (Some Lifo) e m i = refl
     discipline_is n b (Some (Ranked ks)) e m i =
         let written = fact n (Ranked ks) in
-        let f = flat_in (λ (x : Entry). disciplines_in x.item) written xs (fact_in (disciplines xs) n (Ranked ks) e) in
+        let f = flat_in (λ (x : Entry). disciplines_in x.item) written xs (fact_in W.disciplines n (Ranked ks) e) in
         let x = f.one in
         let kept = item_at D [] xs x h f.there in
         let t = kept.0 in
@@ -398,7 +393,7 @@ module _ (xs : List Entry) (qs : List Section) where
         ∙ ap (λ (o : Option Name). o ∷ [])
         (owner_is n w.0 w.1 ∙ ap (λ (o : Option Name). named_owner p (resolved_owner V.classes o)) owner)
 
-    set_again : (n : Name) → In n V.sets → IsSetOf p xs (set_table D V R n)
+    set_again : (n : Name) → In n V.sets → IsSetOf p W (set_table D V R n)
     set_again n i =
         let there = set_declared xs hs h n i in
         let m = member_there xs hs h n there in
@@ -411,7 +406,7 @@ module _ (xs : List Entry) (qs : List Section) where
           member =
               one_member D xs h n ∙ ap some_list m.1 ∙ ap (λ (z : Name). z ∷ []) (e ∙ sym (class_name b j));
           discipline = rw (one_discipline D xs h n, members)
-              (discipline_is n b (fact_of (disciplines xs) n) refl (m.1 ∙ ap (λ (z : Name). Some z) e) j);
+              (discipline_is n b (fact_of W.disciplines n) refl (m.1 ∙ ap (λ (z : Name). Some z) e) j);
         }
 
     -- ---- priority
@@ -424,25 +419,25 @@ module _ (xs : List Entry) (qs : List Section) where
 
     -- ---- all tables
 
-    items_again : IsOfItems p xs
+    items_again : IsOfItems p W
     items_again =
         let classes = same_again (class_table D V R) (λ (t : ClassTable). t.name) V.classes (λ n i. refl) in
         let sets = same_again (set_table D V R) (λ (t : SetTable). t.name) V.sets (λ n i. refl) in
         record {
-          globals = ap each_once (globals_are xs hs);
-          named_classes = classes ∙ ap each_once (class_names_are xs hs);
-          classes = All-map (IsClassOf p xs) (class_table D V R) V.classes
-              (all_of_these (λ n. IsClassOf p xs (class_table D V R n)) V.classes class_again);
-          named_sets = sets ∙ ap each_once (set_names_are xs hs);
-          sets = All-map (IsSetOf p xs) (set_table D V R) V.sets
-              (all_of_these (λ n. IsSetOf p xs (set_table D V R n)) V.sets set_again);
+          variables = ap each_once (globals_are xs hs);
+          class_order = classes ∙ ap each_once (class_names_are xs hs);
+          classes = All-map (IsClassOf p W) (class_table D V R) V.classes
+              (all_of_these (λ n. IsClassOf p W (class_table D V R n)) V.classes class_again);
+          set_order = sets ∙ ap each_once (set_names_are xs hs);
+          sets = All-map (IsSetOf p W) (set_table D V R) V.sets
+              (all_of_these (λ n. IsSetOf p W (set_table D V R n)) V.sets set_again);
           priority = same_again (λ n. number n V.classes) (λ c. (class_of p c).name) D.priority
               (λ n i. class_name n (prior_class n i));
         }
 
 -- what items rank, with their headings or without
 rankings_are : (is : List ItemAt) →
-    rankings is ≡ record { disciplines = disciplines (entries is); ties = ties (entries is) }
+    rankings is ≡ record { disciplines = (written (entries is)).disciplines; ties = (written (entries is)).ties }
 rankings_are is =
     two (λ (a : List (Fact SetKind)) (b : List (Fact (List WrittenKey))). record { disciplines = a; ties = b })
     (sym (entries_say disciplines_in None is)) (sym (entries_say ties_in None is))
@@ -453,5 +448,5 @@ tables_again decls qs b =
     let xs = entries decls.items in
     let d = tables decls.items qs in
     let k = kept decls qs b in
-    subst (λ (r : Rankings). IsOfItems (resolved_with d (names d (heads qs)) r qs) xs) (sym (rankings_are decls.items))
-    (items_again xs qs k.items)
+    subst (λ (r : Rankings). IsOfItems (resolved_with d (names d (heads qs)) r qs) (written xs))
+    (sym (rankings_are decls.items)) (items_again xs qs k.items)

@@ -85,7 +85,39 @@ globals_in h (OfSystem clauses) = flat_map clause_has (all_of clauses)
 globals_in h (Defines (Variables names)) = all_of names
 globals_in h _ = []
 
--- ---- the law; p: a program; xs: the items, each under its heading
+-- what items write: the variables, the classes and the sets, each once in the order in which they are first named; of
+-- classes the heading over each item that names one, what HAS gives it and the keys of its BREAK; the classes that
+-- EXTERNAL names, and those that PRIORITY names; of sets who owns one, who belongs to it and its discipline
+pub record Written : Type 0 where
+  pub variables : List Name
+  pub classes : List Name
+  pub sets : List Name
+  pub headings : List (Fact (Option Heading))
+  pub attributes : List (Fact Name)
+  pub ties : List (Fact (List WrittenKey))
+  pub external : List Name
+  pub priority : List Name
+  pub owners : List (Fact (Option Name))
+  pub members : List (Fact Name)
+  pub disciplines : List (Fact SetKind)
+
+-- the same of items under their headings
+abbrev pub written : List Entry → Written
+written xs = record {
+  variables = each_once (flat_map (λ x. globals_in x.heading x.item) xs);
+  classes = each_once (flat_map (λ x. class_names x.item) xs);
+  sets = each_once (flat_map (λ x. sets_in x.item) xs);
+  headings = flat_map (λ x. headings_in x.heading x.item) xs;
+  attributes = flat_map (λ x. has_in x.item) xs;
+  ties = flat_map (λ x. ties_in x.item) xs;
+  external = flat_map (λ x. external_in x.item) xs;
+  priority = flat_map (λ x. priority_in x.item) xs;
+  owners = flat_map (λ x. owners_in x.item) xs;
+  members = flat_map (λ x. members_in x.item) xs;
+  disciplines = flat_map (λ x. disciplines_in x.item) xs;
+}
+
+-- ---- the law; p: a program; w: what items write
 
 -- the one thing that is said, or this where nothing is
 abbrev pub IsSaid : {A : Type 0} → A → List A → A → Type 0
@@ -93,40 +125,40 @@ IsSaid without [] a = a ≡ without
 IsSaid without (b ∷ []) a = a ≡ b
 IsSaid without (b ∷ c ∷ rest) a = ⊥
 
--- a kind of the class n: entities of a permanent one are counted by N.n, an event class has the section of the event n
+-- a kind of the class n: N.n counts a permanent class, and the section of an event class is that of the event n
 abbrev pub IsKindOf : ProgramTable → Name → ClassKind → Type 0
 IsKindOf p n (Permanent count) = name_at p.globals count ≡ codes "N." ++ n
 IsKindOf p n Temporary = Unit {0}
 IsKindOf p n (Event e) = ((section_of p e.section).name ≡ n) × (is_event_section (section_of p e.section) ≡ true)
 
--- a class: the variable of its name, its kind, the heading over each item that names it, what HAS gives it in its EVERY items,
--- the keys of its BREAK, or none, and whether an EXTERNAL names it
-pub record IsClassOf (p : ProgramTable) (xs : List Entry) (c : ClassTable) : Type 0 where
+-- a class has the variable of its name, the kind of the heading over each item that names it, the attributes that HAS
+-- gives it, in order, the keys of its one BREAK, or none, and is external where an EXTERNAL names it
+pub record IsClassOf (p : ProgramTable) (w : Written) (c : ClassTable) : Type 0 where
   pub variable : name_at p.globals c.variable ≡ c.name
   pub kind : IsKindOf p c.name c.kind
-  pub heading : All (λ h. h ≡ Some (named_heading c.kind)) (said_of (flat_map (λ x. headings_in x.heading x.item) xs) c.name)
-  pub attributes : c.attributes ≡ said_of (flat_map (λ x. has_in x.item) xs) c.name
-  pub ties : IsSaid [] (said_of (flat_map (λ x. ties_in x.item) xs) c.name)
-      (map (named_key c.attributes) (event_of_kind c.kind).ties)
-  pub external : (event_of_kind c.kind).external ≡ is_among c.name (flat_map (λ x. external_in x.item) xs)
+  pub heading : All (λ h. h ≡ Some (named_heading c.kind)) (said_of w.headings c.name)
+  pub attributes : c.attributes ≡ said_of w.attributes c.name
+  pub ties : IsSaid [] (said_of w.ties c.name) (map (named_key c.attributes) (event_of_kind c.kind).ties)
+  pub external : (event_of_kind c.kind).external ≡ is_among c.name w.external
 
--- a set: the one OWNS of it, the one BELONGS, and its DEFINE, FIFO where there is none
-pub record IsSetOf (p : ProgramTable) (xs : List Entry) (t : SetTable) : Type 0 where
-  pub owner : said_of (flat_map (λ x. owners_in x.item) xs) t.name ≡ named_owner p t.owner ∷ []
-  pub member : said_of (flat_map (λ x. members_in x.item) xs) t.name ≡ (class_of p t.member).name ∷ []
-  pub discipline : IsSaid Fifo (said_of (flat_map (λ x. disciplines_in x.item) xs) t.name)
+-- a set has the owner of its one OWNS, the members of its one BELONGS, and the discipline of its one DEFINE, or FIFO
+pub record IsSetOf (p : ProgramTable) (w : Written) (t : SetTable) : Type 0 where
+  pub owner : said_of w.owners t.name ≡ named_owner p t.owner ∷ []
+  pub member : said_of w.members t.name ≡ (class_of p t.member).name ∷ []
+  pub discipline : IsSaid Fifo (said_of w.disciplines t.name)
       (named_discipline (class_of p t.member).attributes t.discipline)
 
--- the tables: the variables, classes and sets, each once in the order in which items first name them, and PRIORITY's classes
-pub record IsOfItems (p : ProgramTable) (xs : List Entry) : Type 0 where
-  pub globals : p.globals ≡ each_once (flat_map (λ x. globals_in x.heading x.item) xs)
-  pub named_classes : map (λ c. c.name) p.classes ≡ each_once (flat_map (λ x. class_names x.item) xs)
-  pub classes : All (IsClassOf p xs) p.classes
-  pub named_sets : map (λ t. t.name) p.sets ≡ each_once (flat_map (λ x. sets_in x.item) xs)
-  pub sets : All (IsSetOf p xs) p.sets
-  pub priority : map (λ c. (class_of p c).name) p.priority ≡ flat_map (λ x. priority_in x.item) xs
+-- the tables have the variables, classes and sets that items write, in that order, and the classes of PRIORITY
+pub record IsOfItems (p : ProgramTable) (w : Written) : Type 0 where
+  pub variables : p.globals ≡ w.variables
+  pub class_order : map (λ c. c.name) p.classes ≡ w.classes
+  pub classes : All (IsClassOf p w) p.classes
+  pub set_order : map (λ t. t.name) p.sets ≡ w.sets
+  pub sets : All (IsSetOf p w) p.sets
+  pub priority : map (λ c. (class_of p c).name) p.priority ≡ w.priority
 
--- the tables of a program without a breach, each number looked up in its table, say what the items of its preamble write
+-- the tables of a program without a breach, each number looked up in its table, say what the items of its preamble say
 abbrev pub TablesGiveTheItems : Type 0
 TablesGiveTheItems =
-    (decls : Decls) (qs : List Section) → breach decls qs ≡ None → IsOfItems (resolved decls qs) (entries decls.items)
+    (decls : Decls) (qs : List Section) → breach decls qs ≡ None →
+    IsOfItems (resolved decls qs) (written (entries decls.items))
