@@ -19,3 +19,4 @@ pub mod FactsView
 pub mod Scope
 pub mod Readable
 pub mod FurtherExamples
+pub mod TableExample

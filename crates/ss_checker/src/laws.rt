@@ -2,6 +2,7 @@
 ghost use Rattle.ss_checker.specs.FurtherExamples.{SectionsAreDeclaredOnce, OrdersAreGivenOnce, LocalsHaveNamesOfTheirOwn, OrdersNameEvents, ValuesAreNoRoutines, KeysAreOfTheirClass, NoticesHaveAttributesForValues, YieldedAreCounted, FirstNamingIsRefused, AttributesMayChange, EventsStartNoSimulation};
 ghost use Rattle.ss_checker.specs.NamedTree.{TablesGiveTheText};
 ghost use Rattle.ss_checker.specs.NamedItems.{TablesGiveTheItems};
+ghost use Rattle.ss_checker.specs.TableExample.{PreambleHasTables};
 ghost use Rattle.ss_checker.specs.Examples.{VariablesAreDeclaredOnce, ClassesHaveOneKind, SetsAreDeclaredOnce, RoutinesAreDeclaredOnce, ClassesAreNamedUnderHeadings, StatementsNeedClasses, NamesAreUsedAsDeclared, SetsHaveOneOwner, SetsHaveOneMemberClass, KeysAreAttributes, CountsAgree, EventsHaveAttributesForParameters, EventsHaveSections, TargetsMayChange, FieldsHaveValues, ThereIsOneMain, PriorityNamesEventsOnce, SimulationStartsInMain, FoundIsAskedBehindFind, EarlierStatementCounts, LowerRuleCounts};
 
 /// A variable is declared once, and TIME.V is declared before all.
@@ -162,6 +163,11 @@ pub fn attributes_may_change()
 /// START SIMULATION does not stand in an event.
 pub fn events_start_no_simulation()
     ensures { EventsStartNoSimulation }
+{}
+
+/// The tables of a small preamble: attributes, owners, members and priority are numbers.
+pub fn preamble_has_tables()
+    ensures { PreambleHasTables }
 {}
 
 /// A program without a breach, each number looked up in its table, is its text again: heads,
