@@ -1,10 +1,10 @@
 -- The tables of a program without a breach, each number looked up, say what the items write.
 use Rattle.std.proofs.Common.{◌≡◌, ◌⊎◌, ℕ, Bool, true, false, not, List, [], ◌∷◌, ◌++◌, refl, sym, ap, ◌∙◌, subst, arith, Option, Some, None}
 use Rattle.std.specs.Prelude.{map, codes, slice_get, option_map, unwrap_or}
-use Rattle.std.specs.List.{All, flat_map, list_any}
+use Rattle.std.specs.List.{flat_map, list_any}
 use mathlib.Core.Logic.{inl, inr}
 use Rattle.std.proofs.lemmas.Bool.{not-false}
-use Rattle.std.proofs.lemmas.List.Elements.{All-nil, All-cons, All-map}
+use Rattle.std.proofs.lemmas.List.Elements.{All-map}
 use Rattle.std.proofs.lemmas.Option.{slice_get-map}
 use Rattle.ss_words.specs.Lists.{Name, all_of}
 use Rattle.ss_preamble.specs.declared.item.Heading.{Heading}
@@ -30,7 +30,7 @@ use Rattle.ss_checker.specs.ResolvedNames.{Names, names, number, names_where, at
 use Rattle.ss_checker.specs.Resolved.{Rankings, rankings, resolved_rank, resolved_key, resolved_discipline, resolved_owner, event_table, class_kind, class_table, set_table, section_name, resolved_section, resolved_with}
 use Rattle.ss_checker.specs.NamedTree.{several, name_at}
 use Rattle.ss_checker.specs.NamedItems.{named_heading, named_rank, named_key, named_discipline, named_owner, said_of, headings_in, Written, written, IsSaid, IsKindOf, IsClassOf, IsSetOf, IsOfItems, TablesGiveTheItems}
-use Rattle.ss_checker.proofs.SoundLists.{In, none_in, among_in, number_there, image_at, once_from, fact_in, fact_there, flat_in, in_flat, where_from}
+use Rattle.ss_checker.proofs.SoundLists.{In, all_from, same_again, none_in, among_in, number_there, image_at, once_from, fact_in, fact_there, flat_in, in_flat, where_from}
 use Rattle.ss_checker.proofs.SoundDeclared.{HasClass}
 use Rattle.ss_checker.proofs.SoundItems.{item_at, sets_have_owners, right_ranks, right_ties, events_have_sections, priority_kept}
 use Rattle.ss_checker.proofs.SoundNumbers.{event_found}
@@ -42,21 +42,10 @@ use Rattle.ss_checker.proofs.NamedItemsNames.{entries_say, class_names_are, set_
 use Rattle.ss_checker.proofs.NamedItemsOnce.{some_list, said_in, one_owner, one_member, one_discipline, one_break}
 use Rattle.ss_checker.proofs.NamedItemsHeadings.{class_kept, heading_declared, heading_there}
 
--- ---- lists
-
-all_of_these : {X : Type 0} (P : X → Type 0) (xs : List X) → ((x : X) → In x xs → P x) → All P xs
-all_of_these P [] h = All-nil P
-all_of_these P (x ∷ xs) h = All-cons P x xs (h x (inl refl)) (all_of_these P xs (λ y i. h y (inr i)))
-
-same_again : {X Y : Type 0} (f : X → Y) (g : Y → X) (xs : List X) → ((x : X) → In x xs → g (f x) ≡ x) →
-    map g (map f xs) ≡ xs
-same_again f g [] e = refl
-same_again f g (x ∷ xs) e = two (λ y ys. y ∷ ys) (e x (inl refl)) (same_again f g xs (λ y i. e y (inr i)))
+-- ---- names and keys
 
 name_again : (n : Name) (ns : List Name) → In n ns → name_at ns (number n ns) ≡ n
 name_again n ns i = ap (λ (o : Option Name). unwrap_or o []) (number_finds n ns (number_there n ns i))
-
--- ---- keys
 
 rank_again : (r : WrittenRank) → named_rank (resolved_rank r) ≡ r
 rank_again High = refl
@@ -351,7 +340,7 @@ module _ (xs : List Entry) (qs : List Section) where
       kind = kind_again n (kind_of D n) i refl;
       heading =
           let is_it = λ (w : Option Heading). w ≡ Some (named_heading (kind n)) in
-          all_of_these is_it (said_of W.headings n) (heading_is n);
+          all_from is_it (said_of W.headings n) (heading_is n);
       attributes = attributes_are_written n xs hs;
       ties = ties_again n i;
       external = external_again n;
@@ -427,10 +416,10 @@ module _ (xs : List Entry) (qs : List Section) where
           variables = ap each_once (globals_are xs hs);
           class_order = classes ∙ ap each_once (class_names_are xs hs);
           classes = All-map (IsClassOf p W) (class_table D V R) V.classes
-              (all_of_these (λ n. IsClassOf p W (class_table D V R n)) V.classes class_again);
+              (all_from (λ n. IsClassOf p W (class_table D V R n)) V.classes class_again);
           set_order = sets ∙ ap each_once (set_names_are xs hs);
           sets = All-map (IsSetOf p W) (set_table D V R) V.sets
-              (all_of_these (λ n. IsSetOf p W (set_table D V R n)) V.sets set_again);
+              (all_from (λ n. IsSetOf p W (set_table D V R n)) V.sets set_again);
           priority = same_again (λ n. number n V.classes) (λ c. (class_of p c).name) D.priority
               (λ n i. class_name n (prior_class n i));
         }

@@ -1,6 +1,6 @@
 -- A class stands under one kind of heading wherever items name it.
 use Rattle.std.proofs.Common.{◌≡◌, ◌⊎◌, Bool, true, false, not, cond, List, [], ◌∷◌, ◌++◌, refl, sym, ap, ◌∙◌, subst, Option, Some, None, append_assoc}
-use Rattle.std.specs.Prelude.{bytes_eq, option_map}
+use Rattle.std.specs.Prelude.{option_map}
 use Rattle.std.specs.List.{flat_map, find, list_any}
 use Rattle.std.specs.Option.{option_or}
 use mathlib.Core.Logic.{inl, inr}
@@ -26,6 +26,7 @@ use Rattle.ss_checker.proofs.SoundDeclared.{Facts, declared}
 use Rattle.ss_checker.proofs.SoundItems.{flat_more}
 use Rattle.ss_checker.proofs.SoundUnbroken.{AreItemsKept}
 use Rattle.ss_checker.proofs.NamedUses.{two}
+use Rattle.ss_checker.proofs.NamedItemsOnce.{of_name}
 
 -- ---- the first fact of a name, behind others
 
@@ -38,9 +39,6 @@ second_counts : (o q : Option (Fact NameKind)) → option_map (λ f. f.what) o �
     option_map (λ f. f.what) (option_or o q) ≡ option_map (λ f. f.what) q
 second_counts None q e = refl
 second_counts (Some f) q e = cc
-
-abbrev of_name : Name → Fact NameKind → Bool
-of_name n f = bytes_eq n f.name
 
 fact_both : (fs gs : Facts) (n : Name) →
     fact_of (fs ++ gs) n ≡ option_map (λ f. f.what) (option_or (find (of_name n) fs) (find (of_name n) gs))

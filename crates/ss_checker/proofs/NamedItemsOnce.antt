@@ -24,8 +24,8 @@ abbrev pub some_list : {A : Type 0} → Option A → List A
 some_list None = []
 some_list (Some a) = a ∷ []
 
--- one of the facts is of this name
-abbrev of_name : {A : Type 0} → Name → Fact A → Bool
+-- whether a fact is of this name
+abbrev pub of_name : {A : Type 0} → Name → Fact A → Bool
 of_name n f = bytes_eq n f.name
 
 -- none of these names is this one

@@ -5,7 +5,7 @@ use Rattle.std.specs.List.{All, IsDistinct, AllByRecursion, flat_map, list_any, 
 use mathlib.Core.Logic.{inl, inr}
 use Rattle.std.proofs.lemmas.Bool.{not-false, ne_eqb, and_from}
 use Rattle.std.proofs.lemmas.List.{length-map}
-use Rattle.std.proofs.lemmas.List.Elements.{All-nil, All-cons, All-map}
+use Rattle.std.proofs.lemmas.List.Elements.{All-nil, All-map}
 use Rattle.std.proofs.lemmas.Option.{slice_get-map, slice_get_within}
 use Rattle.ss_words.specs.Lists.{Name, Several, all_of}
 use Rattle.ss_preamble.specs.declared.item.Heading.TheVariants.{PermanentEntities, TemporaryEntities, EventNotices}
@@ -26,7 +26,7 @@ use Rattle.ss_checker.specs.Declarations.{Entry, entries, heads, classes_in, dis
 use Rattle.ss_checker.specs.ItemRules.{is_wrong_key, has_wrong_key, has_wrong_keys, has_fewer}
 use Rattle.ss_checker.specs.ResolvedNames.{Names, names, number, names_where, is_set, attribute_names, attributes_of, member_class, owner_of}
 use Rattle.ss_checker.specs.Resolved.{Rankings, rankings, resolved_key, resolved_discipline, resolved_owner, event_table, class_kind, class_table, set_table, resolved_section, resolved_with}
-use Rattle.ss_checker.proofs.SoundLists.{In, none_in, in_among, among_in, number_there, image_at, once_from, once_apart, fact_in, flat_in, in_flat, where_from, AreApart, apart_from}
+use Rattle.ss_checker.proofs.SoundLists.{In, all_from, same_again, none_in, in_among, among_in, number_there, image_at, once_from, once_apart, fact_in, flat_in, in_flat, where_from, AreApart, apart_from}
 use Rattle.ss_checker.proofs.SoundDeclared.{HasClass}
 use Rattle.ss_checker.proofs.SoundUnbroken.{AreItemsKept, AreSectionsKept}
 use Rattle.ss_checker.proofs.SoundItems.{item_at, right_ranks, right_ties, events_have_sections, priority_kept, attributes_apart}
@@ -35,14 +35,6 @@ use Rattle.ss_checker.proofs.SoundLimits.{attributes_counted, few_attributes, en
 use Rattle.ss_checker.proofs.SoundNumbers.{event_found, section_at, slice_in}
 
 -- ---- lists
-
-all_from : {X : Type 0} (P : X → Type 0) (xs : List X) → ((x : X) → In x xs → P x) → All P xs
-all_from P [] h = All-nil P
-all_from P (x ∷ xs) h = All-cons P x xs (h x (inl refl)) (all_from P xs (λ y i. h y (inr i)))
-
-same_names : {A : Type 0} (f : Name → A) (g : A → Name) (ns : List Name) → ((n : Name) → g (f n) ≡ n) → map g (map f ns) ≡ ns
-same_names f g [] e = refl
-same_names {A = A} f g (n ∷ ns) e = ap (λ (m : Name). m ∷ map g (map f ns)) (e n) ∙ ap (λ (ms : List Name). n ∷ ms) (same_names f g ns e)
 
 -- a name stands at its number
 name_at : (n : Name) (ns : List Name) → In n ns → slice_get ns (number n ns) ≡ Some n
@@ -112,9 +104,13 @@ module _ (is : List ItemAt) (qs : List Section) (h : AreItemsKept (tables is qs)
   pub sound_names : HasSoundNames p
   sound_names = record {
     globals = once_apart (names_where is_global D.kinds);
-    classes = subst AreApart (sym (same_names (class_table D V R) (λ (c : ClassTable). c.name) V.classes (λ n. refl))) (once_apart (names_where is_class D.kinds));
+    classes =
+        let same = same_again (class_table D V R) (λ (c : ClassTable). c.name) V.classes (λ n i. refl) in
+        subst AreApart (sym same) (once_apart (names_where is_class D.kinds));
     attributes = own_attributes V.classes;
-    sets = subst AreApart (sym (same_names (set_table D V R) (λ (t : SetTable). t.name) V.sets (λ n. refl))) (once_apart (names_where is_set D.kinds));
+    sets =
+        let same = same_again (set_table D V R) (λ (t : SetTable). t.name) V.sets (λ n i. refl) in
+        subst AreApart (sym same) (once_apart (names_where is_set D.kinds));
     class_variables = all_global V.classes classes_global;
   }
 

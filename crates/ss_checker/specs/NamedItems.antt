@@ -85,20 +85,29 @@ globals_in h (OfSystem clauses) = flat_map clause_has (all_of clauses)
 globals_in h (Defines (Variables names)) = all_of names
 globals_in h _ = []
 
--- what items write: the variables, the classes and the sets, each once in the order in which they are first named; of
--- classes the heading over each item that names one, what HAS gives it and the keys of its BREAK; the classes that
--- EXTERNAL names, and those that PRIORITY names; of sets who owns one, who belongs to it and its discipline
+-- what items write
 pub record Written : Type 0 where
+  -- the global variables, each once in the order in which they are first named
   pub variables : List Name
+  -- the classes, in the same way
   pub classes : List Name
+  -- the sets, in the same way
   pub sets : List Name
+  -- of a class the heading over each item that names it
   pub headings : List (Fact (Option Heading))
+  -- of a class the attributes that HAS gives it
   pub attributes : List (Fact Name)
+  -- of an event class the keys of its BREAK
   pub ties : List (Fact (List WrittenKey))
+  -- the classes that EXTERNAL names
   pub external : List Name
+  -- the classes that PRIORITY names
   pub priority : List Name
+  -- of a set who owns it: a class, or none for the system
   pub owners : List (Fact (Option Name))
+  -- of a set the class of its members
   pub members : List (Fact Name)
+  -- of a set the discipline of its DEFINE
   pub disciplines : List (Fact SetKind)
 
 -- the same of items under their headings
@@ -131,30 +140,44 @@ IsKindOf p n (Permanent count) = name_at p.globals count ≡ codes "N." ++ n
 IsKindOf p n Temporary = Unit {0}
 IsKindOf p n (Event e) = ((section_of p e.section).name ≡ n) × (is_event_section (section_of p e.section) ≡ true)
 
--- a class has the variable of its name, the kind of the heading over each item that names it, the attributes that HAS
--- gives it, in order, the keys of its one BREAK, or none, and is external where an EXTERNAL names it
+-- a class
 pub record IsClassOf (p : ProgramTable) (w : Written) (c : ClassTable) : Type 0 where
+  -- its variable has its name
   pub variable : name_at p.globals c.variable ≡ c.name
+  -- it has the counter or the section of its kind
   pub kind : IsKindOf p c.name c.kind
+  -- each item that names it stands under the heading of its kind
   pub heading : All (λ h. h ≡ Some (named_heading c.kind)) (said_of w.headings c.name)
+  -- its attributes are those that HAS gives it, in order
   pub attributes : c.attributes ≡ said_of w.attributes c.name
+  -- the keys that break its ties are those of its one BREAK, or none
   pub ties : IsSaid [] (said_of w.ties c.name) (map (named_key c.attributes) (event_of_kind c.kind).ties)
+  -- it is external where EXTERNAL names it
   pub external : (event_of_kind c.kind).external ≡ is_among c.name w.external
 
--- a set has the owner of its one OWNS, the members of its one BELONGS, and the discipline of its one DEFINE, or FIFO
+-- a set
 pub record IsSetOf (p : ProgramTable) (w : Written) (t : SetTable) : Type 0 where
+  -- one OWNS names it, with its owner
   pub owner : said_of w.owners t.name ≡ named_owner p t.owner ∷ []
+  -- one BELONGS names it, with the class of its members
   pub member : said_of w.members t.name ≡ (class_of p t.member).name ∷ []
+  -- its discipline is that of its one DEFINE, or FIFO
   pub discipline : IsSaid Fifo (said_of w.disciplines t.name)
       (named_discipline (class_of p t.member).attributes t.discipline)
 
--- the tables have the variables, classes and sets that items write, in that order, and the classes of PRIORITY
+-- all tables of a preamble
 pub record IsOfItems (p : ProgramTable) (w : Written) : Type 0 where
+  -- the global variables that items write, in order
   pub variables : p.globals ≡ w.variables
+  -- the classes, in order
   pub class_order : map (λ c. c.name) p.classes ≡ w.classes
+  -- each as it is written
   pub classes : All (IsClassOf p w) p.classes
+  -- the sets, in order
   pub set_order : map (λ t. t.name) p.sets ≡ w.sets
+  -- each as it is written
   pub sets : All (IsSetOf p w) p.sets
+  -- the classes of PRIORITY, in order
   pub priority : map (λ c. (class_of p c).name) p.priority ≡ w.priority
 
 -- the tables of a program without a breach, each number looked up in its table, say what the items of its preamble say
