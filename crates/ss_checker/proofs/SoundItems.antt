@@ -29,7 +29,8 @@ nothing_more (x ∷ xs) = ap (λ ys. x ∷ ys) (nothing_more xs)
 
 -- pieces with one more piece behind
 pub flat_more : {X Y : Type 0} (f : X → List Y) (xs : List X) (x : X) → flat_map f (xs ++ x ∷ []) ≡ flat_map f xs ++ f x
-flat_more {Y = Y} f xs x = flat_map-append f xs (x ∷ []) ∙ ap (λ (ys : List Y). flat_map f xs ++ ys) (nothing_more (f x))
+flat_more {Y = Y} f xs x =
+    flat_map-append f xs (x ∷ []) ∙ ap (λ (ys : List Y). flat_map f xs ++ ys) (nothing_more (f x))
 
 in_more : {X Y : Type 0} (f : X → List Y) (y : Y) (xs : List X) (x : X) → In y (flat_map f (xs ++ x ∷ [])) → In y (flat_map f xs) ⊎ In y (f x)
 in_more f y xs x h = in_split y (flat_map f xs) (f x) (subst (λ zs. In y zs) (flat_more f xs x) h)
@@ -96,7 +97,8 @@ module _ (d : Tables) (ns : List Name) where
       let new = in_filter (λ n. not (names_set (kind_of (tables_of before []) n))) s (sets_in x.item) i (ap not e) in
       not-false (is_among s ns) (none_in (λ n. not (is_among n ns)) s (new_sets d (tables_of before []) x.item) h new)
 
-  sets_among : (before xs : List Entry) → AreNewAmong d ns before xs → AreSetsAmong ns before → AreSetsAmong ns (before ++ xs)
+  sets_among : (before xs : List Entry) → AreNewAmong d ns before xs → AreSetsAmong ns before →
+      AreSetsAmong ns (before ++ xs)
   sets_among before [] h m = subst (AreSetsAmong ns) (sym (nothing_more before)) m
   sets_among before (x ∷ xs) h m =
       subst (AreSetsAmong ns) (append_assoc before (x ∷ []) xs) (sets_among (before ++ x ∷ []) xs h.1 more)
@@ -107,19 +109,22 @@ module _ (d : Tables) (ns : List Name) where
           by : In (fact s k.Set) (declared before) ⊎ In (fact s k.Set) (declarations x) → is_among s ns ≡ true
           by (inl a) = m s a
           by (inr b) =
-              new_set before x s m h.0 (closed_entry x (fact s k.Set) b) (names_set (kind_of (tables_of before []) s)) refl
+              let named = closed_entry x (fact s k.Set) b in
+              new_set before x s m h.0 named (names_set (kind_of (tables_of before []) s)) refl
 
-owners_new : (d : Tables) (before xs : List Entry) → AreItemsKept d before xs → AreNewAmong d (names_of d.owners) before xs
+owners_new : (d : Tables) (before xs : List Entry) → AreItemsKept d before xs →
+    AreNewAmong d (names_of d.owners) before xs
 owners_new d before [] h = tt
 owners_new d before (x ∷ xs) h = let i = h.0 in (i.owner, owners_new d (before ++ x ∷ []) xs h.1)
 
-members_new : (d : Tables) (before xs : List Entry) → AreItemsKept d before xs → AreNewAmong d (names_of d.members) before xs
+members_new : (d : Tables) (before xs : List Entry) → AreItemsKept d before xs →
+    AreNewAmong d (names_of d.members) before xs
 members_new d before [] h = tt
 members_new d before (x ∷ xs) h = let i = h.0 in (i.member, members_new d (before ++ x ∷ []) xs h.1)
 
 -- each set that is declared has an owner, and members
-pub sets_have_owners : (d : Tables) (xs : List Entry) → AreItemsKept d [] xs → (s : Name) → In (fact s k.Set) (declared xs) →
-    is_among s (names_of d.owners) ≡ true
+pub sets_have_owners : (d : Tables) (xs : List Entry) → AreItemsKept d [] xs → (s : Name) →
+    In (fact s k.Set) (declared xs) → is_among s (names_of d.owners) ≡ true
 sets_have_owners d xs h = sets_among d (names_of d.owners) [] xs (owners_new d [] xs h) (λ s i. absurd i)
 
 pub sets_have_members : (d : Tables) (xs : List Entry) → AreItemsKept d [] xs → (s : Name) → In (fact s k.Set) (declared xs) →

@@ -153,7 +153,8 @@ module _ (xs : List Entry) (hs : List Head) (h : AreItemsKept (tables_of xs hs) 
   pub is_attribute : (c n : Name) (o : Option NameKind) → kind_of d n ≡ o →
       not (unwrap_or (option_map (is_attribute_of c) o) false) ≡ false → In n (attributes_of d c)
   is_attribute c n None e t = cc
-  is_attribute c n (Some j) e t = where_has (is_attribute_of c) n j d.kinds (kind_in n j e) (not-false (is_attribute_of c j) t)
+  is_attribute c n (Some j) e t =
+      where_has (is_attribute_of c) n j d.kinds (kind_in n j e) (not-false (is_attribute_of c j) t)
 
   -- ---- kinds of classes
 

@@ -121,8 +121,9 @@ module _ (is : List ItemAt) (qs : List Section) (h : AreItemsKept (tables is qs)
   keys_there b c keys i t =
       All-map (λ (q : Key). q.attribute < length (attributes_of D c)) (resolved_key (attribute_names V c)) keys
       (all_from (λ (q : WrittenKey). number q.name (attribute_names V c) < length (attributes_of D c)) keys (λ q x.
+      let right = none_in (is_wrong_key D b c) q keys t x in
       rw (attributes_are xs hs h R c i)
-      (number_there q.name (attributes_of D c) (is_attribute xs hs h c q.name (kind_of D q.name) refl (none_in (is_wrong_key D b c) q keys t x)))))
+      (number_there q.name (attributes_of D c) (is_attribute xs hs h c q.name (kind_of D q.name) refl right))))
 
   sound_keys : (b : Tables) (c : Name) (keys : List WrittenKey) → In c V.classes → list_any (is_wrong_key D b c) keys ≡ false → length keys ≤ 8 →
       AreSoundKeys (length (attributes_of D c)) (map (resolved_key (attribute_names V c)) keys)
@@ -188,7 +189,8 @@ module _ (is : List ItemAt) (qs : List Section) (h : AreItemsKept (tables is qs)
       let b = kept.0 in
       let y = kept.1 in
       let wrong : has_wrong_keys D b z.item ≡ false = subst (λ (j : Item). has_wrong_keys D b j ≡ false) x.2 y.keys in
-      let rank : has_wrong_key D b (fact_of D.members n) (all_of ks) ≡ false = right_ranks D b z.item n (Ranked ks) wrong f.has in
+      let rank : has_wrong_key D b (fact_of D.members n) (all_of ks) ≡ false =
+      right_ranks D b z.item n (Ranked ks) wrong f.has in
       let keys : has_wrong_key D b (Some c) (all_of ks) ≡ false = subst (λ (q : Option Name). has_wrong_key D b q (all_of ks) ≡ false) m rank in
       let count = discipline_counted z.item n ks f.has in
       let few = few_keys is z w f.there in
