@@ -37,4 +37,8 @@ pub mod NamedKinds
 pub mod NamedUses
 pub mod NamedPlaces
 pub mod NamedSections
+pub mod NamedItemsNames
+pub mod NamedItemsOnce
+pub mod NamedItemsHeadings
+pub mod NamedItems
 pub mod Sound

@@ -8,15 +8,16 @@ use Rattle.std.proofs.lemmas.Cmp.{nat_list_eq_equiv}
 use Rattle.std.proofs.lemmas.Grind.{flat_map-append}
 use Rattle.std.proofs.lemmas.Map.Keys.{IsDistinct-push}
 use Rattle.ss_words.specs.Lists.{Name}
+use Rattle.ss_preamble.specs.Tree.{Key, SetKind, Item}
 use Rattle.ss_grammar.specs.Tree.{Head, MainHead, RoutineHead, EventHead}
 use Rattle.ss_checker.specs.declared.fact.Fact.{Fact}
 use Rattle.ss_checker.specs.declared.name_kind.NameKind.{NameKind}
 use Rattle.ss_checker.specs.declared.name_kind.NameKind.TheVariants as k
 use Rattle.ss_checker.specs.declared.tables.Tables.{Tables}
-use Rattle.ss_checker.specs.Facts.{is_among, repeats, fact, fact_of, names_of}
+use Rattle.ss_checker.specs.Facts.{is_among, repeats, is_one_outside, fact, fact_of, names_of}
 use Rattle.ss_checker.specs.NameKinds.{language_facts, conflicts, one_conflicts, is_attribute_of, names_set}
-use Rattle.ss_checker.specs.Declarations.{Entry, declarations, sets_in, classes_in, priority_in, routine_facts, tables_of, kind_of, is_event_class}
-use Rattle.ss_checker.specs.ItemRules.{has_wrong_priority, is_without_section}
+use Rattle.ss_checker.specs.Declarations.{Entry, declarations, disciplines_in, ties_in, sets_in, classes_in, priority_in, routine_facts, tables_of, kind_of, is_event_class}
+use Rattle.ss_checker.specs.ItemRules.{new_sets, has_wrong_key, has_wrong_rank, has_wrong_keys, has_wrong_priority, is_without_section}
 use Rattle.ss_checker.specs.ResolvedNames.{names_where}
 use Rattle.ss_checker.proofs.SoundLists.{In, in_split, in_any, none_in, in_filter, in_among, among_in, fact_in, fact_there, where_from, AreApart, in_map}
 use Rattle.ss_checker.proofs.SoundDeclared.{Facts, closed_entry, declared}
@@ -26,12 +27,13 @@ pub nothing_more : {X : Type 0} (xs : List X) → xs ++ [] ≡ xs
 nothing_more [] = refl
 nothing_more (x ∷ xs) = ap (λ ys. x ∷ ys) (nothing_more xs)
 
--- a list of pieces with one more piece behind
+-- pieces with one more piece behind
+pub flat_more : {X Y : Type 0} (f : X → List Y) (xs : List X) (x : X) → flat_map f (xs ++ x ∷ []) ≡ flat_map f xs ++ f x
+flat_more {Y = Y} f xs x =
+    flat_map-append f xs (x ∷ []) ∙ ap (λ (ys : List Y). flat_map f xs ++ ys) (nothing_more (f x))
+
 in_more : {X Y : Type 0} (f : X → List Y) (y : Y) (xs : List X) (x : X) → In y (flat_map f (xs ++ x ∷ [])) → In y (flat_map f xs) ⊎ In y (f x)
-in_more f y xs x h =
-    let e : flat_map f (xs ++ x ∷ []) ≡ flat_map f xs ++ f x =
-    flat_map-append f xs (x ∷ []) ∙ ap (λ zs. flat_map f xs ++ zs) (nothing_more (f x)) in
-    in_split y (flat_map f xs) (f x) (subst (λ zs. In y zs) e h)
+in_more f y xs x h = in_split y (flat_map f xs) (f x) (subst (λ zs. In y zs) (flat_more f xs x) h)
 
 -- each item is kept
 pub item_at : (d : Tables) (before xs : List Entry) (x : Entry) → AreItemsKept d before xs → In x xs → (b : Tables) × IsItemKept d b x
@@ -39,7 +41,7 @@ item_at d before [] x h i = absurd i
 item_at d before (y ∷ ys) x h (inl e) = (tables_of before [], subst (λ (z : Entry). IsItemKept d (tables_of before []) z) (sym e) h.0)
 item_at d before (y ∷ ys) x h (inr i) = item_at d (before ++ y ∷ []) ys x h.1 i
 
--- ---- sets have members
+-- ---- sets have owners and members
 
 set_by : (n : Name) (j : Option NameKind) → names_set j ≡ true → j ≡ Some k.Set
 set_by n (Some k.Set) h = refl
@@ -74,36 +76,78 @@ set_of_items xs s h = last (in_split (fact s k.Set) (language_facts ++ declared 
     last (inl a) = first (in_split (fact s k.Set) language_facts (declared xs) a)
     last (inr b) = absurd b
 
-abbrev HaveMembers : Tables → List Entry → Type 0
-HaveMembers d xs = (s : Name) → In (fact s k.Set) (declared xs) → is_among s (names_of d.members) ≡ true
+-- each set is among these names
+abbrev AreSetsAmong : List Name → List Entry → Type 0
+AreSetsAmong ns xs = (s : Name) → In (fact s k.Set) (declared xs) → is_among s ns ≡ true
 
-new_set : (d : Tables) (before : List Entry) (x : Entry) (s : Name) → HaveMembers d before → IsItemKept d (tables_of before []) x →
-    In s (sets_in x.item) → (b : Bool) → names_set (kind_of (tables_of before []) s) ≡ b → is_among s (names_of d.members) ≡ true
-new_set d before x s m h i true e =
-    m s (set_of_items before s
-    (fact_in (tables_of before []).kinds s k.Set (set_by s (kind_of (tables_of before []) s) e)))
-new_set d before x s m h i false e =
-    let new = in_filter (λ n. not (names_set (kind_of (tables_of before []) n))) s (sets_in x.item) i (ap not e) in
-    not-false (is_among s (names_of d.members))
-    (none_in (λ n. not (is_among n (names_of d.members))) s _ h.member new)
+-- and so is each set where an item first names it
+abbrev AreNewAmong : Tables → List Name → List Entry → List Entry → Type 0
+AreNewAmong d ns before [] = Unit {0}
+AreNewAmong d ns before (x ∷ xs) =
+    (is_one_outside ns (new_sets d (tables_of before []) x.item) ≡ false) × AreNewAmong d ns (before ++ x ∷ []) xs
 
-members_kept : (d : Tables) (before xs : List Entry) → AreItemsKept d before xs → HaveMembers d before → HaveMembers d (before ++ xs)
-members_kept d before [] h m = subst (HaveMembers d) (sym (nothing_more before)) m
-members_kept d before (x ∷ xs) h m =
-    subst (HaveMembers d) (append_assoc before (x ∷ []) xs) (members_kept d (before ++ x ∷ []) xs h.1 more)
-  where
-    more : HaveMembers d (before ++ x ∷ [])
-    more s i = by (in_more declarations (fact s k.Set) before x i)
-      where
-        by : In (fact s k.Set) (declared before) ⊎ In (fact s k.Set) (declarations x) → is_among s (names_of d.members) ≡ true
-        by (inl a) = m s a
-        by (inr b) =
-            new_set d before x s m h.0 (closed_entry x (fact s k.Set) b) (names_set (kind_of (tables_of before []) s)) refl
+module _ (d : Tables) (ns : List Name) where
+  new_set : (before : List Entry) (x : Entry) (s : Name) → AreSetsAmong ns before →
+      is_one_outside ns (new_sets d (tables_of before []) x.item) ≡ false → In s (sets_in x.item) → (b : Bool) →
+      names_set (kind_of (tables_of before []) s) ≡ b → is_among s ns ≡ true
+  new_set before x s m h i true e =
+      m s (set_of_items before s
+      (fact_in (tables_of before []).kinds s k.Set (set_by s (kind_of (tables_of before []) s) e)))
+  new_set before x s m h i false e =
+      let new = in_filter (λ n. not (names_set (kind_of (tables_of before []) n))) s (sets_in x.item) i (ap not e) in
+      not-false (is_among s ns) (none_in (λ n. not (is_among n ns)) s (new_sets d (tables_of before []) x.item) h new)
 
--- each set that is declared has members
+  sets_among : (before xs : List Entry) → AreNewAmong d ns before xs → AreSetsAmong ns before →
+      AreSetsAmong ns (before ++ xs)
+  sets_among before [] h m = subst (AreSetsAmong ns) (sym (nothing_more before)) m
+  sets_among before (x ∷ xs) h m =
+      subst (AreSetsAmong ns) (append_assoc before (x ∷ []) xs) (sets_among (before ++ x ∷ []) xs h.1 more)
+    where
+      more : AreSetsAmong ns (before ++ x ∷ [])
+      more s i = by (in_more declarations (fact s k.Set) before x i)
+        where
+          by : In (fact s k.Set) (declared before) ⊎ In (fact s k.Set) (declarations x) → is_among s ns ≡ true
+          by (inl a) = m s a
+          by (inr b) =
+              let named = closed_entry x (fact s k.Set) b in
+              new_set before x s m h.0 named (names_set (kind_of (tables_of before []) s)) refl
+
+owners_new : (d : Tables) (before xs : List Entry) → AreItemsKept d before xs →
+    AreNewAmong d (names_of d.owners) before xs
+owners_new d before [] h = tt
+owners_new d before (x ∷ xs) h = let i = h.0 in (i.owner, owners_new d (before ++ x ∷ []) xs h.1)
+
+members_new : (d : Tables) (before xs : List Entry) → AreItemsKept d before xs →
+    AreNewAmong d (names_of d.members) before xs
+members_new d before [] h = tt
+members_new d before (x ∷ xs) h = let i = h.0 in (i.member, members_new d (before ++ x ∷ []) xs h.1)
+
+-- each set that is declared has an owner, and members
+pub sets_have_owners : (d : Tables) (xs : List Entry) → AreItemsKept d [] xs → (s : Name) →
+    In (fact s k.Set) (declared xs) → is_among s (names_of d.owners) ≡ true
+sets_have_owners d xs h = sets_among d (names_of d.owners) [] xs (owners_new d [] xs h) (λ s i. absurd i)
+
 pub sets_have_members : (d : Tables) (xs : List Entry) → AreItemsKept d [] xs → (s : Name) → In (fact s k.Set) (declared xs) →
     is_among s (names_of d.members) ≡ true
-sets_have_members d xs h = members_kept d [] xs h (λ s i. absurd i)
+sets_have_members d xs h = sets_among d (names_of d.members) [] xs (members_new d [] xs h) (λ s i. absurd i)
+
+-- ---- keys
+
+-- the keys that rank a set, and those that break ties, are attributes
+pub right_ranks : (d b : Tables) (i : Item) (n : Name) (kind : SetKind) → has_wrong_keys d b i ≡ false →
+    In (fact n kind) (disciplines_in i) → has_wrong_rank d b (fact_of d.members n) kind ≡ false
+right_ranks d b i n kind h x =
+    let ranks = list_any (λ s. has_wrong_rank d b (fact_of d.members s.name) s.what) (disciplines_in i) in
+    let ties = list_any (λ s. has_wrong_key d b (Some s.name) s.what) (ties_in i) in
+    none_in (λ s. has_wrong_rank d b (fact_of d.members s.name) s.what) (fact n kind) (disciplines_in i)
+    (or_parts ranks ties h).0 x
+
+pub right_ties : (d b : Tables) (i : Item) (n : Name) (keys : List Key) → has_wrong_keys d b i ≡ false →
+    In (fact n keys) (ties_in i) → has_wrong_key d b (Some n) keys ≡ false
+right_ties d b i n keys h x =
+    let ranks = list_any (λ s. has_wrong_rank d b (fact_of d.members s.name) s.what) (disciplines_in i) in
+    let ties = list_any (λ s. has_wrong_key d b (Some s.name) s.what) (ties_in i) in
+    none_in (λ s. has_wrong_key d b (Some s.name) s.what) (fact n keys) (ties_in i) (or_parts ranks ties h).1 x
 
 -- ---- event classes have sections
 
@@ -159,8 +203,7 @@ priorities_kept : (d : Tables) (before xs : List Entry) → AreItemsKept d befor
 priorities_kept d before [] h p = rw (nothing_more before) p
 priorities_kept d before (x ∷ xs) h p =
     let e : priorities (before ++ x ∷ []) ≡ priorities before ++ priority_in x.item =
-    flat_map-append (λ y. priority_in y.item) before (x ∷ [])
-    ∙ ap (λ (zs : List Name). priorities before ++ zs) (nothing_more (priority_in x.item)) in
+    flat_more (λ y. priority_in y.item) before x in
     let a = h.0 in
     subst (λ (ys : List Entry). IsPriority d (priorities ys)) (append_assoc before (x ∷ []) xs)
     (priorities_kept d (before ++ x ∷ []) xs h.1
@@ -242,8 +285,7 @@ module _ (c : Name) where
   items_apart d before [] h a = rw (nothing_more before) a
   items_apart d before (x ∷ xs) h a =
       let i = h.0 in
-      let e : declared (before ++ x ∷ []) ≡ declared before ++ declarations x =
-      flat_map-append declarations before (x ∷ []) ∙ ap (λ (zs : Facts). declared before ++ zs) (nothing_more (declarations x)) in
+      let e : declared (before ++ x ∷ []) ≡ declared before ++ declarations x = flat_more declarations before x in
       let once : one_conflicts (language_facts ++ declared before) (declarations x) ≡ false =
       subst (λ (gs : Facts). one_conflicts gs (declarations x) ≡ false) (nothing_more (language_facts ++ declared before)) i.once in
       let one = attributes_kept (declarations x) (language_facts ++ declared before) once a in

@@ -1,10 +1,11 @@
 -- Members of lists, names in tables and facts of names.
 use Rattle.std.proofs.Common.{◌≡◌, ◌⊎◌, ◌<◌, ◌≤◌, ℕ, suc, ◌+◌, Bool, true, false, not, ◌||◌, cond, List, [], ◌∷◌, ◌++◌, length, refl, sym, ap, ◌∙◌, arith, subst, Some}
 use Rattle.std.specs.Prelude.{map, bytes_eq, slice_get, option_map}
-use Rattle.std.specs.List.{IsDistinct, list_any, filter, find, flat_map, fold, position_or_len}
+use Rattle.std.specs.List.{All, IsDistinct, list_any, filter, find, flat_map, fold, position_or_len}
 use mathlib.Core.Logic.{inl, inr}
 use Rattle.std.proofs.lemmas.Bool.{or_parts}
 use Rattle.std.proofs.lemmas.Cmp.{nat_list_eq_equiv}
+use Rattle.std.proofs.lemmas.List.Elements.{All-nil, All-cons}
 use Rattle.std.proofs.lemmas.Map.Keys.{IsDistinct-push}
 use Rattle.std.proofs.lemmas.Map.Made.{length-le_from_is_member}
 use Rattle.std.proofs.lemmas.Slice.Eq.{bytes_eq-Decides}
@@ -123,6 +124,19 @@ filter_in {X = X} test x (y ∷ ys) h = by (test y) refl (λ k. filter_in test x
     by true e rec (inl k) = (inl k, ap test k ∙ e)
     by true e rec (inr k) = let p = rec k in (inr p.0, p.1)
     by false e rec k = let p = rec k in (inr p.0, p.1)
+
+-- what holds of each member
+pub all_from : {X : Type 0} (P : X → Type 0) (xs : List X) → ((x : X) → In x xs → P x) → All P xs
+all_from P [] h = All-nil P
+all_from P (x ∷ xs) h = All-cons P x xs (h x (inl refl)) (all_from P xs (λ y i. h y (inr i)))
+
+-- a list again, where g takes back what f does to each member
+pub same_again : {X Y : Type 0} (f : X → Y) (g : Y → X) (xs : List X) → ((x : X) → In x xs → g (f x) ≡ x) →
+    map g (map f xs) ≡ xs
+same_again f g [] e = refl
+same_again {X = X} f g (x ∷ xs) e =
+    ap (λ (y : X). y ∷ map g (map f xs)) (e x (inl refl))
+    ∙ ap (λ (ys : List X). x ∷ ys) (same_again f g xs (λ y i. e y (inr i)))
 
 -- ---- names
 

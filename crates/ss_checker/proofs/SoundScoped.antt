@@ -1,8 +1,9 @@
 -- The tables of a program without a breach have what its names stand for.
-use Rattle.std.proofs.Common.{◌≡◌, ◌⊎◌, ◌<◌, Bool, true, false, List, [], ◌∷◌, ◌++◌, length, refl, sym, ap, ◌∙◌, subst, Option, Some, None}
-use Rattle.std.specs.Prelude.{map, codes, slice_get, unwrap_or}
+use Rattle.std.proofs.Common.{◌≡◌, ◌⊎◌, ◌<◌, Bool, true, false, not, List, [], ◌∷◌, ◌++◌, length, refl, sym, ap, ◌∙◌, subst, Option, Some, None}
+use Rattle.std.specs.Prelude.{map, codes, slice_get, option_map, unwrap_or}
 use Rattle.std.specs.List.{flat_map, list_any}
 use mathlib.Core.Logic.{inl, inr}
+use Rattle.std.proofs.lemmas.Bool.{not-false}
 use Rattle.std.proofs.lemmas.List.{length-map}
 use Rattle.std.proofs.lemmas.Option.{get_or_from_slice_get}
 use Rattle.ss_words.specs.Lists.{Name}
@@ -14,11 +15,11 @@ use Rattle.ss_checker.specs.declared.name_kind.NameKind.{NameKind}
 use Rattle.ss_checker.specs.declared.name_kind.NameKind.TheVariants as k
 use Rattle.ss_checker.specs.declared.tables.Tables.{Tables}
 use Rattle.ss_checker.specs.Facts.{fact, fact_of}
-use Rattle.ss_checker.specs.NameKinds.{language_facts, is_class, is_global, names_permanent, names_ending, names_event}
+use Rattle.ss_checker.specs.NameKinds.{language_facts, is_attribute_of, is_class, is_global, names_permanent, names_ending, names_event}
 use Rattle.ss_checker.specs.Declarations.{Entry, routine_facts, tables_of, kind_of}
 use Rattle.ss_checker.specs.ResolvedNames.{Names, names, number, names_where, is_set, attributes_of, attribute_names, owner_of, member_class}
 use Rattle.ss_checker.specs.Resolved.{Rankings, class_kind, class_table, set_table}
-use Rattle.ss_checker.proofs.SoundLists.{In, in_split, in_any, number_there, image_at, once_has, fact_in, fact_there, where_has}
+use Rattle.ss_checker.proofs.SoundLists.{In, in_split, in_any, number_there, image_at, once_has, once_from, fact_in, fact_there, where_has, where_from}
 use Rattle.ss_checker.proofs.SoundDeclared.{Facts, HasClass, IsClosed, all_kinds, names_all, all_closed, declared, declared_there, has_more, owner_declared, member_declared}
 use Rattle.ss_checker.proofs.SoundUnbroken.{AreItemsKept}
 use Rattle.ss_checker.proofs.SoundItems.{names_a_set, not_of_language, sets_have_members}
@@ -91,6 +92,23 @@ module _ (xs : List Entry) (hs : List Head) (h : AreItemsKept (tables_of xs hs) 
   pub set_in : (s : Name) → In (fact s k.Set) L → In s v.sets
   set_in s i = once_has s (names_where is_set d.kinds) (where_has is_set s k.Set d.kinds i refl)
 
+  pub set_declared : (s : Name) → In s v.sets → In (fact s k.Set) L
+  set_declared s i =
+      let q = where_from is_set s d.kinds (once_from s (names_where is_set d.kinds) i) in
+      subst (λ (j : NameKind). In (fact s j) L) (is_the_set q.what q.passes) q.there
+    where
+      is_the_set : (j : NameKind) → is_set j ≡ true → j ≡ k.Set
+      is_the_set k.Set t = refl
+      is_the_set k.Variable t = cc
+      is_the_set k.ClassCount t = cc
+      is_the_set (k.Class g) t = cc
+      is_the_set (k.Attribute c) t = cc
+      is_the_set (k.OwnerKept q r) t = cc
+      is_the_set (k.MemberKept q r) t = cc
+      is_the_set (k.Function f) t = cc
+      is_the_set k.Clock t = cc
+      is_the_set k.Routine t = cc
+
   -- a set is declared by an item
   pub set_of_item : (s : Name) → In (fact s k.Set) L → In (fact s k.Set) (declared xs)
   set_of_item s i = last (in_split (fact s k.Set) (language_facts ++ declared xs) (flat_map routine_facts hs) i)
@@ -130,6 +148,13 @@ module _ (xs : List Entry) (hs : List Head) (h : AreItemsKept (tables_of xs hs) 
       let e : member_class d v locals s ≡ p.0 = ap (λ (o : Option Name). unwrap_or o []) p.1 in
       subst (HasClass L) (sym e)
       (has_more (declared xs) L p.0 (declared_there xs hs) (member_declared xs s p.0 (fact_in d.members s p.0 p.1)))
+
+  -- a key that is not wrong is an attribute
+  pub is_attribute : (c n : Name) (o : Option NameKind) → kind_of d n ≡ o →
+      not (unwrap_or (option_map (is_attribute_of c) o) false) ≡ false → In n (attributes_of d c)
+  is_attribute c n None e t = cc
+  is_attribute c n (Some j) e t =
+      where_has (is_attribute_of c) n j d.kinds (kind_in n j e) (not-false (is_attribute_of c j) t)
 
   -- ---- kinds of classes
 

@@ -3,9 +3,9 @@ use Rattle.std.proofs.Common.{◌≡◌, ◌≤◌, ◌<◌, ℕ, ◌==◌, Bool
 use Rattle.std.specs.Prelude.{map, codes, bytes_eq, slice_get, unwrap_or, option_map}
 use Rattle.std.specs.List.{All, IsDistinct, AllByRecursion, flat_map, list_any, list_all}
 use mathlib.Core.Logic.{inl, inr}
-use Rattle.std.proofs.lemmas.Bool.{or_parts, not-false, ne_eqb, and_from}
+use Rattle.std.proofs.lemmas.Bool.{not-false, ne_eqb, and_from}
 use Rattle.std.proofs.lemmas.List.{length-map}
-use Rattle.std.proofs.lemmas.List.Elements.{All-nil, All-cons, All-map}
+use Rattle.std.proofs.lemmas.List.Elements.{All-nil, All-map}
 use Rattle.std.proofs.lemmas.Option.{slice_get-map, slice_get_within}
 use Rattle.ss_words.specs.Lists.{Name, Several, all_of}
 use Rattle.ss_preamble.specs.declared.item.Heading.TheVariants.{PermanentEntities, TemporaryEntities, EventNotices}
@@ -21,28 +21,20 @@ use Rattle.ss_checker.specs.declared.name_kind.NameKind.{NameKind}
 use Rattle.ss_checker.specs.declared.name_kind.NameKind.TheVariants as k
 use Rattle.ss_checker.specs.declared.tables.Tables.{Tables}
 use Rattle.ss_checker.specs.Facts.{fact, fact_of}
-use Rattle.ss_checker.specs.NameKinds.{is_attribute_of, is_class, is_global, names_event}
+use Rattle.ss_checker.specs.NameKinds.{is_class, is_global, names_event}
 use Rattle.ss_checker.specs.Declarations.{Entry, entries, heads, classes_in, disciplines_in, ties_in, events_in, given_of, kind_of, tables, attribute_count, is_event_class}
-use Rattle.ss_checker.specs.ItemRules.{is_wrong_key, has_wrong_key, has_wrong_rank, has_wrong_keys, has_fewer}
+use Rattle.ss_checker.specs.ItemRules.{is_wrong_key, has_wrong_key, has_wrong_keys, has_fewer}
 use Rattle.ss_checker.specs.ResolvedNames.{Names, names, number, names_where, is_set, attribute_names, attributes_of, member_class, owner_of}
 use Rattle.ss_checker.specs.Resolved.{Rankings, rankings, resolved_key, resolved_discipline, resolved_owner, event_table, class_kind, class_table, set_table, resolved_section, resolved_with}
-use Rattle.ss_checker.proofs.SoundLists.{In, none_in, in_among, among_in, number_there, image_at, once_from, once_apart, fact_in, flat_in, in_flat, where_has, where_from, AreApart, apart_from}
+use Rattle.ss_checker.proofs.SoundLists.{In, all_from, same_again, none_in, in_among, among_in, number_there, image_at, once_from, once_apart, fact_in, flat_in, in_flat, where_from, AreApart, apart_from}
 use Rattle.ss_checker.proofs.SoundDeclared.{HasClass}
 use Rattle.ss_checker.proofs.SoundUnbroken.{AreItemsKept, AreSectionsKept}
-use Rattle.ss_checker.proofs.SoundItems.{item_at, events_have_sections, priority_kept, attributes_apart}
-use Rattle.ss_checker.proofs.SoundScoped.{L, class_is_global, kind_in, closed_kind, global_in, class_in, owner_class, member_there, member_is_class, event_class, attributes_are}
+use Rattle.ss_checker.proofs.SoundItems.{item_at, right_ranks, right_ties, events_have_sections, priority_kept, attributes_apart}
+use Rattle.ss_checker.proofs.SoundScoped.{L, class_is_global, kind_in, closed_kind, global_in, class_in, set_declared, is_attribute, owner_class, member_there, member_is_class, event_class, attributes_are}
 use Rattle.ss_checker.proofs.SoundLimits.{attributes_counted, few_attributes, entry_of, few_keys, class_named, few_classes, few_sets}
 use Rattle.ss_checker.proofs.SoundNumbers.{event_found, section_at, slice_in}
 
 -- ---- lists
-
-all_from : {X : Type 0} (P : X → Type 0) (xs : List X) → ((x : X) → In x xs → P x) → All P xs
-all_from P [] h = All-nil P
-all_from P (x ∷ xs) h = All-cons P x xs (h x (inl refl)) (all_from P xs (λ y i. h y (inr i)))
-
-same_names : {A : Type 0} (f : Name → A) (g : A → Name) (ns : List Name) → ((n : Name) → g (f n) ≡ n) → map g (map f ns) ≡ ns
-same_names f g [] e = refl
-same_names {A = A} f g (n ∷ ns) e = ap (λ (m : Name). m ∷ map g (map f ns)) (e n) ∙ ap (λ (ms : List Name). n ∷ ms) (same_names f g ns e)
 
 -- a name stands at its number
 name_at : (n : Name) (ns : List Name) → In n ns → slice_get ns (number n ns) ≡ Some n
@@ -112,26 +104,26 @@ module _ (is : List ItemAt) (qs : List Section) (h : AreItemsKept (tables is qs)
   pub sound_names : HasSoundNames p
   sound_names = record {
     globals = once_apart (names_where is_global D.kinds);
-    classes = subst AreApart (sym (same_names (class_table D V R) (λ (c : ClassTable). c.name) V.classes (λ n. refl))) (once_apart (names_where is_class D.kinds));
+    classes =
+        let same = same_again (class_table D V R) (λ (c : ClassTable). c.name) V.classes (λ n i. refl) in
+        subst AreApart (sym same) (once_apart (names_where is_class D.kinds));
     attributes = own_attributes V.classes;
-    sets = subst AreApart (sym (same_names (set_table D V R) (λ (t : SetTable). t.name) V.sets (λ n. refl))) (once_apart (names_where is_set D.kinds));
+    sets =
+        let same = same_again (set_table D V R) (λ (t : SetTable). t.name) V.sets (λ n i. refl) in
+        subst AreApart (sym same) (once_apart (names_where is_set D.kinds));
     class_variables = all_global V.classes classes_global;
   }
 
   -- ---- keys
-
-  is_attribute : (c n : Name) (o : Option NameKind) → kind_of D n ≡ o → not (unwrap_or (option_map (is_attribute_of c) o) false) ≡ false →
-      In n (attributes_of D c)
-  is_attribute c n None e t = cc
-  is_attribute c n (Some j) e t = where_has (is_attribute_of c) n j D.kinds (kind_in xs hs h n j e) (not-false (is_attribute_of c j) t)
 
   keys_there : (b : Tables) (c : Name) (keys : List WrittenKey) → In c V.classes → list_any (is_wrong_key D b c) keys ≡ false →
       All (λ (q : Key). q.attribute < length (attributes_of D c)) (map (resolved_key (attribute_names V c)) keys)
   keys_there b c keys i t =
       All-map (λ (q : Key). q.attribute < length (attributes_of D c)) (resolved_key (attribute_names V c)) keys
       (all_from (λ (q : WrittenKey). number q.name (attribute_names V c) < length (attributes_of D c)) keys (λ q x.
+      let right = none_in (is_wrong_key D b c) q keys t x in
       rw (attributes_are xs hs h R c i)
-      (number_there q.name (attributes_of D c) (is_attribute c q.name (kind_of D q.name) refl (none_in (is_wrong_key D b c) q keys t x)))))
+      (number_there q.name (attributes_of D c) (is_attribute xs hs h c q.name (kind_of D q.name) refl right))))
 
   sound_keys : (b : Tables) (c : Name) (keys : List WrittenKey) → In c V.classes → list_any (is_wrong_key D b c) keys ≡ false → length keys ≤ 8 →
       AreSoundKeys (length (attributes_of D c)) (map (resolved_key (attribute_names V c)) keys)
@@ -167,12 +159,9 @@ module _ (is : List ItemAt) (qs : List Section) (h : AreItemsKept (tables is qs)
       let b = kept.0 in
       let y = kept.1 in
       let wrong : has_wrong_keys D b z.item ≡ false = subst (λ (j : Item). has_wrong_keys D b j ≡ false) x.2 y.keys in
-      let parts = or_parts (list_any (λ t. has_wrong_rank D b (fact_of D.members t.name) t.what) (disciplines_in z.item))
-      (list_any (λ t. has_wrong_key D b (Some t.name) t.what) (ties_in z.item)) wrong in
       let count = ties_counted z.item c keys f.has in
       let few = few_keys is z w f.there in
-      sound_keys b c keys i (none_in (λ t. has_wrong_key D b (Some t.name) t.what) (fact c keys) (ties_in z.item) parts.1 f.has)
-      (omega (arith, count, few))
+      sound_keys b c keys i (right_ties D b z.item c keys wrong f.has) (omega (arith, count, few))
 
   discipline_counted : (i : Item) (n : Name) (ks : Several WrittenKey) → In (fact n (Ranked ks)) (disciplines_in i) → length (all_of ks) ≡ key_count i
   discipline_counted Normally n ks x = absurd x
@@ -200,10 +189,8 @@ module _ (is : List ItemAt) (qs : List Section) (h : AreItemsKept (tables is qs)
       let b = kept.0 in
       let y = kept.1 in
       let wrong : has_wrong_keys D b z.item ≡ false = subst (λ (j : Item). has_wrong_keys D b j ≡ false) x.2 y.keys in
-      let parts = or_parts (list_any (λ t. has_wrong_rank D b (fact_of D.members t.name) t.what) (disciplines_in z.item))
-      (list_any (λ t. has_wrong_key D b (Some t.name) t.what) (ties_in z.item)) wrong in
       let rank : has_wrong_key D b (fact_of D.members n) (all_of ks) ≡ false =
-      none_in (λ t. has_wrong_rank D b (fact_of D.members t.name) t.what) (fact n (Ranked ks)) (disciplines_in z.item) parts.0 f.has in
+      right_ranks D b z.item n (Ranked ks) wrong f.has in
       let keys : has_wrong_key D b (Some c) (all_of ks) ≡ false = subst (λ (q : Option Name). has_wrong_key D b q (all_of ks) ≡ false) m rank in
       let count = discipline_counted z.item n ks f.has in
       let few = few_keys is z w f.there in
@@ -299,26 +286,9 @@ module _ (is : List ItemAt) (qs : List Section) (h : AreItemsKept (tables is qs)
   sound_owner n None e = tt
   sound_owner n (Some c) e = class_place c (class_in xs hs h c (owner_class xs hs h [] n c e))
 
-  set_declared : (n : Name) → In n V.sets → In (fact n k.Set) (L xs hs h)
-  set_declared n i =
-      let q = where_from is_set n D.kinds (once_from n (names_where is_set D.kinds) i) in
-      subst (λ (j : NameKind). In (fact n j) D.kinds) (is_the_set q.what q.passes) q.there
-    where
-      is_the_set : (j : NameKind) → is_set j ≡ true → j ≡ k.Set
-      is_the_set k.Set t = refl
-      is_the_set k.Variable t = cc
-      is_the_set k.ClassCount t = cc
-      is_the_set (k.Class g) t = cc
-      is_the_set (k.Attribute c) t = cc
-      is_the_set (k.OwnerKept q r) t = cc
-      is_the_set (k.MemberKept q r) t = cc
-      is_the_set (k.Function f) t = cc
-      is_the_set k.Clock t = cc
-      is_the_set k.Routine t = cc
-
   sound_set : (n : Name) → In n V.sets → IsSoundSet p (set_table D V R n)
   sound_set n i =
-      let there = set_declared n i in
+      let there = set_declared xs hs h n i in
       let m = member_there xs hs h n there in
       let c = member_class D V [] n in
       let e : c ≡ m.0 = ap (λ (o : Option Name). unwrap_or o []) m.1 in

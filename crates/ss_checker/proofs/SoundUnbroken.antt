@@ -13,9 +13,9 @@ use Rattle.ss_check.specs.declared.fault.CheckRule.TheVariants.{DeclaredTwice, W
 use Rattle.ss_checker.specs.declared.tables.Tables.{Tables}
 use Rattle.ss_checker.specs.Facts.{repeats, names_of, is_one_outside}
 use Rattle.ss_checker.specs.NameKinds.{one_conflicts}
-use Rattle.ss_checker.specs.Declarations.{Entry, entries, declarations, members_in, joined, class_of, external_in, priority_in, tied_events, disciplined_sets, is_main, tables_of, tables, parameters, routine_facts, events_in, is_declared}
+use Rattle.ss_checker.specs.Declarations.{Entry, entries, declarations, owners_in, members_in, joined, class_of, external_in, priority_in, tied_events, disciplined_sets, is_main, tables_of, tables, parameters, routine_facts, events_in, is_declared}
 use Rattle.ss_checker.specs.Statements.{Statement, broken, lowest, breach_of, first_breach}
-use Rattle.ss_checker.specs.ItemRules.{declares_twice, names_wrong_class, new_sets, has_wrong_owner, has_wrong_member, has_wrong_keys, lacks_section, has_wrong_priority, item_statement, head_declares_twice, has_too_many, lacks_class, is_second_main, head_statement, local_statement}
+use Rattle.ss_checker.specs.ItemRules.{joins_system, declares_twice, names_wrong_class, new_sets, has_wrong_owner, has_wrong_member, has_wrong_keys, lacks_section, has_wrong_priority, item_statement, head_declares_twice, has_too_many, lacks_class, is_second_main, head_statement, local_statement}
 use Rattle.ss_checker.specs.PlaceRules.{is_wrong_class, is_misused, is_wrong_count, is_fixed, has_wrong_picture, is_start, asks_find, is_find, uses_from, use_breaks, place_statement, place_statements}
 use Rattle.ss_checker.specs.Breach.{item_statements, section_statements, sections_statements, end_statement, statements, breach}
 use Rattle.ss_checker.specs.Uses.{Use, uses}
@@ -55,7 +55,13 @@ not_broken r false h = refl
 
 pub record IsItemKept (d b : Tables) (x : Entry) : Type 0 where
   pub once : one_conflicts b.kinds (declarations x) ≡ false
+  pub disciplines : repeats b.disciplines (disciplined_sets x.item) ≡ false
+  pub ties : repeats b.ties (tied_events x.item) ≡ false
+  pub class : names_wrong_class d b x.heading x.item ≡ false
+  pub owner : is_one_outside (names_of d.owners) (new_sets d b x.item) ≡ false
+  pub owners : repeats (names_of b.owners) (names_of (owners_in x.item)) ≡ false
   pub member : is_one_outside (names_of d.members) (new_sets d b x.item) ≡ false
+  pub members : repeats (names_of b.members) (names_of (members_in x.item)) ≡ false
   pub keys : has_wrong_keys d b x.item ≡ false
   pub event : lacks_section d b x.item ≡ false
   pub priority : has_wrong_priority d b b.priority (priority_in x.item) ≡ false
@@ -75,25 +81,38 @@ item_kept d b x h =
     let p4 = no_rules (r1 ++ r2 ++ r3) r4 p5.0 in
     let p3 = no_rules (r1 ++ r2) r3 p4.0 in
     let p2 = no_rules r1 r2 p3.0 in
-    let once = not_broken DeclaredTwice (declares_twice d b x) p2.0 in
-    let member = not_broken WrongMember (has_wrong_member d b x) p4.1 in
+    let once = first_of_four (one_conflicts b.kinds (declarations x)) (repeats b.disciplines (disciplined_sets x.item))
+    (repeats b.ties (tied_events x.item)) (repeats b.external (external_in x.item))
+    (not_broken DeclaredTwice (declares_twice d b x) p2.0) in
+    let owner = or_parts (is_one_outside (names_of d.owners) (new_sets d b x.item))
+    (repeats (names_of b.owners) (names_of (owners_in x.item))) (not_broken WrongOwner (has_wrong_owner d b x) p3.1) in
+    let member = first_of_three (is_one_outside (names_of d.members) (new_sets d b x.item))
+    (repeats (names_of b.members) (names_of (members_in x.item))) (joins_system (class_of x.item) (joined x.item))
+    (not_broken WrongMember (has_wrong_member d b x) p4.1) in
     record {
-      once = first_of_four (one_conflicts b.kinds (declarations x)) (repeats b.disciplines (disciplined_sets x.item))
-          (repeats b.ties (tied_events x.item)) (repeats b.external (external_in x.item)) once;
-      member = first_of_three (is_one_outside (names_of d.members) (new_sets d b x.item)) (repeats (names_of b.members) (names_of (members_in x.item)))
-          (Rattle.ss_checker.specs.ItemRules.joins_system (class_of x.item) (joined x.item)) member;
+      once = once.0;
+      disciplines = once.1;
+      ties = once.2;
+      class = not_broken WrongClass (names_wrong_class d b x.heading x.item) p2.1;
+      owner = owner.0;
+      owners = owner.1;
+      member = member.0;
+      members = member.1;
       keys = not_broken WrongKey (has_wrong_keys d b x.item) p5.1;
       event = not_broken WrongEvent (lacks_section d b x.item) p6.1;
       priority = not_broken WrongPriority (has_wrong_priority d b b.priority (priority_in x.item)) p7.1;
     }
   where
-    first_of_four : (a b c e : Bool) → (a || b || c || e) ≡ false → a ≡ false
+    first_of_four : (a b c e : Bool) → (a || b || c || e) ≡ false → (a ≡ false) × (b ≡ false) × (c ≡ false)
     first_of_four true b c e h = cc
-    first_of_four false b c e h = refl
+    first_of_four false true c e h = cc
+    first_of_four false false true e h = cc
+    first_of_four false false false e h = (refl, refl, refl)
 
-    first_of_three : (a b c : Bool) → (a || b || c) ≡ false → a ≡ false
+    first_of_three : (a b c : Bool) → (a || b || c) ≡ false → (a ≡ false) × (b ≡ false)
     first_of_three true b c h = cc
-    first_of_three false b c h = refl
+    first_of_three false true c h = cc
+    first_of_three false false c h = (refl, refl)
 
 -- items behind others
 abbrev pub AreItemsKept : Tables → List Entry → List Entry → Type 0

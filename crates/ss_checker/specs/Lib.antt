@@ -14,7 +14,9 @@ pub mod Sorts
 pub mod ResolvedNames
 pub mod Resolved
 pub mod NamedTree
+pub mod NamedItems
 pub mod FactsView
 pub mod Scope
 pub mod Readable
 pub mod FurtherExamples
+pub mod TableExample

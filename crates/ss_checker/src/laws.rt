@@ -1,6 +1,8 @@
 //! Laws on the definitions. Each function does nothing, and its contract says the law.
 ghost use Rattle.ss_checker.specs.FurtherExamples.{SectionsAreDeclaredOnce, OrdersAreGivenOnce, LocalsHaveNamesOfTheirOwn, OrdersNameEvents, ValuesAreNoRoutines, KeysAreOfTheirClass, NoticesHaveAttributesForValues, YieldedAreCounted, FirstNamingIsRefused, AttributesMayChange, EventsStartNoSimulation};
 ghost use Rattle.ss_checker.specs.NamedTree.{TablesGiveTheText};
+ghost use Rattle.ss_checker.specs.NamedItems.{TablesGiveTheItems};
+ghost use Rattle.ss_checker.specs.TableExample.{PreambleHasTables};
 ghost use Rattle.ss_checker.specs.Examples.{VariablesAreDeclaredOnce, ClassesHaveOneKind, SetsAreDeclaredOnce, RoutinesAreDeclaredOnce, ClassesAreNamedUnderHeadings, StatementsNeedClasses, NamesAreUsedAsDeclared, SetsHaveOneOwner, SetsHaveOneMemberClass, KeysAreAttributes, CountsAgree, EventsHaveAttributesForParameters, EventsHaveSections, TargetsMayChange, FieldsHaveValues, ThereIsOneMain, PriorityNamesEventsOnce, SimulationStartsInMain, FoundIsAskedBehindFind, EarlierStatementCounts, LowerRuleCounts};
 
 /// A variable is declared once, and TIME.V is declared before all.
@@ -163,9 +165,21 @@ pub fn events_start_no_simulation()
     ensures { EventsStartNoSimulation }
 {}
 
+/// The tables of a small preamble: attributes, owners, members and priority are numbers.
+pub fn preamble_has_tables()
+    ensures { PreambleHasTables }
+{}
+
 /// A program without a breach, each number looked up in its table, is its text again: heads,
 /// parameters, places and their names and subscripts. It does not keep the local DEFINEs, nor
 /// whether arguments of CALL and parameters stand in parentheses or behind GIVEN.
 pub fn tables_give_the_text()
     ensures { TablesGiveTheText }
+{}
+
+/// The tables of a program without a breach, each number looked up in its table, say what the
+/// items of its preamble write: the variables, the classes with their kinds, attributes, ties and
+/// sections, the sets with their owners, members and disciplines, and the order of priority.
+pub fn tables_give_the_items()
+    ensures { TablesGiveTheItems }
 {}
