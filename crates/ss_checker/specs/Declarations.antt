@@ -16,10 +16,13 @@ use Rattle.ss_checker.specs.NameKinds.{language_facts, class_facts, set_facts, n
 
 -- ---- items under their headings
 
--- the line of an item, the heading over it, if there is one, and the item
+-- an item, and where it stands
 pub record Entry : Type 0 where
+  -- its line
   pub line : ℕ
+  -- the heading over it, if there is one
   pub heading : Option Heading
+  -- the item
   pub item : Item
 
 -- the heading over an item that stands behind others under h: a heading's own, else h
