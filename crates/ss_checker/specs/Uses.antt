@@ -13,8 +13,9 @@ use Rattle.ss_grammar.specs.Places.{Branch, If, Loop, For, Gather, Compute, Plac
 use Rattle.ss_checker.specs.declared.class_need.ClassNeed.{ClassNeed}
 use Rattle.ss_checker.specs.declared.class_need.ClassNeed.TheVariants.{Permanent, Ending, Event}
 
--- a value, with how many arguments, if there are parentheses; a target, and a set, with whether there is a subscript; a loop's
--- variable; a class of the kind needed; an event class with so many values; a routine with so many values and targets
+-- a value, with how many arguments, if there are parentheses; a target, and a set, with whether there is a subscript; a
+-- loop's variable; a class of the kind needed; an event class with so many values; a routine with so many values and
+-- targets
 pub data Use : Type 0 where
   Value : Name → Option ℕ → Use
   Target InSet : Name → Bool → Use

@@ -467,7 +467,8 @@ impl<S: SetBoard> State<S> {
         ensures beside { self.new.beside ≡ self.old.beside }
         ensures few { OnOk result (length targets.now < 2 ^ 64) }
         ensures values { IfOk result
-            (λ _. values_taken external self.old.state.feed.items self.old.state.feed.taken targets.now ≡ Ok values.new.items) }
+            (λ _. values_taken external self.old.state.feed.items self.old.state.feed.taken targets.now
+            ≡ Ok values.new.items) }
         ensures fits { IfOk result (λ c. Fits c self.new) }
         ensures back { IfOk result (λ c. unapply c self.new ≡ self.old) }
         ensures fault { IfErr result
@@ -860,7 +861,8 @@ fn take_values(
     ensures later { feed.old.taken ≤ feed.new.taken }
     ensures few { OnOk result (length targets.now < 2 ^ 64) }
     ensures taken { OnOk result (feed.new.taken ≡ feed.old.taken + length targets.now) }
-    ensures values { OnOk result (values_taken external feed.old.items feed.old.taken targets.now ≡ Ok values.new.items) }
+    ensures values { OnOk result
+        (values_taken external feed.old.items feed.old.taken targets.now ≡ Ok values.new.items) }
     ensures fault { IfErr result (λ e. FaultIs e (values_taken external feed.old.items feed.old.taken targets.now)) }
 {
     values.clear();
