@@ -30,12 +30,17 @@ ground_sets a b c d e f = ground_set a System 0 1 0 ∷ ground_set b (OwnedBy 0)
 
 -- these are the six sets
 pub record AreGroundSets (sets : List SetShape) : Type 0 where
-  -- the disciplines of the six
+  -- the discipline of the first
   pub a : Discipline
+  -- of the second
   pub b : Discipline
+  -- of the third
   pub c : Discipline
+  -- of the fourth
   pub d : Discipline
+  -- of the fifth
   pub e : Discipline
+  -- of the sixth
   pub f : Discipline
   -- with which they are the sets
   pub is : sets ≡ ground_sets a b c d e f
