@@ -538,8 +538,8 @@ impl<S: SetBoard> State<S> {
         }
     }
 
-    /// Makes an entity of a temporary or event class, and gives its reference. After F20 and want of
-    /// memory nothing has changed.
+    /// Makes an entity of a temporary or event class, and gives its reference. After F20 and want
+    /// of memory nothing has changed.
     pub fn create(&mut self, class: usize) -> Result<(u32, Change), StepFault>
         requires class { class < length self.old.beside.tables.classes }
         requires kind { (class_of self.old.beside.tables class).permanent ≡ false }
@@ -731,8 +731,8 @@ impl<S: SetBoard> State<S> {
         }
     }
 
-    /// Takes the name and the time of the next entry of the data, and gives the class that it names.
-    /// After a fault nothing has changed.
+    /// Takes the name and the time of the next entry of the data, and gives the class that it
+    /// names. After a fault nothing has changed.
     pub fn take_arrival(&mut self, program: &Program) -> Result<(usize, i64, Change), RunFault>
         requires { self.old.state.feed.taken < length self.old.state.feed.items }
         ensures class { IfOk result (λ r. external_class program.now
