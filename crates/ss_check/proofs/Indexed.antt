@@ -23,12 +23,14 @@ unfolding IsIndex
 index_none m e n = ap (lookup (λ k. is_eq (slice_cmp nat_cmp n k.items))) e
 
 -- a map with the same entries
-pub index_same : (table : List (List ℕ)) (m n : BTreeMap (Vec ℕ) ℕ) → IsUnchanged m n → IsIndex table m → IsIndex table n
+pub index_same : (table : List (List ℕ)) (m n : BTreeMap (Vec ℕ) ℕ) → IsUnchanged m n → IsIndex table m →
+    IsIndex table n
 unfolding IsIndex
 index_same table m n e h b = ap (lookup (λ k. is_eq (slice_cmp nat_cmp b k.items))) e ∙ h b
 
 -- the place of a name
-pub index_at : (table : List (List ℕ)) (m : BTreeMap (Vec ℕ) ℕ) (n : List ℕ) → IsIndex table m → entry_of m n ≡ position (bytes_eq n) table
+pub index_at : (table : List (List ℕ)) (m : BTreeMap (Vec ℕ) ℕ) (n : List ℕ) → IsIndex table m →
+    entry_of m n ≡ position (bytes_eq n) table
 unfolding IsIndex
 index_at table m n h = h n
 
@@ -61,20 +63,26 @@ entry_same m n w k b u e =
     (λ x y. (eq_by_cmp_equiv nat_list_cmp_total).congr b x.items y.items)
     (λ y t. is_eq-slice_cmp b y.items ∙ apart k.items b y.items e (sym (is_eq-slice_cmp k.items y.items) ∙ t))
 
-index_push : (table : List (List ℕ)) (m n : BTreeMap (Vec ℕ) ℕ) (k : Vec ℕ) (b : List ℕ) (same : Bool) → bytes_eq k.items b ≡ same →
-    UpdatesBy (λ x y. slice_cmp nat_cmp x.items y.items) (λ y. slice_cmp nat_cmp k.items y.items) m n (Some (length table)) →
+index_push : (table : List (List ℕ)) (m n : BTreeMap (Vec ℕ) ℕ) (k : Vec ℕ) (b : List ℕ) (same : Bool) →
+    bytes_eq k.items b ≡ same →
+    UpdatesBy (λ x y. slice_cmp nat_cmp x.items y.items) (λ y. slice_cmp nat_cmp k.items y.items) m n
+    (Some (length table)) →
     position (bytes_eq k.items) table ≡ None → entry_of m b ≡ position (bytes_eq b) table →
     entry_of n b ≡ position (bytes_eq b) (table ++ k.items ∷ [])
 index_push table m n k b true e u none h =
-    subst (λ (c : List ℕ). entry_of n c ≡ position (bytes_eq c) (table ++ k.items ∷ [])) ((bytes_eq-Decides k.items b).0 e)
-    (u.1 ∙ sym (position_push (bytes_eq k.items) table k.items ∙ rw (none, (bytes_eq-Decides k.items k.items).1 refl) refl))
+    subst (λ (c : List ℕ). entry_of n c ≡ position (bytes_eq c) (table ++ k.items ∷ []))
+    ((bytes_eq-Decides k.items b).0 e)
+    (u.1 ∙ sym (position_push (bytes_eq k.items) table k.items
+    ∙ rw (none, (bytes_eq-Decides k.items k.items).1 refl) refl))
 index_push table m n k b false e u none h =
     entry_same m n (Some (length table)) k b u e ∙ h
-    ∙ sym (position_push (bytes_eq b) table k.items ∙ rw (nat_list_eq_equiv.symm b k.items ∙ e) (or_none (position (bytes_eq b) table)))
+    ∙ sym (position_push (bytes_eq b) table k.items
+    ∙ rw (nat_list_eq_equiv.symm b k.items ∙ e) (or_none (position (bytes_eq b) table)))
 
 -- a map with one more name, which had none
 pub index_more : (table : List (List ℕ)) (m n : BTreeMap (Vec ℕ) ℕ) (k : Vec ℕ) →
-    UpdatesBy (λ x y. slice_cmp nat_cmp x.items y.items) (λ y. slice_cmp nat_cmp k.items y.items) m n (Some (length table)) →
+    UpdatesBy (λ x y. slice_cmp nat_cmp x.items y.items) (λ y. slice_cmp nat_cmp k.items y.items) m n
+    (Some (length table)) →
     position (bytes_eq k.items) table ≡ None → IsIndex table m → IsIndex (table ++ k.items ∷ []) n
 unfolding IsIndex
 index_more table m n k u none h b = index_push table m n k b (bytes_eq k.items b) refl u none (h b)
@@ -95,11 +103,13 @@ any_is : (table : List (List ℕ)) (n : List ℕ) → list_any (bytes_eq n) tabl
 any_is table n = any_place (bytes_eq n) table ∙ sym (some_if _ _)
 
 -- a name that is there is not put in again
-pub with_name-there : (table : List (List ℕ)) (n : List ℕ) → is_some (position (bytes_eq n) table) ≡ true → with_name table n ≡ table
+pub with_name-there : (table : List (List ℕ)) (n : List ℕ) → is_some (position (bytes_eq n) table) ≡ true →
+    with_name table n ≡ table
 with_name-there table n h = rw (any_is table n ∙ h) refl
 
 -- one that isn't goes to the end
-pub with_name-none : (table : List (List ℕ)) (n : List ℕ) → is_some (position (bytes_eq n) table) ≡ false → with_name table n ≡ table ++ n ∷ []
+pub with_name-none : (table : List (List ℕ)) (n : List ℕ) → is_some (position (bytes_eq n) table) ≡ false →
+    with_name table n ≡ table ++ n ∷ []
 with_name-none table n h = rw (any_is table n ∙ h) refl
 
 pub none_is : (o : Option ℕ) → is_some o ≡ false → o ≡ None
@@ -108,7 +118,9 @@ none_is (Some i) h = cc
 
 -- a place is below the number of names
 pub place_within : (table : List (List ℕ)) (n : List ℕ) → IfSome (position (bytes_eq n) table) (λ i. i < length table)
-place_within table n = within (position_or_len (bytes_eq n) table) (length table) (nat_lt (position_or_len (bytes_eq n) table) (length table)) refl
+place_within table n =
+    within (position_or_len (bytes_eq n) table) (length table)
+    (nat_lt (position_or_len (bytes_eq n) table) (length table)) refl
   where
     within : (i l : ℕ) (b : Bool) → nat_lt i l ≡ b → IfSome (cond b (Some i) None) (λ j. j < l)
     within i l true e = grind (arith, common_steps, e)

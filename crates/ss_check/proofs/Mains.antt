@@ -32,7 +32,8 @@ pub position_or_len-le : {X : Type 0} (p : X → Bool) (xs : List X) → positio
 position_or_len-le p [] = omega arith
 position_or_len-le p (x ∷ xs) = at_most (p x) (position_or_len-le p xs)
   where
-    at_most : (b : Bool) → position_or_len p xs ≤ length xs → cond (not b) (1 + position_or_len p xs) 0 ≤ suc (length xs)
+    at_most : (b : Bool) → position_or_len p xs ≤ length xs →
+        cond (not b) (1 + position_or_len p xs) 0 ≤ suc (length xs)
     at_most true h = omega arith
     at_most false h = omega (arith, h)
 
@@ -42,7 +43,10 @@ none_at i n false e h le = omega (arith, ltb-false i n e)
 
 -- what is not found has the number behind the last one
 pub found_none : {X : Type 0} (p : X → Bool) (xs : List X) → None ≡ position p xs → length xs ≡ position_or_len p xs
-found_none p xs h = none_at (position_or_len p xs) (length xs) (nat_lt (position_or_len p xs) (length xs)) refl h (position_or_len-le p xs)
+found_none p xs h =
+    none_at (position_or_len p xs) (length xs) (nat_lt (position_or_len p xs) (length xs)) refl h
+    (position_or_len-le p xs)
 
-pub found_main : (p : ProgramTable) (n : ℕ) → Some n ≡ position is_main p.sections → n ≡ position_or_len is_main p.sections
+pub found_main : (p : ProgramTable) (n : ℕ) → Some n ≡ position is_main p.sections →
+    n ≡ position_or_len is_main p.sections
 found_main p n h = found_first is_main p.sections n h

@@ -127,7 +127,8 @@ module _ (places : List Spot) where
   abbrev pub behind_false : ℕ → ℕ
   behind_false i = if is_at is_else (branch_end i) then branch_end i + 1 else branch_end i
 
-  -- where the loop of the phrase at i goes on when it closes: to the phrase directly before it in its chain, else behind its body
+  -- where the loop of the phrase at i goes on when it closes: to the phrase directly before it in its chain, else
+  -- behind its body
   abbrev pub behind_loop : ℕ → ℕ
   behind_loop i = if is_before is_bare i then i - 1 else behind_body i
 

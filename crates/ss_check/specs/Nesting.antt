@@ -31,8 +31,8 @@ module _ (places : List Spot) where
   abbrev pub may_be_open : List ℕ → ℕ → Bool
   may_be_open js n = bytes_eq js (phrases_around n) || (is_at places is_phrase n && bytes_eq js (n ∷ phrases_around n))
 
-  -- place i with these ways leads to places at which the loops may be open that it leaves open: a phrase its own, FIND those around it but
-  -- the ones that it closes, and any other place those around it
+  -- place i with these ways leads to places at which the loops may be open that it leaves open: a phrase its own, FIND
+  -- those around it but the ones that it closes, and any other place those around it
   abbrev pub is_nested : ℕ → Ways → Place → Bool
   is_nested i w (Control c) = true
   is_nested i w (Branch (If q)) = may_be_open (phrases_around i) w.next && may_be_open (phrases_around i) w.exit

@@ -1,4 +1,5 @@
--- The checked program: its tables in order of declaration, and the places of each section. A row is named by its number, from 0.
+-- The checked program: its tables in order of declaration, and the places of each section. A row is named by its
+-- number, from 0.
 use Rattle.std.specs.Prelude.{ℕ, ◌+◌, ◌==◌, List, [], length, take, count_by, slice_get, position, Option, Some, None, unwrap_or, Bool, true, false}
 use Rattle.std.specs.List.{list_any, position_or_len}
 use Rattle.ss_check.specs.EventTable.{EventTable}
@@ -12,38 +13,58 @@ use Rattle.ss_check.specs.declared.kinds.SectionKind.{SectionKind}
 use Rattle.ss_check.specs.declared.kinds.SectionKind.TheVariants.{Main, Routine, Event as EventSection}
 use Rattle.ss_check.specs.declared.place.Spot.{Spot}
 
--- a class: its name, its kind, the global variable of its name, and the names of its attributes
+-- a class
 pub record ClassTable : Type 0 where
+  -- its name
   pub name : List ℕ
+  -- permanent entities, temporary ones or event notices
   pub kind : ClassKind
+  -- the global variable of its name
   pub variable : ℕ
+  -- the names of its attributes
   pub attributes : List (List ℕ)
 
--- a set: its name, its discipline, whose its lists are, and the class of its members
+-- a set
 pub record SetTable : Type 0 where
+  -- its name
   pub name : List ℕ
+  -- in which order its lists stand
   pub discipline : Discipline
+  -- whose its lists are
   pub owner : Owner
+  -- the class of its members
   pub member : ℕ
 
--- a section: its name, its kind, the line of its head, how many given and how many yielded parameters it has, whether it says SAVING,
--- the names of its locals, those of the parameters first, and its places
+-- a section
 pub record SectionTable : Type 0 where
+  -- its name
   pub name : List ℕ
+  -- MAIN, a routine or the section of an event
   pub kind : SectionKind
+  -- the line of its head
   pub line : ℕ
+  -- how many given parameters it has
   pub given : ℕ
+  -- how many yielded ones
   pub yielded : ℕ
+  -- whether it says SAVING
   pub saving : Bool
+  -- the names of its locals, those of the parameters first
   pub locals : List (List ℕ)
+  -- its places
   pub places : List Spot
 
--- a program: the names of the global variables, the classes, the sets, the event classes that PRIORITY names, and the sections
+-- a program
 pub record ProgramTable : Type 0 where
+  -- the names of the global variables
   pub globals : List (List ℕ)
+  -- the classes
   pub classes : List ClassTable
+  -- the sets
   pub sets : List SetTable
+  -- the event classes that PRIORITY names, in its order
   pub priority : List ℕ
+  -- the sections
   pub sections : List SectionTable
 
 -- MAIN, by the kind of a section

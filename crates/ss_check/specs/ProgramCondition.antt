@@ -14,6 +14,7 @@ mutual
   pub data Condition : Type 0 where
     any : Conjunction → Conjunctions → Condition
 
+  -- the conjunctions behind OR
   pub data Conjunctions : Type 0 where
     no_conjunctions : Conjunctions
     or_else : Conjunction → Conjunctions → Conjunctions
@@ -22,6 +23,7 @@ mutual
   pub data Conjunction : Type 0 where
     all : Relation → Relations → Conjunction
 
+  -- the relations behind AND
   pub data Relations : Type 0 where
     no_relations : Relations
     and_also : Relation → Relations → Relations

@@ -1,5 +1,5 @@
--- Private: how the logic stores the tree of a condition: as a list of numbered tokens, each part before its own parts, read back from
--- the last.
+-- Private: how the logic stores the tree of a condition: as a list of numbered tokens, each part before its own parts,
+-- read back from the last.
 use Rattle.std.specs.Prelude.{◌≡◌, ℕ, zero, suc, List, [], ◌∷◌, None}
 use Rattle.std.proofs.Common.{refl, ap, ◌∙◌}
 use Rattle.std.specs.Coded.{Coded, code_by, coded×, coded_ℕ, coded_list}
@@ -9,7 +9,7 @@ use Rattle.ss_check.specs.declared.condition.Copula.TheVariants.{Is, IsNot}
 use Rattle.ss_check.specs.declared.target.SetRef.{SetRef}
 use Rattle.ss_check.specs.declared.condition.Comparison.TheVariants.{Equals, Differs, Below, Above, AtMost, AtLeast}
 use Rattle.ss_check.specs.ProgramExpr.{Expr, expr, Sums, no_sums, Term, term, no_products, Factor, digits, attribute, of_system}
-use Rattle.ss_check.specs.ProgramExprCode.{expr_code}
+use Rattle.ss_check.specs.ProgramExprCode.{expr_code, ten_more}
 use Rattle.ss_check.specs.ProgramCondition.{Condition, any, Conjunctions, no_conjunctions, or_else, Conjunction, all, Relations, no_relations, and_also, Relation, compared, is_empty, is_in, nested}
 
 -- a number, and the values of a comparison
@@ -70,20 +70,25 @@ comparison_number AtLeast = 10
 
 -- the tokens of a part, before what follows
 abbrev mutual
+  -- a condition: its conjunctions
   pub condition_tokens : Condition → List Token → List Token
   condition_tokens (any c cs) k = mark 0 ∷ conjunction_tokens c (conjunctions_tokens cs k)
 
+  -- the conjunctions behind OR
   pub conjunctions_tokens : Conjunctions → List Token → List Token
   conjunctions_tokens no_conjunctions k = mark 1 ∷ k
   conjunctions_tokens (or_else c cs) k = mark 2 ∷ conjunction_tokens c (conjunctions_tokens cs k)
 
+  -- a conjunction: its relations
   pub conjunction_tokens : Conjunction → List Token → List Token
   conjunction_tokens (all r rs) k = mark 3 ∷ relation_tokens r (relations_tokens rs k)
 
+  -- the relations behind AND
   pub relations_tokens : Relations → List Token → List Token
   relations_tokens no_relations k = mark 11 ∷ k
   relations_tokens (and_also r rs) k = mark 12 ∷ relation_tokens r (relations_tokens rs k)
 
+  -- a relation
   pub relation_tokens : Relation → List Token → List Token
   relation_tokens (nested c) k = mark 4 ∷ condition_tokens c k
   relation_tokens (compared e c f) k = (comparison_number c, (e, f)) ∷ k
@@ -127,12 +132,12 @@ token_read (suc (suc (suc (suc (suc (suc zero)))))) e f st = a_relation (compare
 token_read (suc (suc (suc (suc (suc (suc (suc zero))))))) e f st = a_relation (compared e Below f) ∷ st
 token_read (suc (suc (suc (suc (suc (suc (suc (suc zero)))))))) e f st = a_relation (compared e Above f) ∷ st
 token_read (suc (suc (suc (suc (suc (suc (suc (suc (suc zero))))))))) e f st = a_relation (compared e AtMost f) ∷ st
-token_read (suc (suc (suc (suc (suc (suc (suc (suc (suc (suc zero)))))))))) e f st = a_relation (compared e AtLeast f) ∷ st
-token_read (suc (suc (suc (suc (suc (suc (suc (suc (suc (suc (suc zero))))))))))) e f st = some_relations no_relations ∷ st
-token_read (suc (suc (suc (suc (suc (suc (suc (suc (suc (suc (suc (suc zero)))))))))))) e f st = and_read st
-token_read (suc (suc (suc (suc (suc (suc (suc (suc (suc (suc (suc (suc (suc zero))))))))))))) e f st = a_relation (is_empty (set_read f) Is) ∷ st
-token_read (suc (suc (suc (suc (suc (suc (suc (suc (suc (suc (suc (suc (suc (suc zero)))))))))))))) e f st = a_relation (is_empty (set_read f) IsNot) ∷ st
-token_read (suc (suc (suc (suc (suc (suc (suc (suc (suc (suc (suc (suc (suc (suc (suc zero))))))))))))))) e f st = a_relation (is_in e Is (set_read f)) ∷ st
+token_read (ten_more zero) e f st = a_relation (compared e AtLeast f) ∷ st
+token_read (ten_more (suc zero)) e f st = some_relations no_relations ∷ st
+token_read (ten_more (suc (suc zero))) e f st = and_read st
+token_read (ten_more (suc (suc (suc zero)))) e f st = a_relation (is_empty (set_read f) Is) ∷ st
+token_read (ten_more (suc (suc (suc (suc zero))))) e f st = a_relation (is_empty (set_read f) IsNot) ∷ st
+token_read (ten_more (suc (suc (suc (suc (suc zero)))))) e f st = a_relation (is_in e Is (set_read f)) ∷ st
 token_read n e f st = a_relation (is_in e IsNot (set_read f)) ∷ st
 
 -- the parts of a list of tokens
@@ -145,6 +150,7 @@ abbrev pub first_condition : List Part → Condition
 first_condition (a_condition c ∷ st) = c
 first_condition st = any (all (compared no_value Equals no_value) no_relations) no_conjunctions
 
+-- the token of a comparison is read back
 pub comparison_again : (c : Comparison) (e f : Expr) (st : List Part) →
     token_read (comparison_number c) e f st ≡ a_relation (compared e c f) ∷ st
 comparison_again Equals e f st = refl
@@ -154,11 +160,13 @@ comparison_again Above e f st = refl
 comparison_again AtMost e f st = refl
 comparison_again AtLeast e f st = refl
 
+-- one of IS EMPTY and IS NOT EMPTY
 pub empty_again : (r : SetRef) (is : Copula) (st : List Part) →
     token_read (empty_number is) no_value (set_written r) st ≡ a_relation (is_empty r is) ∷ st
 empty_again r Is st = refl
 empty_again r IsNot st = refl
 
+-- one of IS IN and IS NOT IN
 pub in_again : (e : Expr) (is : Copula) (r : SetRef) (st : List Part) →
     token_read (in_number is) e (set_written r) st ≡ a_relation (is_in e is r) ∷ st
 in_again e Is r st = refl
@@ -168,12 +176,15 @@ in_again e IsNot r st = refl
 mutual
   condition_again : (c : Condition) (k : List Token) → parts (condition_tokens c k) ≡ a_condition c ∷ parts k
   condition_again (any c cs) k =
-      ap any_read (conjunction_again c (conjunctions_tokens cs k) ∙ ap (λ st. a_conjunction c ∷ st) (conjunctions_again cs k))
+      ap any_read
+      (conjunction_again c (conjunctions_tokens cs k) ∙ ap (λ st. a_conjunction c ∷ st) (conjunctions_again cs k))
 
-  conjunctions_again : (cs : Conjunctions) (k : List Token) → parts (conjunctions_tokens cs k) ≡ some_conjunctions cs ∷ parts k
+  conjunctions_again : (cs : Conjunctions) (k : List Token) →
+      parts (conjunctions_tokens cs k) ≡ some_conjunctions cs ∷ parts k
   conjunctions_again no_conjunctions k = refl
   conjunctions_again (or_else c cs) k =
-      ap or_read (conjunction_again c (conjunctions_tokens cs k) ∙ ap (λ st. a_conjunction c ∷ st) (conjunctions_again cs k))
+      ap or_read
+      (conjunction_again c (conjunctions_tokens cs k) ∙ ap (λ st. a_conjunction c ∷ st) (conjunctions_again cs k))
 
   conjunction_again : (c : Conjunction) (k : List Token) → parts (conjunction_tokens c k) ≡ a_conjunction c ∷ parts k
   conjunction_again (all r rs) k =
@@ -198,9 +209,11 @@ written c = condition_tokens c []
 abbrev pub read_back : List Token → Condition
 read_back ws = first_condition (parts ws)
 
+-- a condition comes back from its tokens
 pub read_written : (c : Condition) → read_back (written c) ≡ c
 read_written c = ap first_condition (condition_again c [])
 
 -- how a condition is stored
 abbrev pub condition_code : Coded Condition
-condition_code = code_by (List Token) (coded_list (coded× coded_ℕ (coded× expr_code expr_code))) written read_back read_written
+condition_code =
+    code_by (List Token) (coded_list (coded× coded_ℕ (coded× expr_code expr_code))) written read_back read_written

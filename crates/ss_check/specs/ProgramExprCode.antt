@@ -1,5 +1,5 @@
--- Private: how the logic stores the tree of an expression: as a list of numbered tokens, each part before its own parts,
--- read back from the last.
+-- Private: how the logic stores the tree of an expression: as a list of numbered tokens, each part before its own
+-- parts, read back from the last.
 use Rattle.std.specs.Prelude.{◌≡◌, ℕ, zero, suc, List, [], ◌∷◌, Option, Some, None}
 use Rattle.std.proofs.Common.{refl, ap, ◌∙◌}
 use Rattle.std.specs.Coded.{Coded, code_by, coded×, coded_ℕ, coded_list}
@@ -55,20 +55,25 @@ member_number Membership = 2
 
 -- the tokens of a part, before what follows
 abbrev mutual
+  -- an expression: the sign at its head, and its terms
   pub expr_tokens : Expr → List (ℕ × ℕ) → List (ℕ × ℕ)
   expr_tokens (expr l t ss) k = lead_token l ∷ term_tokens t (sums_tokens ss k)
 
+  -- the terms behind the first, each behind its sign
   pub sums_tokens : Sums → List (ℕ × ℕ) → List (ℕ × ℕ)
   sums_tokens no_sums k = (1, 0) ∷ k
   sums_tokens (sum s t ss) k = sign_token s ∷ term_tokens t (sums_tokens ss k)
 
+  -- a term: its factors
   pub term_tokens : Term → List (ℕ × ℕ) → List (ℕ × ℕ)
   term_tokens (term f ps) k = (3, 0) ∷ factor_tokens f (products_tokens ps k)
 
+  -- the factors behind the first
   pub products_tokens : Products → List (ℕ × ℕ) → List (ℕ × ℕ)
   products_tokens no_products k = (4, 0) ∷ k
   products_tokens (product f ps) k = (5, 0) ∷ factor_tokens f (products_tokens ps k)
 
+  -- a factor: its kind, and what belongs to it
   pub factor_tokens : Factor → List (ℕ × ℕ) → List (ℕ × ℕ)
   factor_tokens (digits n) k = (6, n) ∷ k
   factor_tokens (variable x) k = variable_token x ∷ k
@@ -82,11 +87,13 @@ abbrev mutual
   factor_tokens (member_kept kept s i) k = (21, s) ∷ (19, member_number kept) ∷ subscript_tokens i k
   factor_tokens (within e) k = (10, 0) ∷ expr_tokens e k
 
+  -- a subscript
   pub subscript_tokens : Subscript → List (ℕ × ℕ) → List (ℕ × ℕ)
   subscript_tokens (implied v) k = (22, v) ∷ k
   subscript_tokens of_system k = (23, 0) ∷ k
   subscript_tokens (at e) k = (24, 0) ∷ expr_tokens e k
 
+  -- the arguments behind the first
   pub exprs_tokens : Exprs → List (ℕ × ℕ) → List (ℕ × ℕ)
   exprs_tokens no_exprs k = (16, 0) ∷ k
   exprs_tokens (exprs e es) k = (17, 0) ∷ expr_tokens e (exprs_tokens es k)
@@ -189,6 +196,10 @@ abbrev pub at_read : List Part → List Part
 at_read (an_expr e ∷ st) = a_subscript (at e) ∷ st
 at_read st = st
 
+-- ten more than a number, as the numbers of tokens are matched
+pattern abbrev pub ten_more : ℕ → ℕ
+ten_more n = suc (suc (suc (suc (suc (suc (suc (suc (suc (suc n)))))))))
+
 -- of a token by its numbers
 abbrev pub token_read : ℕ → ℕ → List Part → List Part
 token_read zero n st = expr_read n st
@@ -201,20 +212,20 @@ token_read (suc (suc (suc (suc (suc (suc zero)))))) n st = a_factor (digits n) �
 token_read (suc (suc (suc (suc (suc (suc (suc zero))))))) n st = a_factor (variable (v.Global n)) ∷ st
 token_read (suc (suc (suc (suc (suc (suc (suc (suc zero)))))))) n st = a_factor (variable (v.Local n)) ∷ st
 token_read (suc (suc (suc (suc (suc (suc (suc (suc (suc zero))))))))) n st = a_factor (variable v.Clock) ∷ st
-token_read (suc (suc (suc (suc (suc (suc (suc (suc (suc (suc zero)))))))))) n st = within_read st
-token_read (suc (suc (suc (suc (suc (suc (suc (suc (suc (suc (suc zero))))))))))) n st = absolute_read st
-token_read (suc (suc (suc (suc (suc (suc (suc (suc (suc (suc (suc (suc zero)))))))))))) n st = greatest_read st
-token_read (suc (suc (suc (suc (suc (suc (suc (suc (suc (suc (suc (suc (suc zero))))))))))))) n st = least_read st
-token_read (suc (suc (suc (suc (suc (suc (suc (suc (suc (suc (suc (suc (suc (suc zero)))))))))))))) n st = quotient_read st
-token_read (suc (suc (suc (suc (suc (suc (suc (suc (suc (suc (suc (suc (suc (suc (suc zero))))))))))))))) n st = remainder_read st
-token_read (suc (suc (suc (suc (suc (suc (suc (suc (suc (suc (suc (suc (suc (suc (suc (suc zero)))))))))))))))) n st = some_exprs no_exprs ∷ st
-token_read (suc (suc (suc (suc (suc (suc (suc (suc (suc (suc (suc (suc (suc (suc (suc (suc (suc zero))))))))))))))))) n st = argument_read st
-token_read (suc (suc (suc (suc (suc (suc (suc (suc (suc (suc (suc (suc (suc (suc (suc (suc (suc (suc zero)))))))))))))))))) n st = attribute_read n st
-token_read (suc (suc (suc (suc (suc (suc (suc (suc (suc (suc (suc (suc (suc (suc (suc (suc (suc (suc (suc zero))))))))))))))))))) n st = a_number n ∷ st
-token_read (suc (suc (suc (suc (suc (suc (suc (suc (suc (suc (suc (suc (suc (suc (suc (suc (suc (suc (suc (suc zero)))))))))))))))))))) n st = owner_kept_read n st
-token_read (suc (suc (suc (suc (suc (suc (suc (suc (suc (suc (suc (suc (suc (suc (suc (suc (suc (suc (suc (suc (suc zero))))))))))))))))))))) n st = member_kept_read n st
-token_read (suc (suc (suc (suc (suc (suc (suc (suc (suc (suc (suc (suc (suc (suc (suc (suc (suc (suc (suc (suc (suc (suc zero)))))))))))))))))))))) n st = a_subscript (implied n) ∷ st
-token_read (suc (suc (suc (suc (suc (suc (suc (suc (suc (suc (suc (suc (suc (suc (suc (suc (suc (suc (suc (suc (suc (suc (suc zero))))))))))))))))))))))) n st = a_subscript of_system ∷ st
+token_read (ten_more zero) n st = within_read st
+token_read (ten_more (suc zero)) n st = absolute_read st
+token_read (ten_more (suc (suc zero))) n st = greatest_read st
+token_read (ten_more (suc (suc (suc zero)))) n st = least_read st
+token_read (ten_more (suc (suc (suc (suc zero))))) n st = quotient_read st
+token_read (ten_more (suc (suc (suc (suc (suc zero)))))) n st = remainder_read st
+token_read (ten_more (suc (suc (suc (suc (suc (suc zero))))))) n st = some_exprs no_exprs ∷ st
+token_read (ten_more (suc (suc (suc (suc (suc (suc (suc zero)))))))) n st = argument_read st
+token_read (ten_more (suc (suc (suc (suc (suc (suc (suc (suc zero))))))))) n st = attribute_read n st
+token_read (ten_more (suc (suc (suc (suc (suc (suc (suc (suc (suc zero)))))))))) n st = a_number n ∷ st
+token_read (ten_more (ten_more zero)) n st = owner_kept_read n st
+token_read (ten_more (ten_more (suc zero))) n st = member_kept_read n st
+token_read (ten_more (ten_more (suc (suc zero)))) n st = a_subscript (implied n) ∷ st
+token_read (ten_more (ten_more (suc (suc (suc zero))))) n st = a_subscript of_system ∷ st
 token_read k n st = at_read st
 
 -- the parts of a list of tokens
@@ -227,28 +238,34 @@ abbrev pub first_expr : List Part → Expr
 first_expr (an_expr e ∷ st) = e
 first_expr st = expr None (term (digits 0) no_products) no_sums
 
+-- a token of an expression is read back
 pub lead_again : (l : Option TermSign) (t : Term) (ss : Sums) (st : List Part) →
     token_read (lead_token l).0 (lead_token l).1 (a_term t ∷ some_sums ss ∷ st) ≡ an_expr (expr l t ss) ∷ st
 lead_again None t ss st = refl
 lead_again (Some Plus) t ss st = refl
 lead_again (Some Minus) t ss st = refl
 
+-- one of a further term
 pub sign_again : (s : TermSign) (t : Term) (ss : Sums) (st : List Part) →
     token_read (sign_token s).0 (sign_token s).1 (a_term t ∷ some_sums ss ∷ st) ≡ some_sums (sum s t ss) ∷ st
 sign_again Plus t ss st = refl
 sign_again Minus t ss st = refl
 
-pub variable_again : (x : Variable) (st : List Part) → token_read (variable_token x).0 (variable_token x).1 st ≡ a_factor (variable x) ∷ st
+-- one of a variable
+pub variable_again : (x : Variable) (st : List Part) →
+    token_read (variable_token x).0 (variable_token x).1 st ≡ a_factor (variable x) ∷ st
 variable_again (v.Global i) st = refl
 variable_again (v.Local i) st = refl
 variable_again v.Clock st = refl
 
+-- one of a kept attribute of an owner
 pub owner_kept_again : (kept : OwnerKept) (s : ℕ) (i : Subscript) (st : List Part) →
     owner_kept_read s (a_number (owner_number kept) ∷ a_subscript i ∷ st) ≡ a_factor (owner_kept kept s i) ∷ st
 owner_kept_again First s i st = refl
 owner_kept_again Last s i st = refl
 owner_kept_again Count s i st = refl
 
+-- one of a kept attribute of a member
 pub member_kept_again : (kept : MemberKept) (s : ℕ) (i : Subscript) (st : List Part) →
     member_kept_read s (a_number (member_number kept) ∷ a_subscript i ∷ st) ≡ a_factor (member_kept kept s i) ∷ st
 member_kept_again Predecessor s i st = refl
@@ -259,35 +276,45 @@ member_kept_again Membership s i st = refl
 mutual
   expr_again : (e : Expr) (k : List (ℕ × ℕ)) → parts (expr_tokens e k) ≡ an_expr e ∷ parts k
   expr_again (expr l t ss) k =
-      ap (token_read (lead_token l).0 (lead_token l).1) (term_again t (sums_tokens ss k) ∙ ap (λ st. a_term t ∷ st) (sums_again ss k))
+      ap (token_read (lead_token l).0 (lead_token l).1)
+      (term_again t (sums_tokens ss k) ∙ ap (λ st. a_term t ∷ st) (sums_again ss k))
       ∙ lead_again l t ss (parts k)
 
   sums_again : (ss : Sums) (k : List (ℕ × ℕ)) → parts (sums_tokens ss k) ≡ some_sums ss ∷ parts k
   sums_again no_sums k = refl
   sums_again (sum s t ss) k =
-      ap (token_read (sign_token s).0 (sign_token s).1) (term_again t (sums_tokens ss k) ∙ ap (λ st. a_term t ∷ st) (sums_again ss k))
+      ap (token_read (sign_token s).0 (sign_token s).1)
+      (term_again t (sums_tokens ss k) ∙ ap (λ st. a_term t ∷ st) (sums_again ss k))
       ∙ sign_again s t ss (parts k)
 
   term_again : (t : Term) (k : List (ℕ × ℕ)) → parts (term_tokens t k) ≡ a_term t ∷ parts k
-  term_again (term f ps) k = ap term_read (factor_again f (products_tokens ps k) ∙ ap (λ st. a_factor f ∷ st) (products_again ps k))
+  term_again (term f ps) k =
+      ap term_read (factor_again f (products_tokens ps k) ∙ ap (λ st. a_factor f ∷ st) (products_again ps k))
 
   products_again : (ps : Products) (k : List (ℕ × ℕ)) → parts (products_tokens ps k) ≡ some_products ps ∷ parts k
   products_again no_products k = refl
-  products_again (product f ps) k = ap product_read (factor_again f (products_tokens ps k) ∙ ap (λ st. a_factor f ∷ st) (products_again ps k))
+  products_again (product f ps) k =
+      ap product_read (factor_again f (products_tokens ps k) ∙ ap (λ st. a_factor f ∷ st) (products_again ps k))
 
   factor_again : (f : Factor) (k : List (ℕ × ℕ)) → parts (factor_tokens f k) ≡ a_factor f ∷ parts k
   factor_again (digits n) k = refl
   factor_again (variable x) k = variable_again x (parts k)
   factor_again (absolute e) k = ap absolute_read (expr_again e k)
-  factor_again (greatest e es) k = ap greatest_read (expr_again e (exprs_tokens es k) ∙ ap (λ st. an_expr e ∷ st) (exprs_again es k))
-  factor_again (least e es) k = ap least_read (expr_again e (exprs_tokens es k) ∙ ap (λ st. an_expr e ∷ st) (exprs_again es k))
-  factor_again (quotient e f) k = ap quotient_read (expr_again e (expr_tokens f k) ∙ ap (λ st. an_expr e ∷ st) (expr_again f k))
-  factor_again (remainder e f) k = ap remainder_read (expr_again e (expr_tokens f k) ∙ ap (λ st. an_expr e ∷ st) (expr_again f k))
+  factor_again (greatest e es) k =
+      ap greatest_read (expr_again e (exprs_tokens es k) ∙ ap (λ st. an_expr e ∷ st) (exprs_again es k))
+  factor_again (least e es) k =
+      ap least_read (expr_again e (exprs_tokens es k) ∙ ap (λ st. an_expr e ∷ st) (exprs_again es k))
+  factor_again (quotient e f) k =
+      ap quotient_read (expr_again e (expr_tokens f k) ∙ ap (λ st. an_expr e ∷ st) (expr_again f k))
+  factor_again (remainder e f) k =
+      ap remainder_read (expr_again e (expr_tokens f k) ∙ ap (λ st. an_expr e ∷ st) (expr_again f k))
   factor_again (attribute c a i) k = ap (λ st. attribute_read c (a_number a ∷ st)) (subscript_again i k)
   factor_again (owner_kept kept s i) k =
-      ap (λ st. owner_kept_read s (a_number (owner_number kept) ∷ st)) (subscript_again i k) ∙ owner_kept_again kept s i (parts k)
+      ap (λ st. owner_kept_read s (a_number (owner_number kept) ∷ st)) (subscript_again i k)
+      ∙ owner_kept_again kept s i (parts k)
   factor_again (member_kept kept s i) k =
-      ap (λ st. member_kept_read s (a_number (member_number kept) ∷ st)) (subscript_again i k) ∙ member_kept_again kept s i (parts k)
+      ap (λ st. member_kept_read s (a_number (member_number kept) ∷ st)) (subscript_again i k)
+      ∙ member_kept_again kept s i (parts k)
   factor_again (within e) k = ap within_read (expr_again e k)
 
   subscript_again : (i : Subscript) (k : List (ℕ × ℕ)) → parts (subscript_tokens i k) ≡ a_subscript i ∷ parts k
@@ -297,7 +324,8 @@ mutual
 
   exprs_again : (es : Exprs) (k : List (ℕ × ℕ)) → parts (exprs_tokens es k) ≡ some_exprs es ∷ parts k
   exprs_again no_exprs k = refl
-  exprs_again (exprs e es) k = ap argument_read (expr_again e (exprs_tokens es k) ∙ ap (λ st. an_expr e ∷ st) (exprs_again es k))
+  exprs_again (exprs e es) k =
+      ap argument_read (expr_again e (exprs_tokens es k) ∙ ap (λ st. an_expr e ∷ st) (exprs_again es k))
 
 -- an expression as its tokens
 abbrev pub written : Expr → List (ℕ × ℕ)
@@ -307,6 +335,7 @@ written e = expr_tokens e []
 abbrev pub read_back : List (ℕ × ℕ) → Expr
 read_back ws = first_expr (parts ws)
 
+-- an expression comes back from its tokens
 pub read_written : (e : Expr) → read_back (written e) ≡ e
 read_written e = ap first_expr (expr_again e [])
 
@@ -314,7 +343,7 @@ read_written e = ap first_expr (expr_again e [])
 abbrev pub expr_code : Coded Expr
 expr_code = code_by (List (ℕ × ℕ)) (coded_list (coded× coded_ℕ coded_ℕ)) written read_back read_written
 
--- how a subscript is stored: as its tokens
+-- a subscript as its tokens
 abbrev pub subscript_written : Subscript → List (ℕ × ℕ)
 subscript_written i = subscript_tokens i []
 
@@ -327,8 +356,12 @@ first_subscript st = of_system
 abbrev pub subscript_read_back : List (ℕ × ℕ) → Subscript
 subscript_read_back ws = first_subscript (parts ws)
 
+-- a subscript comes back from its tokens
 pub subscript_read_written : (i : Subscript) → subscript_read_back (subscript_written i) ≡ i
 subscript_read_written i = ap first_subscript (subscript_again i [])
 
+-- how a subscript is stored
 abbrev pub subscript_code : Coded Subscript
-subscript_code = code_by (List (ℕ × ℕ)) (coded_list (coded× coded_ℕ coded_ℕ)) subscript_written subscript_read_back subscript_read_written
+subscript_code =
+    code_by (List (ℕ × ℕ)) (coded_list (coded× coded_ℕ coded_ℕ)) subscript_written subscript_read_back
+    subscript_read_written

@@ -56,11 +56,15 @@ use Rattle.ss_check.specs.declared.kinds.Owner.TheVariants.{System, OwnedBy}
 use Rattle.ss_check.specs.EventTable.{EventTable}
 use Rattle.ss_check.specs.Program.{ClassTable, SetTable, SectionTable, ProgramTable, is_main, is_routine, class_of, is_permanent, is_event, is_event_section, section_of}
 
--- what a place may name: how many global variables and locals there are, which classes are permanent, and how many sets there are
+-- what a place may name
 pub record Scope : Type 0 where
+  -- how many global variables there are
   pub globals : ℕ
+  -- how many locals the section has
   pub locals : ℕ
+  -- of each class, whether it is permanent
   pub permanent : List Bool
+  -- how many sets there are
   pub sets : ℕ
 
 -- a variable is one of the global ones, one of the locals, or the clock
@@ -81,20 +85,25 @@ IsClass sc c = c < length sc.permanent
 
 -- each variable of an expression is sound
 abbrev mutual
+  -- of the whole expression
   pub IsSoundExpr : Scope → Expr → Type 0
   IsSoundExpr sc (expr l t ss) = IsSoundTerm sc t × IsSoundSums sc ss
 
+  -- of the terms behind the first
   pub IsSoundSums : Scope → Sums → Type 0
   IsSoundSums sc no_sums = Unit {0}
   IsSoundSums sc (sum s t ss) = IsSoundTerm sc t × IsSoundSums sc ss
 
+  -- of a term
   pub IsSoundTerm : Scope → Term → Type 0
   IsSoundTerm sc (term f ps) = IsSoundFactor sc f × IsSoundProducts sc ps
 
+  -- of the factors behind the first
   pub IsSoundProducts : Scope → Products → Type 0
   IsSoundProducts sc no_products = Unit {0}
   IsSoundProducts sc (product f ps) = IsSoundFactor sc f × IsSoundProducts sc ps
 
+  -- of a factor, whose class or set is one of the table
   pub IsSoundFactor : Scope → Factor → Type 0
   IsSoundFactor sc (digits k) = Unit {0}
   IsSoundFactor sc (variable x) = IsSoundVariable sc x
@@ -108,15 +117,18 @@ abbrev mutual
   IsSoundFactor sc (member_kept kept s i) = (s < sc.sets) × IsSoundSubscript sc i
   IsSoundFactor sc (within e) = IsSoundExpr sc e
 
+  -- of a subscript: a class's variable is a global one
   pub IsSoundSubscript : Scope → Subscript → Type 0
   IsSoundSubscript sc (implied v) = v < sc.globals
   IsSoundSubscript sc of_system = Unit {0}
   IsSoundSubscript sc (at e) = IsSoundExpr sc e
 
+  -- of the arguments behind the first
   pub AreSoundArguments : Scope → Exprs → Type 0
   AreSoundArguments sc no_exprs = Unit {0}
   AreSoundArguments sc (exprs e es) = IsSoundExpr sc e × AreSoundArguments sc es
 
+-- the same of each expression of a list
 abbrev pub AreSoundExprs : Scope → List Expr → Type 0
 AreSoundExprs sc [] = Unit {0}
 AreSoundExprs sc (e ∷ es) = IsSoundExpr sc e × AreSoundExprs sc es
@@ -138,25 +150,31 @@ IsSoundAssign sc (Subtract value target) = IsTarget sc target × IsSoundExpr sc 
 
 -- a PRINT has sound values, as many as its picture has fields, and no decimal field; a SKIP has a sound value
 abbrev pub IsSoundOutput : Scope → AnOutput → Type 0
-IsSoundOutput sc (Print count values picture) = (length values ≡ field_count picture) × (has_decimal_field picture ≡ false) × AreSoundExprs sc values
+IsSoundOutput sc (Print count values picture) =
+    (length values ≡ field_count picture) × (has_decimal_field picture ≡ false) × AreSoundExprs sc values
 IsSoundOutput sc (Skip count) = IsSoundExpr sc count
 
 -- each value of a condition is sound
 abbrev mutual
+  -- of the whole condition
   pub IsSoundCondition : Scope → Condition → Type 0
   IsSoundCondition sc (any c cs) = IsSoundConjunction sc c × AreSoundConjunctions sc cs
 
+  -- of the conjunctions behind OR
   pub AreSoundConjunctions : Scope → Conjunctions → Type 0
   AreSoundConjunctions sc no_conjunctions = Unit {0}
   AreSoundConjunctions sc (or_else c cs) = IsSoundConjunction sc c × AreSoundConjunctions sc cs
 
+  -- of a conjunction
   pub IsSoundConjunction : Scope → Conjunction → Type 0
   IsSoundConjunction sc (all r rs) = IsSoundRelation sc r × AreSoundRelations sc rs
 
+  -- of the relations behind AND
   pub AreSoundRelations : Scope → Relations → Type 0
   AreSoundRelations sc no_relations = Unit {0}
   AreSoundRelations sc (and_also r rs) = IsSoundRelation sc r × AreSoundRelations sc rs
 
+  -- of a relation
   pub IsSoundRelation : Scope → Relation → Type 0
   IsSoundRelation sc (compared e c f) = IsSoundExpr sc e × IsSoundExpr sc f
   IsSoundRelation sc (is_empty r is) = IsSoundSetRef sc r
@@ -191,8 +209,8 @@ IsSoundBegin sc AtTheEnd = Unit {0}
 IsSoundBegin sc (From e) = IsSoundExpr sc e
 IsSoundBegin sc (After e) = IsSoundExpr sc e
 
--- what a FOR phrase goes through: its variable is a target, its bounds and its step are sound, and the number of a class's entities is a
--- global variable
+-- what a FOR phrase goes through: its variable is a target, its bounds and its step are sound, and the number of a
+-- class's entities is a global variable
 abbrev pub IsSoundPhrase : Scope → Phrase → Type 0
 IsSoundPhrase sc (Counting d x first last step) =
     IsSettable sc x × IsSoundExpr sc first × IsSoundExpr sc last × IsSoundOption sc step
@@ -224,7 +242,8 @@ IsSoundCall sc c = AreSoundExprs sc c.given × AreTargets sc c.targets
 -- what makes and ends entities: those of permanent classes are made all at once, and not ended
 abbrev pub IsSoundMaking : Scope → AMaking → Type 0
 IsSoundMaking sc (Create c is_called t) = (slice_get sc.permanent c ≡ Some false) × IsTarget sc t
-IsSoundMaking sc (CreateEvery c e count) = (slice_get sc.permanent c ≡ Some true) × IsSoundOption sc e × (count < sc.globals)
+IsSoundMaking sc (CreateEvery c e count) =
+    (slice_get sc.permanent c ≡ Some true) × IsSoundOption sc e × (count < sc.globals)
 IsSoundMaking sc (Destroy c is_called e) = (slice_get sc.permanent c ≡ Some false) × IsSoundExpr sc e
 
 -- where FILE puts a member
@@ -273,6 +292,7 @@ IsSoundPlace sc (Call c) = IsSoundCall sc c
 IsSoundPlace sc (Timing t) = IsSoundTiming sc t
 IsSoundPlace sc (Read ts) = AreTargets sc ts
 
+-- the same of each place of a list
 abbrev pub AreSoundPlaces : Scope → List Spot → Type 0
 AreSoundPlaces sc [] = Unit {0}
 AreSoundPlaces sc (s ∷ ss) = IsSoundPlace sc s.place × AreSoundPlaces sc ss
@@ -305,8 +325,8 @@ IsCalledBy c (Some t) =
 abbrev pub loop_limit : ℕ
 loop_limit = 16
 
--- a place with these ways, in a section with `count` places: where else it may go on is a place, too; FIND closes few loops; a CALL is
--- one of a routine
+-- a place with these ways, in a section with `count` places: where else it may go on is a place, too; FIND closes few
+-- loops; a CALL is one of a routine
 abbrev pub LeadsOn : List SectionTable → ℕ → Ways → Place → Type 0
 LeadsOn ss count w (Branch (If q)) = w.exit < count
 LeadsOn ss count w (Looping (For f)) = w.exit < count
@@ -316,7 +336,9 @@ LeadsOn ss count w other = Unit {0}
 
 -- what holds of the place with these ways
 pub record IsLinkedPlace (ss : List SectionTable) (count : ℕ) (w : Ways) (x : Place) : Type 0 where
+  -- it goes on to a place
   pub next : GoesOn count (is_end x) w.next
+  -- and so where it goes on elsewhere
   pub leads : LeadsOn ss count w x
 
 -- the places of a section from number i on
@@ -334,8 +356,11 @@ AreLinkedSections ss (s ∷ more) = AreLinkedPlaces ss s.places 0 s.places × Ar
 
 -- class number c is an event class, with this many attributes at least
 pub record IsEventClass (p : ProgramTable) (c n : ℕ) : Type 0 where
+  -- it is a class of the table
   pub class : c < length p.classes
+  -- of event notices
   pub event : is_event (class_of p c).kind ≡ true
+  -- its attributes
   pub attributes : n ≤ length (class_of p c).attributes
 
 -- notices are of event classes, with no more arguments than attributes; events start in MAIN
@@ -369,15 +394,24 @@ scope_of p s = record {
 
 -- a section of a program
 pub record IsSoundSection (p : ProgramTable) (s : SectionTable) : Type 0 where
+  -- no two locals have one name
   pub distinct : AreDistinct s.locals
+  -- the parameters are locals
   pub parameters : s.given + s.yielded ≤ length s.locals
+  -- of which there are not too many
   pub few_parameters : s.given + s.yielded ≤ parameter_limit
+  -- its places name what there is
   pub places : AreSoundPlaces (scope_of p s) s.places
+  -- END is the last place, and no other one
   pub ended : IsEnded s.places
+  -- each place leads to places where as many loops may be open
   pub nested : AreNestedPlaces s.places 0 s.places
+  -- notices are of event classes, and events start in MAIN
   pub timed : AreTimed p s s.places
+  -- its places can be counted
   pub few : length s.places < 2 ^ 63
 
+-- the same of each section of a list
 abbrev pub AreSoundSections : ProgramTable → List SectionTable → Type 0
 AreSoundSections p [] = Unit {0}
 AreSoundSections p (s ∷ ss) = IsSoundSection p s × AreSoundSections p ss
@@ -389,39 +423,54 @@ HaveDistinctAttributes (c ∷ cs) = AreDistinct c.attributes × HaveDistinctAttr
 
 -- each of a program's own tables has distinct names, and each class has the name of a global variable
 pub record HasSoundNames (p : ProgramTable) : Type 0 where
+  -- the global variables
   pub globals : AreDistinct p.globals
+  -- the classes
   pub classes : AreDistinct (map (λ c. c.name) p.classes)
+  -- the attributes of each class
   pub attributes : HaveDistinctAttributes p.classes
+  -- the sets
   pub sets : AreDistinct (map (λ s. s.name) p.sets)
+  -- each class's name is one of a global variable
   pub class_variables : list_all (λ c. list_any (bytes_eq c.name) p.globals) p.classes ≡ true
 
 -- ---- classes and sets
 
--- the most classes, the most sets, the most attributes of a class, and the most keys of a ranking
+-- the most classes
 abbrev pub class_limit : ℕ
 class_limit = 64
 
+-- the most sets
 abbrev pub set_limit : ℕ
 set_limit = 64
 
+-- the most attributes of a class
 abbrev pub attribute_limit : ℕ
 attribute_limit = 32
 
+-- the most keys of a ranking
 abbrev pub key_limit : ℕ
 key_limit = 8
 
 -- at most eight keys, each of one of n attributes
 pub record AreSoundKeys (n : ℕ) (keys : List Key) : Type 0 where
+  -- each key is one of the attributes
   pub attributes : All (λ k. k.attribute < n) keys
+  -- there are not too many
   pub few : length keys ≤ key_limit
 
--- an event class with n attributes: its section is the section of an event, with at most n parameters, and its ties are broken by
--- its attributes
+-- an event class with n attributes: its section is the section of an event, with at most n parameters, and its ties are
+-- broken by its attributes
 pub record IsSoundEvent (p : ProgramTable) (n : ℕ) (e : EventTable) : Type 0 where
+  -- its section is one of the table
   pub section : e.section < length p.sections
+  -- the section of an event
   pub kind : is_event_section (section_of p e.section) ≡ true
+  -- each given parameter has an attribute
   pub given : (section_of p e.section).given ≤ n
+  -- nothing is yielded
   pub yielded : (section_of p e.section).yielded ≡ 0
+  -- its ties
   pub ties : AreSoundKeys n e.ties
 
 -- a kind of class with n attributes
@@ -430,10 +479,13 @@ IsSoundKind p n (Permanent count) = count < length p.globals
 IsSoundKind p n Temporary = Unit {0}
 IsSoundKind p n (Event e) = IsSoundEvent p n e
 
--- a class: the variable of its name, its kind, and at most 32 attributes
+-- a class
 pub record IsSoundClass (p : ProgramTable) (c : ClassTable) : Type 0 where
+  -- the global variable of its name has its name
   pub variable : slice_get p.globals c.variable ≡ Some c.name
+  -- its kind
   pub kind : IsSoundKind p (length c.attributes) c.kind
+  -- its attributes are not too many
   pub few : length c.attributes ≤ attribute_limit
 
 -- the system, or one of n classes
@@ -447,32 +499,50 @@ IsSoundDiscipline n Fifo = Unit {0}
 IsSoundDiscipline n Lifo = Unit {0}
 IsSoundDiscipline n (Ranked keys) = AreSoundKeys n keys
 
--- a set: its owner's and its members' class are in the table, and its keys are attributes of its members
+-- a set
 pub record IsSoundSet (p : ProgramTable) (t : SetTable) : Type 0 where
+  -- its owner's class is one of the table
   pub owner : IsSoundOwner (length p.classes) t.owner
+  -- so is the class of its members
   pub member : t.member < length p.classes
+  -- its keys are attributes of its members
   pub discipline : IsSoundDiscipline (length (class_of p t.member).attributes) t.discipline
 
--- a class that PRIORITY names is an event class of the table
+-- a class that PRIORITY names
 pub record IsSoundPriority (p : ProgramTable) (c : ℕ) : Type 0 where
+  -- it is one of the table
   pub class : c < length p.classes
+  -- of event notices
   pub event : is_event (class_of p c).kind ≡ true
 
--- the tables of classes and sets, at most 64 rows each, and the priority, in which no class stands twice
+-- the tables of classes and sets, and the priority
 pub record HasSoundTables (p : ProgramTable) : Type 0 where
+  -- each class
   pub classes : All (IsSoundClass p) p.classes
+  -- each set
   pub sets : All (IsSoundSet p) p.sets
+  -- each class that PRIORITY names
   pub priority : All (IsSoundPriority p) p.priority
+  -- PRIORITY names no class twice
   pub once : IsDistinct ◌==◌ p.priority
+  -- there are not too many classes
   pub few_classes : length p.classes ≤ class_limit
+  -- nor too many sets
   pub few_sets : length p.sets ≤ set_limit
 
--- a program: one MAIN, sound sections, and tables of sound names, which 32 bits can number
+-- a program
 pub record IsSound (p : ProgramTable) : Type 0 where
+  -- one section is MAIN
   pub main : count_by is_main p.sections ≡ 1
+  -- each section
   pub sections : AreSoundSections p p.sections
+  -- the sections can be counted
   pub few : length p.sections < 2 ^ 63
+  -- each place goes on to places of its section
   pub linked : AreLinkedSections p.sections p.sections
+  -- its names
   pub names : HasSoundNames p
+  -- its tables
   pub tables : HasSoundTables p
+  -- 32 bits can number its names
   pub few_names : length p.globals + length p.classes + length p.sets < 2 ^ 32

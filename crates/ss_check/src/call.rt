@@ -21,7 +21,8 @@ impl Model for Targets {
     ghost view = { λ a. a.list.items };
 }
 
-/// `CALL` of a section, by its number, with the values given to it and the targets of those that it yields.
+/// `CALL` of a section, by its number, with the values given to it and the targets of those that it
+/// yields.
 #[derive(Debug, Drop)]
 pub struct Call {
     pub section: usize,

@@ -1,7 +1,8 @@
 use crate::sum::Sum;
 use std::marker::Model;
 
-/// An expression of a place. Contracts see it as the tree of its text, with variables in place of names.
+/// An expression of a place. Contracts see it as the tree of its text, with variables in place of
+/// names.
 #[derive(Debug, Drop)]
 pub struct Expr {
     pub sum: Sum,

@@ -26,7 +26,8 @@ impl Named {
 }
 
 impl Program {
-    /// What this name, in upper case, is. `None` where it is no global variable, no class and no set; so for TIME.V.
+    /// What this name, in upper case, is. `None` where it is no global variable, no class and no
+    /// set; so for TIME.V.
     pub fn find(&self, name: &[u8]) -> Option<Named>
         ensures { result ≡ named self.now name.now }
     {
@@ -51,8 +52,8 @@ impl Program {
         }
     }
 
-    /// The place of this name, in upper case, in the table of the local variables of the section with this number.
-    /// `None` where it is none of them.
+    /// The place of this name, in upper case, in the table of the local variables of the section
+    /// with this number. `None` where it is none of them.
     pub fn local(&self, section: usize, name: &[u8]) -> Option<usize>
         requires { section < length self.now.sections }
         ensures { result ≡ position (bytes_eq name.now) (locals_of (slice_get self.now.sections section)) }

@@ -1,5 +1,5 @@
-//! The checker and the checked program: tables of distinct names, and sections as lists of places in which each name is its
-//! number in a table.
+//! The checker and the checked program: tables of distinct names, and sections as lists of places
+//! in which each name is its number in a table.
 #![tactic(auto)]
 
 mod branch;

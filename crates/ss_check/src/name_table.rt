@@ -6,8 +6,8 @@ use std::alloc::{AllocError, Global};
 use std::collections::BTreeMap;
 use std::marker::Model;
 
-/// Names in the order in which they were put in, none twice. A name is found in time that grows with
-/// the logarithm of their number.
+/// Names in the order in which they were put in, none twice. A name is found in time that grows
+/// with the logarithm of their number.
 #[derive(Drop)]
 pub struct NameTable {
     alloc: Global,
@@ -53,7 +53,8 @@ impl NameTable {
         self.places.get(name).copied()
     }
 
-    /// Puts a name at the end, unless it is in the table. Where memory is refused the table is as before.
+    /// Puts a name at the end, unless it is in the table. Where memory is refused the table is as
+    /// before.
     pub fn add(&mut self, name: &[u8]) -> Result<(), AllocError>
         ensures ok { OnOk result (self.new ≡ with_name self.old name.now) }
         ensures err { OnErr result (self.new ≡ self.old) }

@@ -11,8 +11,9 @@ use crate::tables::{Class, Set};
 use crate::ways::Ways;
 use std::marker::Model;
 
-/// A checked program. The names of its global variables, classes and sets, those of a class's attributes and those of a
-/// section's locals stand in order of declaration, each once in its table.
+/// A checked program. The names of its global variables, classes and sets, those of a class's
+/// attributes and those of a section's locals stand in order of declaration, each once in its
+/// table.
 #[derive(Debug, Drop)]
 pub struct Program {
     pub globals: Vec<Name>,

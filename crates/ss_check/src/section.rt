@@ -8,9 +8,9 @@ use crate::ways::{self, Ways};
 use std::alloc::{AllocError, Global};
 use std::marker::Model;
 
-/// A section: its name (`MAIN` for the main one), the line of its head, how many given and how many yielded
-/// parameters it has, whether its event's notice is saved, its locals in the order of its table (those of the
-/// parameters first), and its places.
+/// A section: its name (`MAIN` for the main one), the line of its head, how many given and how many
+/// yielded parameters it has, whether its event's notice is saved, its locals in the order of its
+/// table (those of the parameters first), and its places.
 #[derive(Debug, Drop)]
 pub struct Section {
     pub name: Name,

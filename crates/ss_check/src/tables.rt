@@ -2,8 +2,8 @@ use crate::kinds::{ClassKind, Discipline, Owner};
 use crate::name::Name;
 use std::marker::Model;
 
-/// A class, the number of the global variable of its name, and the names of its attributes in order of
-/// declaration.
+/// A class, the number of the global variable of its name, and the names of its attributes in order
+/// of declaration.
 #[derive(Debug, Drop)]
 pub struct Class {
     pub name: Name,

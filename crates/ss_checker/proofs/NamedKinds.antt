@@ -92,7 +92,8 @@ called_clause None (Has ns) = called_map k.Variable (all_of ns) (λ n. tt)
 called_clause o (Owns ns) = called_flat set_facts (all_of ns) called_set
 called_clause o (BelongsTo ns) = called_flat set_facts (all_of ns) called_set
 
-called_item : (h : Option Heading) (i : Item) → AreCalled (item_facts h i ++ flat_map (clause_facts (class_of i)) (clauses_of i))
+called_item : (h : Option Heading) (i : Item) →
+    AreCalled (item_facts h i ++ flat_map (clause_facts (class_of i)) (clauses_of i))
 called_item h Normally = λ f x. absurd x
 called_item h (Headed g ns) =
     called_both (flat_map (class_facts (Some g)) (included ns)) []
@@ -126,7 +127,8 @@ called_head (RoutineHead n given yielded) f (inl e) = is f n k.Routine e tt
 called_head (RoutineHead n given yielded) f (inr x) = absurd x
 
 -- each declared name is called as the language has it
-pub all_called : (xs : List Entry) (hs : List Head) (f : Fact NameKind) → In f (all_kinds xs hs) → IsCalled f.name f.what
+pub all_called : (xs : List Entry) (hs : List Head) (f : Fact NameKind) → In f (all_kinds xs hs) →
+    IsCalled f.name f.what
 all_called xs hs =
     called_both (language_facts ++ flat_map declarations xs) (flat_map routine_facts hs)
     (called_both language_facts (flat_map declarations xs) called_language (called_flat declarations xs called_entry))

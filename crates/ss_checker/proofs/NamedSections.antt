@@ -91,7 +91,8 @@ head_by : (hd : Head) (names : List Name) → IsLonger (given_of hd ++ yielded_o
     (take (length (yielded_of hd)) (drop (length (given_of hd)) names)) (says_saving hd) ≡ plain_head hd
 head_by MainHead names h = refl
 head_by (RoutineHead n ps ys) names h =
-    two (RoutineHead n) (ap given (first_part (listed ps) ys names h) ∙ given_listed ps) (second_part (listed ps) ys names h)
+    two (RoutineHead n) (ap given (first_part (listed ps) ys names h) ∙ given_listed ps)
+    (second_part (listed ps) ys names h)
 head_by (EventHead n ps saving) names h =
     ap (λ (zs : Listing Name). EventHead n zs saving) (ap given (first_part (listed ps) [] names h) ∙ given_listed ps)
 
@@ -104,7 +105,8 @@ routine_is n (RoutineHead m ps ys) (inr x) = absurd x
 
 -- ---- the program
 
-module _ (is : List ItemAt) (qs : List Section) (h : AreItemsKept (tables is qs) [] (entries is)) (s : AreSectionsKept (tables is qs) (entries is) [] qs) where
+module _ (is : List ItemAt) (qs : List Section) (h : AreItemsKept (tables is qs) [] (entries is))
+    (s : AreSectionsKept (tables is qs) (entries is) [] qs) where
   abbrev xs : List Entry
   xs = entries is
 
@@ -125,7 +127,8 @@ module _ (is : List ItemAt) (qs : List Section) (h : AreItemsKept (tables is qs)
 
   class_at : (c : Name) → HasClass D.kinds c → class_of p (number c V.classes) ≡ class_table D V R c
   class_at c i =
-      ap (λ (o : Option ClassTable). unwrap_or o (record { name = []; kind = Temporary; variable = 0; attributes = [] }))
+      ap (λ (o : Option ClassTable). unwrap_or o
+      (record { name = []; kind = Temporary; variable = 0; attributes = [] }))
       (image_at (class_table D V R) c V.classes (class_in xs hs h c i))
 
   set_at : (t : Name) → In (fact t k.Set) D.kinds → set_of p (number t V.sets) ≡ set_table D V R t
@@ -137,21 +140,27 @@ module _ (is : List ItemAt) (qs : List Section) (h : AreItemsKept (tables is qs)
       named_attribute p locals (number c V.classes) (number n (attribute_names V c)) ≡ n
   attribute_at locals n c e =
       let i = closed_kind xs hs h n (k.Attribute c) e in
-      let there = where_has (is_attribute_of c) n (k.Attribute c) D.kinds (kind_in xs hs h n (k.Attribute c) e) (same_name c) in
+      let there = where_has (is_attribute_of c) n (k.Attribute c) D.kinds (kind_in xs hs h n (k.Attribute c) e)
+      (same_name c) in
       ap (λ (t : ClassTable). name_at t.attributes (number n (attribute_names V c))) (class_at c i)
-      ∙ ap (λ (ns : List Name). name_at (attributes_of D c) (number n ns)) (attributes_are xs hs h R c (class_in xs hs h c i))
-      ∙ ap (λ (o : Option Name). unwrap_or o []) (number_finds n (attributes_of D c) (number_there n (attributes_of D c) there))
+      ∙ ap (λ (ns : List Name). name_at (attributes_of D c) (number n ns))
+      (attributes_are xs hs h R c (class_in xs hs h c i))
+      ∙ ap (λ (o : Option Name). unwrap_or o [])
+      (number_finds n (attributes_of D c) (number_there n (attributes_of D c) there))
 
-  routine_at : (locals : List Name) (n : Name) → kind_of D n ≡ Some k.Routine → (section_of p (routine_number D V locals n)).name ≡ n
+  routine_at : (locals : List Name) (n : Name) → kind_of D n ≡ Some k.Routine →
+      (section_of p (routine_number D V locals n)).name ≡ n
   routine_at locals n e =
       let f = routine_found qs 0 n (closed_kind xs hs h n k.Routine e) in
       let y = f.section in
       let holds = f.holds in
-      let number_is : routine_number D V locals n ≡ f.place = ap (λ (o : Option ℕ). unwrap_or o 0) f.number ∙ omega arith in
+      let number_is : routine_number D V locals n ≡ f.place =
+      ap (λ (o : Option ℕ). unwrap_or o 0) f.number ∙ omega arith in
       let there : slice_get p.sections (routine_number D V locals n) ≡ Some (resolved_section D V y) =
       ap (slice_get p.sections) number_is ∙ slice_get-map (resolved_section D V) qs f.place
       ∙ ap (option_map (resolved_section D V)) f.there in
-      ap (λ (o : Option SectionTable). (unwrap_or o (section_of (record { globals = []; classes = []; sets = []; priority = []; sections = [] }) 0)).name) there
+      ap (λ (o : Option SectionTable). (unwrap_or o
+      (section_of (record { globals = []; classes = []; sets = []; priority = []; sections = [] }) 0)).name) there
       ∙ routine_is n y.head holds.names
 
   listed_names : (locals : List Name) → IsListed D V locals p
@@ -160,10 +169,12 @@ module _ (is : List ItemAt) (qs : List Section) (h : AreItemsKept (tables is qs)
         (number_finds n V.globals (number_there n V.globals (global_in xs hs h n j (kind_in xs hs h n j e) t)));
     attribute = λ n c e. attribute_at locals n c e;
     owner_kept = λ n a t e.
-        ap (λ (z : SetTable). owner_kept_name (kept_of_owner a) z.name) (set_at t (closed_kind xs hs h n (k.OwnerKept a t) e))
+        ap (λ (z : SetTable). owner_kept_name (kept_of_owner a) z.name)
+        (set_at t (closed_kind xs hs h n (k.OwnerKept a t) e))
         ∙ sym (all_called xs hs (fact n (k.OwnerKept a t)) (kind_in xs hs h n (k.OwnerKept a t) e));
     member_kept = λ n a t e.
-        ap (λ (z : SetTable). member_kept_name (kept_of_member a) z.name) (set_at t (closed_kind xs hs h n (k.MemberKept a t) e))
+        ap (λ (z : SetTable). member_kept_name (kept_of_member a) z.name)
+        (set_at t (closed_kind xs hs h n (k.MemberKept a t) e))
         ∙ sym (all_called xs hs (fact n (k.MemberKept a t)) (kind_in xs hs h n (k.MemberKept a t) e));
     set = λ n e. ap (λ (z : SetTable). z.name) (set_at n (kind_in xs hs h n k.Set e));
     class = λ n g e. ap (λ (z : ClassTable). z.name) (class_at n (g, kind_in xs hs h n (k.Class g) e));
@@ -178,7 +189,8 @@ module _ (is : List ItemAt) (qs : List Section) (h : AreItemsKept (tables is qs)
     abbrev locals : List Name
     locals = locals_of D q
 
-    spots_are : (ys : List w.Spot) → ((x : w.Spot) → In x ys → In x q.places) → ArePlacesKept D (declared.is_main q.head) ys →
+    spots_are : (ys : List w.Spot) → ((x : w.Spot) → In x ys → In x q.places) →
+        ArePlacesKept D (declared.is_main q.head) ys →
         map (named_spot p locals) (map (resolved_spot D V locals) ys) ≡ map plain_spot ys
     spots_are [] i k = refl
     spots_are (x ∷ ys) i k =
@@ -191,14 +203,16 @@ module _ (is : List ItemAt) (qs : List Section) (h : AreItemsKept (tables is qs)
         let kept = section_at D xs [] qs q s i in
         let head = kept.1 in
         two (λ (z : Head) (zs : List w.Spot). record { line = q.line; head = z; locals = []; places = zs })
-        (head_by q.head locals (first_names (parameters q.head) (flat_map (undeclared D) (variables_used q)) head.apart))
+        (head_by q.head locals
+        (first_names (parameters q.head) (flat_map (undeclared D) (variables_used q)) head.apart))
         (spots_are q.places (λ x m. m) kept.2)
 
   sections_are : (ss : List Section) → ((q : Section) → In q ss → In q qs) →
       map (named_section p) (map (resolved_section D V) ss) ≡ map plain_section ss
   sections_are [] i = refl
   sections_are (q ∷ ss) i =
-      two (λ (z : w.Section) (zs : List w.Section). z ∷ zs) (section_is q (i q (inl refl))) (sections_are ss (λ y m. i y (inr m)))
+      two (λ (z : w.Section) (zs : List w.Section). z ∷ zs) (section_is q (i q (inl refl)))
+      (sections_are ss (λ y m. i y (inr m)))
 
   pub program_is : named_sections p ≡ map plain_section qs
   program_is = sections_are qs (λ q i. i)

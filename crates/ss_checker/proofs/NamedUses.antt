@@ -37,7 +37,8 @@ three {a' = a'} {b = b} {b' = b'} {c = c} f g h i = ap (λ z. f z b c) g ∙ ap 
 -- no argument but the first
 single : (bs : Exprs) → not (1 + count bs == 1) ≡ false → bs ≡ no_exprs
 single no_exprs h = refl
-single (exprs b bs) h = let g = eqb-true (1 + (1 + count bs)) 1 (not-false (1 + (1 + count bs) == 1) h) in absurd (omega (arith, g))
+single (exprs b bs) h =
+    let g = eqb-true (1 + (1 + count bs)) 1 (not-false (1 + (1 + count bs) == 1) h) in absurd (omega (arith, g))
 
 second_of : (a b : Bool) → a ≡ true → (a && b) ≡ false → b ≡ false
 second_of true b g h = h
@@ -46,7 +47,8 @@ second_of false b g h = cc
 -- ---- what the tables have, as the places of a section name it
 
 pub record IsListed (d : Tables) (v : Names) (locals : List Name) (p : ProgramTable) : Type 0 where
-  pub global : (n : Name) (j : NameKind) → kind_of d n ≡ Some j → is_global j ≡ true → name_at p.globals (number n v.globals) ≡ n
+  pub global : (n : Name) (j : NameKind) → kind_of d n ≡ Some j → is_global j ≡ true →
+      name_at p.globals (number n v.globals) ≡ n
   pub attribute : (n c : Name) → kind_of d n ≡ Some (k.Attribute c) →
       named_attribute p locals (number c v.classes) (number n (attribute_names v c)) ≡ n
   pub owner_kept : (n : Name) (a : OwnersKept) (s : Name) → kind_of d n ≡ Some (k.OwnerKept a s) →
@@ -54,7 +56,8 @@ pub record IsListed (d : Tables) (v : Names) (locals : List Name) (p : ProgramTa
   pub member_kept : (n : Name) (a : MembersKept) (s : Name) → kind_of d n ≡ Some (k.MemberKept a s) →
       member_kept_name (kept_of_member a) (set_of p (number s v.sets)).name ≡ n
   pub set : (n : Name) → kind_of d n ≡ Some k.Set → (set_of p (number n v.sets)).name ≡ n
-  pub class : (n : Name) (g : Option Rattle.ss_preamble.specs.declared.item.Heading.Heading) → kind_of d n ≡ Some (k.Class g) →
+  pub class : (n : Name) (g : Option Rattle.ss_preamble.specs.declared.item.Heading.Heading) →
+      kind_of d n ≡ Some (k.Class g) →
       (class_of p (number n v.classes)).name ≡ n
   pub function : (n : Name) (f : Function) → kind_of d n ≡ Some (k.Function f) → function_name f ≡ n
   pub clock : (n : Name) → kind_of d n ≡ Some k.Clock → codes "TIME.V" ≡ n
@@ -98,7 +101,8 @@ module _ (d : Tables) (v : Names) (locals : List Name) (p : ProgramTable) (S : I
   owner_is (Some c) (Some a) h = ap (λ (z : Expr). Some z) (h a refl)
 
   -- a name as a value without a subscript
-  pub value_is : (n : Name) (j : Option NameKind) → kind_of d n ≡ j → is_valueless j ≡ false → names_function j ≡ false →
+  pub value_is : (n : Name) (j : Option NameKind) → kind_of d n ≡ j → is_valueless j ≡ false →
+      names_function j ≡ false →
       (j ≡ None → number n locals < length locals) → named_factor p locals (factor_of d v locals j n None) ≡ named n
   value_is n None e a b h = ap named (local_is n (h refl))
   value_is n (Some k.Variable) e a b h = ap named (S.global n k.Variable e refl)
@@ -121,9 +125,11 @@ module _ (d : Tables) (v : Names) (locals : List Name) (p : ProgramTable) (S : I
   abbrev pub AreTold : Exprs → Type 0
   AreTold bs = named_exprs p locals (resolved_exprs d v locals bs) ≡ bs
 
-  function_is : (n : Name) (f : Function) (a : Expr) (bs : Exprs) → function_name f ≡ n → not (takes f (1 + count bs)) ≡ false →
+  function_is : (n : Name) (f : Function) (a : Expr) (bs : Exprs) → function_name f ≡ n →
+      not (takes f (1 + count bs)) ≡ false →
       IsTold a → AreTold bs →
-      named_factor p locals (function_factor d v locals f (resolved_expr d v locals a) (resolved_exprs d v locals bs)) ≡ applied n a bs
+      named_factor p locals (function_factor d v locals f (resolved_expr d v locals a) (resolved_exprs d v locals bs))
+      ≡ applied n a bs
   function_is n Absolute a bs e h g i = three applied e g (sym (single bs h))
   function_is n Greatest a bs e h g i = three applied e g i
   function_is n Least a bs e h g i = three applied e g i
@@ -139,7 +145,8 @@ module _ (d : Tables) (v : Names) (locals : List Name) (p : ProgramTable) (S : I
   -- a name as a value with arguments
   pub applied_is : (n : Name) (j : Option NameKind) (a : Expr) (bs : Exprs) → kind_of d n ≡ j → is_bare d j ≡ false →
       has_wrong_arguments d j (1 + count bs) ≡ false → IsTold a → AreTold bs →
-      named_factor p locals (applied_factor d v locals j n (resolved_expr d v locals a) (resolved_exprs d v locals bs)) ≡ applied n a bs
+      named_factor p locals (applied_factor d v locals j n (resolved_expr d v locals a) (resolved_exprs d v locals bs))
+      ≡ applied n a bs
   applied_is n None a bs e b h g i = cc
   applied_is n (Some k.Variable) a bs e b h g i = cc
   applied_is n (Some k.ClassCount) a bs e b h g i = cc
@@ -147,8 +154,10 @@ module _ (d : Tables) (v : Names) (locals : List Name) (p : ProgramTable) (S : I
   applied_is n (Some (k.Attribute c)) a bs e b h g i = three applied (S.attribute n c e) g (sym (single bs h))
   applied_is n (Some (k.OwnerKept q s)) a bs e b h g i =
       let t = not-false (not (is_of_system d s)) b in
-      owner_some (owner_of d v locals s) (owner_kept_name (kept_of_owner q) (set_of p (number s v.sets)).name) (resolved_expr d v locals a)
-      ∙ three applied (S.owner_kept n q s e) g (sym (single bs (second_of (not (is_of_system d s)) (not (1 + count bs == 1)) t h)))
+      owner_some (owner_of d v locals s) (owner_kept_name (kept_of_owner q) (set_of p (number s v.sets)).name)
+      (resolved_expr d v locals a)
+      ∙ three applied (S.owner_kept n q s e) g
+      (sym (single bs (second_of (not (is_of_system d s)) (not (1 + count bs == 1)) t h)))
   applied_is n (Some (k.MemberKept q s)) a bs e b h g i = three applied (S.member_kept n q s e) g (sym (single bs h))
   applied_is n (Some (k.Function f)) a bs e b h g i = function_is n f a bs (S.function n f e) h g i
   applied_is n (Some k.Clock) a bs e b h g i = cc
@@ -160,7 +169,8 @@ module _ (d : Tables) (v : Names) (locals : List Name) (p : ProgramTable) (S : I
   reference n i = record { name = n; subscript = i }
 
   pub target_is : (n : Name) (j : Option NameKind) → kind_of d n ≡ j → is_valueless j ≡ false → names_fixed j ≡ false →
-      (j ≡ None → number n locals < length locals) → named_target p locals (target_of d v locals j n None) ≡ reference n None
+      (j ≡ None → number n locals < length locals) →
+      named_target p locals (target_of d v locals j n None) ≡ reference n None
   target_is n None e a b h = ap (λ (m : Name). reference m None) (local_is n (h refl))
   target_is n (Some k.Variable) e a b h = ap (λ (m : Name). reference m None) (S.global n k.Variable e refl)
   target_is n (Some k.ClassCount) e a b h = ap (λ (m : Name). reference m None) (S.global n k.ClassCount e refl)
@@ -173,13 +183,16 @@ module _ (d : Tables) (v : Names) (locals : List Name) (p : ProgramTable) (S : I
   target_is n (Some k.Set) e a b h = cc
   target_is n (Some k.Routine) e a b h = cc
 
-  pub target_at_is : (n : Name) (j : Option NameKind) (a : Expr) → kind_of d n ≡ j → is_bare d j ≡ false → names_fixed j ≡ false →
-      IsTold a → named_target p locals (target_of d v locals j n (Some (resolved_expr d v locals a))) ≡ reference n (Some a)
+  pub target_at_is : (n : Name) (j : Option NameKind) (a : Expr) → kind_of d n ≡ j → is_bare d j ≡ false →
+      names_fixed j ≡ false →
+      IsTold a → named_target p locals (target_of d v locals j n (Some (resolved_expr d v locals a)))
+      ≡ reference n (Some a)
   target_at_is n None a e b f g = cc
   target_at_is n (Some k.Variable) a e b f g = cc
   target_at_is n (Some k.ClassCount) a e b f g = cc
   target_at_is n (Some (k.Class o)) a e b f g = cc
-  target_at_is n (Some (k.Attribute c)) a e b f g = two (λ (m : Name) (z : Expr). reference m (Some z)) (S.attribute n c e) g
+  target_at_is n (Some (k.Attribute c)) a e b f g =
+      two (λ (m : Name) (z : Expr). reference m (Some z)) (S.attribute n c e) g
   target_at_is n (Some (k.OwnerKept q s)) a e b f g = cc
   target_at_is n (Some (k.MemberKept q s)) a e b f g = cc
   target_at_is n (Some (k.Function w)) a e b f g = cc

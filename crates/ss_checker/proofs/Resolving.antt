@@ -14,7 +14,8 @@ use Rattle.ss_checker.specs.ResolvedNames.{Names}
 use Rattle.ss_checker.specs.Resolved.{resolved_sign, resolved_expr, resolved_sums, resolved_term, resolved_products, resolved_factor, resolved_exprs, resolved_alternatives, resolved_conjunction, resolved_additions, resolved_relation}
 
 -- a result of which something is this, is that too where the two are the same
-pub along : {A B E : Type 0} (r : Result A E) (f : A → B) (y z : B) → IfOk r (λ a. f a ≡ y) → y ≡ z → IfOk r (λ a. f a ≡ z)
+pub along : {A B E : Type 0} (r : Result A E) (f : A → B) (y z : B) → IfOk r (λ a. f a ≡ y) → y ≡ z →
+    IfOk r (λ a. f a ≡ z)
 along (Ok a) f y z h e = h ∙ e
 along (Err a) f y z h e = tt
 
@@ -22,7 +23,8 @@ along (Err a) f y z h e = tt
 abbrev pub resolved_signed : Tables → Names → List Name → WrittenSign × e.Term → TermSign × x.Term
 resolved_signed d v locals s = (resolved_sign s.0, resolved_term d v locals s.1)
 
-pub sums_map : {X : Type 0} (d : Tables) (v : Names) (locals : List Name) (view : X → WrittenSign × e.Term) (xs : List X) →
+pub sums_map : {X : Type 0} (d : Tables) (v : Names) (locals : List Name) (view : X → WrittenSign × e.Term)
+    (xs : List X) →
     x.sums_of (map (λ a. resolved_signed d v locals (view a)) xs) ≡ resolved_sums d v locals (e.sums_of (map view xs))
 sums_map d v locals view [] = refl
 sums_map d v locals view (a ∷ bs) =
@@ -42,7 +44,8 @@ exprs_map d v locals view [] = refl
 exprs_map d v locals view (a ∷ bs) =
     ap (λ (es : x.Exprs). x.exprs (resolved_expr d v locals (view a)) es) (exprs_map d v locals view bs)
 
-pub alternatives_map : {X : Type 0} (d : Tables) (v : Names) (locals : List Name) (view : X → c.Conjunction) (xs : List X) →
+pub alternatives_map : {X : Type 0} (d : Tables) (v : Names) (locals : List Name) (view : X → c.Conjunction)
+    (xs : List X) →
     y.conjunctions_of (map (λ a. resolved_conjunction d v locals (view a)) xs)
     ≡ resolved_alternatives d v locals (alternatives_of (map view xs))
 alternatives_map d v locals view [] = refl

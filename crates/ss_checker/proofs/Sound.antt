@@ -24,7 +24,8 @@ as_many : (lines : List ℕ) (k : ℕ) (ts : Tree) → length (written_from line
 as_many lines k [] = refl
 as_many lines k (t ∷ ts) = ap suc (as_many lines (k + length (spell_section t)) ts)
 
-pub sound_resolved : (decls : Decls) (qs : List Section) → preamble.IsWithin (map (λ i. i.item) decls.items) → AreOfTree qs → AreFew qs →
+pub sound_resolved : (decls : Decls) (qs : List Section) → preamble.IsWithin (map (λ i. i.item) decls.items) →
+    AreOfTree qs → AreFew qs →
     breach decls qs ≡ None → IsSound (resolved decls qs)
 sound_resolved decls qs w t f b =
     let k = kept decls qs b in
@@ -33,7 +34,8 @@ sound_resolved decls qs w t f b =
     let V = names D (heads qs) in
     let within = t.2 in
     let e = t.3 in
-    let tree = λ (q : Section) (i : In q qs). of_tree t.1 0 t.0 q within.phrases within.parameters (subst (λ (ss : List Section). In q ss) e i) in
+    let tree = λ (q : Section) (i : In q qs). of_tree t.1 0 t.0 q within.phrases within.parameters
+    (subst (λ (ss : List Section). In q ss) e i) in
     record {
       main = one_main D V (entries is) qs k.sections k.main;
       sections = sound_sections is qs k.items w k.sections qs (λ q i. i) tree f;

@@ -28,7 +28,8 @@ body_fits (find l) f = omega arith
 body_fits (compute l x m ts) f = omega arith
 
 module _ (ps : List Spot) where
-  before_next : (n i : ℕ) → phrases_before ps n (i + 1) ≡ (if is_around ps n i then i ∷ phrases_before ps n i else phrases_before ps n i)
+  before_next : (n i : ℕ) →
+      phrases_before ps n (i + 1) ≡ (if is_around ps n i then i ∷ phrases_before ps n i else phrases_before ps n i)
   before_next n i = let e : i + 1 ≡ suc i = omega arith in rw e refl
 
   without : (x y : Bool) (i : ℕ) (js : List ℕ) → x ≡ false → (if x && y then i ∷ js else js) ≡ js
@@ -46,20 +47,25 @@ module _ (ps : List Spot) where
   with_one false y i js e f = cc
 
   -- one place that is no phrase
-  pub shut_one : (i : ℕ) (b : List Spot) (x : Spot) (a : List Spot) → At ps i b (x ∷ a) → is_phrase x.place ≡ false → Shut ps i (i + 1)
+  pub shut_one : (i : ℕ) (b : List Spot) (x : Spot) (a : List Spot) → At ps i b (x ∷ a) → is_phrase x.place ≡ false →
+      Shut ps i (i + 1)
   shut_one i b x a h e n l =
-      before_next n i ∙ without (is_at ps is_phrase i) (nat_lt n (behind_body ps i)) i _ (is_here is_phrase ps i b x a h ∙ e)
+      before_next n i
+      ∙ without (is_at ps is_phrase i) (nat_lt n (behind_body ps i)) i _ (is_here is_phrase ps i b x a h ∙ e)
 
   -- a phrase whose body ends before n
   pub shut_phrase : (i n : ℕ) → behind_body ps i ≤ n → phrases_before ps n (i + 1) ≡ phrases_before ps n i
   shut_phrase i n l =
-      before_next n i ∙ without_second (is_at ps is_phrase i) (nat_lt n (behind_body ps i)) i _ (le-ltb n (behind_body ps i) l)
+      before_next n i
+      ∙ without_second (is_at ps is_phrase i) (nat_lt n (behind_body ps i)) i _ (le-ltb n (behind_body ps i) l)
 
   -- a phrase whose body ends behind n
-  pub open_phrase : (i n : ℕ) (b : List Spot) (x : Spot) (a : List Spot) → At ps i b (x ∷ a) → is_phrase x.place ≡ true →
+  pub open_phrase : (i n : ℕ) (b : List Spot) (x : Spot) (a : List Spot) → At ps i b (x ∷ a) →
+      is_phrase x.place ≡ true →
       n < behind_body ps i → phrases_before ps n (i + 1) ≡ i ∷ phrases_before ps n i
   open_phrase i n b x a h e l =
-      before_next n i ∙ with_one (is_at ps is_phrase i) (nat_lt n (behind_body ps i)) i _ (is_here is_phrase ps i b x a h ∙ e)
+      before_next n i
+      ∙ with_one (is_at ps is_phrase i) (nat_lt n (behind_body ps i)) i _ (is_here is_phrase ps i b x a h ∙ e)
       (lt-ltb n (behind_body ps i) l)
 
   pub shut_both : (i j k : ℕ) → j ≤ k → Shut ps i j → Shut ps j k → Shut ps i k
@@ -72,7 +78,8 @@ module _ (ps : List Spot) where
   shut_at i j k e h n l = ap (phrases_before ps n) e ∙ h n (omega (arith, e, l))
 
   mutual
-    pub block_shut : (B : Block) (i : ℕ) (b r : List Spot) → At ps i b (flat_block B ++ r) → Shut ps i (i + length (flat_block B))
+    pub block_shut : (B : Block) (i : ℕ) (b r : List Spot) → At ps i b (flat_block B ++ r) →
+        Shut ps i (i + length (flat_block B))
     block_shut no_statements i b r h = shut_none i (i + 0) (omega arith)
     block_shut (statement t B) i b r h =
         let here = same_after (append_assoc (flat_statement t) (flat_block B) r) h in
@@ -80,15 +87,18 @@ module _ (ps : List Spot) where
         let second = block_shut B (i + length (flat_statement t)) (unwind (flat_statement t) b) r
         (past ps i b (flat_statement t) (flat_block B ++ r) here) in
         let n = length-append (flat_statement t) (flat_block B) in
-        shut_at i (i + length (flat_statement t) + length (flat_block B)) (i + length (flat_statement t ++ flat_block B)) (omega (arith, n))
-        (shut_both i (i + length (flat_statement t)) (i + length (flat_statement t) + length (flat_block B)) (omega arith) first second)
+        shut_at i (i + length (flat_statement t) + length (flat_block B))
+        (i + length (flat_statement t ++ flat_block B)) (omega (arith, n))
+        (shut_both i (i + length (flat_statement t)) (i + length (flat_statement t) + length (flat_block B))
+        (omega arith) first second)
 
     pub statement_shut : (t : Statement) (i : ℕ) (b r : List Spot) → At ps i b (flat_statement t ++ r) →
         Shut ps i (i + length (flat_statement t))
     statement_shut (alone o) i b r h = one_shut o i b r h
     statement_shut (loop f c) i b r h = loop_shut c f i b r h
 
-    pub one_shut : (o : One) (i : ℕ) (b r : List Spot) → At ps i b (flat_one o ++ r) → Shut ps i (i + length (flat_one o))
+    pub one_shut : (o : One) (i : ℕ) (b r : List Spot) → At ps i b (flat_one o ++ r) →
+        Shut ps i (i + length (flat_one o))
     one_shut (simple s e) i b r h = shut_one i b s r h (quiet_phrase s.place e)
     one_shut (branch l q B o m) i b r h =
         let xs = flat_block B in
@@ -111,11 +121,13 @@ module _ (ps : List Spot) where
         (otherwise_shut o j (unwind xs (if_at l q ∷ b)) (always_at m ∷ r) third))
         (shut_one k (unwind ys (unwind xs (if_at l q ∷ b))) (always_at m) r last refl))
 
-    pub otherwise_shut : (o : Otherwise) (i : ℕ) (b r : List Spot) → At ps i b (flat_otherwise o ++ r) → Shut ps i (i + length (flat_otherwise o))
+    pub otherwise_shut : (o : Otherwise) (i : ℕ) (b r : List Spot) → At ps i b (flat_otherwise o ++ r) →
+        Shut ps i (i + length (flat_otherwise o))
     otherwise_shut no_else i b r h = shut_none i (i + 0) (omega arith)
     otherwise_shut (else_with l B) i b r h =
         shut_at i (i + 1 + length (flat_block B)) (i + length (flat_otherwise (else_with l B))) (omega arith)
-        (shut_both i (i + 1) (i + 1 + length (flat_block B)) (omega arith) (shut_one i b (else_at l) (flat_block B ++ r) h refl)
+        (shut_both i (i + 1) (i + 1 + length (flat_block B)) (omega arith)
+        (shut_one i b (else_at l) (flat_block B ++ r) h refl)
         (block_shut B (i + 1) (else_at l ∷ b) r (onward h)))
 
     -- what stands behind the phrase, and the phrase
@@ -148,14 +160,17 @@ module _ (ps : List Spot) where
     loop_shut (find l') f i b r h n l =
         let e = behind_is ps (find l') f i b r h in
         let m : i + length (flat_loop f (find l')) ≡ i + 1 + 1 = omega arith in
-        ap (phrases_before ps n) m ∙ shut_one (i + 1) (for_at f false ∷ b) (find_at l') r (onward h) refl n (omega (arith, l))
+        ap (phrases_before ps n) m
+        ∙ shut_one (i + 1) (for_at f false ∷ b) (find_at l') r (onward h) refl n (omega (arith, l))
         ∙ shut_phrase i n (omega (arith, e, l))
     loop_shut (compute l' x m' ts) f i b r h n l =
         let e = behind_is ps (compute l' x m' ts) f i b r h in
         let m : i + length (flat_loop f (compute l' x m' ts)) ≡ i + 1 + 1 + 1 = omega arith in
         ap (phrases_before ps n) m
-        ∙ shut_one (i + 1 + 1) (gather_at l' x ∷ for_at f false ∷ b) (tell_at m' ts) r (onward (onward h)) refl n (omega (arith, l))
-        ∙ shut_one (i + 1) (for_at f false ∷ b) (gather_at l' x) (tell_at m' ts ∷ r) (onward h) refl n (omega (arith, l))
+        ∙ shut_one (i + 1 + 1) (gather_at l' x ∷ for_at f false ∷ b) (tell_at m' ts) r (onward (onward h)) refl n
+        (omega (arith, l))
+        ∙ shut_one (i + 1) (for_at f false ∷ b) (gather_at l' x) (tell_at m' ts ∷ r) (onward h) refl n
+        (omega (arith, l))
         ∙ shut_phrase i n (omega (arith, e, l))
 
   -- ---- what is open
@@ -167,7 +182,8 @@ module _ (ps : List Spot) where
   open_below i m k js l f n a b = f n a (omega (arith, l, b))
 
   -- behind a phrase, up to the end of its body
-  pub open_into : (i m k : ℕ) (b : List Spot) (x : Spot) (a : List Spot) (js : List ℕ) → At ps i b (x ∷ a) → is_phrase x.place ≡ true →
+  pub open_into : (i m k : ℕ) (b : List Spot) (x : Spot) (a : List Spot) (js : List ℕ) → At ps i b (x ∷ a) →
+      is_phrase x.place ≡ true →
       behind_body ps i ≡ k → k ≤ m → Open ps i m js → Open ps (i + 1) k (i ∷ js)
   open_into i m k b x a js h e g l f n u v =
       open_phrase i n b x a h e (omega (arith, g, v))
@@ -195,11 +211,13 @@ module _ (ps : List Spot) where
   or_true false false c e f = cc
 
   -- back to a phrase
-  pub goes_back : (n : ℕ) (js : List ℕ) (b : List Spot) (x : Spot) (a : List Spot) → At ps n b (x ∷ a) → is_phrase x.place ≡ true →
+  pub goes_back : (n : ℕ) (js : List ℕ) (b : List Spot) (x : Spot) (a : List Spot) → At ps n b (x ∷ a) →
+      is_phrase x.place ≡ true →
       phrases_around ps n ≡ js → Goes (n ∷ js) n
   goes_back n js b x a h e g = record {
     place = let s = size ps n b (x ∷ a) h in omega (arith, s);
-    loops = or_true (bytes_eq (n ∷ js) (phrases_around ps n)) (is_at ps is_phrase n) (bytes_eq (n ∷ js) (n ∷ phrases_around ps n))
+    loops = or_true (bytes_eq (n ∷ js) (phrases_around ps n)) (is_at ps is_phrase n)
+        (bytes_eq (n ∷ js) (n ∷ phrases_around ps n))
         (is_here is_phrase ps n b x a h ∙ e)
         ((bytes_eq-Decides (n ∷ js) (n ∷ phrases_around ps n)).1 (ap (λ (ks : List ℕ). n ∷ ks) (sym g)));
   }

@@ -58,7 +58,8 @@ module _ (P : ℕ → List Spot → Type 0) where
         pub otherwise_passes : (e : Otherwise) → P c.inside (flat_otherwise e)
         otherwise_passes no_else = j.none c.inside
         otherwise_passes (else_with l b) =
-            j.both c.inside (else_at l ∷ []) (flat_block b) (c.other l) (j.deeper c.inside (flat_block b) (block_passes b))
+            j.both c.inside (else_at l ∷ []) (flat_block b) (c.other l)
+            (j.deeper c.inside (flat_block b) (block_passes b))
 
         pub loop_passes : (f : Head) (x : Controlled) → P 0 (flat_loop f x)
         loop_passes f (further h x) = j.both 0 (for_at f false ∷ []) (flat_loop h x) (c.bare f) (loop_passes h x)
@@ -86,12 +87,14 @@ module _ (w u n : Place → Bool) where
   abbrev pub Passes : ℕ → List Spot → Type 0
   Passes k xs = (d : ℕ) (r : List Spot) → k ≤ d → far d (xs ++ r) ≡ length xs + far d r
 
-  over : (d : ℕ) (b c : Bool) (x : Spot) (xs : List Spot) → (w x.place && d == 0) ≡ false → u x.place ≡ b → n x.place ≡ c →
+  over : (d : ℕ) (b c : Bool) (x : Spot) (xs : List Spot) → (w x.place && d == 0) ≡ false → u x.place ≡ b →
+      n x.place ≡ c →
       far d (x ∷ xs) ≡ 1 + far (if b then d + 1 else (if c then d - 1 else d)) xs
   over d b c x xs e h i = rw e (rw h (rw i refl))
 
   -- one that neither opens nor closes, and is not wanted from depth k up
-  pub passed : (k : ℕ) (x : Spot) → ((d : ℕ) → k ≤ d → (w x.place && d == 0) ≡ false) → u x.place ≡ false → n x.place ≡ false →
+  pub passed : (k : ℕ) (x : Spot) → ((d : ℕ) → k ≤ d → (w x.place && d == 0) ≡ false) → u x.place ≡ false →
+      n x.place ≡ false →
       Passes k (x ∷ [])
   passed k x e h i d r b = over d false false x r (e d b) h i
 
@@ -135,7 +138,8 @@ module _ (w u n : Place → Bool) where
       ap (far d) (unwind_both xs ys r)
       ∙ (let a = h d (unwind xs r) b in let c = e d r b in let l = length-append xs ys in omega (arith, a, c, l))
 
-  pub passed_back : (k : ℕ) (x : Spot) → ((d : ℕ) → k ≤ d → (w x.place && d == 0) ≡ false) → u x.place ≡ false → n x.place ≡ false →
+  pub passed_back : (k : ℕ) (x : Spot) → ((d : ℕ) → k ≤ d → (w x.place && d == 0) ≡ false) → u x.place ≡ false →
+      n x.place ≡ false →
       PassesBack k (x ∷ [])
   passed_back k x e h i d r b = over d false false x r (e d b) h i
 
@@ -216,9 +220,11 @@ to_end = record {
   finds = λ l. passed is_branch_end is_if is_always 0 (find_at l) (λ d z. refl) refl refl;
   gathers = λ l e. passed is_branch_end is_if is_always 0 (gather_at l e) (λ d z. refl) refl refl;
   tells = λ l ts. passed is_branch_end is_if is_always 0 (tell_at l ts) (λ d z. refl) refl refl;
-  other = λ l. passed is_branch_end is_if is_always 1 (else_at l) (λ d z. shut is_branch_end is_if is_always d (Branch Else) z) refl refl;
+  other = λ l. passed is_branch_end is_if is_always 1 (else_at l)
+      (λ d z. shut is_branch_end is_if is_always d (Branch Else) z) refl refl;
   branches = λ l m q xs h. closed is_branch_end is_if is_always (if_at l q) (always_at m) xs refl refl refl refl refl h;
-  loops = λ m f xs h. around (Passes is_branch_end is_if is_always) (joins is_branch_end is_if is_always) (for_at f true) (loop_at m) xs
+  loops = λ m f xs h. around (Passes is_branch_end is_if is_always) (joins is_branch_end is_if is_always)
+      (for_at f true) (loop_at m) xs
       (passed is_branch_end is_if is_always 0 (for_at f true) (λ d z. refl) refl refl)
       (passed is_branch_end is_if is_always 0 (loop_at m) (λ d z. refl) refl refl) h;
 }
@@ -233,8 +239,10 @@ to_always = record {
   gathers = λ l e. passed is_always is_if is_always 0 (gather_at l e) (λ d z. refl) refl refl;
   tells = λ l ts. passed is_always is_if is_always 0 (tell_at l ts) (λ d z. refl) refl refl;
   other = λ l. passed is_always is_if is_always 0 (else_at l) (λ d z. refl) refl refl;
-  branches = λ l m q xs h. closed is_always is_if is_always (if_at l q) (always_at m) xs refl refl refl refl refl (λ d r z. h d r (omega arith));
-  loops = λ m f xs h. around (Passes is_always is_if is_always) (joins is_always is_if is_always) (for_at f true) (loop_at m) xs
+  branches = λ l m q xs h. closed is_always is_if is_always (if_at l q) (always_at m) xs refl refl refl refl refl
+      (λ d r z. h d r (omega arith));
+  loops = λ m f xs h. around (Passes is_always is_if is_always) (joins is_always is_if is_always) (for_at f true)
+      (loop_at m) xs
       (passed is_always is_if is_always 0 (for_at f true) (λ d z. refl) refl refl)
       (passed is_always is_if is_always 0 (loop_at m) (λ d z. refl) refl refl) h;
 }
@@ -249,10 +257,12 @@ to_loop = record {
   gathers = λ l e. passed is_loop is_do is_loop 0 (gather_at l e) (λ d z. refl) refl refl;
   tells = λ l ts. passed is_loop is_do is_loop 0 (tell_at l ts) (λ d z. refl) refl refl;
   other = λ l. passed is_loop is_do is_loop 0 (else_at l) (λ d z. refl) refl refl;
-  branches = λ l m q xs h. around (Passes is_loop is_do is_loop) (joins is_loop is_do is_loop) (if_at l q) (always_at m) xs
+  branches = λ l m q xs h. around (Passes is_loop is_do is_loop) (joins is_loop is_do is_loop) (if_at l q)
+      (always_at m) xs
       (passed is_loop is_do is_loop 0 (if_at l q) (λ d z. refl) refl refl)
       (passed is_loop is_do is_loop 0 (always_at m) (λ d z. refl) refl refl) h;
-  loops = λ m f xs h. closed is_loop is_do is_loop (for_at f true) (loop_at m) xs refl refl refl refl refl (λ d r z. h d r (omega arith));
+  loops = λ m f xs h. closed is_loop is_do is_loop (for_at f true) (loop_at m) xs refl refl refl refl refl
+      (λ d r z. h d r (omega arith));
 }
 
 -- from an ALWAYS back to its IF
@@ -265,8 +275,10 @@ to_if = record {
   gathers = λ l e. passed_back is_if is_always is_if 0 (gather_at l e) (λ d z. refl) refl refl;
   tells = λ l ts. passed_back is_if is_always is_if 0 (tell_at l ts) (λ d z. refl) refl refl;
   other = λ l. passed_back is_if is_always is_if 0 (else_at l) (λ d z. refl) refl refl;
-  branches = λ l m q xs h. closed_back is_if is_always is_if (if_at l q) (always_at m) xs refl refl refl refl refl (λ d r z. h d r (omega arith));
-  loops = λ m f xs h. around (PassesBack is_if is_always is_if) (joins_back is_if is_always is_if) (for_at f true) (loop_at m) xs
+  branches = λ l m q xs h. closed_back is_if is_always is_if (if_at l q) (always_at m) xs refl refl refl refl refl
+      (λ d r z. h d r (omega arith));
+  loops = λ m f xs h. around (PassesBack is_if is_always is_if) (joins_back is_if is_always is_if) (for_at f true)
+      (loop_at m) xs
       (passed_back is_if is_always is_if 0 (for_at f true) (λ d z. refl) refl refl)
       (passed_back is_if is_always is_if 0 (loop_at m) (λ d z. refl) refl refl) h;
 }
@@ -281,8 +293,10 @@ to_do = record {
   gathers = λ l e. passed_back is_do is_loop is_do 0 (gather_at l e) (λ d z. refl) refl refl;
   tells = λ l ts. passed_back is_do is_loop is_do 0 (tell_at l ts) (λ d z. refl) refl refl;
   other = λ l. passed_back is_do is_loop is_do 0 (else_at l) (λ d z. refl) refl refl;
-  branches = λ l m q xs h. around (PassesBack is_do is_loop is_do) (joins_back is_do is_loop is_do) (if_at l q) (always_at m) xs
+  branches = λ l m q xs h. around (PassesBack is_do is_loop is_do) (joins_back is_do is_loop is_do) (if_at l q)
+      (always_at m) xs
       (passed_back is_do is_loop is_do 0 (if_at l q) (λ d z. refl) refl refl)
       (passed_back is_do is_loop is_do 0 (always_at m) (λ d z. refl) refl refl) h;
-  loops = λ m f xs h. closed_back is_do is_loop is_do (for_at f true) (loop_at m) xs refl refl refl refl refl (λ d r z. h d r (omega arith));
+  loops = λ m f xs h. closed_back is_do is_loop is_do (for_at f true) (loop_at m) xs refl refl refl refl refl
+      (λ d r z. h d r (omega arith));
 }

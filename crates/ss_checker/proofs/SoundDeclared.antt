@@ -1,4 +1,5 @@
--- What a declaration brings with it: an attribute its class, a kept attribute its set, N.c its class, a permanent class its N.c.
+-- What a declaration brings with it: an attribute its class, a kept attribute its set, N.c its class, a permanent class
+-- its N.c.
 use Rattle.std.proofs.Common.{◌≡◌, ◌⊎◌, List, [], ◌∷◌, ◌++◌, refl, sym, ap, subst, Option, Some, None}
 use Rattle.std.specs.Prelude.{map, codes}
 use Rattle.std.specs.List.{flat_map}
@@ -65,17 +66,20 @@ pub record AreMore (N M : Names) : Type 0 where
 pub has_more : (L M : Facts) (c : Name) → AreAmong L M → HasClass L c → HasClass M c
 has_more L M c i h = (h.0, i (fact c (k.Class h.0)) h.1)
 
-closed_more : (L M : Facts) (N O : Names) (n : Name) (j : NameKind) → AreAmong L M → AreMore N O → IsClosed L N n j → IsClosed M O n j
+closed_more : (L M : Facts) (N O : Names) (n : Name) (j : NameKind) → AreAmong L M → AreMore N O → IsClosed L N n j →
+    IsClosed M O n j
 closed_more L M N O n (k.Attribute c) i m h = has_more L M c i h
 closed_more L M N O n (k.OwnerKept a s) i m h = i (fact s k.Set) h
 closed_more L M N O n (k.MemberKept a s) i m h = i (fact s k.Set) h
 closed_more L M N O n (k.Class None) i m h = m.classes n h
-closed_more L M N O n (k.Class (Some PermanentEntities)) i m h = (m.classes n h.0, i (fact (codes "N." ++ n) k.ClassCount) h.1)
+closed_more L M N O n (k.Class (Some PermanentEntities)) i m h =
+    (m.classes n h.0, i (fact (codes "N." ++ n) k.ClassCount) h.1)
 closed_more L M N O n (k.Class (Some TemporaryEntities)) i m h = m.classes n h
 closed_more L M N O n (k.Class (Some EventNotices)) i m h = m.classes n h
 closed_more L M N O n k.Set i m h = m.sets n h
 closed_more L M N O n k.Variable i m h = m.variables n h
-closed_more L M N O n k.ClassCount i m h = record { class = h.class; named = h.named; there = has_more L M h.class i h.there }
+closed_more L M N O n k.ClassCount i m h =
+    record { class = h.class; named = h.named; there = has_more L M h.class i h.there }
 closed_more L M N O n k.Routine i m h = m.routines n h
 closed_more L M N O n (k.Function f) i m h = tt
 closed_more L M N O n k.Clock i m h = tt
@@ -96,10 +100,12 @@ module _ (L : Facts) (N : Names) where
       by (inl x) = a f x
       by (inr y) = b f y
 
-  closed_flat : {X : Type 0} (g : X → Facts) (zs : List X) → ((z : X) → In z zs → AreClosed L N (g z)) → AreClosed L N (flat_map g zs)
+  closed_flat : {X : Type 0} (g : X → Facts) (zs : List X) → ((z : X) → In z zs → AreClosed L N (g z)) →
+      AreClosed L N (flat_map g zs)
   closed_flat g zs h f x = let p = flat_in g f zs x in h p.one p.there f p.has
 
-  closed_map : (j : NameKind) (ns : List Name) → ((n : Name) → In n ns → IsClosed L N n j) → AreClosed L N (map (λ n. fact n j) ns)
+  closed_map : (j : NameKind) (ns : List Name) → ((n : Name) → In n ns → IsClosed L N n j) →
+      AreClosed L N (map (λ n. fact n j) ns)
   closed_map j ns h f x =
       let p = map_in (λ n. fact n j) f ns x in
       subst (λ (g : Fact NameKind). IsClosed L N g.name g.what) (sym p.is) (h p.one p.there)
@@ -107,14 +113,19 @@ module _ (L : Facts) (N : Names) where
   is : (f : Fact NameKind) (n : Name) (j : NameKind) → f ≡ fact n j → IsClosed L N n j → IsClosed L N f.name f.what
   is f n j e h = subst (λ (g : Fact NameKind). IsClosed L N g.name g.what) (sym e) h
 
-  closed_class : (g : Option Heading) (c : Name) → In c N.classes → AreAmong (class_facts g c) L → AreClosed L N (class_facts g c)
+  closed_class : (g : Option Heading) (c : Name) → In c N.classes → AreAmong (class_facts g c) L →
+      AreClosed L N (class_facts g c)
   closed_class None c n i f (inl e) = is f c (k.Class None) e n
   closed_class None c n i f (inr x) = absurd x
   closed_class (Some PermanentEntities) c n i f (inl e) =
       is f c (k.Class (Some PermanentEntities)) e (n, i (fact (codes "N." ++ c) k.ClassCount) (inr (inl refl)))
   closed_class (Some PermanentEntities) c n i f (inr (inl e)) =
       is f (codes "N." ++ c) k.ClassCount e
-      (record { class = c; named = refl; there = (Some PermanentEntities, i (fact c (k.Class (Some PermanentEntities))) (inl refl)) })
+      (record {
+        class = c;
+        named = refl;
+        there = (Some PermanentEntities, i (fact c (k.Class (Some PermanentEntities))) (inl refl));
+      })
   closed_class (Some PermanentEntities) c n i f (inr (inr x)) = absurd x
   closed_class (Some TemporaryEntities) c n i f (inl e) = is f c (k.Class (Some TemporaryEntities)) e n
   closed_class (Some TemporaryEntities) c n i f (inr x) = absurd x
@@ -131,16 +142,19 @@ module _ (L : Facts) (N : Names) where
   closed_set s n i f (inr (inr (inr (inr (inr (inr (inl e))))))) = is f _ _ e i
   closed_set s n i f (inr (inr (inr (inr (inr (inr (inr x))))))) = absurd x
 
-  closed_sets : (ss : List Name) → AreAmong ss N.sets → AreAmong (flat_map set_facts ss) L → AreClosed L N (flat_map set_facts ss)
+  closed_sets : (ss : List Name) → AreAmong ss N.sets → AreAmong (flat_map set_facts ss) L →
+      AreClosed L N (flat_map set_facts ss)
   closed_sets ss n i =
-      closed_flat set_facts ss (λ s x. closed_set s (n s x) (i (fact s k.Set) (in_flat set_facts s (fact s k.Set) ss x (inl refl))))
+      closed_flat set_facts ss
+      (λ s x. closed_set s (n s x) (i (fact s k.Set) (in_flat set_facts s (fact s k.Set) ss x (inl refl))))
 
   -- the class whose clause it is
   abbrev OwnerDeclared : Option Name → Type 0
   OwnerDeclared None = Unit {0}
   OwnerDeclared (Some c) = HasClass L c
 
-  closed_clause : (o : Option Name) (c : Clause) → OwnerDeclared o → AreAmong (sets_of c) N.sets → AreAmong (clause_has c) N.variables ⊎ IsOf o →
+  closed_clause : (o : Option Name) (c : Clause) → OwnerDeclared o → AreAmong (sets_of c) N.sets →
+      AreAmong (clause_has c) N.variables ⊎ IsOf o →
       AreAmong (clause_facts o c) L → AreClosed L N (clause_facts o c)
   closed_clause (Some c) (Has ns) h s v i = closed_map (k.Attribute c) (all_of ns) (λ n x. h)
   closed_clause None (Has ns) h s (inl v) i = closed_map k.Variable (all_of ns) (λ n x. v n x)
@@ -165,7 +179,8 @@ all_facts h i = item_facts h i ++ flat_map (clause_facts (class_of i)) (clauses_
 same : {X : Type 0} (xs : List X) → AreAmong xs xs
 same xs x h = h
 
-included_named : (g : Heading) (ns : Option (Several Name)) (c : Name) → In c (included ns) → In c (class_names (Headed g ns))
+included_named : (g : Heading) (ns : Option (Several Name)) (c : Name) → In c (included ns) →
+    In c (class_names (Headed g ns))
 included_named g None c x = absurd x
 included_named g (Some ns) c x = x
 
@@ -199,7 +214,8 @@ closed_item h (OfSystem cs) =
 closed_item h (Defines (Variables ns)) =
     let xs = map (λ n. fact n k.Variable) (all_of ns) in
     let N = names_in (Defines (Variables ns)) in
-    closed_both (xs ++ []) N xs [] (closed_map (xs ++ []) N k.Variable (all_of ns) (same (all_of ns))) (closed_none (xs ++ []) N)
+    closed_both (xs ++ []) N xs [] (closed_map (xs ++ []) N k.Variable (all_of ns) (same (all_of ns)))
+    (closed_none (xs ++ []) N)
 closed_item h (Defines (Sets ns kind)) =
     let xs = flat_map set_facts (all_of ns) in
     let N = names_in (Defines (Sets ns kind)) in
@@ -256,7 +272,8 @@ module _ (xs : List Entry) (hs : List Head) where
   closed_head (RoutineHead n given yielded) i f (inr x) = absurd x
 
   pub declared_there : AreAmong (declared xs) L
-  declared_there f x = in_left f (language_facts ++ declared xs) (flat_map routine_facts hs) (in_right f language_facts (declared xs) x)
+  declared_there f x =
+      in_left f (language_facts ++ declared xs) (flat_map routine_facts hs) (in_right f language_facts (declared xs) x)
 
   pub all_closed : AreClosed L N L
   all_closed =
@@ -292,13 +309,15 @@ what_is : {A : Type 0} (f g : Fact A) → f ≡ g → f.what ≡ g.what
 what_is {A = A} f g e = ap (λ (h : Fact A). h.what) e
 
 -- the owner of a set is a class that is declared
-pub owner_declared : (xs : List Entry) (s c : Name) → In (fact s (Some c)) (flat_map (λ x. owners_in x.item) xs) → HasClass (declared xs) c
+pub owner_declared : (xs : List Entry) (s c : Name) → In (fact s (Some c)) (flat_map (λ x. owners_in x.item) xs) →
+    HasClass (declared xs) c
 owner_declared xs s c h =
     let p = flat_in (λ (x : Entry). owners_in x.item) (fact s (Some c)) xs h in
     let x = p.one in
     let q = map_in (λ n. fact n (class_of x.item)) (fact s (Some c)) (flat_map owned_in (clauses_of x.item)) p.has in
     let e : Some c ≡ class_of x.item = what_is (fact s (Some c)) (fact q.one (class_of x.item)) q.is in
-    has_more (declarations x) (declared xs) c (λ f y. in_flat declarations x f xs p.there y) (entry_class x.heading x.item c (sym e))
+    has_more (declarations x) (declared xs) c (λ f y. in_flat declarations x f xs p.there y)
+    (entry_class x.heading x.item c (sym e))
 
 member_of : (o : Option Name) (ss : List Name) (s c : Name) → In (fact s c) (members_for o ss) → o ≡ Some c
 member_of None ss s c h = absurd h
@@ -307,7 +326,8 @@ member_of (Some d) ss s c h =
     ap (λ (n : Name). Some n) (sym (what_is (fact s c) (fact q.one d) q.is))
 
 -- so is the class of its members
-pub member_declared : (xs : List Entry) (s c : Name) → In (fact s c) (flat_map (λ x. members_in x.item) xs) → HasClass (declared xs) c
+pub member_declared : (xs : List Entry) (s c : Name) → In (fact s c) (flat_map (λ x. members_in x.item) xs) →
+    HasClass (declared xs) c
 member_declared xs s c h =
     let p = flat_in (λ (x : Entry). members_in x.item) (fact s c) xs h in
     let x = p.one in

@@ -15,4 +15,5 @@ few_places s = rw (length-map s.places.items spot_view) (omega (arith, s.places.
 pub few_sections : (ss : List CodeSection) → AreFew (map section_view ss)
 few_sections [] = All-nil (λ (q : Section). length q.places < 2 ^ 63)
 few_sections (s ∷ ss) =
-    All-cons (λ (q : Section). length q.places < 2 ^ 63) (section_view s) (map section_view ss) (few_places s) (few_sections ss)
+    All-cons (λ (q : Section). length q.places < 2 ^ 63) (section_view s) (map section_view ss) (few_places s)
+    (few_sections ss)

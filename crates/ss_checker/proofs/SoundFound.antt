@@ -16,7 +16,8 @@ found w u n xs ps i b x y r h m e =
     ∙ (let a = m 0 (y ∷ r) (omega arith) in let c = stops w u n y r e in omega (arith, a, c))
 
 -- the wanted place before what is passed over
-found_back : (w u n : Place → Bool) (xs : List Spot) (ps : List Spot) (i : ℕ) (b : List Spot) (x y : Spot) (r : List Spot) →
+found_back : (w u n : Place → Bool) (xs : List Spot) (ps : List Spot) (i : ℕ) (b : List Spot) (x y : Spot)
+    (r : List Spot) →
     At ps i b (x ∷ (xs ++ y ∷ r)) → PassesBack w u n 0 xs → w x.place ≡ true → earlier ps w u n (i + 1 + length xs) ≡ i
 found_back w u n xs ps i b x y r h m e =
     ap (λ (zs : List Spot). i + 1 + length xs - 1 - distance w u n 0 zs)
@@ -25,16 +26,20 @@ found_back w u n xs ps i b x y r h m e =
 
 -- the ELSE or ALWAYS behind the statements of an IF or ELSE
 end_of_branch : (B : Block) (ps : List Spot) (i : ℕ) (b : List Spot) (x y : Spot) (r : List Spot) →
-    At ps i b (x ∷ (flat_block B ++ y ∷ r)) → is_branch_end y.place ≡ true → branch_end ps i ≡ i + 1 + length (flat_block B)
+    At ps i b (x ∷ (flat_block B ++ y ∷ r)) → is_branch_end y.place ≡ true →
+    branch_end ps i ≡ i + 1 + length (flat_block B)
 end_of_branch B ps i b x y r h e =
     found is_branch_end is_if is_always (flat_block B) ps i b x y r h
     (block_passes (Passes is_branch_end is_if is_always) (joins is_branch_end is_if is_always) to_end B) e
 
 -- the same where an ELSE may stand, up to the ALWAYS
-pub branch_end_is : (B : Block) (o : Otherwise) (ps : List Spot) (i : ℕ) (b : List Spot) (x : Spot) (m : ℕ) (r : List Spot) →
-    At ps i b (x ∷ (flat_block B ++ (flat_otherwise o ++ always_at m ∷ r))) → branch_end ps i ≡ i + 1 + length (flat_block B)
+pub branch_end_is : (B : Block) (o : Otherwise) (ps : List Spot) (i : ℕ) (b : List Spot) (x : Spot) (m : ℕ)
+    (r : List Spot) →
+    At ps i b (x ∷ (flat_block B ++ (flat_otherwise o ++ always_at m ∷ r))) →
+    branch_end ps i ≡ i + 1 + length (flat_block B)
 branch_end_is B no_else ps i b x m r h = end_of_branch B ps i b x (always_at m) r h refl
-branch_end_is B (else_with l C) ps i b x m r h = end_of_branch B ps i b x (else_at l) (flat_block C ++ always_at m ∷ r) h refl
+branch_end_is B (else_with l C) ps i b x m r h =
+    end_of_branch B ps i b x (else_at l) (flat_block C ++ always_at m ∷ r) h refl
 
 -- the ALWAYS of an IF with perhaps an ELSE
 end_of_if : (B : Block) (o : Otherwise) (ps : List Spot) (i : ℕ) (b : List Spot) (x : Spot) (m : ℕ) (r : List Spot) →
@@ -54,7 +59,8 @@ end_of_do B ps i b x m r h =
     (block_passes (Passes is_loop is_do is_loop) (joins is_loop is_do is_loop) to_loop B) refl
 
 -- the IF of an ALWAYS
-pub start_of_if : (B : Block) (o : Otherwise) (ps : List Spot) (i : ℕ) (b : List Spot) (x : Spot) (m : ℕ) (r : List Spot) →
+pub start_of_if : (B : Block) (o : Otherwise) (ps : List Spot) (i : ℕ) (b : List Spot) (x : Spot) (m : ℕ)
+    (r : List Spot) →
     is_if x.place ≡ true →
     At ps i b (x ∷ ((flat_block B ++ flat_otherwise o) ++ always_at m ∷ r)) →
     if_of ps (i + 1 + length (flat_block B ++ flat_otherwise o)) ≡ i
@@ -102,15 +108,19 @@ module _ (ps : List Spot) where
       last_place ps i ≡ later ps is_always is_if is_always i
   last_if i b x a h e = chosen (is_at ps is_if i) (is_at ps is_do i) _ _ i (is_here is_if ps i b x a h ∙ e)
 
-  last_do : (i : ℕ) (b : List Spot) (x : Spot) (a : List Spot) → At ps i b (x ∷ a) → is_if x.place ≡ false → is_do x.place ≡ true →
+  last_do : (i : ℕ) (b : List Spot) (x : Spot) (a : List Spot) → At ps i b (x ∷ a) → is_if x.place ≡ false →
+      is_do x.place ≡ true →
       last_place ps i ≡ later ps is_loop is_do is_loop i
   last_do i b x a h e f =
-      chosen_second (is_at ps is_if i) (is_at ps is_do i) _ _ i (is_here is_if ps i b x a h ∙ e) (is_here is_do ps i b x a h ∙ f)
+      chosen_second (is_at ps is_if i) (is_at ps is_do i) _ _ i (is_here is_if ps i b x a h ∙ e)
+      (is_here is_do ps i b x a h ∙ f)
 
-  last_self : (i : ℕ) (b : List Spot) (x : Spot) (a : List Spot) → At ps i b (x ∷ a) → is_if x.place ≡ false → is_do x.place ≡ false →
+  last_self : (i : ℕ) (b : List Spot) (x : Spot) (a : List Spot) → At ps i b (x ∷ a) → is_if x.place ≡ false →
+      is_do x.place ≡ false →
       last_place ps i ≡ i
   last_self i b x a h e f =
-      chosen_third (is_at ps is_if i) (is_at ps is_do i) _ _ i (is_here is_if ps i b x a h ∙ e) (is_here is_do ps i b x a h ∙ f)
+      chosen_third (is_at ps is_if i) (is_at ps is_do i) _ _ i (is_here is_if ps i b x a h ∙ e)
+      (is_here is_do ps i b x a h ∙ f)
 
   -- what the phrase at i controls is controlled by the phrase behind it, or stands directly there
   bare_on : (x : Spot) (a : List Spot) → is_bare x.place ≡ false → bare_phrases (x ∷ a) ≡ 0
@@ -129,13 +139,15 @@ module _ (ps : List Spot) where
       let g = ap bare_phrases (dropped ps (i + 1) (for_at f false ∷ b) a (onward h)) in
       omega (arith, e, g)
 
-  one_is_not_bare : (o : One) (i : ℕ) (b : List Spot) (f : Head) (r : List Spot) → At ps i b (for_at f false ∷ (flat_one o ++ r)) →
+  one_is_not_bare : (o : One) (i : ℕ) (b : List Spot) (f : Head) (r : List Spot) →
+      At ps i b (for_at f false ∷ (flat_one o ++ r)) →
       controlled ps i ≡ i + 1
   one_is_not_bare (simple s e) i b f r h = behind_one i b f s r h (quiet_bare s.place e)
   one_is_not_bare (branch l q B o m) i b f r h = behind_one i b f (if_at l q) _ h refl
 
   -- the last place of a statement that is no loop
-  last_of_one : (o : One) (i : ℕ) (b r : List Spot) → At ps i b (flat_one o ++ r) → last_place ps i + 1 ≡ i + length (flat_one o)
+  last_of_one : (o : One) (i : ℕ) (b r : List Spot) → At ps i b (flat_one o ++ r) →
+      last_place ps i + 1 ≡ i + length (flat_one o)
   last_of_one (simple s e) i b r h =
       let k = last_self i b s r h (quiet_if s.place e) (quiet_do s.place e) in omega (arith, k)
   last_of_one (branch l q B o m) i b r h =
@@ -153,7 +165,8 @@ module _ (ps : List Spot) where
       let k = behind_is c g (i + 1) (for_at f false ∷ b) r (onward h) in
       omega (arith, e, k)
   behind_is (repeated B l) f i b r h =
-      let here = same_after (ap (λ (zs : List Spot). for_at f true ∷ zs) (append_assoc (flat_block B) (loop_at l ∷ []) r)) h in
+      let here = same_after
+      (ap (λ (zs : List Spot). for_at f true ∷ zs) (append_assoc (flat_block B) (loop_at l ∷ []) r)) h in
       let e = ap bare_phrases (dropped ps i b _ here) in
       let g : controlled ps i ≡ i = omega (arith, e) in
       let k = ap (last_place ps) g in

@@ -23,11 +23,13 @@ module _ (D : Tables) where
   undeclared_in n true e = cc
   undeclared_in n false e = inl refl
 
-  known : (q : Section) (x : w.Spot) (u : Use) (n : Name) → In x q.places → In u (uses x.place) → In n (variable_used u) →
+  known : (q : Section) (x : w.Spot) (u : Use) (n : Name) → In x q.places → In u (uses x.place) →
+      In n (variable_used u) →
       IsKnown D (locals_of D q) n
   known q x u n i j m e =
       let used : In n (variables_used q) =
-      in_flat (λ (y : w.Spot). flat_map variable_used (uses y.place)) x n q.places i (in_flat variable_used u n (uses x.place) j m) in
+      in_flat (λ (y : w.Spot). flat_map variable_used (uses y.place)) x n q.places i
+      (in_flat variable_used u n (uses x.place) j m) in
       let new : In n (undeclared D n) = undeclared_in n (is_declared D n) (undeclared_is n e (is_declared D n) refl) in
       let all = parameters q.head ++ flat_map (undeclared D) (variables_used q) in
       number_there n (locals_of D q)

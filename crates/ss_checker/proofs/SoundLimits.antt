@@ -43,20 +43,25 @@ module _ (c : Name) where
       by true = refl
       by false = refl
 
-  many : (b : Name) (ns : List Name) → length (attributes (map (λ n. fact n (k.Attribute b)) ns)) ≡ if_class b (length ns)
+  many : (b : Name) (ns : List Name) →
+      length (attributes (map (λ n. fact n (k.Attribute b)) ns)) ≡ if_class b (length ns)
   many b [] = none_of b
   many b (n ∷ ns) = by (bytes_eq c b) (many b ns)
     where
       by : (t : Bool) → length (attributes (map (λ n. fact n (k.Attribute b)) ns)) ≡ (if t then length ns else 0) →
-          length (map (λ (f : Fact NameKind). f.name) (cond t (fact n (k.Attribute b) ∷ filter (λ (f : Fact NameKind). is_attribute_of c f.what) (map (λ n. fact n (k.Attribute b)) ns))
-          (filter (λ (f : Fact NameKind). is_attribute_of c f.what) (map (λ n. fact n (k.Attribute b)) ns)))) ≡ (if t then suc (length ns) else 0)
+          length (map (λ (f : Fact NameKind). f.name)
+          (cond t (fact n (k.Attribute b)
+          ∷ filter (λ (f : Fact NameKind). is_attribute_of c f.what) (map (λ n. fact n (k.Attribute b)) ns))
+          (filter (λ (f : Fact NameKind). is_attribute_of c f.what) (map (λ n. fact n (k.Attribute b)) ns))))
+          ≡ (if t then suc (length ns) else 0)
       by true e = ap suc e
       by false e = e
 
   counted : (b : Name) (ns : List Name) → count_by (bytes_eq c) (map (λ n. b) ns) ≡ if_class b (length ns)
   counted b [] = none_of b
   counted b (n ∷ ns) =
-      sum_by-cons (λ (m : Name). cond (bytes_eq c m) 1 0) b (map (λ (n : Name). b) ns) ∙ by (bytes_eq c b) (counted b ns)
+      sum_by-cons (λ (m : Name). cond (bytes_eq c m) 1 0) b (map (λ (n : Name). b) ns)
+      ∙ by (bytes_eq c b) (counted b ns)
     where
       by : (t : Bool) → count_by (bytes_eq c) (map (λ (n : Name). b) ns) ≡ (if t then length ns else 0) →
           cond t 1 0 + count_by (bytes_eq c) (map (λ (n : Name). b) ns) ≡ (if t then suc (length ns) else 0)
@@ -75,18 +80,21 @@ module _ (c : Name) where
 
   no_classes : (h : Option Heading) (bs : List Name) → attributes (flat_map (class_facts h) bs) ≡ []
   no_classes h [] = refl
-  no_classes h (b ∷ bs) = rw (attributes_both c (class_facts h b) (flat_map (class_facts h) bs), no_class h b) (no_classes h bs)
+  no_classes h (b ∷ bs) =
+      rw (attributes_both c (class_facts h b) (flat_map (class_facts h) bs), no_class h b) (no_classes h bs)
 
   no_variables : (ns : List Name) → attributes (map (λ n. fact n k.Variable) ns) ≡ []
   no_variables [] = refl
   no_variables (n ∷ ns) = no_variables ns
 
-  many_clause : (b : Name) (z : Clause) → length (attributes (clause_facts (Some b) z)) ≡ if_class b (length (clause_has z))
+  many_clause : (b : Name) (z : Clause) →
+      length (attributes (clause_facts (Some b) z)) ≡ if_class b (length (clause_has z))
   many_clause b (Has ns) = many b (all_of ns)
   many_clause b (Owns ns) = ap length (no_sets (all_of ns)) ∙ none_of b
   many_clause b (BelongsTo ns) = ap length (no_sets (all_of ns)) ∙ none_of b
 
-  counted_clause : (b : Name) (z : Clause) → count_by (bytes_eq c) (attribute_classes b z) ≡ if_class b (length (clause_has z))
+  counted_clause : (b : Name) (z : Clause) →
+      count_by (bytes_eq c) (attribute_classes b z) ≡ if_class b (length (clause_has z))
   counted_clause b (Has ns) = counted b (all_of ns)
   counted_clause b (Owns ns) = none_of b
   counted_clause b (BelongsTo ns) = none_of b
@@ -107,7 +115,8 @@ module _ (c : Name) where
         length-append (attributes (clause_facts (Some b) z)) (attributes (flat_map (clause_facts (Some b)) zs)),
         length-append (clause_has z) (flat_map clause_has zs),
       )
-      (sum_if b (length (clause_has z)) (length (flat_map clause_has zs)) (length (attributes (clause_facts (Some b) z)))
+      (sum_if b (length (clause_has z)) (length (flat_map clause_has zs))
+      (length (attributes (clause_facts (Some b) z)))
       (length (attributes (flat_map (clause_facts (Some b)) zs))) (many_clause b z) (many_clauses b zs))
 
   counted_clauses : (b : Name) (zs : List Clause) →
@@ -115,20 +124,27 @@ module _ (c : Name) where
   counted_clauses b [] = none_of b
   counted_clauses b (z ∷ zs) =
       rw (
-        sum_by-append (λ (m : Name). cond (bytes_eq c m) 1 0) (attribute_classes b z) (flat_map (attribute_classes b) zs),
+        sum_by-append (λ (m : Name). cond (bytes_eq c m) 1 0) (attribute_classes b z)
+            (flat_map (attribute_classes b) zs),
         length-append (clause_has z) (flat_map clause_has zs),
       )
-      (sum_if b (length (clause_has z)) (length (flat_map clause_has zs)) (count_by (bytes_eq c) (attribute_classes b z))
+      (sum_if b (length (clause_has z)) (length (flat_map clause_has zs))
+      (count_by (bytes_eq c) (attribute_classes b z))
       (count_by (bytes_eq c) (flat_map (attribute_classes b) zs)) (counted_clause b z) (counted_clauses b zs))
 
   system_clauses : (zs : List Clause) → attributes (flat_map (clause_facts None) zs) ≡ []
   system_clauses [] = refl
   system_clauses (Has ns ∷ zs) =
-      rw (attributes_both c (map (λ n. fact n k.Variable) (all_of ns)) (flat_map (clause_facts None) zs), no_variables (all_of ns)) (system_clauses zs)
+      rw (
+        attributes_both c (map (λ n. fact n k.Variable) (all_of ns)) (flat_map (clause_facts None) zs),
+        no_variables (all_of ns),
+      ) (system_clauses zs)
   system_clauses (Owns ns ∷ zs) =
-      rw (attributes_both c (flat_map set_facts (all_of ns)) (flat_map (clause_facts None) zs), no_sets (all_of ns)) (system_clauses zs)
+      rw (attributes_both c (flat_map set_facts (all_of ns)) (flat_map (clause_facts None) zs), no_sets (all_of ns))
+      (system_clauses zs)
   system_clauses (BelongsTo ns ∷ zs) =
-      rw (attributes_both c (flat_map set_facts (all_of ns)) (flat_map (clause_facts None) zs), no_sets (all_of ns)) (system_clauses zs)
+      rw (attributes_both c (flat_map set_facts (all_of ns)) (flat_map (clause_facts None) zs), no_sets (all_of ns))
+      (system_clauses zs)
 
   abbrev facts_of : Option Heading → Item → Facts
   facts_of h i = item_facts h i ++ flat_map (clause_facts (class_of i)) (clauses_of i)
@@ -149,7 +165,8 @@ module _ (c : Name) where
       ap (λ (fs : Facts). length (attributes fs)) (nothing_more (map (λ n. fact n k.Variable) (all_of ns)))
       ∙ ap length (no_variables (all_of ns))
   many_item h (Defines (Sets ns kind)) =
-      ap (λ (fs : Facts). length (attributes fs)) (nothing_more (flat_map set_facts (all_of ns))) ∙ ap length (no_sets (all_of ns))
+      ap (λ (fs : Facts). length (attributes fs)) (nothing_more (flat_map set_facts (all_of ns)))
+      ∙ ap length (no_sets (all_of ns))
   many_item h (Orders r) = refl
 
   counted_item : (i : Item) → count_by (bytes_eq c) (attributes_in i) ≡ limits.attribute_count c i
@@ -179,7 +196,8 @@ module _ (c : Name) where
   counted_entries [] = refl
   counted_entries (x ∷ xs) =
       rw (
-        sum_by-append (λ (m : Name). cond (bytes_eq c m) 1 0) (attributes_in x.item) (flat_map (λ y. attributes_in y.item) xs),
+        sum_by-append (λ (m : Name). cond (bytes_eq c m) 1 0) (attributes_in x.item)
+            (flat_map (λ y. attributes_in y.item) xs),
         sum_by-cons (λ (y : Entry). limits.attribute_count c y.item) x xs,
       )
       (let a = counted_item x.item in let b = counted_entries xs in omega (arith, a, b))
@@ -194,20 +212,25 @@ module _ (c : Name) where
       (many_entries xs)
 
   -- the checker counts the attributes of a class
-  pub attributes_counted : (xs : List Entry) (hs : List Head) → attribute_count (tables_of xs hs) c ≡ length (attributes_of (tables_of xs hs) c)
+  pub attributes_counted : (xs : List Entry) (hs : List Head) →
+      attribute_count (tables_of xs hs) c ≡ length (attributes_of (tables_of xs hs) c)
   attributes_counted xs hs = counted_entries xs ∙ sym (all_attributes xs hs)
 
-  total_items : (g : Option Heading) (is : List ItemAt) → total (entries_under g is) ≡ sum_by (limits.attribute_count c) (map (λ i. i.item) is)
+  total_items : (g : Option Heading) (is : List ItemAt) →
+      total (entries_under g is) ≡ sum_by (limits.attribute_count c) (map (λ i. i.item) is)
   total_items g [] = refl
   total_items g (i ∷ is) =
-      sum_by-cons (λ (y : Entry). limits.attribute_count c y.item) (record { line = i.line; heading = heading_at g i.item; item = i.item })
+      sum_by-cons (λ (y : Entry). limits.attribute_count c y.item)
+      (record { line = i.line; heading = heading_at g i.item; item = i.item })
       (entries_under (heading_at g i.item) is)
       ∙ (let a = total_items (heading_at g i.item) is in
       let b = sum_by-cons (limits.attribute_count c) i.item (map (λ (j : ItemAt). j.item) is) in omega (arith, a, b))
 
-  pub few_attributes : (is : List ItemAt) (hs : List Head) → IsWithin (map (λ i. i.item) is) → length (attributes_of (tables_of (entries is) hs) c) ≤ 32
+  pub few_attributes : (is : List ItemAt) (hs : List Head) → IsWithin (map (λ i. i.item) is) →
+      length (attributes_of (tables_of (entries is) hs) c) ≤ 32
   few_attributes is hs h =
-      let a = all_attributes (entries is) hs in let b = total_items None is in let l = h.attributes c in omega (arith, a, b, l)
+      let a = all_attributes (entries is) hs in let b = total_items None is in let l = h.attributes c in
+      omega (arith, a, b, l)
 
 -- ---- items and entries
 
@@ -217,10 +240,14 @@ flat_entries f g [] = refl
 flat_entries f g (i ∷ is) = ap (λ zs. f i.item ++ zs) (flat_entries f (heading_at g i.item) is)
 
 -- each item of a preamble stands in an entry
-pub entry_of : (g : Option Heading) (is : List ItemAt) (i : ItemAt) → In i is → (x : Entry) × In x (entries_under g is) × (x.item ≡ i.item)
+pub entry_of : (g : Option Heading) (is : List ItemAt) (i : ItemAt) → In i is →
+    (x : Entry) × In x (entries_under g is) × (x.item ≡ i.item)
 entry_of g [] i h = absurd h
-entry_of g (j ∷ js) i (inl e) =
-    (record { line = j.line; heading = heading_at g j.item; item = j.item }, inl refl, ap (λ (z : ItemAt). z.item) (sym e))
+entry_of g (j ∷ js) i (inl e) = (
+  record { line = j.line; heading = heading_at g j.item; item = j.item },
+  inl refl,
+  ap (λ (z : ItemAt). z.item) (sym e),
+)
 entry_of g (j ∷ js) i (inr h) = let p = entry_of (heading_at g j.item) js i h in (p.0, inr p.1, p.2)
 
 all_in : {X : Type 0} (P : X → Type 0) (x : X) (xs : List X) → All P xs → In x xs → P x
@@ -265,15 +292,20 @@ all_variables : (is : List Item) → length (flat_map variables_in is) ≡ sum_b
 all_variables [] = refl
 all_variables (i ∷ is) =
     length-append (variables_in i) (flat_map variables_in is)
-    ∙ (let a = variables_counted i in let b = all_variables is in let e = sum_by-cons variable_count i is in omega (arith, a, b, e))
+    ∙ (let a = variables_counted i in let b = all_variables is in let e =
+    sum_by-cons variable_count i is in omega (arith, a, b, e))
 
-module _ (is : List ItemAt) (hs : List Head) (h : AreItemsKept (tables_of (entries is) hs) [] (entries is)) (w : IsWithin (map (λ i. i.item) is)) where
+module _ (is : List ItemAt) (hs : List Head) (h : AreItemsKept (tables_of (entries is) hs) [] (entries is))
+    (w : IsWithin (map (λ i. i.item) is)) where
   abbrev items : List Item
   items = map (λ i. i.item) is
 
   -- what a class's declaration names
-  pub class_named : (c : Name) (g : Option Heading) → In (fact c (k.Class g)) (all_kinds (entries is) hs) → In c (flat_map class_names items)
-  class_named c g i = subst (λ (ns : List Name). In c ns) (flat_entries class_names None is) (by g (all_closed (entries is) hs (fact c (k.Class g)) i))
+  pub class_named : (c : Name) (g : Option Heading) → In (fact c (k.Class g)) (all_kinds (entries is) hs) →
+      In c (flat_map class_names items)
+  class_named c g i =
+      subst (λ (ns : List Name). In c ns) (flat_entries class_names None is)
+      (by g (all_closed (entries is) hs (fact c (k.Class g)) i))
     where
       by : (g : Option Heading) → IsClosed (all_kinds (entries is) hs) (names_all (entries is) hs) c (k.Class g) →
           In c (flat_map (λ x. class_names x.item) (entries is))
@@ -291,7 +323,8 @@ module _ (is : List ItemAt) (hs : List Head) (h : AreItemsKept (tables_of (entri
   abbrev globals : List Name
   globals = (v (entries is) hs h).globals
 
-  class_kind_of : (c : Name) (j : NameKind) → is_class j ≡ true → In (fact c j) (all_kinds (entries is) hs) → In c (flat_map class_names items)
+  class_kind_of : (c : Name) (j : NameKind) → is_class j ≡ true → In (fact c j) (all_kinds (entries is) hs) →
+      In c (flat_map class_names items)
   class_kind_of c (k.Class g) t i = class_named c g i
   class_kind_of c k.Variable t i = cc
   class_kind_of c k.ClassCount t i = cc
@@ -306,12 +339,14 @@ module _ (is : List ItemAt) (hs : List Head) (h : AreItemsKept (tables_of (entri
   pub few_classes : length classes ≤ 64
   few_classes =
       let kinds = (d (entries is) hs h).kinds in
-      let l = as_many_at_least classes (limits.distinct (flat_map class_names items)) (once_apart (names_where is_class kinds))
+      let l = as_many_at_least classes (limits.distinct (flat_map class_names items))
+      (once_apart (names_where is_class kinds))
       (λ c i. let p = where_from is_class c kinds (once_from c (names_where is_class kinds) i) in
       once_has c (flat_map class_names items) (class_kind_of c p.what p.passes p.there)) in
       let m = w.classes in omega (arith, l, m)
 
-  set_kind_of : (s : Name) (j : NameKind) → names_set (Some j) ≡ true → In (fact s j) (all_kinds (entries is) hs) → In s (flat_map set_names items)
+  set_kind_of : (s : Name) (j : NameKind) → names_set (Some j) ≡ true → In (fact s j) (all_kinds (entries is) hs) →
+      In s (flat_map set_names items)
   set_kind_of s k.Set t i =
       let p = flat_in (λ (x : Entry). sets_in x.item) s (entries is) (all_closed (entries is) hs (fact s k.Set) i) in
       let x = p.one in
@@ -339,8 +374,11 @@ module _ (is : List ItemAt) (hs : List Head) (h : AreItemsKept (tables_of (entri
   abbrev bound : List Name
   bound = classes ++ (map (λ c. codes "N." ++ c) classes ++ flat_map variables_in items)
 
-  global_kind_of : (n : Name) (j : NameKind) → is_global j ≡ true → In (fact n j) (all_kinds (entries is) hs) → In n bound
-  global_kind_of n (k.Class g) t i = in_left n classes (map (λ c. codes "N." ++ c) classes ++ flat_map variables_in items) (class_in (entries is) hs h n (g, i))
+  global_kind_of : (n : Name) (j : NameKind) → is_global j ≡ true → In (fact n j) (all_kinds (entries is) hs) →
+      In n bound
+  global_kind_of n (k.Class g) t i =
+      in_left n classes (map (λ c. codes "N." ++ c) classes ++ flat_map variables_in items)
+      (class_in (entries is) hs h n (g, i))
   global_kind_of n k.ClassCount t i =
       let p = all_closed (entries is) hs (fact n k.ClassCount) i in
       in_right n classes (map (λ c. codes "N." ++ c) classes ++ flat_map variables_in items)
@@ -350,7 +388,8 @@ module _ (is : List ItemAt) (hs : List Head) (h : AreItemsKept (tables_of (entri
   global_kind_of n k.Variable t i =
       in_right n classes (map (λ c. codes "N." ++ c) classes ++ flat_map variables_in items)
       (in_right n (map (λ c. codes "N." ++ c) classes) (flat_map variables_in items)
-      (subst (λ (ns : List Name). In n ns) (flat_entries variables_in None is) (all_closed (entries is) hs (fact n k.Variable) i)))
+      (subst (λ (ns : List Name). In n ns) (flat_entries variables_in None is)
+      (all_closed (entries is) hs (fact n k.Variable) i)))
   global_kind_of n (k.Attribute b) t i = cc
   global_kind_of n (k.OwnerKept q r) t i = cc
   global_kind_of n (k.MemberKept q r) t i = cc
@@ -363,7 +402,9 @@ module _ (is : List ItemAt) (hs : List Head) (h : AreItemsKept (tables_of (entri
   few_globals =
       let kinds = (d (entries is) hs h).kinds in
       let l = as_many_at_least globals bound (once_apart (names_where is_global kinds))
-      (λ n i. let p = where_from is_global n kinds (once_from n (names_where is_global kinds) i) in global_kind_of n p.what p.passes p.there) in
+      (λ n i. let p =
+      where_from is_global n kinds (once_from n (names_where is_global kinds) i) in
+      global_kind_of n p.what p.passes p.there) in
       let a = length-append classes (map (λ (c : Name). codes "N." ++ c) classes ++ flat_map variables_in items) in
       let b = length-append (map (λ (c : Name). codes "N." ++ c) classes) (flat_map variables_in items) in
       let e = length-map classes (λ (c : Name). codes "N." ++ c) in

@@ -53,7 +53,8 @@ map_in f y [] h = absurd h
 map_in f y (x ∷ xs) (inl e) = record { one = x; there = inl refl; is = e }
 map_in f y (x ∷ xs) (inr h) = let p = map_in f y xs h in record { one = p.one; there = inr p.there; is = p.is }
 
-pub in_flat : {X Y : Type 0} (f : X → List Y) (x : X) (y : Y) (xs : List X) → In x xs → In y (f x) → In y (flat_map f xs)
+pub in_flat : {X Y : Type 0} (f : X → List Y) (x : X) (y : Y) (xs : List X) → In x xs → In y (f x) →
+    In y (flat_map f xs)
 in_flat f x y [] h g = absurd h
 in_flat {Y = Y} f x y (z ∷ zs) (inl e) g = in_left y (f z) (flat_map f zs) (subst (λ u. In y (f u)) e g)
 in_flat f x y (z ∷ zs) (inr h) g = in_right y (f z) (flat_map f zs) (in_flat f x y zs h g)
@@ -93,7 +94,8 @@ pub any_in : {X : Type 0} (test : X → Bool) (xs : List X) → list_any test xs
 any_in test [] h = cc
 any_in {X = X} test (x ∷ xs) h = by (test x) refl h (λ k. any_in test xs k)
   where
-    by : (b : Bool) → test x ≡ b → (b || list_any test xs) ≡ true → (list_any test xs ≡ true → IsPassed test xs) → IsPassed test (x ∷ xs)
+    by : (b : Bool) → test x ≡ b → (b || list_any test xs) ≡ true → (list_any test xs ≡ true → IsPassed test xs) →
+        IsPassed test (x ∷ xs)
     by true e k rec = record { one = x; there = inl refl; passes = e }
     by false e k rec = let p = rec k in record { one = p.one; there = inr p.there; passes = p.passes }
 
@@ -119,7 +121,8 @@ pub filter_in : {X : Type 0} (test : X → Bool) (x : X) (xs : List X) → In x 
 filter_in test x [] h = absurd h
 filter_in {X = X} test x (y ∷ ys) h = by (test y) refl (λ k. filter_in test x ys k) h
   where
-    by : (b : Bool) → test y ≡ b → (In x (filter test ys) → In x ys × (test x ≡ true)) → In x (cond b (y ∷ filter test ys) (filter test ys)) →
+    by : (b : Bool) → test y ≡ b → (In x (filter test ys) → In x ys × (test x ≡ true)) →
+        In x (cond b (y ∷ filter test ys) (filter test ys)) →
         In x (y ∷ ys) × (test x ≡ true)
     by true e rec (inl k) = (inl k, ap test k ∙ e)
     by true e rec (inr k) = let p = rec k in (inr p.0, p.1)
@@ -148,7 +151,8 @@ in_among n ns h = in_any (bytes_eq n) n ns h (same_name n)
 
 pub among_in : (n : Name) (ns : List Name) → is_among n ns ≡ true → In n ns
 among_in n ns h =
-    let p = any_in (bytes_eq n) ns h in subst (λ (m : Name). In m ns) (sym ((bytes_eq-Decides n p.one).0 p.passes)) p.there
+    let p = any_in (bytes_eq n) ns h in
+    subst (λ (m : Name). In m ns) (sym ((bytes_eq-Decides n p.one).0 p.passes)) p.there
 
 at_place : (b c : Bool) (i n : ℕ) → (c ≡ true → i < n) → (b || c) ≡ true → cond (not b) (1 + i) 0 < suc n
 at_place true c i n h e = omega arith
@@ -163,14 +167,16 @@ pub number_there : (n : Name) (ns : List Name) → In n ns → number n ns < len
 number_there n ns h = any_position (bytes_eq n) ns (in_among n ns h)
 
 -- what a table of the names' images has there
-pub image_at : {X : Type 0} (f : Name → X) (n : Name) (ns : List Name) → In n ns → slice_get (map f ns) (number n ns) ≡ Some (f n)
+pub image_at : {X : Type 0} (f : Name → X) (n : Name) (ns : List Name) → In n ns →
+    slice_get (map f ns) (number n ns) ≡ Some (f n)
 image_at f n [] h = absurd h
 image_at {X = X} f n (m ∷ ms) h = by (bytes_eq n m) refl (λ k. image_at f n ms k) h
   where
     behind : (k : ℕ) → slice_get (f m ∷ map f ms) (1 + k) ≡ slice_get (map f ms) k
     behind k = let z : 1 + k ≡ suc k = omega arith in ap (slice_get (f m ∷ map f ms)) z
 
-    by : (b : Bool) → bytes_eq n m ≡ b → (In n ms → slice_get (map f ms) (number n ms) ≡ Some (f n)) → (n ≡ m) ⊎ In n ms →
+    by : (b : Bool) → bytes_eq n m ≡ b → (In n ms → slice_get (map f ms) (number n ms) ≡ Some (f n)) →
+        (n ≡ m) ⊎ In n ms →
         slice_get (f m ∷ map f ms) (cond (not b) (1 + position_or_len (bytes_eq n) ms) 0) ≡ Some (f n)
     by true e rec k = ap (λ (o : Name). Some (f o)) (sym ((bytes_eq-Decides n m).0 e))
     by false e rec (inl k) = let t = (bytes_eq-Decides n m).1 k in cc
@@ -191,7 +197,8 @@ onto table names = fold (λ ns n. cond (is_among n ns) ns (ns ++ n ∷ [])) tabl
 
 onto_keeps : (ns table : List Name) (n : Name) → In n table → In n (onto table ns)
 onto_keeps [] table n h = h
-onto_keeps (m ∷ ns) table n h = onto_keeps ns (cond (is_among m table) table (table ++ m ∷ [])) n (one_kept (is_among m table) table m n h)
+onto_keeps (m ∷ ns) table n h =
+    onto_keeps ns (cond (is_among m table) table (table ++ m ∷ [])) n (one_kept (is_among m table) table m n h)
 
 onto_has : (ns table : List Name) (n : Name) → In n ns → In n (onto table ns)
 onto_has [] table n h = absurd h
@@ -234,13 +241,15 @@ once_from n ns h = by (onto_from ns [] n h)
 abbrev pub AreApart : List Name → Type 0
 AreApart ns = IsDistinct bytes_eq ns
 
-one_apart : (b : Bool) (table : List Name) (m : Name) → is_among m table ≡ b → AreApart table → AreApart (cond b table (table ++ m ∷ []))
+one_apart : (b : Bool) (table : List Name) (m : Name) → is_among m table ≡ b → AreApart table →
+    AreApart (cond b table (table ++ m ∷ []))
 one_apart true table m e h = h
 one_apart false table m e h = IsDistinct-push nat_list_eq_equiv table m h e
 
 onto_apart : (ns table : List Name) → AreApart table → AreApart (onto table ns)
 onto_apart [] table h = h
-onto_apart (m ∷ ns) table h = onto_apart ns (cond (is_among m table) table (table ++ m ∷ [])) (one_apart (is_among m table) table m refl h)
+onto_apart (m ∷ ns) table h =
+    onto_apart ns (cond (is_among m table) table (table ++ m ∷ [])) (one_apart (is_among m table) table m refl h)
 
 pub apart_none : AreApart []
 unfolding IsDistinct
@@ -281,22 +290,27 @@ fact_in {A = A} (f ∷ fs) n w h = by (bytes_eq n f.name) refl (λ k. fact_in fs
     taken : (a b : A) → Some a ≡ Some b → b ≡ a
     taken a b e = cc
 
-    by : (b : Bool) → bytes_eq n f.name ≡ b → (fact_of fs n ≡ Some w → In (fact n w) fs) → option_map (λ (g : Fact A). g.what) (cond b (Some f) (find (λ (g : Fact A). bytes_eq n g.name) fs)) ≡ Some w →
+    by : (b : Bool) → bytes_eq n f.name ≡ b → (fact_of fs n ≡ Some w → In (fact n w) fs) →
+        option_map (λ (g : Fact A). g.what) (cond b (Some f) (find (λ (g : Fact A). bytes_eq n g.name) fs)) ≡ Some w →
         In (fact n w) (f ∷ fs)
     by true e rec k = inl (same f.name f.what ((bytes_eq-Decides n f.name).0 e) (taken f.what w k))
     by false e rec k = inr (rec k)
 
 -- the names whose facts pass a test
-pub where_has : {A : Type 0} (test : A → Bool) (n : Name) (w : A) (table : List (Fact A)) → In (fact n w) table → test w ≡ true →
+pub where_has : {A : Type 0} (test : A → Bool) (n : Name) (w : A) (table : List (Fact A)) → In (fact n w) table →
+    test w ≡ true →
     In n (names_where test table)
-where_has {A = A} test n w table h t = in_map (λ (f : Fact A). f.name) (fact n w) (filter (λ f. test f.what) table) (in_filter (λ (f : Fact A). test f.what) (fact n w) table h t)
+where_has {A = A} test n w table h t =
+    in_map (λ (f : Fact A). f.name) (fact n w) (filter (λ f. test f.what) table)
+    (in_filter (λ (f : Fact A). test f.what) (fact n w) table h t)
 
 pub record IsFactOf {A : Type 0} (test : A → Bool) (n : Name) (table : List (Fact A)) : Type 0 where
   pub what : A
   pub there : In (fact n what) table
   pub passes : test what ≡ true
 
-pub where_from : {A : Type 0} (test : A → Bool) (n : Name) (table : List (Fact A)) → In n (names_where test table) → IsFactOf test n table
+pub where_from : {A : Type 0} (test : A → Bool) (n : Name) (table : List (Fact A)) → In n (names_where test table) →
+    IsFactOf test n table
 where_from {A = A} test n table h =
     let p = map_in (λ (f : Fact A). f.name) n (filter (λ f. test f.what) table) h in
     let q = filter_in (λ (f : Fact A). test f.what) p.one table p.there in
@@ -309,7 +323,9 @@ pub fact_there : {A : Type 0} (table : List (Fact A)) (n : Name) → is_among n 
 fact_there [] n h = cc
 fact_there {A = A} (f ∷ fs) n h = by (bytes_eq n f.name) (λ k. fact_there fs n k) h
   where
-    by : (b : Bool) → (is_among n (names_of fs) ≡ true → (w : A) × (fact_of fs n ≡ Some w)) → (b || is_among n (names_of fs)) ≡ true →
-        (w : A) × (option_map (λ (g : Fact A). g.what) (cond b (Some f) (find (λ (g : Fact A). bytes_eq n g.name) fs)) ≡ Some w)
+    by : (b : Bool) → (is_among n (names_of fs) ≡ true → (w : A) × (fact_of fs n ≡ Some w)) →
+        (b || is_among n (names_of fs)) ≡ true →
+        (w : A) × (option_map (λ (g : Fact A). g.what) (cond b (Some f) (find (λ (g : Fact A). bytes_eq n g.name) fs))
+        ≡ Some w)
     by true rec k = (f.what, refl)
     by false rec k = rec k

@@ -35,7 +35,8 @@ some_same : (i j : ℕ) → i ≡ j → Some i ≡ Some j
 some_same i j e = ap (λ (k : ℕ). Some k) e
 
 -- found behind one more section, of which the table says nothing of the name
-one_on : (table : List (Fact ℕ)) (i : ℕ) (n : Name) (q : Section) (qs : List Section) (P : Head → Type 0) → IsFound table (i + 1) n qs P →
+one_on : (table : List (Fact ℕ)) (i : ℕ) (n : Name) (q : Section) (qs : List Section) (P : Head → Type 0) →
+    IsFound table (i + 1) n qs P →
     IsFound table i n (q ∷ qs) P
 one_on table i n q qs P f = record {
   place = f.place + 1;
@@ -46,7 +47,8 @@ one_on table i n q qs P f = record {
 }
 
 -- the first fact is of another name, or of this one
-first_or : (m : Name) (i : ℕ) (rest : List (Fact ℕ)) (n : Name) (q : Section) (qs : List Section) (P : Head → Type 0) → (n ≡ m → P q.head) →
+first_or : (m : Name) (i : ℕ) (rest : List (Fact ℕ)) (n : Name) (q : Section) (qs : List Section) (P : Head → Type 0) →
+    (n ≡ m → P q.head) →
     (n ≡ m) ⊎ Unit {0} → ((n ≡ m → ⊥) → IsFound rest (i + 1) n qs P) → IsFound (fact m i ∷ rest) i n (q ∷ qs) P
 first_or m i rest n q qs P p h rec = by (bytes_eq n m) refl
   where
@@ -54,7 +56,8 @@ first_or m i rest n q qs P p h rec = by (bytes_eq n m) refl
     by true e = record {
       place = 0;
       number =
-          ap (λ (c : Bool). option_map (λ (f : Fact ℕ). f.what) (cond c (Some (fact m i)) (find (λ (f : Fact ℕ). bytes_eq n f.name) rest))) e
+          ap (λ (c : Bool). option_map (λ (f : Fact ℕ). f.what)
+          (cond c (Some (fact m i)) (find (λ (f : Fact ℕ). bytes_eq n f.name) rest))) e
           ∙ some_same i (i + 0) (omega arith);
       section = q;
       there = refl;
@@ -66,7 +69,8 @@ first_or m i rest n q qs P p h rec = by (bytes_eq n m) refl
         record {
           place = g.place;
           number =
-              ap (λ (c : Bool). option_map (λ (f : Fact ℕ). f.what) (cond c (Some (fact m i)) (find (λ (f : Fact ℕ). bytes_eq n f.name) rest))) e
+              ap (λ (c : Bool). option_map (λ (f : Fact ℕ). f.what)
+              (cond c (Some (fact m i)) (find (λ (f : Fact ℕ). bytes_eq n f.name) rest))) e
               ∙ g.number;
           section = g.section;
           there = g.there;
@@ -87,10 +91,13 @@ event_found [] i n h = absurd h
 event_found (q ∷ qs) i n h = by q.head refl h (λ k. event_found qs (i + 1) n k)
   where
     by : (hd : Head) → q.head ≡ hd → In n (events_in hd ++ flat_map events_in (heads qs)) →
-        (In n (flat_map events_in (heads qs)) → IsFound (numbered (i + 1) (map events_in (heads qs)) (λ m. m)) (i + 1) n qs (IsEventHead n)) →
-        IsFound (map (λ m. fact m i) (events_in hd) ++ numbered (i + 1) (map events_in (heads qs)) (λ m. m)) i n (q ∷ qs) (IsEventHead n)
+        (In n (flat_map events_in (heads qs)) →
+        IsFound (numbered (i + 1) (map events_in (heads qs)) (λ m. m)) (i + 1) n qs (IsEventHead n)) →
+        IsFound (map (λ m. fact m i) (events_in hd) ++ numbered (i + 1) (map events_in (heads qs)) (λ m. m)) i n
+        (q ∷ qs) (IsEventHead n)
     by MainHead e k rec = one_on (numbered (i + 1) (map events_in (heads qs)) (λ m. m)) i n q qs (IsEventHead n) (rec k)
-    by (RoutineHead m given yielded) e k rec = one_on (numbered (i + 1) (map events_in (heads qs)) (λ m. m)) i n q qs (IsEventHead n) (rec k)
+    by (RoutineHead m given yielded) e k rec =
+        one_on (numbered (i + 1) (map events_in (heads qs)) (λ m. m)) i n q qs (IsEventHead n) (rec k)
     by (EventHead m given saving) e k rec =
         first_or m i (numbered (i + 1) (map events_in (heads qs)) (λ m. m)) n q qs (IsEventHead n)
         (λ s. subst (IsEventHead n) (sym e) (record { names = inl s; kind = refl; yielded = refl })) (inr tt)
@@ -109,7 +116,8 @@ pub record IsRoutineHead (counts : List (Fact Counts)) (n : Name) (h : Head) : T
   pub says : fact_of counts n ≡ Some (counts_of h)
 
 -- the same with one more fact before, of another name
-routine_on : (m : Name) (c : Counts) (counts : List (Fact Counts)) (n : Name) (h : Head) → (n ≡ m → ⊥) → IsRoutineHead counts n h →
+routine_on : (m : Name) (c : Counts) (counts : List (Fact Counts)) (n : Name) (h : Head) → (n ≡ m → ⊥) →
+    IsRoutineHead counts n h →
     IsRoutineHead (fact m c ∷ counts) n h
 routine_on m c counts n h a r = by (bytes_eq n m) refl
   where
@@ -119,38 +127,55 @@ routine_on m c counts n h a r = by (bytes_eq n m) refl
       names = r.names;
       kind = r.kind;
       says =
-          ap (λ (b : Bool). option_map (λ (f : Fact Counts). f.what) (cond b (Some (fact m c)) (find (λ (f : Fact Counts). bytes_eq n f.name) counts))) e
+          ap (λ (b : Bool). option_map (λ (f : Fact Counts). f.what)
+          (cond b (Some (fact m c)) (find (λ (f : Fact Counts). bytes_eq n f.name) counts))) e
           ∙ r.says;
     }
 
-routine_first : (m : Name) (c : Counts) (counts : List (Fact Counts)) (n : Name) → n ≡ m → fact_of (fact m c ∷ counts) n ≡ Some c
+routine_first : (m : Name) (c : Counts) (counts : List (Fact Counts)) (n : Name) → n ≡ m →
+    fact_of (fact m c ∷ counts) n ≡ Some c
 routine_first m c counts n e =
-    ap (λ (b : Bool). option_map (λ (f : Fact Counts). f.what) (cond b (Some (fact m c)) (find (λ (f : Fact Counts). bytes_eq n f.name) counts)))
+    ap (λ (b : Bool). option_map (λ (f : Fact Counts). f.what)
+    (cond b (Some (fact m c)) (find (λ (f : Fact Counts). bytes_eq n f.name) counts)))
     ((bytes_eq-Decides n m).1 e)
 
 pub routine_found : (qs : List Section) (i : ℕ) (n : Name) → In n (flat_map routine_names (heads qs)) →
-    IsFound (numbered i (map routine_facts (heads qs)) (λ f. f.name)) i n qs (IsRoutineHead (flat_map routine_counts (heads qs)) n)
+    IsFound (numbered i (map routine_facts (heads qs)) (λ f. f.name)) i n qs
+    (IsRoutineHead (flat_map routine_counts (heads qs)) n)
 routine_found [] i n h = absurd h
 routine_found (q ∷ qs) i n h = by q.head refl h (λ k. routine_found qs (i + 1) n k)
   where
     by : (hd : Head) → q.head ≡ hd → In n (routine_names hd ++ flat_map routine_names (heads qs)) →
         (In n (flat_map routine_names (heads qs)) →
-        IsFound (numbered (i + 1) (map routine_facts (heads qs)) (λ f. f.name)) (i + 1) n qs (IsRoutineHead (flat_map routine_counts (heads qs)) n)) →
-        IsFound (map (λ (f : Fact NameKind). fact f.name i) (routine_facts hd) ++ numbered (i + 1) (map routine_facts (heads qs)) (λ f. f.name)) i n (q ∷ qs)
+        IsFound (numbered (i + 1) (map routine_facts (heads qs)) (λ f. f.name)) (i + 1) n qs
+        (IsRoutineHead (flat_map routine_counts (heads qs)) n)) →
+        IsFound (map (λ (f : Fact NameKind). fact f.name i) (routine_facts hd)
+        ++ numbered (i + 1) (map routine_facts (heads qs)) (λ f. f.name)) i n (q ∷ qs)
         (IsRoutineHead (routine_counts hd ++ flat_map routine_counts (heads qs)) n)
     by MainHead e k rec =
-        one_on (numbered (i + 1) (map routine_facts (heads qs)) (λ f. f.name)) i n q qs (IsRoutineHead (flat_map routine_counts (heads qs)) n) (rec k)
+        one_on (numbered (i + 1) (map routine_facts (heads qs)) (λ f. f.name)) i n q qs
+        (IsRoutineHead (flat_map routine_counts (heads qs)) n) (rec k)
     by (EventHead m given saving) e k rec =
-        one_on (numbered (i + 1) (map routine_facts (heads qs)) (λ f. f.name)) i n q qs (IsRoutineHead (flat_map routine_counts (heads qs)) n) (rec k)
+        one_on (numbered (i + 1) (map routine_facts (heads qs)) (λ f. f.name)) i n q qs
+        (IsRoutineHead (flat_map routine_counts (heads qs)) n) (rec k)
     by (RoutineHead m given yielded) e k rec =
         let c = counts_of (RoutineHead m given yielded) in
         let cs = flat_map routine_counts (heads qs) in
-        first_or m i (numbered (i + 1) (map routine_facts (heads qs)) (λ f. f.name)) n q qs (IsRoutineHead (fact m c ∷ cs) n)
-        (λ s. subst (IsRoutineHead (fact m c ∷ cs) n) (sym e) (record { names = inl s; kind = refl; says = routine_first m c cs n s })) (inr tt)
+        first_or m i (numbered (i + 1) (map routine_facts (heads qs)) (λ f. f.name)) n q qs
+        (IsRoutineHead (fact m c ∷ cs) n)
+        (λ s. subst (IsRoutineHead (fact m c ∷ cs) n) (sym e)
+        (record { names = inl s; kind = refl; says = routine_first m c cs n s })) (inr tt)
         (λ a. let f = rec (other k a) in
-        record { place = f.place; number = f.number; section = f.section; there = f.there; holds = routine_on m c cs n f.section.head a f.holds })
+        record {
+          place = f.place;
+          number = f.number;
+          section = f.section;
+          there = f.there;
+          holds = routine_on m c cs n f.section.head a f.holds;
+        })
       where
-        other : (n ≡ m) ⊎ In n (flat_map routine_names (heads qs)) → (n ≡ m → ⊥) → In n (flat_map routine_names (heads qs))
+        other : (n ≡ m) ⊎ In n (flat_map routine_names (heads qs)) → (n ≡ m → ⊥) →
+            In n (flat_map routine_names (heads qs))
         other (inl s) a = absurd (a s)
         other (inr x) a = x
 
@@ -165,7 +190,8 @@ slice_in (y ∷ ys) zero x h = inl (taken y x h)
 slice_in (y ∷ ys) (suc k) x h = inr (slice_in ys k x h)
 
 -- each section is kept
-pub section_at : (d : Tables) (xs : List Entry) (before : List Head) (ss : List Section) (q : Section) → AreSectionsKept d xs before ss → In q ss →
+pub section_at : (d : Tables) (xs : List Entry) (before : List Head) (ss : List Section) (q : Section) →
+    AreSectionsKept d xs before ss → In q ss →
     (b : Tables) × IsHeadKept d b q.head × ArePlacesKept d (is_main q.head) q.places
 section_at d xs before [] q h i = absurd i
 section_at d xs before (s ∷ ss) q h (inl e) = (

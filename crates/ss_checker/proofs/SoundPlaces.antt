@@ -43,11 +43,14 @@ module _ (d : Tables) (v : Names) (locals : List Name) (sc : Scope) (S : Scoped 
     sound_sums (sum s t ts) h = let p = parts (uses_term t) (uses_sums ts) h in (sound_term t p.0, sound_sums ts p.1)
 
     sound_term : (t : Term) → AreGood d locals (uses_term t) → IsSoundTerm sc (resolved_term d v locals t)
-    sound_term (term f fs) h = let p = parts (uses_factor f) (uses_products fs) h in (sound_factor f p.0, sound_products fs p.1)
+    sound_term (term f fs) h =
+        let p = parts (uses_factor f) (uses_products fs) h in (sound_factor f p.0, sound_products fs p.1)
 
-    sound_products : (ps : Products) → AreGood d locals (uses_products ps) → IsSoundProducts sc (resolved_products d v locals ps)
+    sound_products : (ps : Products) → AreGood d locals (uses_products ps) →
+        IsSoundProducts sc (resolved_products d v locals ps)
     sound_products no_products h = tt
-    sound_products (product f fs) h = let p = parts (uses_factor f) (uses_products fs) h in (sound_factor f p.0, sound_products fs p.1)
+    sound_products (product f fs) h =
+        let p = parts (uses_factor f) (uses_products fs) h in (sound_factor f p.0, sound_products fs p.1)
 
     sound_factor : (f : Factor) → AreGood d locals (uses_factor f) → IsSoundFactor sc (resolved_factor d v locals f)
     sound_factor (digits n) h = tt
@@ -56,48 +59,61 @@ module _ (d : Tables) (v : Names) (locals : List Name) (sc : Scope) (S : Scoped 
     sound_factor (applied n e es) h =
         let g = h.0 in
         let p = parts (uses_expr e) (uses_exprs es) h.1 in
-        sound_applied d v locals sc S n (kind_of d n) (resolved_expr d v locals e) (resolved_exprs d v locals es) refl g.usage (sound_expr e p.0)
+        sound_applied d v locals sc S n (kind_of d n) (resolved_expr d v locals e)
+        (resolved_exprs d v locals es) refl g.usage (sound_expr e p.0)
         (sound_arguments es p.1)
     sound_factor (within e) h = sound_expr e h
 
-    sound_arguments : (es : Exprs) → AreGood d locals (uses_exprs es) → AreSoundArguments sc (resolved_exprs d v locals es)
+    sound_arguments : (es : Exprs) → AreGood d locals (uses_exprs es) →
+        AreSoundArguments sc (resolved_exprs d v locals es)
     sound_arguments no_exprs h = tt
-    sound_arguments (exprs e es) h = let p = parts (uses_expr e) (uses_exprs es) h in (sound_expr e p.0, sound_arguments es p.1)
+    sound_arguments (exprs e es) h =
+        let p = parts (uses_expr e) (uses_exprs es) h in (sound_expr e p.0, sound_arguments es p.1)
 
   sound_option : (e : Option Expr) → AreGood d locals (uses_option e) → IsSoundOption sc (resolved_option d v locals e)
   sound_option None h = tt
   sound_option (Some e) h = sound_expr e h
 
-  sound_exprs : (es : List Expr) → AreGood d locals (flat_map uses_expr es) → AreSoundExprs sc (map (resolved_expr d v locals) es)
+  sound_exprs : (es : List Expr) → AreGood d locals (flat_map uses_expr es) →
+      AreSoundExprs sc (map (resolved_expr d v locals) es)
   sound_exprs [] h = tt
-  sound_exprs (e ∷ es) h = let p = parts (uses_expr e) (flat_map uses_expr es) h in (sound_expr e p.0, sound_exprs es p.1)
+  sound_exprs (e ∷ es) h =
+      let p = parts (uses_expr e) (flat_map uses_expr es) h in (sound_expr e p.0, sound_exprs es p.1)
 
   -- ---- references
 
   -- a factor alone
-  alone : (f : Rattle.ss_check.specs.ProgramExpr.Factor) → IsSoundFactor sc f → IsSoundExpr sc (Rattle.ss_checker.specs.Resolved.alone f)
+  alone : (f : Rattle.ss_check.specs.ProgramExpr.Factor) → IsSoundFactor sc f →
+      IsSoundExpr sc (Rattle.ss_checker.specs.Resolved.alone f)
   alone f h = ((h, tt), tt)
 
   sound_value : (n : Name) (e : Option Expr) → AreGood d locals (uses_value n e) →
       IsSoundExpr sc (resolved_value d v locals (record { name = n; subscript = e }))
-  sound_value n None h = let g = h.0 in let c = g.known in alone _ (sound_named d v locals sc S n (kind_of d n) refl g.usage g.count c.0)
+  sound_value n None h =
+      let g = h.0 in let c = g.known in alone _ (sound_named d v locals sc S n (kind_of d n) refl g.usage g.count c.0)
   sound_value n (Some e) h =
       let g = h.0 in
-      alone _ (sound_applied d v locals sc S n (kind_of d n) (resolved_expr d v locals e) Rattle.ss_check.specs.ProgramExpr.no_exprs refl g.usage
+      alone _ (sound_applied d v locals sc S n (kind_of d n)
+      (resolved_expr d v locals e) Rattle.ss_check.specs.ProgramExpr.no_exprs refl g.usage
       (sound_expr e h.1) tt)
 
   target_by : (n : Name) (e : Option Expr) → AreGood d locals (uses_target (record { name = n; subscript = e })) →
       IsTarget sc (resolved_target d v locals (record { name = n; subscript = e }))
-  target_by n None h = let g = h.0 in let c = g.known in sound_bare_target d v locals sc S n (kind_of d n) refl g.usage g.fixed c.0
+  target_by n None h =
+      let g = h.0 in let c = g.known in sound_bare_target d v locals sc S n (kind_of d n) refl g.usage g.fixed c.0
   target_by n (Some e) h =
-      let g = h.0 in sound_target_at d v locals sc S n (kind_of d n) (resolved_expr d v locals e) refl g.usage g.fixed (sound_expr e h.1)
+      let g = h.0 in
+      sound_target_at d v locals sc S n (kind_of d n) (resolved_expr d v locals e) refl g.usage g.fixed
+      (sound_expr e h.1)
 
   sound_target : (r : Reference) → AreGood d locals (uses_target r) → IsTarget sc (resolved_target d v locals r)
   sound_target r h = target_by r.name r.subscript h
 
-  sound_targets : (rs : List Reference) → AreGood d locals (flat_map uses_target rs) → AreTargets sc (map (resolved_target d v locals) rs)
+  sound_targets : (rs : List Reference) → AreGood d locals (flat_map uses_target rs) →
+      AreTargets sc (map (resolved_target d v locals) rs)
   sound_targets [] h = tt
-  sound_targets (r ∷ rs) h = let p = parts (uses_target r) (flat_map uses_target rs) h in (sound_target r p.0, sound_targets rs p.1)
+  sound_targets (r ∷ rs) h =
+      let p = parts (uses_target r) (flat_map uses_target rs) h in (sound_target r p.0, sound_targets rs p.1)
 
   is_set : (n : Name) (j : Option NameKind) → kind_of d n ≡ j → names_set j ≡ true → kind_of d n ≡ Some k.Set
   is_set n (Some k.Set) e h = e
@@ -124,42 +140,52 @@ module _ (d : Tables) (v : Names) (locals : List Name) (sc : Scope) (S : Scoped 
   served : (need : ClassNeed) (n : Name) → IsGood d locals (OfClass need n) → serves need (kind_of d n) ≡ true
   served need n g = not-false (serves need (kind_of d n)) g.class
 
-  sound_called_target : (n : Name) (r : Option Reference) → names_ending (kind_of d n) ≡ true → AreGood d locals (uses_called_target r) →
+  sound_called_target : (n : Name) (r : Option Reference) → names_ending (kind_of d n) ≡ true →
+      AreGood d locals (uses_called_target r) →
       IsTarget sc (called_target d v locals n r)
   sound_called_target n None e h = sound_class_variable d v locals sc S n e
   sound_called_target n (Some r) e h = sound_target r h
 
-  sound_called_value : (n : Name) (r : Option Reference) → names_ending (kind_of d n) ≡ true → AreGood d locals (uses_called_value r) →
+  sound_called_value : (n : Name) (r : Option Reference) → names_ending (kind_of d n) ≡ true →
+      AreGood d locals (uses_called_value r) →
       IsSoundExpr sc (called_value d v locals n r)
   sound_called_value n None e h =
-      alone (Rattle.ss_check.specs.ProgramExpr.variable (Rattle.ss_check.specs.declared.variable.Variable.TheVariants.Global (number n v.globals)))
+      alone (Rattle.ss_check.specs.ProgramExpr.variable
+      (Rattle.ss_check.specs.declared.variable.Variable.TheVariants.Global (number n v.globals)))
       (sound_class_variable d v locals sc S n e)
   sound_called_value n (Some r) e h = sound_value r.name r.subscript h
 
   -- ---- conditions
 
   mutual
-    sound_condition : (c : Condition) → AreGood d locals (uses_condition c) → IsSoundCondition sc (resolved_condition d v locals c)
+    sound_condition : (c : Condition) → AreGood d locals (uses_condition c) →
+        IsSoundCondition sc (resolved_condition d v locals c)
     sound_condition (condition c cs) h =
-        let p = parts (uses_conjunction c) (uses_alternatives cs) h in (sound_conjunction c p.0, sound_alternatives cs p.1)
+        let p = parts (uses_conjunction c) (uses_alternatives cs) h in
+        (sound_conjunction c p.0, sound_alternatives cs p.1)
 
     sound_alternatives : (cs : Alternatives) → AreGood d locals (uses_alternatives cs) →
         AreSoundConjunctions sc (resolved_alternatives d v locals cs)
     sound_alternatives no_alternatives h = tt
     sound_alternatives (alternative c cs) h =
-        let p = parts (uses_conjunction c) (uses_alternatives cs) h in (sound_conjunction c p.0, sound_alternatives cs p.1)
+        let p = parts (uses_conjunction c) (uses_alternatives cs) h in
+        (sound_conjunction c p.0, sound_alternatives cs p.1)
 
-    sound_conjunction : (c : Conjunction) → AreGood d locals (uses_conjunction c) → IsSoundConjunction sc (resolved_conjunction d v locals c)
+    sound_conjunction : (c : Conjunction) → AreGood d locals (uses_conjunction c) →
+        IsSoundConjunction sc (resolved_conjunction d v locals c)
     sound_conjunction (conjunction q qs) h =
         let p = parts (uses_relation q) (uses_additions qs) h in (sound_relation q p.0, sound_additions qs p.1)
 
-    sound_additions : (qs : Additions) → AreGood d locals (uses_additions qs) → AreSoundRelations sc (resolved_additions d v locals qs)
+    sound_additions : (qs : Additions) → AreGood d locals (uses_additions qs) →
+        AreSoundRelations sc (resolved_additions d v locals qs)
     sound_additions no_additions h = tt
     sound_additions (addition q qs) h =
         let p = parts (uses_relation q) (uses_additions qs) h in (sound_relation q p.0, sound_additions qs p.1)
 
-    sound_relation : (q : Relation) → AreGood d locals (uses_relation q) → IsSoundRelation sc (resolved_relation d v locals q)
-    sound_relation (compared e how f) h = let p = parts (uses_expr e) (uses_expr f) h in (sound_expr e p.0, sound_expr f p.1)
+    sound_relation : (q : Relation) → AreGood d locals (uses_relation q) →
+        IsSoundRelation sc (resolved_relation d v locals q)
+    sound_relation (compared e how f) h =
+        let p = parts (uses_expr e) (uses_expr f) h in (sound_expr e p.0, sound_expr f p.1)
     sound_relation (is_empty s how) h = sound_set s h
     sound_relation (is_in e how s) h = let p = parts (uses_expr e) (uses_set s) h in (sound_expr e p.0, sound_set s p.1)
     sound_relation (nested c) h = sound_condition c h
@@ -169,7 +195,8 @@ module _ (d : Tables) (v : Names) (locals : List Name) (sc : Scope) (S : Scoped 
   sound_assign : (a : Assign) → AreGood d locals (uses_assign a) → IsSoundAssign sc (resolved_assign d v locals a)
   sound_assign (Let b r e) h = let p = parts (uses_target r) (uses_expr e) h in (sound_target r p.0, sound_expr e p.1)
   sound_assign (Add e r) h = let p = parts (uses_expr e) (uses_target r) h in (sound_target r p.1, sound_expr e p.0)
-  sound_assign (Subtract e r) h = let p = parts (uses_expr e) (uses_target r) h in (sound_target r p.1, sound_expr e p.0)
+  sound_assign (Subtract e r) h =
+      let p = parts (uses_expr e) (uses_target r) h in (sound_target r p.1, sound_expr e p.0)
 
   sound_making : (m : Making) → AreGood d locals (uses_making m) → IsSoundMaking sc (resolved_making d v locals m)
   sound_making (Create n r) h =
@@ -179,7 +206,8 @@ module _ (d : Tables) (v : Names) (locals : List Name) (sc : Scope) (S : Scoped 
   sound_making (Destroy n r) h =
       let s = served Ending n h.0 in (S.ending n s, sound_called_value n r s h.1)
 
-  sound_position : (f : FilePlace) → AreGood d locals (uses_file_place f) → IsSoundPosition sc (resolved_position d v locals f)
+  sound_position : (f : FilePlace) → AreGood d locals (uses_file_place f) →
+      IsSoundPosition sc (resolved_position d v locals f)
   sound_position ByDiscipline h = tt
   sound_position (AtEnd end) h = tt
   sound_position (Before e) h = sound_expr e h
@@ -188,9 +216,11 @@ module _ (d : Tables) (v : Names) (locals : List Name) (sc : Scope) (S : Scoped 
   sound_filing : (f : Filing) → AreGood d locals (uses_filing f) → IsSoundFiling sc (resolved_filing d v locals f)
   sound_filing (File e how r) h =
       let p = parts (uses_expr e ++ uses_file_place how) (uses_set r) h in
-      let q = parts (uses_expr e) (uses_file_place how) p.0 in (sound_expr e q.0, sound_position how q.1, sound_set r p.1)
+      let q = parts (uses_expr e) (uses_file_place how) p.0 in
+      (sound_expr e q.0, sound_position how q.1, sound_set r p.1)
   sound_filing (FileAt end e r) h = let p = parts (uses_expr e) (uses_set r) h in (sound_expr e p.0, sound_set r p.1)
-  sound_filing (RemoveEnd end t r) h = let p = parts (uses_target t) (uses_set r) h in (sound_target t p.0, sound_set r p.1)
+  sound_filing (RemoveEnd end t r) h =
+      let p = parts (uses_target t) (uses_set r) h in (sound_target t p.0, sound_set r p.1)
   sound_filing (Remove e r) h = let p = parts (uses_expr e) (uses_set r) h in (sound_expr e p.0, sound_set r p.1)
 
   event_ends : (j : Option NameKind) → names_event j ≡ true → names_ending j ≡ true
@@ -200,7 +230,8 @@ module _ (d : Tables) (v : Names) (locals : List Name) (sc : Scope) (S : Scoped 
   event_ends (Some (k.Class None)) h = cc
   event_ends (Some (k.Class (Some g))) h = by_heading g h
     where
-      by_heading : (g : Rattle.ss_preamble.specs.declared.item.Heading.Heading) → names_event (Some (k.Class (Some g))) ≡ true →
+      by_heading : (g : Rattle.ss_preamble.specs.declared.item.Heading.Heading) →
+          names_event (Some (k.Class (Some g))) ≡ true →
           names_ending (Some (k.Class (Some g))) ≡ true
       by_heading Rattle.ss_preamble.specs.declared.item.Heading.TheVariants.PermanentEntities h = cc
       by_heading Rattle.ss_preamble.specs.declared.item.Heading.TheVariants.TemporaryEntities h = refl
@@ -213,7 +244,8 @@ module _ (d : Tables) (v : Names) (locals : List Name) (sc : Scope) (S : Scoped 
   event_ends (Some k.Set) h = cc
   event_ends (Some k.Routine) h = cc
 
-  sound_notice : (a : Article) (n : Name) (r : Option Reference) → names_ending (kind_of d n) ≡ true → AreGood d locals (uses_called a r) →
+  sound_notice : (a : Article) (n : Name) (r : Option Reference) → names_ending (kind_of d n) ≡ true →
+      AreGood d locals (uses_called a r) →
       IsSoundNotice sc (resolved_notice d v locals a n r)
   sound_notice A n r e h = sound_called_target n r e h
   sound_notice The n r e h = sound_called_value n r e h
@@ -238,12 +270,14 @@ module _ (d : Tables) (v : Names) (locals : List Name) (sc : Scope) (S : Scoped 
       let s = event_ends (kind_of d n) (served Event n h.0) in (S.ending n s, sound_called_value n r s h.1)
   sound_timing StartSimulation h = tt
 
-  as_many : (es : List Expr) (ls : List (List ℕ)) → (not (length es == field_count ls) || has_decimal_field ls) ≡ false →
+  as_many : (es : List Expr) (ls : List (List ℕ)) →
+      (not (length es == field_count ls) || has_decimal_field ls) ≡ false →
       length (map (resolved_expr d v locals) es) ≡ field_count ls
   as_many es ls h =
       length-map es (resolved_expr d v locals)
       ∙ eqb-true (length es) (field_count ls)
-      (not-false (length es == field_count ls) (or_parts (not (length es == field_count ls)) (has_decimal_field ls) h).0)
+      (not-false (length es == field_count ls)
+      (or_parts (not (length es == field_count ls)) (has_decimal_field ls) h).0)
 
   sound_simple : (s : Simple) → AreGood d locals (uses_simple s) → has_wrong_picture (w.Simply s) ≡ false →
       IsSoundPlace sc (resolved_simple d v locals s)
@@ -251,7 +285,8 @@ module _ (d : Tables) (v : Names) (locals : List Name) (sc : Scope) (S : Scoped 
   sound_simple (Makes m) h p = sound_making m h
   sound_simple (Files f) h p = sound_filing f h
   sound_simple (Transfers (Call n es rs)) h p =
-      let q = parts (flat_map uses_expr (listed es)) (flat_map uses_target rs) h.1 in (sound_exprs (listed es) q.0, sound_targets rs q.1)
+      let q = parts (flat_map uses_expr (listed es)) (flat_map uses_target rs) h.1 in
+      (sound_exprs (listed es) q.0, sound_targets rs q.1)
   sound_simple (Transfers Return) h p = tt
   sound_simple (Transfers Stop) h p = tt
   sound_simple (Times t) h p = sound_timing t h
@@ -263,7 +298,8 @@ module _ (d : Tables) (v : Names) (locals : List Name) (sc : Scope) (S : Scoped 
   -- ---- loops
 
   sound_variable : (n : Name) → IsGood d locals (LoopVariable n) →
-      Rattle.ss_check.specs.ProgramSound.IsSettable sc (Rattle.ss_checker.specs.ResolvedNames.resolved_variable d v locals n)
+      Rattle.ss_check.specs.ProgramSound.IsSettable sc
+      (Rattle.ss_checker.specs.ResolvedNames.resolved_variable d v locals n)
   sound_variable n g = let c = g.known in sound_loop_variable d v locals sc S n (kind_of d n) refl g.fixed c.0
 
   sound_begin : (b : l.WalkStart) → AreGood d locals (uses_start b) → IsSoundBegin sc (resolved_begin d v locals b)
@@ -281,7 +317,8 @@ module _ (d : Tables) (v : Names) (locals : List Name) (sc : Scope) (S : Scoped 
   sound_range (l.Each n (Some called)) h =
       let s = served Permanent n h.0 in (sound_variable called h.1.0, S.counts n s)
   sound_range (l.Walking way n r start) h =
-      let p = parts (uses_set r) (uses_start start) h.1 in (sound_variable n h.0, sound_set r p.0, sound_begin start p.1)
+      let p = parts (uses_set r) (uses_start start) h.1 in
+      (sound_variable n h.0, sound_set r p.0, sound_begin start p.1)
 
   sound_qualifiers : (qs : List l.Qualifier) → AreGood d locals (flat_map (λ q. uses_condition q.condition) qs) →
       AreSoundQualifiers sc (map (resolved_qualifier d v locals) qs)
@@ -294,7 +331,8 @@ module _ (d : Tables) (v : Names) (locals : List Name) (sc : Scope) (S : Scoped 
       AreSoundTellings sc (map (resolved_telling d v locals) ts)
   sound_tellings [] h = tt
   sound_tellings (t ∷ ts) h =
-      let p = parts (uses_target t.target) (flat_map (λ t. uses_target t.target) ts) h in (sound_target t.target p.0, sound_tellings ts p.1)
+      let p = parts (uses_target t.target) (flat_map (λ t. uses_target t.target) ts) h in
+      (sound_target t.target p.0, sound_tellings ts p.1)
 
   sound_loop : (x : w.Loop) → AreGood d locals (uses_loop x) → IsSoundLooping sc (resolved_loop d v locals x)
   sound_loop (w.For f has_do) h =
@@ -314,7 +352,8 @@ module _ (d : Tables) (v : Names) (locals : List Name) (sc : Scope) (S : Scoped 
   sound_branch w.Else h = tt
   sound_branch w.Always h = tt
 
-  pub sound_place : (p : w.Place) → AreGood d locals (uses p) → has_wrong_picture p ≡ false → IsSoundPlace sc (resolved_place d v locals p)
+  pub sound_place : (p : w.Place) → AreGood d locals (uses p) → has_wrong_picture p ≡ false →
+      IsSoundPlace sc (resolved_place d v locals p)
   sound_place (w.Simply s) h e = sound_simple s h e
   sound_place (w.Branches b) h e = sound_branch b h
   sound_place (w.Loops x) h e = sound_loop x h

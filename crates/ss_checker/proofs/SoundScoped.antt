@@ -165,8 +165,11 @@ module _ (xs : List Entry) (hs : List Head) (h : AreItemsKept (tables_of xs hs) 
     permanent_class n (Some k.Variable) e t = cc
     permanent_class n (Some k.ClassCount) e t = cc
     permanent_class n (Some (k.Class None)) e t = cc
-    permanent_class n (Some (k.Class (Some PermanentEntities))) e t =
-        ((Some PermanentEntities, kind_in n (k.Class (Some PermanentEntities)) e), (closed_kind n (k.Class (Some PermanentEntities)) e).1, refl)
+    permanent_class n (Some (k.Class (Some PermanentEntities))) e t = (
+      (Some PermanentEntities, kind_in n (k.Class (Some PermanentEntities)) e),
+      (closed_kind n (k.Class (Some PermanentEntities)) e).1,
+      refl,
+    )
     permanent_class n (Some (k.Class (Some TemporaryEntities))) e t = cc
     permanent_class n (Some (k.Class (Some EventNotices))) e t = cc
     permanent_class n (Some (k.Attribute c)) e t = cc
@@ -186,7 +189,8 @@ module _ (xs : List Entry) (hs : List Head) (h : AreItemsKept (tables_of xs hs) 
     ending_class n (Some (k.Class (Some PermanentEntities))) e t = cc
     ending_class n (Some (k.Class (Some TemporaryEntities))) e t =
         ((Some TemporaryEntities, kind_in n (k.Class (Some TemporaryEntities)) e), refl)
-    ending_class n (Some (k.Class (Some EventNotices))) e t = ((Some EventNotices, kind_in n (k.Class (Some EventNotices)) e), refl)
+    ending_class n (Some (k.Class (Some EventNotices))) e t =
+        ((Some EventNotices, kind_in n (k.Class (Some EventNotices)) e), refl)
     ending_class n (Some (k.Attribute c)) e t = cc
     ending_class n (Some (k.OwnerKept q s)) e t = cc
     ending_class n (Some (k.MemberKept q s)) e t = cc
@@ -203,7 +207,8 @@ module _ (xs : List Entry) (hs : List Head) (h : AreItemsKept (tables_of xs hs) 
     event_class n (Some (k.Class None)) e t = cc
     event_class n (Some (k.Class (Some PermanentEntities))) e t = cc
     event_class n (Some (k.Class (Some TemporaryEntities))) e t = cc
-    event_class n (Some (k.Class (Some EventNotices))) e t = ((Some EventNotices, kind_in n (k.Class (Some EventNotices)) e), refl)
+    event_class n (Some (k.Class (Some EventNotices))) e t =
+        ((Some EventNotices, kind_in n (k.Class (Some EventNotices)) e), refl)
     event_class n (Some (k.Attribute c)) e t = cc
     event_class n (Some (k.OwnerKept q s)) e t = cc
     event_class n (Some (k.MemberKept q s)) e t = cc
@@ -241,7 +246,10 @@ module _ (xs : List Entry) (hs : List Head) (h : AreItemsKept (tables_of xs hs) 
         class_place : (c : Name) → HasClass L c →
             number c v.classes < length (map (λ c. is_permanent c.kind) (map (class_table d v r) v.classes))
         class_place c i =
-            rw (length-map (map (class_table d v r) v.classes) (λ (c : ClassTable). is_permanent c.kind), length-map v.classes (class_table d v r))
+            rw (
+              length-map (map (class_table d v r) v.classes) (λ (c : ClassTable). is_permanent c.kind),
+              length-map v.classes (class_table d v r),
+            )
             (number_there c v.classes (class_in c i))
 
         set_place : (s : Name) → In (fact s k.Set) L → number s v.sets < length (map (set_table d v r) v.sets)
@@ -250,4 +258,6 @@ module _ (xs : List Entry) (hs : List Head) (h : AreItemsKept (tables_of xs hs) 
     -- ---- attributes of classes
 
     pub attributes_are : (n : Name) → In n v.classes → attribute_names v n ≡ attributes_of d n
-    attributes_are n i = get_or_from_slice_get v.attributes (number n v.classes) (attributes_of d n) [] (image_at (attributes_of d) n v.classes i)
+    attributes_are n i =
+        get_or_from_slice_get v.attributes (number n v.classes) (attributes_of d n) []
+        (image_at (attributes_of d) n v.classes i)

@@ -64,18 +64,22 @@ abbrev AreCalled : List SectionTable → List Spot → Type 0
 AreCalled ss [] = Unit {0}
 AreCalled ss (x ∷ xs) = IsCalled ss x.place × AreCalled ss xs
 
-leads : (ss : List SectionTable) (count : ℕ) (a : Ways) (x : Place) → Exits count a x → IsCalled ss x → LeadsOn ss count a x
+leads : (ss : List SectionTable) (count : ℕ) (a : Ways) (x : Place) → Exits count a x → IsCalled ss x →
+    LeadsOn ss count a x
 leads ss count a (place.Branch (If q)) e c = e
 leads ss count a (place.Looping (For f)) e c = e
 leads ss count a (place.Looping Find) e c = e
 leads ss count a (place.Call x) e c = c
 leads ss count a x e c = tt
 
-linked : (ss : List SectionTable) (ps : List Spot) (i : ℕ) (xs : List Spot) → AreSteps ps i xs → AreCalled ss xs → AreLinkedPlaces ss ps i xs
+linked : (ss : List SectionTable) (ps : List Spot) (i : ℕ) (xs : List Spot) → AreSteps ps i xs → AreCalled ss xs →
+    AreLinkedPlaces ss ps i xs
 linked ss ps i [] s c = tt
 linked ss ps i (x ∷ xs) s c =
-    let one = s.0 in
-    (record { next = one.next; leads = leads ss (length ps) (ways_of ps i x.place) x.place one.exits c.0 }, linked ss ps (i + 1) xs s.1 c.1)
+    let one = s.0 in (
+      record { next = one.next; leads = leads ss (length ps) (ways_of ps i x.place) x.place one.exits c.0 },
+      linked ss ps (i + 1) xs s.1 c.1,
+    )
 
 nested : (ps : List Spot) (i : ℕ) (xs : List Spot) → AreSteps ps i xs → AreNestedPlaces ps i xs
 nested ps i [] s = tt
@@ -91,14 +95,17 @@ given_and_yielded (EventHead n given saving) = omega arith
 main_is : (d : Tables) (v : Names) (q : Section) → is_main (resolved_section d v q) ≡ declared.is_main q.head
 main_is d v q = by q.head
   where
-    by : (h : Head) → Rattle.ss_check.specs.Program.is_main_kind (Rattle.ss_checker.specs.Resolved.section_kind h) ≡ declared.is_main h
+    by : (h : Head) →
+        Rattle.ss_check.specs.Program.is_main_kind (Rattle.ss_checker.specs.Resolved.section_kind h)
+        ≡ declared.is_main h
     by MainHead = refl
     by (RoutineHead n given yielded) = refl
     by (EventHead n given saving) = refl
 
 -- ---- one MAIN
 
-one_more : (h m : Bool) (k : ℕ) → (m && h) ≡ false → k + cond (h || (m || false)) 1 0 ≡ 1 → (cond m 1 0 + k) + cond h 1 0 ≡ 1
+one_more : (h m : Bool) (k : ℕ) → (m && h) ≡ false → k + cond (h || (m || false)) 1 0 ≡ 1 →
+    (cond m 1 0 + k) + cond h 1 0 ≡ 1
 one_more true true k b e = cc
 one_more true false k b e = omega (arith, e)
 one_more false true k b e = omega (arith, e)
@@ -110,7 +117,8 @@ or_same false true c h = refl
 or_same false false true h = refl
 or_same false false false h = cc
 
-mains : (d : Tables) (v : Names) (xs : List Entry) (before : List Head) (ss : List Section) → AreSectionsKept d xs before ss →
+mains : (d : Tables) (v : Names) (xs : List Entry) (before : List Head) (ss : List Section) →
+    AreSectionsKept d xs before ss →
     (list_any declared.is_main before || list_any (λ s. declared.is_main s.head) ss) ≡ true →
     count_by is_main (map (resolved_section d v) ss) + cond (list_any declared.is_main before) 1 0 ≡ 1
 mains d v xs before [] k h = by (list_any declared.is_main before) h
@@ -120,15 +128,23 @@ mains d v xs before [] k h = by (list_any declared.is_main before) h
     by false h = cc
 mains d v xs before (s ∷ ss) k h =
     let head = k.0 in
-    let more : list_any declared.is_main (before ++ s.head ∷ []) ≡ (list_any declared.is_main before || (declared.is_main s.head || false)) =
+    let more : list_any declared.is_main (before ++ s.head ∷ [])
+    ≡ (list_any declared.is_main before || (declared.is_main s.head || false)) =
     Rattle.std.proofs.lemmas.List.Folds.list_any-append declared.is_main before (s.head ∷ []) in
     let rest = mains d v xs (before ++ s.head ∷ []) ss k.2
     (ap (λ (b : Bool). b || list_any (λ (z : Section). declared.is_main z.head) ss) more
-    ∙ or_same (list_any declared.is_main before) (declared.is_main s.head) (list_any (λ (z : Section). declared.is_main z.head) ss) h) in
-    let rest' : count_by is_main (map (resolved_section d v) ss) + cond (list_any declared.is_main before || (declared.is_main s.head || false)) 1 0 ≡ 1 =
+    ∙ or_same (list_any declared.is_main before) (declared.is_main s.head)
+    (list_any (λ (z : Section). declared.is_main z.head) ss) h) in
+    let rest' : count_by is_main (map (resolved_section d v) ss) + cond
+    (list_any declared.is_main before || (declared.is_main s.head || false)) 1 0 ≡ 1 =
     subst (λ (b : Bool). count_by is_main (map (resolved_section d v) ss) + cond b 1 0 ≡ 1) more rest in
-    rw (sum_by-cons (λ (t : SectionTable). cond (is_main t) 1 0) (resolved_section d v s) (map (resolved_section d v) ss), main_is d v s)
-    (one_more (list_any declared.is_main before) (declared.is_main s.head) (count_by is_main (map (resolved_section d v) ss)) head.main rest')
+    rw (
+      sum_by-cons (λ (t : SectionTable). cond (is_main t) 1 0) (resolved_section d v s)
+          (map (resolved_section d v) ss),
+      main_is d v s,
+    )
+    (one_more (list_any declared.is_main before) (declared.is_main s.head)
+    (count_by is_main (map (resolved_section d v) ss)) head.main rest')
 
 pub one_main : (d : Tables) (v : Names) (xs : List Entry) (ss : List Section) → AreSectionsKept d xs [] ss →
     not (list_any (λ s. declared.is_main s.head) ss) ≡ false → count_by is_main (map (resolved_section d v) ss) ≡ 1
@@ -137,7 +153,8 @@ one_main d v xs ss k h =
 
 -- ---- the program
 
-module _ (is : List ItemAt) (qs : List Section) (h : AreItemsKept (tables is qs) [] (entries is)) (within : IsWithin (map (λ i. i.item) is))
+module _ (is : List ItemAt) (qs : List Section) (h : AreItemsKept (tables is qs) [] (entries is))
+    (within : IsWithin (map (λ i. i.item) is))
     (s : AreSectionsKept (tables is qs) (entries is) [] qs) where
   abbrev xs : List Entry
   xs = entries is
@@ -167,7 +184,8 @@ module _ (is : List ItemAt) (qs : List Section) (h : AreItemsKept (tables is qs)
     abbrev locals : List Name
     locals = locals_of D q
 
-    sound_spots : (ys : List w.Spot) → ((x : w.Spot) → In x ys → In x q.places) → ArePlacesKept D (declared.is_main q.head) ys →
+    sound_spots : (ys : List w.Spot) → ((x : w.Spot) → In x ys → In x q.places) →
+        ArePlacesKept D (declared.is_main q.head) ys →
         AreSoundPlaces (scope_of p T) (map (resolved_spot D V locals) ys)
     sound_spots [] i k = tt
     sound_spots (x ∷ ys) i k =
@@ -178,7 +196,8 @@ module _ (is : List ItemAt) (qs : List Section) (h : AreItemsKept (tables is qs)
         )
 
     -- an event class that a notice is of
-    event_named : (n : Name) → names_event (kind_of D n) ≡ true → (m : ℕ) → m ≤ length (Rattle.ss_checker.specs.ResolvedNames.attributes_of D n) →
+    event_named : (n : Name) → names_event (kind_of D n) ≡ true → (m : ℕ) →
+        m ≤ length (Rattle.ss_checker.specs.ResolvedNames.attributes_of D n) →
         IsEventClass p (number n V.classes) m
     event_named n e m l =
         let c = event_class xs hs h R n (kind_of D n) refl e in
@@ -190,30 +209,38 @@ module _ (is : List ItemAt) (qs : List Section) (h : AreItemsKept (tables is qs)
           attributes = rw same l;
         }
 
-    is_of_event : (n : Name) (us : List Use) → list_any (is_wrong_class D) (OfClass Event n ∷ us) ≡ false → names_event (kind_of D n) ≡ true
-    is_of_event n us e = not-false (names_event (kind_of D n)) (or_parts (not (names_event (kind_of D n))) (list_any (is_wrong_class D) us) e).0
+    is_of_event : (n : Name) (us : List Use) → list_any (is_wrong_class D) (OfClass Event n ∷ us) ≡ false →
+        names_event (kind_of D n) ≡ true
+    is_of_event n us e =
+        not-false (names_event (kind_of D n))
+        (or_parts (not (names_event (kind_of D n))) (list_any (is_wrong_class D) us) e).0
 
-    few_values : (n : Name) (m : ℕ) (us : List Use) → list_any (is_wrong_count D) (OfClass Event n ∷ Notice n m ∷ us) ≡ false →
+    few_values : (n : Name) (m : ℕ) (us : List Use) →
+        list_any (is_wrong_count D) (OfClass Event n ∷ Notice n m ∷ us) ≡ false →
         m ≤ length (Rattle.ss_checker.specs.ResolvedNames.attributes_of D n)
     few_values n m us e =
         let a = (or_parts (nat_lt (attribute_count D n) m) (list_any (is_wrong_count D) us) e).0 in
         let b = ltb-false (attribute_count D n) m a in
         let c = attributes_counted n xs hs in omega (arith, b, c)
 
-    timed_schedule : (a : Article) (n : Name) (x : Details) (t : written.When) → IsPlaceKept D (declared.is_main q.head) (w.Simply (Times (Schedule a n x t))) →
+    timed_schedule : (a : Article) (n : Name) (x : Details) (t : written.When) →
+        IsPlaceKept D (declared.is_main q.head) (w.Simply (Times (Schedule a n x t))) →
         IsTimed p T (resolved_place D V locals (w.Simply (Times (Schedule a n x t))))
     timed_schedule a n (ValuesFirst es r) t k =
         let m = length-map (all_of es) (resolved_expr D V locals) in
         let us = uses_details a (ValuesFirst es r) ++ uses_when t in
         let f = few_values n (length (all_of es)) us k.count in
-        event_named n (is_of_event n (Notice n (length (values_of (ValuesFirst es r))) ∷ us) k.class) (length (map (resolved_expr D V locals) (all_of es))) (omega (arith, m, f))
+        event_named n (is_of_event n (Notice n (length (values_of (ValuesFirst es r))) ∷ us) k.class)
+        (length (map (resolved_expr D V locals) (all_of es))) (omega (arith, m, f))
     timed_schedule a n (CalledFirst r es) t k =
         let m = length-map es (resolved_expr D V locals) in
         let us = uses_details a (CalledFirst r es) ++ uses_when t in
         let f = few_values n (length es) us k.count in
-        event_named n (is_of_event n (Notice n (length (values_of (CalledFirst r es))) ∷ us) k.class) (length (map (resolved_expr D V locals) es)) (omega (arith, m, f))
+        event_named n (is_of_event n (Notice n (length (values_of (CalledFirst r es))) ∷ us) k.class)
+        (length (map (resolved_expr D V locals) es)) (omega (arith, m, f))
 
-    timed_simple : (x : Simple) → IsPlaceKept D (declared.is_main q.head) (w.Simply x) → IsTimed p T (resolved_place D V locals (w.Simply x))
+    timed_simple : (x : Simple) → IsPlaceKept D (declared.is_main q.head) (w.Simply x) →
+        IsTimed p T (resolved_place D V locals (w.Simply x))
     timed_simple (Assigns a) k = tt
     timed_simple (Makes a) k = tt
     timed_simple (Files a) k = tt
@@ -233,7 +260,8 @@ module _ (is : List ItemAt) (qs : List Section) (h : AreItemsKept (tables is qs)
     timed_place (w.Loops b) k = tt
     timed_place w.EndOfSection k = tt
 
-    timed_places : (ys : List w.Spot) → ArePlacesKept D (declared.is_main q.head) ys → AreTimed p T (map (resolved_spot D V locals) ys)
+    timed_places : (ys : List w.Spot) → ArePlacesKept D (declared.is_main q.head) ys →
+        AreTimed p T (map (resolved_spot D V locals) ys)
     timed_places [] k = tt
     timed_places (x ∷ ys) k = (timed_place x.place k.0, timed_places ys k.1)
 
@@ -255,31 +283,36 @@ module _ (is : List ItemAt) (qs : List Section) (h : AreItemsKept (tables is qs)
     right_counts : (a b : ℕ) (c : Counts) → has_other_counts a b c ≡ false → (a ≡ c.given) × (b ≡ c.yielded)
     right_counts a b c e = by (c.given == a) (c.yielded == b) (eqb-true c.given a) (eqb-true c.yielded b) e
       where
-        by : (x y : Bool) → (x ≡ true → c.given ≡ a) → (y ≡ true → c.yielded ≡ b) → not (x && y) ≡ false → (a ≡ c.given) × (b ≡ c.yielded)
+        by : (x y : Bool) → (x ≡ true → c.given ≡ a) → (y ≡ true → c.yielded ≡ b) → not (x && y) ≡ false →
+            (a ≡ c.given) × (b ≡ c.yielded)
         by true true f g e = (sym (f refl), sym (g refl))
         by true false f g e = cc
         by false y f g e = cc
 
     called_by : (c : ACall) (t : SectionTable) (o : Option SectionTable) → o ≡ Some t →
-        (Rattle.ss_check.specs.Program.is_routine t ≡ true) × (length c.given ≡ t.given) × (length c.targets ≡ t.yielded) → IsCalledBy c o
+        (Rattle.ss_check.specs.Program.is_routine t ≡ true) × (length c.given ≡ t.given)
+        × (length c.targets ≡ t.yielded) → IsCalledBy c o
     called_by c t o e x = rw e x
 
     called_routine : (n : Name) (es : written.Listing Rattle.ss_grammar.specs.Expr.Expr) (rs : List Reference) →
         IsPlaceKept D (declared.is_main q.head) (w.Simply (Transfers (Call n es rs))) →
         IsCalled p.sections (resolved_place D V locals (w.Simply (Transfers (Call n es rs))))
     called_routine n es rs kept =
-        let usage = not-false (names_routine (kind_of D n)) (or_parts (not (names_routine (kind_of D n))) _ kept.usage).0 in
+        let usage = not-false (names_routine (kind_of D n))
+        (or_parts (not (names_routine (kind_of D n))) _ kept.usage).0 in
         let named = closed_kind xs hs h n k.Routine (routine_by n (kind_of D n) usage) in
         let f = routine_found qs 0 n named in
         let y = f.section in
         let holds = f.holds in
-        let counts = (or_parts (is_wrong_call (length (listed es)) (length rs) (fact_of D.routines n)) _ kept.count).0 in
+        let counts =
+        (or_parts (is_wrong_call (length (listed es)) (length rs) (fact_of D.routines n)) _ kept.count).0 in
         let same : has_other_counts (length (listed es)) (length rs) (declared.counts_of y.head) ≡ false =
         ap (is_wrong_call (length (listed es)) (length rs)) (sym holds.says) ∙ counts in
         let right = right_counts (length (listed es)) (length rs) (declared.counts_of y.head) same in
         let number_is : Rattle.ss_checker.specs.ResolvedNames.routine_number D V locals n ≡ f.place =
         ap (λ (o : Option ℕ). unwrap_or o 0) f.number ∙ omega arith in
-        let there : slice_get p.sections (Rattle.ss_checker.specs.ResolvedNames.routine_number D V locals n) ≡ Some (resolved_section D V y) =
+        let there : slice_get p.sections (Rattle.ss_checker.specs.ResolvedNames.routine_number D V locals n)
+        ≡ Some (resolved_section D V y) =
         ap (slice_get p.sections) number_is ∙ slice_get-map (resolved_section D V) qs f.place
         ∙ ap (option_map (resolved_section D V)) f.there in
         called_by
@@ -288,10 +321,16 @@ module _ (is : List ItemAt) (qs : List Section) (h : AreItemsKept (tables is qs)
           given = map (resolved_expr D V locals) (listed es);
           targets = map (resolved_target D V locals) rs;
         })
-        (resolved_section D V y) (slice_get p.sections (Rattle.ss_checker.specs.ResolvedNames.routine_number D V locals n)) there
-        (holds.kind, length-map (listed es) (resolved_expr D V locals) ∙ right.0, length-map rs (resolved_target D V locals) ∙ right.1)
+        (resolved_section D V y)
+        (slice_get p.sections (Rattle.ss_checker.specs.ResolvedNames.routine_number D V locals n)) there (
+          holds.kind,
+          length-map (listed es) (resolved_expr D V locals)
+              ∙ right.0,
+          length-map rs (resolved_target D V locals) ∙ right.1,
+        )
 
-    called_simple : (x : Simple) → IsPlaceKept D (declared.is_main q.head) (w.Simply x) → IsCalled p.sections (resolved_place D V locals (w.Simply x))
+    called_simple : (x : Simple) → IsPlaceKept D (declared.is_main q.head) (w.Simply x) →
+        IsCalled p.sections (resolved_place D V locals (w.Simply x))
     called_simple (Assigns a) k = tt
     called_simple (Makes a) k = tt
     called_simple (Files a) k = tt
@@ -303,13 +342,15 @@ module _ (is : List ItemAt) (qs : List Section) (h : AreItemsKept (tables is qs)
     called_simple (Exchanges (Print n es ls)) k = tt
     called_simple (Exchanges (Skip e)) k = tt
 
-    called_place : (x : w.Place) → IsPlaceKept D (declared.is_main q.head) x → IsCalled p.sections (resolved_place D V locals x)
+    called_place : (x : w.Place) → IsPlaceKept D (declared.is_main q.head) x →
+        IsCalled p.sections (resolved_place D V locals x)
     called_place (w.Simply x) k = called_simple x k
     called_place (w.Branches b) k = tt
     called_place (w.Loops b) k = tt
     called_place w.EndOfSection k = tt
 
-    called_places : (ys : List w.Spot) → ArePlacesKept D (declared.is_main q.head) ys → AreCalled p.sections (map (resolved_spot D V locals) ys)
+    called_places : (ys : List w.Spot) → ArePlacesKept D (declared.is_main q.head) ys →
+        AreCalled p.sections (map (resolved_spot D V locals) ys)
     called_places [] k = tt
     called_places (x ∷ ys) k = (called_place x.place k.0, called_places ys k.1)
 
@@ -343,15 +384,18 @@ module _ (is : List ItemAt) (qs : List Section) (h : AreItemsKept (tables is qs)
 
   -- ---- all sections
 
-  pub sound_sections : (ss : List Section) → ((q : Section) → In q ss → In q qs) → ((q : Section) → In q ss → IsOfTree q) →
+  pub sound_sections : (ss : List Section) → ((q : Section) → In q ss → In q qs) →
+      ((q : Section) → In q ss → IsOfTree q) →
       All (λ q. length q.places < 2 ^ 63) ss → AreSoundSections p (map (resolved_section D V) ss)
   sound_sections [] i t f = tt
   sound_sections (q ∷ ss) i t f = (
     sound_section q (i q (inl refl)) (t q (inl refl)) (All-head (λ (z : Section). length z.places < 2 ^ 63) q ss f),
-    sound_sections ss (λ y m. i y (inr m)) (λ y m. t y (inr m)) (All-tail (λ (z : Section). length z.places < 2 ^ 63) q ss f),
+    sound_sections ss (λ y m. i y (inr m)) (λ y m. t y (inr m))
+        (All-tail (λ (z : Section). length z.places < 2 ^ 63) q ss f),
   )
 
-  pub linked_sections : (ss : List Section) → ((q : Section) → In q ss → In q qs) → ((q : Section) → In q ss → IsOfTree q) →
+  pub linked_sections : (ss : List Section) → ((q : Section) → In q ss → In q qs) →
+      ((q : Section) → In q ss → IsOfTree q) →
       AreLinkedSections p.sections (map (resolved_section D V) ss)
   linked_sections [] i t = tt
   linked_sections (q ∷ ss) i t =

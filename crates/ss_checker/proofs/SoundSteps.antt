@@ -41,7 +41,8 @@ AreSteps ps i (x ∷ xs) = IsStep ps i x.place × AreSteps ps (i + 1) xs
 moved : (ps : List Spot) (i j : ℕ) (xs : List Spot) → i ≡ j → AreSteps ps i xs → AreSteps ps j xs
 moved ps i j xs e h = rw (sym e) h
 
-joined : (ps : List Spot) (i : ℕ) (xs ys : List Spot) → AreSteps ps i xs → AreSteps ps (i + length xs) ys → AreSteps ps i (xs ++ ys)
+joined : (ps : List Spot) (i : ℕ) (xs ys : List Spot) → AreSteps ps i xs → AreSteps ps (i + length xs) ys →
+    AreSteps ps i (xs ++ ys)
 joined ps i [] ys h g = moved ps (i + 0) i ys (omega arith) g
 joined ps i (x ∷ xs) ys h g =
     (h.0, joined ps (i + 1) xs ys h.1 (moved ps (i + length (x ∷ xs)) (i + 1 + length xs) ys (omega arith) g))
@@ -96,23 +97,28 @@ module _ (ps : List Spot) where
   goes_on : (n k : ℕ) (js : List ℕ) → n ≡ k → Goes ps js k → n < length ps
   goes_on n k js e h = let l = h.place in omega (arith, e, l)
 
-  goes_nested : (i n k : ℕ) (js : List ℕ) → phrases_around ps i ≡ js → n ≡ k → Goes ps js k → Goes ps (phrases_around ps i) n
+  goes_nested : (i n k : ℕ) (js : List ℕ) → phrases_around ps i ≡ js → n ≡ k → Goes ps js k →
+      Goes ps (phrases_around ps i) n
   goes_nested i n k js a e h = goes_at ps (phrases_around ps i) k n e (goes_same ps js (phrases_around ps i) k a h)
 
-  simple_step : (i k : ℕ) (js : List ℕ) (x : Place) → is_simple x ≡ true → phrases_around ps i ≡ js → next_place ps i ≡ k → Goes ps js k →
+  simple_step : (i k : ℕ) (js : List ℕ) (x : Place) → is_simple x ≡ true → phrases_around ps i ≡ js →
+      next_place ps i ≡ k → Goes ps js k →
       IsStep ps i x
   simple_step i k js (Branch b) s a e g = cc
   simple_step i k js (Looping l) s a e g = cc
   simple_step i k js (Control End) s a e g = cc
-  simple_step i k js (Control Stop) s a e g = record { next = goes_on (next_place ps i) k js e g; exits = tt; nested = refl }
-  simple_step i k js (Control Return) s a e g = record { next = goes_on (next_place ps i) k js e g; exits = tt; nested = refl }
+  simple_step i k js (Control Stop) s a e g =
+      record { next = goes_on (next_place ps i) k js e g; exits = tt; nested = refl }
+  simple_step i k js (Control Return) s a e g =
+      record { next = goes_on (next_place ps i) k js e g; exits = tt; nested = refl }
   simple_step i k js x s a e g = record {
     next = goes_on (next_place ps i) k js e g;
     exits = tt;
     nested = let t = goes_nested i (next_place ps i) k js a e g in t.loops;
   }
 
-  if_step : (i k l : ℕ) (js : List ℕ) (q : Question) → phrases_around ps i ≡ js → Goes ps js (i + 1) → behind_false ps i ≡ l → Goes ps js l →
+  if_step : (i k l : ℕ) (js : List ℕ) (q : Question) → phrases_around ps i ≡ js → Goes ps js (i + 1) →
+      behind_false ps i ≡ l → Goes ps js l →
       IsStep ps i (Branch (If q))
   if_step i k l js q a g e h = record {
     next = g.place;
@@ -122,21 +128,24 @@ module _ (ps : List Spot) where
         let u = goes_nested i (behind_false ps i) l js a e h in rw (t.loops, u.loops) refl;
   }
 
-  else_step : (i k : ℕ) (js : List ℕ) → phrases_around ps i ≡ js → branch_end ps i ≡ k → Goes ps js k → IsStep ps i (Branch Else)
+  else_step : (i k : ℕ) (js : List ℕ) → phrases_around ps i ≡ js → branch_end ps i ≡ k → Goes ps js k →
+      IsStep ps i (Branch Else)
   else_step i k js a e g = record {
     next = goes_on (branch_end ps i) k js e g;
     exits = tt;
     nested = let t = goes_nested i (branch_end ps i) k js a e g in t.loops;
   }
 
-  always_step : (i k : ℕ) (js : List ℕ) → phrases_around ps i ≡ js → behind_always ps i ≡ k → Goes ps js k → IsStep ps i (Branch Always)
+  always_step : (i k : ℕ) (js : List ℕ) → phrases_around ps i ≡ js → behind_always ps i ≡ k → Goes ps js k →
+      IsStep ps i (Branch Always)
   always_step i k js a e g = record {
     next = goes_on (behind_always ps i) k js e g;
     exits = tt;
     nested = let t = goes_nested i (behind_always ps i) k js a e g in t.loops;
   }
 
-  for_step : (i k : ℕ) (js : List ℕ) (f : Head) (has_do : Bool) → phrases_around ps i ≡ js → Goes ps (i ∷ js) (i + 1) → behind_loop ps i ≡ k →
+  for_step : (i k : ℕ) (js : List ℕ) (f : Head) (has_do : Bool) → phrases_around ps i ≡ js → Goes ps (i ∷ js) (i + 1) →
+      behind_loop ps i ≡ k →
       Goes ps js k → IsStep ps i (for_at f has_do).place
   for_step i k js f has_do a g e h = record {
     next = g.place;
@@ -146,7 +155,8 @@ module _ (ps : List Spot) where
         let u = goes_nested i (behind_loop ps i) k js a e h in rw (t.loops, u.loops) refl;
   }
 
-  loop_step : (i k : ℕ) (js : List ℕ) → phrases_around ps i ≡ js → phrase_of ps i ≡ k → Goes ps js k → IsStep ps i (Looping Loop)
+  loop_step : (i k : ℕ) (js : List ℕ) → phrases_around ps i ≡ js → phrase_of ps i ≡ k → Goes ps js k →
+      IsStep ps i (Looping Loop)
   loop_step i k js a e g = record {
     next = goes_on (phrase_of ps i) k js e g;
     exits = tt;
@@ -161,7 +171,8 @@ module _ (ps : List Spot) where
     nested = let t = goes_nested i (next_place ps i) k js a e g in t.loops;
   }
 
-  tell_step : (i k : ℕ) (js : List ℕ) (ts : List Telling) → phrases_around ps i ≡ js → next_place ps i ≡ k → Goes ps js k →
+  tell_step : (i k : ℕ) (js : List ℕ) (ts : List Telling) → phrases_around ps i ≡ js → next_place ps i ≡ k →
+      Goes ps js k →
       IsStep ps i (Looping (Tell ts))
   tell_step i k js ts a e g = record {
     next = goes_on (next_place ps i) k js e g;
@@ -169,7 +180,8 @@ module _ (ps : List Spot) where
     nested = let t = goes_nested i (next_place ps i) k js a e g in t.loops;
   }
 
-  find_step : (i : ℕ) (outer : List ℕ) → drop (chain_before ps i) (phrases_around ps i) ≡ outer → chain_before ps i ≤ loop_limit →
+  find_step : (i : ℕ) (outer : List ℕ) → drop (chain_before ps i) (phrases_around ps i) ≡ outer →
+      chain_before ps i ≤ loop_limit →
       Goes ps outer (i + 1) → IsStep ps i (Looping Find)
   find_step i outer e l g = record {
     next = g.place;
@@ -243,18 +255,21 @@ module _ (ps : List Spot) where
       ap (phrases_before ps (i + 1 + 1)) (sym same) ∙ loop_shut ps (find l) f i b r h (i + 1 + 1) (omega arith)
   loop_body_shut (compute l x m ts) f i b r h =
       let e = behind_is ps (compute l x m ts) f i b r h in
-      shut_one ps (i + 1) (for_at f false ∷ b) (gather_at l x) (tell_at m ts ∷ r) (onward h) refl (i + 1 + 1) (omega arith)
+      shut_one ps (i + 1) (for_at f false ∷ b) (gather_at l x) (tell_at m ts ∷ r) (onward h) refl (i + 1 + 1)
+      (omega arith)
       ∙ shut_phrase ps i (i + 1 + 1) (omega (arith, e))
 
   -- where a false IF goes
   false_goes : (o : Otherwise) (i j m : ℕ) (js : List ℕ) (w : ℕ) (b r : List Spot) → branch_end ps i ≡ j →
-      At ps j b (flat_otherwise o ++ always_at w ∷ r) → Open ps j m js → j + length (flat_otherwise o) < m → m ≤ length ps →
+      At ps j b (flat_otherwise o ++ always_at w ∷ r) → Open ps j m js → j + length (flat_otherwise o) < m →
+      m ≤ length ps →
       Goes ps js (behind_false ps i)
   false_goes no_else i j m js w b r e h op l s =
       goes_at ps js j (behind_false ps i) (false_is i j b (always_at w) r e h)
       (goes_there ps j js (omega (arith, l, s)) (around_is ps j m js op (omega (arith, l))))
   false_goes (else_with v B) i j m js w b r e h op l s =
-      let open1 = open_past ps j (j + 1) m js (omega arith) op (shut_one ps j b (else_at v) (flat_block B ++ always_at w ∷ r) h refl) in
+      let open1 = open_past ps j (j + 1) m js (omega arith) op
+      (shut_one ps j b (else_at v) (flat_block B ++ always_at w ∷ r) h refl) in
       goes_at ps js (j + 1) (behind_false ps i) (false_is i j b (else_at v) (flat_block B ++ always_at w ∷ r) e h)
       (goes_there ps (j + 1) js (omega (arith, l, s)) (around_is ps (j + 1) m js open1 (omega (arith, l))))
 
@@ -265,15 +280,18 @@ module _ (ps : List Spot) where
     around : phrases_around ps (i + 1) ≡ i ∷ js
     back : Goes ps (i ∷ js) i
 
-  enters : (f : Head) (has_do : Bool) (i m n k : ℕ) (js : List ℕ) (b a : List Spot) → At ps i b (for_at f has_do ∷ a) → behind_body ps i ≡ n →
-      Open ps i m js → i + 1 < n → n ≤ m → n ≤ length ps → k ≡ (if front_is is_bare b then i - 1 else n) → Goes ps js k →
+  enters : (f : Head) (has_do : Bool) (i m n k : ℕ) (js : List ℕ) (b a : List Spot) → At ps i b (for_at f has_do ∷ a) →
+      behind_body ps i ≡ n →
+      Open ps i m js → i + 1 < n → n ≤ m → n ≤ length ps → k ≡ (if front_is is_bare b then i - 1 else n) →
+      Goes ps js k →
       Entry i n js f has_do
   enters f has_do i m n k js b a h e op l u v w g =
       let opened = open_into ps i m n b (for_at f has_do) a js h refl e u op in
       let around = around_is ps (i + 1) n (i ∷ js) opened l in
       let here = around_is ps i m js op (omega (arith, l, u)) in
       record {
-        step = for_step i k js f has_do here (goes_there ps (i + 1) (i ∷ js) (omega (arith, l, v)) around) (behind_loop_is i n b _ h e ∙ sym w) g;
+        step = for_step i k js f has_do here (goes_there ps (i + 1) (i ∷ js) (omega (arith, l, v)) around)
+            (behind_loop_is i n b _ h e ∙ sym w) g;
         opened = opened;
         around = around;
         back = goes_back ps i js b (for_at f has_do) a h refl here;
@@ -286,7 +304,8 @@ module _ (ps : List Spot) where
     outside : drop before js ≡ outer
     few : before + more ≤ loop_limit
 
-  chain_none : (b : List Spot) (js : List ℕ) (more : ℕ) → front_is is_bare b ≡ false → more ≤ loop_limit → Chain b js js more
+  chain_none : (b : List Spot) (js : List ℕ) (more : ℕ) → front_is is_bare b ≡ false → more ≤ loop_limit →
+      Chain b js js more
   chain_none b js more e l = record { before = 0; count = bare_none b e; outside = refl; few = omega (arith, l) }
 
   dropped_one : (n : ℕ) (i : ℕ) (js : List ℕ) → drop (n + 1) (i ∷ js) ≡ drop n js
@@ -302,15 +321,18 @@ module _ (ps : List Spot) where
   }
 
   -- FIND behind its phrases
-  finds : (i : ℕ) (b a : List Spot) (js outer : List ℕ) → At ps i b a → Chain b js outer 0 → phrases_around ps i ≡ js → Goes ps outer (i + 1) →
+  finds : (i : ℕ) (b a : List Spot) (js outer : List ℕ) → At ps i b a → Chain b js outer 0 → phrases_around ps i ≡ js →
+      Goes ps outer (i + 1) →
       IsStep ps i (Looping Find)
   finds i b a js outer h c e g =
       let n : chain_before ps i ≡ c.before = ap bare_phrases (taken ps i b a h) ∙ c.count in
       find_step i outer (rw (n, e) c.outside) (let l = c.few in omega (arith, l, n)) g
 
   mutual
-    block_steps : (B : Block) (i m : ℕ) (js : List ℕ) (b r : List Spot) → At ps i b (flat_block B ++ r) → front_is is_bare b ≡ false →
-        Open ps i m js → i + length (flat_block B) < m → m ≤ length ps → phrases_block B ≤ loop_limit → AreSteps ps i (flat_block B)
+    block_steps : (B : Block) (i m : ℕ) (js : List ℕ) (b r : List Spot) → At ps i b (flat_block B ++ r) →
+        front_is is_bare b ≡ false →
+        Open ps i m js → i + length (flat_block B) < m → m ≤ length ps → phrases_block B ≤ loop_limit →
+        AreSteps ps i (flat_block B)
     block_steps no_statements i m js b r h n o l s p = tt
     block_steps (statement t B) i m js b r h n o l s p =
         let here = same_after (append_assoc (flat_statement t) (flat_block B) r) h in
@@ -323,13 +345,15 @@ module _ (ps : List Spot) where
         (block_steps B j m js (unwind (flat_statement t) b) r there (statement_ends t b)
         (open_past ps i j m js (omega arith) o shut) (omega (arith, l, w)) s (omega (arith, p)))
 
-    statement_steps : (t : Statement) (i m : ℕ) (js : List ℕ) (b r : List Spot) → At ps i b (flat_statement t ++ r) → front_is is_bare b ≡ false →
+    statement_steps : (t : Statement) (i m : ℕ) (js : List ℕ) (b r : List Spot) → At ps i b (flat_statement t ++ r) →
+        front_is is_bare b ≡ false →
         Open ps i m js → i + length (flat_statement t) < m → m ≤ length ps → phrases_statement t ≤ loop_limit →
         AreSteps ps i (flat_statement t)
     statement_steps (alone o) i m js b r h n op l s p =
         let z = i + length (flat_one o) in
         let behind = open_past ps i z m js (omega arith) op (one_shut ps o i b r h) in
-        one_steps o i m z js b r h op (omega (arith, l)) s (goes_there ps z js (omega (arith, l, s)) (around_is ps z m js behind l))
+        one_steps o i m z js b r h op (omega (arith, l)) s
+        (goes_there ps z js (omega (arith, l, s)) (around_is ps z m js behind l))
         (not_bare (front_is is_bare b) (i - 1) z z n refl) p
     statement_steps (loop f c) i m js b r h n op l s p =
         let z = i + length (flat_loop f c) in
@@ -338,12 +362,14 @@ module _ (ps : List Spot) where
         let k = i + 1 + body c in
         let shut : phrases_before ps k k ≡ phrases_before ps k i = loop_body_shut c f i b r h in
         let around : phrases_around ps k ≡ js = shut ∙ op k (omega arith) (omega (arith, l, fits)) in
-        loop_steps c f i m m k js js b r h (chain_none b js (suc (phrases_controlled c)) n p) op (omega (arith, l, fits))
+        loop_steps c f i m m k js js b r h (chain_none b js (suc (phrases_controlled c)) n p) op
+        (omega (arith, l, fits))
         (λ v x y. op v (omega (arith, x)) y) l s (not_bare (front_is is_bare b) (i - 1) k k n refl)
         (goes_there ps k js (omega (arith, l, s, fits)) around)
 
     one_steps : (o : One) (i m k : ℕ) (js : List ℕ) (b r : List Spot) → At ps i b (flat_one o ++ r) → Open ps i m js →
-        i + length (flat_one o) ≤ m → m ≤ length ps → Goes ps js k → k ≡ (if front_is is_bare b then i - 1 else i + length (flat_one o)) →
+        i + length (flat_one o) ≤ m → m ≤ length ps → Goes ps js k →
+        k ≡ (if front_is is_bare b then i - 1 else i + length (flat_one o)) →
         phrases_one o ≤ loop_limit → AreSteps ps i (flat_one o)
     one_steps (simple x e) i m k js b r h op l s g a p =
         (simple_step i k js x.place e (around_is ps i m js op (omega (arith, l))) (next_is i b (x ∷ r) h ∙ sym a) g, tt)
@@ -361,54 +387,73 @@ module _ (ps : List Spot) where
         let z = j + length ys in
         let c = length-append (xs ++ ys) (always_at w ∷ []) in
         let d = length-append xs ys in
-        let open1 = open_past ps i (i + 1) m js (omega arith) op (shut_one ps i b (if_at v q) (xs ++ (ys ++ always_at w ∷ r)) here refl) in
-        let open2 = open_past ps (i + 1) j m js (omega arith) open1 (block_shut ps B (i + 1) (if_at v q ∷ b) (ys ++ always_at w ∷ r) second) in
-        let open3 = open_past ps j z m js (omega arith) open2 (otherwise_shut ps o j (unwind xs (if_at v q ∷ b)) (always_at w ∷ r) third) in
-        let goes1 = goes_there ps (i + 1) js (omega (arith, l, s, c, d)) (around_is ps (i + 1) m js open1 (omega (arith, l, c, d))) in
-        let goes3 = goes_there ps z js (omega (arith, l, s, c, d)) (around_is ps z m js open3 (omega (arith, l, c, d))) in
+        let open1 = open_past ps i (i + 1) m js (omega arith) op
+        (shut_one ps i b (if_at v q) (xs ++ (ys ++ always_at w ∷ r)) here refl) in
+        let open2 = open_past ps (i + 1) j m js (omega arith) open1
+        (block_shut ps B (i + 1) (if_at v q ∷ b) (ys ++ always_at w ∷ r) second) in
+        let open3 = open_past ps j z m js (omega arith) open2
+        (otherwise_shut ps o j (unwind xs (if_at v q ∷ b)) (always_at w ∷ r) third) in
+        let goes1 = goes_there ps (i + 1) js (omega (arith, l, s, c, d))
+        (around_is ps (i + 1) m js open1 (omega (arith, l, c, d))) in
+        let goes3 = goes_there ps z js (omega (arith, l, s, c, d))
+        (around_is ps z m js open3 (omega (arith, l, c, d))) in
         let is_end = branch_end_is B o ps i b (if_at v q) w r here in
         let if_is = start_of_if B o ps i b (if_at v q) w r refl first in
         let same_z : i + 1 + length (xs ++ ys) ≡ z = omega (arith, d) in
-        let exit = false_goes o i j m js w (unwind xs (if_at v q ∷ b)) r is_end third open2 (omega (arith, l, c, d)) s in (
+        let exit = false_goes o i j m js w (unwind xs (if_at v q ∷ b)) r is_end third open2
+        (omega (arith, l, c, d)) s in (
           if_step i (i + 1) (behind_false ps i) js q (around_is ps i m js op (omega (arith, l))) goes1 refl exit,
           joined ps (i + 1) (xs ++ ys) (always_at w ∷ [])
               (joined ps (i + 1) xs ys
-              (block_steps B (i + 1) m js (if_at v q ∷ b) (ys ++ always_at w ∷ r) second refl open1 (omega (arith, l, c, d)) s (omega (arith, p)))
-              (otherwise_steps o j m w js (unwind xs (if_at v q ∷ b)) r third open2 (omega (arith, l, c, d)) s (omega (arith, p))))
+              (block_steps B (i + 1) m js (if_at v q ∷ b) (ys ++ always_at w ∷ r) second refl open1
+              (omega (arith, l, c, d)) s (omega (arith, p)))
+              (otherwise_steps o j m w js (unwind xs (if_at v q ∷ b)) r third open2 (omega (arith, l, c, d)) s
+              (omega (arith, p))))
               (moved ps z (i + 1 + length (xs ++ ys)) (always_at w ∷ []) (sym same_z) (
                 always_step z k js (around_is ps z m js open3 (omega (arith, l, c, d)))
-                    (behind_always_is i z b _ here (ap (if_of ps) (sym same_z) ∙ if_is) ∙ same_if (front_is is_bare b) (i - 1) _ _ (omega (arith, c, d)) ∙ sym a) g,
+                    (behind_always_is i z b _ here (ap (if_of ps) (sym same_z) ∙ if_is)
+                    ∙ same_if (front_is is_bare b) (i - 1) _ _ (omega (arith, c, d)) ∙ sym a) g,
                 tt,
               )),
         )
 
-    otherwise_steps : (o : Otherwise) (i m w : ℕ) (js : List ℕ) (b r : List Spot) → At ps i b (flat_otherwise o ++ always_at w ∷ r) → Open ps i m js →
-        i + length (flat_otherwise o) < m → m ≤ length ps → phrases_otherwise o ≤ loop_limit → AreSteps ps i (flat_otherwise o)
+    otherwise_steps : (o : Otherwise) (i m w : ℕ) (js : List ℕ) (b r : List Spot) →
+        At ps i b (flat_otherwise o ++ always_at w ∷ r) → Open ps i m js →
+        i + length (flat_otherwise o) < m → m ≤ length ps → phrases_otherwise o ≤ loop_limit →
+        AreSteps ps i (flat_otherwise o)
     otherwise_steps no_else i m w js b r h op l s p = tt
     otherwise_steps (else_with v B) i m w js b r h op l s p =
         let second = onward h in
-        let open1 = open_past ps i (i + 1) m js (omega arith) op (shut_one ps i b (else_at v) (flat_block B ++ always_at w ∷ r) h refl) in
+        let open1 = open_past ps i (i + 1) m js (omega arith) op
+        (shut_one ps i b (else_at v) (flat_block B ++ always_at w ∷ r) h refl) in
         let z = i + 1 + length (flat_block B) in
-        let open2 = open_past ps (i + 1) z m js (omega arith) open1 (block_shut ps B (i + 1) (else_at v ∷ b) (always_at w ∷ r) second) in
+        let open2 = open_past ps (i + 1) z m js (omega arith) open1
+        (block_shut ps B (i + 1) (else_at v ∷ b) (always_at w ∷ r) second) in
         let goes = goes_there ps z js (omega (arith, l, s)) (around_is ps z m js open2 (omega (arith, l))) in (
-          else_step i z js (around_is ps i m js op (omega (arith, l))) (branch_end_is B no_else ps i b (else_at v) w r h) goes,
+          else_step i z js (around_is ps i m js op (omega (arith, l)))
+              (branch_end_is B no_else ps i b (else_at v) w r h) goes,
           block_steps B (i + 1) m js (else_at v ∷ b) (always_at w ∷ r) second refl open1 (omega (arith, l)) s p,
         )
 
     -- a phrase that stands behind a chain of others, around which js are, and outside the whole chain `outer`
-    loop_steps : (c : Controlled) (f : Head) (i m m0 k : ℕ) (js outer : List ℕ) (b r : List Spot) → At ps i b (flat_loop f c ++ r) →
+    loop_steps : (c : Controlled) (f : Head) (i m m0 k : ℕ) (js outer : List ℕ) (b r : List Spot) →
+        At ps i b (flat_loop f c ++ r) →
         Chain b js outer (suc (phrases_controlled c)) →
         Open ps i m js → i + 1 + body c ≤ m → ((n : ℕ) → i + 1 + body c ≤ n → n < m0 → phrases_before ps n i ≡ outer) →
-        i + length (flat_loop f c) < m0 → m0 ≤ length ps → k ≡ (if front_is is_bare b then i - 1 else i + 1 + body c) → Goes ps js k →
+        i + length (flat_loop f c) < m0 → m0 ≤ length ps → k ≡ (if front_is is_bare b then i - 1 else i + 1 + body c) →
+        Goes ps js k →
         AreSteps ps i (flat_loop f c)
     loop_steps (further g c) f i m m0 k js outer b r h ch op l out z s a go =
         let e = behind_is ps (further g c) f i b r h in
         let fits = body_fits (further g c) f in
         let n = i + 1 + (1 + body c) in
-        let entry = enters f false i m n k js b (flat_loop g c ++ r) h e op (omega arith) l (omega (arith, z, s, fits)) a go in (
+        let entry = enters f false i m n k js b (flat_loop g c ++ r) h e op (omega arith) l
+        (omega (arith, z, s, fits)) a go in (
           entry.step,
-          loop_steps c g (i + 1) n m0 i (i ∷ js) outer (for_at f false ∷ b) r (onward h) (chain_more i f b js outer (suc (phrases_controlled c)) ch)
-              entry.opened (omega arith) (λ v x y. shut_phrase ps i v (omega (arith, e, x)) ∙ out v (omega (arith, x)) y) (omega (arith, z)) s
+          loop_steps c g (i + 1) n m0 i (i ∷ js) outer (for_at f false ∷ b) r (onward h)
+              (chain_more i f b js outer (suc (phrases_controlled c)) ch)
+              entry.opened (omega arith)
+              (λ v x y. shut_phrase ps i v (omega (arith, e, x)) ∙ out v (omega (arith, x)) y) (omega (arith, z)) s
               (omega arith) entry.back,
         )
     loop_steps (repeated B v) f i m m0 k js outer b r h ch op l out z s a go =
@@ -420,13 +465,20 @@ module _ (ps : List Spot) where
         let here : At ps i b (for_at f true ∷ (flat_block B ++ loop_at v ∷ r)) =
         same_after (ap (λ (zs : List Spot). for_at f true ∷ zs) (append_assoc (flat_block B) (loop_at v ∷ []) r)) h in
         let second = onward here in
-        let entry = enters f true i m n k js b (flat_block B ++ loop_at v ∷ r) here e op (omega arith) l (omega (arith, z, s, fits)) a go in
-        let opened = open_past ps (i + 1) j n (i ∷ js) (omega arith) entry.opened (block_shut ps B (i + 1) (for_at f true ∷ b) (loop_at v ∷ r) second) in (
+        let entry = enters f true i m n k js b (flat_block B ++ loop_at v ∷ r) here e op (omega arith) l
+        (omega (arith, z, s, fits)) a go in
+        let opened =
+        open_past ps (i + 1) j n (i ∷ js) (omega arith) entry.opened
+        (block_shut ps B (i + 1) (for_at f true ∷ b) (loop_at v ∷ r) second) in (
           entry.step,
           joined ps (i + 1) (flat_block B) (loop_at v ∷ [])
-              (block_steps B (i + 1) n (i ∷ js) (for_at f true ∷ b) (loop_at v ∷ r) second refl entry.opened (omega arith) (omega (arith, z, s, fits))
-              (omega (arith, few)))
-              (loop_step j i (i ∷ js) (around_is ps j n (i ∷ js) opened (omega arith)) (start_of_do B ps i b (for_at f true) v r refl here) entry.back, tt),
+              (block_steps B (i + 1) n (i ∷ js) (for_at f true ∷ b) (loop_at v ∷ r) second refl entry.opened
+              (omega arith) (omega (arith, z, s, fits))
+              (omega (arith, few))) (
+                loop_step j i (i ∷ js) (around_is ps j n (i ∷ js) opened (omega arith))
+                    (start_of_do B ps i b (for_at f true) v r refl here) entry.back,
+                tt,
+              ),
         )
     loop_steps (single o) f i m m0 k js outer b r h ch op l out z s a go =
         let e = behind_is ps (single o) f i b r h in
@@ -434,20 +486,24 @@ module _ (ps : List Spot) where
         let some = body_some (single o) in
         let few = ch.few in
         let n = i + 1 + length (flat_one o) in
-        let entry = enters f false i m n k js b (flat_one o ++ r) h e op (omega (arith, some)) l (omega (arith, z, s, fits)) a go in (
+        let entry = enters f false i m n k js b (flat_one o ++ r) h e op (omega (arith, some)) l
+        (omega (arith, z, s, fits)) a go in (
           entry.step,
-          one_steps o (i + 1) n i (i ∷ js) (for_at f false ∷ b) r (onward h) entry.opened (omega arith) (omega (arith, z, s, fits)) entry.back
+          one_steps o (i + 1) n i (i ∷ js) (for_at f false ∷ b) r (onward h) entry.opened (omega arith)
+              (omega (arith, z, s, fits)) entry.back
               (omega arith) (omega (arith, few)),
         )
     loop_steps (find v) f i m m0 k js outer b r h ch op l out z s a go =
         let e = behind_is ps (find v) f i b r h in
-        let entry = enters f false i m (i + 1 + 1) k js b (find_at v ∷ r) h e op (omega arith) l (omega (arith, z, s)) a go in
+        let entry = enters f false i m (i + 1 + 1) k js b (find_at v ∷ r) h e op (omega arith) l
+        (omega (arith, z, s)) a go in
         let y = i + 1 + 1 in
         let around : phrases_around ps y ≡ outer =
         loop_body_shut (find v) f i b r h ∙ out y (omega arith) (omega (arith, z)) in (
           entry.step,
           (
-            finds (i + 1) (for_at f false ∷ b) (find_at v ∷ r) (i ∷ js) outer (onward h) (chain_more i f b js outer 0 ch) entry.around
+            finds (i + 1) (for_at f false ∷ b) (find_at v ∷ r) (i ∷ js) outer (onward h)
+                (chain_more i f b js outer 0 ch) entry.around
                 (goes_there ps y outer (omega (arith, z, s)) around),
             tt,
           ),
@@ -456,16 +512,20 @@ module _ (ps : List Spot) where
         let e = behind_is ps (compute v x w ts) f i b r h in
         let second = onward h in
         let third = onward second in
-        let entry = enters f false i m (i + 1 + 1) k js b (gather_at v x ∷ tell_at w ts ∷ r) h e op (omega arith) l (omega (arith, z, s)) a go in
+        let entry = enters f false i m (i + 1 + 1) k js b (gather_at v x ∷ tell_at w ts ∷ r) h e op (omega arith) l
+        (omega (arith, z, s)) a go in
         let n = i + 1 + 1 in
         let y = n + 1 in
         let around : phrases_around ps n ≡ outer =
         loop_body_shut (compute v x w ts) f i b r h ∙ out n (omega arith) (omega (arith, z)) in
         let same_y : i + length (flat_loop f (compute v x w ts)) ≡ y = omega arith in
         let behind : phrases_around ps y ≡ outer =
-        ap (phrases_before ps y) (sym same_y) ∙ loop_shut ps (compute v x w ts) f i b r h y (omega arith) ∙ out y (omega arith) (omega (arith, z)) in
-        let next_gather : next_place ps (i + 1) ≡ i = next_is (i + 1) (for_at f false ∷ b) (gather_at v x ∷ tell_at w ts ∷ r) second ∙ omega arith in
-        let next_tell : next_place ps n ≡ y = next_is n (gather_at v x ∷ for_at f false ∷ b) (tell_at w ts ∷ r) third in (
+        ap (phrases_before ps y) (sym same_y) ∙ loop_shut ps (compute v x w ts) f i b r h y (omega arith)
+        ∙ out y (omega arith) (omega (arith, z)) in
+        let next_gather : next_place ps (i + 1) ≡ i =
+        next_is (i + 1) (for_at f false ∷ b) (gather_at v x ∷ tell_at w ts ∷ r) second ∙ omega arith in
+        let next_tell : next_place ps n ≡ y =
+        next_is n (gather_at v x ∷ for_at f false ∷ b) (tell_at w ts ∷ r) third in (
           entry.step,
           (
             gather_step (i + 1) i (i ∷ js) x entry.around next_gather entry.back,
@@ -477,11 +537,13 @@ module _ (ps : List Spot) where
 
 -- the places of a tree and the END behind them
 pub section_steps : (B : Block) (l : ℕ) → phrases_block B ≤ loop_limit →
-    AreSteps (flat_block B ++ record { line = l; place = Control End } ∷ []) 0 (flat_block B ++ record { line = l; place = Control End } ∷ [])
+    AreSteps (flat_block B ++ record { line = l; place = Control End } ∷ []) 0
+    (flat_block B ++ record { line = l; place = Control End } ∷ [])
 section_steps B l p =
     let e : Spot = record { line = l; place = Control End } in
     let ps = flat_block B ++ e ∷ [] in
     let n = length-append (flat_block B) (e ∷ []) in
     joined ps 0 (flat_block B) (e ∷ [])
-    (block_steps ps B 0 (length ps) [] [] (e ∷ []) (record { list = refl; index = refl }) refl (λ n u v. refl) (omega (arith, n)) (omega arith) p)
+    (block_steps ps B 0 (length ps) [] [] (e ∷ []) (record { list = refl; index = refl }) refl (λ n u v. refl)
+    (omega (arith, n)) (omega arith) p)
     (record { next = tt; exits = tt; nested = refl }, tt)

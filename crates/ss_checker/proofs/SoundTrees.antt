@@ -74,7 +74,8 @@ module _ (d : Tables) (v : Names) (locals : List Name) (lines : List ℕ) where
     shape_controlled k (t.single o) = single (shape_one k o)
     shape_controlled k t.find = find (line lines k)
     shape_controlled k (t.compute ts e) =
-        compute (line lines k) (resolved_expr d v locals e) (line lines k) (map (resolved_telling d v locals) (all_of ts))
+        compute (line lines k) (resolved_expr d v locals e) (line lines k)
+        (map (resolved_telling d v locals) (all_of ts))
 
   -- ---- their places are those of the section
 
@@ -86,10 +87,13 @@ module _ (d : Tables) (v : Names) (locals : List Name) (lines : List ℕ) where
     block_flat t.no_statements k = refl
     block_flat (t.statement s b) k =
         ap (λ (xs : List Spot). xs ++ flat_block (shape_block (k + length (spell_statement s)) b)) (statement_flat s k)
-        ∙ ap (λ (ys : List Spot). map g (written.flat_statement lines k s) ++ ys) (block_flat b (k + length (spell_statement s)))
-        ∙ sym (map-append g (written.flat_statement lines k s) (written.flat_block lines (k + length (spell_statement s)) b))
+        ∙ ap (λ (ys : List Spot). map g (written.flat_statement lines k s) ++ ys)
+        (block_flat b (k + length (spell_statement s)))
+        ∙ sym (map-append g (written.flat_statement lines k s)
+        (written.flat_block lines (k + length (spell_statement s)) b))
 
-    statement_flat : (s : t.Statement) (k : ℕ) → flat_statement (shape_statement k s) ≡ map g (written.flat_statement lines k s)
+    statement_flat : (s : t.Statement) (k : ℕ) →
+        flat_statement (shape_statement k s) ≡ map g (written.flat_statement lines k s)
     statement_flat (t.alone o) k = one_flat o k
     statement_flat (t.loop f c) k = loop_flat c f k (k + length (spell_phrase f))
 
@@ -109,18 +113,21 @@ module _ (d : Tables) (v : Names) (locals : List Name) (lines : List ℕ) where
         ∙ ap (λ (zs : List Spot). zs ++ g y ∷ []) (sym (map-append g xs ys))
         ∙ sym (map-append g (xs ++ ys) (y ∷ [])))
 
-    otherwise_flat : (e : t.Otherwise) (k : ℕ) → flat_otherwise (shape_otherwise k e) ≡ map g (written.flat_otherwise lines k e)
+    otherwise_flat : (e : t.Otherwise) (k : ℕ) →
+        flat_otherwise (shape_otherwise k e) ≡ map g (written.flat_otherwise lines k e)
     otherwise_flat t.no_else k = refl
     otherwise_flat (t.else_with b) k =
         ap (λ (zs : List Spot). g (written.spot lines k (w.Branches w.Else)) ∷ zs) (block_flat b (k + 1))
 
-    loop_flat : (c : t.Controlled) (f : Phrase) (k j : ℕ) → flat_loop (head_at k f) (shape_controlled j c) ≡ map g (written.flat_loop lines k f j c)
+    loop_flat : (c : t.Controlled) (f : Phrase) (k j : ℕ) →
+        flat_loop (head_at k f) (shape_controlled j c) ≡ map g (written.flat_loop lines k f j c)
     loop_flat (t.further h c) f k j =
         ap (λ (zs : List Spot). for_at (head_at k f) false ∷ zs) (loop_flat c h j (j + length (spell_phrase h)))
     loop_flat (t.repeated b) f k j =
         let y : w.Spot = written.spot lines (j + 1 + length (spell_block b)) (w.Loops w.Next) in
         ap (λ (zs : List Spot). for_at (head_at k f) true ∷ zs)
-        (ap (λ (zs : List Spot). zs ++ g y ∷ []) (block_flat b (j + 1)) ∙ sym (map-append g (written.flat_block lines (j + 1) b) (y ∷ [])))
+        (ap (λ (zs : List Spot). zs ++ g y ∷ []) (block_flat b (j + 1))
+        ∙ sym (map-append g (written.flat_block lines (j + 1) b) (y ∷ [])))
     loop_flat (t.single o) f k j = ap (λ (zs : List Spot). for_at (head_at k f) false ∷ zs) (one_flat o j)
     loop_flat t.find f k j = refl
     loop_flat (t.compute ts e) f k j = refl
@@ -206,18 +213,21 @@ pub record IsOfTree (q : Section) : Type 0 where
   pub few_phrases : t.phrases_block block ≤ 16
   pub few_parameters : parameters_head q.head ≤ 32
 
-pub of_tree : (lines : List ℕ) (k : ℕ) (ts : Tree) (q : Section) → phrases ts ≤ 16 → parameters ts ≤ 32 → In q (written.written_from lines k ts) → IsOfTree q
+pub of_tree : (lines : List ℕ) (k : ℕ) (ts : Tree) (q : Section) → phrases ts ≤ 16 → parameters ts ≤ 32 →
+    In q (written.written_from lines k ts) → IsOfTree q
 of_tree lines k [] q a b i = absurd i
 of_tree lines k (s ∷ ts) q a b (inl e) = subst IsOfTree (sym e) (record {
   lines = lines;
   from = k + length (spell_head s.head) + length (flat_map spell_define s.locals);
   block = s.block;
-  end = line lines (k + length (spell_head s.head) + length (flat_map spell_define s.locals) + length (spell_block s.block));
+  end = line lines
+      (k + length (spell_head s.head) + length (flat_map spell_define s.locals) + length (spell_block s.block));
   places = refl;
   few_phrases = omega (arith, a);
   few_parameters = omega (arith, b);
 })
-of_tree lines k (s ∷ ts) q a b (inr i) = of_tree lines (k + length (spell_section s)) ts q (omega (arith, a)) (omega (arith, b)) i
+of_tree lines k (s ∷ ts) q a b (inr i) =
+    of_tree lines (k + length (spell_section s)) ts q (omega (arith, a)) (omega (arith, b)) i
 
 module _ (d : Tables) (v : Names) (locals : List Name) (q : Section) (h : IsOfTree q) where
   abbrev pub places : List Spot
@@ -232,15 +242,19 @@ module _ (d : Tables) (v : Names) (locals : List Name) (q : Section) (h : IsOfTr
   places_are : places ≡ flat_block tree ++ last ∷ []
   places_are =
       ap (map (resolved_spot d v locals)) h.places
-      ∙ map-append (resolved_spot d v locals) (written.flat_block h.lines h.from h.block) (record { line = h.end; place = EndOfSection } ∷ [])
+      ∙ map-append (resolved_spot d v locals) (written.flat_block h.lines h.from h.block)
+      (record { line = h.end; place = EndOfSection } ∷ [])
       ∙ ap (λ (zs : List Spot). zs ++ last ∷ []) (sym (block_flat d v locals h.lines h.block h.from))
 
   -- where its places go on
   pub tree_steps : AreSteps places 0 places
   tree_steps =
       rw places_are
-      (section_steps tree h.end (let e = block_phrases d v locals h.lines h.block h.from in let l = h.few_phrases in omega (arith, e, l)))
+      (section_steps tree h.end
+      (let e = block_phrases d v locals h.lines h.block h.from in let l = h.few_phrases in omega (arith, e, l)))
 
   -- END is its last place
   pub tree_ended : IsEnded places
-  tree_ended = rw places_are (ended_by (flat_block tree) last (block_passes (λ k xs. HasNoEnd xs) no_end_joins no_end_counts tree) refl)
+  tree_ended =
+      rw places_are
+      (ended_by (flat_block tree) last (block_passes (λ k xs. HasNoEnd xs) no_end_joins no_end_counts tree) refl)

@@ -28,14 +28,17 @@ pub record Scoped (d : Tables) (v : Names) (locals : List Name) (sc : Scope) : T
   pub global : (n : Name) (j : NameKind) → kind_of d n ≡ Some j → is_global j ≡ true → number n v.globals < sc.globals
   pub attribute : (n c : Name) → kind_of d n ≡ Some (k.Attribute c) → IsClass sc (number c v.classes)
   pub attribute_variable : (n c : Name) → kind_of d n ≡ Some (k.Attribute c) → number c v.globals < sc.globals
-  pub owner_kept : (n : Name) (a : OwnersKept) (s : Name) → kind_of d n ≡ Some (k.OwnerKept a s) → number s v.sets < sc.sets
+  pub owner_kept : (n : Name) (a : OwnersKept) (s : Name) → kind_of d n ≡ Some (k.OwnerKept a s) →
+      number s v.sets < sc.sets
   pub owner : (s c : Name) → owner_of d v locals s ≡ Some c → number c v.globals < sc.globals
-  pub member_kept : (n : Name) (a : MembersKept) (s : Name) → kind_of d n ≡ Some (k.MemberKept a s) → number s v.sets < sc.sets
+  pub member_kept : (n : Name) (a : MembersKept) (s : Name) → kind_of d n ≡ Some (k.MemberKept a s) →
+      number s v.sets < sc.sets
   pub member : (n : Name) (a : MembersKept) (s : Name) → kind_of d n ≡ Some (k.MemberKept a s) →
       number (member_class d v locals s) v.globals < sc.globals
   pub set : (n : Name) → kind_of d n ≡ Some k.Set → number n v.sets < sc.sets
   pub locals_are : sc.locals ≡ length locals
-  pub permanent : (n : Name) → names_permanent (kind_of d n) ≡ true → slice_get sc.permanent (number n v.classes) ≡ Some true
+  pub permanent : (n : Name) → names_permanent (kind_of d n) ≡ true →
+      slice_get sc.permanent (number n v.classes) ≡ Some true
   pub counts : (n : Name) → names_permanent (kind_of d n) ≡ true → number (codes "N." ++ n) v.globals < sc.globals
   pub ending : (n : Name) → names_ending (kind_of d n) ≡ true → slice_get sc.permanent (number n v.classes) ≡ Some false
 
@@ -66,7 +69,8 @@ module _ (d : Tables) (locals : List Name) where
   good_parts (x ∷ xs) ys h = let p = good_parts xs ys h.1 in ((h.0, p.0), p.1)
 
   pub good_from : (us : List Use) → list_any (is_wrong_class d) us ≡ false → list_any (is_misused d) us ≡ false →
-      list_any (is_wrong_count d) us ≡ false → list_any (is_fixed d) us ≡ false → ((u : Use) → In u us → AreKnown (variable_used u)) → AreGood us
+      list_any (is_wrong_count d) us ≡ false → list_any (is_fixed d) us ≡ false →
+      ((u : Use) → In u us → AreKnown (variable_used u)) → AreGood us
   good_from [] a b c e n = tt
   good_from (u ∷ us) a b c e n =
       let p = or_parts (is_wrong_class d u) (list_any (is_wrong_class d) us) a in
@@ -95,11 +99,13 @@ module _ (d : Tables) (v : Names) (locals : List Name) (sc : Scope) (S : Scoped 
   owner_sub s None (Some e) h x = x
   owner_sub s (Some c) e h x = class_sub c e (S.owner s c h) x
 
-  pub sound_owner : (s : Name) (e : Option Expr) → IsSoundOption sc e → IsSoundSubscript sc (owner_subscript d v locals s e)
+  pub sound_owner : (s : Name) (e : Option Expr) → IsSoundOption sc e →
+      IsSoundSubscript sc (owner_subscript d v locals s e)
   sound_owner s e x = owner_sub s (owner_of d v locals s) e refl x
 
   -- a name as a value without a subscript
-  pub sound_named : (n : Name) (j : Option NameKind) → kind_of d n ≡ j → is_valueless j ≡ false → names_function j ≡ false →
+  pub sound_named : (n : Name) (j : Option NameKind) → kind_of d n ≡ j → is_valueless j ≡ false →
+      names_function j ≡ false →
       (j ≡ None → number n locals < length locals) → IsSoundFactor sc (factor_of d v locals j n None)
   sound_named n None e a b h = local_there n (h refl)
   sound_named n (Some k.Variable) e a b h = S.global n k.Variable e refl
@@ -124,7 +130,8 @@ module _ (d : Tables) (v : Names) (locals : List Name) (sc : Scope) (S : Scoped 
   sound_function Remainder x (exprs y ys) a b = (a, b.0)
 
   -- a name as a value with arguments
-  pub sound_applied : (n : Name) (j : Option NameKind) (x : Expr) (xs : Exprs) → kind_of d n ≡ j → is_bare d j ≡ false → IsSoundExpr sc x →
+  pub sound_applied : (n : Name) (j : Option NameKind) (x : Expr) (xs : Exprs) → kind_of d n ≡ j → is_bare d j ≡ false →
+      IsSoundExpr sc x →
       AreSoundArguments sc xs → IsSoundFactor sc (applied_factor d v locals j n x xs)
   sound_applied n None x xs e a y ys = cc
   sound_applied n (Some k.Variable) x xs e a y ys = cc
@@ -139,7 +146,8 @@ module _ (d : Tables) (v : Names) (locals : List Name) (sc : Scope) (S : Scoped 
   sound_applied n (Some k.Routine) x xs e a y ys = cc
 
   -- a name as a target
-  pub sound_bare_target : (n : Name) (j : Option NameKind) → kind_of d n ≡ j → is_valueless j ≡ false → names_fixed j ≡ false →
+  pub sound_bare_target : (n : Name) (j : Option NameKind) → kind_of d n ≡ j → is_valueless j ≡ false →
+      names_fixed j ≡ false →
       (j ≡ None → number n locals < length locals) → IsTarget sc (target_of d v locals j n None)
   sound_bare_target n None e a b h = local_there n (h refl)
   sound_bare_target n (Some k.Variable) e a b h = S.global n k.Variable e refl
@@ -153,7 +161,8 @@ module _ (d : Tables) (v : Names) (locals : List Name) (sc : Scope) (S : Scoped 
   sound_bare_target n (Some k.Set) e a b h = cc
   sound_bare_target n (Some k.Routine) e a b h = cc
 
-  pub sound_target_at : (n : Name) (j : Option NameKind) (x : Expr) → kind_of d n ≡ j → is_bare d j ≡ false → names_fixed j ≡ false →
+  pub sound_target_at : (n : Name) (j : Option NameKind) (x : Expr) → kind_of d n ≡ j → is_bare d j ≡ false →
+      names_fixed j ≡ false →
       IsSoundExpr sc x → IsTarget sc (target_of d v locals j n (Some x))
   sound_target_at n None x e a b y = cc
   sound_target_at n (Some k.Variable) x e a b y = cc
@@ -183,7 +192,8 @@ module _ (d : Tables) (v : Names) (locals : List Name) (sc : Scope) (S : Scoped 
   sound_loop_variable n (Some k.Routine) e a h = cc
 
   -- the variable of a class's name
-  class_is_global : (n : Name) (j : Option NameKind) → kind_of d n ≡ j → names_ending j ≡ true → number n v.globals < sc.globals
+  class_is_global : (n : Name) (j : Option NameKind) → kind_of d n ≡ j → names_ending j ≡ true →
+      number n v.globals < sc.globals
   class_is_global n None e a = cc
   class_is_global n (Some k.Variable) e a = cc
   class_is_global n (Some k.ClassCount) e a = cc
@@ -199,7 +209,8 @@ module _ (d : Tables) (v : Names) (locals : List Name) (sc : Scope) (S : Scoped 
   pub sound_class_variable : (n : Name) → names_ending (kind_of d n) ≡ true → number n v.globals < sc.globals
   sound_class_variable n h = class_is_global n (kind_of d n) refl h
 
-  permanent_is_global : (n : Name) (j : Option NameKind) → kind_of d n ≡ j → names_permanent j ≡ true → number n v.globals < sc.globals
+  permanent_is_global : (n : Name) (j : Option NameKind) → kind_of d n ≡ j → names_permanent j ≡ true →
+      number n v.globals < sc.globals
   permanent_is_global n None e a = cc
   permanent_is_global n (Some k.Variable) e a = cc
   permanent_is_global n (Some k.ClassCount) e a = cc

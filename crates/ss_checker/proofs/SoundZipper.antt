@@ -51,7 +51,8 @@ module _ (ps : List Spot) (i : ℕ) (b a : List Spot) (h : At ps i b a) where
       rw (h.list, unwind_is b a, place_of) (ap reverse (take-append_seam (reverse b) a) ∙ reverse-reverse b)
 
   pub size : length ps ≡ i + length a
-  size = rw (h.list, unwind_is b a) (let k = length-append (reverse b) a in let l = length-reverse b in let j = h.index in omega (arith, k, l, j))
+  size = rw (h.list, unwind_is b a)
+      (let k = length-append (reverse b) a in let l = length-reverse b in let j = h.index in omega (arith, k, l, j))
 
 -- the next place
 pub onward : {ps : List Spot} {i : ℕ} {x : Spot} {b a : List Spot} → At ps i b (x ∷ a) → At ps (i + 1) (x ∷ b) a
@@ -75,10 +76,12 @@ get_behind : (xs : List Spot) (x : Spot) (a : List Spot) → slice_get (xs ++ x 
 get_behind [] x a = refl
 get_behind (y ∷ ys) x a = get_behind ys x a
 
-pub got : (ps : List Spot) (i : ℕ) (b : List Spot) (x : Spot) (a : List Spot) → At ps i b (x ∷ a) → slice_get ps i ≡ Some x
+pub got : (ps : List Spot) (i : ℕ) (b : List Spot) (x : Spot) (a : List Spot) → At ps i b (x ∷ a) →
+    slice_get ps i ≡ Some x
 got ps i b x a h = rw (h.list, unwind_is b (x ∷ a), h.index ∙ sym (length-reverse b)) (get_behind (reverse b) x a)
 
-pub is_here : (test : Place → Bool) (ps : List Spot) (i : ℕ) (b : List Spot) (x : Spot) (a : List Spot) → At ps i b (x ∷ a) →
+pub is_here : (test : Place → Bool) (ps : List Spot) (i : ℕ) (b : List Spot) (x : Spot) (a : List Spot) →
+    At ps i b (x ∷ a) →
     is_at ps test i ≡ test x.place
 is_here test ps i b x a h = ap (passes test) (got ps i b x a h)
 

@@ -16,10 +16,13 @@ use Rattle.ss_checker.specs.NameKinds.{language_facts, class_facts, set_facts, n
 
 -- ---- items under their headings
 
--- the line of an item, the heading over it, if there is one, and the item
+-- an item, and where it stands
 pub record Entry : Type 0 where
+  -- its line
   pub line : ℕ
+  -- the heading over it, if there is one
   pub heading : Option Heading
+  -- the item
   pub item : Item
 
 -- the heading over an item that stands behind others under h: a heading's own, else h
@@ -217,9 +220,9 @@ events_in _ = []
 -- ---- the whole program
 
 -- what items and heads say: what names are declared as; the class of each attribute; the owners of sets and the classes
--- of their members; the sets whose discipline is given and the event classes whose ties are broken; the external classes,
--- those that PRIORITY names and all that are named as classes; the event classes that have a section, the routines with
--- the counts of their parameters, and whether there is a MAIN
+-- of their members; the sets whose discipline is given and the event classes whose ties are broken; the external
+-- classes, those that PRIORITY names and all that are named as classes; the event classes that have a section, the
+-- routines with the counts of their parameters, and whether there is a MAIN
 abbrev pub tables_of : List Entry → List Head → Tables
 tables_of xs hs = record {
   kinds = language_facts ++ flat_map declarations xs ++ flat_map routine_facts hs;

@@ -154,7 +154,8 @@ module _ (d b : Tables) where
 
 -- a local DEFINE with the rules that it breaks; C1: a name that is declared
 abbrev pub local_statement : Tables → LocalNames → Statement
-local_statement d l = record { line = l.line; breaks = broken DeclaredTwice (list_any (is_declared d) (all_of l.names)) }
+local_statement d l =
+    record { line = l.line; breaks = broken DeclaredTwice (list_any (is_declared d) (all_of l.names)) }
 
 -- the lowest rule that a local DEFINE breaks
 unfoldable pub local_rule : Tables → LocalNames → Option CheckRule

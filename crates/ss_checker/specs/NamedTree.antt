@@ -161,7 +161,8 @@ name_at table i = unwrap_or (slice_get table i) []
 
 -- the reference that an expression of one name is
 abbrev pub reference_of : e.Expr → Reference
-reference_of (e.expr None (e.term (e.applied n a e.no_exprs) e.no_products) e.no_sums) = record { name = n; subscript = Some a }
+reference_of (e.expr None (e.term (e.applied n a e.no_exprs) e.no_products) e.no_sums) =
+    record { name = n; subscript = Some a }
 reference_of (e.expr None (e.term (e.named n) e.no_products) e.no_sums) = record { name = n; subscript = None }
 reference_of _ = record { name = []; subscript = None }
 

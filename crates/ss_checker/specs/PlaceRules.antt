@@ -60,8 +60,8 @@ module _ (d : Tables) where
   abbrev pub is_bare : Option NameKind → Bool
   is_bare j = not (names_function j || takes_subscript j)
 
-  -- C3: a set or a routine as a value or target; a subscript of what takes none, as of a set of the system; no set where one is
-  -- needed; CALL of no routine
+  -- C3: a set or a routine as a value or target; a subscript of what takes none, as of a set of the system; no set
+  -- where one is needed; CALL of no routine
   abbrev pub is_misused : Use → Bool
   is_misused (Value n None) = is_valueless (kind_of d n)
   is_misused (Value n (Some c)) = is_bare (kind_of d n)

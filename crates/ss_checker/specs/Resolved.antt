@@ -414,9 +414,11 @@ module _ (d : Tables) (v : Names) (locals : List Name) where
 
 -- ---- classes and sets
 
--- the disciplines that items give, and the keys of the ties that they break
+-- what items say of orders
 pub record Rankings : Type 0 where
+  -- the disciplines of sets
   pub disciplines : List (Fact SetKind)
+  -- the keys of the ties that they break
   pub ties : List (Fact (List WrittenKey))
 
 -- those of some items

@@ -32,14 +32,19 @@ use Rattle.ss_checker.specs.Uses.{Use, Value, Target as AsTarget, LoopVariable, 
 abbrev pub number : Name → List Name → ℕ
 number n table = position_or_len (bytes_eq n) table
 
--- the names of the global variables, of the classes, of each class's attributes and of the sets, and the number of the
--- section of each routine and of each event class
+-- the tables in which names have their numbers
 pub record Names : Type 0 where
+  -- the names of the global variables
   pub globals : List Name
+  -- those of the classes
   pub classes : List Name
+  -- those of each class's attributes
   pub attributes : List (List Name)
+  -- those of the sets
   pub sets : List Name
+  -- the number of the section of each routine
   pub routines : List (Fact ℕ)
+  -- the number of the section of each event class
   pub events : List (Fact ℕ)
 
 -- the names whose facts pass a test
@@ -105,12 +110,13 @@ locals_of d s = each_once (parameters s.head ++ flat_map (undeclared d) (variabl
 
 -- ---- what a name stands for
 
--- what a set keeps of its owner, and of its members
+-- what a set keeps of its owner
 abbrev pub kept_of_owner : OwnersKept → OwnerKept
 kept_of_owner First = owner.First
 kept_of_owner Last = owner.Last
 kept_of_owner Count = owner.Count
 
+-- what a set keeps of its members
 abbrev pub kept_of_member : MembersKept → MemberKept
 kept_of_member Predecessor = member.Predecessor
 kept_of_member Successor = member.Successor
@@ -143,10 +149,11 @@ module _ (d : Tables) (v : Names) (locals : List Name) where
   abbrev pub attribute_number : Name → Name → ℕ
   attribute_number c a = number a (attribute_names v c)
 
-  -- the number of a routine's section, and of an event class's
+  -- the number of a routine's section
   abbrev pub routine_number : Name → ℕ
   routine_number n = unwrap_or (fact_of v.routines n) 0
 
+  -- the number of an event class's section
   abbrev pub event_section : Name → ℕ
   event_section n = unwrap_or (fact_of v.events n) 0
 
@@ -156,11 +163,13 @@ module _ (d : Tables) (v : Names) (locals : List Name) where
   variable_of (Some k.Clock) n = Clock
   variable_of (Some j) n = Global (number n v.globals)
 
+  -- a variable, by what its name is declared as
   abbrev pub resolved_variable : Name → Variable
   resolved_variable n = variable_of (kind_of d n) n
 
   -- ---- subscripts; without one the variable of the class's name stands for it
 
+  -- of a class
   abbrev pub class_subscript : Name → Option Expr → Subscript
   class_subscript c None = implied (class_variable c)
   class_subscript c (Some e) = at e
@@ -178,9 +187,11 @@ module _ (d : Tables) (v : Names) (locals : List Name) where
   abbrev pub member_class : Name → Name
   member_class s = unwrap_or (fact_of d.members s) []
 
+  -- of the owner of a set
   abbrev pub owner_subscript : Name → Option Expr → Subscript
   owner_subscript s e = subscript_of_owner (owner_of s) e
 
+  -- of a member of a set
   abbrev pub member_subscript : Name → Option Expr → Subscript
   member_subscript s e = class_subscript (member_class s) e
 

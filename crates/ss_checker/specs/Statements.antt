@@ -5,9 +5,11 @@ use Rattle.ss_check.specs.declared.fault.CheckRule.{CheckRule}
 use Rattle.ss_check.specs.declared.fault.CheckFault.{CheckFault}
 use Rattle.ss_check.specs.declared.fault.CheckFault.TheVariants.{Broken, Memory}
 
--- a statement's line, and the rules that it breaks, the lowest number first
+-- a statement, as the rules see it
 pub record Statement : Type 0 where
+  -- its line
   pub line : ℕ
+  -- the rules that it breaks, the lowest number first
   pub breaks : List CheckRule
 
 -- a rule, where it is broken

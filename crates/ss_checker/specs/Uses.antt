@@ -13,8 +13,9 @@ use Rattle.ss_grammar.specs.Places.{Branch, If, Loop, For, Gather, Compute, Plac
 use Rattle.ss_checker.specs.declared.class_need.ClassNeed.{ClassNeed}
 use Rattle.ss_checker.specs.declared.class_need.ClassNeed.TheVariants.{Permanent, Ending, Event}
 
--- a value, with how many arguments, if there are parentheses; a target, and a set, with whether there is a subscript; a loop's
--- variable; a class of the kind needed; an event class with so many values; a routine with so many values and targets
+-- a value, with how many arguments, if there are parentheses; a target, and a set, with whether there is a subscript; a
+-- loop's variable; a class of the kind needed; an event class with so many values; a routine with so many values and
+-- targets
 pub data Use : Type 0 where
   Value : Name → Option ℕ → Use
   Target InSet : Name → Bool → Use
@@ -32,26 +33,32 @@ count (exprs e es) = 1 + count es
 
 -- in an expression, and in each part of it
 abbrev mutual
+  -- in an expression
   pub uses_expr : Expr → List Use
   uses_expr (expr sign t ss) = uses_term t ++ uses_sums ss
 
+  -- in the terms behind the first
   pub uses_sums : Sums → List Use
   uses_sums no_sums = []
   uses_sums (sum sign t ss) = uses_term t ++ uses_sums ss
 
+  -- in a term
   pub uses_term : Term → List Use
   uses_term (term f ps) = uses_factor f ++ uses_products ps
 
+  -- in the factors behind the first
   pub uses_products : Products → List Use
   uses_products no_products = []
   uses_products (product f ps) = uses_factor f ++ uses_products ps
 
+  -- in a factor
   pub uses_factor : Factor → List Use
   uses_factor (digits n) = []
   uses_factor (named n) = Value n None ∷ []
   uses_factor (applied n e es) = Value n (Some (1 + count es)) ∷ (uses_expr e ++ uses_exprs es)
   uses_factor (within e) = uses_expr e
 
+  -- in the arguments behind the first
   pub uses_exprs : Exprs → List Use
   uses_exprs no_exprs = []
   uses_exprs (exprs e es) = uses_expr e ++ uses_exprs es
@@ -90,20 +97,25 @@ uses_called_value (Some v) = uses_value v.name v.subscript
 
 -- in a condition, and in each part of it
 abbrev mutual
+  -- in a condition
   pub uses_condition : Condition → List Use
   uses_condition (condition c cs) = uses_conjunction c ++ uses_alternatives cs
 
+  -- in the alternatives behind the first
   pub uses_alternatives : Alternatives → List Use
   uses_alternatives no_alternatives = []
   uses_alternatives (alternative c cs) = uses_conjunction c ++ uses_alternatives cs
 
+  -- in an alternative
   pub uses_conjunction : Conjunction → List Use
   uses_conjunction (conjunction q qs) = uses_relation q ++ uses_additions qs
 
+  -- in the relations behind the first
   pub uses_additions : Additions → List Use
   uses_additions no_additions = []
   uses_additions (addition q qs) = uses_relation q ++ uses_additions qs
 
+  -- in a relation
   pub uses_relation : Relation → List Use
   uses_relation (compared e how f) = uses_expr e ++ uses_expr f
   uses_relation (is_empty s how) = uses_set s

@@ -109,7 +109,8 @@ fn add_heads(tables: &mut Tables, sections: &[Section]) -> Result<(), AllocError
     Ok(())
 }
 
-/// Looks at each item behind what `before` says, to which they are added, and tells the first breach.
+/// Looks at each item behind what `before` says, to which they are added, and tells the first
+/// breach.
 fn check_items(
     alloc: Global,
     whole: &Tables,

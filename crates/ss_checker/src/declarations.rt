@@ -176,7 +176,8 @@ fn add_clauses(
     class: Option<&[u8]>,
     clauses: &Several<Clause>,
 ) -> Result<(), AllocError>
-    ensures { OnOk result (kinds.new ≡ kinds.old ++ flat_map (declared.clause_facts (option_map (λ c. c.now) class.entry))
+    ensures { OnOk result (kinds.new
+        ≡ kinds.old ++ flat_map (declared.clause_facts (option_map (λ c. c.now) class.entry))
         (all_of (several_view view.clause_view clauses.now))) }
 {
     add_clause(alloc, kinds, class, &clauses.first)?;

@@ -54,7 +54,8 @@ impl HeadBreaks {
     }
 }
 
-/// The lowest rule that the head of a section breaks behind what `before` says, to which it is added.
+/// The lowest rule that the head of a section breaks behind what `before` says, to which it is
+/// added.
 pub(crate) fn head_rule(
     alloc: Global,
     whole: &Tables,

@@ -108,8 +108,8 @@ pub(crate) fn item_rule(
 
 // ---- C1
 
-/// Whether these tables declare a name twice, give a set two disciplines, break the ties of an event
-/// class twice or name one twice as external.
+/// Whether these tables declare a name twice, give a set two disciplines, break the ties of an
+/// event class twice or name one twice as external.
 fn says_twice(tables: &Tables) -> bool
     ensures { result ≡ (one_conflicts [] tables.now.kinds || repeats [] tables.now.disciplines
         || repeats [] tables.now.ties || repeats [] tables.now.external) }
@@ -377,7 +377,8 @@ fn is_new_without_section(whole: &Tables, classes: &NameList, name: &[u8]) -> bo
 
 // ---- C12
 
-/// Whether an item is a PRIORITY behind others, names a class twice or names what is no event class.
+/// Whether an item is a PRIORITY behind others, names a class twice or names what is no event
+/// class.
 fn has_wrong_priority(
     alloc: Global,
     whole: &Tables,

@@ -65,7 +65,8 @@ pub fn events_have_attributes_for_parameters()
     ensures { EventsHaveAttributesForParameters }
 {}
 
-/// An event class has a section, and a section of an event has a class; the item that first names the class is refused.
+/// An event class has a section, and a section of an event has a class; the item that first names
+/// the class is refused.
 pub fn events_have_sections()
     ensures { EventsHaveSections }
 {}
@@ -100,7 +101,8 @@ pub fn found_is_asked_behind_find()
     ensures { FoundIsAskedBehindFind }
 {}
 
-/// Of two statements that break a rule the earlier one is refused, also where its rule has the higher number.
+/// Of two statements that break a rule the earlier one is refused, also where its rule has the
+/// higher number.
 pub fn earlier_statement_counts()
     ensures { EarlierStatementCounts }
 {}
@@ -135,7 +137,8 @@ pub fn values_are_no_routines()
     ensures { ValuesAreNoRoutines }
 {}
 
-/// A tie key is an attribute of the event class, and a rank key one of the members, not of the owners.
+/// A tie key is an attribute of the event class, and a rank key one of the members, not of the
+/// owners.
 pub fn keys_are_of_their_class()
     ensures { KeysAreOfTheirClass }
 {}

@@ -1,4 +1,5 @@
-//! The checker of the whole language: what names are declared as, and the rules on items, heads and places.
+//! The checker of the whole language: what names are declared as, and the rules on items, heads and
+//! places.
 #![tactic(auto)]
 
 mod breach;

@@ -11,7 +11,8 @@ use ss_preamble::Heading;
 /// declared.
 #[derive(Debug, Drop)]
 pub enum NameKind {
-    /// A class, with the heading under which it stands; none where an item `EVERY` has none over it.
+    /// A class, with the heading under which it stands; none where an item `EVERY` has none over
+    /// it.
     Class(Option<Heading>),
     /// An attribute of the class of this name.
     Attribute(Name),

@@ -115,8 +115,8 @@ impl NameTables {
         number(&self.sets, name)
     }
 
-    /// The number of an attribute in the class with this number, or how many it has where it is none
-    /// of them; 0 where there is no such class.
+    /// The number of an attribute in the class with this number, or how many it has where it is
+    /// none of them; 0 where there is no such class.
     pub fn attribute(&self, class: usize, name: &[u8]) -> usize
         ensures { result ≡ resolved.number name.now (slice_index_or self.now.attributes class []) }
     {

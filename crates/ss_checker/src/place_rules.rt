@@ -89,8 +89,8 @@ fn has_wrong_picture(place: &Place) -> bool
     }
 }
 
-/// The rule on what stands around a place that it breaks, in MAIN or not, and directly behind a FIND
-/// or not.
+/// The rule on what stands around a place that it breaks, in MAIN or not, and directly behind a
+/// FIND or not.
 pub(crate) fn standing_rule(in_main: bool, behind_find: bool, place: &Place) -> Option<CheckRule>
     ensures { result ≡ lowest (rules.standing_breaks in_main behind_find (view.place_view place.now)) }
 {

@@ -73,7 +73,8 @@ fn add_disciplines<'a>(
     item: &'a Item,
 ) -> Result<(), AllocError>
     ensures { OnOk result (facts_view (λ k. view.set_kind_view k.now) disciplines.new
-        ≡ facts_view (λ k. view.set_kind_view k.now) disciplines.old ++ declared.disciplines_in (view.item_view item.now)) }
+        ≡ facts_view (λ k. view.set_kind_view k.now) disciplines.old
+        ++ declared.disciplines_in (view.item_view item.now)) }
 {
     match item {
         Item::Defines(Definition::Sets { names, kind }) => add_kinds(disciplines, names, kind),
@@ -103,7 +104,8 @@ fn add_kinds<'a>(
 #[tactic(auto, using(crate::proofs::Named::facts_view_push))]
 fn add_ties<'a>(ties: &mut FactTable<&'a Several<Key>>, item: &'a Item) -> Result<(), AllocError>
     ensures { OnOk result (facts_view (λ keys. all_of (several_view view.key_view keys.now)) ties.new
-        ≡ facts_view (λ keys. all_of (several_view view.key_view keys.now)) ties.old ++ declared.ties_in (view.item_view item.now)) }
+        ≡ facts_view (λ keys. all_of (several_view view.key_view keys.now)) ties.old
+        ++ declared.ties_in (view.item_view item.now)) }
 {
     match item {
         Item::Orders(EventRule::BreakTies { event, keys }) => ties.add(event, keys),

@@ -105,7 +105,8 @@ fn takes(function: Function, arguments: usize) -> bool
     }
 }
 
-/// Whether a function takes another count of arguments, or what takes a subscript has more than one.
+/// Whether a function takes another count of arguments, or what takes a subscript has more than
+/// one.
 fn has_wrong_arguments(whole: &Tables, kind: Option<&NameKind>, arguments: usize) -> bool
     ensures { result ≡ rules.has_wrong_arguments whole.now (option_map (λ k. k.now) kind.entry) arguments }
 {

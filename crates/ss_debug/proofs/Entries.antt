@@ -22,3 +22,6 @@ waiting_class p es section below c k w = external_within p.classes _ c refl w.0
 pub running_class : (p : ProgramTable) (es : List Pending) (section : ℕ) (below : List FrameState) (c k : ℕ) →
     IsWellEntry p es section below (Running c k) → c < length p.classes
 running_class p es section below c k w = external_within p.classes _ c refl w.0
+
+-- the class of an entry is an event class
+pub ruleset class_of_entry = (waiting_class, running_class)

@@ -1,3 +1,4 @@
+pub mod Unfoldings
 pub mod LineTables
 pub mod Names
 pub mod Splits

@@ -155,7 +155,8 @@ value_within [] l e = absurd (cc)
 value_within (b ∷ bs) zero e = omega arith
 value_within (b ∷ bs) (suc l) e = let h = value_within bs l e in omega arith
 
-value_at : (bs : List Bool) (l : ℕ) (d : Bool) → l < length bs → unwrap_or (slice_get bs l) false ≡ slice_index_or bs l d
+value_at : (bs : List Bool) (l : ℕ) (d : Bool) → l < length bs →
+    unwrap_or (slice_get bs l) false ≡ slice_index_or bs l d
 value_at [] l d h = absurd (omega arith)
 value_at (b ∷ bs) zero d h = refl
 value_at (b ∷ bs) (suc l) d h = value_at bs l d (omega arith)
@@ -176,7 +177,8 @@ pub line_within : (bs : List Bool) (l : ℕ) → is_break_line (lines_of bs) l �
 line_within bs l e = value_within bs l (rw (sym (is_line bs l)) e)
 
 -- a line is there where its place holds true
-pub line_at : (bs : List Bool) (l : ℕ) (d : Bool) → l < length bs → is_break_line (lines_of bs) l ≡ slice_index_or bs l d
+pub line_at : (bs : List Bool) (l : ℕ) (d : Bool) → l < length bs →
+    is_break_line (lines_of bs) l ≡ slice_index_or bs l d
 line_at bs l d h = rw (is_line bs l) (value_at bs l d h)
 
 -- no line is there past the table's end
@@ -196,7 +198,8 @@ pub count_set : (bs : List Bool) (l : ℕ) → l < length bs → is_break_line (
 count_set bs l h e =
     let absent : unwrap_or (slice_get bs l) false ≡ false = rw (sym (is_line bs l)) e in
     let f : length (lines_of (slice_set bs l true)) + one_if false ≡ length (lines_of bs) + 1 =
-    subst (λ b. length (lines_of (slice_set bs l true)) + one_if b ≡ length (lines_of bs) + 1) absent (counted bs l h) in
+    subst (λ b. length (lines_of (slice_set bs l true)) + one_if b ≡ length (lines_of bs) + 1) absent
+    (counted bs l h) in
     omega (arith, f)
 
 -- one other line less, where it is there
@@ -224,3 +227,9 @@ unfolding without_line
 line_absent [] l e = refl
 line_absent (m ∷ ls) l e =
     let both = or_both (nat_eq m l) (is_break_line ls l) e in rw (both.0, line_absent ls l both.1) refl
+
+-- a line made a break line
+pub ruleset setting = (line_set, line_set_again, count_set, no_more)
+
+-- a line made none
+pub ruleset clearing = (line_within, line_cleared, count_cleared, line_absent)

@@ -284,3 +284,6 @@ back_end_by_order test o p n q r false false e f a b = omega (arith, ltb-false _
 pub one_back_end : (test : ℕ → Bool) (o p n q r : ℕ) →
     EndsBackAt test o p n q → EndsBackAt test o p n r → q ≡ r
 one_back_end test o p n q r a b = back_end_by_order test o p n q r _ _ refl refl a b
+
+-- the steps to the least number that passes a test
+pub ruleset least_steps = (least_is, least_at_least, or_false_left)

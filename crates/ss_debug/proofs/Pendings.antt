@@ -67,7 +67,8 @@ found n (e ∷ es) h =
     let same : eqb e.notice e.notice ≡ true = grind (arith, nat_tests) in
     (rw same refl, both es es (found e.notice es h.1) (above e.notice es h.1))
   where
-    both : (fs gs : List Pending) → Each (λ f. pending_at gs f.notice ≡ Some f) fs → Each (λ f. e.notice < f.notice) fs →
+    both : (fs gs : List Pending) → Each (λ f. pending_at gs f.notice ≡ Some f) fs →
+        Each (λ f. e.notice < f.notice) fs →
         Each (λ f. pending_at (e ∷ gs) f.notice ≡ Some f) fs
     both [] gs a b = tt
     both (f ∷ fs) gs a b = (past_one e f gs b.0 a.0, both fs gs a.1 b.1)
@@ -88,7 +89,8 @@ known_of p rules a i notice None r w k e = absurd (cc)
 known_of p rules a i notice (Some x) r w k e =
     let same : notice ≡ x.notice = cc in
     let number =
-    each_at (λ f. 0 < f.notice) _ i x (each_first _ rules (length a.pending) a.pending (above 0 a.pending w.references)) k
+    each_at (λ f. 0 < f.notice) _ i x
+    (each_first _ rules (length a.pending) a.pending (above 0 a.pending w.references)) k
     in
     let here =
     each_at (λ f. pending_at a.pending f.notice ≡ Some f) _ i x
@@ -134,7 +136,8 @@ pub line_more : (p : ProgramTable) (es : List Pending) (i j : ℕ) (e : Pending)
     new ++ notice_lines p (drop j es) ≡ all
 line_more p es i j e text new all h n k l =
     let next : j ≡ suc i = omega (arith, n) in
-    rw (l, next) (append_assoc text _ _ ∙ ap (λ (l : List Pending). text ++ notice_lines p l) (sym (dropped es i e h)) ∙ k)
+    rw (l, next)
+    (append_assoc text _ _ ∙ ap (λ (l : List Pending). text ++ notice_lines p l) (sym (dropped es i e h)) ∙ k)
 
 dropped_none : (es : List Pending) (i : ℕ) → slice_get es i ≡ None → drop i es ≡ []
 dropped_none [] zero h = refl

@@ -91,12 +91,19 @@ forward t breaks condition p n = p + least (stops t breaks condition p) (min n (
 -- the same as one fact: q is the least later position that meets the condition, within the bound, never past a state
 -- that isn't ready nor past the last position
 pub record EndsAt (t : Input) (breaks : List ℕ) (condition : StopCondition) (p n q : ℕ) : Type 0 where
+  -- it is not before the start
   pub no_earlier : p ≤ q
+  -- it is within the bound
   pub within : q ≤ p + n
+  -- it is not past the last position
   pub not_past_the_last : q ≤ LAST_POSITION
+  -- no state before it has ended
   pub not_past_an_end : (k : ℕ) → p ≤ k → k < q → is_ready_at t k ≡ true
+  -- before it the time has not come
   pub not_past_the_time : (k : ℕ) → p ≤ k → k < q → is_in_time t condition k ≡ false
+  -- between the two no state meets the condition
   pub not_past_a_met : (k : ℕ) → p < k → k < q → is_met t breaks condition k ≡ false
+  -- it is at one of the bounds, or meets the condition
   pub for_a_reason :
       (q ≡ p + n) ⊎ ((q ≡ LAST_POSITION) ⊎ ((is_ready_at t q ≡ false) ⊎ ((is_in_time t condition q ≡ true)
       ⊎ ((p < q) × (is_met t breaks condition q ≡ true)))))
@@ -117,8 +124,13 @@ backward test earliest p n = p - least (stops_back test p) (min n (p - earliest)
 -- the same as one fact: q is the greatest earlier position at which the test holds, within the bound, not before the
 -- earliest kept one
 pub record EndsBackAt (test : ℕ → Bool) (earliest p n q : ℕ) : Type 0 where
+  -- it is not behind the start
   pub no_later : q ≤ p
+  -- it is kept
   pub not_before_the_kept : earliest ≤ q
+  -- it is within the bound
   pub within : p ≤ q + n
+  -- between the two the test holds nowhere
   pub not_past_a_met : (k : ℕ) → q < k → k < p → test k ≡ false
+  -- it is at one of the bounds, or the test holds there
   pub for_a_reason : (q ≡ earliest) ⊎ ((p ≡ q + n) ⊎ ((q < p) × (test q ≡ true)))

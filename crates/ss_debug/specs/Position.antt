@@ -5,6 +5,9 @@ use Rattle.ss_machine.specs.Moment.{Moment, position}
 
 -- a machine holds state number p of the run of this program, and k steps are forgotten
 pub record IsAt (t : Input) (k p : ℕ) (m : Moment) : Type 0 where
+  -- its run is that of the program
   pub input : m.input ≡ t
+  -- k steps are forgotten
   pub forgotten : m.forgotten ≡ k
+  -- its state is number p
   pub position : position m ≡ p

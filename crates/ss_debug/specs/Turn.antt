@@ -18,10 +18,13 @@ use Rattle.ss_debug.specs.Answer.{movement_text, forward_word, back_word, back_t
 use Rattle.ss_debug.specs.Entities.{entity_text, set_text}
 use Rattle.ss_debug.specs.Answer.{clock_text, state_line, var_text, events_text, taken_text, entry_text, report_text}
 
--- the state of the debugger: a position of the run, the earliest one that is kept, and the break lines
+-- the state of the debugger
 pub record DebuggerState : Type 0 where
+  -- a position of the run
   pub position : ℕ
+  -- the earliest one that is kept
   pub earliest : ℕ
+  -- the break lines
   pub breaks : List ℕ
 
 -- at the start, without break lines
@@ -134,9 +137,11 @@ abbrev pub go_of : Command → Go
 go_of Quit = go.Quit
 go_of _ = go.On
 
--- the state of a session: that of its debugger, and whether QUIT has come
+-- the state of a session
 pub record SessionState : Type 0 where
+  -- that of its debugger
   pub debugger : DebuggerState
+  -- whether QUIT has come
   pub over : Bool
 
 -- the beginning of a session

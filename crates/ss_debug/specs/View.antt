@@ -13,9 +13,11 @@ condition_of AtBreakLine = at_break_line
 condition_of (AtTime time) = at_time time
 condition_of BehindEventStart = behind_event_start
 
--- a debugger: its machine and its break lines
+-- a debugger
 pub record DebuggerView : Type 0 where
+  -- its machine
   pub machine : Moment
+  -- its break lines
   pub breaks : List ℕ
 
 -- the state of a debugger

@@ -78,7 +78,7 @@ impl BreakLines {
     }
 
     /// Makes a line a break line. Where memory is refused, the break lines are as before.
-    #[tactic(auto, using(crate::proofs::LineTables::line_set, crate::proofs::LineTables::line_set_again, crate::proofs::LineTables::count_set, crate::proofs::LineTables::no_more))]
+    #[tactic(auto, using(crate::proofs::LineTables::setting))]
     pub fn set(&mut self, line: u32) -> Result<(), AllocError>
         ensures ok { OnOk result (self.new ≡ with_line line self.old) }
         ensures err { OnErr result (self.new ≡ self.old) }
@@ -94,7 +94,7 @@ impl BreakLines {
     }
 
     /// Makes a line no break line.
-    #[tactic(auto, using(crate::proofs::LineTables::line_within, crate::proofs::LineTables::line_cleared, crate::proofs::LineTables::count_cleared, crate::proofs::LineTables::line_absent))]
+    #[tactic(auto, using(crate::proofs::LineTables::clearing))]
     pub fn clear(&mut self, line: usize)
         ensures { self.new ≡ without_line line self.old }
     {

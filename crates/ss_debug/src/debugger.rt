@@ -245,9 +245,9 @@ impl<S: SetBoard> Debugger<S> {
 /// `Quit` is answered for QUIT alone.
 ///
 /// `AllocError` where a growth was refused: `bytes`, the break lines and the earliest kept position
-/// are as before, and the machine stands where the steps that were made led. A command that gives no
-/// answer, a blank line or QUIT, succeeds.
-#[tactic(auto, unfolding(crate::specs::Turn::debugger_state_after, crate::specs::Turn::answer, crate::specs::AfterRefusal::IsStateAfterRefusal))]
+/// are as before, and the machine stands where the steps that were made led. A command that gives
+/// no answer, a blank line or QUIT, succeeds.
+#[tactic(auto, unfolding(crate::proofs::Unfoldings::turns))]
 pub fn obey<S: SetBoard>(
     debugger: &mut Debugger<S>,
     command: Command,

@@ -32,7 +32,7 @@ fn entry_line(
 }
 
 /// The entry of an external event, and whether it waits or runs, or `ENTRY NONE`.
-#[tactic(auto, unfolding(crate::specs::Answer::entry_text), using(crate::proofs::Entries::waiting_class, crate::proofs::Entries::running_class))]
+#[tactic(auto, unfolding(crate::specs::Answer::entry_text), using(crate::proofs::Entries::class_of_entry))]
 pub fn entry_text<S: SetBoard>(alloc: Global, machine: &Machine<S>) -> Result<Vec<u8>, AllocError>
     ensures { IfOk result (λ text. text.items ≡ entry_text machine.now.input (position machine.now)) }
 {

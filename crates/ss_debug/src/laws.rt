@@ -1,6 +1,6 @@
 //! Laws on the definitions. Each function does nothing, and its contract says the law: that a
 //! movement has one end, and, proved by computing, what small command lines say.
-#![tactic(auto, unfolding(ss_words::specs::TextBytes::in_run, ss_words::specs::TextLines::without_empty_last, ss_words::specs::TextRuns::number_of, ss_words::specs::TextRuns::without_stops, crate::specs::CommandLines::command_words, crate::specs::CommandLines::command_lines, crate::specs::CommandLines::number_within, crate::specs::CommandLines::name_of, crate::specs::Command::command_in_words, crate::specs::Command::command_of))]
+#![tactic(auto, unfolding(crate::proofs::Unfoldings::command_lines_together))]
 
 ghost use Rattle.std.specs.Prelude.{◌≡◌, [], ◌∷◌, ◌++◌, ◌-◌, codes, replicate, pos, neg_ℤ, Some, None, ℕ, Bool, false, true, nat_eq};
 ghost use Rattle.ss_debug.specs.declared.commands.Command.TheVariants.{Blank, Bad, Move, Break, Clear, Forget, Show, Quit};
@@ -135,7 +135,8 @@ fn other_lines_are_bad()
 
 /// Two words behind SHOW of which the second is a number ask for an entity, whatever the first is.
 fn numbers_ask_for_entities()
-    ensures class { EachSays (Show (Entity (codes "JOB") (pos 7))) (codes "SHOW JOB 7" ∷ codes "show job.. 007\r" ∷ []) }
+    ensures class { EachSays (Show (Entity (codes "JOB") (pos 7)))
+        (codes "SHOW JOB 7" ∷ codes "show job.. 007\r" ∷ []) }
     ensures var { EachSays (Show (Entity (codes "VAR") (pos 5))) (codes "SHOW VAR 5" ∷ []) }
     ensures set { EachSays (Show (Entity (codes "SET") (pos 5))) (codes "SHOW SET 5" ∷ []) }
     ensures clock { EachSays (Show (Entity (codes "CLOCK") (pos 5))) (codes "SHOW CLOCK 5" ∷ []) }
@@ -174,8 +175,8 @@ fn back_ends_at_the_earliest_kept_position()
     ensures event { Moves (standing 3 3) (Move BackEvent) (standing 3 3) (codes "NOTHING KEPT") }
 {}
 
-/// Where BACK EVENT and BACK BREAK end, from position 5 with nothing kept before position 3, by where
-/// their test holds; what they look for is told before NOTHING KEPT, and that before BOUND.
+/// Where BACK EVENT and BACK BREAK end, from position 5 with nothing kept before position 3, by
+/// where their test holds; what they look for is told before NOTHING KEPT, and that before BOUND.
 fn a_search_back_ends_at_the_earliest_kept_position()
     ensures found { backward (λ q. nat_eq q 4) 3 5 1000000 ≡ 4 }
     ensures there { backward (λ q. nat_eq q 3) 3 5 1000000 ≡ 3 }

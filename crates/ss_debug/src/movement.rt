@@ -119,10 +119,11 @@ fn step_once<S: SetBoard>(machine: &mut Machine<S>) -> Result<bool, AllocError>
 }
 
 /// Steps to the least later position at which the condition is met or the status isn't ready,
-/// within the bound and not past the last position. Tells whether the last step, if there was one, was an event start.
+/// within the bound and not past the last position. Tells whether the last step, if there was one,
+/// was an event start.
 ///
 /// `AllocError` where a step was refused memory: the machine stands where the steps before it led.
-#[tactic(auto, using(crate::proofs::Moves::least_is, crate::proofs::Moves::least_at_least, crate::proofs::Moves::or_false_left))]
+#[tactic(auto, using(crate::proofs::Moves::least_steps))]
 pub fn advance<S: SetBoard>(
     machine: &mut Machine<S>,
     breaks: &BreakLines,
@@ -207,8 +208,9 @@ fn back_once<S: SetBoard>(machine: &mut Machine<S>) -> Option<bool>
     Some(is_event && machine.frames() < frames)
 }
 
-/// Steps back to the greatest earlier position whose next step is an event start, or to the earliest
-/// kept position, within the bound. Tells whether the next step is an event start where it then stands.
+/// Steps back to the greatest earlier position whose next step is an event start, or to the
+/// earliest kept position, within the bound. Tells whether the next step is an event start where it
+/// then stands.
 #[tactic(auto, using(crate::proofs::Moves::backward_is))]
 pub fn retreat_to_event<S: SetBoard>(machine: &mut Machine<S>, bound: u64) -> bool
     ensures place { IsAt machine.old.input machine.old.forgotten

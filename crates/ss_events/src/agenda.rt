@@ -345,8 +345,8 @@ impl<S: SetBoard> Agenda<S> {
     /// Makes a notice pending at a time, with its class's keys as they are now.
     ///
     /// A time before the clock (F9), a notice that is pending already (F10), and want of filing
-    /// numbers (F20) are refused, the first of these first (docs/LANGUAGE.md, "Run faults"), and then
-    /// want of memory. A refusal leaves all as it was.
+    /// numbers (F20) are refused, the first of these first (docs/LANGUAGE.md, "Run faults"), and
+    /// then want of memory. A refusal leaves all as it was.
     pub fn schedule(
         &mut self,
         notice: u32,

@@ -1,3 +1,4 @@
+pub mod Unfoldings
 mod Tally
 mod Form
 mod Law

@@ -70,20 +70,25 @@ spell_copula IsNot = mark (m.Reserved r.Is) ∷ mark (m.Reserved r.Not) ∷ []
 
 -- the plain words of a condition, and of each part of it
 abbrev mutual
+  -- a condition
   pub spell_condition : Condition → List Plain
   spell_condition (condition c cs) = spell_conjunction c ++ spell_alternatives cs
 
+  -- each behind an OR
   pub spell_alternatives : Alternatives → List Plain
   spell_alternatives no_alternatives = []
   spell_alternatives (alternative c cs) = mark (m.Reserved r.Or) ∷ (spell_conjunction c ++ spell_alternatives cs)
 
+  -- an alternative
   pub spell_conjunction : Conjunction → List Plain
   spell_conjunction (conjunction q qs) = spell_relation q ++ spell_additions qs
 
+  -- each behind an AND
   pub spell_additions : Additions → List Plain
   spell_additions no_additions = []
   spell_additions (addition q qs) = mark (m.Reserved r.And) ∷ (spell_relation q ++ spell_additions qs)
 
+  -- a relation
   pub spell_relation : Relation → List Plain
   spell_relation (compared e c f) = spell_expr e ++ spell_comparison c ∷ spell_expr f
   spell_relation (is_empty v c) = spell_reference v ++ spell_copula c ++ mark (m.Reserved r.Empty) ∷ []
@@ -101,20 +106,25 @@ depth_reference v = depth_subscript v.subscript
 
 -- in a condition, and in each part of it
 abbrev mutual
+  -- in a condition
   pub depth_condition : Condition → ℕ
   depth_condition (condition c cs) = max (depth_conjunction c) (depth_alternatives cs)
 
+  -- in the alternatives behind the first
   pub depth_alternatives : Alternatives → ℕ
   depth_alternatives no_alternatives = 0
   depth_alternatives (alternative c cs) = max (depth_conjunction c) (depth_alternatives cs)
 
+  -- in an alternative
   pub depth_conjunction : Conjunction → ℕ
   depth_conjunction (conjunction q qs) = max (depth_relation q) (depth_additions qs)
 
+  -- in the relations behind the first
   pub depth_additions : Additions → ℕ
   depth_additions no_additions = 0
   depth_additions (addition q qs) = max (depth_relation q) (depth_additions qs)
 
+  -- in a relation
   pub depth_relation : Relation → ℕ
   depth_relation (compared e c f) = max (depth_expr e) (depth_expr f)
   depth_relation (is_empty v c) = depth_reference v

@@ -59,20 +59,25 @@ in_number IsNot = 14
 
 -- the tokens of a part, before what follows
 abbrev mutual
+  -- a condition: its alternatives
   pub condition_tokens : Condition → List Token → List Token
   condition_tokens (condition c cs) k = (0, nothing) ∷ conjunction_tokens c (alternatives_tokens cs k)
 
+  -- the alternatives behind the first
   pub alternatives_tokens : Alternatives → List Token → List Token
   alternatives_tokens no_alternatives k = (1, nothing) ∷ k
   alternatives_tokens (alternative c cs) k = (2, nothing) ∷ conjunction_tokens c (alternatives_tokens cs k)
 
+  -- an alternative: its relations
   pub conjunction_tokens : Conjunction → List Token → List Token
   conjunction_tokens (conjunction r rs) k = (3, nothing) ∷ relation_tokens r (additions_tokens rs k)
 
+  -- the relations behind the first
   pub additions_tokens : Additions → List Token → List Token
   additions_tokens no_additions k = (15, nothing) ∷ k
   additions_tokens (addition r rs) k = (16, nothing) ∷ relation_tokens r (additions_tokens rs k)
 
+  -- a relation
   pub relation_tokens : Relation → List Token → List Token
   relation_tokens (nested c) k = (4, nothing) ∷ condition_tokens c k
   relation_tokens (compared e c f) k = (comparison_number c, ((e, f), ([], None))) ∷ k
@@ -157,11 +162,13 @@ comparison_again e f Greater st = refl
 comparison_again e f AtMost st = refl
 comparison_again e f AtLeast st = refl
 
+-- one of IS EMPTY and IS NOT EMPTY
 pub empty_again : (v : Reference) (c : Copula) (st : List Part) →
     token_read (empty_number c) ((no_value, no_value), (v.name, v.subscript)) st ≡ a_relation (is_empty v c) ∷ st
 empty_again v Is st = refl
 empty_again v IsNot st = refl
 
+-- one of IS IN and IS NOT IN
 pub in_again : (e : Expr) (v : Reference) (c : Copula) (st : List Part) →
     token_read (in_number c) ((e, no_value), (v.name, v.subscript)) st ≡ a_relation (is_in e c v) ∷ st
 in_again e v Is st = refl
@@ -205,6 +212,7 @@ stored c = condition_tokens c []
 abbrev pub restored : List Token → Condition
 restored ws = first_condition (parts ws)
 
+-- a condition comes back from its tokens
 pub restored_stored : (c : Condition) → restored (stored c) ≡ c
 restored_stored c = ap first_condition (condition_again c [])
 

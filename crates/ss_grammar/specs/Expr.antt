@@ -55,53 +55,64 @@ spell_within ws = mark (m.Sign s.Open) ∷ (ws ++ mark (m.Sign s.Close) ∷ [])
 
 -- the plain words of each part
 abbrev mutual
+  -- an expression
   pub spell_expr : Expr → List Plain
   spell_expr (expr l t ss) = spell_lead l ++ spell_term t ++ spell_sums ss
 
+  -- each term behind its sign
   pub spell_sums : Sums → List Plain
   spell_sums no_sums = []
   spell_sums (sum b t ss) = sign b ∷ (spell_term t ++ spell_sums ss)
 
+  -- a term
   pub spell_term : Term → List Plain
   spell_term (term f ps) = spell_factor f ++ spell_products ps
 
+  -- each factor behind a star
   pub spell_products : Products → List Plain
   spell_products no_products = []
   spell_products (product f ps) = mark (m.Sign s.Star) ∷ (spell_factor f ++ spell_products ps)
 
+  -- a factor
   pub spell_factor : Factor → List Plain
   spell_factor (digits n) = number n ∷ []
   spell_factor (named n) = name n ∷ []
   spell_factor (applied n e es) = name n ∷ spell_within (spell_expr e ++ spell_exprs es)
   spell_factor (within e) = spell_within (spell_expr e)
 
-  -- each behind a comma
+  -- each argument behind a comma
   pub spell_exprs : Exprs → List Plain
   spell_exprs no_exprs = []
   spell_exprs (exprs e es) = mark (m.Sign s.Comma) ∷ (spell_expr e ++ spell_exprs es)
 
 -- the greatest number of parentheses open at once
 abbrev mutual
+  -- in an expression
   pub depth_expr : Expr → ℕ
   depth_expr (expr l t ss) = max (depth_term t) (depth_sums ss)
 
+  -- in the terms behind the first
   pub depth_sums : Sums → ℕ
   depth_sums no_sums = 0
   depth_sums (sum b t ss) = max (depth_term t) (depth_sums ss)
 
+  -- in a term
   pub depth_term : Term → ℕ
   depth_term (term f ps) = max (depth_factor f) (depth_products ps)
 
+  -- in the factors behind the first
   pub depth_products : Products → ℕ
   depth_products no_products = 0
   depth_products (product f ps) = max (depth_factor f) (depth_products ps)
 
+  -- in a factor
   pub depth_factor : Factor → ℕ
   depth_factor (digits n) = 0
   depth_factor (named n) = 0
   depth_factor (applied n e es) = suc (max (depth_expr e) (depth_exprs es))
   depth_factor (within e) = suc (depth_expr e)
 
+  -- in the arguments behind the first
   pub depth_exprs : Exprs → ℕ
   depth_exprs no_exprs = 0
   depth_exprs (exprs e es) = max (depth_expr e) (depth_exprs es)

@@ -40,26 +40,32 @@ sign_token Minus = (2, (1, []))
 
 -- the tokens of a part, before what follows
 abbrev mutual
+  -- an expression: the sign at its head, and its terms
   pub expr_tokens : Expr → List Token → List Token
   expr_tokens (expr l t ss) k = lead_token l ∷ term_tokens t (sums_tokens ss k)
 
+  -- the terms behind the first, each behind its sign
   pub sums_tokens : Sums → List Token → List Token
   sums_tokens no_sums k = plain 1 ∷ k
   sums_tokens (sum s t ss) k = sign_token s ∷ term_tokens t (sums_tokens ss k)
 
+  -- a term: its factors
   pub term_tokens : Term → List Token → List Token
   term_tokens (term f ps) k = plain 3 ∷ factor_tokens f (products_tokens ps k)
 
+  -- the factors behind the first
   pub products_tokens : Products → List Token → List Token
   products_tokens no_products k = plain 4 ∷ k
   products_tokens (product f ps) k = plain 5 ∷ factor_tokens f (products_tokens ps k)
 
+  -- a factor: its kind, and what belongs to it
   pub factor_tokens : Factor → List Token → List Token
   factor_tokens (digits n) k = (6, (n, [])) ∷ k
   factor_tokens (named v) k = (7, (0, v)) ∷ k
   factor_tokens (applied v e es) k = (8, (0, v)) ∷ expr_tokens e (exprs_tokens es k)
   factor_tokens (within e) k = plain 9 ∷ expr_tokens e k
 
+  -- the arguments behind the first
   pub exprs_tokens : Exprs → List Token → List Token
   exprs_tokens no_exprs k = plain 10 ∷ k
   exprs_tokens (exprs e es) k = plain 11 ∷ expr_tokens e (exprs_tokens es k)
@@ -139,12 +145,14 @@ first_expr st = expr None (term (digits 0) no_products) no_sums
 abbrev pub behind : Token → List Part → List Part
 behind w st = token_read w.0 w.1.0 w.1.1 st
 
+-- the token of an expression is read back
 pub lead_again : (l : Option TermSign) (t : Term) (ss : Sums) (st : List Part) →
     behind (lead_token l) (a_term t ∷ some_sums ss ∷ st) ≡ an_expr (expr l t ss) ∷ st
 lead_again None t ss st = refl
 lead_again (Some Plus) t ss st = refl
 lead_again (Some Minus) t ss st = refl
 
+-- one of a further term
 pub sign_again : (s : TermSign) (t : Term) (ss : Sums) (st : List Part) →
     behind (sign_token s) (a_term t ∷ some_sums ss ∷ st) ≡ some_sums (sum s t ss) ∷ st
 sign_again Plus t ss st = refl
@@ -192,6 +200,7 @@ stored e = expr_tokens e []
 abbrev pub restored : List Token → Expr
 restored ws = first_expr (parts ws)
 
+-- an expression comes back from its tokens
 pub restored_stored : (e : Expr) → restored (stored e) ≡ e
 restored_stored e = ap first_expr (expr_again e [])
 

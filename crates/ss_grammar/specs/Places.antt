@@ -26,19 +26,27 @@ pub data Place : Type 0 where
   Loops : Loop → Place
   EndOfSection : Place
 
--- a place and the line of its first plain word
+-- a place, and where it stands
 pub record Spot : Type 0 where
+  -- the line of its first plain word
   pub line : ℕ
+  -- the place
   pub place : Place
 
--- the names of a local DEFINE and the line of its first plain word
+-- a local DEFINE
 pub record LocalNames : Type 0 where
+  -- the line of its first plain word
   pub line : ℕ
+  -- the names that it gives
   pub names : Several Name
 
--- the line of the head's first plain word, the head, the local DEFINEs, and the places, of which END is the last
+-- a section
 pub record Section : Type 0 where
+  -- the line of the head's first plain word
   pub line : ℕ
+  -- the head
   pub head : Head
+  -- the local DEFINEs
   pub locals : List LocalNames
+  -- the places, of which END is the last
   pub places : List Spot

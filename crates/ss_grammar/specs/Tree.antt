@@ -51,10 +51,13 @@ pub data Head : Type 0 where
   RoutineHead : Name → Listing Name → List Name → Head
   EventHead : Name → Listing Name → Bool → Head
 
--- a section: its head, the names of its local DEFINEs, and its statements
+-- a section
 pub record SectionTree : Type 0 where
+  -- its head
   pub head : Head
+  -- the names of its local DEFINEs
   pub locals : List (Several Name)
+  -- its statements
   pub block : Block
 
 -- the sections of a program, in order
@@ -65,24 +68,29 @@ Tree = List SectionTree
 
 -- statements, and each part of them
 abbrev mutual
+  -- statements
   pub spell_block : Block → List Plain
   spell_block no_statements = []
   spell_block (statement t b) = spell_statement t ++ spell_block b
 
+  -- a statement
   pub spell_statement : Statement → List Plain
   spell_statement (alone o) = spell_one o
   spell_statement (loop f c) = spell_phrase f ++ spell_controlled c
 
+  -- a statement that is no loop
   pub spell_one : One → List Plain
   spell_one (simple a) = spell_simple a
   spell_one (branch q b e) =
       mark (m.Reserved r.If) ∷ (spell_question q ++ spell_block b ++ spell_otherwise e ++ mark
       (m.Reserved r.Always) ∷ [])
 
+  -- ELSE and its statements, or nothing
   pub spell_otherwise : Otherwise → List Plain
   spell_otherwise no_else = []
   spell_otherwise (else_with b) = mark (m.Reserved r.Else) ∷ spell_block b
 
+  -- what a FOR phrase controls
   pub spell_controlled : Controlled → List Plain
   spell_controlled (further f c) = spell_phrase f ++ spell_controlled c
   spell_controlled (repeated b) = mark (m.Reserved r.Do) ∷ (spell_block b ++ mark (m.Reserved r.Loop) ∷ [])
@@ -122,22 +130,27 @@ spell ts = flat_map spell_section ts
 
 -- in statements, and in each part of them
 abbrev mutual
+  -- in statements
   pub depth_block : Block → ℕ
   depth_block no_statements = 0
   depth_block (statement t b) = max (depth_statement t) (depth_block b)
 
+  -- in a statement
   pub depth_statement : Statement → ℕ
   depth_statement (alone o) = depth_one o
   depth_statement (loop f c) = max (depth_phrase f) (depth_controlled c)
 
+  -- in a statement that is no loop
   pub depth_one : One → ℕ
   depth_one (simple a) = depth_simple a
   depth_one (branch q b e) = max (depth_question q) (max (depth_block b) (depth_otherwise e))
 
+  -- behind ELSE
   pub depth_otherwise : Otherwise → ℕ
   depth_otherwise no_else = 0
   depth_otherwise (else_with b) = depth_block b
 
+  -- in what a FOR phrase controls
   pub depth_controlled : Controlled → ℕ
   depth_controlled (further f c) = max (depth_phrase f) (depth_controlled c)
   depth_controlled (repeated b) = depth_block b
@@ -163,22 +176,27 @@ depth ts = greatest depth_section ts
 
 -- in statements, and in each part of them
 abbrev mutual
+  -- in statements
   pub ifs_block : Block → ℕ
   ifs_block no_statements = 0
   ifs_block (statement t b) = max (ifs_statement t) (ifs_block b)
 
+  -- in a statement
   pub ifs_statement : Statement → ℕ
   ifs_statement (alone o) = ifs_one o
   ifs_statement (loop f c) = ifs_controlled c
 
+  -- in a statement that is no loop
   pub ifs_one : One → ℕ
   ifs_one (simple a) = 0
   ifs_one (branch q b e) = suc (max (ifs_block b) (ifs_otherwise e))
 
+  -- behind ELSE
   pub ifs_otherwise : Otherwise → ℕ
   ifs_otherwise no_else = 0
   ifs_otherwise (else_with b) = ifs_block b
 
+  -- in what a FOR phrase controls
   pub ifs_controlled : Controlled → ℕ
   ifs_controlled (further f c) = ifs_controlled c
   ifs_controlled (repeated b) = ifs_block b
@@ -194,22 +212,27 @@ ifs ts = greatest (λ t. ifs_block t.block) ts
 
 -- in statements, and in each part of them
 abbrev mutual
+  -- in statements
   pub phrases_block : Block → ℕ
   phrases_block no_statements = 0
   phrases_block (statement t b) = max (phrases_statement t) (phrases_block b)
 
+  -- in a statement
   pub phrases_statement : Statement → ℕ
   phrases_statement (alone o) = phrases_one o
   phrases_statement (loop f c) = suc (phrases_controlled c)
 
+  -- in a statement that is no loop
   pub phrases_one : One → ℕ
   phrases_one (simple a) = 0
   phrases_one (branch q b e) = max (phrases_block b) (phrases_otherwise e)
 
+  -- behind ELSE
   pub phrases_otherwise : Otherwise → ℕ
   phrases_otherwise no_else = 0
   phrases_otherwise (else_with b) = phrases_block b
 
+  -- in what a FOR phrase controls
   pub phrases_controlled : Controlled → ℕ
   phrases_controlled (further f c) = suc (phrases_controlled c)
   phrases_controlled (repeated b) = phrases_block b

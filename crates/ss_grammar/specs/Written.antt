@@ -19,14 +19,17 @@ module _ (lines : List ℕ) where
 
   -- the places of statements, and of each part of them
   abbrev mutual
+    -- statements
     pub flat_block : ℕ → Block → List Spot
     flat_block k no_statements = []
     flat_block k (statement t b) = flat_statement k t ++ flat_block (k + length (spell_statement t)) b
 
+    -- a statement
     pub flat_statement : ℕ → Statement → List Spot
     flat_statement k (alone o) = flat_one k o
     flat_statement k (loop f c) = flat_loop k f (k + length (spell_phrase f)) c
 
+    -- a statement that is no loop
     pub flat_one : ℕ → One → List Spot
     flat_one k (simple a) = spot k (Simply a) ∷ []
     flat_one k (branch q b e) =
@@ -35,6 +38,7 @@ module _ (lines : List ℕ) where
         spot k (Branches (If q)) ∷ (flat_block i b ++ flat_otherwise j e ++ spot (j + length (spell_otherwise e))
         (Branches Always) ∷ [])
 
+    -- ELSE and its statements, or nothing
     pub flat_otherwise : ℕ → Otherwise → List Spot
     flat_otherwise k no_else = []
     flat_otherwise k (else_with b) = spot k (Branches Else) ∷ flat_block (k + 1) b

@@ -21,7 +21,7 @@ pub fn subscript(cursor: &mut Cursor<'_>, room: u32) -> Result<Option<Expr>, Ref
 }
 
 /// `reference = name ["(" expression ")"]`
-#[tactic(auto, unfolding(ss_words::specs::Reading::bind, ss_words::specs::Reading::pure, crate::specs::Combined::made, crate::specs::Combined::pair, crate::specs::SimpleReading::reference_at))]
+#[tactic(auto, unfolding(crate::proofs::Unfoldings::in_turn, crate::specs::SimpleReading::reference_at))]
 pub fn reference(cursor: &mut Cursor<'_>, room: u32) -> Result<Reference, Refusal>
     ensures exact { Gives reference_view result cursor.new (reading.reference_at room cursor.old) }
     ensures shorter { length cursor.new ≤ length cursor.old }
@@ -32,7 +32,7 @@ pub fn reference(cursor: &mut Cursor<'_>, room: u32) -> Result<Reference, Refusa
 }
 
 /// `[CALLED reference]`
-#[tactic(auto, unfolding(ss_words::specs::Reading::bind, ss_words::specs::Reading::pure, crate::specs::Combined::if_mark, crate::specs::SimpleReading::called_at))]
+#[tactic(auto, unfolding(crate::proofs::Unfoldings::choices, crate::specs::SimpleReading::called_at))]
 pub fn called(cursor: &mut Cursor<'_>, room: u32) -> Result<Option<Reference>, Refusal>
     ensures exact { Gives (option_view reference_view) result cursor.new (reading.called_at room cursor.old) }
     ensures shorter { length cursor.new ≤ length cursor.old }
@@ -44,7 +44,7 @@ pub fn called(cursor: &mut Cursor<'_>, room: u32) -> Result<Option<Reference>, R
 }
 
 /// `name [CALLED reference]`
-#[tactic(auto, unfolding(ss_words::specs::Reading::bind, ss_words::specs::Reading::pure, crate::specs::Combined::pair, crate::specs::SimpleReading::named_at))]
+#[tactic(auto, unfolding(crate::proofs::Unfoldings::in_turn, crate::specs::SimpleReading::named_at))]
 pub fn named(cursor: &mut Cursor<'_>, room: u32) -> Result<(Vec<u8>, Option<Reference>), Refusal>
     ensures exact { Gives named_view result cursor.new (reading.named_at room cursor.old) }
     ensures shorter { length cursor.new ≤ length cursor.old }
@@ -55,7 +55,7 @@ pub fn named(cursor: &mut Cursor<'_>, room: u32) -> Result<(Vec<u8>, Option<Refe
 }
 
 /// `reference "=" expression`
-#[tactic(auto, unfolding(ss_words::specs::Reading::bind, ss_words::specs::Reading::pure, crate::specs::Combined::pair, crate::specs::Combined::before, crate::specs::SimpleReading::equation_at))]
+#[tactic(auto, unfolding(crate::proofs::Unfoldings::in_turn, crate::specs::SimpleReading::equation_at))]
 fn equation(cursor: &mut Cursor<'_>, room: u32) -> Result<(Reference, Expr), Refusal>
     ensures exact { Gives equation_view result cursor.new (reading.equation_at room cursor.old) }
     ensures shorter { length cursor.new ≤ length cursor.old }
@@ -67,7 +67,7 @@ fn equation(cursor: &mut Cursor<'_>, room: u32) -> Result<(Reference, Expr), Ref
 }
 
 /// `expression mark reference`
-#[tactic(auto, unfolding(ss_words::specs::Reading::bind, ss_words::specs::Reading::pure, crate::specs::Combined::pair, crate::specs::Combined::before, crate::specs::SimpleReading::moved_at))]
+#[tactic(auto, unfolding(crate::proofs::Unfoldings::in_turn, crate::specs::SimpleReading::moved_at))]
 pub fn moved(cursor: &mut Cursor<'_>, mark: Mark, room: u32) -> Result<(Expr, Reference), Refusal>
     ensures exact { Gives moved_view result cursor.new (reading.moved_at room mark cursor.old) }
     ensures shorter { length cursor.new ≤ length cursor.old }
@@ -79,7 +79,7 @@ pub fn moved(cursor: &mut Cursor<'_>, mark: Mark, room: u32) -> Result<(Expr, Re
 }
 
 /// CREATE EVERY, CREATE or DESTROY, if one stands here.
-#[tactic(auto, unfolding(ss_words::specs::Reading::bind, ss_words::specs::Reading::pure, crate::specs::Combined::pair, crate::specs::Combined::if_mark, crate::specs::Combined::either, crate::specs::Combined::either_of, crate::specs::Combined::made_of, crate::specs::SimpleReading::making_at))]
+#[tactic(auto, unfolding(crate::proofs::Unfoldings::choices, crate::specs::SimpleReading::making_at))]
 pub fn making(cursor: &mut Cursor<'_>, room: u32) -> Result<Option<Making>, Refusal>
     ensures exact { Gives (option_view making_view) result cursor.new (reading.making_at room cursor.old) }
     ensures shorter { length cursor.new ≤ length cursor.old }
@@ -102,7 +102,7 @@ pub fn making(cursor: &mut Cursor<'_>, room: u32) -> Result<Option<Making>, Refu
 }
 
 /// The name that stands here, if one does.
-#[tactic(auto, unfolding(ss_words::specs::Reading::look, ss_words::specs::Reading::skip, ss_words::specs::Reading::pure, ss_words::specs::Reading::refuse, ss_words::specs::Marks::a_name, crate::specs::Combined::by_table))]
+#[tactic(auto, unfolding(crate::proofs::Unfoldings::steps_by_table, ss_words::specs::Marks::a_name))]
 fn bare_name(cursor: &mut Cursor<'_>) -> Result<Option<Vec<u8>>, Refusal>
     ensures exact { Gives (option_view (λ v. v.items)) result cursor.new (by_table reading.name_of cursor.old) }
     ensures shorter { length cursor.new ≤ length cursor.old }
@@ -115,7 +115,7 @@ fn bare_name(cursor: &mut Cursor<'_>) -> Result<Option<Vec<u8>>, Refusal>
 }
 
 /// LET, ADD, SUBTRACT or an assignment without LET, if one stands here.
-#[tactic(auto, unfolding(ss_words::specs::Reading::bind, ss_words::specs::Reading::pure, crate::specs::Combined::pair, crate::specs::Combined::before, crate::specs::Combined::if_mark, crate::specs::Combined::if_word, crate::specs::Combined::either_of, crate::specs::Combined::made_of, crate::specs::SimpleReading::assign_at))]
+#[tactic(auto, unfolding(crate::proofs::Unfoldings::choices, crate::specs::SimpleReading::assign_at))]
 pub fn assignment(cursor: &mut Cursor<'_>, room: u32) -> Result<Option<Assign>, Refusal>
     ensures exact { Gives (option_view assign_view) result cursor.new (reading.assign_at room cursor.old) }
     ensures shorter { length cursor.new ≤ length cursor.old }

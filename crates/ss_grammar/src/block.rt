@@ -58,7 +58,7 @@ pub fn block(
 
 /// Pushes the places of a statement, if one begins here.
 #[cycle(statements)]
-#[tactic(auto, unfolding(ss_words::specs::Reading::bind, ss_words::specs::Reading::pure, crate::specs::PlacesAtLines::noting_statement))]
+#[tactic(auto, unfolding(crate::proofs::Unfoldings::steps, crate::specs::PlacesAtLines::noting_statement))]
 fn statement(
     cursor: &mut Cursor<'_>,
     text: &[PlainWord],
@@ -82,7 +82,7 @@ fn statement(
 
 /// Pushes the places of a statement that is no loop, if one begins here.
 #[cycle(statements)]
-#[tactic(auto, using(crate::proofs::Pushed::pushed), unfolding(ss_words::specs::Reading::bind, ss_words::specs::Reading::pure, ss_words::specs::Noting::here, crate::specs::PlacesAtLines::noting_one))]
+#[tactic(auto, using(crate::proofs::Pushed::pushed), unfolding(crate::proofs::Unfoldings::notes))]
 fn one(
     cursor: &mut Cursor<'_>,
     text: &[PlainWord],
@@ -135,7 +135,7 @@ fn branch(
 
 /// `question {statement} [ELSE {statement}] ALWAYS`, behind an IF in this line.
 #[cycle(statements)]
-#[tactic(auto, using(crate::proofs::Pushed::pushed), unfolding(ss_words::specs::Reading::bind, ss_words::specs::Reading::pure, ss_words::specs::Noting::here, crate::specs::PlacesAtLines::noting_branch))]
+#[tactic(auto, using(crate::proofs::Pushed::pushed), unfolding(crate::proofs::Unfoldings::notes))]
 fn behind_if(
     cursor: &mut Cursor<'_>,
     text: &[PlainWord],
@@ -163,7 +163,7 @@ fn behind_if(
 
 /// `[ELSE {statement}]`
 #[cycle(statements)]
-#[tactic(auto, using(crate::proofs::Pushed::pushed), unfolding(ss_words::specs::Reading::bind, ss_words::specs::Reading::pure, ss_words::specs::Noting::here, crate::specs::PlacesAtLines::noting_else))]
+#[tactic(auto, using(crate::proofs::Pushed::pushed), unfolding(crate::proofs::Unfoldings::notes))]
 fn otherwise(
     cursor: &mut Cursor<'_>,
     text: &[PlainWord],
@@ -215,7 +215,7 @@ fn for_loop(
 
 /// What stands behind a phrase, whose FOR stands in this line.
 #[cycle(statements)]
-#[tactic(auto, using(crate::proofs::Pushed::pushed), unfolding(ss_words::specs::Reading::bind, ss_words::specs::Reading::pure, ss_words::specs::Noting::here, crate::specs::PlacesAtLines::noting_controlled))]
+#[tactic(auto, using(crate::proofs::Pushed::pushed), unfolding(crate::proofs::Unfoldings::notes))]
 fn controlled(
     cursor: &mut Cursor<'_>,
     text: &[PlainWord],
@@ -246,7 +246,7 @@ fn controlled(
 
 /// `{statement} LOOP`, behind DO.
 #[cycle(statements)]
-#[tactic(auto, using(crate::proofs::Pushed::pushed), unfolding(ss_words::specs::Reading::bind, ss_words::specs::Reading::pure, ss_words::specs::Noting::here, crate::specs::PlacesAtLines::noting_repeated))]
+#[tactic(auto, using(crate::proofs::Pushed::pushed), unfolding(crate::proofs::Unfoldings::notes))]
 fn repeated(
     cursor: &mut Cursor<'_>,
     text: &[PlainWord],
@@ -271,7 +271,7 @@ fn repeated(
 
 /// `FIND FIRST CASE`, a COMPUTE, or one statement that is no loop.
 #[cycle(statements)]
-#[tactic(auto, using(crate::proofs::Pushed::pushed), unfolding(ss_words::specs::Reading::bind, ss_words::specs::Reading::pure, ss_words::specs::Reading::refuse, ss_words::specs::Noting::here, crate::specs::PlacesAtLines::noting_last, crate::specs::PlacesAtLines::noting_must))]
+#[tactic(auto, using(crate::proofs::Pushed::pushed), unfolding(crate::proofs::Unfoldings::notes))]
 fn last(
     cursor: &mut Cursor<'_>,
     text: &[PlainWord],

@@ -17,7 +17,7 @@ use crate::place::{Computed, Statistic};
 use ss_words::{Cursor, Mark, Plain, Refusal, Reserved, Several, Sign};
 
 /// The targets and the expression of a COMPUTE, behind COMPUTE.
-#[tactic(auto, unfolding(ss_words::specs::Reading::bind, ss_words::specs::Reading::pure, crate::specs::Combined::pair, crate::specs::Combined::before, crate::specs::LoopReading::compute_at))]
+#[tactic(auto, unfolding(crate::proofs::Unfoldings::in_turn, crate::specs::LoopReading::compute_at))]
 pub fn compute(cursor: &mut Cursor<'_>, room: u32) -> Result<(Several<Computed>, Expr), Refusal>
     ensures exact { Gives compute_view result cursor.new (reading.compute_at room cursor.old) }
     ensures shorter { length cursor.new ≤ length cursor.old }
@@ -29,7 +29,7 @@ pub fn compute(cursor: &mut Cursor<'_>, room: u32) -> Result<(Several<Computed>,
 }
 
 /// `computed {"," computed}`
-#[tactic(auto, unfolding(ss_words::specs::Reading::bind, ss_words::specs::Reading::pure, crate::specs::Combined::made, crate::specs::Combined::pair, crate::specs::Combined::several))]
+#[tactic(auto, unfolding(crate::proofs::Unfoldings::in_turn, crate::specs::Combined::several))]
 fn several_computed(cursor: &mut Cursor<'_>, room: u32) -> Result<Several<Computed>, Refusal>
     ensures exact { Gives several_computed_view result cursor.new (several (reading.computed_at room) cursor.old) }
     ensures shorter { length cursor.new ≤ length cursor.old }
@@ -53,7 +53,7 @@ fn other_computed(cursor: &mut Cursor<'_>, room: u32) -> Result<Vec<Computed>, R
 }
 
 /// A comma and a target with its statistic, or none.
-#[tactic(auto, unfolding(ss_words::specs::Reading::bind, ss_words::specs::Reading::pure, crate::specs::Combined::if_mark))]
+#[tactic(auto, unfolding(crate::proofs::Unfoldings::steps, crate::specs::Combined::if_mark))]
 fn next_computed(cursor: &mut Cursor<'_>, room: u32) -> Result<Option<Computed>, Refusal>
     ensures exact { Gives (option_view computed_view) result cursor.new
         (if_mark (m.Sign s.Comma) (reading.computed_at room) cursor.old) }
@@ -67,7 +67,7 @@ fn next_computed(cursor: &mut Cursor<'_>, room: u32) -> Result<Option<Computed>,
 }
 
 /// `computed = reference AS (NUMBER | SUM | MAXIMUM | MINIMUM)`
-#[tactic(auto, unfolding(ss_words::specs::Reading::bind, ss_words::specs::Reading::pure, ss_words::specs::Reading::refuse, crate::specs::Combined::made, crate::specs::Combined::pair, crate::specs::Combined::before, crate::specs::Combined::must, crate::specs::LoopReading::computed_at))]
+#[tactic(auto, unfolding(crate::proofs::Unfoldings::choices, crate::specs::LoopReading::computed_at))]
 fn computed(cursor: &mut Cursor<'_>, room: u32) -> Result<Computed, Refusal>
     ensures exact { Gives computed_view result cursor.new (reading.computed_at room cursor.old) }
     ensures shorter { length cursor.new ≤ length cursor.old }
@@ -81,7 +81,7 @@ fn computed(cursor: &mut Cursor<'_>, room: u32) -> Result<Computed, Refusal>
 }
 
 /// The statistic that stands here, if one does.
-#[tactic(auto, unfolding(ss_words::specs::Reading::look, ss_words::specs::Reading::skip, ss_words::specs::Reading::pure, crate::specs::Combined::by_table))]
+#[tactic(auto, unfolding(crate::proofs::Unfoldings::steps_by_table))]
 fn statistic(cursor: &mut Cursor<'_>) -> Option<Statistic>
     ensures exact { by_table reading.statistic_of cursor.old ≡ (Ok result, cursor.new) }
     ensures shorter { length cursor.new ≤ length cursor.old }

@@ -28,7 +28,7 @@ enum OrValue<T> {
 }
 
 /// Reads a condition in which at most so many parentheses may be open at once.
-#[tactic(auto, unfolding(ss_words::specs::Reading::bind, ss_words::specs::Reading::pure, ss_words::specs::Reading::refuse, crate::specs::ConditionReading::condition_at))]
+#[tactic(auto, unfolding(crate::proofs::Unfoldings::steps, crate::specs::ConditionReading::condition_at))]
 pub fn condition(cursor: &mut Cursor<'_>, room: u32) -> Result<Condition, Refusal>
     ensures exact { Gives condition_view result cursor.new (reading.condition_at room cursor.old) }
     ensures shorter { length cursor.new ≤ length cursor.old }
@@ -48,7 +48,7 @@ fn value_or_condition(cursor: &mut Cursor<'_>, room: u32) -> Result<OrValue<Cond
 }
 
 /// The comparison that stands here, if one does.
-#[tactic(auto, unfolding(ss_words::specs::Reading::look, ss_words::specs::Reading::skip, ss_words::specs::Reading::pure, crate::specs::Combined::by_table))]
+#[tactic(auto, unfolding(crate::proofs::Unfoldings::steps_by_table))]
 fn comparison(cursor: &mut Cursor<'_>) -> Option<Comparison>
     ensures exact { by_table reading.comparison_of cursor.old ≡ (Ok result, cursor.new) }
     ensures shorter { length cursor.new ≤ length cursor.old }
@@ -68,7 +68,7 @@ fn comparison(cursor: &mut Cursor<'_>) -> Option<Comparison>
 }
 
 /// `[NOT]`, behind IS.
-#[tactic(auto, unfolding(ss_words::specs::Reading::bind, ss_words::specs::Reading::pure, crate::specs::ConditionReading::copula))]
+#[tactic(auto, unfolding(crate::proofs::Unfoldings::steps, crate::specs::ConditionReading::copula))]
 fn copula(cursor: &mut Cursor<'_>) -> Copula
     ensures exact { reading.copula cursor.old ≡ (Ok result, cursor.new) }
     ensures shorter { length cursor.new ≤ length cursor.old }
@@ -130,7 +130,7 @@ fn factor_as_reference(factor: Factor) -> Option<Reference>
 }
 
 /// Behind a value and `IS [NOT]`: `IN reference`, or EMPTY where the value is a reference.
-#[tactic(auto, unfolding(ss_words::specs::Reading::bind, ss_words::specs::Reading::pure, ss_words::specs::Reading::refuse, crate::specs::ConditionReading::set_with))]
+#[tactic(auto, unfolding(crate::proofs::Unfoldings::steps, crate::specs::ConditionReading::set_with))]
 fn of_set(
     cursor: &mut Cursor<'_>,
     value: Expr,
@@ -156,7 +156,7 @@ fn of_set(
 }
 
 /// Behind a value: a comparison and a value, IS, or nothing of a relation.
-#[tactic(auto, unfolding(ss_words::specs::Reading::bind, ss_words::specs::Reading::pure, crate::specs::ConditionReading::behind_value))]
+#[tactic(auto, unfolding(crate::proofs::Unfoldings::steps, crate::specs::ConditionReading::behind_value))]
 fn behind_value(
     cursor: &mut Cursor<'_>,
     value: Expr,
@@ -183,7 +183,7 @@ fn behind_value(
 
 /// An expression or a condition.
 #[cycle(conditions)]
-#[tactic(auto, unfolding(ss_words::specs::Reading::bind, ss_words::specs::Reading::pure, crate::specs::ConditionReading::either_with))]
+#[tactic(auto, unfolding(crate::proofs::Unfoldings::steps, crate::specs::ConditionReading::either_with))]
 fn either(cursor: &mut Cursor<'_>, room: u32) -> Result<OrValue<Condition>, Refusal>
     ensures exact { Gives (or_value_view condition_view) result cursor.new
         (reading.either_with room (reading.inner_either room) cursor.old) }
@@ -214,7 +214,7 @@ fn alternatives(cursor: &mut Cursor<'_>, room: u32) -> Result<Vec<Conjunction>, 
 
 /// OR and a conjunction, or none.
 #[cycle(conditions)]
-#[tactic(auto, unfolding(ss_words::specs::Reading::bind, ss_words::specs::Reading::pure, crate::specs::Combined::if_mark))]
+#[tactic(auto, unfolding(crate::proofs::Unfoldings::steps, crate::specs::Combined::if_mark))]
 fn next_conjunction(cursor: &mut Cursor<'_>, room: u32) -> Result<Option<Conjunction>, Refusal>
     ensures exact { Gives (option_view conjunction_view) result cursor.new
         (if_mark (m.Reserved r.Or) (reading.conjunction_with room (reading.inner_either room)) cursor.old) }
@@ -229,7 +229,7 @@ fn next_conjunction(cursor: &mut Cursor<'_>, room: u32) -> Result<Option<Conjunc
 
 /// `conjunction = relation {AND relation}`
 #[cycle(conditions)]
-#[tactic(auto, unfolding(ss_words::specs::Reading::bind, ss_words::specs::Reading::pure, ss_words::specs::Reading::refuse, crate::specs::ConditionReading::conjunction_with))]
+#[tactic(auto, unfolding(crate::proofs::Unfoldings::steps, crate::specs::ConditionReading::conjunction_with))]
 fn conjunction(cursor: &mut Cursor<'_>, room: u32) -> Result<Conjunction, Refusal>
     ensures exact { Gives conjunction_view result cursor.new
         (reading.conjunction_with room (reading.inner_either room) cursor.old) }
@@ -243,7 +243,7 @@ fn conjunction(cursor: &mut Cursor<'_>, room: u32) -> Result<Conjunction, Refusa
 
 /// An expression or a conjunction.
 #[cycle(conditions)]
-#[tactic(auto, unfolding(ss_words::specs::Reading::bind, ss_words::specs::Reading::pure, crate::specs::ConditionReading::conjoined_with))]
+#[tactic(auto, unfolding(crate::proofs::Unfoldings::steps, crate::specs::ConditionReading::conjoined_with))]
 fn conjoined(cursor: &mut Cursor<'_>, room: u32) -> Result<OrValue<Conjunction>, Refusal>
     ensures exact { Gives (or_value_view conjunction_view) result cursor.new
         (reading.conjoined_with room (reading.inner_either room) cursor.old) }
@@ -274,7 +274,7 @@ fn additions(cursor: &mut Cursor<'_>, room: u32) -> Result<Vec<Relation>, Refusa
 
 /// AND and a relation, or none.
 #[cycle(conditions)]
-#[tactic(auto, unfolding(ss_words::specs::Reading::bind, ss_words::specs::Reading::pure, crate::specs::Combined::if_mark))]
+#[tactic(auto, unfolding(crate::proofs::Unfoldings::steps, crate::specs::Combined::if_mark))]
 fn next_relation(cursor: &mut Cursor<'_>, room: u32) -> Result<Option<Relation>, Refusal>
     ensures exact { Gives (option_view relation_view) result cursor.new
         (if_mark (m.Reserved r.And) (reading.relation_with room (reading.inner_either room)) cursor.old) }
@@ -289,7 +289,7 @@ fn next_relation(cursor: &mut Cursor<'_>, room: u32) -> Result<Option<Relation>,
 
 /// A comparison, a question on a set, or a condition in parentheses.
 #[cycle(conditions)]
-#[tactic(auto, unfolding(ss_words::specs::Reading::bind, ss_words::specs::Reading::pure, ss_words::specs::Reading::refuse, crate::specs::ConditionReading::relation_with))]
+#[tactic(auto, unfolding(crate::proofs::Unfoldings::steps, crate::specs::ConditionReading::relation_with))]
 fn relation(cursor: &mut Cursor<'_>, room: u32) -> Result<Relation, Refusal>
     ensures exact { Gives relation_view result cursor.new
         (reading.relation_with room (reading.inner_either room) cursor.old) }
@@ -303,7 +303,7 @@ fn relation(cursor: &mut Cursor<'_>, room: u32) -> Result<Relation, Refusal>
 
 /// An expression or a relation.
 #[cycle(conditions)]
-#[tactic(auto, unfolding(ss_words::specs::Reading::bind, ss_words::specs::Reading::pure, crate::specs::ConditionReading::value_with))]
+#[tactic(auto, unfolding(crate::proofs::Unfoldings::steps, crate::specs::ConditionReading::value_with))]
 fn value(cursor: &mut Cursor<'_>, room: u32) -> Result<OrValue<Relation>, Refusal>
     ensures exact { Gives (or_value_view relation_view) result cursor.new
         (reading.value_with room (reading.inner_either room) cursor.old) }
@@ -336,7 +336,7 @@ fn value(cursor: &mut Cursor<'_>, room: u32) -> Result<OrValue<Relation>, Refusa
 
 /// An expression or a condition in parentheses, if one opens here.
 #[cycle(conditions)]
-#[tactic(auto, unfolding(ss_words::specs::Reading::bind, ss_words::specs::Reading::pure, crate::specs::Combined::if_open))]
+#[tactic(auto, unfolding(crate::proofs::Unfoldings::steps, crate::specs::Combined::if_open))]
 fn within(cursor: &mut Cursor<'_>, room: u32) -> Result<Option<OrValue<Condition>>, Refusal>
     ensures exact { Gives (option_view (or_value_view condition_view)) result cursor.new
         (if_open room (reading.inner_either room) cursor.old) }

@@ -11,7 +11,7 @@ use crate::simple::Exchange;
 use ss_words::{Cursor, Mark, Refusal, Reserved};
 
 /// READ, PRINT or SKIP, if one stands here.
-#[tactic(auto, unfolding(ss_words::specs::Reading::bind, ss_words::specs::Reading::pure, crate::specs::Combined::pair, crate::specs::Combined::before, crate::specs::Combined::if_mark, crate::specs::Combined::either_of, crate::specs::Combined::made_of, crate::specs::SimpleReading::print_at, crate::specs::SimpleReading::exchange_at))]
+#[tactic(auto, unfolding(crate::proofs::Unfoldings::exchanges))]
 pub fn exchange(cursor: &mut Cursor<'_>, room: u32) -> Result<Option<Exchange>, Refusal>
     ensures exact { Gives (option_view exchange_view) result cursor.new (reading.exchange_at room cursor.old) }
     ensures shorter { length cursor.new ≤ length cursor.old }

@@ -25,7 +25,7 @@ pub fn inner_expression(cursor: &mut Cursor<'_>, room: u32) -> Result<Expr, Refu
 }
 
 /// The sign that stands here, if one does.
-#[tactic(auto, unfolding(ss_words::specs::Reading::look, ss_words::specs::Reading::skip, ss_words::specs::Reading::pure, crate::specs::Combined::by_table))]
+#[tactic(auto, unfolding(crate::proofs::Unfoldings::steps_by_table))]
 fn lead(cursor: &mut Cursor<'_>) -> Option<TermSign>
     ensures exact { by_table reading.sign_of cursor.old ≡ (Ok result, cursor.new) }
     ensures shorter { length cursor.new ≤ length cursor.old }
@@ -45,7 +45,7 @@ fn lead(cursor: &mut Cursor<'_>) -> Option<TermSign>
 }
 
 /// The number that stands here, if one does.
-#[tactic(auto, unfolding(ss_words::specs::Reading::look, ss_words::specs::Reading::skip, ss_words::specs::Reading::pure, crate::specs::Combined::by_table))]
+#[tactic(auto, unfolding(crate::proofs::Unfoldings::steps_by_table))]
 fn number(cursor: &mut Cursor<'_>) -> Option<u64>
     ensures exact { by_table reading.number_of cursor.old ≡ (Ok result, cursor.new) }
     ensures shorter { length cursor.new ≤ length cursor.old }
@@ -76,7 +76,7 @@ pub fn open(cursor: &mut Cursor<'_>, room: u32) -> Result<bool, Refusal>
 }
 
 /// What stands behind a first factor: `{"*" factor} {("+" | "-") term}`
-#[tactic(auto, unfolding(ss_words::specs::Reading::bind, ss_words::specs::Reading::pure, crate::specs::Combined::pair, crate::specs::ExprReading::rest_with))]
+#[tactic(auto, unfolding(crate::proofs::Unfoldings::in_turn, crate::specs::ExprReading::rest_with))]
 pub fn rest(cursor: &mut Cursor<'_>, room: u32) -> Result<(Vec<Factor>, Vec<Added>), Refusal>
     ensures exact { Gives rest_view result cursor.new (reading.rest_with room cursor.old) }
     ensures shorter { length cursor.new ≤ length cursor.old }
@@ -88,7 +88,7 @@ pub fn rest(cursor: &mut Cursor<'_>, room: u32) -> Result<(Vec<Factor>, Vec<Adde
 
 /// `expression = ["+" | "-"] term {("+" | "-") term}`
 #[cycle(expression)]
-#[tactic(auto, unfolding(ss_words::specs::Reading::bind, ss_words::specs::Reading::pure, crate::specs::Combined::made, crate::specs::Combined::pair, crate::specs::ExprReading::expr_with))]
+#[tactic(auto, unfolding(crate::proofs::Unfoldings::in_turn, crate::specs::ExprReading::expr_with))]
 fn expr(cursor: &mut Cursor<'_>, room: u32) -> Result<Expr, Refusal>
     ensures exact { Gives expr_view result cursor.new (reading.expr_with room (reading.inner_at room) cursor.old) }
     ensures shorter { length cursor.new ≤ length cursor.old }
@@ -115,7 +115,7 @@ fn sums(cursor: &mut Cursor<'_>, room: u32) -> Result<Vec<Added>, Refusal>
 
 /// A sign and its term, or none.
 #[cycle(expression)]
-#[tactic(auto, unfolding(ss_words::specs::Reading::bind, ss_words::specs::Reading::pure, crate::specs::Combined::if_word))]
+#[tactic(auto, unfolding(crate::proofs::Unfoldings::steps, crate::specs::Combined::if_word))]
 fn next_sum(cursor: &mut Cursor<'_>, room: u32) -> Result<Option<Added>, Refusal>
     ensures exact { Gives (option_view added_view) result cursor.new (reading.next_term_at room cursor.old) }
     ensures shorter { length cursor.new ≤ length cursor.old }
@@ -130,7 +130,7 @@ fn next_sum(cursor: &mut Cursor<'_>, room: u32) -> Result<Option<Added>, Refusal
 
 /// `term = factor {"*" factor}`
 #[cycle(expression)]
-#[tactic(auto, unfolding(ss_words::specs::Reading::bind, ss_words::specs::Reading::pure, crate::specs::Combined::made, crate::specs::Combined::pair, crate::specs::ExprReading::term_with))]
+#[tactic(auto, unfolding(crate::proofs::Unfoldings::in_turn, crate::specs::ExprReading::term_with))]
 fn term(cursor: &mut Cursor<'_>, room: u32) -> Result<Term, Refusal>
     ensures exact { Gives term_view result cursor.new (reading.term_with room (reading.inner_at room) cursor.old) }
     ensures shorter { length cursor.new ≤ length cursor.old }
@@ -156,7 +156,7 @@ fn products(cursor: &mut Cursor<'_>, room: u32) -> Result<Vec<Factor>, Refusal>
 
 /// A star and its factor, or none.
 #[cycle(expression)]
-#[tactic(auto, unfolding(ss_words::specs::Reading::bind, ss_words::specs::Reading::pure, crate::specs::Combined::if_mark))]
+#[tactic(auto, unfolding(crate::proofs::Unfoldings::steps, crate::specs::Combined::if_mark))]
 fn next_product(cursor: &mut Cursor<'_>, room: u32) -> Result<Option<Factor>, Refusal>
     ensures exact { Gives (option_view factor_view) result cursor.new (reading.next_factor_at room cursor.old) }
     ensures shorter { length cursor.new ≤ length cursor.old }
@@ -170,7 +170,7 @@ fn next_product(cursor: &mut Cursor<'_>, room: u32) -> Result<Option<Factor>, Re
 
 /// `factor = number | name ["(" expressions ")"] | "(" expression ")"`
 #[cycle(expression)]
-#[tactic(auto, unfolding(ss_words::specs::Reading::bind, ss_words::specs::Reading::pure, crate::specs::Combined::made, crate::specs::Combined::pair, crate::specs::Combined::either, crate::specs::ExprReading::factor_with))]
+#[tactic(auto, unfolding(crate::proofs::Unfoldings::choices, crate::specs::ExprReading::factor_with))]
 fn factor(cursor: &mut Cursor<'_>, room: u32) -> Result<Factor, Refusal>
     ensures exact { Gives factor_view result cursor.new (reading.factor_with room (reading.inner_at room) cursor.old) }
     ensures shorter { length cursor.new ≤ length cursor.old }
@@ -195,7 +195,7 @@ fn factor(cursor: &mut Cursor<'_>, room: u32) -> Result<Factor, Refusal>
 
 /// An expression in parentheses, if one opens here.
 #[cycle(expression)]
-#[tactic(auto, unfolding(ss_words::specs::Reading::bind, ss_words::specs::Reading::pure, crate::specs::Combined::if_open))]
+#[tactic(auto, unfolding(crate::proofs::Unfoldings::steps, crate::specs::Combined::if_open))]
 pub fn within(cursor: &mut Cursor<'_>, room: u32) -> Result<Option<Expr>, Refusal>
     ensures exact { Gives (option_view expr_view) result cursor.new (if_open room (reading.inner_at room) cursor.old) }
     ensures shorter { length cursor.new ≤ length cursor.old }
@@ -211,7 +211,7 @@ pub fn within(cursor: &mut Cursor<'_>, room: u32) -> Result<Option<Expr>, Refusa
 
 /// Arguments in parentheses, if one opens here.
 #[cycle(expression)]
-#[tactic(auto, unfolding(ss_words::specs::Reading::bind, ss_words::specs::Reading::pure, crate::specs::Combined::if_open))]
+#[tactic(auto, unfolding(crate::proofs::Unfoldings::steps, crate::specs::Combined::if_open))]
 pub fn arguments(cursor: &mut Cursor<'_>, room: u32) -> Result<Option<Several<Expr>>, Refusal>
     ensures exact { Gives (option_view several_values_view) result cursor.new (reading.arguments_at room cursor.old) }
     ensures shorter { length cursor.new ≤ length cursor.old }
@@ -227,7 +227,7 @@ pub fn arguments(cursor: &mut Cursor<'_>, room: u32) -> Result<Option<Several<Ex
 
 /// `expression {"," expression}` in one more parenthesis.
 #[cycle(expression)]
-#[tactic(auto, unfolding(ss_words::specs::Reading::bind, ss_words::specs::Reading::pure, crate::specs::Combined::made, crate::specs::Combined::pair, crate::specs::Combined::several))]
+#[tactic(auto, unfolding(crate::proofs::Unfoldings::in_turn, crate::specs::Combined::several))]
 fn inner_values(cursor: &mut Cursor<'_>, room: u32) -> Result<Several<Expr>, Refusal>
     ensures exact { Gives several_values_view result cursor.new (several (reading.inner_at room) cursor.old) }
     ensures shorter { length cursor.new ≤ length cursor.old }
@@ -253,7 +253,7 @@ fn inner_others(cursor: &mut Cursor<'_>, room: u32) -> Result<Vec<Expr>, Refusal
 
 /// A comma and an expression in one more parenthesis, or none.
 #[cycle(expression)]
-#[tactic(auto, unfolding(ss_words::specs::Reading::bind, ss_words::specs::Reading::pure, crate::specs::Combined::if_mark))]
+#[tactic(auto, unfolding(crate::proofs::Unfoldings::steps, crate::specs::Combined::if_mark))]
 fn next_inner(cursor: &mut Cursor<'_>, room: u32) -> Result<Option<Expr>, Refusal>
     ensures exact { Gives (option_view expr_view) result cursor.new (reading.next_inner_at room cursor.old) }
     ensures shorter { length cursor.new ≤ length cursor.old }

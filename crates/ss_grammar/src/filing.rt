@@ -12,7 +12,7 @@ use crate::simple::{FilePlace, Filing, SetEnd};
 use ss_words::{Cursor, Mark, Plain, Refusal, Reserved};
 
 /// FIRST or LAST, if one stands here.
-#[tactic(auto, unfolding(ss_words::specs::Reading::look, ss_words::specs::Reading::skip, ss_words::specs::Reading::pure, crate::specs::Combined::by_table))]
+#[tactic(auto, unfolding(crate::proofs::Unfoldings::steps_by_table))]
 fn set_end(cursor: &mut Cursor<'_>) -> Option<SetEnd>
     ensures exact { by_table reading.end_of cursor.old ≡ (Ok result, cursor.new) }
     ensures shorter { length cursor.new ≤ length cursor.old }
@@ -32,7 +32,7 @@ fn set_end(cursor: &mut Cursor<'_>) -> Option<SetEnd>
 }
 
 /// `[FIRST | LAST | (BEFORE | AFTER) expression]`
-#[tactic(auto, unfolding(ss_words::specs::Reading::bind, ss_words::specs::Reading::pure, crate::specs::Combined::made, crate::specs::Combined::if_mark, crate::specs::Combined::either, crate::specs::SimpleReading::file_place_at))]
+#[tactic(auto, unfolding(crate::proofs::Unfoldings::choices, crate::specs::SimpleReading::file_place_at))]
 fn file_place(cursor: &mut Cursor<'_>, room: u32) -> Result<FilePlace, Refusal>
     ensures exact { Gives file_place_view result cursor.new (reading.file_place_at room cursor.old) }
     ensures shorter { length cursor.new ≤ length cursor.old }
@@ -50,7 +50,7 @@ fn file_place(cursor: &mut Cursor<'_>, room: u32) -> Result<FilePlace, Refusal>
 }
 
 /// FILE or REMOVE, if one stands here.
-#[tactic(auto, unfolding(ss_words::specs::Reading::bind, ss_words::specs::Reading::pure, crate::specs::Combined::pair, crate::specs::Combined::before, crate::specs::Combined::if_mark, crate::specs::Combined::if_word, crate::specs::Combined::either, crate::specs::Combined::either_of, crate::specs::Combined::made_of, crate::specs::SimpleReading::file_at, crate::specs::SimpleReading::remove_at, crate::specs::SimpleReading::filing_at))]
+#[tactic(auto, unfolding(crate::proofs::Unfoldings::filings))]
 pub fn filing(cursor: &mut Cursor<'_>, room: u32) -> Result<Option<Filing>, Refusal>
     ensures exact { Gives (option_view filing_view) result cursor.new (reading.filing_at room cursor.old) }
     ensures shorter { length cursor.new ≤ length cursor.old }

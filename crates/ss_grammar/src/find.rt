@@ -9,7 +9,7 @@ ghost use Rattle.ss_grammar.specs.Combined.{behind};
 use ss_words::{Cursor, Mark, Refusal, Reserved};
 
 /// `FIRST CASE`, behind FIND.
-#[tactic(auto, unfolding(ss_words::specs::Reading::bind, ss_words::specs::Reading::pure, crate::specs::Combined::behind))]
+#[tactic(auto, unfolding(crate::proofs::Unfoldings::steps, crate::specs::Combined::behind))]
 pub fn first_case(cursor: &mut Cursor<'_>) -> Result<(), Refusal>
     ensures exact { Gives (λ u. tt) result cursor.new
         (behind (m.Reserved r.First) (behind (m.Reserved r.Case) (pure (tt {0}))) cursor.old) }

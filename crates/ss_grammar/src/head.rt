@@ -35,7 +35,7 @@ pub fn begins(cursor: &Cursor<'_>) -> bool
 
 /// The head of a section: `MAIN`, `ROUTINE name [GIVEN names | "(" names ")"] [YIELDING names]`,
 /// or `EVENT name [GIVEN names | "(" names ")"] [SAVING EVENT NOTICES]`.
-#[tactic(auto, using(ss_words::proofs::Marks::taken), unfolding(ss_words::specs::Reading::look, ss_words::specs::Reading::skip, ss_words::specs::Reading::pure, ss_words::specs::Reading::refuse, crate::specs::SectionReading::head_at))]
+#[tactic(auto, using(ss_words::proofs::Marks::taken), unfolding(crate::proofs::Unfoldings::heads))]
 pub fn head(cursor: &mut Cursor<'_>) -> Result<SectionHead, Refusal>
     ensures exact { Gives (λ h. head_view h.name.items h.kind) result cursor.new (reading.head_at 32 cursor.old) }
     ensures shorter { length cursor.new ≤ length cursor.old }
@@ -63,7 +63,7 @@ pub fn head(cursor: &mut Cursor<'_>) -> Result<SectionHead, Refusal>
 }
 
 /// `name [GIVEN names | "(" names ")"] [YIELDING names]`, behind ROUTINE.
-#[tactic(auto, unfolding(ss_words::specs::Reading::bind, ss_words::specs::Reading::pure, crate::specs::SectionReading::routine_at))]
+#[tactic(auto, unfolding(crate::proofs::Unfoldings::steps, crate::specs::SectionReading::routine_at))]
 fn routine(cursor: &mut Cursor<'_>) -> Result<SectionHead, Refusal>
     ensures exact { Gives (λ h. head_view h.name.items h.kind) result cursor.new (reading.routine_at 32 cursor.old) }
     ensures shorter { length cursor.new ≤ length cursor.old }
@@ -76,7 +76,7 @@ fn routine(cursor: &mut Cursor<'_>) -> Result<SectionHead, Refusal>
 }
 
 /// `name [GIVEN names | "(" names ")"] [SAVING EVENT NOTICES]`, behind EVENT.
-#[tactic(auto, unfolding(ss_words::specs::Reading::bind, ss_words::specs::Reading::pure, crate::specs::SectionReading::event_at))]
+#[tactic(auto, unfolding(crate::proofs::Unfoldings::steps, crate::specs::SectionReading::event_at))]
 fn event(cursor: &mut Cursor<'_>) -> Result<SectionHead, Refusal>
     ensures exact { Gives (λ h. head_view h.name.items h.kind) result cursor.new (reading.event_at 32 cursor.old) }
     ensures shorter { length cursor.new ≤ length cursor.old }
@@ -89,7 +89,7 @@ fn event(cursor: &mut Cursor<'_>) -> Result<SectionHead, Refusal>
 }
 
 /// `[SAVING EVENT NOTICES]`, and whether it is written.
-#[tactic(auto, unfolding(ss_words::specs::Reading::bind, ss_words::specs::Reading::pure, crate::specs::SectionReading::saving))]
+#[tactic(auto, unfolding(crate::proofs::Unfoldings::steps, crate::specs::SectionReading::saving))]
 fn saving(cursor: &mut Cursor<'_>) -> Result<bool, Refusal>
     ensures exact { Gives (λ b. b) result cursor.new (reading.saving cursor.old) }
     ensures shorter { length cursor.new ≤ length cursor.old }
@@ -103,7 +103,7 @@ fn saving(cursor: &mut Cursor<'_>) -> Result<bool, Refusal>
 }
 
 /// `names AS INTEGER VARIABLES`, behind DEFINE.
-#[tactic(auto, unfolding(ss_words::specs::Reading::bind, ss_words::specs::Reading::pure, crate::specs::Combined::made, crate::specs::Combined::pair, crate::specs::Combined::behind, crate::specs::SectionReading::as_variables, crate::specs::SectionReading::a_define))]
+#[tactic(auto, unfolding(crate::proofs::Unfoldings::local_names))]
 fn define(cursor: &mut Cursor<'_>) -> Result<Several<Vec<u8>>, Refusal>
     ensures exact { Gives (several_view (λ n. n.items)) result cursor.new (reading.a_define cursor.old) }
     ensures shorter { length cursor.new ≤ length cursor.old }
@@ -116,7 +116,7 @@ fn define(cursor: &mut Cursor<'_>) -> Result<Several<Vec<u8>>, Refusal>
 }
 
 /// Pushes the names of a local DEFINE and its line, if one stands here.
-#[tactic(auto, using(crate::proofs::Pushed::pushed_local), unfolding(ss_words::specs::Reading::bind, ss_words::specs::Reading::pure, ss_words::specs::Noting::here, crate::specs::PlacesAtLines::noting_local))]
+#[tactic(auto, using(crate::proofs::Pushed::pushed_local), unfolding(crate::proofs::Unfoldings::notes))]
 fn next_local(
     cursor: &mut Cursor<'_>,
     text: &[PlainWord],

@@ -20,7 +20,7 @@ use crate::simple::Listing;
 use ss_words::{Cursor, Mark, Refusal, Reserved, Several, Sign};
 
 /// `expression {"," expression}`
-#[tactic(auto, unfolding(ss_words::specs::Reading::bind, ss_words::specs::Reading::pure, crate::specs::Combined::made, crate::specs::Combined::pair, crate::specs::Combined::several))]
+#[tactic(auto, unfolding(crate::proofs::Unfoldings::in_turn, crate::specs::Combined::several))]
 pub fn expressions(cursor: &mut Cursor<'_>, room: u32) -> Result<Several<Expr>, Refusal>
     ensures exact { Gives several_values_view result cursor.new (several (expr_at room) cursor.old) }
     ensures shorter { length cursor.new ≤ length cursor.old }
@@ -43,7 +43,7 @@ fn other_expressions(cursor: &mut Cursor<'_>, room: u32) -> Result<Vec<Expr>, Re
 }
 
 /// A comma and an expression, or none.
-#[tactic(auto, unfolding(ss_words::specs::Reading::bind, ss_words::specs::Reading::pure, crate::specs::Combined::if_mark))]
+#[tactic(auto, unfolding(crate::proofs::Unfoldings::steps, crate::specs::Combined::if_mark))]
 fn next_expression(cursor: &mut Cursor<'_>, room: u32) -> Result<Option<Expr>, Refusal>
     ensures exact { Gives (option_view expr_view) result cursor.new
         (if_mark (m.Sign s.Comma) (expr_at room) cursor.old) }
@@ -57,7 +57,7 @@ fn next_expression(cursor: &mut Cursor<'_>, room: u32) -> Result<Option<Expr>, R
 }
 
 /// `reference {"," reference}`
-#[tactic(auto, unfolding(ss_words::specs::Reading::bind, ss_words::specs::Reading::pure, crate::specs::Combined::made, crate::specs::Combined::pair, crate::specs::Combined::several))]
+#[tactic(auto, unfolding(crate::proofs::Unfoldings::in_turn, crate::specs::Combined::several))]
 pub fn references(cursor: &mut Cursor<'_>, room: u32) -> Result<Several<Reference>, Refusal>
     ensures exact { Gives (several_view reference_view) result cursor.new (several (reference_at room) cursor.old) }
     ensures shorter { length cursor.new ≤ length cursor.old }
@@ -81,7 +81,7 @@ fn other_references(cursor: &mut Cursor<'_>, room: u32) -> Result<Vec<Reference>
 }
 
 /// A comma and a reference, or none.
-#[tactic(auto, unfolding(ss_words::specs::Reading::bind, ss_words::specs::Reading::pure, crate::specs::Combined::if_mark))]
+#[tactic(auto, unfolding(crate::proofs::Unfoldings::steps, crate::specs::Combined::if_mark))]
 fn next_reference(cursor: &mut Cursor<'_>, room: u32) -> Result<Option<Reference>, Refusal>
     ensures exact { Gives (option_view reference_view) result cursor.new
         (if_mark (m.Sign s.Comma) (reference_at room) cursor.old) }
@@ -105,7 +105,7 @@ pub fn listed<T: Drop>(list: Several<T>) -> Result<Vec<T>, Refusal>
 }
 
 /// `[mark expression {"," expression}]`; no values where the mark does not stand here.
-#[tactic(auto, unfolding(ss_words::specs::Reading::bind, ss_words::specs::Reading::pure, crate::specs::Combined::made, crate::specs::Combined::if_mark, crate::specs::SimpleReading::list_behind))]
+#[tactic(auto, unfolding(crate::proofs::Unfoldings::choices, crate::specs::SimpleReading::list_behind))]
 pub fn expressions_behind(
     cursor: &mut Cursor<'_>,
     mark: Mark,
@@ -121,7 +121,7 @@ pub fn expressions_behind(
 }
 
 /// `[mark reference {"," reference}]`; no targets where the mark does not stand here.
-#[tactic(auto, unfolding(ss_words::specs::Reading::bind, ss_words::specs::Reading::pure, crate::specs::Combined::made, crate::specs::Combined::if_mark, crate::specs::SimpleReading::list_behind))]
+#[tactic(auto, unfolding(crate::proofs::Unfoldings::choices, crate::specs::SimpleReading::list_behind))]
 pub fn references_behind(
     cursor: &mut Cursor<'_>,
     mark: Mark,
@@ -137,7 +137,7 @@ pub fn references_behind(
 }
 
 /// `[GIVEN expressions | "(" expressions ")"]`
-#[tactic(auto, unfolding(ss_words::specs::Reading::bind, ss_words::specs::Reading::pure, crate::specs::Combined::made, crate::specs::Combined::if_mark, crate::specs::Combined::either, crate::specs::SimpleReading::listing_with))]
+#[tactic(auto, unfolding(crate::proofs::Unfoldings::choices, crate::specs::SimpleReading::listing_with))]
 pub fn values(cursor: &mut Cursor<'_>, room: u32) -> Result<Listing<Expr>, Refusal>
     ensures exact { Gives (listing_view expr_view) result cursor.new
         (listing_with room (expr_at room) (inner_at room) cursor.old) }

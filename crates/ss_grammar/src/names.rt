@@ -52,7 +52,7 @@ fn names(cursor: &mut Cursor<'_>, room: usize) -> Result<Several<Vec<u8>>, Refus
 }
 
 /// `[GIVEN names | "(" names ")"]`, at most so many names.
-#[tactic(auto, unfolding(ss_words::specs::Reading::bind, ss_words::specs::Reading::pure, crate::specs::SectionReading::given_at))]
+#[tactic(auto, unfolding(crate::proofs::Unfoldings::steps, crate::specs::SectionReading::given_at))]
 pub fn given(cursor: &mut Cursor<'_>, room: usize) -> Result<Listing<Vec<u8>>, Refusal>
     ensures exact { Gives (listing_view (λ n. n.items)) result cursor.new (reading.given_at room cursor.old) }
     ensures shorter { length cursor.new ≤ length cursor.old }
@@ -69,7 +69,7 @@ pub fn given(cursor: &mut Cursor<'_>, room: usize) -> Result<Listing<Vec<u8>>, R
 }
 
 /// `[YIELDING names]`, at most so many names; none where YIELDING does not stand here.
-#[tactic(auto, unfolding(ss_words::specs::Reading::bind, ss_words::specs::Reading::pure, crate::specs::SectionReading::yielded_at))]
+#[tactic(auto, unfolding(crate::proofs::Unfoldings::steps, crate::specs::SectionReading::yielded_at))]
 pub fn yielded(cursor: &mut Cursor<'_>, room: usize) -> Result<Vec<Vec<u8>>, Refusal>
     ensures exact { Gives (λ v. map (λ n. n.items) v.items) result cursor.new (reading.yielded_at room cursor.old) }
     ensures shorter { length cursor.new ≤ length cursor.old }

@@ -19,7 +19,7 @@ use crate::place::{Direction, Phrase, Qualifier, QualifierWord, Range, WalkStart
 use ss_words::{Cursor, Mark, Plain, Refusal, Reserved, Sign};
 
 /// A FOR phrase, behind FOR.
-#[tactic(auto, unfolding(ss_words::specs::Reading::bind, ss_words::specs::Reading::pure, crate::specs::Combined::made, crate::specs::Combined::pair, crate::specs::LoopReading::phrase_at))]
+#[tactic(auto, unfolding(crate::proofs::Unfoldings::in_turn, crate::specs::LoopReading::phrase_at))]
 pub fn phrase(cursor: &mut Cursor<'_>, room: u32) -> Result<Phrase, Refusal>
     ensures exact { Gives phrase_view result cursor.new (reading.phrase_at room cursor.old) }
     ensures shorter { length cursor.new ≤ length cursor.old }
@@ -30,7 +30,7 @@ pub fn phrase(cursor: &mut Cursor<'_>, room: u32) -> Result<Phrase, Refusal>
 }
 
 /// What a FOR phrase goes through.
-#[tactic(auto, unfolding(ss_words::specs::Reading::bind, ss_words::specs::Reading::pure, crate::specs::Combined::made, crate::specs::Combined::pair, crate::specs::Combined::before, crate::specs::Combined::if_mark, crate::specs::Combined::either, crate::specs::LoopReading::walk_at, crate::specs::LoopReading::counting_at, crate::specs::LoopReading::range_at))]
+#[tactic(auto, unfolding(crate::proofs::Unfoldings::ranges))]
 fn range(cursor: &mut Cursor<'_>, room: u32) -> Result<Range, Refusal>
     ensures exact { Gives range_view result cursor.new (reading.range_at room cursor.old) }
     ensures shorter { length cursor.new ≤ length cursor.old }
@@ -70,7 +70,7 @@ fn range(cursor: &mut Cursor<'_>, room: u32) -> Result<Range, Refusal>
 }
 
 /// `[CALLED name]`
-#[tactic(auto, unfolding(ss_words::specs::Reading::bind, ss_words::specs::Reading::pure, crate::specs::Combined::if_mark))]
+#[tactic(auto, unfolding(crate::proofs::Unfoldings::steps, crate::specs::Combined::if_mark))]
 fn called_name(cursor: &mut Cursor<'_>) -> Result<Option<Vec<u8>>, Refusal>
     ensures exact { Gives (option_view (λ v. v.items)) result cursor.new
         (if_mark (m.Reserved r.Called) a_name cursor.old) }
@@ -83,7 +83,7 @@ fn called_name(cursor: &mut Cursor<'_>) -> Result<Option<Vec<u8>>, Refusal>
 }
 
 /// `[(FROM | AFTER) expression]`
-#[tactic(auto, unfolding(ss_words::specs::Reading::bind, ss_words::specs::Reading::pure, crate::specs::Combined::made, crate::specs::Combined::if_mark, crate::specs::Combined::either, crate::specs::LoopReading::start_at))]
+#[tactic(auto, unfolding(crate::proofs::Unfoldings::choices, crate::specs::LoopReading::start_at))]
 fn walk_start(cursor: &mut Cursor<'_>, room: u32) -> Result<WalkStart, Refusal>
     ensures exact { Gives walk_start_view result cursor.new (reading.start_at room cursor.old) }
     ensures shorter { length cursor.new ≤ length cursor.old }
@@ -98,7 +98,7 @@ fn walk_start(cursor: &mut Cursor<'_>, room: u32) -> Result<WalkStart, Refusal>
 }
 
 /// `[IN REVERSE ORDER]`
-#[tactic(auto, unfolding(ss_words::specs::Reading::bind, ss_words::specs::Reading::pure, crate::specs::Combined::made, crate::specs::Combined::behind, crate::specs::Combined::if_mark, crate::specs::LoopReading::an_order))]
+#[tactic(auto, unfolding(crate::proofs::Unfoldings::choices, crate::specs::LoopReading::an_order))]
 fn order(cursor: &mut Cursor<'_>) -> Result<Direction, Refusal>
     ensures exact { Gives (λ d. d) result cursor.new (reading.an_order cursor.old) }
     ensures shorter { length cursor.new ≤ length cursor.old }
@@ -112,7 +112,7 @@ fn order(cursor: &mut Cursor<'_>) -> Result<Direction, Refusal>
 }
 
 /// `"="` or BACK FROM.
-#[tactic(auto, unfolding(ss_words::specs::Reading::bind, ss_words::specs::Reading::pure, crate::specs::Combined::made, crate::specs::Combined::behind, crate::specs::Combined::if_mark, crate::specs::Combined::either, crate::specs::LoopReading::a_direction))]
+#[tactic(auto, unfolding(crate::proofs::Unfoldings::choices, crate::specs::LoopReading::a_direction))]
 fn direction(cursor: &mut Cursor<'_>) -> Result<Direction, Refusal>
     ensures exact { Gives (λ d. d) result cursor.new (reading.a_direction cursor.old) }
     ensures shorter { length cursor.new ≤ length cursor.old }
@@ -126,7 +126,7 @@ fn direction(cursor: &mut Cursor<'_>) -> Result<Direction, Refusal>
 }
 
 /// `[BY expression]`
-#[tactic(auto, unfolding(ss_words::specs::Reading::bind, ss_words::specs::Reading::pure, crate::specs::Combined::if_mark))]
+#[tactic(auto, unfolding(crate::proofs::Unfoldings::steps, crate::specs::Combined::if_mark))]
 fn step(cursor: &mut Cursor<'_>, room: u32) -> Result<Option<Expr>, Refusal>
     ensures exact { Gives (option_view expr_view) result cursor.new
         (if_mark (m.Reserved r.By) (expr_at room) cursor.old) }
@@ -152,7 +152,7 @@ fn qualifiers(cursor: &mut Cursor<'_>, room: u32) -> Result<Vec<Qualifier>, Refu
 }
 
 /// A qualifier, if one begins here.
-#[tactic(auto, unfolding(ss_words::specs::Reading::bind, ss_words::specs::Reading::pure, crate::specs::Combined::if_word, crate::specs::Combined::made_of))]
+#[tactic(auto, unfolding(crate::proofs::Unfoldings::choices))]
 fn next_qualifier(cursor: &mut Cursor<'_>, room: u32) -> Result<Option<Qualifier>, Refusal>
     ensures exact { Gives (option_view qualifier_view) result cursor.new (reading.next_qualifier room cursor.old) }
     ensures shorter { length cursor.new ≤ length cursor.old }
@@ -166,7 +166,7 @@ fn next_qualifier(cursor: &mut Cursor<'_>, room: u32) -> Result<Option<Qualifier
 }
 
 /// WITH, UNLESS, WHILE or UNTIL, if one stands here.
-#[tactic(auto, unfolding(ss_words::specs::Reading::look, ss_words::specs::Reading::skip, ss_words::specs::Reading::pure, crate::specs::Combined::by_table))]
+#[tactic(auto, unfolding(crate::proofs::Unfoldings::steps_by_table))]
 fn qualifier_word(cursor: &mut Cursor<'_>) -> Option<QualifierWord>
     ensures exact { by_table reading.qualifier_of cursor.old ≡ (Ok result, cursor.new) }
     ensures shorter { length cursor.new ≤ length cursor.old }

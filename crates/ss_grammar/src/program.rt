@@ -31,7 +31,7 @@ const MOST_PHRASES: u32 = 16;
 const MOST_SECTIONS: usize = 256;
 
 /// A section, up to its END: `head {DEFINE names AS INTEGER VARIABLES} {statement} END`
-#[tactic(auto, using(crate::proofs::Pushed::pushed), unfolding(ss_words::specs::Reading::bind, ss_words::specs::Reading::pure, ss_words::specs::Noting::here, crate::specs::PlacesAtLines::noting_section))]
+#[tactic(auto, using(crate::proofs::Pushed::pushed), unfolding(crate::proofs::Unfoldings::notes))]
 fn section(cursor: &mut Cursor<'_>, text: &[PlainWord]) -> Result<Section, Refusal>
     ensures exact { Gives section_view result cursor.new
         (places.noting_section (word_lines text.now) 50 64 16 32 cursor.old) }
@@ -81,7 +81,7 @@ fn section_list(cursor: &mut Cursor<'_>, text: &[PlainWord]) -> Result<Vec<Secti
 }
 
 /// The sections that the text is made of, and nothing else.
-#[tactic(auto, unfolding(ss_words::specs::Reading::look, ss_words::specs::Reading::refuse, ss_words::specs::Reading::bind, ss_words::specs::Reading::pure, ss_words::specs::Reading::whole, ss_words::specs::Reading::ended))]
+#[tactic(auto, unfolding(crate::proofs::Unfoldings::whole_text))]
 fn whole_text(cursor: &mut Cursor<'_>, text: &[PlainWord]) -> Result<Vec<Section>, Refusal>
     ensures exact { Gives (λ v. map section_view v.items) result cursor.new
         (whole (places.noting_sections (word_lines text.now) 50 64 16 32 256) cursor.old) }

@@ -10,7 +10,7 @@ use crate::place::Question;
 use ss_words::{Cursor, Mark, Refusal, Reserved};
 
 /// FOUND, NONE or a condition, behind IF.
-#[tactic(auto, unfolding(ss_words::specs::Reading::bind, ss_words::specs::Reading::pure, crate::specs::Combined::made, crate::specs::Combined::if_mark, crate::specs::Combined::either, crate::specs::LoopReading::question_at))]
+#[tactic(auto, unfolding(crate::proofs::Unfoldings::choices, crate::specs::LoopReading::question_at))]
 pub fn question(cursor: &mut Cursor<'_>, room: u32) -> Result<Question, Refusal>
     ensures exact { Gives question_view result cursor.new (reading.question_at room cursor.old) }
     ensures shorter { length cursor.new ≤ length cursor.old }

@@ -43,8 +43,8 @@ pub struct Section {
     pub places: Vec<Spot>,
 }
 
-/// The sections of a program within the limits, in order. Each has its END as its last place, and no
-/// other END.
+/// The sections of a program within the limits, in order. Each has its END as its last place, and
+/// no other END.
 #[derive(Debug, Drop)]
 pub struct Sections {
     list: Vec<Section>,

@@ -15,7 +15,7 @@ use ss_words::{Cursor, Refusal};
 
 /// A simple statement, if one begins here, in which at most so many parentheses may be open at
 /// once.
-#[tactic(auto, unfolding(ss_words::specs::Reading::bind, ss_words::specs::Reading::pure, crate::specs::Combined::either_of, crate::specs::Combined::made_of, crate::specs::SimpleReading::simple_at))]
+#[tactic(auto, unfolding(crate::proofs::Unfoldings::choices, crate::specs::SimpleReading::simple_at))]
 pub fn simple(cursor: &mut Cursor<'_>, room: u32) -> Result<Option<Simple>, Refusal>
     ensures exact { Gives (option_view simple_view) result cursor.new (reading.simple_at room cursor.old) }
     ensures shorter { length cursor.new ≤ length cursor.old }

@@ -12,7 +12,7 @@ use crate::simple::{Article, Details, Timing, When};
 use ss_words::{Cursor, Mark, Refusal, Reserved};
 
 /// A or THE.
-#[tactic(auto, unfolding(ss_words::specs::Reading::bind, ss_words::specs::Reading::pure, crate::specs::Combined::made, crate::specs::Combined::behind, crate::specs::Combined::if_mark, crate::specs::Combined::either, crate::specs::SimpleReading::an_article))]
+#[tactic(auto, unfolding(crate::proofs::Unfoldings::choices, crate::specs::SimpleReading::an_article))]
 fn article(cursor: &mut Cursor<'_>) -> Result<Article, Refusal>
     ensures exact { Gives (λ a. a) result cursor.new (reading.an_article cursor.old) }
     ensures shorter { length cursor.new ≤ length cursor.old }
@@ -25,7 +25,7 @@ fn article(cursor: &mut Cursor<'_>) -> Result<Article, Refusal>
 }
 
 /// `"(" expressions ")" [CALLED reference]`, or `[CALLED reference] [GIVEN expressions]`
-#[tactic(auto, unfolding(ss_words::specs::Reading::bind, ss_words::specs::Reading::pure, crate::specs::Combined::made, crate::specs::Combined::pair, crate::specs::Combined::if_word, crate::specs::Combined::either, crate::specs::SimpleReading::details_at))]
+#[tactic(auto, unfolding(crate::proofs::Unfoldings::choices, crate::specs::SimpleReading::details_at))]
 fn details(cursor: &mut Cursor<'_>, room: u32) -> Result<Details, Refusal>
     ensures exact { Gives details_view result cursor.new (reading.details_at room cursor.old) }
     ensures shorter { length cursor.new ≤ length cursor.old }
@@ -40,7 +40,7 @@ fn details(cursor: &mut Cursor<'_>, room: u32) -> Result<Details, Refusal>
 }
 
 /// `AT expression`, NOW, or `IN expression DAYS`
-#[tactic(auto, unfolding(ss_words::specs::Reading::bind, ss_words::specs::Reading::pure, crate::specs::Combined::made, crate::specs::Combined::behind, crate::specs::Combined::before, crate::specs::Combined::if_mark, crate::specs::Combined::either, crate::specs::SimpleReading::when_at))]
+#[tactic(auto, unfolding(crate::proofs::Unfoldings::choices, crate::specs::SimpleReading::when_at))]
 fn when(cursor: &mut Cursor<'_>, room: u32) -> Result<When, Refusal>
     ensures exact { Gives when_view result cursor.new (reading.when_at room cursor.old) }
     ensures shorter { length cursor.new ≤ length cursor.old }
@@ -58,7 +58,7 @@ fn when(cursor: &mut Cursor<'_>, room: u32) -> Result<When, Refusal>
 }
 
 /// SCHEDULE, CANCEL or START SIMULATION, if one stands here.
-#[tactic(auto, unfolding(ss_words::specs::Reading::bind, ss_words::specs::Reading::pure, crate::specs::Combined::pair, crate::specs::Combined::behind, crate::specs::Combined::if_mark, crate::specs::Combined::either_of, crate::specs::Combined::made_of, crate::specs::SimpleReading::schedule_at, crate::specs::SimpleReading::timing_at))]
+#[tactic(auto, unfolding(crate::proofs::Unfoldings::timings))]
 pub fn timing(cursor: &mut Cursor<'_>, room: u32) -> Result<Option<Timing>, Refusal>
     ensures exact { Gives (option_view timing_view) result cursor.new (reading.timing_at room cursor.old) }
     ensures shorter { length cursor.new ≤ length cursor.old }

@@ -10,7 +10,7 @@ use crate::simple::Transfer;
 use ss_words::{Cursor, Mark, Refusal, Reserved};
 
 /// CALL, RETURN or STOP, if one stands here.
-#[tactic(auto, unfolding(ss_words::specs::Reading::bind, ss_words::specs::Reading::pure, crate::specs::Combined::pair, crate::specs::Combined::if_mark, crate::specs::Combined::either_of, crate::specs::Combined::made_of, crate::specs::SimpleReading::call_at, crate::specs::SimpleReading::transfer_at))]
+#[tactic(auto, unfolding(crate::proofs::Unfoldings::transfers))]
 pub fn transfer(cursor: &mut Cursor<'_>, room: u32) -> Result<Option<Transfer>, Refusal>
     ensures exact { Gives (option_view transfer_view) result cursor.new (reading.transfer_at room cursor.old) }
     ensures shorter { length cursor.new ≤ length cursor.old }

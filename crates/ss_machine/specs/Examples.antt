@@ -56,10 +56,11 @@ use Rattle.ss_machine.specs.Run.{Input, input_with, run}
 abbrev pub alone : Factor → Expr
 alone f = expr None (term f no_products) no_sums
 
--- a number, and a number below zero
+-- a number
 abbrev pub number : ℕ → Expr
 number n = alone (digits n)
 
+-- a number below zero
 abbrev pub below_zero : ℕ → Expr
 below_zero n = expr (Some Minus) (term (digits n) no_products) no_sums
 
@@ -92,13 +93,15 @@ no_readings = record {
 
 -- ---- places
 
--- LET x = e; ADD e TO x; END
+-- LET x = e
 abbrev pub let_be : Variable → Expr → Place
 let_be x e = Assign (Let false (ToVariable x) e)
 
+-- ADD e TO x
 abbrev pub add_to : Variable → Expr → Place
 add_to x e = Assign (Add e (ToVariable x))
 
+-- END
 abbrev pub ending : Place
 ending = Control End
 
@@ -309,24 +312,27 @@ tick_again when = Timing (Schedule (record {
   when = when;
 }))
 
--- AT a number, and AT one below zero
+-- AT a number
 abbrev pub at : ℕ → When
 at n = At (number n)
 
+-- AT a number below zero
 abbrev pub at_below : ℕ → When
 at_below n = At (below_zero n)
 
--- DESTROY it; FILE it in the list
+-- DESTROY it
 abbrev pub destroy_tick : Place
 destroy_tick = Making (Destroy 0 false job)
 
+-- FILE it in the list
 abbrev pub file_tick : Place
 file_tick = Filing (File job ByRule queue)
 
--- CANCEL it; START SIMULATION
+-- CANCEL it
 abbrev pub cancel_tick : Place
 cancel_tick = Timing (Cancel 0 false job)
 
+-- START SIMULATION
 abbrev pub starting : Place
 starting = Timing Start
 
@@ -400,10 +406,11 @@ values_of_arrivals =
 abbrev pub while_waiting : Place → ProgramTable
 while_waiting x = arrivals_with (tick_of 7 Now ∷ starting ∷ ending ∷ []) (x ∷ ending ∷ [])
 
--- CANCEL of notice number n; READ of a local
+-- CANCEL of notice number n
 abbrev pub cancel_number : ℕ → Place
 cancel_number n = Timing (Cancel 0 true (number n))
 
+-- READ of a local
 abbrev pub read_one : Place
 read_one = Read (ToVariable (Local 0) ∷ [])
 

@@ -6,17 +6,22 @@ use Rattle.ss_events.specs.Rules.{Rule}
 use Rattle.ss_events.specs.State.{AgendaState}
 use Rattle.ss_machine.specs.State.{State}
 
--- what stands beside the state for undoing: the store's tables, and what the store keeps; the rules of the classes for
--- notices, and the notice of each seat
+-- what stands beside the state for undoing
 pub record Beside : Type 0 where
+  -- the store's tables
   pub tables : Tables
+  -- what the store keeps
   pub kept : Kept
+  -- the rules of the classes for notices
   pub rules : List Rule
+  -- the notice of each seat
   pub notices : List ℕ
 
--- the state, and what stands beside it
+-- what is held
 pub record Held : Type 0 where
+  -- the state
   pub state : State
+  -- what stands beside it
   pub beside : Beside
 
 -- what is held of the store

@@ -8,10 +8,13 @@ use Rattle.ss_machine.specs.Run.{Input, input_with, start, run}
 use Rattle.ss_machine.specs.Well.{IsWell}
 use Rattle.ss_machine.specs.Moment.{change_bound, target_count}
 
--- the start is well-formed, a step keeps every state well-formed, and so all states of the run are
+-- the states of a run are well-formed
 pub record StatesAreWell (i : Input) : Type 0 where
+  -- the start is
   pub start : IsWell i.program (start i)
+  -- a step keeps every state so
   pub step : (s : State) → IsWell i.program s → IsWell i.program (step i.program s)
+  -- and so all states of the run are
   pub run : (k : ℕ) → IsWell i.program (run i k)
 
 -- for every program that the checker makes, and all data

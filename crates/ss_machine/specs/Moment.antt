@@ -26,13 +26,17 @@ use Rattle.ss_machine.specs.Change.{unapply, Fits}
 use Rattle.ss_machine.specs.Step.{step, ways_here}
 use Rattle.ss_machine.specs.Run.{Input, run}
 
--- what the run is of, its state, what stands beside it, how many of the oldest steps are forgotten, and the changes of
--- each step that is kept, the newest step and the newest change first
+-- what a machine stands for: a state of a run, and the way back from it
 pub record Moment : Type 0 where
+  -- what the run is of
   pub input : Input
+  -- its state
   pub state : State
+  -- what stands beside it for undoing
   pub beside : Beside
+  -- how many of the oldest steps are forgotten
   pub forgotten : ℕ
+  -- the changes of each step that is kept, the newest step and the newest change first
   pub steps : List (List Change)
 
 -- what is held there
@@ -128,19 +132,23 @@ targets_by p s None = 0
 abbrev pub target_count : ProgramTable → State → ℕ
 target_count p s = targets_by p s (spot_at p s.frame.section s.frame.place)
 
--- one step forward: the state is the definition's step of the old one, which now ends the past; the earlier steps are
--- as they were, and one more is kept, of as many changes at most as its place may note
+-- one step forward
 pub record HasMoved (old new : Moment) : Type 0 where
-  -- when it moves
+  -- the run goes on
   pub ready : old.state.status ≡ Ready
+  -- a position is left
   pub before_last : position old < LAST_POSITION
-  -- the state, and its number
+  -- the run is the same one
   pub input : new.input ≡ old.input
+  -- the state is the step of the old one
   pub state : new.state ≡ step old.input.program old.state
+  -- its number is the next
   pub position : position new ≡ position old + 1
-  -- the steps that are kept, and the states to which they lead back
+  -- as many steps are forgotten as before
   pub forgotten : new.forgotten ≡ old.forgotten
+  -- the old state now ends the past
   pub past : past_of new ≡ past_of old ++ old.state ∷ []
+  -- one more step is kept, of as many changes at most as its place may note
   pub steps :
       (added : List Change) × (new.steps ≡ added ∷ old.steps)
       × (length added ≤ change_bound old.input.program old.state)
@@ -150,12 +158,17 @@ abbrev pub Steps : Stepped → Moment → Moment → Type 0
 Steps Moved old new = HasMoved old new
 Steps AtEnd old new = ((old.state.status ≢ Ready) ⊎ (position old ≡ LAST_POSITION)) × (new ≡ old)
 
--- one step back: the state is the last of the past, which no longer holds it, and the newest step is no longer kept
+-- one step back
 pub record HasGoneBack (old new : Moment) : Type 0 where
+  -- the run is the same one
   pub input : new.input ≡ old.input
+  -- the state is the last of the past, which no longer holds it
   pub past : past_of old ≡ past_of new ++ new.state ∷ []
+  -- its number is one less
   pub position : position old ≡ position new + 1
+  -- as many steps are forgotten as before
   pub forgotten : new.forgotten ≡ old.forgotten
+  -- the newest step is no longer kept
   pub steps : (dropped : List Change) × (old.steps ≡ dropped ∷ new.steps)
 
 -- what a step back did
@@ -163,32 +176,38 @@ abbrev pub GoesBack : Bool → Moment → Moment → Type 0
 GoesBack true old new = HasGoneBack old new
 GoesBack false old new = (old.steps ≡ []) × (new ≡ old)
 
--- all steps but the newest n are forgotten: the state and its position stay, and of the past the last n states are
--- left, or all where there are fewer
+-- all steps but the newest n are forgotten
 pub record HasForgotten (n : ℕ) (old new : Moment) : Type 0 where
+  -- the run is the same one
   pub input : new.input ≡ old.input
+  -- so is the state
   pub state : new.state ≡ old.state
+  -- and its number
   pub position : position new ≡ position old
+  -- of the past the last n states are left, or all where there are fewer
   pub past : past_of new ≡ drop (kept old - n) (past_of old)
+  -- the newest n steps are kept
   pub steps : new.steps ≡ newest n old.steps
 
 -- changes that fit and lead back through the states of a run, the first of them to its state number a
 abbrev pub LeadsBack : Input → ℕ → List (List Change) → Held → Type 0
 LeadsBack i a steps h = Kept Fits unapply (λ g. g.state) (λ k. run i (a + k)) steps h
 
--- what every machine keeps: a sound program, numbers in range, no open step, the state of the run with the machine's
--- position, which is not past the last one, the program's tables and rules, and changes that fit and lead back through
--- the states of the run
+-- what every machine keeps
 pub record Stands (i : Input) (forgotten : ℕ) (h : Held) (j : Log Change) : Type 0 where
-  -- the program and its data
+  -- the program is sound
   pub sound : IsSound i.program
+  -- the numbers of its data are in range
   pub items : AreItemsInRange i.items
-  -- where it stands
+  -- no step is open
   pub closed : j.current ≡ []
+  -- the state is the run's with the machine's position
   pub here : h.state ≡ run i (forgotten + length j.steps)
+  -- which is not past the last one
   pub within : forgotten + length j.steps ≤ LAST_POSITION
-  -- what stands beside the state
+  -- beside the state stand the tables of the program's classes and sets
   pub tables : h.beside.tables ≡ tables_of i.program
+  -- and the order of its notices
   pub rules : h.beside.rules ≡ rules_of i.program
-  -- the way back
+  -- the kept changes fit, and lead back through the states of the run
   pub kept : LeadsBack i forgotten j.steps h

@@ -6,9 +6,11 @@ use Rattle.ss_machine.specs.declared.loops.Node.{Node, Node', Held-Node-outer, N
 
 -- the loops of a chain, the innermost first
 abbrev mutual
+  -- from a node outward
   pub node_loops : Node → List OpenLoop
   node_loops (Node' open_loop outer) = open_loop ∷ outer_loops outer
 
+  -- outward of one
   pub outer_loops : Held-Node-outer → List OpenLoop
   outer_loops None' = []
   outer_loops (Some' p n) = node_loops n

@@ -10,9 +10,11 @@ use Rattle.ss_machine.specs.declared.status.Status.TheVariants.{Ready}
 use Rattle.ss_machine.specs.State.{State, is_ready, new_frame}
 use Rattle.ss_machine.specs.Step.{step}
 
--- what a run is of: a program, and the items of its data
+-- what a run is of
 pub record Input : Type 0 where
+  -- a program
   pub program : ProgramTable
+  -- the items of its data
   pub items : List Item
 
 -- a program over data

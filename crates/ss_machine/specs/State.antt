@@ -11,29 +11,42 @@ use Rattle.ss_machine.specs.declared.status.Status.TheVariants.{Ready, Stopped, 
 use Rattle.ss_machine.specs.declared.statistics.Statistics.{Statistics}
 use Rattle.ss_machine.specs.declared.loops.OpenLoop.{OpenLoop}
 
--- a frame: its section, the place where it stands, the values of its locals in the order of the section's table, its
--- open loops, the innermost first, whether the last FIND found a case, and what COMPUTE has gathered
+-- a frame: a section that has begun and not ended
 pub record FrameState : Type 0 where
+  -- its section
   pub section : ℕ
+  -- the place where it stands
   pub place : ℕ
+  -- the values of its locals, in the order of the section's table
   pub locals : List ℤ
+  -- its open loops, the innermost first
   pub loops : List OpenLoop
+  -- whether the last FIND found a case
   pub found : Bool
+  -- what COMPUTE has gathered
   pub statistics : Statistics
 
--- the values of the global variables, in the order of their table; the last frame; the frames below it, the nearest
--- first; the clock; the entities and the lists of sets; the pending notices; the items of the data, and how many of
--- them are taken; the bytes of the report; the status; the entry of an external event
+-- the state of a run
 pub record State : Type 0 where
+  -- the values of the global variables, in the order of their table
   pub variables : List ℤ
+  -- the last frame
   pub frame : FrameState
+  -- the frames below it, the nearest first
   pub below : List FrameState
+  -- the clock
   pub clock : ℤ
+  -- the entities and the lists of sets
   pub store : Store
+  -- the pending notices
   pub agenda : Agenda
+  -- the items of the data, and how many of them are taken
   pub feed : DataRead
+  -- the bytes of the report
   pub report : List ℕ
+  -- the status
   pub status : Status
+  -- the entry of an external event
   pub entry : Entry
 
 -- the most frames below the last one

@@ -246,11 +246,12 @@ state_after_making t s (Destroy c is_called e) = state_after_destroy t s c e
 abbrev pub step_making : Tables → State → ℕ → AMaking → State
 step_making t s next m = state_after_result s (state_after_making t s m) (state_at_place next)
 
--- an end of a list as FILE names it, and as REMOVE does
+-- an end of a list, as FILE names it
 abbrev pub how_at : ListEnd → How
 how_at ends.First = how.First
 how_at ends.Last = how.Last
 
+-- the same, as REMOVE names it
 abbrev pub which_at : ListEnd → Which
 which_at ends.First = which.First
 which_at ends.Last = which.Last

@@ -12,12 +12,17 @@ use Rattle.ss_machine.specs.Change.{unapply, Fits}
 use Rattle.ss_machine.specs.State.{State}
 use Rattle.ss_machine.specs.Step.{state_with_store, state_with_agenda}
 
--- the store alone is another one, and the change fits and leads back
+-- a change of the store was made
 pub record LeavesStore (c : Change) (st : Store) (old new : Held) : Type 0 where
+  -- the store alone is another one
   pub state : new.state ≡ state_with_store old.state st
+  -- the tables are the same
   pub tables : new.beside.tables ≡ old.beside.tables
+  -- so are the rules
   pub rules : new.beside.rules ≡ old.beside.rules
+  -- the change fits
   pub fits : Fits c new
+  -- and leads back
   pub back : unapply c new ≡ old
 
 -- a call that may fault; a fault changes nothing
@@ -53,12 +58,17 @@ IsMakingAll (Ok c) (Ok st) old new = LeavesStore c st old new
 IsMakingAll (Err e) r old new = IsRefused e r old new
 IsMakingAll (Ok c) (Err f) old new = ⊥
 
--- the state is another one, with the same tables and rules, and the change fits and leads back
+-- a change was made
 pub record LeavesState (c : Change) (s : State) (old new : Held) : Type 0 where
+  -- the state is this one
   pub state : new.state ≡ s
+  -- the tables are the same
   pub tables : new.beside.tables ≡ old.beside.tables
+  -- so are the rules
   pub rules : new.beside.rules ≡ old.beside.rules
+  -- the change fits
   pub fits : Fits c new
+  -- and leads back
   pub back : unapply c new ≡ old
 
 -- a fault was marked in a state; a want of memory is not

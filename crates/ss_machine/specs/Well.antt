@@ -42,9 +42,13 @@ AreItemsInRange (i ∷ is) = IsNoneOrInRange i.value × AreItemsInRange is
 
 -- statistics are
 pub record AreStatisticsInRange (g : Statistics) : Type 0 where
+  -- how many values there were
   pub number : in_range g.number ≡ true
+  -- their sum
   pub sum : in_range g.sum ≡ true
+  -- the greatest of them
   pub greatest : in_range g.greatest ≡ true
+  -- the least of them
   pub least : in_range g.least ≡ true
 
 -- the attributes of entities are
@@ -69,20 +73,26 @@ AreReferencesInRange (o ∷ os) = IsNoneOrEntityInRange o × AreReferencesInRang
 
 -- those of all entities are
 pub record IsStoreInRange (st : Store) : Type 0 where
+  -- those of the permanent classes
   pub made : AreClassesInRange st.made
+  -- those with references
   pub references : AreReferencesInRange st.references
 
--- a frame's section is one of the program's, its place and its locals are of that section, and its values are in range
+-- a well-formed frame
 pub record IsWellFrame (p : ProgramTable) (f : FrameState) : Type 0 where
-  -- where it stands
+  -- its section is one of the program's
   pub section : f.section < length p.sections
+  -- it stands at a place of that section
   pub place : f.place < length (places_of (slice_get p.sections f.section))
-  -- its locals
+  -- it has the locals of that section
   pub locals : length f.locals ≡ length (locals_of (slice_get p.sections f.section))
+  -- their values are in range
   pub values : AreInRange f.locals
-  -- its open loops, and what COMPUTE has gathered
+  -- and so are the candidates of its open loops
   pub loops : AreLoopsInRange f.loops
+  -- the loops over sets walk sets that there are
   pub walks : AreSoundWalks (length p.sets) f.loops
+  -- what COMPUTE has gathered is in range
   pub statistics : AreStatisticsInRange f.statistics
 
 -- so do all frames
@@ -122,15 +132,17 @@ abbrev pub IsStack : ProgramTable → ℕ → List FrameState → Type 0
 IsStack p section [] = is_main (section_of p section) ≡ true
 IsStack p section (f ∷ fs) = StandsOn p (section_of p section).kind section f × IsStack p f.section fs
 
--- a pending notice exists, its class is an event class, its time, not before the clock, and its keys are in range
+-- a pending notice that is due at the clock or later
 pub record IsDue (p : ProgramTable) (clock : ℤ) (st : Store) (e : Pending) : Type 0 where
-  -- what it is
+  -- its class is an event class
   pub event : is_event (class_of p e.class).kind ≡ true
+  -- it exists
   pub exists : exists st e.class e.notice ≡ true
-  -- when it is due
+  -- its time is in range
   pub time : in_range e.time ≡ true
+  -- and not before the clock
   pub due : int_lt e.time clock ≡ false
-  -- by what it goes among those due at that time
+  -- so are the keys by which it goes among those due at that time
   pub keys : AreInRange e.keys
 
 -- so do all pending notices
@@ -157,26 +169,33 @@ IsWellEntry p es section below (Waiting c k) =
 IsWellEntry p es section below (Running c k) =
     ((event_of p c).external ≡ true) × IsSecond (event_of p c).section section below
 
--- 1 to 200 frames, the first of which is MAIN's; all values in range; no more items taken than there are; a report
--- within its limit; all pending notices due; the entry well-formed
+-- a state all of which is within its bounds
 pub record IsInBounds (p : ProgramTable) (s : State) : Type 0 where
-  -- the global variables
+  -- each global variable has a value
   pub variables : length s.variables ≡ length p.globals
+  -- which is in range
   pub values : AreInRange s.variables
-  -- the frames
+  -- the last frame is well-formed
   pub frame : IsWellFrame p s.frame
+  -- so are those below it
   pub below : AreWellFrames p s.below
+  -- the first is MAIN's, and each other stands on the one below it
   pub stack : IsStack p s.frame.section s.below
+  -- there are at most 200
   pub few : length s.below ≤ most_below
-  -- the clock and the entities
+  -- the clock is in range
   pub clock : in_range s.clock ≡ true
+  -- so are the attributes of all entities
   pub store : IsStoreInRange s.store
-  -- the data, and the report
+  -- so are the numbers of the data
   pub items : AreItemsInRange s.feed.items
+  -- no more items are taken than there are
   pub taken : s.feed.taken ≤ length s.feed.items
+  -- the report is within its limit
   pub report : length s.report ≤ report_limit
-  -- the pending notices, and the entry of an external event
+  -- all pending notices are due
   pub due : AreDue p s.clock s.store s.agenda.pending
+  -- the entry of an external event is well-formed
   pub entry : IsWellEntry p s.agenda.pending s.frame.section s.below s.entry
 
 -- the places of the phrases of loops
@@ -193,7 +212,9 @@ abbrev pub HaveTheirLoops : ProgramTable → List FrameState → Type 0
 HaveTheirLoops p [] = Unit {0}
 HaveTheirLoops p (f ∷ fs) = HasItsLoops p f × HaveTheirLoops p fs
 
--- a well-formed state: all within its bounds, and the open loops of each frame those around its place
+-- a well-formed state
 pub record IsWell (p : ProgramTable) (s : State) : Type 0 where
+  -- all is within its bounds
   pub bounds : IsInBounds p s
+  -- the open loops of each frame are those around its place
   pub loops : HaveTheirLoops p (s.frame ∷ s.below)

@@ -467,7 +467,8 @@ impl<S: SetBoard> State<S> {
         ensures beside { self.new.beside ≡ self.old.beside }
         ensures few { OnOk result (length targets.now < 2 ^ 64) }
         ensures values { IfOk result
-            (λ _. values_taken external self.old.state.feed.items self.old.state.feed.taken targets.now ≡ Ok values.new.items) }
+            (λ _. values_taken external self.old.state.feed.items self.old.state.feed.taken targets.now
+            ≡ Ok values.new.items) }
         ensures fits { IfOk result (λ c. Fits c self.new) }
         ensures back { IfOk result (λ c. unapply c self.new ≡ self.old) }
         ensures fault { IfErr result
@@ -537,8 +538,8 @@ impl<S: SetBoard> State<S> {
         }
     }
 
-    /// Makes an entity of a temporary or event class, and gives its reference. After F20 and want of
-    /// memory nothing has changed.
+    /// Makes an entity of a temporary or event class, and gives its reference. After F20 and want
+    /// of memory nothing has changed.
     pub fn create(&mut self, class: usize) -> Result<(u32, Change), StepFault>
         requires class { class < length self.old.beside.tables.classes }
         requires kind { (class_of self.old.beside.tables class).permanent ≡ false }
@@ -730,8 +731,8 @@ impl<S: SetBoard> State<S> {
         }
     }
 
-    /// Takes the name and the time of the next entry of the data, and gives the class that it names.
-    /// After a fault nothing has changed.
+    /// Takes the name and the time of the next entry of the data, and gives the class that it
+    /// names. After a fault nothing has changed.
     pub fn take_arrival(&mut self, program: &Program) -> Result<(usize, i64, Change), RunFault>
         requires { self.old.state.feed.taken < length self.old.state.feed.items }
         ensures class { IfOk result (λ r. external_class program.now
@@ -860,7 +861,8 @@ fn take_values(
     ensures later { feed.old.taken ≤ feed.new.taken }
     ensures few { OnOk result (length targets.now < 2 ^ 64) }
     ensures taken { OnOk result (feed.new.taken ≡ feed.old.taken + length targets.now) }
-    ensures values { OnOk result (values_taken external feed.old.items feed.old.taken targets.now ≡ Ok values.new.items) }
+    ensures values { OnOk result
+        (values_taken external feed.old.items feed.old.taken targets.now ≡ Ok values.new.items) }
     ensures fault { IfErr result (λ e. FaultIs e (values_taken external feed.old.items feed.old.taken targets.now)) }
 {
     values.clear();

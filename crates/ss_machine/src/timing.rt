@@ -185,7 +185,8 @@ impl<S: SetBoard> Executor<S> {
         Ok(())
     }
 
-    /// Takes a pending notice off, and sets the clock to its time; an entry that waited for it runs.
+    /// Takes a pending notice off, and sets the clock to its time; an entry that waited for it
+    /// runs.
     fn advance(&mut self, notice: u32, time: i64)
         requires number { 0 < notice }
         requires pending { is_pending self.old.held.state.agenda notice ≡ true }

@@ -1,3 +1,4 @@
+pub mod Unfoldings
 mod Pushed
 mod Texts
 pub mod Sound

@@ -9,7 +9,7 @@ use crate::item::Clause;
 use ss_words::{Cursor, Mark, Plain, Refusal, Reserved, Several};
 
 /// `clause {clause}`
-#[tactic(auto, unfolding(ss_words::specs::Reading::bind, ss_words::specs::Reading::pure, crate::specs::ItemReading::clauses))]
+#[tactic(auto, unfolding(crate::proofs::Unfoldings::steps, crate::specs::ItemReading::clauses))]
 pub fn clauses(cursor: &mut Cursor<'_>) -> Result<Several<Clause>, Refusal>
     ensures exact { Gives (several_view clause_view) result cursor.new (reading.clauses cursor.old) }
     ensures shorter { length cursor.new ≤ length cursor.old }
@@ -20,7 +20,7 @@ pub fn clauses(cursor: &mut Cursor<'_>) -> Result<Several<Clause>, Refusal>
 }
 
 /// `clause`
-#[tactic(auto, unfolding(ss_words::specs::Reading::bind, ss_words::specs::Reading::pure, ss_words::specs::Reading::refuse, crate::specs::ItemReading::a_clause))]
+#[tactic(auto, unfolding(crate::proofs::Unfoldings::steps, crate::specs::ItemReading::a_clause))]
 fn clause(cursor: &mut Cursor<'_>) -> Result<Clause, Refusal>
     ensures exact { Gives clause_view result cursor.new (reading.a_clause cursor.old) }
     ensures shorter { length cursor.new ≤ length cursor.old }
@@ -44,7 +44,7 @@ fn other_clauses(cursor: &mut Cursor<'_>) -> Result<Vec<Clause>, Refusal>
 }
 
 /// `HAS names | OWNS names | BELONGS TO names`, or nothing where none of these words stands here.
-#[tactic(auto, unfolding(ss_words::specs::Reading::look, ss_words::specs::Reading::skip, ss_words::specs::Reading::bind, ss_words::specs::Reading::pure, crate::specs::ItemReading::next_clause))]
+#[tactic(auto, unfolding(crate::proofs::Unfoldings::steps_by_word, crate::specs::ItemReading::next_clause))]
 fn next_clause(cursor: &mut Cursor<'_>) -> Result<Option<Clause>, Refusal>
     ensures exact { Gives (option_view clause_view) result cursor.new (reading.next_clause cursor.old) }
     ensures shorter { length cursor.new ≤ length cursor.old }

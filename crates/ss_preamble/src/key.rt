@@ -9,7 +9,7 @@ use crate::item::{Key, Rank};
 use ss_words::{Cursor, Mark, Refusal, Reserved, Several};
 
 /// `key {THEN key}`
-#[tactic(auto, unfolding(ss_words::specs::Reading::bind, ss_words::specs::Reading::pure, crate::specs::ItemReading::keys))]
+#[tactic(auto, unfolding(crate::proofs::Unfoldings::steps, crate::specs::ItemReading::keys))]
 pub fn keys(cursor: &mut Cursor<'_>) -> Result<Several<Key>, Refusal>
     ensures exact { Gives (several_view key_view) result cursor.new (reading.keys cursor.old) }
     ensures shorter { length cursor.new ≤ length cursor.old }
@@ -32,7 +32,7 @@ fn other_keys(cursor: &mut Cursor<'_>) -> Result<Vec<Key>, Refusal>
 }
 
 /// THEN and a key, or nothing.
-#[tactic(auto, unfolding(ss_words::specs::Reading::bind, ss_words::specs::Reading::pure, crate::specs::ItemReading::next_key))]
+#[tactic(auto, unfolding(crate::proofs::Unfoldings::steps, crate::specs::ItemReading::next_key))]
 fn next_key(cursor: &mut Cursor<'_>) -> Result<Option<Key>, Refusal>
     ensures exact { Gives (option_view key_view) result cursor.new (reading.next_key cursor.old) }
     ensures shorter { length cursor.new ≤ length cursor.old }
@@ -45,7 +45,7 @@ fn next_key(cursor: &mut Cursor<'_>) -> Result<Option<Key>, Refusal>
 }
 
 /// `key = BY (HIGH | LOW) name`
-#[tactic(auto, unfolding(ss_words::specs::Reading::bind, ss_words::specs::Reading::pure, crate::specs::ItemReading::a_key))]
+#[tactic(auto, unfolding(crate::proofs::Unfoldings::steps, crate::specs::ItemReading::a_key))]
 fn key(cursor: &mut Cursor<'_>) -> Result<Key, Refusal>
     ensures exact { Gives key_view result cursor.new (reading.a_key cursor.old) }
     ensures shorter { length cursor.new ≤ length cursor.old }
@@ -57,7 +57,7 @@ fn key(cursor: &mut Cursor<'_>) -> Result<Key, Refusal>
 }
 
 /// `HIGH | LOW`
-#[tactic(auto, unfolding(ss_words::specs::Reading::bind, ss_words::specs::Reading::pure, crate::specs::ItemReading::a_rank))]
+#[tactic(auto, unfolding(crate::proofs::Unfoldings::steps, crate::specs::ItemReading::a_rank))]
 fn rank(cursor: &mut Cursor<'_>) -> Result<Rank, Refusal>
     ensures exact { Gives (λ b. b) result cursor.new (reading.a_rank cursor.old) }
     ensures shorter { length cursor.new ≤ length cursor.old }

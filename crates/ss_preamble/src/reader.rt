@@ -14,7 +14,7 @@ use crate::key::keys;
 use ss_words::{Cursor, Mark, Plain, PlainWord, Refusal, Reserved};
 
 /// `preamble = PREAMBLE {item} END`, whose words are the last ones of `text`.
-#[tactic(auto, unfolding(ss_words::specs::Reading::bind, ss_words::specs::Reading::pure, ss_words::specs::Noting::here, crate::specs::ItemsAtLines::preamble_at))]
+#[tactic(auto, unfolding(crate::proofs::Unfoldings::steps_at_line, crate::specs::ItemsAtLines::preamble_at))]
 pub fn declarations(cursor: &mut Cursor<'_>, text: &[PlainWord]) -> Result<Decls, Refusal>
     ensures exact { Gives decls_view result cursor.new (lined.preamble_at (word_lines text.now) cursor.old) }
     ensures shorter { length cursor.new ≤ length cursor.old }
@@ -45,7 +45,7 @@ fn item_list(
 }
 
 /// Reads an item, if one begins here, and pushes it.
-#[tactic(auto, using(crate::proofs::Pushed::pushed), unfolding(ss_words::specs::Reading::bind, ss_words::specs::Reading::pure, ss_words::specs::Noting::here, crate::specs::ItemsAtLines::next_item_at))]
+#[tactic(auto, using(crate::proofs::Pushed::pushed), unfolding(crate::proofs::Unfoldings::item_at_line))]
 fn push_item(
     cursor: &mut Cursor<'_>,
     text: &[PlainWord],
@@ -65,7 +65,7 @@ fn push_item(
 }
 
 /// An item, or nothing where none begins here.
-#[tactic(auto, unfolding(ss_words::specs::Reading::look, ss_words::specs::Reading::skip, ss_words::specs::Reading::bind, ss_words::specs::Reading::pure, crate::specs::ItemReading::next_item))]
+#[tactic(auto, unfolding(crate::proofs::Unfoldings::steps_by_word, crate::specs::ItemReading::next_item))]
 fn next_item(cursor: &mut Cursor<'_>) -> Result<Option<Item>, Refusal>
     ensures exact { Gives (option_view item_view) result cursor.new (reading.next_item cursor.old) }
     ensures shorter { length cursor.new ≤ length cursor.old }
@@ -120,7 +120,7 @@ fn next_item(cursor: &mut Cursor<'_>) -> Result<Option<Item>, Refusal>
 }
 
 /// `MODE IS INTEGER`, behind NORMALLY.
-#[tactic(auto, unfolding(ss_words::specs::Reading::bind, ss_words::specs::Reading::pure, crate::specs::ItemReading::normally_with))]
+#[tactic(auto, unfolding(crate::proofs::Unfoldings::steps, crate::specs::ItemReading::normally_with))]
 fn normally(cursor: &mut Cursor<'_>) -> Result<Item, Refusal>
     ensures exact { Gives item_view result cursor.new (reading.normally_with cursor.old) }
     ensures shorter { length cursor.new ≤ length cursor.old }
@@ -132,7 +132,7 @@ fn normally(cursor: &mut Cursor<'_>) -> Result<Item, Refusal>
 }
 
 /// The second word of a heading and `[INCLUDE names]`.
-#[tactic(auto, unfolding(ss_words::specs::Reading::bind, ss_words::specs::Reading::pure, crate::specs::ItemReading::heading_with))]
+#[tactic(auto, unfolding(crate::proofs::Unfoldings::steps, crate::specs::ItemReading::heading_with))]
 fn heading(cursor: &mut Cursor<'_>, heading: Heading, second: Reserved) -> Result<Item, Refusal>
     ensures exact { Gives item_view result cursor.new (reading.heading_with heading (mark.Reserved second) cursor.old) }
     ensures shorter { length cursor.new ≤ length cursor.old }
@@ -143,7 +143,7 @@ fn heading(cursor: &mut Cursor<'_>, heading: Heading, second: Reserved) -> Resul
 }
 
 /// `name clause {clause}`, behind EVERY.
-#[tactic(auto, unfolding(ss_words::specs::Reading::bind, ss_words::specs::Reading::pure, crate::specs::ItemReading::every_with))]
+#[tactic(auto, unfolding(crate::proofs::Unfoldings::steps, crate::specs::ItemReading::every_with))]
 fn every(cursor: &mut Cursor<'_>) -> Result<Item, Refusal>
     ensures exact { Gives item_view result cursor.new (reading.every_with cursor.old) }
     ensures shorter { length cursor.new ≤ length cursor.old }
@@ -154,7 +154,7 @@ fn every(cursor: &mut Cursor<'_>) -> Result<Item, Refusal>
 }
 
 /// `names AS` and what they are, behind DEFINE.
-#[tactic(auto, unfolding(ss_words::specs::Reading::bind, ss_words::specs::Reading::pure, crate::specs::ItemReading::definition_with))]
+#[tactic(auto, unfolding(crate::proofs::Unfoldings::steps, crate::specs::ItemReading::definition_with))]
 fn definition(cursor: &mut Cursor<'_>) -> Result<Definition, Refusal>
     ensures exact { Gives definition_view result cursor.new (reading.definition_with cursor.old) }
     ensures shorter { length cursor.new ≤ length cursor.old }
@@ -166,7 +166,7 @@ fn definition(cursor: &mut Cursor<'_>) -> Result<Definition, Refusal>
 
 /// `INTEGER VARIABLES | FIFO SETS | LIFO SETS | SETS RANKED keys`, behind the names of a DEFINE and
 /// its AS.
-#[tactic(auto, unfolding(ss_words::specs::Reading::look, ss_words::specs::Reading::skip, ss_words::specs::Reading::refuse, ss_words::specs::Reading::bind, ss_words::specs::Reading::pure, crate::specs::ItemReading::definition_of))]
+#[tactic(auto, unfolding(crate::proofs::Unfoldings::steps_by_word, crate::specs::ItemReading::definition_of))]
 fn definition_of(cursor: &mut Cursor<'_>, names: Names) -> Result<Definition, Refusal>
     ensures exact { Gives definition_view result cursor.new
         (reading.definition_of (several_view (λ n. n.items) names) cursor.old) }
@@ -205,7 +205,7 @@ fn definition_of(cursor: &mut Cursor<'_>, names: Names) -> Result<Definition, Re
 }
 
 /// `ORDER IS names`, behind PRIORITY.
-#[tactic(auto, unfolding(ss_words::specs::Reading::bind, ss_words::specs::Reading::pure, crate::specs::ItemReading::priority_with))]
+#[tactic(auto, unfolding(crate::proofs::Unfoldings::steps, crate::specs::ItemReading::priority_with))]
 fn priority(cursor: &mut Cursor<'_>) -> Result<EventRule, Refusal>
     ensures exact { Gives event_rule_view result cursor.new (reading.priority_with cursor.old) }
     ensures shorter { length cursor.new ≤ length cursor.old }
@@ -216,7 +216,7 @@ fn priority(cursor: &mut Cursor<'_>) -> Result<EventRule, Refusal>
 }
 
 /// `name TIES keys`, behind BREAK.
-#[tactic(auto, unfolding(ss_words::specs::Reading::bind, ss_words::specs::Reading::pure, crate::specs::ItemReading::break_with))]
+#[tactic(auto, unfolding(crate::proofs::Unfoldings::steps, crate::specs::ItemReading::break_with))]
 fn ties(cursor: &mut Cursor<'_>) -> Result<EventRule, Refusal>
     ensures exact { Gives event_rule_view result cursor.new (reading.break_with cursor.old) }
     ensures shorter { length cursor.new ≤ length cursor.old }
@@ -228,7 +228,7 @@ fn ties(cursor: &mut Cursor<'_>) -> Result<EventRule, Refusal>
 }
 
 /// `EVENTS ARE names`, behind EXTERNAL.
-#[tactic(auto, unfolding(ss_words::specs::Reading::bind, ss_words::specs::Reading::pure, crate::specs::ItemReading::external_with))]
+#[tactic(auto, unfolding(crate::proofs::Unfoldings::steps, crate::specs::ItemReading::external_with))]
 fn external(cursor: &mut Cursor<'_>) -> Result<EventRule, Refusal>
     ensures exact { Gives event_rule_view result cursor.new (reading.external_with cursor.old) }
     ensures shorter { length cursor.new ≤ length cursor.old }

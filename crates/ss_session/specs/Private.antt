@@ -46,9 +46,13 @@ IsLoadFault load.Memory model = Unit {0}
 -- some of the lines are done, and their whole answers are written
 pub record IsWrittenSoFar (t : Input) (start : SessionState) (lines rest : List (List ℕ))
     (now : SessionState) (old new : Option (List ℕ)) : Type 0 where
+  -- the lines that are done
   pub done : List (List ℕ)
+  -- the others are still to come
   pub split : lines ≡ done ++ rest
+  -- the session is in the state behind them
   pub place : now ≡ session_state_after t start done
+  -- their answers are put behind what was written
   pub said : Appends old new (answers t start done)
 
 -- the state of a session in which QUIT has not come

@@ -31,6 +31,7 @@ IsHead ws n = ((HasPreamble ws → ⊥) × (n ≡ 0)) ⊎ (HasPreamble ws × Cou
 pub record InRoom (ws : List Plain) (k : ℕ) : Type 0 where
   -- the words of the preamble
   pub size : ℕ
+  -- they are those that count to its limits
   pub head : IsHead ws size
   -- what they count to
   pub declared : AreWithin (take k (roles (take size ws)))
@@ -39,25 +40,36 @@ pub record InRoom (ws : List Plain) (k : ℕ) : Type 0 where
 
 -- Word k passes a limit: the words before it are within the limits, and with it they begin programs, but aren't.
 pub record PassesLimit (ws : List Plain) (k : ℕ) : Type 0 where
+  -- there is such a word
   pub is_word : k < length ws
+  -- the words before it are within the limits
   pub before : InRoom ws k
+  -- with it they begin programs
   pub with_it : Begins (take (k + 1) ws)
+  -- but are not within the limits
   pub no_room : InRoom ws (k + 1) → ⊥
 
 -- P1: word k is the farthest word, and no word before it passes a limit.
 pub record IsUnexpectedWord (ws : List Plain) (k : ℕ) : Type 0 where
+  -- there is such a word
   pub is_word : k < length ws
+  -- it is the farthest word
   pub farthest : IsFarthest spell ws k
+  -- the words before it are within the limits
   pub in_room : InRoom ws k
 
 -- P2: the text's end is the farthest word, and no word before the last passes a limit.
 pub record IsUnexpectedEnd (ws : List Plain) : Type 0 where
+  -- the end is the farthest word
   pub farthest : IsFarthest spell ws (length ws)
+  -- the words before the last are within the limits
   pub in_room : InRoom ws (length ws - 1)
 
 -- P3: word k passes a limit, and it is not the last word of a text whose end is refused.
 pub record IsPastLimit (ws : List Plain) (k : ℕ) : Type 0 where
+  -- it passes a limit
   pub passes : PassesLimit ws k
+  -- it is not the last word of a text whose end is refused
   pub goes_on : k + 1 ≡ length ws → IsFarthest spell ws (length ws) → ⊥
 
 -- the words are refused by this rule at this line

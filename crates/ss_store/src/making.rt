@@ -148,10 +148,11 @@ impl<S: SetBoard> Store<S> {
         }
     }
 
-    /// Makes entities 1 to `n` of a permanent class, whose attributes are 0 and whose lists are empty.
+    /// Makes entities 1 to `n` of a permanent class, whose attributes are 0 and whose lists are
+    /// empty.
     ///
-    /// A class that was made already (F12), a number that is not 1 to 10,000 (F13), and then want of
-    /// memory are refused; a refusal leaves all as it was.
+    /// A class that was made already (F12), a number that is not 1 to 10,000 (F13), and then want
+    /// of memory are refused; a refusal leaves all as it was.
     pub fn create_all(&mut self, class: usize, n: i64) -> Result<StoreChange, StepFault>
         requires class { class < length self.old.tables.classes }
         requires kind { (class_of self.old.tables class).permanent ≡ true }

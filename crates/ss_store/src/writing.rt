@@ -45,8 +45,8 @@ pub(crate) fn replace(
 }
 
 impl<S: SetBoard> Store<S> {
-    /// Gives an attribute of an entity, by its number in the class, another value; F3 where the entity
-    /// does not exist, and then nothing changes.
+    /// Gives an attribute of an entity, by its number in the class, another value; F3 where the
+    /// entity does not exist, and then nothing changes.
     pub fn set(
         &mut self,
         class: usize,

@@ -19,6 +19,7 @@ ground_classes = record { attributes = 2; owned = 1; joined = 1; permanent = tru
     ∷ record { attributes = 2; owned = 2; joined = 4; permanent = false }
     ∷ record { attributes = 1; owned = 1; joined = 1; permanent = false } ∷ []
 
+-- a set by its discipline, its owner, its number there, the class of its members and its number there
 abbrev pub ground_set : Discipline → Owner → ℕ → ℕ → ℕ → SetShape
 ground_set d w n m k = record { discipline = d; owner = w; list = n; member = m; slot = k }
 
@@ -27,20 +28,32 @@ abbrev pub ground_sets : Discipline → Discipline → Discipline → Discipline
 ground_sets a b c d e f = ground_set a System 0 1 0 ∷ ground_set b (OwnedBy 0) 0 1 1 ∷ ground_set c (OwnedBy 1) 0 2 0
     ∷ ground_set d (OwnedBy 2) 0 1 2 ∷ ground_set e System 1 0 0 ∷ ground_set f (OwnedBy 1) 1 1 3 ∷ []
 
+-- these are the six sets
 pub record AreGroundSets (sets : List SetShape) : Type 0 where
+  -- the discipline of the first
   pub a : Discipline
+  -- of the second
   pub b : Discipline
+  -- of the third
   pub c : Discipline
+  -- of the fourth
   pub d : Discipline
+  -- of the fifth
   pub e : Discipline
+  -- of the sixth
   pub f : Discipline
+  -- with which they are the sets
   pub is : sets ≡ ground_sets a b c d e f
 
 -- three classes, of which the first is permanent, and six sets
 pub record IsGround (t : Tables) : Type 0 where
+  -- how many classes there are
   pub classes : length t.classes ≡ 3
+  -- how many sets
   pub sets : length t.sets ≡ 6
+  -- the first class is permanent
   pub made : (class_of t 0).permanent ≡ true
+  -- the others are not
   pub given : (c : ℕ) → 0 < c → (class_of t c).permanent ≡ false
 
 -- the answer of a call that gives no number

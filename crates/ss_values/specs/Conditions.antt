@@ -57,20 +57,25 @@ is_in_list v e r =
 
 -- each part from the left; b is the truth of what stands before further conjunctions or relations
 abbrev mutual
+  -- a condition
   pub holds : Readings → Condition → Result Bool RunFault
   holds v (any c cs) = conjunction_holds v c >>= λ b. any_holds v b cs
 
+  -- with further conjunctions, of which one holds
   pub any_holds : Readings → Bool → Conjunctions → Result Bool RunFault
   any_holds v b no_conjunctions = Ok b
   any_holds v b (or_else c cs) = true_or b (conjunction_holds v c >>= λ d. any_holds v d cs)
 
+  -- a conjunction
   pub conjunction_holds : Readings → Conjunction → Result Bool RunFault
   conjunction_holds v (all r rs) = relation_holds v r >>= λ b. all_hold v b rs
 
+  -- with further relations, which all hold
   pub all_hold : Readings → Bool → Relations → Result Bool RunFault
   all_hold v b no_relations = Ok b
   all_hold v b (and_also r rs) = true_and b (relation_holds v r >>= λ d. all_hold v d rs)
 
+  -- a relation
   pub relation_holds : Readings → Relation → Result Bool RunFault
   relation_holds v (compared e c f) = value_of v e >>= λ x. value_of v f >>= λ y. Ok (comparison_holds c x y)
   relation_holds v (is_empty r is) = is_empty_list v r >>= λ b. Ok (affirmed is b)

@@ -111,21 +111,26 @@ variable_value v Clock = v.clock
 -- each part from the left; x is the value of what stands before further terms or factors, and the greatest or the least
 -- of the arguments before further ones
 abbrev mutual
+  -- an expression
   pub value_of : Readings → Expr → Result ℤ RunFault
   value_of v (expr l t ss) = term_value v t >>= λ x. with_sign l x >>= λ y. sums_value v y ss
 
+  -- with further terms
   pub sums_value : Readings → ℤ → Sums → Result ℤ RunFault
   sums_value v x no_sums = Ok x
   sums_value v x (sum s t ss) = term_value v t >>= λ y. sum_or_difference s x y >>= λ z. sums_value v z ss
 
+  -- a term
   pub term_value : Readings → Term → Result ℤ RunFault
   term_value v (term f ps) = factor_value v f >>= λ x. products_value v x ps
 
+  -- with further factors
   pub products_value : Readings → ℤ → Products → Result ℤ RunFault
   products_value v x no_products = Ok x
   products_value v x (product f ps) =
       factor_value v f >>= λ y. result_in_range (x *ℤ y) >>= λ z. products_value v z ps
 
+  -- a factor
   pub factor_value : Readings → Factor → Result ℤ RunFault
   factor_value v (digits n) = result_in_range (pos n)
   factor_value v (variable x) = Ok (variable_value v x)
@@ -139,15 +144,18 @@ abbrev mutual
   factor_value v (member_kept kept s i) = subscript_value v i >>= member_kept_value v kept s
   factor_value v (within e) = value_of v e
 
+  -- the number that a subscript means
   pub subscript_value : Readings → Subscript → Result ℤ RunFault
   subscript_value v (implied i) = Ok (variable_value v (Global i))
   subscript_value v of_system = Ok (pos 0)
   subscript_value v (at e) = value_of v e
 
+  -- the greatest, with further arguments
   pub greatest_value : Readings → ℤ → Exprs → Result ℤ RunFault
   greatest_value v x no_exprs = Ok x
   greatest_value v x (exprs e es) = value_of v e >>= λ y. greatest_value v (int_max x y) es
 
+  -- the least, with further arguments
   pub least_value : Readings → ℤ → Exprs → Result ℤ RunFault
   least_value v x no_exprs = Ok x
   least_value v x (exprs e es) = value_of v e >>= λ y. least_value v (int_min x y) es

@@ -24,7 +24,14 @@ resolve_disjunction-returns t c =
     ≡ in_scope s resolved_alternatives (alternatives_of (map written.conjunction_view parts))
     = ap checked.conjunctions_of all
     ∙ alternatives_map s.whole.now s.names.now s.locals.now written.conjunction_view parts in
-    rw (fold-roll-Disjunction checked.Relation checked.Conjunction checked.Condition checked.relation_level checked.conjunction_level checked.disjunction_level, fold_out-Condition tree.Relation tree.Condition tree.Conjunction written.relation_step written.condition_step written.conjunction_step, c.in_ok-first.ensures, others) refl
+    rw (
+      fold-roll-Disjunction checked.Relation checked.Conjunction checked.Condition checked.relation_level
+          checked.conjunction_level checked.disjunction_level,
+      fold_out-Condition tree.Relation tree.Condition tree.Conjunction written.relation_step written.condition_step
+          written.conjunction_step,
+      c.in_ok-first.ensures,
+      others,
+    ) refl
 
 pub resolve_conjunction-returns : goal.resolve_conjunction-returns
 resolve_conjunction-returns t c =
@@ -36,4 +43,11 @@ resolve_conjunction-returns t c =
     ≡ in_scope s resolved_additions (additions_of (map written.relation_view parts))
     = ap checked.relations_of all
     ∙ additions_map s.whole.now s.names.now s.locals.now written.relation_view parts in
-    rw (fold-roll-Conjunction checked.Relation checked.Conjunction checked.Condition checked.relation_level checked.conjunction_level checked.disjunction_level, fold_out-Conjunction tree.Relation tree.Condition tree.Conjunction written.relation_step written.condition_step written.conjunction_step, c.in_ok-first.ensures, others) refl
+    rw (
+      fold-roll-Conjunction checked.Relation checked.Conjunction checked.Condition checked.relation_level
+          checked.conjunction_level checked.disjunction_level,
+      fold_out-Conjunction tree.Relation tree.Condition tree.Conjunction written.relation_step written.condition_step
+          written.conjunction_step,
+      c.in_ok-first.ensures,
+      others,
+    ) refl

@@ -26,7 +26,17 @@ resolve_sum-returns t c =
     let sums : checked.sums_of (map checked.signed_of c.loop-further.more.items)
     ≡ in_scope s resolved_sums (tree.sums_of (map written.added_view terms))
     = ap checked.sums_of all ∙ sums_map s.whole.now s.names.now s.locals.now written.added_view terms in
-    rw (fold-roll-Sum checked.Factor checked.Subscript (checked.Expr × checked.Exprs) (TermSign × checked.Term) checked.Expr checked.Term checked.factor_level checked.subscript_level checked.arguments_level checked.signed_level checked.sum_level checked.term_level, fold_out-Expr tree.Factor (WrittenSign × tree.Term) tree.Expr tree.Term written.factor_step written.added_step written.expr_step written.term_step, c.in_ok-first.ensures, c.resolve_lead-sign.ensures, sums) refl
+    rw (
+      fold-roll-Sum checked.Factor checked.Subscript (checked.Expr × checked.Exprs)
+          (TermSign × checked.Term) checked.Expr checked.Term checked.factor_level checked.subscript_level
+          checked.arguments_level checked.signed_level checked.sum_level checked.term_level,
+      fold_out-Expr tree.Factor
+          (WrittenSign × tree.Term) tree.Expr tree.Term written.factor_step written.added_step written.expr_step
+          written.term_step,
+      c.in_ok-first.ensures,
+      c.resolve_lead-sign.ensures,
+      sums,
+    ) refl
 
 pub resolve_term-returns : goal.resolve_term-returns
 resolve_term-returns t c =
@@ -37,7 +47,16 @@ resolve_term-returns t c =
     let products : checked.products_of (map checked.factor_of c.loop-further.more.items)
     ≡ in_scope s resolved_products (tree.products_of (map written.factor_view factors))
     = ap checked.products_of all ∙ products_map s.whole.now s.names.now s.locals.now written.factor_view factors in
-    rw (fold-roll-Term checked.Factor checked.Subscript (checked.Expr × checked.Exprs) (TermSign × checked.Term) checked.Expr checked.Term checked.factor_level checked.subscript_level checked.arguments_level checked.signed_level checked.sum_level checked.term_level, fold_out-Term tree.Factor (WrittenSign × tree.Term) tree.Expr tree.Term written.factor_step written.added_step written.expr_step written.term_step, c.in_ok-first.ensures, products) refl
+    rw (
+      fold-roll-Term checked.Factor checked.Subscript (checked.Expr × checked.Exprs)
+          (TermSign × checked.Term) checked.Expr checked.Term checked.factor_level checked.subscript_level
+          checked.arguments_level checked.signed_level checked.sum_level checked.term_level,
+      fold_out-Term tree.Factor
+          (WrittenSign × tree.Term) tree.Expr tree.Term written.factor_step written.added_step written.expr_step
+          written.term_step,
+      c.in_ok-first.ensures,
+      products,
+    ) refl
 
 -- the factor, with what was written
 seen : (t : ℕ) (c : goal.resolve_factor-After-applied_factor t) → written.factor_view c.args.f.now
@@ -46,7 +65,9 @@ seen : (t : ℕ) (c : goal.resolve_factor-After-applied_factor t) → written.fa
 seen t c =
     let x = c.in-Applied in
     ap written.factor_view (x.is ∙ sym (rolls-Applied x.name x.first x.others))
-    ∙ fold-roll-Factor tree.Factor (WrittenSign × tree.Term) tree.Expr tree.Term written.factor_step written.added_step written.expr_step written.term_step _
+    ∙ fold-roll-Factor tree.Factor
+    (WrittenSign × tree.Term) tree.Expr tree.Term written.factor_step written.added_step written.expr_step
+    written.term_step _
 
 -- its first argument
 first : (t : ℕ) (c : goal.resolve_factor-After-applied_factor t) →
@@ -73,6 +94,12 @@ resolve_factor-returns-after-loop-other t c =
     let exprs : checked.exprs_of (map checked.expr_of c.loop-other.more.items)
     ≡ in_scope s resolved_exprs (tree.exprs_of (map written.expr_view others))
     = ap checked.exprs_of all ∙ exprs_map s.whole.now s.names.now s.locals.now written.expr_view others in
-    let h = rw (fold-roll-Arguments checked.Factor checked.Subscript (checked.Expr × checked.Exprs) (TermSign × checked.Term) checked.Expr checked.Term checked.factor_level checked.subscript_level checked.arguments_level checked.signed_level checked.sum_level checked.term_level, exprs) at c.applied_factor.ensures in
+    let h = rw (
+      fold-roll-Arguments checked.Factor checked.Subscript (checked.Expr × checked.Exprs)
+          (TermSign × checked.Term) checked.Expr checked.Term checked.factor_level checked.subscript_level
+          checked.arguments_level checked.signed_level checked.sum_level checked.term_level,
+      exprs,
+    ) at
+    c.applied_factor.ensures in
     along c.applied_factor.result checked.factor_of _ _ h
     (rw (seen t c, first t c, kind t c, name t c) refl)

@@ -9,5 +9,6 @@ use Rattle.ss_checker.proofs.section_locals.add_used.Given as goal
 -- the uses that are left bring the table to the whole one
 abbrev pub invariant-loop-one : goal.invariant-loop-one
 invariant-loop-one l =
-    fold with_name l.locals (flat_map (undeclared l.whole) (flat_map variable_used (map use_view (drop l.one-index l.uses))))
+    fold with_name l.locals
+    (flat_map (undeclared l.whole) (flat_map variable_used (map use_view (drop l.one-index l.uses))))
     ≡ fold with_name l.fn.locals (flat_map (undeclared l.whole) (flat_map variable_used (map use_view l.uses)))

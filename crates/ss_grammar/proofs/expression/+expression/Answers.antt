@@ -41,7 +41,8 @@ sums-loop-more-preserved t c =
 
 pub sums-returns-clause-exact : goal.sums-returns-clause-exact
 sums-returns-clause-exact t c =
-    rw (c.shrink_to_fit.ensures.items) (list_stops (if_word lead (term_with c.args.room (inner_at c.args.room))) added_view
+    rw (c.shrink_to_fit.ensures.items)
+    (list_stops (if_word lead (term_with c.args.room (inner_at c.args.room))) added_view
     (star (if_word lead (term_with c.args.room (inner_at c.args.room))) c.args.cursor.now) c.loop-more.more.items
     c.loop-more.cursor c.next_sum.new.cursor (rw c.in_default.is at c.in_ok-added.ensures.exact)
     c.loop-more.invariant.going)
@@ -78,7 +79,8 @@ products-loop-more-preserved t c =
 
 pub products-returns-clause-exact : goal.products-returns-clause-exact
 products-returns-clause-exact t c =
-    rw (c.shrink_to_fit.ensures.items) (list_stops (if_mark (m.Sign s.Star) (factor_with c.args.room (inner_at c.args.room))) factor_view
+    rw (c.shrink_to_fit.ensures.items)
+    (list_stops (if_mark (m.Sign s.Star) (factor_with c.args.room (inner_at c.args.room))) factor_view
     (star (if_mark (m.Sign s.Star) (factor_with c.args.room (inner_at c.args.room))) c.args.cursor.now)
     c.loop-more.more.items c.loop-more.cursor c.next_product.new.cursor
     (rw c.in_default.is at c.in_ok-factor.ensures.exact) c.loop-more.invariant.going)

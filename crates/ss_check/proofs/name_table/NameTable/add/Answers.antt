@@ -13,7 +13,9 @@ returns-then-is_some-clause-ok c =
 
 pub invariant_of-self-in_err-insert : goal.invariant_of-self-in_err-insert
 invariant_of-self-in_err-insert c =
-    rw c.reserve.ensures.items (index_same c.self.inside.names.items c.self.inside.places c.insert.new.self c.in_err-insert.ensures.err c.self.invariant)
+    rw c.reserve.ensures.items
+    (index_same c.self.inside.names.items c.self.inside.places c.insert.new.self c.in_err-insert.ensures.err
+    c.self.invariant)
 
 pub invariant_of-self-2 : goal.invariant_of-self-2
 invariant_of-self-2 c =
@@ -24,10 +26,18 @@ invariant_of-self-2 c =
     let none = ap (λ (t : List (List ℕ)). position (bytes_eq c.args.name.now) t) c.self.view_is ∙ none_is _ absent in
     let size : c.len.result ≡ length c.self.inside.names.items =
     omega (arith, c.len.ensures, c.reserve.new.self.ok, ap length c.reserve.ensures.items) in
-    let updates = subst (λ (i : ℕ). UpdatesBy (λ x y. slice_cmp nat_cmp x.items y.items) (λ y. slice_cmp nat_cmp key.items y.items) c.self.inside.places c.insert.new.self (Some i))
+    let updates =
+    subst (λ (i : ℕ). UpdatesBy (λ x y. slice_cmp nat_cmp x.items y.items)
+    (λ y. slice_cmp nat_cmp key.items y.items) c.self.inside.places c.insert.new.self (Some i))
     size c.in_ok-insert.ensures.updates in
-    rw (c.push_reserved.ensures.items, c.reserve.ensures.items, c.in_ok-bytes.ensures.items, sym c.in_ok-key.ensures.items)
-    (index_more table c.self.inside.places c.insert.new.self key updates (rw c.in_ok-key.ensures.items none) c.self.invariant)
+    rw (
+      c.push_reserved.ensures.items,
+      c.reserve.ensures.items,
+      c.in_ok-bytes.ensures.items,
+      sym c.in_ok-key.ensures.items,
+    )
+    (index_more table c.self.inside.places c.insert.new.self key updates
+    (rw c.in_ok-key.ensures.items none) c.self.invariant)
 
 pub returns-clause-ok : goal.returns-clause-ok
 returns-clause-ok c =
