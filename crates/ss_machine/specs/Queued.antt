@@ -1,0 +1,110 @@
+-- Private: how changes are kept, as short notes and beside them those that are kept whole.
+use Rattle.std.specs.Prelude.{◌≡◌, ◌^◌, ◌<◌, ℕ, ◌+◌, List, [], ◌∷◌, drop, Option, Some, None}
+use Rattle.ss_check.specs.declared.kinds.Owner.{Owner}
+use Rattle.ss_check.specs.declared.kinds.Owner.TheVariants as owners
+use Rattle.ss_store.specs.declared.change.StoreChange.{StoreChange}
+use Rattle.ss_store.specs.declared.change.StoreChange.TheVariants as stores
+use Rattle.ss_events.specs.declared.agenda.AgendaChange.{AgendaChange}
+use Rattle.ss_events.specs.declared.agenda.AgendaChange.TheVariants as notices
+use Rattle.ss_machine.specs.declared.change.Change.{Change}
+use Rattle.ss_machine.specs.declared.change.Change.TheVariants as changes
+use Rattle.ss_machine.specs.declared.note.NotedOwner.{NotedOwner}
+use Rattle.ss_machine.specs.declared.note.NotedOwner.TheVariants as noted
+use Rattle.ss_machine.specs.declared.note.Note.{Note}
+use Rattle.ss_machine.specs.declared.note.Note.TheVariants.{Variable, Local, Place, Clock, AttributeSet, Created, Filed, FirstRemoved, Scheduled, Taken, Report, Status, LoopOpened, LoopMoved, LoopMovedFromNone, LoopClosed, FrameOpened, FrameDropped, Found, Whole}
+use Rattle.ss_machine.specs.declared.note.Form.{Form}
+use Rattle.ss_machine.specs.declared.note.Form.TheVariants as forms
+
+-- changes, the oldest first, and how many more there is room for, whatever they are
+pub record Queue : Type 0 where
+  pub changes : List Change
+  pub room : ℕ
+
+-- the owner that a note tells of
+abbrev pub noted_owner : NotedOwner → Owner
+noted_owner noted.System = owners.System
+noted_owner (noted.OwnedBy class) = owners.OwnedBy class
+
+-- the change that a note tells of, unless it is kept whole
+abbrev pub noted_change : Note → Option Change
+noted_change (Variable number old) = Some (changes.Variable number old)
+noted_change (Local number old) = Some (changes.Local number old)
+noted_change (Place old) = Some (changes.Place old)
+noted_change (Clock old) = Some (changes.Clock old)
+noted_change (AttributeSet class attribute number old) =
+    Some (changes.Store (stores.AttributeSet class attribute number old))
+noted_change (Created class number heads seats) = Some (changes.Store (stores.Created class number heads seats))
+noted_change (Filed set owner list number member) =
+    Some (changes.Store (stores.Filed set (noted_owner owner) list number member))
+noted_change (FirstRemoved set owner list number member) =
+    Some (changes.Store (stores.Removed set (noted_owner owner) list number member None))
+noted_change (Scheduled notice seated) = Some (changes.Agenda (notices.Scheduled notice seated))
+noted_change (Taken old) = Some (changes.Taken old)
+noted_change (Report old_len) = Some (changes.Report old_len)
+noted_change (Status old) = Some (changes.Status old)
+noted_change LoopOpened = Some changes.LoopOpened
+noted_change (LoopMoved old) = Some (changes.LoopMoved (Some old))
+noted_change LoopMovedFromNone = Some (changes.LoopMoved None)
+noted_change (LoopClosed closed) = Some (changes.LoopClosed closed)
+noted_change FrameOpened = Some changes.FrameOpened
+noted_change (FrameDropped dropped) = Some (changes.FrameDropped dropped)
+noted_change (Found old) = Some (changes.Found old)
+noted_change Whole = None
+
+-- an owner for which there is room in a note
+abbrev pub IsShortOwner : Owner → Type 0
+IsShortOwner owners.System = Unit {0}
+IsShortOwner (owners.OwnedBy class) = class < 2 ^ 8
+
+-- a change of the store that has a note: one that keeps no values and no place within a list
+abbrev pub IsShortStore : StoreChange → Type 0
+IsShortStore (stores.AttributeSet class attribute number old) =
+    (class < 2 ^ 8) × (attribute < 2 ^ 8) × (number < 2 ^ 32)
+IsShortStore (stores.Created class number heads seats) = (class < 2 ^ 8) × (number < 2 ^ 32)
+IsShortStore (stores.Filed set owner list number member) =
+    (set < 2 ^ 8) × IsShortOwner owner × (number < 2 ^ 32) × (member < 2 ^ 32)
+IsShortStore (stores.Removed set owner list number member None) =
+    (set < 2 ^ 8) × IsShortOwner owner × (number < 2 ^ 32) × (member < 2 ^ 32)
+IsShortStore other = ⊥
+
+-- a change of the event list that has a note: a scheduling
+abbrev pub IsShortAgenda : AgendaChange → Type 0
+IsShortAgenda (notices.Scheduled notice seated) = Unit {0}
+IsShortAgenda other = ⊥
+
+-- a change that has a note: all but those of an entry and of statistics, where its numbers are small
+abbrev pub IsShort : Change → Type 0
+IsShort (changes.Variable number old) = number < 2 ^ 32
+IsShort (changes.Local number old) = number < 2 ^ 32
+IsShort (changes.Store change) = IsShortStore change
+IsShort (changes.Agenda change) = IsShortAgenda change
+IsShort (changes.Entry old) = ⊥
+IsShort (changes.Statistics old) = ⊥
+IsShort other = Unit {0}
+
+-- how a change is kept: a short one as its note, another one whole
+abbrev pub IsFormOf : Form → Change → Type 0
+IsFormOf (forms.Short note) change = noted_change note ≡ Some change
+IsFormOf (forms.Whole whole) change = (whole ≡ change) × (IsShort change → ⊥)
+
+-- how many changes that are kept whole belong to a note: one where it tells of none
+abbrev pub whole_by : Option Change → ℕ
+whole_by (Some change) = 0
+whole_by None = 1
+
+-- how many of these some notes have
+abbrev pub whole_count : List Note → ℕ
+whole_count [] = 0
+whole_count (note ∷ notes) = whole_by (noted_change note) + whole_count notes
+
+-- the change of a note: the one that it tells of, or else the first that is kept whole (there is one for each such note)
+abbrev pub change_by : Option Change → List Change → Change
+change_by (Some change) wholes = change
+change_by None (whole ∷ wholes) = whole
+change_by None [] = changes.FrameOpened
+
+-- the changes of notes and of those that are kept whole, in order
+abbrev pub changes_of : List Note → List Change → List Change
+changes_of [] wholes = []
+changes_of (note ∷ notes) wholes =
+    change_by (noted_change note) wholes ∷ changes_of notes (drop (whole_by (noted_change note)) wholes)
