@@ -1,38 +1,39 @@
-ghost use Rattle.std.specs.Prelude.{◌≡◌, ◌+◌, ◌-◌, ◌<◌, ◌≤◌, ◌∷◌, [], length, IsOk, OnOk, MatchBool, MatchOption};
+ghost use Rattle.std.specs.Prelude.{◌≡◌, ◌+◌, ◌<◌, ◌≤◌, ◌∷◌, [], length, IsOk, OnOk, MatchBool, MatchOption};
 
 use crate::change::Change;
-use crate::queue::ChangeQueue;
+use crate::note::{Form, Note, form_of};
+use ss_journal::Journal;
 use std::alloc::{AllocError, Global};
-use std::collections::VecDeque;
 use std::marker::Model;
 
-/// The journal of changes.
+/// The journal of the machine's changes: a short note of each, and beside these the changes that
+/// are too long for a note.
+///
+/// Contracts see it as a journal of changes. Its room for notes is that for changes of any length:
+/// a short one may leave it as it was.
 #[derive(Drop)]
 pub struct History {
-    // The changes of all steps; the newest `unclosed` of them are those of the open step.
-    changes: ChangeQueue,
-    // How many changes each closed step has, the oldest step first.
-    sizes: VecDeque<usize>,
-    unclosed: usize,
+    notes: Journal<Note>,
+    // The changes of the notes that are `Whole`, in the same steps.
+    whole: Journal<Change>,
 }
 
 impl Model for History {
-    ghost use Rattle.std.specs.Prelude.{◌≡◌, ◌+◌, ◌-◌, length, sum, reverse, take, drop};
-    ghost use Rattle.std.specs.VecDeque.{deque_len, deque_capacity};
+    ghost use Rattle.std.specs.Prelude.{◌∷◌, min};
     ghost use Rattle.ss_journal.specs.Log.{Log};
-    ghost use Rattle.ss_journal.specs.Pieces.{cut_by_lengths};
     ghost use Rattle.ss_machine.specs.declared.change.Change.{Change};
+    ghost use Rattle.ss_machine.specs.History.{changes_of, steps_of, AreMatched};
 
     ghost Value = { Log Change };
 
     ghost view = { λ a. record {
-      steps = cut_by_lengths (reverse a.sizes.items) (drop a.unclosed (reverse a.changes.changes));
-      current = take a.unclosed (reverse a.changes.changes);
-      notes = a.changes.room;
-      closes = deque_capacity a.sizes - deque_len a.sizes;
+      steps = steps_of a.notes.steps a.whole.steps;
+      current = changes_of a.notes.current a.whole.current;
+      notes = min a.notes.notes a.whole.notes;
+      closes = min a.notes.closes a.whole.closes;
     } };
 
-    ghost invariant = { λ a. a.unclosed + sum a.sizes.items ≡ length a.changes.changes };
+    ghost invariant = { λ a. AreMatched (a.notes.current ∷ a.notes.steps) (a.whole.current ∷ a.whole.steps) };
 }
 
 impl History {
@@ -46,13 +47,15 @@ impl History {
         ensures closes { result.closes ≡ 0 }
     {
         History {
-            changes: ChangeQueue::new(alloc),
-            sizes: VecDeque::from_vec(Vec::new(alloc)),
-            unclosed: 0,
+            notes: Journal::new(alloc),
+            whole: Journal::new(alloc),
         }
     }
 
     /// Makes room for at least `n` notes and one close.
+    ///
+    /// Room grows by doubling. `AllocError` comes only where room was missing and a growth was
+    /// refused; other room may then have grown.
     pub fn reserve(&mut self, n: usize) -> Result<(), AllocError>
         ensures steps { self.new.steps ≡ self.old.steps }
         ensures current { self.new.current ≡ self.old.current }
@@ -62,12 +65,11 @@ impl History {
         ensures closes { OnOk result (0 < self.new.closes) }
         ensures had_room { n ≤ self.old.notes → 0 < self.old.closes → IsOk result }
     {
-        self.changes.try_reserve(n)?;
-        self.sizes.try_reserve(1)?;
-        Ok(())
+        self.notes.reserve(n)?;
+        self.whole.reserve(n)
     }
 
-    /// Notes a change as the newest of the open step.
+    /// Notes a change as the newest of the open step. It uses up the room of one note at most.
     pub fn note(&mut self, change: Change)
         requires { 0 < self.old.notes }
         ensures steps { self.new.steps ≡ self.old.steps }
@@ -75,11 +77,17 @@ impl History {
         ensures notes { self.old.notes ≤ self.new.notes + 1 }
         ensures closes { self.new.closes ≡ self.old.closes }
     {
-        self.changes.push_back(change);
-        self.unclosed += 1;
+        match form_of(change) {
+            Form::Short(note) => self.notes.note(note),
+            Form::Whole(change) => {
+                self.notes.note(Note::Whole);
+                self.whole.note(change);
+            }
+        }
     }
 
-    /// Makes the open step the newest closed one, and opens an empty step.
+    /// Makes the open step the newest closed one, and opens an empty step. It uses up the room of
+    /// one close.
     pub fn close(&mut self)
         requires { 0 < self.old.closes }
         ensures steps { self.new.steps ≡ self.old.current ∷ self.old.steps }
@@ -87,11 +95,11 @@ impl History {
         ensures notes { self.new.notes ≡ self.old.notes }
         ensures closes { self.new.closes + 1 ≡ self.old.closes }
     {
-        self.sizes.push_back_reserved(self.unclosed);
-        self.unclosed = 0;
+        self.notes.close();
+        self.whole.close();
     }
 
-    /// Takes the newest change off the open step.
+    /// Takes the newest change off the open step; `None` where that step is empty. No room is lost.
     pub fn pop_open(&mut self) -> Option<Change>
         ensures steps { self.new.steps ≡ self.old.steps }
         ensures current { MatchOption result
@@ -100,15 +108,14 @@ impl History {
         ensures notes { self.old.notes ≤ self.new.notes }
         ensures closes { self.new.closes ≡ self.old.closes }
     {
-        if self.unclosed == 0 {
-            return None;
+        match self.notes.pop_open()?.change() {
+            Some(change) => Some(change),
+            None => self.whole.pop_open(),
         }
-        let change = self.changes.pop_back()?;
-        self.unclosed -= 1;
-        Some(change)
     }
 
-    /// Makes the newest closed step the open one again.
+    /// Makes the newest closed step the open one again; false where no step is closed, and then
+    /// nothing changes. The room of its close is free again.
     pub fn reopen_last(&mut self) -> bool
         requires { self.old.current ≡ [] }
         ensures steps { MatchBool result
@@ -119,24 +126,20 @@ impl History {
             (self.new.closes ≡ self.old.closes + 1)
             (self.new.closes ≡ self.old.closes) }
     {
-        match self.sizes.pop_back() {
-            None => false,
-            Some(size) => {
-                self.unclosed = size;
-                true
-            }
-        }
+        self.notes.reopen_last() && self.whole.reopen_last()
     }
 
     /// The number of closed steps.
     pub fn steps(&self) -> usize
         ensures { result ≡ length self.now.steps }
     {
-        self.sizes.len()
+        self.notes.steps()
     }
 
     /// Forgets the oldest closed steps, so that the newest `n` are left, or all where there are
-    /// fewer.
+    /// fewer. The room of what is forgotten is free again.
+    ///
+    /// It takes no memory, and its time is in proportion to the changes forgotten.
     pub fn keep_last(&mut self, n: usize)
         requires { self.old.current ≡ [] }
         ensures steps { self.new.steps ≡ newest n self.old.steps }
@@ -144,23 +147,7 @@ impl History {
         ensures notes { self.old.notes ≤ self.new.notes }
         ensures closes { self.new.closes + length self.new.steps ≡ self.old.closes + length self.old.steps }
     {
-        while n < self.steps() {
-            self.forget_oldest();
-        }
-    }
-
-    /// Forgets the oldest closed step.
-    fn forget_oldest(&mut self)
-        requires current { self.old.current ≡ [] }
-        requires steps { 0 < length self.old.steps }
-        ensures steps { self.new.steps ≡ newest (length self.old.steps - 1) self.old.steps }
-        ensures current { self.new.current ≡ [] }
-        ensures notes { self.old.notes ≤ self.new.notes }
-        ensures closes { self.new.closes ≡ self.old.closes + 1 }
-    {
-        let size = self.sizes.pop_front().unwrap_or(0);
-        for _ in 0..size {
-            drop(self.changes.pop_front());
-        }
+        self.notes.keep_last(n);
+        self.whole.keep_last(n);
     }
 }

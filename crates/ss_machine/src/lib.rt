@@ -19,7 +19,6 @@ mod loops;
 mod machine;
 mod note;
 mod questions;
-mod queue;
 mod state;
 mod statistics;
 mod status;

@@ -1,6 +1,6 @@
 ghost use Rattle.std.specs.Prelude.{◌≡◌, IfSome, IsSome, Some};
 ghost use Rattle.ss_machine.specs.declared.change.Change.TheVariants.{Store, Agenda};
-ghost use Rattle.ss_machine.specs.Queued.{noted_change, noted_owner, IsShortStore, IsShortOwner, IsFormOf};
+ghost use Rattle.ss_machine.specs.History.{noted_change, noted_owner, IsShortStore, IsShortOwner, IsFormOf};
 
 use crate::change::Change;
 use crate::frame::FrameBox;
@@ -14,16 +14,47 @@ use std::mem::size_of;
 /// A change in few bytes, or a word for one that is kept whole elsewhere.
 #[derive(Drop)]
 pub enum Note {
-    Variable { number: u32, old: i64 },
-    Local { number: u32, old: i64 },
+    Variable {
+        number: u32,
+        old: i64,
+    },
+    Local {
+        number: u32,
+        old: i64,
+    },
     Place(usize),
     Clock(i64),
-    AttributeSet { class: u8, attribute: u8, number: u32, old: i64 },
-    Created { class: u8, number: u32, heads: u32, seats: u32 },
-    Filed { set: u8, owner: NotedOwner, list: u32, number: u32, member: u32 },
+    AttributeSet {
+        class: u8,
+        attribute: u8,
+        number: u32,
+        old: i64,
+    },
+    Created {
+        class: u8,
+        number: u32,
+        heads: u32,
+        seats: u32,
+    },
+    Filed {
+        set: u8,
+        owner: NotedOwner,
+        list: u32,
+        number: u32,
+        member: u32,
+    },
     /// From the first place of the list.
-    FirstRemoved { set: u8, owner: NotedOwner, list: u32, number: u32, member: u32 },
-    Scheduled { notice: u32, seated: bool },
+    FirstRemoved {
+        set: u8,
+        owner: NotedOwner,
+        list: u32,
+        number: u32,
+        member: u32,
+    },
+    Scheduled {
+        notice: u32,
+        seated: bool,
+    },
     Taken(usize),
     Report(usize),
     Status(Status),
@@ -206,7 +237,12 @@ impl Note {
             },
             Note::Place(old) => Change::Place(old),
             Note::Clock(old) => Change::Clock(old),
-            Note::AttributeSet { class, attribute, number, old } => {
+            Note::AttributeSet {
+                class,
+                attribute,
+                number,
+                old,
+            } => {
                 Change::Store(StoreChange::AttributeSet {
                     class: class as usize,
                     attribute: attribute as usize,
@@ -214,20 +250,37 @@ impl Note {
                     old,
                 })
             }
-            Note::Created { class, number, heads, seats } => Change::Store(StoreChange::Created {
+            Note::Created {
+                class,
+                number,
+                heads,
+                seats,
+            } => Change::Store(StoreChange::Created {
                 class: class as usize,
                 number: number as usize,
                 heads,
                 seats,
             }),
-            Note::Filed { set, owner, list, number, member } => Change::Store(StoreChange::Filed {
+            Note::Filed {
+                set,
+                owner,
+                list,
+                number,
+                member,
+            } => Change::Store(StoreChange::Filed {
                 set: set as usize,
                 owner: owner.whole(),
                 list,
                 number: number as usize,
                 member: member as usize,
             }),
-            Note::FirstRemoved { set, owner, list, number, member } => {
+            Note::FirstRemoved {
+                set,
+                owner,
+                list,
+                number,
+                member,
+            } => {
                 Change::Store(StoreChange::Removed {
                     set: set as usize,
                     owner: owner.whole(),

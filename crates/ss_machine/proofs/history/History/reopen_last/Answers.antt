@@ -1,15 +1,23 @@
-use Rattle.std.proofs.Common.{refl, sym, ap, ◌∙◌}
+use Rattle.std.proofs.Common.{◌≡◌, [], ◌∙◌, ap, refl}
 use Rattle.ss_journal.specs.Log.{Log}
-use Rattle.ss_journal.proofs.Cuts.{rest_of_sizes, pieces_back}
+use Rattle.ss_machine.specs.declared.change.Change.{Change}
+use Rattle.ss_machine.specs.History.{AreMatched}
+use Rattle.ss_machine.proofs.Histories.{no_notes, no_wholes}
 use Rattle.ss_machine.proofs.history.History.reopen_last.Goals as goal
 
-pub invariant_of-self-in-Some : goal.invariant_of-self-in-Some
-invariant_of-self-in-Some c =
-    let none = ap (λ (v : Log _). v.current) c.self.view_is ∙ c.requires in
-    rest_of_sizes _ _ _ _ _ c.self.inside.changes.changes c.self.invariant refl none c.in-Some.ensures.items
+pub reopen_last-requires : goal.reopen_last-requires
+reopen_last-requires c =
+    no_notes _ c.self.inside.whole.current (ap (λ (v : Log Change). v.current) c.self.view_is ∙ c.requires)
 
-pub returns-in-Some-clause-steps : goal.returns-in-Some-clause-steps
-returns-in-Some-clause-steps c =
-    let none = ap (λ (v : Log _). v.current) c.self.view_is ∙ c.requires in
-    sym (ap (λ (v : Log _). v.steps) c.self.view_is)
-    ∙ pieces_back _ _ _ _ _ c.self.inside.changes.changes c.self.invariant refl none c.in-Some.ensures.items
+pub reopen_last-requires-then-reopen_last : goal.reopen_last-requires-then-reopen_last
+reopen_last-requires-then-reopen_last c =
+    no_wholes c.self.inside.notes.current _ (ap (λ (v : Log Change). v.current) c.self.view_is ∙ c.requires)
+    c.self.invariant.0
+
+pub invariant_of-self-else-reopen_last : goal.invariant_of-self-else-reopen_last
+invariant_of-self-else-reopen_last c =
+    let wholes : c.self.inside.whole.current ≡ [] =
+    no_wholes c.self.inside.notes.current _ (ap (λ (v : Log Change). v.current) c.self.view_is ∙ c.requires)
+    c.self.invariant.0 in
+    let none = c.if-reopen_last.ensures.steps in
+    (rw (wholes, none.2) refl, rw none.1 (rw none.0 at c.self.invariant.1))

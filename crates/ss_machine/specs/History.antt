@@ -1,5 +1,5 @@
 -- Private: how changes are kept, as short notes and beside them those that are kept whole.
-use Rattle.std.specs.Prelude.{◌≡◌, ◌^◌, ◌<◌, ℕ, ◌+◌, List, [], ◌∷◌, drop, Option, Some, None}
+use Rattle.std.specs.Prelude.{◌≡◌, ◌^◌, ◌<◌, ℕ, ◌+◌, List, [], ◌∷◌, length, drop, Option, Some, None}
 use Rattle.ss_check.specs.declared.kinds.Owner.{Owner}
 use Rattle.ss_check.specs.declared.kinds.Owner.TheVariants as owners
 use Rattle.ss_store.specs.declared.change.StoreChange.{StoreChange}
@@ -14,11 +14,6 @@ use Rattle.ss_machine.specs.declared.note.Note.{Note}
 use Rattle.ss_machine.specs.declared.note.Note.TheVariants.{Variable, Local, Place, Clock, AttributeSet, Created, Filed, FirstRemoved, Scheduled, Taken, Report, Status, LoopOpened, LoopMoved, LoopMovedFromNone, LoopClosed, FrameOpened, FrameDropped, Found, Whole}
 use Rattle.ss_machine.specs.declared.note.Form.{Form}
 use Rattle.ss_machine.specs.declared.note.Form.TheVariants as forms
-
--- changes, the oldest first, and how many more there is room for, whatever they are
-pub record Queue : Type 0 where
-  pub changes : List Change
-  pub room : ℕ
 
 -- the owner that a note tells of
 abbrev pub noted_owner : NotedOwner → Owner
@@ -87,12 +82,12 @@ abbrev pub IsFormOf : Form → Change → Type 0
 IsFormOf (forms.Short note) change = noted_change note ≡ Some change
 IsFormOf (forms.Whole whole) change = (whole ≡ change) × (IsShort change → ⊥)
 
--- how many changes that are kept whole belong to a note: one where it tells of none
+-- how many of the changes that are kept whole belong to a note: one where it tells of none
 abbrev pub whole_by : Option Change → ℕ
 whole_by (Some change) = 0
 whole_by None = 1
 
--- how many of these some notes have
+-- how many of these the notes of a step have
 abbrev pub whole_count : List Note → ℕ
 whole_count [] = 0
 whole_count (note ∷ notes) = whole_by (noted_change note) + whole_count notes
@@ -103,8 +98,20 @@ change_by (Some change) wholes = change
 change_by None (whole ∷ wholes) = whole
 change_by None [] = changes.FrameOpened
 
--- the changes of notes and of those that are kept whole, in order
+-- the changes of a step, from its notes and from those that are kept whole
 abbrev pub changes_of : List Note → List Change → List Change
 changes_of [] wholes = []
 changes_of (note ∷ notes) wholes =
     change_by (noted_change note) wholes ∷ changes_of notes (drop (whole_by (noted_change note)) wholes)
+
+-- the same of all steps
+abbrev pub steps_of : List (List Note) → List (List Change) → List (List Change)
+steps_of (notes ∷ steps) (wholes ∷ rest) = changes_of notes wholes ∷ steps_of steps rest
+steps_of steps wholes = []
+
+-- each step has as many changes that are kept whole as its notes say
+abbrev pub AreMatched : List (List Note) → List (List Change) → Type 0
+AreMatched [] [] = Unit {0}
+AreMatched (notes ∷ steps) (wholes ∷ rest) = (whole_count notes ≡ length wholes) × AreMatched steps rest
+AreMatched [] (wholes ∷ rest) = ⊥
+AreMatched (notes ∷ steps) [] = ⊥
