@@ -1,6 +1,6 @@
 -- steps of notes, and the changes beside them that are kept whole
-use Rattle.std.proofs.Common.{◌≡◌, ℕ, ◌+◌, ◌≤◌, List, [], ◌∷◌, length, take, refl, ap, arith, zero, suc}
-use Rattle.std.specs.Prelude.{sum, map}
+use Rattle.std.proofs.Common.{◌≡◌, ℕ, ◌≤◌, List, [], ◌∷◌, length, take, refl, ap, arith, zero, suc}
+use Rattle.std.specs.Prelude.{map}
 use Rattle.std.proofs.lemmas.List.Sums.{sum_by-cons}
 use Rattle.ss_journal.specs.Log.{newest, change_count}
 use Rattle.ss_machine.specs.declared.change.Change.{Change}
@@ -54,7 +54,8 @@ newest_matched (suc n) (notes ∷ steps) (whole ∷ wholes) matched =
     (matched.0, newest_matched n steps wholes matched.1)
 
 -- the newest steps have no more changes than all
-pub change_count-newest : {C : Type 0} (n : ℕ) (steps : List (List C)) → change_count (newest n steps) ≤ change_count steps
+pub change_count-newest : {C : Type 0} (n : ℕ) (steps : List (List C)) →
+    change_count (newest n steps) ≤ change_count steps
 change_count-newest zero steps = omega arith
 change_count-newest (suc n) [] = omega arith
 change_count-newest (suc n) (step ∷ steps) =

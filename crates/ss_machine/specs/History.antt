@@ -51,7 +51,8 @@ abbrev pub IsShortOwner : Owner → Type 0
 IsShortOwner owners.System = Unit {0}
 IsShortOwner (owners.OwnedBy class) = class < 2 ^ 8
 
--- a change of the store that has a note: one that keeps no values and no place within a list
+-- a change of the store that has a note: not an ending, which keeps values, nor a removal from behind a member; and its
+-- numbers are small
 abbrev pub IsShortStore : StoreChange → Type 0
 IsShortStore (stores.AttributeSet class attribute number old) =
     (class < 2 ^ 8) × (attribute < 2 ^ 8) × (number < 2 ^ 32)
@@ -67,7 +68,7 @@ abbrev pub IsShortAgenda : AgendaChange → Type 0
 IsShortAgenda (notices.Scheduled notice seated) = Unit {0}
 IsShortAgenda other = ⊥
 
--- a change that has a note: all but those of an entry and of statistics, where its numbers are small
+-- a change that has a note: not one of an entry or of statistics, and its numbers are small
 abbrev pub IsShort : Change → Type 0
 IsShort (changes.Variable number old) = number < 2 ^ 32
 IsShort (changes.Local number old) = number < 2 ^ 32
@@ -77,7 +78,7 @@ IsShort (changes.Entry old) = ⊥
 IsShort (changes.Statistics old) = ⊥
 IsShort other = Unit {0}
 
--- how a change is kept: a short one as its note, another one whole
+-- how a change is kept: in its note where it has one, else whole
 abbrev pub IsFormOf : Form → Change → Type 0
 IsFormOf (forms.Short note) change = noted_change note ≡ Some change
 IsFormOf (forms.Whole whole) change = (whole ≡ change) × (IsShort change → ⊥)
@@ -92,7 +93,8 @@ abbrev pub whole_count : List Note → ℕ
 whole_count [] = 0
 whole_count (note ∷ notes) = whole_by (noted_change note) + whole_count notes
 
--- the change of a note: the one that it tells of, or else the first that is kept whole (there is one for each such note)
+-- the change of a note: the one that it tells of, or else the first of those kept whole (of which each such note has
+-- one, so that the last case is never met)
 abbrev pub change_by : Option Change → List Change → Change
 change_by (Some change) wholes = change
 change_by None (whole ∷ wholes) = whole

@@ -12,6 +12,9 @@ use ss_store::StoreChange;
 use std::mem::size_of;
 
 /// A change in few bytes, or a word for one that is kept whole elsewhere.
+///
+/// The variants are those of [`Change`], of `StoreChange` and of `AgendaChange`, with smaller
+/// numbers.
 #[derive(Drop)]
 pub enum Note {
     Variable {
@@ -43,7 +46,7 @@ pub enum Note {
         number: u32,
         member: u32,
     },
-    /// From the first place of the list.
+    /// A member was removed from the first place of the list.
     FirstRemoved {
         set: u8,
         owner: NotedOwner,
@@ -59,9 +62,8 @@ pub enum Note {
     Report(usize),
     Status(Status),
     LoopOpened,
-    /// The old candidate of the innermost loop.
     LoopMoved(i64),
-    /// The innermost loop had none.
+    /// The innermost loop had no candidate.
     LoopMovedFromNone,
     LoopClosed(ClosedLoop),
     FrameOpened,
@@ -72,7 +74,7 @@ pub enum Note {
 }
 
 /// Whose a set's lists are, in few bytes.
-#[derive(Clone, Copy, PartialEq, Eq)]
+#[derive(Clone, Copy)]
 pub enum NotedOwner {
     System,
     OwnedBy(u8),

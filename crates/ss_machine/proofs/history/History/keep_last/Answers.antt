@@ -1,4 +1,4 @@
-use Rattle.std.proofs.Common.{◌≡◌, [], ◌∙◌, ap, refl, arith, length}
+use Rattle.std.proofs.Common.{◌∙◌, ap, refl, arith}
 use Rattle.ss_journal.specs.Log.{Log}
 use Rattle.ss_machine.specs.declared.change.Change.{Change}
 use Rattle.ss_machine.proofs.Histories.{no_notes, no_wholes, length-steps, length-wholes, steps_of-newest, newest_matched, change_count-newest}
