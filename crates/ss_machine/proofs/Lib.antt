@@ -2,6 +2,7 @@ pub mod Sets
 pub mod Parts
 pub mod Takes
 pub mod Notings
+pub mod Histories
 pub mod Sounds
 pub mod Scopes
 pub mod Returns

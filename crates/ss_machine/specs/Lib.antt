@@ -14,3 +14,4 @@ pub mod Examples
 pub mod Seen
 pub mod Noting
 pub mod Storing
+pub mod History

