@@ -88,102 +88,131 @@ fn debugger(alloc: Global) -> Result<Debugger<LinkedSets>, Fail> {
     ))
 }
 
-/// Obeys each line, and compares what it appends and where it stands then.
-fn turns(rt: &impl Abort, alloc: Global, table: &[(&str, &str)], go: Go) -> Result<(), Fail> {
+/// Obeys a line, and compares what it appends, behind what stood there, and how it ends.
+fn turn(
+    rt: &impl Abort,
+    alloc: Global,
+    debugger: &mut Debugger<LinkedSets>,
+    line: &str,
+    answer: &str,
+    go: Go,
+) -> Result<(), Fail> {
+    let mut bytes = Vec::from_slice(alloc, b"before\n")?;
+    let gone = obey(debugger, command(line.as_bytes()), &mut bytes)?;
+    assert_eq!(rt;
+        bytes.strip_prefix(b"before\n"),
+        Some(answer.as_bytes()),
+        "{line}"
+    );
+    assert_eq!(rt; gone, go, "{line}");
+    Ok(())
+}
+
+/// Takes the turns of a script: each line behind `> ` is obeyed, and is to append the lines between
+/// it and the next.
+fn turns(rt: &impl Abort, alloc: Global, script: &str, go: Go) -> Result<(), Fail> {
     let mut debugger = debugger(alloc)?;
-    for (line, answer) in table {
-        let mut bytes = Vec::from_slice(alloc, b"before\n")?;
-        let mut wanted = Vec::from_slice(alloc, b"before\n")?;
-        wanted.extend_from_slice(answer.as_bytes())?;
-        let gone = obey(&mut debugger, command(line.as_bytes()), &mut bytes)?;
-        assert_eq!(rt; bytes.as_slice(), wanted.as_slice(), "{line}");
-        assert_eq!(rt; gone, go, "{line}");
+    for line in script.split("> ").skip(1) {
+        let (line, answer) = line.split_once('\n').unwrap_or((line, ""));
+        turn(rt, alloc, &mut debugger, line, answer, go)?;
     }
     Ok(())
 }
 
+const STEPS_ARE_ANSWERED: &str = "\
+    > BACK\n\
+    START: STATE 0 CLOCK 0 READY IN MAIN LINE 2\n\
+    > STEP\n\
+    DONE: STATE 1 CLOCK 0 READY IN MAIN LINE 3\n\
+    > run 1\n\
+    BOUND: STATE 2 CLOCK 0 READY IN MAIN LINE 5\n\
+    > RUN\n\
+    HALTED: STATE 3 CLOCK 0 STOPPED IN MAIN LINE 5\n\
+    > STEP 2\n\
+    HALTED: STATE 3 CLOCK 0 STOPPED IN MAIN LINE 5\n\
+    > BACK 3\n\
+    DONE: STATE 0 CLOCK 0 READY IN MAIN LINE 2\n\
+    > STEP 3\n\
+    HALTED: STATE 3 CLOCK 0 STOPPED IN MAIN LINE 5\n\
+    > BACK 4\n\
+    START: STATE 0 CLOCK 0 READY IN MAIN LINE 2\n\
+    ";
+
 #[test]
 fn steps_are_answered(rt: HostRuntime) -> Result<(), Fail> {
-    turns(
-        &rt,
-        rt.alloc(),
-        &[
-            ("BACK", "START: STATE 0 CLOCK 0 READY IN MAIN LINE 2\n"),
-            ("STEP", "DONE: STATE 1 CLOCK 0 READY IN MAIN LINE 3\n"),
-            ("run 1", "BOUND: STATE 2 CLOCK 0 READY IN MAIN LINE 5\n"),
-            ("RUN", "HALTED: STATE 3 CLOCK 0 STOPPED IN MAIN LINE 5\n"),
-            ("STEP 2", "HALTED: STATE 3 CLOCK 0 STOPPED IN MAIN LINE 5\n"),
-            ("BACK 3", "DONE: STATE 0 CLOCK 0 READY IN MAIN LINE 2\n"),
-            ("STEP 3", "HALTED: STATE 3 CLOCK 0 STOPPED IN MAIN LINE 5\n"),
-            ("BACK 4", "START: STATE 0 CLOCK 0 READY IN MAIN LINE 2\n"),
-        ],
-        Go::On,
-    )
+    turns(&rt, rt.alloc(), STEPS_ARE_ANSWERED, Go::On)
 }
+
+const QUESTIONS_ARE_ANSWERED: &str = "\
+    >  \t\r\n\
+    > FOO\n\
+    BAD COMMAND\n\
+    > SHOW REPORT\n\
+    REPORT\n\
+    > step 2\n\
+    DONE: STATE 2 CLOCK 0 READY IN MAIN LINE 5\n\
+    > show var x\n\
+    X = 5\n\
+    > show report\n\
+    REPORT\n\
+    X =   5\n\
+    > SHOW VAR TIME.V\n\
+    TIME.V = 0\n\
+    > SHOW VAR 1y\n\
+    NO VARIABLE 1Y\n\
+    ";
 
 #[test]
 fn questions_are_answered(rt: HostRuntime) -> Result<(), Fail> {
-    turns(
-        &rt,
-        rt.alloc(),
-        &[
-            (" \t\r", ""),
-            ("FOO", "BAD COMMAND\n"),
-            ("SHOW REPORT", "REPORT\n"),
-            ("step 2", "DONE: STATE 2 CLOCK 0 READY IN MAIN LINE 5\n"),
-            ("show var x", "X = 5\n"),
-            ("show report", "REPORT\nX =   5\n"),
-            ("SHOW VAR TIME.V", "TIME.V = 0\n"),
-            ("SHOW VAR 1y", "NO VARIABLE 1Y\n"),
-        ],
-        Go::On,
-    )
+    turns(&rt, rt.alloc(), QUESTIONS_ARE_ANSWERED, Go::On)
 }
+
+const BREAK_LINES_ARE_RUN_TO: &str = "\
+    > BREAK 3\n\
+    BREAK 3 SET\n\
+    > RUN\n\
+    BREAK: STATE 1 CLOCK 0 READY IN MAIN LINE 3\n\
+    > RUN\n\
+    HALTED: STATE 3 CLOCK 0 STOPPED IN MAIN LINE 5\n\
+    > BACK BREAK\n\
+    BREAK: STATE 1 CLOCK 0 READY IN MAIN LINE 3\n\
+    > BACK BREAK\n\
+    START: STATE 0 CLOCK 0 READY IN MAIN LINE 2\n\
+    > CLEAR 3\n\
+    BREAK 3 CLEARED\n\
+    > CLEAR 3\n\
+    NO BREAK 3\n\
+    ";
 
 #[test]
 fn break_lines_are_run_to(rt: HostRuntime) -> Result<(), Fail> {
-    turns(
-        &rt,
-        rt.alloc(),
-        &[
-            ("BREAK 3", "BREAK 3 SET\n"),
-            ("RUN", "BREAK: STATE 1 CLOCK 0 READY IN MAIN LINE 3\n"),
-            ("RUN", "HALTED: STATE 3 CLOCK 0 STOPPED IN MAIN LINE 5\n"),
-            (
-                "BACK BREAK",
-                "BREAK: STATE 1 CLOCK 0 READY IN MAIN LINE 3\n",
-            ),
-            (
-                "BACK BREAK",
-                "START: STATE 0 CLOCK 0 READY IN MAIN LINE 2\n",
-            ),
-            ("CLEAR 3", "BREAK 3 CLEARED\n"),
-            ("CLEAR 3", "NO BREAK 3\n"),
-        ],
-        Go::On,
-    )
+    turns(&rt, rt.alloc(), BREAK_LINES_ARE_RUN_TO, Go::On)
 }
+
+const TIMES_ARE_RUN_TO: &str = "\
+    > BREAK 2\n\
+    BREAK 2 SET\n\
+    > RUN TO 0\n\
+    TIME: STATE 0 CLOCK 0 READY IN MAIN LINE 2\n\
+    > RUN TO 1\n\
+    HALTED: STATE 3 CLOCK 0 STOPPED IN MAIN LINE 5\n\
+    > SHOW CLOCK\n\
+    CLOCK 0\n\
+    > SHOW WHERE\n\
+    STATE 3 CLOCK 0 STOPPED IN MAIN LINE 5\n\
+    ";
 
 #[test]
 fn times_are_run_to(rt: HostRuntime) -> Result<(), Fail> {
-    turns(
-        &rt,
-        rt.alloc(),
-        &[
-            ("BREAK 2", "BREAK 2 SET\n"),
-            ("RUN TO 0", "TIME: STATE 0 CLOCK 0 READY IN MAIN LINE 2\n"),
-            (
-                "RUN TO 1",
-                "HALTED: STATE 3 CLOCK 0 STOPPED IN MAIN LINE 5\n",
-            ),
-            ("SHOW CLOCK", "CLOCK 0\n"),
-            ("SHOW WHERE", "STATE 3 CLOCK 0 STOPPED IN MAIN LINE 5\n"),
-        ],
-        Go::On,
-    )
+    turns(&rt, rt.alloc(), TIMES_ARE_RUN_TO, Go::On)
 }
+
+const QUIT_ENDS: &str = "\
+    > QUIT\n\
+    > quit\r\n\
+    ";
 
 #[test]
 fn quit_ends(rt: HostRuntime) -> Result<(), Fail> {
-    turns(&rt, rt.alloc(), &[("QUIT", ""), ("quit\r", "")], Go::Quit)
+    turns(&rt, rt.alloc(), QUIT_ENDS, Go::Quit)
 }

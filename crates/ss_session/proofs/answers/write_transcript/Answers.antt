@@ -13,7 +13,7 @@ returns-in_err-obey_lines g c =
     let s = start_is c.args.machine _ c.new-debugger.ensures c.requires.start c.requires.forgotten in
     let p = ap (λ h. h.machine.input) c.new-debugger.ensures in
     let t = rw p at c.in_err-obey_lines.ensures in
-    let e : c.from_residual.result ≡ Err c.in_err-obey_lines.field-0.0 = search rules in
+    let e : c.from_residual.result ≡ Err c.in_err-obey_lines.field-0.0 = search (rules, c.from_residual) in
     rw e (commands_cut _ _ _ _ _ _ _ _ _ s t)
 
 pub returns-in_err-put_both : goal.returns-in_err-put_both
@@ -25,7 +25,7 @@ returns-in_err-put_both g c =
     let k = rw c.machine-machine.ensures at c.known.ensures.state in
     let r = state_is _ _ _ _ _ t.1 k (ap (λ d. d.position) t.0) in
     let o = rw (c.report.ensures, c.machine-machine.ensures, r) at c.in_err-put_both.ensures.err in
-    let e : c.from_residual-in_err-put_both.result ≡ Err cut.Write = search rules in
+    let e : c.from_residual-in_err-put_both.result ≡ Err cut.Write = search (rules, c.from_residual-in_err-put_both) in
     rw e (part_right _ _ _ _ _ t.2 o.0, o.1 ∙ ap (λ n. n + 1) t.3)
 
 pub put_both-requires : goal.put_both-requires
