@@ -80,8 +80,7 @@ item_kept d b x h =
     record {
       once = first_of_four (one_conflicts b.kinds (declarations x)) (repeats b.disciplines (disciplined_sets x.item))
           (repeats b.ties (tied_events x.item)) (repeats b.external (external_in x.item)) once;
-      member = first_of_three (is_one_outside (names_of d.members) (new_sets d b x.item))
-          (repeats (names_of b.members) (names_of (members_in x.item)))
+      member = first_of_three (is_one_outside (names_of d.members) (new_sets d b x.item)) (repeats (names_of b.members) (names_of (members_in x.item)))
           (Rattle.ss_checker.specs.ItemRules.joins_system (class_of x.item) (joined x.item)) member;
       keys = not_broken WrongKey (has_wrong_keys d b x.item) p5.1;
       event = not_broken WrongEvent (lacks_section d b x.item) p6.1;
@@ -101,8 +100,7 @@ abbrev pub AreItemsKept : Tables → List Entry → List Entry → Type 0
 AreItemsKept d before [] = Unit {0}
 AreItemsKept d before (x ∷ xs) = IsItemKept d (tables_of before []) x × AreItemsKept d (before ++ x ∷ []) xs
 
-items_kept : (d : Tables) (before xs : List Entry) → AreUnbroken (item_statements d before xs) →
-    AreItemsKept d before xs
+items_kept : (d : Tables) (before xs : List Entry) → AreUnbroken (item_statements d before xs) → AreItemsKept d before xs
 items_kept d before [] h = tt
 items_kept d before (x ∷ xs) h = (item_kept d (tables_of before []) x h.0, items_kept d (before ++ x ∷ []) xs h.1)
 
@@ -117,8 +115,7 @@ pub record IsPlaceKept (d : Tables) (in_main : Bool) (p : w.Place) : Type 0 wher
   pub start : (is_start p && not in_main) ≡ false
 
 -- a place's own uses are among those of its statement
-own_uses : (test : Use → Bool) (p : w.Place) (ps : List w.Spot) → list_any test (uses_from p ps) ≡ false →
-    list_any test (uses p) ≡ false
+own_uses : (test : Use → Bool) (p : w.Place) (ps : List w.Spot) → list_any test (uses_from p ps) ≡ false → list_any test (uses p) ≡ false
 own_uses test (w.Loops (w.Gather e)) (q ∷ qs) h =
     (or_parts (list_any test (uses (w.Loops (w.Gather e)))) (list_any test (uses q.place))
     (sym (list_any-append test (uses (w.Loops (w.Gather e))) (uses q.place)) ∙ h)).0
@@ -161,8 +158,7 @@ abbrev pub ArePlacesKept : Tables → Bool → List w.Spot → Type 0
 ArePlacesKept d in_main [] = Unit {0}
 ArePlacesKept d in_main (p ∷ ps) = IsPlaceKept d in_main p.place × ArePlacesKept d in_main ps
 
-places_kept : (d : Tables) (in_main behind_find : Bool) (ps : List w.Spot) →
-    AreUnbroken (place_statements d in_main behind_find ps) →
+places_kept : (d : Tables) (in_main behind_find : Bool) (ps : List w.Spot) → AreUnbroken (place_statements d in_main behind_find ps) →
     ArePlacesKept d in_main ps
 places_kept d in_main behind_find [] h = tt
 places_kept d in_main behind_find (p ∷ ps) h =
@@ -208,18 +204,14 @@ head_kept d b s h =
 abbrev pub AreSectionsKept : Tables → List Entry → List Head → List w.Section → Type 0
 AreSectionsKept d xs before [] = Unit {0}
 AreSectionsKept d xs before (s ∷ ss) =
-    IsHeadKept d (tables_of xs before) s.head × ArePlacesKept d (is_main s.head) s.places
-    × AreSectionsKept d xs (before ++ s.head ∷ []) ss
+    IsHeadKept d (tables_of xs before) s.head × ArePlacesKept d (is_main s.head) s.places × AreSectionsKept d xs (before ++ s.head ∷ []) ss
 
-sections_kept : (d : Tables) (xs : List Entry) (before : List Head) (ss : List w.Section) →
-    AreUnbroken (sections_statements d xs before ss) →
+sections_kept : (d : Tables) (xs : List Entry) (before : List Head) (ss : List w.Section) → AreUnbroken (sections_statements d xs before ss) →
     AreSectionsKept d xs before ss
 sections_kept d xs before [] h = tt
 sections_kept d xs before (s ∷ ss) h =
-    let p = unbroken_parts (section_statements d (tables_of xs before) s)
-    (sections_statements d xs (before ++ s.head ∷ []) ss) h in
-    let q = unbroken_parts (map (local_statement d) s.locals)
-    (place_statements d (is_main s.head) false s.places) p.0.1 in (
+    let p = unbroken_parts (section_statements d (tables_of xs before) s) (sections_statements d xs (before ++ s.head ∷ []) ss) h in
+    let q = unbroken_parts (map (local_statement d) s.locals) (place_statements d (is_main s.head) false s.places) p.0.1 in (
       head_kept d (tables_of xs before) s p.0.0,
       places_kept d (is_main s.head) false s.places q.1,
       sections_kept d xs (before ++ s.head ∷ []) ss p.1,
@@ -237,8 +229,7 @@ kept decls ss h =
     let d = tables decls.items ss in
     let xs = entries decls.items in
     let all = unbroken (statements decls ss) h in
-    let p = unbroken_parts (item_statements d [] xs ++ sections_statements d xs [] ss)
-    (end_statement decls.end ss ∷ []) all in
+    let p = unbroken_parts (item_statements d [] xs ++ sections_statements d xs [] ss) (end_statement decls.end ss ∷ []) all in
     let q = unbroken_parts (item_statements d [] xs) (sections_statements d xs [] ss) p.0 in
     record {
       items = items_kept d [] xs q.0;
