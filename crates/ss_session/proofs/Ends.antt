@@ -73,7 +73,8 @@ program_ends m d c old new f g t end o h = ((t, o, h.0), (accepted t, o, h.1), h
 
 pub program_cut : (m d c : List ℕ) (old new : Option (List ℕ)) (f g : ℕ) (t : ProgramTable) (k : Cut) →
     IsOutcome m (accepted t) →
-    ProgramEnds (Err k) (input_with t d) (command_lines c) old new f g → SessionEnds (Err (fault_of k)) m d c old new f g
+    ProgramEnds (Err k) (input_with t d) (command_lines c) old new f g →
+    SessionEnds (Err (fault_of k)) m d c old new f g
 unfolding SessionEnds ProgramEnds
 program_cut m d c old new f g t cut.Memory o h = (inr (t, o, h.0), h.1)
 program_cut m d c old new f g t cut.Write o h = ((accepted t, o, h.0), h.1)

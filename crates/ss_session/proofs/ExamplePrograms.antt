@@ -73,7 +73,8 @@ of_main locals places = record {
 }
 
 abbrev pub stop_plain : List PlainAt
-stop_plain = at 1 0 (mark (m.Reserved r.Main)) ∷ at 2 1 (mark (m.Reserved r.Stop)) ∷ at 3 2 (mark (m.Reserved r.End)) ∷ []
+stop_plain =
+    at 1 0 (mark (m.Reserved r.Main)) ∷ at 2 1 (mark (m.Reserved r.Stop)) ∷ at 3 2 (mark (m.Reserved r.End)) ∷ []
 
 pub stop_spelled : plain_words_of stop_words ≡ stop_plain
 unfolding mark_of spellings
@@ -86,7 +87,12 @@ pub stop_spells : plains stop_plain ≡ spell stop_tree
 stop_spells = refl
 
 abbrev pub five_plain : List PlainAt
-five_plain = at 1 0 (mark (m.Reserved r.Main)) ∷ at 2 1 (mark (m.Reserved r.Let)) ∷ at 2 2 (name (codes "X")) ∷ at 2 3 (mark (m.Sign s.Equal)) ∷ at 2 4 (number 5) ∷ at 3 5 (mark (m.Reserved r.Print)) ∷ at 3 6 (number 1) ∷ at 3 7 (mark (m.Reserved r.Lines)) ∷ at 3 8 (mark (m.Reserved r.With)) ∷ at 3 9 (name (codes "X")) ∷ at 3 10 (mark (m.Reserved r.Thus)) ∷ at 4 11 (picture (codes "X = ***" ∷ [])) ∷ at 5 12 (mark (m.Reserved r.Stop)) ∷ at 6 13 (mark (m.Reserved r.End)) ∷ []
+five_plain =
+    at 1 0 (mark (m.Reserved r.Main)) ∷ at 2 1 (mark (m.Reserved r.Let)) ∷ at 2 2 (name (codes "X"))
+    ∷ at 2 3 (mark (m.Sign s.Equal)) ∷ at 2 4 (number 5) ∷ at 3 5 (mark (m.Reserved r.Print)) ∷ at 3 6 (number 1)
+    ∷ at 3 7 (mark (m.Reserved r.Lines)) ∷ at 3 8 (mark (m.Reserved r.With)) ∷ at 3 9 (name (codes "X"))
+    ∷ at 3 10 (mark (m.Reserved r.Thus)) ∷ at 4 11 (picture (codes "X = ***" ∷ [])) ∷ at 5 12 (mark (m.Reserved r.Stop))
+    ∷ at 6 13 (mark (m.Reserved r.End)) ∷ []
 
 pub five_spelled : plain_words_of five_words ≡ five_plain
 unfolding mark_of spellings
@@ -103,7 +109,11 @@ pub five_spells : plains five_plain ≡ spell five_tree
 five_spells = refl
 
 abbrev pub overflow_plain : List PlainAt
-overflow_plain = at 1 0 (mark (m.Reserved r.Main)) ∷ at 2 1 (mark (m.Reserved r.Let)) ∷ at 2 2 (name (codes "X")) ∷ at 2 3 (mark (m.Sign s.Equal)) ∷ at 2 4 (number 9223372036854775807) ∷ at 3 5 (mark (m.Reserved r.Add)) ∷ at 3 6 (number 1) ∷ at 3 7 (mark (m.Reserved r.To)) ∷ at 3 8 (name (codes "X")) ∷ at 4 9 (mark (m.Reserved r.End)) ∷ []
+overflow_plain =
+    at 1 0 (mark (m.Reserved r.Main)) ∷ at 2 1 (mark (m.Reserved r.Let)) ∷ at 2 2 (name (codes "X"))
+    ∷ at 2 3 (mark (m.Sign s.Equal)) ∷ at 2 4 (number 9223372036854775807) ∷ at 3 5 (mark (m.Reserved r.Add))
+    ∷ at 3 6 (number 1) ∷ at 3 7 (mark (m.Reserved r.To)) ∷ at 3 8 (name (codes "X")) ∷ at 4 9 (mark (m.Reserved r.End))
+    ∷ []
 
 pub overflow_spelled : plain_words_of overflow_words ≡ overflow_plain
 unfolding mark_of spellings
@@ -117,7 +127,11 @@ pub overflow_spells : plains overflow_plain ≡ spell overflow_tree
 overflow_spells = refl
 
 abbrev pub two_values_plain : List PlainAt
-two_values_plain = at 1 0 (mark (m.Reserved r.Main)) ∷ at 2 1 (mark (m.Reserved r.Print)) ∷ at 2 2 (number 1) ∷ at 2 3 (mark (m.Reserved r.Lines)) ∷ at 2 4 (mark (m.Reserved r.With)) ∷ at 2 5 (name (codes "X")) ∷ at 2 6 (mark (m.Sign s.Comma)) ∷ at 2 7 (name (codes "Y")) ∷ at 2 8 (mark (m.Reserved r.Thus)) ∷ at 3 9 (picture (codes "*.**" ∷ [])) ∷ at 4 10 (mark (m.Reserved r.End)) ∷ []
+two_values_plain =
+    at 1 0 (mark (m.Reserved r.Main)) ∷ at 2 1 (mark (m.Reserved r.Print)) ∷ at 2 2 (number 1)
+    ∷ at 2 3 (mark (m.Reserved r.Lines)) ∷ at 2 4 (mark (m.Reserved r.With)) ∷ at 2 5 (name (codes "X"))
+    ∷ at 2 6 (mark (m.Sign s.Comma)) ∷ at 2 7 (name (codes "Y")) ∷ at 2 8 (mark (m.Reserved r.Thus))
+    ∷ at 3 9 (picture (codes "*.**" ∷ [])) ∷ at 4 10 (mark (m.Reserved r.End)) ∷ []
 
 pub two_values_spelled : plain_words_of two_values_words ≡ two_values_plain
 unfolding mark_of spellings
@@ -131,14 +145,17 @@ pub two_values_spells : plains two_values_plain ≡ spell two_values_tree
 two_values_spells = refl
 
 abbrev pub word_behind_plain : List PlainAt
-word_behind_plain = at 1 0 (mark (m.Reserved r.Main)) ∷ at 2 1 (mark (m.Reserved r.End)) ∷ at 3 2 (mark (m.Reserved r.Loop)) ∷ []
+word_behind_plain =
+    at 1 0 (mark (m.Reserved r.Main)) ∷ at 2 1 (mark (m.Reserved r.End)) ∷ at 3 2 (mark (m.Reserved r.Loop)) ∷ []
 
 pub word_behind_spelled : plain_words_of word_behind_words ≡ word_behind_plain
 unfolding mark_of spellings
 word_behind_spelled = refl
 
 abbrev pub unended_plain : List PlainAt
-unended_plain = at 1 0 (mark (m.Reserved r.Main)) ∷ at 2 1 (mark (m.Reserved r.Let)) ∷ at 2 2 (name (codes "X")) ∷ at 2 3 (mark (m.Sign s.Equal)) ∷ []
+unended_plain =
+    at 1 0 (mark (m.Reserved r.Main)) ∷ at 2 1 (mark (m.Reserved r.Let)) ∷ at 2 2 (name (codes "X"))
+    ∷ at 2 3 (mark (m.Sign s.Equal)) ∷ []
 
 pub unended_spelled : plain_words_of unended_words ≡ unended_plain
 unfolding mark_of spellings

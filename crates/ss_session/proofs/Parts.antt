@@ -3,7 +3,7 @@ use Rattle.std.specs.Io.KnownBytes.{Appends}
 use Rattle.std.proofs.Common.{length-append}
 use Rattle.std.proofs.Math.Seq.{take-append-add}
 use Rattle.std.proofs.lemmas.List.{take-append-le}
-use Rattle.ss_session.proofs.Pieces.{appends_then}
+use Rattle.ss_session.proofs.Pieces.{appends_then, appends_part, appends_none, appends_no_more}
 use Rattle.ss_session.specs.Written.{WritesPart}
 
 pub writes_part : (text : List ℕ) (old new : Option (List ℕ)) (n : ℕ) → n ≤ length text →
@@ -24,3 +24,9 @@ part_right x y old mid new p w =
       within = rw length-append (omega arith);
       said = rw take-append-add (appends_then old mid new _ _ p w.said);
     }
+
+-- two texts, one after the other
+pub ruleset texts_in_turn = (appends_then, part_left, part_right)
+
+-- a text, piece by piece
+pub ruleset texts_in_pieces = (appends_part, appends_none, appends_no_more, writes_part)

@@ -15,7 +15,7 @@ use ss_machine::{Machine, Status};
 use std::alloc::Global;
 
 /// Writes two texts, one after the other.
-#[tactic(auto, using(crate::proofs::Pieces::appends_then, crate::proofs::Parts::part_left, crate::proofs::Parts::part_right))]
+#[tactic(auto, using(crate::proofs::Parts::texts_in_turn))]
 fn put_both<W: Outlet>(out: &mut W, first: &[u8], second: &[u8]) -> Result<(), PutFault>
     requires { W.failures out.old < 2 ^ 64 - 1 }
     ensures ok { OnOk result (Appends (W.taken out.old) (W.taken out.new) (first.now ++ second.now)

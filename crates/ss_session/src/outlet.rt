@@ -100,7 +100,7 @@ fn put_some<W: Outlet>(out: &mut W, bytes: &[u8], at: usize) -> Result<usize, Pu
 }
 
 /// Writes all of the bytes, as many pieces as `put` takes them in, until one call fails.
-#[tactic(auto, using(crate::proofs::Pieces::appends_part, crate::proofs::Pieces::appends_none, crate::proofs::Pieces::appends_no_more, crate::proofs::Parts::writes_part))]
+#[tactic(auto, using(crate::proofs::Parts::texts_in_pieces))]
 pub(crate) fn put_all<W: Outlet>(out: &mut W, bytes: &[u8]) -> Result<(), PutFault>
     requires { W.failures out.old < 2 ^ 64 - 1 }
     ensures ok { OnOk result (Appends (W.taken out.old) (W.taken out.new) bytes.now

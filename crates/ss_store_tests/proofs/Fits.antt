@@ -43,7 +43,8 @@ apart_get : (ss : List SetShape) (i j : ℕ) (a b : SetShape) → are_apart ss �
 apart_get [] i j a b e ea eb lt = cc
 apart_get (s ∷ ss) zero zero a b e ea eb lt = absurd (omega (arith, lt))
 apart_get (s ∷ ss) zero (suc j) a b e ea eb lt =
-    ap (λ z. is_apart z b) (sym (some_eq ea)) ∙ all_get (is_apart s) ss j b (first_of (list_all (is_apart s) ss) (are_apart ss) e) eb
+    ap (λ z. is_apart z b) (sym (some_eq ea))
+    ∙ all_get (is_apart s) ss j b (first_of (list_all (is_apart s) ss) (are_apart ss) e) eb
 apart_get (s ∷ ss) (suc i) zero a b e ea eb lt = absurd (omega (arith, lt))
 apart_get (s ∷ ss) (suc i) (suc j) a b e ea eb lt =
     apart_get ss i j a b (second_of (list_all (is_apart s) ss) (are_apart ss) e) ea eb (omega (arith, lt))
@@ -54,16 +55,19 @@ same_owner (OwnedBy c) = grind (arith, nat_tests)
 
 not_list : (a b : SetShape) → is_apart a b ≡ true → a.owner ≡ b.owner → a.list ≡ b.list → ⊥
 not_list a b e ew el =
-    let w : is_same_owner a.owner b.owner ≡ true = subst (λ z. is_same_owner a.owner z ≡ true) ew (same_owner a.owner) in
+    let w : is_same_owner a.owner b.owner ≡ true =
+    subst (λ z. is_same_owner a.owner z ≡ true) ew (same_owner a.owner) in
     let l : (a.list == b.list) ≡ true = grind (arith, nat_tests, el) in
-    let bad : false ≡ true = (λ i. not (sym w i && sym l i)) ∙ first_of (not (is_same_owner a.owner b.owner && a.list == b.list))
+    let bad : false ≡ true =
+    (λ i. not (sym w i && sym l i)) ∙ first_of (not (is_same_owner a.owner b.owner && a.list == b.list))
     (not (a.member == b.member && a.slot == b.slot)) e in cc
 
 not_slot : (a b : SetShape) → is_apart a b ≡ true → a.member ≡ b.member → a.slot ≡ b.slot → ⊥
 not_slot a b e em es =
     let m : (a.member == b.member) ≡ true = grind (arith, nat_tests, em) in
     let l : (a.slot == b.slot) ≡ true = grind (arith, nat_tests, es) in
-    let bad : false ≡ true = (λ i. not (sym m i && sym l i)) ∙ second_of (not (is_same_owner a.owner b.owner && a.list == b.list))
+    let bad : false ≡ true =
+    (λ i. not (sym m i && sym l i)) ∙ second_of (not (is_same_owner a.owner b.owner && a.list == b.list))
     (not (a.member == b.member && a.slot == b.slot)) e in cc
 
 order : (i j : ℕ) → (i ≡ j) ⊎ ((i < j) ⊎ (j < i))
@@ -107,7 +111,8 @@ small_class [] c e = refl
 small_class (k ∷ cs) zero e = first_of (is_small k) (list_all is_small cs) e
 small_class (k ∷ cs) (suc c) e = small_class cs c (second_of (is_small k) (list_all is_small cs) e)
 
-fits : (t : Tables) → list_all (is_within t) t.sets ≡ true → are_apart t.sets ≡ true → list_all is_small t.classes ≡ true
+fits : (t : Tables) → list_all (is_within t) t.sets ≡ true → are_apart t.sets ≡ true →
+    list_all is_small t.classes ≡ true
     → length t.classes ≤ 64 → t.system ≤ 64 → AreTables t
 fits t within apart small few system = record {
   lists = λ s is.
@@ -120,10 +125,12 @@ fits t within apart small few system = record {
   one_slot = λ a b. one_slot t.sets a b apart;
   few_classes = few;
   few_owned = λ c.
-      let e = first_of (nat_le (class_of t c).owned 64) (nat_le (class_of t c).joined 64) (small_class t.classes c small) in
+      let e = first_of (nat_le (class_of t c).owned 64) (nat_le (class_of t c).joined 64)
+      (small_class t.classes c small) in
       grind (arith, nat_tests, e);
   few_joined = λ c.
-      let e = second_of (nat_le (class_of t c).owned 64) (nat_le (class_of t c).joined 64) (small_class t.classes c small) in
+      let e = second_of (nat_le (class_of t c).owned 64) (nat_le (class_of t c).joined 64)
+      (small_class t.classes c small) in
       grind (arith, nat_tests, e);
   few_system = system;
 }
@@ -145,7 +152,8 @@ others (suc (suc (suc c))) lt = refl
 pub is_ground : (cs : List ClassShape) (ss : List SetShape) → cs ≡ ground_classes → AreGroundSets ss
     → IsGround (record { classes = cs; sets = ss; system = 2 })
 is_ground cs ss e s =
-    let all : IsGround (record { classes = ground_classes; sets = ground_sets s.a s.b s.c s.d s.e s.f; system = 2 }) = record {
+    let all : IsGround (record { classes = ground_classes; sets = ground_sets s.a s.b s.c s.d s.e s.f; system = 2 }) =
+    record {
       classes = refl;
       sets = refl;
       made = refl;

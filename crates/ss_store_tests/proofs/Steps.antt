@@ -55,7 +55,8 @@ pub all_err : (r : Result StoreChange StepFault) (s : Result Store RunFault) (ol
 all_err (Ok r) s old new f d e = cc
 all_err (Err g) s old new f d e = refused g s old new d
 
-pub removed_ok : (r : Result (ℕ × StoreChange) RunFault) (s : Result (ℕ × Store) RunFault) (old new : StoreValue) (n : ℕ)
+pub removed_ok : (r : Result (ℕ × StoreChange) RunFault) (s : Result (ℕ × Store) RunFault) (old new : StoreValue)
+    (n : ℕ)
     (c : StoreChange) (z : ℤ) → IsRemoval r s old new → r ≡ Ok (n, c) → IsMade (Ok (z, c)) old new
 removed_ok (Ok r) (Ok s) old new n c z d e =
     let is : r ≡ (n, c) = cc in

@@ -20,7 +20,8 @@ unfolding digits program_transcript answers session_state_after debugger_state_a
     command_in_words command_words command_lines without_empty_last number_within number_of in_run name_of
     moment_text place_text state_line movement_text var_text report_text least without_stops
 returns c =
-    tells_run overflow overflow_words overflow_plain overflow_read overflow_spelled (λ h. cc) overflow_tree overflow_program
+    tells_run overflow overflow_words overflow_plain overflow_read overflow_spelled
+    (λ h. cc) overflow_tree overflow_program
     (record {
       parentheses = omega arith;
       ifs = omega arith;

@@ -19,7 +19,8 @@ use Rattle.ss_session.proofs.examples.refused_models_give_one_line.Goals as goal
 pub returns-clause-wrong_picture : goal.returns-clause-wrong_picture
 unfolding digits
 returns-clause-wrong_picture c =
-    tells_breach two_values two_values_words two_values_plain two_values_read two_values_spelled (λ h. cc) two_values_tree
+    tells_breach two_values two_values_words two_values_plain two_values_read two_values_spelled
+    (λ h. cc) two_values_tree
     WrongPicture 2 _ (record {
       parentheses = omega arith;
       ifs = omega arith;
