@@ -8,10 +8,12 @@ use Rattle.ss_events.specs.declared.agenda.AgendaChange.{AgendaChange}
 use Rattle.ss_events.specs.declared.agenda.AgendaChange.TheVariants as notices
 use Rattle.ss_machine.specs.declared.change.Change.{Change}
 use Rattle.ss_machine.specs.declared.change.Change.TheVariants as changes
+use Rattle.ss_machine.specs.declared.entry.Entry.{Entry}
+use Rattle.ss_machine.specs.declared.entry.Entry.TheVariants as entries
 use Rattle.ss_machine.specs.declared.note.NotedOwner.{NotedOwner}
 use Rattle.ss_machine.specs.declared.note.NotedOwner.TheVariants as noted
 use Rattle.ss_machine.specs.declared.note.Note.{Note}
-use Rattle.ss_machine.specs.declared.note.Note.TheVariants.{Variable, Local, Place, Clock, AttributeSet, Created, Filed, FirstRemoved, Scheduled, Taken, Report, Status, LoopOpened, LoopMoved, LoopMovedFromNone, LoopClosed, FrameOpened, FrameDropped, Found, Whole}
+use Rattle.ss_machine.specs.declared.note.Note.TheVariants.{Variable, Local, Place, Clock, AttributeSet, Created, Filed, FirstRemoved, Scheduled, Taken, Report, EntryAbsent, EntryWaiting, EntryRunning, Status, LoopOpened, LoopMoved, LoopMovedFromNone, LoopClosed, FrameOpened, FrameDropped, Found, Whole}
 use Rattle.ss_machine.specs.declared.note.Form.{Form}
 use Rattle.ss_machine.specs.declared.note.Form.TheVariants as forms
 
@@ -36,6 +38,9 @@ noted_change (FirstRemoved set owner list number member) =
 noted_change (Scheduled notice seated) = Some (changes.Agenda (notices.Scheduled notice seated))
 noted_change (Taken old) = Some (changes.Taken old)
 noted_change (Report old_len) = Some (changes.Report old_len)
+noted_change EntryAbsent = Some (changes.Entry entries.Absent)
+noted_change (EntryWaiting class notice) = Some (changes.Entry (entries.Waiting class notice))
+noted_change (EntryRunning class notice) = Some (changes.Entry (entries.Running class notice))
 noted_change (Status old) = Some (changes.Status old)
 noted_change LoopOpened = Some changes.LoopOpened
 noted_change (LoopMoved old) = Some (changes.LoopMoved (Some old))
@@ -68,13 +73,19 @@ abbrev pub IsShortAgenda : AgendaChange → Type 0
 IsShortAgenda (notices.Scheduled notice seated) = Unit {0}
 IsShortAgenda other = ⊥
 
--- a change that has a note: not one of an entry or of statistics, and its numbers are small
+-- an entry that has a note
+abbrev pub IsShortEntry : Entry → Type 0
+IsShortEntry entries.Absent = Unit {0}
+IsShortEntry (entries.Waiting class notice) = class < 2 ^ 8
+IsShortEntry (entries.Running class notice) = class < 2 ^ 8
+
+-- a change that has a note: not one of statistics, and its numbers are small
 abbrev pub IsShort : Change → Type 0
 IsShort (changes.Variable number old) = number < 2 ^ 32
 IsShort (changes.Local number old) = number < 2 ^ 32
 IsShort (changes.Store change) = IsShortStore change
 IsShort (changes.Agenda change) = IsShortAgenda change
-IsShort (changes.Entry old) = ⊥
+IsShort (changes.Entry old) = IsShortEntry old
 IsShort (changes.Statistics old) = ⊥
 IsShort other = Unit {0}
 

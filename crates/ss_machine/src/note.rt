@@ -1,8 +1,9 @@
 ghost use Rattle.std.specs.Prelude.{◌≡◌, IfSome, IsSome, Some};
-ghost use Rattle.ss_machine.specs.declared.change.Change.TheVariants.{Store, Agenda};
-ghost use Rattle.ss_machine.specs.History.{noted_change, noted_owner, IsShortStore, IsShortOwner, IsFormOf};
+ghost use Rattle.ss_machine.specs.declared.change.Change.TheVariants as changes;
+ghost use Rattle.ss_machine.specs.History.{noted_change, noted_owner, IsShortStore, IsShortEntry, IsShortOwner, IsFormOf};
 
 use crate::change::Change;
+use crate::entry::Entry;
 use crate::frame::FrameBox;
 use crate::loops::ClosedLoop;
 use crate::status::Status;
@@ -60,6 +61,15 @@ pub enum Note {
     },
     Taken(usize),
     Report(usize),
+    EntryAbsent,
+    EntryWaiting {
+        class: u8,
+        notice: u32,
+    },
+    EntryRunning {
+        class: u8,
+        notice: u32,
+    },
     Status(Status),
     LoopOpened,
     LoopMoved(i64),
@@ -111,7 +121,7 @@ pub fn form_of(change: Change) -> Form
         Change::Agenda(change) => form_of_agenda(change),
         Change::Taken(old) => Form::Short(Note::Taken(old)),
         Change::Report(old) => Form::Short(Note::Report(old)),
-        Change::Entry(old) => Form::Whole(Change::Entry(old)),
+        Change::Entry(old) => form_of_entry(old),
         Change::Status(old) => Form::Short(Note::Status(old)),
         Change::LoopOpened => Form::Short(Note::LoopOpened),
         Change::LoopMoved(Some(old)) => Form::Short(Note::LoopMoved(old)),
@@ -124,8 +134,34 @@ pub fn form_of(change: Change) -> Form
     }
 }
 
+fn form_of_entry(entry: Entry) -> Form
+    ensures { IsFormOf result (changes.Entry entry) }
+{
+    match note_of_entry(entry) {
+        Some(note) => Form::Short(note),
+        None => Form::Whole(Change::Entry(entry)),
+    }
+}
+
+fn note_of_entry(entry: Entry) -> Option<Note>
+    ensures note { IfSome result (λ note. noted_change note ≡ Some (changes.Entry entry)) }
+    ensures short { IsShortEntry entry → IsSome result }
+{
+    Some(match entry {
+        Entry::Absent => Note::EntryAbsent,
+        Entry::Waiting { class, notice } => Note::EntryWaiting {
+            class: u8::try_from(class).ok()?,
+            notice,
+        },
+        Entry::Running { class, notice } => Note::EntryRunning {
+            class: u8::try_from(class).ok()?,
+            notice,
+        },
+    })
+}
+
 fn form_of_agenda(change: AgendaChange) -> Form
-    ensures { IsFormOf result (Agenda change) }
+    ensures { IsFormOf result (changes.Agenda change) }
 {
     match change {
         AgendaChange::Scheduled { notice, seated } => {
@@ -136,7 +172,7 @@ fn form_of_agenda(change: AgendaChange) -> Form
 }
 
 fn form_of_store(change: StoreChange) -> Form
-    ensures { IsFormOf result (Store change) }
+    ensures { IsFormOf result (changes.Store change) }
 {
     match note_of_store(&change) {
         Some(note) => Form::Short(note),
@@ -145,7 +181,7 @@ fn form_of_store(change: StoreChange) -> Form
 }
 
 fn note_of_store(change: &StoreChange) -> Option<Note>
-    ensures note { IfSome result (λ note. noted_change note ≡ Some (Store change.now)) }
+    ensures note { IfSome result (λ note. noted_change note ≡ Some (changes.Store change.now)) }
     ensures short { IsShortStore change.now → IsSome result }
 {
     Some(match change {
@@ -297,6 +333,15 @@ impl Note {
             }
             Note::Taken(old) => Change::Taken(old),
             Note::Report(old) => Change::Report(old),
+            Note::EntryAbsent => Change::Entry(Entry::Absent),
+            Note::EntryWaiting { class, notice } => Change::Entry(Entry::Waiting {
+                class: class as usize,
+                notice,
+            }),
+            Note::EntryRunning { class, notice } => Change::Entry(Entry::Running {
+                class: class as usize,
+                notice,
+            }),
             Note::Status(old) => Change::Status(old),
             Note::LoopOpened => Change::LoopOpened,
             Note::LoopMoved(old) => Change::LoopMoved(Some(old)),
