@@ -1,6 +1,6 @@
 ghost use Rattle.std.specs.Prelude.{◌≡◌, IfSome, IsSome, Some};
 ghost use Rattle.ss_machine.specs.declared.change.Change.TheVariants as changes;
-ghost use Rattle.ss_machine.specs.History.{noted_change, noted_owner, IsShortStore, IsShortEntry, IsShortOwner, IsFormOf};
+ghost use Rattle.ss_machine.specs.History.{noted_change, noted_store, noted_other, noted_owner, IsShortStore, IsShortEntry, IsShortOwner, IsFormOf};
 
 use crate::change::Change;
 use crate::entry::Entry;
@@ -264,6 +264,72 @@ impl Note {
     pub fn change(self) -> Option<Change>
         ensures { result ≡ noted_change self }
     {
+        match self.store_change() {
+            Some(change) => Some(Change::Store(change)),
+            None => self.other_change(),
+        }
+    }
+
+    fn store_change(&self) -> Option<StoreChange>
+        ensures { result ≡ noted_store self.now }
+    {
+        Some(match self {
+            Note::AttributeSet {
+                class,
+                attribute,
+                number,
+                old,
+            } => StoreChange::AttributeSet {
+                class: *class as usize,
+                attribute: *attribute as usize,
+                number: *number as usize,
+                old: *old,
+            },
+            Note::Created {
+                class,
+                number,
+                heads,
+                seats,
+            } => StoreChange::Created {
+                class: *class as usize,
+                number: *number as usize,
+                heads: *heads,
+                seats: *seats,
+            },
+            Note::Filed {
+                set,
+                owner,
+                list,
+                number,
+                member,
+            } => StoreChange::Filed {
+                set: *set as usize,
+                owner: owner.whole(),
+                list: *list,
+                number: *number as usize,
+                member: *member as usize,
+            },
+            Note::FirstRemoved {
+                set,
+                owner,
+                list,
+                number,
+                member,
+            } => StoreChange::Removed {
+                set: *set as usize,
+                owner: owner.whole(),
+                list: *list,
+                number: *number as usize,
+                member: *member as usize,
+                before: None,
+            },
+            _ => return None,
+        })
+    }
+
+    fn other_change(self) -> Option<Change>
+        ensures { result ≡ noted_other self }
+    {
         Some(match self {
             Note::Variable { number, old } => Change::Variable {
                 number: number as usize,
@@ -275,59 +341,6 @@ impl Note {
             },
             Note::Place(old) => Change::Place(old),
             Note::Clock(old) => Change::Clock(old),
-            Note::AttributeSet {
-                class,
-                attribute,
-                number,
-                old,
-            } => {
-                Change::Store(StoreChange::AttributeSet {
-                    class: class as usize,
-                    attribute: attribute as usize,
-                    number: number as usize,
-                    old,
-                })
-            }
-            Note::Created {
-                class,
-                number,
-                heads,
-                seats,
-            } => Change::Store(StoreChange::Created {
-                class: class as usize,
-                number: number as usize,
-                heads,
-                seats,
-            }),
-            Note::Filed {
-                set,
-                owner,
-                list,
-                number,
-                member,
-            } => Change::Store(StoreChange::Filed {
-                set: set as usize,
-                owner: owner.whole(),
-                list,
-                number: number as usize,
-                member: member as usize,
-            }),
-            Note::FirstRemoved {
-                set,
-                owner,
-                list,
-                number,
-                member,
-            } => {
-                Change::Store(StoreChange::Removed {
-                    set: set as usize,
-                    owner: owner.whole(),
-                    list,
-                    number: number as usize,
-                    member: member as usize,
-                    before: None,
-                })
-            }
             Note::Scheduled { notice, seated } => {
                 Change::Agenda(AgendaChange::Scheduled { notice, seated })
             }
@@ -350,7 +363,7 @@ impl Note {
             Note::FrameOpened => Change::FrameOpened,
             Note::FrameDropped(dropped) => Change::FrameDropped(dropped),
             Note::Found(old) => Change::Found(old),
-            Note::Whole => return None,
+            _ => return None,
         })
     }
 }
