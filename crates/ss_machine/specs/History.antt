@@ -8,10 +8,12 @@ use Rattle.ss_events.specs.declared.agenda.AgendaChange.{AgendaChange}
 use Rattle.ss_events.specs.declared.agenda.AgendaChange.TheVariants as notices
 use Rattle.ss_machine.specs.declared.change.Change.{Change}
 use Rattle.ss_machine.specs.declared.change.Change.TheVariants as changes
+use Rattle.ss_machine.specs.declared.entry.Entry.{Entry}
+use Rattle.ss_machine.specs.declared.entry.Entry.TheVariants as entries
 use Rattle.ss_machine.specs.declared.note.NotedOwner.{NotedOwner}
 use Rattle.ss_machine.specs.declared.note.NotedOwner.TheVariants as noted
 use Rattle.ss_machine.specs.declared.note.Note.{Note}
-use Rattle.ss_machine.specs.declared.note.Note.TheVariants.{Variable, Local, Place, Clock, AttributeSet, Created, Filed, FirstRemoved, Scheduled, Taken, Report, Status, LoopOpened, LoopMoved, LoopMovedFromNone, LoopClosed, FrameOpened, FrameDropped, Found, Whole}
+use Rattle.ss_machine.specs.declared.note.Note.TheVariants.{Variable, Local, Place, Clock, AttributeSet, Created, Filed, FirstRemoved, Scheduled, Taken, Report, EntryAbsent, EntryWaiting, EntryRunning, Status, LoopOpened, LoopMoved, LoopMovedFromNone, LoopClosed, FrameOpened, FrameDropped, Found}
 use Rattle.ss_machine.specs.declared.note.Form.{Form}
 use Rattle.ss_machine.specs.declared.note.Form.TheVariants as forms
 
@@ -20,31 +22,45 @@ abbrev pub noted_owner : NotedOwner → Owner
 noted_owner noted.System = owners.System
 noted_owner (noted.OwnedBy class) = owners.OwnedBy class
 
+-- the change of the store that a note tells of
+abbrev pub noted_store : Note → Option StoreChange
+noted_store (AttributeSet class attribute number old) = Some (stores.AttributeSet class attribute number old)
+noted_store (Created class number heads seats) = Some (stores.Created class number heads seats)
+noted_store (Filed set owner list number member) = Some (stores.Filed set (noted_owner owner) list number member)
+noted_store (FirstRemoved set owner list number member) =
+    Some (stores.Removed set (noted_owner owner) list number member None)
+noted_store other = None
+
+-- the other changes that a note tells of
+abbrev pub noted_other : Note → Option Change
+noted_other (Variable number old) = Some (changes.Variable number old)
+noted_other (Local number old) = Some (changes.Local number old)
+noted_other (Place old) = Some (changes.Place old)
+noted_other (Clock old) = Some (changes.Clock old)
+noted_other (Scheduled notice seated) = Some (changes.Agenda (notices.Scheduled notice seated))
+noted_other (Taken old) = Some (changes.Taken old)
+noted_other (Report old_len) = Some (changes.Report old_len)
+noted_other EntryAbsent = Some (changes.Entry entries.Absent)
+noted_other (EntryWaiting class notice) = Some (changes.Entry (entries.Waiting class notice))
+noted_other (EntryRunning class notice) = Some (changes.Entry (entries.Running class notice))
+noted_other (Status old) = Some (changes.Status old)
+noted_other LoopOpened = Some changes.LoopOpened
+noted_other (LoopMoved old) = Some (changes.LoopMoved (Some old))
+noted_other LoopMovedFromNone = Some (changes.LoopMoved None)
+noted_other (LoopClosed closed) = Some (changes.LoopClosed closed)
+noted_other FrameOpened = Some changes.FrameOpened
+noted_other (FrameDropped dropped) = Some (changes.FrameDropped dropped)
+noted_other (Found old) = Some (changes.Found old)
+noted_other other = None
+
+-- the change of the store, or else the other one
+abbrev pub noted_by : Option StoreChange → Option Change → Option Change
+noted_by (Some change) other = Some (changes.Store change)
+noted_by None other = other
+
 -- the change that a note tells of, unless it is kept whole
 abbrev pub noted_change : Note → Option Change
-noted_change (Variable number old) = Some (changes.Variable number old)
-noted_change (Local number old) = Some (changes.Local number old)
-noted_change (Place old) = Some (changes.Place old)
-noted_change (Clock old) = Some (changes.Clock old)
-noted_change (AttributeSet class attribute number old) =
-    Some (changes.Store (stores.AttributeSet class attribute number old))
-noted_change (Created class number heads seats) = Some (changes.Store (stores.Created class number heads seats))
-noted_change (Filed set owner list number member) =
-    Some (changes.Store (stores.Filed set (noted_owner owner) list number member))
-noted_change (FirstRemoved set owner list number member) =
-    Some (changes.Store (stores.Removed set (noted_owner owner) list number member None))
-noted_change (Scheduled notice seated) = Some (changes.Agenda (notices.Scheduled notice seated))
-noted_change (Taken old) = Some (changes.Taken old)
-noted_change (Report old_len) = Some (changes.Report old_len)
-noted_change (Status old) = Some (changes.Status old)
-noted_change LoopOpened = Some changes.LoopOpened
-noted_change (LoopMoved old) = Some (changes.LoopMoved (Some old))
-noted_change LoopMovedFromNone = Some (changes.LoopMoved None)
-noted_change (LoopClosed closed) = Some (changes.LoopClosed closed)
-noted_change FrameOpened = Some changes.FrameOpened
-noted_change (FrameDropped dropped) = Some (changes.FrameDropped dropped)
-noted_change (Found old) = Some (changes.Found old)
-noted_change Whole = None
+noted_change note = noted_by (noted_store note) (noted_other note)
 
 -- an owner for which there is room in a note
 abbrev pub IsShortOwner : Owner → Type 0
@@ -68,13 +84,19 @@ abbrev pub IsShortAgenda : AgendaChange → Type 0
 IsShortAgenda (notices.Scheduled notice seated) = Unit {0}
 IsShortAgenda other = ⊥
 
--- a change that has a note: not one of an entry or of statistics, and its numbers are small
+-- an entry that has a note
+abbrev pub IsShortEntry : Entry → Type 0
+IsShortEntry entries.Absent = Unit {0}
+IsShortEntry (entries.Waiting class notice) = class < 2 ^ 8
+IsShortEntry (entries.Running class notice) = class < 2 ^ 8
+
+-- a change that has a note: not one of statistics, and its numbers are small
 abbrev pub IsShort : Change → Type 0
 IsShort (changes.Variable number old) = number < 2 ^ 32
 IsShort (changes.Local number old) = number < 2 ^ 32
 IsShort (changes.Store change) = IsShortStore change
 IsShort (changes.Agenda change) = IsShortAgenda change
-IsShort (changes.Entry old) = ⊥
+IsShort (changes.Entry old) = IsShortEntry old
 IsShort (changes.Statistics old) = ⊥
 IsShort other = Unit {0}
 

@@ -1,8 +1,9 @@
 ghost use Rattle.std.specs.Prelude.{◌≡◌, IfSome, IsSome, Some};
-ghost use Rattle.ss_machine.specs.declared.change.Change.TheVariants.{Store, Agenda};
-ghost use Rattle.ss_machine.specs.History.{noted_change, noted_owner, IsShortStore, IsShortOwner, IsFormOf};
+ghost use Rattle.ss_machine.specs.declared.change.Change.TheVariants as changes;
+ghost use Rattle.ss_machine.specs.History.{noted_change, noted_store, noted_other, noted_owner, IsShortStore, IsShortEntry, IsShortOwner, IsFormOf};
 
 use crate::change::Change;
+use crate::entry::Entry;
 use crate::frame::FrameBox;
 use crate::loops::ClosedLoop;
 use crate::status::Status;
@@ -60,6 +61,15 @@ pub enum Note {
     },
     Taken(usize),
     Report(usize),
+    EntryAbsent,
+    EntryWaiting {
+        class: u8,
+        notice: u32,
+    },
+    EntryRunning {
+        class: u8,
+        notice: u32,
+    },
     Status(Status),
     LoopOpened,
     LoopMoved(i64),
@@ -111,7 +121,7 @@ pub fn form_of(change: Change) -> Form
         Change::Agenda(change) => form_of_agenda(change),
         Change::Taken(old) => Form::Short(Note::Taken(old)),
         Change::Report(old) => Form::Short(Note::Report(old)),
-        Change::Entry(old) => Form::Whole(Change::Entry(old)),
+        Change::Entry(old) => form_of_entry(old),
         Change::Status(old) => Form::Short(Note::Status(old)),
         Change::LoopOpened => Form::Short(Note::LoopOpened),
         Change::LoopMoved(Some(old)) => Form::Short(Note::LoopMoved(old)),
@@ -124,8 +134,34 @@ pub fn form_of(change: Change) -> Form
     }
 }
 
+fn form_of_entry(entry: Entry) -> Form
+    ensures { IsFormOf result (changes.Entry entry) }
+{
+    match note_of_entry(entry) {
+        Some(note) => Form::Short(note),
+        None => Form::Whole(Change::Entry(entry)),
+    }
+}
+
+fn note_of_entry(entry: Entry) -> Option<Note>
+    ensures note { IfSome result (λ note. noted_change note ≡ Some (changes.Entry entry)) }
+    ensures short { IsShortEntry entry → IsSome result }
+{
+    Some(match entry {
+        Entry::Absent => Note::EntryAbsent,
+        Entry::Waiting { class, notice } => Note::EntryWaiting {
+            class: u8::try_from(class).ok()?,
+            notice,
+        },
+        Entry::Running { class, notice } => Note::EntryRunning {
+            class: u8::try_from(class).ok()?,
+            notice,
+        },
+    })
+}
+
 fn form_of_agenda(change: AgendaChange) -> Form
-    ensures { IsFormOf result (Agenda change) }
+    ensures { IsFormOf result (changes.Agenda change) }
 {
     match change {
         AgendaChange::Scheduled { notice, seated } => {
@@ -136,7 +172,7 @@ fn form_of_agenda(change: AgendaChange) -> Form
 }
 
 fn form_of_store(change: StoreChange) -> Form
-    ensures { IsFormOf result (Store change) }
+    ensures { IsFormOf result (changes.Store change) }
 {
     match note_of_store(&change) {
         Some(note) => Form::Short(note),
@@ -145,7 +181,7 @@ fn form_of_store(change: StoreChange) -> Form
 }
 
 fn note_of_store(change: &StoreChange) -> Option<Note>
-    ensures note { IfSome result (λ note. noted_change note ≡ Some (Store change.now)) }
+    ensures note { IfSome result (λ note. noted_change note ≡ Some (changes.Store change.now)) }
     ensures short { IsShortStore change.now → IsSome result }
 {
     Some(match change {
@@ -228,6 +264,72 @@ impl Note {
     pub fn change(self) -> Option<Change>
         ensures { result ≡ noted_change self }
     {
+        match self.store_change() {
+            Some(change) => Some(Change::Store(change)),
+            None => self.other_change(),
+        }
+    }
+
+    fn store_change(&self) -> Option<StoreChange>
+        ensures { result ≡ noted_store self.now }
+    {
+        Some(match self {
+            Note::AttributeSet {
+                class,
+                attribute,
+                number,
+                old,
+            } => StoreChange::AttributeSet {
+                class: *class as usize,
+                attribute: *attribute as usize,
+                number: *number as usize,
+                old: *old,
+            },
+            Note::Created {
+                class,
+                number,
+                heads,
+                seats,
+            } => StoreChange::Created {
+                class: *class as usize,
+                number: *number as usize,
+                heads: *heads,
+                seats: *seats,
+            },
+            Note::Filed {
+                set,
+                owner,
+                list,
+                number,
+                member,
+            } => StoreChange::Filed {
+                set: *set as usize,
+                owner: owner.whole(),
+                list: *list,
+                number: *number as usize,
+                member: *member as usize,
+            },
+            Note::FirstRemoved {
+                set,
+                owner,
+                list,
+                number,
+                member,
+            } => StoreChange::Removed {
+                set: *set as usize,
+                owner: owner.whole(),
+                list: *list,
+                number: *number as usize,
+                member: *member as usize,
+                before: None,
+            },
+            _ => return None,
+        })
+    }
+
+    fn other_change(self) -> Option<Change>
+        ensures { result ≡ noted_other self }
+    {
         Some(match self {
             Note::Variable { number, old } => Change::Variable {
                 number: number as usize,
@@ -239,64 +341,20 @@ impl Note {
             },
             Note::Place(old) => Change::Place(old),
             Note::Clock(old) => Change::Clock(old),
-            Note::AttributeSet {
-                class,
-                attribute,
-                number,
-                old,
-            } => {
-                Change::Store(StoreChange::AttributeSet {
-                    class: class as usize,
-                    attribute: attribute as usize,
-                    number: number as usize,
-                    old,
-                })
-            }
-            Note::Created {
-                class,
-                number,
-                heads,
-                seats,
-            } => Change::Store(StoreChange::Created {
-                class: class as usize,
-                number: number as usize,
-                heads,
-                seats,
-            }),
-            Note::Filed {
-                set,
-                owner,
-                list,
-                number,
-                member,
-            } => Change::Store(StoreChange::Filed {
-                set: set as usize,
-                owner: owner.whole(),
-                list,
-                number: number as usize,
-                member: member as usize,
-            }),
-            Note::FirstRemoved {
-                set,
-                owner,
-                list,
-                number,
-                member,
-            } => {
-                Change::Store(StoreChange::Removed {
-                    set: set as usize,
-                    owner: owner.whole(),
-                    list,
-                    number: number as usize,
-                    member: member as usize,
-                    before: None,
-                })
-            }
             Note::Scheduled { notice, seated } => {
                 Change::Agenda(AgendaChange::Scheduled { notice, seated })
             }
             Note::Taken(old) => Change::Taken(old),
             Note::Report(old) => Change::Report(old),
+            Note::EntryAbsent => Change::Entry(Entry::Absent),
+            Note::EntryWaiting { class, notice } => Change::Entry(Entry::Waiting {
+                class: class as usize,
+                notice,
+            }),
+            Note::EntryRunning { class, notice } => Change::Entry(Entry::Running {
+                class: class as usize,
+                notice,
+            }),
             Note::Status(old) => Change::Status(old),
             Note::LoopOpened => Change::LoopOpened,
             Note::LoopMoved(old) => Change::LoopMoved(Some(old)),
@@ -305,7 +363,7 @@ impl Note {
             Note::FrameOpened => Change::FrameOpened,
             Note::FrameDropped(dropped) => Change::FrameDropped(dropped),
             Note::Found(old) => Change::Found(old),
-            Note::Whole => return None,
+            _ => return None,
         })
     }
 }
