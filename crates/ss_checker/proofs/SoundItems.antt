@@ -32,13 +32,16 @@ pub flat_more : {X Y : Type 0} (f : X → List Y) (xs : List X) (x : X) → flat
 flat_more {Y = Y} f xs x =
     flat_map-append f xs (x ∷ []) ∙ ap (λ (ys : List Y). flat_map f xs ++ ys) (nothing_more (f x))
 
-in_more : {X Y : Type 0} (f : X → List Y) (y : Y) (xs : List X) (x : X) → In y (flat_map f (xs ++ x ∷ [])) → In y (flat_map f xs) ⊎ In y (f x)
+in_more : {X Y : Type 0} (f : X → List Y) (y : Y) (xs : List X) (x : X) → In y (flat_map f (xs ++ x ∷ [])) →
+    In y (flat_map f xs) ⊎ In y (f x)
 in_more f y xs x h = in_split y (flat_map f xs) (f x) (subst (λ zs. In y zs) (flat_more f xs x) h)
 
 -- each item is kept
-pub item_at : (d : Tables) (before xs : List Entry) (x : Entry) → AreItemsKept d before xs → In x xs → (b : Tables) × IsItemKept d b x
+pub item_at : (d : Tables) (before xs : List Entry) (x : Entry) → AreItemsKept d before xs → In x xs →
+    (b : Tables) × IsItemKept d b x
 item_at d before [] x h i = absurd i
-item_at d before (y ∷ ys) x h (inl e) = (tables_of before [], subst (λ (z : Entry). IsItemKept d (tables_of before []) z) (sym e) h.0)
+item_at d before (y ∷ ys) x h (inl e) =
+    (tables_of before [], subst (λ (z : Entry). IsItemKept d (tables_of before []) z) (sym e) h.0)
 item_at d before (y ∷ ys) x h (inr i) = item_at d (before ++ y ∷ []) ys x h.1 i
 
 -- ---- sets have owners and members
@@ -65,7 +68,8 @@ not_of_language s h =
     let t : list_any names_a_set language_facts ≡ true = in_any names_a_set (fact s k.Set) language_facts h refl in cc
 
 -- nothing but items declares sets
-set_of_items : (xs : List Entry) (s : Name) → In (fact s k.Set) (tables_of xs []).kinds → In (fact s k.Set) (declared xs)
+set_of_items : (xs : List Entry) (s : Name) → In (fact s k.Set) (tables_of xs []).kinds →
+    In (fact s k.Set) (declared xs)
 set_of_items xs s h = last (in_split (fact s k.Set) (language_facts ++ declared xs) [] h)
   where
     first : In (fact s k.Set) language_facts ⊎ In (fact s k.Set) (declared xs) → In (fact s k.Set) (declared xs)
@@ -127,7 +131,8 @@ pub sets_have_owners : (d : Tables) (xs : List Entry) → AreItemsKept d [] xs �
     In (fact s k.Set) (declared xs) → is_among s (names_of d.owners) ≡ true
 sets_have_owners d xs h = sets_among d (names_of d.owners) [] xs (owners_new d [] xs h) (λ s i. absurd i)
 
-pub sets_have_members : (d : Tables) (xs : List Entry) → AreItemsKept d [] xs → (s : Name) → In (fact s k.Set) (declared xs) →
+pub sets_have_members : (d : Tables) (xs : List Entry) → AreItemsKept d [] xs → (s : Name) →
+    In (fact s k.Set) (declared xs) →
     is_among s (names_of d.members) ≡ true
 sets_have_members d xs h = sets_among d (names_of d.members) [] xs (members_new d [] xs h) (λ s i. absurd i)
 
@@ -163,7 +168,8 @@ section_by false true true h f g = refl
 section_by false true false h f g = cc
 section_by false false s h f g = cc
 
-sections_kept : (d : Tables) (before xs : List Entry) → AreItemsKept d before xs → HaveSections d before → HaveSections d (before ++ xs)
+sections_kept : (d : Tables) (before xs : List Entry) → AreItemsKept d before xs → HaveSections d before →
+    HaveSections d (before ++ xs)
 sections_kept d before [] h m = subst (HaveSections d) (sym (nothing_more before)) m
 sections_kept d before (x ∷ xs) h m =
     subst (HaveSections d) (append_assoc before (x ∷ []) xs) (sections_kept d (before ++ x ∷ []) xs h.1 more)
@@ -175,11 +181,13 @@ sections_kept d before (x ∷ xs) h m =
         by (inl a) = m c a e
         by (inr b) =
             section_by (is_among c (named_classes before)) (is_event_class d c) (is_among c d.events)
-            (none_in (λ c. not (is_among c (named_classes before)) && is_without_section d (tables_of before []) c) c (classes_in x.item) h.0.event b)
+            (none_in (λ c. not (is_among c (named_classes before)) && is_without_section d (tables_of before []) c) c
+            (classes_in x.item) h.0.event b)
             (λ t. m c (among_in c (named_classes before) t) e) e
 
 -- each event class that is named has a section
-pub events_have_sections : (d : Tables) (xs : List Entry) → AreItemsKept d [] xs → (c : Name) → In c (named_classes xs) →
+pub events_have_sections : (d : Tables) (xs : List Entry) → AreItemsKept d [] xs → (c : Name) →
+    In c (named_classes xs) →
     is_event_class d c ≡ true → is_among c d.events ≡ true
 events_have_sections d xs h = sections_kept d [] xs h (λ c i e. absurd i)
 
@@ -189,11 +197,13 @@ pub record IsPriority (d : Tables) (ns : List Name) : Type 0 where
   pub once : repeats [] ns ≡ false
   pub events : list_any (λ c. not (is_event_class d c)) ns ≡ false
 
-one_priority : (d b : Tables) (before ns : List Name) → has_wrong_priority d b before ns ≡ false → IsPriority d before → IsPriority d (before ++ ns)
+one_priority : (d b : Tables) (before ns : List Name) → has_wrong_priority d b before ns ≡ false → IsPriority d before →
+    IsPriority d (before ++ ns)
 one_priority d b before [] h p = rw (nothing_more before) p
 one_priority d b (c ∷ cs) (n ∷ ns) h p = cc
 one_priority d b [] (n ∷ ns) h p =
-    let q = or_parts (repeats [] (n ∷ ns)) (list_any (λ c. not (is_event_class d c)) (n ∷ ns)) h in record { once = q.0; events = q.1 }
+    let q = or_parts (repeats [] (n ∷ ns)) (list_any (λ c. not (is_event_class d c)) (n ∷ ns)) h in
+    record { once = q.0; events = q.1 }
 
 abbrev priorities : List Entry → List Name
 priorities xs = flat_map (λ x. priority_in x.item) xs
@@ -207,7 +217,8 @@ priorities_kept d before (x ∷ xs) h p =
     let a = h.0 in
     subst (λ (ys : List Entry). IsPriority d (priorities ys)) (append_assoc before (x ∷ []) xs)
     (priorities_kept d (before ++ x ∷ []) xs h.1
-    (subst (IsPriority d) (sym e) (one_priority d (tables_of before []) (priorities before) (priority_in x.item) a.priority p)))
+    (subst (IsPriority d) (sym e)
+    (one_priority d (tables_of before []) (priorities before) (priority_in x.item) a.priority p)))
 
 pub priority_kept : (d : Tables) (xs : List Entry) → AreItemsKept d [] xs → IsPriority d (priorities xs)
 priority_kept d xs h = priorities_kept d [] xs h (record { once = refl; events = refl })
@@ -223,13 +234,18 @@ module _ (c : Name) where
   attributes_both (f ∷ fs) ys = by (is_attribute_of c f.what) (attributes_both fs ys)
     where
       by : (b : Bool) → attributes (fs ++ ys) ≡ attributes fs ++ attributes ys →
-          map (λ (g : Fact NameKind). g.name) (cond b (f ∷ filter (λ (g : Fact NameKind). is_attribute_of c g.what) (fs ++ ys)) (filter (λ (g : Fact NameKind). is_attribute_of c g.what) (fs ++ ys)))
-          ≡ map (λ (g : Fact NameKind). g.name) (cond b (f ∷ filter (λ (g : Fact NameKind). is_attribute_of c g.what) fs) (filter (λ (g : Fact NameKind). is_attribute_of c g.what) fs)) ++ attributes ys
+          map (λ (g : Fact NameKind). g.name)
+          (cond b (f ∷ filter (λ (g : Fact NameKind). is_attribute_of c g.what) (fs ++ ys))
+          (filter (λ (g : Fact NameKind). is_attribute_of c g.what) (fs ++ ys)))
+          ≡ map (λ (g : Fact NameKind). g.name)
+          (cond b (f ∷ filter (λ (g : Fact NameKind). is_attribute_of c g.what) fs)
+          (filter (λ (g : Fact NameKind). is_attribute_of c g.what) fs)) ++ attributes ys
       by true e = ap (λ (ns : List Name). f.name ∷ ns) e
       by false e = e
 
   -- what is declared before conflicts with an attribute
-  attribute_conflicts : (o : Option NameKind) (j : NameKind) → is_attribute_of c j ≡ true → conflicts o j ≡ false → o ≡ None
+  attribute_conflicts : (o : Option NameKind) (j : NameKind) → is_attribute_of c j ≡ true → conflicts o j ≡ false →
+      o ≡ None
   attribute_conflicts None j a h = refl
   attribute_conflicts (Some i) (k.Attribute b) a h = by i h
     where
@@ -255,14 +271,17 @@ module _ (c : Name) where
   attribute_conflicts (Some i) k.Routine a h = cc
 
   -- a name without a fact is no attribute
-  not_attribute : (before : Facts) (n : Name) → fact_of before n ≡ None → (b : Bool) → is_among n (attributes before) ≡ b → b ≡ false
+  not_attribute : (before : Facts) (n : Name) → fact_of before n ≡ None → (b : Bool) →
+      is_among n (attributes before) ≡ b → b ≡ false
   not_attribute before n e false h = refl
   not_attribute before n e true h =
       let p = where_from (is_attribute_of c) n before (among_in n (attributes before) h) in
-      let q = fact_there before n (in_among n (names_of before) (in_map (λ (f : Fact NameKind). f.name) (fact n p.what) before p.there)) in
+      let q = fact_there before n
+      (in_among n (names_of before) (in_map (λ (f : Fact NameKind). f.name) (fact n p.what) before p.there)) in
       let z : None ≡ Some q.0 = sym e ∙ q.1 in cc
 
-  one_attribute : (before : Facts) (f : Fact NameKind) → conflicts (fact_of before f.name) f.what ≡ false → AreApart (attributes before) →
+  one_attribute : (before : Facts) (f : Fact NameKind) → conflicts (fact_of before f.name) f.what ≡ false →
+      AreApart (attributes before) →
       AreApart (attributes (before ++ f ∷ []))
   one_attribute before f h a = rw (attributes_both before (f ∷ [])) (by (is_attribute_of c f.what) refl)
     where
@@ -270,29 +289,35 @@ module _ (c : Name) where
           AreApart (attributes before ++ map (λ (g : Fact NameKind). g.name) (cond b (f ∷ []) []))
       by true e =
           IsDistinct-push nat_list_eq_equiv (attributes before) f.name a
-          (not_attribute before f.name (attribute_conflicts (fact_of before f.name) f.what e h) (is_among f.name (attributes before)) refl)
+          (not_attribute before f.name (attribute_conflicts (fact_of before f.name) f.what e h)
+          (is_among f.name (attributes before)) refl)
       by false e = rw (nothing_more (attributes before)) a
 
-  attributes_kept : (fs before : Facts) → one_conflicts before fs ≡ false → AreApart (attributes before) → AreApart (attributes (before ++ fs))
+  attributes_kept : (fs before : Facts) → one_conflicts before fs ≡ false → AreApart (attributes before) →
+      AreApart (attributes (before ++ fs))
   attributes_kept [] before h a = rw (nothing_more before) a
   attributes_kept (f ∷ fs) before h a =
       let p = or_parts (conflicts (fact_of before f.name) f.what) (one_conflicts (before ++ f ∷ []) fs) h in
       subst (λ (gs : Facts). AreApart (attributes gs)) (append_assoc before (f ∷ []) fs)
       (attributes_kept fs (before ++ f ∷ []) p.1 (one_attribute before f p.0 a))
 
-  items_apart : (d : Tables) (before xs : List Entry) → AreItemsKept d before xs → AreApart (attributes (language_facts ++ declared before)) →
+  items_apart : (d : Tables) (before xs : List Entry) → AreItemsKept d before xs →
+      AreApart (attributes (language_facts ++ declared before)) →
       AreApart (attributes (language_facts ++ declared (before ++ xs)))
   items_apart d before [] h a = rw (nothing_more before) a
   items_apart d before (x ∷ xs) h a =
       let i = h.0 in
       let e : declared (before ++ x ∷ []) ≡ declared before ++ declarations x = flat_more declarations before x in
       let once : one_conflicts (language_facts ++ declared before) (declarations x) ≡ false =
-      subst (λ (gs : Facts). one_conflicts gs (declarations x) ≡ false) (nothing_more (language_facts ++ declared before)) i.once in
+      subst (λ (gs : Facts). one_conflicts gs (declarations x) ≡ false)
+      (nothing_more (language_facts ++ declared before)) i.once in
       let one = attributes_kept (declarations x) (language_facts ++ declared before) once a in
-      subst (λ (ys : List Entry). AreApart (attributes (language_facts ++ declared ys))) (append_assoc before (x ∷ []) xs)
+      subst (λ (ys : List Entry). AreApart (attributes (language_facts ++ declared ys)))
+      (append_assoc before (x ∷ []) xs)
       (items_apart d (before ++ x ∷ []) xs h.1
       (subst (λ (gs : Facts). AreApart (attributes gs))
-      (append_assoc language_facts (declared before) (declarations x) ∙ ap (λ (zs : Facts). language_facts ++ zs) (sym e)) one))
+      (append_assoc language_facts (declared before) (declarations x)
+      ∙ ap (λ (zs : Facts). language_facts ++ zs) (sym e)) one))
 
   -- routines are no attributes
   pub routines_none : (hs : List Head) → attributes (flat_map routine_facts hs) ≡ []
@@ -302,7 +327,8 @@ module _ (c : Name) where
   routines_none (RoutineHead n given yielded ∷ hs) = routines_none hs
 
   -- the attributes of a class have names of their own
-  pub attributes_apart : (d : Tables) (xs : List Entry) (hs : List Head) → AreItemsKept d [] xs → AreApart (attributes (tables_of xs hs).kinds)
+  pub attributes_apart : (d : Tables) (xs : List Entry) (hs : List Head) → AreItemsKept d [] xs →
+      AreApart (attributes (tables_of xs hs).kinds)
   attributes_apart d xs hs h =
       rw (
         attributes_both (language_facts ++ declared xs) (flat_map routine_facts hs),

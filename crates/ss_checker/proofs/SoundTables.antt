@@ -45,19 +45,23 @@ name_at n ns h = ap (λ (ms : List Name). slice_get ms (number n ns)) (sym (map_
     map_same (m ∷ ms) = ap (λ (ks : List Name). m ∷ ks) (map_same ms)
 
 -- names of a table have numbers of their own
-other_number : (m n : Name) (ns : List Name) → In m ns → In n ns → bytes_eq m n ≡ false → (number m ns == number n ns) ≡ false
+other_number : (m n : Name) (ns : List Name) → In m ns → In n ns → bytes_eq m n ≡ false →
+    (number m ns == number n ns) ≡ false
 other_number m n ns i j e =
     ne_eqb (number m ns) (number n ns) (λ s.
     let same : Some m ≡ Some n = sym (name_at m ns i) ∙ ap (slice_get ns) s ∙ name_at n ns j in
     let alike : m ≡ n = cc in
     let t = (Rattle.std.proofs.lemmas.Slice.Eq.bytes_eq-Decides m n).1 alike in cc)
 
-numbers_by : (m : Name) (ms ns : List Name) → In m ns → ((n : Name) → In n ms → In n ns) → AllByRecursion (λ n. bytes_eq m n ≡ false) ms →
+numbers_by : (m : Name) (ms ns : List Name) → In m ns → ((n : Name) → In n ms → In n ns) →
+    AllByRecursion (λ n. bytes_eq m n ≡ false) ms →
     AllByRecursion (λ k. (number m ns == k) ≡ false) (map (λ n. number n ns) ms)
 numbers_by m [] ns i h a = tt
-numbers_by m (n ∷ ms) ns i h a = (other_number m n ns i (h n (inl refl)) a.0, numbers_by m ms ns i (λ k x. h k (inr x)) a.1)
+numbers_by m (n ∷ ms) ns i h a =
+    (other_number m n ns i (h n (inl refl)) a.0, numbers_by m ms ns i (λ k x. h k (inr x)) a.1)
 
-numbers_apart : (ms ns : List Name) → ((n : Name) → In n ms → In n ns) → AreApart ms → IsDistinct ◌==◌ (map (λ n. number n ns) ms)
+numbers_apart : (ms ns : List Name) → ((n : Name) → In n ms → In n ns) → AreApart ms →
+    IsDistinct ◌==◌ (map (λ n. number n ns) ms)
 unfolding IsDistinct
 numbers_apart [] ns h a = tt
 numbers_apart (m ∷ ms) ns h a =
@@ -65,7 +69,8 @@ numbers_apart (m ∷ ms) ns h a =
 
 -- ---- the program
 
-module _ (is : List ItemAt) (qs : List Section) (h : AreItemsKept (tables is qs) [] (entries is)) (w : IsWithin (map (λ i. i.item) is))
+module _ (is : List ItemAt) (qs : List Section) (h : AreItemsKept (tables is qs) [] (entries is))
+    (w : IsWithin (map (λ i. i.item) is))
     (s : AreSectionsKept (tables is qs) (entries is) [] qs) where
   abbrev xs : List Entry
   xs = entries is
@@ -94,7 +99,8 @@ module _ (is : List ItemAt) (qs : List Section) (h : AreItemsKept (tables is qs)
       list_all (λ (c : ClassTable). list_any (bytes_eq c.name) V.globals) (map (class_table D V R) ns) ≡ true
   all_global [] f = refl
   all_global (n ∷ ns) f =
-      and_from (list_any (bytes_eq n) V.globals) (list_all (λ (c : ClassTable). list_any (bytes_eq c.name) V.globals) (map (class_table D V R) ns))
+      and_from (list_any (bytes_eq n) V.globals)
+      (list_all (λ (c : ClassTable). list_any (bytes_eq c.name) V.globals) (map (class_table D V R) ns))
       (in_among n V.globals (f n (inl refl))) (all_global ns (λ m x. f m (inr x)))
 
   own_attributes : (ns : List Name) → HaveDistinctAttributes (map (class_table D V R) ns)
@@ -116,7 +122,8 @@ module _ (is : List ItemAt) (qs : List Section) (h : AreItemsKept (tables is qs)
 
   -- ---- keys
 
-  keys_there : (b : Tables) (c : Name) (keys : List WrittenKey) → In c V.classes → list_any (is_wrong_key D b c) keys ≡ false →
+  keys_there : (b : Tables) (c : Name) (keys : List WrittenKey) → In c V.classes →
+      list_any (is_wrong_key D b c) keys ≡ false →
       All (λ (q : Key). q.attribute < length (attributes_of D c)) (map (resolved_key (attribute_names V c)) keys)
   keys_there b c keys i t =
       All-map (λ (q : Key). q.attribute < length (attributes_of D c)) (resolved_key (attribute_names V c)) keys
@@ -125,7 +132,8 @@ module _ (is : List ItemAt) (qs : List Section) (h : AreItemsKept (tables is qs)
       rw (attributes_are xs hs h R c i)
       (number_there q.name (attributes_of D c) (is_attribute xs hs h c q.name (kind_of D q.name) refl right))))
 
-  sound_keys : (b : Tables) (c : Name) (keys : List WrittenKey) → In c V.classes → list_any (is_wrong_key D b c) keys ≡ false → length keys ≤ 8 →
+  sound_keys : (b : Tables) (c : Name) (keys : List WrittenKey) → In c V.classes →
+      list_any (is_wrong_key D b c) keys ≡ false → length keys ≤ 8 →
       AreSoundKeys (length (attributes_of D c)) (map (resolved_key (attribute_names V c)) keys)
   sound_keys b c keys i t l = record {
     attributes = keys_there b c keys i t;
@@ -135,7 +143,8 @@ module _ (is : List ItemAt) (qs : List Section) (h : AreItemsKept (tables is qs)
   what_same : {A : Type 0} (f g : Fact A) → f ≡ g → f.what ≡ g.what
   what_same {A = A} f g e = ap (λ (x : Fact A). x.what) e
 
-  ties_counted : (i : Item) (c : Name) (keys : List WrittenKey) → In (fact c keys) (ties_in i) → length keys ≡ key_count i
+  ties_counted : (i : Item) (c : Name) (keys : List WrittenKey) → In (fact c keys) (ties_in i) →
+      length keys ≡ key_count i
   ties_counted Normally c keys x = absurd x
   ties_counted (Headed g ns) c keys x = absurd x
   ties_counted (OfEvery b zs) c keys x = absurd x
@@ -150,7 +159,8 @@ module _ (is : List ItemAt) (qs : List Section) (h : AreItemsKept (tables is qs)
   -- the keys that break an event class's ties
   tie_keys : (c : Name) (o : Option (List WrittenKey)) → fact_of R.ties c ≡ o → In c V.classes →
       AreSoundKeys (length (attributes_of D c)) (map (resolved_key (attribute_names V c)) (unwrap_or o []))
-  tie_keys c None e i = record { attributes = All-nil (λ (q : Key). q.attribute < length (attributes_of D c)); few = omega arith }
+  tie_keys c None e i =
+      record { attributes = All-nil (λ (q : Key). q.attribute < length (attributes_of D c)); few = omega arith }
   tie_keys c (Some keys) e i =
       let f = flat_in (λ (z : ItemAt). ties_in z.item) (fact c keys) is (fact_in R.ties c keys e) in
       let z = f.one in
@@ -163,7 +173,8 @@ module _ (is : List ItemAt) (qs : List Section) (h : AreItemsKept (tables is qs)
       let few = few_keys is z w f.there in
       sound_keys b c keys i (right_ties D b z.item c keys wrong f.has) (omega (arith, count, few))
 
-  discipline_counted : (i : Item) (n : Name) (ks : Several WrittenKey) → In (fact n (Ranked ks)) (disciplines_in i) → length (all_of ks) ≡ key_count i
+  discipline_counted : (i : Item) (n : Name) (ks : Several WrittenKey) → In (fact n (Ranked ks)) (disciplines_in i) →
+      length (all_of ks) ≡ key_count i
   discipline_counted Normally n ks x = absurd x
   discipline_counted (Headed g ns) n ks x = absurd x
   discipline_counted (OfEvery b zs) n ks x = absurd x
@@ -176,13 +187,15 @@ module _ (is : List ItemAt) (qs : List Section) (h : AreItemsKept (tables is qs)
       ap (λ (z : SetKind). key_count (Defines (Sets ns z))) e
 
   -- the keys that rank a set
-  sound_discipline : (n : Name) (c : Name) (o : Option SetKind) → fact_of R.disciplines n ≡ o → fact_of D.members n ≡ Some c → In c V.classes →
+  sound_discipline : (n : Name) (c : Name) (o : Option SetKind) → fact_of R.disciplines n ≡ o →
+      fact_of D.members n ≡ Some c → In c V.classes →
       IsSoundDiscipline (length (attributes_of D c)) (resolved_discipline (attribute_names V c) o)
   sound_discipline n c None e m i = tt
   sound_discipline n c (Some Fifo) e m i = tt
   sound_discipline n c (Some Lifo) e m i = tt
   sound_discipline n c (Some (Ranked ks)) e m i =
-      let f = flat_in (λ (z : ItemAt). disciplines_in z.item) (fact n (Ranked ks)) is (fact_in R.disciplines n (Ranked ks) e) in
+      let f = flat_in (λ (z : ItemAt). disciplines_in z.item) (fact n (Ranked ks)) is
+      (fact_in R.disciplines n (Ranked ks) e) in
       let z = f.one in
       let x = entry_of None is z f.there in
       let kept = item_at D [] xs x.0 h x.1 in
@@ -191,7 +204,8 @@ module _ (is : List ItemAt) (qs : List Section) (h : AreItemsKept (tables is qs)
       let wrong : has_wrong_keys D b z.item ≡ false = subst (λ (j : Item). has_wrong_keys D b j ≡ false) x.2 y.keys in
       let rank : has_wrong_key D b (fact_of D.members n) (all_of ks) ≡ false =
       right_ranks D b z.item n (Ranked ks) wrong f.has in
-      let keys : has_wrong_key D b (Some c) (all_of ks) ≡ false = subst (λ (q : Option Name). has_wrong_key D b q (all_of ks) ≡ false) m rank in
+      let keys : has_wrong_key D b (Some c) (all_of ks) ≡ false =
+      subst (λ (q : Option Name). has_wrong_key D b q (all_of ks) ≡ false) m rank in
       let count = discipline_counted z.item n ks f.has in
       let few = few_keys is z w f.there in
       sound_keys b c (all_of ks) i keys (omega (arith, count, few))
@@ -225,7 +239,8 @@ module _ (is : List ItemAt) (qs : List Section) (h : AreItemsKept (tables is qs)
   section_is : (i : ℕ) (t : SectionTable) → slice_get p.sections i ≡ Some t → section_of p i ≡ t
   section_is i t e = rw e refl
 
-  sound_event : (n : Name) → HasClass (L xs hs h) n → is_event_class D n ≡ true → IsSoundEvent p (length (attributes_of D n)) (event_table D V R n)
+  sound_event : (n : Name) → HasClass (L xs hs h) n → is_event_class D n ≡ true →
+      IsSoundEvent p (length (attributes_of D n)) (event_table D V R n)
   sound_event n i e =
       let has = events_have_sections D xs h n (named_somewhere n i) e in
       let f = event_found qs 0 n (among_in n D.events has) in
@@ -245,23 +260,27 @@ module _ (is : List ItemAt) (qs : List Section) (h : AreItemsKept (tables is qs)
         section = slice_get_within p.sections (event_table D V R n).section (resolved_section D V q) there;
         kind = ap is_event_section same ∙ holds.kind;
         given = subst (λ (t : SectionTable). t.given ≤ length (attributes_of D n)) (sym same)
-            (not_fewer (is_event_class D n) (attribute_count D n) (length (given_of q.head)) (length (attributes_of D n)) e (attributes_counted n xs hs) less);
+            (not_fewer (is_event_class D n) (attribute_count D n) (length (given_of q.head))
+            (length (attributes_of D n)) e (attributes_counted n xs hs) less);
         yielded = ap (λ (t : SectionTable). t.yielded) same ∙ holds.yielded;
         ties = tie_keys n (fact_of R.ties n) refl (class_in xs hs h n i);
       }
     where
-      not_fewer : (b : Bool) (k l m : ℕ) → b ≡ true → k ≡ m → Rattle.std.specs.Prelude.◌&&◌ b (Rattle.std.specs.Prelude.nat_lt k l) ≡ false → l ≤ m
+      not_fewer : (b : Bool) (k l m : ℕ) → b ≡ true → k ≡ m →
+          Rattle.std.specs.Prelude.◌&&◌ b (Rattle.std.specs.Prelude.nat_lt k l) ≡ false → l ≤ m
       not_fewer false k l m e f g = cc
       not_fewer true k l m e f g = let o = Rattle.std.proofs.lemmas.Bool.ltb-false k l g in omega (arith, f, o)
 
-  sound_kind : (n : Name) (o : Option NameKind) → kind_of D n ≡ o → IsSoundKind p (length (attributes_of D n)) (class_kind D V R n o)
+  sound_kind : (n : Name) (o : Option NameKind) → kind_of D n ≡ o →
+      IsSoundKind p (length (attributes_of D n)) (class_kind D V R n o)
   sound_kind n None e = tt
   sound_kind n (Some k.Variable) e = tt
   sound_kind n (Some k.ClassCount) e = tt
   sound_kind n (Some (k.Class None)) e = tt
   sound_kind n (Some (k.Class (Some PermanentEntities))) e =
       number_there (codes "N." ++ n) V.globals
-      (global_in xs hs h (codes "N." ++ n) k.ClassCount (closed_kind xs hs h n (k.Class (Some PermanentEntities)) e).1 refl)
+      (global_in xs hs h (codes "N." ++ n) k.ClassCount
+      (closed_kind xs hs h n (k.Class (Some PermanentEntities)) e).1 refl)
   sound_kind n (Some (k.Class (Some TemporaryEntities))) e = tt
   sound_kind n (Some (k.Class (Some EventNotices))) e =
       sound_event n (Some EventNotices, kind_in xs hs h n (k.Class (Some EventNotices)) e) (ap names_event e)
@@ -282,7 +301,8 @@ module _ (is : List ItemAt) (qs : List Section) (h : AreItemsKept (tables is qs)
 
   -- ---- sets
 
-  sound_owner : (n : Name) (o : Option Name) → owner_of D V [] n ≡ o → IsSoundOwner (length p.classes) (resolved_owner V.classes o)
+  sound_owner : (n : Name) (o : Option Name) → owner_of D V [] n ≡ o →
+      IsSoundOwner (length p.classes) (resolved_owner V.classes o)
   sound_owner n None e = tt
   sound_owner n (Some c) e = class_place c (class_in xs hs h c (owner_class xs hs h [] n c e))
 
@@ -316,12 +336,16 @@ module _ (is : List ItemAt) (qs : List Section) (h : AreItemsKept (tables is qs)
       let events : (n : Name) → In n D.priority → is_event_class D n ≡ true =
       λ n i. not-false (is_event_class D n) (none_in (λ c. not (is_event_class D c)) n D.priority order.events i) in
       record {
-        classes = All-map (IsSoundClass p) (class_table D V R) V.classes (all_from (λ n. IsSoundClass p (class_table D V R n)) V.classes sound_class);
-        sets = All-map (IsSoundSet p) (set_table D V R) V.sets (all_from (λ n. IsSoundSet p (set_table D V R n)) V.sets sound_set);
+        classes = All-map (IsSoundClass p) (class_table D V R) V.classes
+            (all_from (λ n. IsSoundClass p (class_table D V R n)) V.classes sound_class);
+        sets = All-map (IsSoundSet p) (set_table D V R) V.sets
+            (all_from (λ n. IsSoundSet p (set_table D V R n)) V.sets sound_set);
         priority = All-map (IsSoundPriority p) (λ n. number n V.classes) D.priority
             (all_from (λ n. IsSoundPriority p (number n V.classes)) D.priority (λ n i. sound_priority n (events n i)));
         once = numbers_apart D.priority V.classes
-            (λ n i. class_in xs hs h n (event_class xs hs h R n (kind_of D n) refl (events n i)).0) (apart_from D.priority order.once);
-        few_classes = let e = length-map V.classes (class_table D V R) in let l = few_classes is hs h w in omega (arith, e, l);
+            (λ n i. class_in xs hs h n (event_class xs hs h R n (kind_of D n) refl (events n i)).0)
+            (apart_from D.priority order.once);
+        few_classes =
+            let e = length-map V.classes (class_table D V R) in let l = few_classes is hs h w in omega (arith, e, l);
         few_sets = let e = length-map V.sets (set_table D V R) in let l = few_sets is hs h w in omega (arith, e, l);
       }
