@@ -4,7 +4,7 @@ ghost use Rattle.ss_store.specs.Change.{FitsStore, unapply_store};
 ghost use Rattle.ss_store_tests.specs.Ground.{IsGround};
 
 use crate::dice::Dice;
-use crate::ground::{ATTRIBUTES, ENDS, JOB, PART, SETS, ground};
+use crate::ground::{ATTRIBUTES, ENDS, JOB, MACHINE, PART, SETS, ground};
 use crate::plain::{Entity, Plain};
 use crate::play::{Call, back, step};
 use ss_checker::check;
@@ -281,6 +281,26 @@ fn a_reference_more_than_a_million_is_refused(rt: HostRuntime) -> Result<(), Fai
     }
     assert!(&rt; store.exists(PART, 1_000_000));
     assert!(&rt; !store.exists(PART, 1_000_001));
+    Ok(())
+}
+
+#[test]
+fn ten_thousand_entities_of_a_class_are_made_at_once(rt: HostRuntime) -> Result<(), Fail> {
+    let alloc = rt.alloc();
+    let mut store = ground(alloc, LinkedSets::new(alloc))?;
+    let mut journal = Journal::new(alloc);
+    let too_many = Call::CreateAll { n: 10_001 };
+    let out_of_range = Err(RunFault::CountOutOfRange);
+    answers(&rt, &mut store, &mut journal, too_many, out_of_range)?;
+    assert!(&rt; !store.exists(MACHINE, 1));
+    let all = Call::CreateAll { n: 10_000 };
+    answers(&rt, &mut store, &mut journal, all, Ok(0))?;
+    assert!(&rt; store.exists(MACHINE, 10_000));
+    assert!(&rt; !store.exists(MACHINE, 10_001));
+    let again = Err(RunFault::AlreadyCreated);
+    answers(&rt, &mut store, &mut journal, all, again)?;
+    assert!(&rt; back(&mut store, &mut journal));
+    assert!(&rt; !store.exists(MACHINE, 1));
     Ok(())
 }
 

@@ -1,79 +1,145 @@
-//! How fast a machine steps: a long model without a loop is run forward, all the way back, and
-//! forward again.
+//! How fast a machine steps: each model of standard input is run forward to its end, all the way
+//! back, and forward again.
 //!
-//! `step_speed [PLACES]` runs a MAIN of so many places, 1,000 where no number is given, every
-//! hundredth a PRINT and the others ADD, and writes what each way took; without a number it writes
-//! no times.
+//! `step_speed [TURNS [SIZE [NAME]]]`. A model stands behind a line `'' NAME`, and has the numbers
+//! TURNS and SIZE as its data, 100 and 10 where they are not given, and then SIZE times the number
+//! 1. Where NAME is given, that model alone is run. Where TURNS is given, times are written.
 #![tactic(auto)]
 
-mod model;
+mod load;
 mod steps;
 
 use anyhow::{Context, Result};
-use model::program;
+use load::{data, program};
 use ss_links::LinkedSets;
 use ss_machine::Machine;
-use std::env;
 use std::time::{Clock, Instant};
+use std::{env, io};
 use steps::{back, forward};
 
-/// Runs one way, and answers how many steps it had.
-fn run_way(machine: &mut Machine<LinkedSets>, way: &str, places: usize) -> Result<usize> {
-    if way == "back" {
-        return Ok(back(machine, places));
-    }
-    Ok(forward(machine, places)?)
+/// TURNS where it is not given.
+const TURNS: usize = 100;
+
+/// SIZE where it is not given.
+const SIZE: usize = 10;
+
+/// What stands before the name of each model.
+const MARK: &str = "'' ";
+
+/// What the program's words ask for.
+#[derive(Drop)]
+struct Request {
+    turns: usize,
+    size: usize,
+    only: Option<String>,
+    is_timed: bool,
 }
 
-/// Writes where a way of so many steps led.
-fn write_way(
-    rt: &impl Print,
-    machine: &Machine<LinkedSets>,
-    way: &str,
-    moved: usize,
-) -> Result<()> {
-    println!(rt;
-        "{moved} steps {way}, to position {} with a report of {} bytes",
-        machine.position(),
-        machine.report().len()
-    )?;
-    Ok(())
+/// The number that a word writes.
+fn number_or(word: Option<String>, otherwise: usize) -> Result<usize> {
+    match word {
+        Some(word) => Ok(word.parse::<usize>()?),
+        None => Ok(otherwise),
+    }
+}
+
+fn read_request(rt: &HostRuntime) -> Result<Request> {
+    let mut words = env::args(rt)?.skip(1);
+    let turns = words.next();
+    let is_timed = turns.is_some();
+    Ok(Request {
+        turns: number_or(turns, TURNS)?,
+        size: number_or(words.next(), SIZE)?,
+        only: words.next(),
+        is_timed,
+    })
+}
+
+/// A way of a run.
+#[derive(Clone, Copy)]
+enum Way {
+    Forward,
+    Back,
+    Again,
+}
+
+impl Way {
+    fn name(self) -> &'static str {
+        match self {
+            Way::Forward => "forward",
+            Way::Back => "back",
+            Way::Again => "forward again",
+        }
+    }
+}
+
+/// Runs one way to its end, and answers how many steps it had.
+fn run_way(machine: &mut Machine<LinkedSets>, way: Way) -> Result<usize> {
+    match way {
+        Way::Back => Ok(back(machine, usize::MAX)),
+        Way::Forward | Way::Again => Ok(forward(machine, usize::MAX)?),
+    }
 }
 
 /// Runs one way and writes where it led and, where times are wanted, how long it took.
 fn measure(
     rt: &(impl Clock + Print),
     machine: &mut Machine<LinkedSets>,
-    way: &str,
-    places: usize,
+    way: Way,
     is_timed: bool,
 ) -> Result<()> {
     let start = Instant::now(rt)?;
-    let moved = run_way(machine, way, places)?;
+    let moved = run_way(machine, way)?;
     let took = start.elapsed(rt)?;
-    write_way(rt, machine, way, moved)?;
+    print!(rt;
+        "{moved} steps {}, to position {} ({:?}) with a report of {} bytes",
+        way.name(),
+        machine.position(),
+        machine.status(),
+        machine.report().len()
+    )?;
     if is_timed {
-        println!(rt; "in {} microseconds", took.as_micros())?;
+        print!(rt; " in {} microseconds", took.as_micros())?;
+    }
+    println!(rt; "")?;
+    Ok(())
+}
+
+/// Runs a model all three ways.
+fn run_model(
+    rt: &(impl Clock + Print + AllocGlobal),
+    name: &str,
+    text: &str,
+    request: &Request,
+) -> Result<()> {
+    let program = program(rt.alloc(), text.as_bytes()).context("the model")?;
+    let data = data(rt.alloc(), request.turns, request.size)?;
+    let mut machine = Machine::new(
+        rt.alloc(),
+        program,
+        data.as_bytes(),
+        LinkedSets::new(rt.alloc()),
+        LinkedSets::new(rt.alloc()),
+    )?;
+    for way in [Way::Forward, Way::Back, Way::Again] {
+        print!(rt; "{name}: ")?;
+        measure(rt, &mut machine, way, request.is_timed)?;
     }
     Ok(())
 }
 
 fn main(rt: HostRuntime) -> Result<()> {
-    let number = env::args(&rt)?.nth(1);
-    let places = match &number {
-        Some(text) => text.parse::<usize>()?,
-        None => 1_000,
-    };
-    let program = program(rt.alloc(), places).context("the model")?;
-    let mut machine = Machine::new(
-        rt.alloc(),
-        program,
-        b"",
-        LinkedSets::new(rt.alloc()),
-        LinkedSets::new(rt.alloc()),
-    )?;
-    for way in ["forward", "back", "forward again"] {
-        measure(&rt, &mut machine, way, places, number.is_some())?;
+    let request = read_request(&rt)?;
+    let text = io::read_to_string(rt.alloc(), rt.reader())?;
+    for model in text.split(MARK).skip(1) {
+        let (name, text) = model.split_once('\n').context("a name")?;
+        if request
+            .only
+            .as_ref()
+            .is_none_or(|only| only.as_str() == name)
+        {
+            run_model(&rt, name, text, &request)?;
+        }
     }
     Ok(())
 }
