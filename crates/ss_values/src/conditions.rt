@@ -5,7 +5,7 @@ ghost use Rattle.ss_check.specs.ProgramSound.{IsSoundSetRef};
 ghost use Rattle.ss_values.specs.Conditions as conditions;
 ghost use Rattle.ss_values.specs.Seen.{view_readings, InView};
 
-use crate::evaluation::{subscript_value, value};
+use crate::evaluation::{subscript_seen, value_seen};
 use crate::view::View;
 use ss_check::{Comparison, Condition, Conjunction, Copula, Disjunction, Expr, Relation, SetRef};
 use ss_links::SetBoard;
@@ -34,22 +34,22 @@ fn affirm(copula: Copula, truth: bool) -> bool
 }
 
 /// Whether a list has no member, or F3 where its owner does not exist.
-fn is_empty<S: SetBoard>(view: View<'_, S>, set: &SetRef) -> Result<bool, RunFault>
-    requires { InView view IsSoundSetRef set.now }
-    ensures { result ≡ conditions.is_empty_list (view_readings view.entry) set.now }
+fn is_empty<S: SetBoard>(view: &View<'_, S>, set: &SetRef) -> Result<bool, RunFault>
+    requires { InView view.now IsSoundSetRef set.now }
+    ensures { result ≡ conditions.is_empty_list (view_readings view.now) set.now }
 {
-    let owner = subscript_value(view, &set.owner)?;
+    let owner = subscript_seen(view, &set.owner)?;
     Ok(view.store.count(set.set, owner)? == 0)
 }
 
 /// Whether a list has the member that a value names, or F3 where one of them does not exist.
-fn is_in<S: SetBoard>(view: View<'_, S>, member: &Expr, set: &SetRef) -> Result<bool, RunFault>
-    requires member { InView view IsSoundExpr member.now }
-    requires set { InView view IsSoundSetRef set.now }
-    ensures { result ≡ conditions.is_in_list (view_readings view.entry) member.now set.now }
+fn is_in<S: SetBoard>(view: &View<'_, S>, member: &Expr, set: &SetRef) -> Result<bool, RunFault>
+    requires member { InView view.now IsSoundExpr member.now }
+    requires set { InView view.now IsSoundSetRef set.now }
+    ensures { result ≡ conditions.is_in_list (view_readings view.now) member.now set.now }
 {
-    let x = value(view, member)?;
-    let owner = subscript_value(view, &set.owner)?;
+    let x = value_seen(view, member)?;
+    let owner = subscript_seen(view, &set.owner)?;
     view.store.is_in(set.set, owner, x)
 }
 
@@ -58,13 +58,13 @@ pub fn holds<S: SetBoard>(view: View<'_, S>, condition: &Condition) -> Result<bo
     requires { InView view IsSoundCondition condition.now }
     ensures { result ≡ conditions.holds (view_readings view.entry) condition.now }
 {
-    any_holds(view, &condition.any)
+    any_holds(&view, &condition.any)
 }
 
 #[cycle(holds)]
-fn any_holds<S: SetBoard>(view: View<'_, S>, c: &Disjunction) -> Result<bool, RunFault>
-    requires { InView view IsSoundCondition (condition_of c.now) }
-    ensures { result ≡ conditions.holds (view_readings view.entry) (condition_of c.now) }
+fn any_holds<S: SetBoard>(view: &View<'_, S>, c: &Disjunction) -> Result<bool, RunFault>
+    requires { InView view.now IsSoundCondition (condition_of c.now) }
+    ensures { result ≡ conditions.holds (view_readings view.now) (condition_of c.now) }
 {
     let mut truth = all_hold(view, &c.first)?;
     for further in &c.more {
@@ -77,9 +77,9 @@ fn any_holds<S: SetBoard>(view: View<'_, S>, c: &Disjunction) -> Result<bool, Ru
 }
 
 #[cycle(holds)]
-fn all_hold<S: SetBoard>(view: View<'_, S>, c: &Conjunction) -> Result<bool, RunFault>
-    requires { InView view IsSoundConjunction (conjunction_of c.now) }
-    ensures { result ≡ conditions.conjunction_holds (view_readings view.entry) (conjunction_of c.now) }
+fn all_hold<S: SetBoard>(view: &View<'_, S>, c: &Conjunction) -> Result<bool, RunFault>
+    requires { InView view.now IsSoundConjunction (conjunction_of c.now) }
+    ensures { result ≡ conditions.conjunction_holds (view_readings view.now) (conjunction_of c.now) }
 {
     let mut truth = relation_holds(view, &c.first)?;
     for further in &c.more {
@@ -92,9 +92,9 @@ fn all_hold<S: SetBoard>(view: View<'_, S>, c: &Conjunction) -> Result<bool, Run
 }
 
 #[cycle(holds)]
-fn relation_holds<S: SetBoard>(view: View<'_, S>, r: &Relation) -> Result<bool, RunFault>
-    requires { InView view IsSoundRelation (relation_of r.now) }
-    ensures { result ≡ conditions.relation_holds (view_readings view.entry) (relation_of r.now) }
+fn relation_holds<S: SetBoard>(view: &View<'_, S>, r: &Relation) -> Result<bool, RunFault>
+    requires { InView view.now IsSoundRelation (relation_of r.now) }
+    ensures { result ≡ conditions.relation_holds (view_readings view.now) (relation_of r.now) }
 {
     match r {
         Relation::Compared {
@@ -102,8 +102,8 @@ fn relation_holds<S: SetBoard>(view: View<'_, S>, r: &Relation) -> Result<bool, 
             comparison,
             right,
         } => {
-            let x = value(view, left)?;
-            let y = value(view, right)?;
+            let x = value_seen(view, left)?;
+            let y = value_seen(view, right)?;
             Ok(compare(*comparison, x, y))
         }
         Relation::IsEmpty { set, copula } => Ok(affirm(*copula, is_empty(view, set)?)),

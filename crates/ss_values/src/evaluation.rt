@@ -100,13 +100,13 @@ fn number_or_none(member: Option<u32>) -> i64
 
 /// `F.s`, `L.s` or `N.s` of a set for the owner that a value names.
 fn owner_kept<S: SetBoard>(
-    view: View<'_, S>,
+    view: &View<'_, S>,
     kept: OwnerKept,
     set: usize,
     owner: i64,
 ) -> Result<i64, RunFault>
-    requires { set < length view.store.now.tables.sets }
-    ensures { result ≡ terms.owner_kept_value (view_readings view.entry) kept set owner }
+    requires { set < length view.now.store.now.tables.sets }
+    ensures { result ≡ terms.owner_kept_value (view_readings view.now) kept set owner }
 {
     match kept {
         OwnerKept::First => Ok(number_or_none(view.store.walk_first(set, owner)?)),
@@ -117,13 +117,13 @@ fn owner_kept<S: SetBoard>(
 
 /// `P.s`, `S.s` or `M.s` of a set for the member that a value names.
 fn member_kept<S: SetBoard>(
-    view: View<'_, S>,
+    view: &View<'_, S>,
     kept: MemberKept,
     set: usize,
     member: i64,
 ) -> Result<i64, RunFault>
-    requires { set < length view.store.now.tables.sets }
-    ensures { result ≡ terms.member_kept_value (view_readings view.entry) kept set member }
+    requires { set < length view.now.store.now.tables.sets }
+    ensures { result ≡ terms.member_kept_value (view_readings view.now) kept set member }
 {
     match kept {
         MemberKept::Predecessor => Ok(number_or_none(view.store.predecessor(set, member)?)),
@@ -137,6 +137,14 @@ pub fn variable_value<S: SetBoard>(view: View<'_, S>, variable: Variable) -> i64
     requires { InView view IsSoundVariable variable }
     ensures { result ≡ terms.variable_value (view_readings view.entry) variable }
 {
+    variable_seen(&view, variable)
+}
+
+/// The same of a view that is lent.
+fn variable_seen<S: SetBoard>(view: &View<'_, S>, variable: Variable) -> i64
+    requires { InView view.now IsSoundVariable variable }
+    ensures { result ≡ terms.variable_value (view_readings view.now) variable }
+{
     match variable {
         Variable::Global(number) => view.variables[number],
         Variable::Local(number) => view.locals[number],
@@ -149,13 +157,21 @@ pub fn value<S: SetBoard>(view: View<'_, S>, e: &Expr) -> Result<i64, RunFault>
     requires { InView view IsSoundExpr e.now }
     ensures { result ≡ value_of (view_readings view.entry) e.now }
 {
+    value_seen(&view, e)
+}
+
+/// The same of a view that is lent.
+pub fn value_seen<S: SetBoard>(view: &View<'_, S>, e: &Expr) -> Result<i64, RunFault>
+    requires { InView view.now IsSoundExpr e.now }
+    ensures { result ≡ value_of (view_readings view.now) e.now }
+{
     sum_value(view, &e.sum)
 }
 
 #[cycle(value)]
-fn sum_value<S: SetBoard>(view: View<'_, S>, e: &Sum) -> Result<i64, RunFault>
-    requires { InView view IsSoundExpr (expr_of e.now) }
-    ensures { result ≡ value_of (view_readings view.entry) (expr_of e.now) }
+fn sum_value<S: SetBoard>(view: &View<'_, S>, e: &Sum) -> Result<i64, RunFault>
+    requires { InView view.now IsSoundExpr (expr_of e.now) }
+    ensures { result ≡ value_of (view_readings view.now) (expr_of e.now) }
 {
     let first = term_value(view, &e.first)?;
     let mut total = signed(e.sign, first)?;
@@ -167,9 +183,9 @@ fn sum_value<S: SetBoard>(view: View<'_, S>, e: &Sum) -> Result<i64, RunFault>
 }
 
 #[cycle(value)]
-fn term_value<S: SetBoard>(view: View<'_, S>, t: &Term) -> Result<i64, RunFault>
-    requires { InView view IsSoundTerm (term_of t.now) }
-    ensures { result ≡ terms.term_value (view_readings view.entry) (term_of t.now) }
+fn term_value<S: SetBoard>(view: &View<'_, S>, t: &Term) -> Result<i64, RunFault>
+    requires { InView view.now IsSoundTerm (term_of t.now) }
+    ensures { result ≡ terms.term_value (view_readings view.now) (term_of t.now) }
 {
     let mut total = factor_value(view, &t.first)?;
     for further in &t.more {
@@ -180,13 +196,13 @@ fn term_value<S: SetBoard>(view: View<'_, S>, t: &Term) -> Result<i64, RunFault>
 }
 
 #[cycle(value)]
-fn factor_value<S: SetBoard>(view: View<'_, S>, f: &Factor) -> Result<i64, RunFault>
-    requires { InView view IsSoundFactor (factor_of f.now) }
-    ensures { result ≡ terms.factor_value (view_readings view.entry) (factor_of f.now) }
+fn factor_value<S: SetBoard>(view: &View<'_, S>, f: &Factor) -> Result<i64, RunFault>
+    requires { InView view.now IsSoundFactor (factor_of f.now) }
+    ensures { result ≡ terms.factor_value (view_readings view.now) (factor_of f.now) }
 {
     match f {
         Factor::Number(n) => number(*n),
-        Factor::Variable(x) => Ok(variable_value(view, *x)),
+        Factor::Variable(x) => Ok(variable_seen(view, *x)),
         Factor::Absolute(e) => size(sum_value(view, e)?),
         Factor::Greatest(arguments) => greatest_value(view, arguments),
         Factor::Least(arguments) => least_value(view, arguments),
@@ -227,9 +243,9 @@ fn factor_value<S: SetBoard>(view: View<'_, S>, f: &Factor) -> Result<i64, RunFa
 }
 
 #[cycle(value)]
-fn entity_named<S: SetBoard>(view: View<'_, S>, subscript: &Subscript) -> Result<i64, RunFault>
-    requires { InView view IsSoundSubscript (subscript_of subscript.now) }
-    ensures { result ≡ terms.subscript_value (view_readings view.entry) (subscript_of subscript.now) }
+fn entity_named<S: SetBoard>(view: &View<'_, S>, subscript: &Subscript) -> Result<i64, RunFault>
+    requires { InView view.now IsSoundSubscript (subscript_of subscript.now) }
+    ensures { result ≡ terms.subscript_value (view_readings view.now) (subscript_of subscript.now) }
 {
     match subscript {
         Subscript::Implied(number) => Ok(view.variables[*number]),
@@ -239,10 +255,10 @@ fn entity_named<S: SetBoard>(view: View<'_, S>, subscript: &Subscript) -> Result
 }
 
 #[cycle(value)]
-fn greatest_value<S: SetBoard>(view: View<'_, S>, arguments: &Arguments) -> Result<i64, RunFault>
-    requires first { InView view IsSoundExpr (arguments_of arguments.now).0 }
-    requires more { InView view AreSoundArguments (arguments_of arguments.now).1 }
-    ensures { result ≡ terms.factor_value (view_readings view.entry)
+fn greatest_value<S: SetBoard>(view: &View<'_, S>, arguments: &Arguments) -> Result<i64, RunFault>
+    requires first { InView view.now IsSoundExpr (arguments_of arguments.now).0 }
+    requires more { InView view.now AreSoundArguments (arguments_of arguments.now).1 }
+    ensures { result ≡ terms.factor_value (view_readings view.now)
         (tree.greatest (arguments_of arguments.now).0 (arguments_of arguments.now).1) }
 {
     let mut greatest = sum_value(view, &arguments.first)?;
@@ -254,10 +270,10 @@ fn greatest_value<S: SetBoard>(view: View<'_, S>, arguments: &Arguments) -> Resu
 }
 
 #[cycle(value)]
-fn least_value<S: SetBoard>(view: View<'_, S>, arguments: &Arguments) -> Result<i64, RunFault>
-    requires first { InView view IsSoundExpr (arguments_of arguments.now).0 }
-    requires more { InView view AreSoundArguments (arguments_of arguments.now).1 }
-    ensures { result ≡ terms.factor_value (view_readings view.entry)
+fn least_value<S: SetBoard>(view: &View<'_, S>, arguments: &Arguments) -> Result<i64, RunFault>
+    requires first { InView view.now IsSoundExpr (arguments_of arguments.now).0 }
+    requires more { InView view.now AreSoundArguments (arguments_of arguments.now).1 }
+    ensures { result ≡ terms.factor_value (view_readings view.now)
         (tree.least (arguments_of arguments.now).0 (arguments_of arguments.now).1) }
 {
     let mut least = sum_value(view, &arguments.first)?;
@@ -272,6 +288,14 @@ fn least_value<S: SetBoard>(view: View<'_, S>, arguments: &Arguments) -> Result<
 pub fn subscript_value<S: SetBoard>(view: View<'_, S>, index: &Index) -> Result<i64, RunFault>
     requires { InView view IsSoundSubscript index.now }
     ensures { result ≡ terms.subscript_value (view_readings view.entry) index.now }
+{
+    subscript_seen(&view, index)
+}
+
+/// The same of a view that is lent.
+pub fn subscript_seen<S: SetBoard>(view: &View<'_, S>, index: &Index) -> Result<i64, RunFault>
+    requires { InView view.now IsSoundSubscript index.now }
+    ensures { result ≡ terms.subscript_value (view_readings view.now) index.now }
 {
     entity_named(view, &index.subscript)
 }
@@ -326,7 +350,7 @@ pub fn values<S: SetBoard>(
 {
     values.clear();
     for e in &es.list {
-        values.push(value(view, e)?)?;
+        values.push(value_seen(&view, e)?)?;
     }
     Ok(())
 }
