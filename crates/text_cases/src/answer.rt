@@ -1,5 +1,5 @@
 use crate::notation::{Repeats, text_of};
-use crate::{checked, items, places, plain, raw};
+use crate::{checked, items, pieces, places, plain, raw, sections};
 use ss_words::TextFault;
 use std::alloc::{AllocError, Global};
 
@@ -18,6 +18,10 @@ pub fn answer(alloc: Global, way: &str, noted: &str) -> Result<Vec<u8>, AllocErr
         "ITEMS" => items::written(alloc, &text),
         "PROGRAM" => places::counts(alloc, &text),
         "BEGINNINGS" => return beginnings(alloc, &text),
+        "SECTIONS" => sections::written(alloc, &text),
+        "BODY" => sections::body(alloc, &text),
+        "SIZES" => sections::counts(alloc, &text),
+        "PIECES" => return pieces::refusals(alloc, &text),
         "CHECK" => return checked::outcome(alloc, &text),
         "LOCAL" => return checked::local(alloc, &text),
         "PLACES" => return checked::places(alloc, &text),

@@ -14,7 +14,14 @@
 //!   each of its places.
 //! - `PROGRAM`: how many items the preamble has, and how many sections stand behind it.
 //! - `BEGINNINGS`: what `LINES` gives for each beginning of the text that ends with a line.
+//! - `SECTIONS`: each section: its line, what it is, its name, its local DEFINEs and its places,
+//!   the DEFINEs and places each behind its line.
+//! - `BODY`: the places of MAIN but its END, where the text stands between MAIN and END.
+//! - `SIZES`: how many sections there are, and how many places they have.
+//! - `PIECES`: the beginnings of the text that end before a blank or a line's end, and the whole: of
+//!   each that P2 does not refuse at its last line, how many pieces it has and `Ok` or the refusal.
 //!
+//! The last four show names of one letter and numbers of one digit as that letter and that digit.
 //! A text that is refused gives its rule and line. How a text is noted says `notation`.
 //!
 //! A line that begins with four blanks is an example as docs/LANGUAGE.md writes it, `TEXT ->
@@ -26,9 +33,12 @@ mod answer;
 mod checked;
 mod items;
 mod notation;
+mod pieces;
 mod places;
 mod plain;
 mod raw;
+mod sections;
+mod shown;
 
 use answer::answer;
 use std::alloc::{AllocError, Global};

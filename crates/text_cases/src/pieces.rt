@@ -1,10 +1,10 @@
-use crate::answer::sections_of;
+use crate::sections::sections_of;
 use ss_words::{TextFault, TextRule};
 use std::alloc::{AllocError, Global};
 
 /// Of each beginning of the text that ends before a blank or a line's end, and of the whole, how
 /// many pieces it has and what it gives, if P2 does not refuse it at its last line.
-pub fn beginnings(alloc: Global, text: &[u8]) -> Result<Vec<u8>, AllocError> {
+pub fn refusals(alloc: Global, text: &[u8]) -> Result<Vec<u8>, AllocError> {
     let mut out = Vec::new(alloc);
     let mut pieces: usize = 0;
     let mut line: usize = 1;

@@ -1,34 +1,7 @@
-use crate::beginnings::beginnings;
-use crate::notation::text_of;
 use crate::shown::{put_places, put_section};
 use ss_grammar::{Sections, sections};
 use ss_words::{TextFault, words};
 use std::alloc::{AllocError, Global};
-
-/// What a noted text gives, read in a way.
-pub fn answer(alloc: Global, way: &str, noted: &str) -> Result<Vec<u8>, AllocError> {
-    let text = text_of(alloc, noted)?;
-    let given = match way {
-        "SECTIONS" => written(alloc, &text),
-        "BODY" => body(alloc, &text),
-        "COUNT" => counts(alloc, &text),
-        "BEGINNINGS" => return beginnings(alloc, &text),
-        _ => Ok(Vec::from_slice(alloc, b"no such way")?),
-    };
-    or_refusal(alloc, given)
-}
-
-/// What is given, or the rule and the line of the refusal.
-fn or_refusal(alloc: Global, given: Result<Vec<u8>, TextFault>) -> Result<Vec<u8>, AllocError> {
-    match given {
-        Ok(given) => Ok(given),
-        Err(TextFault::Refused { rule, line }) => {
-            let code = rule.code();
-            Ok(format!(in alloc; "{code} {line}")?.into_bytes())
-        }
-        Err(TextFault::Memory) => Err(AllocError),
-    }
-}
 
 /// The sections of a text.
 pub fn sections_of(alloc: Global, text: &[u8]) -> Result<Sections, TextFault> {
@@ -36,7 +9,7 @@ pub fn sections_of(alloc: Global, text: &[u8]) -> Result<Sections, TextFault> {
 }
 
 /// Each section, in a pair of brackets.
-fn written(alloc: Global, text: &[u8]) -> Result<Vec<u8>, TextFault> {
+pub fn written(alloc: Global, text: &[u8]) -> Result<Vec<u8>, TextFault> {
     let sections = sections_of(alloc, text)?;
     let mut out = Vec::new(alloc);
     for section in sections.list() {
@@ -46,7 +19,7 @@ fn written(alloc: Global, text: &[u8]) -> Result<Vec<u8>, TextFault> {
 }
 
 /// The places of MAIN but its END, where the text stands between MAIN and END.
-fn body(alloc: Global, text: &[u8]) -> Result<Vec<u8>, TextFault> {
+pub fn body(alloc: Global, text: &[u8]) -> Result<Vec<u8>, TextFault> {
     let mut whole = Vec::from_slice(alloc, b"MAIN ")?;
     whole.extend_from_slice(text)?;
     whole.extend_from_slice(b"\nEND")?;
@@ -61,7 +34,7 @@ fn body(alloc: Global, text: &[u8]) -> Result<Vec<u8>, TextFault> {
 }
 
 /// How many sections there are, and how many places they have.
-fn counts(alloc: Global, text: &[u8]) -> Result<Vec<u8>, TextFault> {
+pub fn counts(alloc: Global, text: &[u8]) -> Result<Vec<u8>, TextFault> {
     let sections = sections_of(alloc, text)?;
     let mut places = 0;
     for section in sections.list() {
