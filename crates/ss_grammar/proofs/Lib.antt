@@ -22,6 +22,11 @@ mod HeadLaw
 mod HeadNear
 mod HeadAgain
 mod SectionLaw
+mod Inner
+mod Counting
+mod BlockCounts
+mod HeadCounts
+mod SectionCounts
 pub mod Whole
 pub mod Unique
 pub mod Answered

@@ -1,6 +1,7 @@
 //! Laws on the definitions. Each function does nothing, and its contract says the law.
 ghost use Rattle.ss_grammar.specs.Laws.{SpellingIsUnique, AlwaysAnswered, AnswerIsUnique};
 ghost use Rattle.ss_grammar.specs.Laws.{LimitsLetPass, LimitsHold, LimitsRefuse};
+ghost use Rattle.ss_grammar.specs.OneTooMany.{LimitIsCounted, CountPassesLimit};
 ghost use Rattle.ss_grammar.specs.Examples.{ElseIsOfTheInnerIf, LoopEndsTheChain};
 ghost use Rattle.ss_grammar.specs.Examples.{ForControlsOneStatement, AndBindsMoreTightly};
 ghost use Rattle.ss_grammar.specs.Examples.{ParenthesesAreTold, ComputeIsTwoPlaces};
@@ -33,6 +34,16 @@ pub fn limits_hold()
 /// A word that passes a limit is refused.
 pub fn limits_refuse()
     ensures { LimitsRefuse }
+{}
+
+/// The word that passes a limit is one too many by counting words, or it is FOR.
+pub fn limit_is_counted()
+    ensures { LimitIsCounted }
+{}
+
+/// A word that is one too many by counting passes a limit.
+pub fn count_passes_limit()
+    ensures { CountPassesLimit }
 {}
 
 /// `IF FOUND IF NONE ELSE ALWAYS ALWAYS`: the ELSE is of the inner IF.
