@@ -1,5 +1,5 @@
 -- The one tree of small texts.
-use Rattle.std.proofs.Common.{◌≡◌, List, [], None, refl, sym, ◌∙◌, arith}
+use Rattle.std.proofs.Common.{◌≡◌, List, refl, sym, ◌∙◌, arith}
 use Rattle.ss_words.specs.Plain.{Plain}
 use Rattle.ss_grammar.specs.Expr.{named}
 use Rattle.ss_grammar.specs.Tree.{Tree, spell, no_statements, statement, loop, repeated, compute}

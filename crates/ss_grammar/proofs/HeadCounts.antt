@@ -9,18 +9,16 @@ use Rattle.ss_words.specs.declared.word.Sign.TheVariants as s
 use Rattle.ss_words.specs.declared.reserved.Reserved.TheVariants as r
 use Rattle.ss_words.specs.Plain.{Plain, name, number, mark, picture, first}
 use Rattle.ss_words.specs.Lists.{Name, Several, all_of, next_name, other_names, names}
-use Rattle.ss_words.specs.Reading.{Read, Reading, goes_on, bind, pure, refuse, look, skip}
+use Rattle.ss_words.specs.Reading.{Reading, goes_on, bind, pure, refuse, look, skip}
 use Rattle.ss_words.specs.Marks.{is, expect, eat, name_by, a_name}
 use Rattle.ss_words.proofs.Marks.{is_mark}
-use Rattle.ss_grammar.specs.Combined.{pair, behind, made, if_mark, star}
 use Rattle.ss_grammar.specs.Simple.{Listing, Unwritten, BehindGiven, InParentheses}
-use Rattle.ss_grammar.specs.Tree.{Head, MainHead, RoutineHead, EventHead, listed}
+use Rattle.ss_grammar.specs.Tree.{MainHead, RoutineHead, EventHead, listed}
 use Rattle.ss_grammar.specs.SectionReading.{refusal_of, no_name, others_at, names_at, given_at, yielded_at, saving}
 use Rattle.ss_grammar.specs.SectionReading.{routine_at, event_at, head_by, head_at, as_variables, a_define, locals}
-use Rattle.ss_grammar.specs.Counts.{closes}
 use Rattle.ss_grammar.specs.OneTooMany.{asks, names_in_head}
 use Rattle.std.proofs.lemmas.List.{append-nil}
-use Rattle.ss_grammar.proofs.Counting.{Even, Room, Full, Past, Out, Tally, TallyAt, Encloses, Shuts, nothing, anywhere}
+use Rattle.ss_grammar.proofs.Counting.{Full, Tally, TallyAt, Encloses, anywhere}
 use Rattle.ss_grammar.proofs.Counting.{pure_tally, refuse_tally, bind_tally, look_tally, skip_tally, expect_tally}
 use Rattle.ss_grammar.proofs.Counting.{eat_tally, name_tally, many_tally, bind_shuts, made_shuts, close_shuts}
 use Rattle.ss_grammar.proofs.Counting.{enclosed_tally}

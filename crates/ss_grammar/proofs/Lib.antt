@@ -27,8 +27,10 @@ mod Counting
 mod BlockCounts
 mod HeadCounts
 mod SectionCounts
+mod HeadNames
 pub mod Whole
 pub mod Unique
+mod LimitWords
 pub mod Answered
 pub mod Decided
 mod BlockWrites

@@ -1,30 +1,28 @@
 -- What the reading of sections has counted where it stops.
 use Rattle.std.proofs.Common.{◌≡◌, ℕ, zero, suc, ◌+◌, ◌≤◌, Bool, true, false, List, [], ◌∷◌, ◌++◌, length, Option}
-use Rattle.std.proofs.Common.{Some, None, Result, Ok, Err, refl, sym, ap, subst, ◌∙◌, append_assoc, arith}
-use Rattle.std.proofs.lemmas.List.{append-nil}
+use Rattle.std.proofs.Common.{Some, Result, Ok, Err, refl, sym, ap, subst, ◌∙◌, append_assoc, arith}
 use Rattle.ss_words.specs.declared.refusal.Refusal.{Refusal}
 use Rattle.ss_words.specs.declared.refusal.Refusal.TheVariants.{Unexpected, PastLimit, Memory}
 use Rattle.ss_words.specs.declared.mark.Mark.TheVariants as m
 use Rattle.ss_words.specs.declared.word.Sign.TheVariants as s
 use Rattle.ss_words.specs.declared.reserved.Reserved.TheVariants as r
 use Rattle.ss_words.specs.Plain.{Plain, name, mark, first}
-use Rattle.ss_words.specs.Lists.{Name, Several}
 use Rattle.ss_words.specs.Reading.{Read, Reading, goes_on, bind, pure, refuse, look, skip, ended, whole}
 use Rattle.ss_words.specs.Marks.{is, expect}
 use Rattle.ss_words.proofs.Marks.{is_mark}
 use Rattle.ss_words.proofs.Goal as goal
-use Rattle.ss_grammar.specs.Tree.{Block, Head, SectionTree, Tree, spell_section}
+use Rattle.ss_grammar.specs.Tree.{Head, SectionTree, Tree, spell_section}
 use Rattle.ss_grammar.specs.BlockReading.{block_at}
 use Rattle.ss_grammar.specs.SectionReading.{is_head, head_at, locals, section_at, sections_upto}
 use Rattle.ss_grammar.specs.Counts.{count, opens, closes}
 use Rattle.ss_grammar.specs.OneTooMany.{branches, rejoins, ends, has_end, behind_end, names_in_head}
 use Rattle.ss_grammar.proofs.Tally.{count-append}
 use Rattle.ss_grammar.proofs.Form.{Each}
-use Rattle.ss_grammar.proofs.Begun.{IsKept, Keeps}
+use Rattle.ss_grammar.proofs.Begun.{IsKept}
 use Rattle.ss_grammar.proofs.SectionLaw.{FitsSection, of_parts, section_keeps}
 use Rattle.ss_grammar.proofs.Counting.{Even, Room, Full, Past, Out, Tally, joined, room_behind, past_behind}
 use Rattle.ss_grammar.proofs.BlockCounts.{block_tally}
-use Rattle.ss_grammar.proofs.HeadCounts.{Last, Told, Tells, Anyhow, head_tally, head_tells, locals_tally}
+use Rattle.ss_grammar.proofs.HeadCounts.{Last, Told, Anyhow, head_tally, head_tells, locals_tally}
 
 abbrev end : Plain
 end = mark (m.Reserved r.End)

@@ -5,6 +5,7 @@ use Rattle.ss_words.specs.declared.mark.Mark.TheVariants as m
 use Rattle.ss_words.specs.declared.word.Sign.TheVariants as s
 use Rattle.ss_words.specs.declared.reserved.Reserved.TheVariants as r
 use Rattle.ss_words.specs.Plain.{Plain, name, mark, first}
+use Rattle.ss_words.specs.Lists.{Name}
 use Rattle.ss_grammar.specs.Counts.{count, opens, closes}
 use Rattle.ss_grammar.specs.SectionReading.{is_head}
 use Rattle.ss_grammar.specs.Refused.{Begins, InRoom, PassesLimit}
@@ -56,14 +57,15 @@ names_in_head false (w ∷ ws) =
 pub data Counted : Type 0 where
   Parentheses Ifs Parameters Sections : Counted
 
--- word k is one too many: an opening parenthesis before which 50 are open, an IF before which 64 are open, the name of
--- a head behind its own name and 32 parameters, the first word of a head before which 256 sections have ended
+-- word k is one too many: an opening parenthesis before which 50 are open; an IF before which 64 are open; a name that
+-- is the 34th of its head, which has a name of its own; the first word of a head before which 256 sections have ended
 abbrev pub IsOneTooMany : Counted → List Plain → ℕ → Type 0
 IsOneTooMany Parentheses ws k =
     (first (drop k ws) ≡ Some (mark (m.Sign s.Open))) × (count opens (take k ws) ≡ count closes (take k ws) + 50)
 IsOneTooMany Ifs ws k =
     (first (drop k ws) ≡ Some (mark (m.Reserved r.If))) × (count branches (take k ws) ≡ count rejoins (take k ws) + 64)
-IsOneTooMany Parameters ws k = names_in_head false (behind_end (take (k + 1) ws)) ≡ 34
+IsOneTooMany Parameters ws k =
+    (n : Name) × (first (drop k ws) ≡ Some (name n)) × (names_in_head false (behind_end (take (k + 1) ws)) ≡ 34)
 IsOneTooMany Sections ws k = (is_head (first (drop k ws)) ≡ true) × (count ends (take k ws) ≡ 256)
 
 -- a word that passes a limit is one too many by counting, or it is FOR

@@ -1,5 +1,5 @@
-use Rattle.ss_grammar.proofs.SectionCounts.{whole_out}
+use Rattle.ss_grammar.proofs.LimitWords.{limit_is_counted}
 use Rattle.ss_grammar.proofs.laws.limit_is_counted.Goals as goal
 
 pub returns : goal.returns
-returns c = ?
+returns c = limit_is_counted

@@ -1,6 +1,6 @@
 use Rattle.std.proofs.Common.{List, map}
 use Rattle.ss_grammar.specs.View.{section_view}
-use Rattle.ss_words.specs.Plain.{PlainAt, plain_at}
+use Rattle.ss_words.specs.Plain.{PlainAt}
 use Rattle.ss_grammar.specs.Places.{Section}
 use Rattle.ss_grammar.specs.Refused.{AreSections, lines}
 use Rattle.ss_grammar.specs.OfProgram.{AreOfProgram}
