@@ -384,8 +384,14 @@ module _ {A : Type 0} (n i : ℕ) (fits fits' : A → Type 0) (sp sp' : A → Li
     unfolding InnerRead
     word_by r' lt (q', e, x) =
         let j = length ws - length (w ∷ tail) + 1 in
-        let le : j ≤ length q' = omega (arith, lt, ap length split, length-append q (w ∷ tail), ap length e,
-        length-append q' r') in
+        let le : j ≤ length q' = omega (
+          arith,
+          lt,
+          ap length split,
+          length-append q (w ∷ tail),
+          ap length e,
+          length-append q' r',
+        ) in
         let back : take j ws ++ drop j q' ≡ q' = goal.longer ws q' r' j e le in
         subst Inner (goal.front_and ws q tail w split) (front (take j ws) (drop j q') (subst Inner (sym back) x))
 

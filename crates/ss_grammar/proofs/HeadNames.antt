@@ -168,5 +168,9 @@ names_kept (t ∷ ts) ((q, sp, even), h) k le p x e =
         let more : spell ts ≡ z ++ x = cc in
         let is : p ≡ q ++ end ∷ z = f ∙ ap (λ (u : Plain). q ++ u ∷ z) (sym same) in
         let c = rest z more in
-        omega (arith, c, ap (λ (u : List Plain). names_in_head false (behind_end u)) is,
-        ap (names_in_head false) (behind_section q z))
+        omega (
+          arith,
+          c,
+          ap (λ (u : List Plain). names_in_head false (behind_end u)) is,
+          ap (names_in_head false) (behind_section q z),
+        )

@@ -148,8 +148,7 @@ program_ends : (t : SectionTree) (ts : Tree) → Each Spelled (t ∷ ts)
     → (y : List Plain) × (spell (t ∷ ts) ≡ y ++ mark (m.Reserved r.End) ∷ [])
 program_ends t [] ((q, e, x), h) = (q, append-nil (spell_section t) ∙ e)
 program_ends t (u ∷ ts) (x, h) =
-    let (y, e) = program_ends u ts h in
-    (
+    let (y, e) = program_ends u ts h in (
       spell_section t ++ y,
       ap (λ (z : List Plain). spell_section t ++ z) e
           ∙ sym (append_assoc (spell_section t) y (mark (m.Reserved r.End) ∷ [])),
@@ -232,8 +231,15 @@ too_many Sections ws k (f, x) (t, w, z, e) =
     let whole : spell t ≡ take k ws ++ v ∷ z =
     e ∙ ap (λ (u : List Plain). u ++ z) (one_more ws k v here) ∙ append_assoc (take k ws) (v ∷ []) z in
     let le = w.sections in
-    absurd (omega (arith, x, n, le, some_end t each (take k ws) z v whole, ap (count ends) whole,
-    count-append ends (take k ws) (v ∷ z)))
+    absurd (omega (
+      arith,
+      x,
+      n,
+      le,
+      some_end t each (take k ws) z v whole,
+      ap (count ends) whole,
+      count-append ends (take k ws) (v ∷ z),
+    ))
 
 announced : (c : Counted) (ws : List Plain) (k : ℕ) → IsOneTooMany c ws k → IsAnnounced (take (k + 1) ws) → ⊥
 announced Parentheses ws k (f, x) h = not_announced ws k _ f refl h
