@@ -1,6 +1,8 @@
 -- What a reading has counted where it stops: what is read closes each parenthesis and rejoins each IF, and a word that is
 -- refused by a limit stands where all that may be open are open.
-use Rattle.std.proofs.Common.{◌≡◌, ℕ, zero, suc, ◌+◌, ◌-◌, ◌≤◌, ◌<◌, Bool, true, false, List, [], ◌∷◌, ◌++◌, length}
+use mathlib.Core.Logic.{inl, inr}
+use Rattle.ss_grammar.specs.Combined.{if_mark, either}
+use Rattle.std.proofs.Common.{◌≡◌, ◌⊎◌, ℕ, zero, suc, ◌+◌, ◌-◌, ◌≤◌, ◌<◌, Bool, true, false, List, [], ◌∷◌, ◌++◌, length}
 use Rattle.std.proofs.Common.{length-append, take, drop, Option, Some, None, Result, Ok, Err, refl, sym, ap, subst, ◌∙◌}
 use Rattle.std.proofs.Common.{append_assoc, arith}
 use Rattle.ss_words.specs.declared.refusal.Refusal.{Refusal}
@@ -17,7 +19,7 @@ use Rattle.ss_words.proofs.Local.{more, Local, Stops}
 use Rattle.ss_words.proofs.Marks.{is_mark}
 use Rattle.ss_words.proofs.Goal as goal
 use Rattle.ss_grammar.specs.Counts.{count, opens, closes}
-use Rattle.ss_grammar.specs.OneTooMany.{branches, rejoins, ends}
+use Rattle.ss_grammar.specs.OneTooMany.{branches, rejoins, phrases, repeats, ends}
 use Rattle.ss_grammar.proofs.Tally as tally
 use Rattle.ss_grammar.proofs.Tally.{count-append, Leaves}
 use Rattle.ss_grammar.proofs.Inner.{builds, Inner, front}
@@ -26,6 +28,7 @@ use Rattle.ss_grammar.proofs.Inner.{builds, Inner, front}
 pub record Even (q : List Plain) : Type 0 where
   pub parentheses : count opens q ≡ count closes q
   pub ifs : count branches q ≡ count rejoins q
+  pub loops : count repeats q ≤ count phrases q
   pub no_end : count ends q ≡ 0
 
 -- no more than n parentheses and i IFs are open behind these words
@@ -35,35 +38,35 @@ pub record Room (n i : ℕ) (q : List Plain) : Type 0 where
   pub no_end : count ends q ≡ 0
 
 -- the word behind q is refused by a limit: as many are open as may be, or the word counts to another limit
-abbrev pub Full : Bool → ℕ → ℕ → List Plain → Option Plain → Type 0
-Full h n i q (Some (mark (m.Sign sign.Open))) = count opens q ≡ count closes q + n
-Full h n i q (Some (mark (m.Reserved r.If))) = count branches q ≡ count rejoins q + i
-Full h n i q (Some (mark (m.Reserved r.For))) = Unit {0}
-Full h n i q (Some (name v)) = h ≡ true
-Full h n i q _ = ⊥
+abbrev pub Full : Bool → ℕ → ℕ → ℕ → List Plain → Option Plain → Type 0
+Full h n i fs q (Some (mark (m.Sign sign.Open))) = count opens q ≡ count closes q + n
+Full h n i fs q (Some (mark (m.Reserved r.If))) = count branches q ≡ count rejoins q + i
+Full h n i fs q (Some (mark (m.Reserved r.For))) = count repeats q + fs ≤ count phrases q
+Full h n i fs q (Some (name v)) = h ≡ true
+Full h n i fs q _ = ⊥
 
 -- refused by a limit, within a section
-pub record Past (h : Bool) (n i : ℕ) (q : List Plain) (w : Option Plain) : Type 0 where
-  pub full : Full h n i q w
+pub record Past (h : Bool) (n i fs : ℕ) (q : List Plain) (w : Option Plain) : Type 0 where
+  pub full : Full h n i fs q w
   pub no_end : count ends q ≡ 0
 
 -- where n parentheses and i IFs may be open; h says that names may be refused by a limit
-abbrev pub Out : {A : Type 0} → Bool → ℕ → ℕ → Result A Refusal → List Plain → List Plain → Type 0
-Out h n i (Ok a) ws r = (q : List Plain) × (ws ≡ q ++ r) × Even q
-Out h n i (Err Unexpected) ws r = (q : List Plain) × (ws ≡ q ++ r) × Room n i q
-Out h n i (Err Memory) ws r = ⊥
-Out h n i (Err PastLimit) ws r = (q : List Plain) × (ws ≡ q ++ r) × Past h n i q (first r)
+abbrev pub Out : {A : Type 0} → Bool → ℕ → ℕ → ℕ → Result A Refusal → List Plain → List Plain → Type 0
+Out h n i fs (Ok a) ws r = (q : List Plain) × (ws ≡ q ++ r) × Even q
+Out h n i fs (Err Unexpected) ws r = (q : List Plain) × (ws ≡ q ++ r) × Room n i q
+Out h n i fs (Err Memory) ws r = ⊥
+Out h n i fs (Err PastLimit) ws r = (q : List Plain) × (ws ≡ q ++ r) × Past h n i fs q (first r)
 
-pub record Tally {A : Type 0} (h : Bool) (n i : ℕ) (p : Reading A) : Type 0 where
-  pub at : (ws : List Plain) → Out h n i (p ws).0 ws (p ws).1
+pub record Tally {A : Type 0} (h : Bool) (n i fs : ℕ) (p : Reading A) : Type 0 where
+  pub at : (ws : List Plain) → Out h n i fs (p ws).0 ws (p ws).1
 
-abbrev pub TallyAt : {A : Type 0} → Bool → ℕ → ℕ → Option Plain → Reading A → Type 0
-TallyAt h n i w p = (ws : List Plain) → first ws ≡ w → Out h n i (p ws).0 ws (p ws).1
+abbrev pub TallyAt : {A : Type 0} → Bool → ℕ → ℕ → ℕ → Option Plain → Reading A → Type 0
+TallyAt h n i fs w p = (ws : List Plain) → first ws ≡ w → Out h n i fs (p ws).0 ws (p ws).1
 
 -- ---- words joined
 
 pub nothing : Even []
-nothing = record { parentheses = refl; ifs = refl; no_end = refl }
+nothing = record { parentheses = refl; ifs = refl; loops = omega arith; no_end = refl }
 
 pub room_of : (n i : ℕ) (q : List Plain) → Even q → Room n i q
 room_of n i q e = let a = e.parentheses in let b = e.ifs in record {
@@ -78,6 +81,8 @@ joined a b x y =
     let e' = y.no_end in record {
       parentheses = omega (arith, p, p', count-append opens a b, count-append closes a b);
       ifs = omega (arith, i, i', count-append branches a b, count-append rejoins a b);
+      loops = (let l = x.loops in let l' = y.loops in
+          omega (arith, l, l', count-append repeats a b, count-append phrases a b));
       no_end = omega (arith, e, e', count-append ends a b);
     }
 
@@ -90,40 +95,41 @@ room_behind n i a b x y =
       no_end = omega (arith, e, e', count-append ends a b);
     }
 
-full_behind : (h : Bool) (n i : ℕ) (a b : List Plain) (w : Option Plain) → Even a → Full h n i b w
-    → Full h n i (a ++ b) w
-full_behind h n i a b (Some (mark (m.Sign sign.Open))) x f =
+full_behind : (h : Bool) (n i fs : ℕ) (a b : List Plain) (w : Option Plain) → Even a → Full h n i fs b w
+    → Full h n i fs (a ++ b) w
+full_behind h n i fs a b (Some (mark (m.Sign sign.Open))) x f =
     let p = x.parentheses in omega (arith, p, f, count-append opens a b, count-append closes a b)
-full_behind h n i a b (Some (mark (m.Reserved r.If))) x f =
+full_behind h n i fs a b (Some (mark (m.Reserved r.If))) x f =
     let g = x.ifs in omega (arith, g, f, count-append branches a b, count-append rejoins a b)
-full_behind h n i a b (Some (mark (m.Reserved r.For))) x f = tt
-full_behind h n i a b (Some (name v)) x f = f
-full_behind h n i a b _ x f = absurd f
+full_behind h n i fs a b (Some (mark (m.Reserved r.For))) x f =
+    let g = x.loops in omega (arith, g, f, count-append repeats a b, count-append phrases a b)
+full_behind h n i fs a b (Some (name v)) x f = f
+full_behind h n i fs a b _ x f = absurd f
 
-pub past_behind : (h : Bool) (n i : ℕ) (a b : List Plain) (w : Option Plain) → Even a → Past h n i b w
-    → Past h n i (a ++ b) w
-past_behind h n i a b w x y =
+pub past_behind : (h : Bool) (n i fs : ℕ) (a b : List Plain) (w : Option Plain) → Even a → Past h n i fs b w
+    → Past h n i fs (a ++ b) w
+past_behind h n i fs a b w x y =
     let e = x.no_end in let e' = y.no_end in record {
-      full = full_behind h n i a b w x y.full;
+      full = full_behind h n i fs a b w x y.full;
       no_end = omega (arith, e, e', count-append ends a b);
     }
 
 -- ---- the steps of a reading
 
-module _ (h : Bool) (n i : ℕ) where
-  pub anywhere : {A : Type 0} (w : Option Plain) (p : Reading A) → Tally h n i p → TallyAt h n i w p
+module _ (h : Bool) (n i fs : ℕ) where
+  pub anywhere : {A : Type 0} (w : Option Plain) (p : Reading A) → Tally h n i fs p → TallyAt h n i fs w p
   anywhere w p t ws e = t.at ws
 
-  pub pure_tally : {A : Type 0} (a : A) → Tally h n i (pure a)
+  pub pure_tally : {A : Type 0} (a : A) → Tally h n i fs (pure a)
   unfolding pure
   pure_tally a = record { at = λ ws. ([], refl, nothing) }
 
-  pub refuse_tally : {A : Type 0} → Tally {A = A} h n i (refuse Unexpected)
+  pub refuse_tally : {A : Type 0} → Tally {A = A} h n i fs (refuse Unexpected)
   unfolding refuse
   refuse_tally = record { at = λ ws. ([], refl, room_of n i [] nothing) }
 
-  pub behind : {A : Type 0} (o : Result A Refusal) (ws r r' q : List Plain) → ws ≡ q ++ r → Even q → Out h n i o r r'
-      → Out h n i o ws r'
+  pub behind : {A : Type 0} (o : Result A Refusal) (ws r r' q : List Plain) → ws ≡ q ++ r → Even q → Out h n i fs o r r'
+      → Out h n i fs o ws r'
   behind (Ok a) ws r r' q e x (q2, e2, y) =
       (q ++ q2, e ∙ ap (λ (u : List Plain). q ++ u) e2 ∙ sym (append_assoc q q2 r'), joined q q2 x y)
   behind (Err Unexpected) ws r r' q e x (q2, e2, y) =
@@ -132,61 +138,61 @@ module _ (h : Bool) (n i : ℕ) where
   behind (Err PastLimit) ws r r' q e x (q2, e2, y) = (
     q ++ q2,
     e ∙ ap (λ (u : List Plain). q ++ u) e2 ∙ sym (append_assoc q q2 r'),
-    past_behind h n i q q2 (first r') x y,
+    past_behind h n i fs q q2 (first r') x y,
   )
 
-  module _ {A B : Type 0} (f : A → Reading B) (t : (a : A) → Tally h n i (f a)) where
-    bound : (o : Result A Refusal) (ws r : List Plain) → Out h n i o ws r
-        → Out h n i (goes_on f o r).0 ws (goes_on f o r).1
+  module _ {A B : Type 0} (f : A → Reading B) (t : (a : A) → Tally h n i fs (f a)) where
+    bound : (o : Result A Refusal) (ws r : List Plain) → Out h n i fs o ws r
+        → Out h n i fs (goes_on f o r).0 ws (goes_on f o r).1
     bound (Ok a) ws r (q, e, x) = behind (f a r).0 ws r (f a r).1 q e x ((t a).at r)
     bound (Err Unexpected) ws r out = out
     bound (Err Memory) ws r out = out
     bound (Err PastLimit) ws r out = out
 
-    pub bind_tally : (p : Reading A) → Tally h n i p → Tally h n i (bind p f)
+    pub bind_tally : (p : Reading A) → Tally h n i fs p → Tally h n i fs (bind p f)
     unfolding bind
     bind_tally p g = record { at = λ ws. bound (p ws).0 ws (p ws).1 (g.at ws) }
 
-  pub look_tally : {A : Type 0} (f : Option Plain → Reading A) → ((w : Option Plain) → TallyAt h n i w (f w))
-      → Tally h n i (look f)
+  pub look_tally : {A : Type 0} (f : Option Plain → Reading A) → ((w : Option Plain) → TallyAt h n i fs w (f w))
+      → Tally h n i fs (look f)
   unfolding look
   look_tally f t = record { at = λ ws. t (first ws) ws refl }
 
-  pub skip_tally : {A : Type 0} (w : Plain) (p : Reading A) → Even (w ∷ []) → Tally h n i p
-      → TallyAt h n i (Some w) (skip p)
+  pub skip_tally : {A : Type 0} (w : Plain) (p : Reading A) → Even (w ∷ []) → Tally h n i fs p
+      → TallyAt h n i fs (Some w) (skip p)
   unfolding skip
   skip_tally w p x t [] e = absurd cc
   skip_tally w p x t (v ∷ ws) e =
       let same : w ≡ v = cc in
       behind (p ws).0 (v ∷ ws) ws (p ws).1 (v ∷ []) refl (subst (λ (u : Plain). Even (u ∷ [])) same x) (t.at ws)
 
-  pub test_at : {A : Type 0} (k : Mark) (p q : Reading A) → Even (mark k ∷ []) → Tally h n i p → Tally h n i q
-      → (w : Option Plain) (b : Bool) → is k w ≡ b → TallyAt h n i w (elim b [ true ↦ skip p | false ↦ q ])
+  pub test_at : {A : Type 0} (k : Mark) (p q : Reading A) → Even (mark k ∷ []) → Tally h n i fs p → Tally h n i fs q
+      → (w : Option Plain) (b : Bool) → is k w ≡ b → TallyAt h n i fs w (elim b [ true ↦ skip p | false ↦ q ])
   test_at k p q x tp tq None true e = absurd cc
   test_at k p q x tp tq (Some w) true e = rw (is_mark k w e) (skip_tally (mark k) p x tp)
   test_at k p q x tp tq w false e = anywhere w q tq
 
-  pub expect_tally : (k : Mark) → Even (mark k ∷ []) → Tally h n i (expect k)
+  pub expect_tally : (k : Mark) → Even (mark k ∷ []) → Tally h n i fs (expect k)
   unfolding expect
   expect_tally k x =
       look_tally _ (λ w. test_at k (pure tt) (refuse Unexpected) x (pure_tally tt) refuse_tally w (is k w) refl)
 
-  pub eat_tally : (k : Mark) → Even (mark k ∷ []) → Tally h n i (eat k)
+  pub eat_tally : (k : Mark) → Even (mark k ∷ []) → Tally h n i fs (eat k)
   unfolding eat
   eat_tally k x =
       look_tally _ (λ w. test_at k (pure true) (pure false) x (pure_tally true) (pure_tally false) w (is k w) refl)
 
-  name_at : (w : Option Plain) → TallyAt h n i w (name_by w)
+  name_at : (w : Option Plain) → TallyAt h n i fs w (name_by w)
   name_at (Some (name v)) =
-      skip_tally (name v) (pure v) (record { parentheses = refl; ifs = refl; no_end = refl }) (pure_tally v)
+      skip_tally (name v) (pure v) (record { parentheses = refl; ifs = refl; loops = omega arith; no_end = refl }) (pure_tally v)
   name_at _ = anywhere _ _ refuse_tally
 
-  pub name_tally : Tally h n i a_name
+  pub name_tally : Tally h n i fs a_name
   unfolding a_name
   name_tally = look_tally name_by name_at
 
-  module _ {A B : Type 0} (item : Reading (Option A)) (none : B) (one : A → B → B) (t : Tally h n i item) where
-    from_tally : (k : ℕ) → Tally h n i (many_from item none one k)
+  module _ {A B : Type 0} (item : Reading (Option A)) (none : B) (one : A → B → B) (t : Tally h n i fs item) where
+    from_tally : (k : ℕ) → Tally h n i fs (many_from item none one k)
     unfolding many_from
     from_tally zero = pure_tally none
     from_tally (suc k) = bind_tally _ (elim [
@@ -194,26 +200,26 @@ module _ (h : Bool) (n i : ℕ) where
       | None ↦ pure_tally none
     ]) item t
 
-    pub many_tally : Tally h n i (many item none one)
+    pub many_tally : Tally h n i fs (many item none one)
     unfolding many
     many_tally = record { at = λ ws. (from_tally (suc (length ws))).at ws }
 
 -- ---- a part between two words that are counted
 
 -- how many may be open behind word w, where n and i may be before it
-pub record Encloses (w c : Plain) (n i n' i' : ℕ) : Type 0 where
+pub record Encloses (w c : Plain) (n i fs n' i' fs' : ℕ) : Type 0 where
   pub even : Even (w ∷ c ∷ [])
   pub room : (q : List Plain) → Room n i q → Room n' i' (w ∷ q)
-  pub full : (h : Bool) (q : List Plain) (v : Option Plain) → Full h n i q v → Full h n' i' (w ∷ q) v
+  pub full : (h : Bool) (q : List Plain) (v : Option Plain) → Full h n i fs q v → Full h n' i' fs' (w ∷ q) v
   pub no_end : (q : List Plain) → count ends q ≡ 0 → count ends (w ∷ q) ≡ 0
 
-module _ (h : Bool) (w : Plain) (k : Mark) (n i n' i' : ℕ) (z : Encloses w (mark k) n i n' i') where
+module _ (h : Bool) (w : Plain) (k : Mark) (n i fs n' i' fs' : ℕ) (z : Encloses w (mark k) n i fs n' i' fs') where
   -- behind w, up to and with the closing word
   abbrev pub Shut : {A : Type 0} → Result A Refusal → List Plain → List Plain → Type 0
   Shut (Ok a) ws r = (q : List Plain) × (ws ≡ q ++ r) × Even (w ∷ q)
   Shut (Err Unexpected) ws r = (q : List Plain) × (ws ≡ q ++ r) × Room n' i' (w ∷ q)
   Shut (Err Memory) ws r = ⊥
-  Shut (Err PastLimit) ws r = (q : List Plain) × (ws ≡ q ++ r) × Past h n' i' (w ∷ q) (first r)
+  Shut (Err PastLimit) ws r = (q : List Plain) × (ws ≡ q ++ r) × Past h n' i' fs' (w ∷ q) (first r)
 
   pub record Shuts {A : Type 0} (p : Reading A) : Type 0 where
     pub at : (ws : List Plain) → Shut (p ws).0 ws (p ws).1
@@ -224,6 +230,8 @@ module _ (h : Bool) (w : Plain) (k : Mark) (n i n' i' : ℕ) (z : Encloses w (ma
       let e' = y.no_end in record {
         parentheses = omega (arith, p, p', count-append opens a b, count-append closes a b);
         ifs = omega (arith, g, g', count-append branches a b, count-append rejoins a b);
+        loops = (let l = x.loops in let l' = y.loops in
+            omega (arith, l, l', count-append repeats a b, count-append phrases a b));
         no_end = omega (arith, e, e', count-append ends a b);
       }
 
@@ -236,16 +244,17 @@ module _ (h : Bool) (w : Plain) (k : Mark) (n i n' i' : ℕ) (z : Encloses w (ma
         no_end = omega (arith, e, e', count-append ends a b);
       }
 
-  full_within : (a b : List Plain) (v : Option Plain) → Even a → Full h n' i' (w ∷ b) v → Full h n' i' (w ∷ (a ++ b)) v
+  full_within : (a b : List Plain) (v : Option Plain) → Even a → Full h n' i' fs' (w ∷ b) v → Full h n' i' fs' (w ∷ (a ++ b)) v
   full_within a b (Some (mark (m.Sign sign.Open))) x f =
       let p = x.parentheses in omega (arith, p, f, count-append opens a b, count-append closes a b)
   full_within a b (Some (mark (m.Reserved r.If))) x f =
       let g = x.ifs in omega (arith, g, f, count-append branches a b, count-append rejoins a b)
-  full_within a b (Some (mark (m.Reserved r.For))) x f = tt
+  full_within a b (Some (mark (m.Reserved r.For))) x f =
+      let g = x.loops in omega (arith, g, f, count-append repeats a b, count-append phrases a b)
   full_within a b (Some (name v)) x f = f
   full_within a b _ x f = absurd f
 
-  past_within : (a b : List Plain) (v : Option Plain) → Even a → Past h n' i' (w ∷ b) v → Past h n' i' (w ∷ (a ++ b)) v
+  past_within : (a b : List Plain) (v : Option Plain) → Even a → Past h n' i' fs' (w ∷ b) v → Past h n' i' fs' (w ∷ (a ++ b)) v
   past_within a b v x y =
       let e = x.no_end in let e' = y.no_end in record {
         full = full_within a b v x y.full;
@@ -267,7 +276,7 @@ module _ (h : Bool) (w : Plain) (k : Mark) (n i n' i' : ℕ) (z : Encloses w (ma
 
   -- a part before the closing word
   module _ {A B : Type 0} (f : A → Reading B) (t : (a : A) → Shuts (f a)) where
-    shut_bound : (o : Result A Refusal) (ws r : List Plain) → Out h n i o ws r
+    shut_bound : (o : Result A Refusal) (ws r : List Plain) → Out h n i fs o ws r
         → Shut (goes_on f o r).0 ws (goes_on f o r).1
     shut_bound (Ok a) ws r (q, e, x) = shut_behind (f a r).0 ws r (f a r).1 q e x ((t a).at r)
     shut_bound (Err Unexpected) ws r (q, e, x) = (q, e, z.room q x)
@@ -275,9 +284,60 @@ module _ (h : Bool) (w : Plain) (k : Mark) (n i n' i' : ℕ) (z : Encloses w (ma
     shut_bound (Err PastLimit) ws r (q, e, x) =
         (q, e, record { full = z.full h q (first r) x.full; no_end = z.no_end q x.no_end })
 
-    pub bind_shuts : (p : Reading A) → Tally h n i p → Shuts (bind p f)
+    pub bind_shuts : (p : Reading A) → Tally h n i fs p → Shuts (bind p f)
     unfolding bind
     bind_shuts p g = record { at = λ ws. shut_bound (p ws).0 ws (p ws).1 (g.at ws) }
+
+  -- what needs no closing word
+  module _ (spared : (q : List Plain) → Even q → Even (w ∷ q)) {A : Type 0} where
+    weaker : (o : Result A Refusal) (ws r : List Plain) → Out h n i fs o ws r → Shut o ws r
+    weaker (Ok a) ws r (q, e, x) = (q, e, spared q x)
+    weaker (Err Unexpected) ws r (q, e, x) = (q, e, z.room q x)
+    weaker (Err Memory) ws r out = out
+    weaker (Err PastLimit) ws r (q, e, x) =
+        (q, e, record { full = z.full h q (first r) x.full; no_end = z.no_end q x.no_end })
+
+    pub spared_shuts : (p : Reading A) → Tally h n i fs p → Shuts p
+    spared_shuts p g = record { at = λ ws. weaker (p ws).0 ws (p ws).1 (g.at ws) }
+
+    -- a mark and what stands behind it, or else another part
+    module _ {B : Type 0} (j : Mark) (even : Even (mark j ∷ [])) (p : Reading B) (q : Reading A)
+        (g : Shuts p) (t : Tally h n i fs q) where
+      abbrev chosen : Option B → Reading (B ⊎ A)
+      chosen x = elim x [ Some b ↦ pure (inl b) | None ↦ bind q (λ a. pure (inr a)) ]
+
+      marked : (o : Result B Refusal) (ws r : List Plain) → Shut o ws r
+          → (let x : Read (Option B) = goes_on (λ b. pure (Some b)) o r in
+          let y : Read (B ⊎ A) = goes_on chosen x.0 x.1 in Shut y.0 (mark j ∷ ws) y.1)
+      unfolding pure
+      marked (Ok b) ws r (q, e, x) = (mark j ∷ q, ap (λ (u : List Plain). mark j ∷ u) e, even_within (mark j ∷ []) q even x)
+      marked (Err Unexpected) ws r (q, e, x) =
+          (mark j ∷ q, ap (λ (u : List Plain). mark j ∷ u) e, room_within (mark j ∷ []) q even x)
+      marked (Err Memory) ws r out = out
+      marked (Err PastLimit) ws r (q, e, x) =
+          (mark j ∷ q, ap (λ (u : List Plain). mark j ∷ u) e, past_within (mark j ∷ []) q (first r) even x)
+
+      unmarked : (o : Result A Refusal) (ws r : List Plain) → Shut o ws r
+          → (let x : Read (B ⊎ A) = goes_on (λ a. pure (inr a)) o r in Shut x.0 ws x.1)
+      unfolding pure
+      unmarked (Ok a) ws r out = out
+      unmarked (Err Unexpected) ws r out = out
+      unmarked (Err Memory) ws r out = out
+      unmarked (Err PastLimit) ws r out = out
+
+      chosen_at : (ws : List Plain) (b : Bool) → is j (first ws) ≡ b
+          → (let e : Reading Bool = elim b [ true ↦ skip (pure true) | false ↦ pure false ] in
+          let x : Read (Option B) = goes_on (λ c. elim c [ true ↦ bind p (λ b. pure (Some b)) | false ↦ pure None ])
+          (e ws).0 (e ws).1 in
+          let y : Read (B ⊎ A) = goes_on chosen x.0 x.1 in Shut y.0 ws y.1)
+      unfolding skip pure bind
+      chosen_at [] true e = absurd cc
+      chosen_at (v ∷ ws) true e = rw (is_mark j v e) (marked (p ws).0 ws (p ws).1 (g.at ws))
+      chosen_at ws false e = unmarked (q ws).0 ws (q ws).1 (weaker (q ws).0 ws (q ws).1 (t.at ws))
+
+      pub either_shuts : Shuts (either (if_mark j p) q)
+      unfolding either if_mark eat look bind
+      either_shuts = record { at = λ ws. chosen_at ws (is j (first ws)) refl }
 
   -- what is made of what stands before it
   module _ {A B : Type 0} (f : A → B) where
@@ -309,28 +369,28 @@ module _ (h : Bool) (w : Plain) (k : Mark) (n i n' i' : ℕ) (z : Encloses w (ma
 
   -- and the opening one
   module _ {A : Type 0} (p : Reading A) (g : Shuts p) where
-    opened_out : (o : Result A Refusal) (ws r : List Plain) → Shut o ws r → Out h n' i' o (w ∷ ws) r
+    opened_out : (o : Result A Refusal) (ws r : List Plain) → Shut o ws r → Out h n' i' fs' o (w ∷ ws) r
     opened_out (Ok a) ws r (q, e, x) = (w ∷ q, ap (λ (u : List Plain). w ∷ u) e, x)
     opened_out (Err Unexpected) ws r (q, e, x) = (w ∷ q, ap (λ (u : List Plain). w ∷ u) e, x)
     opened_out (Err Memory) ws r out = out
     opened_out (Err PastLimit) ws r (q, e, x) = (w ∷ q, ap (λ (u : List Plain). w ∷ u) e, x)
 
-    pub enclosed_at : (ws : List Plain) → Out h n' i' (p ws).0 (w ∷ ws) (p ws).1
+    pub enclosed_at : (ws : List Plain) → Out h n' i' fs' (p ws).0 (w ∷ ws) (p ws).1
     enclosed_at ws = opened_out (p ws).0 ws (p ws).1 (g.at ws)
 
-module _ (h : Bool) (j k : Mark) (n i n' i' : ℕ) (z : Encloses (mark j) (mark k) n i n' i') where
-  module _ {A : Type 0} (f : Bool → Reading A) (g : Shuts h (mark j) k n i n' i' z (f true))
-      (none : Tally h n' i' (f false)) where
+module _ (h : Bool) (j k : Mark) (n i fs n' i' fs' : ℕ) (z : Encloses (mark j) (mark k) n i fs n' i' fs') where
+  module _ {A : Type 0} (f : Bool → Reading A) (g : Shuts h (mark j) k n i fs n' i' fs' z (f true))
+      (none : Tally h n' i' fs' (f false)) where
     eaten : (ws : List Plain) (b : Bool) → is j (first ws) ≡ b
         → (let p : Reading Bool = elim b [ true ↦ skip (pure true) | false ↦ pure false ] in
-        let x : Read A = goes_on f (p ws).0 (p ws).1 in Out h n' i' x.0 ws x.1)
+        let x : Read A = goes_on f (p ws).0 (p ws).1 in Out h n' i' fs' x.0 ws x.1)
     unfolding skip pure
     eaten [] true e = absurd cc
-    eaten (v ∷ ws) true e = rw (is_mark j v e) (enclosed_at h (mark j) k n i n' i' z (f true) g ws)
+    eaten (v ∷ ws) true e = rw (is_mark j v e) (enclosed_at h (mark j) k n i fs n' i' fs' z (f true) g ws)
     eaten ws false e = none.at ws
 
     -- the opening word, if it stands here, and what stands behind it
-    pub enclosed_tally : Tally h n' i' (bind (eat j) f)
+    pub enclosed_tally : Tally h n' i' fs' (bind (eat j) f)
     unfolding bind eat look
     enclosed_tally = record { at = λ ws. eaten ws (is j (first ws)) refl }
 
@@ -359,11 +419,15 @@ rejoins_build : (w : Plain) → builds w ≡ false → rejoins w ≡ false
 rejoins_build (mark (m.Reserved r.Always)) e = absurd cc
 rejoins_build _ e = refl
 
+repeats_build : (w : Plain) → builds w ≡ false → repeats w ≡ false
+repeats_build (mark (m.Reserved r.Loop)) e = absurd cc
+repeats_build _ e = refl
+
 ends_build : (w : Plain) → builds w ≡ false → ends w ≡ false
 ends_build (mark (m.Reserved r.End)) e = absurd cc
 ends_build _ e = refl
 
-module _ {A : Type 0} (n i : ℕ) (fits fits' : A → Type 0) (sp sp' : A → List Plain) (p p' : Reading A)
+module _ {A : Type 0} (n i fs : ℕ) (fits fits' : A → Type 0) (sp sp' : A → List Plain) (p p' : Reading A)
     (good : Good fits sp [] p) (near : Local more p p') (good' : Good fits' sp' [] p') (counted : tally.Tally n p)
     (inner : (a : A) → Inner (sp a)) (inner' : (a : A) → Inner (sp' a)) where
   InnerRead : List Plain → List Plain → Type 0
@@ -401,7 +465,7 @@ module _ {A : Type 0} (n i : ℕ) (fits fits' : A → Type 0) (sp sp' : A → Li
       let one : count builds (w ∷ []) ≡ 1 = rw e (omega arith) in
       absurd (omega (arith, k, one, count-append builds q (w ∷ [])))
 
-  full_by : (q : List Plain) (w : Plain) → Inner (q ++ w ∷ []) → tally.Refused n q (Some w) → Full false n i q (Some w)
+  full_by : (q : List Plain) (w : Plain) → Inner (q ++ w ∷ []) → tally.Refused n q (Some w) → Full false n i fs q (Some w)
   full_by q (mark (m.Sign sign.Open)) x f = f.open_ones
   full_by q (mark (m.Reserved r.If)) x f = absurd (no_builder q (mark (m.Reserved r.If)) refl x)
   full_by q (mark (m.Reserved r.For)) x f = absurd (no_builder q (mark (m.Reserved r.For)) refl x)
@@ -411,6 +475,7 @@ module _ {A : Type 0} (n i : ℕ) (fits fits' : A → Type 0) (sp sp' : A → Li
   even_by q l x = let h = l.open_ones in record {
     parentheses = omega (arith, h);
     ifs = none_of branches branches_build q x ∙ sym (none_of rejoins rejoins_build q x);
+    loops = omega (arith, none_of repeats repeats_build q x);
     no_end = none_of ends ends_build q x;
   }
 
@@ -422,7 +487,7 @@ module _ {A : Type 0} (n i : ℕ) (fits fits' : A → Type 0) (sp sp' : A → Li
   }
 
   out_by : (o : Result A Refusal) (ws r : List Plain) → tally.Out n o ws r → InnerRead ws r
-      → Stops more p' o ws r → InnerRead ws (p' ws).1 → Out false n i o ws r
+      → Stops more p' o ws r → InnerRead ws (p' ws).1 → Out false n i fs o ws r
   unfolding InnerRead
   out_by (Ok a) ws r (q, e, l) (q1, e1, x) s y =
       (q, e, even_by q l (subst Inner (same_words ws r q1 q e1 e) x))
@@ -440,7 +505,7 @@ module _ {A : Type 0} (n i : ℕ) (fits fits' : A → Type 0) (sp sp' : A → Li
   )
 
   -- a part of a statement
-  pub part_tally : Tally false n i p
+  pub part_tally : Tally false n i fs p
   part_tally = record {
     at = λ ws. out_by (p ws).0 ws (p ws).1 (counted.at ws)
         (read_by fits sp inner (p ws).0 ws (p ws).1 (good.read ws)) (near.at ws)

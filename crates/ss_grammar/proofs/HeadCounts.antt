@@ -26,160 +26,160 @@ use Rattle.ss_grammar.proofs.BlockCounts.{plain, pair_tally, behind_tally, made_
 
 -- ---- parentheses, IFs and ENDs
 
-open_full : (h : Bool) (n i : ℕ) (q : List Plain) (v : Option Plain) → Full h n i q v
-    → Full h (suc n) i (mark (m.Sign s.Open) ∷ q) v
-open_full h n i q (Some (mark (m.Sign s.Open))) f = omega (arith, f)
-open_full h n i q (Some (mark (m.Reserved r.If))) f = omega (arith, f)
-open_full h n i q (Some (mark (m.Reserved r.For))) f = tt
-open_full h n i q (Some (name v)) f = f
-open_full h n i q _ f = absurd f
+open_full : (h : Bool) (n i fs : ℕ) (q : List Plain) (v : Option Plain) → Full h n i fs q v
+    → Full h (suc n) i fs (mark (m.Sign s.Open) ∷ q) v
+open_full h n i fs q (Some (mark (m.Sign s.Open))) f = omega (arith, f)
+open_full h n i fs q (Some (mark (m.Reserved r.If))) f = omega (arith, f)
+open_full h n i fs q (Some (mark (m.Reserved r.For))) f = omega (arith, f)
+open_full h n i fs q (Some (name v)) f = f
+open_full h n i fs q _ f = absurd f
 
-encloses_open : (n i : ℕ) → Encloses (mark (m.Sign s.Open)) (mark (m.Sign s.Close)) n i (suc n) i
-encloses_open n i = record {
-  even = record { parentheses = refl; ifs = refl; no_end = refl };
+encloses_open : (n i fs : ℕ) → Encloses (mark (m.Sign s.Open)) (mark (m.Sign s.Close)) n i fs (suc n) i fs
+encloses_open n i fs = record {
+  even = record { parentheses = refl; ifs = refl; loops = omega arith; no_end = refl };
   room = λ q x. let a = x.parentheses in let b = x.ifs in let c = x.no_end in record {
     parentheses = omega (arith, a);
     ifs = omega (arith, b);
     no_end = omega (arith, c);
   };
-  full = λ h q v f. open_full h n i q v f;
+  full = λ h q v f. open_full h n i fs q v f;
   no_end = λ q e. omega (arith, e);
 }
 
-module _ (n i : ℕ) where
-  no_name_at : (A : Type 0) (w : Option Plain) → TallyAt {A = A} true n i w (refuse (refusal_of w))
+module _ (n i fs : ℕ) where
+  no_name_at : (A : Type 0) (w : Option Plain) → TallyAt {A = A} true n i fs w (refuse (refusal_of w))
   unfolding refuse
   no_name_at A (Some (name v)) [] e = absurd cc
   no_name_at A (Some (name v)) (u ∷ ws) e =
       let same : u ≡ name v = cc in ([], refl, record { full = rw same refl; no_end = refl })
-  no_name_at A None ws e = anywhere true n i {A = A} None (refuse Unexpected) (refuse_tally true n i) ws e
-  no_name_at A (Some (number v)) ws e = anywhere true n i {A = A} _ (refuse Unexpected) (refuse_tally true n i) ws e
-  no_name_at A (Some (mark v)) ws e = anywhere true n i {A = A} _ (refuse Unexpected) (refuse_tally true n i) ws e
-  no_name_at A (Some (picture v)) ws e = anywhere true n i {A = A} _ (refuse Unexpected) (refuse_tally true n i) ws e
+  no_name_at A None ws e = anywhere true n i fs {A = A} None (refuse Unexpected) (refuse_tally true n i fs) ws e
+  no_name_at A (Some (number v)) ws e = anywhere true n i fs {A = A} _ (refuse Unexpected) (refuse_tally true n i fs) ws e
+  no_name_at A (Some (mark v)) ws e = anywhere true n i fs {A = A} _ (refuse Unexpected) (refuse_tally true n i fs) ws e
+  no_name_at A (Some (picture v)) ws e = anywhere true n i fs {A = A} _ (refuse Unexpected) (refuse_tally true n i fs) ws e
 
-  no_name_tally : (A : Type 0) → Tally {A = A} true n i no_name
+  no_name_tally : (A : Type 0) → Tally {A = A} true n i fs no_name
   unfolding no_name
-  no_name_tally A = look_tally true n i _ (no_name_at A)
+  no_name_tally A = look_tally true n i fs _ (no_name_at A)
 
-  others_tally : (k : ℕ) → Tally true n i (others_at k)
+  others_tally : (k : ℕ) → Tally true n i fs (others_at k)
   unfolding others_at
   others_tally zero =
-      bind_tally true n i _ (elim [ true ↦ no_name_tally (List Name) | false ↦ pure_tally true n i [] ])
-      (eat (m.Sign s.Comma)) (eat_tally true n i (m.Sign s.Comma) (plain _ refl refl refl refl refl))
+      bind_tally true n i fs _ (elim [ true ↦ no_name_tally (List Name) | false ↦ pure_tally true n i fs [] ])
+      (eat (m.Sign s.Comma)) (eat_tally true n i fs (m.Sign s.Comma) (plain _ refl refl refl refl refl refl))
   others_tally (suc k) =
-      bind_tally true n i _ (elim [
-        | true ↦ bind_tally true n i _ (λ v. bind_tally true n i _ (λ vs. pure_tally true n i (v ∷ vs)) (others_at k)
-            (others_tally k)) a_name (name_tally true n i)
-        | false ↦ pure_tally true n i []
-      ]) (eat (m.Sign s.Comma)) (eat_tally true n i (m.Sign s.Comma) (plain _ refl refl refl refl refl))
+      bind_tally true n i fs _ (elim [
+        | true ↦ bind_tally true n i fs _ (λ v. bind_tally true n i fs _ (λ vs. pure_tally true n i fs (v ∷ vs)) (others_at k)
+            (others_tally k)) a_name (name_tally true n i fs)
+        | false ↦ pure_tally true n i fs []
+      ]) (eat (m.Sign s.Comma)) (eat_tally true n i fs (m.Sign s.Comma) (plain _ refl refl refl refl refl refl))
 
-  names_tally : (k : ℕ) → Tally true n i (names_at k)
+  names_tally : (k : ℕ) → Tally true n i fs (names_at k)
   unfolding names_at
   names_tally zero = no_name_tally (Several Name)
   names_tally (suc k) =
-      bind_tally true n i _ (λ v. bind_tally true n i _ (λ vs. pure_tally true n i (record { first = v; others = vs }))
-      (others_at k) (others_tally k)) a_name (name_tally true n i)
+      bind_tally true n i fs _ (λ v. bind_tally true n i fs _ (λ vs. pure_tally true n i fs (record { first = v; others = vs }))
+      (others_at k) (others_tally k)) a_name (name_tally true n i fs)
 
-  yielded_tally : (k : ℕ) → Tally true n i (yielded_at k)
+  yielded_tally : (k : ℕ) → Tally true n i fs (yielded_at k)
   unfolding yielded_at
   yielded_tally k =
-      bind_tally true n i _ (elim [
-        | true ↦ bind_tally true n i _ (λ ns. pure_tally true n i (all_of ns)) (names_at k) (names_tally k)
-        | false ↦ pure_tally true n i []
-      ]) (eat (m.Reserved r.Yielding)) (eat_tally true n i (m.Reserved r.Yielding) (plain _ refl refl refl refl refl))
+      bind_tally true n i fs _ (elim [
+        | true ↦ bind_tally true n i fs _ (λ ns. pure_tally true n i fs (all_of ns)) (names_at k) (names_tally k)
+        | false ↦ pure_tally true n i fs []
+      ]) (eat (m.Reserved r.Yielding)) (eat_tally true n i fs (m.Reserved r.Yielding) (plain _ refl refl refl refl refl refl))
 
-  saving_tally : Tally true n i saving
+  saving_tally : Tally true n i fs saving
   unfolding saving
   saving_tally =
-      bind_tally true n i _ (elim [
-        | true ↦ bind_tally true n i _ (λ u. bind_tally true n i _ (λ v. pure_tally true n i true)
+      bind_tally true n i fs _ (elim [
+        | true ↦ bind_tally true n i fs _ (λ u. bind_tally true n i fs _ (λ v. pure_tally true n i fs true)
             (expect (m.Reserved r.Notices))
-            (expect_tally true n i (m.Reserved r.Notices) (plain _ refl refl refl refl refl)))
+            (expect_tally true n i fs (m.Reserved r.Notices) (plain _ refl refl refl refl refl refl)))
             (expect (m.Reserved r.Event))
-            (expect_tally true n i (m.Reserved r.Event) (plain _ refl refl refl refl refl))
-        | false ↦ pure_tally true n i false
-      ]) (eat (m.Reserved r.Saving)) (eat_tally true n i (m.Reserved r.Saving) (plain _ refl refl refl refl refl))
+            (expect_tally true n i fs (m.Reserved r.Event) (plain _ refl refl refl refl refl refl))
+        | false ↦ pure_tally true n i fs false
+      ]) (eat (m.Reserved r.Saving)) (eat_tally true n i fs (m.Reserved r.Saving) (plain _ refl refl refl refl refl refl))
 
 -- where one parenthesis at least may be open
-module _ (n i : ℕ) where
+module _ (n i fs : ℕ) where
   abbrev in_parentheses : ℕ → Bool → Reading (Listing Name)
   in_parentheses k b = elim b [
     | true ↦ bind (names_at k) (λ ns. bind (expect (m.Sign s.Close)) (λ u. pure (InParentheses ns)))
     | false ↦ pure Unwritten
   ]
 
-  given_tally : (k : ℕ) → Tally true (suc n) i (given_at k)
+  given_tally : (k : ℕ) → Tally true (suc n) i fs (given_at k)
   unfolding given_at
   given_tally k =
       let w : Plain = mark (m.Sign s.Open) in
       let c = m.Sign s.Close in
-      let z = encloses_open n i in
-      bind_tally true (suc n) i _ (elim [
-        | true ↦ bind_tally true (suc n) i _ (λ ns. pure_tally true (suc n) i (BehindGiven ns)) (names_at k)
-            (names_tally (suc n) i k)
-        | false ↦ enclosed_tally true (m.Sign s.Open) c n i (suc n) i z (in_parentheses k)
-            (bind_shuts true w c n i (suc n) i z _
-            (λ ns. made_shuts true w c n i (suc n) i z (λ u. InParentheses ns) (expect c)
-            (close_shuts true w c n i (suc n) i z)) (names_at k) (names_tally n i k))
-            (pure_tally true (suc n) i Unwritten)
-      ]) (eat (m.Reserved r.Given)) (eat_tally true (suc n) i (m.Reserved r.Given) (plain _ refl refl refl refl refl))
+      let z = encloses_open n i fs in
+      bind_tally true (suc n) i fs _ (elim [
+        | true ↦ bind_tally true (suc n) i fs _ (λ ns. pure_tally true (suc n) i fs (BehindGiven ns)) (names_at k)
+            (names_tally (suc n) i fs k)
+        | false ↦ enclosed_tally true (m.Sign s.Open) c n i fs (suc n) i fs z (in_parentheses k)
+            (bind_shuts true w c n i fs (suc n) i fs z _
+            (λ ns. made_shuts true w c n i fs (suc n) i fs z (λ u. InParentheses ns) (expect c)
+            (close_shuts true w c n i fs (suc n) i fs z)) (names_at k) (names_tally n i fs k))
+            (pure_tally true (suc n) i fs Unwritten)
+      ]) (eat (m.Reserved r.Given)) (eat_tally true (suc n) i fs (m.Reserved r.Given) (plain _ refl refl refl refl refl refl))
 
-  routine_tally : (k : ℕ) → Tally true (suc n) i (routine_at k)
+  routine_tally : (k : ℕ) → Tally true (suc n) i fs (routine_at k)
   unfolding routine_at
   routine_tally k =
-      bind_tally true (suc n) i _ (λ v. bind_tally true (suc n) i _ (λ ps. bind_tally true (suc n) i _
-      (λ ys. pure_tally true (suc n) i (RoutineHead v ps ys)) (yielded_at (k - length (listed ps)))
-      (yielded_tally (suc n) i (k - length (listed ps)))) (given_at k) (given_tally k)) a_name
-      (name_tally true (suc n) i)
+      bind_tally true (suc n) i fs _ (λ v. bind_tally true (suc n) i fs _ (λ ps. bind_tally true (suc n) i fs _
+      (λ ys. pure_tally true (suc n) i fs (RoutineHead v ps ys)) (yielded_at (k - length (listed ps)))
+      (yielded_tally (suc n) i fs (k - length (listed ps)))) (given_at k) (given_tally k)) a_name
+      (name_tally true (suc n) i fs)
 
-  event_tally : (k : ℕ) → Tally true (suc n) i (event_at k)
+  event_tally : (k : ℕ) → Tally true (suc n) i fs (event_at k)
   unfolding event_at
   event_tally k =
-      bind_tally true (suc n) i _ (λ v. bind_tally true (suc n) i _ (λ ps. bind_tally true (suc n) i _
-      (λ b. pure_tally true (suc n) i (EventHead v ps b)) saving (saving_tally (suc n) i)) (given_at k)
-      (given_tally k)) a_name (name_tally true (suc n) i)
+      bind_tally true (suc n) i fs _ (λ v. bind_tally true (suc n) i fs _ (λ ps. bind_tally true (suc n) i fs _
+      (λ b. pure_tally true (suc n) i fs (EventHead v ps b)) saving (saving_tally (suc n) i fs)) (given_at k)
+      (given_tally k)) a_name (name_tally true (suc n) i fs)
 
-  head_at-tally : (k : ℕ) (w : Option Plain) → TallyAt true (suc n) i w (head_by k w)
+  head_at-tally : (k : ℕ) (w : Option Plain) → TallyAt true (suc n) i fs w (head_by k w)
   head_at-tally k (Some (mark (m.Reserved r.Main))) =
-      skip_tally true (suc n) i _ (pure MainHead) (plain _ refl refl refl refl refl)
-      (pure_tally true (suc n) i MainHead)
+      skip_tally true (suc n) i fs _ (pure MainHead) (plain _ refl refl refl refl refl refl)
+      (pure_tally true (suc n) i fs MainHead)
   head_at-tally k (Some (mark (m.Reserved r.Routine))) =
-      skip_tally true (suc n) i _ (routine_at k) (plain _ refl refl refl refl refl) (routine_tally k)
+      skip_tally true (suc n) i fs _ (routine_at k) (plain _ refl refl refl refl refl refl) (routine_tally k)
   head_at-tally k (Some (mark (m.Reserved r.Event))) =
-      skip_tally true (suc n) i _ (event_at k) (plain _ refl refl refl refl refl) (event_tally k)
-  head_at-tally k _ = anywhere true (suc n) i _ _ (refuse_tally true (suc n) i)
+      skip_tally true (suc n) i fs _ (event_at k) (plain _ refl refl refl refl refl refl) (event_tally k)
+  head_at-tally k _ = anywhere true (suc n) i fs _ _ (refuse_tally true (suc n) i fs)
 
-  pub head_tally : (k : ℕ) → Tally true (suc n) i (head_at k)
+  pub head_tally : (k : ℕ) → Tally true (suc n) i fs (head_at k)
   unfolding head_at
-  head_tally k = look_tally true (suc n) i (head_by k) (head_at-tally k)
+  head_tally k = look_tally true (suc n) i fs (head_by k) (head_at-tally k)
 
 -- ---- local DEFINEs
 
-module _ (n i : ℕ) where
-  next_tally : Tally false n i next_name
+module _ (n i fs : ℕ) where
+  next_tally : Tally false n i fs next_name
   unfolding next_name
   next_tally =
-      bind_tally false n i _ (elim [
-        | true ↦ bind_tally false n i _ (λ v. pure_tally false n i (Some v)) a_name (name_tally false n i)
-        | false ↦ pure_tally false n i None
-      ]) (eat (m.Sign s.Comma)) (eat_tally false n i (m.Sign s.Comma) (plain _ refl refl refl refl refl))
+      bind_tally false n i fs _ (elim [
+        | true ↦ bind_tally false n i fs _ (λ v. pure_tally false n i fs (Some v)) a_name (name_tally false n i fs)
+        | false ↦ pure_tally false n i fs None
+      ]) (eat (m.Sign s.Comma)) (eat_tally false n i fs (m.Sign s.Comma) (plain _ refl refl refl refl refl refl))
 
-  list_tally : Tally false n i names
+  list_tally : Tally false n i fs names
   unfolding names other_names
   list_tally =
-      bind_tally false n i _ (λ v. bind_tally false n i _
-      (λ vs. pure_tally false n i (record { first = v; others = vs })) _
-      (many_tally false n i next_name [] (λ v vs. v ∷ vs) next_tally)) a_name (name_tally false n i)
+      bind_tally false n i fs _ (λ v. bind_tally false n i fs _
+      (λ vs. pure_tally false n i fs (record { first = v; others = vs })) _
+      (many_tally false n i fs next_name [] (λ v vs. v ∷ vs) next_tally)) a_name (name_tally false n i fs)
 
-  pub locals_tally : Tally false n i locals
+  pub locals_tally : Tally false n i fs locals
   unfolding locals a_define as_variables
   locals_tally =
-      star_tally false n i _ (mark_tally false n i (m.Reserved r.Define) _ (plain _ refl refl refl refl refl)
-      (made_tally false n i _ _ (pair_tally false n i names _ list_tally
-      (behind_tally false n i (m.Reserved r.As) _ (plain _ refl refl refl refl refl)
-      (behind_tally false n i (m.Reserved r.Integer) _ (plain _ refl refl refl refl refl)
-      (behind_tally false n i (m.Reserved r.Variables) _ (plain _ refl refl refl refl refl)
-      (pure_tally false n i tt)))))))
+      star_tally false n i fs _ (mark_tally false n i fs (m.Reserved r.Define) _ (plain _ refl refl refl refl refl refl)
+      (made_tally false n i fs _ _ (pair_tally false n i fs names _ list_tally
+      (behind_tally false n i fs (m.Reserved r.As) _ (plain _ refl refl refl refl refl refl)
+      (behind_tally false n i fs (m.Reserved r.Integer) _ (plain _ refl refl refl refl refl refl)
+      (behind_tally false n i fs (m.Reserved r.Variables) _ (plain _ refl refl refl refl refl refl)
+      (pure_tally false n i fs tt)))))))
 
 -- ---- names
 

@@ -17,7 +17,7 @@ use Rattle.ss_grammar.specs.Tree.{SectionTree, Tree, spell_section, spell}
 use Rattle.ss_grammar.specs.SectionReading.{is_head, sections_upto}
 use Rattle.ss_grammar.specs.Refused.{IsWithin, BeginsWithin, announces, IsAnnounced, InRoom, PassesLimit}
 use Rattle.ss_grammar.specs.Counts.{count, opens, closes}
-use Rattle.ss_grammar.specs.OneTooMany.{branches, rejoins, ends, behind_end, names_in_head, Counted, Parentheses, Ifs}
+use Rattle.ss_grammar.specs.OneTooMany.{branches, rejoins, phrases, repeats, ends, IsDeepPhrase, behind_end, names_in_head, Counted, Parentheses, Ifs}
 use Rattle.ss_grammar.specs.OneTooMany.{Parameters, Sections, IsOneTooMany, LimitIsCounted, CountPassesLimit}
 use Rattle.ss_grammar.proofs.Tally.{count-append}
 use Rattle.ss_grammar.proofs.Form.{Each}
@@ -28,14 +28,14 @@ use Rattle.ss_grammar.proofs.SectionCounts.{Spelled, Kept, Passed, Program, sect
 use Rattle.ss_grammar.proofs.HeadNames.{names_kept}
 
 abbrev IsCounted : List Plain → ℕ → Type 0
-IsCounted ws k = ((c : Counted) × IsOneTooMany c ws k) ⊎ (first (drop k ws) ≡ Some (mark (m.Reserved r.For)))
+IsCounted ws k = ((c : Counted) × IsOneTooMany c ws k) ⊎ IsDeepPhrase ws k
 
-out : (ws r : List Plain) (o : Result Tree Refusal) → whole reading ws ≡ (o, r) → Program 50 64 33 256 o ws r
-out ws r o e = subst (λ (x : Read Tree). Program 50 64 33 256 x.0 ws x.1) e (whole_out 49 64 16 31 256 ws)
+out : (ws r : List Plain) (o : Result Tree Refusal) → whole reading ws ≡ (o, r) → Program 50 64 16 33 256 o ws r
+out ws r o e = subst (λ (x : Read Tree). Program 50 64 16 33 256 x.0 ws x.1) e (whole_out 49 64 16 31 256 ws)
 
 -- ---- a word that is refused as past a limit is counted so
 
-counted : (ws tail q : List Plain) (w : Plain) → ws ≡ q ++ w ∷ tail → Passed 50 64 33 256 q (Some w)
+counted : (ws tail q : List Plain) (w : Plain) → ws ≡ q ++ w ∷ tail → Passed 50 64 16 33 256 q (Some w)
     → IsCounted ws (length ws - length (w ∷ tail))
 counted ws tail q (mark (m.Sign s.Open)) e x = inl (
   Parentheses,
@@ -51,7 +51,17 @@ counted ws tail q (mark (m.Reserved r.If)) e x = inl (
     ap (count branches) (front_is ws q _ e) ∙ x ∙ ap (λ (u : List Plain). count rejoins u + 64) (sym (front_is ws q _ e)),
   ),
 )
-counted ws tail q (mark (m.Reserved r.For)) e x = inr (ap first (back_is ws q _ e))
+counted ws tail q (mark (m.Reserved r.For)) e x =
+    let f = front_is ws q (mark (m.Reserved r.For) ∷ tail) e in
+    inr (
+      ap first (back_is ws q (mark (m.Reserved r.For) ∷ tail) e),
+      omega (
+        arith,
+        x,
+        ap (λ (u : List Plain). count repeats (behind_end u)) f,
+        ap (λ (u : List Plain). count phrases (behind_end u)) f,
+      ),
+    )
 counted ws tail q (mark (m.Reserved r.Main)) e x =
     inl (Sections, (ap (λ (u : List Plain). is_head (first u)) (back_is ws q _ e), ap (count ends) (front_is ws q _ e) ∙ x))
 counted ws tail q (mark (m.Reserved r.Routine)) e x =
@@ -129,8 +139,8 @@ spelled t w =
     let again : sections_upto 50 64 16 32 256 (spell t) ≡ (Ok t, []) =
     sections_again 50 64 16 31 (omega arith) 256 t
     (tree_fits 50 64 16 31 256 t w.parentheses w.ifs w.phrases w.parameters w.sections) in
-    let (q, split, y, each) : Program 50 64 33 256 (Ok t) (spell t) [] =
-    subst (λ (x : Read Tree). Program 50 64 33 256 x.0 (spell t) x.1) again (sections_out 49 64 16 31 256 (spell t)) in
+    let (q, split, y, each) : Program 50 64 16 33 256 (Ok t) (spell t) [] =
+    subst (λ (x : Read Tree). Program 50 64 16 33 256 x.0 (spell t) x.1) again (sections_out 49 64 16 31 256 (spell t)) in
     (ap (count ends) (split ∙ append-nil q) ∙ y.sections, each)
 
 -- ---- the last word

@@ -15,7 +15,7 @@ use Rattle.ss_grammar.specs.Tree.{Head, SectionTree, Tree, spell_section}
 use Rattle.ss_grammar.specs.BlockReading.{block_at}
 use Rattle.ss_grammar.specs.SectionReading.{is_head, head_at, locals, section_at, sections_upto}
 use Rattle.ss_grammar.specs.Counts.{count, opens, closes}
-use Rattle.ss_grammar.specs.OneTooMany.{branches, rejoins, ends, has_end, behind_end, names_in_head}
+use Rattle.ss_grammar.specs.OneTooMany.{branches, rejoins, phrases, repeats, ends, has_end, behind_end, names_in_head}
 use Rattle.ss_grammar.proofs.Tally.{count-append}
 use Rattle.ss_grammar.proofs.Form.{Each}
 use Rattle.ss_grammar.proofs.Begun.{IsKept}
@@ -63,13 +63,13 @@ abbrev Named : ℕ → List Plain → Option Plain → Type 0
 Named l q (Some (name v)) = names_in_head false (q ++ name v ∷ []) ≡ suc l
 Named l q _ = Unit {0}
 
-module _ (n i : ℕ) where
+module _ (n i fs : ℕ) where
   -- behind a head
   abbrev Body : {A : Type 0} → Result A Refusal → List Plain → List Plain → Type 0
   Body (Ok t) ws r = (q : List Plain) × (ws ≡ q ++ end ∷ r) × Even q
   Body (Err Unexpected) ws r = (q : List Plain) × (ws ≡ q ++ r) × Room n i q
   Body (Err Memory) ws r = ⊥
-  Body (Err PastLimit) ws r = (q : List Plain) × (ws ≡ q ++ r) × Past false n i q (first r)
+  Body (Err PastLimit) ws r = (q : List Plain) × (ws ≡ q ++ r) × Past false n i fs q (first r)
 
   record Bodies {A : Type 0} (p : Reading A) : Type 0 where
     at : (ws : List Plain) → Body (p ws).0 ws (p ws).1
@@ -84,18 +84,18 @@ module _ (n i : ℕ) where
   behind (Err PastLimit) ws r r' q e x (q2, e2, y) = (
     q ++ q2,
     e ∙ ap (λ (u : List Plain). q ++ u) e2 ∙ sym (append_assoc q q2 r'),
-    past_behind false n i q q2 (first r') x y,
+    past_behind false n i fs q q2 (first r') x y,
   )
 
   module _ {A B : Type 0} (f : A → Reading B) (t : (a : A) → Bodies (f a)) where
-    bound : (o : Result A Refusal) (ws r : List Plain) → Out false n i o ws r
+    bound : (o : Result A Refusal) (ws r : List Plain) → Out false n i fs o ws r
         → Body (goes_on f o r).0 ws (goes_on f o r).1
     bound (Ok a) ws r (q, e, x) = let g = t a in behind (f a r).0 ws r (f a r).1 q e x (g.at r)
     bound (Err Unexpected) ws r out = out
     bound (Err Memory) ws r out = out
     bound (Err PastLimit) ws r out = out
 
-    bind_bodies : (p : Reading A) → Tally false n i p → Bodies (bind p f)
+    bind_bodies : (p : Reading A) → Tally false n i fs p → Bodies (bind p f)
     unfolding bind
     bind_bodies p g = record { at = λ ws. bound (p ws).0 ws (p ws).1 (g.at ws) }
 
@@ -108,7 +108,7 @@ module _ (n i : ℕ) where
     end_at (v ∷ ws) true e = (
       [],
       ap (λ (u : Plain). u ∷ ws) (is_mark (m.Reserved r.End) v e),
-      record { parentheses = refl; ifs = refl; no_end = refl },
+      record { parentheses = refl; ifs = refl; loops = omega arith; no_end = refl },
     )
     end_at ws false e = ([], refl, record { parentheses = omega arith; ifs = omega arith; no_end = refl })
 
@@ -116,11 +116,11 @@ module _ (n i : ℕ) where
     unfolding bind expect look
     end_bodies = record { at = λ ws. end_at ws (is (m.Reserved r.End) (first ws)) refl }
 
-  body : (f : ℕ) (h : Head) → Bodies (bind locals (λ ls. bind (block_at n i f)
+  body : (h : Head) → Bodies (bind locals (λ ls. bind (block_at n i fs)
       (λ b. bind (expect (m.Reserved r.End)) (λ u. pure (of_parts h ls b)))))
-  body f h =
-      bind_bodies _ (λ ls. bind_bodies _ (λ b. end_bodies (of_parts h ls b)) (block_at n i f) (block_tally n i f))
-      locals (locals_tally n i)
+  body h =
+      bind_bodies _ (λ ls. bind_bodies _ (λ b. end_bodies (of_parts h ls b)) (block_at n i fs) (block_tally n i fs))
+      locals (locals_tally n i fs)
 
   -- from its head on, where l names may stand in it
   abbrev Section : ℕ → Result SectionTree Refusal → List Plain → List Plain → Type 0
@@ -128,12 +128,12 @@ module _ (n i : ℕ) where
   Section l (Err Unexpected) ws r = (q : List Plain) × (ws ≡ q ++ r) × Room n i q
   Section l (Err Memory) ws r = ⊥
   Section l (Err PastLimit) ws r =
-      (q : List Plain) × (ws ≡ q ++ r) × Past true n i q (first r) × Named l q (first r)
+      (q : List Plain) × (ws ≡ q ++ r) × Past true n i fs q (first r) × Named l q (first r)
 
-  unnamed : (l : ℕ) (q : List Plain) (w : Option Plain) → Full false n i q w → Full true n i q w × Named l q w
+  unnamed : (l : ℕ) (q : List Plain) (w : Option Plain) → Full false n i fs q w → Full true n i fs q w × Named l q w
   unnamed l q (Some (mark (m.Sign s.Open))) f = (f, tt)
   unnamed l q (Some (mark (m.Reserved r.If))) f = (f, tt)
-  unnamed l q (Some (mark (m.Reserved r.For))) f = (tt, tt)
+  unnamed l q (Some (mark (m.Reserved r.For))) f = (f, tt)
   unnamed l q (Some (name v)) f = absurd cc
   unnamed l q _ f = absurd f
 
@@ -149,7 +149,7 @@ module _ (n i : ℕ) where
   last_named l q _ x = absurd x
 
   module _ (l : ℕ) (f : Head → Reading SectionTree) (t : (h : Head) → Bodies (f h)) where
-    of_head : (o : Result Head Refusal) (ws r : List Plain) → Out true n i o ws r → Told l Anyhow [] o ws r
+    of_head : (o : Result Head Refusal) (ws r : List Plain) → Out true n i fs o ws r → Told l Anyhow [] o ws r
         → Section l (goes_on f o r).0 ws (goes_on f o r).1
     of_head (Ok h) ws r (q, e, x) told =
         let g = t h in of_body l (f h r).0 ws (f h r).1 (behind (f h r).0 ws r (f h r).1 q e x (g.at r))
@@ -161,12 +161,12 @@ module _ (n i : ℕ) where
 
 -- one parenthesis at least may be open
 section_out : (n i f k : ℕ) (ws : List Plain)
-    → (let x = section_at (suc n) i f k ws in Section (suc n) i (suc k) x.0 ws x.1)
+    → (let x = section_at (suc n) i f k ws in Section (suc n) i f (suc k) x.0 ws x.1)
 unfolding section_at bind
 section_out n i f k ws =
-    let a = head_tally n i k in
+    let a = head_tally n i f k in
     let b = head_tells k in
-    of_head (suc n) i (suc k) _ (body (suc n) i f) (head_at k ws).0 ws (head_at k ws).1 (a.at ws) (b.at ws)
+    of_head (suc n) i f (suc k) _ (body (suc n) i f) (head_at k ws).0 ws (head_at k ws).1 (a.at ws) (b.at ws)
 
 -- ---- sections
 
@@ -186,28 +186,32 @@ pub record Kept (n i : ℕ) (q : List Plain) : Type 0 where
   pub ifs : count branches q ≤ count rejoins q + i
 
 -- the word behind q passes a limit
-abbrev pub Passed : ℕ → ℕ → ℕ → ℕ → List Plain → Option Plain → Type 0
-Passed n i l j q (Some (mark (m.Sign s.Open))) = count opens q ≡ count closes q + n
-Passed n i l j q (Some (mark (m.Reserved r.If))) = count branches q ≡ count rejoins q + i
-Passed n i l j q (Some (mark (m.Reserved r.For))) = Unit {0}
-Passed n i l j q (Some (mark (m.Reserved r.Main))) = count ends q ≡ j
-Passed n i l j q (Some (mark (m.Reserved r.Routine))) = count ends q ≡ j
-Passed n i l j q (Some (mark (m.Reserved r.Event))) = count ends q ≡ j
-Passed n i l j q (Some (name v)) = names_in_head false (behind_end (q ++ name v ∷ [])) ≡ suc l
-Passed n i l j q _ = ⊥
+abbrev pub Passed : ℕ → ℕ → ℕ → ℕ → ℕ → List Plain → Option Plain → Type 0
+Passed n i fs l j q (Some (mark (m.Sign s.Open))) = count opens q ≡ count closes q + n
+Passed n i fs l j q (Some (mark (m.Reserved r.If))) = count branches q ≡ count rejoins q + i
+Passed n i fs l j q (Some (mark (m.Reserved r.For))) =
+    count repeats (behind_end q) + fs ≤ count phrases (behind_end q)
+Passed n i fs l j q (Some (mark (m.Reserved r.Main))) = count ends q ≡ j
+Passed n i fs l j q (Some (mark (m.Reserved r.Routine))) = count ends q ≡ j
+Passed n i fs l j q (Some (mark (m.Reserved r.Event))) = count ends q ≡ j
+Passed n i fs l j q (Some (name v)) = names_in_head false (behind_end (q ++ name v ∷ [])) ≡ suc l
+Passed n i fs l j q _ = ⊥
 
-module _ (n i l : ℕ) where
+module _ (n i fs l : ℕ) where
   abbrev pub Program : ℕ → Result Tree Refusal → List Plain → List Plain → Type 0
   Program j (Ok ts) ws r = (q : List Plain) × (ws ≡ q ++ r) × Balanced (length ts) q × Each Spelled ts
   Program j (Err Unexpected) ws r = (q : List Plain) × (ws ≡ q ++ r) × Kept n i q
   Program j (Err Memory) ws r = ⊥
-  Program j (Err PastLimit) ws r = (q : List Plain) × (ws ≡ q ++ r) × Passed n i l j q (first r)
+  Program j (Err PastLimit) ws r = (q : List Plain) × (ws ≡ q ++ r) × Passed n i fs l j q (first r)
 
   -- within the first section
-  passed_first : (j : ℕ) (q : List Plain) (w : Option Plain) → Past true n i q w → Named l q w → Passed n i l j q w
+  passed_first : (j : ℕ) (q : List Plain) (w : Option Plain) → Past true n i fs q w → Named l q w → Passed n i fs l j q w
   passed_first j q (Some (mark (m.Sign s.Open))) x y = x.full
   passed_first j q (Some (mark (m.Reserved r.If))) x y = x.full
-  passed_first j q (Some (mark (m.Reserved r.For))) x y = tt
+  passed_first j q (Some (mark (m.Reserved r.For))) x y =
+      let full = x.full in
+      let all = all_open q x.no_end in
+      omega (arith, full, ap (count repeats) all, ap (count phrases) all)
   passed_first j q (Some (name v)) x y =
       let none = x.no_end in
       let going : count ends (q ++ name v ∷ []) ≡ 0 = omega (arith, none, count-append ends q (name v ∷ [])) in
@@ -215,13 +219,15 @@ module _ (n i l : ℕ) where
   passed_first j q _ x y = absurd (x.full)
 
   -- behind a first section
-  passed_next : (j : ℕ) (a q : List Plain) (w : Option Plain) → Even a → Passed n i l j q w
-      → Passed n i l (suc j) (a ++ end ∷ q) w
+  passed_next : (j : ℕ) (a q : List Plain) (w : Option Plain) → Even a → Passed n i fs l j q w
+      → Passed n i fs l (suc j) (a ++ end ∷ q) w
   passed_next j a q (Some (mark (m.Sign s.Open))) x y =
       let p = x.parentheses in omega (arith, p, y, count-append opens a (end ∷ q), count-append closes a (end ∷ q))
   passed_next j a q (Some (mark (m.Reserved r.If))) x y =
       let p = x.ifs in omega (arith, p, y, count-append branches a (end ∷ q), count-append rejoins a (end ∷ q))
-  passed_next j a q (Some (mark (m.Reserved r.For))) x y = tt
+  passed_next j a q (Some (mark (m.Reserved r.For))) x y =
+      let all = behind_section a q in
+      omega (arith, y, ap (count repeats) all, ap (count phrases) all)
   passed_next j a q (Some (mark (m.Reserved r.Main))) x y =
       let p = x.no_end in omega (arith, p, y, count-append ends a (end ∷ q))
   passed_next j a q (Some (mark (m.Reserved r.Routine))) x y =
@@ -277,7 +283,7 @@ module _ (n i l : ℕ) where
 
   first_one : (k j : ℕ) (fits : SectionTree → Type 0) (rest : Reading Tree)
       → ((ws : List Plain) → Program j (rest ws).0 ws (rest ws).1) → (o : Result SectionTree Refusal) (ws r : List Plain)
-      → Section n i l o ws r → IsKept fits spell_section [] o ws r
+      → Section n i fs l o ws r → IsKept fits spell_section [] o ws r
       → (let x : Read Tree = goes_on (λ t. bind rest (λ ts. pure (t ∷ ts))) o r in Program (suc j) x.0 ws x.1)
   unfolding bind
   first_one k j fits rest h (Ok t) ws r (a, e, x) (f, q, e2, sp) =
@@ -290,7 +296,7 @@ module _ (n i l : ℕ) where
   first_one k j fits rest h (Err PastLimit) ws r (q, e, x, y) kept = (q, e, passed_first (suc j) q (first r) x y)
 
   -- where no more may stand
-  head_passed : (w : Plain) → is_head (Some w) ≡ true → Passed n i l 0 [] (Some w)
+  head_passed : (w : Plain) → is_head (Some w) ≡ true → Passed n i fs l 0 [] (Some w)
   head_passed (mark (m.Reserved r.Main)) e = refl
   head_passed (mark (m.Reserved r.Routine)) e = refl
   head_passed (mark (m.Reserved r.Event)) e = refl
@@ -314,24 +320,24 @@ module _ (n i l : ℕ) where
 
 module _ (n i f k : ℕ) where
   pub sections_out : (j : ℕ) (ws : List Plain)
-      → (let x = sections_upto (suc n) i f (suc k) j ws in Program (suc n) i (suc (suc k)) j x.0 ws x.1)
+      → (let x = sections_upto (suc n) i f (suc k) j ws in Program (suc n) i f (suc (suc k)) j x.0 ws x.1)
   unfolding sections_upto look pure bind
-  sections_out zero ws = none_at (suc n) i (suc (suc k)) ws (is_head (first ws)) refl
+  sections_out zero ws = none_at (suc n) i f (suc (suc k)) ws (is_head (first ws)) refl
   sections_out (suc j) ws = (elim (is_head (first ws)) as (λ b. let p : Reading Tree = elim b [
     | true ↦ bind (section_at (suc n) i f (suc k)) (λ t. bind (sections_upto (suc n) i f (suc k) j)
         (λ ts. pure (t ∷ ts)))
     | false ↦ pure []
-  ] in Program (suc n) i (suc (suc k)) (suc j) (p ws).0 ws (p ws).1) [
+  ] in Program (suc n) i f (suc (suc k)) (suc j) (p ws).0 ws (p ws).1) [
     | true ↦ (let kept = section_keeps (suc n) i f k (omega arith) in
-        first_one (suc n) i (suc (suc k)) k j (FitsSection (suc n) i f k) (sections_upto (suc n) i f (suc k) j)
+        first_one (suc n) i f (suc (suc k)) k j (FitsSection (suc n) i f k) (sections_upto (suc n) i f (suc k) j)
         (sections_out j) (section_at (suc n) i f (suc k) ws).0 ws (section_at (suc n) i f (suc k) ws).1
         (section_out n i f (suc k) ws) (kept.at ws))
     | false ↦ ([], refl, record { parentheses = refl; ifs = refl; sections = refl }, tt)
   ])
 
   pub whole_out : (j : ℕ) (ws : List Plain)
-      → (let x = whole (sections_upto (suc n) i f (suc k) j) ws in Program (suc n) i (suc (suc k)) j x.0 ws x.1)
+      → (let x = whole (sections_upto (suc n) i f (suc k) j) ws in Program (suc n) i f (suc (suc k)) j x.0 ws x.1)
   unfolding whole bind
   whole_out j ws =
       let x = sections_upto (suc n) i f (suc k) j ws in
-      whole_of (suc n) i (suc (suc k)) j x.0 ws x.1 (sections_out j ws)
+      whole_of (suc n) i f (suc (suc k)) j x.0 ws x.1 (sections_out j ws)

@@ -1,5 +1,5 @@
 -- The word that is one too many, by counting the words before it.
-use Rattle.std.specs.Prelude.{◌≡◌, ◌⊎◌, ℕ, suc, ◌+◌, ◌<◌, Bool, true, false, if◌then◌else◌, List, [], ◌∷◌}
+use Rattle.std.specs.Prelude.{◌≡◌, ◌⊎◌, ℕ, suc, ◌+◌, ◌≤◌, ◌<◌, Bool, true, false, if◌then◌else◌, List, [], ◌∷◌}
 use Rattle.std.specs.Prelude.{length, take, drop, Some}
 use Rattle.ss_words.specs.declared.mark.Mark.TheVariants as m
 use Rattle.ss_words.specs.declared.word.Sign.TheVariants as s
@@ -19,6 +19,16 @@ branches _ = false
 abbrev pub rejoins : Plain → Bool
 rejoins (mark (m.Reserved r.Always)) = true
 rejoins _ = false
+
+-- FOR
+abbrev pub phrases : Plain → Bool
+phrases (mark (m.Reserved r.For)) = true
+phrases _ = false
+
+-- LOOP
+abbrev pub repeats : Plain → Bool
+repeats (mark (m.Reserved r.Loop)) = true
+repeats _ = false
 
 -- END
 abbrev pub ends : Plain → Bool
@@ -68,11 +78,17 @@ IsOneTooMany Parameters ws k =
     (n : Name) × (first (drop k ws) ≡ Some (name n)) × (names_in_head false (behind_end (take (k + 1) ws)) ≡ 34)
 IsOneTooMany Sections ws k = (is_head (first (drop k ws)) ≡ true) × (count ends (take k ws) ≡ 256)
 
--- a word that passes a limit is one too many by counting, or it is FOR
+-- word k is a FOR before which its section has at least 16 more FORs than LOOPs
+abbrev pub IsDeepPhrase : List Plain → ℕ → Type 0
+IsDeepPhrase ws k =
+    (first (drop k ws) ≡ Some (mark (m.Reserved r.For)))
+    × (count repeats (behind_end (take k ws)) + 16 ≤ count phrases (behind_end (take k ws)))
+
+-- a word that passes a limit is one too many by counting, or it is FOR behind so many FORs
 abbrev pub LimitIsCounted : Type 0
 LimitIsCounted =
     (ws : List Plain) (k : ℕ) → PassesLimit ws k
-    → ((c : Counted) × IsOneTooMany c ws k) ⊎ (first (drop k ws) ≡ Some (mark (m.Reserved r.For)))
+    → ((c : Counted) × IsOneTooMany c ws k) ⊎ IsDeepPhrase ws k
 
 -- a word that is one too many by counting passes a limit, where no word before it does and programs go on with it
 abbrev pub CountPassesLimit : Type 0

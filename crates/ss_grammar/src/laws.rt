@@ -36,12 +36,14 @@ pub fn limits_refuse()
     ensures { LimitsRefuse }
 {}
 
-/// The word that passes a limit is one too many by counting words, or it is FOR.
+/// The word that passes a limit is one too many by counting words, or a FOR behind at least 16 more
+/// FORs than LOOPs of its section.
 pub fn limit_is_counted()
     ensures { LimitIsCounted }
 {}
 
-/// A word that is one too many by counting passes a limit.
+/// A word that is one too many by counting passes a limit, where no word before it does and programs
+/// go on with it.
 pub fn count_passes_limit()
     ensures { CountPassesLimit }
 {}
