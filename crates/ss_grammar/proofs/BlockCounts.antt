@@ -34,7 +34,8 @@ use Rattle.ss_grammar.proofs.Counting.{Encloses, Shuts, bind_shuts, made_shuts, 
 use Rattle.ss_grammar.proofs.Counting.{enclosed_tally, part_tally}
 
 -- a word that counts to nothing
-pub plain : (w : Plain) → opens w ≡ false → closes w ≡ false → branches w ≡ false → rejoins w ≡ false → repeats w ≡ false
+pub plain : (w : Plain) → opens w ≡ false → closes w ≡ false → branches w ≡ false → rejoins w ≡ false
+    → repeats w ≡ false
     → ends w ≡ false → Even (w ∷ [])
 plain w a b c d e g = record {
   parentheses = rw (a, b) refl;
@@ -46,7 +47,8 @@ plain w a b c d e g = record {
 -- ---- readings that are made of readings
 
 module _ (h : Bool) (n i fs : ℕ) where
-  pub pair_tally : {A B : Type 0} (p : Reading A) (q : Reading B) → Tally h n i fs p → Tally h n i fs q → Tally h n i fs (pair p q)
+  pub pair_tally : {A B : Type 0} (p : Reading A) (q : Reading B) → Tally h n i fs p → Tally h n i fs q
+      → Tally h n i fs (pair p q)
   unfolding pair
   pair_tally p q x y =
       bind_tally h n i fs _ (λ a. bind_tally h n i fs _ (λ b. pure_tally h n i fs (a, b)) q y) p x
@@ -60,7 +62,8 @@ module _ (h : Bool) (n i fs : ℕ) where
       → Tally h n i fs (before p k)
   unfolding before
   before_tally p k e x =
-      bind_tally h n i fs _ (λ a. bind_tally h n i fs _ (λ u. pure_tally h n i fs a) (expect k) (expect_tally h n i fs k e)) p x
+      bind_tally h n i fs _ (λ a. bind_tally h n i fs _ (λ u. pure_tally h n i fs a) (expect k)
+      (expect_tally h n i fs k e)) p x
 
   pub made_tally : {A B : Type 0} (f : A → B) (p : Reading A) → Tally h n i fs p → Tally h n i fs (made f p)
   unfolding made
@@ -88,7 +91,8 @@ module _ (h : Bool) (n i fs : ℕ) where
   unfolding star
   star_tally p x = many_tally h n i fs p [] (λ a xs. a ∷ xs) x
 
-  either_of-tally : {A B : Type 0} (p : Reading (Option A)) (q : Reading (Option B)) → Tally h n i fs p → Tally h n i fs q
+  either_of-tally : {A B : Type 0} (p : Reading (Option A)) (q : Reading (Option B)) → Tally h n i fs p
+      → Tally h n i fs q
       → Tally h n i fs (either_of p q)
   unfolding either_of
   either_of-tally p q x y =
@@ -132,8 +136,15 @@ module _ (A : Type 0) (k : Mark) where
     shut_out : (ws : List Plain) (b : Bool) → is k (first ws) ≡ b
         → Out h n i fs (shut_answer b ws).0 ws (shut_answer b ws).1
     shut_out [] true e = absurd cc
-    shut_out (v ∷ ws) true e =
-        ([], refl, record { full = subst (λ (u : Plain). Full h n i fs [] (Some u)) (sym (is_mark k v e)) full; no_end = refl })
+    shut_out (v ∷ ws) true e = (
+      [],
+      refl,
+      record {
+        full = subst (λ (u : Plain). Full h n i fs [] (Some u)) (sym
+            (is_mark k v e)) full;
+        no_end = refl;
+      },
+    )
     shut_out ws false e = ([], refl, nothing)
 
     shut_tally : (q : Reading A) → Tally h n i fs (if_allowed 0 k q)
@@ -197,7 +208,8 @@ for_spared q x = let a = x.parentheses in let b = x.ifs in let c = x.loops in le
 less : (n : ℕ) → n < suc n
 less n = omega arith
 
-inner_option : {A : Type 0} (sp : A → List Plain) → ((a : A) → Inner (sp a)) → (o : Option A) → Inner (spell_option sp o)
+inner_option : {A : Type 0} (sp : A → List Plain) → ((a : A) → Inner (sp a)) → (o : Option A)
+    → Inner (spell_option sp o)
 inner_option sp h None = record { none = refl }
 inner_option sp h (Some a) = h a
 

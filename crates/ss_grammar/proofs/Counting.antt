@@ -1,8 +1,9 @@
--- What a reading has counted where it stops: what is read closes each parenthesis and rejoins each IF, and a word that is
--- refused by a limit stands where all that may be open are open.
+-- What a reading has counted where it stops: what is read closes each parenthesis and rejoins each IF, and a word that
+-- is refused by a limit stands where all that may be open are open.
 use mathlib.Core.Logic.{inl, inr}
 use Rattle.ss_grammar.specs.Combined.{if_mark, either}
-use Rattle.std.proofs.Common.{◌≡◌, ◌⊎◌, ℕ, zero, suc, ◌+◌, ◌-◌, ◌≤◌, ◌<◌, Bool, true, false, List, [], ◌∷◌, ◌++◌, length}
+use Rattle.std.proofs.Common.{◌≡◌, ◌⊎◌, ℕ, zero, suc, ◌+◌, ◌-◌, ◌≤◌, ◌<◌, Bool, true, false, List, [], ◌∷◌, ◌++◌}
+use Rattle.std.proofs.Common.{length}
 use Rattle.std.proofs.Common.{length-append, take, drop, Option, Some, None, Result, Ok, Err, refl, sym, ap, subst, ◌∙◌}
 use Rattle.std.proofs.Common.{append_assoc, arith}
 use Rattle.ss_words.specs.declared.refusal.Refusal.{Refusal}
@@ -24,7 +25,8 @@ use Rattle.ss_grammar.proofs.Tally as tally
 use Rattle.ss_grammar.proofs.Tally.{count-append, Leaves}
 use Rattle.ss_grammar.proofs.Inner.{builds, Inner, front}
 
--- as many parentheses are closed as opened and as many IFs rejoined as begun, and no section ends in these words
+-- as many parentheses are closed as opened and as many IFs rejoined as begun, no LOOP lacks its FOR, and no section
+-- ends in these words
 pub record Even (q : List Plain) : Type 0 where
   pub parentheses : count opens q ≡ count closes q
   pub ifs : count branches q ≡ count rejoins q
@@ -37,7 +39,8 @@ pub record Room (n i : ℕ) (q : List Plain) : Type 0 where
   pub ifs : count branches q ≤ count rejoins q + i
   pub no_end : count ends q ≡ 0
 
--- the word behind q is refused by a limit: as many are open as may be, or the word counts to another limit
+-- the word behind q is refused by a limit: as many are open as may be; where it is FOR, there are fs more FORs than
+-- LOOPs; names are looked at elsewhere
 abbrev pub Full : Bool → ℕ → ℕ → ℕ → List Plain → Option Plain → Type 0
 Full h n i fs q (Some (mark (m.Sign sign.Open))) = count opens q ≡ count closes q + n
 Full h n i fs q (Some (mark (m.Reserved r.If))) = count branches q ≡ count rejoins q + i
@@ -184,7 +187,13 @@ module _ (h : Bool) (n i fs : ℕ) where
 
   name_at : (w : Option Plain) → TallyAt h n i fs w (name_by w)
   name_at (Some (name v)) =
-      skip_tally (name v) (pure v) (record { parentheses = refl; ifs = refl; loops = omega arith; no_end = refl }) (pure_tally v)
+      skip_tally (name v) (pure v) (record {
+        parentheses = refl;
+        ifs = refl;
+        loops = omega arith;
+        no_end =
+            refl;
+      }) (pure_tally v)
   name_at _ = anywhere _ _ refuse_tally
 
   pub name_tally : Tally h n i fs a_name
@@ -244,7 +253,8 @@ module _ (h : Bool) (w : Plain) (k : Mark) (n i fs n' i' fs' : ℕ) (z : Enclose
         no_end = omega (arith, e, e', count-append ends a b);
       }
 
-  full_within : (a b : List Plain) (v : Option Plain) → Even a → Full h n' i' fs' (w ∷ b) v → Full h n' i' fs' (w ∷ (a ++ b)) v
+  full_within : (a b : List Plain) (v : Option Plain) → Even a → Full h n' i' fs' (w ∷ b) v
+      → Full h n' i' fs' (w ∷ (a ++ b)) v
   full_within a b (Some (mark (m.Sign sign.Open))) x f =
       let p = x.parentheses in omega (arith, p, f, count-append opens a b, count-append closes a b)
   full_within a b (Some (mark (m.Reserved r.If))) x f =
@@ -254,7 +264,8 @@ module _ (h : Bool) (w : Plain) (k : Mark) (n i fs n' i' fs' : ℕ) (z : Enclose
   full_within a b (Some (name v)) x f = f
   full_within a b _ x f = absurd f
 
-  past_within : (a b : List Plain) (v : Option Plain) → Even a → Past h n' i' fs' (w ∷ b) v → Past h n' i' fs' (w ∷ (a ++ b)) v
+  past_within : (a b : List Plain) (v : Option Plain) → Even a → Past h n' i' fs' (w ∷ b) v
+      → Past h n' i' fs' (w ∷ (a ++ b)) v
   past_within a b v x y =
       let e = x.no_end in let e' = y.no_end in record {
         full = full_within a b v x y.full;
@@ -310,7 +321,12 @@ module _ (h : Bool) (w : Plain) (k : Mark) (n i fs n' i' fs' : ℕ) (z : Enclose
           → (let x : Read (Option B) = goes_on (λ b. pure (Some b)) o r in
           let y : Read (B ⊎ A) = goes_on chosen x.0 x.1 in Shut y.0 (mark j ∷ ws) y.1)
       unfolding pure
-      marked (Ok b) ws r (q, e, x) = (mark j ∷ q, ap (λ (u : List Plain). mark j ∷ u) e, even_within (mark j ∷ []) q even x)
+      marked (Ok b) ws r (q, e, x) = (
+        mark j ∷ q,
+        ap (λ (u : List Plain). mark j ∷ u) e,
+        even_within
+            (mark j ∷ []) q even x,
+      )
       marked (Err Unexpected) ws r (q, e, x) =
           (mark j ∷ q, ap (λ (u : List Plain). mark j ∷ u) e, room_within (mark j ∷ []) q even x)
       marked (Err Memory) ws r out = out
@@ -465,7 +481,8 @@ module _ {A : Type 0} (n i fs : ℕ) (fits fits' : A → Type 0) (sp sp' : A →
       let one : count builds (w ∷ []) ≡ 1 = rw e (omega arith) in
       absurd (omega (arith, k, one, count-append builds q (w ∷ [])))
 
-  full_by : (q : List Plain) (w : Plain) → Inner (q ++ w ∷ []) → tally.Refused n q (Some w) → Full false n i fs q (Some w)
+  full_by : (q : List Plain) (w : Plain) → Inner (q ++ w ∷ []) → tally.Refused n q (Some w)
+      → Full false n i fs q (Some w)
   full_by q (mark (m.Sign sign.Open)) x f = f.open_ones
   full_by q (mark (m.Reserved r.If)) x f = absurd (no_builder q (mark (m.Reserved r.If)) refl x)
   full_by q (mark (m.Reserved r.For)) x f = absurd (no_builder q (mark (m.Reserved r.For)) refl x)

@@ -53,9 +53,11 @@ module _ (n i fs : ℕ) where
   no_name_at A (Some (name v)) (u ∷ ws) e =
       let same : u ≡ name v = cc in ([], refl, record { full = rw same refl; no_end = refl })
   no_name_at A None ws e = anywhere true n i fs {A = A} None (refuse Unexpected) (refuse_tally true n i fs) ws e
-  no_name_at A (Some (number v)) ws e = anywhere true n i fs {A = A} _ (refuse Unexpected) (refuse_tally true n i fs) ws e
+  no_name_at A (Some (number v)) ws e =
+      anywhere true n i fs {A = A} _ (refuse Unexpected) (refuse_tally true n i fs) ws e
   no_name_at A (Some (mark v)) ws e = anywhere true n i fs {A = A} _ (refuse Unexpected) (refuse_tally true n i fs) ws e
-  no_name_at A (Some (picture v)) ws e = anywhere true n i fs {A = A} _ (refuse Unexpected) (refuse_tally true n i fs) ws e
+  no_name_at A (Some (picture v)) ws e =
+      anywhere true n i fs {A = A} _ (refuse Unexpected) (refuse_tally true n i fs) ws e
 
   no_name_tally : (A : Type 0) → Tally {A = A} true n i fs no_name
   unfolding no_name
@@ -68,7 +70,8 @@ module _ (n i fs : ℕ) where
       (eat (m.Sign s.Comma)) (eat_tally true n i fs (m.Sign s.Comma) (plain _ refl refl refl refl refl refl))
   others_tally (suc k) =
       bind_tally true n i fs _ (elim [
-        | true ↦ bind_tally true n i fs _ (λ v. bind_tally true n i fs _ (λ vs. pure_tally true n i fs (v ∷ vs)) (others_at k)
+        | true ↦ bind_tally true n i fs _ (λ v. bind_tally true n i fs _ (λ vs. pure_tally true n i fs (v ∷ vs))
+            (others_at k)
             (others_tally k)) a_name (name_tally true n i fs)
         | false ↦ pure_tally true n i fs []
       ]) (eat (m.Sign s.Comma)) (eat_tally true n i fs (m.Sign s.Comma) (plain _ refl refl refl refl refl refl))
@@ -77,7 +80,11 @@ module _ (n i fs : ℕ) where
   unfolding names_at
   names_tally zero = no_name_tally (Several Name)
   names_tally (suc k) =
-      bind_tally true n i fs _ (λ v. bind_tally true n i fs _ (λ vs. pure_tally true n i fs (record { first = v; others = vs }))
+      bind_tally true n i fs _ (λ v. bind_tally true n i fs _ (λ vs. pure_tally true n i fs (record {
+        first =
+            v;
+        others = vs;
+      }))
       (others_at k) (others_tally k)) a_name (name_tally true n i fs)
 
   yielded_tally : (k : ℕ) → Tally true n i fs (yielded_at k)
@@ -86,7 +93,8 @@ module _ (n i fs : ℕ) where
       bind_tally true n i fs _ (elim [
         | true ↦ bind_tally true n i fs _ (λ ns. pure_tally true n i fs (all_of ns)) (names_at k) (names_tally k)
         | false ↦ pure_tally true n i fs []
-      ]) (eat (m.Reserved r.Yielding)) (eat_tally true n i fs (m.Reserved r.Yielding) (plain _ refl refl refl refl refl refl))
+      ]) (eat (m.Reserved r.Yielding)) (eat_tally true n i fs (m.Reserved r.Yielding)
+      (plain _ refl refl refl refl refl refl))
 
   saving_tally : Tally true n i fs saving
   unfolding saving
@@ -98,7 +106,8 @@ module _ (n i fs : ℕ) where
             (expect (m.Reserved r.Event))
             (expect_tally true n i fs (m.Reserved r.Event) (plain _ refl refl refl refl refl refl))
         | false ↦ pure_tally true n i fs false
-      ]) (eat (m.Reserved r.Saving)) (eat_tally true n i fs (m.Reserved r.Saving) (plain _ refl refl refl refl refl refl))
+      ]) (eat (m.Reserved r.Saving)) (eat_tally true n i fs (m.Reserved r.Saving)
+      (plain _ refl refl refl refl refl refl))
 
 -- where one parenthesis at least may be open
 module _ (n i fs : ℕ) where
@@ -122,7 +131,8 @@ module _ (n i fs : ℕ) where
             (λ ns. made_shuts true w c n i fs (suc n) i fs z (λ u. InParentheses ns) (expect c)
             (close_shuts true w c n i fs (suc n) i fs z)) (names_at k) (names_tally n i fs k))
             (pure_tally true (suc n) i fs Unwritten)
-      ]) (eat (m.Reserved r.Given)) (eat_tally true (suc n) i fs (m.Reserved r.Given) (plain _ refl refl refl refl refl refl))
+      ]) (eat (m.Reserved r.Given)) (eat_tally true (suc n) i fs (m.Reserved r.Given)
+      (plain _ refl refl refl refl refl refl))
 
   routine_tally : (k : ℕ) → Tally true (suc n) i fs (routine_at k)
   unfolding routine_at
@@ -207,7 +217,8 @@ abbrev pub Anyhow : {A : Type 0} → A → List Plain → Type 0
 Anyhow a pre = Unit {0}
 
 module _ (l : ℕ) where
-  moved : {A : Type 0} (has : A → List Plain → Type 0) (pre : List Plain) (o : Result A Refusal) (ws r r' q : List Plain)
+  moved : {A : Type 0} (has : A → List Plain → Type 0) (pre : List Plain) (o : Result A Refusal)
+      (ws r r' q : List Plain)
       → ws ≡ q ++ r → Told l has (pre ++ q) o r r' → Told l has pre o ws r'
   moved has pre (Ok a) ws r r' q e (q2, e2, x) = (
     q ++ q2,
@@ -438,7 +449,8 @@ module _ (k : ℕ) where
       let pre : List Plain = mark (m.Reserved r.Routine) ∷ [] in
       bind_tells (suc k) (λ v y. Has false 1 y) Anyhow pre _
       (λ v y d. bind_tells (suc k) (HasGiven (suc k) k 1) Anyhow y _
-      (λ ps c f. let le = f.0 in bind_tells (suc k) Anyhow Anyhow c _ (λ ys b o. pure_tells (suc k) Anyhow b (RoutineHead v ps ys) tt)
+      (λ ps c f. let le = f.0 in bind_tells (suc k) Anyhow Anyhow c _ (λ ys b o. pure_tells (suc k) Anyhow b
+      (RoutineHead v ps ys) tt)
       (yielded_at (k - length (listed ps)))
       (yielded_tells (suc k) (k - length (listed ps)) (1 + length (listed ps)) c f.1 (omega (arith, le))))
       (given_at k) (given_tells (suc k) k 1 y d (omega arith))) a_name

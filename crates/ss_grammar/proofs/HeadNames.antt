@@ -26,7 +26,8 @@ end = mark (m.Reserved r.End)
 
 -- ---- a head
 
-more_names : (ns : List Name) (z : List Plain) → names_in_head false (spell_more ns ++ z) ≡ length ns + names_in_head false z
+more_names : (ns : List Name) (z : List Plain) → names_in_head false (spell_more ns ++ z)
+    ≡ length ns + names_in_head false z
 more_names [] z = omega arith
 more_names (n ∷ ns) z = let h = more_names ns z in omega (arith, h)
 
@@ -56,12 +57,14 @@ head_names : (h : Head) (z : List Plain) → names_in_head false z ≡ 0
 head_names MainHead z e = omega arith
 head_names (RoutineHead n ps ys) z e =
     let w = spell_yielded ys ++ z in
-    let regroup : names_in_head false ((spell_given ps ++ spell_yielded ys) ++ z) ≡ names_in_head false (spell_given ps ++ w) =
+    let regroup : names_in_head false ((spell_given ps ++ spell_yielded ys) ++ z)
+    ≡ names_in_head false (spell_given ps ++ w) =
     ap (names_in_head false) (append_assoc (spell_given ps) (spell_yielded ys) z) in
     omega (arith, e, regroup, given_names ps w, yielded_names ys z)
 head_names (EventHead n ps b) z e =
     let w = spell_saving b ++ z in
-    let regroup : names_in_head false ((spell_given ps ++ spell_saving b) ++ z) ≡ names_in_head false (spell_given ps ++ w) =
+    let regroup : names_in_head false ((spell_given ps ++ spell_saving b) ++ z)
+    ≡ names_in_head false (spell_given ps ++ w) =
     ap (names_in_head false) (append_assoc (spell_given ps) (spell_saving b) z) in
     omega (arith, regroup, given_names ps w, saving_names b z e)
 

@@ -24,7 +24,8 @@ use Rattle.ss_grammar.specs.declared.place.QualifierWord.TheVariants.{With, Unle
 use Rattle.ss_grammar.specs.declared.place.Statistic.{Statistic}
 use Rattle.ss_grammar.specs.declared.place.Statistic.TheVariants.{Number, Sum, Maximum, Minimum}
 use Rattle.ss_grammar.specs.Expr.{Expr, expr, Sums, no_sums, sum, Term, term, Products, no_products, product, Factor}
-use Rattle.ss_grammar.specs.Expr.{digits, named, applied, within, Exprs, no_exprs, exprs, sign, spell_lead, spell_within}
+use Rattle.ss_grammar.specs.Expr.{digits, named, applied, within, Exprs, no_exprs, exprs, sign, spell_lead}
+use Rattle.ss_grammar.specs.Expr.{spell_within}
 use Rattle.ss_grammar.specs.Expr.{spell_expr, spell_sums, spell_term, spell_products, spell_factor, spell_exprs}
 use Rattle.ss_grammar.specs.Condition.{Reference, Condition, condition, Alternatives, no_alternatives, alternative}
 use Rattle.ss_grammar.specs.Condition.{Conjunction, conjunction, Additions, no_additions, addition, Relation, compared}

@@ -17,7 +17,8 @@ use Rattle.ss_grammar.specs.Tree.{SectionTree, Tree, spell_section, spell}
 use Rattle.ss_grammar.specs.SectionReading.{is_head, sections_upto}
 use Rattle.ss_grammar.specs.Refused.{IsWithin, BeginsWithin, announces, IsAnnounced, InRoom, PassesLimit}
 use Rattle.ss_grammar.specs.Counts.{count, opens, closes}
-use Rattle.ss_grammar.specs.OneTooMany.{branches, rejoins, phrases, repeats, ends, IsDeepPhrase, behind_end, names_in_head, Counted, Parentheses, Ifs}
+use Rattle.ss_grammar.specs.OneTooMany.{branches, rejoins, phrases, repeats, ends, IsDeepPhrase, behind_end}
+use Rattle.ss_grammar.specs.OneTooMany.{names_in_head, Counted, Parentheses, Ifs}
 use Rattle.ss_grammar.specs.OneTooMany.{Parameters, Sections, IsOneTooMany, LimitIsCounted, CountPassesLimit}
 use Rattle.ss_grammar.proofs.Tally.{count-append}
 use Rattle.ss_grammar.proofs.Form.{Each}
@@ -48,7 +49,8 @@ counted ws tail q (mark (m.Reserved r.If)) e x = inl (
   Ifs,
   (
     ap first (back_is ws q _ e),
-    ap (count branches) (front_is ws q _ e) ∙ x ∙ ap (λ (u : List Plain). count rejoins u + 64) (sym (front_is ws q _ e)),
+    ap (count branches) (front_is ws q _ e) ∙ x ∙ ap (λ (u : List Plain). count rejoins u + 64) (sym
+        (front_is ws q _ e)),
   ),
 )
 counted ws tail q (mark (m.Reserved r.For)) e x =
@@ -63,11 +65,32 @@ counted ws tail q (mark (m.Reserved r.For)) e x =
       ),
     )
 counted ws tail q (mark (m.Reserved r.Main)) e x =
-    inl (Sections, (ap (λ (u : List Plain). is_head (first u)) (back_is ws q _ e), ap (count ends) (front_is ws q _ e) ∙ x))
+    inl (
+      Sections,
+      (
+        ap (λ (u : List Plain). is_head (first u)) (back_is ws q _ e),
+        ap (count ends)
+            (front_is ws q _ e) ∙ x,
+      ),
+    )
 counted ws tail q (mark (m.Reserved r.Routine)) e x =
-    inl (Sections, (ap (λ (u : List Plain). is_head (first u)) (back_is ws q _ e), ap (count ends) (front_is ws q _ e) ∙ x))
+    inl (
+      Sections,
+      (
+        ap (λ (u : List Plain). is_head (first u)) (back_is ws q _ e),
+        ap (count ends)
+            (front_is ws q _ e) ∙ x,
+      ),
+    )
 counted ws tail q (mark (m.Reserved r.Event)) e x =
-    inl (Sections, (ap (λ (u : List Plain). is_head (first u)) (back_is ws q _ e), ap (count ends) (front_is ws q _ e) ∙ x))
+    inl (
+      Sections,
+      (
+        ap (λ (u : List Plain). is_head (first u)) (back_is ws q _ e),
+        ap (count ends)
+            (front_is ws q _ e) ∙ x,
+      ),
+    )
 counted ws tail q (name v) e x =
     let at : names_in_head false (behind_end (take (length ws - length (name v ∷ tail) + 1) ws)) ≡ 34 =
     ap (λ (u : List Plain). names_in_head false (behind_end u)) (front_and ws q tail (name v) e) ∙ x in
@@ -82,7 +105,8 @@ forward ws k past (Ok t) r e = let (w, is) = read_sections ws r t e in absurd (n
 forward ws k past (Err Unexpected) r e =
     let j = length ws - length r in
     elim (order j (k + 1)) [
-      | less h ↦ absurd (no_more ws j (k + 1) (farthest ws r e) h (let i = past.is_word in omega (arith, i)) past.with_it)
+      | less h ↦ absurd (no_more ws j (k + 1) (farthest ws r e) h (let i =
+          past.is_word in omega (arith, i)) past.with_it)
       | equal h ↦ absurd (past.no_room (room_less ws (k + 1) j (omega (arith, h)) (stood ws r Unexpected e)))
       | greater h ↦ absurd (past.no_room (room_less ws (k + 1) j (omega (arith, h)) (stood ws r Unexpected e)))
     ]
@@ -140,7 +164,8 @@ spelled t w =
     sections_again 50 64 16 31 (omega arith) 256 t
     (tree_fits 50 64 16 31 256 t w.parentheses w.ifs w.phrases w.parameters w.sections) in
     let (q, split, y, each) : Program 50 64 16 33 256 (Ok t) (spell t) [] =
-    subst (λ (x : Read Tree). Program 50 64 16 33 256 x.0 (spell t) x.1) again (sections_out 49 64 16 31 256 (spell t)) in
+    subst (λ (x : Read Tree). Program 50 64 16 33 256 x.0 (spell t) x.1) again (sections_out 49 64 16 31 256
+    (spell t)) in
     (ap (count ends) (split ∙ append-nil q) ∙ y.sections, each)
 
 -- ---- the last word

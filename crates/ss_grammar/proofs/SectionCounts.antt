@@ -205,7 +205,8 @@ module _ (n i fs l : ℕ) where
   Program j (Err PastLimit) ws r = (q : List Plain) × (ws ≡ q ++ r) × Passed n i fs l j q (first r)
 
   -- within the first section
-  passed_first : (j : ℕ) (q : List Plain) (w : Option Plain) → Past true n i fs q w → Named l q w → Passed n i fs l j q w
+  passed_first : (j : ℕ) (q : List Plain) (w : Option Plain) → Past true n i fs q w → Named l q w
+      → Passed n i fs l j q w
   passed_first j q (Some (mark (m.Sign s.Open))) x y = x.full
   passed_first j q (Some (mark (m.Reserved r.If))) x y = x.full
   passed_first j q (Some (mark (m.Reserved r.For))) x y =
@@ -282,7 +283,8 @@ module _ (n i fs l : ℕ) where
   )
 
   first_one : (k j : ℕ) (fits : SectionTree → Type 0) (rest : Reading Tree)
-      → ((ws : List Plain) → Program j (rest ws).0 ws (rest ws).1) → (o : Result SectionTree Refusal) (ws r : List Plain)
+      → ((ws : List Plain) → Program j (rest ws).0 ws (rest ws).1)
+      → (o : Result SectionTree Refusal) (ws r : List Plain)
       → Section n i fs l o ws r → IsKept fits spell_section [] o ws r
       → (let x : Read Tree = goes_on (λ t. bind rest (λ ts. pure (t ∷ ts))) o r in Program (suc j) x.0 ws x.1)
   unfolding bind
