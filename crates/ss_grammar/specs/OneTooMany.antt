@@ -67,8 +67,8 @@ names_in_head false (w ∷ ws) =
 pub data Counted : Type 0 where
   Parentheses Ifs Parameters Sections : Counted
 
--- word k is one too many: an opening parenthesis before which 50 are open; an IF before which 64 are open; a name that
--- is the 34th of its head, which has a name of its own; the first word of a head before which 256 sections have ended
+-- word k is one too many: an opening parenthesis before which 50 are open; an IF before which 64 are open; a name with
+-- which its head has 34, its own and 33 parameters; the first word of a head before which 256 sections have ended
 abbrev pub IsOneTooMany : Counted → List Plain → ℕ → Type 0
 IsOneTooMany Parentheses ws k =
     (first (drop k ws) ≡ Some (mark (m.Sign s.Open))) × (count opens (take k ws) ≡ count closes (take k ws) + 50)
