@@ -3,8 +3,7 @@ use Rattle.std.proofs.Common.{◌≡◌, ℕ, ◌+◌, ◌-◌, ◌≤◌, List,
 use Rattle.std.proofs.Common.{suc, min, arith, length-take, length-drop}
 use Rattle.std.specs.Prelude.{reverse, sum, map}
 use Rattle.std.proofs.lemmas.List.{reverse-append, length-reverse, take-append-drop, drop-take, take_at, take_min}
-use Rattle.std.proofs.lemmas.List.Sorted.{sum_by-IsPermutation, IsPermutation-reverse}
-use Rattle.std.proofs.lemmas.List.Sums.{sum_by_push, sum_by-cons, sum_by-take-drop}
+use Rattle.std.proofs.lemmas.List.Sums.{sum_by-cons}
 use Rattle.ss_journal.specs.Pieces.{cut_by_lengths}
 
 -- there are as many pieces as lengths
@@ -16,21 +15,19 @@ length-pieces (k ∷ ks) cs = ap suc (length-pieces ks (drop k cs))
 pub take-none : {C : Type 0} (k : ℕ) (cs : List C) → k ≤ length cs → take k cs ≡ [] → k ≡ 0
 take-none k cs h e = omega (arith, length-take k cs, ap length e)
 
--- a size that is the last of them is what the sizes have beside those before it
+-- the first size is what the sizes have beside those behind it
 pub rest_of_sizes : {C : Type 0} (o : ℕ) (all ks : List ℕ) (k n : ℕ) (cs : List C) →
-    o + sum all ≡ n → n ≡ length cs → take o (reverse cs) ≡ [] → all ≡ ks ++ k ∷ [] → k + sum ks ≡ n
+    o + sum all ≡ n → n ≡ length cs → take o (reverse cs) ≡ [] → all ≡ k ∷ ks → k + sum ks ≡ n
 rest_of_sizes o all ks k n cs within full none is =
     let zero_open : o ≡ 0 = take-none o (reverse cs) (rw length-reverse (omega arith)) none in
-    omega (arith, ap sum is, sum_by_push (λ n. n) ks k)
+    omega (arith, zero_open, ap sum is, sum_by-cons (λ n. n) k ks)
 
--- taking off the last size makes its piece the first one
+-- taking off the first size makes its piece the open step
 pub pieces_back : {C : Type 0} (o : ℕ) (all ks : List ℕ) (k n : ℕ) (cs : List C) →
-    o + sum all ≡ n → n ≡ length cs → take o (reverse cs) ≡ [] → all ≡ ks ++ k ∷ [] →
-    cut_by_lengths (reverse all) (drop o (reverse cs))
-    ≡ take k (reverse cs) ∷ cut_by_lengths (reverse ks) (drop k (reverse cs))
+    o + sum all ≡ n → n ≡ length cs → take o (reverse cs) ≡ [] → all ≡ k ∷ ks →
+    cut_by_lengths all (drop o (reverse cs)) ≡ take k (reverse cs) ∷ cut_by_lengths ks (drop k (reverse cs))
 pieces_back o all ks k n cs within full none is =
-    let zero_open : o ≡ 0 = take-none o (reverse cs) (rw length-reverse (omega arith)) none in
-    rw (is, reverse-append, zero_open) refl
+    let zero_open : o ≡ 0 = take-none o (reverse cs) (rw length-reverse (omega arith)) none in rw (is, zero_open) refl
 
 -- taking off the newest change, of those of the open step and of the others
 pub open_taken : {C : Type 0} (o k : ℕ) (all cs : List C) (c : C) → k + 1 ≡ o → all ≡ cs ++ c ∷ []
@@ -41,7 +38,8 @@ pub open_left : {C : Type 0} (o k : ℕ) (all cs : List C) (c : C) → k + 1 ≡
     → drop o (reverse all) ≡ drop k (reverse cs)
 open_left o k all cs c one is = let more : o ≡ suc k = omega (arith, one) in rw (more, is, reverse-append) refl
 
-take-take : {C : Type 0} (k n : ℕ) (cs : List C) → k ≤ n → take k (take n cs) ≡ take k cs
+-- the first of the first
+pub take-take : {C : Type 0} (k n : ℕ) (cs : List C) → k ≤ n → take k (take n cs) ≡ take k cs
 take-take zero n cs h = refl
 take-take (suc k) zero cs h = absurd (omega (arith, h))
 take-take (suc k) (suc n) [] h = refl
@@ -66,39 +64,30 @@ take-reverse k cs =
     ∙ take_at (reverse (drop k cs)) (reverse (take k cs)) (length cs - k)
     (length-reverse (drop k cs) ∙ length-drop k cs)
 
-sum-reverse : (ks : List ℕ) → sum (reverse ks) ≡ sum ks
-sum-reverse ks = sum_by-IsPermutation (λ n. n) ks (reverse ks) (IsPermutation-reverse ks)
+-- the sizes that are kept
+abbrev pub kept_of : ℕ → List ℕ → List ℕ
+kept_of n all = take (length all - (length all - n)) all
 
--- what the sizes that are kept have is what is left of the changes
-pub sum-kept : {C : Type 0} (f m l : ℕ) (all : List ℕ) (cs : List C) → sum all ≡ l → l ≡ length cs
-    → m ≡ sum (take f all) → sum (drop f all) ≡ length (drop m cs)
-sum-kept f m l all cs within full is = omega (arith, length-drop m cs, sum_by-take-drop (λ n. n) all f)
-
-pieces_kept : {C : Type 0} (n f m l : ℕ) (all : List ℕ) (cs : List C) →
-    sum all ≡ l → l ≡ length cs → f ≡ length all - n → m ≡ sum (take f all) →
-    cut_by_lengths (reverse (drop f all)) (reverse (drop m cs)) ≡ take n (cut_by_lengths (reverse all) (reverse cs))
-pieces_kept n f m l all cs within full forgotten is =
-    let kept = length all - f in
-    let sizes : take kept (reverse all) ≡ reverse (drop f all) = take-reverse f all in
-    let many : sum (take kept (reverse all)) ≡ length cs - m =
-    ap sum sizes ∙ sum-reverse (drop f all) ∙ sum-kept f m l all cs within full is ∙ length-drop m cs in
-    let count : kept ≡ min n (length (cut_by_lengths (reverse all) (reverse cs))) =
-    omega (arith, length-pieces (reverse all) (reverse cs), length-reverse all) in
-    let first : take kept (cut_by_lengths (reverse all) (reverse cs))
-    ≡ cut_by_lengths (take kept (reverse all)) (take (sum (take kept (reverse all))) (reverse cs)) =
-    take-pieces kept (reverse all) (reverse cs) in
-    sym (sym (ap (λ k. take k (cut_by_lengths (reverse all) (reverse cs))) count
-    ∙ take_min n (cut_by_lengths (reverse all) (reverse cs)))
-    ∙ first ∙ rw (many, sizes, take-reverse m cs) refl)
+pieces_kept : {C : Type 0} (n m l : ℕ) (all : List ℕ) (cs : List C) →
+    sum all ≡ l → l ≡ length cs → m + sum (kept_of n all) ≡ sum all →
+    cut_by_lengths (kept_of n all) (reverse (drop m cs)) ≡ take n (cut_by_lengths all (reverse cs))
+pieces_kept n m l all cs within full is =
+    let kept = length all - (length all - n) in
+    let many : sum (take kept all) ≡ length cs - m = omega (arith, is, within, full) in
+    let count : kept ≡ min n (length (cut_by_lengths all (reverse cs))) =
+    omega (arith, length-pieces all (reverse cs)) in
+    let first : take kept (cut_by_lengths all (reverse cs))
+    ≡ cut_by_lengths (take kept all) (take (sum (take kept all)) (reverse cs)) = take-pieces kept all (reverse cs) in
+    sym (sym (ap (λ k. take k (cut_by_lengths all (reverse cs))) count ∙ take_min n (cut_by_lengths all (reverse cs)))
+    ∙ first ∙ rw (many, take-reverse m cs) refl)
 
 -- the pieces of the sizes that are kept are the first ones
-pub pieces_newest : {C : Type 0} (n o f m l : ℕ) (all : List ℕ) (cs : List C) →
-    o + sum all ≡ l → l ≡ length cs → take o (reverse cs) ≡ [] → f ≡ length all - n → m ≡ sum (take f all) →
-    cut_by_lengths (reverse (drop f all)) (drop o (reverse (drop m cs)))
-    ≡ take n (cut_by_lengths (reverse all) (drop o (reverse cs)))
-pieces_newest n o f m l all cs within full none forgotten is =
+pub pieces_newest : {C : Type 0} (n o m l : ℕ) (all kept : List ℕ) (cs : List C) →
+    o + sum all ≡ l → l ≡ length cs → take o (reverse cs) ≡ [] → kept ≡ kept_of n all → m + sum kept ≡ sum all →
+    cut_by_lengths kept (drop o (reverse (drop m cs))) ≡ take n (cut_by_lengths all (drop o (reverse cs)))
+pieces_newest n o m l all kept cs within full none are is =
     let zero_open : o ≡ 0 = take-none o (reverse cs) (rw length-reverse (omega arith)) none in
-    rw zero_open (pieces_kept n f m l all cs (omega arith) full forgotten is)
+    rw (zero_open, are) (pieces_kept n m l all cs (omega (arith, zero_open)) full (rw are at is))
 
 -- the pieces have as many members as their lengths say
 pub sum-pieces : {C : Type 0} (ks : List ℕ) (cs : List C) → sum ks ≤ length cs
@@ -120,15 +109,16 @@ sum-pieces (k ∷ ks) cs fits =
 
 -- there are as many steps as sizes
 pub step-count : {C : Type 0} (steps : List (List C)) (all : List ℕ) (cs : List C)
-    → cut_by_lengths (reverse all) cs ≡ steps → length steps ≡ length all
-step-count steps all cs is = ap length (sym is) ∙ length-pieces (reverse all) cs ∙ length-reverse all
+    → cut_by_lengths all cs ≡ steps → length steps ≡ length all
+step-count steps all cs is = ap length (sym is) ∙ length-pieces all cs
 
-pub rest_of_kept : {C : Type 0} (o f m l : ℕ) (all : List ℕ) (cs : List C) →
-    o + sum all ≡ l → l ≡ length cs → take o (reverse cs) ≡ [] → m ≡ sum (take f all)
-    → o + sum (drop f all) ≡ length (drop m cs)
-rest_of_kept o f m l all cs within full none is =
+-- what the sizes that are kept have is what is left of the changes
+pub rest_of_kept : {C : Type 0} (o m l : ℕ) (all kept : List ℕ) (cs : List C) →
+    o + sum all ≡ l → l ≡ length cs → take o (reverse cs) ≡ [] → m + sum kept ≡ sum all
+    → o + sum kept ≡ length (drop m cs)
+rest_of_kept o m l all kept cs within full none is =
     let zero_open : o ≡ 0 = take-none o (reverse cs) (rw length-reverse (omega arith)) none in
-    omega (arith, zero_open, sum-kept f m l all cs (omega (arith, zero_open)) full is)
+    omega (arith, zero_open, is, length-drop m cs)
 
 pub none_kept : {C : Type 0} (o m l : ℕ) (all : List ℕ) (cs : List C) →
     o + sum all ≡ l → l ≡ length cs → take o (reverse cs) ≡ [] → take o (reverse (drop m cs)) ≡ []
@@ -139,10 +129,10 @@ none_kept o m l all cs within full none =
 -- where no step is open, the steps have all changes
 pub count_all : {C : Type 0} (o l : ℕ) (all : List ℕ) (cs : List C) →
     o + sum all ≡ l → l ≡ length cs → take o (reverse cs) ≡ []
-    → sum (map length (cut_by_lengths (reverse all) (drop o (reverse cs)))) ≡ l
+    → sum (map length (cut_by_lengths all (drop o (reverse cs)))) ≡ l
 count_all o l all cs within full none =
     let zero_open : o ≡ 0 = take-none o (reverse cs) (rw length-reverse (omega arith)) none in
-    let fits : sum (reverse all) ≤ length (reverse cs) = omega (arith, sum-reverse all, length-reverse cs) in
-    let counted : sum (map length (cut_by_lengths (reverse all) (reverse cs))) ≡ l =
-    omega (arith, sum-pieces (reverse all) (reverse cs) fits, sum-reverse all) in
+    let fits : sum all ≤ length (reverse cs) = omega (arith, zero_open, length-reverse cs) in
+    let counted : sum (map length (cut_by_lengths all (reverse cs))) ≡ l =
+    omega (arith, zero_open, sum-pieces all (reverse cs) fits) in
     rw zero_open counted

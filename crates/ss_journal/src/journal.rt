@@ -1,6 +1,7 @@
 ghost use Rattle.std.specs.Prelude.{◌≡◌, ◌+◌, ◌^◌, ◌<◌, ◌≤◌, ◌∷◌, [], length, sum, take, IsOk, OnOk, MatchOption};
 ghost use Rattle.std.specs.Prelude.{MatchBool};
 
+use crate::sizes::Sizes;
 use std::alloc::{AllocError, Global};
 use std::collections::VecDeque;
 use std::marker::Model;
@@ -15,13 +16,13 @@ pub struct Journal<C> {
     // The changes of all steps, the oldest first; the last `unclosed` of them are those of the open
     // step.
     changes: VecDeque<C>,
-    // How many changes each closed step has, the oldest step first.
-    sizes: VecDeque<usize>,
+    // How many changes each closed step has.
+    sizes: Sizes,
     unclosed: usize,
 }
 
 impl<C> Model for Journal<C> {
-    ghost use Rattle.std.specs.Prelude.{◌≡◌, ◌+◌, ◌-◌, sum, reverse, take, drop};
+    ghost use Rattle.std.specs.Prelude.{◌≡◌, ◌+◌, ◌-◌, ◌≤◌, min, sum, reverse, take, drop};
     ghost use Rattle.std.specs.VecDeque.{deque_len, deque_capacity};
     ghost use Rattle.ss_journal.specs.Log.{Log};
     ghost use Rattle.ss_journal.specs.Pieces.{cut_by_lengths};
@@ -29,13 +30,14 @@ impl<C> Model for Journal<C> {
     ghost Value = { Log C };
 
     ghost view = { λ a. record {
-      steps = cut_by_lengths (reverse a.sizes.items) (drop a.unclosed (reverse a.changes.items));
+      steps = cut_by_lengths a.sizes.sizes (drop a.unclosed (reverse a.changes.items));
       current = take a.unclosed (reverse a.changes.items);
-      notes = deque_capacity a.changes - deque_len a.changes;
-      closes = deque_capacity a.sizes - deque_len a.sizes;
+      notes = min (deque_capacity a.changes) a.sizes.most - deque_len a.changes;
+      closes = a.sizes.closes;
     } };
 
-    ghost invariant = { λ a. a.unclosed + sum a.sizes.items ≡ deque_len a.changes };
+    ghost invariant = { λ a.
+        (a.unclosed + sum a.sizes.sizes ≡ deque_len a.changes) × (deque_len a.changes ≤ a.sizes.most) };
 }
 
 impl<C> Journal<C> {
@@ -48,7 +50,7 @@ impl<C> Journal<C> {
     {
         Journal {
             changes: VecDeque::from_vec(Vec::new(alloc)),
-            sizes: VecDeque::from_vec(Vec::new(alloc)),
+            sizes: Sizes::new(alloc),
             unclosed: 0,
         }
     }
@@ -71,8 +73,7 @@ impl<C> Journal<C> {
         ensures had_room { n ≤ self.old.notes → 0 < self.old.closes → IsOk result }
     {
         self.changes.try_reserve(n)?;
-        self.sizes.try_reserve(1)?;
-        Ok(())
+        self.sizes.reserve(self.changes.len() + n)
     }
 
     /// Notes a change as the newest of the open step. It uses up the room of one note.
@@ -96,7 +97,7 @@ impl<C> Journal<C> {
         ensures notes { self.new.notes ≡ self.old.notes }
         ensures closes { self.new.closes + 1 ≡ self.old.closes }
     {
-        self.sizes.push_back_reserved(self.unclosed);
+        self.sizes.push(self.unclosed);
         self.unclosed = 0;
     }
 
@@ -132,7 +133,7 @@ impl<C> Journal<C> {
             (self.new.closes ≡ self.old.closes + 1)
             (self.new.closes ≡ self.old.closes) }
     {
-        match self.sizes.pop_back() {
+        match self.sizes.pop() {
             None => false,
             Some(size) => {
                 self.unclosed = size;
@@ -165,17 +166,7 @@ impl<C: Drop> Journal<C> {
         ensures closes { self.new.closes + length self.new.steps ≡ self.old.closes + length self.old.steps }
     {
         let forgotten = self.steps().saturating_sub(n);
-        let changes = total(&self.sizes, forgotten);
+        let changes = self.sizes.forget(forgotten);
         self.changes.drain(..changes);
-        self.sizes.drain(..forgotten);
     }
-}
-
-/// How many changes the oldest steps have, of which there are at least so many.
-fn total(sizes: &VecDeque<usize>, steps: usize) -> usize
-    requires steps { steps ≤ length sizes.now.items }
-    requires small { sum (take steps sizes.now.items) < 2 ^ 64 }
-    ensures { result ≡ sum (take steps sizes.now.items) }
-{
-    sizes.range(..steps).sum()
 }

@@ -7,6 +7,7 @@
 #![tactic(auto)]
 
 mod journal;
+mod sizes;
 #[cfg(test)]
 mod tests;
 mod undo;

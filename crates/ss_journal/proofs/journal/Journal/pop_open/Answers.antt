@@ -1,5 +1,4 @@
 use Rattle.std.proofs.Common.{◌-◌, ap, sym, ◌∙◌, arith}
-use Rattle.std.specs.Prelude.{reverse}
 use Rattle.ss_journal.specs.Log.{Log}
 use Rattle.ss_journal.specs.Pieces.{cut_by_lengths}
 use Rattle.ss_journal.proofs.Cuts.{open_taken, open_left}
@@ -12,7 +11,7 @@ returns-clause-steps g c =
     open_left c.self.inside.unclosed (c.self.inside.unclosed - 1) c.self.inside.changes.items
     c.pop_back.new.self.items c.in_ok-change.change (omega (arith, c.if-self-eq0.false))
     c.in_ok-change.ensures.items in
-    ap (cut_by_lengths (reverse c.self.inside.sizes.items)) (sym left) ∙ ap (λ (v : Log _). v.steps) c.self.view_is
+    ap (cut_by_lengths c.self.inside.sizes.sizes) (sym left) ∙ ap (λ (v : Log _). v.steps) c.self.view_is
 
 -- src/journal.rt:104:5
 pub returns-clause-current : goal.returns-clause-current

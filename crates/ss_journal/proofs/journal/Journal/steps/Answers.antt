@@ -1,7 +1,5 @@
-use Rattle.std.proofs.Common.{rules}
-use Rattle.std.proofs.lemmas.List.{length-reverse}
 use Rattle.ss_journal.proofs.Cuts.{length-pieces}
 use Rattle.ss_journal.proofs.journal.Journal.steps.Goals as goal
 
 pub returns : goal.returns
-returns g c = rw (← c.self.view_is) (rw (length-pieces, length-reverse) (search rules))
+returns g c = rw (← c.self.view_is) (rw length-pieces c.len.ensures)
