@@ -108,15 +108,26 @@ fn turn(
     Ok(())
 }
 
-/// Takes the turns of a script: each line behind `> ` is obeyed, and is to append the lines between
-/// it and the next.
-fn turns(rt: &impl Abort, alloc: Global, script: &str, go: Go) -> Result<(), Fail> {
-    let mut debugger = debugger(alloc)?;
+/// Takes the turns of a script with a debugger: each line behind `> ` is obeyed, and is to append
+/// the lines between it and the next.
+fn take_turns(
+    rt: &impl Abort,
+    alloc: Global,
+    debugger: &mut Debugger<LinkedSets>,
+    script: &str,
+    go: Go,
+) -> Result<(), Fail> {
     for line in script.split("> ").skip(1) {
         let (line, answer) = line.split_once('\n').unwrap_or((line, ""));
-        turn(rt, alloc, &mut debugger, line, answer, go)?;
+        turn(rt, alloc, debugger, line, answer, go)?;
     }
     Ok(())
+}
+
+/// Takes the turns of a script with a debugger at the start of the model.
+fn turns(rt: &impl Abort, alloc: Global, script: &str, go: Go) -> Result<(), Fail> {
+    let mut debugger = debugger(alloc)?;
+    take_turns(rt, alloc, &mut debugger, script, go)
 }
 
 const STEPS_ARE_ANSWERED: &str = "\

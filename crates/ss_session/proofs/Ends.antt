@@ -24,10 +24,9 @@ use Rattle.ss_session.specs.Private.{open_session_state, fault_of, LineEnds, Tur
 use Rattle.ss_session.specs.Transcript.{WritesFirstAnswers, WritesTranscript, WritesPartOfTranscript, EndsBy, refusal_line, program_transcript, transcript, end_of, ends_faulted, IsWhole, count_failed}
 
 -- a debugger over a machine at its start is where a session begins
-pub start_is : (m : Moment) (h : DebuggerView) → h ≡ record { machine = m; breaks = [] } → m.steps ≡ [] →
-    m.forgotten ≡ 0 →
+pub start_is : (h : DebuggerView) → h.machine.steps ≡ [] → h.machine.forgotten ≡ 0 → h.breaks ≡ [] →
     open_session_state (debugger_state_of h) ≡ initial_session_state
-start_is m h e z f = rw (e, z, f) refl
+start_is h none kept unbroken = rw (none, kept, unbroken) refl
 
 -- turns that are cut short cut a session over a program short
 pub commands_cut : (k : Cut) (t : Input) (h next : DebuggerView) (lines : List (List ℕ))

@@ -38,6 +38,27 @@ fn end(status: Status) -> End
     }
 }
 
+/// Obeys the commands with a debugger at the start of a run, and writes the answers and the report.
+fn write_answers<S: SetBoard, W: Outlet>(
+    debugger: &mut Debugger<S>,
+    bytes: &mut Vec<u8>,
+    commands: &[u8],
+    out: &mut W,
+) -> Result<End, Cut>
+    requires start { debugger.old.machine.steps ≡ [] }
+    requires forgotten { debugger.old.machine.forgotten ≡ 0 }
+    requires breaks { debugger.old.breaks ≡ [] }
+    requires room { W.failures out.old < 2 ^ 64 - 1 }
+    ensures { ProgramEnds result debugger.old.machine.input (command_lines commands.now)
+        (W.taken out.old) (W.taken out.new) (W.failures out.old) (W.failures out.new) }
+{
+    obey_lines(debugger, bytes, commands, out)?;
+    let machine = debugger.machine();
+    machine.known();
+    put_both(out, b"REPORT\n", machine.report())?;
+    Ok(end(machine.status()))
+}
+
 /// Obeys the commands over a machine at the start of its run, and writes the answers and the
 /// report.
 pub(crate) fn write_transcript<S: SetBoard, W: Outlet>(
@@ -54,9 +75,5 @@ pub(crate) fn write_transcript<S: SetBoard, W: Outlet>(
 {
     let mut debugger = Debugger::new(alloc, machine);
     let mut bytes = Vec::new(alloc);
-    obey_lines(&mut debugger, &mut bytes, commands, out)?;
-    let machine = debugger.machine();
-    machine.known();
-    put_both(out, b"REPORT\n", machine.report())?;
-    Ok(end(machine.status()))
+    write_answers(&mut debugger, &mut bytes, commands, out)
 }

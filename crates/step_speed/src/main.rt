@@ -13,6 +13,7 @@ use anyhow::{Context, Result};
 use load::{data, program};
 use ss_links::LinkedSets;
 use ss_machine::Machine;
+use std::alloc::Global;
 use std::time::{Clock, Instant};
 use std::{env, io};
 use steps::{back, forward};
@@ -105,6 +106,33 @@ fn measure(
     Ok(())
 }
 
+/// Runs a machine at its start all three ways, and writes what each came to behind the model's name.
+fn run_ways(
+    rt: &(impl Clock + Print),
+    name: &str,
+    machine: &mut Machine<LinkedSets>,
+    is_timed: bool,
+) -> Result<()> {
+    for way in [Way::Forward, Way::Back, Way::Again] {
+        print!(rt; "{name}: ")?;
+        measure(rt, machine, way, is_timed)?;
+    }
+    Ok(())
+}
+
+/// The machine at the start of a model, over the data of the request.
+fn machine(alloc: Global, text: &str, request: &Request) -> Result<Machine<LinkedSets>> {
+    let program = program(alloc, text.as_bytes()).context("the model")?;
+    let data = data(alloc, request.turns, request.size)?;
+    Ok(Machine::new(
+        alloc,
+        program,
+        data.as_bytes(),
+        LinkedSets::new(alloc),
+        LinkedSets::new(alloc),
+    )?)
+}
+
 /// Runs a model all three ways.
 fn run_model(
     rt: &(impl Clock + Print + AllocGlobal),
@@ -112,20 +140,8 @@ fn run_model(
     text: &str,
     request: &Request,
 ) -> Result<()> {
-    let program = program(rt.alloc(), text.as_bytes()).context("the model")?;
-    let data = data(rt.alloc(), request.turns, request.size)?;
-    let mut machine = Machine::new(
-        rt.alloc(),
-        program,
-        data.as_bytes(),
-        LinkedSets::new(rt.alloc()),
-        LinkedSets::new(rt.alloc()),
-    )?;
-    for way in [Way::Forward, Way::Back, Way::Again] {
-        print!(rt; "{name}: ")?;
-        measure(rt, &mut machine, way, request.is_timed)?;
-    }
-    Ok(())
+    let mut machine = machine(rt.alloc(), text, request)?;
+    run_ways(rt, name, &mut machine, request.is_timed)
 }
 
 fn main(rt: HostRuntime) -> Result<()> {
