@@ -2,6 +2,7 @@ pub mod Sets
 pub mod Parts
 pub mod Takes
 pub mod Notings
+pub mod Written
 pub mod Histories
 pub mod Sounds
 pub mod Scopes

@@ -1,141 +1,341 @@
--- Private: how changes are kept, as short notes and beside them those that are kept whole.
-use Rattle.std.specs.Prelude.{◌≡◌, ◌^◌, ◌<◌, ℕ, ◌+◌, List, [], ◌∷◌, length, drop, Option, Some, None}
+-- Private: how changes are read from numbers, and from what is kept beside these.
+use Rattle.std.specs.Prelude.{◌≡◌, ℕ, ℤ, pos, negsuc, ◌-◌, ◌/◌, ◌%◌, ◌^◌, ◌≤◌, ◌+◌, ◌==◌, not, min, zero, suc, Bool, List, [], ◌∷◌, ◌++◌, drop, slice_index, MatchOption, Option, Some, None, if◌then◌else◌}
+use Rattle.std.specs.declared.vec.Vec.{Vec}
+use Rattle.std.specs.Global.{Global}
+use Rattle.ss_journal.specs.Log.{Log}
 use Rattle.ss_check.specs.declared.kinds.Owner.{Owner}
 use Rattle.ss_check.specs.declared.kinds.Owner.TheVariants as owners
 use Rattle.ss_store.specs.declared.change.StoreChange.{StoreChange}
 use Rattle.ss_store.specs.declared.change.StoreChange.TheVariants as stores
-use Rattle.ss_events.specs.declared.agenda.AgendaChange.{AgendaChange}
 use Rattle.ss_events.specs.declared.agenda.AgendaChange.TheVariants as notices
+use Rattle.ss_machine.specs.declared.entry.Entry.{Entry}
+use Rattle.ss_machine.specs.declared.entry.Entry.TheVariants as entry
+use Rattle.ss_events.specs.declared.entry.Entry.{Entry as Notice}
+use Rattle.ss_machine.specs.declared.tape.Tape.{Tape}
 use Rattle.ss_machine.specs.declared.change.Change.{Change}
 use Rattle.ss_machine.specs.declared.change.Change.TheVariants as changes
-use Rattle.ss_machine.specs.declared.entry.Entry.{Entry}
-use Rattle.ss_machine.specs.declared.entry.Entry.TheVariants as entries
-use Rattle.ss_machine.specs.declared.note.NotedOwner.{NotedOwner}
-use Rattle.ss_machine.specs.declared.note.NotedOwner.TheVariants as noted
-use Rattle.ss_machine.specs.declared.note.Note.{Note}
-use Rattle.ss_machine.specs.declared.note.Note.TheVariants.{Variable, Local, Place, Clock, AttributeSet, Created, Filed, FirstRemoved, Scheduled, Taken, Report, EntryAbsent, EntryWaiting, EntryRunning, Status, LoopOpened, LoopMoved, LoopMovedFromNone, LoopClosed, FrameOpened, FrameDropped, Found}
-use Rattle.ss_machine.specs.declared.note.Form.{Form}
-use Rattle.ss_machine.specs.declared.note.Form.TheVariants as forms
+use Rattle.ss_machine.specs.declared.tape.Kept.{Kept}
+use Rattle.ss_machine.specs.declared.tape.Kept.TheVariants as kept
+use Rattle.ss_machine.specs.declared.kind.Kind.{Kind}
+use Rattle.ss_machine.specs.declared.kind.Kind.TheVariants as kinds
+use Rattle.ss_machine.specs.declared.kind.ValueKind.{ValueKind}
+use Rattle.ss_machine.specs.declared.kind.ValueKind.TheVariants as values
+use Rattle.ss_machine.specs.declared.kind.ControlKind.{ControlKind}
+use Rattle.ss_machine.specs.declared.kind.ControlKind.TheVariants as controls
+use Rattle.ss_machine.specs.declared.kind.LoopKind.{LoopKind}
+use Rattle.ss_machine.specs.declared.kind.LoopKind.TheVariants as loops
+use Rattle.ss_machine.specs.declared.kind.EntityKind.{EntityKind}
+use Rattle.ss_machine.specs.declared.kind.EntityKind.TheVariants as entities
+use Rattle.ss_machine.specs.declared.kind.SetKind.{SetKind}
+use Rattle.ss_machine.specs.declared.kind.SetKind.TheVariants as sets
+use Rattle.ss_machine.specs.declared.kind.TimeKind.{TimeKind}
+use Rattle.ss_machine.specs.declared.kind.TimeKind.TheVariants as times
+use Rattle.ss_machine.specs.declared.kind.EntryKind.{EntryKind}
+use Rattle.ss_machine.specs.declared.kind.EntryKind.TheVariants as entries
+use Rattle.ss_machine.specs.declared.kind.TextKind.{TextKind}
+use Rattle.ss_machine.specs.declared.kind.TextKind.TheVariants as texts
+use Rattle.ss_machine.specs.Kinds.{kind_of}
 
--- the owner that a note tells of
-abbrev pub noted_owner : NotedOwner → Owner
-noted_owner noted.System = owners.System
-noted_owner (noted.OwnedBy class) = owners.OwnedBy class
+-- the numbers 0, 1, 2, 3, 4 stand for 0, -1, 1, -2, 2
+abbrev pub unfolded : ℕ → ℤ
+unfolded n = if n % 2 == 0 then pos (n / 2) else negsuc (n / 2)
 
--- the change of the store that a note tells of
-abbrev pub noted_store : Note → Option StoreChange
-noted_store (AttributeSet class attribute number old) = Some (stores.AttributeSet class attribute number old)
-noted_store (Created class number heads seats) = Some (stores.Created class number heads seats)
-noted_store (Filed set owner list number member) = Some (stores.Filed set (noted_owner owner) list number member)
-noted_store (FirstRemoved set owner list number member) =
-    Some (stores.Removed set (noted_owner owner) list number member None)
-noted_store other = None
+-- the number, or the greatest one of 32 bits where it is greater
+abbrev pub narrowed : ℕ → ℕ
+narrowed n = min n (2 ^ 32 - 1)
 
--- the other changes that a note tells of
-abbrev pub noted_other : Note → Option Change
-noted_other (Variable number old) = Some (changes.Variable number old)
-noted_other (Local number old) = Some (changes.Local number old)
-noted_other (Place old) = Some (changes.Place old)
-noted_other (Clock old) = Some (changes.Clock old)
-noted_other (Scheduled notice seated) = Some (changes.Agenda (notices.Scheduled notice seated))
-noted_other (Taken old) = Some (changes.Taken old)
-noted_other (Report old_len) = Some (changes.Report old_len)
-noted_other EntryAbsent = Some (changes.Entry entries.Absent)
-noted_other (EntryWaiting class notice) = Some (changes.Entry (entries.Waiting class notice))
-noted_other (EntryRunning class notice) = Some (changes.Entry (entries.Running class notice))
-noted_other (Status old) = Some (changes.Status old)
-noted_other LoopOpened = Some changes.LoopOpened
-noted_other (LoopMoved old) = Some (changes.LoopMoved (Some old))
-noted_other LoopMovedFromNone = Some (changes.LoopMoved None)
-noted_other (LoopClosed closed) = Some (changes.LoopClosed closed)
-noted_other FrameOpened = Some changes.FrameOpened
-noted_other (FrameDropped dropped) = Some (changes.FrameDropped dropped)
-noted_other (Found old) = Some (changes.Found old)
-noted_other other = None
+-- any number but 0 stands for true
+abbrev pub is_set : ℕ → Bool
+is_set n = not (n == 0)
 
--- the change of the store, or else the other one
-abbrev pub noted_by : Option StoreChange → Option Change → Option Change
-noted_by (Some change) other = Some (changes.Store change)
-noted_by None other = other
+-- the owner that two numbers tell: whether it is a class, and which
+abbrev pub owner_of : ℕ → ℕ → Owner
+owner_of owned class = if owned == 0 then owners.System else owners.OwnedBy class
 
--- the change that a note tells of, unless it is kept whole
-abbrev pub noted_change : Note → Option Change
-noted_change note = noted_by (noted_store note) (noted_other note)
+-- what is left behind the first k
+abbrev pub behind : {A : Type 0} → ℕ → List A → List A
+behind zero xs = xs
+behind (suc k) xs = behind k (drop 1 xs)
 
--- an owner for which there is room in a note
-abbrev pub IsShortOwner : Owner → Type 0
-IsShortOwner owners.System = Unit {0}
-IsShortOwner (owners.OwnedBy class) = class < 2 ^ 8
+-- the number behind the first k, 0 where there is none
+abbrev pub at : ℕ → List ℕ → ℕ
+at k ns = slice_index (behind k ns) 0
 
--- a change of the store that has a note: not an ending, which keeps values, nor a removal from behind a member; and its
--- numbers are small
-abbrev pub IsShortStore : StoreChange → Type 0
-IsShortStore (stores.AttributeSet class attribute number old) =
-    (class < 2 ^ 8) × (attribute < 2 ^ 8) × (number < 2 ^ 32)
-IsShortStore (stores.Created class number heads seats) = (class < 2 ^ 8) × (number < 2 ^ 32)
-IsShortStore (stores.Filed set owner list number member) =
-    (set < 2 ^ 8) × IsShortOwner owner × (number < 2 ^ 32) × (member < 2 ^ 32)
-IsShortStore (stores.Removed set owner list number member None) =
-    (set < 2 ^ 8) × IsShortOwner owner × (number < 2 ^ 32) × (member < 2 ^ 32)
-IsShortStore other = ⊥
+-- k numbers were taken off the open step, and nothing else changed
+pub record IsTaken (k : ℕ) (old new : Log ℕ) : Type 0 where
+  pub steps : new.steps ≡ old.steps
+  pub current : new.current ≡ behind k old.current
+  pub notes : old.notes ≤ new.notes
+  pub closes : new.closes ≡ old.closes
 
--- a change of the event list that has a note: a scheduling
-abbrev pub IsShortAgenda : AgendaChange → Type 0
-IsShortAgenda (notices.Scheduled notice seated) = Unit {0}
-IsShortAgenda other = ⊥
+-- ---- the changes of each sort, from the numbers behind the kind, and from what is kept
 
--- an entry that has a note
-abbrev pub IsShortEntry : Entry → Type 0
-IsShortEntry entries.Absent = Unit {0}
-IsShortEntry (entries.Waiting class notice) = class < 2 ^ 8
-IsShortEntry (entries.Running class notice) = class < 2 ^ 8
+-- of variables, FIND and COMPUTE
+abbrev pub value_change : ValueKind → List ℕ → Change
+value_change values.Variable ns = changes.Variable (at 0 ns) (unfolded (at 1 ns))
+value_change values.Local ns = changes.Local (at 0 ns) (unfolded (at 1 ns))
+value_change values.Found ns = changes.Found (is_set (at 0 ns))
+value_change values.Statistics ns =
+    changes.Statistics (record {
+      number = unfolded (at 0 ns);
+      sum = unfolded (at 1 ns);
+      greatest = unfolded (at 2 ns);
+      least = unfolded (at 3 ns);
+    })
 
--- a change that has a note: not one of statistics, and its numbers are small
-abbrev pub IsShort : Change → Type 0
-IsShort (changes.Variable number old) = number < 2 ^ 32
-IsShort (changes.Local number old) = number < 2 ^ 32
-IsShort (changes.Store change) = IsShortStore change
-IsShort (changes.Agenda change) = IsShortAgenda change
-IsShort (changes.Entry old) = IsShortEntry old
-IsShort (changes.Statistics old) = ⊥
-IsShort other = Unit {0}
+abbrev pub value_numbers : ValueKind → ℕ
+value_numbers values.Variable = 2
+value_numbers values.Local = 2
+value_numbers values.Found = 1
+value_numbers values.Statistics = 4
 
--- how a change is kept: in its note where it has one, else whole
-abbrev pub IsFormOf : Form → Change → Type 0
-IsFormOf (forms.Short note) change = noted_change note ≡ Some change
-IsFormOf (forms.Whole whole) change = (whole ≡ change) × (IsShort change → ⊥)
+-- of entries
+abbrev pub entry_of : EntryKind → List ℕ → Entry
+entry_of entries.Absent ns = entry.Absent
+entry_of entries.Waiting ns = entry.Waiting (at 0 ns) (narrowed (at 1 ns))
+entry_of entries.Running ns = entry.Running (at 0 ns) (narrowed (at 1 ns))
 
--- how many of the changes that are kept whole belong to a note: one where it tells of none
-abbrev pub whole_by : Option Change → ℕ
-whole_by (Some change) = 0
-whole_by None = 1
+abbrev pub entry_numbers : EntryKind → ℕ
+entry_numbers entries.Absent = 0
+entry_numbers entries.Waiting = 2
+entry_numbers entries.Running = 2
 
--- how many of these the notes of a step have
-abbrev pub whole_count : List Note → ℕ
-whole_count [] = 0
-whole_count (note ∷ notes) = whole_by (noted_change note) + whole_count notes
+-- of sets
+abbrev pub set_change : SetKind → List ℕ → StoreChange
+set_change sets.Filed ns =
+    stores.Filed (at 0 ns) (owner_of (at 1 ns) (at 2 ns)) (narrowed (at 3 ns)) (at 4 ns) (at 5 ns)
+set_change sets.FirstRemoved ns =
+    stores.Removed (at 0 ns) (owner_of (at 1 ns) (at 2 ns)) (narrowed (at 3 ns)) (at 4 ns) (at 5 ns) None
+set_change sets.Removed ns =
+    stores.Removed (at 0 ns) (owner_of (at 1 ns) (at 2 ns)) (narrowed (at 3 ns)) (at 4 ns) (at 5 ns)
+    (Some (narrowed (at 6 ns)))
 
--- the change of a note: the one that it tells of, or else the first of those kept whole (of which each such note has
--- one, so that the last case is never met)
-abbrev pub change_by : Option Change → List Change → Change
-change_by (Some change) wholes = change
-change_by None (whole ∷ wholes) = whole
-change_by None [] = changes.FrameOpened
+abbrev pub set_numbers : SetKind → ℕ
+set_numbers sets.Filed = 6
+set_numbers sets.FirstRemoved = 6
+set_numbers sets.Removed = 7
 
--- the changes of a step, from its notes and from those that are kept whole
-abbrev pub changes_of : List Note → List Change → List Change
-changes_of [] wholes = []
-changes_of (note ∷ notes) wholes =
-    change_by (noted_change note) wholes ∷ changes_of notes (drop (whole_by (noted_change note)) wholes)
+-- of data and report
+abbrev pub text_change : TextKind → List ℕ → Change
+text_change texts.Taken ns = changes.Taken (at 0 ns)
+text_change texts.Report ns = changes.Report (at 0 ns)
 
--- the same of all steps
-abbrev pub steps_of : List (List Note) → List (List Change) → List (List Change)
-steps_of (notes ∷ steps) (wholes ∷ rest) = changes_of notes wholes ∷ steps_of steps rest
-steps_of steps wholes = []
+-- of where the run stands
+abbrev pub control_change : ControlKind → List ℕ → List Kept → Change
+control_change controls.Place ns os = changes.Place (at 0 ns)
+control_change controls.FrameDropped ns (kept.Frame frame ∷ os) = changes.FrameDropped frame
+control_change controls.Status ns (kept.Status status ∷ os) = changes.Status status
+control_change other ns os = changes.FrameOpened
 
--- each step has as many changes that are kept whole as its notes say
-abbrev pub AreMatched : List (List Note) → List (List Change) → Type 0
-AreMatched [] [] = Unit {0}
-AreMatched (notes ∷ steps) (wholes ∷ rest) = (whole_count notes ≡ length wholes) × AreMatched steps rest
-AreMatched [] (wholes ∷ rest) = ⊥
-AreMatched (notes ∷ steps) [] = ⊥
+abbrev pub control_numbers : ControlKind → ℕ
+control_numbers controls.Place = 1
+control_numbers other = 0
+
+abbrev pub control_kept : ControlKind → ℕ
+control_kept controls.FrameDropped = 1
+control_kept controls.Status = 1
+control_kept other = 0
+
+-- of open loops
+abbrev pub loop_change : LoopKind → List ℕ → List Kept → Change
+loop_change loops.Moved ns os = changes.LoopMoved (Some (unfolded (at 0 ns)))
+loop_change loops.MovedFromNone ns os = changes.LoopMoved None
+loop_change loops.Closed ns (kept.Loop closed ∷ os) = changes.LoopClosed closed
+loop_change other ns os = changes.LoopOpened
+
+abbrev pub loop_numbers : LoopKind → ℕ
+loop_numbers loops.Moved = 1
+loop_numbers other = 0
+
+abbrev pub loop_kept : LoopKind → ℕ
+loop_kept loops.Closed = 1
+loop_kept other = 0
+
+-- of entities
+abbrev pub entity_change : EntityKind → List ℕ → List Kept → StoreChange
+entity_change entities.Created ns os = stores.Created (at 0 ns) (at 1 ns) (narrowed (at 2 ns)) (narrowed (at 3 ns))
+entity_change entities.ClassCreated ns os =
+    stores.ClassCreated (at 0 ns) (at 1 ns) (narrowed (at 2 ns)) (narrowed (at 3 ns))
+entity_change entities.Ended ns (kept.Values values ∷ os) =
+    stores.Ended (at 0 ns) (at 1 ns) (narrowed (at 2 ns)) values
+entity_change other ns os = stores.AttributeSet (at 0 ns) (at 1 ns) (at 2 ns) (unfolded (at 3 ns))
+
+abbrev pub entity_numbers : EntityKind → ℕ
+entity_numbers entities.Ended = 3
+entity_numbers other = 4
+
+abbrev pub entity_kept : EntityKind → ℕ
+entity_kept entities.Ended = 1
+entity_kept other = 0
+
+-- of a notice that was taken off
+abbrev pub notice_of : List ℕ → Vec ℤ Global → Notice
+notice_of ns keys = record { time = unfolded (at 1 ns); class = at 2 ns; keys = keys; filing = at 3 ns }
+
+-- of the clock and the event list
+abbrev pub time_change : TimeKind → List ℕ → List Kept → Change
+time_change times.Scheduled ns os = changes.Agenda (notices.Scheduled (narrowed (at 0 ns)) (is_set (at 1 ns)))
+time_change times.FirstTakenOff ns (kept.Values keys ∷ os) =
+    changes.Agenda (notices.TakenOff (narrowed (at 0 ns)) (notice_of ns keys) None)
+time_change times.TakenOff ns (kept.Values keys ∷ os) =
+    changes.Agenda (notices.TakenOff (narrowed (at 0 ns)) (notice_of ns keys) (Some (narrowed (at 4 ns))))
+time_change other ns os = changes.Clock (unfolded (at 0 ns))
+
+abbrev pub time_numbers : TimeKind → ℕ
+time_numbers times.Clock = 1
+time_numbers times.Scheduled = 2
+time_numbers times.FirstTakenOff = 4
+time_numbers times.TakenOff = 5
+
+abbrev pub time_kept : TimeKind → ℕ
+time_kept times.FirstTakenOff = 1
+time_kept times.TakenOff = 1
+time_kept other = 0
+
+-- ---- the changes of all sorts
+
+abbrev pub change_of : Kind → List ℕ → List Kept → Change
+change_of (kinds.Value kind) ns os = value_change kind ns
+change_of (kinds.Control kind) ns os = control_change kind ns os
+change_of (kinds.Loop kind) ns os = loop_change kind ns os
+change_of (kinds.Entity kind) ns os = changes.Store (entity_change kind ns os)
+change_of (kinds.Set kind) ns os = changes.Store (set_change kind ns)
+change_of (kinds.Time kind) ns os = time_change kind ns os
+change_of (kinds.Entry kind) ns os = changes.Entry (entry_of kind ns)
+change_of (kinds.Text kind) ns os = text_change kind ns
+
+-- how many numbers stand behind a kind
+abbrev pub number_count : Kind → ℕ
+number_count (kinds.Value kind) = value_numbers kind
+number_count (kinds.Control kind) = control_numbers kind
+number_count (kinds.Loop kind) = loop_numbers kind
+number_count (kinds.Entity kind) = entity_numbers kind
+number_count (kinds.Set kind) = set_numbers kind
+number_count (kinds.Time kind) = time_numbers kind
+number_count (kinds.Entry kind) = entry_numbers kind
+number_count (kinds.Text kind) = 1
+
+-- and how many of those that are kept
+abbrev pub kept_count : Kind → ℕ
+kept_count (kinds.Control kind) = control_kept kind
+kept_count (kinds.Loop kind) = loop_kept kind
+kept_count (kinds.Entity kind) = entity_kept kind
+kept_count (kinds.Time kind) = time_kept kind
+kept_count other = 0
+
+-- the changes of a step, from its numbers and what is kept of it; the first k numbers are of a change before
+abbrev pub changes_behind : ℕ → List ℕ → List Kept → List Change
+changes_behind zero (n ∷ ns) os =
+    change_of (kind_of n) ns os ∷ changes_behind (number_count (kind_of n)) ns (behind (kept_count (kind_of n)) os)
+changes_behind (suc k) (n ∷ ns) os = changes_behind k ns os
+changes_behind k [] os = []
+
+abbrev pub changes_of : List ℕ → List Kept → List Change
+changes_of ns os = changes_behind 0 ns os
+
+-- ---- what is kept is what the kinds say
+
+abbrev pub IsFrame : List Kept → Type 0
+IsFrame (kept.Frame frame ∷ os) = Unit {0}
+IsFrame other = ⊥
+
+abbrev pub IsStatus : List Kept → Type 0
+IsStatus (kept.Status status ∷ os) = Unit {0}
+IsStatus other = ⊥
+
+abbrev pub IsLoop : List Kept → Type 0
+IsLoop (kept.Loop closed ∷ os) = Unit {0}
+IsLoop other = ⊥
+
+abbrev pub AreValues : List Kept → Type 0
+AreValues (kept.Values values ∷ os) = Unit {0}
+AreValues other = ⊥
+
+-- the first one kept is what the kind wants
+abbrev pub HasKept : Kind → List Kept → Type 0
+HasKept (kinds.Control controls.FrameDropped) os = IsFrame os
+HasKept (kinds.Control controls.Status) os = IsStatus os
+HasKept (kinds.Loop loops.Closed) os = IsLoop os
+HasKept (kinds.Entity entities.Ended) os = AreValues os
+HasKept (kinds.Time times.FirstTakenOff) os = AreValues os
+HasKept (kinds.Time times.TakenOff) os = AreValues os
+HasKept other os = Unit {0}
+
+-- it is so of each change, and nothing else is kept
+abbrev pub IsWritten : ℕ → List ℕ → List Kept → Type 0
+IsWritten zero (n ∷ ns) os =
+    HasKept (kind_of n) os × IsWritten (number_count (kind_of n)) ns (behind (kept_count (kind_of n)) os)
+IsWritten (suc k) (n ∷ ns) os = IsWritten k ns os
+IsWritten k [] os = os ≡ []
+
+-- a change was noted, and nothing else changed but the room
+pub record IsNoted (change : Change) (old new : Tape) : Type 0 where
+  pub changes : changes_of new.numbers.current new.kept.current
+      ≡ change ∷ changes_of old.numbers.current old.kept.current
+  pub written : IsWritten 0 old.numbers.current old.kept.current → IsWritten 0 new.numbers.current new.kept.current
+  pub number_steps : new.numbers.steps ≡ old.numbers.steps
+  pub kept_steps : new.kept.steps ≡ old.kept.steps
+  pub number_closes : new.numbers.closes ≡ old.numbers.closes
+  pub kept_closes : new.kept.closes ≡ old.kept.closes
+  pub numbers : old.numbers.notes ≤ new.numbers.notes + 8
+  pub kept : old.kept.notes ≤ new.kept.notes + 1
+
+-- a change of a kind was taken off, and nothing else changed but the room
+pub record IsRead (kind : Kind) (change : Change) (old new : Tape) : Type 0 where
+  pub value : change ≡ change_of kind old.numbers.current old.kept.current
+  pub numbers_left : new.numbers.current ≡ behind (number_count kind) old.numbers.current
+  pub kept_left : new.kept.current ≡ behind (kept_count kind) old.kept.current
+  pub number_steps : new.numbers.steps ≡ old.numbers.steps
+  pub kept_steps : new.kept.steps ≡ old.kept.steps
+  pub number_closes : new.numbers.closes ≡ old.numbers.closes
+  pub kept_closes : new.kept.closes ≡ old.kept.closes
+  pub numbers : old.numbers.notes ≤ new.numbers.notes
+  pub kept : old.kept.notes ≤ new.kept.notes
+
+-- the newest change was taken off, if there is one, and nothing else changed but the room
+pub record IsPopped (change : Option Change) (old new : Tape) : Type 0 where
+  pub current : MatchOption change
+      ((changes_of old.numbers.current old.kept.current ≡ []) × (changes_of new.numbers.current new.kept.current ≡ []))
+      (λ c. changes_of old.numbers.current old.kept.current ≡ c ∷ changes_of new.numbers.current new.kept.current)
+  pub written : IsWritten 0 new.numbers.current new.kept.current
+  pub number_steps : new.numbers.steps ≡ old.numbers.steps
+  pub kept_steps : new.kept.steps ≡ old.kept.steps
+  pub number_closes : new.numbers.closes ≡ old.numbers.closes
+  pub kept_closes : new.kept.closes ≡ old.kept.closes
+  pub numbers : old.numbers.notes ≤ new.numbers.notes
+  pub kept : old.kept.notes ≤ new.kept.notes
+
+-- a notice was taken off: its time, class and filing number, and its keys from what is kept
+pub record IsNoticeRead (notice : Notice) (old new : Tape) : Type 0 where
+  pub time : notice.time ≡ unfolded (at 0 old.numbers.current)
+  pub class : notice.class ≡ at 1 old.numbers.current
+  pub filing : notice.filing ≡ at 2 old.numbers.current
+  pub keys : old.kept.current ≡ kept.Values notice.keys ∷ new.kept.current
+  pub numbers : IsTaken 3 old.numbers new.numbers
+  pub kept_steps : new.kept.steps ≡ old.kept.steps
+  pub kept_closes : new.kept.closes ≡ old.kept.closes
+  pub kept : old.kept.notes ≤ new.kept.notes
+
+-- numbers were put in front of others, and before them that of a kind
+pub record IsHeaded (kind : Kind) (fields others all : List ℕ) : Type 0 where
+  pub number : ℕ
+  pub tells : kind_of number ≡ kind
+  pub current : all ≡ number ∷ (fields ++ others)
+
+-- ---- steps
+
+-- the changes of each step
+abbrev pub steps_of : List (List ℕ) → List (List Kept) → List (List Change)
+steps_of (numbers ∷ steps) (kept ∷ rest) = changes_of numbers kept ∷ steps_of steps rest
+steps_of steps rest = []
+
+-- each step is written
+abbrev pub AreWritten : List (List ℕ) → List (List Kept) → Type 0
+AreWritten [] [] = Unit {0}
+AreWritten (numbers ∷ steps) (kept ∷ rest) = IsWritten 0 numbers kept × AreWritten steps rest
+AreWritten [] (kept ∷ rest) = ⊥
+AreWritten (numbers ∷ steps) [] = ⊥
+
+-- for how many changes there is room for so many numbers, or as many as can be asked for
+abbrev pub change_room : ℕ → ℕ
+change_room numbers = min numbers (2 ^ 64 - 1) / 8

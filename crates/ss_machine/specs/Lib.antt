@@ -14,4 +14,6 @@ pub mod Examples
 pub mod Seen
 pub mod Noting
 pub mod Storing
+pub mod Kinds
+pub mod Numbers
 pub mod History

@@ -1,39 +1,42 @@
 ghost use Rattle.std.specs.Prelude.{◌≡◌, ◌+◌, ◌<◌, ◌≤◌, ◌∷◌, [], length, IsOk, OnOk, MatchBool, MatchOption};
 
 use crate::change::Change;
-use crate::note::{Form, Note, form_of};
+use crate::numbers::Numbers;
+use crate::tape::Tape;
 use ss_journal::Journal;
 use std::alloc::{AllocError, Global};
 use std::marker::Model;
 
-/// The journal of the machine's changes: a short note of each, and beside these the changes that
-/// are too long for a note.
+/// The most numbers that a change is written in.
+const MOST_NUMBERS: usize = 8;
+
+/// The journal of the machine's changes, written on a tape of numbers.
 ///
 /// Contracts see it as a journal of changes. Its room for notes is that for changes of any length:
 /// a short one may leave it as it was.
 #[derive(Drop)]
 pub struct History {
-    notes: Journal<Note>,
-    // The changes of the notes that are `Whole`, in the same steps.
-    whole: Journal<Change>,
+    tape: Tape,
 }
 
 impl Model for History {
     ghost use Rattle.std.specs.Prelude.{◌∷◌, min};
     ghost use Rattle.ss_journal.specs.Log.{Log};
     ghost use Rattle.ss_machine.specs.declared.change.Change.{Change};
-    ghost use Rattle.ss_machine.specs.History.{changes_of, steps_of, AreMatched};
+    ghost use Rattle.ss_machine.specs.History.{changes_of, steps_of, change_room, AreWritten};
 
     ghost Value = { Log Change };
 
     ghost view = { λ a. record {
-      steps = steps_of a.notes.steps a.whole.steps;
-      current = changes_of a.notes.current a.whole.current;
-      notes = min a.notes.notes a.whole.notes;
-      closes = min a.notes.closes a.whole.closes;
+      steps = steps_of a.tape.numbers.steps a.tape.kept.steps;
+      current = changes_of a.tape.numbers.current a.tape.kept.current;
+      notes = min (change_room a.tape.numbers.notes) a.tape.kept.notes;
+      closes = min a.tape.numbers.closes a.tape.kept.closes;
     } };
 
-    ghost invariant = { λ a. AreMatched (a.notes.current ∷ a.notes.steps) (a.whole.current ∷ a.whole.steps) };
+    ghost invariant = { λ a. AreWritten
+        (a.tape.numbers.current ∷ a.tape.numbers.steps)
+        (a.tape.kept.current ∷ a.tape.kept.steps) };
 }
 
 impl History {
@@ -47,8 +50,10 @@ impl History {
         ensures closes { result.closes ≡ 0 }
     {
         History {
-            notes: Journal::new(alloc),
-            whole: Journal::new(alloc),
+            tape: Tape {
+                numbers: Numbers::new(alloc),
+                kept: Journal::new(alloc),
+            },
         }
     }
 
@@ -65,8 +70,12 @@ impl History {
         ensures closes { OnOk result (0 < self.new.closes) }
         ensures had_room { n ≤ self.old.notes → 0 < self.old.closes → IsOk result }
     {
-        self.notes.reserve(n)?;
-        self.whole.reserve(n)
+        let tape = &mut self.tape;
+        if n > usize::MAX / MOST_NUMBERS {
+            return Err(AllocError);
+        }
+        tape.numbers.reserve(n * MOST_NUMBERS)?;
+        tape.kept.reserve(n)
     }
 
     /// Notes a change as the newest of the open step. It uses up the room of one note at most.
@@ -77,13 +86,7 @@ impl History {
         ensures notes { self.old.notes ≤ self.new.notes + 1 }
         ensures closes { self.new.closes ≡ self.old.closes }
     {
-        match form_of(change) {
-            Form::Short(note) => self.notes.note(note),
-            Form::Whole(change) => {
-                self.notes.note(Note::Whole);
-                self.whole.note(change);
-            }
-        }
+        self.tape.note(change);
     }
 
     /// Makes the open step the newest closed one, and opens an empty step. It uses up the room of
@@ -95,8 +98,8 @@ impl History {
         ensures notes { self.new.notes ≡ self.old.notes }
         ensures closes { self.new.closes + 1 ≡ self.old.closes }
     {
-        self.notes.close();
-        self.whole.close();
+        self.tape.numbers.close();
+        self.tape.kept.close();
     }
 
     /// Takes the newest change off the open step; `None` where that step is empty. No room is lost.
@@ -108,10 +111,7 @@ impl History {
         ensures notes { self.old.notes ≤ self.new.notes }
         ensures closes { self.new.closes ≡ self.old.closes }
     {
-        match self.notes.pop_open()?.change() {
-            Some(change) => Some(change),
-            None => self.whole.pop_open(),
-        }
+        self.tape.pop()
     }
 
     /// Makes the newest closed step the open one again; false where no step is closed, and then
@@ -126,14 +126,14 @@ impl History {
             (self.new.closes ≡ self.old.closes + 1)
             (self.new.closes ≡ self.old.closes) }
     {
-        self.notes.reopen_last() && self.whole.reopen_last()
+        self.tape.numbers.reopen_last() && self.tape.kept.reopen_last()
     }
 
     /// The number of closed steps.
     pub fn steps(&self) -> usize
         ensures { result ≡ length self.now.steps }
     {
-        self.notes.steps()
+        self.tape.numbers.steps()
     }
 
     /// Forgets the oldest closed steps, so that the newest `n` are left, or all where there are
@@ -147,7 +147,7 @@ impl History {
         ensures notes { self.old.notes ≤ self.new.notes }
         ensures closes { self.new.closes + length self.new.steps ≡ self.old.closes + length self.old.steps }
     {
-        self.notes.keep_last(n);
-        self.whole.keep_last(n);
+        self.tape.numbers.keep_last(n);
+        self.tape.kept.keep_last(n);
     }
 }

@@ -1,52 +1,52 @@
 use Rattle.std.proofs.Common.{◌∙◌, ap, refl, arith}
 use Rattle.ss_journal.specs.Log.{Log}
 use Rattle.ss_machine.specs.declared.change.Change.{Change}
-use Rattle.ss_machine.proofs.Histories.{no_notes, no_wholes, length-steps, length-wholes, steps_of-newest, newest_matched, change_count-newest}
+use Rattle.ss_machine.proofs.Histories.{no_numbers, none_kept, length-steps, length-kept, steps_of-newest, newest_written}
+use Rattle.ss_machine.proofs.Written.{change_count-newest}
 use Rattle.ss_machine.proofs.history.History.keep_last.Goals as goal
 
 pub keep_last-requires : goal.keep_last-requires
 keep_last-requires c =
-    no_notes _ c.self.inside.whole.current (ap (λ (v : Log Change). v.current) c.self.view_is ∙ c.requires)
+    no_numbers _ c.self.inside.tape.kept.current (ap (λ (v : Log Change). v.current) c.self.view_is ∙ c.requires)
 
 pub keep_last-requires-2 : goal.keep_last-requires-2
 keep_last-requires-2 c =
-    no_wholes c.self.inside.notes.current _ (ap (λ (v : Log Change). v.current) c.self.view_is ∙ c.requires)
+    none_kept c.self.inside.tape.numbers.current _ (ap (λ (v : Log Change). v.current) c.self.view_is ∙ c.requires)
     c.self.invariant.0
 
 pub invariant_of-self : goal.invariant_of-self
 invariant_of-self c =
-    let matched =
-    newest_matched c.args.n c.self.inside.notes.steps c.self.inside.whole.steps c.self.invariant.1 in (
+    let written =
+    newest_written c.args.n c.self.inside.tape.numbers.steps c.self.inside.tape.kept.steps c.self.invariant.1 in (
       rw (c.keep_last.ensures.current, c.keep_last-2.ensures.current) refl,
-      rw (c.keep_last.ensures.steps, c.keep_last-2.ensures.steps) matched,
+      rw (c.keep_last.ensures.steps, c.keep_last-2.ensures.steps) written,
     )
 
 pub returns-clause-steps : goal.returns-clause-steps
 returns-clause-steps c =
     rw (c.keep_last.ensures.steps, c.keep_last-2.ensures.steps, ← c.self.view_is)
-    (steps_of-newest c.args.n c.self.inside.notes.steps c.self.inside.whole.steps)
+    (steps_of-newest c.args.n c.self.inside.tape.numbers.steps c.self.inside.tape.kept.steps)
 
 pub returns-clause-notes : goal.returns-clause-notes
 returns-clause-notes c =
     rw (← c.self.view_is)
     (omega (
       arith,
-      rw c.keep_last.ensures.steps at c.keep_last.ensures.notes,
+      c.keep_last.ensures.notes,
       rw c.keep_last-2.ensures.steps at c.keep_last-2.ensures.notes,
-      change_count-newest c.args.n c.self.inside.notes.steps,
-      change_count-newest c.args.n c.self.inside.whole.steps,
+      change_count-newest c.args.n c.self.inside.tape.kept.steps,
     ))
 
 pub returns-clause-closes : goal.returns-clause-closes
 returns-clause-closes c =
-    let matched = invariant_of-self c in
+    let written = invariant_of-self c in
     rw (← c.self.view_is)
     (omega (
       arith,
       c.keep_last.ensures.closes,
       c.keep_last-2.ensures.closes,
-      length-steps c.self.inside.notes.steps c.self.inside.whole.steps c.self.invariant.1,
-      length-wholes c.self.inside.notes.steps c.self.inside.whole.steps c.self.invariant.1,
-      length-steps c.keep_last.new.self.steps c.keep_last-2.new.self.steps matched.1,
-      length-wholes c.keep_last.new.self.steps c.keep_last-2.new.self.steps matched.1,
+      length-steps c.self.inside.tape.numbers.steps c.self.inside.tape.kept.steps c.self.invariant.1,
+      length-kept c.self.inside.tape.numbers.steps c.self.inside.tape.kept.steps c.self.invariant.1,
+      length-steps c.keep_last.new.self.steps c.keep_last-2.new.self.steps written.1,
+      length-kept c.keep_last.new.self.steps c.keep_last-2.new.self.steps written.1,
     ))

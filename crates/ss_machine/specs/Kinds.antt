@@ -1,0 +1,69 @@
+-- Private: the kinds of changes, and the numbers that tell them.
+use Rattle.std.specs.Prelude.{ℕ, ◌/◌, ◌%◌, ◌==◌, if◌then◌else◌}
+use Rattle.ss_machine.specs.declared.kind.Kind.{Kind}
+use Rattle.ss_machine.specs.declared.kind.Kind.TheVariants.{Value, Control, Loop, Entity, Set, Time, Entry, Text}
+use Rattle.ss_machine.specs.declared.kind.ValueKind.{ValueKind}
+use Rattle.ss_machine.specs.declared.kind.ValueKind.TheVariants as values
+use Rattle.ss_machine.specs.declared.kind.ControlKind.{ControlKind}
+use Rattle.ss_machine.specs.declared.kind.ControlKind.TheVariants as controls
+use Rattle.ss_machine.specs.declared.kind.LoopKind.{LoopKind}
+use Rattle.ss_machine.specs.declared.kind.LoopKind.TheVariants as loops
+use Rattle.ss_machine.specs.declared.kind.EntityKind.{EntityKind}
+use Rattle.ss_machine.specs.declared.kind.EntityKind.TheVariants as entities
+use Rattle.ss_machine.specs.declared.kind.SetKind.{SetKind}
+use Rattle.ss_machine.specs.declared.kind.SetKind.TheVariants as sets
+use Rattle.ss_machine.specs.declared.kind.TimeKind.{TimeKind}
+use Rattle.ss_machine.specs.declared.kind.TimeKind.TheVariants as times
+use Rattle.ss_machine.specs.declared.kind.EntryKind.{EntryKind}
+use Rattle.ss_machine.specs.declared.kind.EntryKind.TheVariants as entries
+use Rattle.ss_machine.specs.declared.kind.TextKind.{TextKind}
+use Rattle.ss_machine.specs.declared.kind.TextKind.TheVariants as texts
+
+abbrev pub value_kind_of : ℕ → ValueKind
+value_kind_of n =
+    if n == 0 then values.Variable
+    else (if n == 1 then values.Local else (if n == 2 then values.Found else values.Statistics))
+
+abbrev pub control_kind_of : ℕ → ControlKind
+control_kind_of n =
+    if n == 0 then controls.Place
+    else (if n == 1 then controls.FrameOpened else (if n == 2 then controls.FrameDropped else controls.Status))
+
+abbrev pub loop_kind_of : ℕ → LoopKind
+loop_kind_of n =
+    if n == 0 then loops.Opened
+    else (if n == 1 then loops.Moved else (if n == 2 then loops.MovedFromNone else loops.Closed))
+
+abbrev pub entity_kind_of : ℕ → EntityKind
+entity_kind_of n =
+    if n == 0 then entities.Created
+    else (if n == 1 then entities.ClassCreated else (if n == 2 then entities.AttributeSet else entities.Ended))
+
+abbrev pub set_kind_of : ℕ → SetKind
+set_kind_of n = if n == 0 then sets.Filed else (if n == 1 then sets.FirstRemoved else sets.Removed)
+
+abbrev pub time_kind_of : ℕ → TimeKind
+time_kind_of n =
+    if n == 0 then times.Clock
+    else (if n == 1 then times.Scheduled else (if n == 2 then times.FirstTakenOff else times.TakenOff))
+
+abbrev pub entry_kind_of : ℕ → EntryKind
+entry_kind_of n = if n == 0 then entries.Absent else (if n == 1 then entries.Waiting else entries.Running)
+
+abbrev pub text_kind_of : ℕ → TextKind
+text_kind_of n = if n == 0 then texts.Taken else texts.Report
+
+-- the kind that a number tells, four numbers for each sort
+abbrev pub kind_by : ℕ → ℕ → Kind
+kind_by sort which =
+    if sort == 0 then Value (value_kind_of which)
+    else (if sort == 1 then Control (control_kind_of which)
+    else (if sort == 2 then Loop (loop_kind_of which)
+    else (if sort == 3 then Entity (entity_kind_of which)
+    else (if sort == 4 then Set (set_kind_of which)
+    else (if sort == 5 then Time (time_kind_of which)
+    else (if sort == 6 then Entry (entry_kind_of which)
+    else Text (text_kind_of which)))))))
+
+abbrev pub kind_of : ℕ → Kind
+kind_of n = kind_by (n / 4) (n % 4)

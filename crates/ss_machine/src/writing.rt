@@ -1,0 +1,240 @@
+ghost use Rattle.std.specs.Prelude.{◌<◌};
+ghost use Rattle.ss_machine.specs.History.{IsNoted};
+ghost use Rattle.ss_machine.specs.declared.change.Change.TheVariants as changes;
+ghost use Rattle.ss_store.specs.declared.change.StoreChange.TheVariants as stores;
+ghost use Rattle.ss_events.specs.declared.agenda.AgendaChange.TheVariants as notices;
+
+use crate::change::Change;
+use crate::entry::Entry;
+use crate::folding::{flag, fold, owner_numbers, widen};
+use crate::kind::{
+    ControlKind, EntityKind, EntryKind, Kind, LoopKind, SetKind, TextKind, TimeKind, ValueKind,
+};
+use crate::statistics::Statistics;
+use crate::tape::{Kept, Tape};
+use ss_check::Owner;
+use ss_events::{AgendaChange, Entry as Notice};
+use ss_store::StoreChange;
+
+impl Tape {
+    /// Writes a change.
+    pub fn note(&mut self, change: Change)
+        requires numbers { 7 < self.old.numbers.notes }
+        requires kept { 0 < self.old.kept.notes }
+        ensures { IsNoted change self.old self.new }
+    {
+        match change {
+            Change::Variable { number, old } => self.write(
+                Kind::Value(ValueKind::Variable),
+                &[number as u64, fold(old)],
+            ),
+            Change::Local { number, old } => self.write(
+                Kind::Value(ValueKind::Local),
+                &[number as u64, fold(old)],
+            ),
+            Change::Place(old) => self.write(Kind::Control(ControlKind::Place), &[old as u64]),
+            Change::Clock(old) => self.write(Kind::Time(TimeKind::Clock), &[fold(old)]),
+            Change::Store(change) => self.note_store(change),
+            Change::Agenda(change) => self.note_agenda(change),
+            Change::Taken(old) => self.write(Kind::Text(TextKind::Taken), &[old as u64]),
+            Change::Report(old) => self.write(Kind::Text(TextKind::Report), &[old as u64]),
+            Change::Entry(old) => self.note_entry(old),
+            Change::Status(old) => {
+                self.write_kept(Kind::Control(ControlKind::Status), &[], Kept::Status(old))
+            }
+            Change::LoopOpened => self.write(Kind::Loop(LoopKind::Opened), &[]),
+            Change::LoopMoved(Some(old)) => self.write(Kind::Loop(LoopKind::Moved), &[fold(old)]),
+            Change::LoopMoved(None) => self.write(Kind::Loop(LoopKind::MovedFromNone), &[]),
+            Change::LoopClosed(closed) => {
+                self.write_kept(Kind::Loop(LoopKind::Closed), &[], Kept::Loop(closed))
+            }
+            Change::FrameOpened => self.write(Kind::Control(ControlKind::FrameOpened), &[]),
+            Change::FrameDropped(frame) => self.write_kept(
+                Kind::Control(ControlKind::FrameDropped),
+                &[],
+                Kept::Frame(frame),
+            ),
+            Change::Found(old) => self.write(Kind::Value(ValueKind::Found), &[flag(old)]),
+            Change::Statistics(old) => self.note_statistics(old),
+        }
+    }
+
+    fn note_statistics(&mut self, old: Statistics)
+        requires numbers { 7 < self.old.numbers.notes }
+        ensures { IsNoted (changes.Statistics old) self.old self.new }
+    {
+        self.write(
+            Kind::Value(ValueKind::Statistics),
+            &[
+                fold(old.number),
+                fold(old.sum),
+                fold(old.greatest),
+                fold(old.least),
+            ],
+        );
+    }
+
+    fn note_entry(&mut self, old: Entry)
+        requires numbers { 7 < self.old.numbers.notes }
+        ensures { IsNoted (changes.Entry old) self.old self.new }
+    {
+        match old {
+            Entry::Absent => self.write(Kind::Entry(EntryKind::Absent), &[]),
+            Entry::Waiting { class, notice } => self.write(
+                Kind::Entry(EntryKind::Waiting),
+                &[class as u64, widen(notice)],
+            ),
+            Entry::Running { class, notice } => self.write(
+                Kind::Entry(EntryKind::Running),
+                &[class as u64, widen(notice)],
+            ),
+        }
+    }
+
+    fn note_agenda(&mut self, change: AgendaChange)
+        requires numbers { 7 < self.old.numbers.notes }
+        requires kept { 0 < self.old.kept.notes }
+        ensures { IsNoted (changes.Agenda change) self.old self.new }
+    {
+        match change {
+            AgendaChange::Scheduled { notice, seated } => self.write(
+                Kind::Time(TimeKind::Scheduled),
+                &[widen(notice), flag(seated)],
+            ),
+            AgendaChange::TakenOff {
+                notice,
+                entry,
+                predecessor,
+            } => self.note_taken_off(notice, entry, predecessor),
+        }
+    }
+
+    fn note_taken_off(&mut self, notice: u32, entry: Notice, predecessor: Option<u32>)
+        requires numbers { 7 < self.old.numbers.notes }
+        requires kept { 0 < self.old.kept.notes }
+        ensures { IsNoted (changes.Agenda (notices.TakenOff notice entry predecessor)) self.old self.new }
+    {
+        let notice = widen(notice);
+        let time = fold(entry.time);
+        let class = entry.class as u64;
+        let keys = Kept::Values(entry.keys);
+        match predecessor {
+            None => self.write_kept(
+                Kind::Time(TimeKind::FirstTakenOff),
+                &[notice, time, class, entry.filing],
+                keys,
+            ),
+            Some(predecessor) => self.write_kept(
+                Kind::Time(TimeKind::TakenOff),
+                &[notice, time, class, entry.filing, widen(predecessor)],
+                keys,
+            ),
+        }
+    }
+
+    fn note_filed(&mut self, set: usize, owner: Owner, list: u32, number: usize, member: usize)
+        requires { 7 < self.old.numbers.notes }
+        ensures { IsNoted (changes.Store (stores.Filed set owner list number member)) self.old self.new }
+    {
+        let (owned, class) = owner_numbers(owner);
+        self.write(
+            Kind::Set(SetKind::Filed),
+            &[
+                set as u64,
+                owned,
+                class,
+                widen(list),
+                number as u64,
+                member as u64,
+            ],
+        );
+    }
+
+    fn note_removed(
+        &mut self,
+        set: usize,
+        owner: Owner,
+        list: u32,
+        number: usize,
+        member: usize,
+        before: Option<u32>,
+    )
+        requires { 7 < self.old.numbers.notes }
+        ensures { IsNoted (changes.Store (stores.Removed set owner list number member before)) self.old self.new }
+    {
+        let (owned, class) = owner_numbers(owner);
+        let (set, list) = (set as u64, widen(list));
+        let (number, member) = (number as u64, member as u64);
+        match before {
+            None => self.write(
+                Kind::Set(SetKind::FirstRemoved),
+                &[set, owned, class, list, number, member],
+            ),
+            Some(before) => self.write(
+                Kind::Set(SetKind::Removed),
+                &[set, owned, class, list, number, member, widen(before)],
+            ),
+        }
+    }
+
+    fn note_store(&mut self, change: StoreChange)
+        requires numbers { 7 < self.old.numbers.notes }
+        requires kept { 0 < self.old.kept.notes }
+        ensures { IsNoted (changes.Store change) self.old self.new }
+    {
+        match change {
+            StoreChange::Filed {
+                set,
+                owner,
+                list,
+                number,
+                member,
+            } => self.note_filed(set, owner, list, number, member),
+            StoreChange::Removed {
+                set,
+                owner,
+                list,
+                number,
+                member,
+                before,
+            } => self.note_removed(set, owner, list, number, member, before),
+            StoreChange::Created {
+                class,
+                number,
+                heads,
+                seats,
+            } => self.write(
+                Kind::Entity(EntityKind::Created),
+                &[class as u64, number as u64, widen(heads), widen(seats)],
+            ),
+            StoreChange::ClassCreated {
+                class,
+                count,
+                heads,
+                seats,
+            } => self.write(
+                Kind::Entity(EntityKind::ClassCreated),
+                &[class as u64, count as u64, widen(heads), widen(seats)],
+            ),
+            StoreChange::AttributeSet {
+                class,
+                attribute,
+                number,
+                old,
+            } => self.write(
+                Kind::Entity(EntityKind::AttributeSet),
+                &[class as u64, attribute as u64, number as u64, fold(old)],
+            ),
+            StoreChange::Ended {
+                class,
+                number,
+                owned,
+                values,
+            } => self.write_kept(
+                Kind::Entity(EntityKind::Ended),
+                &[class as u64, number as u64, widen(owned)],
+                Kept::Values(values),
+            ),
+        }
+    }
+}
