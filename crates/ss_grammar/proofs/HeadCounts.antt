@@ -18,32 +18,24 @@ use Rattle.ss_grammar.specs.SectionReading.{refusal_of, no_name, others_at, name
 use Rattle.ss_grammar.specs.SectionReading.{routine_at, event_at, head_by, head_at, as_variables, a_define, locals}
 use Rattle.ss_grammar.specs.OneTooMany.{asks, names_in_head}
 use Rattle.std.proofs.lemmas.List.{append-nil}
-use Rattle.ss_grammar.proofs.Counting.{Full, Tally, TallyAt, Encloses, anywhere}
+use Rattle.ss_grammar.proofs.Counting.{Settled, Tally, TallyAt, Encloses, anywhere, plain}
 use Rattle.ss_grammar.proofs.Counting.{pure_tally, refuse_tally, bind_tally, look_tally, skip_tally, expect_tally}
 use Rattle.ss_grammar.proofs.Counting.{eat_tally, name_tally, many_tally, bind_shuts, made_shuts, close_shuts}
 use Rattle.ss_grammar.proofs.Counting.{enclosed_tally}
-use Rattle.ss_grammar.proofs.BlockCounts.{plain, pair_tally, behind_tally, made_tally, mark_tally, star_tally}
+use Rattle.ss_grammar.proofs.BlockCounts.{pair_tally, behind_tally, made_tally, mark_tally, star_tally}
 
 -- ---- parentheses, IFs and ENDs
 
-open_full : (h : Bool) (n i fs : ℕ) (q : List Plain) (v : Option Plain) → Full h n i fs q v
-    → Full h (suc n) i fs (mark (m.Sign s.Open) ∷ q) v
-open_full h n i fs q (Some (mark (m.Sign s.Open))) f = omega (arith, f)
-open_full h n i fs q (Some (mark (m.Reserved r.If))) f = omega (arith, f)
-open_full h n i fs q (Some (mark (m.Reserved r.For))) f = omega (arith, f)
-open_full h n i fs q (Some (name v)) f = f
-open_full h n i fs q _ f = absurd f
-
-encloses_open : (n i fs : ℕ) → Encloses (mark (m.Sign s.Open)) (mark (m.Sign s.Close)) n i fs (suc n) i fs
+encloses_open : (n i fs : ℕ) → Encloses Settled (mark (m.Sign s.Open)) (mark (m.Sign s.Close)) n i fs (suc n) i
 encloses_open n i fs = record {
-  even = record { parentheses = refl; ifs = refl; loops = omega arith; no_end = refl };
-  room = λ q x. let a = x.parentheses in let b = x.ifs in let c = x.no_end in record {
-    parentheses = omega (arith, a);
-    ifs = omega (arith, b);
-    no_end = omega (arith, c);
-  };
-  full = λ h q v f. open_full h n i fs q v f;
-  no_end = λ q e. omega (arith, e);
+  even = record { parentheses = refl; ifs = refl; phrases = λ b os z. sym z; no_end = refl };
+  inner = λ b os z. z;
+  same = λ b os z. refl;
+  parentheses = λ q h. omega (arith, h);
+  open_ones = λ q h. omega (arith, h);
+  ifs = λ q h. omega (arith, h);
+  all_ifs = λ q h. omega (arith, h);
+  no_end = λ q h. omega (arith, h);
 }
 
 module _ (n i fs : ℕ) where
@@ -126,10 +118,10 @@ module _ (n i fs : ℕ) where
       bind_tally true (suc n) i fs _ (elim [
         | true ↦ bind_tally true (suc n) i fs _ (λ ns. pure_tally true (suc n) i fs (BehindGiven ns)) (names_at k)
             (names_tally (suc n) i fs k)
-        | false ↦ enclosed_tally true (m.Sign s.Open) c n i fs (suc n) i fs z (in_parentheses k)
-            (bind_shuts true w c n i fs (suc n) i fs z _
-            (λ ns. made_shuts true w c n i fs (suc n) i fs z (λ u. InParentheses ns) (expect c)
-            (close_shuts true w c n i fs (suc n) i fs z)) (names_at k) (names_tally n i fs k))
+        | false ↦ enclosed_tally true (m.Sign s.Open) c n i fs (suc n) i z (in_parentheses k)
+            (bind_shuts true w c n i fs (suc n) i z _
+            (λ ns. made_shuts true w c n i fs (suc n) i z (λ u. InParentheses ns) (expect c)
+            (close_shuts true w c n i fs (suc n) i z)) (names_at k) (names_tally n i fs k))
             (pure_tally true (suc n) i fs Unwritten)
       ]) (eat (m.Reserved r.Given)) (eat_tally true (suc n) i fs (m.Reserved r.Given)
       (plain _ refl refl refl refl refl refl))

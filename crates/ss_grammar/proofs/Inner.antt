@@ -68,7 +68,7 @@ pub record Inner (ws : List Plain) : Type 0 where
 nothing : Inner []
 nothing = record { none = refl }
 
-also : {ws : List Plain} (w : Plain) → builds w ≡ false → Inner ws → Inner (w ∷ ws)
+pub also : {ws : List Plain} (w : Plain) → builds w ≡ false → Inner ws → Inner (w ∷ ws)
 also w e h = let k = h.none in record { none = rw e (omega (arith, k)) }
 
 alone : (w : Plain) → builds w ≡ false → Inner (w ∷ [])

@@ -23,6 +23,8 @@ mod HeadNear
 mod HeadAgain
 mod SectionLaw
 mod Inner
+mod OpenWords
+mod Operands
 mod Counting
 mod BlockCounts
 mod HeadCounts

@@ -17,8 +17,9 @@ use Rattle.ss_grammar.specs.Tree.{SectionTree, Tree, spell_section, spell}
 use Rattle.ss_grammar.specs.SectionReading.{is_head, sections_upto}
 use Rattle.ss_grammar.specs.Refused.{IsWithin, BeginsWithin, announces, IsAnnounced, InRoom, PassesLimit}
 use Rattle.ss_grammar.specs.Counts.{count, opens, closes}
-use Rattle.ss_grammar.specs.OneTooMany.{branches, rejoins, phrases, repeats, ends, IsDeepPhrase, behind_end}
-use Rattle.ss_grammar.specs.OneTooMany.{names_in_head, Counted, Parentheses, Ifs}
+use Rattle.ss_grammar.specs.OpenPhrases.{open_behind, phrases_of, open_phrases}
+use Rattle.ss_grammar.specs.OneTooMany.{branches, rejoins, ends, behind_end}
+use Rattle.ss_grammar.specs.OneTooMany.{names_in_head, Counted, Parentheses, Ifs, Phrases}
 use Rattle.ss_grammar.specs.OneTooMany.{Parameters, Sections, IsOneTooMany, LimitIsCounted, CountPassesLimit}
 use Rattle.ss_grammar.proofs.Tally.{count-append}
 use Rattle.ss_grammar.proofs.Form.{Each}
@@ -27,9 +28,10 @@ use Rattle.ss_grammar.proofs.Whole.{reading, read_sections, rest_ended, farthest
 use Rattle.ss_grammar.proofs.Unique.{no_more, not_past, same_limit, less, equal, greater, order}
 use Rattle.ss_grammar.proofs.SectionCounts.{Spelled, Kept, Passed, Program, sections_out, whole_out}
 use Rattle.ss_grammar.proofs.HeadNames.{names_kept}
+use Rattle.ss_grammar.proofs.OpenWords.{ended_by, behind_both}
 
 abbrev IsCounted : List Plain → ℕ → Type 0
-IsCounted ws k = ((c : Counted) × IsOneTooMany c ws k) ⊎ IsDeepPhrase ws k
+IsCounted ws k = (c : Counted) × IsOneTooMany c ws k
 
 out : (ws r : List Plain) (o : Result Tree Refusal) → whole reading ws ≡ (o, r) → Program 50 64 16 33 256 o ws r
 out ws r o e = subst (λ (x : Read Tree). Program 50 64 16 33 256 x.0 ws x.1) e (whole_out 49 64 16 31 256 ws)
@@ -38,14 +40,14 @@ out ws r o e = subst (λ (x : Read Tree). Program 50 64 16 33 256 x.0 ws x.1) e 
 
 counted : (ws tail q : List Plain) (w : Plain) → ws ≡ q ++ w ∷ tail → Passed 50 64 16 33 256 q (Some w)
     → IsCounted ws (length ws - length (w ∷ tail))
-counted ws tail q (mark (m.Sign s.Open)) e x = inl (
+counted ws tail q (mark (m.Sign s.Open)) e x = (
   Parentheses,
   (
     ap first (back_is ws q _ e),
     ap (count opens) (front_is ws q _ e) ∙ x ∙ ap (λ (u : List Plain). count closes u + 50) (sym (front_is ws q _ e)),
   ),
 )
-counted ws tail q (mark (m.Reserved r.If)) e x = inl (
+counted ws tail q (mark (m.Reserved r.If)) e x = (
   Ifs,
   (
     ap first (back_is ws q _ e),
@@ -54,49 +56,19 @@ counted ws tail q (mark (m.Reserved r.If)) e x = inl (
   ),
 )
 counted ws tail q (mark (m.Reserved r.For)) e x =
-    let f = front_is ws q (mark (m.Reserved r.For) ∷ tail) e in
-    inr (
-      ap first (back_is ws q (mark (m.Reserved r.For) ∷ tail) e),
-      omega (
-        arith,
-        x,
-        ap (λ (u : List Plain). count repeats (behind_end u)) f,
-        ap (λ (u : List Plain). count phrases (behind_end u)) f,
-      ),
-    )
+    (Phrases, (ap first (back_is ws q _ e), ap open_phrases (front_is ws q _ e) ∙ x false))
 counted ws tail q (mark (m.Reserved r.Main)) e x =
-    inl (
-      Sections,
-      (
-        ap (λ (u : List Plain). is_head (first u)) (back_is ws q _ e),
-        ap (count ends)
-            (front_is ws q _ e) ∙ x,
-      ),
-    )
+    (Sections, (ap (λ (u : List Plain). is_head (first u)) (back_is ws q _ e), ap (count ends) (front_is ws q _ e) ∙ x))
 counted ws tail q (mark (m.Reserved r.Routine)) e x =
-    inl (
-      Sections,
-      (
-        ap (λ (u : List Plain). is_head (first u)) (back_is ws q _ e),
-        ap (count ends)
-            (front_is ws q _ e) ∙ x,
-      ),
-    )
+    (Sections, (ap (λ (u : List Plain). is_head (first u)) (back_is ws q _ e), ap (count ends) (front_is ws q _ e) ∙ x))
 counted ws tail q (mark (m.Reserved r.Event)) e x =
-    inl (
-      Sections,
-      (
-        ap (λ (u : List Plain). is_head (first u)) (back_is ws q _ e),
-        ap (count ends)
-            (front_is ws q _ e) ∙ x,
-      ),
-    )
+    (Sections, (ap (λ (u : List Plain). is_head (first u)) (back_is ws q _ e), ap (count ends) (front_is ws q _ e) ∙ x))
 counted ws tail q (name v) e x =
     let at : names_in_head false (behind_end (take (length ws - length (name v ∷ tail) + 1) ws)) ≡ 34 =
     ap (λ (u : List Plain). names_in_head false (behind_end u)) (front_and ws q tail (name v) e) ∙ x in
     let one : IsOneTooMany Parameters ws (length ws - length (name v ∷ tail)) =
     (v, ap first (back_is ws q (name v ∷ tail) e), at) in
-    inl (Parameters, one)
+    (Parameters, one)
 counted ws tail q _ e x = absurd x
 
 forward : (ws : List Plain) (k : ℕ) → PassesLimit ws k → (o : Result Tree Refusal) (r : List Plain)
@@ -129,17 +101,21 @@ all_taken ws = ap (take (length ws)) (sym (append-nil ws)) ∙ take_at ws [] (le
 first_kept : (w : Plain) (r d x : List Plain) → d ≡ w ∷ r → first (d ++ x) ≡ Some w
 first_kept w r d x e = ap (λ (u : List Plain). first (u ++ x)) e
 
-kept_of : (q ws r : List Plain) → ws ≡ q ++ r → r ≡ [] → Kept 50 64 q → Kept 50 64 ws
+kept_of : (q ws r : List Plain) → ws ≡ q ++ r → r ≡ [] → Kept 50 64 16 q → Kept 50 64 16 ws
 kept_of q ws r e none x =
-    subst (λ (u : List Plain). Kept 50 64 u) (sym (e ∙ ap (λ (u : List Plain). q ++ u) none ∙ append-nil q)) x
+    subst (λ (u : List Plain). Kept 50 64 16 u) (sym (e ∙ ap (λ (u : List Plain). q ++ u) none ∙ append-nil q)) x
 
 bounds : (ws : List Plain) (t : Tree) (x : List Plain) → IsWithin t → spell t ≡ ws ++ x → (o : Result Tree Refusal)
-    (r : List Plain) → whole reading ws ≡ (o, r) → Kept 50 64 ws
+    (r : List Plain) → whole reading ws ≡ (o, r) → Kept 50 64 16 ws
 bounds ws t x within e (Ok u) r read =
     let (q, split, y, each) = out ws r (Ok u) read in
     let p = y.parentheses in
     let g = y.ifs in
-    kept_of q ws r split (rest_ended ws r u read) (record { parentheses = omega (arith, p); ifs = omega (arith, g) })
+    kept_of q ws r split (rest_ended ws r u read) (record {
+      parentheses = omega (arith, p);
+      ifs = omega (arith, g);
+      phrases = λ b. omega (arith, ap phrases_of (y.phrases b));
+    })
 bounds ws t x within e (Err Unexpected) [] read =
     let (q, split, y) = out ws [] (Err Unexpected) read in kept_of q ws [] split refl y
 bounds ws t x within e (Err Unexpected) (w ∷ r) read =
@@ -256,6 +232,18 @@ too_many Ifs ws k (f, x) (t, w, z, e) =
       count-append branches (take k ws) (mark (m.Reserved r.If) ∷ []),
       count-append rejoins (take k ws) (mark (m.Reserved r.If) ∷ []),
     )
+too_many Phrases ws k (f, x) (t, w, z, e) =
+    let b = bounds (take (k + 1) ws) t z w e (whole reading (take (k + 1) ws)).0 (whole reading (take (k + 1) ws)).1
+    refl in
+    let p = b.phrases false in
+    let more = one_more ws k _ f in
+    absurd (omega (
+      arith,
+      x,
+      p,
+      ap open_phrases more,
+      ap phrases_of (behind_both false [] (take k ws) (mark (m.Reserved r.For) ∷ [])),
+    ))
 too_many Parameters ws k (v, f, x) (t, w, z, e) =
     let (n, each) = spelled t w in
     let le = names_kept t each 32 w.parameters (take (k + 1) ws) z e in
@@ -279,6 +267,7 @@ too_many Sections ws k (f, x) (t, w, z, e) =
 announced : (c : Counted) (ws : List Plain) (k : ℕ) → IsOneTooMany c ws k → IsAnnounced (take (k + 1) ws) → ⊥
 announced Parentheses ws k (f, x) h = not_announced ws k _ f refl h
 announced Ifs ws k (f, x) h = not_announced ws k _ f refl h
+announced Phrases ws k (f, x) h = not_announced ws k _ f refl h
 announced Parameters ws k (v, f, x) h = not_announced ws k _ f refl h
 announced Sections ws k (f, x) h =
     let (v, here, counts) = head_word (first (drop k ws)) f in not_announced ws k v here counts h

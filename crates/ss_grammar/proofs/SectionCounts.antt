@@ -15,12 +15,15 @@ use Rattle.ss_grammar.specs.Tree.{Head, SectionTree, Tree, spell_section}
 use Rattle.ss_grammar.specs.BlockReading.{block_at}
 use Rattle.ss_grammar.specs.SectionReading.{is_head, head_at, locals, section_at, sections_upto}
 use Rattle.ss_grammar.specs.Counts.{count, opens, closes}
-use Rattle.ss_grammar.specs.OneTooMany.{branches, rejoins, phrases, repeats, ends, has_end, behind_end, names_in_head}
+use Rattle.ss_grammar.specs.OneTooMany.{branches, rejoins, ends, has_end, behind_end, names_in_head}
+use Rattle.ss_grammar.specs.OpenPhrases.{Open, open_behind, phrases_of}
 use Rattle.ss_grammar.proofs.Tally.{count-append}
 use Rattle.ss_grammar.proofs.Form.{Each}
 use Rattle.ss_grammar.proofs.Begun.{IsKept}
 use Rattle.ss_grammar.proofs.SectionLaw.{FitsSection, of_parts, section_keeps}
-use Rattle.ss_grammar.proofs.Counting.{Even, Room, Full, Past, Out, Tally, joined, room_behind, past_behind}
+use Rattle.ss_grammar.proofs.OpenWords.{ended_by, behind_both}
+use Rattle.ss_grammar.proofs.Counting.{Even, Room, Full, Past, Out, Tally, joined, room_behind, past_behind, nothing}
+use Rattle.ss_grammar.proofs.Counting.{room_of}
 use Rattle.ss_grammar.proofs.BlockCounts.{block_tally}
 use Rattle.ss_grammar.proofs.HeadCounts.{Last, Told, Anyhow, head_tally, head_tells, locals_tally}
 
@@ -67,7 +70,7 @@ module _ (n i fs : ℕ) where
   -- behind a head
   abbrev Body : {A : Type 0} → Result A Refusal → List Plain → List Plain → Type 0
   Body (Ok t) ws r = (q : List Plain) × (ws ≡ q ++ end ∷ r) × Even q
-  Body (Err Unexpected) ws r = (q : List Plain) × (ws ≡ q ++ r) × Room n i q
+  Body (Err Unexpected) ws r = (q : List Plain) × (ws ≡ q ++ r) × Room n i fs q
   Body (Err Memory) ws r = ⊥
   Body (Err PastLimit) ws r = (q : List Plain) × (ws ≡ q ++ r) × Past false n i fs q (first r)
 
@@ -79,7 +82,7 @@ module _ (n i fs : ℕ) where
   behind (Ok a) ws r r' q e x (q2, e2, y) =
       (q ++ q2, e ∙ ap (λ (u : List Plain). q ++ u) e2 ∙ sym (append_assoc q q2 (end ∷ r')), joined q q2 x y)
   behind (Err Unexpected) ws r r' q e x (q2, e2, y) =
-      (q ++ q2, e ∙ ap (λ (u : List Plain). q ++ u) e2 ∙ sym (append_assoc q q2 r'), room_behind n i q q2 x y)
+      (q ++ q2, e ∙ ap (λ (u : List Plain). q ++ u) e2 ∙ sym (append_assoc q q2 r'), room_behind n i fs q q2 x y)
   behind (Err Memory) ws r r' q e x out = out
   behind (Err PastLimit) ws r r' q e x (q2, e2, y) = (
     q ++ q2,
@@ -108,9 +111,9 @@ module _ (n i fs : ℕ) where
     end_at (v ∷ ws) true e = (
       [],
       ap (λ (u : Plain). u ∷ ws) (is_mark (m.Reserved r.End) v e),
-      record { parentheses = refl; ifs = refl; loops = omega arith; no_end = refl },
+      nothing,
     )
-    end_at ws false e = ([], refl, record { parentheses = omega arith; ifs = omega arith; no_end = refl })
+    end_at ws false e = ([], refl, room_of n i fs [] nothing)
 
     end_bodies : Bodies (bind (expect (m.Reserved r.End)) (λ u. pure a))
     unfolding bind expect look
@@ -125,7 +128,7 @@ module _ (n i fs : ℕ) where
   -- from its head on, where l names may stand in it
   abbrev Section : ℕ → Result SectionTree Refusal → List Plain → List Plain → Type 0
   Section l (Ok t) ws r = (q : List Plain) × (ws ≡ q ++ end ∷ r) × Even q
-  Section l (Err Unexpected) ws r = (q : List Plain) × (ws ≡ q ++ r) × Room n i q
+  Section l (Err Unexpected) ws r = (q : List Plain) × (ws ≡ q ++ r) × Room n i fs q
   Section l (Err Memory) ws r = ⊥
   Section l (Err PastLimit) ws r =
       (q : List Plain) × (ws ≡ q ++ r) × Past true n i fs q (first r) × Named l q (first r)
@@ -178,29 +181,37 @@ Spelled t = (q : List Plain) × (spell_section t ≡ q ++ end ∷ []) × Even q
 pub record Balanced (j : ℕ) (q : List Plain) : Type 0 where
   pub parentheses : count opens q ≡ count closes q
   pub ifs : count branches q ≡ count rejoins q
+  pub phrases : (b : Bool) → open_behind b [] q ≡ []
   pub sections : count ends q ≡ j
 
 -- within the limits
-pub record Kept (n i : ℕ) (q : List Plain) : Type 0 where
+pub record Kept (n i fs : ℕ) (q : List Plain) : Type 0 where
   pub parentheses : count opens q ≤ count closes q + n
   pub ifs : count branches q ≤ count rejoins q + i
+  pub phrases : (b : Bool) → phrases_of (open_behind b [] q) ≤ fs
 
 -- the word behind q passes a limit
 abbrev pub Passed : ℕ → ℕ → ℕ → ℕ → ℕ → List Plain → Option Plain → Type 0
 Passed n i fs l j q (Some (mark (m.Sign s.Open))) = count opens q ≡ count closes q + n
 Passed n i fs l j q (Some (mark (m.Reserved r.If))) = count branches q ≡ count rejoins q + i
 Passed n i fs l j q (Some (mark (m.Reserved r.For))) =
-    count repeats (behind_end q) + fs ≤ count phrases (behind_end q)
+    (b : Bool) → phrases_of (open_behind b [] q) ≡ fs
 Passed n i fs l j q (Some (mark (m.Reserved r.Main))) = count ends q ≡ j
 Passed n i fs l j q (Some (mark (m.Reserved r.Routine))) = count ends q ≡ j
 Passed n i fs l j q (Some (mark (m.Reserved r.Event))) = count ends q ≡ j
 Passed n i fs l j q (Some (name v)) = names_in_head false (behind_end (q ++ name v ∷ [])) ≡ suc l
 Passed n i fs l j q _ = ⊥
 
+-- a section leaves nothing open
+next_section : (a q : List Plain) → Even a → (b : Bool) → open_behind b [] (a ++ end ∷ q) ≡ open_behind false [] q
+next_section a q x b =
+    behind_both b [] a (end ∷ q)
+    ∙ ap (λ (os : List Open). open_behind (ended_by b a) os (end ∷ q)) (x.phrases b [] refl)
+
 module _ (n i fs l : ℕ) where
   abbrev pub Program : ℕ → Result Tree Refusal → List Plain → List Plain → Type 0
   Program j (Ok ts) ws r = (q : List Plain) × (ws ≡ q ++ r) × Balanced (length ts) q × Each Spelled ts
-  Program j (Err Unexpected) ws r = (q : List Plain) × (ws ≡ q ++ r) × Kept n i q
+  Program j (Err Unexpected) ws r = (q : List Plain) × (ws ≡ q ++ r) × Kept n i fs q
   Program j (Err Memory) ws r = ⊥
   Program j (Err PastLimit) ws r = (q : List Plain) × (ws ≡ q ++ r) × Passed n i fs l j q (first r)
 
@@ -210,9 +221,7 @@ module _ (n i fs l : ℕ) where
   passed_first j q (Some (mark (m.Sign s.Open))) x y = x.full
   passed_first j q (Some (mark (m.Reserved r.If))) x y = x.full
   passed_first j q (Some (mark (m.Reserved r.For))) x y =
-      let full = x.full in
-      let all = all_open q x.no_end in
-      omega (arith, full, ap (count repeats) all, ap (count phrases) all)
+      λ b. let f = x.full b [] refl in omega (arith, f)
   passed_first j q (Some (name v)) x y =
       let none = x.no_end in
       let going : count ends (q ++ name v ∷ []) ≡ 0 = omega (arith, none, count-append ends q (name v ∷ [])) in
@@ -227,8 +236,7 @@ module _ (n i fs l : ℕ) where
   passed_next j a q (Some (mark (m.Reserved r.If))) x y =
       let p = x.ifs in omega (arith, p, y, count-append branches a (end ∷ q), count-append rejoins a (end ∷ q))
   passed_next j a q (Some (mark (m.Reserved r.For))) x y =
-      let all = behind_section a q in
-      omega (arith, y, ap (count repeats) all, ap (count phrases) all)
+      λ b. ap phrases_of (next_section a q x b) ∙ y false
   passed_next j a q (Some (mark (m.Reserved r.Main))) x y =
       let p = x.no_end in omega (arith, p, y, count-append ends a (end ∷ q))
   passed_next j a q (Some (mark (m.Reserved r.Routine))) x y =
@@ -246,19 +254,25 @@ module _ (n i fs l : ℕ) where
       let e' = y.sections in record {
         parentheses = omega (arith, p, p', count-append opens a (end ∷ q), count-append closes a (end ∷ q));
         ifs = omega (arith, g, g', count-append branches a (end ∷ q), count-append rejoins a (end ∷ q));
+        phrases = λ b. next_section a q x b ∙ y.phrases false;
         sections = omega (arith, e, e', count-append ends a (end ∷ q));
       }
 
-  kept_next : (a q : List Plain) → Even a → Kept n i q → Kept n i (a ++ end ∷ q)
+  kept_next : (a q : List Plain) → Even a → Kept n i fs q → Kept n i fs (a ++ end ∷ q)
   kept_next a q x y =
       let p = x.parentheses in let p' = y.parentheses in let g = x.ifs in let g' = y.ifs in record {
         parentheses = omega (arith, p, p', count-append opens a (end ∷ q), count-append closes a (end ∷ q));
         ifs = omega (arith, g, g', count-append branches a (end ∷ q), count-append rejoins a (end ∷ q));
+        phrases = λ b. let h = y.phrases false in omega (arith, h, ap phrases_of (next_section a q x b));
       }
 
-  kept_of : (j : ℕ) (q : List Plain) → Balanced j q → Kept n i q
+  kept_of : (j : ℕ) (q : List Plain) → Balanced j q → Kept n i fs q
   kept_of j q x =
-      let p = x.parentheses in let g = x.ifs in record { parentheses = omega (arith, p); ifs = omega (arith, g) }
+      let p = x.parentheses in let g = x.ifs in record {
+        parentheses = omega (arith, p);
+        ifs = omega (arith, g);
+        phrases = λ b. omega (arith, ap phrases_of (x.phrases b));
+      }
 
   next : (j : ℕ) (t : SectionTree) → Spelled t → (o : Result Tree Refusal) (ws r r' a : List Plain)
       → ws ≡ a ++ end ∷ r → Even a → Program j o r r'
@@ -293,7 +307,11 @@ module _ (n i fs l : ℕ) where
       let same : q ≡ a ++ end ∷ [] = sym (goal.front_is ws q r e2) ∙ goal.front_is ws (a ++ end ∷ []) r split in
       next j t (a, sp ∙ same, x) (rest r).0 ws r (rest r).1 a e x (h r)
   first_one k j fits rest h (Err Unexpected) ws r (q, e, x) kept =
-      (q, e, record { parentheses = x.parentheses; ifs = x.ifs })
+      (q, e, record {
+        parentheses = x.parentheses;
+        ifs = x.ifs;
+        phrases = λ b. let h = x.phrases b [] refl in omega (arith, h);
+      })
   first_one k j fits rest h (Err Memory) ws r out kept = out
   first_one k j fits rest h (Err PastLimit) ws r (q, e, x, y) kept = (q, e, passed_first (suc j) q (first r) x y)
 
@@ -309,7 +327,7 @@ module _ (n i fs l : ℕ) where
   unfolding refuse pure
   none_at [] true e = absurd cc
   none_at (w ∷ ws) true e = ([], refl, head_passed w e)
-  none_at ws false e = ([], refl, record { parentheses = refl; ifs = refl; sections = refl }, tt)
+  none_at ws false e = ([], refl, record { parentheses = refl; ifs = refl; phrases = λ b. refl; sections = refl }, tt)
 
   whole_of : (j : ℕ) (o : Result Tree Refusal) (ws r : List Plain) → Program j o ws r
       → (let x : Read Tree = goes_on (λ t. bind ended (λ u. pure t)) o r in Program j x.0 ws x.1)
@@ -334,7 +352,7 @@ module _ (n i f k : ℕ) where
         first_one (suc n) i f (suc (suc k)) k j (FitsSection (suc n) i f k) (sections_upto (suc n) i f (suc k) j)
         (sections_out j) (section_at (suc n) i f (suc k) ws).0 ws (section_at (suc n) i f (suc k) ws).1
         (section_out n i f (suc k) ws) (kept.at ws))
-    | false ↦ ([], refl, record { parentheses = refl; ifs = refl; sections = refl }, tt)
+    | false ↦ ([], refl, record { parentheses = refl; ifs = refl; phrases = λ b. refl; sections = refl }, tt)
   ])
 
   pub whole_out : (j : ℕ) (ws : List Plain)

@@ -18,6 +18,7 @@ pub mod LoopReading
 pub mod BlockReading
 pub mod SectionReading
 pub mod Refused
+pub mod OpenPhrases
 pub mod OneTooMany
 pub mod Laws
 pub mod PlacesAtLines

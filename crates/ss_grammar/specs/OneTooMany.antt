@@ -1,5 +1,5 @@
 -- The word that is one too many, by counting the words before it.
-use Rattle.std.specs.Prelude.{◌≡◌, ◌⊎◌, ℕ, suc, ◌+◌, ◌≤◌, ◌<◌, Bool, true, false, if◌then◌else◌, List, [], ◌∷◌}
+use Rattle.std.specs.Prelude.{◌≡◌, ℕ, suc, ◌+◌, ◌<◌, Bool, true, false, if◌then◌else◌, List, [], ◌∷◌}
 use Rattle.std.specs.Prelude.{length, take, drop, Some}
 use Rattle.ss_words.specs.declared.mark.Mark.TheVariants as m
 use Rattle.ss_words.specs.declared.word.Sign.TheVariants as s
@@ -7,6 +7,7 @@ use Rattle.ss_words.specs.declared.reserved.Reserved.TheVariants as r
 use Rattle.ss_words.specs.Plain.{Plain, name, mark, first}
 use Rattle.ss_words.specs.Lists.{Name}
 use Rattle.ss_grammar.specs.Counts.{count, opens, closes}
+use Rattle.ss_grammar.specs.OpenPhrases.{open_phrases}
 use Rattle.ss_grammar.specs.SectionReading.{is_head}
 use Rattle.ss_grammar.specs.Refused.{Begins, InRoom, PassesLimit}
 
@@ -19,16 +20,6 @@ branches _ = false
 abbrev pub rejoins : Plain → Bool
 rejoins (mark (m.Reserved r.Always)) = true
 rejoins _ = false
-
--- FOR
-abbrev pub phrases : Plain → Bool
-phrases (mark (m.Reserved r.For)) = true
-phrases _ = false
-
--- LOOP
-abbrev pub repeats : Plain → Bool
-repeats (mark (m.Reserved r.Loop)) = true
-repeats _ = false
 
 -- END
 abbrev pub ends : Plain → Bool
@@ -65,30 +56,25 @@ names_in_head false (w ∷ ws) =
 
 -- what is limited and counted here
 pub data Counted : Type 0 where
-  Parentheses Ifs Parameters Sections : Counted
+  Parentheses Ifs Phrases Parameters Sections : Counted
 
--- word k is one too many: an opening parenthesis before which 50 are open; an IF before which 64 are open; a name with
--- which its head has 34, its own and 33 parameters; the first word of a head before which 256 sections have ended
+-- word k is one too many: an opening parenthesis before which 50 are open; an IF before which 64 are open; a FOR before
+-- which 16 phrases are open; a name with which its head has 34, its own and 33 parameters; the first word of a head
+-- before which 256 sections have ended
 abbrev pub IsOneTooMany : Counted → List Plain → ℕ → Type 0
 IsOneTooMany Parentheses ws k =
     (first (drop k ws) ≡ Some (mark (m.Sign s.Open))) × (count opens (take k ws) ≡ count closes (take k ws) + 50)
 IsOneTooMany Ifs ws k =
     (first (drop k ws) ≡ Some (mark (m.Reserved r.If))) × (count branches (take k ws) ≡ count rejoins (take k ws) + 64)
+IsOneTooMany Phrases ws k =
+    (first (drop k ws) ≡ Some (mark (m.Reserved r.For))) × (open_phrases (take k ws) ≡ 16)
 IsOneTooMany Parameters ws k =
     (n : Name) × (first (drop k ws) ≡ Some (name n)) × (names_in_head false (behind_end (take (k + 1) ws)) ≡ 34)
 IsOneTooMany Sections ws k = (is_head (first (drop k ws)) ≡ true) × (count ends (take k ws) ≡ 256)
 
--- word k is a FOR before which its section has at least 16 more FORs than LOOPs
-abbrev pub IsDeepPhrase : List Plain → ℕ → Type 0
-IsDeepPhrase ws k =
-    (first (drop k ws) ≡ Some (mark (m.Reserved r.For)))
-    × (count repeats (behind_end (take k ws)) + 16 ≤ count phrases (behind_end (take k ws)))
-
--- a word that passes a limit is one too many by counting, or it is FOR behind so many FORs
+-- a word that passes a limit is one too many by counting
 abbrev pub LimitIsCounted : Type 0
-LimitIsCounted =
-    (ws : List Plain) (k : ℕ) → PassesLimit ws k
-    → ((c : Counted) × IsOneTooMany c ws k) ⊎ IsDeepPhrase ws k
+LimitIsCounted = (ws : List Plain) (k : ℕ) → PassesLimit ws k → (c : Counted) × IsOneTooMany c ws k
 
 -- a word that is one too many by counting passes a limit, where no word before it does and programs go on with it
 abbrev pub CountPassesLimit : Type 0

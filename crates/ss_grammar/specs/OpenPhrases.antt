@@ -1,0 +1,76 @@
+-- The FOR phrases that are open, by one scan over the words.
+use Rattle.std.specs.Prelude.{ℕ, suc, Bool, true, false, if◌then◌else◌, List, [], ◌∷◌}
+use Rattle.ss_words.specs.declared.mark.Mark.TheVariants as m
+use Rattle.ss_words.specs.declared.word.Sign.TheVariants as s
+use Rattle.ss_words.specs.declared.reserved.Reserved.TheVariants as r
+use Rattle.ss_words.specs.Plain.{Plain, name, number, mark}
+
+-- what may be open: FOR, up to the end of what its phrase controls; DO, up to its LOOP; IF, up to its ALWAYS
+pub data Open : Type 0 where
+  For Do If : Open
+
+-- what stays open where the statement of the innermost phrases begins, or ends: they hold no further FOR
+abbrev pub settled : List Open → List Open
+settled (For ∷ os) = settled os
+settled os = os
+
+-- what stays open behind LOOP or ALWAYS: it closes the innermost DO or IF, and the phrases that control it
+abbrev pub closed : List Open → List Open
+closed [] = []
+closed (o ∷ os) = settled os
+
+-- a word with which a statement begins in which no other stands
+abbrev pub begins : Plain → Bool
+begins (mark (m.Reserved r.Let)) = true
+begins (mark (m.Reserved r.Add)) = true
+begins (mark (m.Reserved r.Subtract)) = true
+begins (mark (m.Reserved r.Create)) = true
+begins (mark (m.Reserved r.Destroy)) = true
+begins (mark (m.Reserved r.File)) = true
+begins (mark (m.Reserved r.Remove)) = true
+begins (mark (m.Reserved r.Call)) = true
+begins (mark (m.Reserved r.Return)) = true
+begins (mark (m.Reserved r.Stop)) = true
+begins (mark (m.Reserved r.Schedule)) = true
+begins (mark (m.Reserved r.Cancel)) = true
+begins (mark (m.Reserved r.Start)) = true
+begins (mark (m.Reserved r.Read)) = true
+begins (mark (m.Reserved r.Print)) = true
+begins (mark (m.Reserved r.Skip)) = true
+begins (mark (m.Reserved r.Find)) = true
+begins (mark (m.Reserved r.Compute)) = true
+begins _ = false
+
+-- a word with which a phrase may end; a name directly behind it begins an assignment without LET
+abbrev pub may_end : Plain → Bool
+may_end (name n) = true
+may_end (number n) = true
+may_end (mark (m.Sign s.Close)) = true
+may_end (mark (m.Reserved r.Empty)) = true
+may_end (mark (m.Reserved r.Order)) = true
+may_end _ = false
+
+-- what is open behind a word where os is open before it, and b says whether the word before it may end a phrase
+abbrev pub step : Bool → List Open → Plain → List Open
+step b os (mark (m.Reserved r.For)) = For ∷ os
+step b os (mark (m.Reserved r.Do)) = Do ∷ os
+step b os (mark (m.Reserved r.If)) = If ∷ os
+step b os (mark (m.Reserved r.Loop)) = closed os
+step b os (mark (m.Reserved r.Always)) = closed os
+step b os (name n) = if b then settled os else os
+step b os w = if begins w then settled os else os
+
+-- what is open behind words, the innermost first
+abbrev pub open_behind : Bool → List Open → List Plain → List Open
+open_behind b os [] = os
+open_behind b os (w ∷ ws) = open_behind (may_end w) (step b os w) ws
+
+-- how many of them are phrases
+abbrev pub phrases_of : List Open → ℕ
+phrases_of [] = 0
+phrases_of (For ∷ os) = suc (phrases_of os)
+phrases_of (o ∷ os) = phrases_of os
+
+-- how many phrases are open behind the words of a text
+abbrev pub open_phrases : List Plain → ℕ
+open_phrases ws = phrases_of (open_behind false [] ws)
