@@ -1,5 +1,7 @@
 //! Reading the clauses of EVERY and SYSTEM.
-ghost use Rattle.std.specs.Prelude.{IfSome, IfOk, length, map, ◌≤◌, ◌<◌};
+ghost use Rattle.std.specs.Prelude.{IfSome, IfOk, Some, length, map, ◌≤◌, ◌<◌};
+ghost use Rattle.ss_words.specs.declared.mark.Mark.TheVariants as mark;
+ghost use Rattle.ss_words.specs.Plain as plain;
 ghost use Rattle.ss_words.specs.Reading.{Gives, option_view};
 ghost use Rattle.ss_words.specs.Lists.{several_view};
 ghost use Rattle.ss_preamble.specs.ItemReading as reading;
@@ -50,16 +52,31 @@ fn next_clause(cursor: &mut Cursor<'_>) -> Result<Option<Clause>, Refusal>
     ensures shorter { length cursor.new ≤ length cursor.old }
     ensures taken { IfOk result (λ o. IfSome o (λ _. length cursor.new < length cursor.old)) }
 {
-    Ok(match cursor.peek() {
-        Some(Plain::Mark(Mark::Reserved(Reserved::Has))) => {
+    match cursor.peek() {
+        Some(Plain::Mark(Mark::Reserved(word))) => clause_by(cursor, *word),
+        _ => Ok(None),
+    }
+}
+
+/// The clause that begins with this word, the next one; nothing where none begins with it.
+#[tactic(auto, unfolding(crate::proofs::Unfoldings::steps_by_word))]
+fn clause_by(cursor: &mut Cursor<'_>, word: Reserved) -> Result<Option<Clause>, Refusal>
+    requires { 0 < length cursor.now }
+    ensures exact { Gives (option_view clause_view) result cursor.new
+        (reading.clause_by (Some (plain.mark (mark.Reserved word))) cursor.old) }
+    ensures shorter { length cursor.new ≤ length cursor.old }
+    ensures taken { IfOk result (λ o. IfSome o (λ _. length cursor.new < length cursor.old)) }
+{
+    Ok(match word {
+        Reserved::Has => {
             cursor.pass();
             Some(Clause::Has(cursor.names()?))
         }
-        Some(Plain::Mark(Mark::Reserved(Reserved::Owns))) => {
+        Reserved::Owns => {
             cursor.pass();
             Some(Clause::Owns(cursor.names()?))
         }
-        Some(Plain::Mark(Mark::Reserved(Reserved::Belongs))) => {
+        Reserved::Belongs => {
             cursor.pass();
             cursor.expect(Mark::Reserved(Reserved::To))?;
             Some(Clause::BelongsTo(cursor.names()?))

@@ -28,7 +28,7 @@ const MOST_SETS: usize = 64;
 const MOST_KEYS: usize = 8;
 
 /// What the names count to that stand behind a word.
-#[derive(Clone, Copy, Debug, PartialEq, Eq)]
+#[derive(Clone, Copy)]
 pub enum Counted {
     NoNames,
     /// Behind INCLUDE and EVERY.
@@ -44,7 +44,7 @@ pub enum Counted {
 }
 
 /// What a word counts to.
-#[derive(Clone, Copy, Debug)]
+#[derive(Clone, Copy)]
 pub enum Role<'a> {
     Class(&'a [u8]),
     /// An attribute of this class.
@@ -57,7 +57,7 @@ pub enum Role<'a> {
 }
 
 /// What the words before a place say of the names behind it.
-#[derive(Clone, Copy, Debug)]
+#[derive(Clone, Copy)]
 pub struct Standing<'a> {
     pub counted: Counted,
     /// The class to which HAS gives attributes; `None` where it gives variables to the system.
@@ -67,7 +67,7 @@ pub struct Standing<'a> {
 }
 
 /// What was counted.
-#[derive(Debug, Drop)]
+#[derive(Drop)]
 pub struct Tally<'a> {
     pub classes: Vec<&'a [u8]>,
     /// The class of each attribute.

@@ -1,8 +1,10 @@
 //! Reading the items of a preamble.
-ghost use Rattle.std.specs.Prelude.{IfSome, IfOk, IsTrue, length, ◌≤◌, ◌<◌};
+ghost use Rattle.std.specs.Prelude.{IfSome, IfOk, IsTrue, Some, length, ◌≤◌, ◌<◌, ◌-◌};
 ghost use Rattle.ss_words.specs.declared.mark.Mark.TheVariants as mark;
 ghost use Rattle.ss_words.specs.Plain.{word_lines};
-ghost use Rattle.ss_words.specs.Reading.{Gives, option_view};
+ghost use Rattle.ss_words.specs.declared.reserved.Reserved.TheVariants as reserved;
+ghost use Rattle.ss_words.specs.Plain as plain;
+ghost use Rattle.ss_words.specs.Reading.{Gives, option_view, rest_of};
 ghost use Rattle.ss_words.specs.Lists.{several_view};
 ghost use Rattle.ss_preamble.specs.ItemReading as reading;
 ghost use Rattle.ss_preamble.specs.ItemsAtLines as lined;
@@ -71,97 +73,99 @@ fn next_item(cursor: &mut Cursor<'_>) -> Result<Option<Item>, Refusal>
     ensures shorter { length cursor.new ≤ length cursor.old }
     ensures taken { IfOk result (λ o. IfSome o (λ _. length cursor.new < length cursor.old)) }
 {
-    let Some(Plain::Mark(Mark::Reserved(word))) = cursor.peek() else {
-        return Ok(None);
-    };
-    Ok(match *word {
-        Reserved::Normally => {
-            cursor.pass();
-            Some(normally(cursor)?)
-        }
-        Reserved::Permanent => {
-            cursor.pass();
-            Some(heading(cursor, Heading::PermanentEntities, Reserved::Entities)?)
-        }
-        Reserved::Temporary => {
-            cursor.pass();
-            Some(heading(cursor, Heading::TemporaryEntities, Reserved::Entities)?)
-        }
-        Reserved::Event => {
-            cursor.pass();
-            Some(heading(cursor, Heading::EventNotices, Reserved::Notices)?)
-        }
-        Reserved::Every => {
-            cursor.pass();
-            Some(every(cursor)?)
-        }
-        Reserved::System => {
-            cursor.pass();
-            Some(Item::OfSystem(clauses(cursor)?))
-        }
-        Reserved::Define => {
-            cursor.pass();
-            Some(Item::Defines(definition(cursor)?))
-        }
-        Reserved::Priority => {
-            cursor.pass();
-            Some(Item::Orders(priority(cursor)?))
-        }
-        Reserved::Break => {
-            cursor.pass();
-            Some(Item::Orders(ties(cursor)?))
-        }
-        Reserved::External => {
-            cursor.pass();
-            Some(Item::Orders(external(cursor)?))
-        }
-        _ => None,
-    })
+    match cursor.peek() {
+        Some(Plain::Mark(Mark::Reserved(word))) => item_by(cursor, *word),
+        _ => Ok(None),
+    }
 }
 
-/// `MODE IS INTEGER`, behind NORMALLY.
-#[tactic(auto, unfolding(crate::proofs::Unfoldings::steps, crate::specs::ItemReading::normally_with))]
-fn normally(cursor: &mut Cursor<'_>) -> Result<Item, Refusal>
-    ensures exact { Gives item_view result cursor.new (reading.normally_with cursor.old) }
+/// The item that begins with this word, the next one; nothing where none begins with it.
+#[tactic(auto, unfolding(crate::proofs::Unfoldings::steps_by_word))]
+fn item_by(cursor: &mut Cursor<'_>, word: Reserved) -> Result<Option<Item>, Refusal>
+    requires { 0 < length cursor.now }
+    ensures exact { Gives (option_view item_view) result cursor.new
+        (reading.item_by (Some (plain.mark (mark.Reserved word))) cursor.old) }
     ensures shorter { length cursor.new ≤ length cursor.old }
+    ensures taken { IfOk result (λ o. IfSome o (λ _. length cursor.new < length cursor.old)) }
 {
+    let item = match word {
+        Reserved::Normally => normally(cursor),
+        Reserved::Permanent => heading(cursor, Heading::PermanentEntities, Reserved::Entities),
+        Reserved::Temporary => heading(cursor, Heading::TemporaryEntities, Reserved::Entities),
+        Reserved::Event => heading(cursor, Heading::EventNotices, Reserved::Notices),
+        Reserved::Every => every(cursor),
+        Reserved::System => of_system(cursor),
+        Reserved::Define => definition(cursor),
+        Reserved::Priority => priority(cursor),
+        Reserved::Break => ties(cursor),
+        Reserved::External => external(cursor),
+        _ => return Ok(None),
+    };
+    Ok(Some(item?))
+}
+
+/// `SYSTEM clause {clause}`, from its first word on.
+#[tactic(auto, unfolding(crate::proofs::Unfoldings::steps_by_word))]
+fn of_system(cursor: &mut Cursor<'_>) -> Result<Item, Refusal>
+    ensures exact { Gives (λ i. Some (item_view i)) result cursor.new
+        (reading.item_by (Some (plain.mark (mark.Reserved reserved.System))) cursor.old) }
+    ensures shorter { length cursor.new ≤ length cursor.old - 1 }
+{
+    cursor.pass();
+    Ok(Item::OfSystem(clauses(cursor)?))
+}
+
+/// `NORMALLY MODE IS INTEGER`, from its first word on.
+#[tactic(auto, unfolding(crate::proofs::Unfoldings::steps_by_word, crate::specs::ItemReading::normally_with))]
+fn normally(cursor: &mut Cursor<'_>) -> Result<Item, Refusal>
+    ensures exact { Gives (λ i. Some (item_view i)) result cursor.new
+        (reading.item_by (Some (plain.mark (mark.Reserved reserved.Normally))) cursor.old) }
+    ensures shorter { length cursor.new ≤ length cursor.old - 1 }
+{
+    cursor.pass();
     cursor.expect(Mark::Reserved(Reserved::Mode))?;
     cursor.expect(Mark::Reserved(Reserved::Is))?;
     cursor.expect(Mark::Reserved(Reserved::Integer))?;
     Ok(Item::Normally)
 }
 
-/// The second word of a heading and `[INCLUDE names]`.
+/// A heading from its first word on: this second word and `[INCLUDE names]` behind it.
 #[tactic(auto, unfolding(crate::proofs::Unfoldings::steps, crate::specs::ItemReading::heading_with))]
 fn heading(cursor: &mut Cursor<'_>, heading: Heading, second: Reserved) -> Result<Item, Refusal>
-    ensures exact { Gives item_view result cursor.new (reading.heading_with heading (mark.Reserved second) cursor.old) }
-    ensures shorter { length cursor.new ≤ length cursor.old }
+    ensures exact { Gives item_view result cursor.new
+        (reading.heading_with heading (mark.Reserved second) (rest_of cursor.old)) }
+    ensures shorter { length cursor.new ≤ length cursor.old - 1 }
 {
+    cursor.pass();
     cursor.expect(Mark::Reserved(second))?;
     let included = cursor.names_behind(Mark::Reserved(Reserved::Include))?;
     Ok(Item::Headed { heading, included })
 }
 
-/// `name clause {clause}`, behind EVERY.
-#[tactic(auto, unfolding(crate::proofs::Unfoldings::steps, crate::specs::ItemReading::every_with))]
+/// `EVERY name clause {clause}`, from its first word on.
+#[tactic(auto, unfolding(crate::proofs::Unfoldings::steps_by_word, crate::specs::ItemReading::every_with))]
 fn every(cursor: &mut Cursor<'_>) -> Result<Item, Refusal>
-    ensures exact { Gives item_view result cursor.new (reading.every_with cursor.old) }
-    ensures shorter { length cursor.new ≤ length cursor.old }
+    ensures exact { Gives (λ i. Some (item_view i)) result cursor.new
+        (reading.item_by (Some (plain.mark (mark.Reserved reserved.Every))) cursor.old) }
+    ensures shorter { length cursor.new ≤ length cursor.old - 1 }
 {
+    cursor.pass();
     let class = cursor.name()?;
     let clauses = clauses(cursor)?;
     Ok(Item::OfEvery { class, clauses })
 }
 
-/// `names AS` and what they are, behind DEFINE.
-#[tactic(auto, unfolding(crate::proofs::Unfoldings::steps, crate::specs::ItemReading::definition_with))]
-fn definition(cursor: &mut Cursor<'_>) -> Result<Definition, Refusal>
-    ensures exact { Gives definition_view result cursor.new (reading.definition_with cursor.old) }
-    ensures shorter { length cursor.new ≤ length cursor.old }
+/// `DEFINE names AS` and what they are, from the first word on.
+#[tactic(auto, unfolding(crate::proofs::Unfoldings::steps_by_word, crate::specs::ItemReading::definition_with))]
+fn definition(cursor: &mut Cursor<'_>) -> Result<Item, Refusal>
+    ensures exact { Gives (λ i. Some (item_view i)) result cursor.new
+        (reading.item_by (Some (plain.mark (mark.Reserved reserved.Define))) cursor.old) }
+    ensures shorter { length cursor.new ≤ length cursor.old - 1 }
 {
+    cursor.pass();
     let names = cursor.names()?;
     cursor.expect(Mark::Reserved(Reserved::As))?;
-    definition_of(cursor, names)
+    Ok(Item::Defines(definition_of(cursor, names)?))
 }
 
 /// `INTEGER VARIABLES | FIFO SETS | LIFO SETS | SETS RANKED keys`, behind the names of a DEFINE and
@@ -173,12 +177,29 @@ fn definition_of(cursor: &mut Cursor<'_>, names: Names) -> Result<Definition, Re
     ensures shorter { length cursor.new ≤ length cursor.old }
 {
     match cursor.peek() {
-        Some(Plain::Mark(Mark::Reserved(Reserved::Integer))) => {
+        Some(Plain::Mark(Mark::Reserved(word))) => definition_by(cursor, names, *word),
+        _ => Err(Refusal::Unexpected),
+    }
+}
+
+/// The same, where this is the next word.
+#[tactic(auto, unfolding(crate::proofs::Unfoldings::steps_by_word))]
+fn definition_by(
+    cursor: &mut Cursor<'_>,
+    names: Names,
+    word: Reserved,
+) -> Result<Definition, Refusal>
+    ensures exact { Gives definition_view result cursor.new
+        (reading.definition_by (several_view (λ n. n.items) names) (Some (plain.mark (mark.Reserved word))) cursor.old) }
+    ensures shorter { length cursor.new ≤ length cursor.old }
+{
+    match word {
+        Reserved::Integer => {
             cursor.pass();
             cursor.expect(Mark::Reserved(Reserved::Variables))?;
             Ok(Definition::Variables(names))
         }
-        Some(Plain::Mark(Mark::Reserved(Reserved::Fifo))) => {
+        Reserved::Fifo => {
             cursor.pass();
             cursor.expect(Mark::Reserved(Reserved::Sets))?;
             Ok(Definition::Sets {
@@ -186,7 +207,7 @@ fn definition_of(cursor: &mut Cursor<'_>, names: Names) -> Result<Definition, Re
                 kind: SetKind::Fifo,
             })
         }
-        Some(Plain::Mark(Mark::Reserved(Reserved::Lifo))) => {
+        Reserved::Lifo => {
             cursor.pass();
             cursor.expect(Mark::Reserved(Reserved::Sets))?;
             Ok(Definition::Sets {
@@ -194,7 +215,7 @@ fn definition_of(cursor: &mut Cursor<'_>, names: Names) -> Result<Definition, Re
                 kind: SetKind::Lifo,
             })
         }
-        Some(Plain::Mark(Mark::Reserved(Reserved::Sets))) => {
+        Reserved::Sets => {
             cursor.pass();
             cursor.expect(Mark::Reserved(Reserved::Ranked))?;
             let kind = SetKind::Ranked(keys(cursor)?);
@@ -204,36 +225,42 @@ fn definition_of(cursor: &mut Cursor<'_>, names: Names) -> Result<Definition, Re
     }
 }
 
-/// `ORDER IS names`, behind PRIORITY.
-#[tactic(auto, unfolding(crate::proofs::Unfoldings::steps, crate::specs::ItemReading::priority_with))]
-fn priority(cursor: &mut Cursor<'_>) -> Result<EventRule, Refusal>
-    ensures exact { Gives event_rule_view result cursor.new (reading.priority_with cursor.old) }
-    ensures shorter { length cursor.new ≤ length cursor.old }
+/// `PRIORITY ORDER IS names`, from its first word on.
+#[tactic(auto, unfolding(crate::proofs::Unfoldings::steps_by_word, crate::specs::ItemReading::priority_with))]
+fn priority(cursor: &mut Cursor<'_>) -> Result<Item, Refusal>
+    ensures exact { Gives (λ i. Some (item_view i)) result cursor.new
+        (reading.item_by (Some (plain.mark (mark.Reserved reserved.Priority))) cursor.old) }
+    ensures shorter { length cursor.new ≤ length cursor.old - 1 }
 {
+    cursor.pass();
     cursor.expect(Mark::Reserved(Reserved::Order))?;
     cursor.expect(Mark::Reserved(Reserved::Is))?;
-    Ok(EventRule::PriorityOrder(cursor.names()?))
+    Ok(Item::Orders(EventRule::PriorityOrder(cursor.names()?)))
 }
 
-/// `name TIES keys`, behind BREAK.
-#[tactic(auto, unfolding(crate::proofs::Unfoldings::steps, crate::specs::ItemReading::break_with))]
-fn ties(cursor: &mut Cursor<'_>) -> Result<EventRule, Refusal>
-    ensures exact { Gives event_rule_view result cursor.new (reading.break_with cursor.old) }
-    ensures shorter { length cursor.new ≤ length cursor.old }
+/// `BREAK name TIES keys`, from its first word on.
+#[tactic(auto, unfolding(crate::proofs::Unfoldings::steps_by_word, crate::specs::ItemReading::break_with))]
+fn ties(cursor: &mut Cursor<'_>) -> Result<Item, Refusal>
+    ensures exact { Gives (λ i. Some (item_view i)) result cursor.new
+        (reading.item_by (Some (plain.mark (mark.Reserved reserved.Break))) cursor.old) }
+    ensures shorter { length cursor.new ≤ length cursor.old - 1 }
 {
+    cursor.pass();
     let event = cursor.name()?;
     cursor.expect(Mark::Reserved(Reserved::Ties))?;
     let keys = keys(cursor)?;
-    Ok(EventRule::BreakTies { event, keys })
+    Ok(Item::Orders(EventRule::BreakTies { event, keys }))
 }
 
-/// `EVENTS ARE names`, behind EXTERNAL.
-#[tactic(auto, unfolding(crate::proofs::Unfoldings::steps, crate::specs::ItemReading::external_with))]
-fn external(cursor: &mut Cursor<'_>) -> Result<EventRule, Refusal>
-    ensures exact { Gives event_rule_view result cursor.new (reading.external_with cursor.old) }
-    ensures shorter { length cursor.new ≤ length cursor.old }
+/// `EXTERNAL EVENTS ARE names`, from its first word on.
+#[tactic(auto, unfolding(crate::proofs::Unfoldings::steps_by_word, crate::specs::ItemReading::external_with))]
+fn external(cursor: &mut Cursor<'_>) -> Result<Item, Refusal>
+    ensures exact { Gives (λ i. Some (item_view i)) result cursor.new
+        (reading.item_by (Some (plain.mark (mark.Reserved reserved.External))) cursor.old) }
+    ensures shorter { length cursor.new ≤ length cursor.old - 1 }
 {
+    cursor.pass();
     cursor.expect(Mark::Reserved(Reserved::Events))?;
     cursor.expect(Mark::Reserved(Reserved::Are))?;
-    Ok(EventRule::ExternalEvents(cursor.names()?))
+    Ok(Item::Orders(EventRule::ExternalEvents(cursor.names()?)))
 }
