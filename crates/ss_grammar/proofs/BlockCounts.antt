@@ -138,13 +138,16 @@ module _ (from : Place) (n i fs : ℕ) where
         → (let x : Read A = goes_on (λ u. elim u [ Some a ↦ pure a | None ↦ refuse Unexpected ]) o r in
         OutAt from false n i fs x.0 ws x.1)
     unfolding pure refuse
-    must_read (Ok None) ws r e =
-        ([], e, record {
-          parentheses = omega arith;
-          ifs = omega arith;
-          phrases = λ b os z. omega arith;
-          no_end = refl;
-        })
+    must_read (Ok None) ws r e = (
+      [],
+      e,
+      record {
+        parentheses = omega arith;
+        ifs = omega arith;
+        phrases = λ b os z. omega arith;
+        no_end = refl;
+      },
+    )
     must_read (Ok (Some a)) ws r out = out
     must_read (Err Unexpected) ws r out = out
     must_read (Err Memory) ws r out = out
@@ -239,18 +242,26 @@ module _ (n i fs : ℕ) where
   at_place : {A : Type 0} (from : Place) (o : Result (Option A) Refusal) (ws r : List Plain) → FoundAt Anywhere n i fs o ws r
       → FoundAt from n i fs o ws r
   at_place from (Ok None) ws r out = out
-  at_place from (Ok (Some a)) ws r (q, e, x) = (q, e, record {
-    parentheses = x.parentheses;
-    ifs = x.ifs;
-    phrases = λ b os z. x.phrases b os tt;
-    no_end = x.no_end;
-  })
-  at_place from (Err Unexpected) ws r (q, e, x) = (q, e, record {
-    parentheses = x.parentheses;
-    ifs = x.ifs;
-    phrases = λ b os z. x.phrases b os tt;
-    no_end = x.no_end;
-  })
+  at_place from (Ok (Some a)) ws r (q, e, x) = (
+    q,
+    e,
+    record {
+      parentheses = x.parentheses;
+      ifs = x.ifs;
+      phrases = λ b os z. x.phrases b os tt;
+      no_end = x.no_end;
+    },
+  )
+  at_place from (Err Unexpected) ws r (q, e, x) = (
+    q,
+    e,
+    record {
+      parentheses = x.parentheses;
+      ifs = x.ifs;
+      phrases = λ b os z. x.phrases b os tt;
+      no_end = x.no_end;
+    },
+  )
   at_place from (Err Memory) ws r out = out
   at_place from (Err PastLimit) ws r (q, e, x) =
       (q, e, record { full = full_at from q (first r) x.full; no_end = x.no_end })
@@ -408,7 +419,7 @@ module _ (n : ℕ) where
     -- a statement that holds no other, behind a phrase or where none stands innermost
     simple_found : (from : Place)
         → ((q : List Plain) → Inner q → ((os : List Open) → open_behind true os q ≡ settled os)
-            → (b : Bool) (os : List Open) → At from b os → open_behind b os q ≡ settled os)
+        → (b : Bool) (os : List Open) → At from b os → open_behind b os q ≡ settled os)
         → (o : Result (Option Simple) Refusal) (ws r : List Plain) → PartOut n Begun o ws r
         → FoundAt from n i fs o ws r
     simple_found from keeps (Ok None) ws r (q, e, x, l, s) = e ∙ ap (λ (u : List Plain). u ++ r) s

@@ -6,7 +6,6 @@ use Rattle.ss_check.specs.declared.fault.CheckRule.{CheckRule}
 use Rattle.ss_check.specs.CheckRules.{check_rule_code}
 use Rattle.ss_check.specs.Program.{ProgramTable}
 use Rattle.ss_machine.specs.State.{State}
-use Rattle.ss_machine.specs.Moment.{Moment}
 use Rattle.ss_machine.specs.Run.{Input, input_with, run}
 use Rattle.ss_debug.specs.CommandLines.{command_lines}
 use Rattle.ss_debug.specs.Turn.{initial_session_state}
