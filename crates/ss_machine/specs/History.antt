@@ -63,9 +63,13 @@ at k ns = slice_index (behind k ns) 0
 
 -- k numbers were taken off the open step, and nothing else changed
 pub record IsTaken (k : ℕ) (old new : Log ℕ) : Type 0 where
+  -- the closed steps stay
   pub steps : new.steps ≡ old.steps
+  -- the newest k are off
   pub current : new.current ≡ behind k old.current
+  -- no room is lost
   pub notes : old.notes ≤ new.notes
+  -- nor room for a close
   pub closes : new.closes ≡ old.closes
 
 -- ---- the changes of each sort, from the numbers behind the kind, and from what is kept
@@ -83,6 +87,7 @@ value_change values.Statistics ns =
       least = unfolded (at 3 ns);
     })
 
+-- how many numbers tell such a change, beside that of its kind
 abbrev pub value_numbers : ValueKind → ℕ
 value_numbers values.Variable = 2
 value_numbers values.Local = 2
@@ -95,6 +100,7 @@ entry_of entries.Absent ns = entry.Absent
 entry_of entries.Waiting ns = entry.Waiting (at 0 ns) (narrowed (at 1 ns))
 entry_of entries.Running ns = entry.Running (at 0 ns) (narrowed (at 1 ns))
 
+-- how many numbers tell such an entry
 abbrev pub entry_numbers : EntryKind → ℕ
 entry_numbers entries.Absent = 0
 entry_numbers entries.Waiting = 2
@@ -110,6 +116,7 @@ set_change sets.Removed ns =
     stores.Removed (at 0 ns) (owner_of (at 1 ns) (at 2 ns)) (narrowed (at 3 ns)) (at 4 ns) (at 5 ns)
     (Some (narrowed (at 6 ns)))
 
+-- how many numbers tell such a change
 abbrev pub set_numbers : SetKind → ℕ
 set_numbers sets.Filed = 6
 set_numbers sets.FirstRemoved = 6
@@ -127,10 +134,12 @@ control_change controls.FrameDropped ns (kept.Frame frame ∷ os) = changes.Fram
 control_change controls.Status ns (kept.Status status ∷ os) = changes.Status status
 control_change other ns os = changes.FrameOpened
 
+-- how many numbers tell such a change
 abbrev pub control_numbers : ControlKind → ℕ
 control_numbers controls.Place = 1
 control_numbers other = 0
 
+-- and how much of it is kept as it is
 abbrev pub control_kept : ControlKind → ℕ
 control_kept controls.FrameDropped = 1
 control_kept controls.Status = 1
@@ -143,10 +152,12 @@ loop_change loops.MovedFromNone ns os = changes.LoopMoved None
 loop_change loops.Closed ns (kept.Loop closed ∷ os) = changes.LoopClosed closed
 loop_change other ns os = changes.LoopOpened
 
+-- how many numbers tell such a change
 abbrev pub loop_numbers : LoopKind → ℕ
 loop_numbers loops.Moved = 1
 loop_numbers other = 0
 
+-- and how much of it is kept as it is
 abbrev pub loop_kept : LoopKind → ℕ
 loop_kept loops.Closed = 1
 loop_kept other = 0
@@ -160,10 +171,12 @@ entity_change entities.Ended ns (kept.Values values ∷ os) =
     stores.Ended (at 0 ns) (at 1 ns) (narrowed (at 2 ns)) values
 entity_change other ns os = stores.AttributeSet (at 0 ns) (at 1 ns) (at 2 ns) (unfolded (at 3 ns))
 
+-- how many numbers tell such a change
 abbrev pub entity_numbers : EntityKind → ℕ
 entity_numbers entities.Ended = 3
 entity_numbers other = 4
 
+-- and how much of it is kept as it is
 abbrev pub entity_kept : EntityKind → ℕ
 entity_kept entities.Ended = 1
 entity_kept other = 0
@@ -181,12 +194,14 @@ time_change times.TakenOff ns (kept.Values keys ∷ os) =
     changes.Agenda (notices.TakenOff (narrowed (at 0 ns)) (notice_of ns keys) (Some (narrowed (at 4 ns))))
 time_change other ns os = changes.Clock (unfolded (at 0 ns))
 
+-- how many numbers tell such a change
 abbrev pub time_numbers : TimeKind → ℕ
 time_numbers times.Clock = 1
 time_numbers times.Scheduled = 2
 time_numbers times.FirstTakenOff = 4
 time_numbers times.TakenOff = 5
 
+-- and how much of it is kept as it is
 abbrev pub time_kept : TimeKind → ℕ
 time_kept times.FirstTakenOff = 1
 time_kept times.TakenOff = 1
@@ -194,6 +209,7 @@ time_kept other = 0
 
 -- ---- the changes of all sorts
 
+-- the change of a kind
 abbrev pub change_of : Kind → List ℕ → List Kept → Change
 change_of (kinds.Value kind) ns os = value_change kind ns
 change_of (kinds.Control kind) ns os = control_change kind ns os
@@ -230,23 +246,28 @@ changes_behind zero (n ∷ ns) os =
 changes_behind (suc k) (n ∷ ns) os = changes_behind k ns os
 changes_behind k [] os = []
 
+-- the changes of a step
 abbrev pub changes_of : List ℕ → List Kept → List Change
 changes_of ns os = changes_behind 0 ns os
 
 -- ---- what is kept is what the kinds say
 
+-- the first one kept is a frame
 abbrev pub IsFrame : List Kept → Type 0
 IsFrame (kept.Frame frame ∷ os) = Unit {0}
 IsFrame other = ⊥
 
+-- the first one kept is a status
 abbrev pub IsStatus : List Kept → Type 0
 IsStatus (kept.Status status ∷ os) = Unit {0}
 IsStatus other = ⊥
 
+-- the first one kept is a loop
 abbrev pub IsLoop : List Kept → Type 0
 IsLoop (kept.Loop closed ∷ os) = Unit {0}
 IsLoop other = ⊥
 
+-- the first one kept is values
 abbrev pub AreValues : List Kept → Type 0
 AreValues (kept.Values values ∷ os) = Unit {0}
 AreValues other = ⊥
@@ -270,56 +291,93 @@ IsWritten k [] os = os ≡ []
 
 -- a change was noted, and nothing else changed but the room
 pub record IsNoted (change : Change) (old new : Tape) : Type 0 where
+  -- the change is the newest
   pub changes : changes_of new.numbers.current new.kept.current
       ≡ change ∷ changes_of old.numbers.current old.kept.current
+  -- the open step is of whole changes, if it was
   pub written : IsWritten 0 old.numbers.current old.kept.current → IsWritten 0 new.numbers.current new.kept.current
+  -- the closed steps stay
   pub number_steps : new.numbers.steps ≡ old.numbers.steps
+  -- and what is kept of them
   pub kept_steps : new.kept.steps ≡ old.kept.steps
+  -- no room for a close is lost
   pub number_closes : new.numbers.closes ≡ old.numbers.closes
+  -- nor beside
   pub kept_closes : new.kept.closes ≡ old.kept.closes
+  -- at most so many numbers were put
   pub numbers : old.numbers.notes ≤ new.numbers.notes + 8
+  -- at most one is kept more
   pub kept : old.kept.notes ≤ new.kept.notes + 1
 
 -- a change of a kind was taken off, and nothing else changed but the room
 pub record IsRead (kind : Kind) (change : Change) (old new : Tape) : Type 0 where
+  -- the change is what these tell
   pub value : change ≡ change_of kind old.numbers.current old.kept.current
+  -- its numbers are taken off
   pub numbers_left : new.numbers.current ≡ behind (number_count kind) old.numbers.current
+  -- and what is kept of it
   pub kept_left : new.kept.current ≡ behind (kept_count kind) old.kept.current
+  -- the closed steps stay
   pub number_steps : new.numbers.steps ≡ old.numbers.steps
+  -- and what is kept of them
   pub kept_steps : new.kept.steps ≡ old.kept.steps
+  -- no room for a close is lost
   pub number_closes : new.numbers.closes ≡ old.numbers.closes
+  -- nor beside
   pub kept_closes : new.kept.closes ≡ old.kept.closes
+  -- no room for numbers is lost
   pub numbers : old.numbers.notes ≤ new.numbers.notes
+  -- nor for what is kept
   pub kept : old.kept.notes ≤ new.kept.notes
 
 -- the newest change was taken off, if there is one, and nothing else changed but the room
 pub record IsPopped (change : Option Change) (old new : Tape) : Type 0 where
+  -- the newest change is taken off, if there is one
   pub current : MatchOption change
-      ((changes_of old.numbers.current old.kept.current ≡ []) × (changes_of new.numbers.current new.kept.current ≡ []))
+      ((changes_of old.numbers.current old.kept.current ≡ [])
+      × (changes_of new.numbers.current new.kept.current ≡ []))
       (λ c. changes_of old.numbers.current old.kept.current ≡ c ∷ changes_of new.numbers.current new.kept.current)
+  -- the open step is of whole changes, if it was
   pub written : IsWritten 0 new.numbers.current new.kept.current
+  -- the closed steps stay
   pub number_steps : new.numbers.steps ≡ old.numbers.steps
+  -- and what is kept of them
   pub kept_steps : new.kept.steps ≡ old.kept.steps
+  -- no room for a close is lost
   pub number_closes : new.numbers.closes ≡ old.numbers.closes
+  -- nor beside
   pub kept_closes : new.kept.closes ≡ old.kept.closes
+  -- no room for numbers is lost
   pub numbers : old.numbers.notes ≤ new.numbers.notes
+  -- nor for what is kept
   pub kept : old.kept.notes ≤ new.kept.notes
 
 -- a notice was taken off: its time, class and filing number, and its keys from what is kept
 pub record IsNoticeRead (notice : Notice) (old new : Tape) : Type 0 where
+  -- its time is the first number
   pub time : notice.time ≡ unfolded (at 0 old.numbers.current)
+  -- its class the second
   pub class : notice.class ≡ at 1 old.numbers.current
+  -- its filing number the third
   pub filing : notice.filing ≡ at 2 old.numbers.current
+  -- its keys are kept
   pub keys : old.kept.current ≡ kept.Values notice.keys ∷ new.kept.current
+  -- three numbers are taken
   pub numbers : IsTaken 3 old.numbers new.numbers
+  -- and what is kept of them
   pub kept_steps : new.kept.steps ≡ old.kept.steps
+  -- nor beside
   pub kept_closes : new.kept.closes ≡ old.kept.closes
+  -- nor for what is kept
   pub kept : old.kept.notes ≤ new.kept.notes
 
 -- numbers were put in front of others, and before them that of a kind
 pub record IsHeaded (kind : Kind) (fields others all : List ℕ) : Type 0 where
+  -- the number of the kind
   pub number : ℕ
+  -- it tells the kind
   pub tells : kind_of number ≡ kind
+  -- the number, the others behind it
   pub current : all ≡ number ∷ (fields ++ others)
 
 -- ---- steps

@@ -19,41 +19,49 @@ use Rattle.ss_machine.specs.declared.kind.EntryKind.TheVariants as entries
 use Rattle.ss_machine.specs.declared.kind.TextKind.{TextKind}
 use Rattle.ss_machine.specs.declared.kind.TextKind.TheVariants as texts
 
+-- the kind of a change of what a variable, FIND or COMPUTE holds, by its number among these
 abbrev pub value_kind_of : ℕ → ValueKind
 value_kind_of n =
     if n == 0 then values.Variable
     else (if n == 1 then values.Local else (if n == 2 then values.Found else values.Statistics))
 
+-- the same of where the run stands
 abbrev pub control_kind_of : ℕ → ControlKind
 control_kind_of n =
     if n == 0 then controls.Place
     else (if n == 1 then controls.FrameOpened else (if n == 2 then controls.FrameDropped else controls.Status))
 
+-- the same of open loops
 abbrev pub loop_kind_of : ℕ → LoopKind
 loop_kind_of n =
     if n == 0 then loops.Opened
     else (if n == 1 then loops.Moved else (if n == 2 then loops.MovedFromNone else loops.Closed))
 
+-- the same of entities
 abbrev pub entity_kind_of : ℕ → EntityKind
 entity_kind_of n =
     if n == 0 then entities.Created
     else (if n == 1 then entities.ClassCreated else (if n == 2 then entities.AttributeSet else entities.Ended))
 
+-- the same of sets
 abbrev pub set_kind_of : ℕ → SetKind
 set_kind_of n = if n == 0 then sets.Filed else (if n == 1 then sets.FirstRemoved else sets.Removed)
 
+-- the same of the clock and the event list
 abbrev pub time_kind_of : ℕ → TimeKind
 time_kind_of n =
     if n == 0 then times.Clock
     else (if n == 1 then times.Scheduled else (if n == 2 then times.FirstTakenOff else times.TakenOff))
 
+-- the same of the entry of an external event
 abbrev pub entry_kind_of : ℕ → EntryKind
 entry_kind_of n = if n == 0 then entries.Absent else (if n == 1 then entries.Waiting else entries.Running)
 
+-- the same of data and report
 abbrev pub text_kind_of : ℕ → TextKind
 text_kind_of n = if n == 0 then texts.Taken else texts.Report
 
--- the kind that a number tells, four numbers for each sort
+-- the kind of this number among those of a sort
 abbrev pub kind_by : ℕ → ℕ → Kind
 kind_by sort which =
     if sort == 0 then Value (value_kind_of which)
@@ -65,5 +73,6 @@ kind_by sort which =
     else (if sort == 6 then Entry (entry_kind_of which)
     else Text (text_kind_of which)))))))
 
+-- the kind that a number tells
 abbrev pub kind_of : ℕ → Kind
 kind_of n = kind_by (n / 4) (n % 4)
