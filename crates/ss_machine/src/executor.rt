@@ -605,7 +605,8 @@ impl<S: SetBoard> Executor<S> {
         ensures notes { Notes 1 self.old self.new }
     {
         program.known();
-        let mut given = Vec::new(self.alloc);
+        let locals = program.section(call.section).locals.len();
+        let mut given = Vec::with_capacity(self.alloc, locals)?;
         match values(self.held.view(), &call.given, &mut given) {
             Ok(()) => {}
             Err(StepFault::Fault(fault)) => {

@@ -77,8 +77,7 @@ impl FrameBox {
     {
         let count = program.section(section).locals.len();
         let mut locals = values;
-        let mut zeros = vec![in alloc; 0; count - locals.len()]?;
-        locals.append(&mut zeros)?;
+        locals.resize(count, 0)?;
         let frame = Frame {
             section,
             place: 0,

@@ -244,7 +244,7 @@ impl<S: SetBoard> Executor<S> {
         let variable = class_variable(program, slot.class);
         let number = event_section(program, slot.class);
         let section = program.section(number);
-        let mut parameters = Vec::new(self.alloc);
+        let mut parameters = Vec::with_capacity(self.alloc, section.locals.len())?;
         self.held
             .first_attributes(slot.class, section.given, notice, &mut parameters)?;
         self.advance(notice, slot.time);
