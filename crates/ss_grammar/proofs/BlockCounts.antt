@@ -1,5 +1,5 @@
 -- What the reading of statements has counted where it stops.
-use Rattle.std.proofs.Common.{◌≡◌, ◌⊎◌, ℕ, zero, suc, ◌+◌, ◌≤◌, ◌<◌, Bool, true, false, List, [], ◌∷◌, ◌++◌, Option}
+use Rattle.std.proofs.Common.{◌≡◌, ◌⊎◌, ℕ, zero, suc, ◌≤◌, ◌<◌, Bool, true, false, List, [], ◌∷◌, ◌++◌, Option}
 use Rattle.std.proofs.Common.{Some, None, Result, Ok, Err, refl, sym, ap, subst, ◌∙◌, append_assoc, arith}
 use mathlib.Core.Logic.{inl, inr}
 use Rattle.ss_words.specs.declared.refusal.Refusal.{Refusal}
@@ -25,7 +25,7 @@ use Rattle.ss_grammar.specs.Tree.{Block, Controlled}
 use Rattle.ss_grammar.specs.BlockReading.{Branching, Looping, otherwise_of, one_of, statement_of, block_of}
 use Rattle.ss_grammar.specs.BlockReading.{controlled_of, branch_with, one_with, statement_with, block_with}
 use Rattle.ss_grammar.specs.BlockReading.{controlled_with, loop_in, branch_at, block_at}
-use Rattle.ss_grammar.specs.Counts.{count, opens, closes}
+use Rattle.ss_grammar.specs.Counts.{opens, closes}
 use Rattle.ss_grammar.specs.OneTooMany.{branches, rejoins, ends}
 use Rattle.ss_grammar.specs.OpenPhrases.{Open, For, settled, step, open_behind, phrases_of}
 use Rattle.ss_grammar.proofs.SimpleLaw.{simple_law}
