@@ -1,5 +1,5 @@
 -- What the reading of statements has counted where it stops.
-use Rattle.std.proofs.Common.{◌≡◌, ◌⊎◌, ℕ, zero, suc, ◌+◌, ◌≤◌, ◌<◌, Bool, true, false, List, [], ◌∷◌, ◌++◌, Option}
+use Rattle.std.proofs.Common.{◌≡◌, ◌⊎◌, ℕ, zero, suc, ◌≤◌, ◌<◌, Bool, true, false, List, [], ◌∷◌, ◌++◌, Option}
 use Rattle.std.proofs.Common.{Some, None, Result, Ok, Err, refl, sym, ap, subst, ◌∙◌, append_assoc, arith}
 use mathlib.Core.Logic.{inl, inr}
 use Rattle.ss_words.specs.declared.refusal.Refusal.{Refusal}
@@ -25,7 +25,7 @@ use Rattle.ss_grammar.specs.Tree.{Block, Controlled}
 use Rattle.ss_grammar.specs.BlockReading.{Branching, Looping, otherwise_of, one_of, statement_of, block_of}
 use Rattle.ss_grammar.specs.BlockReading.{controlled_of, branch_with, one_with, statement_with, block_with}
 use Rattle.ss_grammar.specs.BlockReading.{controlled_with, loop_in, branch_at, block_at}
-use Rattle.ss_grammar.specs.Counts.{count, opens, closes}
+use Rattle.ss_grammar.specs.Counts.{opens, closes}
 use Rattle.ss_grammar.specs.OneTooMany.{branches, rejoins, ends}
 use Rattle.ss_grammar.specs.OpenPhrases.{Open, For, settled, step, open_behind, phrases_of}
 use Rattle.ss_grammar.proofs.SimpleLaw.{simple_law}
@@ -36,8 +36,8 @@ use Rattle.ss_grammar.proofs.Tally.{count-append, Leaves, plain_word}
 use Rattle.ss_grammar.proofs.Inner.{builds, Inner, also, inner_simple, inner_phrase, inner_compute, inner_question}
 use Rattle.ss_grammar.proofs.OpenWords.{ended_by, behind_both, inner_stays, inner_opens_none, begun}
 use Rattle.ss_grammar.proofs.Operands.{Walks, a_phrase, begun_simple}
-use Rattle.ss_grammar.proofs.Counting.{Place, Anywhere, Settled, Behind, At, EvenAt, Even, RoomAt, FullAt, PastAt, OutAt}
-use Rattle.ss_grammar.proofs.Counting.{Out, Tally, nothing, plain, pure_tally, bind_tally, expect_tally, eat_tally}
+use Rattle.ss_grammar.proofs.Counting.{Place, Anywhere, Settled, Behind, At, EvenAt, Even, RoomAt, FullAt, PastAt}
+use Rattle.ss_grammar.proofs.Counting.{OutAt, Out, Tally, nothing, plain, pure_tally, bind_tally, expect_tally, eat_tally}
 use Rattle.ss_grammar.proofs.Counting.{many_tally, Encloses, Shuts, bind_shuts, made_shuts, close_shuts, enclosed_at}
 use Rattle.ss_grammar.proofs.Counting.{none_of, branches_build, rejoins_build, ends_build, Refused, PartOut, Part, part}
 use Rattle.ss_grammar.proofs.Counting.{part_even, part_room, part_past, part_tally}
@@ -138,13 +138,16 @@ module _ (from : Place) (n i fs : ℕ) where
         → (let x : Read A = goes_on (λ u. elim u [ Some a ↦ pure a | None ↦ refuse Unexpected ]) o r in
         OutAt from false n i fs x.0 ws x.1)
     unfolding pure refuse
-    must_read (Ok None) ws r e =
-        ([], e, record {
-          parentheses = omega arith;
-          ifs = omega arith;
-          phrases = λ b os z. omega arith;
-          no_end = refl;
-        })
+    must_read (Ok None) ws r e = (
+      [],
+      e,
+      record {
+        parentheses = omega arith;
+        ifs = omega arith;
+        phrases = λ b os z. omega arith;
+        no_end = refl;
+      },
+    )
     must_read (Ok (Some a)) ws r out = out
     must_read (Err Unexpected) ws r out = out
     must_read (Err Memory) ws r out = out
@@ -236,21 +239,29 @@ module _ (n i fs : ℕ) where
   full_at from q _ f = absurd f
 
   -- what may begin anywhere
-  at_place : {A : Type 0} (from : Place) (o : Result (Option A) Refusal) (ws r : List Plain) → FoundAt Anywhere n i fs o ws r
-      → FoundAt from n i fs o ws r
+  at_place : {A : Type 0} (from : Place) (o : Result (Option A) Refusal) (ws r : List Plain)
+      → FoundAt Anywhere n i fs o ws r → FoundAt from n i fs o ws r
   at_place from (Ok None) ws r out = out
-  at_place from (Ok (Some a)) ws r (q, e, x) = (q, e, record {
-    parentheses = x.parentheses;
-    ifs = x.ifs;
-    phrases = λ b os z. x.phrases b os tt;
-    no_end = x.no_end;
-  })
-  at_place from (Err Unexpected) ws r (q, e, x) = (q, e, record {
-    parentheses = x.parentheses;
-    ifs = x.ifs;
-    phrases = λ b os z. x.phrases b os tt;
-    no_end = x.no_end;
-  })
+  at_place from (Ok (Some a)) ws r (q, e, x) = (
+    q,
+    e,
+    record {
+      parentheses = x.parentheses;
+      ifs = x.ifs;
+      phrases = λ b os z. x.phrases b os tt;
+      no_end = x.no_end;
+    },
+  )
+  at_place from (Err Unexpected) ws r (q, e, x) = (
+    q,
+    e,
+    record {
+      parentheses = x.parentheses;
+      ifs = x.ifs;
+      phrases = λ b os z. x.phrases b os tt;
+      no_end = x.no_end;
+    },
+  )
   at_place from (Err Memory) ws r out = out
   at_place from (Err PastLimit) ws r (q, e, x) =
       (q, e, record { full = full_at from q (first r) x.full; no_end = x.no_end })
@@ -408,7 +419,7 @@ module _ (n : ℕ) where
     -- a statement that holds no other, behind a phrase or where none stands innermost
     simple_found : (from : Place)
         → ((q : List Plain) → Inner q → ((os : List Open) → open_behind true os q ≡ settled os)
-            → (b : Bool) (os : List Open) → At from b os → open_behind b os q ≡ settled os)
+        → (b : Bool) (os : List Open) → At from b os → open_behind b os q ≡ settled os)
         → (o : Result (Option Simple) Refusal) (ws r : List Plain) → PartOut n Begun o ws r
         → FoundAt from n i fs o ws r
     simple_found from keeps (Ok None) ws r (q, e, x, l, s) = e ∙ ap (λ (u : List Plain). u ++ r) s

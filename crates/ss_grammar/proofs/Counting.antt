@@ -1,6 +1,6 @@
 -- What a reading has counted where it stops: what is read closes each parenthesis and rejoins each IF, and a word that
 -- is refused by a limit stands where all that may be open are open.
-use Rattle.std.proofs.Common.{◌≡◌, ◌⊎◌, ℕ, zero, suc, ◌+◌, ◌-◌, ◌≤◌, ◌<◌, Bool, true, false, List, [], ◌∷◌, ◌++◌}
+use Rattle.std.proofs.Common.{◌≡◌, ℕ, zero, suc, ◌+◌, ◌-◌, ◌≤◌, ◌<◌, Bool, true, false, List, [], ◌∷◌, ◌++◌}
 use Rattle.std.proofs.Common.{length}
 use Rattle.std.proofs.Common.{length-append, take, drop, Option, Some, None, Result, Ok, Err, refl, sym, ap, subst, ◌∙◌}
 use Rattle.std.proofs.Common.{append_assoc, arith}
@@ -23,7 +23,7 @@ use Rattle.ss_grammar.specs.OpenPhrases.{Open, settled, may_end, step, open_behi
 use Rattle.ss_grammar.proofs.Tally as tally
 use Rattle.ss_grammar.proofs.Tally.{count-append, Leaves}
 use Rattle.ss_grammar.proofs.Inner.{builds, Inner, front}
-use Rattle.ss_grammar.proofs.OpenWords.{ended_by, behind_both, settled_twice, settled_less, changes, stays, same_behind}
+use Rattle.ss_grammar.proofs.OpenWords.{ended_by, behind_both, settled_less, changes, stays, same_behind}
 use Rattle.ss_grammar.proofs.OpenWords.{inner_stays, inner_opens_none}
 
 -- where words begin: anywhere; where no phrase stands innermost; directly behind a phrase
@@ -274,7 +274,8 @@ pub record Encloses (from : Place) (w c : Plain) (n i fs n' i' : ℕ) : Type 0 w
       → count branches (w ∷ q) ≡ count rejoins (w ∷ q) + i'
   pub no_end : (q : List Plain) → count ends q ≡ 0 → count ends (w ∷ q) ≡ 0
 
-module _ {from : Place} (h : Bool) (w : Plain) (k : Mark) (n i fs n' i' : ℕ) (z : Encloses from w (mark k) n i fs n' i') where
+module _ {from : Place} (h : Bool) (w : Plain) (k : Mark) (n i fs n' i' : ℕ)
+    (z : Encloses from w (mark k) n i fs n' i') where
   -- behind w, up to and with the closing word
   abbrev pub Shut : {A : Type 0} → Result A Refusal → List Plain → List Plain → Type 0
   Shut (Ok a) ws r = (q : List Plain) × (ws ≡ q ++ r) × EvenAt from (w ∷ q)

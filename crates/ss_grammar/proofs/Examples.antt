@@ -5,7 +5,7 @@ use Rattle.ss_grammar.specs.Expr.{named}
 use Rattle.ss_grammar.specs.Tree.{Tree, spell, no_statements, statement, loop, repeated, compute}
 use Rattle.ss_grammar.specs.Refused.{IsWithin}
 use Rattle.ss_grammar.specs.Examples.{SpellOnly, ElseIsOfTheInnerIf, LoopEndsTheChain, ForControlsOneStatement}
-use Rattle.ss_grammar.specs.Examples.{AndBindsMoreTightly, ParenthesesAreTold, ComputeIsTwoPlaces}
+use Rattle.ss_grammar.specs.Examples.{AndBindsMoreTightly, ParenthesesAreTold, ComputeIsTwoPlaces, OpenPhrasesAreTold}
 use Rattle.ss_grammar.specs.Examples.{main_tree, every, value, x_as_sum, y_name, s_name, t_name}
 use Rattle.ss_grammar.proofs.Unique.{unique}
 
@@ -44,3 +44,7 @@ computing_within =
 
 pub compute_is_two_places : ComputeIsTwoPlaces
 compute_is_two_places = (computing, computing_within, refl, refl)
+
+pub open_phrases_are_told : OpenPhrasesAreTold
+open_phrases_are_told =
+    ((refl, refl, refl, refl, refl), refl, (refl, refl, refl), (refl, refl), (refl, refl))

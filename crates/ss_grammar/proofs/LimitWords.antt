@@ -1,5 +1,5 @@
 -- The words that pass a limit, by counting.
-use Rattle.std.proofs.Common.{◌≡◌, ◌⊎◌, ℕ, ◌+◌, ◌-◌, ◌<◌, true, false, List, [], ◌∷◌, ◌++◌, length}
+use Rattle.std.proofs.Common.{◌≡◌, ℕ, ◌+◌, ◌-◌, ◌<◌, true, false, List, [], ◌∷◌, ◌++◌, length}
 use Rattle.std.proofs.Common.{length-append, take, drop, Option, Some, Result, Ok, Err, refl, sym, ap, subst, ◌∙◌}
 use Rattle.std.proofs.Common.{append_assoc, arith}
 use mathlib.Core.Logic.{inl, inr}
@@ -17,7 +17,7 @@ use Rattle.ss_grammar.specs.Tree.{SectionTree, Tree, spell_section, spell}
 use Rattle.ss_grammar.specs.SectionReading.{is_head, sections_upto}
 use Rattle.ss_grammar.specs.Refused.{IsWithin, BeginsWithin, announces, IsAnnounced, InRoom, PassesLimit}
 use Rattle.ss_grammar.specs.Counts.{count, opens, closes}
-use Rattle.ss_grammar.specs.OpenPhrases.{open_behind, phrases_of, open_phrases}
+use Rattle.ss_grammar.specs.OpenPhrases.{phrases_of, open_phrases}
 use Rattle.ss_grammar.specs.OneTooMany.{branches, rejoins, ends, behind_end}
 use Rattle.ss_grammar.specs.OneTooMany.{names_in_head, Counted, Parentheses, Ifs, Phrases}
 use Rattle.ss_grammar.specs.OneTooMany.{Parameters, Sections, IsOneTooMany, LimitIsCounted, CountPassesLimit}
@@ -28,7 +28,7 @@ use Rattle.ss_grammar.proofs.Whole.{reading, read_sections, rest_ended, farthest
 use Rattle.ss_grammar.proofs.Unique.{no_more, not_past, same_limit, less, equal, greater, order}
 use Rattle.ss_grammar.proofs.SectionCounts.{Spelled, Kept, Passed, Program, sections_out, whole_out}
 use Rattle.ss_grammar.proofs.HeadNames.{names_kept}
-use Rattle.ss_grammar.proofs.OpenWords.{ended_by, behind_both}
+use Rattle.ss_grammar.proofs.OpenWords.{behind_both}
 
 abbrev IsCounted : List Plain → ℕ → Type 0
 IsCounted ws k = (c : Counted) × IsOneTooMany c ws k

@@ -1,12 +1,11 @@
 -- What the scan of open phrases does over words.
-use Rattle.std.proofs.Common.{◌≡◌, ℕ, zero, suc, ◌+◌, ◌≤◌, Bool, true, false, if◌then◌else◌, List, [], ◌∷◌, ◌++◌}
+use Rattle.std.proofs.Common.{◌≡◌, suc, ◌≤◌, Bool, true, false, if◌then◌else◌, List, [], ◌∷◌, ◌++◌}
 use Rattle.std.proofs.Common.{refl, sym, ap, ◌∙◌, arith}
 use Rattle.ss_words.specs.declared.mark.Mark.TheVariants as m
-use Rattle.ss_words.specs.declared.word.Sign.TheVariants as s
 use Rattle.ss_words.specs.declared.reserved.Reserved.TheVariants as r
-use Rattle.ss_words.specs.Plain.{Plain, name, number, mark, picture}
+use Rattle.ss_words.specs.Plain.{Plain, name, mark}
 use Rattle.ss_grammar.specs.Counts.{count}
-use Rattle.ss_grammar.specs.OpenPhrases.{Open, For, Do, If, settled, closed, begins, may_end, step, open_behind}
+use Rattle.ss_grammar.specs.OpenPhrases.{Open, For, Do, If, settled, begins, may_end, step, open_behind}
 use Rattle.ss_grammar.specs.OpenPhrases.{phrases_of}
 use Rattle.ss_grammar.proofs.Inner.{builds, Inner}
 

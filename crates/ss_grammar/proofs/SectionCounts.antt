@@ -306,12 +306,15 @@ module _ (n i fs l : ℕ) where
       let split : ws ≡ (a ++ end ∷ []) ++ r = e ∙ sym (append_assoc a (end ∷ []) r) in
       let same : q ≡ a ++ end ∷ [] = sym (goal.front_is ws q r e2) ∙ goal.front_is ws (a ++ end ∷ []) r split in
       next j t (a, sp ∙ same, x) (rest r).0 ws r (rest r).1 a e x (h r)
-  first_one k j fits rest h (Err Unexpected) ws r (q, e, x) kept =
-      (q, e, record {
-        parentheses = x.parentheses;
-        ifs = x.ifs;
-        phrases = λ b. let h = x.phrases b [] refl in omega (arith, h);
-      })
+  first_one k j fits rest h (Err Unexpected) ws r (q, e, x) kept = (
+    q,
+    e,
+    record {
+      parentheses = x.parentheses;
+      ifs = x.ifs;
+      phrases = λ b. let h = x.phrases b [] refl in omega (arith, h);
+    },
+  )
   first_one k j fits rest h (Err Memory) ws r out kept = out
   first_one k j fits rest h (Err PastLimit) ws r (q, e, x, y) kept = (q, e, passed_first (suc j) q (first r) x y)
 

@@ -1,5 +1,5 @@
--- Small texts and the one tree that each of them spells.
-use Rattle.std.specs.Prelude.{◌≡◌, ℕ, ◌+◌, true, false, List, [], ◌∷◌, ◌++◌, None}
+-- Small texts, the one tree that each of them spells, and how many phrases are open in some.
+use Rattle.std.specs.Prelude.{◌≡◌, ℕ, zero, suc, ◌+◌, true, false, List, [], ◌∷◌, ◌++◌, None}
 use Rattle.ss_words.specs.declared.mark.Mark.TheVariants as m
 use Rattle.ss_words.specs.declared.word.Sign.TheVariants as s
 use Rattle.ss_words.specs.declared.reserved.Reserved.{Reserved}
@@ -16,6 +16,7 @@ use Rattle.ss_grammar.specs.Loops.{Computed, Each, Phrase, Holds, Found, NoneFou
 use Rattle.ss_grammar.specs.Places.{For, Next, Gather, Compute, Place, Loops, EndOfSection, Spot}
 use Rattle.ss_grammar.specs.Tree.{Block, no_statements, statement, alone, loop, One, simple, branch, no_else, else_with}
 use Rattle.ss_grammar.specs.Tree.{further, repeated, single, MainHead, Tree, spell}
+use Rattle.ss_grammar.specs.OpenPhrases.{open_phrases}
 use Rattle.ss_grammar.specs.Refused.{AreSections}
 
 -- the words spell this tree and no other
@@ -167,3 +168,52 @@ ComputeIsTwoPlaces =
     (apart 1
     (main_words (for_every t_name ++ word r.Do ∷ (for_every s_name
     ++ word r.Compute ∷ name x_name ∷ word r.As ∷ word r.Sum ∷ word r.In ∷ name y_name ∷ word r.Loop ∷ []))))
+
+-- X = 1
+abbrev pub x_is_one : List Plain
+x_is_one = name x_name ∷ equals ∷ number 1 ∷ []
+
+-- so many FOR EVERY T
+abbrev pub every_t : ℕ → List Plain
+every_t zero = []
+every_t (suc n) = for_every t_name ++ every_t n
+
+-- FOR EVERY T FOR EVERY S: two are open; behind X = 1, STOP, FIND FIRST CASE or DO LOOP none is
+abbrev pub ChainIsOpen : Type 0
+ChainIsOpen =
+    let chain : List Plain = for_every t_name ++ for_every s_name in
+    (open_phrases chain ≡ 2)
+    × (open_phrases (chain ++ x_is_one) ≡ 0)
+    × (open_phrases (chain ++ word r.Stop ∷ []) ≡ 0)
+    × (open_phrases (chain ++ word r.Find ∷ word r.First ∷ word r.Case ∷ []) ≡ 0)
+    × (open_phrases (chain ++ word r.Do ∷ word r.Loop ∷ []) ≡ 0)
+
+-- FOR S = 1 TO 3 X = 1 FOR EVERY T: the first phrase controls X = 1 alone, and the second is open
+abbrev pub AssignmentClosesItsPhrase : Type 0
+AssignmentClosesItsPhrase =
+    open_phrases (word r.For ∷ name s_name ∷ equals ∷ number 1 ∷ word r.To ∷ number 3 ∷ (x_is_one ++ for_every t_name))
+    ≡ 1
+
+-- FOR EVERY T IF FOUND FOR EVERY S: two are open; behind STOP the first is, and behind ALWAYS none is
+abbrev pub IfIsControlled : Type 0
+IfIsControlled =
+    let within : List Plain = for_every t_name ++ word r.If ∷ word r.Found ∷ for_every s_name in
+    (open_phrases within ≡ 2)
+    × (open_phrases (within ++ word r.Stop ∷ []) ≡ 1)
+    × (open_phrases (within ++ word r.Stop ∷ word r.Always ∷ []) ≡ 0)
+
+-- FOR EVERY T DO FOR EVERY S COMPUTE X AS SUM IN Y: the first is open, and behind LOOP none is
+abbrev pub LoopsAreNested : Type 0
+LoopsAreNested =
+    let within : List Plain =
+    for_every t_name ++ word r.Do ∷ (for_every s_name
+    ++ word r.Compute ∷ name x_name ∷ word r.As ∷ word r.Sum ∷ word r.In ∷ name y_name ∷ []) in
+    (open_phrases within ≡ 1) × (open_phrases (within ++ word r.Loop ∷ []) ≡ 0)
+
+-- 16 phrases are open behind 16, and 17 behind one more
+abbrev pub SixteenAreOpen : Type 0
+SixteenAreOpen = (open_phrases (every_t 16) ≡ 16) × (open_phrases (every_t 17) ≡ 17)
+
+-- how many phrases are open in these texts
+abbrev pub OpenPhrasesAreTold : Type 0
+OpenPhrasesAreTold = ChainIsOpen × AssignmentClosesItsPhrase × IfIsControlled × LoopsAreNested × SixteenAreOpen

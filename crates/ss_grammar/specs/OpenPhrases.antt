@@ -9,17 +9,17 @@ use Rattle.ss_words.specs.Plain.{Plain, name, number, mark}
 pub data Open : Type 0 where
   For Do If : Open
 
--- what stays open where the statement of the innermost phrases begins, or ends: they hold no further FOR
+-- what stays open where the innermost phrases close: all of them that stand before any DO or IF
 abbrev pub settled : List Open → List Open
 settled (For ∷ os) = settled os
 settled os = os
 
--- what stays open behind LOOP or ALWAYS: it closes the innermost DO or IF, and the phrases that control it
+-- what stays open behind LOOP or ALWAYS: it closes the innermost DO or IF, and the phrases directly before that
 abbrev pub closed : List Open → List Open
 closed [] = []
 closed (o ∷ os) = settled os
 
--- a word with which a statement begins in which no other stands
+-- a word with which a statement begins that holds no other: the phrases before it close here, since no FOR stands in it
 abbrev pub begins : Plain → Bool
 begins (mark (m.Reserved r.Let)) = true
 begins (mark (m.Reserved r.Add)) = true

@@ -5,6 +5,7 @@ ghost use Rattle.ss_grammar.specs.OneTooMany.{LimitIsCounted, CountPassesLimit};
 ghost use Rattle.ss_grammar.specs.Examples.{ElseIsOfTheInnerIf, LoopEndsTheChain};
 ghost use Rattle.ss_grammar.specs.Examples.{ForControlsOneStatement, AndBindsMoreTightly};
 ghost use Rattle.ss_grammar.specs.Examples.{ParenthesesAreTold, ComputeIsTwoPlaces};
+ghost use Rattle.ss_grammar.specs.Examples.{OpenPhrasesAreTold};
 
 /// No two programs have one spelling.
 pub fn spelling_is_unique()
@@ -36,8 +37,8 @@ pub fn limits_refuse()
     ensures { LimitsRefuse }
 {}
 
-/// The word that passes a limit is one too many by counting words, or a FOR behind at least 16 more
-/// FORs than LOOPs of its section.
+/// The word that passes a limit is one too many by counting the words before it: one of parentheses,
+/// IFs, FOR phrases, parameters or sections.
 pub fn limit_is_counted()
     ensures { LimitIsCounted }
 {}
@@ -76,4 +77,10 @@ pub fn parentheses_are_told()
 /// A COMPUTE is two places in its line, and DO is none.
 pub fn compute_is_two_places()
     ensures { ComputeIsTwoPlaces }
+{}
+
+/// How many phrases are open behind small texts: behind a chain of them, behind what it controls, in
+/// an IF and a loop that it controls, and behind 16 and 17.
+pub fn open_phrases_are_told()
+    ensures { OpenPhrasesAreTold }
 {}
