@@ -36,8 +36,8 @@ use Rattle.ss_grammar.proofs.Tally.{count-append, Leaves, plain_word}
 use Rattle.ss_grammar.proofs.Inner.{builds, Inner, also, inner_simple, inner_phrase, inner_compute, inner_question}
 use Rattle.ss_grammar.proofs.OpenWords.{ended_by, behind_both, inner_stays, inner_opens_none, begun}
 use Rattle.ss_grammar.proofs.Operands.{Walks, a_phrase, begun_simple}
-use Rattle.ss_grammar.proofs.Counting.{Place, Anywhere, Settled, Behind, At, EvenAt, Even, RoomAt, FullAt, PastAt, OutAt}
-use Rattle.ss_grammar.proofs.Counting.{Out, Tally, nothing, plain, pure_tally, bind_tally, expect_tally, eat_tally}
+use Rattle.ss_grammar.proofs.Counting.{Place, Anywhere, Settled, Behind, At, EvenAt, Even, RoomAt, FullAt, PastAt}
+use Rattle.ss_grammar.proofs.Counting.{OutAt, Out, Tally, nothing, plain, pure_tally, bind_tally, expect_tally, eat_tally}
 use Rattle.ss_grammar.proofs.Counting.{many_tally, Encloses, Shuts, bind_shuts, made_shuts, close_shuts, enclosed_at}
 use Rattle.ss_grammar.proofs.Counting.{none_of, branches_build, rejoins_build, ends_build, Refused, PartOut, Part, part}
 use Rattle.ss_grammar.proofs.Counting.{part_even, part_room, part_past, part_tally}
@@ -239,8 +239,8 @@ module _ (n i fs : ℕ) where
   full_at from q _ f = absurd f
 
   -- what may begin anywhere
-  at_place : {A : Type 0} (from : Place) (o : Result (Option A) Refusal) (ws r : List Plain) → FoundAt Anywhere n i fs o ws r
-      → FoundAt from n i fs o ws r
+  at_place : {A : Type 0} (from : Place) (o : Result (Option A) Refusal) (ws r : List Plain)
+      → FoundAt Anywhere n i fs o ws r → FoundAt from n i fs o ws r
   at_place from (Ok None) ws r out = out
   at_place from (Ok (Some a)) ws r (q, e, x) = (
     q,

@@ -274,7 +274,8 @@ pub record Encloses (from : Place) (w c : Plain) (n i fs n' i' : ℕ) : Type 0 w
       → count branches (w ∷ q) ≡ count rejoins (w ∷ q) + i'
   pub no_end : (q : List Plain) → count ends q ≡ 0 → count ends (w ∷ q) ≡ 0
 
-module _ {from : Place} (h : Bool) (w : Plain) (k : Mark) (n i fs n' i' : ℕ) (z : Encloses from w (mark k) n i fs n' i') where
+module _ {from : Place} (h : Bool) (w : Plain) (k : Mark) (n i fs n' i' : ℕ)
+    (z : Encloses from w (mark k) n i fs n' i') where
   -- behind w, up to and with the closing word
   abbrev pub Shut : {A : Type 0} → Result A Refusal → List Plain → List Plain → Type 0
   Shut (Ok a) ws r = (q : List Plain) × (ws ≡ q ++ r) × EvenAt from (w ∷ q)

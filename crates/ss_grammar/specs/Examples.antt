@@ -1,4 +1,4 @@
--- Small texts and the one tree that each of them spells.
+-- Small texts, the one tree that each of them spells, and how many phrases are open in some.
 use Rattle.std.specs.Prelude.{◌≡◌, ℕ, zero, suc, ◌+◌, true, false, List, [], ◌∷◌, ◌++◌, None}
 use Rattle.ss_words.specs.declared.mark.Mark.TheVariants as m
 use Rattle.ss_words.specs.declared.word.Sign.TheVariants as s
