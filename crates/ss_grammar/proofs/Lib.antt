@@ -1,4 +1,5 @@
 pub mod Unfoldings
+pub mod Notings
 mod Tally
 mod Form
 mod Law

@@ -7,8 +7,7 @@ ghost use Rattle.ss_grammar.specs.Combined as combined;
 ghost use Rattle.ss_grammar.specs.PlacesAtLines as places;
 ghost use Rattle.ss_grammar.specs.View.{phrase_view, spots};
 
-use crate::compute::compute;
-use crate::find::first_case;
+use crate::noted::{always, find, gather, next, note};
 use crate::phrase::phrase;
 use crate::place::{Branch, Loop, Phrase, Place, Spot};
 use crate::question::question;
@@ -82,7 +81,7 @@ fn statement(
 
 /// Pushes the places of a statement that is no loop, if one begins here.
 #[cycle(statements)]
-#[tactic(auto, using(crate::proofs::Pushed::pushed), unfolding(crate::proofs::Unfoldings::notes))]
+#[tactic(auto, unfolding(crate::proofs::Notings::at_lines, crate::specs::PlacesAtLines::noting_one))]
 fn one(
     cursor: &mut Cursor<'_>,
     text: &[PlainWord],
@@ -100,8 +99,7 @@ fn one(
 {
     let line = cursor.line(text);
     if let Some(statement) = simple(cursor, room.parentheses)? {
-        let place = Place::Simple(statement);
-        out.push(Spot { line, place })?;
+        note(out, line, Place::Simple(statement))?;
         return Ok(true);
     }
     branch(cursor, text, room, out)
@@ -135,7 +133,7 @@ fn branch(
 
 /// `question {statement} [ELSE {statement}] ALWAYS`, behind an IF in this line.
 #[cycle(statements)]
-#[tactic(auto, using(crate::proofs::Pushed::pushed), unfolding(crate::proofs::Unfoldings::notes))]
+#[tactic(auto, unfolding(crate::proofs::Unfoldings::steps, crate::specs::PlacesAtLines::noting_branch))]
 fn behind_if(
     cursor: &mut Cursor<'_>,
     text: &[PlainWord],
@@ -150,20 +148,15 @@ fn behind_if(
     ensures shorter { length cursor.new ≤ length cursor.old }
 {
     let question = question(cursor, room.parentheses)?;
-    let place = Place::Branch(Branch::If(question));
-    out.push(Spot { line, place })?;
+    note(out, line, Place::Branch(Branch::If(question)))?;
     block(cursor, text, room, out)?;
     otherwise(cursor, text, room, out)?;
-    let line = cursor.line(text);
-    cursor.expect(Mark::Reserved(Reserved::Always))?;
-    let place = Place::Branch(Branch::Always);
-    out.push(Spot { line, place })?;
-    Ok(())
+    always(cursor, text, out)
 }
 
 /// `[ELSE {statement}]`
 #[cycle(statements)]
-#[tactic(auto, using(crate::proofs::Pushed::pushed), unfolding(crate::proofs::Unfoldings::notes))]
+#[tactic(auto, unfolding(crate::proofs::Notings::at_lines, crate::specs::PlacesAtLines::noting_else))]
 fn otherwise(
     cursor: &mut Cursor<'_>,
     text: &[PlainWord],
@@ -180,8 +173,7 @@ fn otherwise(
     if !cursor.eat(Mark::Reserved(Reserved::Else)) {
         return Ok(());
     }
-    let place = Place::Branch(Branch::Else);
-    out.push(Spot { line, place })?;
+    note(out, line, Place::Branch(Branch::Else))?;
     block(cursor, text, room, out)
 }
 
@@ -215,7 +207,7 @@ fn for_loop(
 
 /// What stands behind a phrase, whose FOR stands in this line.
 #[cycle(statements)]
-#[tactic(auto, using(crate::proofs::Pushed::pushed), unfolding(crate::proofs::Unfoldings::notes))]
+#[tactic(auto, unfolding(crate::proofs::Unfoldings::steps, crate::specs::PlacesAtLines::noting_controlled))]
 fn controlled(
     cursor: &mut Cursor<'_>,
     text: &[PlainWord],
@@ -233,8 +225,7 @@ fn controlled(
     ensures shorter { length cursor.new ≤ length cursor.old }
 {
     let repeats = cursor.eat(Mark::Reserved(Reserved::Do));
-    let place = Place::Loop(Loop::For { phrase, repeats });
-    out.push(Spot { line, place })?;
+    note(out, line, Place::Loop(Loop::For { phrase, repeats }))?;
     if repeats {
         return repeated(cursor, text, room, out);
     }
@@ -246,7 +237,7 @@ fn controlled(
 
 /// `{statement} LOOP`, behind DO.
 #[cycle(statements)]
-#[tactic(auto, using(crate::proofs::Pushed::pushed), unfolding(crate::proofs::Unfoldings::notes))]
+#[tactic(auto, unfolding(crate::proofs::Unfoldings::steps, crate::specs::PlacesAtLines::noting_repeated))]
 fn repeated(
     cursor: &mut Cursor<'_>,
     text: &[PlainWord],
@@ -262,16 +253,12 @@ fn repeated(
     ensures shorter { length cursor.new ≤ length cursor.old }
 {
     block(cursor, text, room, out)?;
-    let line = cursor.line(text);
-    cursor.expect(Mark::Reserved(Reserved::Loop))?;
-    let place = Place::Loop(Loop::Next);
-    out.push(Spot { line, place })?;
-    Ok(())
+    next(cursor, text, out)
 }
 
 /// `FIND FIRST CASE`, a COMPUTE, or one statement that is no loop.
 #[cycle(statements)]
-#[tactic(auto, using(crate::proofs::Pushed::pushed), unfolding(crate::proofs::Unfoldings::notes))]
+#[tactic(auto, unfolding(crate::proofs::Notings::last))]
 fn last(
     cursor: &mut Cursor<'_>,
     text: &[PlainWord],
@@ -288,18 +275,10 @@ fn last(
 {
     let line = cursor.line(text);
     if cursor.eat(Mark::Reserved(Reserved::Find)) {
-        first_case(cursor)?;
-        let place = Place::Loop(Loop::Find);
-        out.push(Spot { line, place })?;
-        return Ok(());
+        return find(cursor, line, out);
     }
     if cursor.eat(Mark::Reserved(Reserved::Compute)) {
-        let (targets, value) = compute(cursor, room.parentheses)?;
-        let place = Place::Loop(Loop::Gather(value));
-        out.push(Spot { line, place })?;
-        let place = Place::Loop(Loop::Compute(targets));
-        out.push(Spot { line, place })?;
-        return Ok(());
+        return gather(cursor, line, room.parentheses, out);
     }
     if one(cursor, text, room, out)? {
         return Ok(());

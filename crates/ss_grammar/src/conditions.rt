@@ -20,7 +20,7 @@ use crate::expression::{expression, open, rest};
 use ss_words::{Cursor, Mark, Plain, Refusal, Reserved, Sign};
 
 /// What stands where an expression may stand alone or begin something else.
-#[derive(Debug, Drop)]
+#[derive(Drop)]
 enum OrValue<T> {
     /// An expression that nothing of the other kind follows.
     Value(Expr),

@@ -17,7 +17,7 @@ use ss_words::{Cursor, Mark, Plain, PlainWord, Refusal, Reserved, Several};
 const MOST_PARAMETERS: usize = 32;
 
 /// What a section is, and its name in upper case; that of the main section is `MAIN`.
-#[derive(Debug, Drop)]
+#[derive(Drop)]
 pub struct SectionHead {
     pub kind: SectionKind,
     pub name: Vec<u8>,

@@ -15,6 +15,7 @@ mod head;
 pub mod laws;
 mod lists;
 mod names;
+mod noted;
 mod phrase;
 mod place;
 mod program;

@@ -1,21 +1,24 @@
 //! Reading the sections of a program.
 
-ghost use Rattle.std.specs.Prelude.{IfOk, IfErr, length, map, ◌≡◌, ◌≤◌, ◌<◌, ◌-◌, Ok};
+ghost use Rattle.std.specs.Prelude.{IfOk, IfErr, List, [], length, map, ◌≡◌, ◌≤◌, ◌<◌, ◌-◌, ◌∷◌, ◌++◌, Ok};
+ghost use Rattle.ss_words.specs.declared.mark.Mark.TheVariants as m;
+ghost use Rattle.ss_words.specs.declared.reserved.Reserved.TheVariants as r;
+ghost use Rattle.ss_words.specs.Marks.{expect};
 ghost use Rattle.ss_words.specs.Plain.{plain_at, plains_of, word_lines};
 ghost use Rattle.ss_words.specs.PlainRules.{plain_words_of};
-ghost use Rattle.ss_words.specs.Noting.{line};
-ghost use Rattle.ss_words.specs.Reading.{Fails, Gives, whole};
+ghost use Rattle.ss_words.specs.Noting.{here, line, repeat};
+ghost use Rattle.ss_words.specs.Reading.{Fails, Gives, bind, pure, whole};
+ghost use Rattle.ss_grammar.specs.Places as p;
 ghost use Rattle.ss_grammar.specs.PlacesAtLines as places;
 ghost use Rattle.ss_grammar.specs.Refused.{AreSections, IsFault, words_from};
-ghost use Rattle.ss_grammar.specs.View.{section_view};
+ghost use Rattle.ss_grammar.specs.View.{local_view, section_view, spots};
 
 use crate::block::{Room, block};
 use crate::head::{SectionHead, begins, head, local_list};
-use crate::place::{Place, Spot};
-use crate::section::{Section, Sections};
-use ss_words::{
-    Cursor, Mark, PlainWord, Refusal, Reserved, TextFault, TextRule, Words, plain_words,
-};
+use crate::noted::end;
+use crate::place::Spot;
+use crate::section::{LocalNames, Section, Sections};
+use ss_words::{Cursor, PlainWord, Refusal, TextFault, TextRule, Words, plain_words};
 use std::alloc::Global;
 
 /// How many parentheses may be open at once.
@@ -30,16 +33,20 @@ const MOST_PHRASES: u32 = 16;
 /// How many sections a program may have.
 const MOST_SECTIONS: usize = 256;
 
-/// A section, up to its END: `head {DEFINE names AS INTEGER VARIABLES} {statement} END`
-#[tactic(auto, using(crate::proofs::Pushed::pushed), unfolding(crate::proofs::Unfoldings::notes))]
-fn section(cursor: &mut Cursor<'_>, text: &[PlainWord]) -> Result<Section, Refusal>
-    ensures exact { Gives section_view result cursor.new
-        (places.noting_section (word_lines text.now) 50 64 16 32 cursor.old) }
+/// The local DEFINEs and the places of a section, up to its END, behind its head:
+/// `{DEFINE names AS INTEGER VARIABLES} {statement} END`
+#[tactic(auto, unfolding(crate::proofs::Notings::at_lines))]
+fn body(
+    cursor: &mut Cursor<'_>,
+    text: &[PlainWord],
+) -> Result<(Vec<LocalNames>, Vec<Spot>), Refusal>
+    ensures exact { Gives {Y = List p.LocalNames × List p.Spot} (λ x. (map local_view x.0.items, spots x.1.items))
+        result cursor.new (bind (repeat (places.noting_local (word_lines text.now)) []) (λ ls.
+        bind (places.noting_statements (word_lines text.now) 50 64 16 []) (λ ps.
+        here (word_lines text.now) (λ j. bind (expect (m.Reserved r.End))
+        (λ u. pure (ls, ps ++ places.noted_at j p.EndOfSection ∷ []))))) cursor.old) }
     ensures shorter { length cursor.new ≤ length cursor.old }
-    ensures taken { IfOk result (λ _. length cursor.new < length cursor.old) }
 {
-    let line = cursor.line(text);
-    let SectionHead { kind, name } = head(cursor)?;
     let mut locals = Vec::new(cursor.alloc());
     local_list(cursor, text, &mut locals)?;
     let room = Room {
@@ -49,12 +56,21 @@ fn section(cursor: &mut Cursor<'_>, text: &[PlainWord]) -> Result<Section, Refus
     };
     let mut places = Vec::new(cursor.alloc());
     block(cursor, text, room, &mut places)?;
-    let end = cursor.line(text);
-    cursor.expect(Mark::Reserved(Reserved::End))?;
-    places.push(Spot {
-        line: end,
-        place: Place::End,
-    })?;
+    end(cursor, text, &mut places)?;
+    Ok((locals, places))
+}
+
+/// A section, up to its END: `head {DEFINE names AS INTEGER VARIABLES} {statement} END`
+#[tactic(auto, unfolding(crate::proofs::Notings::at_lines, crate::specs::PlacesAtLines::noting_section))]
+fn section(cursor: &mut Cursor<'_>, text: &[PlainWord]) -> Result<Section, Refusal>
+    ensures exact { Gives section_view result cursor.new
+        (places.noting_section (word_lines text.now) 50 64 16 32 cursor.old) }
+    ensures shorter { length cursor.new ≤ length cursor.old }
+    ensures taken { IfOk result (λ _. length cursor.new < length cursor.old) }
+{
+    let line = cursor.line(text);
+    let SectionHead { kind, name } = head(cursor)?;
+    let (locals, places) = body(cursor, text)?;
     Ok(Section {
         line,
         kind,
