@@ -6,7 +6,7 @@ use Rattle.std.proofs.lemmas.Bool.{lt-ltb, le-ltb}
 use Rattle.std.specs.Prelude.{map, take, if◌then◌else◌, MatchBool, MatchOption, Option, Some, None}
 use Rattle.std.proofs.lemmas.List.Sums.{sum_by-cons}
 use Rattle.ss_journal.specs.Log.{newest, change_count}
-use Rattle.ss_machine.specs.Numbers.{with_group, numbers_of, AreSmall}
+use Rattle.ss_machine.specs.Numbers.{with_group, with_byte, numbers_of, AreSmall, IsHigher}
 
 some_group : (group : ℕ) (numbers : List ℕ) → with_group group numbers ≡ [] → ⊥
 some_group group [] none = omega (arith, ap length none)
@@ -80,13 +80,19 @@ change_count-newest (suc n) (step ∷ steps) =
       change_count-newest n steps,
     )
 
+-- what is left behind a number of one byte
+pub small_behind_byte : (byte : ℕ) (bytes : List ℕ) → byte < 128 →
+    All (λ n. n < 2 ^ 64) (numbers_of (byte ∷ bytes)) → All (λ n. n < 2 ^ 64) (numbers_of bytes)
+small_behind_byte byte bytes h small =
+    let all : All (λ n. n < 2 ^ 64) (byte ∷ numbers_of bytes) = rw (small_byte byte bytes h) at small in
+    All-tail (λ n. n < 2 ^ 64) byte (numbers_of bytes) all
+
 -- what is left of small numbers when the newest is taken off
-pub small_left : (taken : Option ℕ) (had left : List ℕ) →
-    MatchOption taken ((numbers_of had ≡ []) × (numbers_of left ≡ [])) (λ n. numbers_of had ≡ n ∷ numbers_of left) →
-    AreSmall had → AreSmall left
-small_left None had left are small = All-same (λ n. n < 2 ^ 64) (numbers_of left) [] are.1 (All-nil (λ n. n < 2 ^ 64))
-small_left (Some number) had left are small =
-    All-rest (λ n. n < 2 ^ 64) number (numbers_of left) (numbers_of had) are small
+pub small_left : (taken : ℕ) (had left : List ℕ) → IsHigher taken had left →
+    All (λ n. n < 2 ^ 64) had → All (λ n. n < 2 ^ 64) left
+small_left taken [] left is small = All-same (λ n. n < 2 ^ 64) left [] is.1 (All-nil (λ n. n < 2 ^ 64))
+small_left taken (first ∷ others) left is small =
+    All-same (λ n. n < 2 ^ 64) left others is.1 (All-tail (λ n. n < 2 ^ 64) first others small)
 
 -- and when a step is opened again
 pub small_steps : (again : Bool) (had left : List (List ℕ)) (current : List ℕ) →

@@ -1,5 +1,5 @@
 -- Private: numbers, written in bytes of seven bits each.
-use Rattle.std.specs.Prelude.{ℕ, ◌+◌, ◌-◌, ◌*◌, ◌/◌, ◌^◌, min, ◌<◌, List, [], ◌∷◌, All, nat_lt, if◌then◌else◌}
+use Rattle.std.specs.Prelude.{ℕ, ◌+◌, ◌-◌, ◌*◌, ◌/◌, ◌^◌, min, ◌<◌, List, [], ◌∷◌, ◌≡◌, All, nat_lt, if◌then◌else◌}
 
 -- the numbers with a lowest group more of the first one, which is that group alone where there is none
 abbrev pub with_group : ℕ → List ℕ → List ℕ
@@ -22,3 +22,8 @@ AreSmall bytes = All (λ n. n < 2 ^ 64) (numbers_of bytes)
 -- for how many numbers there is room in so many bytes, or in as many as can be asked for
 abbrev pub number_room : ℕ → ℕ
 number_room bytes = min bytes (2 ^ 64 - 1) / 10
+
+-- the first number was taken off, or 0 where there is none
+abbrev pub IsHigher : ℕ → List ℕ → List ℕ → Type 0
+IsHigher number [] left = (number ≡ 0) × (left ≡ [])
+IsHigher number (first ∷ others) left = (number ≡ first) × (left ≡ others)

@@ -1,5 +1,5 @@
 ghost use Rattle.std.specs.Prelude.{◌≡◌, ℕ, ◌+◌, ◌^◌, ◌<◌, ◌≤◌, ◌∷◌, [], length, All, IsOk, OnOk, MatchBool, MatchOption};
-ghost use Rattle.ss_machine.specs.Numbers.{numbers_of, AreSmall};
+ghost use Rattle.ss_machine.specs.Numbers.{numbers_of, AreSmall, IsHigher};
 
 use crate::folding::{narrow, unfold};
 use ss_journal::Journal;
@@ -79,7 +79,11 @@ impl Numbers {
         ensures notes { self.old.notes ≤ self.new.notes + 1 }
         ensures closes { self.new.closes ≡ self.old.closes }
     {
-        put(&mut self.bytes, number);
+        if number < GROUP {
+            self.bytes.note(number as u8);
+        } else {
+            put(&mut self.bytes, number);
+        }
     }
 
     /// Makes the open step the newest closed one, and opens an empty step. It uses up the room of
@@ -103,7 +107,11 @@ impl Numbers {
         ensures notes { self.old.notes ≤ self.new.notes }
         ensures closes { self.new.closes ≡ self.old.closes }
     {
-        pop(&mut self.bytes)
+        let byte = self.bytes.pop_open()? as u64;
+        if byte < GROUP {
+            return Some(byte);
+        }
+        Some(byte - GROUP + GROUP * higher(&mut self.bytes))
     }
 
     /// Makes the newest closed step the open one again; false where no step is closed, and then
@@ -197,20 +205,20 @@ fn put(bytes: &mut Journal<u8>, number: u64)
     }
 }
 
-/// Takes the newest number off.
-fn pop(bytes: &mut Journal<u8>) -> Option<u64>
+/// Takes the newest number off; 0 where there is none.
+fn higher(bytes: &mut Journal<u8>) -> u64
     requires { AreSmall bytes.old.current }
     ensures steps { bytes.new.steps ≡ bytes.old.steps }
-    ensures current { MatchOption result
-        ((numbers_of bytes.old.current ≡ []) × (numbers_of bytes.new.current ≡ []))
-        (λ number. numbers_of bytes.old.current ≡ number ∷ numbers_of bytes.new.current) }
+    ensures current { IsHigher result (numbers_of bytes.old.current) (numbers_of bytes.new.current) }
     ensures notes { bytes.old.notes ≤ bytes.new.notes }
     ensures closes { bytes.new.closes ≡ bytes.old.closes }
 {
-    let byte = bytes.pop_open()? as u64;
+    let Some(byte) = bytes.pop_open() else {
+        return 0;
+    };
+    let byte = byte as u64;
     if byte < GROUP {
-        return Some(byte);
+        return byte;
     }
-    let higher = pop(bytes).unwrap_or(0);
-    Some(byte - GROUP + GROUP * higher)
+    byte - GROUP + GROUP * higher(bytes)
 }

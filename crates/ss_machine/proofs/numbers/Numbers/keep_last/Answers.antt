@@ -1,4 +1,4 @@
-use Rattle.std.proofs.Common.{◌∙◌, ap, sym, arith}
+use Rattle.std.proofs.Common.{◌≡◌, ◌∙◌, ap, sym, arith}
 use Rattle.std.proofs.lemmas.List.{take-map}
 use Rattle.ss_journal.specs.Log.{Log}
 use Rattle.std.proofs.Common.{ℕ}

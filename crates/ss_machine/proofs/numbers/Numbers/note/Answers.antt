@@ -7,6 +7,6 @@ put-requires-clause-enough c =
     ten_bytes c.args.number c.self.inside.bytes.notes (omega arith)
     (omega (arith, rw (← c.self.view_is) at c.requires))
 
-pub returns-clause-notes : goal.returns-clause-notes
-returns-clause-notes c =
+pub returns-else-number-lt-GROUP-clause-notes : goal.returns-else-number-lt-GROUP-clause-notes
+returns-else-number-lt-GROUP-clause-notes c =
     rw (← c.self.view_is) (omega (arith, c.put.ensures.notes 10 (omega arith) (omega arith)))
