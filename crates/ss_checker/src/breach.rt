@@ -29,9 +29,26 @@ pub fn check_rules(alloc: Global, decls: &Decls, sections: &[Section]) -> Result
         (rules.breach (preamble.decls_view decls.now) (map view.section_view sections.now))) }
 {
     let whole = tables(alloc, &decls.items, sections)?;
-    let mut before = Tables::new(alloc)?;
-    check_statements(alloc, &whole, &mut before, decls, sections)?;
+    check_whole(alloc, &whole, decls, sections)?;
     Ok(whole)
+}
+
+/// Looks at each statement of a program that says `whole`, and tells the first breach.
+fn check_whole(
+    alloc: Global,
+    whole: &Tables,
+    decls: &Decls,
+    sections: &[Section],
+) -> Result<(), CheckFault>
+    requires { whole.now
+        ≡ declared.tables (preamble.decls_view decls.now).items (map view.section_view sections.now) }
+    ensures sound { IfOk result
+        (λ _. rules.breach (preamble.decls_view decls.now) (map view.section_view sections.now) ≡ None) }
+    ensures err { IfErr result (λ f. IsBreach f
+        (rules.breach (preamble.decls_view decls.now) (map view.section_view sections.now))) }
+{
+    let mut before = Tables::new(alloc)?;
+    check_statements(alloc, whole, &mut before, decls, sections)
 }
 
 /// Looks at each statement of a program that says `whole`, behind what the language declares before

@@ -54,11 +54,11 @@ fn resolve_disjunction(
     ensures { IfOk result (λ x. condition_of x
         ≡ in_scope scope.entry resolved.resolved_condition (condition_view c.now)) }
 {
-    let first = resolve_conjunction(scope, &c.first)?;
     let mut more = Vec::new(scope.alloc);
     for further in &c.more {
         more.push(resolve_conjunction(scope, further)?)?;
     }
+    let first = resolve_conjunction(scope, &c.first)?;
     Ok(Disjunction { first, more })
 }
 
@@ -101,11 +101,14 @@ fn resolve_relation(scope: Scope<'_>, r: &ss_grammar::Relation) -> Result<Relati
             member,
             copula,
             set,
-        } => Ok(Relation::IsIn {
-            member: resolve_expr(scope, member)?,
-            copula: resolve_copula(*copula),
-            set: resolve_set(scope, set)?,
-        }),
+        } => {
+            let set = resolve_set(scope, set)?;
+            Ok(Relation::IsIn {
+                member: resolve_expr(scope, member)?,
+                copula: resolve_copula(*copula),
+                set,
+            })
+        }
         ss_grammar::Relation::Within(c) => {
             let any = resolve_disjunction(scope, c)?;
             Ok(Relation::Within(Box::new(scope.alloc, any)?))

@@ -170,9 +170,10 @@ fn resolve_phrase(
     ensures { IfOk result
         (λ x. x ≡ in_scope scope.entry resolved.resolved_phrase (view.phrase_view phrase.now) has_do) }
 {
+    let qualifiers = resolve_qualifiers(scope, &phrase.qualifiers)?;
     Ok(ForPhrase {
         phrase: resolve_range(scope, &phrase.range)?,
-        qualifiers: resolve_qualifiers(scope, &phrase.qualifiers)?,
+        qualifiers,
         has_do,
     })
 }

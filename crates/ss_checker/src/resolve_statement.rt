@@ -75,11 +75,14 @@ fn resolve_making(scope: Scope<'_>, making: &ss_grammar::Making) -> Result<Makin
             is_called: target.is_some(),
             target: called_target(scope, class, target)?,
         }),
-        ss_grammar::Making::CreateEvery { class, count } => Ok(Making::CreateEvery {
-            class: scope.names.class(class),
-            number: resolve_option(scope, count)?,
-            count: scope.names.count(scope.alloc, class)?,
-        }),
+        ss_grammar::Making::CreateEvery { class, count } => {
+            let variable = scope.names.count(scope.alloc, class)?;
+            Ok(Making::CreateEvery {
+                class: scope.names.class(class),
+                number: resolve_option(scope, count)?,
+                count: variable,
+            })
+        }
         ss_grammar::Making::Destroy { class, entity } => Ok(Making::Destroy {
             class: scope.names.class(class),
             is_called: entity.is_some(),
@@ -115,25 +118,38 @@ fn resolve_filing(scope: Scope<'_>, filing: &ss_grammar::Filing) -> Result<Filin
         (λ x. x ≡ in_scope scope.entry resolved.resolved_filing (view.filing_view filing.now)) }
 {
     match filing {
-        ss_grammar::Filing::File { member, place, set } => Ok(Filing::File {
-            member: resolve_expr(scope, member)?,
-            position: resolve_position(scope, place)?,
-            set: resolve_set(scope, set)?,
-        }),
-        ss_grammar::Filing::FileAt { end, member, set } => Ok(Filing::FileAt {
-            end: resolve_end(*end),
-            member: resolve_expr(scope, member)?,
-            set: resolve_set(scope, set)?,
-        }),
-        ss_grammar::Filing::RemoveEnd { end, target, set } => Ok(Filing::RemoveAt {
-            end: resolve_end(*end),
-            target: resolve_target(scope, target)?,
-            set: resolve_set(scope, set)?,
-        }),
-        ss_grammar::Filing::Remove { member, set } => Ok(Filing::Remove {
-            member: resolve_expr(scope, member)?,
-            set: resolve_set(scope, set)?,
-        }),
+        ss_grammar::Filing::File { member, place, set } => {
+            let set = resolve_set(scope, set)?;
+            let member = resolve_expr(scope, member)?;
+            Ok(Filing::File {
+                member,
+                position: resolve_position(scope, place)?,
+                set,
+            })
+        }
+        ss_grammar::Filing::FileAt { end, member, set } => {
+            let set = resolve_set(scope, set)?;
+            Ok(Filing::FileAt {
+                end: resolve_end(*end),
+                member: resolve_expr(scope, member)?,
+                set,
+            })
+        }
+        ss_grammar::Filing::RemoveEnd { end, target, set } => {
+            let set = resolve_set(scope, set)?;
+            Ok(Filing::RemoveAt {
+                end: resolve_end(*end),
+                target: resolve_target(scope, target)?,
+                set,
+            })
+        }
+        ss_grammar::Filing::Remove { member, set } => {
+            let set = resolve_set(scope, set)?;
+            Ok(Filing::Remove {
+                member: resolve_expr(scope, member)?,
+                set,
+            })
+        }
     }
 }
 
@@ -201,24 +217,26 @@ fn resolve_schedule(
     ensures { IfOk result (λ x. x ≡ in_scope scope.entry resolved.resolved_schedule article event.now
         (view.details_view details.now) (view.when_view when.now)) }
 {
-    let class = scope.names.class(event);
+    let (listing, called, arguments) = match details {
+        Details::ValuesFirst { values, called } => {
+            (
+                Listing::InParentheses,
+                called,
+                resolve_several(scope, values)?,
+            )
+        }
+        Details::CalledFirst { called, values } => {
+            (Listing::Given, called, resolve_values(scope, values)?)
+        }
+    };
     let when = resolve_when(scope, when)?;
-    match details {
-        Details::ValuesFirst { values, called } => Ok(Timing::Schedule(Schedule {
-            class,
-            notice: resolve_notice(scope, article, event, called)?,
-            listing: Listing::InParentheses,
-            arguments: resolve_several(scope, values)?,
-            when,
-        })),
-        Details::CalledFirst { called, values } => Ok(Timing::Schedule(Schedule {
-            class,
-            notice: resolve_notice(scope, article, event, called)?,
-            listing: Listing::Given,
-            arguments: resolve_values(scope, values)?,
-            when,
-        })),
-    }
+    Ok(Timing::Schedule(Schedule {
+        class: scope.names.class(event),
+        notice: resolve_notice(scope, article, event, called)?,
+        listing,
+        arguments,
+        when,
+    }))
 }
 
 fn resolve_timing(scope: Scope<'_>, timing: &ss_grammar::Timing) -> Result<Timing, AllocError>
