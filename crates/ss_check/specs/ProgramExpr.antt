@@ -1,6 +1,6 @@
 -- The tree of an expression, with a variable where the text has a name.
 use Rattle.std.specs.Prelude.{ℕ, List, [], ◌∷◌, Option}
-use Rattle.ss_grammar.specs.declared.expr.TermSign.{TermSign}
+use Rattle.ss_words.specs.declared.term_sign.TermSign.{TermSign}
 use Rattle.ss_check.specs.declared.variable.Variable.{Variable}
 use Rattle.ss_check.specs.declared.sum.Sum.{Sum as Code, fold-Sum}
 use Rattle.ss_check.specs.declared.sum.Term.{Term as CodeTerm, fold-Term}

@@ -46,7 +46,7 @@ pub use name_table::NameTable;
 pub use place::{Assign, Control, Output, Place, Spot};
 pub use program::Program;
 pub use section::{Head, Section};
-pub use ss_grammar::TermSign;
+pub use ss_words::TermSign;
 pub use sum::{Arguments, Factor, MemberKept, OwnerKept, SignedTerm, Subscript, Sum, Term};
 pub use tables::{Class, Set};
 pub use target::{Index, SetRef, Target};

@@ -1,5 +1,5 @@
 use crate::variable::Variable;
-use ss_grammar::TermSign;
+use ss_words::TermSign;
 
 /// A first term, which may have a sign at its head, and further terms, each with its sign.
 #[derive(Debug, Drop)]

@@ -4,8 +4,6 @@ use Rattle.std.specs.Prelude.{map, option_map, is_some}
 use Rattle.std.specs.List.{flat_map}
 use Rattle.std.proofs.lemmas.Bool.{or_parts, not-false}
 use Rattle.ss_words.specs.Lists.{Name, all_of}
-use Rattle.ss_grammar.specs.declared.expr.TermSign.{TermSign}
-use Rattle.ss_grammar.specs.declared.expr.TermSign.TheVariants.{Plus, Minus}
 use Rattle.ss_grammar.specs.declared.condition.Comparison.{Comparison}
 use Rattle.ss_grammar.specs.declared.condition.Comparison.TheVariants as comparisons
 use Rattle.ss_grammar.specs.declared.condition.Copula.{Copula}
@@ -37,20 +35,12 @@ use Rattle.ss_checker.specs.NameKinds.{names_set, names_routine, serves}
 use Rattle.ss_checker.specs.Declarations.{kind_of}
 use Rattle.ss_checker.specs.Uses.{Use, LoopVariable, OfClass, uses_expr, uses_sums, uses_term, uses_products, uses_factor, uses_exprs, uses_option, uses_target, uses_set, uses_value, uses_called_target, uses_called_value, uses_condition, uses_alternatives, uses_conjunction, uses_additions, uses_relation, uses_assign, uses_making, uses_file_place, uses_filing, uses_called, uses_details, uses_when, uses_timing, uses_simple, uses_start, uses_range, uses_branch, uses_loop, uses}
 use Rattle.ss_checker.specs.ResolvedNames.{Names, number, owner_of, resolved_variable}
-use Rattle.ss_checker.specs.Resolved.{resolved_sign, resolved_comparison, resolved_copula, resolved_end, resolved_direction, resolved_word, resolved_statistic, resolved_expr, resolved_sums, resolved_term, resolved_products, resolved_factor, resolved_exprs, resolved_option, resolved_value, resolved_target, resolved_set, called_target, called_value, resolved_condition, resolved_alternatives, resolved_conjunction, resolved_additions, resolved_relation, resolved_assign, resolved_making, resolved_position, resolved_filing, resolved_notice, resolved_when, resolved_timing, resolved_simple, resolved_begin, resolved_range, resolved_qualifier, resolved_branch, resolved_telling, resolved_loop, resolved_place}
+use Rattle.ss_checker.specs.Resolved.{resolved_comparison, resolved_copula, resolved_end, resolved_direction, resolved_word, resolved_statistic, resolved_expr, resolved_sums, resolved_term, resolved_products, resolved_factor, resolved_exprs, resolved_option, resolved_value, resolved_target, resolved_set, called_target, called_value, resolved_condition, resolved_alternatives, resolved_conjunction, resolved_additions, resolved_relation, resolved_assign, resolved_making, resolved_position, resolved_filing, resolved_notice, resolved_when, resolved_timing, resolved_simple, resolved_begin, resolved_range, resolved_qualifier, resolved_branch, resolved_telling, resolved_loop, resolved_place}
 use Rattle.ss_checker.specs.NamedTree.{named_comparison, named_copula, named_end, named_direction, named_word, named_statistic, several, given, reference_of, named_variable, named_expr, named_sums, named_term, named_products, named_factor, named_exprs, named_value, named_target, named_set, named_called_target, named_called_value, named_condition, named_alternatives, named_conjunction, named_additions, named_relation, named_assign, named_making, named_position, named_filing, named_article, named_notice, named_when, named_timing, named_begin, named_range, named_qualifier, named_branch, named_telling, named_loop, named_place, behind_given, plain_place}
 use Rattle.ss_checker.proofs.SoundUses.{IsGood, AreGood, good_parts}
 use Rattle.ss_checker.proofs.NamedUses.{two, three, IsListed, variable_is, owner_is, value_is, applied_is, target_is, target_at_is}
 
 -- ---- words that stay what they are
-
-sign_is : (a : TermSign) → resolved_sign a ≡ a
-sign_is Plus = refl
-sign_is Minus = refl
-
-lead_is : (a : Option TermSign) → option_map resolved_sign a ≡ a
-lead_is None = refl
-lead_is (Some a) = ap (λ (z : TermSign). Some z) (sign_is a)
 
 comparison_is : (a : Comparison) → named_comparison (resolved_comparison a) ≡ a
 comparison_is comparisons.Equal = refl
@@ -168,12 +158,12 @@ module _ (d : Tables) (v : Names) (locals : List Name) (p : ProgramTable) (S : I
   mutual
     expr_is : (e : Expr) → AreGood d locals (uses_expr e) → named_expr p locals (resolved_expr d v locals e) ≡ e
     expr_is (expr i t ts) h =
-        let q = parts (uses_term t) (uses_sums ts) h in three expr (lead_is i) (term_is t q.0) (sums_is ts q.1)
+        let q = parts (uses_term t) (uses_sums ts) h in three expr refl (term_is t q.0) (sums_is ts q.1)
 
     sums_is : (ss : Sums) → AreGood d locals (uses_sums ss) → named_sums p locals (resolved_sums d v locals ss) ≡ ss
     sums_is no_sums h = refl
     sums_is (sum i t ts) h =
-        let q = parts (uses_term t) (uses_sums ts) h in three sum (sign_is i) (term_is t q.0) (sums_is ts q.1)
+        let q = parts (uses_term t) (uses_sums ts) h in three sum refl (term_is t q.0) (sums_is ts q.1)
 
     term_is : (t : Term) → AreGood d locals (uses_term t) → named_term p locals (resolved_term d v locals t) ≡ t
     term_is (term f fs) h =

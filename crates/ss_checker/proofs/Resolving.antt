@@ -2,16 +2,15 @@
 use Rattle.std.proofs.Common.{◌≡◌, List, [], ◌∷◌, refl, ap, ◌∙◌}
 use Rattle.std.specs.Prelude.{map, Result, Ok, Err, IfOk}
 use Rattle.ss_words.specs.Lists.{Name}
-use Rattle.ss_grammar.specs.declared.expr.TermSign.{TermSign as WrittenSign}
 use Rattle.ss_grammar.specs.Expr as e
 use Rattle.ss_grammar.specs.Condition as c
 use Rattle.ss_grammar.specs.ConditionReading.{alternatives_of, additions_of}
-use Rattle.ss_grammar.specs.declared.expr.TermSign.{TermSign}
+use Rattle.ss_words.specs.declared.term_sign.TermSign.{TermSign}
 use Rattle.ss_check.specs.ProgramExpr as x
 use Rattle.ss_check.specs.ProgramCondition as y
 use Rattle.ss_checker.specs.declared.tables.Tables.{Tables}
 use Rattle.ss_checker.specs.ResolvedNames.{Names}
-use Rattle.ss_checker.specs.Resolved.{resolved_sign, resolved_expr, resolved_sums, resolved_term, resolved_products, resolved_factor, resolved_exprs, resolved_alternatives, resolved_conjunction, resolved_additions, resolved_relation}
+use Rattle.ss_checker.specs.Resolved.{resolved_expr, resolved_sums, resolved_term, resolved_products, resolved_factor, resolved_exprs, resolved_alternatives, resolved_conjunction, resolved_additions, resolved_relation}
 
 -- a result of which something is this, is that too where the two are the same
 pub along : {A B E : Type 0} (r : Result A E) (f : A → B) (y z : B) → IfOk r (λ a. f a ≡ y) → y ≡ z →
@@ -20,15 +19,15 @@ along (Ok a) f y z h e = h ∙ e
 along (Err a) f y z h e = tt
 
 -- a further term with its sign
-abbrev pub resolved_signed : Tables → Names → List Name → WrittenSign × e.Term → TermSign × x.Term
-resolved_signed d v locals s = (resolved_sign s.0, resolved_term d v locals s.1)
+abbrev pub resolved_signed : Tables → Names → List Name → TermSign × e.Term → TermSign × x.Term
+resolved_signed d v locals s = (s.0, resolved_term d v locals s.1)
 
-pub sums_map : {X : Type 0} (d : Tables) (v : Names) (locals : List Name) (view : X → WrittenSign × e.Term)
+pub sums_map : {X : Type 0} (d : Tables) (v : Names) (locals : List Name) (view : X → TermSign × e.Term)
     (xs : List X) →
     x.sums_of (map (λ a. resolved_signed d v locals (view a)) xs) ≡ resolved_sums d v locals (e.sums_of (map view xs))
 sums_map d v locals view [] = refl
 sums_map d v locals view (a ∷ bs) =
-    ap (λ (ss : x.Sums). x.sum (resolved_sign (view a).0) (resolved_term d v locals (view a).1) ss)
+    ap (λ (ss : x.Sums). x.sum (view a).0 (resolved_term d v locals (view a).1) ss)
     (sums_map d v locals view bs)
 
 pub products_map : {X : Type 0} (d : Tables) (v : Names) (locals : List Name) (view : X → e.Factor) (xs : List X) →

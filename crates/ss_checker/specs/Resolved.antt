@@ -6,8 +6,6 @@ use Rattle.ss_preamble.specs.declared.item.Heading.TheVariants.{PermanentEntitie
 use Rattle.ss_preamble.specs.declared.item.Rank.{Rank as WrittenRank}
 use Rattle.ss_preamble.specs.declared.item.Rank.TheVariants as ranks
 use Rattle.ss_preamble.specs.Tree.{Key as WrittenKey, SetKind, Fifo, Lifo, Ranked, ItemAt, Decls}
-use Rattle.ss_grammar.specs.declared.expr.TermSign.{TermSign as WrittenSign}
-use Rattle.ss_grammar.specs.declared.expr.TermSign.TheVariants as written_sign
 use Rattle.ss_grammar.specs.declared.condition.Comparison.{Comparison as WrittenComparison}
 use Rattle.ss_grammar.specs.declared.condition.Comparison.TheVariants as comparisons
 use Rattle.ss_grammar.specs.declared.condition.Copula.{Copula as WrittenCopula}
@@ -28,8 +26,6 @@ use Rattle.ss_grammar.specs.Simple as s
 use Rattle.ss_grammar.specs.Loops as l
 use Rattle.ss_grammar.specs.Tree.{Head, MainHead, RoutineHead, EventHead, listed}
 use Rattle.ss_grammar.specs.Places as w
-use Rattle.ss_grammar.specs.declared.expr.TermSign.{TermSign}
-use Rattle.ss_grammar.specs.declared.expr.TermSign.TheVariants.{Plus, Minus}
 use Rattle.ss_check.specs.declared.condition.Comparison.{Comparison}
 use Rattle.ss_check.specs.declared.condition.Comparison.TheVariants.{Equals, Differs, Below, Above, AtMost, AtLeast}
 use Rattle.ss_check.specs.declared.condition.Copula.{Copula}
@@ -106,11 +102,6 @@ use Rattle.ss_checker.specs.ResolvedNames.{Names, names, number, attribute_names
 
 -- ---- words that stay what they are
 
--- the sign before a term
-abbrev pub resolved_sign : WrittenSign → TermSign
-resolved_sign written_sign.Plus = Plus
-resolved_sign written_sign.Minus = Minus
-
 -- how two values are compared
 abbrev pub resolved_comparison : WrittenComparison → Comparison
 resolved_comparison comparisons.Equal = Equals
@@ -165,12 +156,12 @@ module _ (d : Tables) (v : Names) (locals : List Name) where
   abbrev mutual
     -- an expression, each name by what it stands for
     pub resolved_expr : e.Expr → x.Expr
-    resolved_expr (e.expr l t ts) = x.expr (option_map resolved_sign l) (resolved_term t) (resolved_sums ts)
+    resolved_expr (e.expr l t ts) = x.expr l (resolved_term t) (resolved_sums ts)
 
     -- its further terms
     pub resolved_sums : e.Sums → x.Sums
     resolved_sums e.no_sums = x.no_sums
-    resolved_sums (e.sum l t ts) = x.sum (resolved_sign l) (resolved_term t) (resolved_sums ts)
+    resolved_sums (e.sum l t ts) = x.sum l (resolved_term t) (resolved_sums ts)
 
     -- a product
     pub resolved_term : e.Term → x.Term

@@ -15,27 +15,10 @@ use crate::scope::{
     Scope, class_subscript, kind, member_kept, member_subscript, owner_kept, owner_subscript,
     variable_of,
 };
-use ss_check::{Arguments, Expr, Factor, SignedTerm, Sum, Term, TermSign, Values};
+use ss_check::{Arguments, Expr, Factor, SignedTerm, Sum, Term, Values};
 use ss_grammar::Listing;
 use ss_words::Several;
 use std::alloc::AllocError;
-
-/// The sign before a term.
-fn resolve_sign(sign: ss_grammar::TermSign) -> TermSign
-    ensures { result ≡ resolved.resolved_sign sign }
-{
-    match sign {
-        ss_grammar::TermSign::Plus => TermSign::Plus,
-        ss_grammar::TermSign::Minus => TermSign::Minus,
-    }
-}
-
-/// The sign before a first term, if one is written.
-fn resolve_lead(sign: Option<ss_grammar::TermSign>) -> Option<TermSign>
-    ensures { result ≡ option_map resolved.resolved_sign sign }
-{
-    sign.map(resolve_sign)
-}
 
 /// An expression with the numbers of its names.
 pub(crate) fn resolve_expr(scope: Scope<'_>, e: &ss_grammar::Expr) -> Result<Expr, AllocError>
@@ -143,11 +126,16 @@ fn resolve_sum(scope: Scope<'_>, e: &ss_grammar::Expr) -> Result<Sum, AllocError
     let mut more = Vec::new(scope.alloc);
     for further in &e.more {
         let term = resolve_term(scope, &further.term)?;
-        let sign = resolve_sign(further.sign);
-        more.push(SignedTerm { sign, term })?;
+        more.push(SignedTerm {
+            sign: further.sign,
+            term,
+        })?;
     }
-    let sign = resolve_lead(e.sign);
-    Ok(Sum { sign, first, more })
+    Ok(Sum {
+        sign: e.sign,
+        first,
+        more,
+    })
 }
 
 #[cycle(resolve)]

@@ -16,8 +16,8 @@ use Rattle.ss_words.proofs.Local.{Rooms, same, more, Local, pure_local, refuse_l
 use Rattle.ss_words.proofs.Marks.{spell_mark, spell_eaten, expect_good, eat_good, expect_local, eat_local}
 use Rattle.ss_words.proofs.Marks.{expect_read_back, eat_read_back, not_eaten}
 use Rattle.ss_words.proofs.ReadBack.{then}
-use Rattle.ss_grammar.specs.declared.expr.TermSign.{TermSign}
-use Rattle.ss_grammar.specs.declared.expr.TermSign.TheVariants.{Plus, Minus}
+use Rattle.ss_words.specs.declared.term_sign.TermSign.{TermSign}
+use Rattle.ss_words.specs.declared.term_sign.TermSign.TheVariants.{Plus, Minus}
 use Rattle.ss_grammar.specs.declared.condition.Comparison.{Comparison}
 use Rattle.ss_grammar.specs.declared.condition.Comparison.TheVariants.{Equal, Unequal, Less, Greater, AtMost, AtLeast}
 use Rattle.ss_grammar.specs.declared.condition.Copula.{Copula}

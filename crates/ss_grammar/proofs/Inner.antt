@@ -7,8 +7,8 @@ use Rattle.ss_words.specs.declared.word.Sign.TheVariants as s
 use Rattle.ss_words.specs.declared.reserved.Reserved.TheVariants as r
 use Rattle.ss_words.specs.Plain.{Plain, name, mark}
 use Rattle.ss_words.specs.Lists.{Name, Several, spell_others, spell_several}
-use Rattle.ss_grammar.specs.declared.expr.TermSign.{TermSign}
-use Rattle.ss_grammar.specs.declared.expr.TermSign.TheVariants.{Plus, Minus}
+use Rattle.ss_words.specs.declared.term_sign.TermSign.{TermSign}
+use Rattle.ss_words.specs.declared.term_sign.TermSign.TheVariants.{Plus, Minus}
 use Rattle.ss_grammar.specs.declared.condition.Comparison.{Comparison}
 use Rattle.ss_grammar.specs.declared.condition.Comparison.TheVariants.{Equal, Unequal, Less, Greater, AtMost, AtLeast}
 use Rattle.ss_grammar.specs.declared.condition.Copula.{Copula}

@@ -18,7 +18,7 @@ use Rattle.ss_grammar.specs.declared.place.QualifierWord.TheVariants.{With, Unle
 use Rattle.ss_grammar.specs.declared.place.Statistic.{Statistic}
 use Rattle.ss_grammar.specs.declared.place.Statistic.TheVariants as statistic
 use Rattle.ss_grammar.specs.Combined.{several}
-use Rattle.ss_grammar.specs.declared.expr.TermSign.TheVariants.{Plus, Minus}
+use Rattle.ss_words.specs.declared.term_sign.TermSign.TheVariants.{Plus, Minus}
 use Rattle.ss_grammar.specs.Expr.{Expr, expr, term, digits, named, applied, within, spell_expr, depth_expr}
 use Rattle.ss_grammar.specs.ExprReading.{expr_at}
 use Rattle.ss_grammar.specs.Condition.{Reference, Condition, condition, Conjunction, conjunction, Relation, compared}

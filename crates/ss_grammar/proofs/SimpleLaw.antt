@@ -18,7 +18,7 @@ use Rattle.ss_grammar.specs.declared.simple.SetEnd.TheVariants as end
 use Rattle.ss_grammar.specs.declared.simple.Article.{Article}
 use Rattle.ss_grammar.specs.declared.simple.Article.TheVariants as article
 use Rattle.ss_grammar.specs.Combined.{if_open, several}
-use Rattle.ss_grammar.specs.declared.expr.TermSign.TheVariants.{Plus, Minus}
+use Rattle.ss_words.specs.declared.term_sign.TermSign.TheVariants.{Plus, Minus}
 use Rattle.ss_grammar.specs.Expr as x
 use Rattle.ss_grammar.specs.Expr.{Expr, expr, term, digits, applied, within, spell_within, spell_expr, depth_expr}
 use Rattle.ss_grammar.specs.ExprReading.{sign_of, expr_at, inner_at}

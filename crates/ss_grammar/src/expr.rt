@@ -1,9 +1,4 @@
-/// The sign before a term.
-#[derive(Clone, Copy, Debug, PartialEq, Eq)]
-pub enum TermSign {
-    Plus,
-    Minus,
-}
+use ss_words::TermSign;
 
 /// An expression: a first term, whose sign may be written before it, and the terms added to it or
 /// subtracted from it

@@ -5,8 +5,8 @@ ghost use Rattle.ss_grammar.specs.ExprReading as reading;
 ghost use Rattle.ss_grammar.specs.PartView.{rest_view, factors_view, terms_view, values_view, several_values_view};
 ghost use Rattle.ss_grammar.specs.View.{expr_view, term_view, factor_view, added_view};
 
-use crate::expr::{Added, Expr, Factor, Term, TermSign};
-use ss_words::{Cursor, Mark, Plain, Refusal, Several, Sign};
+use crate::expr::{Added, Expr, Factor, Term};
+use ss_words::{Cursor, Mark, Plain, Refusal, Several, Sign, TermSign};
 
 /// Reads an expression in which at most so many parentheses may be open at once.
 pub fn expression(cursor: &mut Cursor<'_>, room: u32) -> Result<Expr, Refusal>

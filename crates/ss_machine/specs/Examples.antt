@@ -1,6 +1,6 @@
 -- Small programs, and what their runs come to.
 use Rattle.std.specs.Prelude.{ℕ, zero, suc, ◌-◌, pos, List, [], ◌∷◌, ◌++◌, map, replicate, codes, Bool, true, false, Some, None}
-use Rattle.ss_grammar.specs.declared.expr.TermSign.TheVariants.{Plus, Minus}
+use Rattle.ss_words.specs.declared.term_sign.TermSign.TheVariants.{Plus, Minus}
 use Rattle.ss_check.specs.declared.target.Target.TheVariants.{Variable as ToVariable, Attribute}
 use Rattle.ss_check.specs.declared.target.SetRef.{SetRef}
 use Rattle.ss_check.specs.declared.making.Making.TheVariants.{Create, Destroy}

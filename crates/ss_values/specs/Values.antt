@@ -7,8 +7,8 @@ use Rattle.ss_words.specs.declared.fault.RunFault.{RunFault}
 use Rattle.ss_words.specs.declared.fault.RunFault.TheVariants.{OutOfRange, ZeroDivisor}
 use Rattle.ss_words.specs.declared.fault.StepFault.{StepFault}
 use Rattle.ss_words.specs.declared.fault.StepFault.TheVariants.{Fault, Memory}
-use Rattle.ss_grammar.specs.declared.expr.TermSign.{TermSign}
-use Rattle.ss_grammar.specs.declared.expr.TermSign.TheVariants.{Plus, Minus}
+use Rattle.ss_words.specs.declared.term_sign.TermSign.{TermSign}
+use Rattle.ss_words.specs.declared.term_sign.TermSign.TheVariants.{Plus, Minus}
 use Rattle.ss_check.specs.declared.sum.OwnerKept.{OwnerKept}
 use Rattle.ss_check.specs.declared.sum.OwnerKept.TheVariants.{First, Last, Count}
 use Rattle.ss_check.specs.declared.sum.MemberKept.{MemberKept}

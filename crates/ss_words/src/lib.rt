@@ -17,6 +17,7 @@ mod reserved;
 mod scan;
 mod several;
 mod spelling;
+mod term_sign;
 mod text_laws;
 mod word;
 
@@ -29,4 +30,5 @@ pub use refusal::Refusal;
 pub use reserved::Reserved;
 pub use scan::{without_stops, words};
 pub use several::Several;
+pub use term_sign::TermSign;
 pub use word::{Sign, Word, WordKind, Words};

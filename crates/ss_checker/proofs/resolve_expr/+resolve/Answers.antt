@@ -1,12 +1,11 @@
 use Rattle.std.proofs.Common.{◌≡◌, ap, ◌∙◌, refl, sym, arith, rules, ℕ, List}
 use Rattle.std.specs.Prelude.{map, option_map}
 use Rattle.std.proofs.lemmas.Grind.{common_steps}
-use Rattle.ss_grammar.specs.declared.expr.TermSign.{TermSign as WrittenSign}
 use Rattle.ss_grammar.specs.declared.expr.Expr.{out-Expr}
 use Rattle.ss_grammar.specs.declared.expr.Term.{out-Term}
 use Rattle.ss_grammar.specs.declared.expr.Factor.TheFolds.{fold_out-Expr, fold_out-Term, fold-roll-Factor}
 use Rattle.ss_grammar.specs.declared.expr.Factor.TheVariants.{rolls-Applied}
-use Rattle.ss_grammar.specs.declared.expr.TermSign.{TermSign}
+use Rattle.ss_words.specs.declared.term_sign.TermSign.{TermSign}
 use Rattle.ss_check.specs.declared.sum.Factor.TheFolds.{fold-roll-Arguments, fold-roll-Sum, fold-roll-Term}
 use Rattle.ss_grammar.specs.Expr as tree
 use Rattle.ss_grammar.specs.View as written
@@ -31,10 +30,9 @@ resolve_sum-returns t c =
           (TermSign × checked.Term) checked.Expr checked.Term checked.factor_level checked.subscript_level
           checked.arguments_level checked.signed_level checked.sum_level checked.term_level,
       fold_out-Expr tree.Factor
-          (WrittenSign × tree.Term) tree.Expr tree.Term written.factor_step written.added_step written.expr_step
+          (TermSign × tree.Term) tree.Expr tree.Term written.factor_step written.added_step written.expr_step
           written.term_step,
       c.in_ok-first.ensures,
-      c.resolve_lead-sign.ensures,
       sums,
     ) refl
 
@@ -52,7 +50,7 @@ resolve_term-returns t c =
           (TermSign × checked.Term) checked.Expr checked.Term checked.factor_level checked.subscript_level
           checked.arguments_level checked.signed_level checked.sum_level checked.term_level,
       fold_out-Term tree.Factor
-          (WrittenSign × tree.Term) tree.Expr tree.Term written.factor_step written.added_step written.expr_step
+          (TermSign × tree.Term) tree.Expr tree.Term written.factor_step written.added_step written.expr_step
           written.term_step,
       c.in_ok-first.ensures,
       products,
@@ -66,7 +64,7 @@ seen t c =
     let x = c.in-Applied in
     ap written.factor_view (x.is ∙ sym (rolls-Applied x.name x.first x.others))
     ∙ fold-roll-Factor tree.Factor
-    (WrittenSign × tree.Term) tree.Expr tree.Term written.factor_step written.added_step written.expr_step
+    (TermSign × tree.Term) tree.Expr tree.Term written.factor_step written.added_step written.expr_step
     written.term_step _
 
 -- its first argument

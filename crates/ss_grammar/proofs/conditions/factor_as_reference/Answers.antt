@@ -1,5 +1,5 @@
 use Rattle.std.proofs.Common.{◌≡◌, length, map, None, sym, ap, ◌∙◌, arith}
-use Rattle.ss_grammar.specs.declared.expr.TermSign.{TermSign}
+use Rattle.ss_words.specs.declared.term_sign.TermSign.{TermSign}
 use Rattle.ss_grammar.specs.declared.expr.Factor.TheVariants.{rolls-Applied}
 use Rattle.ss_grammar.specs.declared.expr.Factor.TheFolds.{fold-roll-Factor}
 use Rattle.ss_grammar.specs.Expr.{Expr, expr, Term, term, Factor, applied, no_products, no_sums, exprs_of}
