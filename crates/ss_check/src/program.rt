@@ -1,5 +1,5 @@
 ghost use Rattle.std.specs.Prelude.{◌≡◌, ◌<◌, length, position, slice_get, Some};
-ghost use Rattle.ss_check.specs.Program.{ProgramTable, is_main, main_number, places_of, spot_at};
+ghost use Rattle.ss_check.specs.Program.{ProgramTable, event_of, is_main, main_number, places_of, spot_at};
 ghost use Rattle.ss_check.specs.ProgramSound.{IsSound};
 ghost use Rattle.ss_check.specs.Match.{section_ways};
 
@@ -112,6 +112,15 @@ impl Program {
         self.sections
             .iter()
             .position(|s| s.kind == SectionKind::Main)
+    }
+
+    /// Whether the class with this number is an event class whose notices the data may name
+    /// (docs/LANGUAGE.md, "External events").
+    pub fn is_external(&self, class: usize) -> bool
+        requires { class < length self.now.classes }
+        ensures { result ≡ (event_of self.now class).external }
+    {
+        self.classes[class].is_external()
     }
 
     /// The section with this number.

@@ -25,6 +25,22 @@ impl Model for Class {
     } };
 }
 
+impl Class {
+    ghost use Rattle.std.specs.Prelude.{◌≡◌};
+    ghost use Rattle.ss_check.specs.Program.{event_of_kind};
+
+    /// Whether it is an event class whose notices the data may name (docs/LANGUAGE.md, "External
+    /// events").
+    pub fn is_external(&self) -> bool
+        ensures { result ≡ (event_of_kind self.now.kind).external }
+    {
+        match &self.kind {
+            ClassKind::Event(event) => event.external,
+            _ => false,
+        }
+    }
+}
+
 /// A set: its discipline, whose its lists are, and the number of its members' class.
 #[derive(Debug, Drop)]
 pub struct Set {

@@ -1,5 +1,6 @@
 //! Lines that are read, and one turn of each command with memory at hand, which no clause promises.
 use ss_checker::check;
+use ss_data::Feed;
 use ss_debug::{Command, Debugger, Go, Movement, Question, command, obey};
 use ss_grammar::sections;
 use ss_links::LinkedSets;
@@ -76,12 +77,13 @@ fn debugger(alloc: Global) -> Result<Debugger<LinkedSets>, Fail> {
     let (decls, from) = preamble(alloc, &words)?;
     let sections = sections(alloc, &words, from)?;
     let program = check(alloc, decls, sections)?;
+    let feed = Feed::new(alloc, b"")?;
     Ok(Debugger::new(
         alloc,
         Machine::new(
             alloc,
             program,
-            b"",
+            feed,
             LinkedSets::new(alloc),
             LinkedSets::new(alloc),
         )?,

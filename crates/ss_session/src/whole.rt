@@ -1,6 +1,7 @@
-ghost use Rattle.std.specs.Prelude.{◌≡◌, ℕ, ◌+◌, ◌-◌, ◌^◌, ◌<◌, ◌≤◌, ◌↔◌, List, Option, Ok, Err};
+ghost use Rattle.std.specs.Prelude.{◌≡◌, ℕ, ◌+◌, ◌-◌, ◌^◌, ◌<◌, ◌≤◌, ◌↔◌, List, [], Option, IfOk, Ok, Err};
 ghost use Rattle.std.specs.Io.KnownBytes.{Appends};
 ghost use Rattle.ss_links.specs.Board.{empty_board};
+ghost use Rattle.ss_machine.specs.Run.{input_with, run};
 ghost use Rattle.ss_session.specs.declared.ending.End.{End};
 ghost use Rattle.ss_session.specs.declared.ending.SessionFault.TheVariants.{Text, Check, Write, Memory};
 ghost use Rattle.ss_session.specs.Model.{IsTextRefused, IsCheckRefused};
@@ -12,9 +13,11 @@ use crate::ending::{Cut, End, SessionFault};
 use crate::load::{LoadFault, load};
 use crate::outlet::{Outlet, put_all};
 use crate::refusal::refusal_text;
+use ss_check::Program;
+use ss_data::Feed;
 use ss_links::{LinkedSets, SetBoard};
 use ss_machine::Machine;
-use std::alloc::Global;
+use std::alloc::{AllocError, Global};
 
 /// Writes the line of a refused model.
 #[tactic(auto, using(crate::proofs::Pieces::appends_none), unfolding(crate::specs::Private::LineEnds))]
@@ -26,6 +29,25 @@ fn refuse<W: Outlet>(alloc: Global, code: &str, line: usize, out: &mut W) -> Res
     let text = refusal_text(alloc, code, line)?;
     put_all(out, &text)?;
     Ok(())
+}
+
+/// The machine at the start of a program's run over its data.
+fn machine<S: SetBoard>(
+    alloc: Global,
+    program: Program,
+    data_text: &[u8],
+    sets: S,
+    pending: S,
+) -> Result<Machine<S>, AllocError>
+    requires sets { S.board sets ≡ empty_board }
+    requires pending { S.board pending ≡ empty_board }
+    ensures input { IfOk result (λ machine. machine.input ≡ input_with program data_text.now) }
+    ensures state { IfOk result (λ machine. machine.state ≡ run machine.input 0) }
+    ensures steps { IfOk result (λ machine. machine.steps ≡ []) }
+    ensures forgotten { IfOk result (λ machine. machine.forgotten ≡ 0) }
+{
+    let feed = Feed::new(alloc, data_text)?;
+    Machine::new(alloc, program, feed, sets, pending)
 }
 
 /// The whole session, by one fact on how it ends.
@@ -55,7 +77,7 @@ fn session_by_cases<S: SetBoard, W: Outlet>(
             Err(SessionFault::Check)
         }
         Ok(program) => {
-            let machine = Machine::new(alloc, program, data_text, sets, pending)?;
+            let machine = machine(alloc, program, data_text, sets, pending)?;
             Ok(write_transcript(alloc, machine, commands, out)?)
         }
     }

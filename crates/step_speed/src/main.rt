@@ -11,6 +11,7 @@ mod steps;
 
 use anyhow::{Context, Result};
 use load::{data, program};
+use ss_data::Feed;
 use ss_links::LinkedSets;
 use ss_machine::Machine;
 use std::alloc::Global;
@@ -124,10 +125,11 @@ fn run_ways(
 fn machine(alloc: Global, text: &str, request: &Request) -> Result<Machine<LinkedSets>> {
     let program = program(alloc, text.as_bytes()).context("the model")?;
     let data = data(alloc, request.turns, request.size)?;
+    let feed = Feed::new(alloc, data.as_bytes())?;
     Ok(Machine::new(
         alloc,
         program,
-        data.as_bytes(),
+        feed,
         LinkedSets::new(alloc),
         LinkedSets::new(alloc),
     )?)
