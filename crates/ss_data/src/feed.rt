@@ -27,8 +27,8 @@ impl Model for Feed {
 }
 
 impl Feed {
-    ghost use Rattle.std.specs.Prelude.{◌≡◌, ◌≢◌, ◌+◌, ◌<◌, ◌≤◌, true, length, Ok, Err, IfOk, OnOk, OnErr, MatchOption};
-    ghost use Rattle.ss_data.specs.Items.{data_at_start, next_value, with_taken};
+    ghost use Rattle.std.specs.Prelude.{◌≡◌, ◌≢◌, ◌+◌, ◌<◌, ◌≤◌, true, length, map, Ok, Err, IfOk, OnOk, OnErr, MatchOption};
+    ghost use Rattle.ss_data.specs.Items.{data_at_start, item, next_value, with_taken};
     ghost use Rattle.ss_data.specs.Entries.{next_kind, next_writes, place_behind_mark};
 
     /// Cuts data into its pieces, in one pass; nothing is taken yet.
@@ -41,6 +41,14 @@ impl Feed {
     {
         let pieces = cut_pieces(alloc, text)?;
         Ok(Feed { pieces, taken: 0 })
+    }
+
+    /// Tells its caller that each item is that of its bytes.
+    pub fn known(&self)
+        ensures { self.now.items ≡ map (λ i. item i.bytes) self.now.items }
+    {
+        // What is seen of a feed is known where a field is read.
+        let _ = &self.pieces;
     }
 
     /// Takes the number of the next piece.

@@ -50,6 +50,11 @@ pieces_in : (ps : List (List ℕ)) → AreItemsInRange (map item ps)
 pieces_in [] = tt
 pieces_in (p ∷ ps) = (number_in p, pieces_in ps)
 
+-- items that are each that of its bytes
+pub known_in : (is : List Item) → AreItemsInRange (map (λ i. item i.bytes) is)
+known_in [] = tt
+known_in (i ∷ is) = (number_in i.bytes, known_in is)
+
 -- those of any data
 pub items_in : (text : List ℕ) → AreItemsInRange (items text)
 items_in text = pieces_in (pieces text)
