@@ -6,7 +6,7 @@ abbrev pub cut_by_lengths : {C : Type 0} → List ℕ → List C → List (List 
 cut_by_lengths [] cs = []
 cut_by_lengths (k ∷ ks) cs = take k cs ∷ cut_by_lengths ks (drop k cs)
 
--- the sizes of steps, the newest first; how many more there is room for; and how many changes the steps may have together
+-- sizes of steps, the newest first; how many more there is room for; and how many changes the steps may have together
 pub record SizeList : Type 0 where
   -- the sizes
   pub sizes : List ℕ
@@ -15,7 +15,7 @@ pub record SizeList : Type 0 where
   -- how many changes the steps may have
   pub most : ℕ
 
--- the size that a byte tells, if it is less than 255, or else 255 and the first of the long ones (of which each such byte
+-- the size that a byte tells, if it is below 255, or else 255 and the first of the long ones (of which each such byte
 -- has one, so that the last case is never met)
 abbrev pub size_by : Bool → ℕ → List ℕ → ℕ
 size_by true byte longs = byte
