@@ -1,7 +1,7 @@
 use crate::condition::Condition;
 
 /// What an IF asks.
-#[derive(Debug, Drop)]
+#[derive(Drop)]
 pub enum Question {
     /// Whether a condition holds.
     Whether(Condition),
@@ -12,7 +12,7 @@ pub enum Question {
 }
 
 /// IF, and the places that belong to it.
-#[derive(Debug, Drop)]
+#[derive(Drop)]
 pub enum Branch {
     If(Question),
     Else,

@@ -3,7 +3,7 @@ use crate::target::Target;
 use std::marker::Model;
 
 /// The targets of the values that a routine yields, or that a READ takes, in order.
-#[derive(Debug, Drop)]
+#[derive(Drop)]
 pub struct Targets {
     pub list: Vec<Target>,
 }
@@ -23,7 +23,7 @@ impl Model for Targets {
 
 /// `CALL` of a section, by its number, with the values given to it and the targets of those that it
 /// yields.
-#[derive(Debug, Drop)]
+#[derive(Drop)]
 pub struct Call {
     pub section: usize,
     pub given: Values,

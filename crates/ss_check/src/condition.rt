@@ -3,7 +3,7 @@ use crate::target::SetRef;
 use std::marker::Model;
 
 /// A condition of a place. Contracts see it as the tree of its text.
-#[derive(Debug, Drop)]
+#[derive(Drop)]
 pub struct Condition {
     pub any: Disjunction,
 }
@@ -20,7 +20,7 @@ impl Model for Condition {
 }
 
 /// Conjunctions joined by OR.
-#[derive(Debug, Drop)]
+#[derive(Drop)]
 #[cycle(condition)]
 pub struct Disjunction {
     pub first: Conjunction,
@@ -28,7 +28,7 @@ pub struct Disjunction {
 }
 
 /// Relations joined by AND.
-#[derive(Debug, Drop)]
+#[derive(Drop)]
 #[cycle(condition)]
 pub struct Conjunction {
     pub first: Relation,
@@ -36,7 +36,7 @@ pub struct Conjunction {
 }
 
 /// A comparison, a question about a set, or a condition within parentheses.
-#[derive(Debug, Drop)]
+#[derive(Drop)]
 #[cycle(condition)]
 pub enum Relation {
     Compared {
@@ -59,14 +59,14 @@ pub enum Relation {
 }
 
 /// `IS` or `IS NOT`.
-#[derive(Clone, Copy, Debug, PartialEq, Eq)]
+#[derive(Clone, Copy, PartialEq, Eq)]
 pub enum Copula {
     Is,
     IsNot,
 }
 
 /// How two values are compared: `=`, `NE`, `<`, `>`, `<=`, `>=`.
-#[derive(Clone, Copy, Debug, PartialEq, Eq)]
+#[derive(Clone, Copy, PartialEq, Eq)]
 pub enum Comparison {
     Equals,
     Differs,

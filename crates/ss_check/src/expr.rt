@@ -3,7 +3,7 @@ use std::marker::Model;
 
 /// An expression of a place. Contracts see it as the tree of its text, with variables in place of
 /// names.
-#[derive(Debug, Drop)]
+#[derive(Drop)]
 pub struct Expr {
     pub sum: Sum,
 }
@@ -20,7 +20,7 @@ impl Model for Expr {
 }
 
 /// The expressions of a list, in order.
-#[derive(Debug, Drop)]
+#[derive(Drop)]
 pub struct Values {
     pub list: Vec<Expr>,
 }

@@ -2,14 +2,14 @@ use crate::expr::Expr;
 use crate::target::{SetRef, Target};
 
 /// An end of a list.
-#[derive(Clone, Copy, Debug, PartialEq, Eq)]
+#[derive(Clone, Copy, PartialEq, Eq)]
 pub enum End {
     First,
     Last,
 }
 
 /// Where FILE puts a member.
-#[derive(Debug, Drop)]
+#[derive(Drop)]
 pub enum Position {
     /// By the set's discipline.
     ByRule,
@@ -21,7 +21,7 @@ pub enum Position {
 }
 
 /// What files members and removes them.
-#[derive(Debug, Drop)]
+#[derive(Drop)]
 pub enum Filing {
     /// `FILE member [FIRST | LAST | BEFORE other | AFTER other] IN set`.
     File {

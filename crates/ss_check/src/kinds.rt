@@ -2,7 +2,7 @@ use crate::keys::Keys;
 use std::marker::Model;
 
 /// What the entities of a class are.
-#[derive(Debug, Drop)]
+#[derive(Drop)]
 pub enum ClassKind {
     /// Made once, all of them; `count` is the number of the global variable `N.c`.
     Permanent { count: usize },
@@ -12,7 +12,7 @@ pub enum ClassKind {
 
 /// What an event class has besides: the number of its section, the keys that break its ties, and
 /// whether the data may name it.
-#[derive(Debug, Drop)]
+#[derive(Drop)]
 pub struct EventClass {
     pub section: usize,
     pub ties: Keys,
@@ -28,7 +28,7 @@ impl Model for EventClass {
 }
 
 /// Where a set files a member when no place is named.
-#[derive(Debug, Drop)]
+#[derive(Drop)]
 pub enum Discipline {
     Fifo,
     Lifo,
@@ -36,14 +36,14 @@ pub enum Discipline {
 }
 
 /// Whose a set's lists are: one of the system, or one of each entity of a class, by its number.
-#[derive(Clone, Copy, Debug, PartialEq, Eq)]
+#[derive(Clone, Copy, PartialEq, Eq)]
 pub enum Owner {
     System,
     OwnedBy(usize),
 }
 
 /// What a section is.
-#[derive(Clone, Copy, Debug, PartialEq, Eq)]
+#[derive(Clone, Copy, PartialEq, Eq)]
 pub enum SectionKind {
     Main,
     Routine,

@@ -5,7 +5,7 @@ use crate::variable::Variable;
 use std::marker::Model;
 
 /// The word before a condition of a FOR phrase.
-#[derive(Clone, Copy, Debug, PartialEq, Eq)]
+#[derive(Clone, Copy, PartialEq, Eq)]
 pub enum QualifierWord {
     With,
     Unless,
@@ -14,14 +14,14 @@ pub enum QualifierWord {
 }
 
 /// A qualifier of a FOR phrase.
-#[derive(Debug, Drop)]
+#[derive(Drop)]
 pub struct Qualifier {
     pub word: QualifierWord,
     pub condition: Condition,
 }
 
 /// The qualifiers of a FOR phrase, in order.
-#[derive(Debug, Drop)]
+#[derive(Drop)]
 pub struct Qualifiers {
     pub list: Vec<Qualifier>,
 }
@@ -40,14 +40,14 @@ impl Model for Qualifiers {
 }
 
 /// Upwards and from the first, or BACK.
-#[derive(Clone, Copy, Debug, PartialEq, Eq)]
+#[derive(Clone, Copy, PartialEq, Eq)]
 pub enum Direction {
     Onward,
     Backward,
 }
 
 /// What a FOR phrase goes through.
-#[derive(Debug, Drop)]
+#[derive(Drop)]
 pub enum Phrase {
     /// `variable = first TO last [BY step]`, or `variable BACK FROM first TO last [BY step]`.
     Counting {
@@ -75,7 +75,7 @@ pub enum Phrase {
 }
 
 /// Where a walk through a list begins.
-#[derive(Debug, Drop)]
+#[derive(Drop)]
 pub enum Begin {
     /// At the first member, or at the last in reverse order.
     AtTheEnd,
@@ -86,7 +86,7 @@ pub enum Begin {
 }
 
 /// A FOR phrase with its qualifiers, and whether DO stands behind it.
-#[derive(Debug, Drop)]
+#[derive(Drop)]
 pub struct ForPhrase {
     pub phrase: Phrase,
     pub qualifiers: Qualifiers,
@@ -94,7 +94,7 @@ pub struct ForPhrase {
 }
 
 /// What COMPUTE tells of the values that it gathered.
-#[derive(Clone, Copy, Debug, PartialEq, Eq)]
+#[derive(Clone, Copy, PartialEq, Eq)]
 pub enum Statistic {
     Number,
     Sum,
@@ -103,14 +103,14 @@ pub enum Statistic {
 }
 
 /// A target of COMPUTE, and what is assigned to it.
-#[derive(Debug, Drop)]
+#[derive(Drop)]
 pub struct Telling {
     pub target: Target,
     pub statistic: Statistic,
 }
 
 /// The targets of a COMPUTE, in order.
-#[derive(Debug, Drop)]
+#[derive(Drop)]
 pub struct Tellings {
     pub list: Vec<Telling>,
 }
@@ -129,7 +129,7 @@ impl Model for Tellings {
 }
 
 /// FOR phrases, and the places that only they control.
-#[derive(Debug, Drop)]
+#[derive(Drop)]
 pub enum Looping {
     For(ForPhrase),
     Loop,

@@ -3,7 +3,7 @@ use crate::target::Target;
 
 /// What makes and ends entities. `is_called` says whether CALLED is written; without it the target
 /// or the value is the global variable of the class's name.
-#[derive(Debug, Drop)]
+#[derive(Drop)]
 pub enum Making {
     /// `CREATE class [CALLED target]`.
     Create {

@@ -1,7 +1,7 @@
 use std::marker::Model;
 
 /// A name, in upper case. Contracts see its bytes.
-#[derive(Debug, Drop)]
+#[derive(Drop)]
 pub struct Name {
     pub bytes: Vec<u8>,
 }

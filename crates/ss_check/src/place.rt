@@ -9,7 +9,7 @@ use crate::timing::Timing;
 use ss_report::Picture;
 
 /// A place of a section: what one step runs.
-#[derive(Debug, Drop)]
+#[derive(Drop)]
 pub enum Place {
     Assign(Assign),
     Making(Making),
@@ -25,7 +25,7 @@ pub enum Place {
 }
 
 /// An assignment.
-#[derive(Debug, Drop)]
+#[derive(Drop)]
 pub enum Assign {
     /// `[LET] target = value`; `written` says whether the word LET stands in the text.
     Let {
@@ -46,7 +46,7 @@ pub enum Assign {
 }
 
 /// What appends to the report.
-#[derive(Debug, Drop)]
+#[derive(Drop)]
 pub enum Output {
     /// `PRINT count LINES WITH values THUS picture`.
     Print {
@@ -59,7 +59,7 @@ pub enum Output {
 }
 
 /// What ends a section or the run.
-#[derive(Clone, Copy, Debug, PartialEq, Eq)]
+#[derive(Clone, Copy, PartialEq, Eq)]
 pub enum Control {
     Stop,
     Return,
@@ -67,7 +67,7 @@ pub enum Control {
 }
 
 /// A place and the line of its first word; lines count from 1.
-#[derive(Debug, Drop)]
+#[derive(Drop)]
 pub struct Spot {
     pub line: usize,
     pub place: Place,

@@ -14,7 +14,7 @@ use std::marker::Model;
 /// A checked program. The names of its global variables, classes and sets, those of a class's
 /// attributes and those of a section's locals stand in order of declaration, each once in its
 /// table.
-#[derive(Debug, Drop)]
+#[derive(Drop)]
 pub struct Program {
     pub globals: Vec<Name>,
     pub classes: Vec<Class>,

@@ -11,7 +11,7 @@ use std::marker::Model;
 /// A section: its name (`MAIN` for the main one), the line of its head, how many given and how many
 /// yielded parameters it has, whether its event's notice is saved, its locals in the order of its
 /// table (those of the parameters first), and its places.
-#[derive(Debug, Drop)]
+#[derive(Drop)]
 pub struct Section {
     pub name: Name,
     pub kind: SectionKind,
@@ -50,7 +50,7 @@ impl Model for Section {
 }
 
 /// What a section is made of, apart from its places.
-#[derive(Debug, Drop)]
+#[derive(Drop)]
 pub struct Head {
     pub name: Name,
     pub kind: SectionKind,

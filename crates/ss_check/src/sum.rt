@@ -2,7 +2,7 @@ use crate::variable::Variable;
 use ss_words::TermSign;
 
 /// A first term, which may have a sign at its head, and further terms, each with its sign.
-#[derive(Debug, Drop)]
+#[derive(Drop)]
 #[cycle(sum)]
 pub struct Sum {
     pub sign: Option<TermSign>,
@@ -11,7 +11,7 @@ pub struct Sum {
 }
 
 /// A further term of a sum.
-#[derive(Debug, Drop)]
+#[derive(Drop)]
 #[cycle(sum)]
 pub struct SignedTerm {
     pub sign: TermSign,
@@ -19,7 +19,7 @@ pub struct SignedTerm {
 }
 
 /// A product: a first factor and further factors.
-#[derive(Debug, Drop)]
+#[derive(Drop)]
 #[cycle(sum)]
 pub struct Term {
     pub first: Factor,
@@ -27,7 +27,7 @@ pub struct Term {
 }
 
 /// A number, a variable, a function of its arguments, an attribute, or a sum within parentheses.
-#[derive(Debug, Drop)]
+#[derive(Drop)]
 #[cycle(sum)]
 pub enum Factor {
     /// From 0 to 2^63 - 1.
@@ -65,7 +65,7 @@ pub enum Factor {
 }
 
 /// Which entity is meant.
-#[derive(Debug, Drop)]
+#[derive(Drop)]
 #[cycle(sum)]
 pub enum Subscript {
     /// No subscript is written: the global variable of a class's name stands for it.
@@ -76,7 +76,7 @@ pub enum Subscript {
 }
 
 /// A kept attribute of a set's owner.
-#[derive(Clone, Copy, Debug, PartialEq, Eq)]
+#[derive(Clone, Copy, PartialEq, Eq)]
 pub enum OwnerKept {
     /// `F.s`, the first member.
     First,
@@ -87,7 +87,7 @@ pub enum OwnerKept {
 }
 
 /// A kept attribute of a set's member.
-#[derive(Clone, Copy, Debug, PartialEq, Eq)]
+#[derive(Clone, Copy, PartialEq, Eq)]
 pub enum MemberKept {
     /// `P.s`, the member directly before it.
     Predecessor,
@@ -98,7 +98,7 @@ pub enum MemberKept {
 }
 
 /// The arguments of `MAX.F` and `MIN.F`: a first one, and further ones.
-#[derive(Debug, Drop)]
+#[derive(Drop)]
 #[cycle(sum)]
 pub struct Arguments {
     pub first: Box<Sum>,

@@ -4,7 +4,7 @@ use std::marker::Model;
 
 /// A class, the number of the global variable of its name, and the names of its attributes in order
 /// of declaration.
-#[derive(Debug, Drop)]
+#[derive(Drop)]
 pub struct Class {
     pub name: Name,
     pub kind: ClassKind,
@@ -42,7 +42,7 @@ impl Class {
 }
 
 /// A set: its discipline, whose its lists are, and the number of its members' class.
-#[derive(Debug, Drop)]
+#[derive(Drop)]
 pub struct Set {
     pub name: Name,
     pub discipline: Discipline,

@@ -3,7 +3,7 @@ use crate::variable::Variable;
 use std::marker::Model;
 
 /// The subscript of a target or a set. Contracts see it as the tree of its text.
-#[derive(Debug, Drop)]
+#[derive(Drop)]
 pub struct Index {
     pub subscript: Subscript,
 }
@@ -20,7 +20,7 @@ impl Model for Index {
 }
 
 /// Where a value is assigned.
-#[derive(Debug, Drop)]
+#[derive(Drop)]
 pub enum Target {
     Variable(Variable),
     /// An attribute, by its class and its number there.
@@ -32,7 +32,7 @@ pub enum Target {
 }
 
 /// The list of a set that is meant: the set by its number, and the list's owner.
-#[derive(Debug, Drop)]
+#[derive(Drop)]
 pub struct SetRef {
     pub set: usize,
     pub owner: Index,

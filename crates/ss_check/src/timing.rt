@@ -2,7 +2,7 @@ use crate::expr::{Expr, Values};
 use crate::target::Target;
 
 /// What schedules event notices, takes them off, and starts events.
-#[derive(Debug, Drop)]
+#[derive(Drop)]
 pub enum Timing {
     Schedule(Schedule),
     /// `CANCEL class [CALLED notice]`; without CALLED the notice is the one that the global
@@ -17,7 +17,7 @@ pub enum Timing {
 }
 
 /// `SCHEDULE` of a notice of a class, with the values of its first attributes, at a time.
-#[derive(Debug, Drop)]
+#[derive(Drop)]
 pub struct Schedule {
     pub class: usize,
     pub notice: Notice,
@@ -28,7 +28,7 @@ pub struct Schedule {
 
 /// Which notice is scheduled. `is_called` says whether CALLED is written; without it the target or
 /// the value is the global variable of the class's name.
-#[derive(Debug, Drop)]
+#[derive(Drop)]
 pub enum Notice {
     /// `A class [CALLED target]`: a new one, whose reference goes to the target.
     New { is_called: bool, target: Target },
@@ -38,14 +38,14 @@ pub enum Notice {
 
 /// How the arguments are written: in parentheses before CALLED, or with GIVEN behind it. Without
 /// arguments it is `Given`.
-#[derive(Clone, Copy, Debug, PartialEq, Eq)]
+#[derive(Clone, Copy, PartialEq, Eq)]
 pub enum Listing {
     InParentheses,
     Given,
 }
 
 /// When a notice is due.
-#[derive(Debug, Drop)]
+#[derive(Drop)]
 pub enum When {
     /// `AT time`
     At(Expr),

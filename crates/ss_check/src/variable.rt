@@ -1,5 +1,5 @@
 /// What a name in an expression or a target stands for (docs/LANGUAGE.md, "Names and values").
-#[derive(Clone, Copy, Debug, PartialEq, Eq)]
+#[derive(Clone, Copy, PartialEq, Eq)]
 pub enum Variable {
     /// A global variable, by its number in the program's table.
     Global(usize),

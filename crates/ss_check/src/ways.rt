@@ -8,7 +8,7 @@ use crate::place::{Place, Spot};
 use std::alloc::{AllocError, Global};
 
 /// What the entry of a FOR phrase sets back.
-#[derive(Clone, Copy, Debug, PartialEq, Eq)]
+#[derive(Clone, Copy, PartialEq, Eq)]
 pub enum Resets {
     Nothing,
     /// The answer of FIND: the first phrase of its chain.
@@ -18,7 +18,7 @@ pub enum Resets {
 }
 
 /// Where a place goes on (docs/LANGUAGE.md, "Steps"), by the numbers of places of its section.
-#[derive(Clone, Copy, Debug, PartialEq, Eq)]
+#[derive(Clone, Copy, PartialEq, Eq)]
 pub struct Ways {
     /// Where it goes on when it is done. END has none that counts.
     pub next: usize,

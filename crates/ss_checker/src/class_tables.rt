@@ -25,7 +25,7 @@ pub(crate) fn class_tables(
     ensures { IfOk result (λ classes. classes.items
         ≡ map (resolved.class_table tables.now names.now rankings.now) names.now.classes) }
 {
-    let mut classes = Vec::new(alloc);
+    let mut classes = Vec::with_capacity(alloc, names.classes().len())?;
     for name in names.classes() {
         classes.push(class_table(alloc, tables, names, rankings, &name.bytes)?)?;
     }
@@ -111,7 +111,7 @@ pub(crate) fn resolve_keys(
         (all_of (several_view key_view keys.now))) }
 {
     let number = names.class(class);
-    let mut list = Vec::new(alloc);
+    let mut list = Vec::with_capacity(alloc, 1 + keys.others.len())?;
     list.push(resolve_key(names, number, &keys.first))?;
     for key in &keys.others {
         list.push(resolve_key(names, number, key))?;
@@ -141,8 +141,9 @@ pub(crate) fn priority(
     ensures { IfOk result (λ numbers. numbers.items
         ≡ map (λ c. number c names.now.classes) tables.now.priority) }
 {
-    let mut numbers = Vec::new(alloc);
-    for class in tables.priority.facts() {
+    let classes = tables.priority.facts();
+    let mut numbers = Vec::with_capacity(alloc, classes.len())?;
+    for class in classes {
         numbers.push(names.class(&class.name.bytes))?;
     }
     Ok(numbers)

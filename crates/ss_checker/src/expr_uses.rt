@@ -87,6 +87,20 @@ pub(crate) fn add_option<'a>(uses: &mut UseList<'a>, e: &'a Option<Expr>) -> Res
     }
 }
 
+/// Adds the uses of a subscript, if one is written.
+fn add_subscript<'a>(
+    uses: &mut UseList<'a>,
+    subscript: &'a Option<Box<Expr>>,
+) -> Result<(), AllocError>
+    ensures { OnOk result
+        (uses.new ≡ uses.old ++ uses_of.uses_option (option_view (λ b. expr_view b.value) subscript.now)) }
+{
+    match subscript {
+        Some(e) => add_expr(uses, e),
+        None => Ok(()),
+    }
+}
+
 /// Adds the uses of a target.
 pub(crate) fn add_target<'a>(uses: &mut UseList<'a>, v: &'a Reference) -> Result<(), AllocError>
     ensures { OnOk result (uses.new ≡ uses.old ++ uses_of.uses_target (reference_view v.now)) }
@@ -95,7 +109,7 @@ pub(crate) fn add_target<'a>(uses: &mut UseList<'a>, v: &'a Reference) -> Result
         name: &v.name,
         subscripted: v.subscript.is_some(),
     })?;
-    add_option(uses, &v.subscript)
+    add_subscript(uses, &v.subscript)
 }
 
 /// Adds the uses of targets.
@@ -116,7 +130,7 @@ pub(crate) fn add_set<'a>(uses: &mut UseList<'a>, v: &'a Reference) -> Result<()
         name: &v.name,
         subscripted: v.subscript.is_some(),
     })?;
-    add_option(uses, &v.subscript)
+    add_subscript(uses, &v.subscript)
 }
 
 /// Adds the uses of a reference whose value is read.
@@ -129,7 +143,7 @@ fn add_value<'a>(uses: &mut UseList<'a>, v: &'a Reference) -> Result<(), AllocEr
         name: &v.name,
         arguments,
     })?;
-    add_option(uses, &v.subscript)
+    add_subscript(uses, &v.subscript)
 }
 
 /// Adds the uses of a target behind CALLED, if there is one.

@@ -1,7 +1,7 @@
 use ss_check::Name;
 
 /// A name, and what holds of it.
-#[derive(Debug, Drop)]
+#[derive(Drop)]
 pub struct Fact<T> {
     pub name: Name,
     pub what: T,

@@ -1,5 +1,5 @@
 /// An attribute that a set keeps of its owner.
-#[derive(Clone, Copy, Debug, PartialEq, Eq)]
+#[derive(Clone, Copy, PartialEq, Eq)]
 pub enum OwnerKept {
     /// `F.set`: the first member, 0 for none.
     First,
@@ -10,7 +10,7 @@ pub enum OwnerKept {
 }
 
 /// An attribute that a set keeps of its members.
-#[derive(Clone, Copy, Debug, PartialEq, Eq)]
+#[derive(Clone, Copy, PartialEq, Eq)]
 pub enum MemberKept {
     /// `P.set`: the member before, 0 for none.
     Predecessor,

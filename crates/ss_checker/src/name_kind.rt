@@ -9,7 +9,7 @@ use ss_preamble::Heading;
 
 /// What a name is declared as (docs/LANGUAGE.md, "Rules of the checker"). A local variable is not
 /// declared.
-#[derive(Debug, Drop)]
+#[derive(Drop)]
 pub enum NameKind {
     /// A class, with the heading under which it stands; none where an item `EVERY` has none over
     /// it.

@@ -215,7 +215,7 @@ fn attributes_of_classes(
     ensures { IfOk result (λ tables. map (λ t. t.items) tables.items
         ≡ map (λ c. resolved.names_where (rules.is_attribute_of c) kinds.now) classes.now) }
 {
-    let mut tables = Vec::new(alloc);
+    let mut tables = Vec::with_capacity(alloc, classes.len())?;
     for class in classes {
         tables.push(attributes_of(alloc, kinds, &class.bytes)?)?;
     }

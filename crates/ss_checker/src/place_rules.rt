@@ -107,7 +107,10 @@ pub(crate) fn standing_rule(in_main: bool, behind_find: bool, place: &Place) -> 
 fn is_start(place: &Place) -> bool
     ensures { result ≡ rules.is_start (view.place_view place.now) }
 {
-    matches!(place, Place::Simple(Simple::Time(Timing::StartSimulation)))
+    match place {
+        Place::Simple(Simple::Time(timing)) => matches!(**timing, Timing::StartSimulation),
+        _ => false,
+    }
 }
 
 /// Whether it asks for the answer of a FIND.

@@ -79,7 +79,7 @@ fn resolve_sections(
     ensures { IfOk result (λ list. list.items
         ≡ map (resolved.resolved_section whole.now names.now) (map view.section_view sections.now)) }
 {
-    let mut list = Vec::new(alloc);
+    let mut list = Vec::with_capacity(alloc, sections.len())?;
     for section in sections {
         list.push(resolve_section(alloc, whole, names, section)?)?;
     }

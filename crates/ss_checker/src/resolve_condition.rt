@@ -54,7 +54,7 @@ fn resolve_disjunction(
     ensures { IfOk result (λ x. condition_of x
         ≡ in_scope scope.entry resolved.resolved_condition (condition_view c.now)) }
 {
-    let mut more = Vec::new(scope.alloc);
+    let mut more = Vec::with_capacity(scope.alloc, c.more.len())?;
     for further in &c.more {
         more.push(resolve_conjunction(scope, further)?)?;
     }
@@ -70,7 +70,7 @@ fn resolve_conjunction(
     ensures { IfOk result (λ x. conjunction_of x
         ≡ in_scope scope.entry resolved.resolved_conjunction (conjunction_view c.now)) }
 {
-    let mut more = Vec::new(scope.alloc);
+    let mut more = Vec::with_capacity(scope.alloc, c.more.len())?;
     for further in &c.more {
         more.push(resolve_relation(scope, further)?)?;
     }

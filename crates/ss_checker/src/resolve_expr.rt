@@ -45,10 +45,10 @@ pub(crate) fn resolve_option(
 /// A subscript, if one is written.
 pub(crate) fn resolve_subscript(
     scope: Scope<'_>,
-    subscript: &Option<ss_grammar::Expr>,
+    subscript: &Option<Box<ss_grammar::Expr>>,
 ) -> Result<Option<Box<Sum>>, AllocError>
     ensures { IfOk result (λ s. option_map (λ e. expr_of e.value) s
-        ≡ in_scope scope.entry resolved.resolved_option (option_view expr_view subscript.now)) }
+        ≡ in_scope scope.entry resolved.resolved_option (option_view (λ b. expr_view b.value) subscript.now)) }
 {
     match subscript {
         None => Ok(None),
@@ -82,7 +82,7 @@ pub(crate) fn resolve_values(
     ensures { IfOk result
         (λ xs. xs ≡ map (in_scope scope.entry resolved.resolved_expr) (map expr_view es.now)) }
 {
-    let mut list = Vec::new(scope.alloc);
+    let mut list = Vec::with_capacity(scope.alloc, es.len())?;
     add_values(scope, &mut list, es)?;
     Ok(Values { list })
 }
@@ -95,7 +95,7 @@ pub(crate) fn resolve_several(
     ensures { IfOk result (λ xs. xs
         ≡ map (in_scope scope.entry resolved.resolved_expr) (all_of (several_view expr_view es.now))) }
 {
-    let mut list = Vec::new(scope.alloc);
+    let mut list = Vec::with_capacity(scope.alloc, 1 + es.others.len())?;
     list.push(resolve_expr(scope, &es.first)?)?;
     add_values(scope, &mut list, &es.others)?;
     Ok(Values { list })
@@ -123,7 +123,7 @@ fn resolve_sum(scope: Scope<'_>, e: &ss_grammar::Expr) -> Result<Sum, AllocError
         (λ x. expr_of x ≡ in_scope scope.entry resolved.resolved_expr (expr_view e.now)) }
 {
     let first = resolve_term(scope, &e.first)?;
-    let mut more = Vec::new(scope.alloc);
+    let mut more = Vec::with_capacity(scope.alloc, e.more.len())?;
     for further in &e.more {
         let term = resolve_term(scope, &further.term)?;
         more.push(SignedTerm {
@@ -143,7 +143,7 @@ fn resolve_term(scope: Scope<'_>, t: &ss_grammar::Term) -> Result<Term, AllocErr
     ensures { IfOk result
         (λ x. term_of x ≡ in_scope scope.entry resolved.resolved_term (term_view t.now)) }
 {
-    let mut more = Vec::new(scope.alloc);
+    let mut more = Vec::with_capacity(scope.alloc, t.more.len())?;
     for further in &t.more {
         more.push(resolve_factor(scope, further)?)?;
     }
@@ -166,7 +166,7 @@ fn resolve_factor(scope: Scope<'_>, f: &ss_grammar::Factor) -> Result<Factor, Al
         } => {
             let first = resolve_sum(scope, first)?;
             let first = Box::new(scope.alloc, first)?;
-            let mut more = Vec::new(scope.alloc);
+            let mut more = Vec::with_capacity(scope.alloc, others.len())?;
             for other in others {
                 more.push(resolve_sum(scope, other)?)?;
             }

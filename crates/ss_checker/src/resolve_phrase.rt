@@ -120,7 +120,7 @@ fn resolve_qualifiers(
     ensures { IfOk result (λ xs. xs ≡ map (in_scope scope.entry resolved.resolved_qualifier)
         (map view.qualifier_view qualifiers.now)) }
 {
-    let mut list = Vec::new(scope.alloc);
+    let mut list = Vec::with_capacity(scope.alloc, qualifiers.len())?;
     for qualifier in qualifiers {
         list.push(resolve_qualifier(scope, qualifier)?)?;
     }
@@ -153,7 +153,7 @@ fn resolve_tellings(scope: Scope<'_>, computed: &Several<Computed>) -> Result<Te
     ensures { IfOk result (λ xs. xs ≡ map (in_scope scope.entry resolved.resolved_telling)
         (all_of (several_view view.computed_view computed.now))) }
 {
-    let mut list = Vec::new(scope.alloc);
+    let mut list = Vec::with_capacity(scope.alloc, 1 + computed.others.len())?;
     list.push(resolve_telling(scope, &computed.first)?)?;
     for other in &computed.others {
         list.push(resolve_telling(scope, other)?)?;

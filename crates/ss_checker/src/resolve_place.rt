@@ -62,7 +62,7 @@ pub(crate) fn resolve_places(
     ensures { IfOk result
         (λ xs. xs.items ≡ map (in_scope scope.entry resolved.resolved_spot) (view.spots places.now)) }
 {
-    let mut list = Vec::new(scope.alloc);
+    let mut list = Vec::with_capacity(scope.alloc, places.len())?;
     for spot in places {
         let place = resolve_place(scope, &spot.place)?;
         list.push(Spot {

@@ -108,7 +108,7 @@ pub(crate) fn resolve_targets(scope: Scope<'_>, rs: &[Reference]) -> Result<Targ
     ensures { IfOk result
         (λ xs. xs ≡ map (in_scope scope.entry resolved.resolved_target) (map reference_view rs.now)) }
 {
-    let mut list = Vec::new(scope.alloc);
+    let mut list = Vec::with_capacity(scope.alloc, rs.len())?;
     add_targets(scope, &mut list, rs)?;
     Ok(Targets { list })
 }
@@ -121,7 +121,7 @@ pub(crate) fn resolve_several_targets(
     ensures { IfOk result (λ xs. xs ≡ map (in_scope scope.entry resolved.resolved_target)
         (all_of (several_view reference_view rs.now))) }
 {
-    let mut list = Vec::new(scope.alloc);
+    let mut list = Vec::with_capacity(scope.alloc, 1 + rs.others.len())?;
     list.push(resolve_target(scope, &rs.first)?)?;
     add_targets(scope, &mut list, &rs.others)?;
     Ok(Targets { list })

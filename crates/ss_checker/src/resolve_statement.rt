@@ -264,7 +264,7 @@ fn copied_lines(alloc: Global, lines: &[Vec<u8>]) -> Result<Vec<Vec<u8>>, AllocE
     ensures { IfOk result
         (λ copies. map (λ l. l.items) copies.items ≡ map (λ l. l.items) lines.now) }
 {
-    let mut copies = Vec::new(alloc);
+    let mut copies = Vec::with_capacity(alloc, lines.len())?;
     for line in lines {
         copies.push(Vec::from_slice(alloc, line)?)?;
     }

@@ -23,7 +23,7 @@ pub(crate) fn set_tables(
     ensures { IfOk result (λ sets. sets.items
         ≡ map (resolved.set_table tables.now names.now rankings.now) names.now.sets) }
 {
-    let mut sets = Vec::new(alloc);
+    let mut sets = Vec::with_capacity(alloc, names.sets().len())?;
     for name in names.sets() {
         sets.push(set_table(alloc, tables, names, rankings, &name.bytes)?)?;
     }

@@ -21,7 +21,7 @@ use ss_preamble::{Heading, ItemAt};
 use std::alloc::{AllocError, Global};
 
 /// How many given and how many yielded parameters a routine has.
-#[derive(Clone, Copy, Debug, PartialEq, Eq)]
+#[derive(Clone, Copy, PartialEq, Eq)]
 pub struct Counts {
     pub given: usize,
     pub yielded: usize,

@@ -4,6 +4,7 @@ use Rattle.ss_words.specs.Reading.{bind, pure, refuse, look, skip, whole, ended}
 use Rattle.ss_words.specs.Noting.{here}
 use Rattle.ss_grammar.specs.Combined.{pair, behind, before, made, if_mark, if_word, either, by_table}
 use Rattle.ss_grammar.specs.Combined.{either_of, made_of, must}
+use Rattle.ss_grammar.specs.SimpleReading.{subscript_at, making_at}
 use Rattle.ss_grammar.specs.SimpleReading.{print_at, exchange_at, file_at, remove_at, filing_at}
 use Rattle.ss_grammar.specs.SimpleReading.{call_at, transfer_at, schedule_at, timing_at}
 use Rattle.ss_grammar.specs.LoopReading.{walk_at, counting_at, range_at}
@@ -51,6 +52,11 @@ choices = tt
 unfoldable pub exchanges : ⊤
 unfolding choices print_at exchange_at
 exchanges = tt
+
+-- CREATE and DESTROY
+unfoldable pub makings : ⊤
+unfolding choices subscript_at making_at
+makings = tt
 
 -- FILE and REMOVE
 unfoldable pub filings : ⊤

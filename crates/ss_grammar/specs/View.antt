@@ -108,7 +108,7 @@ added_view = fold-Added Factor (TermSign × Term) Expr Term factor_step added_st
 
 -- a reference of the code
 abbrev pub reference_view : CodeReference → Reference
-reference_view v = record { name = v.name.items; subscript = option_view expr_view v.subscript }
+reference_view v = record { name = v.name.items; subscript = option_view (λ b. expr_view b.value) v.subscript }
 
 -- a relation, with each part already seen as its tree
 abbrev pub relation_step : Relation-F Relation Condition Conjunction → Relation
@@ -204,9 +204,9 @@ exchange_view (exchange.Skip e) = s.Skip (expr_view e)
 abbrev pub simple_view : CodeSimple → s.Simple
 simple_view (simple.Assign a) = s.Assigns (assign_view a)
 simple_view (simple.Make a) = s.Makes (making_view a)
-simple_view (simple.File a) = s.Files (filing_view a)
-simple_view (simple.Transfer a) = s.Transfers (transfer_view a)
-simple_view (simple.Time a) = s.Times (timing_view a)
+simple_view (simple.File a) = s.Files (filing_view a.value)
+simple_view (simple.Transfer a) = s.Transfers (transfer_view a.value)
+simple_view (simple.Time a) = s.Times (timing_view a.value)
 simple_view (simple.Exchange a) = s.Exchanges (exchange_view a)
 
 -- ---- places
@@ -237,7 +237,7 @@ computed_view t = record { target = reference_view t.target; statistic = t.stati
 
 -- what an IF of the code asks
 abbrev pub question_view : CodeQuestion → l.Question
-question_view (question.Holds c) = l.Holds (condition_view c)
+question_view (question.Holds c) = l.Holds (condition_view c.value)
 question_view question.Found = l.Found
 question_view question.NoneFound = l.NoneFound
 
@@ -249,7 +249,7 @@ branch_view branch.Always = p.Always
 
 -- a place of a FOR statement of the code
 abbrev pub loop_view : CodeLoop → p.Loop
-loop_view (loop.For f b) = p.For (phrase_view f) b
+loop_view (loop.For f b) = p.For (phrase_view f.value) b
 loop_view loop.Next = p.Next
 loop_view loop.Find = p.Find
 loop_view (loop.Gather e) = p.Gather (expr_view e)

@@ -12,12 +12,16 @@ use crate::simple::{Assign, Making};
 use ss_words::{Cursor, Mark, Plain, Refusal, Reserved, Sign};
 
 /// `["(" expression ")"]`
-#[tactic(auto, unfolding(crate::specs::SimpleReading::subscript_at))]
-pub fn subscript(cursor: &mut Cursor<'_>, room: u32) -> Result<Option<Expr>, Refusal>
-    ensures exact { Gives (option_view expr_view) result cursor.new (reading.subscript_at room cursor.old) }
+#[tactic(auto, unfolding(crate::proofs::Unfoldings::steps, crate::specs::SimpleReading::subscript_at))]
+fn subscript(cursor: &mut Cursor<'_>, room: u32) -> Result<Option<Box<Expr>>, Refusal>
+    ensures exact { Gives (option_view (λ b. expr_view b.value)) result cursor.new
+        (reading.subscript_at room cursor.old) }
     ensures shorter { length cursor.new ≤ length cursor.old }
 {
-    within(cursor, room)
+    let Some(value) = within(cursor, room)? else {
+        return Ok(None);
+    };
+    Ok(Some(Box::new(cursor.alloc(), value)?))
 }
 
 /// `reference = name ["(" expression ")"]`
@@ -79,7 +83,7 @@ pub fn moved(cursor: &mut Cursor<'_>, mark: Mark, room: u32) -> Result<(Expr, Re
 }
 
 /// CREATE EVERY, CREATE or DESTROY, if one stands here.
-#[tactic(auto, unfolding(crate::proofs::Unfoldings::choices, crate::specs::SimpleReading::making_at))]
+#[tactic(auto, unfolding(crate::proofs::Unfoldings::makings))]
 pub fn making(cursor: &mut Cursor<'_>, room: u32) -> Result<Option<Making>, Refusal>
     ensures exact { Gives (option_view making_view) result cursor.new (reading.making_at room cursor.old) }
     ensures shorter { length cursor.new ≤ length cursor.old }
@@ -88,7 +92,7 @@ pub fn making(cursor: &mut Cursor<'_>, room: u32) -> Result<Option<Making>, Refu
     if cursor.eat(Mark::Reserved(Reserved::Create)) {
         if cursor.eat(Mark::Reserved(Reserved::Every)) {
             let class = cursor.name()?;
-            let count = subscript(cursor, room)?;
+            let count = within(cursor, room)?;
             return Ok(Some(Making::CreateEvery { class, count }));
         }
         let (class, target) = named(cursor, room)?;

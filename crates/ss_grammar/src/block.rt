@@ -42,7 +42,7 @@ fn allowed(cursor: &mut Cursor<'_>, room: u32, mark: Mark) -> Result<bool, Refus
 #[cycle(statements)]
 pub fn block(
     cursor: &mut Cursor<'_>,
-    text: &[PlainWord],
+    text: &[PlainWord<'_>],
     room: Room,
     out: &mut Vec<Spot>,
 ) -> Result<(), Refusal>
@@ -60,7 +60,7 @@ pub fn block(
 #[tactic(auto, unfolding(crate::proofs::Unfoldings::steps, crate::specs::PlacesAtLines::noting_statement))]
 fn statement(
     cursor: &mut Cursor<'_>,
-    text: &[PlainWord],
+    text: &[PlainWord<'_>],
     room: Room,
     out: &mut Vec<Spot>,
 ) -> Result<bool, Refusal>
@@ -84,7 +84,7 @@ fn statement(
 #[tactic(auto, unfolding(crate::proofs::Notings::at_lines, crate::specs::PlacesAtLines::noting_one))]
 fn one(
     cursor: &mut Cursor<'_>,
-    text: &[PlainWord],
+    text: &[PlainWord<'_>],
     room: Room,
     out: &mut Vec<Spot>,
 ) -> Result<bool, Refusal>
@@ -109,7 +109,7 @@ fn one(
 #[cycle(statements)]
 fn branch(
     cursor: &mut Cursor<'_>,
-    text: &[PlainWord],
+    text: &[PlainWord<'_>],
     room: Room,
     out: &mut Vec<Spot>,
 ) -> Result<bool, Refusal>
@@ -136,7 +136,7 @@ fn branch(
 #[tactic(auto, unfolding(crate::proofs::Unfoldings::steps, crate::specs::PlacesAtLines::noting_branch))]
 fn behind_if(
     cursor: &mut Cursor<'_>,
-    text: &[PlainWord],
+    text: &[PlainWord<'_>],
     line: usize,
     room: Room,
     out: &mut Vec<Spot>,
@@ -159,7 +159,7 @@ fn behind_if(
 #[tactic(auto, unfolding(crate::proofs::Notings::at_lines, crate::specs::PlacesAtLines::noting_else))]
 fn otherwise(
     cursor: &mut Cursor<'_>,
-    text: &[PlainWord],
+    text: &[PlainWord<'_>],
     room: Room,
     out: &mut Vec<Spot>,
 ) -> Result<(), Refusal>
@@ -181,7 +181,7 @@ fn otherwise(
 #[cycle(statements)]
 fn for_loop(
     cursor: &mut Cursor<'_>,
-    text: &[PlainWord],
+    text: &[PlainWord<'_>],
     room: Room,
     out: &mut Vec<Spot>,
 ) -> Result<bool, Refusal>
@@ -210,7 +210,7 @@ fn for_loop(
 #[tactic(auto, unfolding(crate::proofs::Unfoldings::steps, crate::specs::PlacesAtLines::noting_controlled))]
 fn controlled(
     cursor: &mut Cursor<'_>,
-    text: &[PlainWord],
+    text: &[PlainWord<'_>],
     line: usize,
     phrase: Phrase,
     room: Room,
@@ -224,6 +224,7 @@ fn controlled(
         line (phrase_view phrase) (spots out.old.items) cursor.old) }
     ensures shorter { length cursor.new ≤ length cursor.old }
 {
+    let phrase = Box::new(cursor.alloc(), phrase)?;
     let repeats = cursor.eat(Mark::Reserved(Reserved::Do));
     note(out, line, Place::Loop(Loop::For { phrase, repeats }))?;
     if repeats {
@@ -240,7 +241,7 @@ fn controlled(
 #[tactic(auto, unfolding(crate::proofs::Unfoldings::steps, crate::specs::PlacesAtLines::noting_repeated))]
 fn repeated(
     cursor: &mut Cursor<'_>,
-    text: &[PlainWord],
+    text: &[PlainWord<'_>],
     room: Room,
     out: &mut Vec<Spot>,
 ) -> Result<(), Refusal>
@@ -261,7 +262,7 @@ fn repeated(
 #[tactic(auto, unfolding(crate::proofs::Notings::last))]
 fn last(
     cursor: &mut Cursor<'_>,
-    text: &[PlainWord],
+    text: &[PlainWord<'_>],
     room: Room,
     out: &mut Vec<Spot>,
 ) -> Result<(), Refusal>

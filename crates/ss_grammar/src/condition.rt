@@ -5,7 +5,7 @@ use crate::expr::Expr;
 #[derive(Debug, Drop)]
 pub struct Reference {
     pub name: Vec<u8>,
-    pub subscript: Option<Expr>,
+    pub subscript: Option<Box<Expr>>,
 }
 
 /// How two values are compared.

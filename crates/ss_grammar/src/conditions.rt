@@ -121,7 +121,7 @@ fn factor_as_reference(factor: Factor) -> Option<Reference>
         } => match others.as_slice() {
             [] => Some(Reference {
                 name,
-                subscript: Some(Box::into_inner(first)),
+                subscript: Some(first),
             }),
             [_, ..] => None,
         },

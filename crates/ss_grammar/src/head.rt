@@ -119,7 +119,7 @@ fn define(cursor: &mut Cursor<'_>) -> Result<Several<Vec<u8>>, Refusal>
 #[tactic(auto, using(crate::proofs::Pushed::pushed_local), unfolding(crate::proofs::Unfoldings::notes))]
 fn next_local(
     cursor: &mut Cursor<'_>,
-    text: &[PlainWord],
+    text: &[PlainWord<'_>],
     out: &mut Vec<LocalNames>,
 ) -> Result<bool, Refusal>
     ensures exact { Gives (λ b. (b, map local_view out.new.items)) result cursor.new
@@ -139,7 +139,7 @@ fn next_local(
 /// `{DEFINE names AS INTEGER VARIABLES}`: pushes the local DEFINEs, as long as one stands here.
 pub fn local_list(
     cursor: &mut Cursor<'_>,
-    text: &[PlainWord],
+    text: &[PlainWord<'_>],
     out: &mut Vec<LocalNames>,
 ) -> Result<(), Refusal>
     ensures exact { Gives (λ u. map local_view out.new.items) result cursor.new

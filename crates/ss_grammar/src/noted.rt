@@ -34,7 +34,7 @@ pub fn note(out: &mut Vec<Spot>, line: usize, place: Place) -> Result<(), Refusa
 #[tactic(auto, unfolding(crate::proofs::Notings::at_lines))]
 pub fn always(
     cursor: &mut Cursor<'_>,
-    text: &[PlainWord],
+    text: &[PlainWord<'_>],
     out: &mut Vec<Spot>,
 ) -> Result<(), Refusal>
     ensures exact { Gives (λ u. spots out.new.items) result cursor.new (here (word_lines text.now) (λ j.
@@ -49,7 +49,11 @@ pub fn always(
 
 /// LOOP, which ends a chain of FOR phrases with DO.
 #[tactic(auto, unfolding(crate::proofs::Notings::at_lines))]
-pub fn next(cursor: &mut Cursor<'_>, text: &[PlainWord], out: &mut Vec<Spot>) -> Result<(), Refusal>
+pub fn next(
+    cursor: &mut Cursor<'_>,
+    text: &[PlainWord<'_>],
+    out: &mut Vec<Spot>,
+) -> Result<(), Refusal>
     ensures exact { Gives (λ u. spots out.new.items) result cursor.new (here (word_lines text.now) (λ j.
         bind (expect (m.Reserved r.Loop)) (λ u. pure (spots out.old.items ++ noted_at j (p.Loops p.Next) ∷ [])))
         cursor.old) }
@@ -62,7 +66,11 @@ pub fn next(cursor: &mut Cursor<'_>, text: &[PlainWord], out: &mut Vec<Spot>) ->
 
 /// END, which ends a section.
 #[tactic(auto, unfolding(crate::proofs::Notings::at_lines))]
-pub fn end(cursor: &mut Cursor<'_>, text: &[PlainWord], out: &mut Vec<Spot>) -> Result<(), Refusal>
+pub fn end(
+    cursor: &mut Cursor<'_>,
+    text: &[PlainWord<'_>],
+    out: &mut Vec<Spot>,
+) -> Result<(), Refusal>
     ensures exact { Gives (λ u. spots out.new.items) result cursor.new (here (word_lines text.now) (λ j.
         bind (expect (m.Reserved r.End)) (λ u. pure (spots out.old.items ++ noted_at j p.EndOfSection ∷ [])))
         cursor.old) }

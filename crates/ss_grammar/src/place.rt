@@ -88,7 +88,7 @@ pub struct Computed {
 /// What an IF asks.
 #[derive(Debug, Drop)]
 pub enum Question {
-    Holds(Condition),
+    Holds(Box<Condition>),
     Found,
     NoneFound,
 }
@@ -105,7 +105,7 @@ pub enum Branch {
 #[derive(Debug, Drop)]
 pub enum Loop {
     /// A FOR phrase; `repeats` says whether DO stands behind it.
-    For { phrase: Phrase, repeats: bool },
+    For { phrase: Box<Phrase>, repeats: bool },
     /// LOOP
     Next,
     /// `FIND FIRST CASE`
@@ -126,7 +126,8 @@ pub enum Place {
     End,
 }
 
-/// A place and the line on which its first plain word stands; lines count from 1.
+/// A place and the line on which its first plain word stands; lines count from 1. What is greater
+/// than an assignment stands in a box, so that a place is small.
 #[derive(Debug, Drop)]
 pub struct Spot {
     pub line: usize,

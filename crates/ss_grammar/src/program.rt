@@ -38,7 +38,7 @@ const MOST_SECTIONS: usize = 256;
 #[tactic(auto, unfolding(crate::proofs::Notings::at_lines))]
 fn body(
     cursor: &mut Cursor<'_>,
-    text: &[PlainWord],
+    text: &[PlainWord<'_>],
 ) -> Result<(Vec<LocalNames>, Vec<Spot>), Refusal>
     ensures exact { Gives {Y = List p.LocalNames × List p.Spot} (λ x. (map local_view x.0.items, spots x.1.items))
         result cursor.new (bind (repeat (places.noting_local (word_lines text.now)) []) (λ ls.
@@ -62,7 +62,7 @@ fn body(
 
 /// A section, up to its END: `head {DEFINE names AS INTEGER VARIABLES} {statement} END`
 #[tactic(auto, unfolding(crate::proofs::Notings::at_lines, crate::specs::PlacesAtLines::noting_section))]
-fn section(cursor: &mut Cursor<'_>, text: &[PlainWord]) -> Result<Section, Refusal>
+fn section(cursor: &mut Cursor<'_>, text: &[PlainWord<'_>]) -> Result<Section, Refusal>
     ensures exact { Gives section_view result cursor.new
         (places.noting_section (word_lines text.now) 50 64 16 32 cursor.old) }
     ensures shorter { length cursor.new ≤ length cursor.old }
@@ -81,7 +81,7 @@ fn section(cursor: &mut Cursor<'_>, text: &[PlainWord]) -> Result<Section, Refus
 }
 
 /// Reads sections, as long as one begins.
-fn section_list(cursor: &mut Cursor<'_>, text: &[PlainWord]) -> Result<Vec<Section>, Refusal>
+fn section_list(cursor: &mut Cursor<'_>, text: &[PlainWord<'_>]) -> Result<Vec<Section>, Refusal>
     ensures exact { Gives (λ v. map section_view v.items) result cursor.new
         (places.noting_sections (word_lines text.now) 50 64 16 32 256 cursor.old) }
     ensures shorter { length cursor.new ≤ length cursor.old }
@@ -98,7 +98,7 @@ fn section_list(cursor: &mut Cursor<'_>, text: &[PlainWord]) -> Result<Vec<Secti
 
 /// The sections that the text is made of, and nothing else.
 #[tactic(auto, unfolding(crate::proofs::Unfoldings::whole_text))]
-fn whole_text(cursor: &mut Cursor<'_>, text: &[PlainWord]) -> Result<Vec<Section>, Refusal>
+fn whole_text(cursor: &mut Cursor<'_>, text: &[PlainWord<'_>]) -> Result<Vec<Section>, Refusal>
     ensures exact { Gives (λ v. map section_view v.items) result cursor.new
         (whole (places.noting_sections (word_lines text.now) 50 64 16 32 256) cursor.old) }
     ensures shorter { length cursor.new ≤ length cursor.old }
@@ -113,7 +113,7 @@ fn whole_text(cursor: &mut Cursor<'_>, text: &[PlainWord]) -> Result<Vec<Section
 /// What a text is refused with, by what stopped its reading at the word that the cursor has
 /// reached. A refusal of the text's end is told at the last word, and so is a limit that the last
 /// word passes, since no program ends with that word.
-fn fault(refusal: Refusal, cursor: &Cursor<'_>, text: &[PlainWord]) -> TextFault
+fn fault(refusal: Refusal, cursor: &Cursor<'_>, text: &[PlainWord<'_>]) -> TextFault
     requires { Fails refusal cursor.now
         (whole (places.noting_sections (word_lines text.now) 50 64 16 32 256) (plains_of text.now)) }
     ensures { IsFault result (map plain_at text.now) }
@@ -129,7 +129,7 @@ fn fault(refusal: Refusal, cursor: &Cursor<'_>, text: &[PlainWord]) -> TextFault
 }
 
 /// The line of the last word; 0 where there is none.
-fn last_line(text: &[PlainWord]) -> usize
+fn last_line(text: &[PlainWord<'_>]) -> usize
     ensures { result ≡ line (word_lines text.now) (length text.now - 1) }
 {
     match text.last() {
@@ -139,7 +139,7 @@ fn last_line(text: &[PlainWord]) -> usize
 }
 
 /// The sections that these plain words spell.
-fn read(alloc: Global, text: &[PlainWord]) -> Result<Sections, TextFault>
+fn read(alloc: Global, text: &[PlainWord<'_>]) -> Result<Sections, TextFault>
     ensures sections { IfOk result (λ s. AreSections s (map plain_at text.now)) }
     ensures refused { IfErr result (λ f. IsFault f (map plain_at text.now)) }
 {

@@ -21,5 +21,6 @@ pub fn question(cursor: &mut Cursor<'_>, room: u32) -> Result<Question, Refusal>
     if cursor.eat(Mark::Reserved(Reserved::NoneFound)) {
         return Ok(Question::NoneFound);
     }
-    Ok(Question::Holds(condition(cursor, room)?))
+    let condition = condition(cursor, room)?;
+    Ok(Question::Holds(Box::new(cursor.alloc(), condition)?))
 }

@@ -175,13 +175,14 @@ pub enum Exchange {
     Skip(Expr),
 }
 
-/// A simple statement: one that holds no other (docs/LANGUAGE.md, "Statements").
+/// A simple statement: one that holds no other (docs/LANGUAGE.md, "Statements"). What is greater
+/// than an assignment stands in a box, so that a place is small.
 #[derive(Debug, Drop)]
 pub enum Simple {
     Assign(Assign),
     Make(Making),
-    File(Filing),
-    Transfer(Transfer),
-    Time(Timing),
+    File(Box<Filing>),
+    Transfer(Box<Transfer>),
+    Time(Box<Timing>),
     Exchange(Exchange),
 }

@@ -25,13 +25,13 @@ pub fn simple(cursor: &mut Cursor<'_>, room: u32) -> Result<Option<Simple>, Refu
         return Ok(Some(Simple::Make(making)));
     }
     if let Some(filing) = filing(cursor, room)? {
-        return Ok(Some(Simple::File(filing)));
+        return Ok(Some(Simple::File(Box::new(cursor.alloc(), filing)?)));
     }
     if let Some(transfer) = transfer(cursor, room)? {
-        return Ok(Some(Simple::Transfer(transfer)));
+        return Ok(Some(Simple::Transfer(Box::new(cursor.alloc(), transfer)?)));
     }
     if let Some(timing) = timing(cursor, room)? {
-        return Ok(Some(Simple::Time(timing)));
+        return Ok(Some(Simple::Time(Box::new(cursor.alloc(), timing)?)));
     }
     if let Some(exchange) = exchange(cursor, room)? {
         return Ok(Some(Simple::Exchange(exchange)));

@@ -1,5 +1,5 @@
 /// The entry of the data that makes an external event.
-#[derive(Clone, Copy, Debug, PartialEq, Eq)]
+#[derive(Clone, Copy, PartialEq, Eq)]
 pub enum Entry {
     /// There is none.
     Absent,

@@ -6,7 +6,7 @@ use std::alloc::{AllocError, Global};
 use std::marker::Model;
 
 /// What an open loop goes through.
-#[derive(Clone, Copy, Debug, PartialEq, Eq)]
+#[derive(Clone, Copy, PartialEq, Eq)]
 pub enum Walk {
     /// Numbers, each `step` further than the one before, up to the last.
     Numbers {
@@ -24,7 +24,7 @@ pub enum Walk {
 
 /// An open loop: the place of its FOR phrase, the candidate that comes next, if one is left, and
 /// what it goes through.
-#[derive(Clone, Copy, Debug, PartialEq, Eq)]
+#[derive(Clone, Copy, PartialEq, Eq)]
 pub struct OpenLoop {
     pub phrase: usize,
     pub candidate: Option<i64>,

@@ -8,7 +8,7 @@ use ss_words::RunFault;
 
 /// What a COMPUTE has gathered: how many values, their sum, the greatest and the least; all 0 over
 /// no case.
-#[derive(Clone, Copy, Debug, PartialEq, Eq)]
+#[derive(Clone, Copy, PartialEq, Eq)]
 pub struct Statistics {
     pub number: i64,
     pub sum: i64,

@@ -78,7 +78,7 @@ pub struct Tally<'a> {
 
 /// The number of the first of these words that passes a limit; `None` where none does.
 #[tactic(auto, using(crate::proofs::Passing::past_limits))]
-pub fn past_limit(alloc: Global, words: &[PlainWord]) -> Result<Option<usize>, AllocError>
+pub fn past_limit(alloc: Global, words: &[PlainWord<'_>]) -> Result<Option<usize>, AllocError>
     ensures none { IfOk result (λ o. IfNone o (AreWithin (roles.roles (plains_of words.now)))) }
     ensures some { IfOk result (λ o. IfSome o (λ k. PassesLimit (plains_of words.now) k)) }
 {
@@ -100,7 +100,7 @@ pub fn past_limit(alloc: Global, words: &[PlainWord]) -> Result<Option<usize>, A
 }
 
 /// The first word and those behind it.
-fn parted(words: &[PlainWord]) -> Option<(&PlainWord, &[PlainWord])>
+fn parted<'a>(words: &'a [PlainWord<'a>]) -> Option<(&'a PlainWord<'a>, &'a [PlainWord<'a>])>
     ensures { MatchOption result (words.now ≡ []) (λ p. words.now ≡ p.0.now ∷ p.1.now) }
 {
     match words {
@@ -111,7 +111,7 @@ fn parted(words: &[PlainWord]) -> Option<(&PlainWord, &[PlainWord])>
 
 impl<'a> Standing<'a> {
     /// What a word counts to.
-    fn word_role(&self, word: &'a Plain) -> Role<'a>
+    fn word_role(&self, word: &Plain<'a>) -> Role<'a>
         ensures { role_view result ≡ roles.role (standing_view self.now) (plain_of word.now) }
     {
         match word {
@@ -138,7 +138,7 @@ impl<'a> Standing<'a> {
     }
 
     /// Behind a word that these words follow.
-    fn behind(self, word: &'a Plain, rest: &[PlainWord]) -> Self
+    fn behind(self, word: &Plain<'a>, rest: &[PlainWord<'_>]) -> Self
         requires { self.keys < 2 ^ 63 }
         ensures exact { standing_view result
             ≡ roles.behind_word (standing_view self.entry) (plain_of word.now) (plains_of rest.now) }
@@ -166,7 +166,7 @@ impl<'a> Standing<'a> {
     }
 
     /// Behind a reserved word that these words follow.
-    fn behind_reserved(self, word: Reserved, rest: &[PlainWord]) -> Self
+    fn behind_reserved(self, word: Reserved, rest: &[PlainWord<'_>]) -> Self
         requires { self.keys < 2 ^ 63 }
         ensures exact { standing_view result
             ≡ roles.behind_reserved (standing_view self.entry) word (plains_of rest.now) }
@@ -207,7 +207,7 @@ impl<'a> Standing<'a> {
 }
 
 /// What DEFINE makes of its names, by the words behind it: the word behind AS says it.
-fn defined(words: &[PlainWord]) -> Counted
+fn defined(words: &[PlainWord<'_>]) -> Counted
     ensures { result ≡ roles.defined (plains_of words.now) }
 {
     let mut rest = words;
@@ -222,7 +222,7 @@ fn defined(words: &[PlainWord]) -> Counted
 }
 
 /// What the word behind AS says.
-fn defined_as(words: &[PlainWord]) -> Counted
+fn defined_as(words: &[PlainWord<'_>]) -> Counted
     ensures { result ≡ roles.defined_as (plains_of words.now) }
 {
     match words {
@@ -232,7 +232,7 @@ fn defined_as(words: &[PlainWord]) -> Counted
 }
 
 /// What this word says behind AS.
-fn defined_by(word: &Plain) -> Counted
+fn defined_by(word: &Plain<'_>) -> Counted
     ensures { result ≡ roles.defined_by (plain_of word.now) }
 {
     match word {

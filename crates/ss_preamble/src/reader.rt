@@ -17,7 +17,7 @@ use ss_words::{Cursor, Mark, Plain, PlainWord, Refusal, Reserved};
 
 /// `preamble = PREAMBLE {item} END`, whose words are the last ones of `text`.
 #[tactic(auto, unfolding(crate::proofs::Unfoldings::steps_at_line, crate::specs::ItemsAtLines::preamble_at))]
-pub fn declarations(cursor: &mut Cursor<'_>, text: &[PlainWord]) -> Result<Decls, Refusal>
+pub fn declarations(cursor: &mut Cursor<'_>, text: &[PlainWord<'_>]) -> Result<Decls, Refusal>
     ensures exact { Gives decls_view result cursor.new (lined.preamble_at (word_lines text.now) cursor.old) }
     ensures shorter { length cursor.new ≤ length cursor.old }
 {
@@ -35,7 +35,7 @@ pub fn declarations(cursor: &mut Cursor<'_>, text: &[PlainWord]) -> Result<Decls
 /// Reads items, as long as one begins, and pushes them.
 fn item_list(
     cursor: &mut Cursor<'_>,
-    text: &[PlainWord],
+    text: &[PlainWord<'_>],
     out: &mut Vec<ItemAt>,
 ) -> Result<(), Refusal>
     ensures exact { Gives (λ u. items_view out.new.items) result cursor.new
@@ -50,7 +50,7 @@ fn item_list(
 #[tactic(auto, using(crate::proofs::Pushed::pushed), unfolding(crate::proofs::Unfoldings::item_at_line))]
 fn push_item(
     cursor: &mut Cursor<'_>,
-    text: &[PlainWord],
+    text: &[PlainWord<'_>],
     out: &mut Vec<ItemAt>,
 ) -> Result<bool, Refusal>
     ensures exact { Gives (λ b. (b, items_view out.new.items)) result cursor.new

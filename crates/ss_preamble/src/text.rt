@@ -45,7 +45,7 @@ pub fn preamble(alloc: Global, words: &Words) -> Result<(Decls, usize), TextFaul
 
 /// What these plain words declare, which come from so many words, and the number of the first word
 /// behind it.
-fn read(alloc: Global, text: &[PlainWord], count: usize) -> Result<(Decls, usize), TextFault>
+fn read(alloc: Global, text: &[PlainWord<'_>], count: usize) -> Result<(Decls, usize), TextFault>
     requires { All (λ w. w.index < count) text.now }
     ensures declared { IfOk result (λ d. AreDecls (decls_view d.0) d.1 (map plain_at text.now)) }
     ensures refused { IfErr result (λ f. IsFault f (map plain_at text.now)) }
@@ -64,7 +64,7 @@ fn read(alloc: Global, text: &[PlainWord], count: usize) -> Result<(Decls, usize
 fn declared(
     decls: Decls,
     cursor: &Cursor<'_>,
-    text: &[PlainWord],
+    text: &[PlainWord<'_>],
     count: usize,
 ) -> Result<(Decls, usize), TextFault>
     requires indexes { All (λ w. w.index < count) text.now }
@@ -81,7 +81,7 @@ fn declared(
 }
 
 /// What a text is refused with, by what stopped its reading at the word that the cursor reached.
-fn fault(refusal: Refusal, cursor: &Cursor<'_>, text: &[PlainWord]) -> TextFault
+fn fault(refusal: Refusal, cursor: &Cursor<'_>, text: &[PlainWord<'_>]) -> TextFault
     requires begins { HasPreamble (plains_of text.now) }
     requires stopped { Fails refusal cursor.now (preamble_at (word_lines text.now) (plains_of text.now)) }
     ensures { IsFault result (map plain_at text.now) }
@@ -95,7 +95,7 @@ fn fault(refusal: Refusal, cursor: &Cursor<'_>, text: &[PlainWord]) -> TextFault
 /// What a text is refused with whose preamble goes on with no word as the one that the cursor has
 /// reached. A limit that the text's last word passes is told as the missing end, since no preamble
 /// ends with that word.
-fn unexpected(cursor: &Cursor<'_>, text: &[PlainWord]) -> TextFault
+fn unexpected(cursor: &Cursor<'_>, text: &[PlainWord<'_>]) -> TextFault
     requires begins { HasPreamble (plains_of text.now) }
     requires stopped { preamble_at (word_lines text.now) (plains_of text.now) ≡ (Err Unexpected, cursor.now) }
     ensures { IsFault result (map plain_at text.now) }
@@ -122,7 +122,7 @@ fn nothing(alloc: Global) -> Decls
 }
 
 /// A refusal by this rule at the word with this number.
-fn refused(rule: TextRule, text: &[PlainWord], word: usize) -> TextFault
+fn refused(rule: TextRule, text: &[PlainWord<'_>], word: usize) -> TextFault
     ensures { result ≡ Refused rule (line (word_lines text.now) word) }
 {
     let line = match text.get(word) {
@@ -134,7 +134,7 @@ fn refused(rule: TextRule, text: &[PlainWord], word: usize) -> TextFault
 
 /// The number of the first word behind the first plain words, of which so many were read, at least
 /// one.
-fn number_behind(text: &[PlainWord], reached: usize, count: usize) -> usize
+fn number_behind(text: &[PlainWord<'_>], reached: usize, count: usize) -> usize
     requires { All (λ w. w.index < count) text.now }
     ensures { result ≡ slice_index (map (λ w. w.index + 1) text.now) (reached - 1) }
 {

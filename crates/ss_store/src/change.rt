@@ -1,7 +1,7 @@
 use ss_check::Owner;
 
 /// What one call of a [`Store`](crate::Store) changed, enough to take it back.
-#[derive(Debug, Drop)]
+#[derive(Drop)]
 pub enum StoreChange {
     /// The member was filed in the list of this set for this owner; `owner` and `list` are the
     /// set's own.

@@ -23,10 +23,10 @@ pub record PlainAt : Type 0 where
 
 -- a plain word of the code
 abbrev pub plain_of : Code → Plain
-plain_of (c.Name n) = name n.items
+plain_of (c.Name n) = name n.now
 plain_of (c.Number n) = number n
 plain_of (c.Mark m) = mark m
-plain_of (c.Picture ls) = picture (map (λ l. l.items) ls.items)
+plain_of (c.Picture ls) = picture (map (λ l. l.items) ls.now)
 
 -- the same with its line and place
 abbrev pub plain_at : PlainWord → PlainAt

@@ -10,10 +10,9 @@ ghost use Rattle.ss_words.specs.Noting.{line};
 ghost use Rattle.ss_words.specs.Marks as marks;
 
 use crate::mark::Mark;
-use crate::plain_list::copied;
 use crate::plain_word::{Plain, PlainWord};
 use crate::refusal::Refusal;
-use std::alloc::Global;
+use std::alloc::{AllocError, Global};
 use std::marker::Model;
 
 /// The plain words that are still to be read. A call that refuses passes nothing, so the word that
@@ -21,7 +20,7 @@ use std::marker::Model;
 #[derive(Drop)]
 pub struct Cursor<'a> {
     alloc: Global,
-    rest: &'a [PlainWord],
+    rest: &'a [PlainWord<'a>],
 }
 
 impl<'a> Model for Cursor<'a> {
@@ -35,7 +34,7 @@ impl<'a> Model for Cursor<'a> {
 
 impl<'a> Cursor<'a> {
     /// A cursor before these words. What its reader allocates comes from `alloc`.
-    pub fn new(alloc: Global, words: &'a [PlainWord]) -> Self
+    pub fn new(alloc: Global, words: &'a [PlainWord<'a>]) -> Self
         ensures { result ≡ plains_of words.now }
     {
         Cursor { alloc, rest: words }
@@ -61,7 +60,7 @@ impl<'a> Cursor<'a> {
     }
 
     /// The next word, which stays the next one; `None` where none is left.
-    pub fn peek(&self) -> Option<&'a Plain>
+    pub fn peek(&self) -> Option<&'a Plain<'a>>
         ensures { first self.now ≡ option_map plain_of (option_copied result) }
     {
         match self.rest {
@@ -169,7 +168,7 @@ impl<'a> Cursor<'a> {
 
     /// The line of the next word, from 1, where the words that are left are the last ones of
     /// `text`; 0 where none is left.
-    pub fn line(&self, text: &[PlainWord]) -> usize
+    pub fn line(&self, text: &[PlainWord<'_>]) -> usize
         ensures { result ≡ line (word_lines text.now) (length text.now - length self.now) }
     {
         let at = text.len().saturating_sub(self.rest.len());
@@ -181,7 +180,7 @@ impl<'a> Cursor<'a> {
 }
 
 // A plain word is this mark.
-fn is_mark(kind: &Plain, mark: Mark) -> bool
+fn is_mark(kind: &Plain<'_>, mark: Mark) -> bool
     ensures { result ≡ marks.is mark (Some (plain_of kind.now)) }
 {
     match kind {
@@ -199,4 +198,15 @@ fn is_same(mark: Mark, found: Mark) -> bool
         (Mark::Reserved(word), Mark::Reserved(found)) => word == found,
         _ => false,
     }
+}
+
+// A copy of these lines.
+fn copied(alloc: Global, lines: &[Vec<u8>]) -> Result<Vec<Vec<u8>>, AllocError>
+    ensures { IfOk result (λ copy. map (λ line. line.items) copy.items ≡ map (λ line. line.items) lines.now) }
+{
+    let mut copy = Vec::with_capacity(alloc, lines.len())?;
+    for line in lines {
+        copy.push(Vec::from_slice(alloc, line)?)?;
+    }
+    Ok(copy)
 }

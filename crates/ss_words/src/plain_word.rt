@@ -1,19 +1,20 @@
 use crate::mark::Mark;
 
-/// What a plain word is (docs/LANGUAGE.md, "Plain words").
-#[derive(Debug, Drop)]
-pub enum Plain {
+/// What a plain word is (docs/LANGUAGE.md, "Plain words"). A name and a picture are those of the
+/// word that it comes from.
+#[derive(Clone, Copy, Debug)]
+pub enum Plain<'a> {
     /// A name that is no reserved word, in upper case.
-    Name(Vec<u8>),
+    Name(&'a [u8]),
     /// From 0 to 2^63 - 1.
     Number(u64),
     /// A reserved word or a sign.
     Mark(Mark),
     /// The lines of a picture.
-    Picture(Vec<Vec<u8>>),
+    Picture(&'a [Vec<u8>]),
 }
 
-impl Plain {
+impl<'a> Plain<'a> {
     ghost use Rattle.std.specs.Prelude.{◌≡◌};
     ghost use Rattle.ss_words.specs.Plain.{plain_of};
     ghost use Rattle.ss_words.specs.PlainRules.{mark_in};
@@ -31,9 +32,9 @@ impl Plain {
 
 /// A plain word, the line on which it stands, from 1, and the place of the word from which it
 /// comes in the list of words, from 0.
-#[derive(Debug, Drop)]
-pub struct PlainWord {
+#[derive(Clone, Copy, Debug)]
+pub struct PlainWord<'a> {
     pub line: usize,
     pub index: usize,
-    pub kind: Plain,
+    pub kind: Plain<'a>,
 }

@@ -7,5 +7,5 @@ use Rattle.ss_checker.proofs.class_tables.priority.Given as goal
 -- the classes that are left bring the numbers to all
 abbrev pub invariant-loop-class : goal.invariant-loop-class
 invariant-loop-class l =
-    l.numbers.items ++ map (λ c. number c l.names.classes) (names_of (drop l.class-index l.class-items))
+    l.numbers.items ++ map (λ c. number c l.names.classes) (names_of (drop l.class-index l.classes))
     ≡ map (λ c. number c l.names.classes) l.tables.priority

@@ -1,25 +1,42 @@
-use Rattle.std.proofs.Common.{◌∙◌}
-use Rattle.ss_words.proofs.PlainFollowing.{following_begins, following_turns, following_ends, behind_is, nothing_left}
+use Rattle.std.proofs.Common.{◌≡◌, ◌∙◌, ap, sym, arith, drop, ◌∷◌, ◌+◌, ◌<◌, map, length}
+use Rattle.std.proofs.lemmas.List.{drop_more}
+use Rattle.ss_words.specs.declared.plain_word.PlainWord.{PlainWord}
+use Rattle.ss_words.specs.Plain.{plain_at}
+use Rattle.ss_words.proofs.PlainFollowing.{in_place_begins, in_place_drops, in_place_keeps, in_place_ends}
 use Rattle.ss_words.proofs.plain_list.follow.Goals as goal
+use Rattle.ss_words.proofs.plain_list.follow.Goals.{in-Some, in_default}
 
-pub loop-next-init : goal.loop-next-init
-loop-next-init c =
-    let step = c.next-next in (
-      rw (← step.ensures.items, c.into_iter-rest.ensures.rest, c.in_ok-kept.ensures.items) (following_begins _ _),
-      nothing_left step.result _ _ _ _ step.ensures.cases step.new.self.rest.ok.0,
-    )
+pub loop-index-init : goal.loop-index-init
+loop-index-init c = in_place_begins _ _
 
-pub loop-next-preserved : goal.loop-next-preserved
-loop-next-preserved c =
-    let step = c.next-next-in-Some in
-    let over = nothing_left step.result _ _ _ _ step.ensures.cases step.new.self.rest.ok.0 in
-    let stood = rw (c.in-Some.is, step.ensures.items) at c.loop-next.invariant.0 in (
-      following_turns _ _ _ _ _ _ _ _ _ _ _ stood c.mark-mark.ensures c.governed_by-governing.ensures
-          (c.mark_of.ensures ∙ behind_is step.result _ over) c.in_ok-keep.ensures,
-      over,
-    )
+pub index_mut-requires : goal.index_mut-requires
+index_mut-requires c = omega (
+  arith,
+  c.loop-index.invariant.inside,
+  c.loop-index-test.true,
+  c.loop-index.invariant.long,
+  c.len-index-end.ensures,
+)
+
+pub overflow_add-kept : goal.overflow_add-kept
+overflow_add-kept c = omega (arith, c.loop-index.invariant.inside, c.loop-index-test.true, c.len-index-end.type_inv)
+
+pub loop-index-preserved : goal.loop-index-preserved
+loop-index-preserved c =
+    let now = c.loop-index.words.items in
+    let within : c.loop-index.index < length now =
+    omega (arith, c.loop-index-test.true, c.loop-index.invariant.long, c.len-index-end.ensures) in
+    let here : drop c.loop-index.index now ≡ c.index.result.now ∷ drop (c.loop-index.index + 1) now =
+    drop_more now c.loop-index.index c.index.result.now within
+    ∙ ap (λ (u : PlainWord). u ∷ drop (c.loop-index.index + 1) now) (sym c.index.ensures) in
+    let behind = rw c.deref.ensures.value at c.mark_at.ensures in
+    elim c.match-ruled.branch [
+      | in-Some w ↦ rw (w.words-is, w.kept-is) (in_place_keeps _ _ _ _ _ _ _ c.loop-index.invariant _ here _ _ _
+          c.mark-mark.ensures c.governed_by-governing.ensures behind _ c.ruled.ensures _ w.in-Some.is within)
+      | in_default w ↦ rw (w.words-is, w.kept-is) (in_place_drops _ _ _ _ _ _ _ c.loop-index.invariant _ here _ _ _
+          c.mark-mark.ensures c.governed_by-governing.ensures behind _ c.ruled.ensures w.in_default.is)
+    ]
 
 pub returns : goal.returns
-returns c =
-    let stood = rw (c.in_default.is, c.loop-next.invariant.1 c.in_default.is) at c.loop-next.invariant.0 in
-    following_ends _ _ _ _ _ stood
+returns c = ap (map plain_at) c.truncate.ensures.items ∙ in_place_ends _ _ _ _ _ _ _ c.loop-index.invariant
+    (omega (arith, c.loop-index-test.false, c.len-index-end.ensures))

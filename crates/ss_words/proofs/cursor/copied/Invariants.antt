@@ -1,5 +1,5 @@
 use Rattle.std.proofs.Common.{◌≡◌, map, take}
-use Rattle.ss_words.proofs.plain_list.copied.Given as goal
+use Rattle.ss_words.proofs.cursor.copied.Given as goal
 
 abbrev pub invariant-loop-line : goal.invariant-loop-line
 invariant-loop-line l = map (λ line. line.items) l.copy.items ≡ map (λ line. line.items) (take l.line-index l.lines)
