@@ -1,6 +1,7 @@
 -- Going over the words of a text and counting, up to the first that passes a limit.
 use Rattle.std.proofs.Common.{◌≡◌, ℕ, ◌+◌, ◌-◌, ◌≤◌, Bool, true, false, List, [], ◌∷◌, ◌++◌, length, length-append}
-use Rattle.std.proofs.Common.{take, sym, ap, subst, ◌∙◌, append_assoc, arith}
+use Rattle.std.proofs.Common.{take, drop, get_or, sym, ap, subst, ◌∙◌, append_assoc, arith}
+use Rattle.std.proofs.lemmas.Slice.{first_rest}
 use Rattle.std.proofs.lemmas.List.{append-nil, length-map, take_at}
 use Rattle.ss_words.specs.declared.plain_word.PlainWord.{PlainWord}
 use Rattle.ss_words.specs.Plain.{Plain, plain_of, plains_of}
@@ -61,6 +62,12 @@ few_variables ws a t rest (seen, e, len, counts, within) =
     subst (λ (c : Counts). c.variables ≤ 256) (sym counts) within.variables
 
 -- ---- with the words of the code
+
+-- a list that begins with a word is this and the words behind it
+pub split_first : (rest : List PlainWord) (word : PlainWord) → 1 ≤ length rest → word ≡ get_or rest 0 word
+    → rest ≡ word ∷ take (length rest - 1) (drop 1 rest)
+split_first rest word some is =
+    first_rest rest word some ∙ ap (λ (w : PlainWord). w ∷ take (length rest - 1) (drop 1 rest)) (sym is)
 
 pub turns_at : (words rest behind : List PlainWord) (word : PlainWord) (a a' : Standing) (t t' : Counts) (r : Role)
     → rest ≡ word ∷ behind → CountedBefore (plains_of words) a t (plains_of rest)

@@ -1,5 +1,5 @@
 //! Counting what is limited.
-ghost use Rattle.std.specs.Prelude.{IfOk, IfSome, IfNone, MatchOption, [], ◌∷◌, bytes_eq, count_by, ◌≡◌, ◌≤◌, ◌<◌};
+ghost use Rattle.std.specs.Prelude.{IfOk, IfSome, IfNone, [], bytes_eq, count_by, ◌≡◌, ◌≤◌, ◌<◌};
 ghost use Rattle.std.specs.Prelude.{◌+◌, ◌^◌};
 ghost use Rattle.std.specs.List.{list_any};
 ghost use Rattle.ss_words.specs.Plain.{plain_of, plains_of};
@@ -89,7 +89,7 @@ pub fn past_limit(alloc: Global, words: &[PlainWord<'_>]) -> Result<Option<usize
     };
     let mut tally = Tally::new(alloc);
     let mut rest = words;
-    while let Some((word, behind)) = parted(rest) {
+    while let [word, behind @ ..] = rest {
         if !tally.takes(standing.word_role(&word.kind))? {
             return Ok(Some(words.len().saturating_sub(rest.len())));
         }
@@ -97,16 +97,6 @@ pub fn past_limit(alloc: Global, words: &[PlainWord<'_>]) -> Result<Option<usize
         rest = behind;
     }
     Ok(None)
-}
-
-/// The first word and those behind it.
-fn parted<'a>(words: &'a [PlainWord<'a>]) -> Option<(&'a PlainWord<'a>, &'a [PlainWord<'a>])>
-    ensures { MatchOption result (words.now ≡ []) (λ p. words.now ≡ p.0.now ∷ p.1.now) }
-{
-    match words {
-        [word, behind @ ..] => Some((word, behind)),
-        [] => None,
-    }
 }
 
 impl<'a> Standing<'a> {
