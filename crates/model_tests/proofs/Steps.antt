@@ -1,0 +1,101 @@
+-- What the calls leave.
+use Rattle.std.proofs.Common.{◌≡◌, ℕ, ℤ, suc, ◌<◌, List, [], ◌∷◌, refl, ap, sym, subst, ◌∙◌, length}
+use Rattle.std.specs.Prelude.{Result, Ok, Err}
+use Rattle.ss_words.specs.declared.fault.RunFault.{RunFault}
+use Rattle.ss_words.specs.declared.fault.StepFault.{StepFault}
+use Rattle.ss_words.specs.declared.fault.StepFault.TheVariants.{Fault, Memory}
+use Rattle.ss_journal.specs.Undoing.{unapply_all}
+use Rattle.ss_store.specs.declared.change.StoreChange.{StoreChange}
+use Rattle.ss_store.specs.Tables.{Tables}
+use Rattle.ss_store.specs.Store.{Store}
+use Rattle.ss_store.specs.Held.{StoreValue}
+use Rattle.ss_store.specs.Change.{FitsStore, unapply_store, IsOutcome, IsRemoval, IsCreation, IsMaking, IsRefusal}
+use Rattle.model_tests.specs.Ground.{IsGround, IsMade, with_number}
+
+pub outcome_made : (r : Result StoreChange RunFault) (s : Result Store RunFault) (old new : StoreValue)
+    → IsOutcome r s old new → IsMade (with_number r) old new
+outcome_made (Ok c) (Ok s) old new d = (d.fits, d.back)
+outcome_made (Err e) (Err f) old new d = d.1
+outcome_made (Ok c) (Err f) old new d = absurd d
+outcome_made (Err e) (Ok s) old new d = absurd d
+
+refused : (e : StepFault) (s : Result Store RunFault) (old new : StoreValue) → IsRefusal e s old new → new ≡ old
+refused (Fault e) (Err f) old new d = d.1
+refused Memory (Ok s) old new d = d
+refused (Fault e) (Ok s) old new d = absurd d
+refused Memory (Err f) old new d = absurd d
+
+created : (r : Result (ℕ × StoreChange) StepFault) (s : Result Store RunFault) (old new : StoreValue) (n : ℕ)
+    (c : StoreChange) → IsCreation r s old new → r ≡ Ok (n, c) → FitsStore c new × (unapply_store c new ≡ old)
+created (Ok r) (Ok s) old new n c d e =
+    let is : r ≡ (n, c) = cc in
+    subst (λ (z : ℕ × StoreChange). FitsStore z.1 new × (unapply_store z.1 new ≡ old)) is (d.1.fits, d.1.back)
+created (Ok r) (Err f) old new n c d e = absurd d
+created (Err f) s old new n c d e = cc
+
+pub created_ok : (r : Result (ℕ × StoreChange) StepFault) (s : Result Store RunFault) (old new : StoreValue) (n : ℕ)
+    (c : StoreChange) (z : ℤ) → IsCreation r s old new → r ≡ Ok (n, c) → IsMade (Ok (z, c)) old new
+created_ok r s old new n c z d e = created r s old new n c d e
+
+pub created_err : (r : Result (ℕ × StoreChange) StepFault) (s : Result Store RunFault) (old new : StoreValue)
+    (f : StepFault) → IsCreation r s old new → r ≡ Err f → new ≡ old
+created_err (Ok r) s old new f d e = cc
+created_err (Err g) s old new f d e = refused g s old new d
+
+pub all_ok : (r : Result StoreChange StepFault) (s : Result Store RunFault) (old new : StoreValue) (c : StoreChange)
+    (z : ℤ) → IsMaking r s old new → r ≡ Ok c → IsMade (Ok (z, c)) old new
+all_ok (Ok r) (Ok s) old new c z d e =
+    let is : r ≡ c = cc in
+    subst (λ (z : StoreChange). FitsStore z new × (unapply_store z new ≡ old)) is (d.fits, d.back)
+all_ok (Ok r) (Err f) old new c z d e = absurd d
+all_ok (Err f) s old new c z d e = cc
+
+pub all_err : (r : Result StoreChange StepFault) (s : Result Store RunFault) (old new : StoreValue) (f : StepFault)
+    → IsMaking r s old new → r ≡ Err f → new ≡ old
+all_err (Ok r) s old new f d e = cc
+all_err (Err g) s old new f d e = refused g s old new d
+
+pub removed_ok : (r : Result (ℕ × StoreChange) RunFault) (s : Result (ℕ × Store) RunFault) (old new : StoreValue)
+    (n : ℕ)
+    (c : StoreChange) (z : ℤ) → IsRemoval r s old new → r ≡ Ok (n, c) → IsMade (Ok (z, c)) old new
+removed_ok (Ok r) (Ok s) old new n c z d e =
+    let is : r ≡ (n, c) = cc in
+    subst (λ (q : ℕ × StoreChange). FitsStore q.1 new × (unapply_store q.1 new ≡ old)) is (d.1.fits, d.1.back)
+removed_ok (Ok r) (Err f) old new n c z d e = absurd d
+removed_ok (Err f) s old new n c z d e = cc
+
+pub removed_err : (r : Result (ℕ × StoreChange) RunFault) (s : Result (ℕ × Store) RunFault) (old new : StoreValue)
+    (f : RunFault) → IsRemoval r s old new → r ≡ Err f → new ≡ old
+removed_err (Ok r) s old new f d e = cc
+removed_err (Err g) (Err h) old new f d e = d.1
+removed_err (Err g) (Ok s) old new f d e = absurd d
+
+-- the tables stay
+pub made_tables : (r : Result (ℤ × StoreChange) StepFault) (old new : StoreValue) → IsMade r old new
+    → new.tables ≡ old.tables
+made_tables (Ok r) old new d = ap (λ (z : StoreValue). z.tables) d.1
+made_tables (Err e) old new d = ap (λ (z : StoreValue). z.tables) d
+
+pub still_ground : (r : Result (ℤ × StoreChange) StepFault) (old new : StoreValue) → IsMade r old new
+    → IsGround old.tables → IsGround new.tables
+still_ground r old new d g = subst IsGround (sym (made_tables r old new d)) g
+
+undone_tables : (cs : List StoreChange) (v : StoreValue) → (unapply_all unapply_store cs v).tables ≡ v.tables
+undone_tables [] v = refl
+undone_tables (c ∷ cs) v = undone_tables cs (unapply_store c v)
+
+pub ground_undone : (cs : List StoreChange) (old new : StoreValue) → new ≡ unapply_all unapply_store cs old
+    → IsGround old.tables → IsGround new.tables
+ground_undone cs old new e g =
+    subst IsGround (sym (ap (λ (z : StoreValue). z.tables) e ∙ undone_tables cs old)) g
+
+-- a creation leaves the tables
+created_tables : (r : Result (ℕ × StoreChange) StepFault) (s : Result Store RunFault) (old new : StoreValue)
+    → IsCreation r s old new → new.tables ≡ old.tables
+created_tables (Ok r) (Ok s) old new d = ap (λ (z : StoreValue). z.tables) d.1.back
+created_tables (Ok r) (Err f) old new d = absurd d
+created_tables (Err f) s old new d = ap (λ (z : StoreValue). z.tables) (refused f s old new d)
+
+pub created_ground : (r : Result (ℕ × StoreChange) StepFault) (s : Result Store RunFault) (old new : StoreValue)
+    → IsCreation r s old new → IsGround old.tables → IsGround new.tables
+created_ground r s old new d g = subst IsGround (sym (created_tables r s old new d)) g

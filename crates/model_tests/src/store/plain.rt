@@ -1,0 +1,309 @@
+//! A plain store, kept in two vectors.
+
+use crate::store::ground::{ENDS, JOB, MACHINE};
+use crate::store::play::Call;
+use ss_store::{How, Which};
+use ss_words::RunFault;
+use std::alloc::{AllocError, Global};
+use std::process::Abort;
+
+/// An entity that is alive.
+#[derive(Clone, Copy)]
+pub struct Entity {
+    pub class: usize,
+    pub number: i64,
+    pub values: [i64; 2],
+}
+
+/// That an entity is in the list of a set for an owner, which is 0 where the system owns the set.
+#[derive(Clone, Copy)]
+pub struct Member {
+    pub set: usize,
+    pub owner: i64,
+    pub x: i64,
+}
+
+/// The entities that are alive, and the members of all lists: each list is those of its set and
+/// owner, in their order.
+#[derive(Drop)]
+pub struct Plain {
+    pub made: i64,
+    pub given: i64,
+    pub entities: Vec<Entity>,
+    pub members: Vec<Member>,
+}
+
+// The owner as a list knows it.
+fn owner_of(set: usize, owner: i64) -> i64 {
+    match ENDS.get(set) {
+        Some((None, _)) => 0,
+        _ => owner,
+    }
+}
+
+fn member_class(set: usize) -> usize {
+    match ENDS.get(set) {
+        Some((_, member)) => *member,
+        None => MACHINE,
+    }
+}
+
+impl Plain {
+    pub fn new(alloc: Global) -> Self {
+        Plain {
+            made: 0,
+            given: 0,
+            entities: Vec::new(alloc),
+            members: Vec::new(alloc),
+        }
+    }
+
+    pub fn copy(&self) -> Result<Self, AllocError> {
+        Ok(Plain {
+            made: self.made,
+            given: self.given,
+            entities: self.entities.clone()?,
+            members: self.members.clone()?,
+        })
+    }
+
+    pub fn find(&self, class: usize, x: i64) -> Option<usize> {
+        self.entities
+            .iter()
+            .position(|entity| entity.class == class && entity.number == x)
+    }
+
+    pub fn exists(&self, class: usize, x: i64) -> bool {
+        self.find(class, x).is_some()
+    }
+
+    pub fn living(&self, class: usize) -> usize {
+        self.entities
+            .iter()
+            .filter(|entity| entity.class == class)
+            .count()
+    }
+
+    pub fn nth(&self, class: usize, chosen: usize) -> i64 {
+        let mut living = self.entities.iter().filter(|entity| entity.class == class);
+        match living.nth(chosen) {
+            Some(entity) => entity.number,
+            None => 0,
+        }
+    }
+
+    pub fn is_owner(&self, set: usize, owner: i64) -> bool {
+        match ENDS.get(set) {
+            Some((Some(class), _)) => self.exists(*class, owner),
+            _ => true,
+        }
+    }
+
+    pub fn is_filed(&self, set: usize, x: i64) -> bool {
+        self.members
+            .iter()
+            .any(|member| member.set == set && member.x == x)
+    }
+
+    // Where the member stands in the list, among those of all lists.
+    fn place(&self, set: usize, owner: i64, x: i64) -> Result<usize, RunFault> {
+        if !self.exists(member_class(set), x) {
+            return Err(RunFault::NoEntity);
+        }
+        let owner = owner_of(set, owner);
+        let place = self.members.iter().position(|member| member.set == set
+            && member.owner == owner
+            && member.x == x);
+        match place {
+            Some(place) => Ok(place),
+            None => Err(RunFault::NotInList),
+        }
+    }
+
+    fn values(&self, x: i64) -> [i64; 2] {
+        match self.find(JOB, x) {
+            Some(index) if index < self.entities.len() => self.entities[index].values,
+            _ => [0, 0],
+        }
+    }
+
+    // Whether the first job ranks strictly behind the second: HIGH of the first attribute, then LOW
+    // of the second.
+    fn ranks_behind(&self, x: i64, other: i64) -> bool {
+        let theirs = self.values(other);
+        let ours = self.values(x);
+        ours[0] < theirs[0] || ours[0] == theirs[0] && ours[1] > theirs[1]
+    }
+
+    // Where the set's own discipline files it.
+    fn rule(&self, set: usize, owner: i64, x: i64) -> usize {
+        match set {
+            2 | 4 => 0,
+            1 => {
+                let behind = self.members.iter().position(|member| {
+                    member.set == set && member.owner == owner && self.ranks_behind(member.x, x)
+                });
+                behind.unwrap_or(self.members.len())
+            }
+            _ => self.members.len(),
+        }
+    }
+
+    // Where BEFORE and AFTER point, 0 for the other ways.
+    fn named(&self, set: usize, owner: i64, how: How) -> Result<usize, RunFault> {
+        match how {
+            How::Before(y) => self.place(set, owner, y),
+            How::After(y) => {
+                let place = self.place(set, owner, y)?;
+                Ok(place.wrapping_add(1))
+            }
+            _ => Ok(0),
+        }
+    }
+
+    // Where a member is filed.
+    fn spot(&self, set: usize, owner: i64, x: i64, how: How) -> Result<usize, RunFault> {
+        if !self.is_owner(set, owner) || !self.exists(member_class(set), x) {
+            return Err(RunFault::NoEntity);
+        }
+        let named = self.named(set, owner, how);
+        let is_named = match named {
+            Err(RunFault::NoEntity) => false,
+            _ => true,
+        };
+        if is_named && self.is_filed(set, x) {
+            return Err(RunFault::AlreadyInSet);
+        }
+        match how {
+            How::ByRule => Ok(self.rule(set, owner_of(set, owner), x)),
+            How::Last => Ok(self.members.len()),
+            _ => named,
+        }
+    }
+
+    // Which member is removed, among those of all lists.
+    fn removed(&self, set: usize, owner: i64, which: Which) -> Result<usize, RunFault> {
+        if !self.is_owner(set, owner) {
+            return Err(RunFault::NoEntity);
+        }
+        let of = owner_of(set, owner);
+        let in_list = |member: &Member| member.set == set && member.owner == of;
+        let found = match which {
+            Which::Member(x) => return self.place(set, owner, x),
+            Which::First => self.members.iter().position(in_list),
+            Which::Last => self.members.iter().rposition(in_list),
+        };
+        found.ok_or(RunFault::EmptySet)
+    }
+
+    // Which entity ends.
+    fn ended(&self, class: usize, x: i64) -> Result<usize, RunFault> {
+        let found = self.find(class, x).ok_or(RunFault::NoEntity)?;
+        for member in self.members.iter() {
+            if member.x == x && member_class(member.set) == class {
+                return Err(RunFault::EndedInUse);
+            }
+        }
+        for member in self.members.iter() {
+            if let Some((Some(owner), _)) = ENDS.get(member.set) {
+                if member.owner == x && *owner == class {
+                    return Err(RunFault::EndedOwner);
+                }
+            }
+        }
+        Ok(found)
+    }
+
+    fn add(&mut self, class: usize, number: i64) -> Result<(), AllocError> {
+        self.entities.push(Entity {
+            class,
+            number,
+            values: [0, 0],
+        })?;
+        Ok(())
+    }
+
+    fn make_all(&mut self, n: i64) -> Result<Result<i64, RunFault>, AllocError> {
+        if self.made > 0 {
+            return Ok(Err(RunFault::AlreadyCreated));
+        }
+        if n < 1 {
+            return Ok(Err(RunFault::CountOutOfRange));
+        }
+        for number in 1..=n {
+            self.add(MACHINE, number)?;
+        }
+        self.made = n;
+        Ok(Ok(0))
+    }
+
+    fn file(
+        &mut self,
+        rt: &impl Abort,
+        member: Member,
+        how: How,
+    ) -> Result<Result<i64, RunFault>, AllocError> {
+        match self.spot(member.set, member.owner, member.x, how) {
+            Err(fault) => Ok(Err(fault)),
+            Ok(spot) => {
+                assert!(rt; spot <= self.members.len());
+                let owner = owner_of(member.set, member.owner);
+                self.members.insert(spot, Member { owner, ..member })?;
+                Ok(Ok(0))
+            }
+        }
+    }
+
+    fn remove(
+        &mut self,
+        rt: &impl Abort,
+        set: usize,
+        owner: i64,
+        which: Which,
+    ) -> Result<i64, RunFault> {
+        let place = self.removed(set, owner, which)?;
+        assert!(rt; place < self.members.len());
+        let member = self.members.remove(place);
+        Ok(member.x)
+    }
+
+    fn set(&mut self, class: usize, attribute: usize, x: i64, value: i64) -> Result<i64, RunFault> {
+        let found = self.find(class, x).ok_or(RunFault::NoEntity)?;
+        if found < self.entities.len() && attribute < 2 {
+            self.entities[found].values[attribute] = value;
+        }
+        Ok(0)
+    }
+
+    fn end(&mut self, rt: &impl Abort, class: usize, x: i64) -> Result<i64, RunFault> {
+        let found = self.ended(class, x)?;
+        assert!(rt; found < self.entities.len());
+        self.entities.remove(found);
+        Ok(0)
+    }
+
+    /// Makes a call, and answers the number that it gives, 0 where it gives none, or the fault.
+    pub fn make(
+        &mut self,
+        rt: &impl Abort,
+        call: Call,
+    ) -> Result<Result<i64, RunFault>, AllocError> {
+        match call {
+            Call::CreateAll { n } => self.make_all(n),
+            Call::Create { class } => {
+                self.given = self.given.wrapping_add(1);
+                self.add(class, self.given)?;
+                Ok(Ok(self.given))
+            }
+            Call::File { set, owner, x, how } => self.file(rt, Member { set, owner, x }, how),
+            Call::Remove { set, owner, which } => Ok(self.remove(rt, set, owner, which)),
+            Call::Set {
+                class,
+                attribute,
+                x,
+                value,
+            } => Ok(self.set(class, attribute, x, value)),
+            Call::Destroy { class, x } => Ok(self.end(rt, class, x)),
+        }
+    }
+}

@@ -1,8 +1,0 @@
-use Rattle.ss_events.proofs.Steps.{refused-same}
-use Rattle.ss_events_tests.proofs.tests.schedule.Goals as goal
-
-pub returns-in-Err-Fault-clause-fits : goal.returns-in-Err-Fault-clause-fits
-returns-in-Err-Fault-clause-fits g c = rw (
-  c.reserve.ensures.steps,
-  refused-same _ _ _ _ _ c.in-Err-Fault.ensures,
-) c.requires.fits
