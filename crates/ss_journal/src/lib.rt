@@ -8,8 +8,6 @@
 
 mod journal;
 mod sizes;
-#[cfg(test)]
-mod tests;
 mod undo;
 
 pub use journal::Journal;

@@ -1,7 +1,7 @@
 ghost use Rattle.std.specs.Prelude.{◌≡◌};
 ghost use Rattle.ss_links.specs.Board.{empty_board};
 
-use ss_links::SetBoard;
+use ss_links::{LinkedSets, PlainSets, SetBoard};
 use ss_session::{MemoryOutlet, exit_status, session_over};
 use std::alloc::Global;
 use std::io::ErrorKind;
@@ -10,12 +10,26 @@ use std::{fs, io};
 
 /// A worked example: a model, its data and commands, and what they are to give.
 #[derive(Drop)]
-pub struct Example {
+struct Example {
     model: Vec<u8>,
     data: Vec<u8>,
     commands: Vec<u8>,
     transcript: Vec<u8>,
     status: Vec<u8>,
+}
+
+/// The boards over which a session of this worked example gives its transcript and its status.
+pub fn boards<R: Files + AllocGlobal>(rt: &R, name: &str) -> io::Result<Vec<u8>> {
+    let example = Example::read(rt, name)?;
+    let alloc = rt.alloc();
+    let mut boards = Vec::new(alloc);
+    if example.holds_over(alloc, LinkedSets::new(alloc), LinkedSets::new(alloc)) {
+        boards.extend_from_slice(b"linked")?;
+    }
+    if example.holds_over(alloc, PlainSets::new(alloc), PlainSets::new(alloc)) {
+        boards.extend_from_slice(b" plain")?;
+    }
+    Ok(boards)
 }
 
 /// The file of this name and ending.
@@ -41,7 +55,7 @@ fn file_or<R: Files + AllocGlobal>(
 
 impl Example {
     /// Reads the files of an example; without data it has none, without a status it ends with 0.
-    pub fn read<R: Files + AllocGlobal>(rt: &R, name: &str) -> io::Result<Self> {
+    fn read<R: Files + AllocGlobal>(rt: &R, name: &str) -> io::Result<Self> {
         Ok(Example {
             model: file(rt, name, "sim")?,
             data: file_or(rt, name, "data", b"")?,
@@ -52,7 +66,7 @@ impl Example {
     }
 
     /// Whether a session over these boards gives the transcript and the status.
-    pub fn holds_over<S: SetBoard>(&self, alloc: Global, sets: S, pending: S) -> bool
+    fn holds_over<S: SetBoard>(&self, alloc: Global, sets: S, pending: S) -> bool
         requires sets { S.board sets ≡ empty_board }
         requires pending { S.board pending ≡ empty_board }
     {

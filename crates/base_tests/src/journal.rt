@@ -1,7 +1,7 @@
 ghost use Rattle.std.specs.Prelude.{◌≡◌, []};
 ghost use Rattle.ss_journal.specs.Undoing.{FitsSteps};
 
-use crate::{Journal, Undo, roll_back};
+use ss_journal::{Journal, Undo, roll_back};
 use std::alloc::AllocError;
 use std::process::Abort;
 use std::test::Fail;

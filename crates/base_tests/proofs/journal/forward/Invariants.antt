@@ -1,6 +1,6 @@
 use Rattle.ss_journal.specs.Undoing.{GoesOn}
-use Rattle.ss_journal.specs.contracts.tests.DialUndo.TheImpl.{fits-value, unapply-value}
-use Rattle.ss_journal.proofs.tests.forward.Given as goal
+use Rattle.base_tests.specs.contracts.journal.DialUndo.TheImpl.{fits-value, unapply-value}
+use Rattle.base_tests.proofs.journal.forward.Given as goal
 
 -- so far a turn was noted for each value
 abbrev pub invariant-loop-value : goal.invariant-loop-value

@@ -1,8 +1,8 @@
 use Rattle.std.proofs.Common.{sym, subst}
 use Rattle.ss_journal.specs.Undoing.{FitsSteps}
-use Rattle.ss_journal.specs.contracts.tests.DialUndo.TheImpl.{fits-value, unapply-value}
+use Rattle.base_tests.specs.contracts.journal.DialUndo.TheImpl.{fits-value, unapply-value}
 use Rattle.ss_journal.proofs.UndoingLemmas.{FitsSteps-newest}
-use Rattle.ss_journal.proofs.tests.forget.Goals as goal
+use Rattle.base_tests.proofs.journal.forget.Goals as goal
 
 pub returns-clause-fits : goal.returns-clause-fits
 returns-clause-fits c =

@@ -2,6 +2,8 @@
 //! way, is to give that answer. It prints each case that has another, with what it gave, and last
 //! how many cases there were. A line that begins with no capital is a remark.
 //!
+//! - `WORKED`: the text is the name of a worked example of data/; the boards, `linked` and `plain`,
+//!   over which its session gives its transcript and its status.
 //! - `WORDS`: each word behind its line and a colon.
 //! - `COUNT`: how many words there are.
 //! - `PLAIN`: the plain words; `PLACED`: each behind its line and its place in the list of words.
@@ -39,11 +41,12 @@ mod plain;
 mod raw;
 mod sections;
 mod shown;
+mod worked;
 
 use answer::answer;
-use std::alloc::{AllocError, Global};
 use std::io;
 use std::io::Write;
+use std::rt::Files;
 
 /// A case: the way, the text, and the answer that it is to give.
 #[derive(Drop)]
@@ -83,8 +86,11 @@ fn noted_case(line: &str) -> Option<Case<'_>> {
 }
 
 /// What a case gives, where it is not the answer that it is to give.
-fn wrong(alloc: Global, case: &Case<'_>) -> Result<Option<Vec<u8>>, AllocError> {
-    let given = answer(alloc, case.way, case.text)?;
+fn wrong<R: Files + AllocGlobal>(rt: &R, case: &Case<'_>) -> io::Result<Option<Vec<u8>>> {
+    let given = match case.way {
+        "WORKED" => worked::boards(rt, case.text)?,
+        way => answer(rt.alloc(), way, case.text)?,
+    };
     if given.as_slice() == case.wanted.as_bytes() {
         return Ok(None);
     }
@@ -97,7 +103,7 @@ fn main(rt: HostRuntime) -> io::Result<()> {
         let line = line?;
         if let Some(case) = case_of(line.as_str()) {
             count = usize::wrapping_add(count, 1);
-            if let Some(given) = wrong(rt.alloc(), &case)? {
+            if let Some(given) = wrong(&rt, &case)? {
                 println!(rt; "{line}")?;
                 io::writer(&rt).write_all(&given)?;
                 println!(rt; "")?;

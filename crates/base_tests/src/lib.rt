@@ -1,0 +1,11 @@
+//! Tests of ss_report, ss_data, ss_journal and ss_links, a module each: the gate proves a crate once more with its tests.
+#![tactic(auto)]
+
+#[cfg(test)]
+mod data;
+#[cfg(test)]
+mod journal;
+#[cfg(test)]
+mod links;
+#[cfg(test)]
+mod report;

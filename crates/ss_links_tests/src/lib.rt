@@ -1,5 +1,0 @@
-//! Tests of ss_links, in a crate of their own: the gate proves a crate once more with its tests.
-#![tactic(auto)]
-
-#[cfg(test)]
-mod tests;
