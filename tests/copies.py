@@ -1,0 +1,113 @@
+"""Copies of functions, in each of which one goal is tried (see tests/edits).
+
+A copy stands behind its function, under a name of its own and with the function's proof. Of its
+goals only those are tried that are asked for, each by one tactic, or by the answer that the proof
+has for it.
+"""
+import re
+
+# The tactics that a goal may be tried with.
+TACTICS = {
+    "search": "search edit-usual.rules",
+    "grind": "grind (edit-usual.arith, edit-steps.common_steps) steps 2000000",
+}
+# The answer to a goal, and what it stands on.
+ANSWER = """
+pub {name} : {goals}.{name}
+{unfolding}{name} {words} = {tactic}
+"""
+USES = """use Rattle.std.proofs.Common as edit-usual
+use Rattle.std.proofs.lemmas.Grind as edit-steps
+"""
+# What a function's goals, or those of a file, are tried with: here the definitions that it opens.
+TACTIC = re.compile(r" *#!?\[tactic\(auto(.*)\)\]$")
+UNFOLDING = re.compile(r"unfolding\(([^)]*)\)")
+# What a check says of an answer that it does not take: the folder of the proof, the goal, and why.
+ERROR = re.compile(r"^\./proofs/(\S+)/\w+\.antt:\S+ error: (?:`([^`]+)`: )?(.*)$", re.M)
+# What it says of answers that it has not looked at.
+UNSEEN = re.compile(r"^note: \./proofs/(\S+)/Answers\.antt is not checked", re.M)
+# What is said of a goal that is not shown, by a tactic or by the answer that it has: not that an
+# answer names what the function does not have.
+NOT_SHOWN = re.compile(r"`(?:search|grind|omega|cc)`|expected type|computed as|as printed")
+
+
+class Goal:
+    """A goal: its name, the words that its answer binds (`c` where none are given), its tactic."""
+
+    def __init__(self, words):
+        goal, _, tactic = words.partition(" = ")
+        self.name, *bound = goal.split()
+        self.words, self.tactic = " ".join(bound) or "c", TACTICS[tactic.strip() or "search"]
+
+
+def opened(lines, function):
+    """Returns the paths of the definitions that a function's goals open, and those of its file."""
+    around = [it for it in lines[:1] + lines[1:2] if it.startswith("#!")]
+    for number in range(function.first - 1, -1, -1):
+        if lines[number].strip()[:1] not in ("#", "/"):
+            break
+        around.append(lines[number])
+    tactics = [it[1] for it in map(TACTIC.match, around) if it]
+    return [path for it in tactics for said in UNFOLDING.findall(it) for path in said.split(", ")]
+
+
+class Copy:
+    """A copy of a function by these lines of its file, and the goals that are tried in it."""
+
+    def __init__(self, function, name, lines, goals):
+        self.function, self.goals, self.opened = function, goals, opened(lines, function)
+        self.path = (*function.path[:-1], f"{function.path[-1]}_{name}")
+        head, *rest = lines[function.first : function.last + 1]
+        indent = head[: len(head) - len(head.lstrip())]
+        own_head = re.sub(rf"\bfn {function.path[-1]}\b", f"fn {self.path[-1]}", head, count=1)
+        self.lines = ["", f"{indent}#[tactic(none)]", own_head, *rest]
+
+    def folder(self):
+        """Returns where its proof lies, below proofs/."""
+        return "/".join(self.path)
+
+    def proof(self, crate, text):
+        """Returns a file of the function's proof as the copy has it."""
+        one, other = (".".join((crate, "proofs", *it, "")) for it in (self.function.path, self.path))
+        return text.replace(f"Rattle.{one}", f"Rattle.{other}")
+
+    def answers(self, crate, text):
+        """Returns its answers: those that the proof has, and one to each goal without one."""
+        module = ".".join(("Rattle", crate, "proofs", *self.path, "Goals"))
+        brought = re.search(rf"^use {re.escape(module)} as (\S+)$", text, re.M)
+        goals = brought[1] if brought else "edit-goal"
+        uses = USES + f"use {module} as {goals}\n" * (not brought)
+        names = [it.rpartition("::")[2] for it in self.opened]
+        for path, name in zip(self.opened, names):
+            home = re.sub("^crate::", f"{crate}::", path).rpartition("::")[0].replace("::", ".")
+            known = rf"^use Rattle\.{re.escape(home)}\.{{[^}}]*\b{name}\b"
+            if not re.search(known, uses + text, re.M):
+                uses += f"use Rattle.{home}.{{{name}}}\n"
+        line = f"unfolding {' '.join(names)}\n" if names else ""
+        for it in self.goals:
+            if not re.search(rf"^pub {re.escape(it.name)} :", text, re.M):
+                own = {"name": it.name, "words": it.words, "tactic": it.tactic}
+                text += ANSWER.format(goals=goals, unfolding=line, **own)
+        return uses + text
+
+
+class Said:
+    """What a check says of copies."""
+
+    def __init__(self, text):
+        self.errors, self.unseen = ERROR.findall(text), UNSEEN.findall(text)
+
+    def errors_of(self, copy):
+        return [it[1:] for it in self.errors if it[0] == copy.folder()]
+
+    def is_shown(self, copy):
+        """Whether all goals that were asked for in a copy are shown."""
+        return not self.errors_of(copy) and copy.folder() not in self.unseen
+
+    def lack(self, copy):
+        """Returns why the one goal that was asked for in a copy is not shown, or None where nothing
+        says so, or another thing may be the reason."""
+        (goal,), errors = copy.goals, self.errors_of(copy)
+        whys = [why for name, why in errors if name == goal.name and NOT_SHOWN.match(why)]
+        is_read = all(name for name, _ in errors)
+        return f"`{goal.name}`: {whys[0]}" if whys and is_read else None
