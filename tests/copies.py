@@ -34,10 +34,18 @@ NOT_SHOWN = re.compile(r"`(?:search|grind|omega|cc)`|expected type|computed as|a
 class Goal:
     """A goal: its name, the words that its answer binds (`c` where none are given), its tactic."""
 
-    def __init__(self, words):
-        goal, _, tactic = words.partition(" = ")
-        self.name, *bound = goal.split()
-        self.words, self.tactic = " ".join(bound) or "c", TACTICS[tactic.strip() or "search"]
+    def __init__(self, name, words, tactic):
+        self.name, self.words, self.tactic = name, words, tactic
+
+
+def goals_of(line):
+    """Returns the goals that a line `goal: ..` of an edit names: the one that becomes false, and
+    the one of the right function in its place."""
+    names, _, tactic = line.partition(" = ")
+    wrong, *words = names.split()
+    right = words[words.index("for") + 1] if "for" in words else wrong
+    bound = " ".join(words[: words.index("for")] if "for" in words else words) or "c"
+    return [Goal(it, bound, TACTICS[tactic.strip() or "search"]) for it in (wrong, right)]
 
 
 def opened(lines, function):
