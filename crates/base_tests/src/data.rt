@@ -12,7 +12,29 @@ fn feed_of(alloc: Global, text: &[u8]) -> Result<Feed, AllocError> {
     }
 }
 
+// Takes a number, or meets a fault, in the feed of a text.
+fn takes(rt: &impl Abort, feed: &mut Feed, text: &[u8], number: Result<i64, RunFault>) {
+    assert_eq!(rt; feed.take(), number, "in {text:?}");
+}
+
+// So many pieces are taken.
+fn has_taken(rt: &impl Abort, feed: &Feed, taken: usize) {
+    assert_eq!(rt; feed.taken(), taken);
+}
+
 // Takes these numbers, then meets this fault, and again: a refused take leaves the feed as it was.
+fn takes_all(rt: &impl Abort, feed: &mut Feed, text: &[u8], numbers: &[i64], end: RunFault) {
+    has_taken(rt, feed, 0);
+    for number in numbers {
+        takes(rt, feed, text, Ok(*number));
+    }
+    for _ in 0..2 {
+        takes(rt, feed, text, Err(end));
+        has_taken(rt, feed, numbers.len());
+    }
+}
+
+// The same, in a feed of this text.
 fn gives(
     rt: &impl Abort,
     alloc: Global,
@@ -21,14 +43,7 @@ fn gives(
     end: RunFault,
 ) -> Result<(), AllocError> {
     let mut feed = feed_of(alloc, text)?;
-    assert_eq!(rt; feed.taken(), 0);
-    for number in numbers {
-        assert_eq!(rt; feed.take(), Ok(*number), "in {text:?}");
-    }
-    for _ in 0..2 {
-        assert_eq!(rt; feed.take(), Err(end), "behind {text:?}");
-        assert_eq!(rt; feed.taken(), numbers.len(), "in {text:?}");
-    }
+    takes_all(rt, &mut feed, text, numbers, end);
     Ok(())
 }
 
@@ -96,49 +111,57 @@ fn what_is_no_number_is_not_taken(rt: HostRuntime) -> Result<(), Fail> {
     Ok(())
 }
 
+// Gives back all but so many pieces.
+fn undo(rt: &impl Abort, feed: &mut Feed, taken: usize) {
+    assert!(rt; taken <= feed.taken());
+    feed.undo(taken);
+}
+
+// Takes three pieces of this text, gives back the last two, and then all.
+fn gives_back(rt: &impl Abort, feed: &mut Feed, text: &[u8]) {
+    takes(rt, feed, text, Ok(10));
+    let one = feed.taken();
+    takes(rt, feed, text, Ok(20));
+    takes(rt, feed, text, Err(RunFault::NotANumber));
+    undo(rt, feed, one);
+    has_taken(rt, feed, 1);
+    takes(rt, feed, text, Ok(20));
+    undo(rt, feed, 0);
+    takes(rt, feed, text, Ok(10));
+    has_taken(rt, feed, 1);
+}
+
 #[test]
 fn what_is_given_back_is_taken_again(rt: HostRuntime) -> Result<(), Fail> {
-    let mut feed = feed_of(rt.alloc(), b"10 20 x")?;
-    assert_eq!(rt; feed.take(), Ok(10));
-    let one = feed.taken();
-    assert_eq!(rt; feed.take(), Ok(20));
-    assert_eq!(rt; feed.take(), Err(RunFault::NotANumber));
-    assert!(rt; one <= feed.taken());
-    feed.undo(one);
-    assert_eq!(rt; feed.taken(), 1);
-    assert_eq!(rt; feed.take(), Ok(20));
-    feed.undo(0);
-    assert_eq!(rt; feed.take(), Ok(10));
-    assert_eq!(rt; feed.taken(), 1);
+    let text = b"10 20 x";
+    let mut feed = feed_of(rt.alloc(), text)?;
+    gives_back(&rt, &mut feed, text);
     Ok(())
+}
+
+// Passes the next piece, where there is one.
+fn pass(feed: &mut Feed) {
+    if feed.kind() != Kind::End {
+        feed.pass();
+    }
 }
 
 // Passes the next piece, which is of this kind.
 fn passes(rt: &impl Abort, feed: &mut Feed, kind: Kind) {
     assert_eq!(rt; feed.kind(), kind);
-    if feed.kind() != Kind::End {
-        feed.pass();
-    }
+    pass(feed);
 }
 
 // Says whether the next piece is the name ARRIVAL, and passes it.
 fn tells(rt: &impl Abort, feed: &mut Feed, told: bool) {
     assert_eq!(rt; feed.names(b"ARRIVAL"), told);
-    if feed.kind() != Kind::End {
-        feed.pass();
-    }
+    pass(feed);
 }
 
-// Passes the pieces up to and with the next mark; so many are then taken.
-fn passes_entry(rt: &impl Abort, feed: &mut Feed, taken: usize) {
-    assert_eq!(rt; feed.pass_entry(), Ok(()));
-    assert_eq!(rt; feed.taken(), taken);
-}
-
-// Meets no mark; as many are taken as before.
-fn has_no_mark(rt: &impl Abort, feed: &mut Feed, taken: usize) {
-    assert_eq!(rt; feed.pass_entry(), Err(RunFault::OutsideEntry));
-    assert_eq!(rt; feed.taken(), taken);
+// Passes the pieces up to and with the next mark, or meets none; so many are then taken.
+fn passes_entry(rt: &impl Abort, feed: &mut Feed, passed: Result<(), RunFault>, taken: usize) {
+    assert_eq!(rt; feed.pass_entry(), passed);
+    has_taken(rt, feed, taken);
 }
 
 #[test]
@@ -150,7 +173,7 @@ fn each_piece_has_its_kind(rt: HostRuntime) -> Result<(), Fail> {
     passes(&rt, &mut feed, Kind::Other);
     passes(&rt, &mut feed, Kind::Other);
     passes(&rt, &mut feed, Kind::End);
-    assert_eq!(rt; feed.taken(), 5);
+    has_taken(&rt, &feed, 5);
     feed.undo(0);
     passes(&rt, &mut feed, Kind::Number);
     Ok(())
@@ -173,13 +196,14 @@ fn a_name_is_told_whatever_its_capitals(rt: HostRuntime) -> Result<(), Fail> {
 #[test]
 fn an_entry_is_passed_with_its_mark(rt: HostRuntime) -> Result<(), Fail> {
     let mut feed = feed_of(rt.alloc(), b"a 1 * b ** 2 * * c 3")?;
-    passes_entry(&rt, &mut feed, 3);
-    passes_entry(&rt, &mut feed, 7);
-    passes_entry(&rt, &mut feed, 8);
-    has_no_mark(&rt, &mut feed, 8);
-    has_no_mark(&rt, &mut feed, 8);
+    let no_mark = Err(RunFault::OutsideEntry);
+    passes_entry(&rt, &mut feed, Ok(()), 3);
+    passes_entry(&rt, &mut feed, Ok(()), 7);
+    passes_entry(&rt, &mut feed, Ok(()), 8);
+    passes_entry(&rt, &mut feed, no_mark, 8);
+    passes_entry(&rt, &mut feed, no_mark, 8);
     feed.undo(0);
-    passes_entry(&rt, &mut feed, 3);
+    passes_entry(&rt, &mut feed, Ok(()), 3);
     Ok(())
 }
 

@@ -1,4 +1,4 @@
-ghost use Rattle.std.specs.Prelude.{◌≡◌, []};
+ghost use Rattle.std.specs.Prelude.{◌≡◌, ◌≤◌, [], OnOk};
 ghost use Rattle.ss_journal.specs.Undoing.{FitsSteps};
 
 use ss_journal::{Journal, Undo, roll_back};
@@ -88,6 +88,28 @@ fn back(dial: &mut Dial, journal: &mut Journal<Turn>) -> bool
     true
 }
 
+// Goes one step back, to this value.
+fn goes_back(rt: &impl Abort, dial: &mut Dial, journal: &mut Journal<Turn>, value: u64)
+    requires closed { journal.old.current ≡ [] }
+    requires fits { FitsSteps ⟦<Dial as Undo>⟧.fits ⟦<Dial as Undo>⟧.unapply journal.old.steps dial.old }
+    ensures closed { journal.new.current ≡ [] }
+    ensures fits { FitsSteps ⟦<Dial as Undo>⟧.fits ⟦<Dial as Undo>⟧.unapply journal.new.steps dial.new }
+{
+    assert!(rt; back(dial, journal));
+    assert_eq!(rt; dial.value, value);
+}
+
+// Has no step to go back; the dial stays at this value.
+fn stays(rt: &impl Abort, dial: &mut Dial, journal: &mut Journal<Turn>, value: u64)
+    requires closed { journal.old.current ≡ [] }
+    requires fits { FitsSteps ⟦<Dial as Undo>⟧.fits ⟦<Dial as Undo>⟧.unapply journal.old.steps dial.old }
+    ensures closed { journal.new.current ≡ [] }
+    ensures fits { FitsSteps ⟦<Dial as Undo>⟧.fits ⟦<Dial as Undo>⟧.unapply journal.new.steps dial.new }
+{
+    assert!(rt; !back(dial, journal));
+    assert_eq!(rt; dial.value, value);
+}
+
 // Forgets all steps but the newest.
 fn forget(dial: &Dial, journal: &mut Journal<Turn>, kept: usize)
     requires closed { journal.old.current ≡ [] }
@@ -130,12 +152,10 @@ fn there_and_back(
     }
     assert_eq!(rt; dial.value, 37);
     for (kept, before) in [(5, 2), (4, 17), (3, 7), (2, 7), (1, 3), (0, 0)] {
-        assert!(rt; back(dial, journal));
-        assert_eq!(rt; dial.value, before);
+        goes_back(rt, dial, journal, before);
         assert_eq!(rt; journal.steps(), kept);
     }
-    assert!(rt; !back(dial, journal));
-    assert_eq!(rt; dial.value, 0);
+    stays(rt, dial, journal, 0);
     Ok(())
 }
 
@@ -148,24 +168,91 @@ fn each_earlier_state_comes_back(rt: HostRuntime) -> Result<(), Fail> {
     Ok(())
 }
 
-#[test]
-fn work_that_was_not_closed_is_taken_back(rt: HostRuntime) -> Result<(), Fail> {
-    let mut dial = Dial { value: 3 };
-    let mut journal = Journal::new(rt.alloc());
+// Makes room for two turns. Where memory is refused nothing has changed, and room is made again.
+fn make_room(rt: &(impl Abort + Print), journal: &mut Journal<Turn>) -> Result<(), Fail>
+    ensures current { journal.new.current ≡ journal.old.current }
+    ensures notes { OnOk result (2 ≤ journal.new.notes) }
+{
     if journal.reserve(2).is_err() {
         assert_eq!(rt; journal.steps(), 0);
         println!(rt; "memory was refused at step 0")?;
         journal.reserve(2)?;
     }
+    Ok(())
+}
+
+// Turns twice in a step that stays open, and takes both turns back.
+fn turn_twice(dial: &mut Dial, journal: &mut Journal<Turn>)
+    requires closed { journal.old.current ≡ [] }
+    requires notes { 2 ≤ journal.old.notes }
+    ensures closed { journal.new.current ≡ [] }
+{
     let first = dial.turn(5);
     journal.note(first);
     let second = dial.turn(7);
     journal.note(second);
-    roll_back(&mut dial, &mut journal);
-    assert_eq!(rt; dial.value, 3);
+    roll_back(dial, journal);
+}
+
+// The journal has no step, and nothing in the open one.
+fn is_empty(rt: &impl Abort, journal: &mut Journal<Turn>)
+    requires closed { journal.old.current ≡ [] }
+{
     assert_eq!(rt; journal.steps(), 0);
     assert!(rt; journal.pop_open().is_none());
     assert!(rt; !journal.reopen_last());
+}
+
+#[test]
+fn work_that_was_not_closed_is_taken_back(rt: HostRuntime) -> Result<(), Fail> {
+    let mut dial = Dial { value: 3 };
+    let mut journal = Journal::new(rt.alloc());
+    make_room(&rt, &mut journal)?;
+    turn_twice(&mut dial, &mut journal);
+    assert_eq!(rt; dial.value, 3);
+    is_empty(&rt, &mut journal);
+    Ok(())
+}
+
+// Three steps forward, of which two are kept; then these two back.
+fn two_of_three_are_kept(
+    rt: &impl Abort,
+    dial: &mut Dial,
+    journal: &mut Journal<Turn>,
+) -> Result<(), AllocError>
+    requires closed { journal.old.current ≡ [] }
+    requires fits { FitsSteps ⟦<Dial as Undo>⟧.fits ⟦<Dial as Undo>⟧.unapply journal.old.steps dial.old }
+    ensures closed { journal.new.current ≡ [] }
+    ensures fits { FitsSteps ⟦<Dial as Undo>⟧.fits ⟦<Dial as Undo>⟧.unapply journal.new.steps dial.new }
+{
+    forward_again(dial, journal, &[3])?;
+    forward_again(dial, journal, &[5, 7])?;
+    forward_again(dial, journal, &[11])?;
+    forget(dial, journal, 5);
+    assert_eq!(rt; journal.steps(), 3);
+    forget(dial, journal, 2);
+    assert_eq!(rt; journal.steps(), 2);
+    goes_back(rt, dial, journal, 7);
+    goes_back(rt, dial, journal, 3);
+    stays(rt, dial, journal, 3);
+    Ok(())
+}
+
+// One step forward, which is not kept.
+fn none_is_kept(
+    rt: &impl Abort,
+    dial: &mut Dial,
+    journal: &mut Journal<Turn>,
+) -> Result<(), AllocError>
+    requires closed { journal.old.current ≡ [] }
+    requires fits { FitsSteps ⟦<Dial as Undo>⟧.fits ⟦<Dial as Undo>⟧.unapply journal.old.steps dial.old }
+    ensures closed { journal.new.current ≡ [] }
+    ensures fits { FitsSteps ⟦<Dial as Undo>⟧.fits ⟦<Dial as Undo>⟧.unapply journal.new.steps dial.new }
+{
+    forward_again(dial, journal, &[13])?;
+    forget(dial, journal, 0);
+    assert_eq!(rt; journal.steps(), 0);
+    stays(rt, dial, journal, 13);
     Ok(())
 }
 
@@ -173,24 +260,8 @@ fn work_that_was_not_closed_is_taken_back(rt: HostRuntime) -> Result<(), Fail> {
 fn what_is_kept_comes_back(rt: HostRuntime) -> Result<(), Fail> {
     let mut dial = Dial { value: 0 };
     let mut journal = Journal::new(rt.alloc());
-    forward_again(&mut dial, &mut journal, &[3])?;
-    forward_again(&mut dial, &mut journal, &[5, 7])?;
-    forward_again(&mut dial, &mut journal, &[11])?;
-    forget(&dial, &mut journal, 5);
-    assert_eq!(rt; journal.steps(), 3);
-    forget(&dial, &mut journal, 2);
-    assert_eq!(rt; journal.steps(), 2);
-    assert!(rt; back(&mut dial, &mut journal));
-    assert_eq!(rt; dial.value, 7);
-    assert!(rt; back(&mut dial, &mut journal));
-    assert_eq!(rt; dial.value, 3);
-    assert!(rt; !back(&mut dial, &mut journal));
-    assert_eq!(rt; dial.value, 3);
-    forward_again(&mut dial, &mut journal, &[13])?;
-    forget(&dial, &mut journal, 0);
-    assert_eq!(rt; journal.steps(), 0);
-    assert!(rt; !back(&mut dial, &mut journal));
-    assert_eq!(rt; dial.value, 13);
+    two_of_three_are_kept(&rt, &mut dial, &mut journal)?;
+    none_is_kept(&rt, &mut dial, &mut journal)?;
     Ok(())
 }
 
@@ -210,11 +281,9 @@ fn two_are_kept(
         forget(dial, journal, 2);
     }
     for before in [29, 28] {
-        assert!(rt; back(dial, journal));
-        assert_eq!(rt; dial.value, before);
+        goes_back(rt, dial, journal, before);
     }
-    assert!(rt; !back(dial, journal));
-    assert_eq!(rt; dial.value, 28);
+    stays(rt, dial, journal, 28);
     Ok(())
 }
 

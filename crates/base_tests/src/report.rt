@@ -13,12 +13,27 @@ fn picture(alloc: Global, text: &[u8]) -> Result<Picture, PictureFault> {
     Picture::new(alloc, lines)
 }
 
+// The proofs of the tests below take no number of lines apart.
+fn skip(report: &mut Report, lines: usize) -> Result<(), StepFault> {
+    report.skip(lines)
+}
+
+/// Prints a picture that has a field for each value.
+fn print(
+    rt: &impl Abort,
+    report: &mut Report,
+    picture: &Picture,
+    values: &[i64],
+) -> Result<(), StepFault> {
+    assert_eq!(rt; picture.fields(), values.len());
+    report.print(picture, values)
+}
+
 /// The report of one print, whose values are as many as the fields.
 fn printed(rt: &impl Abort, alloc: Global, text: &[u8], values: &[i64]) -> Result<Report, Fail> {
     let picture = picture(alloc, text)?;
-    assert_eq!(rt; picture.fields(), values.len());
     let mut report = Report::new(alloc);
-    report.print(&picture, values)?;
+    print(rt, &mut report, &picture, values)?;
     Ok(report)
 }
 
@@ -87,35 +102,40 @@ fn a_decimal_field_is_refused(rt: HostRuntime) -> Result<(), Fail> {
     Ok(())
 }
 
-// The proof of the test below takes no number of lines apart.
-fn skip(report: &mut Report, lines: usize) -> Result<(), StepFault> {
-    report.skip(lines)
+/// Fills a report: what would pass its limit is refused, and what just fits is taken.
+fn fill(
+    rt: &impl Abort,
+    report: &mut Report,
+    line: &Picture,
+    two_lines: &Picture,
+) -> Result<(), StepFault> {
+    let full = Err(StepFault::Fault(RunFault::ReportFull));
+    assert_eq!(rt; skip(report, 16_777_217), full);
+    skip(report, 16_777_215)?;
+    assert_eq!(rt; skip(report, 2), full);
+    assert_eq!(rt; print(rt, report, two_lines, &[]), full);
+    assert_eq!(rt; report.len(), 16_777_215);
+    print(rt, report, line, &[])?;
+    assert_eq!(rt; report.len(), 16_777_216);
+    skip(report, 0)?;
+    assert_eq!(rt; skip(report, 1), full);
+    assert_eq!(rt; print(rt, report, line, &[]), full);
+    Ok(())
 }
 
-/// Prints a picture without fields.
-fn print(rt: &impl Abort, report: &mut Report, picture: &Picture) -> Result<(), StepFault> {
-    assert_eq!(rt; picture.fields(), 0);
-    report.print(picture, &[])
+/// Cuts a report to its first three bytes.
+fn cut(rt: &impl Abort, report: &mut Report) {
+    assert!(rt; report.len() >= 3);
+    report.cut(3);
 }
 
 #[test]
 fn a_report_ends_at_its_limit(rt: HostRuntime) -> Result<(), Fail> {
-    let full = Err(StepFault::Fault(RunFault::ReportFull));
     let line = picture(rt.alloc(), b"")?;
     let two_lines = picture(rt.alloc(), b"|")?;
     let mut report = Report::new(rt.alloc());
-    assert_eq!(rt; skip(&mut report, 16_777_217), full);
-    skip(&mut report, 16_777_215)?;
-    assert_eq!(rt; skip(&mut report, 2), full);
-    assert_eq!(rt; print(&rt, &mut report, &two_lines), full);
-    assert_eq!(rt; report.len(), 16_777_215);
-    print(&rt, &mut report, &line)?;
-    assert_eq!(rt; report.len(), 16_777_216);
-    skip(&mut report, 0)?;
-    assert_eq!(rt; skip(&mut report, 1), full);
-    assert_eq!(rt; print(&rt, &mut report, &line), full);
-    assert!(rt; report.len() >= 3);
-    report.cut(3);
+    fill(&rt, &mut report, &line, &two_lines)?;
+    cut(&rt, &mut report);
     assert_eq!(rt; report.bytes(), b"\n\n\n".as_slice());
     Ok(())
 }
@@ -126,15 +146,14 @@ fn a_refused_growth_leaves_the_report(rt: HostRuntime) -> Result<(), Fail> {
     let Ok(picture) = picture(rt.alloc(), b"***") else {
         return Ok(());
     };
-    assert_eq!(rt; picture.fields(), 1);
     let mut report = Report::new(rt.alloc());
     let mut wanted = b"".as_slice();
-    match report.print(&picture, &[7]) {
+    match print(&rt, &mut report, &picture, &[7]) {
         Ok(()) => wanted = b"  7\n",
         Err(fault) => assert_eq!(rt; fault, StepFault::Memory),
     }
     assert_eq!(rt; report.bytes(), wanted);
-    if let Err(fault) = report.skip(1000) {
+    if let Err(fault) = skip(&mut report, 1000) {
         assert_eq!(rt; fault, StepFault::Memory);
         assert_eq!(rt; report.bytes(), wanted);
     }
