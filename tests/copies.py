@@ -26,6 +26,8 @@ UNFOLDING = re.compile(r"unfolding\(([^)]*)\)")
 ERROR = re.compile(r"^\./proofs/(\S+)/\w+\.antt:\S+ error: (?:`([^`]+)`: )?(.*)$", re.M)
 # What it says of answers that it has not looked at.
 UNSEEN = re.compile(r"^note: \./proofs/(\S+)/Answers\.antt is not checked", re.M)
+# What it says of a function: of one whose goals were left, which of them have no answer.
+FUNCTION = re.compile(r"^fn (\S+): (.*)$", re.M)
 # What is said of a goal that is not shown, by a tactic or by the answer that it has: not that an
 # answer names what the function does not have.
 NOT_SHOWN = re.compile(r"`(?:search|grind|omega|cc)`|expected type|computed as|as printed")
@@ -76,8 +78,8 @@ class Copy:
 
     def proof(self, crate, text):
         """Returns a file of the function's proof as the copy has it."""
-        one, other = (".".join((crate, "proofs", *it, "")) for it in (self.function.path, self.path))
-        return text.replace(f"Rattle.{one}", f"Rattle.{other}")
+        paths = (self.function.path, self.path)
+        return text.replace(*(".".join(("Rattle", crate, "proofs", *it, "")) for it in paths))
 
     def answers(self, crate, text):
         """Returns its answers: those that the proof has, and one to each goal without one."""
@@ -100,17 +102,22 @@ class Copy:
 
 
 class Said:
-    """What a check says of copies."""
+    """What a check of a crate says of copies."""
 
-    def __init__(self, text):
+    def __init__(self, crate, text):
         self.errors, self.unseen = ERROR.findall(text), UNSEEN.findall(text)
+        self.crate, self.functions = crate, dict(FUNCTION.findall(text))
 
     def errors_of(self, copy):
+        """Returns the goals of a copy that are not shown, each with why."""
         return [it[1:] for it in self.errors if it[0] == copy.folder()]
 
     def is_shown(self, copy):
         """Whether all goals that were asked for in a copy are shown."""
-        return not self.errors_of(copy) and copy.folder() not in self.unseen
+        words = self.functions.get("::".join((self.crate, *copy.path)))
+        is_read = words is not None and copy.folder() not in self.unseen
+        is_left = any(f"`{it.name}`" in (words or "") for it in copy.goals)
+        return is_read and not is_left and not self.errors_of(copy)
 
     def lack(self, copy):
         """Returns why the one goal that was asked for in a copy is not shown, or None where nothing
