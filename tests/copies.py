@@ -1,20 +1,21 @@
 """Copies of functions, in each of which one goal is tried (see tests/edits).
 
 A copy stands behind its function, under a name of its own and with the function's proof. Of its
-goals only those are tried that are asked for, each by one tactic, or by the answer that the proof
-has for it.
+goals only those are tried that are asked for, each in all the ways in which the toolchain tries a
+goal, or by the answer that the proof has for it.
 """
 import re
 
-# The tactics that a goal may be tried with.
-TACTICS = {
-    "search": "search edit-usual.rules",
-    "grind": "grind (edit-usual.arith, edit-steps.common_steps) steps 2000000",
-}
-# The answer to a goal, and what it stands on.
+# The answer to a goal: what the toolchain tries, in turn; and what it stands on.
 ANSWER = """
 pub {name} : {goals}.{name}
-{unfolding}{name} {words} = {tactic}
+{unfolding}{name} {words} = first_of (
+  search edit-usual.rules,
+  grind (edit-usual.arith, edit-steps.common_steps) steps 2000000,
+  grind (edit-usual.arith, edit-steps.elements) steps 2000000,
+  grind (edit-usual.arith, edit-steps.moves) steps 2000000,
+  grind (edit-usual.arith, edit-steps.common_steps) steps 4000000,
+)
 """
 USES = """use Rattle.std.proofs.Common as edit-usual
 use Rattle.std.proofs.lemmas.Grind as edit-steps
@@ -34,20 +35,20 @@ NOT_SHOWN = re.compile(r"`(?:search|grind|omega|cc)`|expected type|computed as|a
 
 
 class Goal:
-    """A goal: its name, the words that its answer binds (`c` where none are given), its tactic."""
+    """A goal: its name, and the words that its answer binds (`c` where none are given)."""
 
-    def __init__(self, name, words, tactic):
-        self.name, self.words, self.tactic = name, words, tactic
+    def __init__(self, name, words):
+        self.name, self.words = name, " ".join(words) or "c"
 
 
 def goals_of(line):
     """Returns the goals that a line `goal: ..` of an edit names: the one that becomes false, and
     the one of the right function in its place."""
-    names, _, tactic = line.partition(" = ")
-    wrong, *words = names.split()
-    right = words[words.index("for") + 1] if "for" in words else wrong
-    bound = " ".join(words[: words.index("for")] if "for" in words else words) or "c"
-    return [Goal(it, bound, TACTICS[tactic.strip() or "search"]) for it in (wrong, right)]
+    wrong, *words = line.split()
+    if "for" not in words:
+        return [Goal(wrong, words), Goal(wrong, words)]
+    *words, _, right = words
+    return [Goal(wrong, words), Goal(right, words)]
 
 
 def opened(lines, function):
@@ -96,7 +97,7 @@ class Copy:
         line = f"unfolding {' '.join(names)}\n" if names else ""
         for it in self.goals:
             if not re.search(rf"^pub {re.escape(it.name)} :", text, re.M):
-                own = {"name": it.name, "words": it.words, "tactic": it.tactic}
+                own = {"name": it.name, "words": it.words}
                 text += ANSWER.format(goals=goals, unfolding=line, **own)
         return uses + text
 
