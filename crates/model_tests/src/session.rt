@@ -366,8 +366,8 @@ fn roomy<R: Abort + AllocGlobal>(rt: &R) -> Narrow {
 
 /// Runs the session whose answers and report grow.
 fn grow(alloc: Global, out: &mut Narrow) -> Result<End, SessionFault> {
-    let (model, commands) = (FIVE.as_bytes(), GROWING.as_bytes());
-    session(alloc, model, b"", commands, out)
+    out.failures = 0;
+    session(alloc, FIVE.as_bytes(), b"", GROWING.as_bytes(), out)
 }
 
 /// Runs that session again where it ended with Memory, having written the whole answers of the
@@ -384,7 +384,6 @@ fn grow_again(
     let lines = count_whole(&out.bytes, &GROWN);
     assert!(rt; lines.is_some() && lines < Some(7));
     out.bytes.clear();
-    out.failures = 0;
     grow(alloc, out)
 }
 
