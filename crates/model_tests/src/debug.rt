@@ -130,7 +130,9 @@ fn take_turns(
 fn turns(rt: &impl Abort, alloc: Global, script: &str, go: Go) -> Result<(), AllocError> {
     let mut debugger = debugger(alloc)?;
     let mut bytes = Vec::new(alloc);
-    take_turns(rt, &mut debugger, &mut bytes, script, go)
+    let result = take_turns(rt, &mut debugger, &mut bytes, script, go);
+    drop(debugger);
+    result
 }
 
 const STEPS_ARE_ANSWERED: &str = "\

@@ -154,7 +154,9 @@ fn there_and_back(
     run: &[Shown<'_>],
 ) -> Result<(), AllocError> {
     let mut machine = start(rt, alloc, model);
-    forth_and_back_twice(rt, &mut machine, run)
+    let result = forth_and_back_twice(rt, &mut machine, run);
+    drop(machine);
+    result
 }
 
 // State number 0 to 3 of a run of two steps and a last one that stays where it is, with nothing
@@ -276,5 +278,7 @@ fn a_hundred_thousand_steps_back_and_forward_again(rt: HostRuntime) -> Result<()
     let alloc = rt.alloc();
     let model = long_model(alloc)?;
     let mut machine = start(&rt, alloc, &model);
-    to_the_end_twice(&rt, alloc, &mut machine)
+    let result = to_the_end_twice(&rt, alloc, &mut machine);
+    drop(machine);
+    result
 }
