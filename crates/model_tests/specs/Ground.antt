@@ -1,5 +1,5 @@
 -- The tables of the tests' stores, and what a call leaves.
-use Rattle.std.specs.Prelude.{◌≡◌, ◌<◌, ℕ, ℤ, pos, true, false, List, [], ◌∷◌, length, Result, Ok, Err}
+use Rattle.std.specs.Prelude.{◌≡◌, ◌<◌, ℕ, ℤ, pos, Bool, true, false, List, [], ◌∷◌, length, Result, Ok, Err}
 use Rattle.ss_words.specs.declared.fault.RunFault.{RunFault}
 use Rattle.ss_words.specs.declared.fault.StepFault.{StepFault}
 use Rattle.ss_words.specs.declared.fault.StepFault.TheVariants.{Fault}
@@ -13,11 +13,13 @@ use Rattle.ss_store.specs.Tables.{Tables, class_of}
 use Rattle.ss_store.specs.Held.{StoreValue}
 use Rattle.ss_store.specs.Change.{FitsStore, unapply_store}
 
+-- a class by its attributes, the sets that it owns, those that its entities may be in, and whether it is permanent
+abbrev pub ground_class : ℕ → ℕ → ℕ → Bool → ClassShape
+ground_class a o j p = record { attributes = a; owned = o; joined = j; permanent = p }
+
 -- machines, jobs and parts
 abbrev pub ground_classes : List ClassShape
-ground_classes = record { attributes = 2; owned = 1; joined = 1; permanent = true }
-    ∷ record { attributes = 2; owned = 2; joined = 4; permanent = false }
-    ∷ record { attributes = 1; owned = 1; joined = 1; permanent = false } ∷ []
+ground_classes = ground_class 2 1 1 true ∷ ground_class 2 2 4 false ∷ ground_class 1 1 1 false ∷ []
 
 -- a set by its discipline, its owner, its number there, the class of its members and its number there
 abbrev pub ground_set : Discipline → Owner → ℕ → ℕ → ℕ → SetShape

@@ -1,47 +1,55 @@
 //! Lines that are read, and one turn of each command with memory at hand, which no clause promises.
-use crate::model::checked;
-use ss_data::Feed;
+use crate::model::started;
 use ss_debug::{Command, Debugger, Go, Movement, Question, command, obey};
 use ss_links::LinkedSets;
-use ss_machine::Machine;
 use std::alloc::{AllocError, Global};
 use std::process::Abort;
-use std::test::Fail;
+
+fn is_blank(line: &[u8]) -> bool {
+    matches!(command(line), Command::Blank)
+}
+
+fn is_bad(line: &[u8]) -> bool {
+    matches!(command(line), Command::Bad)
+}
 
 #[test]
 fn lines_without_a_command(rt: HostRuntime) {
-    assert!(rt; matches!(command(b" \t\r"), Command::Blank));
-    assert!(rt; matches!(command(&[b' '; 201]), Command::Blank));
-    assert!(rt; matches!(command(b"run 0"), Command::Bad));
-    assert!(rt; matches!(command(b"step 1000001"), Command::Bad));
-    assert!(rt; matches!(command(b"back 18446744073709551617"), Command::Bad));
-    assert!(rt; matches!(command(&[b'Q'; 201]), Command::Bad));
+    assert!(rt; is_blank(b" \t\r"));
+    assert!(rt; is_blank(&[b' '; 201]));
+    assert!(rt; is_bad(b"run 0"));
+    assert!(rt; is_bad(b"step 1000001"));
+    assert!(rt; is_bad(b"back 18446744073709551617"));
+    assert!(rt; is_bad(&[b'Q'; 201]));
+}
+
+/// The movement that a line commands, if it does.
+fn movement(line: &[u8]) -> Option<Movement> {
+    match command(line) {
+        Command::Move(movement) => Some(movement),
+        _ => None,
+    }
 }
 
 #[test]
 fn movements_are_read(rt: HostRuntime) {
-    assert!(rt; matches!(command(b"\tStep \r"), Command::Move(Movement::Step(1))));
+    assert!(rt; matches!(movement(b"\tStep \r"), Some(Movement::Step(1))));
+    assert!(rt; matches!(movement(b"step 1000000"), Some(Movement::Step(1_000_000))));
     assert!(rt;
         matches!(
-            command(b"step 1000000"),
-            Command::Move(Movement::Step(1_000_000))
+            movement(b"back 00000000000000000007"),
+            Some(Movement::Back(7))
         )
     );
-    assert!(rt;
-        matches!(
-            command(b"back 00000000000000000007"),
-            Command::Move(Movement::Back(7))
-        )
-    );
-    assert!(rt; matches!(command(b"RUN"), Command::Move(Movement::Run(1_000_000))));
-    assert!(rt; matches!(command(b"run to 0"), Command::Move(Movement::RunTo(0))));
-    assert!(rt; matches!(command(b"back break"), Command::Move(Movement::BackBreak)));
+    assert!(rt; matches!(movement(b"RUN"), Some(Movement::Run(1_000_000))));
+    assert!(rt; matches!(movement(b"run to 0"), Some(Movement::RunTo(0))));
+    assert!(rt; matches!(movement(b"back break"), Some(Movement::BackBreak)));
 }
 
 #[test]
 fn lines_and_questions_are_read(rt: HostRuntime) {
     assert!(rt; matches!(command(b"break 1000000"), Command::Break(1_000_000)));
-    assert!(rt; matches!(command(b"break 0"), Command::Bad));
+    assert!(rt; is_bad(b"break 0"));
     assert!(rt; matches!(command(b"clear 007"), Command::Clear(7)));
     assert!(rt;
         matches!(
@@ -56,7 +64,7 @@ fn lines_and_questions_are_read(rt: HostRuntime) {
 #[test]
 fn quit_and_a_name_are_read(rt: HostRuntime) {
     assert!(rt; matches!(command(b"quit\r"), Command::Quit));
-    assert!(rt; matches!(command(b"quit now"), Command::Bad));
+    assert!(rt; is_bad(b"quit now"));
     match command(b"show var 1a.b..") {
         Command::Show(Question::Variable(name)) => {
             assert_eq!(rt; name.as_slice(), b"1A.B".as_slice())
@@ -69,38 +77,36 @@ fn quit_and_a_name_are_read(rt: HostRuntime) {
 const MODEL: &str = "MAIN\nLET X = 5\nPRINT 1 LINE WITH X THUS\nX = ***\nSTOP\nEND\n";
 
 /// A debugger at the start of the model.
-fn debugger(alloc: Global) -> Result<Debugger<LinkedSets>, Fail> {
-    let program = checked(alloc, MODEL.as_bytes()).ok_or(AllocError)?;
-    let feed = Feed::new(alloc, b"")?;
-    Ok(Debugger::new(
-        alloc,
-        Machine::new(
-            alloc,
-            program,
-            feed,
-            LinkedSets::new(alloc),
-            LinkedSets::new(alloc),
-        )?,
-    ))
+fn debugger(alloc: Global) -> Result<Debugger<LinkedSets>, AllocError> {
+    match started(alloc, MODEL.as_bytes()) {
+        Some(machine) => Ok(Debugger::new(alloc, machine)),
+        None => Err(AllocError),
+    }
 }
 
-/// Obeys a line, and compares what it appends, behind what stood there, and how it ends.
-fn turn(
-    rt: &impl Abort,
-    alloc: Global,
-    debugger: &mut Debugger<LinkedSets>,
-    line: &str,
-    answer: &str,
-    go: Go,
-) -> Result<(), Fail> {
-    let mut bytes = Vec::from_slice(alloc, b"before\n")?;
-    let gone = obey(debugger, command(line.as_bytes()), &mut bytes)?;
+/// Compares what a line appended behind what stood there.
+fn appended(rt: &impl Abort, line: &str, bytes: &[u8], answer: &str) {
     assert_eq!(rt;
         bytes.strip_prefix(b"before\n"),
         Some(answer.as_bytes()),
         "{line}"
     );
-    assert_eq!(rt; gone, go, "{line}");
+}
+
+/// Obeys a line, and compares what it appends and how it ends.
+fn turn(
+    rt: &impl Abort,
+    debugger: &mut Debugger<LinkedSets>,
+    bytes: &mut Vec<u8>,
+    line: &str,
+    answer: &str,
+    go: Go,
+) -> Result<(), AllocError> {
+    bytes.clear();
+    bytes.extend_from_slice(b"before\n")?;
+    let gone = obey(debugger, command(line.as_bytes()), bytes)?;
+    appended(rt, line, bytes, answer);
+    assert!(rt; gone == go, "{line}");
     Ok(())
 }
 
@@ -108,22 +114,25 @@ fn turn(
 /// the lines between it and the next.
 fn take_turns(
     rt: &impl Abort,
-    alloc: Global,
     debugger: &mut Debugger<LinkedSets>,
+    bytes: &mut Vec<u8>,
     script: &str,
     go: Go,
-) -> Result<(), Fail> {
+) -> Result<(), AllocError> {
     for line in script.split("> ").skip(1) {
         let (line, answer) = line.split_once('\n').unwrap_or((line, ""));
-        turn(rt, alloc, debugger, line, answer, go)?;
+        turn(rt, debugger, bytes, line, answer, go)?;
     }
     Ok(())
 }
 
 /// Takes the turns of a script with a debugger at the start of the model.
-fn turns(rt: &impl Abort, alloc: Global, script: &str, go: Go) -> Result<(), Fail> {
+fn turns(rt: &impl Abort, alloc: Global, script: &str, go: Go) -> Result<(), AllocError> {
     let mut debugger = debugger(alloc)?;
-    take_turns(rt, alloc, &mut debugger, script, go)
+    let mut bytes = Vec::new(alloc);
+    let result = take_turns(rt, &mut debugger, &mut bytes, script, go);
+    drop(debugger);
+    result
 }
 
 const STEPS_ARE_ANSWERED: &str = "\
@@ -146,7 +155,7 @@ const STEPS_ARE_ANSWERED: &str = "\
     ";
 
 #[test]
-fn steps_are_answered(rt: HostRuntime) -> Result<(), Fail> {
+fn steps_are_answered(rt: HostRuntime) -> Result<(), AllocError> {
     turns(&rt, rt.alloc(), STEPS_ARE_ANSWERED, Go::On)
 }
 
@@ -170,7 +179,7 @@ const QUESTIONS_ARE_ANSWERED: &str = "\
     ";
 
 #[test]
-fn questions_are_answered(rt: HostRuntime) -> Result<(), Fail> {
+fn questions_are_answered(rt: HostRuntime) -> Result<(), AllocError> {
     turns(&rt, rt.alloc(), QUESTIONS_ARE_ANSWERED, Go::On)
 }
 
@@ -192,7 +201,7 @@ const BREAK_LINES_ARE_RUN_TO: &str = "\
     ";
 
 #[test]
-fn break_lines_are_run_to(rt: HostRuntime) -> Result<(), Fail> {
+fn break_lines_are_run_to(rt: HostRuntime) -> Result<(), AllocError> {
     turns(&rt, rt.alloc(), BREAK_LINES_ARE_RUN_TO, Go::On)
 }
 
@@ -210,7 +219,7 @@ const TIMES_ARE_RUN_TO: &str = "\
     ";
 
 #[test]
-fn times_are_run_to(rt: HostRuntime) -> Result<(), Fail> {
+fn times_are_run_to(rt: HostRuntime) -> Result<(), AllocError> {
     turns(&rt, rt.alloc(), TIMES_ARE_RUN_TO, Go::On)
 }
 
@@ -220,6 +229,6 @@ const QUIT_ENDS: &str = "\
     ";
 
 #[test]
-fn quit_ends(rt: HostRuntime) -> Result<(), Fail> {
+fn quit_ends(rt: HostRuntime) -> Result<(), AllocError> {
     turns(&rt, rt.alloc(), QUIT_ENDS, Go::Quit)
 }

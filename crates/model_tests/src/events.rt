@@ -15,10 +15,9 @@ use ss_links::{LinkedSets, PlainSets, SetBoard};
 use ss_words::{RunFault, StepFault};
 use std::alloc::{AllocError, Global};
 use std::process::Abort;
-use std::test::Fail;
 
 // A pending notice, as the plain list keeps it.
-#[derive(Clone, Copy, Debug)]
+#[derive(Clone, Copy)]
 struct Plain {
     notice: u32,
     time: i64,
@@ -64,83 +63,137 @@ fn put(rt: &impl Abort, plain: &mut Vec<Plain>, notice: Plain) -> Result<(), All
 
 // Where a notice stands in the plain list.
 fn place_of(plain: &[Plain], notice: u32) -> Option<usize> {
-    plain.iter().position(|other| other.notice == notice)
+    for (place, other) in plain.iter().enumerate() {
+        if other.notice == notice {
+            return Some(place);
+        }
+    }
+    None
 }
+
+// The rule of a class without keys.
+fn keyless(alloc: Global, for_events: bool, priority: usize) -> ClassRule
+    ensures { result.priority ≡ priority }
+{
+    ClassRule {
+        for_events,
+        priority,
+        ties: Vec::new(alloc),
+    }
+}
+
+// The rule of an event class with these keys.
+fn keyed(alloc: Global, priority: usize, keys: &[Key]) -> Result<ClassRule, AllocError>
+    ensures { IfOk result (λ rule. rule.priority ≡ priority) }
+{
+    let ties = Vec::from_slice(alloc, keys)?;
+    Ok(ClassRule {
+        for_events: true,
+        priority,
+        ties,
+    })
+}
+
+const HIGH: Key = Key {
+    rank: Rank::High,
+    attribute: 0,
+};
+
+const LOW: Key = Key {
+    rank: Rank::Low,
+    attribute: 1,
+};
 
 // The classes have no keys, one of HIGH, one of LOW, one of HIGH and then one of LOW.
 fn four_rules(alloc: Global) -> Result<Vec<ClassRule>, AllocError>
     ensures { IfOk result (λ rules. AreRanked (map rule_of rules.items) × (length rules.items ≤ 64)) }
 {
-    let high = Key {
-        rank: Rank::High,
-        attribute: 0,
+    let high = keyed(alloc, 2, &[HIGH])?;
+    let low = keyed(alloc, 1, &[LOW])?;
+    let both = keyed(alloc, 0, &[HIGH, LOW])?;
+    Ok(vec![in alloc; keyless(alloc, true, 3), high, low, both]?)
+}
+
+// Compares a notice, or that there is none.
+fn is_notice(rt: &impl Abort, found: Option<u32>, wanted: Option<u32>) {
+    assert_eq!(rt; found, wanted);
+}
+
+// Compares what stands at a place of the order.
+fn stands<S: SetBoard>(rt: &impl Abort, agenda: &Agenda<S>, number: usize, notice: Option<u32>) {
+    is_notice(rt, agenda.in_order(number), notice);
+}
+
+// Compares the slot of a notice with the plain list's.
+fn agrees_on_slot<S: SetBoard>(rt: &impl Abort, agenda: &Agenda<S>, notice: &Plain) {
+    assert!(rt; notice.notice > 0);
+    let slot = Slot {
+        time: notice.time,
+        class: notice.class,
     };
-    let low = Key {
-        rank: Rank::Low,
-        attribute: 1,
-    };
-    let mut rules = Vec::new(alloc);
-    rules.push(ClassRule {
-        for_events: true,
-        priority: 3,
-        ties: Vec::new(alloc),
-    })?;
-    rules.push(ClassRule {
-        for_events: true,
-        priority: 2,
-        ties: vec![in alloc; high]?,
-    })?;
-    rules.push(ClassRule {
-        for_events: true,
-        priority: 1,
-        ties: vec![in alloc; low]?,
-    })?;
-    rules.push(ClassRule {
-        for_events: true,
-        priority: 0,
-        ties: vec![in alloc; high, low]?,
-    })?;
-    Ok(rules)
+    assert_eq!(rt; agenda.slot(notice.notice), Some(slot));
+}
+
+// Compares the order with the plain list.
+fn agrees_on_order<S: SetBoard>(rt: &impl Abort, agenda: &Agenda<S>, plain: &[Plain]) {
+    for (number, notice) in plain.iter().enumerate() {
+        stands(rt, agenda, number, Some(notice.notice));
+        agrees_on_slot(rt, agenda, notice);
+    }
+    stands(rt, agenda, plain.len(), None);
+    let first = plain.first().map(|notice| notice.notice);
+    is_notice(rt, agenda.next(), first);
+}
+
+// Compares a listing with the plain list.
+fn agrees_on_listing<S: SetBoard>(rt: &impl Abort, agenda: &Agenda<S>, plain: &[Plain]) {
+    let mut listing = agenda.listing();
+    for notice in plain {
+        let next = agenda.list_next(&mut listing);
+        is_notice(rt, next, Some(notice.notice));
+    }
+    is_notice(rt, agenda.list_next(&mut listing), None);
 }
 
 // Compares every reading call with the plain list.
 fn agrees<S: SetBoard>(rt: &impl Abort, agenda: &Agenda<S>, plain: &[Plain]) {
-    for (number, notice) in plain.iter().enumerate() {
-        assert_eq!(rt; agenda.in_order(number), Some(notice.notice));
-        assert!(rt; notice.notice > 0);
-        let slot = Slot {
-            time: notice.time,
-            class: notice.class,
-        };
-        assert_eq!(rt; agenda.slot(notice.notice), Some(slot));
-    }
-    assert_eq!(rt; agenda.in_order(plain.len()), None);
-    assert_eq!(rt; agenda.next(), plain.first().map(|notice| notice.notice));
-    let mut listing = agenda.listing();
-    for number in 0..plain.len() {
-        assert_eq!(rt; agenda.list_next(&mut listing), Some(plain[number].notice));
-    }
-    assert_eq!(rt; agenda.list_next(&mut listing), None);
+    agrees_on_order(rt, agenda, plain);
+    agrees_on_listing(rt, agenda, plain);
     for class in 0..4 {
         lists_class(rt, agenda, plain, class);
     }
 }
 
-// Compares a class's list on the board with the plain list.
-fn lists_class<S: SetBoard>(rt: &impl Abort, agenda: &Agenda<S>, plain: &[Plain], class: u32) {
+// Compares the notice of a seat on the board, and gives the seat behind it.
+fn behind_seat<S: SetBoard>(
+    rt: &impl Abort,
+    agenda: &Agenda<S>,
+    at: Option<u32>,
+    notice: u32,
+) -> Option<u32> {
+    let board = agenda.board();
+    let seat = at.expect(rt, "a notice more on the board");
+    assert!(rt; seat < board.seats());
+    assert_eq!(rt; agenda.notice(seat), notice);
+    board.next(seat)
+}
+
+// The first seat of a class on the board.
+fn first_seat<S: SetBoard>(rt: &impl Abort, agenda: &Agenda<S>, class: u32) -> Option<u32> {
     let board = agenda.board();
     assert!(rt; class < board.heads());
-    let mut at = board.first(class);
+    board.first(class)
+}
+
+// Compares a class's list on the board with the plain list.
+fn lists_class<S: SetBoard>(rt: &impl Abort, agenda: &Agenda<S>, plain: &[Plain], class: u32) {
+    let mut at = first_seat(rt, agenda, class);
     for notice in plain {
-        if notice.class != class as usize {
-            continue;
+        if notice.class == class as usize {
+            at = behind_seat(rt, agenda, at, notice.notice);
         }
-        let seat = at.expect(rt, "a notice more on the board");
-        assert!(rt; seat < board.seats());
-        assert_eq!(rt; agenda.notice(seat), notice.notice);
-        at = board.next(seat);
     }
-    assert_eq!(rt; at, None);
+    assert!(rt; at.is_none());
 }
 
 // One step that schedules a notice, or the fault where that is refused.
@@ -262,6 +315,117 @@ impl Plains {
         self.before.push(old)?;
         Ok(())
     }
+
+    // One step that takes the notice at a place off.
+    fn take(&mut self, rt: &impl Abort, place: usize) -> Result<(), AllocError> {
+        self.step()?;
+        assert!(rt; place < self.now.len());
+        self.now.remove(place);
+        Ok(())
+    }
+}
+
+// Schedules a notice in both, or in neither where it is pending.
+fn schedule_in_both<S: SetBoard>(
+    rt: &impl Abort,
+    agenda: &mut Agenda<S>,
+    journal: &mut Journal<AgendaChange>,
+    plains: &mut Plains,
+    notice: Plain,
+    clock: i64,
+) -> Result<(), AllocError>
+    requires closed { journal.old.current ≡ [] }
+    requires fits { FitsSteps Fits unapply journal.old.steps agenda.old }
+    ensures closed { journal.new.current ≡ [] }
+    ensures fits { FitsSteps Fits unapply journal.new.steps agenda.new }
+{
+    let fault = schedule(rt, agenda, journal, &notice, clock)?;
+    if place_of(&plains.now, notice.notice).is_some() {
+        assert!(rt; fault == Some(RunFault::AlreadyScheduled));
+        return Ok(());
+    }
+    assert!(rt; fault == None);
+    plains.step()?;
+    put(rt, &mut plains.now, notice)
+}
+
+// Takes the next notice off in both.
+fn take_in_both<S: SetBoard>(
+    rt: &impl Abort,
+    agenda: &mut Agenda<S>,
+    journal: &mut Journal<AgendaChange>,
+    plains: &mut Plains,
+    next: u32,
+) -> Result<(), AllocError>
+    requires closed { journal.old.current ≡ [] }
+    requires fits { FitsSteps Fits unapply journal.old.steps agenda.old }
+    ensures closed { journal.new.current ≡ [] }
+    ensures fits { FitsSteps Fits unapply journal.new.steps agenda.new }
+{
+    take(rt, agenda, journal, next)?;
+    plains.take(rt, 0)
+}
+
+// Cancels a notice in both, or in neither where it isn't pending.
+fn cancel_in_both<S: SetBoard>(
+    rt: &impl Abort,
+    agenda: &mut Agenda<S>,
+    journal: &mut Journal<AgendaChange>,
+    plains: &mut Plains,
+    notice: u32,
+) -> Result<(), AllocError>
+    requires closed { journal.old.current ≡ [] }
+    requires fits { FitsSteps Fits unapply journal.old.steps agenda.old }
+    ensures closed { journal.new.current ≡ [] }
+    ensures fits { FitsSteps Fits unapply journal.new.steps agenda.new }
+{
+    let fault = cancel(rt, agenda, journal, notice)?;
+    match place_of(&plains.now, notice) {
+        Some(place) => {
+            assert!(rt; fault == None);
+            plains.take(rt, place)
+        }
+        None => {
+            assert!(rt; fault == Some(RunFault::NotScheduled));
+            Ok(())
+        }
+    }
+}
+
+// A notice is not scheduled before the clock.
+fn too_early<S: SetBoard>(
+    rt: &impl Abort,
+    agenda: &mut Agenda<S>,
+    journal: &mut Journal<AgendaChange>,
+    notice: &Plain,
+) -> Result<(), AllocError>
+    requires closed { journal.old.current ≡ [] }
+    requires fits { FitsSteps Fits unapply journal.old.steps agenda.old }
+    ensures closed { journal.new.current ≡ [] }
+    ensures fits { FitsSteps Fits unapply journal.new.steps agenda.new }
+{
+    let early = schedule(rt, agenda, journal, notice, i64::MAX)?;
+    assert!(rt; early == Some(RunFault::TimeBeforeClock));
+    Ok(())
+}
+
+// One step back in both, where there is one.
+fn back_in_both<S: SetBoard>(
+    rt: &impl Abort,
+    agenda: &mut Agenda<S>,
+    journal: &mut Journal<AgendaChange>,
+    plains: &mut Plains,
+)
+    requires closed { journal.old.current ≡ [] }
+    requires fits { FitsSteps Fits unapply journal.old.steps agenda.old }
+    ensures closed { journal.new.current ≡ [] }
+    ensures fits { FitsSteps Fits unapply journal.new.steps agenda.new }
+{
+    let undone = back(agenda, journal);
+    assert!(rt; undone != plains.before.is_empty());
+    if let Some(before) = plains.before.pop() {
+        plains.now = before;
+    }
 }
 
 // One turn of the mixture.
@@ -281,100 +445,138 @@ fn turn<S: SetBoard>(
 {
     let clock = (number / 100) as i64;
     let notice = dice.notice(clock, number);
-    let place = place_of(&plains.now, notice.notice);
     match dice.below(8) {
-        0 | 1 | 2 | 3 => {
-            let fault = schedule(rt, agenda, journal, &notice, clock)?;
-            if place.is_some() {
-                assert_eq!(rt; fault, Some(RunFault::AlreadyScheduled));
-            } else {
-                assert_eq!(rt; fault, None);
-                plains.step()?;
-                put(rt, &mut plains.now, notice)?;
-            }
-        }
-        4 => {
-            if let Some(next) = agenda.next() {
-                take(rt, agenda, journal, next)?;
-                plains.step()?;
-                assert!(rt; !plains.now.is_empty());
-                plains.now.remove(0);
-            }
-        }
-        5 => {
-            let fault = cancel(rt, agenda, journal, notice.notice)?;
-            match place {
-                Some(place) => {
-                    assert_eq!(rt; fault, None);
-                    plains.step()?;
-                    assert!(rt; place < plains.now.len());
-                    plains.now.remove(place);
-                }
-                None => assert_eq!(rt; fault, Some(RunFault::NotScheduled)),
-            }
-        }
-        6 => {
-            let early = schedule(rt, agenda, journal, &notice, i64::MAX)?;
-            assert_eq!(rt; early, Some(RunFault::TimeBeforeClock));
-        }
+        0 | 1 | 2 | 3 => schedule_in_both(rt, agenda, journal, plains, notice, clock),
+        4 => match agenda.next() {
+            Some(next) => take_in_both(rt, agenda, journal, plains, next),
+            None => Ok(()),
+        },
+        5 => cancel_in_both(rt, agenda, journal, plains, notice.notice),
+        6 => too_early(rt, agenda, journal, &notice),
         _ => {
-            let undone = back(agenda, journal);
-            assert_eq!(rt; undone, !plains.before.is_empty());
-            if let Some(before) = plains.before.pop() {
-                plains.now = before;
-            }
+            back_in_both(rt, agenda, journal, plains);
+            Ok(())
         }
     }
-    Ok(())
 }
 
 // A random mixture of calls; the agenda agrees with the plain list after each.
 fn mixture<S: SetBoard>(
     rt: &impl Abort,
-    alloc: Global,
     agenda: &mut Agenda<S>,
     journal: &mut Journal<AgendaChange>,
+    plains: &mut Plains,
+    dice: &mut Dice,
 ) -> Result<(), AllocError>
     requires closed { journal.old.current ≡ [] }
     requires fits { FitsSteps Fits unapply journal.old.steps agenda.old }
     ensures closed { journal.new.current ≡ [] }
     ensures fits { FitsSteps Fits unapply journal.new.steps agenda.new }
 {
-    let mut plains = Plains {
-        now: Vec::new(alloc),
-        before: Vec::new(alloc),
-    };
-    let mut dice = Dice { state: 19 };
     for number in 0..300 {
-        turn(rt, agenda, journal, &mut plains, &mut dice, number)?;
+        turn(rt, agenda, journal, plains, dice, number)?;
         agrees(rt, agenda, &plains.now);
     }
     assert!(rt; plains.now.len() > 20);
     Ok(())
 }
 
+// The mixture on a new agenda.
+fn mixture_on<S: SetBoard>(rt: &impl Abort, alloc: Global, board: S) -> Result<(), AllocError>
+    requires { S.board board ≡ empty_board }
+{
+    let mut agenda = started(alloc, board)?;
+    let mut journal = Journal::new(alloc);
+    let mut plains = Plains {
+        now: Vec::new(alloc),
+        before: Vec::new(alloc),
+    };
+    let mut dice = Dice { state: 19 };
+    mixture(rt, &mut agenda, &mut journal, &mut plains, &mut dice)
+}
+
 #[test]
-fn every_call_agrees_with_a_plain_list(rt: HostRuntime) -> Result<(), Fail> {
+fn every_call_agrees_with_a_plain_list(rt: HostRuntime) -> Result<(), AllocError> {
     let alloc = rt.alloc();
-    let mut plain = started(alloc, PlainSets::new(alloc))?;
-    let mut journal = Journal::new(alloc);
-    mixture(&rt, alloc, &mut plain, &mut journal)?;
-    let mut linked = started(alloc, LinkedSets::new(alloc))?;
-    let mut journal = Journal::new(alloc);
-    mixture(&rt, alloc, &mut linked, &mut journal)?;
-    Ok(())
+    mixture_on(&rt, alloc, PlainSets::new(alloc))?;
+    mixture_on(&rt, alloc, LinkedSets::new(alloc))
 }
 
 // Compares the order with these notices.
 fn stand_so<S: SetBoard>(rt: &impl Abort, agenda: &Agenda<S>, order: &[u32]) {
     for (number, notice) in order.iter().enumerate() {
-        assert_eq!(rt; agenda.in_order(number), Some(*notice));
+        stands(rt, agenda, number, Some(*notice));
     }
-    assert_eq!(rt; agenda.in_order(order.len()), None);
+    stands(rt, agenda, order.len(), None);
 }
 
-// Schedules five notices and takes all back. A scheduling that is refused memory changes nothing,
-// and is made again.
+// Notices with their times, classes and keys, in the order of their scheduling.
+const ROWS: [(u32, i64, usize, i64); 5] = [
+    (3, 5, 0, 0),
+    (1, 5, 1, 2),
+    (2, 4, 3, 1),
+    (4, 5, 1, 7),
+    (900_000, 5, 0, 0),
+];
+
+// The order behind each number of these schedulings, so many long.
+const ORDERS: [[u32; 5]; 6] = [
+    [0, 0, 0, 0, 0],
+    [3, 0, 0, 0, 0],
+    [1, 3, 0, 0, 0],
+    [2, 1, 3, 0, 0],
+    [2, 4, 1, 3, 0],
+    [2, 4, 1, 3, 900_000],
+];
+
+// Compares the order with that behind so many of the rows.
+fn stand_behind<S: SetBoard>(rt: &impl Abort, agenda: &Agenda<S>, count: usize) {
+    assert!(rt; count < ORDERS.len());
+    stand_so(rt, agenda, &ORDERS[count][..count]);
+}
+
+// Schedules the notice of a row. A scheduling that is refused memory changes nothing, and is made
+// again.
+fn schedule_row<S: SetBoard>(
+    rt: &impl Abort,
+    agenda: &mut Agenda<S>,
+    journal: &mut Journal<AgendaChange>,
+    number: usize,
+) -> Result<(), AllocError>
+    requires closed { journal.old.current ≡ [] }
+    requires fits { FitsSteps Fits unapply journal.old.steps agenda.old }
+    ensures closed { journal.new.current ≡ [] }
+    ensures fits { FitsSteps Fits unapply journal.new.steps agenda.new }
+{
+    assert!(rt; number < ROWS.len());
+    let (notice, time, class, key) = ROWS[number];
+    let notice = with_key(notice, time, class, key);
+    if schedule(rt, agenda, journal, &notice, 0).is_err() {
+        stand_behind(rt, agenda, number);
+        schedule(rt, agenda, journal, &notice, 0)?;
+    }
+    stand_behind(rt, agenda, number + 1);
+    Ok(())
+}
+
+// Takes all five schedulings back.
+fn all_back<S: SetBoard>(
+    rt: &impl Abort,
+    agenda: &mut Agenda<S>,
+    journal: &mut Journal<AgendaChange>,
+)
+    requires closed { journal.old.current ≡ [] }
+    requires fits { FitsSteps Fits unapply journal.old.steps agenda.old }
+    ensures closed { journal.new.current ≡ [] }
+    ensures fits { FitsSteps Fits unapply journal.new.steps agenda.new }
+{
+    for number in 0..5 {
+        assert!(rt; back(agenda, journal));
+        stand_behind(rt, agenda, 4 - number);
+    }
+}
+
+// Schedules five notices and takes all back.
 fn there_and_back<S: SetBoard>(
     rt: &impl Abort,
     agenda: &mut Agenda<S>,
@@ -385,43 +587,10 @@ fn there_and_back<S: SetBoard>(
     ensures closed { journal.new.current ≡ [] }
     ensures fits { FitsSteps Fits unapply journal.new.steps agenda.new }
 {
-    let orders = [
-        [].as_slice(),
-        [3].as_slice(),
-        [1, 3].as_slice(),
-        [2, 1, 3].as_slice(),
-        [2, 4, 1, 3].as_slice(),
-        [2, 4, 1, 3, 900_000].as_slice(),
-    ];
-    let rows = [
-        (3, 5, 0, 0),
-        (1, 5, 1, 2),
-        (2, 4, 3, 1),
-        (4, 5, 1, 7),
-        (900_000, 5, 0, 0),
-    ];
-    for number in 0..rows.len() {
-        let (notice, time, class, key) = rows[number];
-        let notice = Plain {
-            notice,
-            time,
-            class,
-            keys: [key, 0],
-            filing: 0,
-        };
-        if schedule(rt, agenda, journal, &notice, 0).is_err() {
-            assert!(rt; number < orders.len());
-            stand_so(rt, agenda, orders[number]);
-            schedule(rt, agenda, journal, &notice, 0)?;
-        }
-        assert!(rt; number + 1 < orders.len());
-        stand_so(rt, agenda, orders[number + 1]);
-    }
     for number in 0..5 {
-        assert!(rt; back(agenda, journal));
-        assert!(rt; 4 - number < orders.len());
-        stand_so(rt, agenda, orders[4 - number]);
+        schedule_row(rt, agenda, journal, number)?;
     }
+    all_back(rt, agenda, journal);
     Ok(())
 }
 
@@ -433,17 +602,38 @@ fn started<S: SetBoard>(alloc: Global, board: S) -> Result<Agenda<S>, AllocError
     Agenda::with_rules(alloc, rules, board)
 }
 
+// The same on linked sets.
+fn linked(alloc: Global) -> Result<Agenda<LinkedSets>, AllocError> {
+    started(alloc, LinkedSets::new(alloc))
+}
+
+// The same, made again where memory was refused.
+fn linked_again(alloc: Global) -> Result<Agenda<LinkedSets>, AllocError> {
+    match linked(alloc) {
+        Ok(agenda) => Ok(agenda),
+        Err(_) => linked(alloc),
+    }
+}
+
+// Schedules five notices and takes all back, and once more.
+fn there_and_back_twice<S: SetBoard>(
+    rt: &impl Abort,
+    agenda: &mut Agenda<S>,
+    journal: &mut Journal<AgendaChange>,
+) -> Result<(), AllocError>
+    requires closed { journal.old.current ≡ [] }
+    requires fits { FitsSteps Fits unapply journal.old.steps agenda.old }
+{
+    there_and_back(rt, agenda, journal)?;
+    there_and_back(rt, agenda, journal)
+}
+
 #[test]
-fn a_refused_growth_changes_nothing(rt: HostRuntime) -> Result<(), Fail> {
+fn a_refused_growth_changes_nothing(rt: HostRuntime) -> Result<(), AllocError> {
     let alloc = rt.alloc();
-    let mut agenda = match started(alloc, LinkedSets::new(alloc)) {
-        Ok(agenda) => agenda,
-        Err(_) => started(alloc, LinkedSets::new(alloc))?,
-    };
+    let mut agenda = linked_again(alloc)?;
     let mut journal = Journal::new(alloc);
-    there_and_back(&rt, &mut agenda, &mut journal)?;
-    there_and_back(&rt, &mut agenda, &mut journal)?;
-    Ok(())
+    there_and_back_twice(&rt, &mut agenda, &mut journal)
 }
 
 // A notice of a class, with one key.
@@ -457,45 +647,96 @@ fn with_key(notice: u32, time: i64, class: usize, key: i64) -> Plain {
     }
 }
 
-#[test]
-fn keys_are_those_of_the_scheduling(rt: HostRuntime) -> Result<(), Fail> {
-    let alloc = rt.alloc();
-    let mut agenda = started(alloc, LinkedSets::new(alloc))?;
-    let mut journal = Journal::new(alloc);
+// Schedules notices at one time, each of a class and with a key.
+fn schedule_all<S: SetBoard>(
+    rt: &impl Abort,
+    agenda: &mut Agenda<S>,
+    journal: &mut Journal<AgendaChange>,
+    rows: &[(u32, usize, i64)],
+) -> Result<(), AllocError>
+    requires closed { journal.old.current ≡ [] }
+    requires fits { FitsSteps Fits unapply journal.old.steps agenda.old }
+    ensures closed { journal.new.current ≡ [] }
+    ensures fits { FitsSteps Fits unapply journal.new.steps agenda.new }
+{
+    for &(notice, class, key) in rows {
+        schedule(rt, agenda, journal, &with_key(notice, 5, class, key), 0)?;
+    }
+    Ok(())
+}
+
+// Schedules a notice whose attributes then change: nothing moves, and later notices are compared
+// with the old keys.
+fn keeps_keys<S: SetBoard>(
+    rt: &impl Abort,
+    agenda: &mut Agenda<S>,
+    journal: &mut Journal<AgendaChange>,
+) -> Result<(), AllocError>
+    requires closed { journal.old.current ≡ [] }
+    requires fits { FitsSteps Fits unapply journal.old.steps agenda.old }
+{
     let mut first = with_key(1, 5, 1, 3);
-    schedule(&rt, &mut agenda, &mut journal, &first, 0)?;
-    // The attributes change: nothing moves, and later notices are compared with the old keys.
+    schedule(rt, agenda, journal, &first, 0)?;
     first.keys = [9, 9];
-    schedule(&rt, &mut agenda, &mut journal, &with_key(2, 5, 1, 7), 0)?;
-    schedule(&rt, &mut agenda, &mut journal, &with_key(3, 5, 1, 2), 0)?;
-    stand_so(&rt, &agenda, &[2, 1, 3]);
-    assert_eq!(rt; first.keys[0], 9);
+    schedule_all(rt, agenda, journal, &[(2, 1, 7), (3, 1, 2)])?;
+    stand_so(rt, agenda, &[2, 1, 3]);
+    assert!(rt; first.keys[0] == 9);
     Ok(())
 }
 
 #[test]
-fn a_filing_number_comes_back(rt: HostRuntime) -> Result<(), Fail> {
+fn keys_are_those_of_the_scheduling(rt: HostRuntime) -> Result<(), AllocError> {
     let alloc = rt.alloc();
-    let mut agenda = started(alloc, LinkedSets::new(alloc))?;
+    let mut agenda = linked(alloc)?;
     let mut journal = Journal::new(alloc);
-    schedule(&rt, &mut agenda, &mut journal, &with_key(7, 5, 0, 0), 0)?;
-    schedule(&rt, &mut agenda, &mut journal, &with_key(8, 5, 0, 0), 0)?;
-    assert!(rt; back(&mut agenda, &mut journal));
-    schedule(&rt, &mut agenda, &mut journal, &with_key(9, 5, 0, 0), 0)?;
-    assert!(rt; agenda.slot(9).is_some());
-    match agenda.take(9) {
+    keeps_keys(&rt, &mut agenda, &mut journal)
+}
+
+// Compares a change with one that took off notice 9, behind notice 7 and of the second filing.
+fn took_second_filing(rt: &impl Abort, change: &AgendaChange) {
+    match change {
         AgendaChange::TakenOff {
             notice,
             entry,
             predecessor,
         } => {
-            assert_eq!(rt; notice, 9);
+            is_notice(rt, Some(*notice), Some(9));
+            is_notice(rt, *predecessor, Some(7));
             assert_eq!(rt; entry.filing, 2);
-            assert_eq!(rt; predecessor, Some(7));
         }
         AgendaChange::Scheduled { .. } => panic!(rt; "a notice that was taken off"),
     }
+}
+
+// Takes that notice off.
+fn takes_second_filing<S: SetBoard>(rt: &impl Abort, agenda: &mut Agenda<S>) {
+    assert!(rt; agenda.slot(9).is_some());
+    let change = agenda.take(9);
+    took_second_filing(rt, &change);
+}
+
+// Schedules notices 7 and 8, one step back, and schedules notice 9.
+fn gives_a_filing_number_again<S: SetBoard>(
+    rt: &impl Abort,
+    agenda: &mut Agenda<S>,
+    journal: &mut Journal<AgendaChange>,
+) -> Result<(), AllocError>
+    requires closed { journal.old.current ≡ [] }
+    requires fits { FitsSteps Fits unapply journal.old.steps agenda.old }
+{
+    schedule_all(rt, agenda, journal, &[(7, 0, 0), (8, 0, 0)])?;
+    assert!(rt; back(agenda, journal));
+    schedule_all(rt, agenda, journal, &[(9, 0, 0)])?;
+    takes_second_filing(rt, agenda);
     Ok(())
+}
+
+#[test]
+fn a_filing_number_comes_back(rt: HostRuntime) -> Result<(), AllocError> {
+    let alloc = rt.alloc();
+    let mut agenda = linked(alloc)?;
+    let mut journal = Journal::new(alloc);
+    gives_a_filing_number_again(&rt, &mut agenda, &mut journal)
 }
 
 // Takes each of five notices that tie off in turn, and back: it stands again where it stood.
@@ -506,12 +747,9 @@ fn out_and_in<S: SetBoard>(
 ) -> Result<(), AllocError>
     requires closed { journal.old.current ≡ [] }
     requires fits { FitsSteps Fits unapply journal.old.steps agenda.old }
-    ensures closed { journal.new.current ≡ [] }
-    ensures fits { FitsSteps Fits unapply journal.new.steps agenda.new }
 {
-    for number in [4, 2, 5, 1, 3] {
-        schedule(rt, agenda, journal, &with_key(number, 5, 0, 0), 0)?;
-    }
+    let ties = [(4, 0, 0), (2, 0, 0), (5, 0, 0), (1, 0, 0), (3, 0, 0)];
+    schedule_all(rt, agenda, journal, &ties)?;
     for number in [5, 4, 3, 2, 1] {
         take(rt, agenda, journal, number)?;
         assert!(rt; back(agenda, journal));
@@ -520,71 +758,74 @@ fn out_and_in<S: SetBoard>(
     Ok(())
 }
 
+// The same on a new agenda.
+fn out_and_in_on<S: SetBoard>(rt: &impl Abort, alloc: Global, board: S) -> Result<(), AllocError>
+    requires { S.board board ≡ empty_board }
+{
+    let mut agenda = started(alloc, board)?;
+    let mut journal = Journal::new(alloc);
+    out_and_in(rt, &mut agenda, &mut journal)
+}
+
 #[test]
-fn what_is_taken_off_comes_back_among_its_ties(rt: HostRuntime) -> Result<(), Fail> {
+fn what_is_taken_off_comes_back_among_its_ties(rt: HostRuntime) -> Result<(), AllocError> {
     let alloc = rt.alloc();
-    let mut plain = started(alloc, PlainSets::new(alloc))?;
-    let mut journal = Journal::new(alloc);
-    out_and_in(&rt, &mut plain, &mut journal)?;
-    let mut linked = started(alloc, LinkedSets::new(alloc))?;
-    let mut journal = Journal::new(alloc);
-    out_and_in(&rt, &mut linked, &mut journal)?;
-    Ok(())
+    out_and_in_on(&rt, alloc, PlainSets::new(alloc))?;
+    out_and_in_on(&rt, alloc, LinkedSets::new(alloc))
 }
 
 // Four classes, of which the second and the last are event classes.
 fn two_event_classes(alloc: Global) -> Result<Vec<ClassRule>, AllocError>
     ensures { IfOk result (λ rules. AreRanked (map rule_of rules.items) × (length rules.items ≤ 64)) }
 {
-    let mut rules = Vec::new(alloc);
-    rules.push(ClassRule {
-        for_events: false,
-        priority: 0,
-        ties: Vec::new(alloc),
-    })?;
-    rules.push(ClassRule {
-        for_events: true,
-        priority: 3,
-        ties: Vec::new(alloc),
-    })?;
-    rules.push(ClassRule {
-        for_events: false,
-        priority: 2,
-        ties: Vec::new(alloc),
-    })?;
-    rules.push(ClassRule {
-        for_events: true,
-        priority: 1,
-        ties: Vec::new(alloc),
-    })?;
-    Ok(rules)
+    let first = keyless(alloc, false, 0);
+    let second = keyless(alloc, true, 3);
+    let third = keyless(alloc, false, 2);
+    let last = keyless(alloc, true, 1);
+    Ok(vec![in alloc; first, second, third, last]?)
 }
 
-#[test]
-fn each_event_class_has_a_head(rt: HostRuntime) -> Result<(), Fail> {
-    let alloc = rt.alloc();
-    let rules = two_event_classes(alloc)?;
-    let mut agenda = Agenda::with_rules(alloc, rules, LinkedSets::new(alloc))?;
-    let mut journal = Journal::new(alloc);
-    assert_eq!(rt; agenda.key_count(0), None);
-    assert_eq!(rt; agenda.key_count(3), Some(0));
-    assert_eq!(rt; agenda.key_count(4), None);
-    schedule(&rt, &mut agenda, &mut journal, &with_key(1, 5, 1, 0), 0)?;
-    schedule(&rt, &mut agenda, &mut journal, &with_key(2, 5, 3, 0), 0)?;
-    stand_so(&rt, &agenda, &[2, 1]);
-    let board = agenda.board();
-    assert_eq!(rt; board.heads(), 2);
-    for (head, notice) in [1, 2].iter().enumerate() {
-        assert!(rt; (head as u32) < board.heads());
-        let seat = board.first(head as u32).expect(&rt, "a notice");
-        assert!(rt; seat < board.seats());
-        assert_eq!(rt; agenda.notice(seat), *notice);
-    }
+// Only an event class counts keys.
+fn counts_keys<S: SetBoard>(rt: &impl Abort, agenda: &Agenda<S>) {
+    assert!(rt; agenda.key_count(0) == None);
+    assert!(rt; agenda.key_count(3) == Some(0));
+    assert!(rt; agenda.key_count(4) == None);
+}
+
+// Schedules a notice of each event class, which stands at its head.
+fn stand_at_heads<S: SetBoard>(
+    rt: &impl Abort,
+    agenda: &mut Agenda<S>,
+    journal: &mut Journal<AgendaChange>,
+) -> Result<(), AllocError>
+    requires closed { journal.old.current ≡ [] }
+    requires fits { FitsSteps Fits unapply journal.old.steps agenda.old }
+{
+    counts_keys(rt, agenda);
+    schedule_all(rt, agenda, journal, &[(1, 1, 0), (2, 3, 0)])?;
+    stand_so(rt, agenda, &[2, 1]);
+    assert!(rt; agenda.board().heads() == 2);
+    behind_seat(rt, agenda, first_seat(rt, agenda, 0), 1);
+    behind_seat(rt, agenda, first_seat(rt, agenda, 1), 2);
     Ok(())
 }
 
+// An agenda of these classes.
+fn of_two_event_classes(alloc: Global) -> Result<Agenda<LinkedSets>, AllocError> {
+    let rules = two_event_classes(alloc)?;
+    Agenda::with_rules(alloc, rules, LinkedSets::new(alloc))
+}
+
 #[test]
-fn a_program_without_events_has_none(rt: HostRuntime) -> Result<(), Fail> {
+fn each_event_class_has_a_head(rt: HostRuntime) -> Result<(), AllocError> {
+    let alloc = rt.alloc();
+    let mut agenda = of_two_event_classes(alloc)?;
+    let mut journal = Journal::new(alloc);
+    stand_at_heads(&rt, &mut agenda, &mut journal)
+}
+
+#[test]
+fn a_program_without_events_has_none(rt: HostRuntime) -> Result<(), AllocError> {
     let alloc = rt.alloc();
     let program = checked(alloc, b"MAIN\nSTOP\nEND\n").expect(&rt, "a program");
     let agenda = Agenda::new(alloc, &program, PlainSets::new(alloc))?;

@@ -1,13 +1,11 @@
 //! Runs forward and back, state by state, and calls that are refused memory.
-use crate::model::checked;
+use crate::model::started;
 use ss_check::Variable;
-use ss_data::Feed;
 use ss_links::LinkedSets;
 use ss_machine::{Machine, Status, Stepped};
 use ss_words::RunFault;
 use std::alloc::{AllocError, Global};
 use std::process::Abort;
-use std::test::Fail;
 
 // Each model is a MAIN; its locals are numbered in the order of their first place.
 const FIVE: &[u8] = b"MAIN\nLET X = 5\nPRINT 1 LINE WITH X THUS\nX = ***\nSTOP\nEND\n";
@@ -16,34 +14,13 @@ const GREATEST: &[u8] = b"MAIN\nLET X = 9223372036854775807\nLET Y = 7\nLET Y = 
 
 const PRODUCTS: &[u8] = b"MAIN\nLET X = 3037000500\nLET Y = 7 + 2 * X\nLET Y = 1 + X * X\nEND\n";
 
-// A machine at the start of a model's run; none where memory was refused.
-fn started(alloc: Global, model: &[u8]) -> Option<Machine<LinkedSets>> {
-    let program = checked(alloc, model)?;
-    let feed = Feed::new(alloc, b"").ok()?;
-    Machine::new(
-        alloc,
-        program,
-        feed,
-        LinkedSets::new(alloc),
-        LinkedSets::new(alloc),
-    )
-    .ok()
-}
-
-// The same, made again where memory was refused.
-fn start(
-    rt: &(impl Abort + Print),
-    alloc: Global,
-    model: &[u8],
-) -> Result<Machine<LinkedSets>, Fail> {
-    let machine = match started(alloc, model) {
-        Some(machine) => machine,
-        None => {
-            println!(rt; "memory was refused before the start")?;
-            started(alloc, model).expect(rt, "a program")
-        }
-    };
-    Ok(machine)
+// A machine at the start of a model's run, made again where memory was refused.
+fn start(rt: &(impl Abort + Print), alloc: Global, model: &[u8]) -> Machine<LinkedSets> {
+    if let Some(machine) = started(alloc, model) {
+        return machine;
+    }
+    println!(rt; "memory was refused before the start").expect(rt, "a line");
+    started(alloc, model).expect(rt, "a program")
 }
 
 // A local of the last frame.
@@ -65,38 +42,84 @@ struct Shown<'a> {
     report: &'a [u8],
 }
 
-fn compare(rt: &impl Abort, machine: &Machine<LinkedSets>, shown: &Shown<'_>) {
-    let position = shown.position;
-    assert_eq!(rt; machine.position(), position);
-    assert_eq!(rt; machine.place(), (0, shown.place), "at {position}");
-    for (number, &value) in shown.locals.iter().enumerate() {
-        assert_eq!(rt; local(rt, machine, number), value, "at {position}");
-    }
-    assert_eq!(rt; machine.status(), shown.status, "at {position}");
-    assert_eq!(rt; machine.clock(), 0, "at {position}");
-    assert_eq!(rt; machine.variable(Variable::Clock), 0, "at {position}");
-    assert_eq!(rt; machine.report(), shown.report, "at {position}");
+// Compares a number at a position.
+fn is_number(rt: &impl Abort, position: u64, found: i64, wanted: i64) {
+    assert_eq!(rt; found, wanted, "at {position}");
 }
 
-// One step from a state to the next; one that is refused memory changes nothing, and is made again.
+// Compares the report.
+fn is_report(rt: &impl Abort, machine: &Machine<LinkedSets>, report: &[u8]) {
+    assert_eq!(rt; machine.report(), report, "at {}", machine.position());
+}
+
+// Compares the locals with those of a state.
+fn compare_locals(rt: &impl Abort, machine: &Machine<LinkedSets>, shown: &Shown<'_>) {
+    for (number, &value) in shown.locals.iter().enumerate() {
+        is_number(rt, shown.position, local(rt, machine, number), value);
+    }
+}
+
+// Compares the position and the place with those of a state, and the time with 0.
+fn compare_place(rt: &impl Abort, machine: &Machine<LinkedSets>, shown: &Shown<'_>) {
+    let position = shown.position;
+    assert_eq!(rt; machine.position(), position);
+    assert!(rt; machine.place() == (0, shown.place), "at {position}");
+    is_number(rt, position, machine.clock(), 0);
+    is_number(rt, position, machine.variable(Variable::Clock), 0);
+}
+
+fn compare(rt: &impl Abort, machine: &Machine<LinkedSets>, shown: &Shown<'_>) {
+    compare_place(rt, machine, shown);
+    compare_locals(rt, machine, shown);
+    is_report(rt, machine, shown.report);
+    assert!(rt; machine.status() == shown.status, "at {}", shown.position);
+}
+
+// One step, which moves or is at the end.
+fn steps(
+    rt: &impl Abort,
+    machine: &mut Machine<LinkedSets>,
+    wanted: Stepped,
+) -> Result<(), AllocError> {
+    let stepped = machine.step()?;
+    assert_eq!(rt; stepped, wanted);
+    Ok(())
+}
+
+// A step that was refused memory changed nothing; makes it again.
+fn step_again(
+    rt: &(impl Abort + Print),
+    machine: &mut Machine<LinkedSets>,
+    from: &Shown<'_>,
+) -> Result<(), AllocError> {
+    compare(rt, machine, from);
+    println!(rt; "memory was refused at position {}", from.position).expect(rt, "a line");
+    steps(rt, machine, Stepped::Moved)
+}
+
+// One step from a state to the next; one that is refused memory is made again.
 fn step(
     rt: &(impl Abort + Print),
     machine: &mut Machine<LinkedSets>,
     from: &Shown<'_>,
     to: &Shown<'_>,
-) -> Result<(), Fail> {
+) -> Result<(), AllocError> {
     compare(rt, machine, from);
-    let stepped = match machine.step() {
-        Ok(stepped) => stepped,
-        Err(_) => {
-            compare(rt, machine, from);
-            println!(rt; "memory was refused at position {}", from.position)?;
-            machine.step()?
-        }
-    };
-    assert_eq!(rt; stepped, Stepped::Moved);
+    match machine.step() {
+        Ok(stepped) => assert_eq!(rt; stepped, Stepped::Moved),
+        Err(_) => step_again(rt, machine, from)?,
+    }
     compare(rt, machine, to);
     Ok(())
+}
+
+// All states of a run, back to the start.
+fn back_to_start(rt: &impl Abort, machine: &mut Machine<LinkedSets>, run: &[Shown<'_>]) {
+    for shown in run.iter().rev().skip(1) {
+        assert!(rt; machine.back());
+        compare(rt, machine, shown);
+    }
+    assert!(rt; !machine.back());
 }
 
 // All states of a run, forward and back to the start.
@@ -104,29 +127,36 @@ fn forth_and_back(
     rt: &(impl Abort + Print),
     machine: &mut Machine<LinkedSets>,
     run: &[Shown<'_>],
-) -> Result<(), Fail> {
+) -> Result<(), AllocError> {
     for pair in run.windows(2) {
         step(rt, machine, &pair[0], &pair[1])?;
     }
-    assert_eq!(rt; machine.step()?, Stepped::AtEnd);
-    for shown in run.iter().rev().skip(1) {
-        assert!(rt; machine.back());
-        compare(rt, machine, shown);
-    }
-    assert!(rt; !machine.back());
+    steps(rt, machine, Stepped::AtEnd)?;
+    back_to_start(rt, machine, run);
     Ok(())
 }
 
 // All states of a run, forward, back to the start, and forward and back again.
+fn forth_and_back_twice(
+    rt: &(impl Abort + Print),
+    machine: &mut Machine<LinkedSets>,
+    run: &[Shown<'_>],
+) -> Result<(), AllocError> {
+    forth_and_back(rt, machine, run)?;
+    forth_and_back(rt, machine, run)
+}
+
+// The same with a machine at the start of a model's run.
 fn there_and_back(
     rt: &(impl Abort + Print),
     alloc: Global,
     model: &[u8],
     run: &[Shown<'_>],
-) -> Result<(), Fail> {
-    let mut machine = start(rt, alloc, model)?;
-    forth_and_back(rt, &mut machine, run)?;
-    forth_and_back(rt, &mut machine, run)
+) -> Result<(), AllocError> {
+    let mut machine = start(rt, alloc, model);
+    let result = forth_and_back_twice(rt, &mut machine, run);
+    drop(machine);
+    result
 }
 
 // State number 0 to 3 of a run of two steps and a last one that stays where it is, with nothing
@@ -142,7 +172,7 @@ fn silent(position: u64, locals: &[i64], status: Status) -> Shown<'_> {
 }
 
 #[test]
-fn five_is_printed_and_taken_back(rt: HostRuntime) -> Result<(), Fail> {
+fn five_is_printed_and_taken_back(rt: HostRuntime) -> Result<(), AllocError> {
     let printed = b"X =   5\n".as_slice();
     let run = [
         silent(0, [0].as_slice(), Status::Ready),
@@ -160,7 +190,7 @@ fn five_is_printed_and_taken_back(rt: HostRuntime) -> Result<(), Fail> {
 }
 
 #[test]
-fn the_greatest_integer_plus_one_faults(rt: HostRuntime) -> Result<(), Fail> {
+fn the_greatest_integer_plus_one_faults(rt: HostRuntime) -> Result<(), AllocError> {
     let faulted = Status::Faulted(RunFault::OutOfRange);
     let run = [
         silent(0, [0, 0].as_slice(), Status::Ready),
@@ -172,7 +202,7 @@ fn the_greatest_integer_plus_one_faults(rt: HostRuntime) -> Result<(), Fail> {
 }
 
 #[test]
-fn a_product_within_a_sum_faults(rt: HostRuntime) -> Result<(), Fail> {
+fn a_product_within_a_sum_faults(rt: HostRuntime) -> Result<(), AllocError> {
     let faulted = Status::Faulted(RunFault::OutOfRange);
     let run = [
         silent(0, [0, 0].as_slice(), Status::Ready),
@@ -198,14 +228,14 @@ fn long_model(alloc: Global) -> Result<Vec<u8>, AllocError> {
 }
 
 // All steps forward.
-fn to_the_end(rt: &impl Abort, machine: &mut Machine<LinkedSets>) -> Result<(), Fail> {
+fn to_the_end(rt: &impl Abort, machine: &mut Machine<LinkedSets>) -> Result<(), AllocError> {
     for _ in 0..100_000 {
-        assert_eq!(rt; machine.step()?, Stepped::Moved);
+        steps(rt, machine, Stepped::Moved)?;
     }
-    assert_eq!(rt; machine.step()?, Stepped::AtEnd);
+    steps(rt, machine, Stepped::AtEnd)?;
     assert_eq!(rt; machine.position(), 100_000);
-    assert_eq!(rt; machine.status(), Status::Finished);
-    assert_eq!(rt; local(rt, machine, 0), 99_989);
+    assert!(rt; machine.status() == Status::Finished);
+    is_number(rt, 100_000, local(rt, machine, 0), 99_989);
     Ok(())
 }
 
@@ -215,8 +245,21 @@ fn to_the_start(rt: &impl Abort, machine: &mut Machine<LinkedSets>) {
         assert!(rt; machine.back());
     }
     assert!(rt; !machine.back());
-    assert_eq!(rt; machine.report(), b"".as_slice());
-    assert_eq!(rt; local(rt, machine, 0), 0);
+    is_report(rt, machine, b"");
+    is_number(rt, 0, local(rt, machine, 0), 0);
+}
+
+// All steps back to the start and forward again, to the same report.
+fn back_and_forward(
+    rt: &impl Abort,
+    machine: &mut Machine<LinkedSets>,
+    report: &[u8],
+) -> Result<(), AllocError> {
+    assert_eq!(rt; report.len(), 70);
+    to_the_start(rt, machine);
+    to_the_end(rt, machine)?;
+    is_report(rt, machine, report);
+    Ok(())
 }
 
 // All steps forward, back and forward again, with the same report.
@@ -224,20 +267,18 @@ fn to_the_end_twice(
     rt: &impl Abort,
     alloc: Global,
     machine: &mut Machine<LinkedSets>,
-) -> Result<(), Fail> {
+) -> Result<(), AllocError> {
     to_the_end(rt, machine)?;
     let report = Vec::from_slice(alloc, machine.report())?;
-    assert_eq!(rt; report.len(), 70);
-    to_the_start(rt, machine);
-    to_the_end(rt, machine)?;
-    assert_eq!(rt; machine.report(), report.as_slice());
-    Ok(())
+    back_and_forward(rt, machine, &report)
 }
 
 #[test]
-fn a_hundred_thousand_steps_back_and_forward_again(rt: HostRuntime) -> Result<(), Fail> {
+fn a_hundred_thousand_steps_back_and_forward_again(rt: HostRuntime) -> Result<(), AllocError> {
     let alloc = rt.alloc();
     let model = long_model(alloc)?;
-    let mut machine = start(&rt, alloc, model.as_slice())?;
-    to_the_end_twice(&rt, alloc, &mut machine)
+    let mut machine = start(&rt, alloc, &model);
+    let result = to_the_end_twice(&rt, alloc, &mut machine);
+    drop(machine);
+    result
 }

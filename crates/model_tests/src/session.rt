@@ -1,6 +1,7 @@
 //! Whole sessions over memory: the worked examples of the language and the debugger, each with the
 //! bytes that it must give.
 use ss_session::{End, MemoryOutlet, Outlet, PutFault, SessionFault, exit_status, session};
+use std::alloc::Global;
 use std::process::Abort;
 use std::test::Fail;
 
@@ -23,13 +24,35 @@ fn end_of_session<R: Abort + AllocGlobal>(
     end
 }
 
+/// Runs a session over memory, and compares what it writes and its end.
+fn session_ends<R: Abort + AllocGlobal>(
+    rt: &R,
+    model: &str,
+    commands: &str,
+    wanted: &str,
+    end: Result<End, SessionFault>,
+) {
+    assert_eq!(rt; end_of_session(rt, model, commands, wanted), end);
+}
+
+/// The same, and compares its status.
+fn session_exits<R: Abort + AllocGlobal>(
+    rt: &R,
+    model: &str,
+    commands: &str,
+    wanted: &str,
+    end: Result<End, SessionFault>,
+    status: u8,
+) {
+    assert_eq!(rt; exit_status(&end), status);
+    session_ends(rt, model, commands, wanted, end);
+}
+
 const FIVE: &str = "MAIN\nLET X = 5\nPRINT 1 LINE WITH X THUS\nX = ***\nSTOP\nEND\n";
 
 #[test]
 fn an_empty_program_stops(rt: HostRuntime) {
-    let end = end_of_session(&rt, "MAIN\nSTOP\nEND\n", "", "REPORT\n");
-    assert_eq!(rt; end, Ok(End::Done));
-    assert_eq!(rt; exit_status(&end), 0);
+    session_exits(&rt, "MAIN\nSTOP\nEND\n", "", "REPORT\n", Ok(End::Done), 0);
 }
 
 #[test]
@@ -38,7 +61,7 @@ fn five_is_printed_again_after_a_step_back(rt: HostRuntime) {
     let wanted = "DONE: STATE 2 CLOCK 0 READY IN MAIN LINE 5\n\
          DONE: STATE 1 CLOCK 0 READY IN MAIN LINE 3\nREPORT\n\
          DONE: STATE 2 CLOCK 0 READY IN MAIN LINE 5\nREPORT\nX =   5\nREPORT\nX =   5\n";
-    assert_eq!(rt; end_of_session(&rt, FIVE, commands, wanted), Ok(End::Done));
+    session_ends(&rt, FIVE, commands, wanted, Ok(End::Done));
 }
 
 #[test]
@@ -47,7 +70,7 @@ fn back_goes_no_further_than_the_start(rt: HostRuntime) {
     let wanted = "START: STATE 0 CLOCK 0 READY IN MAIN LINE 2\n\
          HALTED: STATE 3 CLOCK 0 STOPPED IN MAIN LINE 5\n\
          START: STATE 0 CLOCK 0 READY IN MAIN LINE 2\nX = 0\nREPORT\n";
-    assert_eq!(rt; end_of_session(&rt, FIVE, commands, wanted), Ok(End::Done));
+    session_ends(&rt, FIVE, commands, wanted, Ok(End::Done));
 }
 
 #[test]
@@ -58,76 +81,54 @@ fn old_steps_are_forgotten(rt: HostRuntime) {
          NOTHING KEPT: STATE 1 CLOCK 0 READY IN MAIN LINE 3\n\
          HALTED: STATE 3 CLOCK 0 STOPPED IN MAIN LINE 5\n\
          DONE: STATE 1 CLOCK 0 READY IN MAIN LINE 3\nKEPT 0\nX = 5\nREPORT\n";
-    assert_eq!(rt; end_of_session(&rt, FIVE, commands, wanted), Ok(End::Done));
+    session_ends(&rt, FIVE, commands, wanted, Ok(End::Done));
 }
 
 #[test]
 fn an_overflow_stands_at_its_statement(rt: HostRuntime) {
     let model = "MAIN\nLET X = 9223372036854775807\nADD 1 TO X\nEND\n";
+    let commands = "STEP 5\nSHOW VAR X\nBACK 2\nSHOW VAR X\n";
     let wanted = "HALTED: STATE 2 CLOCK 0 FAULT F1 IN MAIN LINE 3\nX = 9223372036854775807\n\
          DONE: STATE 0 CLOCK 0 READY IN MAIN LINE 2\nX = 0\nREPORT\n";
-    let end = end_of_session(
-        &rt,
-        model,
-        "STEP 5\nSHOW VAR X\nBACK 2\nSHOW VAR X\n",
-        wanted,
-    );
-    assert_eq!(rt; end, Ok(End::Done));
-    let end = end_of_session(
-        &rt,
-        model,
-        "RUN",
-        "HALTED: STATE 2 CLOCK 0 FAULT F1 IN MAIN LINE 3\nREPORT\n",
-    );
-    assert_eq!(rt; end, Ok(End::RunFault));
-    assert_eq!(rt; exit_status(&end), 4);
+    session_ends(&rt, model, commands, wanted, Ok(End::Done));
+    let wanted = "HALTED: STATE 2 CLOCK 0 FAULT F1 IN MAIN LINE 3\nREPORT\n";
+    session_exits(&rt, model, "RUN", wanted, Ok(End::RunFault), 4);
 }
 
 #[test]
 fn refused_models_give_one_line(rt: HostRuntime) {
-    let end = end_of_session(
+    let model = "MAIN\nPRINT 1 LINE WITH X, Y THUS\n*.**\nEND\n";
+    let line = "MODEL REFUSED C10 LINE 2\n";
+    session_ends(&rt, model, "RUN", line, Err(SessionFault::Check));
+    let line = "MODEL REFUSED P1 LINE 3\n";
+    session_ends(
         &rt,
-        "MAIN\nPRINT 1 LINE WITH X, Y THUS\n*.**\nEND\n",
+        "MAIN\nEND\nLOOP\n",
         "RUN",
-        "MODEL REFUSED C10 LINE 2\n",
+        line,
+        Err(SessionFault::Text),
     );
-    assert_eq!(rt; end, Err(SessionFault::Check));
-    let end = end_of_session(&rt, "MAIN\nEND\nLOOP\n", "RUN", "MODEL REFUSED P1 LINE 3\n");
-    assert_eq!(rt; end, Err(SessionFault::Text));
-    let end = end_of_session(
-        &rt,
-        "MAIN\nLET X = 9223372036854775808\nEND\n",
-        "",
-        "MODEL REFUSED L2 LINE 2\n",
-    );
-    assert_eq!(rt; end, Err(SessionFault::Text));
-    let end = end_of_session(&rt, "MAIN\nLET X =", "", "MODEL REFUSED P2 LINE 2\n");
-    assert_eq!(rt; exit_status(&end), 3);
-    let end = end_of_session(&rt, "", "", "MODEL REFUSED C11 LINE 1\n");
-    assert_eq!(rt; end, Err(SessionFault::Check));
+    let model = "MAIN\nLET X = 9223372036854775808\nEND\n";
+    let line = "MODEL REFUSED L2 LINE 2\n";
+    session_ends(&rt, model, "", line, Err(SessionFault::Text));
+    let line = "MODEL REFUSED P2 LINE 2\n";
+    session_exits(&rt, "MAIN\nLET X =", "", line, Err(SessionFault::Text), 3);
+    let line = "MODEL REFUSED C11 LINE 1\n";
+    session_ends(&rt, "", "", line, Err(SessionFault::Check));
 }
 
 #[test]
 fn a_bad_command_and_one_without_a_line_end(rt: HostRuntime) {
     let wanted = "BAD COMMAND\nHALTED: STATE 1 CLOCK 0 STOPPED IN MAIN LINE 2\nREPORT\n";
-    assert_eq!(rt;
-        end_of_session(&rt, "MAIN\nSTOP\nEND\n", "FOO\nstep", wanted),
-        Ok(End::Done)
-    );
+    let model = "MAIN\nSTOP\nEND\n";
+    session_ends(&rt, model, "FOO\nstep", wanted, Ok(End::Done));
 }
 
 #[test]
 fn lines_behind_quit_are_not_obeyed(rt: HostRuntime) {
+    let commands = "\n \tstep\r\nSHOW VAR time.v\nshow var y.\nQUIT\nSTEP\n";
     let wanted = "DONE: STATE 1 CLOCK 0 READY IN MAIN LINE 3\nTIME.V = 0\nNO VARIABLE Y\nREPORT\n";
-    assert_eq!(rt;
-        end_of_session(
-            &rt,
-            FIVE,
-            "\n \tstep\r\nSHOW VAR time.v\nshow var y.\nQUIT\nSTEP\n",
-            wanted
-        ),
-        Ok(End::Done)
-    );
+    session_ends(&rt, FIVE, commands, wanted, Ok(End::Done));
 }
 
 /// Takes at most `piece` bytes a call, and after `room` bytes either fails or takes none.
@@ -166,6 +167,18 @@ const REFUSED: &str = "MAIN\nEND\nLOOP\n";
 
 const REFUSAL: &str = "MODEL REFUSED P1 LINE 3\n";
 
+/// Compares how a session ends, and how many calls of its outlet failed.
+fn ends_after_failures(
+    rt: &impl Abort,
+    end: Result<End, SessionFault>,
+    wanted: Result<End, SessionFault>,
+    failures: u64,
+    count: u64,
+) {
+    assert_eq!(rt; end, wanted);
+    assert_eq!(rt; failures, count);
+}
+
 /// Runs a session over an outlet that takes `room` bytes, and compares what it took: all where
 /// there is room for it, else the first bytes, and the session ends with Write after one failure.
 fn cut<R: Abort + AllocGlobal>(
@@ -188,11 +201,23 @@ fn cut<R: Abort + AllocGlobal>(
     let count = room.min(whole.len());
     assert_eq!(rt; out.bytes.as_slice(), &whole.as_bytes()[..count]);
     if room < whole.len() {
-        assert_eq!(rt; end, Err(SessionFault::Write));
-        assert_eq!(rt; out.failures, 1);
+        ends_after_failures(rt, end, Err(SessionFault::Write), out.failures, 1);
     } else {
-        assert_eq!(rt; end, wanted);
-        assert_eq!(rt; out.failures, 0);
+        ends_after_failures(rt, end, wanted, out.failures, 0);
+    }
+}
+
+/// The same with each number of bytes up to all.
+fn cut_everywhere<R: Abort + AllocGlobal>(
+    rt: &R,
+    model: &str,
+    whole: &str,
+    wanted: Result<End, SessionFault>,
+    piece: usize,
+    fails: bool,
+) {
+    for room in 0..whole.len() + 1 {
+        cut(rt, model, whole, wanted, piece, room, fails);
     }
 }
 
@@ -200,13 +225,9 @@ fn cut<R: Abort + AllocGlobal>(
 fn a_write_that_fails_leaves_a_prefix(rt: HostRuntime) {
     for piece in [1, 7, 512] {
         for fails in [true, false] {
-            for room in 0..SOME_ANSWERS.len() + 1 {
-                cut(&rt, FIVE, SOME_ANSWERS, Ok(End::Done), piece, room, fails);
-            }
-            for room in 0..REFUSAL.len() + 1 {
-                let end = Err(SessionFault::Text);
-                cut(&rt, REFUSED, REFUSAL, end, piece, room, fails);
-            }
+            cut_everywhere(&rt, FIVE, SOME_ANSWERS, Ok(End::Done), piece, fails);
+            let refused = Err(SessionFault::Text);
+            cut_everywhere(&rt, REFUSED, REFUSAL, refused, piece, fails);
         }
     }
 }
@@ -239,12 +260,15 @@ impl Outlet for FailsOnce {
     }
 }
 
-/// Runs a session over an outlet whose call `fails_at` fails, and gives how it ends.
+/// Runs a session over an outlet whose call `fails_at` fails, compares how it ends and how many
+/// calls there were, and gives the bytes.
 fn fail_once<R: Abort + AllocGlobal>(
     rt: &R,
     model: &str,
     fails_at: u64,
-) -> (Result<End, SessionFault>, FailsOnce) {
+    wanted: Result<End, SessionFault>,
+    calls: u64,
+) -> Vec<u8> {
     let mut out = FailsOnce {
         bytes: Vec::new(rt.alloc()),
         calls: 0,
@@ -252,7 +276,9 @@ fn fail_once<R: Abort + AllocGlobal>(
         failures: 0,
     };
     let end = session(rt.alloc(), model.as_bytes(), b"", SOME.as_bytes(), &mut out);
-    (end, out)
+    assert_eq!(rt; end, wanted);
+    assert_eq!(rt; out.calls, calls);
+    out.bytes
 }
 
 /// Behind the one call that fails, whichever of the session's calls it is, there is none, although
@@ -265,15 +291,11 @@ fn put_ends<R: Abort + AllocGlobal>(
     calls: u64,
 ) {
     for fails_at in 0..calls {
-        let (end, out) = fail_once(rt, model, fails_at);
-        assert_eq!(rt; end, Err(SessionFault::Write));
-        assert_eq!(rt; out.calls, fails_at + 1);
-        assert!(rt; whole.as_bytes().starts_with(&out.bytes));
+        let bytes = fail_once(rt, model, fails_at, Err(SessionFault::Write), fails_at + 1);
+        assert!(rt; whole.as_bytes().starts_with(&bytes));
     }
-    let (end, out) = fail_once(rt, model, calls);
-    assert_eq!(rt; end, wanted);
-    assert_eq!(rt; out.calls, calls);
-    assert_eq!(rt; out.bytes.as_slice(), whole.as_bytes());
+    let bytes = fail_once(rt, model, calls, wanted, calls);
+    assert_eq!(rt; bytes.as_slice(), whole.as_bytes());
 }
 
 #[test]
@@ -327,31 +349,51 @@ fn a_session_grows(rt: HostRuntime) {
     assert_eq!(rt; count_whole(out.bytes(), &GROWN), Some(7));
 }
 
-/// Passes whichever growth is refused: the session ends with Memory and has written the whole
-/// answers of the first lines, and the same session run again writes all. The outlet has its room
-/// from the start, so that the session alone takes memory.
-#[test]
-fn a_refused_growth_leaves_whole_answers(rt: HostRuntime) {
+/// An outlet that has its room from the start, so that the session alone takes memory.
+fn roomy<R: Abort + AllocGlobal>(rt: &R) -> Narrow {
     let mut bytes = Vec::new(rt.alloc());
     if bytes.try_reserve(512).is_err() {
         assert!(rt; bytes.try_reserve(512).is_ok());
     }
-    let mut out = Narrow {
+    Narrow {
         bytes,
         piece: 512,
         room: 1024,
         fails: true,
         failures: 0,
-    };
-    let (model, commands) = (FIVE.as_bytes(), GROWING.as_bytes());
-    let mut end = session(rt.alloc(), model, b"", commands, &mut out);
-    if end == Err(SessionFault::Memory) {
-        let lines = count_whole(&out.bytes, &GROWN);
-        assert!(rt; lines.is_some() && lines < Some(7));
-        out.bytes.clear();
-        out.failures = 0;
-        end = session(rt.alloc(), model, b"", commands, &mut out);
     }
+}
+
+/// Runs the session whose answers and report grow.
+fn grow(alloc: Global, out: &mut Narrow) -> Result<End, SessionFault> {
+    out.failures = 0;
+    session(alloc, FIVE.as_bytes(), b"", GROWING.as_bytes(), out)
+}
+
+/// Runs that session again where it ended with Memory, having written the whole answers of the
+/// first lines.
+fn grow_again(
+    rt: &impl Abort,
+    alloc: Global,
+    out: &mut Narrow,
+    end: Result<End, SessionFault>,
+) -> Result<End, SessionFault> {
+    if end != Err(SessionFault::Memory) {
+        return end;
+    }
+    let lines = count_whole(&out.bytes, &GROWN);
+    assert!(rt; lines.is_some() && lines < Some(7));
+    out.bytes.clear();
+    grow(alloc, out)
+}
+
+/// Passes whichever growth is refused: the session ends with Memory and has written the whole
+/// answers of the first lines, and the same session run again writes all.
+#[test]
+fn a_refused_growth_leaves_whole_answers(rt: HostRuntime) {
+    let mut out = roomy(&rt);
+    let end = grow(rt.alloc(), &mut out);
+    let end = grow_again(&rt, rt.alloc(), &mut out, end);
     assert_eq!(rt; end, Ok(End::Done));
     assert_eq!(rt; count_whole(&out.bytes, &GROWN), Some(7));
 }

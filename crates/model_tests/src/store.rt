@@ -4,15 +4,16 @@ mod ground;
 mod plain;
 mod play;
 
-ghost use Rattle.std.specs.Prelude.{◌≡◌, []};
+ghost use Rattle.std.specs.Prelude.{◌≡◌, [], IfOk};
 ghost use Rattle.ss_journal.specs.Undoing.{FitsSteps};
+ghost use Rattle.ss_links.specs.Board.{empty_board};
 ghost use Rattle.ss_store.specs.Change.{FitsStore, unapply_store};
 ghost use Rattle.model_tests.specs.Ground.{IsGround};
 
 use crate::dice::Dice;
 use crate::model::checked;
 use crate::store::ground::{ATTRIBUTES, ENDS, JOB, MACHINE, PART, SETS, ground};
-use crate::store::plain::{Entity, Plain};
+use crate::store::plain::{Entity, Member, Plain};
 use crate::store::play::{Call, back, step};
 use ss_journal::Journal;
 use ss_links::{LinkedSets, PlainSets, SetBoard};
@@ -20,7 +21,6 @@ use ss_store::{How, Store, StoreChange};
 use ss_words::{RunFault, StepFault};
 use std::alloc::{AllocError, Global};
 use std::process::Abort;
-use std::test::Fail;
 
 // Compares an entity with the plain store's.
 fn agrees_on_entity<S: SetBoard>(rt: &impl Abort, store: &Store<S>, entity: &Entity) {
@@ -29,8 +29,71 @@ fn agrees_on_entity<S: SetBoard>(rt: &impl Abort, store: &Store<S>, entity: &Ent
     for attribute in 0..ATTRIBUTES[entity.class] {
         assert!(rt; attribute < 2);
         let value = store.get(entity.class, attribute, entity.number);
-        assert_eq!(rt; value, Ok(entity.values[attribute]));
+        assert!(rt; value == Ok(entity.values[attribute]));
     }
+}
+
+// Where a walk along a list is, whom it passed last, and how many it passed.
+#[derive(Clone, Copy)]
+struct Walked {
+    at: Result<Option<u32>, RunFault>,
+    before: Option<u32>,
+    count: u32,
+}
+
+// Compares a member's neighbours, by the ways that name no owner.
+fn agrees_on_neighbours<S: SetBoard>(
+    rt: &impl Abort,
+    store: &Store<S>,
+    member: &Member,
+    before: Option<u32>,
+    next: Result<Option<u32>, RunFault>,
+)
+    requires { IsGround store.now.tables }
+{
+    assert!(rt; member.set < SETS);
+    assert!(rt; store.predecessor(member.set, member.x) == Ok(before));
+    assert!(rt; store.successor(member.set, member.x) == next);
+}
+
+// Compares a member's place in a list, where a walk stands, and walks on.
+fn agrees_on_member<S: SetBoard>(
+    rt: &impl Abort,
+    store: &Store<S>,
+    member: &Member,
+    walked: &Walked,
+) -> Walked
+    requires { IsGround store.now.tables }
+{
+    let (set, owner, x) = (member.set, member.owner, member.x);
+    assert!(rt; set < SETS);
+    let here = u32::try_from(x).ok();
+    assert!(rt; walked.at == Ok(here));
+    assert!(rt; store.walk_prev(set, owner, x) == Ok(walked.before));
+    assert!(rt; store.is_in(set, owner, x) == Ok(true));
+    let next = store.walk_next(set, owner, x);
+    agrees_on_neighbours(rt, store, member, walked.before, next);
+    Walked {
+        at: next,
+        before: here,
+        count: walked.count.wrapping_add(1),
+    }
+}
+
+// Compares the end of a list with that of a walk along all of it.
+fn agrees_on_end<S: SetBoard>(
+    rt: &impl Abort,
+    store: &Store<S>,
+    set: usize,
+    owner: i64,
+    walked: &Walked,
+)
+    requires { IsGround store.now.tables }
+{
+    assert!(rt; set < SETS);
+    assert!(rt; walked.at == Ok(None));
+    assert!(rt; store.walk_last(set, owner) == Ok(walked.before));
+    assert!(rt; store.count(set, owner) == Ok(walked.count));
 }
 
 // Walks the list of a set for an owner both ways, beside the plain store's.
@@ -44,26 +107,17 @@ fn agrees_on_list<S: SetBoard>(
     requires { IsGround store.now.tables }
 {
     assert!(rt; set < SETS);
-    let mut at = store.walk_first(set, owner);
-    let mut before = None;
-    let mut count = 0_u32;
+    let mut walked = Walked {
+        at: store.walk_first(set, owner),
+        before: None,
+        count: 0,
+    };
     for member in plain.members.iter() {
-        if member.set != set || member.owner != owner {
-            continue;
+        if member.set == set && member.owner == owner {
+            walked = agrees_on_member(rt, store, member, &walked);
         }
-        let here = u32::try_from(member.x).ok();
-        assert!(rt; at == Ok(here));
-        assert!(rt; store.walk_prev(set, owner, member.x) == Ok(before));
-        assert!(rt; store.is_in(set, owner, member.x) == Ok(true));
-        at = store.walk_next(set, owner, member.x);
-        assert!(rt; store.predecessor(set, member.x) == Ok(before));
-        assert!(rt; store.successor(set, member.x) == at);
-        before = here;
-        count = count.wrapping_add(1);
     }
-    assert!(rt; at == Ok(None));
-    assert!(rt; store.walk_last(set, owner) == Ok(before));
-    assert!(rt; store.count(set, owner) == Ok(count));
+    agrees_on_end(rt, store, set, owner, &walked);
 }
 
 // Compares the lists of a set, and who is in one of them.
@@ -105,6 +159,72 @@ struct Plains {
     before: Vec<Plain>,
 }
 
+// One step back in both, where there is one.
+fn back_in_both<S: SetBoard>(
+    rt: &impl Abort,
+    store: &mut Store<S>,
+    journal: &mut Journal<StoreChange>,
+    plains: &mut Plains,
+)
+    requires ground { IsGround store.old.tables }
+    requires closed { journal.old.current ≡ [] }
+    requires fits { FitsSteps FitsStore unapply_store journal.old.steps store.old }
+    ensures ground { IsGround store.new.tables }
+    ensures closed { journal.new.current ≡ [] }
+    ensures fits { FitsSteps FitsStore unapply_store journal.new.steps store.new }
+{
+    let undone = back(store, journal);
+    assert!(rt; undone != plains.before.is_empty());
+    if let Some(before) = plains.before.pop() {
+        plains.now = before;
+    }
+}
+
+// Makes a call in both, which answer alike; whether it was made.
+fn make_in_both<S: SetBoard>(
+    rt: &impl Abort,
+    store: &mut Store<S>,
+    journal: &mut Journal<StoreChange>,
+    plain: &mut Plain,
+    call: Call,
+) -> Result<bool, AllocError>
+    requires ground { IsGround store.old.tables }
+    requires closed { journal.old.current ≡ [] }
+    requires fits { FitsSteps FitsStore unapply_store journal.old.steps store.old }
+    ensures ground { IsGround store.new.tables }
+    ensures closed { journal.new.current ≡ [] }
+    ensures fits { FitsSteps FitsStore unapply_store journal.new.steps store.new }
+{
+    let wanted = plain.make(rt, call)?;
+    let made = step(rt, store, journal, call)?;
+    assert!(rt; made == wanted);
+    Ok(made.is_ok())
+}
+
+// One call in both; one that is refused leaves the plain store as it was.
+fn call_in_both<S: SetBoard>(
+    rt: &impl Abort,
+    store: &mut Store<S>,
+    journal: &mut Journal<StoreChange>,
+    plains: &mut Plains,
+    call: Call,
+) -> Result<(), AllocError>
+    requires ground { IsGround store.old.tables }
+    requires closed { journal.old.current ≡ [] }
+    requires fits { FitsSteps FitsStore unapply_store journal.old.steps store.old }
+    ensures ground { IsGround store.new.tables }
+    ensures closed { journal.new.current ≡ [] }
+    ensures fits { FitsSteps FitsStore unapply_store journal.new.steps store.new }
+{
+    let old = plains.now.copy()?;
+    if make_in_both(rt, store, journal, &mut plains.now, call)? {
+        plains.before.push(old)?;
+    } else {
+        plains.now = old;
+    }
+    Ok(())
+}
+
 // One turn: a call, or a step back.
 fn turn<S: SetBoard>(
     rt: &impl Abort,
@@ -121,41 +241,27 @@ fn turn<S: SetBoard>(
     ensures fits { FitsSteps FitsStore unapply_store journal.new.steps store.new }
 {
     if dice.below(6) == 0 {
-        let undone = back(store, journal);
-        assert!(rt; undone != plains.before.is_empty());
-        if let Some(before) = plains.before.pop() {
-            plains.now = before;
-        }
+        back_in_both(rt, store, journal, plains);
         return Ok(());
     }
     let call = dice.call(&plains.now);
-    let old = plains.now.copy()?;
-    let wanted = plains.now.make(rt, call)?;
-    let made = step(rt, store, journal, call)?;
-    assert!(rt; made == wanted);
-    match wanted {
-        Ok(_) => plains.before.push(old)?,
-        Err(_) => plains.now = old,
-    }
-    Ok(())
+    call_in_both(rt, store, journal, plains, call)
 }
 
 // A random mixture of 10,000 calls and steps back; the store agrees with the plain one after each.
 fn mixture<S: SetBoard>(
     rt: &impl Abort,
-    alloc: Global,
     store: &mut Store<S>,
+    journal: &mut Journal<StoreChange>,
+    plains: &mut Plains,
+    dice: &mut Dice,
 ) -> Result<(), AllocError>
-    requires { IsGround store.old.tables }
+    requires ground { IsGround store.old.tables }
+    requires closed { journal.old.current ≡ [] }
+    requires fits { FitsSteps FitsStore unapply_store journal.old.steps store.old }
 {
-    let mut journal = Journal::new(alloc);
-    let mut plains = Plains {
-        now: Plain::new(alloc),
-        before: Vec::new(alloc),
-    };
-    let mut dice = Dice { state: 7 };
     for _ in 0..10_000 {
-        turn(rt, store, &mut journal, &mut plains, &mut dice)?;
+        turn(rt, store, journal, plains, dice)?;
         agrees(rt, store, &plains.now);
     }
     assert!(rt; plains.now.given > 20);
@@ -163,14 +269,25 @@ fn mixture<S: SetBoard>(
     Ok(())
 }
 
+// The mixture on a new store.
+fn mixture_on<S: SetBoard>(rt: &impl Abort, alloc: Global, board: S) -> Result<(), AllocError>
+    requires { S.board board ≡ empty_board }
+{
+    let mut store = ground(alloc, board)?;
+    let mut journal = Journal::new(alloc);
+    let mut plains = Plains {
+        now: Plain::new(alloc),
+        before: Vec::new(alloc),
+    };
+    let mut dice = Dice { state: 7 };
+    mixture(rt, &mut store, &mut journal, &mut plains, &mut dice)
+}
+
 #[test]
-fn every_call_agrees_with_a_plain_store(rt: HostRuntime) -> Result<(), Fail> {
+fn every_call_agrees_with_a_plain_store(rt: HostRuntime) -> Result<(), AllocError> {
     let alloc = rt.alloc();
-    let mut plain = ground(alloc, PlainSets::new(alloc))?;
-    mixture(&rt, alloc, &mut plain)?;
-    let mut linked = ground(alloc, LinkedSets::new(alloc))?;
-    mixture(&rt, alloc, &mut linked)?;
-    Ok(())
+    mixture_on(&rt, alloc, PlainSets::new(alloc))?;
+    mixture_on(&rt, alloc, LinkedSets::new(alloc))
 }
 
 // A call that names what there isn't is refused, by the lowest fault that applies.
@@ -208,7 +325,29 @@ fn answers<S: SetBoard>(
     Ok(())
 }
 
-// Makes machines, jobs and a part, files one, and ends the part.
+// Calls that make machines, jobs and a part, file one, and end the part, with their answers.
+const CALLS: [(Call, Result<i64, RunFault>); 7] = [
+    (Call::CreateAll { n: 2 }, Ok(0)),
+    (Call::Create { class: JOB }, Ok(1)),
+    (Call::Create { class: JOB }, Ok(2)),
+    (Call::Create { class: PART }, Ok(3)),
+    (
+        Call::File {
+            set: 5,
+            owner: 1,
+            x: 2,
+            how: How::ByRule,
+        },
+        Ok(0),
+    ),
+    (
+        Call::Destroy { class: JOB, x: 1 },
+        Err(RunFault::EndedOwner),
+    ),
+    (Call::Destroy { class: PART, x: 3 }, Ok(0)),
+];
+
+// Makes these calls.
 fn there<S: SetBoard>(
     rt: &impl Abort,
     store: &mut Store<S>,
@@ -221,45 +360,82 @@ fn there<S: SetBoard>(
     ensures closed { journal.new.current ≡ [] }
     ensures fits { FitsSteps FitsStore unapply_store journal.new.steps store.new }
 {
-    let file = Call::File {
-        set: 5,
-        owner: 1,
-        x: 2,
-        how: How::ByRule,
-    };
-    let end = Call::Destroy { class: JOB, x: 1 };
-    answers(rt, store, journal, Call::CreateAll { n: 2 }, Ok(0))?;
-    answers(rt, store, journal, Call::Create { class: JOB }, Ok(1))?;
-    answers(rt, store, journal, Call::Create { class: JOB }, Ok(2))?;
-    answers(rt, store, journal, Call::Create { class: PART }, Ok(3))?;
-    answers(rt, store, journal, file, Ok(0))?;
-    answers(rt, store, journal, end, Err(RunFault::EndedOwner))?;
-    answers(
-        rt,
-        store,
-        journal,
-        Call::Destroy { class: PART, x: 3 },
-        Ok(0),
-    )?;
+    for (call, answer) in CALLS {
+        answers(rt, store, journal, call, answer)?;
+    }
     refuses(rt, store);
     Ok(())
 }
 
-#[test]
-fn a_refused_growth_changes_nothing(rt: HostRuntime) -> Result<(), Fail> {
-    let alloc = rt.alloc();
-    let mut store = match ground(alloc, LinkedSets::new(alloc)) {
-        Ok(store) => store,
-        Err(_) => ground(alloc, LinkedSets::new(alloc))?,
-    };
-    let mut journal = Journal::new(alloc);
-    there(&rt, &mut store, &mut journal)?;
+// Takes the six calls that were made back.
+fn all_back<S: SetBoard>(rt: &impl Abort, store: &mut Store<S>, journal: &mut Journal<StoreChange>)
+    requires ground { IsGround store.old.tables }
+    requires closed { journal.old.current ≡ [] }
+    requires fits { FitsSteps FitsStore unapply_store journal.old.steps store.old }
+    ensures ground { IsGround store.new.tables }
+    ensures closed { journal.new.current ≡ [] }
+    ensures fits { FitsSteps FitsStore unapply_store journal.new.steps store.new }
+{
     for _ in 0..6 {
-        assert!(&rt; back(&mut store, &mut journal));
+        assert!(rt; back(store, journal));
     }
-    assert!(&rt; !back(&mut store, &mut journal));
-    there(&rt, &mut store, &mut journal)?;
-    Ok(())
+    assert!(rt; !back(store, journal));
+}
+
+// Makes these calls, takes them back, and makes them again.
+fn there_back_and_there<S: SetBoard>(
+    rt: &impl Abort,
+    store: &mut Store<S>,
+    journal: &mut Journal<StoreChange>,
+) -> Result<(), AllocError>
+    requires ground { IsGround store.old.tables }
+    requires closed { journal.old.current ≡ [] }
+    requires fits { FitsSteps FitsStore unapply_store journal.old.steps store.old }
+{
+    there(rt, store, journal)?;
+    all_back(rt, store, journal);
+    there(rt, store, journal)
+}
+
+// A store on linked sets.
+fn linked(alloc: Global) -> Result<Store<LinkedSets>, AllocError>
+    ensures { IfOk result (λ store. IsGround store.tables) }
+{
+    ground(alloc, LinkedSets::new(alloc))
+}
+
+// The same, made again where memory was refused.
+fn linked_again(alloc: Global) -> Result<Store<LinkedSets>, AllocError>
+    ensures { IfOk result (λ store. IsGround store.tables) }
+{
+    match linked(alloc) {
+        Ok(store) => Ok(store),
+        Err(_) => linked(alloc),
+    }
+}
+
+#[test]
+fn a_refused_growth_changes_nothing(rt: HostRuntime) -> Result<(), AllocError> {
+    let alloc = rt.alloc();
+    let mut store = linked_again(alloc)?;
+    let mut journal = Journal::new(alloc);
+    there_back_and_there(&rt, &mut store, &mut journal)
+}
+
+// The number that a creation gives.
+fn number_of(made: Result<(u32, StoreChange), StepFault>) -> Option<u32> {
+    match made {
+        Ok((number, _)) => Some(number),
+        Err(_) => None,
+    }
+}
+
+// The fault of a creation that is refused.
+fn fault_of(made: Result<(u32, StoreChange), StepFault>) -> Option<RunFault> {
+    match made {
+        Err(StepFault::Fault(fault)) => Some(fault),
+        _ => None,
+    }
 }
 
 // Gives so many references in order.
@@ -269,47 +445,72 @@ fn give<S: SetBoard>(rt: &impl Abort, store: &mut Store<S>, count: u32)
 {
     for given in 0..count {
         let made = store.create(PART);
-        let number = made.ok().map(|(number, _)| number);
-        assert!(rt; number == given.checked_add(1));
+        assert!(rt; number_of(made) == given.checked_add(1));
     }
 }
 
+// Gives a million references, and no more.
+fn gives_a_million<S: SetBoard>(rt: &impl Abort, store: &mut Store<S>)
+    requires { IsGround store.old.tables }
+{
+    give(rt, store, 1_000_000);
+    let refused = store.create(JOB);
+    assert!(rt; fault_of(refused) == Some(RunFault::TooManyReferences));
+    assert!(rt; store.exists(PART, 1_000_000));
+    assert!(rt; !store.exists(PART, 1_000_001));
+}
+
 #[test]
-fn a_reference_more_than_a_million_is_refused(rt: HostRuntime) -> Result<(), Fail> {
+fn a_reference_more_than_a_million_is_refused(rt: HostRuntime) -> Result<(), AllocError> {
     let alloc = rt.alloc();
-    let mut store = ground(alloc, LinkedSets::new(alloc))?;
-    give(&rt, &mut store, 1_000_000);
-    match store.create(JOB) {
-        Err(StepFault::Fault(fault)) => assert_eq!(&rt; fault, RunFault::TooManyReferences),
-        _ => assert!(&rt; false),
-    }
-    assert!(&rt; store.exists(PART, 1_000_000));
-    assert!(&rt; !store.exists(PART, 1_000_001));
+    let mut store = linked(alloc)?;
+    gives_a_million(&rt, &mut store);
     Ok(())
 }
 
-#[test]
-fn ten_thousand_entities_of_a_class_are_made_at_once(rt: HostRuntime) -> Result<(), Fail> {
-    let alloc = rt.alloc();
-    let mut store = ground(alloc, LinkedSets::new(alloc))?;
-    let mut journal = Journal::new(alloc);
+// There are 10,000 machines, and no more.
+fn has_all<S: SetBoard>(rt: &impl Abort, store: &Store<S>) {
+    assert!(rt; store.exists(MACHINE, 10_000));
+    assert!(rt; !store.exists(MACHINE, 10_001));
+}
+
+// There is no machine.
+fn has_none<S: SetBoard>(rt: &impl Abort, store: &Store<S>) {
+    assert!(rt; !store.exists(MACHINE, 1));
+}
+
+// Makes 10,000 machines at once, not 10,001, and takes them back.
+fn makes_all<S: SetBoard>(
+    rt: &impl Abort,
+    store: &mut Store<S>,
+    journal: &mut Journal<StoreChange>,
+) -> Result<(), AllocError>
+    requires ground { IsGround store.old.tables }
+    requires closed { journal.old.current ≡ [] }
+    requires fits { FitsSteps FitsStore unapply_store journal.old.steps store.old }
+{
     let too_many = Call::CreateAll { n: 10_001 };
-    let out_of_range = Err(RunFault::CountOutOfRange);
-    answers(&rt, &mut store, &mut journal, too_many, out_of_range)?;
-    assert!(&rt; !store.exists(MACHINE, 1));
+    answers(rt, store, journal, too_many, Err(RunFault::CountOutOfRange))?;
+    has_none(rt, store);
     let all = Call::CreateAll { n: 10_000 };
-    answers(&rt, &mut store, &mut journal, all, Ok(0))?;
-    assert!(&rt; store.exists(MACHINE, 10_000));
-    assert!(&rt; !store.exists(MACHINE, 10_001));
-    let again = Err(RunFault::AlreadyCreated);
-    answers(&rt, &mut store, &mut journal, all, again)?;
-    assert!(&rt; back(&mut store, &mut journal));
-    assert!(&rt; !store.exists(MACHINE, 1));
+    answers(rt, store, journal, all, Ok(0))?;
+    has_all(rt, store);
+    answers(rt, store, journal, all, Err(RunFault::AlreadyCreated))?;
+    assert!(rt; back(store, journal));
+    has_none(rt, store);
     Ok(())
 }
 
 #[test]
-fn a_program_without_classes_has_no_entities(rt: HostRuntime) -> Result<(), Fail> {
+fn ten_thousand_entities_of_a_class_are_made_at_once(rt: HostRuntime) -> Result<(), AllocError> {
+    let alloc = rt.alloc();
+    let mut store = linked(alloc)?;
+    let mut journal = Journal::new(alloc);
+    makes_all(&rt, &mut store, &mut journal)
+}
+
+#[test]
+fn a_program_without_classes_has_no_entities(rt: HostRuntime) -> Result<(), AllocError> {
     let alloc = rt.alloc();
     let program = checked(alloc, b"MAIN\nSTOP\nEND\n").expect(&rt, "a program");
     let store = Store::new(alloc, &program, PlainSets::new(alloc))?;

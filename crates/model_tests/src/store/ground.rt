@@ -1,7 +1,7 @@
 //! Three classes and six sets. Machines are permanent; jobs and parts have references.
 ghost use Rattle.std.specs.Prelude.{◌≡◌, IfOk};
 ghost use Rattle.ss_links.specs.Board.{empty_board};
-ghost use Rattle.model_tests.specs.Ground.{ground_classes, ground_set, AreGroundSets, IsGround};
+ghost use Rattle.model_tests.specs.Ground.{ground_class, ground_classes, ground_set, AreGroundSets, IsGround};
 
 use ss_check::{Discipline, Key, Keys, Owner, Rank};
 use ss_links::SetBoard;
@@ -36,28 +36,24 @@ pub const ENDS: [(Option<usize>, usize); 6] = [
 /// The number of attributes of each class.
 pub const ATTRIBUTES: [usize; 3] = [2, 2, 1];
 
+fn class(attributes: usize, owned: u32, joined: u32, permanent: bool) -> ClassShape
+    ensures { result ≡ ground_class attributes owned joined permanent }
+{
+    ClassShape {
+        attributes,
+        owned,
+        joined,
+        permanent,
+    }
+}
+
 fn classes(alloc: Global) -> Result<Vec<ClassShape>, AllocError>
     ensures { IfOk result (λ classes. classes.items ≡ ground_classes) }
 {
-    let machine = ClassShape {
-        attributes: 2,
-        owned: 1,
-        joined: 1,
-        permanent: true,
-    };
-    let job = ClassShape {
-        attributes: 2,
-        owned: 2,
-        joined: 4,
-        permanent: false,
-    };
-    let part = ClassShape {
-        attributes: 1,
-        owned: 1,
-        joined: 1,
-        permanent: false,
-    };
-    Ok(vec![in alloc; machine, job, part]?)
+    let machine = class(2, 1, 1, true);
+    let job = class(2, 2, 4, false);
+    let part = class(1, 1, 1, false);
+    Vec::from_slice(alloc, &[machine, job, part])
 }
 
 fn set(discipline: Discipline, owner: Owner, list: u32, member: usize, slot: u32) -> SetShape
@@ -86,14 +82,20 @@ fn sets(alloc: Global) -> Result<Vec<SetShape>, AllocError>
     };
     let list = vec![in alloc; high, low]?;
     let ranked = Discipline::Ranked(Keys { list });
-    let mut sets = Vec::new(alloc);
-    sets.push(set(Discipline::Fifo, Owner::System, 0, 1, 0))?;
-    sets.push(set(ranked, Owner::OwnedBy(0), 0, 1, 1))?;
-    sets.push(set(Discipline::Lifo, Owner::OwnedBy(1), 0, 2, 0))?;
-    sets.push(set(Discipline::Fifo, Owner::OwnedBy(2), 0, 1, 2))?;
-    sets.push(set(Discipline::Lifo, Owner::System, 1, 0, 0))?;
-    sets.push(set(Discipline::Fifo, Owner::OwnedBy(1), 1, 1, 3))?;
-    Ok(sets)
+    let jobs = set(Discipline::Fifo, Owner::System, 0, 1, 0);
+    let ranked_jobs = set(ranked, Owner::OwnedBy(0), 0, 1, 1);
+    let parts = set(Discipline::Lifo, Owner::OwnedBy(1), 0, 2, 0);
+    let jobs_of_part = set(Discipline::Fifo, Owner::OwnedBy(2), 0, 1, 2);
+    let machines = set(Discipline::Lifo, Owner::System, 1, 0, 0);
+    let jobs_of_job = set(Discipline::Fifo, Owner::OwnedBy(1), 1, 1, 3);
+    Ok(vec![in alloc;
+        jobs,
+        ranked_jobs,
+        parts,
+        jobs_of_part,
+        machines,
+        jobs_of_job,
+    ]?)
 }
 
 /// A store of these classes and sets, with nothing made.

@@ -41,6 +41,14 @@ fn owner_of(set: usize, owner: i64) -> i64 {
     }
 }
 
+// The class that owns the set, none where the system does.
+fn owner_class(set: usize) -> Option<usize> {
+    match ENDS.get(set) {
+        Some((class, _)) => *class,
+        None => None,
+    }
+}
+
 fn member_class(set: usize) -> usize {
     match ENDS.get(set) {
         Some((_, member)) => *member,
@@ -68,9 +76,12 @@ impl Plain {
     }
 
     pub fn find(&self, class: usize, x: i64) -> Option<usize> {
-        self.entities
-            .iter()
-            .position(|entity| entity.class == class && entity.number == x)
+        for (index, entity) in self.entities.iter().enumerate() {
+            if entity.class == class && entity.number == x {
+                return Some(index);
+            }
+        }
+        None
     }
 
     pub fn exists(&self, class: usize, x: i64) -> bool {
@@ -100,9 +111,12 @@ impl Plain {
     }
 
     pub fn is_filed(&self, set: usize, x: i64) -> bool {
-        self.members
-            .iter()
-            .any(|member| member.set == set && member.x == x)
+        for member in &self.members {
+            if member.set == set && member.x == x {
+                return true;
+            }
+        }
+        false
     }
 
     // Where the member stands in the list, among those of all lists.
@@ -196,20 +210,34 @@ impl Plain {
         found.ok_or(RunFault::EmptySet)
     }
 
+    // Whether an entity of the class is in a list.
+    fn is_in_use(&self, class: usize, x: i64) -> bool {
+        for member in &self.members {
+            if member.x == x && member_class(member.set) == class {
+                return true;
+            }
+        }
+        false
+    }
+
+    // Whether an entity of the class owns a list with members.
+    fn owns_members(&self, class: usize, x: i64) -> bool {
+        for member in &self.members {
+            if member.owner == x && owner_class(member.set) == Some(class) {
+                return true;
+            }
+        }
+        false
+    }
+
     // Which entity ends.
     fn ended(&self, class: usize, x: i64) -> Result<usize, RunFault> {
         let found = self.find(class, x).ok_or(RunFault::NoEntity)?;
-        for member in self.members.iter() {
-            if member.x == x && member_class(member.set) == class {
-                return Err(RunFault::EndedInUse);
-            }
+        if self.is_in_use(class, x) {
+            return Err(RunFault::EndedInUse);
         }
-        for member in self.members.iter() {
-            if let Some((Some(owner), _)) = ENDS.get(member.set) {
-                if member.owner == x && *owner == class {
-                    return Err(RunFault::EndedOwner);
-                }
-            }
+        if self.owns_members(class, x) {
+            return Err(RunFault::EndedOwner);
         }
         Ok(found)
     }

@@ -9,9 +9,3 @@ invariant-loop-number g l = record {
   closed : l.journal.current ≡ [];
   fits : FitsSteps Fits unapply l.journal.steps l.agenda;
 }
-
-abbrev pub invariant-loop-number-2 : goal.invariant-loop-number-2
-invariant-loop-number-2 g l = record {
-  closed : l.journal.current ≡ [];
-  fits : FitsSteps Fits unapply l.journal.steps l.agenda;
-}
