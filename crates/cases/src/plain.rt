@@ -10,7 +10,7 @@ pub fn written(alloc: Global, text: &[u8]) -> Result<Vec<u8>, TextFault> {
         if !out.is_empty() {
             out.push(b' ')?;
         }
-        put_word(alloc, &mut out, &word.kind)?;
+        put_word(alloc, &mut out, word.kind())?;
     }
     Ok(out)
 }
@@ -23,24 +23,24 @@ pub fn placed(alloc: Global, text: &[u8]) -> Result<Vec<u8>, TextFault> {
             out.push(b' ')?;
         }
         put_place(alloc, &mut out, word)?;
-        put_word(alloc, &mut out, &word.kind)?;
+        put_word(alloc, &mut out, word.kind())?;
     }
     Ok(out)
 }
 
 fn put_place(alloc: Global, out: &mut Vec<u8>, word: &PlainWord) -> Result<(), AllocError> {
-    let line = word.line;
+    let line = word.line();
     let index = word.index;
     out.extend_from_slice(format!(in alloc; "{line}.{index} ")?.as_str().as_bytes())
 }
 
-fn put_word(alloc: Global, out: &mut Vec<u8>, word: &Plain) -> Result<(), AllocError> {
+fn put_word(alloc: Global, out: &mut Vec<u8>, word: Plain) -> Result<(), AllocError> {
     match word {
         Plain::Mark(Mark::Reserved(reserved)) => {
             out.extend_from_slice(format!(in alloc; "{reserved:?}")?.as_str().as_bytes())
         }
-        Plain::Mark(Mark::Sign(sign)) => out.extend_from_slice(sign_text(*sign).as_bytes()),
-        Plain::Name(name) => out.extend_from_slice(name),
+        Plain::Mark(Mark::Sign(sign)) => out.extend_from_slice(sign_text(sign).as_bytes()),
+        Plain::Name(name) => out.extend_from_slice(name.bytes()),
         Plain::Number(number) => {
             out.extend_from_slice(format!(in alloc; "{number}")?.as_str().as_bytes())
         }

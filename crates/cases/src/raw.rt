@@ -23,7 +23,7 @@ fn put_word(alloc: Global, out: &mut Vec<u8>, word: &Word) -> Result<(), AllocEr
     let line = word.line;
     out.extend_from_slice(format!(in alloc; "{line}:")?.as_str().as_bytes())?;
     match &word.kind {
-        WordKind::Name(name) => out.extend_from_slice(name),
+        WordKind::Name(name) => out.extend_from_slice(name.bytes()),
         WordKind::Number(number) => {
             out.extend_from_slice(format!(in alloc; "#{number}")?.as_str().as_bytes())
         }

@@ -7,7 +7,7 @@ pub fn put_section(alloc: Global, out: &mut Vec<u8>, section: &Section) -> Resul
     let kind = &section.kind;
     let head = format!(in alloc; "[{line} {kind:?} ")?;
     out.extend_from_slice(shown(alloc, head)?.as_str().as_bytes())?;
-    out.extend_from_slice(&section.name)?;
+    out.extend_from_slice(section.name.bytes())?;
     for local in &section.locals {
         let line = local.line;
         let names = &local.names;

@@ -7,8 +7,9 @@ use Rattle.ss_check.specs.declared.sum.Term.{Term as CodeTerm, fold-Term}
 use Rattle.ss_check.specs.declared.sum.SignedTerm.{SignedTerm as CodeSigned, fold-SignedTerm}
 use Rattle.ss_check.specs.declared.sum.Arguments.{Arguments as CodeArguments, fold-Arguments}
 use Rattle.ss_check.specs.declared.sum.Factor.{Factor as CodeFactor, fold-Factor}
-use Rattle.ss_check.specs.declared.sum.Factor.TheOpen.{Arguments-F, Factor-F, SignedTerm-F, Subscript-F, Sum-F, Term-F}
+use Rattle.ss_check.specs.declared.sum.Factor.TheOpen.{Arguments-F, Factor-F, SignedTerm-F, Subscript-F, Subscripted-F, Sum-F, Term-F}
 use Rattle.ss_check.specs.declared.sum.Subscript.{Subscript as CodeSubscript, fold-Subscript}
+use Rattle.ss_check.specs.declared.sum.Subscripted.{Subscripted as CodeSubscripted, fold-Subscripted}
 use Rattle.ss_check.specs.declared.sum.OwnerKept.{OwnerKept}
 use Rattle.ss_check.specs.declared.sum.MemberKept.{MemberKept}
 
@@ -75,73 +76,87 @@ exprs_of [] = no_exprs
 exprs_of (e ∷ es) = exprs e (exprs_of es)
 
 -- one level, with each part already seen as its tree: arguments
-abbrev pub arguments_level : Arguments-F Factor Subscript (Expr × Exprs) (TermSign × Term) Expr Term → Expr × Exprs
+abbrev pub arguments_level :
+    Arguments-F Factor Subscript (Expr × Exprs) (TermSign × Term) (ℕ × Subscript) Expr Term → Expr × Exprs
 arguments_level a = (a.first.value, exprs_of a.more.items)
 
 -- a factor
-abbrev pub factor_level : Factor-F Factor Subscript (Expr × Exprs) (TermSign × Term) Expr Term → Factor
+abbrev pub factor_level : Factor-F Factor Subscript (Expr × Exprs) (TermSign × Term) (ℕ × Subscript) Expr Term → Factor
 factor_level (Factor-F.Number n) = digits n
 factor_level (Factor-F.Variable v) = variable v
 factor_level (Factor-F.Absolute e) = absolute e.value
-factor_level (Factor-F.Greatest a) = greatest a.0 a.1
-factor_level (Factor-F.Least a) = least a.0 a.1
+factor_level (Factor-F.Greatest a) = greatest a.value.0 a.value.1
+factor_level (Factor-F.Least a) = least a.value.0 a.value.1
 factor_level (Factor-F.Quotient e f) = quotient e.value f.value
 factor_level (Factor-F.Remainder e f) = remainder e.value f.value
-factor_level (Factor-F.Attribute c a i) = attribute c a i
-factor_level (Factor-F.OwnerKept kept s i) = owner_kept kept s i
-factor_level (Factor-F.MemberKept kept s i) = member_kept kept s i
+factor_level (Factor-F.Attribute c a) = attribute c a.value.0 a.value.1
+factor_level (Factor-F.OwnerKept kept s) = owner_kept kept s.value.0 s.value.1
+factor_level (Factor-F.MemberKept kept s) = member_kept kept s.value.0 s.value.1
 factor_level (Factor-F.Within e) = within e.value
 
 -- a subscript
-abbrev pub subscript_level : Subscript-F Factor Subscript (Expr × Exprs) (TermSign × Term) Expr Term → Subscript
+abbrev pub subscript_level :
+    Subscript-F Factor Subscript (Expr × Exprs) (TermSign × Term) (ℕ × Subscript) Expr Term → Subscript
 subscript_level (Subscript-F.Implied v) = implied v
 subscript_level Subscript-F.System = of_system
 subscript_level (Subscript-F.Written e) = at e.value
 
+-- a number, and which entity is meant
+abbrev pub subscripted_level :
+    Subscripted-F Factor Subscript (Expr × Exprs) (TermSign × Term) (ℕ × Subscript) Expr Term → ℕ × Subscript
+subscripted_level s = (s.number, s.subscript)
+
 -- a term with its sign
-abbrev pub signed_level : SignedTerm-F Factor Subscript (Expr × Exprs) (TermSign × Term) Expr Term → TermSign × Term
+abbrev pub signed_level :
+    SignedTerm-F Factor Subscript (Expr × Exprs) (TermSign × Term) (ℕ × Subscript) Expr Term → TermSign × Term
 signed_level a = (a.sign, a.term)
 
 -- an expression
-abbrev pub sum_level : Sum-F Factor Subscript (Expr × Exprs) (TermSign × Term) Expr Term → Expr
+abbrev pub sum_level : Sum-F Factor Subscript (Expr × Exprs) (TermSign × Term) (ℕ × Subscript) Expr Term → Expr
 sum_level e = expr e.sign e.first (sums_of e.more.items)
 
 -- a term
-abbrev pub term_level : Term-F Factor Subscript (Expr × Exprs) (TermSign × Term) Expr Term → Term
+abbrev pub term_level : Term-F Factor Subscript (Expr × Exprs) (TermSign × Term) (ℕ × Subscript) Expr Term → Term
 term_level t = term t.first (products_of t.more.items)
 
 -- the tree of an expression
 abbrev pub expr_of : Code → Expr
 expr_of =
-    fold-Sum Factor Subscript (Expr × Exprs) (TermSign × Term) Expr Term
-    factor_level subscript_level arguments_level signed_level sum_level term_level
+    fold-Sum Factor Subscript (Expr × Exprs) (TermSign × Term) (ℕ × Subscript) Expr Term
+    factor_level subscript_level arguments_level signed_level subscripted_level sum_level term_level
 
 -- the tree of a term
 abbrev pub term_of : CodeTerm → Term
 term_of =
-    fold-Term Factor Subscript (Expr × Exprs) (TermSign × Term) Expr Term
-    factor_level subscript_level arguments_level signed_level sum_level term_level
+    fold-Term Factor Subscript (Expr × Exprs) (TermSign × Term) (ℕ × Subscript) Expr Term
+    factor_level subscript_level arguments_level signed_level subscripted_level sum_level term_level
 
 -- the tree of a factor
 abbrev pub factor_of : CodeFactor → Factor
 factor_of =
-    fold-Factor Factor Subscript (Expr × Exprs) (TermSign × Term) Expr Term
-    factor_level subscript_level arguments_level signed_level sum_level term_level
+    fold-Factor Factor Subscript (Expr × Exprs) (TermSign × Term) (ℕ × Subscript) Expr Term
+    factor_level subscript_level arguments_level signed_level subscripted_level sum_level term_level
 
 -- a sign, and the tree of its term
 abbrev pub signed_of : CodeSigned → TermSign × Term
 signed_of =
-    fold-SignedTerm Factor Subscript (Expr × Exprs) (TermSign × Term) Expr Term
-    factor_level subscript_level arguments_level signed_level sum_level term_level
+    fold-SignedTerm Factor Subscript (Expr × Exprs) (TermSign × Term) (ℕ × Subscript) Expr Term
+    factor_level subscript_level arguments_level signed_level subscripted_level sum_level term_level
 
 -- the first argument, and those behind it
 abbrev pub arguments_of : CodeArguments → Expr × Exprs
 arguments_of =
-    fold-Arguments Factor Subscript (Expr × Exprs) (TermSign × Term) Expr Term
-    factor_level subscript_level arguments_level signed_level sum_level term_level
+    fold-Arguments Factor Subscript (Expr × Exprs) (TermSign × Term) (ℕ × Subscript) Expr Term
+    factor_level subscript_level arguments_level signed_level subscripted_level sum_level term_level
 
 -- the tree of a subscript
 abbrev pub subscript_of : CodeSubscript → Subscript
 subscript_of =
-    fold-Subscript Factor Subscript (Expr × Exprs) (TermSign × Term) Expr Term
-    factor_level subscript_level arguments_level signed_level sum_level term_level
+    fold-Subscript Factor Subscript (Expr × Exprs) (TermSign × Term) (ℕ × Subscript) Expr Term
+    factor_level subscript_level arguments_level signed_level subscripted_level sum_level term_level
+
+-- a number, and the tree of its subscript
+abbrev pub subscripted_of : CodeSubscripted → ℕ × Subscript
+subscripted_of =
+    fold-Subscripted Factor Subscript (Expr × Exprs) (TermSign × Term) (ℕ × Subscript) Expr Term
+    factor_level subscript_level arguments_level signed_level subscripted_level sum_level term_level

@@ -5,7 +5,7 @@ use std::marker::Model;
 /// A condition of a place. Contracts see it as the tree of its text.
 #[derive(Drop)]
 pub struct Condition {
-    pub any: Disjunction,
+    pub any: Box<Disjunction>,
 }
 
 impl Model for Condition {
@@ -16,7 +16,7 @@ impl Model for Condition {
 
     ghost coded = { condition_code };
 
-    ghost view = { λ a. condition_of a.any };
+    ghost view = { λ a. condition_of a.any.value };
 }
 
 /// Conjunctions joined by OR.

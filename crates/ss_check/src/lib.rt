@@ -2,6 +2,7 @@
 //! in which each name is its number in a table.
 #![tactic(auto)]
 
+mod boxed;
 mod branch;
 mod call;
 mod condition;
@@ -27,6 +28,7 @@ mod timing;
 mod variable;
 mod ways;
 
+pub use boxed::Boxed;
 pub use branch::{Branch, Question};
 pub use call::{Call, Targets};
 pub use condition::{Comparison, Condition, Conjunction, Copula, Disjunction, Relation};
@@ -47,7 +49,9 @@ pub use place::{Assign, Control, Output, Place, Spot};
 pub use program::Program;
 pub use section::{Head, Section};
 pub use ss_words::TermSign;
-pub use sum::{Arguments, Factor, MemberKept, OwnerKept, SignedTerm, Subscript, Sum, Term};
+pub use sum::{
+    Arguments, Factor, MemberKept, OwnerKept, SignedTerm, Subscript, Subscripted, Sum, Term,
+};
 pub use tables::{Class, Set};
 pub use target::{Index, SetRef, Target};
 pub use timing::{Listing, Notice, Schedule, Timing, When};

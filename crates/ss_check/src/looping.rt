@@ -1,3 +1,4 @@
+use crate::boxed::Boxed;
 use crate::condition::Condition;
 use crate::expr::Expr;
 use crate::target::{SetRef, Target};
@@ -131,12 +132,12 @@ impl Model for Tellings {
 /// FOR phrases, and the places that only they control.
 #[derive(Drop)]
 pub enum Looping {
-    For(ForPhrase),
+    For(Boxed<ForPhrase>),
     Loop,
     /// `FIND FIRST CASE`.
     Find,
     /// The first place of a COMPUTE, which gathers the value.
-    Gather(Expr),
+    Gather(Boxed<Expr>),
     /// Its second place, which assigns the statistics.
     Tell(Tellings),
 }

@@ -1,3 +1,4 @@
+use crate::boxed::Boxed;
 use crate::branch::Branch;
 use crate::call::{Call, Targets};
 use crate::expr::{Expr, Values};
@@ -8,18 +9,19 @@ use crate::target::Target;
 use crate::timing::Timing;
 use ss_report::Picture;
 
-/// A place of a section: what one step runs.
+/// A place of a section: what one step runs. An assignment stands in it; what is rarer and large has
+/// a block of its own.
 #[derive(Drop)]
 pub enum Place {
     Assign(Assign),
-    Making(Making),
-    Filing(Filing),
-    Output(Output),
+    Making(Boxed<Making>),
+    Filing(Boxed<Filing>),
+    Output(Boxed<Output>),
     Control(Control),
     Branch(Branch),
     Looping(Looping),
-    Call(Call),
-    Timing(Timing),
+    Call(Boxed<Call>),
+    Timing(Boxed<Timing>),
     /// `READ` of its targets.
     Read(Targets),
 }

@@ -36,9 +36,9 @@ pub enum Factor {
     /// `ABS.F`.
     Absolute(Box<Sum>),
     /// `MAX.F`.
-    Greatest(Arguments),
+    Greatest(Box<Arguments>),
     /// `MIN.F`.
-    Least(Arguments),
+    Least(Box<Arguments>),
     /// `DIV.F` of dividend and divisor.
     Quotient(Box<Sum>, Box<Sum>),
     /// `MOD.F` of dividend and divisor.
@@ -46,22 +46,27 @@ pub enum Factor {
     /// An attribute, by its class and its number there.
     Attribute {
         class: usize,
-        attribute: usize,
-        subscript: Subscript,
+        attribute: Box<Subscripted>,
     },
-    /// `F.s`, `L.s` or `N.s` of a set.
+    /// `F.s`, `L.s` or `N.s` of a set, by the set's number.
     OwnerKept {
         kept: OwnerKept,
-        set: usize,
-        subscript: Subscript,
+        set: Box<Subscripted>,
     },
-    /// `P.s`, `S.s` or `M.s` of a set.
+    /// `P.s`, `S.s` or `M.s` of a set, by the set's number.
     MemberKept {
         kept: MemberKept,
-        set: usize,
-        subscript: Subscript,
+        set: Box<Subscripted>,
     },
     Within(Box<Sum>),
+}
+
+/// An attribute or a set by its number, and which entity's is meant.
+#[derive(Drop)]
+#[cycle(sum)]
+pub struct Subscripted {
+    pub number: usize,
+    pub subscript: Subscript,
 }
 
 /// Which entity is meant.

@@ -5,7 +5,7 @@ use std::marker::Model;
 /// The subscript of a target or a set. Contracts see it as the tree of its text.
 #[derive(Drop)]
 pub struct Index {
-    pub subscript: Subscript,
+    pub subscript: Box<Subscript>,
 }
 
 impl Model for Index {
@@ -16,7 +16,7 @@ impl Model for Index {
 
     ghost coded = { subscript_code };
 
-    ghost view = { λ a. subscript_of a.subscript };
+    ghost view = { λ a. subscript_of a.subscript.value };
 }
 
 /// Where a value is assigned.

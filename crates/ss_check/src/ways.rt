@@ -122,7 +122,7 @@ fn is_do(place: &Place) -> bool
     ensures { result ≡ places.is_do place.now }
 {
     match place {
-        Place::Looping(Looping::For(phrase)) => phrase.has_do,
+        Place::Looping(Looping::For(phrase)) => phrase.value().has_do,
         _ => false,
     }
 }
@@ -131,7 +131,7 @@ fn is_bare(place: &Place) -> bool
     ensures { result ≡ places.is_bare place.now }
 {
     match place {
-        Place::Looping(Looping::For(phrase)) => !phrase.has_do,
+        Place::Looping(Looping::For(phrase)) => !phrase.value().has_do,
         _ => false,
     }
 }

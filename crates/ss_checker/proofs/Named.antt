@@ -1,5 +1,5 @@
 -- The turns of the loops that fill tables of names, and what tables of references find.
-use Rattle.std.proofs.Common.{◌≡◌, ℕ, ◌+◌, ◌<◌, ◌≤◌, Bool, true, false, cond, List, [], ◌∷◌, ◌++◌, length, get_or, drop, refl, sym, ap, ◌∙◌, Option, Some, None, append_assoc}
+use Rattle.std.proofs.Common.{◌≡◌, ℕ, ◌+◌, ◌<◌, Bool, true, false, cond, List, [], ◌∷◌, ◌++◌, length, get_or, drop, refl, sym, ap, ◌∙◌, Some, append_assoc}
 use Rattle.std.specs.Prelude.{map, option_map, bytes_eq}
 use Rattle.std.specs.List.{find, fold}
 use Rattle.std.proofs.lemmas.List.{drop_more}
@@ -24,13 +24,12 @@ map_turn f done xs i x whole l e h =
     append_assoc done (f x ∷ []) (map f (drop (i + 1) xs))
     ∙ ap (λ ys. done ++ map f ys) (sym (left_at xs i x l e)) ∙ h
 
--- of what the next is seen as
-pub maps_turn : {X Y A : Type 0} (f : Y → A) (g : X → Y) (done : List A) (xs : List X) (i : ℕ) (x : X)
-    (whole : List A) → i < length xs → x ≡ get_or xs i x → done ++ map f (map g (drop i xs)) ≡ whole →
-    (done ++ f (g x) ∷ []) ++ map f (map g (drop (i + 1) xs)) ≡ whole
-maps_turn f g done xs i x whole l e h =
-    append_assoc done (f (g x) ∷ []) (map f (map g (drop (i + 1) xs)))
-    ∙ ap (λ ys. done ++ map f (map g ys)) (sym (left_at xs i x l e)) ∙ h
+-- of what the next is seen as, from a list that is taken apart
+pub maps_turn : {X Y A : Type 0} (f : Y → A) (g : X → Y) (done : List A) (xs : List X) (x : X) (ys : List X)
+    (whole : List A) → xs ≡ x ∷ ys → done ++ map f (map g xs) ≡ whole →
+    (done ++ f (g x) ∷ []) ++ map f (map g ys) ≡ whole
+maps_turn f g done xs x ys whole e h =
+    append_assoc done (f (g x) ∷ []) (map f (map g ys)) ∙ ap (λ zs. done ++ map f (map g zs)) (sym e) ∙ h
 
 -- ---- names of facts that pass a test
 

@@ -1,9 +1,8 @@
 -- No place of a program without a breach prints by a wrong picture.
-use Rattle.std.proofs.Common.{◌≡◌, ℕ, ◌+◌, ◌<◌, Bool, true, false, ◌||◌, List, [], ◌∷◌, ◌++◌, length, get_or, drop, refl, sym, ap, ◌∙◌, Option, Some, None}
+use Rattle.std.proofs.Common.{◌≡◌, ℕ, Bool, true, false, ◌||◌, List, [], ◌∷◌, ◌++◌, refl, sym, ap, ◌∙◌, Option, Some, None}
 use Rattle.std.specs.Prelude.{map, option_map}
 use Rattle.std.specs.List.{list_any}
 use Rattle.std.specs.Option.{option_or}
-use Rattle.std.proofs.lemmas.List.{drop_more}
 use Rattle.ss_preamble.specs.Tree.{Decls}
 use Rattle.ss_grammar.specs.Tree.{Head}
 use Rattle.ss_grammar.specs.Places.{Section, Spot}
@@ -119,16 +118,12 @@ second_false false b h = h
 second_false true b h = cc
 
 -- what holds of none that is left holds not of the next, nor of one behind it
-pub none_here : {X A : Type 0} (t : A → Bool) (f : X → A) (xs : List X) (i : ℕ) (x : X) → i < length xs →
-    x ≡ get_or xs i x → list_any t (map f (drop i xs)) ≡ false → t (f x) ≡ false
-none_here t f xs i x l e h =
-    let left = drop_more xs i x l ∙ ap (λ y. y ∷ drop (i + 1) xs) (sym e) in
-    first_false (t (f x)) (list_any t (map f (drop (i + 1) xs)))
-    (sym (ap (λ ys. list_any t (map f ys)) left) ∙ h)
+pub none_here : {X A : Type 0} (t : A → Bool) (f : X → A) (xs : List X) (x : X) (ys : List X) → xs ≡ x ∷ ys →
+    list_any t (map f xs) ≡ false → t (f x) ≡ false
+none_here t f xs x ys e h =
+    first_false (t (f x)) (list_any t (map f ys)) (sym (ap (λ zs. list_any t (map f zs)) e) ∙ h)
 
-pub none_behind : {X A : Type 0} (t : A → Bool) (f : X → A) (xs : List X) (i : ℕ) (x : X) → i < length xs →
-    x ≡ get_or xs i x → list_any t (map f (drop i xs)) ≡ false → list_any t (map f (drop (i + 1) xs)) ≡ false
-none_behind t f xs i x l e h =
-    let left = drop_more xs i x l ∙ ap (λ y. y ∷ drop (i + 1) xs) (sym e) in
-    second_false (t (f x)) (list_any t (map f (drop (i + 1) xs)))
-    (sym (ap (λ ys. list_any t (map f ys)) left) ∙ h)
+pub none_behind : {X A : Type 0} (t : A → Bool) (f : X → A) (xs : List X) (x : X) (ys : List X) → xs ≡ x ∷ ys →
+    list_any t (map f xs) ≡ false → list_any t (map f ys) ≡ false
+none_behind t f xs x ys e h =
+    second_false (t (f x)) (list_any t (map f ys)) (sym (ap (λ zs. list_any t (map f zs)) e) ∙ h)

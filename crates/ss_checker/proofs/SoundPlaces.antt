@@ -23,7 +23,7 @@ use Rattle.ss_checker.specs.declared.tables.Tables.{Tables}
 use Rattle.ss_checker.specs.NameKinds.{names_set, names_event, names_ending, serves}
 use Rattle.ss_checker.specs.Declarations.{kind_of}
 use Rattle.ss_checker.specs.PlaceRules.{has_wrong_picture}
-use Rattle.ss_checker.specs.Uses.{Use, LoopVariable, OfClass, Routine, count, uses_expr, uses_sums, uses_term, uses_products, uses_factor, uses_exprs, uses_option, uses_target, uses_set, uses_value, uses_called_target, uses_called_value, uses_condition, uses_alternatives, uses_conjunction, uses_additions, uses_relation, uses_assign, uses_making, uses_file_place, uses_filing, uses_called, uses_details, uses_when, uses_timing, uses_simple, uses_start, uses_range, uses_branch, uses_loop, uses}
+use Rattle.ss_checker.specs.Uses.{Use, LoopVariable, OfClass, uses_expr, uses_sums, uses_term, uses_products, uses_factor, uses_exprs, uses_option, uses_target, uses_set, uses_value, uses_called_target, uses_called_value, uses_condition, uses_alternatives, uses_conjunction, uses_additions, uses_relation, uses_assign, uses_making, uses_file_place, uses_filing, uses_called, uses_details, uses_when, uses_timing, uses_simple, uses_start, uses_range, uses_branch, uses_loop, uses}
 use Rattle.ss_checker.specs.ResolvedNames.{Names, number}
 use Rattle.ss_checker.specs.Resolved.{resolved_expr, resolved_sums, resolved_term, resolved_products, resolved_factor, resolved_exprs, resolved_option, resolved_value, resolved_target, resolved_set, called_target, called_value, resolved_condition, resolved_alternatives, resolved_conjunction, resolved_additions, resolved_relation, resolved_assign, resolved_making, resolved_position, resolved_filing, resolved_notice, resolved_when, resolved_timing, resolved_simple, resolved_begin, resolved_range, resolved_qualifier, resolved_branch, resolved_telling, resolved_loop, resolved_place}
 use Rattle.ss_checker.proofs.SoundUses.{Scoped, IsGood, AreGood, good_parts, sound_owner, sound_named, sound_applied, sound_bare_target, sound_target_at, sound_loop_variable, sound_class_variable, sound_permanent_variable}

@@ -4,7 +4,6 @@ use Rattle.std.specs.Prelude.{slice_get, codes}
 use Rattle.std.specs.List.{list_any}
 use Rattle.std.proofs.lemmas.Bool.{or_parts}
 use Rattle.ss_words.specs.Lists.{Name}
-use Rattle.ss_check.specs.declared.variable.Variable.{Variable}
 use Rattle.ss_check.specs.ProgramExpr.{Expr, Exprs, no_exprs, exprs}
 use Rattle.ss_check.specs.ProgramSound.{Scope, IsClass, IsSettable, IsSoundExpr, IsSoundFactor, IsSoundSubscript, AreSoundArguments, IsSoundOption, IsTarget}
 use Rattle.ss_checker.specs.declared.function.Function.{Function}

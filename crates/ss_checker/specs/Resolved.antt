@@ -1,5 +1,5 @@
 -- The program that a tree without a breach stands for: each name replaced by its number in its table.
-use Rattle.std.specs.Prelude.{ℕ, Bool, true, false, List, [], ◌∷◌, length, map, codes, Option, Some, None, option_map, is_some, unwrap_or}
+use Rattle.std.specs.Prelude.{Bool, false, List, [], length, map, codes, Option, Some, None, option_map, is_some, unwrap_or}
 use Rattle.std.specs.List.{flat_map}
 use Rattle.ss_words.specs.Lists.{Name, all_of}
 use Rattle.ss_preamble.specs.declared.item.Heading.TheVariants.{PermanentEntities, EventNotices}
@@ -59,7 +59,6 @@ use Rattle.ss_check.specs.declared.branch.Branch.{Branch}
 use Rattle.ss_check.specs.declared.branch.Branch.TheVariants as branch
 use Rattle.ss_check.specs.declared.timing.Notice.{Notice}
 use Rattle.ss_check.specs.declared.timing.Notice.TheVariants as notice
-use Rattle.ss_check.specs.declared.timing.Listing.{Listing}
 use Rattle.ss_check.specs.declared.timing.Listing.TheVariants as listing
 use Rattle.ss_check.specs.declared.timing.When.{When}
 use Rattle.ss_check.specs.declared.timing.When.TheVariants as when

@@ -3,7 +3,7 @@ use Rattle.std.specs.Prelude.{Bool}
 use Rattle.ss_checker.specs.declared.name_kind.NameKind.{NameKind}
 use Rattle.ss_checker.specs.declared.name_tables.Sort.{Sort}
 use Rattle.ss_checker.specs.declared.name_tables.Sort.TheVariants as sort
-use Rattle.ss_checker.specs.NameKinds.{is_class, is_global, names_set}
+use Rattle.ss_checker.specs.NameKinds.{is_class, is_global}
 use Rattle.ss_checker.specs.ResolvedNames.{is_set}
 
 -- whether names declared as this are of a sort

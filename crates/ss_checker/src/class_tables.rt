@@ -128,7 +128,7 @@ fn resolve_key(names: &NameTables, class: usize, key: &ss_preamble::Key) -> Key
         ss_preamble::Rank::High => Rank::High,
         ss_preamble::Rank::Low => Rank::Low,
     };
-    let attribute = names.attribute(class, &key.name);
+    let attribute = names.attribute(class, key.name.bytes());
     Key { rank, attribute }
 }
 

@@ -95,11 +95,11 @@ fn add_member_kept(
 /// Declares sets.
 fn add_sets(alloc: Global, kinds: &mut KindTable, sets: &Names) -> Result<(), AllocError>
     ensures { OnOk result
-        (kinds.new ≡ kinds.old ++ flat_map set_facts (all_of (several_view (λ n. n.items) sets.now))) }
+        (kinds.new ≡ kinds.old ++ flat_map set_facts (all_of (several_view (λ n. n) sets.now))) }
 {
-    add_set(alloc, kinds, &sets.first)?;
+    add_set(alloc, kinds, sets.first.bytes())?;
     for set in &sets.others {
-        add_set(alloc, kinds, set)?;
+        add_set(alloc, kinds, set.bytes())?;
     }
     Ok(())
 }
@@ -112,11 +112,11 @@ fn add_classes(
     classes: &Names,
 ) -> Result<(), AllocError>
     ensures { OnOk result (kinds.new
-        ≡ kinds.old ++ flat_map (class_facts (Some heading)) (all_of (several_view (λ n. n.items) classes.now))) }
+        ≡ kinds.old ++ flat_map (class_facts (Some heading)) (all_of (several_view (λ n. n) classes.now))) }
 {
-    add_class(alloc, kinds, Some(heading), &classes.first)?;
+    add_class(alloc, kinds, Some(heading), classes.first.bytes())?;
     for class in &classes.others {
-        add_class(alloc, kinds, Some(heading), class)?;
+        add_class(alloc, kinds, Some(heading), class.bytes())?;
     }
     Ok(())
 }
@@ -124,11 +124,11 @@ fn add_classes(
 /// Declares variables.
 fn add_variables(kinds: &mut KindTable, names: &Names) -> Result<(), AllocError>
     ensures { OnOk result (kinds.new
-        ≡ kinds.old ++ map (λ n. fact n kind.Variable) (all_of (several_view (λ n. n.items) names.now))) }
+        ≡ kinds.old ++ map (λ n. fact n kind.Variable) (all_of (several_view (λ n. n) names.now))) }
 {
-    kinds.add(&names.first, NameKind::Variable)?;
+    kinds.add(names.first.bytes(), NameKind::Variable)?;
     for name in &names.others {
-        kinds.add(name, NameKind::Variable)?;
+        kinds.add(name.bytes(), NameKind::Variable)?;
     }
     Ok(())
 }
@@ -141,11 +141,14 @@ fn add_attributes(
     names: &Names,
 ) -> Result<(), AllocError>
     ensures { OnOk result (kinds.new
-        ≡ kinds.old ++ map (λ n. fact n (kind.Attribute class.now)) (all_of (several_view (λ n. n.items) names.now))) }
+        ≡ kinds.old ++ map (λ n. fact n (kind.Attribute class.now)) (all_of (several_view (λ n. n) names.now))) }
 {
-    kinds.add(&names.first, NameKind::Attribute(copied(alloc, class)?))?;
+    kinds.add(
+        names.first.bytes(),
+        NameKind::Attribute(copied(alloc, class)?),
+    )?;
     for name in &names.others {
-        kinds.add(name, NameKind::Attribute(copied(alloc, class)?))?;
+        kinds.add(name.bytes(), NameKind::Attribute(copied(alloc, class)?))?;
     }
     Ok(())
 }
@@ -218,8 +221,8 @@ pub(crate) fn add_declarations(
             included: Some(classes),
         } => add_classes(alloc, kinds, *heading, classes),
         Item::OfEvery { class, clauses } => {
-            add_class(alloc, kinds, heading, class)?;
-            add_clauses(alloc, kinds, Some(class), clauses)
+            add_class(alloc, kinds, heading, class.bytes())?;
+            add_clauses(alloc, kinds, Some(class.bytes()), clauses)
         }
         Item::OfSystem(clauses) => add_clauses(alloc, kinds, None, clauses),
         Item::Defines(definition) => add_definition(alloc, kinds, definition),

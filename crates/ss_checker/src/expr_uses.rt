@@ -2,11 +2,11 @@ ghost use Rattle.std.specs.Prelude.{◌≡◌, ◌+◌, ◌++◌, map, OnOk};
 ghost use Rattle.std.specs.List.{flat_map};
 ghost use Rattle.ss_words.specs.Reading.{option_view};
 ghost use Rattle.ss_grammar.specs.Expr.{exprs_of};
-ghost use Rattle.ss_grammar.specs.View.{expr_view, term_view, factor_view, reference_view};
+ghost use Rattle.ss_grammar.specs.View.{application_view, expr_view, term_view, factor_view, reference_view};
 ghost use Rattle.ss_checker.specs.Uses as uses_of;
 
 use crate::use_list::{Use, UseList};
-use ss_grammar::{Expr, Factor, Reference, Term};
+use ss_grammar::{Application, Expr, Factor, Reference, Term};
 use std::alloc::AllocError;
 
 /// Adds the uses of an expression.
@@ -39,24 +39,27 @@ fn add_factor<'a>(uses: &mut UseList<'a>, f: &'a Factor) -> Result<(), AllocErro
     match f {
         Factor::Number(_) => Ok(()),
         Factor::Name(name) => uses.add(Use::Value {
-            name,
+            name: name.bytes(),
             arguments: None,
         }),
-        Factor::Applied {
-            name,
-            first,
-            others,
-        } => {
-            let arguments = Some(argument_count(others));
-            uses.add(Use::Value { name, arguments })?;
-            add_expr(uses, first)?;
-            for other in others {
-                add_expr(uses, other)?;
-            }
-            Ok(())
-        }
+        Factor::Applied(application) => add_application(uses, application),
         Factor::Within(e) => add_expr(uses, e),
     }
+}
+
+#[cycle(uses)]
+fn add_application<'a>(uses: &mut UseList<'a>, a: &'a Application) -> Result<(), AllocError>
+    ensures { OnOk result (uses.new ≡ uses.old ++ uses_of.uses_factor (application_view a.now)) }
+{
+    uses.add(Use::Value {
+        name: a.name.bytes(),
+        arguments: Some(argument_count(&a.others)),
+    })?;
+    add_expr(uses, &a.first)?;
+    for other in &a.others {
+        add_expr(uses, other)?;
+    }
+    Ok(())
 }
 
 /// How many arguments stand between parentheses, with these behind the first.
@@ -106,7 +109,7 @@ pub(crate) fn add_target<'a>(uses: &mut UseList<'a>, v: &'a Reference) -> Result
     ensures { OnOk result (uses.new ≡ uses.old ++ uses_of.uses_target (reference_view v.now)) }
 {
     uses.add(Use::Target {
-        name: &v.name,
+        name: v.name.bytes(),
         subscripted: v.subscript.is_some(),
     })?;
     add_subscript(uses, &v.subscript)
@@ -127,7 +130,7 @@ pub(crate) fn add_set<'a>(uses: &mut UseList<'a>, v: &'a Reference) -> Result<()
     ensures { OnOk result (uses.new ≡ uses.old ++ uses_of.uses_set (reference_view v.now)) }
 {
     uses.add(Use::InSet {
-        name: &v.name,
+        name: v.name.bytes(),
         subscripted: v.subscript.is_some(),
     })?;
     add_subscript(uses, &v.subscript)
@@ -140,7 +143,7 @@ fn add_value<'a>(uses: &mut UseList<'a>, v: &'a Reference) -> Result<(), AllocEr
 {
     let arguments = if v.subscript.is_some() { Some(1) } else { None };
     uses.add(Use::Value {
-        name: &v.name,
+        name: v.name.bytes(),
         arguments,
     })?;
     add_subscript(uses, &v.subscript)

@@ -17,6 +17,7 @@ use crate::name_list::NameList;
 use crate::tables::{Tables, name_count};
 use ss_check::CheckRule;
 use ss_grammar::{Listing, LocalNames, Section, SectionKind};
+use ss_words::Name;
 use std::alloc::{AllocError, Global};
 
 /// Which rules the head of a section breaks.
@@ -106,7 +107,7 @@ fn parameter_list(alloc: Global, section: &Section) -> Result<NameList, AllocErr
         SectionKind::Routine { given, yielded } => {
             add_listed(&mut list, given)?;
             for name in yielded {
-                list.add(name)?;
+                list.add(name.bytes())?;
             }
         }
         SectionKind::Event { given, .. } => add_listed(&mut list, given)?,
@@ -115,8 +116,8 @@ fn parameter_list(alloc: Global, section: &Section) -> Result<NameList, AllocErr
 }
 
 /// Adds the names of a list that may be left out.
-fn add_listed(list: &mut NameList, names: &Listing<Vec<u8>>) -> Result<(), AllocError>
-    ensures { OnOk result (list.new ≡ list.old ++ listed (view.listing_view (λ n. n.items) names.now)) }
+fn add_listed(list: &mut NameList, names: &Listing<Name>) -> Result<(), AllocError>
+    ensures { OnOk result (list.new ≡ list.old ++ listed (view.listing_view (λ n. n) names.now)) }
 {
     match names {
         Listing::Unwritten => Ok(()),
@@ -141,23 +142,23 @@ fn declares_parameter(whole: &Tables, section: &Section) -> bool
 
 /// Whether a name of a list that may be left out is declared.
 #[tactic(auto, using(crate::proofs::Tests::any_map))]
-fn any_listed_declared(whole: &Tables, names: &Listing<Vec<u8>>) -> bool
+fn any_listed_declared(whole: &Tables, names: &Listing<Name>) -> bool
     ensures { result ≡ list_any (declared.is_declared whole.now)
-        (listed (view.listing_view (λ n. n.items) names.now)) }
+        (listed (view.listing_view (λ n. n) names.now)) }
 {
     match names {
         Listing::Unwritten => false,
         Listing::BehindGiven(names) | Listing::InParentheses(names) => {
-            whole.kinds.has(&names.first) || any_declared(whole, &names.others)
+            whole.kinds.has(names.first.bytes()) || any_declared(whole, &names.others)
         }
     }
 }
 
 /// Whether one of these names is declared.
-fn any_declared(whole: &Tables, names: &[Vec<u8>]) -> bool
-    ensures { result ≡ list_any (λ n. declared.is_declared whole.now n.items) names.now }
+fn any_declared(whole: &Tables, names: &[Name]) -> bool
+    ensures { result ≡ list_any (λ n. declared.is_declared whole.now n) names.now }
 {
-    names.iter().any(|name| whole.kinds.has(name))
+    names.iter().any(|name| whole.kinds.has(name.bytes()))
 }
 
 /// The rule that a local DEFINE breaks: it names what is declared.
@@ -166,7 +167,7 @@ pub(crate) fn local_rule(whole: &Tables, local: &LocalNames) -> Option<CheckRule
     ensures { result ≡ rules.local_rule whole.now (view.local_view local.now) }
 {
     let names = &local.names;
-    if whole.kinds.has(&names.first) || any_declared(whole, &names.others) {
+    if whole.kinds.has(names.first.bytes()) || any_declared(whole, &names.others) {
         Some(CheckRule::DeclaredTwice)
     } else {
         None
@@ -181,8 +182,8 @@ fn has_too_many(whole: &Tables, section: &Section) -> bool
 {
     match &section.kind {
         SectionKind::Event { given, .. } => {
-            is_event_class(whole, &section.name)
-                && whole.attributes.count(&section.name) < name_count(given)
+            is_event_class(whole, section.name.bytes())
+                && whole.attributes.count(section.name.bytes()) < name_count(given)
         }
         SectionKind::Main | SectionKind::Routine { .. } => false,
     }
@@ -192,5 +193,6 @@ fn has_too_many(whole: &Tables, section: &Section) -> bool
 fn lacks_class(whole: &Tables, section: &Section) -> bool
     ensures { result ≡ rules.lacks_class whole.now whole.now (view.section_view section.now).head }
 {
-    matches!(section.kind, SectionKind::Event { .. }) && !is_event_class(whole, &section.name)
+    matches!(section.kind, SectionKind::Event { .. })
+        && !is_event_class(whole, section.name.bytes())
 }

@@ -9,11 +9,11 @@ use std::alloc::AllocError;
 
 /// Adds names at the end of a list.
 pub(crate) fn add_names(list: &mut NameList, names: &Names) -> Result<(), AllocError>
-    ensures { OnOk result (list.new ≡ list.old ++ all_of (several_view (λ n. n.items) names.now)) }
+    ensures { OnOk result (list.new ≡ list.old ++ all_of (several_view (λ n. n) names.now)) }
 {
-    list.add(&names.first)?;
+    list.add(names.first.bytes())?;
     for name in &names.others {
-        list.add(name)?;
+        list.add(name.bytes())?;
     }
     Ok(())
 }
@@ -50,8 +50,8 @@ pub(crate) fn add_classes(list: &mut NameList, item: &Item) -> Result<(), AllocE
         | Item::Orders(EventRule::PriorityOrder(names) | EventRule::ExternalEvents(names)) => {
             add_names(list, names)
         }
-        Item::OfEvery { class, .. } => list.add(class),
-        Item::Orders(EventRule::BreakTies { event, .. }) => list.add(event),
+        Item::OfEvery { class, .. } => list.add(class.bytes()),
+        Item::Orders(EventRule::BreakTies { event, .. }) => list.add(event.bytes()),
         Item::Normally
         | Item::Headed { included: None, .. }
         | Item::OfSystem(_)
@@ -74,7 +74,7 @@ pub(crate) fn add_ties(list: &mut NameList, item: &Item) -> Result<(), AllocErro
     ensures { OnOk result (list.new ≡ list.old ++ declared.tied_events (view.item_view item.now)) }
 {
     match item {
-        Item::Orders(EventRule::BreakTies { event, .. }) => list.add(event),
+        Item::Orders(EventRule::BreakTies { event, .. }) => list.add(event.bytes()),
         _ => Ok(()),
     }
 }

@@ -20,7 +20,7 @@ use crate::name_list::NameList;
 use crate::tables::Tables;
 use ss_check::CheckRule;
 use ss_preamble::{Clause, Definition, EventRule, Heading, Item, ItemAt, Key, Names, SetKind};
-use ss_words::Several;
+use ss_words::{Name, Several};
 use std::alloc::{AllocError, Global};
 
 /// Which rules an item breaks.
@@ -128,7 +128,7 @@ fn names_wrong_class(whole: &Tables, heading: Option<Heading>, item: &Item) -> b
 {
     match item {
         Item::OfEvery { .. } => heading.is_none(),
-        Item::Orders(EventRule::BreakTies { event, .. }) => !is_event_class(whole, event),
+        Item::Orders(EventRule::BreakTies { event, .. }) => !is_event_class(whole, event.bytes()),
         Item::Orders(EventRule::ExternalEvents(names)) => names_no_event(whole, names),
         _ => false,
     }
@@ -145,15 +145,17 @@ pub(crate) fn is_event_class(whole: &Tables, name: &[u8]) -> bool
 #[tactic(auto, using(crate::proofs::Tests::any_map))]
 fn names_no_event(whole: &Tables, names: &Names) -> bool
     ensures { result ≡ list_any (λ c. not (declared.is_event_class whole.now c))
-        (all_of (several_view (λ n. n.items) names.now)) }
+        (all_of (several_view (λ n. n) names.now)) }
 {
-    !is_event_class(whole, &names.first) || any_no_event(whole, &names.others)
+    !is_event_class(whole, names.first.bytes()) || any_no_event(whole, &names.others)
 }
 
-fn any_no_event(whole: &Tables, names: &[Vec<u8>]) -> bool
-    ensures { result ≡ list_any (λ n. not (declared.is_event_class whole.now n.items)) names.now }
+fn any_no_event(whole: &Tables, names: &[Name]) -> bool
+    ensures { result ≡ list_any (λ n. not (declared.is_event_class whole.now n)) names.now }
 {
-    names.iter().any(|name| !is_event_class(whole, name))
+    names
+        .iter()
+        .any(|name| !is_event_class(whole, name.bytes()))
 }
 
 // ---- C4 and C5
@@ -203,16 +205,18 @@ fn clause_names_new<T: Drop>(facts: &FactTable<T>, kinds: &KindTable, clause: &C
 #[tactic(auto, using(crate::proofs::Tests::any_map))]
 fn any_new_without<T: Drop>(facts: &FactTable<T>, kinds: &KindTable, sets: &Names) -> bool
     ensures { result ≡ list_any (λ s. not (names_set (fact_of kinds.now s)) && not (is_among s (names_of facts.now)))
-        (all_of (several_view (λ n. n.items) sets.now)) }
+        (all_of (several_view (λ n. n) sets.now)) }
 {
-    is_new_without(facts, kinds, &sets.first) || any_other_without(facts, kinds, &sets.others)
+    is_new_without(facts, kinds, sets.first.bytes())
+        || any_other_without(facts, kinds, &sets.others)
 }
 
-fn any_other_without<T: Drop>(facts: &FactTable<T>, kinds: &KindTable, sets: &[Vec<u8>]) -> bool
+fn any_other_without<T: Drop>(facts: &FactTable<T>, kinds: &KindTable, sets: &[Name]) -> bool
     ensures { result ≡ list_any
-        (λ s. not (names_set (fact_of kinds.now s.items)) && not (is_among s.items (names_of facts.now))) sets.now }
+        (λ s. not (names_set (fact_of kinds.now s)) && not (is_among s (names_of facts.now))) sets.now }
 {
-    sets.iter().any(|set| is_new_without(facts, kinds, set))
+    sets.iter()
+        .any(|set| is_new_without(facts, kinds, set.bytes()))
 }
 
 fn is_new_without<T: Drop>(facts: &FactTable<T>, kinds: &KindTable, set: &[u8]) -> bool
@@ -256,7 +260,11 @@ fn has_wrong_keys(whole: &Tables, item: &Item) -> bool
 {
     match item {
         Item::Defines(Definition::Sets { names, kind }) => any_wrong_rank(whole, names, kind),
-        Item::Orders(EventRule::BreakTies { event, keys }) => any_wrong_key(whole, event, keys),
+        Item::Orders(EventRule::BreakTies { event, keys }) => any_wrong_key(
+            whole,
+            event.bytes(),
+            keys,
+        ),
         _ => false,
     }
 }
@@ -265,16 +273,17 @@ fn has_wrong_keys(whole: &Tables, item: &Item) -> bool
 #[tactic(auto, using(crate::proofs::Tests::any_map))]
 fn any_wrong_rank(whole: &Tables, sets: &Names, kind: &SetKind) -> bool
     ensures { result ≡ list_any (λ s. rules.has_wrong_rank whole.now whole.now (fact_of whole.now.members s)
-        (view.set_kind_view kind.now)) (all_of (several_view (λ n. n.items) sets.now)) }
+        (view.set_kind_view kind.now)) (all_of (several_view (λ n. n) sets.now)) }
 {
-    is_wrong_rank(whole, &sets.first, kind) || any_other_rank(whole, &sets.others, kind)
+    is_wrong_rank(whole, sets.first.bytes(), kind) || any_other_rank(whole, &sets.others, kind)
 }
 
-fn any_other_rank(whole: &Tables, sets: &[Vec<u8>], kind: &SetKind) -> bool
-    ensures { result ≡ list_any (λ s. rules.has_wrong_rank whole.now whole.now (fact_of whole.now.members s.items)
+fn any_other_rank(whole: &Tables, sets: &[Name], kind: &SetKind) -> bool
+    ensures { result ≡ list_any (λ s. rules.has_wrong_rank whole.now whole.now (fact_of whole.now.members s)
         (view.set_kind_view kind.now)) sets.now }
 {
-    sets.iter().any(|set| is_wrong_rank(whole, set, kind))
+    sets.iter()
+        .any(|set| is_wrong_rank(whole, set.bytes(), kind))
 }
 
 /// Whether a set is ranked by what is no attribute of its members, or has none and is ranked.
@@ -309,7 +318,7 @@ fn any_other_key(whole: &Tables, class: &[u8], keys: &[Key]) -> bool
 fn is_wrong_key(whole: &Tables, class: &[u8], key: &Key) -> bool
     ensures { result ≡ rules.is_wrong_key whole.now whole.now class.now (view.key_view key.now) }
 {
-    match whole.kinds.get(&key.name) {
+    match whole.kinds.get(key.name.bytes()) {
         Some(NameKind::Attribute(of)) => class != of.bytes.as_slice(),
         _ => true,
     }
@@ -328,7 +337,7 @@ fn lacks_section(whole: &Tables, classes: &NameList, item: &Item) -> bool
             included: Some(names),
             ..
         } => any_lacks_section(whole, classes, names),
-        Item::OfEvery { class, .. } => is_new_without_section(whole, classes, class),
+        Item::OfEvery { class, .. } => is_new_without_section(whole, classes, class.bytes()),
         Item::Orders(order) => order_lacks_section(whole, classes, order),
         Item::Normally
         | Item::Headed { included: None, .. }
@@ -345,7 +354,7 @@ fn order_lacks_section(whole: &Tables, classes: &NameList, order: &EventRule) ->
     match order {
         EventRule::PriorityOrder(names) => any_lacks_section(whole, classes, names),
         EventRule::ExternalEvents(names) => any_lacks_section(whole, classes, names),
-        EventRule::BreakTies { event, .. } => is_new_without_section(whole, classes, event),
+        EventRule::BreakTies { event, .. } => is_new_without_section(whole, classes, event.bytes()),
     }
 }
 
@@ -353,19 +362,17 @@ fn order_lacks_section(whole: &Tables, classes: &NameList, order: &EventRule) ->
 #[tactic(auto, using(crate::proofs::Tests::any_map))]
 fn any_lacks_section(whole: &Tables, classes: &NameList, names: &Names) -> bool
     ensures { result ≡ list_any (λ c. not (is_among c classes.now) && rules.is_without_section whole.now whole.now c)
-        (all_of (several_view (λ n. n.items) names.now)) }
+        (all_of (several_view (λ n. n) names.now)) }
 {
-    is_new_without_section(whole, classes, &names.first)
+    is_new_without_section(whole, classes, names.first.bytes())
         || any_other_section(whole, classes, &names.others)
 }
 
-fn any_other_section(whole: &Tables, classes: &NameList, names: &[Vec<u8>]) -> bool
+fn any_other_section(whole: &Tables, classes: &NameList, names: &[Name]) -> bool
     ensures { result ≡ list_any
-        (λ n. not (is_among n.items classes.now) && rules.is_without_section whole.now whole.now n.items) names.now }
+        (λ n. not (is_among n classes.now) && rules.is_without_section whole.now whole.now n) names.now }
 {
-    names
-        .iter()
-        .any(|name| is_new_without_section(whole, classes, name))
+    names.iter().any(|name| is_new_without_section(whole, classes, name.bytes()))
 }
 
 fn is_new_without_section(whole: &Tables, classes: &NameList, name: &[u8]) -> bool
@@ -399,7 +406,7 @@ fn has_wrong_priority(
 
 /// Whether a name stands twice among these.
 fn names_twice(alloc: Global, names: &Names) -> Result<bool, AllocError>
-    ensures { IfOk result (λ r. r ≡ repeats [] (all_of (several_view (λ n. n.items) names.now))) }
+    ensures { IfOk result (λ r. r ≡ repeats [] (all_of (several_view (λ n. n) names.now))) }
 {
     let mut list = NameList::new(alloc);
     add_names(&mut list, names)?;

@@ -258,7 +258,7 @@ fn routine_sections(alloc: Global, sections: &[Section]) -> Result<FactTable<usi
     let mut table = FactTable::new(alloc);
     for (number, section) in sections.iter().enumerate() {
         if let SectionKind::Routine { .. } = section.kind {
-            table.add(&section.name, number)?;
+            table.add(section.name.bytes(), number)?;
         }
     }
     Ok(table)
@@ -272,7 +272,7 @@ fn event_sections(alloc: Global, sections: &[Section]) -> Result<FactTable<usize
     let mut table = FactTable::new(alloc);
     for (number, section) in sections.iter().enumerate() {
         if let SectionKind::Event { .. } = section.kind {
-            table.add(&section.name, number)?;
+            table.add(section.name.bytes(), number)?;
         }
     }
     Ok(table)

@@ -10,6 +10,7 @@ use crate::expr_uses::{add_expr, add_option, add_set, add_target};
 use crate::statement_uses::{add_class, add_simple};
 use crate::use_list::{Use, UseList};
 use ss_grammar::{Branch, Computed, Loop, Phrase, Place, Qualifier, Question, Range, WalkStart};
+use ss_words::Name;
 use std::alloc::AllocError;
 
 /// Adds the uses of a place.
@@ -85,13 +86,13 @@ fn add_range<'a>(uses: &mut UseList<'a>, range: &'a Range) -> Result<(), AllocEr
             step,
             ..
         } => {
-            uses.add(Use::LoopVariable(variable))?;
+            uses.add(Use::LoopVariable(variable.bytes()))?;
             add_expr(uses, first)?;
             add_expr(uses, last)?;
             add_option(uses, step)
         }
         Range::Each { class, variable } => {
-            add_class(uses, ClassNeed::Permanent, class)?;
+            add_class(uses, ClassNeed::Permanent, class.bytes())?;
             add_loop_variable(uses, variable)
         }
         Range::Walking {
@@ -100,7 +101,7 @@ fn add_range<'a>(uses: &mut UseList<'a>, range: &'a Range) -> Result<(), AllocEr
             start,
             ..
         } => {
-            uses.add(Use::LoopVariable(variable))?;
+            uses.add(Use::LoopVariable(variable.bytes()))?;
             add_set(uses, set)?;
             add_start(uses, start)
         }
@@ -109,13 +110,13 @@ fn add_range<'a>(uses: &mut UseList<'a>, range: &'a Range) -> Result<(), AllocEr
 
 fn add_loop_variable<'a>(
     uses: &mut UseList<'a>,
-    variable: &'a Option<Vec<u8>>,
+    variable: &'a Option<Name>,
 ) -> Result<(), AllocError>
     ensures { OnOk result
-        (uses.new ≡ uses.old ++ uses_of.uses_loop_variable (option_view (λ n. n.items) variable.now)) }
+        (uses.new ≡ uses.old ++ uses_of.uses_loop_variable (option_view (λ n. n) variable.now)) }
 {
     match variable {
-        Some(name) => uses.add(Use::LoopVariable(name)),
+        Some(name) => uses.add(Use::LoopVariable(name.bytes())),
         None => Ok(()),
     }
 }

@@ -38,7 +38,7 @@ pub fn check(alloc: Global, decls: Decls, sections: Sections) -> Result<Program,
 {
     let sections = sections.into_list();
     let whole = check_rules(alloc, &decls, &sections)?;
-    let program = resolve_program(alloc, &whole, &decls, &sections)?;
+    let program = resolve_program(alloc, &whole, &decls, sections)?;
     Ok(program)
 }
 
@@ -47,17 +47,17 @@ fn resolve_program(
     alloc: Global,
     whole: &Tables,
     decls: &Decls,
-    sections: &[Section],
+    sections: Vec<Section>,
 ) -> Result<Program, AllocError>
     requires whole { whole.now
-        ≡ declared.tables (preamble.decls_view decls.now).items (map view.section_view sections.now) }
+        ≡ declared.tables (preamble.decls_view decls.now).items (map view.section_view sections.items) }
     requires pictures { list_any (λ q. list_any (λ s. has_wrong_picture s.place) q.places)
-        (map view.section_view sections.now) ≡ false }
-    requires sound { IsSound (resolved.resolved (preamble.decls_view decls.now) (map view.section_view sections.now)) }
+        (map view.section_view sections.items) ≡ false }
+    requires sound { IsSound (resolved.resolved (preamble.decls_view decls.now) (map view.section_view sections.items)) }
     ensures { IfOk result (λ program. program
-        ≡ resolved.resolved (preamble.decls_view decls.now) (map view.section_view sections.now)) }
+        ≡ resolved.resolved (preamble.decls_view decls.now) (map view.section_view sections.items)) }
 {
-    let names = NameTables::new(alloc, whole, sections)?;
+    let names = NameTables::new(alloc, whole, &sections)?;
     let rankings = Rankings::new(alloc, &decls.items)?;
     let classes = class_tables(alloc, whole, &names, &rankings)?;
     let sets = set_tables(alloc, whole, &names, &rankings)?;
@@ -67,17 +67,18 @@ fn resolve_program(
     Ok(Program::new(globals, classes, sets, priority, sections))
 }
 
-/// The sections of a program, with the numbers of their names.
+/// The sections of a program, with the numbers of their names. What the text says of a section is
+/// let go as soon as the section is made.
 fn resolve_sections(
     alloc: Global,
     whole: &Tables,
     names: &NameTables,
-    sections: &[Section],
+    sections: Vec<Section>,
 ) -> Result<Vec<ss_check::Section>, AllocError>
     requires { list_any (λ q. list_any (λ s. has_wrong_picture s.place) q.places)
-        (map view.section_view sections.now) ≡ false }
+        (map view.section_view sections.items) ≡ false }
     ensures { IfOk result (λ list. list.items
-        ≡ map (resolved.resolved_section whole.now names.now) (map view.section_view sections.now)) }
+        ≡ map (resolved.resolved_section whole.now names.now) (map view.section_view sections.items)) }
 {
     let mut list = Vec::with_capacity(alloc, sections.len())?;
     for section in sections {

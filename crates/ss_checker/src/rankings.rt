@@ -91,11 +91,11 @@ fn add_kinds<'a>(
 ) -> Result<(), AllocError>
     ensures { OnOk result (facts_view (λ k. view.set_kind_view k.now) disciplines.new
         ≡ facts_view (λ k. view.set_kind_view k.now) disciplines.old ++ map (λ s. fact s (view.set_kind_view kind.now))
-        (all_of (several_view (λ n. n.items) sets.now))) }
+        (all_of (several_view (λ n. n) sets.now))) }
 {
-    disciplines.add(&sets.first, kind)?;
+    disciplines.add(sets.first.bytes(), kind)?;
     for set in &sets.others {
-        disciplines.add(set, kind)?;
+        disciplines.add(set.bytes(), kind)?;
     }
     Ok(())
 }
@@ -108,7 +108,7 @@ fn add_ties<'a>(ties: &mut FactTable<&'a Several<Key>>, item: &'a Item) -> Resul
         ++ declared.ties_in (view.item_view item.now)) }
 {
     match item {
-        Item::Orders(EventRule::BreakTies { event, keys }) => ties.add(event, keys),
+        Item::Orders(EventRule::BreakTies { event, keys }) => ties.add(event.bytes(), keys),
         _ => Ok(()),
     }
 }

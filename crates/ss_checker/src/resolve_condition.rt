@@ -43,7 +43,9 @@ pub(crate) fn resolve_condition(
         (λ x. x ≡ in_scope scope.entry resolved.resolved_condition (condition_view c.now)) }
 {
     let any = resolve_disjunction(scope, c)?;
-    Ok(Condition { any })
+    Ok(Condition {
+        any: Box::new(scope.alloc, any)?,
+    })
 }
 
 #[cycle(resolve)]

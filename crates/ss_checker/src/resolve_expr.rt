@@ -2,8 +2,9 @@ ghost use Rattle.std.specs.Prelude.{◌≡◌, ◌++◌, map, option_map, IfOk, 
 ghost use Rattle.ss_words.specs.Lists.{all_of, several_view};
 ghost use Rattle.ss_words.specs.Reading.{option_view};
 ghost use Rattle.ss_grammar.specs.Tree.{listed};
-ghost use Rattle.ss_grammar.specs.View.{expr_view, term_view, factor_view, listing_view};
+ghost use Rattle.ss_grammar.specs.View.{application_view, expr_view, term_view, factor_view, listing_view};
 ghost use Rattle.ss_check.specs.ProgramExpr.{expr_of, term_of, factor_of, arguments_of};
+ghost use Rattle.ss_check.specs.ProgramExpr.{subscript_of, subscripted_of};
 ghost use Rattle.ss_check.specs.ProgramExpr as tree;
 ghost use Rattle.ss_checker.specs.Resolved as resolved;
 ghost use Rattle.ss_checker.specs.ResolvedNames as names;
@@ -15,10 +16,10 @@ use crate::scope::{
     Scope, class_subscript, kind, member_kept, member_subscript, owner_kept, owner_subscript,
     variable_of,
 };
-use ss_check::{Arguments, Expr, Factor, SignedTerm, Sum, Term, Values};
+use ss_check::{Arguments, Expr, Factor, SignedTerm, Subscript, Subscripted, Sum, Term, Values};
 use ss_grammar::Listing;
 use ss_words::Several;
-use std::alloc::AllocError;
+use std::alloc::{AllocError, Global};
 
 /// An expression with the numbers of its names.
 pub(crate) fn resolve_expr(scope: Scope<'_>, e: &ss_grammar::Expr) -> Result<Expr, AllocError>
@@ -158,25 +159,42 @@ fn resolve_factor(scope: Scope<'_>, f: &ss_grammar::Factor) -> Result<Factor, Al
 {
     match f {
         ss_grammar::Factor::Number(n) => Ok(Factor::Number(*n)),
-        ss_grammar::Factor::Name(name) => Ok(plain_factor(scope, kind(scope, name), name, None)),
-        ss_grammar::Factor::Applied {
-            name,
-            first,
-            others,
-        } => {
-            let first = resolve_sum(scope, first)?;
-            let first = Box::new(scope.alloc, first)?;
-            let mut more = Vec::with_capacity(scope.alloc, others.len())?;
-            for other in others {
-                more.push(resolve_sum(scope, other)?)?;
-            }
-            applied_factor(scope, kind(scope, name), name, Arguments { first, more })
+        ss_grammar::Factor::Name(name) => {
+            let name = name.bytes();
+            plain_factor(scope, kind(scope, name), name, None)
         }
+        ss_grammar::Factor::Applied(application) => resolve_application(scope, application),
         ss_grammar::Factor::Within(e) => {
             let sum = resolve_sum(scope, e)?;
             Ok(Factor::Within(Box::new(scope.alloc, sum)?))
         }
     }
+}
+
+#[cycle(resolve)]
+fn resolve_application(scope: Scope<'_>, a: &ss_grammar::Application) -> Result<Factor, AllocError>
+    ensures { IfOk result
+        (λ x. factor_of x ≡ in_scope scope.entry resolved.resolved_factor (application_view a.now)) }
+{
+    let first = resolve_sum(scope, &a.first)?;
+    let first = Box::new(scope.alloc, first)?;
+    let mut more = Vec::with_capacity(scope.alloc, a.others.len())?;
+    for other in &a.others {
+        more.push(resolve_sum(scope, other)?)?;
+    }
+    let name = a.name.bytes();
+    applied_factor(scope, kind(scope, name), name, Arguments { first, more })
+}
+
+/// An attribute or a set by its number, and which entity's is meant.
+fn subscripted(
+    alloc: Global,
+    number: usize,
+    subscript: Subscript,
+) -> Result<Box<Subscripted>, AllocError>
+    ensures { IfOk result (λ s. subscripted_of s.value ≡ (number, subscript_of subscript)) }
+{
+    Ok(Box::new(alloc, Subscripted { number, subscript })?)
 }
 
 /// A name of this kind with a subscript or none.
@@ -185,30 +203,38 @@ pub(crate) fn plain_factor(
     kind: Option<&NameKind>,
     name: &[u8],
     subscript: Option<Box<Sum>>,
-) -> Factor
-    ensures { factor_of result ≡ in_scope scope.entry names.factor_of (option_map (λ k. k.now) kind.entry)
-        name.now (option_map (λ e. expr_of e.value) subscript) }
+) -> Result<Factor, AllocError>
+    ensures { IfOk result (λ f. factor_of f
+        ≡ in_scope scope.entry names.factor_of (option_map (λ k. k.now) kind.entry)
+        name.now (option_map (λ e. expr_of e.value) subscript)) }
 {
     match kind {
         Some(NameKind::Attribute(class)) => {
             let number = scope.names.class(&class.bytes);
-            Factor::Attribute {
+            let attribute = scope.names.attribute(number, name);
+            let subscript = class_subscript(scope, &class.bytes, subscript);
+            Ok(Factor::Attribute {
                 class: number,
-                attribute: scope.names.attribute(number, name),
-                subscript: class_subscript(scope, &class.bytes, subscript),
-            }
+                attribute: subscripted(scope.alloc, attribute, subscript)?,
+            })
         }
-        Some(NameKind::OwnerKept { kept, set }) => Factor::OwnerKept {
-            kept: owner_kept(*kept),
-            set: scope.names.set(&set.bytes),
-            subscript: owner_subscript(scope, &set.bytes, subscript),
-        },
-        Some(NameKind::MemberKept { kept, set }) => Factor::MemberKept {
-            kept: member_kept(*kept),
-            set: scope.names.set(&set.bytes),
-            subscript: member_subscript(scope, &set.bytes, subscript),
-        },
-        _ => Factor::Variable(variable_of(scope, kind, name)),
+        Some(NameKind::OwnerKept { kept, set }) => {
+            let number = scope.names.set(&set.bytes);
+            let subscript = owner_subscript(scope, &set.bytes, subscript);
+            Ok(Factor::OwnerKept {
+                kept: owner_kept(*kept),
+                set: subscripted(scope.alloc, number, subscript)?,
+            })
+        }
+        Some(NameKind::MemberKept { kept, set }) => {
+            let number = scope.names.set(&set.bytes);
+            let subscript = member_subscript(scope, &set.bytes, subscript);
+            Ok(Factor::MemberKept {
+                kept: member_kept(*kept),
+                set: subscripted(scope.alloc, number, subscript)?,
+            })
+        }
+        _ => Ok(Factor::Variable(variable_of(scope, kind, name))),
     }
 }
 
@@ -225,7 +251,7 @@ pub(crate) fn applied_factor(
 {
     match kind {
         Some(NameKind::Function(function)) => function_factor(scope, *function, arguments),
-        _ => Ok(plain_factor(scope, kind, name, Some(arguments.first))),
+        _ => plain_factor(scope, kind, name, Some(arguments.first)),
     }
 }
 
@@ -241,8 +267,8 @@ fn function_factor(
 {
     match function {
         Function::Absolute => Ok(Factor::Absolute(arguments.first)),
-        Function::Greatest => Ok(Factor::Greatest(arguments)),
-        Function::Least => Ok(Factor::Least(arguments)),
+        Function::Greatest => Ok(Factor::Greatest(Box::new(scope.alloc, arguments)?)),
+        Function::Least => Ok(Factor::Least(Box::new(scope.alloc, arguments)?)),
         Function::Quotient => quotient_factor(scope, arguments),
         Function::Remainder => remainder_factor(scope, arguments),
     }

@@ -10,11 +10,11 @@ use crate::resolve_expr::{resolve_expr, resolve_option};
 use crate::resolve_reference::{resolve_set, resolve_target};
 use crate::scope::{Scope, class_variable, resolve_variable};
 use ss_check::{
-    Begin, Direction, ForPhrase, Looping, Phrase, Qualifier, QualifierWord, Qualifiers, Statistic,
-    Telling, Tellings, Variable,
+    Begin, Boxed, Direction, ForPhrase, Looping, Phrase, Qualifier, QualifierWord, Qualifiers,
+    Statistic, Telling, Tellings, Variable,
 };
 use ss_grammar::{Computed, Loop, Range, WalkStart};
-use ss_words::Several;
+use ss_words::{Name, Several};
 use std::alloc::AllocError;
 
 fn resolve_direction(direction: ss_grammar::Direction) -> Direction
@@ -39,12 +39,12 @@ fn resolve_begin(scope: Scope<'_>, start: &WalkStart) -> Result<Begin, AllocErro
 }
 
 /// The variable behind CALLED, else that of the class's name.
-fn loop_variable(scope: Scope<'_>, class: &[u8], called: &Option<Vec<u8>>) -> Variable
+fn loop_variable(scope: Scope<'_>, class: &[u8], called: &Option<Name>) -> Variable
     ensures { result ≡ in_scope scope.entry resolved.loop_variable class.now
-        (option_view (λ n. n.items) called.now) }
+        (option_view (λ n. n) called.now) }
 {
     match called {
-        Some(name) => resolve_variable(scope, name),
+        Some(name) => resolve_variable(scope, name.bytes()),
         None => class_variable(scope, class),
     }
 }
@@ -63,16 +63,16 @@ fn resolve_range(scope: Scope<'_>, range: &Range) -> Result<Phrase, AllocError>
             step,
         } => Ok(Phrase::Counting {
             direction: resolve_direction(*direction),
-            variable: resolve_variable(scope, variable),
+            variable: resolve_variable(scope, variable.bytes()),
             first: resolve_expr(scope, first)?,
             last: resolve_expr(scope, last)?,
             step: resolve_option(scope, step)?,
         }),
         Range::Each { class, variable } => Ok(Phrase::Each {
-            class: scope.names.class(class),
+            class: scope.names.class(class.bytes()),
             is_called: variable.is_some(),
-            variable: loop_variable(scope, class, variable),
-            count: scope.names.count(scope.alloc, class)?,
+            variable: loop_variable(scope, class.bytes(), variable),
+            count: scope.names.count(scope.alloc, class.bytes())?,
         }),
         Range::Walking {
             direction,
@@ -81,7 +81,7 @@ fn resolve_range(scope: Scope<'_>, range: &Range) -> Result<Phrase, AllocError>
             start,
         } => Ok(Phrase::Walking {
             direction: resolve_direction(*direction),
-            variable: resolve_variable(scope, variable),
+            variable: resolve_variable(scope, variable.bytes()),
             set: resolve_set(scope, set)?,
             begin: resolve_begin(scope, start)?,
         }),
@@ -185,11 +185,15 @@ pub(crate) fn resolve_loop(scope: Scope<'_>, turn: &Loop) -> Result<Looping, All
 {
     match turn {
         Loop::For { phrase, repeats } => {
-            Ok(Looping::For(resolve_phrase(scope, phrase, *repeats)?))
+            let phrase = resolve_phrase(scope, phrase, *repeats)?;
+            Ok(Looping::For(Boxed::new(scope.alloc, phrase)?))
         }
         Loop::Next => Ok(Looping::Loop),
         Loop::Find => Ok(Looping::Find),
-        Loop::Gather(value) => Ok(Looping::Gather(resolve_expr(scope, value)?)),
+        Loop::Gather(value) => {
+            let value = resolve_expr(scope, value)?;
+            Ok(Looping::Gather(Boxed::new(scope.alloc, value)?))
+        }
         Loop::Compute(computed) => Ok(Looping::Tell(resolve_tellings(scope, computed)?)),
     }
 }

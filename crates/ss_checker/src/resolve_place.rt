@@ -53,14 +53,15 @@ fn resolve_place(scope: Scope<'_>, place: &ss_grammar::Place) -> Result<Place, A
     }
 }
 
-/// The places of a section with the numbers of their names, in order.
+/// The places of a section with the numbers of their names, in order. What the text says of a place
+/// is let go as soon as the place is made.
 pub(crate) fn resolve_places(
     scope: Scope<'_>,
-    places: &[ss_grammar::Spot],
+    places: Vec<ss_grammar::Spot>,
 ) -> Result<Vec<Spot>, AllocError>
-    requires { list_any (λ s. has_wrong_picture s.place) (view.spots places.now) ≡ false }
+    requires { list_any (λ s. has_wrong_picture s.place) (view.spots places.items) ≡ false }
     ensures { IfOk result
-        (λ xs. xs.items ≡ map (in_scope scope.entry resolved.resolved_spot) (view.spots places.now)) }
+        (λ xs. xs.items ≡ map (in_scope scope.entry resolved.resolved_spot) (view.spots places.items)) }
 {
     let mut list = Vec::with_capacity(scope.alloc, places.len())?;
     for spot in places {

@@ -2,7 +2,7 @@ ghost use Rattle.std.specs.Prelude.{◌≡◌, ◌++◌, map, option_map, IfOk, 
 ghost use Rattle.ss_words.specs.Lists.{all_of, several_view};
 ghost use Rattle.ss_words.specs.Reading.{option_view};
 ghost use Rattle.ss_grammar.specs.View.{reference_view};
-ghost use Rattle.ss_check.specs.ProgramExpr.{expr_of, factor_of};
+ghost use Rattle.ss_check.specs.ProgramExpr.{expr_of, factor_of, subscript_of};
 ghost use Rattle.ss_checker.specs.Resolved as resolved;
 ghost use Rattle.ss_checker.specs.ResolvedNames as names;
 ghost use Rattle.ss_checker.specs.Scope.{in_scope};
@@ -10,7 +10,7 @@ ghost use Rattle.ss_checker.specs.Scope.{in_scope};
 use crate::name_kind::NameKind;
 use crate::resolve_expr::{applied_factor, plain_factor, resolve_subscript};
 use crate::scope::{Scope, class_subscript, class_variable, kind, owner_subscript, variable_of};
-use ss_check::{Arguments, Expr, Factor, Index, SetRef, Sum, Target, Targets, Term};
+use ss_check::{Arguments, Expr, Factor, Index, SetRef, Subscript, Sum, Target, Targets, Term};
 use ss_grammar::Reference;
 use ss_words::Several;
 use std::alloc::{AllocError, Global};
@@ -43,7 +43,7 @@ fn value_factor(
         name.now (option_map (λ e. expr_of e.value) subscript)) }
 {
     let Some(first) = subscript else {
-        return Ok(plain_factor(scope, kind, name, None));
+        return plain_factor(scope, kind, name, None);
     };
     let more = Vec::new(scope.alloc);
     applied_factor(scope, kind, name, Arguments { first, more })
@@ -55,8 +55,18 @@ pub(crate) fn resolve_value(scope: Scope<'_>, r: &Reference) -> Result<Expr, All
         (λ x. x ≡ in_scope scope.entry resolved.resolved_value (reference_view r.now)) }
 {
     let subscript = resolve_subscript(scope, &r.subscript)?;
-    let factor = value_factor(scope, kind(scope, &r.name), &r.name, subscript)?;
+    let name = r.name.bytes();
+    let factor = value_factor(scope, kind(scope, name), name, subscript)?;
     Ok(alone(scope.alloc, factor))
+}
+
+/// A subscript in a block of its own.
+fn resolve_index(alloc: Global, subscript: Subscript) -> Result<Index, AllocError>
+    ensures { IfOk result (λ index. index ≡ subscript_of subscript) }
+{
+    Ok(Index {
+        subscript: Box::new(alloc, subscript)?,
+    })
 }
 
 /// A name of this kind with a subscript or none, as a target.
@@ -65,21 +75,22 @@ fn target_of(
     kind: Option<&NameKind>,
     name: &[u8],
     subscript: Option<Box<Sum>>,
-) -> Target
-    ensures { result ≡ in_scope scope.entry names.target_of (option_map (λ k. k.now) kind.entry)
-        name.now (option_map (λ e. expr_of e.value) subscript) }
+) -> Result<Target, AllocError>
+    ensures { IfOk result
+        (λ x. x ≡ in_scope scope.entry names.target_of (option_map (λ k. k.now) kind.entry)
+        name.now (option_map (λ e. expr_of e.value) subscript)) }
 {
     match kind {
         Some(NameKind::Attribute(class)) => {
             let number = scope.names.class(&class.bytes);
             let subscript = class_subscript(scope, &class.bytes, subscript);
-            Target::Attribute {
+            Ok(Target::Attribute {
                 class: number,
                 attribute: scope.names.attribute(number, name),
-                index: Index { subscript },
-            }
+                index: resolve_index(scope.alloc, subscript)?,
+            })
         }
-        _ => Target::Variable(variable_of(scope, kind, name)),
+        _ => Ok(Target::Variable(variable_of(scope, kind, name))),
     }
 }
 
@@ -89,7 +100,8 @@ pub(crate) fn resolve_target(scope: Scope<'_>, r: &Reference) -> Result<Target, 
         (λ x. x ≡ in_scope scope.entry resolved.resolved_target (reference_view r.now)) }
 {
     let subscript = resolve_subscript(scope, &r.subscript)?;
-    Ok(target_of(scope, kind(scope, &r.name), &r.name, subscript))
+    let name = r.name.bytes();
+    target_of(scope, kind(scope, name), name, subscript)
 }
 
 /// Puts targets at the end of a list.
@@ -133,10 +145,11 @@ pub(crate) fn resolve_set(scope: Scope<'_>, r: &Reference) -> Result<SetRef, All
         (λ x. x ≡ in_scope scope.entry resolved.resolved_set (reference_view r.now)) }
 {
     let subscript = resolve_subscript(scope, &r.subscript)?;
-    let subscript = owner_subscript(scope, &r.name, subscript);
+    let name = r.name.bytes();
+    let subscript = owner_subscript(scope, name, subscript);
     Ok(SetRef {
-        set: scope.names.set(&r.name),
-        owner: Index { subscript },
+        set: scope.names.set(name),
+        owner: resolve_index(scope.alloc, subscript)?,
     })
 }
 

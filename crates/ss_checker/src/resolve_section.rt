@@ -19,21 +19,21 @@ pub(crate) fn resolve_section(
     alloc: Global,
     whole: &Tables,
     names: &NameTables,
-    section: &ss_grammar::Section,
+    section: ss_grammar::Section,
 ) -> Result<Section, AllocError>
-    requires { list_any (λ s. has_wrong_picture s.place) (view.section_view section.now).places ≡ false }
+    requires { list_any (λ s. has_wrong_picture s.place) (view.section_view section).places ≡ false }
     ensures { IfOk result
-        (λ s. s ≡ resolved.resolved_section whole.now names.now (view.section_view section.now)) }
+        (λ s. s ≡ resolved.resolved_section whole.now names.now (view.section_view section)) }
 {
-    let locals = section_locals(alloc, whole, section)?;
+    let locals = section_locals(alloc, whole, &section)?;
+    let head = resolve_head(alloc, &section)?;
     let scope = Scope {
         alloc,
         whole,
         names,
         locals: &locals,
     };
-    let places = resolve_places(scope, &section.places)?;
-    let head = resolve_head(alloc, section)?;
+    let places = resolve_places(scope, section.places)?;
     Section::new(alloc, head, locals.into_names(), places)
 }
 
@@ -59,7 +59,7 @@ fn resolve_head(alloc: Global, section: &ss_grammar::Section) -> Result<Head, Al
             saving: false,
         }),
         ss_grammar::SectionKind::Routine { given, yielded } => Ok(Head {
-            name: copied(alloc, &section.name)?,
+            name: copied(alloc, section.name.bytes())?,
             kind: SectionKind::Routine,
             line,
             given: name_count(given),
@@ -67,7 +67,7 @@ fn resolve_head(alloc: Global, section: &ss_grammar::Section) -> Result<Head, Al
             saving: false,
         }),
         ss_grammar::SectionKind::Event { given, saving } => Ok(Head {
-            name: copied(alloc, &section.name)?,
+            name: copied(alloc, section.name.bytes())?,
             kind: SectionKind::Event,
             line,
             given: name_count(given),

@@ -17,8 +17,8 @@ use crate::resolve_reference::{
 };
 use crate::scope::Scope;
 use ss_check::{
-    Assign, Call, Control, End, Filing, Listing, Making, Notice, Output, Place, Position, Schedule,
-    Timing, When,
+    Assign, Boxed, Call, Control, End, Filing, Listing, Making, Notice, Output, Place, Position,
+    Schedule, Timing, When,
 };
 use ss_grammar::{Article, Details, Exchange, FilePlace, Reference, SetEnd, Simple, Transfer};
 use ss_report::{Picture, PictureFault};
@@ -32,10 +32,19 @@ pub(crate) fn resolve_simple(scope: Scope<'_>, one: &Simple) -> Result<Place, Al
 {
     match one {
         Simple::Assign(assign) => Ok(Place::Assign(resolve_assign(scope, assign)?)),
-        Simple::Make(making) => Ok(Place::Making(resolve_making(scope, making)?)),
-        Simple::File(filing) => Ok(Place::Filing(resolve_filing(scope, filing)?)),
+        Simple::Make(making) => {
+            let making = resolve_making(scope, making)?;
+            Ok(Place::Making(Boxed::new(scope.alloc, making)?))
+        }
+        Simple::File(filing) => {
+            let filing = resolve_filing(scope, filing)?;
+            Ok(Place::Filing(Boxed::new(scope.alloc, filing)?))
+        }
         Simple::Transfer(transfer) => resolve_transfer(scope, transfer),
-        Simple::Time(timing) => Ok(Place::Timing(resolve_timing(scope, timing)?)),
+        Simple::Time(timing) => {
+            let timing = resolve_timing(scope, timing)?;
+            Ok(Place::Timing(Boxed::new(scope.alloc, timing)?))
+        }
         Simple::Exchange(exchange) => resolve_exchange(scope, exchange),
     }
 }
@@ -71,22 +80,22 @@ fn resolve_making(scope: Scope<'_>, making: &ss_grammar::Making) -> Result<Makin
 {
     match making {
         ss_grammar::Making::Create { class, target } => Ok(Making::Create {
-            class: scope.names.class(class),
+            class: scope.names.class(class.bytes()),
             is_called: target.is_some(),
-            target: called_target(scope, class, target)?,
+            target: called_target(scope, class.bytes(), target)?,
         }),
         ss_grammar::Making::CreateEvery { class, count } => {
-            let variable = scope.names.count(scope.alloc, class)?;
+            let variable = scope.names.count(scope.alloc, class.bytes())?;
             Ok(Making::CreateEvery {
-                class: scope.names.class(class),
+                class: scope.names.class(class.bytes()),
                 number: resolve_option(scope, count)?,
                 count: variable,
             })
         }
         ss_grammar::Making::Destroy { class, entity } => Ok(Making::Destroy {
-            class: scope.names.class(class),
+            class: scope.names.class(class.bytes()),
             is_called: entity.is_some(),
-            entity: called_value(scope, class, entity)?,
+            entity: called_value(scope, class.bytes(), entity)?,
         }),
     }
 }
@@ -162,11 +171,14 @@ fn resolve_transfer(scope: Scope<'_>, transfer: &Transfer) -> Result<Place, Allo
             routine,
             values,
             targets,
-        } => Ok(Place::Call(Call {
-            section: scope.names.routine(routine),
-            given: resolve_listed(scope, values)?,
-            targets: resolve_targets(scope, targets)?,
-        })),
+        } => {
+            let call = Call {
+                section: scope.names.routine(routine.bytes()),
+                given: resolve_listed(scope, values)?,
+                targets: resolve_targets(scope, targets)?,
+            };
+            Ok(Place::Call(Boxed::new(scope.alloc, call)?))
+        }
         Transfer::Return => Ok(Place::Control(Control::Return)),
         Transfer::Stop => Ok(Place::Control(Control::Stop)),
     }
@@ -249,11 +261,11 @@ fn resolve_timing(scope: Scope<'_>, timing: &ss_grammar::Timing) -> Result<Timin
             event,
             details,
             when,
-        } => resolve_schedule(scope, *article, event, details, when),
+        } => resolve_schedule(scope, *article, event.bytes(), details, when),
         ss_grammar::Timing::Cancel { event, called } => Ok(Timing::Cancel {
-            class: scope.names.class(event),
+            class: scope.names.class(event.bytes()),
             is_called: called.is_some(),
-            notice: called_value(scope, event, called)?,
+            notice: called_value(scope, event.bytes(), called)?,
         }),
         ss_grammar::Timing::StartSimulation => Ok(Timing::Start),
     }
@@ -296,11 +308,17 @@ fn resolve_exchange(scope: Scope<'_>, exchange: &Exchange) -> Result<Place, Allo
             count,
             values,
             picture,
-        } => Ok(Place::Output(Output::Print {
-            count: *count,
-            values: resolve_values(scope, values)?,
-            picture: resolve_picture(scope.alloc, picture)?,
-        })),
-        Exchange::Skip(lines) => Ok(Place::Output(Output::Skip(resolve_expr(scope, lines)?))),
+        } => {
+            let output = Output::Print {
+                count: *count,
+                values: resolve_values(scope, values)?,
+                picture: resolve_picture(scope.alloc, picture)?,
+            };
+            Ok(Place::Output(Boxed::new(scope.alloc, output)?))
+        }
+        Exchange::Skip(lines) => {
+            let output = Output::Skip(resolve_expr(scope, lines)?);
+            Ok(Place::Output(Boxed::new(scope.alloc, output)?))
+        }
     }
 }

@@ -13,6 +13,7 @@ use crate::tables::Tables;
 use crate::use_list::{Use, UseList};
 use ss_check::NameTable;
 use ss_grammar::{Listing, Place, Section, SectionKind};
+use ss_words::Name;
 use std::alloc::{AllocError, Global};
 
 /// The local variables of a section: its parameters, then the other names that its places take for
@@ -49,26 +50,26 @@ fn add_parameters(locals: &mut NameTable, section: &Section) -> Result<(), Alloc
 }
 
 /// Adds names that may be listed.
-fn add_listed(locals: &mut NameTable, names: &Listing<Vec<u8>>) -> Result<(), AllocError>
+fn add_listed(locals: &mut NameTable, names: &Listing<Name>) -> Result<(), AllocError>
     ensures { OnOk result (locals.new
-        ≡ fold with_name locals.old (listed (view.listing_view (λ n. n.items) names.now))) }
+        ≡ fold with_name locals.old (listed (view.listing_view (λ n. n) names.now))) }
 {
     match names {
         Listing::Unwritten => Ok(()),
         Listing::BehindGiven(names) | Listing::InParentheses(names) => {
-            locals.add(&names.first)?;
+            locals.add(names.first.bytes())?;
             add_names(locals, &names.others)
         }
     }
 }
 
 /// Adds names.
-fn add_names(locals: &mut NameTable, names: &[Vec<u8>]) -> Result<(), AllocError>
+fn add_names(locals: &mut NameTable, names: &[Name]) -> Result<(), AllocError>
     ensures { OnOk result
-        (locals.new ≡ fold with_name locals.old (map (λ n. n.items) names.now)) }
+        (locals.new ≡ fold with_name locals.old names.now) }
 {
     for name in names {
-        locals.add(name)?;
+        locals.add(name.bytes())?;
     }
     Ok(())
 }

@@ -36,9 +36,9 @@ fn add_owned(
     let Clause::Owns(sets) = clause else {
         return Ok(());
     };
-    owners.add(&sets.first, copied_class(alloc, class)?)?;
+    owners.add(sets.first.bytes(), copied_class(alloc, class)?)?;
     for set in &sets.others {
-        owners.add(set, copied_class(alloc, class)?)?;
+        owners.add(set.bytes(), copied_class(alloc, class)?)?;
     }
     Ok(())
 }
@@ -69,7 +69,12 @@ pub(crate) fn add_owners(
     ensures { OnOk result (owners.new ≡ owners.old ++ declared.owners_in (view.item_view item.now)) }
 {
     match item {
-        Item::OfEvery { class, clauses } => add_all_owned(alloc, owners, Some(class), clauses),
+        Item::OfEvery { class, clauses } => add_all_owned(
+            alloc,
+            owners,
+            Some(class.bytes()),
+            clauses,
+        ),
         Item::OfSystem(clauses) => add_all_owned(alloc, owners, None, clauses),
         _ => Ok(()),
     }
@@ -88,9 +93,9 @@ fn add_joined(
     let Clause::BelongsTo(sets) = clause else {
         return Ok(());
     };
-    members.add(&sets.first, copied(alloc, class)?)?;
+    members.add(sets.first.bytes(), copied(alloc, class)?)?;
     for set in &sets.others {
-        members.add(set, copied(alloc, class)?)?;
+        members.add(set.bytes(), copied(alloc, class)?)?;
     }
     Ok(())
 }
@@ -121,7 +126,7 @@ pub(crate) fn add_members(
     ensures { OnOk result (members.new ≡ members.old ++ declared.members_in (view.item_view item.now)) }
 {
     match item {
-        Item::OfEvery { class, clauses } => add_all_joined(alloc, members, class, clauses),
+        Item::OfEvery { class, clauses } => add_all_joined(alloc, members, class.bytes(), clauses),
         _ => Ok(()),
     }
 }
@@ -166,7 +171,7 @@ pub(crate) fn add_attributes(attributes: &mut NameCounts, item: &Item) -> Result
     ensures { OnOk result (attributes.new ≡ attributes.old ++ declared.attributes_in (view.item_view item.now)) }
 {
     match item {
-        Item::OfEvery { class, clauses } => add_all_attributes(attributes, class, clauses),
+        Item::OfEvery { class, clauses } => add_all_attributes(attributes, class.bytes(), clauses),
         _ => Ok(()),
     }
 }

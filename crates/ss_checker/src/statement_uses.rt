@@ -54,15 +54,15 @@ fn add_making<'a>(uses: &mut UseList<'a>, making: &'a Making) -> Result<(), Allo
 {
     match making {
         Making::Create { class, target } => {
-            add_class(uses, ClassNeed::Ending, class)?;
+            add_class(uses, ClassNeed::Ending, class.bytes())?;
             add_called_target(uses, target)
         }
         Making::CreateEvery { class, count } => {
-            add_class(uses, ClassNeed::Permanent, class)?;
+            add_class(uses, ClassNeed::Permanent, class.bytes())?;
             add_option(uses, count)
         }
         Making::Destroy { class, entity } => {
-            add_class(uses, ClassNeed::Ending, class)?;
+            add_class(uses, ClassNeed::Ending, class.bytes())?;
             add_called_value(uses, entity)
         }
     }
@@ -146,7 +146,7 @@ fn add_transfer<'a>(uses: &mut UseList<'a>, transfer: &'a Transfer) -> Result<()
             targets,
         } => {
             uses.add(Use::Routine {
-                name: routine,
+                name: routine.bytes(),
                 values: value_count(values),
                 targets: targets.len(),
             })?;
@@ -221,14 +221,16 @@ fn add_timing<'a>(uses: &mut UseList<'a>, timing: &'a Timing) -> Result<(), Allo
             details,
             when,
         } => {
-            add_class(uses, ClassNeed::Event, event)?;
-            let values = detail_count(details);
-            uses.add(Use::Notice { event, values })?;
+            add_class(uses, ClassNeed::Event, event.bytes())?;
+            uses.add(Use::Notice {
+                event: event.bytes(),
+                values: detail_count(details),
+            })?;
             add_details(uses, *article, details)?;
             add_when(uses, when)
         }
         Timing::Cancel { event, called } => {
-            add_class(uses, ClassNeed::Event, event)?;
+            add_class(uses, ClassNeed::Event, event.bytes())?;
             add_called_value(uses, called)
         }
         Timing::StartSimulation => Ok(()),

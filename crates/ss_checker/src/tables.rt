@@ -112,17 +112,17 @@ impl Tables {
                     given: name_count(given),
                     yielded: yielded.len(),
                 };
-                self.kinds.add(&section.name, NameKind::Routine)?;
-                self.routines.add(&section.name, counts)
+                self.kinds.add(section.name.bytes(), NameKind::Routine)?;
+                self.routines.add(section.name.bytes(), counts)
             }
-            SectionKind::Event { .. } => self.events.add(&section.name),
+            SectionKind::Event { .. } => self.events.add(section.name.bytes()),
         }
     }
 }
 
 /// How many names are listed.
-pub(crate) fn name_count(names: &Listing<Vec<u8>>) -> usize
-    ensures { result ≡ length (listed (heads.listing_view (λ n. n.items) names.now)) }
+pub(crate) fn name_count(names: &Listing<ss_words::Name>) -> usize
+    ensures { result ≡ length (listed (heads.listing_view (λ n. n) names.now)) }
 {
     match names {
         Listing::Unwritten => 0,

@@ -158,7 +158,7 @@ module _ (text : List PlainWord) (n : ℕ) where
   line_of ws = line lines (length text - length ws)
 
   same_line : (ws : List Plain) (l : ℕ) → l ≡ line_of ws → line lines (length lines - length ws) ≡ l
-  same_line ws l e = ap (λ (k : ℕ). line lines (k - length ws)) (length-map text (λ w. w.line)) ∙ sym e
+  same_line ws l e = ap (λ (k : ℕ). line lines (k - length ws)) (length-map text (λ w. w.word.now.line)) ∙ sym e
 
   module _ (i f : ℕ) (acc : List Spot) (ws z : List Plain) (lt : 0 < i)
       (e : allowed i (m.Reserved r.If) ws ≡ (Ok true, z)) (l : ℕ) (at : l ≡ line_of ws) where

@@ -8,7 +8,7 @@ use Rattle.ss_words.specs.declared.refusal.Refusal.TheVariants.{Unexpected, Past
 use Rattle.ss_words.specs.declared.fault.TextRule.TheVariants as Rule
 use Rattle.ss_words.specs.declared.fault.TextRule.TheVariants.{UnexpectedWord, UnexpectedEnd}
 use Rattle.ss_words.specs.declared.plain_word.PlainWord.{PlainWord}
-use Rattle.ss_words.specs.Plain.{Plain, plains, plain_of, plain_at, plains_of, word_lines}
+use Rattle.ss_words.specs.Plain.{Plain, plains, plain_in, plain_at, plains_of, word_lines}
 use Rattle.ss_words.specs.Reading.{Read, Reading, whole}
 use Rattle.ss_words.specs.Noting.{line}
 use Rattle.ss_words.proofs.Loop.{on_ok}
@@ -25,11 +25,11 @@ use Rattle.ss_grammar.proofs.Whole.{reading, read_sections, unexpected_word, une
 
 pub words_are : (text : List PlainWord) → plains (map plain_at text) ≡ plains_of text
 words_are [] = refl
-words_are (w ∷ text) = ap (λ (u : List Plain). plain_of w.kind ∷ u) (words_are text)
+words_are (w ∷ text) = ap (λ (u : List Plain). plain_in w ∷ u) (words_are text)
 
 pub lines_are : (text : List PlainWord) → lines (map plain_at text) ≡ word_lines text
 lines_are [] = refl
-lines_are (w ∷ text) = ap (λ (u : List ℕ). w.line ∷ u) (lines_are text)
+lines_are (w ∷ text) = ap (λ (u : List ℕ). w.word.now.line ∷ u) (lines_are text)
 
 -- ---- the reading that notes
 
@@ -43,7 +43,7 @@ module _ (text : List PlainWord) where
   )
   as_tree =
       (whole_writes (word_lines text) 50 64 16 31 (omega arith) 256).at (plains_of text)
-      (omega (arith, length-map text (λ w. plain_of w.kind), length-map text (λ w. w.line)))
+      (omega (arith, length-map text plain_in, length-map text (λ w. w.word.now.line)))
 
   abbrev Reads : Refusal → List Plain → Result Tree Refusal → List Plain → Type 0
   Reads g rest o rest' =
@@ -91,7 +91,7 @@ module _ (text : List PlainWord) where
 
 module _ (text : List PlainWord) (rest : List Plain) where
   place : length (plains_of text) - length rest ≡ length text - length rest
-  place = omega (arith, length-map text (λ w. plain_of w.kind))
+  place = omega (arith, length-map text plain_in)
 
   at_lines : (i : ℕ) → line (word_lines text) i ≡ line (lines (map plain_at text)) i
   at_lines i = ap (λ (ls : List ℕ). line ls i) (sym (lines_are text))

@@ -1,5 +1,5 @@
 -- The pure data that parts of statements and conditions of the code stand for.
-use Rattle.std.specs.Prelude.{ℕ, List, map, Option}
+use Rattle.std.specs.Prelude.{List, map, Option}
 use Rattle.std.specs.Global.{Vec}
 use Rattle.ss_words.specs.declared.several.Several.{Several as CodeSeveral}
 use Rattle.ss_words.specs.Lists.{Name, Several, several_view}
@@ -52,8 +52,8 @@ abbrev pub rest_view : Vec CodeFactor × Vec CodeAdded → List Factor × List (
 rest_view x = (factors_view x.0, terms_view x.1)
 
 -- a name and a reference or none
-abbrev pub named_view : Vec ℕ × Option CodeReference → Name × Option Reference
-named_view x = (x.0.items, option_view reference_view x.1)
+abbrev pub named_view : Name × Option CodeReference → Name × Option Reference
+named_view x = (x.0, option_view reference_view x.1)
 
 -- a target and a value
 abbrev pub equation_view : CodeReference × CodeExpr → Reference × Expr

@@ -6,8 +6,9 @@ use Rattle.ss_words.specs.declared.term_sign.TermSign.{TermSign}
 use Rattle.ss_grammar.specs.declared.expr.Expr.{Expr as CodeExpr, fold-Expr}
 use Rattle.ss_grammar.specs.declared.expr.Term.{Term as CodeTerm, fold-Term}
 use Rattle.ss_grammar.specs.declared.expr.Added.{Added as CodeAdded, fold-Added}
+use Rattle.ss_grammar.specs.declared.expr.Application.{Application as CodeApplication, fold-Application}
 use Rattle.ss_grammar.specs.declared.expr.Factor.{Factor as CodeFactor, fold-Factor}
-use Rattle.ss_grammar.specs.declared.expr.Factor.TheOpen.{Factor-F, Added-F, Expr-F, Term-F}
+use Rattle.ss_grammar.specs.declared.expr.Factor.TheOpen.{Factor-F, Added-F, Application-F, Expr-F, Term-F}
 use Rattle.ss_grammar.specs.declared.condition.Reference.{Reference as CodeReference}
 use Rattle.ss_grammar.specs.declared.condition.Condition.{Condition as CodeCondition, fold-Condition}
 use Rattle.ss_grammar.specs.declared.condition.Conjunction.{Conjunction as CodeConjunction, fold-Conjunction}
@@ -70,45 +71,59 @@ use Rattle.ss_grammar.specs.Places as p
 -- ---- expressions
 
 -- a factor, with each part already seen as its tree
-abbrev pub factor_step : Factor-F Factor (TermSign × Term) Expr Term → Factor
+abbrev pub factor_step : Factor-F Factor (TermSign × Term) Factor Expr Term → Factor
 factor_step (Factor-F.Number n) = digits n
-factor_step (Factor-F.Name n) = named n.items
-factor_step (Factor-F.Applied n e es) = applied n.items e.value (exprs_of es.items)
+factor_step (Factor-F.Name n) = named n
+factor_step (Factor-F.Applied a) = a.value
 factor_step (Factor-F.Within e) = within e.value
 
 -- a further term
-abbrev pub added_step : Added-F Factor (TermSign × Term) Expr Term → TermSign × Term
+abbrev pub added_step : Added-F Factor (TermSign × Term) Factor Expr Term → TermSign × Term
 added_step a = (a.sign, a.term)
 
+-- a name with its arguments
+abbrev pub application_step : Application-F Factor (TermSign × Term) Factor Expr Term → Factor
+application_step a = applied a.name a.first.value (exprs_of a.others.items)
+
 -- an expression
-abbrev pub expr_step : Expr-F Factor (TermSign × Term) Expr Term → Expr
+abbrev pub expr_step : Expr-F Factor (TermSign × Term) Factor Expr Term → Expr
 expr_step e = expr e.sign e.first (sums_of e.more.items)
 
 -- a term
-abbrev pub term_step : Term-F Factor (TermSign × Term) Expr Term → Term
+abbrev pub term_step : Term-F Factor (TermSign × Term) Factor Expr Term → Term
 term_step t = term t.first (products_of t.more.items)
 
 -- an expression of the code
 abbrev pub expr_view : CodeExpr → Expr
-expr_view = fold-Expr Factor (TermSign × Term) Expr Term factor_step added_step expr_step term_step
+expr_view =
+    fold-Expr Factor (TermSign × Term) Factor Expr Term factor_step added_step application_step expr_step term_step
 
 -- a term of the code
 abbrev pub term_view : CodeTerm → Term
-term_view = fold-Term Factor (TermSign × Term) Expr Term factor_step added_step expr_step term_step
+term_view =
+    fold-Term Factor (TermSign × Term) Factor Expr Term factor_step added_step application_step expr_step term_step
 
 -- a factor of the code
 abbrev pub factor_view : CodeFactor → Factor
-factor_view = fold-Factor Factor (TermSign × Term) Expr Term factor_step added_step expr_step term_step
+factor_view =
+    fold-Factor Factor (TermSign × Term) Factor Expr Term factor_step added_step application_step expr_step term_step
+
+-- a name of the code with its arguments
+abbrev pub application_view : CodeApplication → Factor
+application_view =
+    fold-Application Factor (TermSign × Term) Factor Expr Term factor_step added_step application_step expr_step
+    term_step
 
 -- a further term of the code
 abbrev pub added_view : CodeAdded → TermSign × Term
-added_view = fold-Added Factor (TermSign × Term) Expr Term factor_step added_step expr_step term_step
+added_view =
+    fold-Added Factor (TermSign × Term) Factor Expr Term factor_step added_step application_step expr_step term_step
 
 -- ---- conditions
 
 -- a reference of the code
 abbrev pub reference_view : CodeReference → Reference
-reference_view v = record { name = v.name.items; subscript = option_view (λ b. expr_view b.value) v.subscript }
+reference_view v = record { name = v.name; subscript = option_view (λ b. expr_view b.value) v.subscript }
 
 -- a relation, with each part already seen as its tree
 abbrev pub relation_step : Relation-F Relation Condition Conjunction → Relation
@@ -153,9 +168,9 @@ assign_view (assign.Subtract e v) = s.Subtract (expr_view e) (reference_view v)
 
 -- CREATE, CREATE EVERY, DESTROY of the code
 abbrev pub making_view : CodeMaking → s.Making
-making_view (making.Create c v) = s.Create c.items (option_view reference_view v)
-making_view (making.CreateEvery c e) = s.CreateEvery c.items (option_view expr_view e)
-making_view (making.Destroy c v) = s.Destroy c.items (option_view reference_view v)
+making_view (making.Create c v) = s.Create c (option_view reference_view v)
+making_view (making.CreateEvery c e) = s.CreateEvery c (option_view expr_view e)
+making_view (making.Destroy c v) = s.Destroy c (option_view reference_view v)
 
 -- where a member is filed, of the code
 abbrev pub file_place_view : CodeFilePlace → s.FilePlace
@@ -173,7 +188,7 @@ filing_view (filing.Remove e v) = s.Remove (expr_view e) (reference_view v)
 
 -- CALL, RETURN, STOP of the code
 abbrev pub transfer_view : CodeTransfer → s.Transfer
-transfer_view (transfer.Call n es vs) = s.Call n.items (listing_view expr_view es) (map reference_view vs.items)
+transfer_view (transfer.Call n es vs) = s.Call n (listing_view expr_view es) (map reference_view vs.items)
 transfer_view transfer.Return = s.Return
 transfer_view transfer.Stop = s.Stop
 
@@ -190,8 +205,8 @@ when_view (when.In e) = s.In (expr_view e)
 
 -- SCHEDULE, CANCEL, START SIMULATION of the code
 abbrev pub timing_view : CodeTiming → s.Timing
-timing_view (timing.Schedule a c d w) = s.Schedule a c.items (details_view d) (when_view w)
-timing_view (timing.Cancel c v) = s.Cancel c.items (option_view reference_view v)
+timing_view (timing.Schedule a c d w) = s.Schedule a c (details_view d) (when_view w)
+timing_view (timing.Cancel c v) = s.Cancel c (option_view reference_view v)
 timing_view timing.StartSimulation = s.StartSimulation
 
 -- READ, PRINT and SKIP of the code
@@ -219,9 +234,9 @@ walk_start_view (start.After e) = l.After (expr_view e)
 
 -- what a FOR phrase of the code goes through
 abbrev pub range_view : CodeRange → l.Range
-range_view (range.Counting d n a b c) = l.Counting d n.items (expr_view a) (expr_view b) (option_view expr_view c)
-range_view (range.Each c v) = l.Each c.items (option_view (λ n. n.items) v)
-range_view (range.Walking d n v b) = l.Walking d n.items (reference_view v) (walk_start_view b)
+range_view (range.Counting d n a b c) = l.Counting d n (expr_view a) (expr_view b) (option_view expr_view c)
+range_view (range.Each c v) = l.Each c (option_view (λ n. n) v)
+range_view (range.Walking d n v b) = l.Walking d n (reference_view v) (walk_start_view b)
 
 -- a qualifier of the code
 abbrev pub qualifier_view : CodeQualifier → l.Qualifier
@@ -276,18 +291,18 @@ spots xs = map spot_view xs
 abbrev pub head_view : Name → CodeKind → Head
 head_view n kind.Main = MainHead
 head_view n (kind.Routine given yielded) =
-    RoutineHead n (listing_view (λ v. v.items) given) (map (λ v. v.items) yielded.items)
-head_view n (kind.Event given saving) = EventHead n (listing_view (λ v. v.items) given) saving
+    RoutineHead n (listing_view (λ n. n) given) yielded.items
+head_view n (kind.Event given saving) = EventHead n (listing_view (λ n. n) given) saving
 
 -- a local DEFINE of the code
 abbrev pub local_view : CodeLocalNames → p.LocalNames
-local_view d = record { line = d.line; names = several_view (λ v. v.items) d.names }
+local_view d = record { line = d.line; names = several_view (λ n. n) d.names }
 
 -- a section of the code
 abbrev pub section_view : CodeSection → p.Section
 section_view s = record {
   line = s.line;
-  head = head_view s.name.items s.kind;
+  head = head_view s.name s.kind;
   locals = map local_view s.locals.items;
   places = spots s.places.items;
 }

@@ -9,7 +9,7 @@ use crate::condition::Reference;
 use crate::expr::Expr;
 use crate::expression::{expression, within};
 use crate::simple::{Assign, Making};
-use ss_words::{Cursor, Mark, Plain, Refusal, Reserved, Sign};
+use ss_words::{Cursor, Mark, Name, Plain, Refusal, Reserved, Sign};
 
 /// `["(" expression ")"]`
 #[tactic(auto, unfolding(crate::proofs::Unfoldings::steps, crate::specs::SimpleReading::subscript_at))]
@@ -49,7 +49,7 @@ pub fn called(cursor: &mut Cursor<'_>, room: u32) -> Result<Option<Reference>, R
 
 /// `name [CALLED reference]`
 #[tactic(auto, unfolding(crate::proofs::Unfoldings::in_turn, crate::specs::SimpleReading::named_at))]
-pub fn named(cursor: &mut Cursor<'_>, room: u32) -> Result<(Vec<u8>, Option<Reference>), Refusal>
+pub fn named(cursor: &mut Cursor<'_>, room: u32) -> Result<(Name, Option<Reference>), Refusal>
     ensures exact { Gives named_view result cursor.new (reading.named_at room cursor.old) }
     ensures shorter { length cursor.new ≤ length cursor.old }
 {
@@ -107,8 +107,8 @@ pub fn making(cursor: &mut Cursor<'_>, room: u32) -> Result<Option<Making>, Refu
 
 /// The name that stands here, if one does.
 #[tactic(auto, unfolding(crate::proofs::Unfoldings::steps_by_table, ss_words::specs::Marks::a_name))]
-fn bare_name(cursor: &mut Cursor<'_>) -> Result<Option<Vec<u8>>, Refusal>
-    ensures exact { Gives (option_view (λ v. v.items)) result cursor.new (by_table reading.name_of cursor.old) }
+fn bare_name(cursor: &mut Cursor<'_>) -> Result<Option<Name>, Refusal>
+    ensures exact { Gives (option_view (λ n. n)) result cursor.new (by_table reading.name_of cursor.old) }
     ensures shorter { length cursor.new ≤ length cursor.old }
     ensures taken { IfOk result (λ o. IfSome o (λ _. length cursor.new < length cursor.old)) }
 {

@@ -1,10 +1,11 @@
 use crate::expr::Expr;
+use ss_words::Name;
 
 /// A name, in upper case, with a subscript or without: what a statement assigns to, or a set
 /// (docs/LANGUAGE.md, "References").
 #[derive(Debug, Drop)]
 pub struct Reference {
-    pub name: Vec<u8>,
+    pub name: Name,
     pub subscript: Option<Box<Expr>>,
 }
 

@@ -10,12 +10,12 @@ ghost use Rattle.ss_grammar.specs.ConditionReading as reading;
 ghost use Rattle.ss_grammar.specs.Expr as tree;
 ghost use Rattle.ss_grammar.specs.OrValueView.{or_value_view};
 ghost use Rattle.ss_grammar.specs.PartView.{relations_view, conjunctions_view};
-ghost use Rattle.ss_grammar.specs.View.{expr_view, factor_view, reference_view};
+ghost use Rattle.ss_grammar.specs.View.{expr_view, application_view, factor_view, reference_view};
 ghost use Rattle.ss_grammar.specs.View.{condition_view, conjunction_view, relation_view};
 
 use crate::assignment::reference;
 use crate::condition::{Comparison, Condition, Conjunction, Copula, Reference, Relation};
-use crate::expr::{Expr, Factor, Term};
+use crate::expr::{Application, Expr, Factor, Term};
 use crate::expression::{expression, open, rest};
 use ss_words::{Cursor, Mark, Plain, Refusal, Reserved, Sign};
 
@@ -114,18 +114,27 @@ fn factor_as_reference(factor: Factor) -> Option<Reference>
             name,
             subscript: None,
         }),
-        Factor::Applied {
-            name,
-            first,
-            others,
-        } => match others.as_slice() {
-            [] => Some(Reference {
-                name,
-                subscript: Some(first),
-            }),
-            [_, ..] => None,
-        },
+        Factor::Applied(application) => application_as_reference(Box::into_inner(application)),
         Factor::Number(_) | Factor::Within(_) => None,
+    }
+}
+
+/// The reference that a name with its arguments is, if they are one.
+fn application_as_reference(application: Application) -> Option<Reference>
+    ensures { option_view reference_view result ≡ reading.reference_of
+        (tree.expr None (tree.term (application_view application) tree.no_products) tree.no_sums) }
+{
+    let Application {
+        name,
+        first,
+        others,
+    } = application;
+    match others.as_slice() {
+        [] => Some(Reference {
+            name,
+            subscript: Some(first),
+        }),
+        [_, ..] => None,
     }
 }
 

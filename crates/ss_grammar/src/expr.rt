@@ -1,4 +1,4 @@
-use ss_words::TermSign;
+use ss_words::{Name, TermSign};
 
 /// An expression: a first term, whose sign may be written before it, and the terms added to it or
 /// subtracted from it
@@ -34,13 +34,18 @@ pub enum Factor {
     /// From 0 to 2^63 - 1.
     Number(u64),
     /// A name alone, in upper case.
-    Name(Vec<u8>),
+    Name(Name),
     /// A name with its arguments between parentheses: a function's, or a subscript.
-    Applied {
-        name: Vec<u8>,
-        first: Box<Expr>,
-        others: Vec<Expr>,
-    },
+    Applied(Box<Application>),
     /// An expression between parentheses.
     Within(Box<Expr>),
+}
+
+/// A name with its arguments, the first one and those behind it.
+#[derive(Debug, Drop)]
+#[cycle(ast)]
+pub struct Application {
+    pub name: Name,
+    pub first: Box<Expr>,
+    pub others: Vec<Expr>,
 }

@@ -5,7 +5,7 @@ ghost use Rattle.ss_grammar.specs.ExprReading as reading;
 ghost use Rattle.ss_grammar.specs.PartView.{rest_view, factors_view, terms_view, values_view, several_values_view};
 ghost use Rattle.ss_grammar.specs.View.{expr_view, term_view, factor_view, added_view};
 
-use crate::expr::{Added, Expr, Factor, Term};
+use crate::expr::{Added, Application, Expr, Factor, Term};
 use ss_words::{Cursor, Mark, Plain, Refusal, Several, Sign, TermSign};
 
 /// Reads an expression in which at most so many parentheses may be open at once.
@@ -54,7 +54,7 @@ fn number(cursor: &mut Cursor<'_>) -> Option<u64>
     match cursor.peek() {
         Some(Plain::Number(number)) => {
             cursor.pass();
-            Some(*number)
+            Some(number)
         }
         _ => None,
     }
@@ -186,11 +186,12 @@ fn factor(cursor: &mut Cursor<'_>, room: u32) -> Result<Factor, Refusal>
         return Ok(Factor::Name(name));
     };
     let first = Box::new(cursor.alloc(), first)?;
-    Ok(Factor::Applied {
+    let application = Application {
         name,
         first,
         others,
-    })
+    };
+    Ok(Factor::Applied(Box::new(cursor.alloc(), application)?))
 }
 
 /// An expression in parentheses, if one opens here.

@@ -11,7 +11,7 @@ ghost use Rattle.ss_grammar.specs.View.{head_view, local_view};
 
 use crate::names::{count, given, yielded};
 use crate::section::{LocalNames, SectionKind};
-use ss_words::{Cursor, Mark, Plain, PlainWord, Refusal, Reserved, Several};
+use ss_words::{Cursor, Mark, Name, Plain, PlainWord, Refusal, Reserved, Several};
 
 /// How many parameters a section may have, given and yielded together.
 const MOST_PARAMETERS: usize = 32;
@@ -20,7 +20,7 @@ const MOST_PARAMETERS: usize = 32;
 #[derive(Drop)]
 pub struct SectionHead {
     pub kind: SectionKind,
-    pub name: Vec<u8>,
+    pub name: Name,
 }
 
 /// Whether a section begins with the next word.
@@ -37,7 +37,7 @@ pub fn begins(cursor: &Cursor<'_>) -> bool
 /// or `EVENT name [GIVEN names | "(" names ")"] [SAVING EVENT NOTICES]`.
 #[tactic(auto, using(ss_words::proofs::Marks::taken), unfolding(crate::proofs::Unfoldings::heads))]
 pub fn head(cursor: &mut Cursor<'_>) -> Result<SectionHead, Refusal>
-    ensures exact { Gives (λ h. head_view h.name.items h.kind) result cursor.new (reading.head_at 32 cursor.old) }
+    ensures exact { Gives (λ h. head_view h.name h.kind) result cursor.new (reading.head_at 32 cursor.old) }
     ensures shorter { length cursor.new ≤ length cursor.old }
     ensures taken { IfOk result (λ _. length cursor.new < length cursor.old) }
 {
@@ -45,6 +45,7 @@ pub fn head(cursor: &mut Cursor<'_>) -> Result<SectionHead, Refusal>
         Some(Plain::Mark(Mark::Reserved(Reserved::Main))) => {
             cursor.pass();
             let name = Vec::from_slice(cursor.alloc(), b"MAIN")?;
+            let name = Name::new(cursor.alloc(), name)?;
             Ok(SectionHead {
                 kind: SectionKind::Main,
                 name,
@@ -65,7 +66,7 @@ pub fn head(cursor: &mut Cursor<'_>) -> Result<SectionHead, Refusal>
 /// `name [GIVEN names | "(" names ")"] [YIELDING names]`, behind ROUTINE.
 #[tactic(auto, unfolding(crate::proofs::Unfoldings::steps, crate::specs::SectionReading::routine_at))]
 fn routine(cursor: &mut Cursor<'_>) -> Result<SectionHead, Refusal>
-    ensures exact { Gives (λ h. head_view h.name.items h.kind) result cursor.new (reading.routine_at 32 cursor.old) }
+    ensures exact { Gives (λ h. head_view h.name h.kind) result cursor.new (reading.routine_at 32 cursor.old) }
     ensures shorter { length cursor.new ≤ length cursor.old }
 {
     let name = cursor.name()?;
@@ -78,7 +79,7 @@ fn routine(cursor: &mut Cursor<'_>) -> Result<SectionHead, Refusal>
 /// `name [GIVEN names | "(" names ")"] [SAVING EVENT NOTICES]`, behind EVENT.
 #[tactic(auto, unfolding(crate::proofs::Unfoldings::steps, crate::specs::SectionReading::event_at))]
 fn event(cursor: &mut Cursor<'_>) -> Result<SectionHead, Refusal>
-    ensures exact { Gives (λ h. head_view h.name.items h.kind) result cursor.new (reading.event_at 32 cursor.old) }
+    ensures exact { Gives (λ h. head_view h.name h.kind) result cursor.new (reading.event_at 32 cursor.old) }
     ensures shorter { length cursor.new ≤ length cursor.old }
 {
     let name = cursor.name()?;
@@ -104,8 +105,8 @@ fn saving(cursor: &mut Cursor<'_>) -> Result<bool, Refusal>
 
 /// `names AS INTEGER VARIABLES`, behind DEFINE.
 #[tactic(auto, unfolding(crate::proofs::Unfoldings::local_names))]
-fn define(cursor: &mut Cursor<'_>) -> Result<Several<Vec<u8>>, Refusal>
-    ensures exact { Gives (several_view (λ n. n.items)) result cursor.new (reading.a_define cursor.old) }
+fn define(cursor: &mut Cursor<'_>) -> Result<Several<Name>, Refusal>
+    ensures exact { Gives (several_view (λ n. n)) result cursor.new (reading.a_define cursor.old) }
     ensures shorter { length cursor.new ≤ length cursor.old }
 {
     let names = cursor.names()?;

@@ -27,7 +27,7 @@ mod timing;
 mod transfer;
 
 pub use condition::{Comparison, Condition, Conjunction, Copula, Reference, Relation};
-pub use expr::{Added, Expr, Factor, Term};
+pub use expr::{Added, Application, Expr, Factor, Term};
 pub use place::{
     Branch, Computed, Direction, Loop, Phrase, Place, Qualifier, QualifierWord, Question, Range,
     Spot, Statistic, WalkStart,

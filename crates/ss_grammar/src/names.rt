@@ -10,7 +10,7 @@ ghost use Rattle.ss_grammar.specs.View.{listing_view};
 
 use crate::lists::listed;
 use crate::simple::Listing;
-use ss_words::{Cursor, Mark, Plain, Refusal, Reserved, Several, Sign};
+use ss_words::{Cursor, Mark, Name, Plain, Refusal, Reserved, Several, Sign};
 
 /// How the next word is refused where no more names may stand: `PastLimit` a name, `Unexpected`
 /// anything else.
@@ -24,8 +24,8 @@ fn no_more_names(cursor: &Cursor<'_>) -> Refusal
 }
 
 /// `{"," name}`, at most so many.
-fn other_names(cursor: &mut Cursor<'_>, room: usize) -> Result<Vec<Vec<u8>>, Refusal>
-    ensures exact { Gives (λ v. map (λ n. n.items) v.items) result cursor.new (reading.others_at room cursor.old) }
+fn other_names(cursor: &mut Cursor<'_>, room: usize) -> Result<Vec<Name>, Refusal>
+    ensures exact { Gives (λ v. v.items) result cursor.new (reading.others_at room cursor.old) }
     ensures shorter { length cursor.new ≤ length cursor.old }
 {
     let mut names = Vec::new(cursor.alloc());
@@ -39,8 +39,8 @@ fn other_names(cursor: &mut Cursor<'_>, room: usize) -> Result<Vec<Vec<u8>>, Ref
 }
 
 /// `name {"," name}`, at most so many.
-fn names(cursor: &mut Cursor<'_>, room: usize) -> Result<Several<Vec<u8>>, Refusal>
-    ensures exact { Gives (several_view (λ n. n.items)) result cursor.new (reading.names_at room cursor.old) }
+fn names(cursor: &mut Cursor<'_>, room: usize) -> Result<Several<Name>, Refusal>
+    ensures exact { Gives (several_view (λ n. n)) result cursor.new (reading.names_at room cursor.old) }
     ensures shorter { length cursor.new ≤ length cursor.old }
 {
     if room == 0 {
@@ -53,8 +53,8 @@ fn names(cursor: &mut Cursor<'_>, room: usize) -> Result<Several<Vec<u8>>, Refus
 
 /// `[GIVEN names | "(" names ")"]`, at most so many names.
 #[tactic(auto, unfolding(crate::proofs::Unfoldings::steps, crate::specs::SectionReading::given_at))]
-pub fn given(cursor: &mut Cursor<'_>, room: usize) -> Result<Listing<Vec<u8>>, Refusal>
-    ensures exact { Gives (listing_view (λ n. n.items)) result cursor.new (reading.given_at room cursor.old) }
+pub fn given(cursor: &mut Cursor<'_>, room: usize) -> Result<Listing<Name>, Refusal>
+    ensures exact { Gives (listing_view (λ n. n)) result cursor.new (reading.given_at room cursor.old) }
     ensures shorter { length cursor.new ≤ length cursor.old }
 {
     if cursor.eat(Mark::Reserved(Reserved::Given)) {
@@ -70,8 +70,8 @@ pub fn given(cursor: &mut Cursor<'_>, room: usize) -> Result<Listing<Vec<u8>>, R
 
 /// `[YIELDING names]`, at most so many names; none where YIELDING does not stand here.
 #[tactic(auto, unfolding(crate::proofs::Unfoldings::steps, crate::specs::SectionReading::yielded_at))]
-pub fn yielded(cursor: &mut Cursor<'_>, room: usize) -> Result<Vec<Vec<u8>>, Refusal>
-    ensures exact { Gives (λ v. map (λ n. n.items) v.items) result cursor.new (reading.yielded_at room cursor.old) }
+pub fn yielded(cursor: &mut Cursor<'_>, room: usize) -> Result<Vec<Name>, Refusal>
+    ensures exact { Gives (λ v. v.items) result cursor.new (reading.yielded_at room cursor.old) }
     ensures shorter { length cursor.new ≤ length cursor.old }
 {
     if !cursor.eat(Mark::Reserved(Reserved::Yielding)) {
@@ -81,8 +81,8 @@ pub fn yielded(cursor: &mut Cursor<'_>, room: usize) -> Result<Vec<Vec<u8>>, Ref
 }
 
 /// How many names are written.
-pub fn count(names: &Listing<Vec<u8>>) -> usize
-    ensures { result ≡ length (listed (listing_view (λ n. n.items) names.now)) }
+pub fn count(names: &Listing<Name>) -> usize
+    ensures { result ≡ length (listed (listing_view (λ n. n) names.now)) }
 {
     match names {
         Listing::Unwritten => 0,

@@ -16,7 +16,7 @@ use crate::conditions::condition;
 use crate::expr::Expr;
 use crate::expression::expression;
 use crate::place::{Direction, Phrase, Qualifier, QualifierWord, Range, WalkStart};
-use ss_words::{Cursor, Mark, Plain, Refusal, Reserved, Sign};
+use ss_words::{Cursor, Mark, Name, Plain, Refusal, Reserved, Sign};
 
 /// A FOR phrase, behind FOR.
 #[tactic(auto, unfolding(crate::proofs::Unfoldings::in_turn, crate::specs::LoopReading::phrase_at))]
@@ -71,8 +71,8 @@ fn range(cursor: &mut Cursor<'_>, room: u32) -> Result<Range, Refusal>
 
 /// `[CALLED name]`
 #[tactic(auto, unfolding(crate::proofs::Unfoldings::steps, crate::specs::Combined::if_mark))]
-fn called_name(cursor: &mut Cursor<'_>) -> Result<Option<Vec<u8>>, Refusal>
-    ensures exact { Gives (option_view (λ v. v.items)) result cursor.new
+fn called_name(cursor: &mut Cursor<'_>) -> Result<Option<Name>, Refusal>
+    ensures exact { Gives (option_view (λ n. n)) result cursor.new
         (if_mark (m.Reserved r.Called) a_name cursor.old) }
     ensures shorter { length cursor.new ≤ length cursor.old }
 {

@@ -1,7 +1,7 @@
 use crate::condition::{Condition, Reference};
 use crate::expr::Expr;
 use crate::simple::Simple;
-use ss_words::Several;
+use ss_words::{Name, Several};
 
 /// The way in which a FOR phrase goes.
 #[derive(Clone, Copy, Debug, PartialEq, Eq)]
@@ -27,20 +27,20 @@ pub enum Range {
     /// `variable = first TO last [BY step]`, or `variable BACK FROM first TO last [BY step]`
     Counting {
         direction: Direction,
-        variable: Vec<u8>,
+        variable: Name,
         first: Expr,
         last: Expr,
         step: Option<Expr>,
     },
     /// `EVERY class [CALLED variable]`
     Each {
-        class: Vec<u8>,
-        variable: Option<Vec<u8>>,
+        class: Name,
+        variable: Option<Name>,
     },
     /// `EVERY variable IN set [FROM member | AFTER member] [IN REVERSE ORDER]`
     Walking {
         direction: Direction,
-        variable: Vec<u8>,
+        variable: Name,
         set: Reference,
         start: WalkStart,
     },

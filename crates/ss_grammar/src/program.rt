@@ -33,6 +33,10 @@ const MOST_PHRASES: u32 = 16;
 /// How many sections a program may have.
 const MOST_SECTIONS: usize = 256;
 
+/// For so many words that are left, a section's list has room for one place from its start: it is
+/// then not moved as it grows, which would take its size once more.
+const WORDS_OF_A_PLACE: usize = 5;
+
 /// The local DEFINEs and the places of a section, up to its END, behind its head:
 /// `{DEFINE names AS INTEGER VARIABLES} {statement} END`
 #[tactic(auto, unfolding(crate::proofs::Notings::at_lines))]
@@ -54,9 +58,10 @@ fn body(
         ifs: MOST_IFS,
         phrases: MOST_PHRASES,
     };
-    let mut places = Vec::new(cursor.alloc());
+    let mut places = Vec::with_capacity(cursor.alloc(), cursor.len() / WORDS_OF_A_PLACE)?;
     block(cursor, text, room, &mut places)?;
     end(cursor, text, &mut places)?;
+    places.shrink_to_fit();
     Ok((locals, places))
 }
 
@@ -133,7 +138,7 @@ fn last_line(text: &[PlainWord<'_>]) -> usize
     ensures { result ≡ line (word_lines text.now) (length text.now - 1) }
 {
     match text.last() {
-        Some(word) => word.line,
+        Some(word) => word.line(),
         None => 0,
     }
 }
@@ -169,6 +174,6 @@ pub fn sections(alloc: Global, words: &Words, from: usize) -> Result<Sections, T
     ensures refused { IfErr result (λ f. IsFault f (words_from from (plain_words_of words.now))) }
 {
     let mut plain = plain_words(alloc, words)?;
-    plain.retain(|word| word.index >= from);
+    plain.retain(|word| word.index as usize >= from);
     read(alloc, &plain)
 }

@@ -5,7 +5,7 @@ ghost use Rattle.ss_grammar.specs.View.{section_view};
 
 use crate::place::Spot;
 use crate::simple::Listing;
-use ss_words::Several;
+use ss_words::{Name, Several};
 use std::marker::Model;
 
 /// What a section is, with its parameters in upper case.
@@ -14,12 +14,12 @@ pub enum SectionKind {
     Main,
     /// `ROUTINE name [given] [YIELDING yielded]`; none is yielded where YIELDING is not written.
     Routine {
-        given: Listing<Vec<u8>>,
-        yielded: Vec<Vec<u8>>,
+        given: Listing<Name>,
+        yielded: Vec<Name>,
     },
     /// `EVENT name [given] [SAVING EVENT NOTICES]`; `saving` says whether that is written.
     Event {
-        given: Listing<Vec<u8>>,
+        given: Listing<Name>,
         saving: bool,
     },
 }
@@ -28,7 +28,7 @@ pub enum SectionKind {
 #[derive(Debug, Drop)]
 pub struct LocalNames {
     pub line: usize,
-    pub names: Several<Vec<u8>>,
+    pub names: Several<Name>,
 }
 
 /// A section: its head, its local DEFINEs and the list of its places, of which END is the last.
@@ -38,7 +38,7 @@ pub struct Section {
     pub line: usize,
     pub kind: SectionKind,
     /// In upper case; that of the main section is `MAIN`.
-    pub name: Vec<u8>,
+    pub name: Name,
     pub locals: Vec<LocalNames>,
     pub places: Vec<Spot>,
 }

@@ -1,6 +1,6 @@
 use crate::condition::Reference;
 use crate::expr::Expr;
-use ss_words::Several;
+use ss_words::{Name, Several};
 
 /// A statement that assigns.
 #[derive(Debug, Drop)]
@@ -28,17 +28,17 @@ pub enum Assign {
 pub enum Making {
     /// `CREATE class [CALLED target]`
     Create {
-        class: Vec<u8>,
+        class: Name,
         target: Option<Reference>,
     },
     /// `CREATE EVERY class [(count)]`
     CreateEvery {
-        class: Vec<u8>,
+        class: Name,
         count: Option<Expr>,
     },
     /// `DESTROY class [CALLED entity]`
     Destroy {
-        class: Vec<u8>,
+        class: Name,
         entity: Option<Reference>,
     },
 }
@@ -101,7 +101,7 @@ pub enum Listing<T> {
 pub enum Transfer {
     /// `CALL routine [values] [YIELDING targets]`; no targets where YIELDING is not written.
     Call {
-        routine: Vec<u8>,
+        routine: Name,
         values: Listing<Expr>,
         targets: Vec<Reference>,
     },
@@ -147,13 +147,13 @@ pub enum Timing {
     /// `SCHEDULE A event details when`, `SCHEDULE THE event details when`
     Schedule {
         article: Article,
-        event: Vec<u8>,
+        event: Name,
         details: Details,
         when: When,
     },
     /// `CANCEL event [CALLED called]`
     Cancel {
-        event: Vec<u8>,
+        event: Name,
         called: Option<Reference>,
     },
     StartSimulation,

@@ -580,11 +580,11 @@ impl<S: SetBoard> Executor<S> {
         ensures notes { Notes (changes.most_looping_changes ways looping.now) self.old self.new }
     {
         match looping {
-            Looping::For(phrase) => self.run_phrase(ways, phrase)?,
+            Looping::For(phrase) => self.run_phrase(ways, phrase.value())?,
             Looping::Loop => self.go_to(ways.next),
             Looping::Find => self.find(ways),
             Looping::Gather(e) => {
-                let got = value(self.held.view(), e);
+                let got = value(self.held.view(), e.value());
                 self.gather(ways.next, got);
             }
             Looping::Tell(tellings) => {
@@ -916,7 +916,7 @@ impl<S: SetBoard> Executor<S> {
         ensures fewer { OnErr result (Notes (changes.call_targets place.now) self.old self.new) }
     {
         if let Place::Call(call) = place {
-            self.assign_kept(first, &call.targets)?;
+            self.assign_kept(first, &call.value().targets)?;
             self.go_to(next);
         }
         Ok(())
@@ -1060,14 +1060,14 @@ impl<S: SetBoard> Executor<S> {
     {
         match place {
             Place::Assign(assign) => self.run_assign(ways.next, assign),
-            Place::Making(making) => self.run_making(ways.next, making)?,
-            Place::Filing(filing) => self.run_filing(ways.next, filing),
-            Place::Output(output) => self.run_output(ways.next, output)?,
+            Place::Making(making) => self.run_making(ways.next, making.value())?,
+            Place::Filing(filing) => self.run_filing(ways.next, filing.value()),
+            Place::Output(output) => self.run_output(ways.next, output.value())?,
             Place::Control(control) => self.run_control(program, *control)?,
             Place::Branch(branch) => self.run_branch(ways, branch),
             Place::Looping(looping) => self.run_looping(ways, looping)?,
-            Place::Call(call) => self.run_call(program, call)?,
-            Place::Timing(timing) => self.run_timing(program, ways.next, timing)?,
+            Place::Call(call) => self.run_call(program, call.value())?,
+            Place::Timing(timing) => self.run_timing(program, ways.next, timing.value())?,
             Place::Read(targets) => self.read(program, ways.next, targets)?,
         }
         Ok(())
@@ -1106,7 +1106,7 @@ impl<S: SetBoard> Executor<S> {
             Place::Control(_) => 3 + self.yield_count(program),
             Place::Branch(_) | Place::Call(_) => 1,
             Place::Looping(looping) => most_looping_changes(ways, looping),
-            Place::Timing(timing) => most_timing_changes(timing),
+            Place::Timing(timing) => most_timing_changes(timing.value()),
             Place::Read(targets) => 2 + targets.list.len(),
         }
     }
@@ -1184,7 +1184,7 @@ fn call_targets(place: &Place) -> usize
     ensures small { result < 2 ^ 63 }
 {
     match place {
-        Place::Call(call) => call.targets.list.len(),
+        Place::Call(call) => call.value().targets.list.len(),
         _ => 0,
     }
 }

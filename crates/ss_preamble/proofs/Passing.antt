@@ -4,7 +4,7 @@ use Rattle.std.proofs.Common.{take, drop, get_or, sym, ap, subst, ◌∙◌, app
 use Rattle.std.proofs.lemmas.Slice.{first_rest}
 use Rattle.std.proofs.lemmas.List.{append-nil, length-map, take_at}
 use Rattle.ss_words.specs.declared.plain_word.PlainWord.{PlainWord}
-use Rattle.ss_words.specs.Plain.{Plain, plain_of, plains_of}
+use Rattle.ss_words.specs.Plain.{Plain, plain_in, plains_of}
 use Rattle.ss_preamble.specs.Roles.{Role, Standing, at_start, behind_word, role, roles_from, roles}
 use Rattle.ss_preamble.specs.WordLimits.{AreWithin}
 use Rattle.ss_preamble.specs.Tally.{Counts, tally_of, with_role, is_in_room}
@@ -71,39 +71,39 @@ split_first rest word some is =
 
 pub turns_at : (words rest behind : List PlainWord) (word : PlainWord) (a a' : Standing) (t t' : Counts) (r : Role)
     → rest ≡ word ∷ behind → CountedBefore (plains_of words) a t (plains_of rest)
-    → r ≡ role a (plain_of word.kind) → t' ≡ with_role t r → (b : Bool) → b ≡ is_in_room t' r → b ≡ true
-    → a' ≡ behind_word a (plain_of word.kind) (plains_of behind)
+    → r ≡ role a (plain_in word) → t' ≡ with_role t r → (b : Bool) → b ≡ is_in_room t' r → b ≡ true
+    → a' ≡ behind_word a (plain_in word) (plains_of behind)
     → CountedBefore (plains_of words) a' t' (plains_of behind)
 turns_at words rest behind word a a' t t' r split counted is_role now b tested b_is next =
     let room : is_in_room t' r ≡ true = sym tested ∙ b_is in
-    let there : CountedBefore (plains_of words) a t (plain_of word.kind ∷ plains_of behind) =
+    let there : CountedBefore (plains_of words) a t (plain_in word ∷ plains_of behind) =
     subst (λ (us : List PlainWord). CountedBefore (plains_of words) a t (plains_of us)) split counted in
-    let fits : is_in_room t' (role a (plain_of word.kind)) ≡ true =
+    let fits : is_in_room t' (role a (plain_in word)) ≡ true =
     subst (λ (x : Role). is_in_room t' x ≡ true) is_role room in
     subst (λ (b : Standing). CountedBefore (plains_of words) b t' (plains_of behind)) (sym next)
-    (turns (plains_of words) a t t' (plain_of word.kind) (plains_of behind) there (now ∙ ap (with_role t) is_role)
+    (turns (plains_of words) a t t' (plain_in word) (plains_of behind) there (now ∙ ap (with_role t) is_role)
     fits)
 
 pub stops_at : (words rest behind : List PlainWord) (word : PlainWord) (a : Standing) (t t' : Counts) (r : Role) (k : ℕ)
     → rest ≡ word ∷ behind → CountedBefore (plains_of words) a t (plains_of rest)
-    → r ≡ role a (plain_of word.kind) → t' ≡ with_role t r → (b : Bool) → b ≡ is_in_room t' r → b ≡ false
+    → r ≡ role a (plain_in word) → t' ≡ with_role t r → (b : Bool) → b ≡ is_in_room t' r → b ≡ false
     → k ≡ length words - length rest → PassesLimit (plains_of words) k
 stops_at words rest behind word a t t' r k split counted is_role now b tested b_is at =
     let room : is_in_room t' r ≡ false = sym tested ∙ b_is in
-    let there : CountedBefore (plains_of words) a t (plain_of word.kind ∷ plains_of behind) =
+    let there : CountedBefore (plains_of words) a t (plain_in word ∷ plains_of behind) =
     subst (λ (us : List PlainWord). CountedBefore (plains_of words) a t (plains_of us)) split counted in
-    let fits : is_in_room t' (role a (plain_of word.kind)) ≡ false =
+    let fits : is_in_room t' (role a (plain_in word)) ≡ false =
     subst (λ (x : Role). is_in_room t' x ≡ false) is_role room in
-    let place : length (plains_of words) - length (plain_of word.kind ∷ plains_of behind) ≡ k =
+    let place : length (plains_of words) - length (plain_in word ∷ plains_of behind) ≡ k =
     omega (
       arith,
       at,
       ap (λ (us : List PlainWord). length us) split,
-      length-map words (λ w. plain_of w.kind),
-      length-map behind (λ w. plain_of w.kind),
+      length-map words plain_in,
+      length-map behind plain_in,
     ) in
     subst (λ (i : ℕ). PassesLimit (plains_of words) i) place
-    (stops (plains_of words) a t t' (plain_of word.kind) (plains_of behind) there (now ∙ ap (with_role t) is_role)
+    (stops (plains_of words) a t t' (plain_in word) (plains_of behind) there (now ∙ ap (with_role t) is_role)
     fits)
 
 pub ends_at : (words rest : List PlainWord) (a : Standing) (t : Counts) → rest ≡ []

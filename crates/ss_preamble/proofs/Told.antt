@@ -13,7 +13,7 @@ use Rattle.ss_words.specs.declared.mark.Mark.TheVariants as m
 use Rattle.ss_words.specs.declared.reserved.Reserved.TheVariants as r
 use Rattle.ss_words.specs.declared.plain_word.PlainWord.{PlainWord}
 use Rattle.ss_words.specs.Marks.{is}
-use Rattle.ss_words.specs.Plain.{Plain, PlainAt, first, plains, plain_at, plain_of, plains_of, word_lines}
+use Rattle.ss_words.specs.Plain.{Plain, PlainAt, first, plains, plain_at, plain_in, plains_of, word_lines}
 use Rattle.ss_words.specs.Reading.{Fails}
 use Rattle.ss_words.specs.Noting.{line}
 use Rattle.ss_words.specs.Farthest.{IsFarthest}
@@ -190,7 +190,7 @@ module _ (text : List PlainWord) where
   here = map plain_at text
 
   same_length : length (plains_of text) ≡ length (word_lines text)
-  same_length = omega (arith, length-map text (λ w. plain_of w.kind), length-map text (λ w. w.line))
+  same_length = omega (arith, length-map text plain_in, length-map text (λ w. w.word.now.line))
 
   at_line : (k : ℕ) → line (lines here) k ≡ line (word_lines text) k
   at_line k = ap (λ (ls : List ℕ). line ls k) (lines_are text)
@@ -203,7 +203,7 @@ module _ (text : List PlainWord) where
 
   -- the first words of a text of the code
   taken : (n : ℕ) → plains_of (take n text) ≡ take n (plains here)
-  taken n = take_map (λ w. plain_of w.kind) n text ∙ ap (take n) (sym (words_are text))
+  taken n = take_map plain_in n text ∙ ap (take n) (sym (words_are text))
 
   refused_at : (a b : ℕ) (q : _) → a ≡ b → IsRefused q a here → IsRefused q b here
   refused_at a b q e x = subst (λ (l : ℕ). IsRefused q l here) e x
@@ -235,7 +235,7 @@ module _ (text : List PlainWord) (rest : List Plain) (n : ℕ) (at : n ≡ lengt
 
     long : length (spell items.0) ≡ n
     long =
-        omega (arith, at, length-map text (λ w. plain_of w.kind), ap length items.1, length-append (spell items.0) rest)
+        omega (arith, at, length-map text plain_in, ap length items.1, length-append (spell items.0) rest)
 
     spelled : plains_of (take n text) ≡ spell items.0
     spelled =
@@ -266,7 +266,7 @@ module _ (text : List PlainWord) (rest : List Plain) (n : ℕ) (at : n ≡ lengt
     far : IsFarthest spell_text (plains (here text)) n
     far =
         let place : length (plains_of text) - length rest ≡ n =
-        omega (arith, at, length-map text (λ w. plain_of w.kind)) in
+        omega (arith, at, length-map text plain_in) in
         subst (λ (vs : List Plain). IsFarthest spell_text vs n) (sym (words_are text))
         (subst (λ (k : ℕ). IsFarthest spell_text (plains_of text) k) place
         (farthest (plains_of text) rest

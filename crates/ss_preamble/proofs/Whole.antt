@@ -8,7 +8,7 @@ use Rattle.ss_words.specs.declared.refusal.Refusal.TheVariants.{Unexpected, Past
 use Rattle.ss_words.specs.declared.mark.Mark.TheVariants as m
 use Rattle.ss_words.specs.declared.reserved.Reserved.TheVariants as r
 use Rattle.ss_words.specs.declared.plain_word.PlainWord.{PlainWord}
-use Rattle.ss_words.specs.Plain.{Plain, first, plains, plain_at, plain_of, plains_of, word_lines}
+use Rattle.ss_words.specs.Plain.{Plain, first, plains, plain_at, plain_in, plains_of, word_lines}
 use Rattle.ss_words.specs.Reading.{Read, Reading, goes_on, bind, pure, whole}
 use Rattle.ss_words.specs.Marks.{expect}
 use Rattle.ss_words.specs.Noting.{line}
@@ -204,8 +204,8 @@ module _ (ls : List ℕ) (ws : List Plain) (len : length ws ≡ length ls) where
 
 pub words_are : (text : List PlainWord) → plains (map plain_at text) ≡ plains_of text
 words_are [] = refl
-words_are (w ∷ text) = ap (λ (u : List Plain). plain_of w.kind ∷ u) (words_are text)
+words_are (w ∷ text) = ap (λ (u : List Plain). plain_in w ∷ u) (words_are text)
 
 pub lines_are : (text : List PlainWord) → lines (map plain_at text) ≡ word_lines text
 lines_are [] = refl
-lines_are (w ∷ text) = ap (λ (u : List ℕ). w.line ∷ u) (lines_are text)
+lines_are (w ∷ text) = ap (λ (u : List ℕ). w.word.now.line ∷ u) (lines_are text)

@@ -1,7 +1,7 @@
 -- What a text declares is within the limits.
-use Rattle.std.proofs.Common.{◌≡◌, ℕ, ◌+◌, length, inl, inr, List, [], ◌∷◌, map, refl, ap, subst, sym, ◌∙◌, arith}
+use Rattle.std.proofs.Common.{◌≡◌, ℕ, ◌+◌, length, inl, inr, List, [], ◌∷◌, map, refl, ap, arith}
 use Rattle.ss_words.specs.Plain.{PlainAt}
-use Rattle.ss_preamble.specs.Tree.{Item, ItemAt, Decls, items_of}
+use Rattle.ss_preamble.specs.Tree.{Item, Decls, items_of}
 use Rattle.ss_preamble.specs.Limits.{IsWithin}
 use Rattle.ss_preamble.specs.Spelling.{spell_item}
 use Rattle.ss_preamble.specs.Written.{written_items}

@@ -21,13 +21,13 @@ use Rattle.ss_preamble.specs.Tree.{Normally, Headed, OfEvery, OfSystem, Defines,
 
 -- a clause
 abbrev pub clause_view : CodeClause → Clause
-clause_view (c.Has ns) = Has (several_view (λ n. n.items) ns)
-clause_view (c.Owns ns) = Owns (several_view (λ n. n.items) ns)
-clause_view (c.BelongsTo ns) = BelongsTo (several_view (λ n. n.items) ns)
+clause_view (c.Has ns) = Has (several_view (λ n. n) ns)
+clause_view (c.Owns ns) = Owns (several_view (λ n. n) ns)
+clause_view (c.BelongsTo ns) = BelongsTo (several_view (λ n. n) ns)
 
 -- a key
 abbrev pub key_view : CodeKey → Key
-key_view k = record { rank = k.rank; name = k.name.items }
+key_view k = record { rank = k.rank; name = k.name }
 
 -- what DEFINE makes of sets
 abbrev pub set_kind_view : CodeSetKind → SetKind
@@ -37,20 +37,20 @@ set_kind_view (s.Ranked ks) = Ranked (several_view key_view ks)
 
 -- a DEFINE
 abbrev pub definition_view : CodeDefinition → Definition
-definition_view (d.Variables ns) = Variables (several_view (λ n. n.items) ns)
-definition_view (d.Sets ns k) = Sets (several_view (λ n. n.items) ns) (set_kind_view k)
+definition_view (d.Variables ns) = Variables (several_view (λ n. n) ns)
+definition_view (d.Sets ns k) = Sets (several_view (λ n. n) ns) (set_kind_view k)
 
 -- an item on events
 abbrev pub event_rule_view : CodeEventRule → EventRule
-event_rule_view (e.PriorityOrder ns) = PriorityOrder (several_view (λ n. n.items) ns)
-event_rule_view (e.BreakTies n ks) = BreakTies n.items (several_view key_view ks)
-event_rule_view (e.ExternalEvents ns) = ExternalEvents (several_view (λ n. n.items) ns)
+event_rule_view (e.PriorityOrder ns) = PriorityOrder (several_view (λ n. n) ns)
+event_rule_view (e.BreakTies n ks) = BreakTies n (several_view key_view ks)
+event_rule_view (e.ExternalEvents ns) = ExternalEvents (several_view (λ n. n) ns)
 
 -- an item
 abbrev pub item_view : CodeItem → Item
 item_view i.Normally = Normally
-item_view (i.Headed h ns) = Headed h (option_view (λ xs. several_view (λ n. n.items) xs) ns)
-item_view (i.OfEvery n cs) = OfEvery n.items (several_view clause_view cs)
+item_view (i.Headed h ns) = Headed h (option_view (λ xs. several_view (λ n. n) xs) ns)
+item_view (i.OfEvery n cs) = OfEvery n (several_view clause_view cs)
 item_view (i.OfSystem cs) = OfSystem (several_view clause_view cs)
 item_view (i.Defines d) = Defines (definition_view d)
 item_view (i.Orders e) = Orders (event_rule_view e)

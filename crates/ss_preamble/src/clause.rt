@@ -53,7 +53,7 @@ fn next_clause(cursor: &mut Cursor<'_>) -> Result<Option<Clause>, Refusal>
     ensures taken { IfOk result (λ o. IfSome o (λ _. length cursor.new < length cursor.old)) }
 {
     match cursor.peek() {
-        Some(Plain::Mark(Mark::Reserved(word))) => clause_by(cursor, *word),
+        Some(Plain::Mark(Mark::Reserved(word))) => clause_by(cursor, word),
         _ => Ok(None),
     }
 }

@@ -1,7 +1,7 @@
-use ss_words::Several;
+use ss_words::{Name, Several};
 
 /// One or more names, in upper case.
-pub type Names = Several<Vec<u8>>;
+pub type Names = Several<Name>;
 
 /// A heading of classes.
 #[derive(Clone, Copy, Debug, PartialEq, Eq)]
@@ -33,7 +33,7 @@ pub enum Rank {
 #[derive(Debug, Drop)]
 pub struct Key {
     pub rank: Rank,
-    pub name: Vec<u8>,
+    pub name: Name,
 }
 
 /// What DEFINE makes of sets.
@@ -62,7 +62,7 @@ pub enum EventRule {
     /// `PRIORITY ORDER IS names`
     PriorityOrder(Names),
     /// `BREAK event TIES keys`
-    BreakTies { event: Vec<u8>, keys: Several<Key> },
+    BreakTies { event: Name, keys: Several<Key> },
     /// `EXTERNAL EVENTS ARE names`
     ExternalEvents(Names),
 }
@@ -79,7 +79,7 @@ pub enum Item {
     },
     /// `EVERY class` and its clauses.
     OfEvery {
-        class: Vec<u8>,
+        class: Name,
         clauses: Several<Clause>,
     },
     /// `SYSTEM` and its clauses.

@@ -90,10 +90,11 @@ pub fn past_limit(alloc: Global, words: &[PlainWord<'_>]) -> Result<Option<usize
     let mut tally = Tally::new(alloc);
     let mut rest = words;
     while let [word, behind @ ..] = rest {
-        if !tally.takes(standing.word_role(&word.kind))? {
+        let kind = word.kind();
+        if !tally.takes(standing.word_role(kind))? {
             return Ok(Some(words.len().saturating_sub(rest.len())));
         }
-        standing = standing.behind(&word.kind, behind);
+        standing = standing.behind(kind, behind);
         rest = behind;
     }
     Ok(None)
@@ -101,11 +102,11 @@ pub fn past_limit(alloc: Global, words: &[PlainWord<'_>]) -> Result<Option<usize
 
 impl<'a> Standing<'a> {
     /// What a word counts to.
-    fn word_role(&self, word: &Plain<'a>) -> Role<'a>
-        ensures { role_view result ≡ roles.role (standing_view self.now) (plain_of word.now) }
+    fn word_role(&self, word: Plain<'a>) -> Role<'a>
+        ensures { role_view result ≡ roles.role (standing_view self.now) (plain_of word.entry) }
     {
         match word {
-            Plain::Name(name) => self.name_role(name),
+            Plain::Name(name) => self.name_role(name.bytes()),
             _ => Role::Nothing,
         }
     }
@@ -128,15 +129,15 @@ impl<'a> Standing<'a> {
     }
 
     /// Behind a word that these words follow.
-    fn behind(self, word: &Plain<'a>, rest: &[PlainWord<'_>]) -> Self
+    fn behind(self, word: Plain<'a>, rest: &[PlainWord<'_>]) -> Self
         requires { self.keys < 2 ^ 63 }
         ensures exact { standing_view result
-            ≡ roles.behind_word (standing_view self.entry) (plain_of word.now) (plains_of rest.now) }
+            ≡ roles.behind_word (standing_view self.entry) (plain_of word.entry) (plains_of rest.now) }
         ensures keys { result.keys ≤ self.entry.keys + 1 }
     {
         match word {
-            Plain::Name(name) => self.behind_name(name),
-            Plain::Mark(Mark::Reserved(word)) => self.behind_reserved(*word, rest),
+            Plain::Name(name) => self.behind_name(name.bytes()),
+            Plain::Mark(Mark::Reserved(word)) => self.behind_reserved(word, rest),
             _ => self,
         }
     }
@@ -202,7 +203,7 @@ fn defined(words: &[PlainWord<'_>]) -> Counted
 {
     let mut rest = words;
     while let [word, behind @ ..] = rest {
-        match &word.kind {
+        match word.kind() {
             Plain::Name(_) | Plain::Mark(Mark::Sign(Sign::Comma)) => rest = behind,
             Plain::Mark(Mark::Reserved(Reserved::As)) => return defined_as(behind),
             _ => return Counted::NoNames,
@@ -216,14 +217,14 @@ fn defined_as(words: &[PlainWord<'_>]) -> Counted
     ensures { result ≡ roles.defined_as (plains_of words.now) }
 {
     match words {
-        [word, ..] => defined_by(&word.kind),
+        [word, ..] => defined_by(word.kind()),
         [] => Counted::NoNames,
     }
 }
 
 /// What this word says behind AS.
-fn defined_by(word: &Plain<'_>) -> Counted
-    ensures { result ≡ roles.defined_by (plain_of word.now) }
+fn defined_by(word: Plain<'_>) -> Counted
+    ensures { result ≡ roles.defined_by (plain_of word.entry) }
 {
     match word {
         Plain::Mark(Mark::Reserved(Reserved::Integer)) => Counted::Variables,

@@ -74,7 +74,7 @@ fn next_item(cursor: &mut Cursor<'_>) -> Result<Option<Item>, Refusal>
     ensures taken { IfOk result (λ o. IfSome o (λ _. length cursor.new < length cursor.old)) }
 {
     match cursor.peek() {
-        Some(Plain::Mark(Mark::Reserved(word))) => item_by(cursor, *word),
+        Some(Plain::Mark(Mark::Reserved(word))) => item_by(cursor, word),
         _ => Ok(None),
     }
 }
@@ -173,11 +173,11 @@ fn definition(cursor: &mut Cursor<'_>) -> Result<Item, Refusal>
 #[tactic(auto, unfolding(crate::proofs::Unfoldings::steps_by_word, crate::specs::ItemReading::definition_of))]
 fn definition_of(cursor: &mut Cursor<'_>, names: Names) -> Result<Definition, Refusal>
     ensures exact { Gives definition_view result cursor.new
-        (reading.definition_of (several_view (λ n. n.items) names) cursor.old) }
+        (reading.definition_of (several_view (λ n. n) names) cursor.old) }
     ensures shorter { length cursor.new ≤ length cursor.old }
 {
     match cursor.peek() {
-        Some(Plain::Mark(Mark::Reserved(word))) => definition_by(cursor, names, *word),
+        Some(Plain::Mark(Mark::Reserved(word))) => definition_by(cursor, names, word),
         _ => Err(Refusal::Unexpected),
     }
 }
@@ -190,7 +190,7 @@ fn definition_by(
     word: Reserved,
 ) -> Result<Definition, Refusal>
     ensures exact { Gives definition_view result cursor.new
-        (reading.definition_by (several_view (λ n. n.items) names) (Some (plain.mark (mark.Reserved word))) cursor.old) }
+        (reading.definition_by (several_view (λ n. n) names) (Some (plain.mark (mark.Reserved word))) cursor.old) }
     ensures shorter { length cursor.new ≤ length cursor.old }
 {
     match word {

@@ -126,7 +126,7 @@ fn refused(rule: TextRule, text: &[PlainWord<'_>], word: usize) -> TextFault
     ensures { result ≡ Refused rule (line (word_lines text.now) word) }
 {
     let line = match text.get(word) {
-        Some(word) => word.line,
+        Some(word) => word.line(),
         None => 0,
     };
     TextFault::Refused { rule, line }
@@ -139,7 +139,7 @@ fn number_behind(text: &[PlainWord<'_>], reached: usize, count: usize) -> usize
     ensures { result ≡ slice_index (map (λ w. w.index + 1) text.now) (reached - 1) }
 {
     match text.get(reached.saturating_sub(1)) {
-        Some(word) => word.index + 1,
+        Some(word) => word.index as usize + 1,
         None => 0,
     }
 }

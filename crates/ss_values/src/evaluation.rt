@@ -214,29 +214,17 @@ fn factor_value<S: SetBoard>(view: &View<'_, S>, f: &Factor) -> Result<i64, RunF
             let x = sum_value(view, dividend)?;
             remainder(x, sum_value(view, divisor)?)
         }
-        Factor::Attribute {
-            class,
-            attribute,
-            subscript,
-        } => {
-            let entity = entity_named(view, subscript)?;
-            view.store.get(*class, *attribute, entity)
+        Factor::Attribute { class, attribute } => {
+            let entity = entity_named(view, &attribute.subscript)?;
+            view.store.get(*class, attribute.number, entity)
         }
-        Factor::OwnerKept {
-            kept,
-            set,
-            subscript,
-        } => {
-            let owner = entity_named(view, subscript)?;
-            owner_kept(view, *kept, *set, owner)
+        Factor::OwnerKept { kept, set } => {
+            let owner = entity_named(view, &set.subscript)?;
+            owner_kept(view, *kept, set.number, owner)
         }
-        Factor::MemberKept {
-            kept,
-            set,
-            subscript,
-        } => {
-            let member = entity_named(view, subscript)?;
-            member_kept(view, *kept, *set, member)
+        Factor::MemberKept { kept, set } => {
+            let member = entity_named(view, &set.subscript)?;
+            member_kept(view, *kept, set.number, member)
         }
         Factor::Within(e) => sum_value(view, e),
     }

@@ -6,7 +6,7 @@ use Rattle.std.proofs.lemmas.List.{map-append, take_more_set, drop-set-lt, drop_
 use Rattle.std.specs.Prelude.{option_and_then, option_to_list, find}
 use Rattle.ss_words.specs.declared.mark.Mark.{Mark}
 use Rattle.ss_words.specs.declared.plain_word.PlainWord.{PlainWord}
-use Rattle.ss_words.specs.Plain.{Plain, PlainAt, plains, plain_of, plain_at, plains_of}
+use Rattle.ss_words.specs.Plain.{Plain, PlainAt, plains, plain_in, plain_at, plains_of}
 use Rattle.ss_words.specs.PlainRules.{mark_in, beside, governing, is_governing, Surroundings, surroundings, PlainRule}
 use Rattle.ss_words.specs.PlainRules.{ruled_word, follow_behind, follow}
 
@@ -80,13 +80,13 @@ in_place_begins q words = record {
 
 words_are : (ws : List PlainWord) → plains_of ws ≡ plains (map plain_at ws)
 words_are [] = refl
-words_are (w ∷ ws) = ap (λ (u : List Plain). plain_of w.kind ∷ u) (words_are ws)
+words_are (w ∷ ws) = ap (λ (u : List Plain). plain_in w ∷ u) (words_are ws)
 
 -- a word of which the rule makes `left`, so that `after` are the words and `count` of them are kept
 module _ (q : PlainRule) (words now : List PlainWord) (last governs : Option Mark) (kept index : ℕ)
     (h : IsFollowedInPlace q words last governs now kept index) (w : PlainWord)
     (here : drop index now ≡ w ∷ drop (index + 1) now) (m now_governs behind : Option Mark)
-    (mark_is : m ≡ mark_in (plain_of w.kind)) (governs_are : now_governs ≡ cond (is_governing m) m governs)
+    (mark_is : m ≡ mark_in (plain_in w)) (governs_are : now_governs ≡ cond (is_governing m) m governs)
     (behind_is : behind ≡ beside (plains_of (drop (index + 1) now))) (left : Option PlainWord)
     (left_is : map plain_at (option_to_list left)
     ≡ ruled_word q (record { before = last; governing = governs; behind = behind }) (plain_at w)) where
@@ -109,7 +109,7 @@ module _ (q : PlainRule) (words now : List PlainWord) (last governs : Option Mar
 pub in_place_drops : (q : PlainRule) (words now : List PlainWord) (last governs : Option Mark) (kept index : ℕ)
     → IsFollowedInPlace q words last governs now kept index → (w : PlainWord)
     → drop index now ≡ w ∷ drop (index + 1) now → (m now_governs behind : Option Mark)
-    → m ≡ mark_in (plain_of w.kind) → now_governs ≡ cond (is_governing m) m governs
+    → m ≡ mark_in (plain_in w) → now_governs ≡ cond (is_governing m) m governs
     → behind ≡ beside (plains_of (drop (index + 1) now)) → (left : Option PlainWord) → map plain_at (option_to_list left)
     ≡ ruled_word q (record { before = last; governing = governs; behind = behind }) (plain_at w) → left ≡ None
     → IsFollowedInPlace q words m now_governs now kept (index + 1)
@@ -122,7 +122,7 @@ in_place_drops q words now last governs kept index h w here m now_governs behind
 pub in_place_keeps : (q : PlainRule) (words now : List PlainWord) (last governs : Option Mark) (kept index : ℕ)
     → IsFollowedInPlace q words last governs now kept index → (w : PlainWord)
     → drop index now ≡ w ∷ drop (index + 1) now → (m now_governs behind : Option Mark)
-    → m ≡ mark_in (plain_of w.kind) → now_governs ≡ cond (is_governing m) m governs
+    → m ≡ mark_in (plain_in w) → now_governs ≡ cond (is_governing m) m governs
     → behind ≡ beside (plains_of (drop (index + 1) now)) → (left : Option PlainWord) → map plain_at (option_to_list left)
     ≡ ruled_word q (record { before = last; governing = governs; behind = behind }) (plain_at w)
     → (one : PlainWord) → left ≡ Some one → index < length now

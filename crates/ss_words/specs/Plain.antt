@@ -4,6 +4,9 @@ use Rattle.ss_words.specs.declared.mark.Mark.{Mark}
 use Rattle.ss_words.specs.declared.plain_word.Plain.{Plain as Code}
 use Rattle.ss_words.specs.declared.plain_word.Plain.TheVariants as c
 use Rattle.ss_words.specs.declared.plain_word.PlainWord.{PlainWord}
+use Rattle.ss_words.specs.Words.{Kind, kind_of}
+use Rattle.ss_words.specs.Words as w
+use Rattle.ss_words.specs.declared.mark.Mark.TheVariants.{Sign}
 
 -- a name that is not reserved, a number, a reserved word or sign, or the lines of a picture
 pub data Plain : Type 0 where
@@ -28,17 +31,33 @@ plain_of (c.Number n) = number n
 plain_of (c.Mark m) = mark m
 plain_of (c.Picture ls) = picture (map (λ l. l.items) ls.now)
 
+-- a word of the text, where a name is none of the reserved ones
+abbrev pub unreserved : Kind → Plain
+unreserved (w.name n) = name n
+unreserved (w.number n) = number n
+unreserved (w.sign s) = mark (Sign s)
+unreserved (w.picture ls) = picture ls
+
+-- the same where the word is this reserved word or sign, if it is one
+abbrev pub meant : Option Mark → Kind → Plain
+meant None k = unreserved k
+meant (Some m) k = mark m
+
+-- a plain word of a list of the code
+abbrev pub plain_in : PlainWord → Plain
+plain_in a = meant a.mark (kind_of a.word.now.kind)
+
 -- the same with its line and place
 abbrev pub plain_at : PlainWord → PlainAt
-plain_at a = record { line = a.line; index = a.index; word = plain_of a.kind }
+plain_at a = record { line = a.word.now.line; index = a.index; word = plain_in a }
 
 -- the plain words of a list of the code
 abbrev pub plains_of : List PlainWord → List Plain
-plains_of ws = map (λ w. plain_of w.kind) ws
+plains_of ws = map plain_in ws
 
 -- the line of each plain word of a list of the code
 abbrev pub word_lines : List PlainWord → List ℕ
-word_lines ws = map (λ w. w.line) ws
+word_lines ws = map (λ w. w.word.now.line) ws
 
 -- the words alone
 abbrev pub plains : List PlainAt → List Plain

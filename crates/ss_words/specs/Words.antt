@@ -21,10 +21,10 @@ pub record WordAt : Type 0 where
 
 -- the bytes of each line
 abbrev pub kind_of : WordKind → Kind
-kind_of (w.Name n) = name n.items
+kind_of (w.Name n) = name n
 kind_of (w.Number n) = number n
 kind_of (w.Sign s) = sign s
-kind_of (w.Picture ls) = picture (map (λ l. l.items) ls.items)
+kind_of (w.Picture ls) = picture (map (λ l. l.items) ls.value.items)
 
 -- a word of the code
 abbrev pub word_at : Word → WordAt

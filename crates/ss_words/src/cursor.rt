@@ -1,7 +1,7 @@
 //! The cursor over plain words from which a parser reads.
 #![tactic(auto, using(crate::proofs::Marks::taken), unfolding(crate::proofs::Unfoldings::cursor_together))]
 
-ghost use Rattle.std.specs.Prelude.{IfOk, IfErr, OnErr, IsTrue, length, map, option_map, option_copied, ◌≡◌, ◌==◌, ◌≤◌};
+ghost use Rattle.std.specs.Prelude.{IfOk, IfErr, OnErr, IsTrue, length, map, option_map, ◌≡◌, ◌==◌, ◌≤◌};
 ghost use Rattle.std.specs.Prelude.{◌<◌, ◌-◌, Ok, Some};
 ghost use Rattle.ss_words.specs.declared.refusal.Refusal.TheVariants.{Unexpected};
 ghost use Rattle.ss_words.specs.Reading.{Gives, rest_of};
@@ -10,6 +10,7 @@ ghost use Rattle.ss_words.specs.Noting.{line};
 ghost use Rattle.ss_words.specs.Marks as marks;
 
 use crate::mark::Mark;
+use crate::name::Name;
 use crate::plain_word::{Plain, PlainWord};
 use crate::refusal::Refusal;
 use std::alloc::{AllocError, Global};
@@ -60,11 +61,11 @@ impl<'a> Cursor<'a> {
     }
 
     /// The next word, which stays the next one; `None` where none is left.
-    pub fn peek(&self) -> Option<&'a Plain<'a>>
-        ensures { first self.now ≡ option_map plain_of (option_copied result) }
+    pub fn peek(&self) -> Option<Plain<'a>>
+        ensures { first self.now ≡ option_map plain_of result }
     {
         match self.rest {
-            [word, ..] => Some(&word.kind),
+            [word, ..] => Some(word.kind()),
             [] => None,
         }
     }
@@ -74,7 +75,7 @@ impl<'a> Cursor<'a> {
         ensures { result ≡ marks.is mark (first self.now) }
     {
         match self.rest {
-            [word, ..] => is_mark(&word.kind, mark),
+            [word, ..] => is_mark(word.kind(), mark),
             [] => false,
         }
     }
@@ -118,9 +119,9 @@ impl<'a> Cursor<'a> {
     }
 
     /// Passes a name and gives a copy of it. `Unexpected` where the next word is no name or none is
-    /// left, `Memory` where the memory for the copy was refused.
-    pub fn name(&mut self) -> Result<Vec<u8>, Refusal>
-        ensures exact { Gives (λ v. v.items) result self.new (marks.a_name self.old) }
+    /// left, `Memory` where the copy was refused.
+    pub fn name(&mut self) -> Result<Name, Refusal>
+        ensures exact { Gives (λ n. n) result self.new (marks.a_name self.old) }
         // Also where memory is refused, of which `exact` says nothing.
         ensures stays { OnErr result (self.new ≡ self.old) }
         ensures shorter { length self.new ≤ length self.old }
@@ -129,7 +130,7 @@ impl<'a> Cursor<'a> {
         let Some(Plain::Name(name)) = self.peek() else {
             return Err(Refusal::Unexpected);
         };
-        let name = Vec::from_slice(self.alloc, name)?;
+        let name = name.share()?;
         self.pass();
         Ok(name)
     }
@@ -146,7 +147,7 @@ impl<'a> Cursor<'a> {
             return Err(Refusal::Unexpected);
         };
         self.pass();
-        Ok(*number)
+        Ok(number)
     }
 
     /// Passes a picture and gives a copy of its lines. `Unexpected` where the next word is no
@@ -173,18 +174,18 @@ impl<'a> Cursor<'a> {
     {
         let at = text.len().saturating_sub(self.rest.len());
         match text.get(at) {
-            Some(word) => word.line,
+            Some(word) => word.line(),
             None => 0,
         }
     }
 }
 
 // A plain word is this mark.
-fn is_mark(kind: &Plain<'_>, mark: Mark) -> bool
-    ensures { result ≡ marks.is mark (Some (plain_of kind.now)) }
+fn is_mark(kind: Plain<'_>, mark: Mark) -> bool
+    ensures { result ≡ marks.is mark (Some (plain_of kind.entry)) }
 {
     match kind {
-        Plain::Mark(found) => is_same(mark, *found),
+        Plain::Mark(found) => is_same(mark, found),
         _ => false,
     }
 }

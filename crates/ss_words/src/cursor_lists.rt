@@ -6,17 +6,17 @@ ghost use Rattle.ss_words.specs.Lists.{several_view};
 
 use crate::cursor::Cursor;
 use crate::mark::Mark;
+use crate::name::Name;
 use crate::refusal::Refusal;
 use crate::several::Several;
 use crate::word::Sign;
 
 impl<'a> Cursor<'a> {
     /// Passes `name {"," name}` and gives copies of the names. `Unexpected` where the next word
-    /// is no name, or the one behind a comma is none; `Memory` where the memory for the copies
-    /// was refused.
+    /// is no name, or the one behind a comma is none; `Memory` where memory for them was refused.
     #[tactic(auto, unfolding(crate::proofs::Unfoldings::names_together))]
-    pub fn names(&mut self) -> Result<Several<Vec<u8>>, Refusal>
-        ensures exact { Gives (several_view (λ n. n.items)) result self.new (lists.names self.old) }
+    pub fn names(&mut self) -> Result<Several<Name>, Refusal>
+        ensures exact { Gives (several_view (λ n. n)) result self.new (lists.names self.old) }
         ensures shorter { length self.new ≤ length self.old }
         ensures taken { IfOk result (λ _. length self.new < length self.old) }
     {
@@ -28,8 +28,8 @@ impl<'a> Cursor<'a> {
     /// Passes `[mark name {"," name}]`: this mark and the names behind it, or nothing where the
     /// next word isn't this mark. `Unexpected` and `Memory` as for [`Cursor::names`].
     #[tactic(auto, unfolding(crate::proofs::Unfoldings::names_together))]
-    pub fn names_behind(&mut self, mark: Mark) -> Result<Option<Several<Vec<u8>>>, Refusal>
-        ensures exact { Gives (option_view (several_view (λ n. n.items))) result self.new
+    pub fn names_behind(&mut self, mark: Mark) -> Result<Option<Several<Name>>, Refusal>
+        ensures exact { Gives (option_view (several_view (λ n. n))) result self.new
             (lists.names_behind mark self.old) }
         ensures shorter { length self.new ≤ length self.old }
     {
@@ -40,8 +40,8 @@ impl<'a> Cursor<'a> {
     }
 
     // {"," name}
-    fn other_names(&mut self) -> Result<Vec<Vec<u8>>, Refusal>
-        ensures exact { Gives (λ v. map (λ n. n.items) v.items) result self.new (lists.other_names self.old) }
+    fn other_names(&mut self) -> Result<Vec<Name>, Refusal>
+        ensures exact { Gives (λ v. v.items) result self.new (lists.other_names self.old) }
         ensures shorter { length self.new ≤ length self.old }
     {
         let mut names = Vec::new(self.alloc());
@@ -53,8 +53,8 @@ impl<'a> Cursor<'a> {
 
     // A comma and a name, or nothing.
     #[tactic(auto, unfolding(crate::specs::Reading::bind, crate::specs::Reading::pure, crate::specs::Lists::next_name))]
-    fn next_name(&mut self) -> Result<Option<Vec<u8>>, Refusal>
-        ensures exact { Gives (option_view (λ n. n.items)) result self.new (lists.next_name self.old) }
+    fn next_name(&mut self) -> Result<Option<Name>, Refusal>
+        ensures exact { Gives (option_view (λ n. n)) result self.new (lists.next_name self.old) }
         ensures shorter { length self.new ≤ length self.old }
         ensures taken { IfOk result (λ o. IfSome o (λ _. length self.new < length self.old)) }
     {

@@ -1,6 +1,6 @@
 //! The plain words of a list of words.
 ghost use Rattle.std.specs.Prelude.{◌≡◌, ◌+◌, IfOk, map, drop, option_to_list, if◌then◌else◌};
-ghost use Rattle.ss_words.specs.Plain.{plain_of, plain_at, plains_of};
+ghost use Rattle.ss_words.specs.Plain.{meant, plain_at, plains_of};
 ghost use Rattle.ss_words.specs.Words.{kind_of};
 ghost use Rattle.ss_words.specs.PlainRules as spec;
 ghost use Rattle.ss_words.specs.PlainRules.{plain_words_of, follow, ruled_word, spelled};
@@ -14,7 +14,8 @@ use crate::word::{WordKind, Words};
 use std::alloc::{AllocError, Global};
 
 /// The plain words of the words of a text (docs/LANGUAGE.md, "Plain words"), which borrow the names
-/// and pictures from them. The only error is that memory was refused.
+/// and pictures from them. The only error is that memory was refused, as it is for 2^32 words or
+/// more.
 pub fn plain_words<'a>(alloc: Global, words: &'a Words) -> Result<Vec<PlainWord<'a>>, AllocError>
     ensures { IfOk result (λ plain. map plain_at plain.items ≡ plain_words_of words.now) }
 {
@@ -32,26 +33,23 @@ fn spell<'a>(alloc: Global, words: &'a Words) -> Result<Vec<PlainWord<'a>>, Allo
 {
     let mut plain = Vec::with_capacity(alloc, words.list.len())?;
     for (index, word) in words.list.iter().enumerate() {
-        plain.push(PlainWord {
-            line: word.line,
-            index,
-            kind: plain_kind(&word.kind),
-        })?;
+        let Ok(index) = u32::try_from(index) else {
+            return Err(AllocError);
+        };
+        let mark = mark_of(&word.kind);
+        plain.push(PlainWord { word, index, mark })?;
     }
     Ok(plain)
 }
 
-fn plain_kind(kind: &WordKind) -> Plain<'_>
-    ensures { plain_of result ≡ spec.plain_kind (kind_of kind.now) }
+// The reserved word or sign that a word is.
+fn mark_of(kind: &WordKind) -> Option<Mark>
+    ensures { meant result (kind_of kind.now) ≡ spec.plain_kind (kind_of kind.now) }
 {
     match kind {
-        WordKind::Name(name) => match reserved(name) {
-            Some(mark) => Plain::Mark(mark),
-            None => Plain::Name(name),
-        },
-        WordKind::Number(number) => Plain::Number(*number),
-        WordKind::Sign(sign) => Plain::Mark(Mark::Sign(*sign)),
-        WordKind::Picture(lines) => Plain::Picture(lines),
+        WordKind::Name(name) => reserved(name.bytes()),
+        WordKind::Sign(sign) => Some(Mark::Sign(*sign)),
+        WordKind::Number(_) | WordKind::Picture(_) => None,
     }
 }
 
@@ -64,7 +62,7 @@ fn follow(rule: Rule, words: &mut Vec<PlainWord<'_>>)
     let mut governing = None;
     for index in 0..words.len() {
         let word = words[index];
-        let mark = word.kind.mark();
+        let mark = word.kind().mark();
         let around = Around {
             before,
             governing,
@@ -84,7 +82,7 @@ fn mark_at(words: &[PlainWord<'_>], index: usize) -> Option<Mark>
     ensures { result ≡ spec.beside (plains_of (drop index words.now)) }
 {
     match words.get(index) {
-        Some(word) => word.kind.mark(),
+        Some(word) => word.kind().mark(),
         None => None,
     }
 }
@@ -103,12 +101,12 @@ fn ruled<'a>(rule: Rule, around: Around, word: PlainWord<'a>) -> Option<PlainWor
     ensures { map plain_at (option_to_list result)
         ≡ ruled_word (rule_of rule) (surroundings_of around) (plain_at word.entry) }
 {
-    let Plain::Mark(mark) = word.kind else {
+    let Plain::Mark(mark) = word.kind() else {
         return Some(word);
     };
     match rule.apply(around, mark) {
         Some(mark) => Some(PlainWord {
-            kind: Plain::Mark(mark),
+            mark: Some(mark),
             ..word
         }),
         None => None,

@@ -1,11 +1,13 @@
 use crate::mark::Mark;
+use crate::name::Name;
+use crate::word::{Word, WordKind};
 
 /// What a plain word is (docs/LANGUAGE.md, "Plain words"). A name and a picture are those of the
 /// word that it comes from.
 #[derive(Clone, Copy, Debug)]
 pub enum Plain<'a> {
     /// A name that is no reserved word, in upper case.
-    Name(&'a [u8]),
+    Name(&'a Name),
     /// From 0 to 2^63 - 1.
     Number(u64),
     /// A reserved word or a sign.
@@ -30,11 +32,38 @@ impl<'a> Plain<'a> {
     }
 }
 
-/// A plain word, the line on which it stands, from 1, and the place of the word from which it
-/// comes in the list of words, from 0.
+/// A plain word: the word from which it comes, the place of that word in the list of words, from
+/// 0, and the reserved word or sign that it is, if it is one.
 #[derive(Clone, Copy, Debug)]
 pub struct PlainWord<'a> {
-    pub line: usize,
-    pub index: usize,
-    pub kind: Plain<'a>,
+    pub word: &'a Word,
+    pub index: u32,
+    pub mark: Option<Mark>,
+}
+
+impl<'a> PlainWord<'a> {
+    ghost use Rattle.std.specs.Prelude.{◌≡◌};
+    ghost use Rattle.ss_words.specs.Plain.{plain_of, plain_in};
+
+    /// The line on which it stands, from 1.
+    pub fn line(&self) -> usize
+        ensures { result ≡ self.now.word.now.line }
+    {
+        self.word.line
+    }
+
+    /// What it is.
+    pub fn kind(&self) -> Plain<'a>
+        ensures { plain_of result ≡ plain_in self.now }
+    {
+        if let Some(mark) = self.mark {
+            return Plain::Mark(mark);
+        }
+        match &self.word.kind {
+            WordKind::Name(name) => Plain::Name(name),
+            WordKind::Number(number) => Plain::Number(*number),
+            WordKind::Sign(sign) => Plain::Mark(Mark::Sign(*sign)),
+            WordKind::Picture(lines) => Plain::Picture(lines),
+        }
+    }
 }

@@ -3,6 +3,7 @@ mod bytes;
 mod collected;
 mod line;
 mod lines;
+mod names;
 mod picture;
 mod run;
 

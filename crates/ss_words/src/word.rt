@@ -1,3 +1,4 @@
+use crate::name::Name;
 use std::marker::Model;
 
 /// A sign of the language; the two-byte ones are one sign.
@@ -21,13 +22,13 @@ pub enum Sign {
 pub enum WordKind {
     /// Letters in upper case, digits and stops, with a letter and no stop at the end; at most 80
     /// bytes.
-    Name(Vec<u8>),
+    Name(Name),
     /// From 0 to 2^63 - 1.
     Number(u64),
     Sign(Sign),
     /// The lines of a picture, 1 to 100 of them, each of at most 132 bytes, without their line
     /// ends.
-    Picture(Vec<Vec<u8>>),
+    Picture(Box<Vec<Vec<u8>>>),
 }
 
 /// A word and the line on which it begins; lines count from 1.

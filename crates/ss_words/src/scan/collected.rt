@@ -6,8 +6,10 @@ ghost use Rattle.ss_words.specs.TextScan.{called_after, count_after};
 
 use crate::fault::TextFault;
 use crate::limits::MOST_PICTURE_LINES;
+use crate::scan::names::Names;
+use crate::scan::run::{Spelling, upper_case};
 use crate::word::{Word, WordKind, Words};
-use std::alloc::Global;
+use std::alloc::{AllocError, Global};
 use std::marker::Model;
 
 /// The words of the text so far, and what of them matters to a picture that they may call at
@@ -16,6 +18,7 @@ use std::marker::Model;
 pub struct Collected {
     alloc: Global,
     words: Vec<Word>,
+    names: Names,
     ends_in_as: bool,
     ends_in_print: bool,
     calls_picture: bool,
@@ -42,7 +45,7 @@ fn is_name(word: &WordKind, name: &[u8]) -> bool
     ensures { result ≡ is_name name.now (kind_of word.now) }
 {
     match word {
-        WordKind::Name(bytes) => bytes.as_slice() == name,
+        WordKind::Name(found) => found.bytes() == name,
         _ => false,
     }
 }
@@ -85,11 +88,12 @@ fn count_after(word: &WordKind, behind_print: bool, count: Option<u64>) -> Optio
 }
 
 impl Collected {
-    ghost use Rattle.std.specs.Prelude.{[], ◌++◌, ◌∷◌, MatchResult};
+    ghost use Rattle.std.specs.Prelude.{[], ◌++◌, ◌∷◌, MatchResult, IfOk};
     ghost use Rattle.ss_words.specs.declared.fault.TextFault.TheVariants.{Memory};
     ghost use Rattle.ss_words.specs.TextWords.{on_line};
     ghost use Rattle.ss_words.specs.TextScan.{nearest};
     ghost use Rattle.ss_words.specs.TextRuns.{calls_picture, picture_lines};
+    ghost use Rattle.ss_words.specs.TextSpelling.{spelled};
 
     pub fn new(alloc: Global) -> Self
         ensures { result ≡ [] }
@@ -97,6 +101,7 @@ impl Collected {
         Collected {
             alloc,
             words: Vec::new(alloc),
+            names: Names::new(alloc),
             ends_in_as: false,
             ends_in_print: false,
             calls_picture: false,
@@ -106,6 +111,20 @@ impl Collected {
 
     pub fn alloc(&self) -> Global {
         self.alloc
+    }
+
+    // The word that a run spells.
+    pub fn spelled(&mut self, run: &[u8], spelling: Spelling) -> Result<WordKind, AllocError>
+        ensures same { self.new ≡ self.old }
+        ensures spelled { IfOk result (λ k. kind_of k ≡ spelled run.now spelling) }
+    {
+        match spelling {
+            Spelling::Name => {
+                let name = self.names.name(upper_case(self.alloc, run)?)?;
+                Ok(WordKind::Name(name))
+            }
+            Spelling::Number(number) => Ok(WordKind::Number(number)),
+        }
     }
 
     pub fn push(&mut self, line: usize, kind: WordKind) -> Result<(), TextFault>
@@ -145,6 +164,7 @@ impl Collected {
         let Collected {
             alloc: _,
             words,
+            names: _,
             ends_in_as: _,
             ends_in_print: _,
             calls_picture: _,

@@ -15,7 +15,7 @@ use crate::scan::bytes::{all_allowed, in_run, is_blank, sign_from};
 use crate::scan::collected::Collected;
 use crate::scan::lines::Lines;
 use crate::scan::refused;
-use crate::scan::run::{run_len, spelled, spelling_of, without_stops};
+use crate::scan::run::{run_len, spelling_of, without_stops};
 use crate::word::{Sign, WordKind};
 
 // Takes the words of the line that was taken last; `below` has the lines below it.
@@ -151,7 +151,7 @@ fn scan_run(words: &mut Collected, run: &[u8], rest: &[u8], below: &Lines) -> Re
     if kept.is_empty() {
         return Ok(());
     }
-    let kind = spelled(words.alloc(), kept, spelling)?;
+    let kind = words.spelled(kept, spelling)?;
     scan_word(words, kind, rest, below)
 }
 

@@ -31,7 +31,8 @@ pub fn scan_picture(words: &mut Collected, lines: &mut Lines) -> Result<(), Text
     };
     let first = lines.taken + 1;
     let picture = picture(words.alloc(), lines, count)?;
-    words.push(first, WordKind::Picture(picture))
+    let drawn = Box::new(words.alloc(), picture)?;
+    words.push(first, WordKind::Picture(drawn))
 }
 
 // The next lines as a picture, at most so many.

@@ -4,15 +4,13 @@ ghost use Rattle.std.specs.List.{list_any};
 ghost use Rattle.std.specs.Char.{to_ascii_uppercase};
 ghost use Rattle.ss_words.specs.declared.characters.TheConstants.{STOP};
 ghost use Rattle.ss_words.specs.declared.limits.TheConstants.{LARGEST_NUMBER};
-ghost use Rattle.ss_words.specs.Words.{kind_of};
 ghost use Rattle.ss_words.specs.TextBytes.{in_run};
 ghost use Rattle.ss_words.specs.TextRuns.{without_stops, number_of, has_letter};
-ghost use Rattle.ss_words.specs.TextSpelling.{spelling_of, spelled};
+ghost use Rattle.ss_words.specs.TextSpelling.{spelling_of};
 
 use crate::characters::{STOP, ZERO};
 use crate::limits::LARGEST_NUMBER;
 use crate::scan::bytes::in_run;
-use crate::word::WordKind;
 use std::alloc::{AllocError, Global};
 
 /// What a run spells; without bytes it spells the number 0.
@@ -90,18 +88,8 @@ pub fn spelling_of(run: &[u8]) -> Option<Spelling>
     }
 }
 
-// The word that a run spells.
-pub fn spelled(alloc: Global, run: &[u8], spelling: Spelling) -> Result<WordKind, AllocError>
-    ensures { IfOk result (λ k. kind_of k ≡ spelled run.now spelling) }
-{
-    match spelling {
-        Spelling::Name => Ok(WordKind::Name(upper_case(alloc, run)?)),
-        Spelling::Number(number) => Ok(WordKind::Number(number)),
-    }
-}
-
 // A run in upper case.
-fn upper_case(alloc: Global, run: &[u8]) -> Result<Vec<u8>, AllocError>
+pub fn upper_case(alloc: Global, run: &[u8]) -> Result<Vec<u8>, AllocError>
     ensures { IfOk result (λ name. name.items ≡ map to_ascii_uppercase run.now) }
 {
     run.iter()

@@ -8,5 +8,5 @@ use Rattle.ss_checker.proofs.declarations.add_classes.Given as goal
 -- the classes that are left bring the declarations to all
 abbrev pub invariant-loop-class : goal.invariant-loop-class
 invariant-loop-class l =
-    l.kinds ++ flat_map (class_facts (Some l.heading)) (map (λ n. n.items) (drop l.class-index l.class-items))
-    ≡ l.fn.kinds ++ flat_map (class_facts (Some l.heading)) (all_of (several_view (λ n. n.items) l.fn.classes))
+    l.kinds ++ flat_map (class_facts (Some l.heading)) (map (λ n. n) (drop l.class-index l.class-items))
+    ≡ l.fn.kinds ++ flat_map (class_facts (Some l.heading)) (all_of (several_view (λ n. n) l.fn.classes))

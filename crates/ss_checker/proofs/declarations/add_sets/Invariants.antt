@@ -8,5 +8,5 @@ use Rattle.ss_checker.proofs.declarations.add_sets.Given as goal
 -- the sets that are left bring the declarations to all
 abbrev pub invariant-loop-set : goal.invariant-loop-set
 invariant-loop-set l =
-    l.kinds ++ flat_map set_facts (map (λ n. n.items) (drop l.set-index l.set-items))
-    ≡ l.fn.kinds ++ flat_map set_facts (all_of (several_view (λ n. n.items) l.fn.sets))
+    l.kinds ++ flat_map set_facts (map (λ n. n) (drop l.set-index l.set-items))
+    ≡ l.fn.kinds ++ flat_map set_facts (all_of (several_view (λ n. n) l.fn.sets))

@@ -8,5 +8,5 @@ use Rattle.ss_checker.proofs.declarations.add_variables.Given as goal
 -- the variables that are left bring the declarations to all
 abbrev pub invariant-loop-name : goal.invariant-loop-name
 invariant-loop-name l =
-    l.kinds ++ map (λ n. fact n Variable) (map (λ n. n.items) (drop l.name-index l.name-items))
-    ≡ l.fn.kinds ++ map (λ n. fact n Variable) (all_of (several_view (λ n. n.items) l.fn.names))
+    l.kinds ++ map (λ n. fact n Variable) (map (λ n. n) (drop l.name-index l.name-items))
+    ≡ l.fn.kinds ++ map (λ n. fact n Variable) (all_of (several_view (λ n. n) l.fn.names))

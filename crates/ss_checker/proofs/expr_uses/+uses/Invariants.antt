@@ -1,7 +1,7 @@
 use Rattle.std.proofs.Common.{◌≡◌, ◌++◌, drop}
 use Rattle.std.specs.Prelude.{map}
 use Rattle.ss_grammar.specs.Expr.{sums_of, products_of, exprs_of}
-use Rattle.ss_grammar.specs.View.{expr_view, term_view, factor_view, added_view}
+use Rattle.ss_grammar.specs.View.{application_view, expr_view, term_view, factor_view, added_view}
 use Rattle.ss_checker.specs.Uses.{uses_expr, uses_sums, uses_term, uses_products, uses_factor, uses_exprs}
 use Rattle.ss_checker.proofs.expr_uses.+uses.Given as goal
 
@@ -13,6 +13,9 @@ decreases-add_term l = goal.size-add_term l
 
 abbrev pub decreases-add_factor : goal.decreases-add_factor
 decreases-add_factor l = goal.size-add_factor l
+
+abbrev pub decreases-add_application : goal.decreases-add_application
+decreases-add_application l = goal.size-add_application l
 
 -- the terms that are left bring the uses to all
 abbrev pub invariant-add_expr-loop-further : goal.invariant-add_expr-loop-further
@@ -27,7 +30,7 @@ invariant-add_term-loop-further l =
     ≡ l.fn.uses ++ uses_term (term_view l.fn.t)
 
 -- the arguments that are left do
-abbrev pub invariant-add_factor-loop-other : goal.invariant-add_factor-loop-other
-invariant-add_factor-loop-other l =
+abbrev pub invariant-add_application-loop-other : goal.invariant-add_application-loop-other
+invariant-add_application-loop-other l =
     l.uses ++ uses_exprs (exprs_of (map expr_view (drop l.other-index l.other-items)))
-    ≡ l.fn.uses ++ uses_factor (factor_view l.fn.f)
+    ≡ l.fn.uses ++ uses_factor (application_view l.fn.a)

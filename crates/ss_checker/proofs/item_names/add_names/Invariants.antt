@@ -6,5 +6,5 @@ use Rattle.ss_checker.proofs.item_names.add_names.Given as goal
 -- the names that are left bring the list to all
 abbrev pub invariant-loop-name : goal.invariant-loop-name
 invariant-loop-name l =
-    l.list ++ map (λ n. n.items) (drop l.name-index l.name-items)
-    ≡ l.fn.list ++ all_of (several_view (λ n. n.items) l.fn.names)
+    l.list ++ map (λ n. n) (drop l.name-index l.name-items)
+    ≡ l.fn.list ++ all_of (several_view (λ n. n) l.fn.names)

@@ -1,4 +1,3 @@
-use Rattle.std.proofs.Common.{◌∙◌, sym}
 use Rattle.std.specs.Prelude.{bytes_eq}
 use Rattle.ss_check.proofs.Mains.{found_first, found_none}
 use Rattle.ss_checker.proofs.name_tables.place_of.Goals as goal

@@ -1,7 +1,6 @@
-use Rattle.std.proofs.Common.{List, ap, sym, subst, ◌∙◌}
+use Rattle.std.proofs.Common.{ap, sym, subst, ◌∙◌}
 use Rattle.std.specs.Prelude.{map}
 use Rattle.ss_preamble.specs.View.{decls_view}
-use Rattle.ss_grammar.specs.Places.{Section}
 use Rattle.ss_grammar.specs.View.{section_view}
 use Rattle.ss_checker.specs.Readable.{AreOfTree}
 use Rattle.ss_checker.specs.Resolved.{resolved}
@@ -15,14 +14,13 @@ resolve_program-requires c =
     let list = c.into_list-sections.result.items in
     let none = rw c.deref.ensures.value at c.in_ok-whole.ensures.sound in
     let tree = subst AreOfTree (sym c.into_list-sections.ensures.list) c.into_list-sections.ensures.program in
-    rw c.deref-2.ensures.value (record {
+    record {
       whole = rw c.deref.ensures.value at c.in_ok-whole.ensures.ok;
       pictures = pictures_right (decls_view c.args.decls) (map section_view list) none;
       sound =
           sound_resolved (decls_view c.args.decls) (map section_view list) c.requires tree (few_sections list) none;
-    })
+    }
 
 pub returns-clause-ok : goal.returns-clause-ok
 returns-clause-ok c =
-    let made = rw c.deref-2.ensures.value at c.in_ok-program.ensures in
-    made ∙ ap (resolved (decls_view c.args.decls)) c.into_list-sections.ensures.list
+    c.in_ok-program.ensures ∙ ap (resolved (decls_view c.args.decls)) c.into_list-sections.ensures.list

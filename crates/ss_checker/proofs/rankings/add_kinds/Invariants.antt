@@ -10,6 +10,6 @@ use Rattle.ss_checker.proofs.rankings.add_kinds.Given as goal
 abbrev pub invariant-loop-set : goal.invariant-loop-set
 invariant-loop-set l =
     facts_view (λ k. set_kind_view k.now) l.disciplines
-    ++ map (λ s. fact s (set_kind_view l.kind)) (map (λ n. n.items) (drop l.set-index l.set-items))
+    ++ map (λ s. fact s (set_kind_view l.kind)) (map (λ n. n) (drop l.set-index l.set-items))
     ≡ facts_view (λ k. set_kind_view k.now) l.fn.disciplines
-    ++ map (λ s. fact s (set_kind_view l.kind)) (all_of (several_view (λ n. n.items) l.fn.sets))
+    ++ map (λ s. fact s (set_kind_view l.kind)) (all_of (several_view (λ n. n) l.fn.sets))

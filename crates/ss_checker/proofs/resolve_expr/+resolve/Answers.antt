@@ -1,10 +1,10 @@
-use Rattle.std.proofs.Common.{◌≡◌, ap, ◌∙◌, refl, sym, arith, rules, ℕ, List}
+use Rattle.std.proofs.Common.{◌≡◌, ap, ◌∙◌, refl, arith, rules, ℕ}
 use Rattle.std.specs.Prelude.{map, option_map}
 use Rattle.std.proofs.lemmas.Grind.{common_steps}
 use Rattle.ss_grammar.specs.declared.expr.Expr.{out-Expr}
 use Rattle.ss_grammar.specs.declared.expr.Term.{out-Term}
-use Rattle.ss_grammar.specs.declared.expr.Factor.TheFolds.{fold_out-Expr, fold_out-Term, fold-roll-Factor}
-use Rattle.ss_grammar.specs.declared.expr.Factor.TheVariants.{rolls-Applied}
+use Rattle.ss_grammar.specs.declared.expr.Application.{out-Application}
+use Rattle.ss_grammar.specs.declared.expr.Factor.TheFolds.{fold_out-Application, fold_out-Expr, fold_out-Term}
 use Rattle.ss_words.specs.declared.term_sign.TermSign.{TermSign}
 use Rattle.ss_check.specs.declared.sum.Factor.TheFolds.{fold-roll-Arguments, fold-roll-Sum, fold-roll-Term}
 use Rattle.ss_grammar.specs.Expr as tree
@@ -27,11 +27,12 @@ resolve_sum-returns t c =
     = ap checked.sums_of all ∙ sums_map s.whole.now s.names.now s.locals.now written.added_view terms in
     rw (
       fold-roll-Sum checked.Factor checked.Subscript (checked.Expr × checked.Exprs)
-          (TermSign × checked.Term) checked.Expr checked.Term checked.factor_level checked.subscript_level
-          checked.arguments_level checked.signed_level checked.sum_level checked.term_level,
+          (TermSign × checked.Term) (ℕ × checked.Subscript) checked.Expr checked.Term checked.factor_level
+          checked.subscript_level checked.arguments_level checked.signed_level checked.subscripted_level
+          checked.sum_level checked.term_level,
       fold_out-Expr tree.Factor
-          (TermSign × tree.Term) tree.Expr tree.Term written.factor_step written.added_step written.expr_step
-          written.term_step,
+          (TermSign × tree.Term) tree.Factor tree.Expr tree.Term written.factor_step written.added_step
+          written.application_step written.expr_step written.term_step,
       c.in_ok-first.ensures,
       sums,
     ) refl
@@ -47,57 +48,40 @@ resolve_term-returns t c =
     = ap checked.products_of all ∙ products_map s.whole.now s.names.now s.locals.now written.factor_view factors in
     rw (
       fold-roll-Term checked.Factor checked.Subscript (checked.Expr × checked.Exprs)
-          (TermSign × checked.Term) checked.Expr checked.Term checked.factor_level checked.subscript_level
-          checked.arguments_level checked.signed_level checked.sum_level checked.term_level,
+          (TermSign × checked.Term) (ℕ × checked.Subscript) checked.Expr checked.Term checked.factor_level
+          checked.subscript_level checked.arguments_level checked.signed_level checked.subscripted_level
+          checked.sum_level checked.term_level,
       fold_out-Term tree.Factor
-          (TermSign × tree.Term) tree.Expr tree.Term written.factor_step written.added_step written.expr_step
-          written.term_step,
+          (TermSign × tree.Term) tree.Factor tree.Expr tree.Term written.factor_step written.added_step
+          written.application_step written.expr_step written.term_step,
       c.in_ok-first.ensures,
       products,
     ) refl
 
--- the factor, with what was written
-seen : (t : ℕ) (c : goal.resolve_factor-After-applied_factor t) → written.factor_view c.args.f.now
-    ≡ tree.applied c.in-Applied.name.items (written.expr_view c.in-Applied.first.value)
-    (tree.exprs_of (map written.expr_view c.in-Applied.others.items))
-seen t c =
-    let x = c.in-Applied in
-    ap written.factor_view (x.is ∙ sym (rolls-Applied x.name x.first x.others))
-    ∙ fold-roll-Factor tree.Factor
-    (TermSign × tree.Term) tree.Expr tree.Term written.factor_step written.added_step written.expr_step
-    written.term_step _
-
--- its first argument
-first : (t : ℕ) (c : goal.resolve_factor-After-applied_factor t) →
-    checked.expr_of c.in_ok-first-in-Applied-2.first.value
-    ≡ in_scope c.args.scope resolved_expr (written.expr_view c.in-Applied.first.value)
-first t c = search rules
-
--- what its name is declared as
-kind : (t : ℕ) (c : goal.resolve_factor-After-applied_factor t) → option_map (λ k. k.now) c.kind-in-Applied.result
-    ≡ kind_of c.args.scope.whole.now c.in-Applied.name.items
-kind t c = search rules
-
--- its name
-name : (t : ℕ) (c : goal.resolve_factor-After-applied_factor t) →
-    c.deref-in-Applied-3.result.now ≡ c.in-Applied.name.items
-name t c = search rules
-
-pub resolve_factor-returns-after-loop-other : goal.resolve_factor-returns-after-loop-other
-resolve_factor-returns-after-loop-other t c =
+pub resolve_application-returns : goal.resolve_application-returns
+resolve_application-returns t c =
     let s = c.args.scope in
-    let others = c.in-Applied.others.items in
+    let a = out-Application c.args.a.now in
+    let seen : written.application_view c.args.a.now
+    ≡ tree.applied a.name (written.expr_view a.first.value) (tree.exprs_of (map written.expr_view a.others.items))
+    = rw (fold_out-Application tree.Factor
+    (TermSign × tree.Term) tree.Factor tree.Expr tree.Term written.factor_step written.added_step
+    written.application_step written.expr_step written.term_step) refl in
+    let first : checked.expr_of c.in_ok-first-2.first.value
+    ≡ in_scope s resolved_expr (written.expr_view a.first.value) = search rules in
+    let kind : option_map (λ k. k.now) c.kind.result ≡ kind_of s.whole.now a.name = search rules in
+    let name : c.bytes-name.result.now ≡ a.name = search rules in
     let all : map checked.expr_of c.loop-other.more.items
-    ≡ map (λ e. in_scope s resolved_expr (written.expr_view e)) others = grind (arith, common_steps) in
+    ≡ map (λ e. in_scope s resolved_expr (written.expr_view e)) a.others.items = grind (arith, common_steps) in
     let exprs : checked.exprs_of (map checked.expr_of c.loop-other.more.items)
-    ≡ in_scope s resolved_exprs (tree.exprs_of (map written.expr_view others))
-    = ap checked.exprs_of all ∙ exprs_map s.whole.now s.names.now s.locals.now written.expr_view others in
+    ≡ in_scope s resolved_exprs (tree.exprs_of (map written.expr_view a.others.items))
+    = ap checked.exprs_of all ∙ exprs_map s.whole.now s.names.now s.locals.now written.expr_view a.others.items in
     let h = rw (
       fold-roll-Arguments checked.Factor checked.Subscript (checked.Expr × checked.Exprs)
-          (TermSign × checked.Term) checked.Expr checked.Term checked.factor_level checked.subscript_level
-          checked.arguments_level checked.signed_level checked.sum_level checked.term_level,
+          (TermSign × checked.Term) (ℕ × checked.Subscript) checked.Expr checked.Term checked.factor_level
+          checked.subscript_level checked.arguments_level checked.signed_level checked.subscripted_level
+          checked.sum_level checked.term_level,
       exprs,
     ) at
     c.applied_factor.ensures in
-    along c.applied_factor.result checked.factor_of _ _ h
-    (rw (seen t c, first t c, kind t c, name t c) refl)
+    along c.applied_factor.result checked.factor_of _ _ h (rw (seen, first, kind, name) refl)

@@ -16,6 +16,9 @@ decreases-resolve_term l = goal.size-resolve_term l
 abbrev pub decreases-resolve_factor : goal.decreases-resolve_factor
 decreases-resolve_factor l = goal.size-resolve_factor l
 
+abbrev pub decreases-resolve_application : goal.decreases-resolve_application
+decreases-resolve_application l = goal.size-resolve_application l
+
 -- the terms so far
 abbrev pub invariant-resolve_sum-loop-further : goal.invariant-resolve_sum-loop-further
 invariant-resolve_sum-loop-further l =
@@ -29,7 +32,7 @@ invariant-resolve_term-loop-further l =
     ≡ map (λ f. in_scope l.scope resolved_factor (factor_view f)) (take l.further-index l.further-items)
 
 -- the arguments so far
-abbrev pub invariant-resolve_factor-loop-other : goal.invariant-resolve_factor-loop-other
-invariant-resolve_factor-loop-other l =
+abbrev pub invariant-resolve_application-loop-other : goal.invariant-resolve_application-loop-other
+invariant-resolve_application-loop-other l =
     map expr_of l.more.items
     ≡ map (λ e. in_scope l.scope resolved_expr (expr_view e)) (take l.other-index l.other-items)

@@ -1,6 +1,7 @@
-use Rattle.std.proofs.Common.{◌≡◌, false, drop, take}
+use Rattle.std.proofs.Common.{◌≡◌, false}
 use Rattle.std.specs.Prelude.{map}
 use Rattle.std.specs.List.{list_any}
+use Rattle.std.specs.Vec.Iter.{into_iter_items}
 use Rattle.ss_grammar.specs.View.{spots}
 use Rattle.ss_checker.specs.PlaceRules.{has_wrong_picture}
 use Rattle.ss_checker.specs.Resolved.{resolved_spot}
@@ -10,6 +11,6 @@ use Rattle.ss_checker.proofs.resolve_place.resolve_places.Given as goal
 -- the places so far; none of those that are left has a wrong picture
 abbrev pub invariant-loop-spot : goal.invariant-loop-spot
 invariant-loop-spot l = record {
-  same : l.list.items ≡ map (in_scope l.scope resolved_spot) (spots (take l.spot-index l.places));
-  pictures : list_any (λ s. has_wrong_picture s.place) (spots (drop l.spot-index l.places)) ≡ false;
+  same : l.list.items ≡ map (in_scope l.scope resolved_spot) (spots l.yielded);
+  pictures : list_any (λ s. has_wrong_picture s.place) (spots (into_iter_items l.spot-iterator)) ≡ false;
 }

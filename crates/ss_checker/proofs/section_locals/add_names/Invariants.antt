@@ -1,5 +1,4 @@
 use Rattle.std.proofs.Common.{◌≡◌, drop}
-use Rattle.std.specs.Prelude.{map}
 use Rattle.std.specs.List.{fold}
 use Rattle.ss_check.specs.Indexed.{with_name}
 use Rattle.ss_checker.proofs.section_locals.add_names.Given as goal
@@ -7,5 +6,5 @@ use Rattle.ss_checker.proofs.section_locals.add_names.Given as goal
 -- the names that are left bring the table to the whole one
 abbrev pub invariant-loop-name : goal.invariant-loop-name
 invariant-loop-name l =
-    fold with_name l.locals (map (λ n. n.items) (drop l.name-index l.names))
-    ≡ fold with_name l.fn.locals (map (λ n. n.items) l.names)
+    fold with_name l.locals (drop l.name-index l.names)
+    ≡ fold with_name l.fn.locals l.names

@@ -8,5 +8,5 @@ use Rattle.ss_checker.proofs.set_facts.add_joined.Given as goal
 -- the sets that are left bring the members to all
 abbrev pub invariant-loop-set : goal.invariant-loop-set
 invariant-loop-set l =
-    l.members ++ map (λ s. fact s l.class) (map (λ n. n.items) (drop l.set-index l.set-items))
+    l.members ++ map (λ s. fact s l.class) (map (λ n. n) (drop l.set-index l.set-items))
     ≡ l.fn.members ++ map (λ s. fact s l.class) (joined_in (clause_view l.fn.clause))

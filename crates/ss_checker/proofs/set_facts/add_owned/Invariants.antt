@@ -8,5 +8,5 @@ use Rattle.ss_checker.proofs.set_facts.add_owned.Given as goal
 -- the sets that are left bring the owners to all
 abbrev pub invariant-loop-set : goal.invariant-loop-set
 invariant-loop-set l =
-    l.owners ++ map (λ s. fact s (option_map (λ c. c.now) l.class)) (map (λ n. n.items) (drop l.set-index l.set-items))
+    l.owners ++ map (λ s. fact s (option_map (λ c. c.now) l.class)) (map (λ n. n) (drop l.set-index l.set-items))
     ≡ l.fn.owners ++ map (λ s. fact s (option_map (λ c. c.now) l.class)) (owned_in (clause_view l.fn.clause))

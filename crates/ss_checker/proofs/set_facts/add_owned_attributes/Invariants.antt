@@ -7,5 +7,5 @@ use Rattle.ss_checker.proofs.set_facts.add_owned_attributes.Given as goal
 -- the names that are left bring the classes to all
 abbrev pub invariant-loop-name : goal.invariant-loop-name
 invariant-loop-name l =
-    l.attributes ++ map (λ n. l.class) (map (λ n. n.items) (drop l._name-index l._name-items))
+    l.attributes ++ map (λ n. l.class) (map (λ n. n) (drop l._name-index l._name-items))
     ≡ l.fn.attributes ++ attribute_classes l.class (clause_view l.fn.clause)

@@ -1,4 +1,3 @@
-use Rattle.std.proofs.Common.{◌≡◌}
 use Rattle.std.specs.Prelude.{map}
 use Rattle.ss_checker.specs.Resolved.{set_table}
 use Rattle.ss_checker.proofs.Named.{map_turn}

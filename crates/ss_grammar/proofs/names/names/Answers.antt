@@ -1,4 +1,5 @@
-use Rattle.std.proofs.Common.{◌-◌, map}
+use Rattle.std.proofs.Common.{◌-◌}
+use Rattle.std.proofs.lemmas.List.{map-id}
 use Rattle.std.proofs.lemmas.Result.{err_from_is_err_and}
 use Rattle.ss_words.specs.Marks.{a_name}
 use Rattle.ss_words.proofs.Loop.{passes_on}
@@ -23,11 +24,11 @@ returns-in_err-others-clause-exact c =
     let p = err_from_is_err_and c.from_residual-in_err-others.result c.from_residual-in_err-others.ensures.1 in
     rw (p.1, p.2) (passes_on c.in_err-others.field-0.0 c.other_names.new.cursor
     (others_at (c.args.room - 1) c.name.new.self) _
-    (λ g h. others_fail c.args.room c.args.cursor.now c.if-room-eq0.false c.in_ok-first.first.items c.name.new.self
+    (λ g h. others_fail c.args.room c.args.cursor.now c.if-room-eq0.false c.in_ok-first.first c.name.new.self
     c.in_ok-first.ensures.exact g c.other_names.new.cursor h) c.in_err-others.ensures.exact)
 
 pub returns-clause-exact : goal.returns-clause-exact
 returns-clause-exact c =
-    names_read c.args.room c.args.cursor.now c.if-room-eq0.false c.in_ok-first.first.items c.name.new.self
-    c.in_ok-first.ensures.exact (map (λ n. n.items) c.in_ok-others.others.items) c.other_names.new.cursor
-    c.in_ok-others.ensures.exact
+    rw (map-id c.in_ok-others.others.items) (names_read c.args.room c.args.cursor.now c.if-room-eq0.false c.in_ok-first.first c.name.new.self
+    c.in_ok-first.ensures.exact c.in_ok-others.others.items c.other_names.new.cursor
+    c.in_ok-others.ensures.exact)

@@ -1,4 +1,4 @@
-use Rattle.std.proofs.Common.{length, map, ◌≤◌, ◌-◌}
+use Rattle.std.proofs.Common.{length, ◌≤◌, ◌-◌}
 use Rattle.ss_grammar.specs.SectionReading.{others_at}
 use Rattle.ss_grammar.proofs.NamesLoop.{Gathered}
 use Rattle.ss_grammar.proofs.names.other_names.Given as goal
@@ -7,7 +7,7 @@ abbrev pub invariant-loop-names : goal.invariant-loop-names
 invariant-loop-names l = record {
   shorter : length l.cursor ≤ length l.fn.cursor;
   few : length l.names.items ≤ l.room;
-  gathered : Gathered (others_at l.room l.fn.cursor) (map (λ n. n.items) l.names.items) (l.room - length l.names.items)
+  gathered : Gathered (others_at l.room l.fn.cursor) l.names.items (l.room - length l.names.items)
       l.cursor;
 }
 

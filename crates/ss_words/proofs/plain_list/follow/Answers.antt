@@ -2,6 +2,7 @@ use Rattle.std.proofs.Common.{◌≡◌, ◌∙◌, ap, sym, arith, drop, ◌∷
 use Rattle.std.proofs.lemmas.List.{drop_more}
 use Rattle.ss_words.specs.declared.plain_word.PlainWord.{PlainWord}
 use Rattle.ss_words.specs.Plain.{plain_at}
+use Rattle.ss_words.specs.PlainRules.{mark_in}
 use Rattle.ss_words.proofs.PlainFollowing.{in_place_begins, in_place_drops, in_place_keeps, in_place_ends}
 use Rattle.ss_words.proofs.plain_list.follow.Goals as goal
 use Rattle.ss_words.proofs.plain_list.follow.Goals.{in-Some, in_default}
@@ -32,9 +33,9 @@ loop-index-preserved c =
     let behind = rw c.deref.ensures.value at c.mark_at.ensures in
     elim c.match-ruled.branch [
       | in-Some w ↦ rw (w.words-is, w.kept-is) (in_place_keeps _ _ _ _ _ _ _ c.loop-index.invariant _ here _ _ _
-          c.mark-mark.ensures c.governed_by-governing.ensures behind _ c.ruled.ensures _ w.in-Some.is within)
+          (c.mark-mark.ensures ∙ ap mark_in c.kind.ensures) c.governed_by-governing.ensures behind _ c.ruled.ensures _ w.in-Some.is within)
       | in_default w ↦ rw (w.words-is, w.kept-is) (in_place_drops _ _ _ _ _ _ _ c.loop-index.invariant _ here _ _ _
-          c.mark-mark.ensures c.governed_by-governing.ensures behind _ c.ruled.ensures w.in_default.is)
+          (c.mark-mark.ensures ∙ ap mark_in c.kind.ensures) c.governed_by-governing.ensures behind _ c.ruled.ensures w.in_default.is)
     ]
 
 pub returns : goal.returns

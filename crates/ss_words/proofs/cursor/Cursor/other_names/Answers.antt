@@ -1,4 +1,5 @@
-use Rattle.std.proofs.Common.{◌≡◌, List, [], ◌∷◌, map, Ok, refl, ap, ◌∙◌, arith}
+use Rattle.std.proofs.Common.{◌≡◌, List, [], ◌∷◌, Ok, refl, ap, ◌∙◌, arith}
+use Rattle.std.proofs.lemmas.List.{map-id}
 use Rattle.std.proofs.lemmas.Result.{err_from_is_err_and}
 use Rattle.ss_words.specs.Plain.{Plain}
 use Rattle.ss_words.specs.Reading.{Read, prepend}
@@ -11,7 +12,7 @@ unfolding other_names
 loop-names-init c =
     record {
       shorter = omega arith;
-      going = loop_begins next_name [] (λ n ns. n ∷ ns) other_names c.args.self.now (λ n. n.items)
+      going = loop_begins next_name [] (λ n ns. n ∷ ns) other_names c.args.self.now (λ n. n)
           c.new-names.result.items refl c.new-names.ensures.items;
     }
 
@@ -26,7 +27,7 @@ pub loop-names-preserved : goal.loop-names-preserved
 loop-names-preserved c =
     record {
       shorter = omega (arith, c.in_ok-name.ensures.shorter);
-      going = loop_turns next_name [] (λ n ns. n ∷ ns) (other_names c.args.self.now) (λ n. n.items)
+      going = loop_turns next_name [] (λ n ns. n ∷ ns) (other_names c.args.self.now) (λ n. n)
           c.loop-names.names.items c.in-Some.name c.push.new.self.items c.loop-names.self c.next_name.new.self
           c.in_ok-push.ensures.items (rw c.in-Some.is at c.in_ok-name.ensures.exact)
           (rw c.in-Some.is at c.in_ok-name.ensures.taken) c.loop-names.invariant.going;
@@ -39,5 +40,6 @@ ended total xs r e = e ∙ ap (λ (ys : List Name). let x : Read (List Name) = (
 pub returns-clause-exact : goal.returns-clause-exact
 returns-clause-exact c =
     ended _ _ _ (stops next_name [] (λ n ns. n ∷ ns) (other_names c.args.self.now)
-    (map (λ n. n.items) c.loop-names.names.items) c.loop-names.self c.next_name.new.self
-    (rw c.in_default.is at c.in_ok-name.ensures.exact) c.loop-names.invariant.going)
+    c.loop-names.names.items c.loop-names.self c.next_name.new.self
+    (rw c.in_default.is at c.in_ok-name.ensures.exact)
+    (rw (map-id c.loop-names.names.items) at c.loop-names.invariant.going))

@@ -6,7 +6,7 @@ use Rattle.ss_words.proofs.cursor.Cursor.other_names.Given as goal
 abbrev pub invariant-loop-names : goal.invariant-loop-names
 invariant-loop-names l = record {
   shorter : length l.self ≤ length l.fn.self;
-  going : Going next_name [] (λ n ns. n ∷ ns) (other_names l.fn.self) (map (λ n. n.items) l.names.items) l.self;
+  going : Going next_name [] (λ n ns. n ∷ ns) (other_names l.fn.self) (map (λ n. n) l.names.items) l.self;
 }
 
 abbrev pub decreases-loop-names : goal.decreases-loop-names

@@ -52,7 +52,7 @@ returns c =
     (nat_lt-below 80 (length c.args.run.now) c.if-run-gt-LONGEST_RUN.false)
     (word_of_run-spelled (without_stops c.args.run.now) c.in-Some.spelling longer some
     ∙ ap (λ (k : Kind). Some k) (ap (λ (r : List ℕ). spelled r c.in-Some.spelling)
-    (sym c.without_stops-kept.ensures.kept) ∙ sym c.in_ok-kind.ensures)) in
-    MatchResult-weaker c.scan_word.result c.scan_word.ensures
+    (sym c.without_stops-kept.ensures.kept) ∙ sym c.in_ok-kind.ensures.spelled)) in
+    MatchResult-weaker c.scan_word.result (rw c.in_ok-kind.ensures.same at c.scan_word.ensures)
     (λ x goes. ap (λ (fs : List Finding). map word c.args.words.now ++ fs) same ∙ goes)
     (λ f first. is_first-same f _ _ same first)

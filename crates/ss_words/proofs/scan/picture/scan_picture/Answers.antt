@@ -28,7 +28,7 @@ returns-in_err-picture-clause-found c =
 
 pub returns-clause-found : goal.returns-clause-found
 returns-clause-found c =
-    MatchResult-weaker c.push.result c.push.ensures
+    MatchResult-weaker c.push.result (rw c.in_ok-drawn.ensures.ok at c.push.ensures)
     (λ x joins. goes-picture c.args.words.now c.push.new.self (c.args.lines.now.taken + 1) c.in-Some.count
     c.picture.new.lines.taken (text_lines c.args.lines.now.rest.now) (text_lines c.picture.new.lines.rest.now)
     (map (λ l. l.items) c.in_ok-picture.picture.items)
