@@ -53,7 +53,8 @@ fn resolve_program(
         ≡ declared.tables (preamble.decls_view decls.now).items (map view.section_view sections.items) }
     requires pictures { list_any (λ q. list_any (λ s. has_wrong_picture s.place) q.places)
         (map view.section_view sections.items) ≡ false }
-    requires sound { IsSound (resolved.resolved (preamble.decls_view decls.now) (map view.section_view sections.items)) }
+    requires sound { IsSound (resolved.resolved (preamble.decls_view decls.now)
+        (map view.section_view sections.items)) }
     ensures { IfOk result (λ program. program
         ≡ resolved.resolved (preamble.decls_view decls.now) (map view.section_view sections.items)) }
 {

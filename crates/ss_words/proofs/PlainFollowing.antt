@@ -110,7 +110,8 @@ pub in_place_drops : (q : PlainRule) (words now : List PlainWord) (last governs 
     → IsFollowedInPlace q words last governs now kept index → (w : PlainWord)
     → drop index now ≡ w ∷ drop (index + 1) now → (m now_governs behind : Option Mark)
     → m ≡ mark_in (plain_in w) → now_governs ≡ cond (is_governing m) m governs
-    → behind ≡ beside (plains_of (drop (index + 1) now)) → (left : Option PlainWord) → map plain_at (option_to_list left)
+    → behind ≡ beside (plains_of (drop (index + 1) now)) → (left : Option PlainWord)
+    → map plain_at (option_to_list left)
     ≡ ruled_word q (record { before = last; governing = governs; behind = behind }) (plain_at w) → left ≡ None
     → IsFollowedInPlace q words m now_governs now kept (index + 1)
 in_place_drops q words now last governs kept index h w here m now_governs behind mark_is governs_are behind_is left
@@ -123,7 +124,8 @@ pub in_place_keeps : (q : PlainRule) (words now : List PlainWord) (last governs 
     → IsFollowedInPlace q words last governs now kept index → (w : PlainWord)
     → drop index now ≡ w ∷ drop (index + 1) now → (m now_governs behind : Option Mark)
     → m ≡ mark_in (plain_in w) → now_governs ≡ cond (is_governing m) m governs
-    → behind ≡ beside (plains_of (drop (index + 1) now)) → (left : Option PlainWord) → map plain_at (option_to_list left)
+    → behind ≡ beside (plains_of (drop (index + 1) now)) → (left : Option PlainWord)
+    → map plain_at (option_to_list left)
     ≡ ruled_word q (record { before = last; governing = governs; behind = behind }) (plain_at w)
     → (one : PlainWord) → left ≡ Some one → index < length now
     → IsFollowedInPlace q words m now_governs (slice_set now kept one) (kept + 1) (index + 1)

@@ -33,9 +33,11 @@ loop-index-preserved c =
     let behind = rw c.deref.ensures.value at c.mark_at.ensures in
     elim c.match-ruled.branch [
       | in-Some w ↦ rw (w.words-is, w.kept-is) (in_place_keeps _ _ _ _ _ _ _ c.loop-index.invariant _ here _ _ _
-          (c.mark-mark.ensures ∙ ap mark_in c.kind.ensures) c.governed_by-governing.ensures behind _ c.ruled.ensures _ w.in-Some.is within)
+          (c.mark-mark.ensures ∙ ap mark_in c.kind.ensures) c.governed_by-governing.ensures behind _ c.ruled.ensures _
+          w.in-Some.is within)
       | in_default w ↦ rw (w.words-is, w.kept-is) (in_place_drops _ _ _ _ _ _ _ c.loop-index.invariant _ here _ _ _
-          (c.mark-mark.ensures ∙ ap mark_in c.kind.ensures) c.governed_by-governing.ensures behind _ c.ruled.ensures w.in_default.is)
+          (c.mark-mark.ensures ∙ ap mark_in c.kind.ensures) c.governed_by-governing.ensures behind _ c.ruled.ensures
+          w.in_default.is)
     ]
 
 pub returns : goal.returns
