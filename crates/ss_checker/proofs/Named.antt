@@ -1,14 +1,15 @@
 -- The turns of the loops that fill tables of names, and what tables of references find.
-use Rattle.std.proofs.Common.{◌≡◌, ℕ, ◌+◌, ◌<◌, Bool, true, false, cond, List, [], ◌∷◌, ◌++◌, length, get_or, drop, refl, sym, ap, ◌∙◌, Some, append_assoc}
+use Rattle.std.proofs.Common.{◌≡◌, ℕ, ◌+◌, ◌<◌, ◌≤◌, Bool, true, false, cond, List, [], ◌∷◌, ◌++◌, length, get_or, drop, refl, sym, ap, ◌∙◌, Some, append_assoc}
 use Rattle.std.specs.Prelude.{map, option_map, bytes_eq}
 use Rattle.std.specs.List.{find, fold}
-use Rattle.std.proofs.lemmas.List.{drop_more}
+use Rattle.std.proofs.lemmas.List.{drop_all, drop_more, map-append}
 use Rattle.ss_words.specs.Lists.{Name}
 use Rattle.ss_check.specs.Indexed.{with_name}
 use Rattle.ss_checker.specs.declared.fact.Fact.{Fact}
 use Rattle.ss_checker.specs.Facts.{fact, fact_of}
 use Rattle.ss_checker.specs.FactsView.{facts_view}
 use Rattle.ss_checker.specs.ResolvedNames.{names_where}
+use Rattle.ss_checker.proofs.FactTables.{append_none}
 
 -- what is left of a list at an element
 left_at : {X : Type 0} (xs : List X) (i : ℕ) (x : X) → i < length xs → x ≡ get_or xs i x →
@@ -30,6 +31,48 @@ pub maps_turn : {X Y A : Type 0} (f : Y → A) (g : X → Y) (done : List A) (xs
     (done ++ f (g x) ∷ []) ++ map f (map g ys) ≡ whole
 maps_turn f g done xs x ys whole e h =
     append_assoc done (f (g x) ∷ []) (map f (map g ys)) ∙ ap (λ zs. done ++ map f (map g zs)) (sym e) ∙ h
+
+-- of what the next is seen as
+pub seen_turn : {X Y A : Type 0} (f : Y → A) (g : X → Y) (done : List A) (xs : List X) (i : ℕ) (x : X)
+    (whole : List A) → i < length xs → x ≡ get_or xs i x → done ++ map f (map g (drop i xs)) ≡ whole →
+    (done ++ f (g x) ∷ []) ++ map f (map g (drop (i + 1) xs)) ≡ whole
+seen_turn f g done xs i x whole l e h = maps_turn f g done (drop i xs) x (drop (i + 1) xs) whole (left_at xs i x l e) h
+
+-- until none is left
+pub seen_end : {X Y A : Type 0} (f : Y → A) (g : X → Y) (done : List A) (xs : List X) (i : ℕ) (whole : List A) →
+    length xs ≤ i → done ++ map f (map g (drop i xs)) ≡ whole → done ≡ whole
+seen_end f g done xs i whole l h =
+    sym (append_none done) ∙ ap (λ ys. done ++ map f (map g ys)) (sym (drop_all i xs l)) ∙ h
+
+-- where what is put at the end is seen as the function's value
+pub shown_turn : {X Y A : Type 0} (f : X → A) (g : Y → A) (done : List Y) (y : Y) (xs : List X) (i : ℕ) (x : X)
+    (whole : List A) → i < length xs → x ≡ get_or xs i x → g y ≡ f x → map g done ++ map f (drop i xs) ≡ whole →
+    map g (done ++ y ∷ []) ++ map f (drop (i + 1) xs) ≡ whole
+shown_turn f g done y xs i x whole l e same h =
+    ap (λ ys. ys ++ map f (drop (i + 1) xs)) (map-append g done (y ∷ []) ∙ ap (λ z. map g done ++ z ∷ []) same)
+    ∙ map_turn f (map g done) xs i x whole l e h
+
+-- until none is left
+pub shown_end : {X A : Type 0} (f : X → A) (done : List A) (xs : List X) (i : ℕ) (whole : List A) →
+    length xs ≤ i → done ++ map f (drop i xs) ≡ whole → done ≡ whole
+shown_end f done xs i whole l h =
+    sym (append_none done) ∙ ap (λ ys. done ++ map f ys) (sym (drop_all i xs l)) ∙ h
+
+-- ---- lists put at the end of a list, each of the next
+
+-- F: what is behind each of the next
+pub added_turn : {X A : Type 0} (F : List X → List A) (f : X → List A) (done : List A) (xs : List X) (i : ℕ) (x : X)
+    (whole : List A) → ((y : X) (ys : List X) → F (y ∷ ys) ≡ f y ++ F ys) → i < length xs → x ≡ get_or xs i x →
+    done ++ F (drop i xs) ≡ whole → (done ++ f x) ++ F (drop (i + 1) xs) ≡ whole
+added_turn F f done xs i x whole step l e h =
+    append_assoc done (f x) (F (drop (i + 1) xs))
+    ∙ ap (λ ys. done ++ ys) (sym (step x (drop (i + 1) xs)) ∙ ap F (sym (left_at xs i x l e))) ∙ h
+
+-- until none is left
+pub added_end : {X A : Type 0} (F : List X → List A) (done : List A) (xs : List X) (i : ℕ) (whole : List A) →
+    F [] ≡ [] → length xs ≤ i → done ++ F (drop i xs) ≡ whole → done ≡ whole
+added_end F done xs i whole none l h =
+    sym (append_none done) ∙ ap (λ ys. done ++ ys) (sym none ∙ ap F (sym (drop_all i xs l))) ∙ h
 
 -- ---- names of facts that pass a test
 

@@ -3,9 +3,9 @@ use Rattle.std.proofs.Common.{◌≡◌, ◌⊎◌, ◌<◌, Bool, true, false, 
 use Rattle.std.specs.Prelude.{map, codes, slice_get, option_map, unwrap_or}
 use Rattle.std.specs.List.{flat_map, list_any}
 use mathlib.Core.Logic.{inl, inr}
-use Rattle.std.proofs.lemmas.Bool.{not-false}
+use Rattle.std.proofs.lemmas.Bool.{true≢false, false≢true, not-false}
 use Rattle.std.proofs.lemmas.List.{length-map}
-use Rattle.std.proofs.lemmas.Option.{get_or_from_slice_get}
+use Rattle.std.proofs.lemmas.Option.{none-some, get_or_from_slice_get}
 use Rattle.ss_words.specs.Lists.{Name}
 use Rattle.ss_preamble.specs.declared.item.Heading.TheVariants.{PermanentEntities, TemporaryEntities, EventNotices}
 use Rattle.ss_grammar.specs.Tree.{Head, MainHead, RoutineHead, EventHead}
@@ -38,13 +38,13 @@ pub class_is_global : (j : NameKind) → is_class j ≡ true → is_global j ≡
 class_is_global (k.Class g) h = refl
 class_is_global k.Variable h = refl
 class_is_global k.ClassCount h = refl
-class_is_global (k.Attribute c) h = cc
-class_is_global (k.OwnerKept q s) h = cc
-class_is_global (k.MemberKept q s) h = cc
-class_is_global (k.Function f) h = cc
-class_is_global k.Clock h = cc
-class_is_global k.Set h = cc
-class_is_global k.Routine h = cc
+class_is_global (k.Attribute c) h = absurd (false≢true h)
+class_is_global (k.OwnerKept q s) h = absurd (false≢true h)
+class_is_global (k.MemberKept q s) h = absurd (false≢true h)
+class_is_global (k.Function f) h = absurd (false≢true h)
+class_is_global k.Clock h = absurd (false≢true h)
+class_is_global k.Set h = absurd (false≢true h)
+class_is_global k.Routine h = absurd (false≢true h)
 
 no_sets : (hs : List Head) → list_any names_a_set (flat_map routine_facts hs) ≡ false
 no_sets [] = refl
@@ -99,15 +99,15 @@ module _ (xs : List Entry) (hs : List Head) (h : AreItemsKept (tables_of xs hs) 
     where
       is_the_set : (j : NameKind) → is_set j ≡ true → j ≡ k.Set
       is_the_set k.Set t = refl
-      is_the_set k.Variable t = cc
-      is_the_set k.ClassCount t = cc
-      is_the_set (k.Class g) t = cc
-      is_the_set (k.Attribute c) t = cc
-      is_the_set (k.OwnerKept q r) t = cc
-      is_the_set (k.MemberKept q r) t = cc
-      is_the_set (k.Function f) t = cc
-      is_the_set k.Clock t = cc
-      is_the_set k.Routine t = cc
+      is_the_set k.Variable t = absurd (false≢true t)
+      is_the_set k.ClassCount t = absurd (false≢true t)
+      is_the_set (k.Class g) t = absurd (false≢true t)
+      is_the_set (k.Attribute c) t = absurd (false≢true t)
+      is_the_set (k.OwnerKept q r) t = absurd (false≢true t)
+      is_the_set (k.MemberKept q r) t = absurd (false≢true t)
+      is_the_set (k.Function f) t = absurd (false≢true t)
+      is_the_set k.Clock t = absurd (false≢true t)
+      is_the_set k.Routine t = absurd (false≢true t)
 
   -- a set is declared by an item
   pub set_of_item : (s : Name) → In (fact s k.Set) L → In (fact s k.Set) (declared xs)
@@ -121,7 +121,7 @@ module _ (xs : List Entry) (hs : List Head) (h : AreItemsKept (tables_of xs hs) 
       never b =
           let t : list_any names_a_set (flat_map routine_facts hs) ≡ true =
           in_any names_a_set (fact s k.Set) (flat_map routine_facts hs) b refl in
-          let u = no_sets hs in cc
+          absurd (false≢true (sym (no_sets hs) ∙ t))
 
       last : In (fact s k.Set) (language_facts ++ declared xs) ⊎ In (fact s k.Set) (flat_map routine_facts hs) →
           In (fact s k.Set) (declared xs)
@@ -129,7 +129,7 @@ module _ (xs : List Entry) (hs : List Head) (h : AreItemsKept (tables_of xs hs) 
       last (inr b) = absurd (never b)
 
   owner_by : (s c : Name) (o : Option (Option Name)) → fact_of d.owners s ≡ o → unwrap_or o None ≡ Some c → HasClass L c
-  owner_by s c None e u = cc
+  owner_by s c None e u = absurd (none-some c u)
   owner_by s c (Some w) e u =
       has_more (declared xs) L c (declared_there xs hs)
       (owner_declared xs s c (subst (λ (z : Option Name). In (fact s z) d.owners) u (fact_in d.owners s w e)))
@@ -152,7 +152,7 @@ module _ (xs : List Entry) (hs : List Head) (h : AreItemsKept (tables_of xs hs) 
   -- a key that is not wrong is an attribute
   pub is_attribute : (c n : Name) (o : Option NameKind) → kind_of d n ≡ o →
       not (unwrap_or (option_map (is_attribute_of c) o) false) ≡ false → In n (attributes_of d c)
-  is_attribute c n None e t = cc
+  is_attribute c n None e t = absurd (true≢false t)
   is_attribute c n (Some j) e t =
       where_has (is_attribute_of c) n j d.kinds (kind_in n j e) (not-false (is_attribute_of c j) t)
 
@@ -161,61 +161,61 @@ module _ (xs : List Entry) (hs : List Head) (h : AreItemsKept (tables_of xs hs) 
   module _ (r : Rankings) where
     pub permanent_class : (n : Name) (j : Option NameKind) → kind_of d n ≡ j → names_permanent j ≡ true →
         HasClass L n × In (fact (codes "N." ++ n) k.ClassCount) L × (is_permanent (class_kind d v r n j) ≡ true)
-    permanent_class n None e t = cc
-    permanent_class n (Some k.Variable) e t = cc
-    permanent_class n (Some k.ClassCount) e t = cc
-    permanent_class n (Some (k.Class None)) e t = cc
+    permanent_class n None e t = absurd (false≢true t)
+    permanent_class n (Some k.Variable) e t = absurd (false≢true t)
+    permanent_class n (Some k.ClassCount) e t = absurd (false≢true t)
+    permanent_class n (Some (k.Class None)) e t = absurd (false≢true t)
     permanent_class n (Some (k.Class (Some PermanentEntities))) e t = (
       (Some PermanentEntities, kind_in n (k.Class (Some PermanentEntities)) e),
       (closed_kind n (k.Class (Some PermanentEntities)) e).1,
       refl,
     )
-    permanent_class n (Some (k.Class (Some TemporaryEntities))) e t = cc
-    permanent_class n (Some (k.Class (Some EventNotices))) e t = cc
-    permanent_class n (Some (k.Attribute c)) e t = cc
-    permanent_class n (Some (k.OwnerKept q s)) e t = cc
-    permanent_class n (Some (k.MemberKept q s)) e t = cc
-    permanent_class n (Some (k.Function f)) e t = cc
-    permanent_class n (Some k.Clock) e t = cc
-    permanent_class n (Some k.Set) e t = cc
-    permanent_class n (Some k.Routine) e t = cc
+    permanent_class n (Some (k.Class (Some TemporaryEntities))) e t = absurd (false≢true t)
+    permanent_class n (Some (k.Class (Some EventNotices))) e t = absurd (false≢true t)
+    permanent_class n (Some (k.Attribute c)) e t = absurd (false≢true t)
+    permanent_class n (Some (k.OwnerKept q s)) e t = absurd (false≢true t)
+    permanent_class n (Some (k.MemberKept q s)) e t = absurd (false≢true t)
+    permanent_class n (Some (k.Function f)) e t = absurd (false≢true t)
+    permanent_class n (Some k.Clock) e t = absurd (false≢true t)
+    permanent_class n (Some k.Set) e t = absurd (false≢true t)
+    permanent_class n (Some k.Routine) e t = absurd (false≢true t)
 
     pub ending_class : (n : Name) (j : Option NameKind) → kind_of d n ≡ j → names_ending j ≡ true →
         HasClass L n × (is_permanent (class_kind d v r n j) ≡ false)
-    ending_class n None e t = cc
-    ending_class n (Some k.Variable) e t = cc
-    ending_class n (Some k.ClassCount) e t = cc
-    ending_class n (Some (k.Class None)) e t = cc
-    ending_class n (Some (k.Class (Some PermanentEntities))) e t = cc
+    ending_class n None e t = absurd (false≢true t)
+    ending_class n (Some k.Variable) e t = absurd (false≢true t)
+    ending_class n (Some k.ClassCount) e t = absurd (false≢true t)
+    ending_class n (Some (k.Class None)) e t = absurd (false≢true t)
+    ending_class n (Some (k.Class (Some PermanentEntities))) e t = absurd (false≢true t)
     ending_class n (Some (k.Class (Some TemporaryEntities))) e t =
         ((Some TemporaryEntities, kind_in n (k.Class (Some TemporaryEntities)) e), refl)
     ending_class n (Some (k.Class (Some EventNotices))) e t =
         ((Some EventNotices, kind_in n (k.Class (Some EventNotices)) e), refl)
-    ending_class n (Some (k.Attribute c)) e t = cc
-    ending_class n (Some (k.OwnerKept q s)) e t = cc
-    ending_class n (Some (k.MemberKept q s)) e t = cc
-    ending_class n (Some (k.Function f)) e t = cc
-    ending_class n (Some k.Clock) e t = cc
-    ending_class n (Some k.Set) e t = cc
-    ending_class n (Some k.Routine) e t = cc
+    ending_class n (Some (k.Attribute c)) e t = absurd (false≢true t)
+    ending_class n (Some (k.OwnerKept q s)) e t = absurd (false≢true t)
+    ending_class n (Some (k.MemberKept q s)) e t = absurd (false≢true t)
+    ending_class n (Some (k.Function f)) e t = absurd (false≢true t)
+    ending_class n (Some k.Clock) e t = absurd (false≢true t)
+    ending_class n (Some k.Set) e t = absurd (false≢true t)
+    ending_class n (Some k.Routine) e t = absurd (false≢true t)
 
     pub event_class : (n : Name) (j : Option NameKind) → kind_of d n ≡ j → names_event j ≡ true →
         HasClass L n × (is_event (class_kind d v r n j) ≡ true)
-    event_class n None e t = cc
-    event_class n (Some k.Variable) e t = cc
-    event_class n (Some k.ClassCount) e t = cc
-    event_class n (Some (k.Class None)) e t = cc
-    event_class n (Some (k.Class (Some PermanentEntities))) e t = cc
-    event_class n (Some (k.Class (Some TemporaryEntities))) e t = cc
+    event_class n None e t = absurd (false≢true t)
+    event_class n (Some k.Variable) e t = absurd (false≢true t)
+    event_class n (Some k.ClassCount) e t = absurd (false≢true t)
+    event_class n (Some (k.Class None)) e t = absurd (false≢true t)
+    event_class n (Some (k.Class (Some PermanentEntities))) e t = absurd (false≢true t)
+    event_class n (Some (k.Class (Some TemporaryEntities))) e t = absurd (false≢true t)
     event_class n (Some (k.Class (Some EventNotices))) e t =
         ((Some EventNotices, kind_in n (k.Class (Some EventNotices)) e), refl)
-    event_class n (Some (k.Attribute c)) e t = cc
-    event_class n (Some (k.OwnerKept q s)) e t = cc
-    event_class n (Some (k.MemberKept q s)) e t = cc
-    event_class n (Some (k.Function f)) e t = cc
-    event_class n (Some k.Clock) e t = cc
-    event_class n (Some k.Set) e t = cc
-    event_class n (Some k.Routine) e t = cc
+    event_class n (Some (k.Attribute c)) e t = absurd (false≢true t)
+    event_class n (Some (k.OwnerKept q s)) e t = absurd (false≢true t)
+    event_class n (Some (k.MemberKept q s)) e t = absurd (false≢true t)
+    event_class n (Some (k.Function f)) e t = absurd (false≢true t)
+    event_class n (Some k.Clock) e t = absurd (false≢true t)
+    event_class n (Some k.Set) e t = absurd (false≢true t)
+    event_class n (Some k.Routine) e t = absurd (false≢true t)
 
     -- ---- scopes
 
