@@ -1,4 +1,4 @@
-use Rattle.std.proofs.Common.{true, arith, ◌≤◌, ◌≡◌, ap, ◌∙◌, w64, SFits, to_z, of_z, length, ℤ, List, rules}
+use Rattle.std.proofs.Common.{true, ◌≤◌, ◌≡◌, ap, ◌∙◌, w64, to_z, of_z, length, ℕ, ℤ, List, subst}
 use Rattle.ss_events.specs.Agenda.{in_range, filing_limit}
 use Rattle.ss_events.specs.State.{AgendaState}
 use Rattle.std.proofs.lemmas.Int.{to_z-of_z}
@@ -11,8 +11,9 @@ put_in-requires g c =
     let k = kept _ _ _ _ c.self.view_is c.self.invariant in
     let same = c.in_ok-keys.ensures.items_if_clones_equal (λ x y e. e) in
     let idle = no-slot c.slot.result _ c.is_some.result c.slot.ensures c.is_some.ensures c.if-is_some.false in
-    let fits : SFits w64 c.args.time = search rules in
-    let range : in_range (to_z w64 (of_z w64 c.args.time)) ≡ true = simp to_z-of_z (fits-range c.args.time fits) in
+    let time : to_z w64 (of_z w64 c.args.time) ≡ c.args.time = to_z-of_z w64 c.args.time c.ranges.time in
+    let range : in_range (to_z w64 (of_z w64 c.args.time)) ≡ true =
+    ap in_range time ∙ fits-range c.args.time c.ranges.time in
     stepped-can _ c.args.self.now c.give_seat.new.self c.file-filing.new.self _ c.args.notice (record {
       time = to_z
           w64 (of_z w64 c.args.time);
@@ -34,18 +35,14 @@ returns g c =
     let k = kept _ _ _ _ c.self.view_is c.self.invariant in
     let same = c.in_ok-keys.ensures.items_if_clones_equal (λ x y e. e) in
     let idle = no-slot c.slot.result _ c.is_some.result c.slot.ensures c.is_some.ensures c.if-is_some.false in
-    let fits : SFits w64 c.args.time = search rules in
-    let range : in_range (to_z w64 (of_z w64 c.args.time)) ≡ true = simp to_z-of_z (fits-range c.args.time fits) in
+    let time : to_z w64 (of_z w64 c.args.time) ≡ c.args.time = to_z-of_z w64 c.args.time c.ranges.time in
+    let range : in_range (to_z w64 (of_z w64 c.args.time)) ≡ true =
+    ap in_range time ∙ fits-range c.args.time c.ranges.time in
     let free = ap (λ (s : AgendaState). s.agenda.next_filing) c.self.view_is in
-    let small : c.args.self.now.agenda.next_filing ≤ filing_limit = omega (
-      arith,
-      free,
-      c.if-self-gt-FILING_LIMIT.false,
-    ) in
-    let time_fits : SFits w64 c.args.time = search rules in
-    let clock_fits : SFits w64 c.args.clock = search rules in
-    let late = simp to_z-of_z at c.if-time-clock.false in
-    let time : to_z w64 (of_z w64 c.args.time) ≡ c.args.time = simp to_z-of_z in
+    let small : c.args.self.now.agenda.next_filing ≤ filing_limit =
+    subst (λ (n : ℕ). n ≤ filing_limit) free c.if-self-gt-FILING_LIMIT.false in
+    let clock : to_z w64 (of_z w64 c.args.clock) ≡ c.args.clock = to_z-of_z w64 c.args.clock c.ranges.clock in
+    let late = rw (time, clock) at c.if-time-clock.false in
     stepped-went _ c.args.self.now c.give_seat.new.self c.file-filing.new.self c.put_in.new.self _ c.args.notice
     c.args.time c.args.clock c.args.keys.now (record {
       time = to_z w64 (of_z w64 c.args.time);
