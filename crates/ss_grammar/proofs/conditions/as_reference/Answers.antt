@@ -13,7 +13,7 @@ pub returns-in-len1-up-as_slice : goal.returns-in-len1-up-as_slice
 returns-in-len1-up-as_slice c =
     let e = out-Expr c.args.value in
     rw (fold_out-Expr
-        Factor (TermSign × Term) Factor Expr Term factor_step added_step application_step expr_step term_step)
+    Factor (TermSign × Term) Factor Expr Term factor_step added_step application_step expr_step term_step)
     (sym (more_terms e.sign (term_view e.first) added_view e.more.items
     (omega (arith, c.in-len1-up-as_slice.len_at_least, ap length c.as_slice-in-empty.ensures.value))))
 
