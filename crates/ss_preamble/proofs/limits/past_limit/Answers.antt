@@ -27,9 +27,9 @@ loop-rest-preserved c = record {
       c.in_ok-takes.ensures.exact _ c.in_ok-takes.ensures.fits c.if-not-branch.false
       (c.behind-standing.ensures.exact
       ∙ ap
-          (λ (w : Plain). behind_word (standing_view c.loop-rest.standing) w
-          (plains_of (take (length c.loop-rest.rest.now - 1) (drop 1 c.loop-rest.rest.now))))
-          c.kind-kind.ensures);
+      (λ (w : Plain). behind_word (standing_view c.loop-rest.standing) w
+      (plains_of (take (length c.loop-rest.rest.now - 1) (drop 1 c.loop-rest.rest.now))))
+      c.kind-kind.ensures);
   keys =
       (let before = c.loop-rest.invariant.keys in let step = c.behind-standing.ensures.keys in
       let split = (split_first c.loop-rest.rest.now c.word-item.result c.in-len1-up.len_at_least c.word-item.is) in
