@@ -5,17 +5,12 @@ use Rattle.ss_words.specs.Plain.{Plain}
 use Rattle.ss_words.specs.Reading.{Reading, pure}
 use Rattle.ss_words.specs.Marks.{eat}
 use Rattle.ss_words.proofs.ReadBack.{then}
-use Rattle.ss_grammar.specs.Combined.{if_mark, if_word, either_of, made_of}
+use Rattle.ss_grammar.specs.Combined.{if_mark, either_of, made_of}
 
 pub no_mark : {A : Type 0} (k : Mark) (p : Reading A) (b : Bool) (ws r : List Plain) → eat k ws ≡ (Ok b, r) → b ≡ false
     → if_mark k p ws ≡ (Ok None, r)
 unfolding if_mark pure
 no_mark k p b ws r e h = then (eat k) _ false ws r (rw h at e)
-
-pub no_word : {W A : Type 0} (t : Reading (Option W)) (p : Reading A) (ws r : List Plain) → t ws ≡ (Ok None, r)
-    → if_word t p ws ≡ (Ok None, r)
-unfolding if_word pure
-no_word t p ws r e = then t _ None ws r e
 
 pub no_either : {A B : Type 0} (i : Reading (Option A)) (j : Reading (Option B)) (ws r z : List Plain)
     → i ws ≡ (Ok None, r) → j r ≡ (Ok None, z) → either_of i j ws ≡ (Ok None, z)

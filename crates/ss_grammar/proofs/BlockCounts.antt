@@ -37,10 +37,10 @@ use Rattle.ss_grammar.proofs.Inner.{builds, Inner, also, inner_simple, inner_phr
 use Rattle.ss_grammar.proofs.OpenWords.{ended_by, behind_both, inner_stays, inner_opens_none, begun}
 use Rattle.ss_grammar.proofs.Operands.{Walks, a_phrase, begun_simple}
 use Rattle.ss_grammar.proofs.Counting.{Place, Anywhere, Settled, Behind, At, EvenAt, Even, RoomAt, FullAt, PastAt}
-use Rattle.ss_grammar.proofs.Counting.{OutAt, Out, Tally, nothing, plain, pure_tally, bind_tally, expect_tally, eat_tally}
-use Rattle.ss_grammar.proofs.Counting.{many_tally, Encloses, Shuts, bind_shuts, made_shuts, close_shuts, enclosed_at}
+use Rattle.ss_grammar.proofs.Counting.{OutAt, Out, Tally, nothing, plain, pure_tally, bind_tally, expect_tally}
+use Rattle.ss_grammar.proofs.Counting.{eat_tally, many_tally, Encloses, Shuts, bind_shuts, made_shuts, close_shuts}
 use Rattle.ss_grammar.proofs.Counting.{none_of, branches_build, rejoins_build, ends_build, Refused, PartOut, Part, part}
-use Rattle.ss_grammar.proofs.Counting.{part_even, part_room, part_past, part_tally}
+use Rattle.ss_grammar.proofs.Counting.{enclosed_at, part_even, part_room, part_past, part_tally}
 
 -- ---- readings that are made of readings
 

@@ -13,6 +13,7 @@ mod Rooms
 mod EitherRooms
 mod ListLoop
 mod Instead
+mod Chosen
 mod Absent
 mod Allowed
 mod Parting

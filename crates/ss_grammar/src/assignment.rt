@@ -1,6 +1,9 @@
 ghost use Rattle.std.specs.Prelude.{IfSome, IfOk, List, length, ◌≡◌, ◌≤◌, ◌<◌, Ok};
 ghost use Rattle.ss_words.specs.Reading.{Gives, option_view};
-ghost use Rattle.ss_grammar.specs.Combined.{by_table};
+ghost use Rattle.ss_words.specs.declared.mark.Mark.TheVariants as mark;
+ghost use Rattle.ss_words.specs.declared.word.Sign.TheVariants as sign;
+ghost use Rattle.ss_grammar.specs.Combined.{before, by_table, if_word, pair};
+ghost use Rattle.ss_grammar.specs.ExprReading.{expr_at};
 ghost use Rattle.ss_grammar.specs.SimpleReading as reading;
 ghost use Rattle.ss_grammar.specs.PartView.{named_view, equation_view, moved_view};
 ghost use Rattle.ss_grammar.specs.View.{expr_view, reference_view, assign_view, making_view};
@@ -118,6 +121,25 @@ fn bare_name(cursor: &mut Cursor<'_>) -> Result<Option<Name>, Refusal>
     }
 }
 
+/// `name ["(" expression ")"] "=" expression`, if a name stands here.
+#[tactic(auto, unfolding(crate::proofs::Unfoldings::in_turn, crate::specs::Combined::if_word))]
+fn bare_equation(cursor: &mut Cursor<'_>, room: u32) -> Result<Option<(Reference, Expr)>, Refusal>
+    ensures exact { Gives (option_view
+        (λ x. (x.0.name, (option_view (λ b. expr_view b.value) x.0.subscript, expr_view x.1)))) result cursor.new
+        (if_word (by_table reading.name_of)
+        (pair (before (reading.subscript_at room) (mark.Sign sign.Equal)) (expr_at room)) cursor.old) }
+    ensures shorter { length cursor.new ≤ length cursor.old }
+    ensures taken { IfOk result (λ o. IfSome o (λ _. length cursor.new < length cursor.old)) }
+{
+    let Some(name) = bare_name(cursor)? else {
+        return Ok(None);
+    };
+    let subscript = subscript(cursor, room)?;
+    cursor.expect(Mark::Sign(Sign::Equal))?;
+    let value = expression(cursor, room)?;
+    Ok(Some((Reference { name, subscript }, value)))
+}
+
 /// LET, ADD, SUBTRACT or an assignment without LET, if one stands here.
 #[tactic(auto, unfolding(crate::proofs::Unfoldings::choices, crate::specs::SimpleReading::assign_at))]
 pub fn assignment(cursor: &mut Cursor<'_>, room: u32) -> Result<Option<Assign>, Refusal>
@@ -141,15 +163,12 @@ pub fn assignment(cursor: &mut Cursor<'_>, room: u32) -> Result<Option<Assign>, 
         let (value, target) = moved(cursor, Mark::Reserved(Reserved::From), room)?;
         return Ok(Some(Assign::Subtract { value, target }));
     }
-    let Some(name) = bare_name(cursor)? else {
+    let Some((target, value)) = bare_equation(cursor, room)? else {
         return Ok(None);
     };
-    let subscript = subscript(cursor, room)?;
-    cursor.expect(Mark::Sign(Sign::Equal))?;
-    let value = expression(cursor, room)?;
     Ok(Some(Assign::Let {
         written: false,
-        target: Reference { name, subscript },
+        target,
         value,
     }))
 }

@@ -2,7 +2,10 @@
 
 ghost use Rattle.std.specs.Prelude.{IfSome, IfOk, length, ◌≤◌, ◌<◌};
 ghost use Rattle.ss_words.specs.Reading.{Gives, option_view};
+ghost use mathlib.Core.Logic.{inr};
+ghost use Rattle.ss_grammar.specs.Combined.{either_of, made_of};
 ghost use Rattle.ss_grammar.specs.SimpleReading as reading;
+ghost use Rattle.ss_grammar.specs.SimpleReading.{simple_of};
 ghost use Rattle.ss_grammar.specs.View.{simple_view};
 
 use crate::assignment::{assignment, making};
@@ -30,6 +33,19 @@ pub fn simple(cursor: &mut Cursor<'_>, room: u32) -> Result<Option<Simple>, Refu
     if let Some(transfer) = transfer(cursor, room)? {
         return Ok(Some(Simple::Transfer(Box::new(cursor.alloc(), transfer)?)));
     }
+    other(cursor, room)
+}
+
+/// A statement on events, one that reads or writes, or one that assigns, if one begins here.
+#[tactic(auto, unfolding(crate::proofs::Unfoldings::choices))]
+fn other(cursor: &mut Cursor<'_>, room: u32) -> Result<Option<Simple>, Refusal>
+    ensures exact { Gives (option_view simple_view) result cursor.new
+        (made_of (λ x. simple_of (inr (inr (inr x))))
+        (either_of (reading.timing_at room) (either_of (reading.exchange_at room) (reading.assign_at room)))
+        cursor.old) }
+    ensures shorter { length cursor.new ≤ length cursor.old }
+    ensures taken { IfOk result (λ o. IfSome o (λ _. length cursor.new < length cursor.old)) }
+{
     if let Some(timing) = timing(cursor, room)? {
         return Ok(Some(Simple::Time(Box::new(cursor.alloc(), timing)?)));
     }

@@ -4,11 +4,14 @@ ghost use Rattle.ss_words.specs.declared.mark.Mark.TheVariants as mark;
 ghost use Rattle.ss_words.specs.Plain.{word_lines};
 ghost use Rattle.ss_words.specs.declared.reserved.Reserved.TheVariants as reserved;
 ghost use Rattle.ss_words.specs.Plain as plain;
-ghost use Rattle.ss_words.specs.Reading.{Gives, option_view, rest_of};
+ghost use Rattle.ss_words.specs.Reading.{Gives, bind, pure, option_view, rest_of};
+ghost use Rattle.ss_words.specs.Marks.{expect};
 ghost use Rattle.ss_words.specs.Lists.{several_view};
 ghost use Rattle.ss_preamble.specs.ItemReading as reading;
 ghost use Rattle.ss_preamble.specs.ItemsAtLines as lined;
+ghost use Rattle.ss_preamble.specs.Tree.{Sets};
 ghost use Rattle.ss_preamble.specs.View.{definition_view, event_rule_view, item_view, items_view, decls_view};
+ghost use Rattle.ss_preamble.specs.View.{set_kind_view};
 
 use crate::clause::clauses;
 use crate::item::{Decls, Definition, EventRule, Heading, Item, ItemAt, Names, SetKind};
@@ -194,35 +197,50 @@ fn definition_by(
     ensures shorter { length cursor.new ≤ length cursor.old }
 {
     match word {
-        Reserved::Integer => {
-            cursor.pass();
-            cursor.expect(Mark::Reserved(Reserved::Variables))?;
-            Ok(Definition::Variables(names))
-        }
-        Reserved::Fifo => {
-            cursor.pass();
-            cursor.expect(Mark::Reserved(Reserved::Sets))?;
-            Ok(Definition::Sets {
-                names,
-                kind: SetKind::Fifo,
-            })
-        }
-        Reserved::Lifo => {
-            cursor.pass();
-            cursor.expect(Mark::Reserved(Reserved::Sets))?;
-            Ok(Definition::Sets {
-                names,
-                kind: SetKind::Lifo,
-            })
-        }
-        Reserved::Sets => {
-            cursor.pass();
-            cursor.expect(Mark::Reserved(Reserved::Ranked))?;
-            let kind = SetKind::Ranked(keys(cursor)?);
-            Ok(Definition::Sets { names, kind })
-        }
+        Reserved::Integer => variables(cursor, names),
+        Reserved::Fifo => unranked(cursor, names, SetKind::Fifo),
+        Reserved::Lifo => unranked(cursor, names, SetKind::Lifo),
+        Reserved::Sets => ranked(cursor, names),
         _ => Err(Refusal::Unexpected),
     }
+}
+
+/// `INTEGER VARIABLES`, from its first word on.
+#[tactic(auto, unfolding(crate::proofs::Unfoldings::steps_by_word))]
+fn variables(cursor: &mut Cursor<'_>, names: Names) -> Result<Definition, Refusal>
+    ensures exact { Gives definition_view result cursor.new (reading.definition_by
+        (several_view (λ n. n) names) (Some (plain.mark (mark.Reserved reserved.Integer))) cursor.old) }
+    ensures shorter { length cursor.new ≤ length cursor.old }
+{
+    cursor.pass();
+    cursor.expect(Mark::Reserved(Reserved::Variables))?;
+    Ok(Definition::Variables(names))
+}
+
+/// `FIFO SETS | LIFO SETS`, from its first word on, which says this kind.
+#[tactic(auto, unfolding(crate::proofs::Unfoldings::steps_by_word))]
+fn unranked(cursor: &mut Cursor<'_>, names: Names, kind: SetKind) -> Result<Definition, Refusal>
+    ensures exact { Gives definition_view result cursor.new
+        (bind (expect (mark.Reserved reserved.Sets))
+        (λ u. pure (Sets (several_view (λ n. n) names) (set_kind_view kind))) (rest_of cursor.old)) }
+    ensures shorter { length cursor.new ≤ length cursor.old }
+{
+    cursor.pass();
+    cursor.expect(Mark::Reserved(Reserved::Sets))?;
+    Ok(Definition::Sets { names, kind })
+}
+
+/// `SETS RANKED keys`, from its first word on.
+#[tactic(auto, unfolding(crate::proofs::Unfoldings::steps_by_word))]
+fn ranked(cursor: &mut Cursor<'_>, names: Names) -> Result<Definition, Refusal>
+    ensures exact { Gives definition_view result cursor.new (reading.definition_by
+        (several_view (λ n. n) names) (Some (plain.mark (mark.Reserved reserved.Sets))) cursor.old) }
+    ensures shorter { length cursor.new ≤ length cursor.old }
+{
+    cursor.pass();
+    cursor.expect(Mark::Reserved(Reserved::Ranked))?;
+    let kind = SetKind::Ranked(keys(cursor)?);
+    Ok(Definition::Sets { names, kind })
 }
 
 /// `PRIORITY ORDER IS names`, from its first word on.

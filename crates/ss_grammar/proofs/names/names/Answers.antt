@@ -29,6 +29,6 @@ returns-in_err-others-clause-exact c =
 
 pub returns-clause-exact : goal.returns-clause-exact
 returns-clause-exact c =
-    rw (map-id c.in_ok-others.others.items) (names_read c.args.room c.args.cursor.now c.if-room-eq0.false c.in_ok-first.first c.name.new.self
-    c.in_ok-first.ensures.exact c.in_ok-others.others.items c.other_names.new.cursor
+    rw (map-id c.in_ok-others.others.items) (names_read c.args.room c.args.cursor.now c.if-room-eq0.false
+    c.in_ok-first.first c.name.new.self c.in_ok-first.ensures.exact c.in_ok-others.others.items c.other_names.new.cursor
     c.in_ok-others.ensures.exact)
