@@ -9,6 +9,7 @@ ghost use Rattle.ss_checker.specs.Breach as rules;
 ghost use Rattle.ss_checker.specs.Declarations as declared;
 ghost use Rattle.ss_checker.specs.PlaceRules.{has_wrong_picture};
 ghost use Rattle.ss_checker.specs.Resolved as resolved;
+ghost use Rattle.ss_checker.specs.ResolvedNames.{number};
 ghost use Rattle.ss_checker.specs.Statements.{IsBreach};
 
 use crate::breach::check_rules;
@@ -18,7 +19,7 @@ use crate::rankings::Rankings;
 use crate::resolve_section::resolve_section;
 use crate::set_tables::set_tables;
 use crate::tables::Tables;
-use ss_check::{CheckFault, Program};
+use ss_check::{CheckFault, Class, Program, Set};
 use ss_grammar::{Section, Sections};
 use ss_preamble::Decls;
 use std::alloc::{AllocError, Global};
@@ -59,13 +60,46 @@ fn resolve_program(
         ≡ resolved.resolved (preamble.decls_view decls.now) (map view.section_view sections.items)) }
 {
     let names = NameTables::new(alloc, whole, &sections)?;
-    let rankings = Rankings::new(alloc, &decls.items)?;
-    let classes = class_tables(alloc, whole, &names, &rankings)?;
-    let sets = set_tables(alloc, whole, &names, &rankings)?;
-    let priority = priority(alloc, whole, &names)?;
+    let made = classes_and_sets(alloc, whole, decls, &names)?;
     let sections = resolve_sections(alloc, whole, &names, sections)?;
     let globals = names.into_globals();
-    Ok(Program::new(globals, classes, sets, priority, sections))
+    Ok(Program::new(
+        globals,
+        made.classes,
+        made.sets,
+        made.priority,
+        sections,
+    ))
+}
+
+/// The tables of a program's classes and of its sets, and the order of its event classes.
+#[derive(Drop)]
+struct ClassesAndSets {
+    classes: Vec<Class>,
+    sets: Vec<Set>,
+    priority: Vec<usize>,
+}
+
+/// What these items, which say `whole`, make of the classes and sets of these names.
+fn classes_and_sets(
+    alloc: Global,
+    whole: &Tables,
+    decls: &Decls,
+    names: &NameTables,
+) -> Result<ClassesAndSets, AllocError>
+    ensures classes { IfOk result (λ made. made.classes.items ≡ map (resolved.class_table whole.now names.now
+        (resolved.rankings (preamble.decls_view decls.now).items)) names.now.classes) }
+    ensures sets { IfOk result (λ made. made.sets.items ≡ map (resolved.set_table whole.now names.now
+        (resolved.rankings (preamble.decls_view decls.now).items)) names.now.sets) }
+    ensures priority { IfOk result (λ made. made.priority.items
+        ≡ map (λ c. number c names.now.classes) whole.now.priority) }
+{
+    let rankings = Rankings::new(alloc, &decls.items)?;
+    Ok(ClassesAndSets {
+        priority: priority(alloc, whole, names)?,
+        classes: class_tables(alloc, whole, names, &rankings)?,
+        sets: set_tables(alloc, whole, names, &rankings)?,
+    })
 }
 
 /// The sections of a program, with the numbers of their names. What the text says of a section is

@@ -1,4 +1,4 @@
-ghost use Rattle.std.specs.Prelude.{◌≡◌, false, map, IfOk};
+ghost use Rattle.std.specs.Prelude.{◌≡◌, ◌++◌, ◌∷◌, [], false, map, IfOk, OnOk};
 ghost use Rattle.std.specs.List.{list_any};
 ghost use Rattle.ss_grammar.specs.View as view;
 ghost use Rattle.ss_checker.specs.PlaceRules.{has_wrong_picture};
@@ -65,11 +65,28 @@ pub(crate) fn resolve_places(
 {
     let mut list = Vec::with_capacity(scope.alloc, places.len())?;
     for spot in places {
-        let place = resolve_place(scope, &spot.place)?;
-        list.push(Spot {
-            line: spot.line,
-            place,
-        })?;
+        push_place(scope, &mut list, spot)?;
     }
     Ok(list)
+}
+
+/// Puts a place with the numbers of its names behind others. What the text says of it is let go by
+/// a call, before the function may end: the proof of each end writes out what is still held there.
+fn push_place(
+    scope: Scope<'_>,
+    list: &mut Vec<Spot>,
+    spot: ss_grammar::Spot,
+) -> Result<(), AllocError>
+    requires { has_wrong_picture (view.spot_view spot).place ≡ false }
+    ensures { OnOk result (list.new.items
+        ≡ list.old.items ++ in_scope scope.entry resolved.resolved_spot (view.spot_view spot) ∷ []) }
+{
+    let line = spot.line;
+    let place = resolve_place(scope, &spot.place);
+    drop(spot);
+    list.push(Spot {
+        line,
+        place: place?,
+    })?;
+    Ok(())
 }

@@ -117,13 +117,14 @@ impl<S: SetBoard> State<S> {
         ensures tables { IfOk result (λ held. held.beside.tables ≡ tables_of program.now) }
         ensures rules { IfOk result (λ held. held.beside.rules ≡ rules_of program.now) }
     {
-        let store = Store::new(alloc, program, sets)?;
-        let agenda = Agenda::new(alloc, program, pending)?;
-        let frame = FrameBox::new(alloc, program, program.main(), Vec::new(alloc))?;
+        let variables = vec![in alloc; 0; program.globals.len()]?;
         let mut below = Vec::new(alloc);
         below.reserve(MOST_BELOW)?;
+        let frame = FrameBox::new(alloc, program, program.main(), Vec::new(alloc))?;
+        let agenda = Agenda::new(alloc, program, pending)?;
+        let store = Store::new(alloc, program, sets)?;
         Ok(State {
-            variables: vec![in alloc; 0; program.globals.len()]?,
+            variables,
             frame,
             below,
             clock: 0,
