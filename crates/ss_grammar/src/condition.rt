@@ -10,7 +10,7 @@ pub struct Reference {
 }
 
 /// How two values are compared.
-#[derive(Clone, Copy, Debug)]
+#[derive(Clone, Copy, Debug, PartialEq, Eq)]
 pub enum Comparison {
     Equal,
     Unequal,
@@ -21,7 +21,7 @@ pub enum Comparison {
 }
 
 /// Whether NOT stands behind IS.
-#[derive(Clone, Copy, Debug)]
+#[derive(Clone, Copy, Debug, PartialEq, Eq)]
 pub enum Copula {
     Is,
     IsNot,

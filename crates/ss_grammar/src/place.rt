@@ -4,7 +4,7 @@ use crate::simple::Simple;
 use ss_words::{Name, Several};
 
 /// The way in which a FOR phrase goes.
-#[derive(Clone, Copy, Debug)]
+#[derive(Clone, Copy, Debug, PartialEq, Eq)]
 pub enum Direction {
     Onward,
     Backward,
@@ -47,7 +47,7 @@ pub enum Range {
 }
 
 /// What a qualifier does with its condition.
-#[derive(Clone, Copy, Debug)]
+#[derive(Clone, Copy, Debug, PartialEq, Eq)]
 pub enum QualifierWord {
     With,
     Unless,
@@ -70,7 +70,7 @@ pub struct Phrase {
 }
 
 /// What a COMPUTE tells of its values.
-#[derive(Clone, Copy, Debug)]
+#[derive(Clone, Copy, Debug, PartialEq, Eq)]
 pub enum Statistic {
     Number,
     Sum,
@@ -128,7 +128,7 @@ pub enum Place {
 
 /// A place and the line on which its first plain word stands; lines count from 1. What is greater
 /// than an assignment stands in a box, so that a place is small.
-#[derive(Drop)]
+#[derive(Debug, Drop)]
 pub struct Spot {
     pub line: usize,
     pub place: Place,

@@ -25,14 +25,14 @@ pub enum SectionKind {
 }
 
 /// A DEFINE at a section's head: its line and its names.
-#[derive(Drop)]
+#[derive(Debug, Drop)]
 pub struct LocalNames {
     pub line: usize,
     pub names: Several<Name>,
 }
 
 /// A section: its head, its local DEFINEs and the list of its places, of which END is the last.
-#[derive(Drop)]
+#[derive(Debug, Drop)]
 pub struct Section {
     /// The line of the head's first plain word.
     pub line: usize,
@@ -45,7 +45,7 @@ pub struct Section {
 
 /// The sections of a program within the limits, in order. Each has its END as its last place, and
 /// no other END.
-#[derive(Drop)]
+#[derive(Debug, Drop)]
 pub struct Sections {
     list: Vec<Section>,
 }

@@ -44,7 +44,7 @@ pub enum Making {
 }
 
 /// An end of a set's list.
-#[derive(Clone, Copy, Debug)]
+#[derive(Clone, Copy, Debug, PartialEq, Eq)]
 pub enum SetEnd {
     First,
     Last,
@@ -110,7 +110,7 @@ pub enum Transfer {
 }
 
 /// Whether SCHEDULE makes a notice or takes one that there is.
-#[derive(Clone, Copy, Debug)]
+#[derive(Clone, Copy, Debug, PartialEq, Eq)]
 pub enum Article {
     A,
     The,

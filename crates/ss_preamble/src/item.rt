@@ -23,7 +23,7 @@ pub enum Clause {
 }
 
 /// Which of two values of a key ranks first: the greater or the less.
-#[derive(Clone, Copy, Debug)]
+#[derive(Clone, Copy, Debug, PartialEq, Eq)]
 pub enum Rank {
     High,
     Low,
@@ -96,7 +96,7 @@ pub struct ItemAt {
 }
 
 /// What a text declares: the items of its preamble, in order.
-#[derive(Drop)]
+#[derive(Debug, Drop)]
 pub struct Decls {
     pub items: Vec<ItemAt>,
     /// The line of the preamble's END; `None` where the text has no preamble.
