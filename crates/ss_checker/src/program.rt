@@ -38,9 +38,19 @@ pub fn check(alloc: Global, decls: Decls, sections: Sections) -> Result<Program,
     ensures err { IfErr result (λ f. IsBreach f (rules.breach (preamble.decls_view decls) sections)) }
 {
     let sections = sections.into_list();
-    let whole = check_rules(alloc, &decls, &sections)?;
-    let program = resolve_program(alloc, &whole, &decls, sections)?;
-    Ok(program)
+    match check_rules(alloc, &decls, &sections) {
+        Ok(whole) => {
+            let program = resolve_program(alloc, &whole, &decls, sections);
+            drop(whole);
+            drop(decls);
+            Ok(program?)
+        }
+        Err(fault) => {
+            drop(sections);
+            drop(decls);
+            Err(fault)
+        }
+    }
 }
 
 /// The program of these items and sections, which say `whole` and break no rule.
@@ -63,13 +73,7 @@ fn resolve_program(
     let made = classes_and_sets(alloc, whole, decls, &names)?;
     let sections = resolve_sections(alloc, whole, &names, sections)?;
     let globals = names.into_globals();
-    Ok(Program::new(
-        globals,
-        made.classes,
-        made.sets,
-        made.priority,
-        sections,
-    ))
+    Ok(Program::new(globals, made.classes, made.sets, made.priority, sections))
 }
 
 /// The tables of a program's classes and of its sets, and the order of its event classes.
