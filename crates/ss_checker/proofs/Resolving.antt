@@ -1,6 +1,7 @@
 -- The parts of a tree resolved one by one.
-use Rattle.std.proofs.Common.{◌≡◌, List, [], ◌∷◌, refl, ap, ◌∙◌}
+use Rattle.std.proofs.Common.{◌≡◌, ℕ, ◌+◌, ◌<◌, List, [], ◌∷◌, ◌++◌, length, get_or, take, refl, sym, ap, ◌∙◌}
 use Rattle.std.specs.Prelude.{map, Result, Ok, Err, IfOk}
+use Rattle.std.proofs.lemmas.List.{map-append, map_more}
 use Rattle.ss_words.specs.Lists.{Name}
 use Rattle.ss_grammar.specs.Expr as e
 use Rattle.ss_grammar.specs.Condition as c
@@ -59,3 +60,12 @@ additions_map d v locals view [] = refl
 additions_map d v locals view (a ∷ bs) =
     ap (λ (rs : y.Relations). y.and_also (resolved_relation d v locals (view a)) rs)
     (additions_map d v locals view bs)
+
+-- ---- elements put at the end of a list, each seen as a function's value of the next
+
+pub shown_put : {X Y A : Type 0} (f : X → A) (g : Y → A) (done : List Y) (y : Y) (xs : List X) (i : ℕ) (x : X) →
+    i < length xs → x ≡ get_or xs i x → g y ≡ f x → map g done ≡ map f (take i xs) →
+    map g (done ++ y ∷ []) ≡ map f (take (i + 1) xs)
+shown_put f g done y xs i x l e same h =
+    map-append g done (y ∷ []) ∙ ap (λ z. map g done ++ z ∷ []) (same ∙ ap f e)
+    ∙ ap (λ ys. ys ++ f (get_or xs i x) ∷ []) h ∙ sym (map_more f xs i x l)

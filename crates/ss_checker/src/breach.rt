@@ -29,8 +29,13 @@ pub fn check_rules(alloc: Global, decls: &Decls, sections: &[Section]) -> Result
         (rules.breach (preamble.decls_view decls.now) (map view.section_view sections.now))) }
 {
     let whole = tables(alloc, &decls.items, sections)?;
-    check_whole(alloc, &whole, decls, sections)?;
-    Ok(whole)
+    match check_whole(alloc, &whole, decls, sections) {
+        Ok(()) => Ok(whole),
+        Err(fault) => {
+            drop(whole);
+            Err(fault)
+        }
+    }
 }
 
 /// Looks at each statement of a program that says `whole`, and tells the first breach.
@@ -87,9 +92,28 @@ fn tables(alloc: Global, items: &[ItemAt], sections: &[Section]) -> Result<Table
         ≡ declared.tables (preamble.items_view items.now) (map view.section_view sections.now)) }
 {
     let mut tables = Tables::new(alloc)?;
-    add_items(alloc, &mut tables, items)?;
-    add_heads(&mut tables, sections)?;
-    Ok(tables)
+    match add_all(alloc, &mut tables, items, sections) {
+        Ok(()) => Ok(tables),
+        Err(fault) => {
+            drop(tables);
+            Err(fault)
+        }
+    }
+}
+
+/// Adds what items and the heads of sections say.
+fn add_all(
+    alloc: Global,
+    tables: &mut Tables,
+    items: &[ItemAt],
+    sections: &[Section],
+) -> Result<(), AllocError>
+    ensures { OnOk result (tables.new ≡ later.with_sections
+        (later.with_entries tables.old (declared.entries (preamble.items_view items.now)))
+        (map view.section_view sections.now)) }
+{
+    add_items(alloc, tables, items)?;
+    add_heads(tables, sections)
 }
 
 /// Adds what items say, each under the heading over it.

@@ -9,7 +9,7 @@ ghost use Rattle.ss_checker.specs.Breach as rules;
 ghost use Rattle.ss_checker.specs.Declarations as declared;
 ghost use Rattle.ss_checker.specs.PlaceRules.{has_wrong_picture};
 ghost use Rattle.ss_checker.specs.Resolved as resolved;
-ghost use Rattle.ss_checker.specs.ResolvedNames.{number};
+ghost use Rattle.ss_checker.specs.ResolvedNames.{names as names_of, number};
 ghost use Rattle.ss_checker.specs.Statements.{IsBreach};
 
 use crate::breach::check_rules;
@@ -38,9 +38,19 @@ pub fn check(alloc: Global, decls: Decls, sections: Sections) -> Result<Program,
     ensures err { IfErr result (λ f. IsBreach f (rules.breach (preamble.decls_view decls) sections)) }
 {
     let sections = sections.into_list();
-    let whole = check_rules(alloc, &decls, &sections)?;
-    let program = resolve_program(alloc, &whole, &decls, sections)?;
-    Ok(program)
+    match check_rules(alloc, &decls, &sections) {
+        Ok(whole) => {
+            let program = resolve_program(alloc, &whole, &decls, sections);
+            drop(whole);
+            drop(decls);
+            Ok(program?)
+        }
+        Err(fault) => {
+            drop(sections);
+            drop(decls);
+            Err(fault)
+        }
+    }
 }
 
 /// The program of these items and sections, which say `whole` and break no rule.
@@ -59,17 +69,53 @@ fn resolve_program(
     ensures { IfOk result (λ program. program
         ≡ resolved.resolved (preamble.decls_view decls.now) (map view.section_view sections.items)) }
 {
-    let names = NameTables::new(alloc, whole, &sections)?;
-    let made = classes_and_sets(alloc, whole, decls, &names)?;
-    let sections = resolve_sections(alloc, whole, &names, sections)?;
-    let globals = names.into_globals();
-    Ok(Program::new(
-        globals,
-        made.classes,
-        made.sets,
-        made.priority,
-        sections,
-    ))
+    match NameTables::new(alloc, whole, &sections) {
+        Ok(names) => resolve_named(alloc, whole, decls, names, sections),
+        Err(fault) => {
+            drop(sections);
+            Err(fault)
+        }
+    }
+}
+
+/// The program of these items and sections, whose names these are. Where it ends early, it lets go
+/// by calls: the proof of each end writes out what is still held there.
+fn resolve_named(
+    alloc: Global,
+    whole: &Tables,
+    decls: &Decls,
+    names: NameTables,
+    sections: Vec<Section>,
+) -> Result<Program, AllocError>
+    requires whole { whole.now
+        ≡ declared.tables (preamble.decls_view decls.now).items (map view.section_view sections.items) }
+    requires names { names
+        ≡ names_of whole.now (declared.heads (map view.section_view sections.items)) }
+    requires pictures { list_any (λ q. list_any (λ s. has_wrong_picture s.place) q.places)
+        (map view.section_view sections.items) ≡ false }
+    requires sound { IsSound (resolved.resolved (preamble.decls_view decls.now)
+        (map view.section_view sections.items)) }
+    ensures { IfOk result (λ program. program
+        ≡ resolved.resolved (preamble.decls_view decls.now) (map view.section_view sections.items)) }
+{
+    match classes_and_sets(alloc, whole, decls, &names) {
+        Ok(made) => match resolve_sections(alloc, whole, &names, sections) {
+            Ok(list) => {
+                let globals = names.into_globals();
+                Ok(Program::new(globals, made.classes, made.sets, made.priority, list))
+            }
+            Err(fault) => {
+                drop(made);
+                drop(names);
+                Err(fault)
+            }
+        },
+        Err(fault) => {
+            drop(sections);
+            drop(names);
+            Err(fault)
+        }
+    }
 }
 
 /// The tables of a program's classes and of its sets, and the order of its event classes.

@@ -10,8 +10,8 @@ use crate::resolve_expr::{resolve_expr, resolve_option};
 use crate::resolve_reference::{resolve_set, resolve_target};
 use crate::scope::{Scope, class_variable, resolve_variable};
 use ss_check::{
-    Begin, Boxed, Direction, ForPhrase, Looping, Phrase, Qualifier, QualifierWord, Qualifiers,
-    Statistic, Telling, Tellings, Variable,
+    Begin, Boxed, Direction, Expr, ForPhrase, Looping, Phrase, Qualifier, QualifierWord,
+    Qualifiers, Statistic, Telling, Tellings, Variable,
 };
 use ss_grammar::{Computed, Loop, Range, WalkStart};
 use ss_words::{Name, Several};
@@ -61,13 +61,23 @@ fn resolve_range(scope: Scope<'_>, range: &Range) -> Result<Phrase, AllocError>
             first,
             last,
             step,
-        } => Ok(Phrase::Counting {
-            direction: resolve_direction(*direction),
-            variable: resolve_variable(scope, variable.bytes()),
-            first: resolve_expr(scope, first)?,
-            last: resolve_expr(scope, last)?,
-            step: resolve_option(scope, step)?,
-        }),
+        } => {
+            let (first, last) = resolve_bounds(scope, first, last)?;
+            match resolve_option(scope, step) {
+                Ok(step) => Ok(Phrase::Counting {
+                    direction: resolve_direction(*direction),
+                    variable: resolve_variable(scope, variable.bytes()),
+                    first,
+                    last,
+                    step,
+                }),
+                Err(fault) => {
+                    drop(first);
+                    drop(last);
+                    Err(fault)
+                }
+            }
+        }
         Range::Each { class, variable } => Ok(Phrase::Each {
             class: scope.names.class(class.bytes()),
             is_called: variable.is_some(),
@@ -79,12 +89,42 @@ fn resolve_range(scope: Scope<'_>, range: &Range) -> Result<Phrase, AllocError>
             variable,
             set,
             start,
-        } => Ok(Phrase::Walking {
-            direction: resolve_direction(*direction),
-            variable: resolve_variable(scope, variable.bytes()),
-            set: resolve_set(scope, set)?,
-            begin: resolve_begin(scope, start)?,
-        }),
+        } => {
+            let set = resolve_set(scope, set)?;
+            match resolve_begin(scope, start) {
+                Ok(begin) => Ok(Phrase::Walking {
+                    direction: resolve_direction(*direction),
+                    variable: resolve_variable(scope, variable.bytes()),
+                    set,
+                    begin,
+                }),
+                Err(fault) => {
+                    drop(set);
+                    Err(fault)
+                }
+            }
+        }
+    }
+}
+
+/// The values that a FOR phrase counts from and to.
+fn resolve_bounds(
+    scope: Scope<'_>,
+    first: &ss_grammar::Expr,
+    last: &ss_grammar::Expr,
+) -> Result<(Expr, Expr), AllocError>
+    ensures first { IfOk result
+        (λ x. x.0 ≡ in_scope scope.entry resolved.resolved_expr (view.expr_view first.now)) }
+    ensures last { IfOk result
+        (λ x. x.1 ≡ in_scope scope.entry resolved.resolved_expr (view.expr_view last.now)) }
+{
+    let first = resolve_expr(scope, first)?;
+    match resolve_expr(scope, last) {
+        Ok(last) => Ok((first, last)),
+        Err(fault) => {
+            drop(first);
+            Err(fault)
+        }
     }
 }
 

@@ -17,8 +17,8 @@ use crate::resolve_reference::{
 };
 use crate::scope::Scope;
 use ss_check::{
-    Assign, Boxed, Call, Control, End, Filing, Listing, Making, Notice, Output, Place, Position,
-    Schedule, Timing, When,
+    Assign, Boxed, Call, Control, End, Expr, Filing, Listing, Making, Notice, Output, Place,
+    Position, Schedule, Target, Timing, When,
 };
 use ss_grammar::{Article, Details, Exchange, FilePlace, Reference, SetEnd, Simple, Transfer};
 use ss_report::{Picture, PictureFault};
@@ -58,19 +58,44 @@ fn resolve_assign(scope: Scope<'_>, assign: &ss_grammar::Assign) -> Result<Assig
             written,
             target,
             value,
-        } => Ok(Assign::Let {
-            written: *written,
-            target: resolve_target(scope, target)?,
-            value: resolve_expr(scope, value)?,
-        }),
-        ss_grammar::Assign::Add { value, target } => Ok(Assign::Add {
-            value: resolve_expr(scope, value)?,
-            target: resolve_target(scope, target)?,
-        }),
-        ss_grammar::Assign::Subtract { value, target } => Ok(Assign::Subtract {
-            value: resolve_expr(scope, value)?,
-            target: resolve_target(scope, target)?,
-        }),
+        } => {
+            let written = *written;
+            let (target, value) = target_and_value(scope, target, value)?;
+            Ok(Assign::Let {
+                written,
+                target,
+                value,
+            })
+        }
+        ss_grammar::Assign::Add { value, target } => {
+            let (target, value) = target_and_value(scope, target, value)?;
+            Ok(Assign::Add { value, target })
+        }
+        ss_grammar::Assign::Subtract { value, target } => {
+            let (target, value) = target_and_value(scope, target, value)?;
+            Ok(Assign::Subtract { value, target })
+        }
+    }
+}
+
+/// What an assignment changes, and the value that it takes for it.
+fn target_and_value(
+    scope: Scope<'_>,
+    target: &Reference,
+    value: &ss_grammar::Expr,
+) -> Result<(Target, Expr), AllocError>
+    ensures target { IfOk result
+        (λ x. x.0 ≡ in_scope scope.entry resolved.resolved_target (view.reference_view target.now)) }
+    ensures value { IfOk result
+        (λ x. x.1 ≡ in_scope scope.entry resolved.resolved_expr (view.expr_view value.now)) }
+{
+    let target = resolve_target(scope, target)?;
+    match resolve_expr(scope, value) {
+        Ok(value) => Ok((target, value)),
+        Err(fault) => {
+            drop(target);
+            Err(fault)
+        }
     }
 }
 

@@ -9,18 +9,18 @@ use Rattle.ss_checker.proofs.Sound.{sound_resolved}
 use Rattle.ss_checker.proofs.SoundFew.{few_sections}
 use Rattle.ss_checker.proofs.program.check.Goals as goal
 
-pub resolve_program-requires : goal.resolve_program-requires
-resolve_program-requires c =
+pub resolve_program-program-requires : goal.resolve_program-program-requires
+resolve_program-program-requires c =
     let list = c.into_list-sections.result.items in
-    let none = rw c.deref.ensures.value at c.in_ok-whole.ensures.sound in
+    let none = rw c.deref.ensures.value at c.in-Ok.ensures.sound in
     let tree = subst AreOfTree (sym c.into_list-sections.ensures.list) c.into_list-sections.ensures.program in
     record {
-      whole = rw c.deref.ensures.value at c.in_ok-whole.ensures.ok;
+      whole = rw c.deref.ensures.value at c.in-Ok.ensures.ok;
       pictures = pictures_right (decls_view c.args.decls) (map section_view list) none;
       sound =
           sound_resolved (decls_view c.args.decls) (map section_view list) c.requires tree (few_sections list) none;
     }
 
-pub returns-clause-ok : goal.returns-clause-ok
-returns-clause-ok c =
-    c.in_ok-program.ensures ∙ ap (resolved (decls_view c.args.decls)) c.into_list-sections.ensures.list
+pub returns-in_ok-program-in-Ok-clause-ok : goal.returns-in_ok-program-in-Ok-clause-ok
+returns-in_ok-program-in-Ok-clause-ok c =
+    c.in_ok-program-in-Ok.ensures ∙ ap (resolved (decls_view c.args.decls)) c.into_list-sections.ensures.list

@@ -13,8 +13,24 @@ use Rattle.ss_check.specs.ProgramExpr as checked
 use Rattle.ss_checker.specs.Resolved.{resolved_expr, resolved_exprs, resolved_factor, resolved_products, resolved_sums}
 use Rattle.ss_checker.specs.Declarations.{kind_of}
 use Rattle.ss_checker.specs.Scope.{in_scope}
-use Rattle.ss_checker.proofs.Resolving.{along, resolved_signed, exprs_map, products_map, sums_map}
+use Rattle.ss_checker.proofs.Resolving.{along, shown_put, resolved_signed, exprs_map, products_map, sums_map}
 use Rattle.ss_checker.proofs.resolve_expr.+resolve.Goals as goal
+
+pub resolve_term-loop-further-preserved : goal.resolve_term-loop-further-preserved
+resolve_term-loop-further-preserved t c =
+    rw c.in_ok-push.ensures.items
+    (shown_put (λ f. in_scope c.args.scope resolved_factor (written.factor_view f)) checked.factor_of
+    c.loop-further.more.items c.in_ok-resolve_factor.field-0 c.deref-further-items.result.now
+    c.loop-further.further-index c.further-item.result c.loop-further-test.true c.further-item.is
+    c.in_ok-resolve_factor.ensures c.loop-further.invariant)
+
+pub resolve_application-loop-other-preserved : goal.resolve_application-loop-other-preserved
+resolve_application-loop-other-preserved t c =
+    rw c.in_ok-push.ensures.items
+    (shown_put (λ e. in_scope c.args.scope resolved_expr (written.expr_view e)) checked.expr_of
+    c.loop-other.more.items c.in_ok-resolve_sum.field-0 c.deref-other-items.result.now
+    c.loop-other.other-index c.other-item.result c.loop-other-test.true c.other-item.is
+    c.in_ok-resolve_sum.ensures c.loop-other.invariant)
 
 pub resolve_sum-returns : goal.resolve_sum-returns
 resolve_sum-returns t c =

@@ -1,13 +1,13 @@
-use Rattle.std.proofs.Common.{◌≡◌, ◌∷◌, take}
+use Rattle.std.proofs.Common.{◌≡◌, ◌++◌, drop}
 use Rattle.std.specs.Prelude.{map}
+use Rattle.ss_words.specs.Lists.{all_of, several_view}
 use Rattle.ss_grammar.specs.View.{computed_view}
 use Rattle.ss_checker.specs.Resolved.{resolved_telling}
 use Rattle.ss_checker.specs.Scope.{in_scope}
 use Rattle.ss_checker.proofs.resolve_phrase.resolve_tellings.Given as goal
 
--- the first target and the others so far
+-- the targets that are left bring the list to all
 abbrev pub invariant-loop-other : goal.invariant-loop-other
 invariant-loop-other l =
-    l.list.items
-    ≡ in_scope l.scope resolved_telling (computed_view l.fn.computed.first)
-    ∷ map (in_scope l.scope resolved_telling) (map computed_view (take l.other-index l.other-items))
+    l.list.items ++ map (in_scope l.scope resolved_telling) (map computed_view (drop l.other-index l.other-items))
+    ≡ map (in_scope l.scope resolved_telling) (all_of (several_view computed_view l.fn.computed))
