@@ -75,5 +75,8 @@ pub(crate) fn write_transcript<S: SetBoard, W: Outlet>(
 {
     let mut debugger = Debugger::new(alloc, machine);
     let mut bytes = Vec::new(alloc);
-    write_answers(&mut debugger, &mut bytes, commands, out)
+    let ended = write_answers(&mut debugger, &mut bytes, commands, out);
+    drop(bytes);
+    drop(debugger);
+    ended
 }

@@ -67,14 +67,20 @@ fn session_by_cases<S: SetBoard, W: Outlet>(
         (W.failures out.old) (W.failures out.new) }
 {
     match load(alloc, model) {
-        Err(LoadFault::Memory) => Err(SessionFault::Memory),
-        Err(LoadFault::Text { rule, line }) => {
-            refuse(alloc, rule.code(), line, out)?;
-            Err(SessionFault::Text)
-        }
-        Err(LoadFault::Check { rule, line }) => {
-            refuse(alloc, rule.code(), line, out)?;
-            Err(SessionFault::Check)
+        Err(fault) => {
+            drop(pending);
+            drop(sets);
+            match fault {
+                LoadFault::Memory => Err(SessionFault::Memory),
+                LoadFault::Text { rule, line } => {
+                    refuse(alloc, rule.code(), line, out)?;
+                    Err(SessionFault::Text)
+                }
+                LoadFault::Check { rule, line } => {
+                    refuse(alloc, rule.code(), line, out)?;
+                    Err(SessionFault::Check)
+                }
+            }
         }
         Ok(program) => {
             let machine = machine(alloc, program, data_text, sets, pending)?;

@@ -83,6 +83,23 @@ fn run_way(machine: &mut Machine<LinkedSets>, way: Way) -> Result<usize> {
     }
 }
 
+/// Writes where one way led.
+fn write_moved(
+    rt: &impl Print,
+    machine: &Machine<LinkedSets>,
+    way: Way,
+    moved: usize,
+) -> Result<()> {
+    print!(rt;
+        "{moved} steps {}, to position {} ({:?}) with a report of {} bytes",
+        way.name(),
+        machine.position(),
+        machine.status(),
+        machine.report().len()
+    )?;
+    Ok(())
+}
+
 /// Runs one way and writes where it led and, where times are wanted, how long it took.
 fn measure(
     rt: &(impl Clock + Print),
@@ -93,13 +110,7 @@ fn measure(
     let start = Instant::now(rt)?;
     let moved = run_way(machine, way)?;
     let took = start.elapsed(rt)?;
-    print!(rt;
-        "{moved} steps {}, to position {} ({:?}) with a report of {} bytes",
-        way.name(),
-        machine.position(),
-        machine.status(),
-        machine.report().len()
-    )?;
+    write_moved(rt, machine, way, moved)?;
     if is_timed {
         print!(rt; " in {} microseconds", took.as_micros())?;
     }
@@ -143,7 +154,9 @@ fn run_model(
     request: &Request,
 ) -> Result<()> {
     let mut machine = machine(rt.alloc(), text, request)?;
-    run_ways(rt, name, &mut machine, request.is_timed)
+    let ran = run_ways(rt, name, &mut machine, request.is_timed);
+    drop(machine);
+    ran
 }
 
 fn main(rt: HostRuntime) -> Result<()> {
