@@ -3,7 +3,6 @@ use Rattle.std.specs.Prelude.{ℕ, ◌+◌, ◌≡◌, false, List, [], ◌++◌
 use Rattle.std.specs.Io.KnownBytes.{Appends}
 use Rattle.ss_words.specs.declared.fault.TextFault.{TextFault}
 use Rattle.ss_words.specs.declared.fault.TextFault.TheVariants as text
-use Rattle.ss_words.specs.Plain.{PlainAt}
 use Rattle.ss_check.specs.declared.fault.CheckFault.{CheckFault}
 use Rattle.ss_check.specs.declared.fault.CheckFault.TheVariants as check
 use Rattle.ss_machine.specs.Run.{Input}
@@ -20,7 +19,6 @@ use Rattle.ss_session.specs.declared.ending.SessionFault.TheVariants.{Text, Chec
 use Rattle.ss_session.specs.declared.load.LoadFault.{LoadFault}
 use Rattle.ss_session.specs.declared.load.LoadFault.TheVariants as load
 use Rattle.ss_session.specs.Model.{refused_text, refused_check, IsOutcome, IsTextRefused, IsCheckRefused}
-use Rattle.ss_session.specs.Refused.{IsRefused}
 use Rattle.ss_session.specs.Written.{WritesFirst, WritesPart}
 use Rattle.ss_session.specs.Transcript.{program_transcript, ends_faulted, end_of, EndsBy}
 use Rattle.ss_session.specs.Transcript.{WritesFirstAnswers, WritesTranscript, WritesPartOfTranscript}
@@ -36,11 +34,6 @@ load_fault_of_text text.Memory = load.Memory
 abbrev pub load_fault_of_check : CheckFault → LoadFault
 load_fault_of_check (check.Broken rule line) = load.Check rule line
 load_fault_of_check check.Memory = load.Memory
-
--- a refusal of plain words tells their rule and its line, unless memory was refused
-abbrev pub IsPartsFault : TextFault → List PlainAt → Type 0
-IsPartsFault (text.Refused rule line) ws = IsRefused rule line ws
-IsPartsFault text.Memory ws = Unit {0}
 
 -- a fault of the reading tells the model's refusal, unless memory was refused
 abbrev pub IsLoadFault : LoadFault → List ℕ → Type 0

@@ -1,16 +1,12 @@
 ghost use Rattle.std.specs.Prelude.{IfOk, IfErr};
-ghost use Rattle.ss_words.specs.PlainRules.{plain_words_of};
-ghost use Rattle.ss_preamble.specs.Limits.{IsWithin};
-ghost use Rattle.ss_preamble.specs.Tree.{items_of};
-ghost use Rattle.ss_preamble.specs.View.{decls_view};
-ghost use Rattle.ss_session.specs.Model.{accepted, AreProgram, IsOutcome};
-ghost use Rattle.ss_session.specs.Private.{IsLoadFault, IsPartsFault};
+ghost use Rattle.ss_session.specs.Model.{accepted, IsOutcome};
+ghost use Rattle.ss_session.specs.Private.{IsLoadFault};
 
 use ss_check::{CheckFault, CheckRule, Program};
 use ss_checker::check;
-use ss_grammar::{Sections, sections};
-use ss_preamble::{Decls, preamble};
-use ss_words::{TextFault, TextRule, Words, words};
+use ss_grammar::sections;
+use ss_preamble::preamble;
+use ss_words::{TextFault, TextRule, words};
 use std::alloc::Global;
 
 /// Why a model is no program, or that memory for reading it was refused.
@@ -49,33 +45,16 @@ impl From<CheckFault> for LoadFault {
     }
 }
 
-/// What the words of a model declare, and their sections.
-#[tactic(auto, using(crate::proofs::Loads::reads))]
-fn parts(alloc: Global, words: &Words) -> Result<(Decls, Sections), TextFault>
-    ensures within { IfOk result (λ parts. IsWithin (items_of (decls_view parts.0))) }
-    ensures ok { IfOk result (λ parts. AreProgram (decls_view parts.0) parts.1 (plain_words_of words.now)) }
-    ensures err { IfErr result (λ fault. IsPartsFault fault (plain_words_of words.now)) }
-{
-    let (decls, from) = preamble(alloc, words)?;
-    match sections(alloc, words, from) {
-        Ok(sections) => Ok((decls, sections)),
-        Err(fault) => {
-            drop(decls);
-            Err(fault)
-        }
-    }
-}
-
 /// The program that a model is.
-#[tactic(auto, using(crate::proofs::Loads::told))]
+#[tactic(auto, using(crate::proofs::Loads::loads))]
 pub(crate) fn load(alloc: Global, model: &[u8]) -> Result<Program, LoadFault>
     ensures ok { IfOk result (λ program. IsOutcome model.now (accepted program)) }
     ensures err { IfErr result (λ fault. IsLoadFault fault model.now) }
 {
     let words = words(alloc, model)?;
-    let parts = parts(alloc, &words);
+    let (decls, from) = preamble(alloc, &words)?;
+    let sections = sections(alloc, &words, from)?;
     // The checker reads no words, and its program takes as much memory as they did.
     drop(words);
-    let (decls, sections) = parts?;
     Ok(check(alloc, decls, sections)?)
 }
