@@ -121,6 +121,23 @@ fn member_named<S: SetBoard>(
     }
 }
 
+/// The member of the list that a value names; F5 where that is not in the list.
+fn member_got<S: SetBoard>(
+    view: View<'_, S>,
+    set: usize,
+    owner: i64,
+    e: &Expr,
+) -> Result<i64, RunFault>
+    requires set { set < length view.store.now.tables.sets }
+    requires sound { InView view IsSoundExpr e.now }
+    ensures { result
+        ≡ and_then (value_of (view_readings view.entry) e.now)
+        (λ y. loops.member_named (view_readings view.entry) set owner y) }
+{
+    let member = value(view, e)?;
+    member_named(view, set, owner, member)
+}
+
 /// The first candidate of a walk through a list.
 fn candidate_at_begin<S: SetBoard>(
     view: View<'_, S>,
@@ -135,13 +152,9 @@ fn candidate_at_begin<S: SetBoard>(
 {
     match begin {
         Begin::AtTheEnd => Ok(as_candidate(end_member(view, direction, set, owner)?)),
-        Begin::From(e) => {
-            let member = value(view, e)?;
-            Ok(Some(member_named(view, set, owner, member)?))
-        }
+        Begin::From(e) => Ok(Some(member_got(view, set, owner, e)?)),
         Begin::After(e) => {
-            let member = value(view, e)?;
-            let member = member_named(view, set, owner, member)?;
+            let member = member_got(view, set, owner, e)?;
             Ok(as_candidate(member_behind(view, direction, set, owner, member)?))
         }
     }
