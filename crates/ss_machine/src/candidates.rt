@@ -1,11 +1,13 @@
 ghost use Rattle.std.specs.Prelude.{◌≡◌, ◌<◌, length, Ok};
-ghost use Rattle.ss_check.specs.ProgramSound.{IsSoundPhrase, IsSoundOption, IsSoundBegin, AreSoundQualifiers};
+ghost use Rattle.ss_check.specs.ProgramSound.{IsSoundPhrase, IsSoundExpr, IsSoundSetRef, IsSoundOption, IsSoundBegin, AreSoundQualifiers};
+ghost use Rattle.ss_values.specs.Faults.{◌>>=◌ as and_then};
+ghost use Rattle.ss_values.specs.Values.{value_of, subscript_value};
 ghost use Rattle.ss_values.specs.Seen.{view_readings, InView};
 ghost use Rattle.ss_machine.specs.Loops as loops;
 
 use crate::loops::{OpenLoop, Walk};
 use crate::verdict::Verdict;
-use ss_check::{Begin, Direction, Expr, Phrase, QualifierWord, Qualifiers, Variable};
+use ss_check::{Begin, Direction, Expr, Phrase, QualifierWord, Qualifiers, SetRef, Variable};
 use ss_links::SetBoard;
 use ss_values::{View, holds, subscript_value, value, variable_value};
 use ss_words::RunFault;
@@ -119,6 +121,23 @@ fn member_named<S: SetBoard>(
     }
 }
 
+/// The member of the list that a value names; F5 where that is not in the list.
+fn member_got<S: SetBoard>(
+    view: View<'_, S>,
+    set: usize,
+    owner: i64,
+    e: &Expr,
+) -> Result<i64, RunFault>
+    requires set { set < length view.store.now.tables.sets }
+    requires sound { InView view IsSoundExpr e.now }
+    ensures { result
+        ≡ and_then (value_of (view_readings view.entry) e.now)
+        (λ y. loops.member_named (view_readings view.entry) set owner y) }
+{
+    let member = value(view, e)?;
+    member_named(view, set, owner, member)
+}
+
 /// The first candidate of a walk through a list.
 fn candidate_at_begin<S: SetBoard>(
     view: View<'_, S>,
@@ -133,13 +152,9 @@ fn candidate_at_begin<S: SetBoard>(
 {
     match begin {
         Begin::AtTheEnd => Ok(as_candidate(end_member(view, direction, set, owner)?)),
-        Begin::From(e) => {
-            let member = value(view, e)?;
-            Ok(Some(member_named(view, set, owner, member)?))
-        }
+        Begin::From(e) => Ok(Some(member_got(view, set, owner, e)?)),
         Begin::After(e) => {
-            let member = value(view, e)?;
-            let member = member_named(view, set, owner, member)?;
+            let member = member_got(view, set, owner, e)?;
             Ok(as_candidate(member_behind(view, direction, set, owner, member)?))
         }
     }
@@ -179,6 +194,58 @@ fn number_loop(
     })
 }
 
+/// The loop over numbers from one value to another one, or the first fault.
+fn counting_loop<S: SetBoard>(
+    view: View<'_, S>,
+    place: usize,
+    direction: Direction,
+    first: &Expr,
+    last: &Expr,
+    step: &Option<Expr>,
+) -> Result<OpenLoop, RunFault>
+    requires first { InView view IsSoundExpr first.now }
+    requires last { InView view IsSoundExpr last.now }
+    requires step { InView view IsSoundOption step.now }
+    ensures { result
+        ≡ and_then (value_of (view_readings view.entry) first.now)
+        (λ a. and_then (value_of (view_readings view.entry) last.now)
+        (λ b. and_then (loops.step_value (view_readings view.entry) step.now)
+        (λ c. loops.number_loop place direction a b c))) }
+{
+    let first = value(view, first)?;
+    let last = value(view, last)?;
+    let step = step_value(view, step)?;
+    number_loop(place, direction, first, last, step)
+}
+
+/// The loop through the list of an owner, or the first fault.
+fn walking_loop<S: SetBoard>(
+    view: View<'_, S>,
+    place: usize,
+    direction: Direction,
+    set: &SetRef,
+    begin: &Begin,
+) -> Result<OpenLoop, RunFault>
+    requires set { InView view IsSoundSetRef set.now }
+    requires begin { InView view IsSoundBegin begin.now }
+    ensures { result
+        ≡ and_then (subscript_value (view_readings view.entry) set.now.owner)
+        (λ o. and_then (loops.candidate_at_begin (view_readings view.entry) direction set.now.set o begin.now)
+        (λ c. Ok (loops.list_loop place direction set.now.set o c))) }
+{
+    let owner = subscript_value(view, &set.owner)?;
+    let candidate = candidate_at_begin(view, direction, set.set, owner, begin)?;
+    Ok(OpenLoop {
+        phrase: place,
+        candidate,
+        walk: Walk::Members {
+            direction,
+            set: set.set,
+            owner,
+        },
+    })
+}
+
 /// The loop that the entry of the phrase at a place opens, or the first fault.
 pub fn loop_at_entry<S: SetBoard>(
     view: View<'_, S>,
@@ -195,12 +262,7 @@ pub fn loop_at_entry<S: SetBoard>(
             last,
             step,
             ..
-        } => {
-            let first = value(view, first)?;
-            let last = value(view, last)?;
-            let step = step_value(view, step)?;
-            number_loop(place, *direction, first, last, step)
-        }
+        } => counting_loop(view, place, *direction, first, last, step),
         Phrase::Each { count, .. } => {
             let last = variable_value(view, Variable::Global(*count));
             number_loop(place, Direction::Onward, 1, last, 1)
@@ -210,19 +272,7 @@ pub fn loop_at_entry<S: SetBoard>(
             set,
             begin,
             ..
-        } => {
-            let owner = subscript_value(view, &set.owner)?;
-            let candidate = candidate_at_begin(view, *direction, set.set, owner, begin)?;
-            Ok(OpenLoop {
-                phrase: place,
-                candidate,
-                walk: Walk::Members {
-                    direction: *direction,
-                    set: set.set,
-                    owner,
-                },
-            })
-        }
+        } => walking_loop(view, place, *direction, set, begin),
     }
 }
 
