@@ -1,23 +1,26 @@
 -- what the statements on entities come to, by what the store said
-use Rattle.std.proofs.Common.{◌≡◌, ℕ, ℤ, Bool, true, false, Option, Result, Ok, Err, refl, ap, sym}
-use Rattle.std.specs.Prelude.{not}
+use Rattle.std.proofs.Common.{◌≡◌, ℕ, ℤ, pos, List, [], Bool, true, false, Option, Result, Ok, Err, refl, ap, sym, ◌∙◌}
+use Rattle.std.specs.Prelude.{not, int_lt}
 use Rattle.ss_words.specs.declared.fault.RunFault.{RunFault}
 use Rattle.ss_words.specs.declared.fault.RunFault.TheVariants.{NoEntity}
 use Rattle.ss_words.specs.declared.fault.StepFault.{StepFault}
 use Rattle.ss_words.specs.declared.fault.StepFault.TheVariants.{Fault, Memory}
 use Rattle.ss_check.specs.declared.making.Making.TheVariants.{CreateEvery}
 use Rattle.ss_check.specs.declared.variable.Variable.TheVariants.{Global}
+use Rattle.ss_check.specs.declared.target.Target.{Target}
 use Rattle.ss_check.specs.ProgramExpr.{Expr}
-use Rattle.ss_store.specs.Tables.{Tables, class_of}
-use Rattle.ss_store.specs.Store.{Store, number_of, exists, last_reference, with_class, without_entity}
+use Rattle.ss_check.specs.Program.{ProgramTable}
+use Rattle.ss_store.specs.Tables.{Tables, tables_of, class_of}
+use Rattle.ss_store.specs.Store.{Store, number_of, exists, last_reference, with_new, with_class, without_entity}
 use Rattle.ss_events.specs.Agenda.{is_pending}
 use Rattle.ss_values.specs.Faults.{◌>>◌, refuse_if}
-use Rattle.ss_values.specs.Values.{value_of, FaultIs}
+use Rattle.ss_values.specs.Values.{value_of, counted, FaultIs}
 use Rattle.ss_machine.specs.State.{State}
 use Rattle.ss_machine.specs.Held.{Held}
 use Rattle.ss_machine.specs.Readings.{readings}
-use Rattle.ss_machine.specs.Step.{state_with_store, state_after_assignment, number_asked, state_after_making, existing, state_after_destroy}
+use Rattle.ss_machine.specs.Step.{state_with_store, state_after_assignment, number_asked, state_after_making, existing, state_after_destroy, state_with_value, state_after_scheduling, state_after_new, state_after_arrival}
 use Rattle.ss_machine.specs.declared.change.Change.{Change}
+use Rattle.ss_machine.specs.declared.entry.Entry.TheVariants.{Waiting}
 use Rattle.ss_machine.specs.Storing.{LeavesStore, IsRefused, IsCreating, IsMakingAll}
 
 -- ---- what the store said
@@ -77,3 +80,90 @@ pub destroy_ends : (t : Tables) (s new : State) (class k : ℕ) (e : Expr) (x : 
 destroy_ends t s new class k e x st a b d w z =
     let n : k ≡ number_of x = existing_is s.store class k x b in
     rw (a, b, d, n, w, z) refl
+
+-- ---- SCHEDULE A
+
+made_there : (p : ProgramTable) (t : Tables) (st : Store) (class : ℕ) (q : Result Store RunFault) → t ≡ tables_of p →
+    with_new st class (class_of t class) ≡ q → with_new st class (class_of (tables_of p) class) ≡ q
+made_there p t st class q a w = ap (λ (v : Tables). with_new st class (class_of v class)) (sym a) ∙ w
+
+scheduled_there : (p : ProgramTable) (s m : State) (class k : ℕ) (time : ℤ) (xs : List ℤ) (st : Store)
+    (q : Result State RunFault) → k ≡ last_reference st → m ≡ state_with_store s st →
+    state_after_scheduling p m class k time xs ≡ q →
+    state_after_scheduling p (state_with_store s st) class (last_reference st) time xs ≡ q
+scheduled_there p s m class k time xs st q l n z =
+    ap (λ (x : State). state_after_scheduling p x class (last_reference st) time xs) (sym n)
+    ∙ ap (λ (i : ℕ). state_after_scheduling p m class i time xs) (sym l)
+    ∙ z
+
+pub new_refused : (p : ProgramTable) (t : Tables) (s : State) (class : ℕ) (target : Target) (time : ℤ) (xs : List ℤ)
+    (e : StepFault) → t ≡ tables_of p → int_lt time s.clock ≡ false →
+    FaultIs e (with_new s.store class (class_of t class)) →
+    FaultIs e (state_after_new p s class target time xs)
+new_refused p t s class target time xs (Fault f) a b w =
+    let v = made_there p t s.store class (Err f) a w in
+    rw (b, v) refl
+new_refused p t s class target time xs Memory a b w = tt
+
+pub new_unscheduled : (p : ProgramTable) (t : Tables) (s m : State) (class k : ℕ) (target : Target) (time : ℤ)
+    (xs : List ℤ) (st : Store) (e : StepFault) → t ≡ tables_of p → int_lt time s.clock ≡ false →
+    with_new s.store class (class_of t class) ≡ Ok st → k ≡ last_reference st → m ≡ state_with_store s st →
+    FaultIs e (state_after_scheduling p m class k time xs) →
+    FaultIs e (state_after_new p s class target time xs)
+new_unscheduled p t s m class k target time xs st (Fault f) a b w l n z =
+    let v = made_there p t s.store class (Ok st) a w in
+    let y = scheduled_there p s m class k time xs st (Err f) l n z in
+    rw (b, v, y) refl
+new_unscheduled p t s m class k target time xs st Memory a b w l n z = tt
+
+pub new_assigned : (p : ProgramTable) (t u : Tables) (s m r : State) (class k : ℕ) (target : Target) (time x : ℤ)
+    (xs : List ℤ) (st : Store) (q : Result State RunFault) → t ≡ tables_of p → int_lt time s.clock ≡ false →
+    with_new s.store class (class_of t class) ≡ Ok st → k ≡ last_reference st → m ≡ state_with_store s st →
+    state_after_scheduling p m class k time xs ≡ Ok r → counted k ≡ Ok (pos k) → u ≡ t → x ≡ pos k →
+    state_with_value u r target x ≡ q →
+    state_after_new p s class target time xs ≡ q
+new_assigned p t u s m r class k target time x xs st q a b w l n z d e f g =
+    let v = made_there p t s.store class (Ok st) a w in
+    let y = scheduled_there p s m class k time xs st (Ok r) l n z in
+    let i : counted (last_reference st) ≡ Ok (pos (last_reference st)) =
+    ap counted (sym l) ∙ d ∙ ap (λ (j : ℕ). Ok (pos j)) l in
+    let o : state_with_value (tables_of p) r target (pos (last_reference st)) ≡ q =
+    ap (λ (j : Tables). state_with_value j r target (pos (last_reference st))) (sym (e ∙ a))
+    ∙ ap (λ (j : ℤ). state_with_value u r target j) (sym (f ∙ ap pos l))
+    ∙ g in
+    rw (b, v, y, i) o
+
+-- ---- an entry of the data for which a notice waits
+
+pub arrival_refused : (p : ProgramTable) (t : Tables) (s : State) (class : ℕ) (time : ℤ) (e : StepFault) →
+    t ≡ tables_of p → int_lt time s.clock ≡ false → FaultIs e (with_new s.store class (class_of t class)) →
+    FaultIs e (state_after_arrival p s class time)
+arrival_refused p t s class time (Fault f) a b w =
+    let v = made_there p t s.store class (Err f) a w in
+    rw (b, v) refl
+arrival_refused p t s class time Memory a b w = tt
+
+pub arrival_unscheduled : (p : ProgramTable) (t : Tables) (s m : State) (class k : ℕ) (time : ℤ) (xs : List ℤ)
+    (st : Store) (e : StepFault) → xs ≡ [] → t ≡ tables_of p → int_lt time s.clock ≡ false →
+    with_new s.store class (class_of t class) ≡ Ok st → k ≡ last_reference st → m ≡ state_with_store s st →
+    FaultIs e (state_after_scheduling p m class k time xs) →
+    FaultIs e (state_after_arrival p s class time)
+arrival_unscheduled p t s m class k time xs st (Fault f) g a b w l n z =
+    let v = made_there p t s.store class (Ok st) a w in
+    let u = ap (λ (ys : List ℤ). state_after_scheduling p m class k time ys) (sym g) ∙ z in
+    let y = scheduled_there p s m class k time [] st (Err f) l n u in
+    rw (b, v, y) refl
+arrival_unscheduled p t s m class k time xs st Memory g a b w l n z = tt
+
+pub arrival_ends : (p : ProgramTable) (t : Tables) (s m r new : State) (class k : ℕ) (time : ℤ) (xs : List ℤ)
+    (st : Store) → xs ≡ [] → t ≡ tables_of p → int_lt time s.clock ≡ false →
+    with_new s.store class (class_of t class) ≡ Ok st → k ≡ last_reference st → m ≡ state_with_store s st →
+    state_after_scheduling p m class k time xs ≡ Ok r → new ≡ record r { entry = Waiting class k } →
+    state_after_arrival p s class time ≡ Ok new
+arrival_ends p t s m r new class k time xs st g a b w l n z d =
+    let v = made_there p t s.store class (Ok st) a w in
+    let u = ap (λ (ys : List ℤ). state_after_scheduling p m class k time ys) (sym g) ∙ z in
+    let y = scheduled_there p s m class k time [] st (Ok r) l n u in
+    let i : record r { entry = Waiting class (last_reference st) } ≡ new =
+    ap (λ (j : ℕ). record r { entry = Waiting class j }) (sym l) ∙ sym d in
+    rw (b, v, y) (ap Ok i)
