@@ -18,10 +18,10 @@ use Rattle.ss_values.specs.Values.{value_of, counted, FaultIs}
 use Rattle.ss_machine.specs.State.{State}
 use Rattle.ss_machine.specs.Held.{Held}
 use Rattle.ss_machine.specs.Readings.{readings}
-use Rattle.ss_machine.specs.Step.{state_with_store, state_after_assignment, number_asked, state_after_making, existing, state_after_destroy, state_with_value, state_after_scheduling, state_after_new, state_after_arrival}
+use Rattle.ss_machine.specs.Step.{state_with_store, state_after_assignment, number_asked, state_after_making, existing, state_after_destroy, state_with_value, state_after_scheduling, state_after_new, state_after_arrival, attributes_now, state_with_attributes, state_with_notice, tie_attributes}
 use Rattle.ss_machine.specs.declared.change.Change.{Change}
 use Rattle.ss_machine.specs.declared.entry.Entry.TheVariants.{Waiting}
-use Rattle.ss_machine.specs.Storing.{LeavesStore, IsRefused, IsCreating, IsMakingAll}
+use Rattle.ss_machine.specs.Storing.{LeavesStore, IsRefused, IsCreating, IsMakingAll, IsScheduling}
 
 -- ---- what the store said
 
@@ -167,3 +167,38 @@ arrival_ends p t s m r new class k time xs st g a b w l n z d =
     let i : record r { entry = Waiting class (last_reference st) } ≡ new =
     ap (λ (j : ℕ). record r { entry = Waiting class j }) (sym l) ∙ sym d in
     rw (b, v, y) (ap Ok i)
+
+-- ---- a notice is scheduled
+
+pub scheduling_refused : (e : StepFault) (q : Result State RunFault) (h k : Held) → IsScheduling (Err e) q h k →
+    FaultIs e q
+scheduling_refused (Fault e) (Err f) h k o = ap Err (sym o.0)
+scheduling_refused Memory q h k o = tt
+scheduling_refused (Fault e) (Ok s) h k o = absurd o
+
+pub scheduling_is : (change : Change) (q : Result State RunFault) (h k : Held) → IsScheduling (Ok change) q h k →
+    q ≡ Ok k.state
+scheduling_is change (Ok s) h k o = ap Ok (sym o.state)
+scheduling_is change (Err f) h k o = absurd o
+
+pub keys_fail : (p : ProgramTable) (s r : State) (class k : ℕ) (time : ℤ) (xs : List ℤ) (e : StepFault) →
+    state_with_attributes s class k 0 xs ≡ Ok r →
+    FaultIs e (attributes_now r.store class k (tie_attributes p class)) →
+    FaultIs e (state_after_scheduling p s class k time xs)
+keys_fail p s r class k time xs (Fault f) a b = rw (a, b) refl
+keys_fail p s r class k time xs Memory a b = tt
+
+pub notice_fails : (p : ProgramTable) (s r : State) (class k : ℕ) (time : ℤ) (xs keys : List ℤ) (e : StepFault) →
+    state_with_attributes s class k 0 xs ≡ Ok r →
+    attributes_now r.store class k (tie_attributes p class) ≡ Ok keys →
+    FaultIs e (state_with_notice r class k time keys) →
+    FaultIs e (state_after_scheduling p s class k time xs)
+notice_fails p s r class k time xs keys (Fault f) a b d = rw (a, b) d
+notice_fails p s r class k time xs keys Memory a b d = tt
+
+pub notice_ends : (p : ProgramTable) (s r new : State) (class k : ℕ) (time : ℤ) (xs keys : List ℤ) →
+    state_with_attributes s class k 0 xs ≡ Ok r →
+    attributes_now r.store class k (tie_attributes p class) ≡ Ok keys →
+    state_with_notice r class k time keys ≡ Ok new →
+    state_after_scheduling p s class k time xs ≡ Ok new
+notice_ends p s r new class k time xs keys a b d = rw (a, b) d
