@@ -12,16 +12,16 @@ use Rattle.ss_check.specs.ProgramExpr.{Expr}
 use Rattle.ss_check.specs.Program.{ProgramTable}
 use Rattle.ss_store.specs.Tables.{Tables, tables_of, class_of}
 use Rattle.ss_store.specs.Store.{Store, number_of, exists, last_reference, with_new, with_class, without_entity}
-use Rattle.ss_events.specs.Agenda.{is_pending}
+use Rattle.ss_events.specs.Agenda.{Agenda, is_pending}
 use Rattle.ss_values.specs.Faults.{◌>>◌, refuse_if}
 use Rattle.ss_values.specs.Values.{value_of, counted, FaultIs}
 use Rattle.ss_machine.specs.State.{State}
 use Rattle.ss_machine.specs.Held.{Held}
 use Rattle.ss_machine.specs.Readings.{readings}
-use Rattle.ss_machine.specs.Step.{state_with_store, state_after_assignment, number_asked, state_after_making, existing, state_after_destroy, state_with_value, state_after_scheduling, state_after_new, state_after_arrival, attributes_now, state_with_attributes, state_with_notice, tie_attributes}
+use Rattle.ss_machine.specs.Step.{state_with_store, state_after_assignment, number_asked, state_after_making, existing, state_after_destroy, state_with_value, state_after_scheduling, state_after_new, state_after_arrival, attributes_now, state_with_attributes, state_with_notice, tie_attributes, state_after_create, state_with_agenda, agenda_without, state_after_cancel}
 use Rattle.ss_machine.specs.declared.change.Change.{Change}
 use Rattle.ss_machine.specs.declared.entry.Entry.TheVariants.{Waiting}
-use Rattle.ss_machine.specs.Storing.{LeavesStore, IsRefused, IsCreating, IsMakingAll, IsScheduling}
+use Rattle.ss_machine.specs.Storing.{LeavesStore, IsRefused, IsCreating, IsMakingAll, IsScheduling, IsCancelling}
 
 -- ---- what the store said
 
@@ -202,3 +202,48 @@ pub notice_ends : (p : ProgramTable) (s r new : State) (class k : ℕ) (time : �
     state_with_notice r class k time keys ≡ Ok new →
     state_after_scheduling p s class k time xs ≡ Ok new
 notice_ends p s r new class k time xs keys a b d = rw (a, b) d
+
+-- ---- CREATE
+
+pub create_refused : (t : Tables) (s : State) (class : ℕ) (target : Target) (e : StepFault) →
+    FaultIs e (with_new s.store class (class_of t class)) →
+    FaultIs e (state_after_create t s class target)
+create_refused t s class target (Fault f) a = rw a refl
+create_refused t s class target Memory a = tt
+
+pub create_assigned : (t u : Tables) (s m : State) (class k : ℕ) (target : Target) (x : ℤ) (st : Store)
+    (q : Result State RunFault) → with_new s.store class (class_of t class) ≡ Ok st → k ≡ last_reference st →
+    m ≡ state_with_store s st → counted k ≡ Ok (pos k) → u ≡ t → x ≡ pos k → state_with_value u m target x ≡ q →
+    state_after_create t s class target ≡ q
+create_assigned t u s m class k target x st q w l n d e f g =
+    let i : counted (last_reference st) ≡ Ok (pos (last_reference st)) =
+    ap counted (sym l) ∙ d ∙ ap (λ (j : ℕ). Ok (pos j)) l in
+    let o : state_with_value t (state_with_store s st) target (pos (last_reference st)) ≡ q =
+    ap (λ (j : State). state_with_value t j target (pos (last_reference st))) (sym n)
+    ∙ ap (λ (j : Tables). state_with_value j m target (pos (last_reference st))) (sym e)
+    ∙ ap (λ (j : ℤ). state_with_value u m target j) (sym (f ∙ ap pos l))
+    ∙ g in
+    rw (w, i) o
+
+-- ---- CANCEL
+
+pub cancel_refused : (e : RunFault) (q : Result Agenda RunFault) (h k : Held) → IsCancelling (Err e) q h k →
+    (q ≡ Err e) × (k ≡ h)
+cancel_refused e (Ok a) h k o = absurd o
+cancel_refused e (Err f) h k o = (ap Err (sym o.0), o.1)
+
+pub cancelling_is : (change : Change) (q : Result Agenda RunFault) (h k : Held) → IsCancelling (Ok change) q h k →
+    (a : Agenda) × (q ≡ Ok a) × (k.state ≡ state_with_agenda h.state a)
+cancelling_is change (Ok a) h k o = (a, refl, o.state)
+cancelling_is change (Err f) h k o = absurd o
+
+pub cancel_fails : (t : Tables) (s : State) (class k : ℕ) (e : Expr) (x : ℤ) (f : RunFault) →
+    value_of (readings t s) e ≡ Ok x → existing s.store class x ≡ Ok k → agenda_without s k ≡ Err f →
+    state_after_cancel t s class e ≡ Err f
+cancel_fails t s class k e x f a b d = rw (a, b, d) refl
+
+pub cancel_ends : (t : Tables) (s new : State) (class k : ℕ) (e : Expr) (x : ℤ) (made : Agenda) →
+    value_of (readings t s) e ≡ Ok x → existing s.store class x ≡ Ok k → agenda_without s k ≡ Ok made →
+    new ≡ state_with_agenda s made →
+    state_after_cancel t s class e ≡ Ok new
+cancel_ends t s new class k e x made a b d n = rw (a, b, d, n) refl
