@@ -1,5 +1,5 @@
 -- what the statements on entities come to, by what the store said
-use Rattle.std.proofs.Common.{◌≡◌, ℕ, ℤ, pos, List, [], Bool, true, false, Option, Result, Ok, Err, refl, ap, sym, ◌∙◌}
+use Rattle.std.proofs.Common.{◌≡◌, ℕ, ℤ, pos, List, [], Bool, true, false, Option, Result, Ok, Err, OnOk, IfErr, refl, ap, sym, ◌∙◌}
 use Rattle.std.specs.Prelude.{not, int_lt}
 use Rattle.ss_words.specs.declared.fault.RunFault.{RunFault}
 use Rattle.ss_words.specs.declared.fault.RunFault.TheVariants.{NoEntity}
@@ -8,6 +8,7 @@ use Rattle.ss_words.specs.declared.fault.StepFault.TheVariants.{Fault, Memory}
 use Rattle.ss_check.specs.declared.making.Making.TheVariants.{CreateEvery}
 use Rattle.ss_check.specs.declared.variable.Variable.TheVariants.{Global}
 use Rattle.ss_check.specs.declared.target.Target.{Target}
+use Rattle.ss_check.specs.declared.timing.Schedule.{Schedule}
 use Rattle.ss_check.specs.ProgramExpr.{Expr}
 use Rattle.ss_check.specs.Program.{ProgramTable}
 use Rattle.ss_store.specs.Tables.{Tables, tables_of, class_of}
@@ -18,7 +19,7 @@ use Rattle.ss_values.specs.Values.{value_of, counted, FaultIs}
 use Rattle.ss_machine.specs.State.{State}
 use Rattle.ss_machine.specs.Held.{Held}
 use Rattle.ss_machine.specs.Readings.{readings}
-use Rattle.ss_machine.specs.Step.{state_with_store, state_after_assignment, number_asked, state_after_making, existing, state_after_destroy, state_with_value, state_after_scheduling, state_after_new, state_after_arrival, attributes_now, state_with_attributes, state_with_notice, tie_attributes, state_after_create, state_with_agenda, agenda_without, state_after_cancel}
+use Rattle.ss_machine.specs.Step.{state_with_store, state_after_assignment, number_asked, state_after_making, existing, state_after_destroy, state_with_value, state_after_scheduling, state_after_new, state_after_arrival, attributes_now, state_with_attributes, state_with_notice, tie_attributes, state_after_create, state_with_agenda, agenda_without, state_after_cancel, arguments_asked, time_asked, state_after_notice, state_after_schedule}
 use Rattle.ss_machine.specs.declared.change.Change.{Change}
 use Rattle.ss_machine.specs.declared.entry.Entry.TheVariants.{Waiting}
 use Rattle.ss_machine.specs.Storing.{LeavesStore, IsRefused, IsCreating, IsMakingAll, IsScheduling, IsCancelling}
@@ -247,3 +248,49 @@ pub cancel_ends : (t : Tables) (s new : State) (class k : ℕ) (e : Expr) (x : �
     new ≡ state_with_agenda s made →
     state_after_cancel t s class e ≡ Ok new
 cancel_ends t s new class k e x made a b d n = rw (a, b, d, n) refl
+
+-- ---- SCHEDULE
+
+arguments_there : (p : ProgramTable) (t : Tables) (s : State) (x : Schedule) (q : Result (ℤ × List ℤ) RunFault) →
+    t ≡ tables_of p → arguments_asked (readings t s) x.notice x.arguments x.listing ≡ q →
+    arguments_asked (readings (tables_of p) s) x.notice x.arguments x.listing ≡ q
+arguments_there p t s x q a o =
+    ap (λ (v : Tables). arguments_asked (readings v s) x.notice x.arguments x.listing) (sym a) ∙ o
+
+time_there : (p : ProgramTable) (t : Tables) (s : State) (x : Schedule) (q : Result ℤ RunFault) → t ≡ tables_of p →
+    time_asked (readings t s) x.when ≡ q → time_asked (readings (tables_of p) s) x.when ≡ q
+time_there p t s x q a o = ap (λ (v : Tables). time_asked (readings v s) x.when) (sym a) ∙ o
+
+pub schedule_ends : (p : ProgramTable) (t : Tables) (s new : State) (x : Schedule) (n time : ℤ) (xs : List ℤ)
+    (done : Result (Unit {0}) StepFault) → t ≡ tables_of p →
+    arguments_asked (readings t s) x.notice x.arguments x.listing ≡ Ok (n, xs) →
+    time_asked (readings t s) x.when ≡ Ok time →
+    OnOk done (state_after_notice p s x.class x.notice n time xs ≡ Ok new) →
+    OnOk done (state_after_schedule p s x ≡ Ok new)
+schedule_ends p t s new x n time xs (Ok _) a o w h =
+    let u = arguments_there p t s x (Ok (n, xs)) a o in
+    let v = time_there p t s x (Ok time) a w in
+    rw (u, v) h
+schedule_ends p t s new x n time xs (Err _) a o w h = tt
+
+pub schedule_fails : (p : ProgramTable) (t : Tables) (s : State) (x : Schedule) (n time : ℤ) (xs : List ℤ)
+    (done : Result (Unit {0}) StepFault) → t ≡ tables_of p →
+    arguments_asked (readings t s) x.notice x.arguments x.listing ≡ Ok (n, xs) →
+    time_asked (readings t s) x.when ≡ Ok time →
+    IfErr done (λ e. FaultIs e (state_after_notice p s x.class x.notice n time xs)) →
+    IfErr done (λ e. FaultIs e (state_after_schedule p s x))
+schedule_fails p t s x n time xs (Err (Fault f)) a o w h =
+    let u = arguments_there p t s x (Ok (n, xs)) a o in
+    let v = time_there p t s x (Ok time) a w in
+    rw (u, v) h
+schedule_fails p t s x n time xs (Err Memory) a o w h = tt
+schedule_fails p t s x n time xs (Ok _) a o w h = tt
+
+pub schedule_untimed : (p : ProgramTable) (t : Tables) (s : State) (x : Schedule) (n : ℤ) (xs : List ℤ) (e : RunFault) →
+    t ≡ tables_of p → arguments_asked (readings t s) x.notice x.arguments x.listing ≡ Ok (n, xs) →
+    time_asked (readings t s) x.when ≡ Err e →
+    state_after_schedule p s x ≡ Err e
+schedule_untimed p t s x n xs e a o w =
+    let u = arguments_there p t s x (Ok (n, xs)) a o in
+    let v = time_there p t s x (Err e) a w in
+    rw (u, v) refl
