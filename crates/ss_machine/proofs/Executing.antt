@@ -1,6 +1,6 @@
 -- what the statements on entities come to, by what the store said
 use Rattle.std.proofs.Common.{◌≡◌, ℕ, ℤ, pos, List, [], Bool, true, false, Option, Result, Ok, Err, OnOk, IfErr, refl, ap, sym, ◌∙◌}
-use Rattle.std.specs.Prelude.{not, int_lt}
+use Rattle.std.specs.Prelude.{not, int_lt, if◌then◌else◌}
 use Rattle.ss_words.specs.declared.fault.RunFault.{RunFault}
 use Rattle.ss_words.specs.declared.fault.RunFault.TheVariants.{NoEntity}
 use Rattle.ss_words.specs.declared.fault.StepFault.{StepFault}
@@ -294,3 +294,17 @@ schedule_untimed p t s x n xs e a o w =
     let u = arguments_there p t s x (Ok (n, xs)) a o in
     let v = time_there p t s x (Err e) a w in
     rw (u, v) refl
+
+-- ---- the notice of an event that starts
+
+pub unsaved : (t : Tables) (st : Store) (class k : ℕ) (x : ℤ) (saving : Bool) (q : Result Store RunFault) →
+    saving ≡ false → x ≡ pos k → without_entity t st class (number_of x) ≡ q →
+    (if saving then Ok st else without_entity t st class k) ≡ q
+unsaved t st class k x saving q a b d =
+    let o : without_entity t st class k ≡ q =
+    ap (λ (y : ℤ). without_entity t st class (number_of y)) (sym b) ∙ d in
+    rw a o
+
+-- the store alone is another one
+pub stored_alone : (s u : State) (st : Store) → u ≡ state_with_store s st → u ≡ state_with_store s u.store
+stored_alone s u st e = e ∙ ap (λ (x : State). state_with_store s x.store) (sym e)
