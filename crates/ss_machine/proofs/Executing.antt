@@ -8,14 +8,15 @@ use Rattle.ss_words.specs.declared.fault.StepFault.TheVariants.{Fault, Memory}
 use Rattle.ss_check.specs.declared.making.Making.TheVariants.{CreateEvery}
 use Rattle.ss_check.specs.declared.variable.Variable.TheVariants.{Global}
 use Rattle.ss_check.specs.declared.target.Target.{Target}
+use Rattle.ss_check.specs.declared.target.Target.TheVariants.{Attribute}
 use Rattle.ss_check.specs.declared.timing.Schedule.{Schedule}
-use Rattle.ss_check.specs.ProgramExpr.{Expr}
+use Rattle.ss_check.specs.ProgramExpr.{Expr, Subscript}
 use Rattle.ss_check.specs.Program.{ProgramTable}
 use Rattle.ss_store.specs.Tables.{Tables, tables_of, class_of}
-use Rattle.ss_store.specs.Store.{Store, number_of, exists, last_reference, with_new, with_class, without_entity}
+use Rattle.ss_store.specs.Store.{Store, number_of, exists, last_reference, with_new, with_class, with_attribute, without_entity}
 use Rattle.ss_events.specs.Agenda.{Agenda, is_pending}
 use Rattle.ss_values.specs.Faults.{◌>>◌, refuse_if}
-use Rattle.ss_values.specs.Values.{value_of, counted, FaultIs}
+use Rattle.ss_values.specs.Values.{value_of, subscript_value, counted, FaultIs}
 use Rattle.ss_machine.specs.State.{State}
 use Rattle.ss_machine.specs.Held.{Held}
 use Rattle.ss_machine.specs.Readings.{readings}
@@ -308,3 +309,17 @@ unsaved t st class k x saving q a b d =
 -- the store alone is another one
 pub stored_alone : (s u : State) (st : Store) → u ≡ state_with_store s st → u ≡ state_with_store s u.store
 stored_alone s u st e = e ∙ ap (λ (x : State). state_with_store s x.store) (sym e)
+
+-- ---- a value is assigned to an attribute
+
+pub attribute_fails : (t : Tables) (s : State) (target : Target) (class a : ℕ) (index : Subscript) (x v : ℤ) (f : RunFault) →
+    target ≡ Attribute class a index → subscript_value (readings t s) index ≡ Ok x →
+    with_attribute s.store class a (number_of x) v ≡ Err f →
+    state_with_value t s target v ≡ Err f
+attribute_fails t s target class a index x v f g o w = rw (g, o, w) refl
+
+pub attribute_ends : (t : Tables) (s new : State) (target : Target) (class a : ℕ) (index : Subscript) (x v : ℤ) (st : Store) →
+    target ≡ Attribute class a index → subscript_value (readings t s) index ≡ Ok x →
+    with_attribute s.store class a (number_of x) v ≡ Ok st → new ≡ state_with_store s st →
+    state_with_value t s target v ≡ Ok new
+attribute_ends t s new target class a index x v st g o w n = rw (g, o, w, n) refl
