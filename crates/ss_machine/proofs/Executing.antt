@@ -312,14 +312,14 @@ stored_alone s u st e = e ∙ ap (λ (x : State). state_with_store s x.store) (s
 
 -- ---- a value is assigned to an attribute
 
-pub attribute_fails : (t : Tables) (s : State) (target : Target) (class a : ℕ) (index : Subscript) (x v : ℤ) (f : RunFault) →
-    target ≡ Attribute class a index → subscript_value (readings t s) index ≡ Ok x →
+pub attribute_fails : (t : Tables) (s : State) (target : Target) (class a : ℕ) (index : Subscript) (x v : ℤ)
+    (f : RunFault) → target ≡ Attribute class a index → subscript_value (readings t s) index ≡ Ok x →
     with_attribute s.store class a (number_of x) v ≡ Err f →
     state_with_value t s target v ≡ Err f
 attribute_fails t s target class a index x v f g o w = rw (g, o, w) refl
 
-pub attribute_ends : (t : Tables) (s new : State) (target : Target) (class a : ℕ) (index : Subscript) (x v : ℤ) (st : Store) →
-    target ≡ Attribute class a index → subscript_value (readings t s) index ≡ Ok x →
+pub attribute_ends : (t : Tables) (s new : State) (target : Target) (class a : ℕ) (index : Subscript) (x v : ℤ)
+    (st : Store) → target ≡ Attribute class a index → subscript_value (readings t s) index ≡ Ok x →
     with_attribute s.store class a (number_of x) v ≡ Ok st → new ≡ state_with_store s st →
     state_with_value t s target v ≡ Ok new
 attribute_ends t s new target class a index x v st g o w n = rw (g, o, w, n) refl
