@@ -1,8 +1,7 @@
-use Rattle.std.proofs.Common.{◌≡◌, ◌≤◌, ◌+◌, ℤ, List, Result, arith, refl, length, Ok, Err, rules, w64, FitsSigned, to_z, of_z}
+use Rattle.std.proofs.Common.{◌≡◌, ◌+◌, ℤ, List, Result, arith, refl, length, Ok, Err, rules, w64, FitsSigned, to_z, of_z}
 use Rattle.std.proofs.lemmas.Int.{to_z-of_z}
 use Rattle.ss_words.specs.declared.fault.RunFault.{RunFault}
 use Rattle.ss_words.specs.declared.fault.StepFault.TheVariants.{Fault}
-use Rattle.ss_store.specs.Tables.{tables_of}
 use Rattle.ss_values.specs.Seen.{view_readings}
 use Rattle.ss_machine.specs.Readings.{readings}
 use Rattle.ss_machine.specs.Step.{arguments_asked, time_asked}
