@@ -23,3 +23,4 @@ pub mod Entries
 pub mod Wells
 pub mod Starts
 pub mod LawsHold
+pub mod Executing

@@ -1,8 +1,12 @@
-use Rattle.std.proofs.Common.{◌≡◌, ◌≤◌, ◌+◌, arith, refl, length, Ok, rules}
-use Rattle.ss_store.specs.Tables.{tables_of}
+use Rattle.std.proofs.Common.{◌≡◌, ◌+◌, ℤ, List, Result, arith, refl, length, Ok, Err, rules, w64, FitsSigned, to_z, of_z}
+use Rattle.std.proofs.lemmas.Int.{to_z-of_z}
+use Rattle.ss_words.specs.declared.fault.RunFault.{RunFault}
+use Rattle.ss_words.specs.declared.fault.StepFault.TheVariants.{Fault}
 use Rattle.ss_values.specs.Seen.{view_readings}
-use Rattle.ss_machine.specs.Step.{arguments_asked}
+use Rattle.ss_machine.specs.Readings.{readings}
+use Rattle.ss_machine.specs.Step.{arguments_asked, time_asked}
 use Rattle.ss_machine.proofs.Starts.{arguments_count, noted_same}
+use Rattle.ss_machine.proofs.Executing.{schedule_ends, schedule_fails, schedule_untimed}
 use Rattle.ss_machine.proofs.executor.Executor.schedule.Goals as goal
 
 pub schedule_said-requires-clause-room : goal.schedule_said-requires-clause-room
@@ -28,3 +32,50 @@ returns-clause-notes g c =
     noted_same (3 + m) (3 + n) c.args.self.now.held c.schedule_said.new.self.held c.schedule_said.new.self.held
     c.args.self.now.journal
     c.schedule_said.new.self.journal refl (omega (arith, e)) c.schedule_said.ensures.notes
+
+pub returns-in_err-time-clause-err : goal.returns-in_err-time-clause-err
+returns-in_err-time-clause-err g c =
+    let h = c.args.self.now.held in
+    let x = c.args.schedule.now in
+    let n = c.in_ok-named.named in
+    let xs = c.arguments_asked.new.arguments.items in
+    let e : RunFault = c.in_err-time.field-0.0 in
+    let o : ◌≡◌ {A = Result (ℤ × List ℤ) RunFault}
+    (arguments_asked (readings h.beside.tables h.state) x.notice x.arguments x.listing) (Ok (n, xs)) = search rules in
+    let t : time_asked (readings h.beside.tables h.state) x.when ≡ Err e = search rules in
+    let r : c.from_residual-in_err-time.result ≡ Err (Fault e) = search rules in
+    rw r (schedule_untimed c.args.program.now h.beside.tables h.state x n xs e c.requires.tables o t)
+
+pub returns-clause-ok : goal.returns-clause-ok
+returns-clause-ok g c =
+    let h = c.args.self.now.held in
+    let x = c.args.schedule.now in
+    let n = c.in_ok-named.named in
+    let xs = c.arguments_asked.new.arguments.items in
+    let time = c.in_ok-time.time in
+    let fits : FitsSigned w64 n = search rules in
+    let a : to_z w64 (of_z w64 n) ≡ n = to_z-of_z w64 _ fits in
+    let long : FitsSigned w64 time = search rules in
+    let b : to_z w64 (of_z w64 time) ≡ time = to_z-of_z w64 _ long in
+    let o : ◌≡◌ {A = Result (ℤ × List ℤ) RunFault}
+    (arguments_asked (readings h.beside.tables h.state) x.notice x.arguments x.listing) (Ok (n, xs)) = search rules in
+    let t : time_asked (readings h.beside.tables h.state) x.when ≡ Ok time = search rules in
+    schedule_ends c.args.program.now h.beside.tables h.state c.schedule_said.new.self.held.state x n time xs
+    c.schedule_said.result c.requires.tables o t (rw (a, b) at c.schedule_said.ensures.ok)
+
+pub returns-clause-err : goal.returns-clause-err
+returns-clause-err g c =
+    let h = c.args.self.now.held in
+    let x = c.args.schedule.now in
+    let n = c.in_ok-named.named in
+    let xs = c.arguments_asked.new.arguments.items in
+    let time = c.in_ok-time.time in
+    let fits : FitsSigned w64 n = search rules in
+    let a : to_z w64 (of_z w64 n) ≡ n = to_z-of_z w64 _ fits in
+    let long : FitsSigned w64 time = search rules in
+    let b : to_z w64 (of_z w64 time) ≡ time = to_z-of_z w64 _ long in
+    let o : ◌≡◌ {A = Result (ℤ × List ℤ) RunFault}
+    (arguments_asked (readings h.beside.tables h.state) x.notice x.arguments x.listing) (Ok (n, xs)) = search rules in
+    let t : time_asked (readings h.beside.tables h.state) x.when ≡ Ok time = search rules in
+    schedule_fails c.args.program.now h.beside.tables h.state x n time xs c.schedule_said.result c.requires.tables o t
+    (rw (a, b) at c.schedule_said.ensures.err)

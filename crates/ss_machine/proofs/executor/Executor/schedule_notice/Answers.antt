@@ -1,9 +1,13 @@
-use Rattle.std.proofs.Common.{◌≡◌, ◌≤◌, ◌+◌, ap, arith, length, Ok, rules, ◌∙◌}
+use Rattle.std.proofs.Common.{◌≡◌, ◌≤◌, ◌+◌, ap, arith, length, Ok, Err, rules, ◌∙◌, w64, FitsSigned, to_z, of_z}
 use Rattle.std.specs.Prelude.{map}
+use Rattle.std.proofs.lemmas.Int.{to_z-of_z}
+use Rattle.ss_words.specs.declared.fault.StepFault.{StepFault}
 use Rattle.ss_check.specs.Program.{event_of}
+use Rattle.ss_values.specs.Values.{FaultIs}
 use Rattle.ss_machine.specs.Held.{Held}
-use Rattle.ss_machine.specs.Step.{attributes_now}
+use Rattle.ss_machine.specs.Step.{attributes_now, tie_attributes}
 use Rattle.ss_machine.proofs.Starts.{class_shaped, event_ruled, keys_count, noted_same, not_scheduled}
+use Rattle.ss_machine.proofs.Executing.{scheduling_refused, scheduling_is, keys_fail, notice_fails, notice_ends}
 use Rattle.ss_machine.proofs.executor.Executor.schedule_notice.Goals as goal
 
 pub set_attributes-requires-clause-class : goal.set_attributes-requires-clause-class
@@ -38,3 +42,44 @@ returns-in_err-change-clause-notes g c =
     (not_scheduled c.in_err-change.field-0.0 _ c.set_attributes.new.self.held c.schedule.new.self
     c.in_err-change.ensures) few
     c.set_attributes.ensures.notes
+
+pub returns-in_err-keys-clause-err : goal.returns-in_err-keys-clause-err
+returns-in_err-keys-clause-err g c =
+    let p = c.args.program.now in
+    let h = c.args.self.now.held in
+    let e : StepFault = c.in_err-keys.field-0.0 in
+    let m = c.set_attributes.new.self.held.state in
+    let f : FaultIs e (attributes_now m.store c.args.class c.args.notice (tie_attributes p c.args.class)) =
+    search rules in
+    let r : c.from_residual-in_err-keys.result ≡ Err e = search rules in
+    rw r (keys_fail p h.state m c.args.class c.args.notice c.args.time c.args.self.now.values.items e
+    c.in_ok-set_attributes.ensures.ok f)
+
+pub returns-in_err-change-clause-err : goal.returns-in_err-change-clause-err
+returns-in_err-change-clause-err g c =
+    let p = c.args.program.now in
+    let h = c.args.self.now.held in
+    let e : StepFault = c.in_err-change.field-0.0 in
+    let m = c.set_attributes.new.self.held in
+    let f : attributes_now m.state.store c.args.class c.args.notice (tie_attributes p c.args.class)
+    ≡ Ok c.keys.new.values.items = search rules in
+    let long : FitsSigned w64 c.args.time = search rules in
+    let y : to_z w64 (of_z w64 c.args.time) ≡ c.args.time = to_z-of_z w64 _ long in
+    let r : c.from_residual-in_err-change.result ≡ Err e = search rules in
+    rw r (notice_fails p h.state m.state c.args.class c.args.notice c.args.time c.args.self.now.values.items
+    c.keys.new.values.items e c.in_ok-set_attributes.ensures.ok f
+    (scheduling_refused e _ m c.schedule.new.self (rw (y, c.as_slice.ensures.value) at c.in_err-change.ensures)))
+
+pub returns-clause-ok : goal.returns-clause-ok
+returns-clause-ok g c =
+    let p = c.args.program.now in
+    let h = c.args.self.now.held in
+    let m = c.set_attributes.new.self.held in
+    let f : attributes_now m.state.store c.args.class c.args.notice (tie_attributes p c.args.class)
+    ≡ Ok c.keys.new.values.items = search rules in
+    let long : FitsSigned w64 c.args.time = search rules in
+    let y : to_z w64 (of_z w64 c.args.time) ≡ c.args.time = to_z-of_z w64 _ long in
+    notice_ends p h.state m.state c.schedule.new.self.state c.args.class c.args.notice c.args.time
+    c.args.self.now.values.items c.keys.new.values.items c.in_ok-set_attributes.ensures.ok f
+    (scheduling_is c.in_ok-change.change _ m c.schedule.new.self
+    (rw (y, c.as_slice.ensures.value) at c.in_ok-change.ensures))
