@@ -3,15 +3,27 @@ use ss_check::{CheckFault, Program};
 use ss_checker::check;
 use ss_grammar::sections;
 use ss_preamble::preamble;
-use ss_words::{TextFault, words};
+use ss_words::{TextFault, Words, words};
 use std::alloc::{AllocError, Global};
 
 /// What a text spells, as it is checked.
 fn checked(alloc: Global, text: &[u8]) -> Result<Result<Program, CheckFault>, TextFault> {
     let words = words(alloc, text)?;
-    let (decls, from) = preamble(alloc, &words)?;
-    let sections = sections(alloc, &words, from)?;
-    Ok(check(alloc, decls, sections))
+    let checked = checked_words(alloc, &words);
+    drop(words);
+    checked
+}
+
+/// What words spell, as it is checked.
+fn checked_words(alloc: Global, words: &Words) -> Result<Result<Program, CheckFault>, TextFault> {
+    let (decls, from) = preamble(alloc, words)?;
+    match sections(alloc, words, from) {
+        Ok(sections) => Ok(check(alloc, decls, sections)),
+        Err(fault) => {
+            drop(decls);
+            Err(fault)
+        }
+    }
 }
 
 /// The program of a text, or the rule and the line of its refusal.
@@ -30,7 +42,10 @@ pub fn program(alloc: Global, text: &[u8]) -> Result<Result<Program, Vec<u8>>, A
 /// That a program is checked, or its refusal.
 pub fn outcome(alloc: Global, text: &[u8]) -> Result<Vec<u8>, AllocError> {
     match program(alloc, text)? {
-        Ok(_) => Vec::from_slice(alloc, b"checked"),
+        Ok(program) => {
+            drop(program);
+            Vec::from_slice(alloc, b"checked")
+        }
         Err(refusal) => Ok(refusal),
     }
 }
@@ -44,6 +59,7 @@ pub fn local(alloc: Global, text: &[u8]) -> Result<Vec<u8>, AllocError> {
         Ok(program) => {
             let local = program.local(program.main(), name);
             let global = program.find(name);
+            drop(program);
             Ok(format!(in alloc; "{local:?} {global:?}")?.into_bytes())
         }
         Err(refusal) => Ok(refusal),
@@ -54,17 +70,24 @@ pub fn local(alloc: Global, text: &[u8]) -> Result<Vec<u8>, AllocError> {
 pub fn places(alloc: Global, text: &[u8]) -> Result<Vec<u8>, AllocError> {
     match program(alloc, text)? {
         Ok(program) => {
-            let main = program.main();
-            let section = program.section(main);
-            let line = section.line;
-            let count = section.locals.len();
-            let mut out = format!(in alloc; "{main} {line} {count}:")?;
-            for spot in &section.places {
-                let line = spot.line;
-                out.push_str(format!(in alloc; " {line}")?.as_str())?;
-            }
-            Ok(out.into_bytes())
+            let places = places_of(alloc, &program);
+            drop(program);
+            places
         }
         Err(refusal) => Ok(refusal),
     }
+}
+
+/// The same of a program.
+fn places_of(alloc: Global, program: &Program) -> Result<Vec<u8>, AllocError> {
+    let main = program.main();
+    let section = program.section(main);
+    let line = section.line;
+    let count = section.locals.len();
+    let mut out = format!(in alloc; "{main} {line} {count}:")?;
+    for spot in &section.places {
+        let line = spot.line;
+        out.push_str(format!(in alloc; " {line}")?.as_str())?;
+    }
+    Ok(out.into_bytes())
 }

@@ -7,8 +7,10 @@ use std::alloc::Global;
 pub fn counts(alloc: Global, text: &[u8]) -> Result<Vec<u8>, TextFault> {
     let words = words(alloc, text)?;
     let (decls, number) = preamble(alloc, &words)?;
-    let sections = sections(alloc, &words, number)?;
     let items = decls.items.len();
+    drop(decls);
+    let sections = sections(alloc, &words, number)?;
     let count = sections.list().len();
+    drop(sections);
     Ok(format!(in alloc; "{items} {count}")?.into_bytes())
 }

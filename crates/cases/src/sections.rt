@@ -12,10 +12,18 @@ pub fn sections_of(alloc: Global, text: &[u8]) -> Result<Sections, TextFault> {
 pub fn written(alloc: Global, text: &[u8]) -> Result<Vec<u8>, TextFault> {
     let sections = sections_of(alloc, text)?;
     let mut out = Vec::new(alloc);
-    for section in sections.list() {
-        put_section(alloc, &mut out, section)?;
-    }
+    let put = put_sections(alloc, &mut out, &sections);
+    drop(sections);
+    put?;
     Ok(out)
+}
+
+/// Puts each section.
+fn put_sections(alloc: Global, out: &mut Vec<u8>, sections: &Sections) -> Result<(), AllocError> {
+    for section in sections.list() {
+        put_section(alloc, out, section)?;
+    }
+    Ok(())
 }
 
 /// The places of MAIN but its END, where the text stands between MAIN and END.
@@ -25,12 +33,20 @@ pub fn body(alloc: Global, text: &[u8]) -> Result<Vec<u8>, TextFault> {
     whole.extend_from_slice(b"\nEND")?;
     let sections = sections_of(alloc, &whole)?;
     let mut out = Vec::new(alloc);
+    let put = put_body(alloc, &mut out, &sections);
+    drop(sections);
+    put?;
+    Ok(out)
+}
+
+/// Puts the places of the first section but its END.
+fn put_body(alloc: Global, out: &mut Vec<u8>, sections: &Sections) -> Result<(), AllocError> {
     if let Some(section) = sections.list().first() {
         if let Some((_, places)) = section.places.split_last() {
-            put_places(alloc, &mut out, places)?;
+            put_places(alloc, out, places)?;
         }
     }
-    Ok(out)
+    Ok(())
 }
 
 /// How many sections there are, and how many places they have.
@@ -41,5 +57,6 @@ pub fn counts(alloc: Global, text: &[u8]) -> Result<Vec<u8>, TextFault> {
         places = usize::wrapping_add(places, section.places.len());
     }
     let count = sections.list().len();
+    drop(sections);
     Ok(format!(in alloc; "{count} {places}")?.into_bytes())
 }

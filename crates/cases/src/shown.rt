@@ -38,29 +38,37 @@ pub fn put_places(alloc: Global, out: &mut Vec<u8>, places: &[Spot]) -> Result<(
 fn shown(alloc: Global, text: String) -> Result<String, AllocError> {
     let mut text = text;
     for code in b'A'..=b'Z' {
-        let letter = char::from(code);
-        let letter = format!(in alloc; "{letter}")?;
-        let reference = format!(in alloc; "Reference {{ name: [{code}], subscript: None }}")?;
-        text = text.replace(alloc, reference.as_str(), letter.as_str())?;
-        let name = format!(in alloc; "Name([{code}])")?;
-        text = text.replace(
-            alloc,
-            value(alloc, name.as_str())?.as_str(),
-            letter.as_str(),
-        )?;
-        let name = format!(in alloc; "[{code}]")?;
-        text = text.replace(alloc, name.as_str(), letter.as_str())?;
+        text = with_letter(alloc, text.as_str(), code)?;
     }
     for digit in 0..10u8 {
-        let number = format!(in alloc; "Number({digit})")?;
-        let digit = format!(in alloc; "{digit}")?;
-        text = text.replace(
-            alloc,
-            value(alloc, number.as_str())?.as_str(),
-            digit.as_str(),
-        )?;
+        text = with_digit(alloc, text.as_str(), digit)?;
     }
     Ok(text)
+}
+
+/// The text with the name of one letter, which has this code, as its letter.
+fn with_letter(alloc: Global, text: &str, code: u8) -> Result<String, AllocError> {
+    let letter = char::from(code);
+    let letter = format!(in alloc; "{letter}")?;
+    let reference = format!(in alloc; "Reference {{ name: [{code}], subscript: None }}")?;
+    let text = text.replace(alloc, reference.as_str(), letter.as_str())?;
+    let name = format!(in alloc; "Name([{code}])")?;
+    let text = with_value(alloc, text.as_str(), name.as_str(), letter.as_str())?;
+    let name = format!(in alloc; "[{code}]")?;
+    text.replace(alloc, name.as_str(), letter.as_str())
+}
+
+/// The text with each value of this digit as that digit.
+fn with_digit(alloc: Global, text: &str, digit: u8) -> Result<String, AllocError> {
+    let number = format!(in alloc; "Number({digit})")?;
+    let digit = format!(in alloc; "{digit}")?;
+    with_value(alloc, text, number.as_str(), digit.as_str())
+}
+
+/// The text with each value of one factor as this.
+fn with_value(alloc: Global, text: &str, factor: &str, shown: &str) -> Result<String, AllocError> {
+    let value = value(alloc, factor)?;
+    text.replace(alloc, value.as_str(), shown)
 }
 
 /// How a value of one factor is shown.

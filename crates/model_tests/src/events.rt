@@ -108,10 +108,15 @@ const LOW: Key = Key {
 fn four_rules(alloc: Global) -> Result<Vec<ClassRule>, AllocError>
     ensures { IfOk result (λ rules. AreRanked (map rule_of rules.items) × (length rules.items ≤ 64)) }
 {
-    let high = keyed(alloc, 2, &[HIGH])?;
-    let low = keyed(alloc, 1, &[LOW])?;
-    let both = keyed(alloc, 0, &[HIGH, LOW])?;
-    Ok(vec![in alloc; keyless(alloc, true, 3), high, low, both]?)
+    let high = keyed(alloc, 2, &[HIGH]);
+    let low = keyed(alloc, 1, &[LOW]);
+    let both = keyed(alloc, 0, &[HIGH, LOW]);
+    match (high, low, both) {
+        (Ok(high), Ok(low), Ok(both)) => {
+            Ok(vec![in alloc; keyless(alloc, true, 3), high, low, both]?)
+        }
+        _ => Err(AllocError),
+    }
 }
 
 // Compares a notice, or that there is none.
@@ -492,7 +497,11 @@ fn mixture_on<S: SetBoard>(rt: &impl Abort, alloc: Global, board: S) -> Result<(
         before: Vec::new(alloc),
     };
     let mut dice = Dice { state: 19 };
-    mixture(rt, &mut agenda, &mut journal, &mut plains, &mut dice)
+    let result = mixture(rt, &mut agenda, &mut journal, &mut plains, &mut dice);
+    drop(plains);
+    drop(journal);
+    drop(agenda);
+    result
 }
 
 #[test]
@@ -633,7 +642,10 @@ fn a_refused_growth_changes_nothing(rt: HostRuntime) -> Result<(), AllocError> {
     let alloc = rt.alloc();
     let mut agenda = linked_again(alloc)?;
     let mut journal = Journal::new(alloc);
-    there_and_back_twice(&rt, &mut agenda, &mut journal)
+    let result = there_and_back_twice(&rt, &mut agenda, &mut journal);
+    drop(journal);
+    drop(agenda);
+    result
 }
 
 // A notice of a class, with one key.
@@ -689,7 +701,10 @@ fn keys_are_those_of_the_scheduling(rt: HostRuntime) -> Result<(), AllocError> {
     let alloc = rt.alloc();
     let mut agenda = linked(alloc)?;
     let mut journal = Journal::new(alloc);
-    keeps_keys(&rt, &mut agenda, &mut journal)
+    let result = keeps_keys(&rt, &mut agenda, &mut journal);
+    drop(journal);
+    drop(agenda);
+    result
 }
 
 // Compares a change with one that took off notice 9, behind notice 7 and of the second filing.
@@ -736,7 +751,10 @@ fn a_filing_number_comes_back(rt: HostRuntime) -> Result<(), AllocError> {
     let alloc = rt.alloc();
     let mut agenda = linked(alloc)?;
     let mut journal = Journal::new(alloc);
-    gives_a_filing_number_again(&rt, &mut agenda, &mut journal)
+    let result = gives_a_filing_number_again(&rt, &mut agenda, &mut journal);
+    drop(journal);
+    drop(agenda);
+    result
 }
 
 // Takes each of five notices that tie off in turn, and back: it stands again where it stood.
@@ -764,7 +782,10 @@ fn out_and_in_on<S: SetBoard>(rt: &impl Abort, alloc: Global, board: S) -> Resul
 {
     let mut agenda = started(alloc, board)?;
     let mut journal = Journal::new(alloc);
-    out_and_in(rt, &mut agenda, &mut journal)
+    let result = out_and_in(rt, &mut agenda, &mut journal);
+    drop(journal);
+    drop(agenda);
+    result
 }
 
 #[test]
@@ -821,14 +842,18 @@ fn each_event_class_has_a_head(rt: HostRuntime) -> Result<(), AllocError> {
     let alloc = rt.alloc();
     let mut agenda = of_two_event_classes(alloc)?;
     let mut journal = Journal::new(alloc);
-    stand_at_heads(&rt, &mut agenda, &mut journal)
+    let result = stand_at_heads(&rt, &mut agenda, &mut journal);
+    drop(journal);
+    drop(agenda);
+    result
 }
 
 #[test]
 fn a_program_without_events_has_none(rt: HostRuntime) -> Result<(), AllocError> {
     let alloc = rt.alloc();
     let program = checked(alloc, b"MAIN\nSTOP\nEND\n").expect(&rt, "a program");
-    let agenda = Agenda::new(alloc, &program, PlainSets::new(alloc))?;
-    assert_eq!(rt; agenda.next(), None);
+    let agenda = Agenda::new(alloc, &program, PlainSets::new(alloc));
+    drop(program);
+    assert_eq!(rt; agenda?.next(), None);
     Ok(())
 }

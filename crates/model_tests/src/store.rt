@@ -280,7 +280,11 @@ fn mixture_on<S: SetBoard>(rt: &impl Abort, alloc: Global, board: S) -> Result<(
         before: Vec::new(alloc),
     };
     let mut dice = Dice { state: 7 };
-    mixture(rt, &mut store, &mut journal, &mut plains, &mut dice)
+    let result = mixture(rt, &mut store, &mut journal, &mut plains, &mut dice);
+    drop(plains);
+    drop(journal);
+    drop(store);
+    result
 }
 
 #[test]
@@ -419,7 +423,10 @@ fn a_refused_growth_changes_nothing(rt: HostRuntime) -> Result<(), AllocError> {
     let alloc = rt.alloc();
     let mut store = linked_again(alloc)?;
     let mut journal = Journal::new(alloc);
-    there_back_and_there(&rt, &mut store, &mut journal)
+    let result = there_back_and_there(&rt, &mut store, &mut journal);
+    drop(journal);
+    drop(store);
+    result
 }
 
 // The number that a creation gives.
@@ -465,6 +472,7 @@ fn a_reference_more_than_a_million_is_refused(rt: HostRuntime) -> Result<(), All
     let alloc = rt.alloc();
     let mut store = linked(alloc)?;
     gives_a_million(&rt, &mut store);
+    drop(store);
     Ok(())
 }
 
@@ -506,14 +514,18 @@ fn ten_thousand_entities_of_a_class_are_made_at_once(rt: HostRuntime) -> Result<
     let alloc = rt.alloc();
     let mut store = linked(alloc)?;
     let mut journal = Journal::new(alloc);
-    makes_all(&rt, &mut store, &mut journal)
+    let result = makes_all(&rt, &mut store, &mut journal);
+    drop(journal);
+    drop(store);
+    result
 }
 
 #[test]
 fn a_program_without_classes_has_no_entities(rt: HostRuntime) -> Result<(), AllocError> {
     let alloc = rt.alloc();
     let program = checked(alloc, b"MAIN\nSTOP\nEND\n").expect(&rt, "a program");
-    let store = Store::new(alloc, &program, PlainSets::new(alloc))?;
-    assert!(&rt; !store.exists(0, 1));
+    let store = Store::new(alloc, &program, PlainSets::new(alloc));
+    drop(program);
+    assert!(&rt; !store?.exists(0, 1));
     Ok(())
 }

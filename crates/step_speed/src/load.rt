@@ -3,15 +3,27 @@ use ss_check::Program;
 use ss_checker::check;
 use ss_grammar::sections;
 use ss_preamble::preamble;
-use ss_words::words;
+use ss_words::{Words, words};
 use std::alloc::{AllocError, Global};
 
 /// The program of a model's text.
 pub fn program(alloc: Global, text: &[u8]) -> Result<Program> {
     let words = words(alloc, text)?;
-    let (decls, from) = preamble(alloc, &words)?;
-    let sections = sections(alloc, &words, from)?;
-    Ok(check(alloc, decls, sections)?)
+    let program = program_of(alloc, &words);
+    drop(words);
+    program
+}
+
+/// The program of a model's words.
+fn program_of(alloc: Global, words: &Words) -> Result<Program> {
+    let (decls, from) = preamble(alloc, words)?;
+    match sections(alloc, words, from) {
+        Ok(sections) => Ok(check(alloc, decls, sections)?),
+        Err(fault) => {
+            drop(decls);
+            Err(fault.into())
+        }
+    }
 }
 
 /// The data of a model: turns and size, and then as many ones as the size says.

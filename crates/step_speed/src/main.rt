@@ -134,9 +134,9 @@ fn run_ways(
 
 /// The machine at the start of a model, over the data of the request.
 fn machine(alloc: Global, text: &str, request: &Request) -> Result<Machine<LinkedSets>> {
-    let program = program(alloc, text.as_bytes()).context("the model")?;
     let data = data(alloc, request.turns, request.size)?;
     let feed = Feed::new(alloc, data.as_bytes())?;
+    let program = program(alloc, text.as_bytes()).context("the model")?;
     Ok(Machine::new(
         alloc,
         program,
