@@ -1,10 +1,8 @@
-//! Tests of ss_store, ss_events, ss_machine, ss_debug and ss_session, a module each, in one crate of
-//! their own: the gate proves a crate once more with its tests, and reads all that a checked model
-//! stands on for each crate that has one.
+//! Tests of ss_store, ss_events, ss_machine and ss_session, a module each, in one crate of their
+//! own: the gate proves a crate once more with its tests, and reads all that a checked model stands
+//! on for each crate that has one.
 #![tactic(auto)]
 
-#[cfg(test)]
-mod debug;
 #[cfg(test)]
 mod dice;
 #[cfg(test)]

@@ -1,135 +1,10 @@
-//! Whole sessions over memory: the worked examples of the language and the debugger, each with the
-//! bytes that it must give.
-use ss_session::{End, MemoryOutlet, Outlet, PutFault, SessionFault, exit_status, session};
+//! Whole sessions whose outlet fails or whose memory is refused, and what each session ends with.
+use ss_session::{End, Outlet, PutFault, SessionFault, session};
 use std::alloc::Global;
 use std::process::Abort;
 use std::test::Fail;
 
-/// Runs a session over memory, compares what it writes, and gives its end.
-fn end_of_session<R: Abort + AllocGlobal>(
-    rt: &R,
-    model: &str,
-    commands: &str,
-    wanted: &str,
-) -> Result<End, SessionFault> {
-    let mut out = MemoryOutlet::new(rt.alloc());
-    let end = session(
-        rt.alloc(),
-        model.as_bytes(),
-        b"",
-        commands.as_bytes(),
-        &mut out,
-    );
-    assert_eq!(rt; out.bytes(), wanted.as_bytes());
-    end
-}
-
-/// Runs a session over memory, and compares what it writes and its end.
-fn session_ends<R: Abort + AllocGlobal>(
-    rt: &R,
-    model: &str,
-    commands: &str,
-    wanted: &str,
-    end: Result<End, SessionFault>,
-) {
-    assert_eq!(rt; end_of_session(rt, model, commands, wanted), end);
-}
-
-/// The same, and compares its status.
-fn session_exits<R: Abort + AllocGlobal>(
-    rt: &R,
-    model: &str,
-    commands: &str,
-    wanted: &str,
-    end: Result<End, SessionFault>,
-    status: u8,
-) {
-    assert_eq!(rt; exit_status(&end), status);
-    session_ends(rt, model, commands, wanted, end);
-}
-
 const FIVE: &str = "MAIN\nLET X = 5\nPRINT 1 LINE WITH X THUS\nX = ***\nSTOP\nEND\n";
-
-#[test]
-fn an_empty_program_stops(rt: HostRuntime) {
-    session_exits(&rt, "MAIN\nSTOP\nEND\n", "", "REPORT\n", Ok(End::Done), 0);
-}
-
-#[test]
-fn five_is_printed_again_after_a_step_back(rt: HostRuntime) {
-    let commands = "STEP 2\nBACK\nSHOW REPORT\nSTEP\nSHOW REPORT\n";
-    let wanted = "DONE: STATE 2 CLOCK 0 READY IN MAIN LINE 5\n\
-         DONE: STATE 1 CLOCK 0 READY IN MAIN LINE 3\nREPORT\n\
-         DONE: STATE 2 CLOCK 0 READY IN MAIN LINE 5\nREPORT\nX =   5\nREPORT\nX =   5\n";
-    session_ends(&rt, FIVE, commands, wanted, Ok(End::Done));
-}
-
-#[test]
-fn back_goes_no_further_than_the_start(rt: HostRuntime) {
-    let commands = "BACK\nSTEP 3\nBACK 10\nSHOW VAR X\n";
-    let wanted = "START: STATE 0 CLOCK 0 READY IN MAIN LINE 2\n\
-         HALTED: STATE 3 CLOCK 0 STOPPED IN MAIN LINE 5\n\
-         START: STATE 0 CLOCK 0 READY IN MAIN LINE 2\nX = 0\nREPORT\n";
-    session_ends(&rt, FIVE, commands, wanted, Ok(End::Done));
-}
-
-#[test]
-fn old_steps_are_forgotten(rt: HostRuntime) {
-    let commands = "STEP 2\nFORGET 1\nBACK\nBACK\nSTEP 5\nBACK 2\nFORGET 5\nSHOW VAR X\n";
-    let wanted = "DONE: STATE 2 CLOCK 0 READY IN MAIN LINE 5\nKEPT 1\n\
-         DONE: STATE 1 CLOCK 0 READY IN MAIN LINE 3\n\
-         NOTHING KEPT: STATE 1 CLOCK 0 READY IN MAIN LINE 3\n\
-         HALTED: STATE 3 CLOCK 0 STOPPED IN MAIN LINE 5\n\
-         DONE: STATE 1 CLOCK 0 READY IN MAIN LINE 3\nKEPT 0\nX = 5\nREPORT\n";
-    session_ends(&rt, FIVE, commands, wanted, Ok(End::Done));
-}
-
-#[test]
-fn an_overflow_stands_at_its_statement(rt: HostRuntime) {
-    let model = "MAIN\nLET X = 9223372036854775807\nADD 1 TO X\nEND\n";
-    let commands = "STEP 5\nSHOW VAR X\nBACK 2\nSHOW VAR X\n";
-    let wanted = "HALTED: STATE 2 CLOCK 0 FAULT F1 IN MAIN LINE 3\nX = 9223372036854775807\n\
-         DONE: STATE 0 CLOCK 0 READY IN MAIN LINE 2\nX = 0\nREPORT\n";
-    session_ends(&rt, model, commands, wanted, Ok(End::Done));
-    let wanted = "HALTED: STATE 2 CLOCK 0 FAULT F1 IN MAIN LINE 3\nREPORT\n";
-    session_exits(&rt, model, "RUN", wanted, Ok(End::RunFault), 4);
-}
-
-#[test]
-fn refused_models_give_one_line(rt: HostRuntime) {
-    let model = "MAIN\nPRINT 1 LINE WITH X, Y THUS\n*.**\nEND\n";
-    let line = "MODEL REFUSED C10 LINE 2\n";
-    session_ends(&rt, model, "RUN", line, Err(SessionFault::Check));
-    let line = "MODEL REFUSED P1 LINE 3\n";
-    session_ends(
-        &rt,
-        "MAIN\nEND\nLOOP\n",
-        "RUN",
-        line,
-        Err(SessionFault::Text),
-    );
-    let model = "MAIN\nLET X = 9223372036854775808\nEND\n";
-    let line = "MODEL REFUSED L2 LINE 2\n";
-    session_ends(&rt, model, "", line, Err(SessionFault::Text));
-    let line = "MODEL REFUSED P2 LINE 2\n";
-    session_exits(&rt, "MAIN\nLET X =", "", line, Err(SessionFault::Text), 3);
-    let line = "MODEL REFUSED C11 LINE 1\n";
-    session_ends(&rt, "", "", line, Err(SessionFault::Check));
-}
-
-#[test]
-fn a_bad_command_and_one_without_a_line_end(rt: HostRuntime) {
-    let wanted = "BAD COMMAND\nHALTED: STATE 1 CLOCK 0 STOPPED IN MAIN LINE 2\nREPORT\n";
-    let model = "MAIN\nSTOP\nEND\n";
-    session_ends(&rt, model, "FOO\nstep", wanted, Ok(End::Done));
-}
-
-#[test]
-fn lines_behind_quit_are_not_obeyed(rt: HostRuntime) {
-    let commands = "\n \tstep\r\nSHOW VAR time.v\nshow var y.\nQUIT\nSTEP\n";
-    let wanted = "DONE: STATE 1 CLOCK 0 READY IN MAIN LINE 3\nTIME.V = 0\nNO VARIABLE Y\nREPORT\n";
-    session_ends(&rt, FIVE, commands, wanted, Ok(End::Done));
-}
 
 /// Takes at most `piece` bytes a call, and after `room` bytes either fails or takes none.
 #[derive(Drop)]
@@ -166,6 +41,15 @@ const SOME_ANSWERS: &str = "DONE: STATE 2 CLOCK 0 READY IN MAIN LINE 5\nX = 5\nR
 const REFUSED: &str = "MAIN\nEND\nLOOP\n";
 
 const REFUSAL: &str = "MODEL REFUSED P1 LINE 3\n";
+
+const UNFIT: &str = "MAIN\nPRINT 1 LINE WITH X, Y THUS\n*.**\nEND\n";
+
+const UNFIT_ANSWER: &str = "MODEL REFUSED C10 LINE 2\n";
+
+const FAULTED: &str = "MAIN\nLET X = 9223372036854775807\nADD 1 TO X\nEND\n";
+
+const FAULTED_ANSWERS: &str = "HALTED: STATE 2 CLOCK 0 FAULT F1 IN MAIN LINE 3\n\
+    X = 9223372036854775807\nREPORT\n";
 
 /// Compares how a session ends, and how many calls of its outlet failed.
 fn ends_after_failures(
@@ -302,6 +186,8 @@ fn put_ends<R: Abort + AllocGlobal>(
 fn nothing_is_put_after_a_failure(rt: HostRuntime) {
     put_ends(&rt, FIVE, SOME_ANSWERS, Ok(End::Done), 4);
     put_ends(&rt, REFUSED, REFUSAL, Err(SessionFault::Text), 1);
+    put_ends(&rt, UNFIT, UNFIT_ANSWER, Err(SessionFault::Check), 1);
+    put_ends(&rt, FAULTED, FAULTED_ANSWERS, Ok(End::RunFault), 3);
 }
 
 /// Commands over the model of five that make the journal, the report and the answers grow.
@@ -332,21 +218,6 @@ fn count_whole(bytes: &[u8], answers: &[&str]) -> Option<usize> {
     } else {
         None
     }
-}
-
-/// A session whose answers and report grow in turn, with ample memory.
-#[test]
-fn a_session_grows(rt: HostRuntime) {
-    let mut out = MemoryOutlet::new(rt.alloc());
-    let end = session(
-        rt.alloc(),
-        FIVE.as_bytes(),
-        b"",
-        GROWING.as_bytes(),
-        &mut out,
-    );
-    assert_eq!(rt; end, Ok(End::Done));
-    assert_eq!(rt; count_whole(out.bytes(), &GROWN), Some(7));
 }
 
 /// An outlet that has its room from the start, so that the session alone takes memory.
