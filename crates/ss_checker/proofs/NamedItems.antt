@@ -3,7 +3,7 @@ use Rattle.std.proofs.Common.{◌≡◌, ◌⊎◌, ℕ, Bool, true, false, not,
 use Rattle.std.specs.Prelude.{map, codes, slice_get, option_map, unwrap_or}
 use Rattle.std.specs.List.{flat_map, list_any}
 use mathlib.Core.Logic.{inl, inr}
-use Rattle.std.proofs.lemmas.Bool.{not-false}
+use Rattle.std.proofs.lemmas.Bool.{false≢true, not-false}
 use Rattle.std.proofs.lemmas.List.Elements.{All-map}
 use Rattle.std.proofs.lemmas.Option.{slice_get-map}
 use Rattle.ss_words.specs.Lists.{Name, all_of}
@@ -186,15 +186,15 @@ module _ (xs : List Entry) (qs : List Section) where
       where
         as_class : (j : NameKind) → In (fact n j) D.kinds → is_class j ≡ true → HasClass (L xs hs h) n
         as_class (k.Class g) x t = (g, x)
-        as_class k.Variable x t = cc
-        as_class k.ClassCount x t = cc
-        as_class (k.Attribute b) x t = cc
-        as_class (k.OwnerKept q s) x t = cc
-        as_class (k.MemberKept q s) x t = cc
-        as_class (k.Function f) x t = cc
-        as_class k.Clock x t = cc
-        as_class k.Set x t = cc
-        as_class k.Routine x t = cc
+        as_class k.Variable x t = absurd (false≢true t)
+        as_class k.ClassCount x t = absurd (false≢true t)
+        as_class (k.Attribute b) x t = absurd (false≢true t)
+        as_class (k.OwnerKept q s) x t = absurd (false≢true t)
+        as_class (k.MemberKept q s) x t = absurd (false≢true t)
+        as_class (k.Function f) x t = absurd (false≢true t)
+        as_class k.Clock x t = absurd (false≢true t)
+        as_class k.Set x t = absurd (false≢true t)
+        as_class k.Routine x t = absurd (false≢true t)
 
     named_somewhere : (n : Name) → In n V.classes → In n (flat_map (λ (x : Entry). classes_in x.item) xs)
     named_somewhere n i =
@@ -302,7 +302,7 @@ module _ (xs : List Entry) (qs : List Section) where
     no_ties : (n : Name) (o : Option (List WrittenKey)) → names_event (kind_of D n) ≡ false →
         fact_of W.ties n ≡ o → IsSaid [] (some_list o) []
     no_ties n None e t = refl
-    no_ties n (Some keys) e t = let b = break_is n keys t in let z = b.event in cc
+    no_ties n (Some keys) e t = let b = break_is n keys t in absurd (false≢true (sym e ∙ b.event))
 
     -- the ties of a class that has this besides
     abbrev AreTies : Name → EventTable → Type 0
@@ -325,7 +325,7 @@ module _ (xs : List Entry) (qs : List Section) where
         let x = f.one in
         let kept = item_at D [] xs x h f.there in
         let item = kept.1 in
-        let z = external_event D kept.0 x.heading x.item n item.class f.has in cc
+        absurd (false≢true (sym e ∙ external_event D kept.0 x.heading x.item n item.class f.has))
 
     external_again : (n : Name) → (besides n).external ≡ is_among n D.external
     external_again n = by (event_or D V R n (kind_of D n))

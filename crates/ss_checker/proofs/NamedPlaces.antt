@@ -2,7 +2,8 @@
 use Rattle.std.proofs.Common.{◌≡◌, ℕ, true, not, List, [], ◌∷◌, ◌++◌, length, refl, sym, ap, ◌∙◌, Option, Some, None}
 use Rattle.std.specs.Prelude.{map, option_map, is_some}
 use Rattle.std.specs.List.{flat_map}
-use Rattle.std.proofs.lemmas.Bool.{or_parts, not-false}
+use Rattle.std.proofs.lemmas.Bool.{false≢true, or_parts, not-false}
+use Rattle.std.proofs.lemmas.Option.{none-some, same_Some}
 use Rattle.ss_words.specs.Lists.{Name, all_of}
 use Rattle.ss_grammar.specs.declared.condition.Comparison.{Comparison}
 use Rattle.ss_grammar.specs.declared.condition.Comparison.TheVariants as comparisons
@@ -78,29 +79,29 @@ statistic_is statistics.Minimum = refl
 
 set_is_set : (j : Option NameKind) → names_set j ≡ true → j ≡ Some k.Set
 set_is_set (Some k.Set) h = refl
-set_is_set None h = cc
-set_is_set (Some k.Variable) h = cc
-set_is_set (Some k.ClassCount) h = cc
-set_is_set (Some (k.Class g)) h = cc
-set_is_set (Some (k.Attribute c)) h = cc
-set_is_set (Some (k.OwnerKept q t)) h = cc
-set_is_set (Some (k.MemberKept q t)) h = cc
-set_is_set (Some (k.Function f)) h = cc
-set_is_set (Some k.Clock) h = cc
-set_is_set (Some k.Routine) h = cc
+set_is_set None h = absurd (false≢true h)
+set_is_set (Some k.Variable) h = absurd (false≢true h)
+set_is_set (Some k.ClassCount) h = absurd (false≢true h)
+set_is_set (Some (k.Class g)) h = absurd (false≢true h)
+set_is_set (Some (k.Attribute c)) h = absurd (false≢true h)
+set_is_set (Some (k.OwnerKept q t)) h = absurd (false≢true h)
+set_is_set (Some (k.MemberKept q t)) h = absurd (false≢true h)
+set_is_set (Some (k.Function f)) h = absurd (false≢true h)
+set_is_set (Some k.Clock) h = absurd (false≢true h)
+set_is_set (Some k.Routine) h = absurd (false≢true h)
 
 routine_is_routine : (j : Option NameKind) → names_routine j ≡ true → j ≡ Some k.Routine
 routine_is_routine (Some k.Routine) h = refl
-routine_is_routine None h = cc
-routine_is_routine (Some k.Variable) h = cc
-routine_is_routine (Some k.ClassCount) h = cc
-routine_is_routine (Some (k.Class g)) h = cc
-routine_is_routine (Some (k.Attribute c)) h = cc
-routine_is_routine (Some (k.OwnerKept q t)) h = cc
-routine_is_routine (Some (k.MemberKept q t)) h = cc
-routine_is_routine (Some (k.Function f)) h = cc
-routine_is_routine (Some k.Clock) h = cc
-routine_is_routine (Some k.Set) h = cc
+routine_is_routine None h = absurd (false≢true h)
+routine_is_routine (Some k.Variable) h = absurd (false≢true h)
+routine_is_routine (Some k.ClassCount) h = absurd (false≢true h)
+routine_is_routine (Some (k.Class g)) h = absurd (false≢true h)
+routine_is_routine (Some (k.Attribute c)) h = absurd (false≢true h)
+routine_is_routine (Some (k.OwnerKept q t)) h = absurd (false≢true h)
+routine_is_routine (Some (k.MemberKept q t)) h = absurd (false≢true h)
+routine_is_routine (Some (k.Function f)) h = absurd (false≢true h)
+routine_is_routine (Some k.Clock) h = absurd (false≢true h)
+routine_is_routine (Some k.Set) h = absurd (false≢true h)
 
 -- a kind that is a class's
 record IsOfClass (j : Option NameKind) : Type 0 where
@@ -109,36 +110,36 @@ record IsOfClass (j : Option NameKind) : Type 0 where
 
 class_of_need : (need : ClassNeed) (j : Option NameKind) → serves need j ≡ true → IsOfClass j
 class_of_need need (Some (k.Class g)) h = record { heading = g; is = refl }
-class_of_need Permanent None h = cc
-class_of_need Permanent (Some k.Variable) h = cc
-class_of_need Permanent (Some k.ClassCount) h = cc
-class_of_need Permanent (Some (k.Attribute c)) h = cc
-class_of_need Permanent (Some (k.OwnerKept q t)) h = cc
-class_of_need Permanent (Some (k.MemberKept q t)) h = cc
-class_of_need Permanent (Some (k.Function f)) h = cc
-class_of_need Permanent (Some k.Clock) h = cc
-class_of_need Permanent (Some k.Set) h = cc
-class_of_need Permanent (Some k.Routine) h = cc
-class_of_need Ending None h = cc
-class_of_need Ending (Some k.Variable) h = cc
-class_of_need Ending (Some k.ClassCount) h = cc
-class_of_need Ending (Some (k.Attribute c)) h = cc
-class_of_need Ending (Some (k.OwnerKept q t)) h = cc
-class_of_need Ending (Some (k.MemberKept q t)) h = cc
-class_of_need Ending (Some (k.Function f)) h = cc
-class_of_need Ending (Some k.Clock) h = cc
-class_of_need Ending (Some k.Set) h = cc
-class_of_need Ending (Some k.Routine) h = cc
-class_of_need Event None h = cc
-class_of_need Event (Some k.Variable) h = cc
-class_of_need Event (Some k.ClassCount) h = cc
-class_of_need Event (Some (k.Attribute c)) h = cc
-class_of_need Event (Some (k.OwnerKept q t)) h = cc
-class_of_need Event (Some (k.MemberKept q t)) h = cc
-class_of_need Event (Some (k.Function f)) h = cc
-class_of_need Event (Some k.Clock) h = cc
-class_of_need Event (Some k.Set) h = cc
-class_of_need Event (Some k.Routine) h = cc
+class_of_need Permanent None h = absurd (false≢true h)
+class_of_need Permanent (Some k.Variable) h = absurd (false≢true h)
+class_of_need Permanent (Some k.ClassCount) h = absurd (false≢true h)
+class_of_need Permanent (Some (k.Attribute c)) h = absurd (false≢true h)
+class_of_need Permanent (Some (k.OwnerKept q t)) h = absurd (false≢true h)
+class_of_need Permanent (Some (k.MemberKept q t)) h = absurd (false≢true h)
+class_of_need Permanent (Some (k.Function f)) h = absurd (false≢true h)
+class_of_need Permanent (Some k.Clock) h = absurd (false≢true h)
+class_of_need Permanent (Some k.Set) h = absurd (false≢true h)
+class_of_need Permanent (Some k.Routine) h = absurd (false≢true h)
+class_of_need Ending None h = absurd (false≢true h)
+class_of_need Ending (Some k.Variable) h = absurd (false≢true h)
+class_of_need Ending (Some k.ClassCount) h = absurd (false≢true h)
+class_of_need Ending (Some (k.Attribute c)) h = absurd (false≢true h)
+class_of_need Ending (Some (k.OwnerKept q t)) h = absurd (false≢true h)
+class_of_need Ending (Some (k.MemberKept q t)) h = absurd (false≢true h)
+class_of_need Ending (Some (k.Function f)) h = absurd (false≢true h)
+class_of_need Ending (Some k.Clock) h = absurd (false≢true h)
+class_of_need Ending (Some k.Set) h = absurd (false≢true h)
+class_of_need Ending (Some k.Routine) h = absurd (false≢true h)
+class_of_need Event None h = absurd (false≢true h)
+class_of_need Event (Some k.Variable) h = absurd (false≢true h)
+class_of_need Event (Some k.ClassCount) h = absurd (false≢true h)
+class_of_need Event (Some (k.Attribute c)) h = absurd (false≢true h)
+class_of_need Event (Some (k.OwnerKept q t)) h = absurd (false≢true h)
+class_of_need Event (Some (k.MemberKept q t)) h = absurd (false≢true h)
+class_of_need Event (Some (k.Function f)) h = absurd (false≢true h)
+class_of_need Event (Some k.Clock) h = absurd (false≢true h)
+class_of_need Event (Some k.Set) h = absurd (false≢true h)
+class_of_need Event (Some k.Routine) h = absurd (false≢true h)
 
 -- lists whose elements come back
 maps_back : {X Y : Type 0} (f : X → Y) (g : Y → X) (h : X → List Use) (P : List Use → Type 0) (xs : List X) →
@@ -237,9 +238,10 @@ module _ (d : Tables) (v : Names) (locals : List Name) (p : ProgramTable) (S : I
 
   subscripts : (i : Option Expr) → AreGood d locals (uses_option i) → (a : Expr) → i ≡ Some a →
       named_expr p locals (resolved_expr d v locals a) ≡ a
-  subscripts None h a e = cc
+  subscripts None h a e = absurd (none-some a e)
   subscripts (Some b) h a e =
-      let g : a ≡ b = cc in ap (λ (z : Expr). named_expr p locals (resolved_expr d v locals z)) g ∙ expr_is b h ∙ sym g
+      let g : a ≡ b = sym (same_Some b a e) in
+      ap (λ (z : Expr). named_expr p locals (resolved_expr d v locals z)) g ∙ expr_is b h ∙ sym g
 
   set_is : (r : Reference) → AreGood d locals (uses_set r) → named_set p locals (resolved_set d v locals r) ≡ r
   set_is r h =

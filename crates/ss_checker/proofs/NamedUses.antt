@@ -1,7 +1,7 @@
 -- The tables of a program without a breach give back the name that a use has.
 use Rattle.std.proofs.Common.{◌≡◌, ◌<◌, ◌+◌, ◌==◌, true, false, not, ◌&&◌, Bool, List, [], length, refl, sym, ap, ◌∙◌, arith, Option, Some, None}
 use Rattle.std.specs.Prelude.{codes, unwrap_or}
-use Rattle.std.proofs.lemmas.Bool.{not-false, eqb-true}
+use Rattle.std.proofs.lemmas.Bool.{true≢false, false≢true, not-false, eqb-true}
 use Rattle.ss_words.specs.Lists.{Name}
 use Rattle.ss_grammar.specs.Expr.{Expr, Exprs, no_exprs, exprs, named, applied}
 use Rattle.ss_grammar.specs.Condition.{Reference}
@@ -42,7 +42,7 @@ single (exprs b bs) h =
 
 second_of : (a b : Bool) → a ≡ true → (a && b) ≡ false → b ≡ false
 second_of true b g h = h
-second_of false b g h = cc
+second_of false b g h = absurd (false≢true g)
 
 -- ---- what the tables have, as the places of a section name it
 
@@ -74,13 +74,13 @@ module _ (d : Tables) (v : Names) (locals : List Name) (p : ProgramTable) (S : I
   variable_is n (Some k.Variable) e a h = S.global n k.Variable e refl
   variable_is n (Some k.ClassCount) e a h = S.global n k.ClassCount e refl
   variable_is n (Some (k.Class g)) e a h = S.global n (k.Class g) e refl
-  variable_is n (Some (k.Attribute c)) e a h = cc
-  variable_is n (Some (k.OwnerKept q s)) e a h = cc
-  variable_is n (Some (k.MemberKept q s)) e a h = cc
-  variable_is n (Some (k.Function f)) e a h = cc
-  variable_is n (Some k.Clock) e a h = cc
-  variable_is n (Some k.Set) e a h = cc
-  variable_is n (Some k.Routine) e a h = cc
+  variable_is n (Some (k.Attribute c)) e a h = absurd (true≢false a)
+  variable_is n (Some (k.OwnerKept q s)) e a h = absurd (true≢false a)
+  variable_is n (Some (k.MemberKept q s)) e a h = absurd (true≢false a)
+  variable_is n (Some (k.Function f)) e a h = absurd (true≢false a)
+  variable_is n (Some k.Clock) e a h = absurd (true≢false a)
+  variable_is n (Some k.Set) e a h = absurd (true≢false a)
+  variable_is n (Some k.Routine) e a h = absurd (true≢false a)
 
   -- a subscript that is not written, and one that is
   owner_none : (o : Option Name) (m : Name) → named_applied p locals m (subscript_of_owner d v locals o None) ≡ named m
@@ -113,10 +113,10 @@ module _ (d : Tables) (v : Names) (locals : List Name) (p : ProgramTable) (S : I
       owner_none (owner_of d v locals s) (owner_kept_name (kept_of_owner q) (set_of p (number s v.sets)).name)
       ∙ ap named (S.owner_kept n q s e)
   value_is n (Some (k.MemberKept q s)) e a b h = ap named (S.member_kept n q s e)
-  value_is n (Some (k.Function f)) e a b h = cc
+  value_is n (Some (k.Function f)) e a b h = absurd (true≢false b)
   value_is n (Some k.Clock) e a b h = ap named (S.clock n e)
-  value_is n (Some k.Set) e a b h = cc
-  value_is n (Some k.Routine) e a b h = cc
+  value_is n (Some k.Set) e a b h = absurd (true≢false a)
+  value_is n (Some k.Routine) e a b h = absurd (true≢false a)
 
   -- an expression and the expressions behind it are what they are named
   abbrev pub IsTold : Expr → Type 0
@@ -147,10 +147,10 @@ module _ (d : Tables) (v : Names) (locals : List Name) (p : ProgramTable) (S : I
       has_wrong_arguments d j (1 + count bs) ≡ false → IsTold a → AreTold bs →
       named_factor p locals (applied_factor d v locals j n (resolved_expr d v locals a) (resolved_exprs d v locals bs))
       ≡ applied n a bs
-  applied_is n None a bs e b h g i = cc
-  applied_is n (Some k.Variable) a bs e b h g i = cc
-  applied_is n (Some k.ClassCount) a bs e b h g i = cc
-  applied_is n (Some (k.Class o)) a bs e b h g i = cc
+  applied_is n None a bs e b h g i = absurd (true≢false b)
+  applied_is n (Some k.Variable) a bs e b h g i = absurd (true≢false b)
+  applied_is n (Some k.ClassCount) a bs e b h g i = absurd (true≢false b)
+  applied_is n (Some (k.Class o)) a bs e b h g i = absurd (true≢false b)
   applied_is n (Some (k.Attribute c)) a bs e b h g i = three applied (S.attribute n c e) g (sym (single bs h))
   applied_is n (Some (k.OwnerKept q s)) a bs e b h g i =
       let t = not-false (not (is_of_system d s)) b in
@@ -160,9 +160,9 @@ module _ (d : Tables) (v : Names) (locals : List Name) (p : ProgramTable) (S : I
       (sym (single bs (second_of (not (is_of_system d s)) (not (1 + count bs == 1)) t h)))
   applied_is n (Some (k.MemberKept q s)) a bs e b h g i = three applied (S.member_kept n q s e) g (sym (single bs h))
   applied_is n (Some (k.Function f)) a bs e b h g i = function_is n f a bs (S.function n f e) h g i
-  applied_is n (Some k.Clock) a bs e b h g i = cc
-  applied_is n (Some k.Set) a bs e b h g i = cc
-  applied_is n (Some k.Routine) a bs e b h g i = cc
+  applied_is n (Some k.Clock) a bs e b h g i = absurd (true≢false b)
+  applied_is n (Some k.Set) a bs e b h g i = absurd (true≢false b)
+  applied_is n (Some k.Routine) a bs e b h g i = absurd (true≢false b)
 
   -- a name as a target
   abbrev reference : Name → Option Expr → Reference
@@ -176,26 +176,26 @@ module _ (d : Tables) (v : Names) (locals : List Name) (p : ProgramTable) (S : I
   target_is n (Some k.ClassCount) e a b h = ap (λ (m : Name). reference m None) (S.global n k.ClassCount e refl)
   target_is n (Some (k.Class g)) e a b h = ap (λ (m : Name). reference m None) (S.global n (k.Class g) e refl)
   target_is n (Some (k.Attribute c)) e a b h = ap (λ (m : Name). reference m None) (S.attribute n c e)
-  target_is n (Some (k.OwnerKept q s)) e a b h = cc
-  target_is n (Some (k.MemberKept q s)) e a b h = cc
-  target_is n (Some (k.Function f)) e a b h = cc
-  target_is n (Some k.Clock) e a b h = cc
-  target_is n (Some k.Set) e a b h = cc
-  target_is n (Some k.Routine) e a b h = cc
+  target_is n (Some (k.OwnerKept q s)) e a b h = absurd (true≢false b)
+  target_is n (Some (k.MemberKept q s)) e a b h = absurd (true≢false b)
+  target_is n (Some (k.Function f)) e a b h = absurd (true≢false b)
+  target_is n (Some k.Clock) e a b h = absurd (true≢false b)
+  target_is n (Some k.Set) e a b h = absurd (true≢false a)
+  target_is n (Some k.Routine) e a b h = absurd (true≢false a)
 
   pub target_at_is : (n : Name) (j : Option NameKind) (a : Expr) → kind_of d n ≡ j → is_bare d j ≡ false →
       names_fixed j ≡ false →
       IsTold a → named_target p locals (target_of d v locals j n (Some (resolved_expr d v locals a)))
       ≡ reference n (Some a)
-  target_at_is n None a e b f g = cc
-  target_at_is n (Some k.Variable) a e b f g = cc
-  target_at_is n (Some k.ClassCount) a e b f g = cc
-  target_at_is n (Some (k.Class o)) a e b f g = cc
+  target_at_is n None a e b f g = absurd (true≢false b)
+  target_at_is n (Some k.Variable) a e b f g = absurd (true≢false b)
+  target_at_is n (Some k.ClassCount) a e b f g = absurd (true≢false b)
+  target_at_is n (Some (k.Class o)) a e b f g = absurd (true≢false b)
   target_at_is n (Some (k.Attribute c)) a e b f g =
       two (λ (m : Name) (z : Expr). reference m (Some z)) (S.attribute n c e) g
-  target_at_is n (Some (k.OwnerKept q s)) a e b f g = cc
-  target_at_is n (Some (k.MemberKept q s)) a e b f g = cc
-  target_at_is n (Some (k.Function w)) a e b f g = cc
-  target_at_is n (Some k.Clock) a e b f g = cc
-  target_at_is n (Some k.Set) a e b f g = cc
-  target_at_is n (Some k.Routine) a e b f g = cc
+  target_at_is n (Some (k.OwnerKept q s)) a e b f g = absurd (true≢false f)
+  target_at_is n (Some (k.MemberKept q s)) a e b f g = absurd (true≢false f)
+  target_at_is n (Some (k.Function w)) a e b f g = absurd (true≢false f)
+  target_at_is n (Some k.Clock) a e b f g = absurd (true≢false b)
+  target_at_is n (Some k.Set) a e b f g = absurd (true≢false b)
+  target_at_is n (Some k.Routine) a e b f g = absurd (true≢false b)

@@ -1,7 +1,7 @@
 -- Which phrases stand around the places of a tree.
 use Rattle.std.proofs.Common.{◌≡◌, ◌≤◌, ◌<◌, ℕ, suc, ◌+◌, ◌&&◌, ◌||◌, Bool, true, false, nat_lt, List, [], ◌∷◌, ◌++◌, length, refl, sym, ap, ◌∙◌, arith, append_assoc, length-append}
 use Rattle.std.specs.Prelude.{if◌then◌else◌, bytes_eq}
-use Rattle.std.proofs.lemmas.Bool.{lt-ltb, le-ltb}
+use Rattle.std.proofs.lemmas.Bool.{true≢false, false≢true, lt-ltb, le-ltb}
 use Rattle.std.proofs.lemmas.Slice.Eq.{bytes_eq-Decides}
 use Rattle.ss_check.specs.declared.place.Spot.{Spot}
 use Rattle.ss_check.specs.Match.{is_at, behind_body}
@@ -33,18 +33,18 @@ module _ (ps : List Spot) where
   before_next n i = let e : i + 1 ≡ suc i = omega arith in rw e refl
 
   without : (x y : Bool) (i : ℕ) (js : List ℕ) → x ≡ false → (if x && y then i ∷ js else js) ≡ js
-  without true y i js e = cc
+  without true y i js e = absurd (true≢false e)
   without false y i js e = refl
 
   without_second : (x y : Bool) (i : ℕ) (js : List ℕ) → y ≡ false → (if x && y then i ∷ js else js) ≡ js
-  without_second true true i js e = cc
+  without_second true true i js e = absurd (true≢false e)
   without_second true false i js e = refl
   without_second false y i js e = refl
 
   with_one : (x y : Bool) (i : ℕ) (js : List ℕ) → x ≡ true → y ≡ true → (if x && y then i ∷ js else js) ≡ i ∷ js
   with_one true true i js e f = refl
-  with_one true false i js e f = cc
-  with_one false y i js e f = cc
+  with_one true false i js e f = absurd (false≢true f)
+  with_one false y i js e f = absurd (false≢true e)
 
   -- one place that is no phrase
   pub shut_one : (i : ℕ) (b : List Spot) (x : Spot) (a : List Spot) → At ps i b (x ∷ a) → is_phrase x.place ≡ false →
@@ -207,8 +207,8 @@ module _ (ps : List Spot) where
   or_true : (a b c : Bool) → b ≡ true → c ≡ true → (a || (b && c)) ≡ true
   or_true true b c e f = refl
   or_true false true true e f = refl
-  or_true false true false e f = cc
-  or_true false false c e f = cc
+  or_true false true false e f = absurd (false≢true f)
+  or_true false false c e f = absurd (false≢true e)
 
   -- back to a phrase
   pub goes_back : (n : ℕ) (js : List ℕ) (b : List Spot) (x : Spot) (a : List Spot) → At ps n b (x ∷ a) →

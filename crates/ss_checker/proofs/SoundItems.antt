@@ -3,10 +3,11 @@ use Rattle.std.proofs.Common.{◌≡◌, ◌⊎◌, Bool, true, false, not, ◌&
 use Rattle.std.specs.Prelude.{map}
 use Rattle.std.specs.List.{flat_map, filter, list_any}
 use mathlib.Core.Logic.{inl, inr}
-use Rattle.std.proofs.lemmas.Bool.{or_parts, not-false}
+use Rattle.std.proofs.lemmas.Bool.{true≢false, false≢true, or_parts, not-false}
 use Rattle.std.proofs.lemmas.Cmp.{nat_list_eq_equiv}
 use Rattle.std.proofs.lemmas.Grind.{flat_map-append}
 use Rattle.std.proofs.lemmas.Map.Keys.{IsDistinct-push}
+use Rattle.std.proofs.lemmas.Option.{none-some}
 use Rattle.ss_words.specs.Lists.{Name}
 use Rattle.ss_preamble.specs.Tree.{Key, SetKind, Item}
 use Rattle.ss_grammar.specs.Tree.{Head, MainHead, RoutineHead, EventHead}
@@ -48,16 +49,16 @@ item_at d before (y ∷ ys) x h (inr i) = item_at d (before ++ y ∷ []) ys x h.
 
 set_by : (n : Name) (j : Option NameKind) → names_set j ≡ true → j ≡ Some k.Set
 set_by n (Some k.Set) h = refl
-set_by n None h = cc
-set_by n (Some k.Variable) h = cc
-set_by n (Some k.ClassCount) h = cc
-set_by n (Some (k.Class g)) h = cc
-set_by n (Some (k.Attribute c)) h = cc
-set_by n (Some (k.OwnerKept q s)) h = cc
-set_by n (Some (k.MemberKept q s)) h = cc
-set_by n (Some (k.Function f)) h = cc
-set_by n (Some k.Clock) h = cc
-set_by n (Some k.Routine) h = cc
+set_by n None h = absurd (false≢true h)
+set_by n (Some k.Variable) h = absurd (false≢true h)
+set_by n (Some k.ClassCount) h = absurd (false≢true h)
+set_by n (Some (k.Class g)) h = absurd (false≢true h)
+set_by n (Some (k.Attribute c)) h = absurd (false≢true h)
+set_by n (Some (k.OwnerKept q s)) h = absurd (false≢true h)
+set_by n (Some (k.MemberKept q s)) h = absurd (false≢true h)
+set_by n (Some (k.Function f)) h = absurd (false≢true h)
+set_by n (Some k.Clock) h = absurd (false≢true h)
+set_by n (Some k.Routine) h = absurd (false≢true h)
 
 abbrev pub names_a_set : Fact NameKind → Bool
 names_a_set f = names_set (Some f.what)
@@ -65,7 +66,8 @@ names_a_set f = names_set (Some f.what)
 -- the language declares no set
 pub not_of_language : (s : Name) → In (fact s k.Set) language_facts → ⊥
 not_of_language s h =
-    let t : list_any names_a_set language_facts ≡ true = in_any names_a_set (fact s k.Set) language_facts h refl in cc
+    let t : list_any names_a_set language_facts ≡ true = in_any names_a_set (fact s k.Set) language_facts h refl in
+    absurd (false≢true t)
 
 -- nothing but items declares sets
 set_of_items : (xs : List Entry) (s : Name) → In (fact s k.Set) (tables_of xs []).kinds →
@@ -165,8 +167,8 @@ HaveSections d xs = (c : Name) → In c (named_classes xs) → is_event_class d 
 section_by : (a e s : Bool) → (not a && (e && not s)) ≡ false → (a ≡ true → s ≡ true) → e ≡ true → s ≡ true
 section_by true e s h f g = f refl
 section_by false true true h f g = refl
-section_by false true false h f g = cc
-section_by false false s h f g = cc
+section_by false true false h f g = absurd (true≢false h)
+section_by false false s h f g = absurd (false≢true g)
 
 sections_kept : (d : Tables) (before xs : List Entry) → AreItemsKept d before xs → HaveSections d before →
     HaveSections d (before ++ xs)
@@ -200,7 +202,7 @@ pub record IsPriority (d : Tables) (ns : List Name) : Type 0 where
 one_priority : (d b : Tables) (before ns : List Name) → has_wrong_priority d b before ns ≡ false → IsPriority d before →
     IsPriority d (before ++ ns)
 one_priority d b before [] h p = rw (nothing_more before) p
-one_priority d b (c ∷ cs) (n ∷ ns) h p = cc
+one_priority d b (c ∷ cs) (n ∷ ns) h p = absurd (true≢false h)
 one_priority d b [] (n ∷ ns) h p =
     let q = or_parts (repeats [] (n ∷ ns)) (list_any (λ c. not (is_event_class d c)) (n ∷ ns)) h in
     record { once = q.0; events = q.1 }
@@ -250,25 +252,25 @@ module _ (c : Name) where
   attribute_conflicts (Some i) (k.Attribute b) a h = by i h
     where
       by : (i : NameKind) → not (Rattle.ss_checker.specs.NameKinds.may_repeat i (k.Attribute b)) ≡ false → Some i ≡ None
-      by k.Variable h = cc
-      by k.ClassCount h = cc
-      by (k.Class g) h = cc
-      by (k.Attribute e) h = cc
-      by (k.OwnerKept q s) h = cc
-      by (k.MemberKept q s) h = cc
-      by (k.Function f) h = cc
-      by k.Clock h = cc
-      by k.Set h = cc
-      by k.Routine h = cc
-  attribute_conflicts (Some i) k.Variable a h = cc
-  attribute_conflicts (Some i) k.ClassCount a h = cc
-  attribute_conflicts (Some i) (k.Class g) a h = cc
-  attribute_conflicts (Some i) (k.OwnerKept q s) a h = cc
-  attribute_conflicts (Some i) (k.MemberKept q s) a h = cc
-  attribute_conflicts (Some i) (k.Function f) a h = cc
-  attribute_conflicts (Some i) k.Clock a h = cc
-  attribute_conflicts (Some i) k.Set a h = cc
-  attribute_conflicts (Some i) k.Routine a h = cc
+      by k.Variable h = absurd (true≢false h)
+      by k.ClassCount h = absurd (true≢false h)
+      by (k.Class g) h = absurd (true≢false h)
+      by (k.Attribute e) h = absurd (true≢false h)
+      by (k.OwnerKept q s) h = absurd (true≢false h)
+      by (k.MemberKept q s) h = absurd (true≢false h)
+      by (k.Function f) h = absurd (true≢false h)
+      by k.Clock h = absurd (true≢false h)
+      by k.Set h = absurd (true≢false h)
+      by k.Routine h = absurd (true≢false h)
+  attribute_conflicts (Some i) k.Variable a h = absurd (false≢true a)
+  attribute_conflicts (Some i) k.ClassCount a h = absurd (false≢true a)
+  attribute_conflicts (Some i) (k.Class g) a h = absurd (false≢true a)
+  attribute_conflicts (Some i) (k.OwnerKept q s) a h = absurd (false≢true a)
+  attribute_conflicts (Some i) (k.MemberKept q s) a h = absurd (false≢true a)
+  attribute_conflicts (Some i) (k.Function f) a h = absurd (false≢true a)
+  attribute_conflicts (Some i) k.Clock a h = absurd (false≢true a)
+  attribute_conflicts (Some i) k.Set a h = absurd (false≢true a)
+  attribute_conflicts (Some i) k.Routine a h = absurd (false≢true a)
 
   -- a name without a fact is no attribute
   not_attribute : (before : Facts) (n : Name) → fact_of before n ≡ None → (b : Bool) →
@@ -278,7 +280,7 @@ module _ (c : Name) where
       let p = where_from (is_attribute_of c) n before (among_in n (attributes before) h) in
       let q = fact_there before n
       (in_among n (names_of before) (in_map (λ (f : Fact NameKind). f.name) (fact n p.what) before p.there)) in
-      let z : None ≡ Some q.0 = sym e ∙ q.1 in cc
+      let z : None ≡ Some q.0 = sym e ∙ q.1 in absurd (none-some q.0 z)
 
   one_attribute : (before : Facts) (f : Fact NameKind) → conflicts (fact_of before f.name) f.what ≡ false →
       AreApart (attributes before) →

@@ -3,6 +3,7 @@ use Rattle.std.proofs.Common.{◌≡◌, ◌≤◌, ℕ, suc, ◌+◌, Bool, tru
 use Rattle.std.specs.Prelude.{map, codes, bytes_eq, count_by, if◌then◌else◌}
 use Rattle.std.specs.List.{All, flat_map, filter, sum_by}
 use mathlib.Core.Logic.{inl, inr}
+use Rattle.std.proofs.lemmas.Bool.{false≢true}
 use Rattle.std.proofs.lemmas.List.{length-map}
 use Rattle.std.proofs.lemmas.List.Sums.{sum_by-cons, sum_by-append}
 use Rattle.std.proofs.lemmas.List.Elements.{All-head, All-tail}
@@ -326,15 +327,15 @@ module _ (is : List ItemAt) (hs : List Head) (h : AreItemsKept (tables_of (entri
   class_kind_of : (c : Name) (j : NameKind) → is_class j ≡ true → In (fact c j) (all_kinds (entries is) hs) →
       In c (flat_map class_names items)
   class_kind_of c (k.Class g) t i = class_named c g i
-  class_kind_of c k.Variable t i = cc
-  class_kind_of c k.ClassCount t i = cc
-  class_kind_of c (k.Attribute b) t i = cc
-  class_kind_of c (k.OwnerKept q s) t i = cc
-  class_kind_of c (k.MemberKept q s) t i = cc
-  class_kind_of c (k.Function f) t i = cc
-  class_kind_of c k.Clock t i = cc
-  class_kind_of c k.Set t i = cc
-  class_kind_of c k.Routine t i = cc
+  class_kind_of c k.Variable t i = absurd (false≢true t)
+  class_kind_of c k.ClassCount t i = absurd (false≢true t)
+  class_kind_of c (k.Attribute b) t i = absurd (false≢true t)
+  class_kind_of c (k.OwnerKept q s) t i = absurd (false≢true t)
+  class_kind_of c (k.MemberKept q s) t i = absurd (false≢true t)
+  class_kind_of c (k.Function f) t i = absurd (false≢true t)
+  class_kind_of c k.Clock t i = absurd (false≢true t)
+  class_kind_of c k.Set t i = absurd (false≢true t)
+  class_kind_of c k.Routine t i = absurd (false≢true t)
 
   pub few_classes : length classes ≤ 64
   few_classes =
@@ -352,15 +353,15 @@ module _ (is : List ItemAt) (hs : List Head) (h : AreItemsKept (tables_of (entri
       let x = p.one in
       subst (λ (ns : List Name). In s ns) (flat_entries set_names None is)
       (in_flat (λ (y : Entry). set_names y.item) x s (entries is) p.there (set_item x.item s p.has))
-  set_kind_of s (k.Class g) t i = cc
-  set_kind_of s k.Variable t i = cc
-  set_kind_of s k.ClassCount t i = cc
-  set_kind_of s (k.Attribute b) t i = cc
-  set_kind_of s (k.OwnerKept q r) t i = cc
-  set_kind_of s (k.MemberKept q r) t i = cc
-  set_kind_of s (k.Function f) t i = cc
-  set_kind_of s k.Clock t i = cc
-  set_kind_of s k.Routine t i = cc
+  set_kind_of s (k.Class g) t i = absurd (false≢true t)
+  set_kind_of s k.Variable t i = absurd (false≢true t)
+  set_kind_of s k.ClassCount t i = absurd (false≢true t)
+  set_kind_of s (k.Attribute b) t i = absurd (false≢true t)
+  set_kind_of s (k.OwnerKept q r) t i = absurd (false≢true t)
+  set_kind_of s (k.MemberKept q r) t i = absurd (false≢true t)
+  set_kind_of s (k.Function f) t i = absurd (false≢true t)
+  set_kind_of s k.Clock t i = absurd (false≢true t)
+  set_kind_of s k.Routine t i = absurd (false≢true t)
 
   pub few_sets : length sets ≤ 64
   few_sets =
@@ -390,13 +391,13 @@ module _ (is : List ItemAt) (hs : List Head) (h : AreItemsKept (tables_of (entri
       (in_right n (map (λ c. codes "N." ++ c) classes) (flat_map variables_in items)
       (subst (λ (ns : List Name). In n ns) (flat_entries variables_in None is)
       (all_closed (entries is) hs (fact n k.Variable) i)))
-  global_kind_of n (k.Attribute b) t i = cc
-  global_kind_of n (k.OwnerKept q r) t i = cc
-  global_kind_of n (k.MemberKept q r) t i = cc
-  global_kind_of n (k.Function f) t i = cc
-  global_kind_of n k.Clock t i = cc
-  global_kind_of n k.Set t i = cc
-  global_kind_of n k.Routine t i = cc
+  global_kind_of n (k.Attribute b) t i = absurd (false≢true t)
+  global_kind_of n (k.OwnerKept q r) t i = absurd (false≢true t)
+  global_kind_of n (k.MemberKept q r) t i = absurd (false≢true t)
+  global_kind_of n (k.Function f) t i = absurd (false≢true t)
+  global_kind_of n k.Clock t i = absurd (false≢true t)
+  global_kind_of n k.Set t i = absurd (false≢true t)
+  global_kind_of n k.Routine t i = absurd (false≢true t)
 
   pub few_globals : length globals ≤ 384
   few_globals =

@@ -2,7 +2,7 @@
 use Rattle.std.proofs.Common.{◌≡◌, ℕ, true, false, not, ◌||◌, ◌==◌, List, [], ◌∷◌, ◌++◌, length, refl, ◌∙◌, Option, Some, None}
 use Rattle.std.specs.Prelude.{map}
 use Rattle.std.specs.List.{flat_map}
-use Rattle.std.proofs.lemmas.Bool.{or_parts, not-false, eqb-true}
+use Rattle.std.proofs.lemmas.Bool.{false≢true, or_parts, not-false, eqb-true}
 use Rattle.std.proofs.lemmas.List.{length-map}
 use Rattle.ss_words.specs.Lists.{Name, all_of}
 use Rattle.ss_report.specs.Pictures.{field_count, has_decimal_field}
@@ -117,16 +117,16 @@ module _ (d : Tables) (v : Names) (locals : List Name) (sc : Scope) (S : Scoped 
 
   is_set : (n : Name) (j : Option NameKind) → kind_of d n ≡ j → names_set j ≡ true → kind_of d n ≡ Some k.Set
   is_set n (Some k.Set) e h = e
-  is_set n None e h = cc
-  is_set n (Some k.Variable) e h = cc
-  is_set n (Some k.ClassCount) e h = cc
-  is_set n (Some (k.Class g)) e h = cc
-  is_set n (Some (k.Attribute c)) e h = cc
-  is_set n (Some (k.OwnerKept q s)) e h = cc
-  is_set n (Some (k.MemberKept q s)) e h = cc
-  is_set n (Some (k.Function f)) e h = cc
-  is_set n (Some k.Clock) e h = cc
-  is_set n (Some k.Routine) e h = cc
+  is_set n None e h = absurd (false≢true h)
+  is_set n (Some k.Variable) e h = absurd (false≢true h)
+  is_set n (Some k.ClassCount) e h = absurd (false≢true h)
+  is_set n (Some (k.Class g)) e h = absurd (false≢true h)
+  is_set n (Some (k.Attribute c)) e h = absurd (false≢true h)
+  is_set n (Some (k.OwnerKept q s)) e h = absurd (false≢true h)
+  is_set n (Some (k.MemberKept q s)) e h = absurd (false≢true h)
+  is_set n (Some (k.Function f)) e h = absurd (false≢true h)
+  is_set n (Some k.Clock) e h = absurd (false≢true h)
+  is_set n (Some k.Routine) e h = absurd (false≢true h)
 
   sound_set : (r : Reference) → AreGood d locals (uses_set r) → IsSoundSetRef sc (resolved_set d v locals r)
   sound_set r h =
@@ -224,25 +224,25 @@ module _ (d : Tables) (v : Names) (locals : List Name) (sc : Scope) (S : Scoped 
   sound_filing (Remove e r) h = let p = parts (uses_expr e) (uses_set r) h in (sound_expr e p.0, sound_set r p.1)
 
   event_ends : (j : Option NameKind) → names_event j ≡ true → names_ending j ≡ true
-  event_ends None h = cc
-  event_ends (Some k.Variable) h = cc
-  event_ends (Some k.ClassCount) h = cc
-  event_ends (Some (k.Class None)) h = cc
+  event_ends None h = absurd (false≢true h)
+  event_ends (Some k.Variable) h = absurd (false≢true h)
+  event_ends (Some k.ClassCount) h = absurd (false≢true h)
+  event_ends (Some (k.Class None)) h = absurd (false≢true h)
   event_ends (Some (k.Class (Some g))) h = by_heading g h
     where
       by_heading : (g : Rattle.ss_preamble.specs.declared.item.Heading.Heading) →
           names_event (Some (k.Class (Some g))) ≡ true →
           names_ending (Some (k.Class (Some g))) ≡ true
-      by_heading Rattle.ss_preamble.specs.declared.item.Heading.TheVariants.PermanentEntities h = cc
+      by_heading Rattle.ss_preamble.specs.declared.item.Heading.TheVariants.PermanentEntities h = absurd (false≢true h)
       by_heading Rattle.ss_preamble.specs.declared.item.Heading.TheVariants.TemporaryEntities h = refl
       by_heading Rattle.ss_preamble.specs.declared.item.Heading.TheVariants.EventNotices h = refl
-  event_ends (Some (k.Attribute c)) h = cc
-  event_ends (Some (k.OwnerKept q s)) h = cc
-  event_ends (Some (k.MemberKept q s)) h = cc
-  event_ends (Some (k.Function f)) h = cc
-  event_ends (Some k.Clock) h = cc
-  event_ends (Some k.Set) h = cc
-  event_ends (Some k.Routine) h = cc
+  event_ends (Some (k.Attribute c)) h = absurd (false≢true h)
+  event_ends (Some (k.OwnerKept q s)) h = absurd (false≢true h)
+  event_ends (Some (k.MemberKept q s)) h = absurd (false≢true h)
+  event_ends (Some (k.Function f)) h = absurd (false≢true h)
+  event_ends (Some k.Clock) h = absurd (false≢true h)
+  event_ends (Some k.Set) h = absurd (false≢true h)
+  event_ends (Some k.Routine) h = absurd (false≢true h)
 
   sound_notice : (a : Article) (n : Name) (r : Option Reference) → names_ending (kind_of d n) ≡ true →
       AreGood d locals (uses_called a r) →

@@ -3,7 +3,7 @@ use Rattle.std.proofs.Common.{◌≡◌, ◌≤◌, ◌<◌, ℕ, ◌+◌, ◌^�
 use Rattle.std.specs.Prelude.{map, count_by, unwrap_or, option_map, slice_get, nat_lt}
 use Rattle.std.specs.List.{All, flat_map, list_any}
 use mathlib.Core.Logic.{inl, inr}
-use Rattle.std.proofs.lemmas.Bool.{or_parts, not-false, ltb-false, eqb-true}
+use Rattle.std.proofs.lemmas.Bool.{true≢false, false≢true, or_parts, not-false, ltb-false, eqb-true}
 use Rattle.std.proofs.lemmas.List.{length-map}
 use Rattle.std.proofs.lemmas.List.Elements.{All-head, All-tail}
 use Rattle.std.proofs.lemmas.List.Sums.{sum_by-cons}
@@ -106,7 +106,7 @@ main_is d v q = by q.head
 
 one_more : (h m : Bool) (k : ℕ) → (m && h) ≡ false → k + cond (h || (m || false)) 1 0 ≡ 1 →
     (cond m 1 0 + k) + cond h 1 0 ≡ 1
-one_more true true k b e = cc
+one_more true true k b e = absurd (true≢false b)
 one_more true false k b e = omega (arith, e)
 one_more false true k b e = omega (arith, e)
 one_more false false k b e = omega (arith, e)
@@ -115,7 +115,7 @@ or_same : (a b c : Bool) → (a || (b || c)) ≡ true → ((a || (b || false)) |
 or_same true b c h = refl
 or_same false true c h = refl
 or_same false false true h = refl
-or_same false false false h = cc
+or_same false false false h = absurd (false≢true h)
 
 mains : (d : Tables) (v : Names) (xs : List Entry) (before : List Head) (ss : List Section) →
     AreSectionsKept d xs before ss →
@@ -125,7 +125,7 @@ mains d v xs before [] k h = by (list_any declared.is_main before) h
   where
     by : (b : Bool) → (b || false) ≡ true → count_by is_main (map (resolved_section d v) []) + cond b 1 0 ≡ 1
     by true h = omega arith
-    by false h = cc
+    by false h = absurd (false≢true h)
 mains d v xs before (s ∷ ss) k h =
     let head = k.0 in
     let more : list_any declared.is_main (before ++ s.head ∷ [])
@@ -269,16 +269,16 @@ module _ (is : List ItemAt) (qs : List Section) (h : AreItemsKept (tables is qs)
 
     routine_by : (n : Name) (o : Option NameKind) → names_routine o ≡ true → o ≡ Some k.Routine
     routine_by n (Some k.Routine) e = refl
-    routine_by n None e = cc
-    routine_by n (Some k.Variable) e = cc
-    routine_by n (Some k.ClassCount) e = cc
-    routine_by n (Some (k.Class g)) e = cc
-    routine_by n (Some (k.Attribute c)) e = cc
-    routine_by n (Some (k.OwnerKept a z)) e = cc
-    routine_by n (Some (k.MemberKept a z)) e = cc
-    routine_by n (Some (k.Function f)) e = cc
-    routine_by n (Some k.Clock) e = cc
-    routine_by n (Some k.Set) e = cc
+    routine_by n None e = absurd (false≢true e)
+    routine_by n (Some k.Variable) e = absurd (false≢true e)
+    routine_by n (Some k.ClassCount) e = absurd (false≢true e)
+    routine_by n (Some (k.Class g)) e = absurd (false≢true e)
+    routine_by n (Some (k.Attribute c)) e = absurd (false≢true e)
+    routine_by n (Some (k.OwnerKept a z)) e = absurd (false≢true e)
+    routine_by n (Some (k.MemberKept a z)) e = absurd (false≢true e)
+    routine_by n (Some (k.Function f)) e = absurd (false≢true e)
+    routine_by n (Some k.Clock) e = absurd (false≢true e)
+    routine_by n (Some k.Set) e = absurd (false≢true e)
 
     right_counts : (a b : ℕ) (c : Counts) → has_other_counts a b c ≡ false → (a ≡ c.given) × (b ≡ c.yielded)
     right_counts a b c e = by (c.given == a) (c.yielded == b) (eqb-true c.given a) (eqb-true c.yielded b) e
@@ -286,8 +286,8 @@ module _ (is : List ItemAt) (qs : List Section) (h : AreItemsKept (tables is qs)
         by : (x y : Bool) → (x ≡ true → c.given ≡ a) → (y ≡ true → c.yielded ≡ b) → not (x && y) ≡ false →
             (a ≡ c.given) × (b ≡ c.yielded)
         by true true f g e = (sym (f refl), sym (g refl))
-        by true false f g e = cc
-        by false y f g e = cc
+        by true false f g e = absurd (true≢false e)
+        by false y f g e = absurd (true≢false e)
 
     called_by : (c : ACall) (t : SectionTable) (o : Option SectionTable) → o ≡ Some t →
         (Rattle.ss_check.specs.Program.is_routine t ≡ true) × (length c.given ≡ t.given)

@@ -1,6 +1,7 @@
 -- Where the places of a tree go on, and which loops are open there.
 use Rattle.std.proofs.Common.{◌≡◌, ◌≤◌, ◌<◌, ℕ, suc, ◌+◌, ◌-◌, Bool, true, false, List, [], ◌∷◌, ◌++◌, length, drop, refl, sym, ap, ◌∙◌, arith, append_assoc, length-append}
 use Rattle.std.specs.Prelude.{if◌then◌else◌, max}
+use Rattle.std.proofs.lemmas.Bool.{true≢false, false≢true}
 use Rattle.ss_check.specs.declared.branch.Question.{Question}
 use Rattle.ss_check.specs.declared.branch.Branch.TheVariants.{If, Else, Always}
 use Rattle.ss_check.specs.declared.looping.Looping.TheVariants.{For, Loop, Find, Gather, Tell}
@@ -104,9 +105,9 @@ module _ (ps : List Spot) where
   simple_step : (i k : ℕ) (js : List ℕ) (x : Place) → is_simple x ≡ true → phrases_around ps i ≡ js →
       next_place ps i ≡ k → Goes ps js k →
       IsStep ps i x
-  simple_step i k js (Branch b) s a e g = cc
-  simple_step i k js (Looping l) s a e g = cc
-  simple_step i k js (Control End) s a e g = cc
+  simple_step i k js (Branch b) s a e g = absurd (false≢true s)
+  simple_step i k js (Looping l) s a e g = absurd (false≢true s)
+  simple_step i k js (Control End) s a e g = absurd (false≢true s)
   simple_step i k js (Control Stop) s a e g =
       record { next = goes_on (next_place ps i) k js e g; exits = tt; nested = refl }
   simple_step i k js (Control Return) s a e g =
@@ -213,7 +214,7 @@ module _ (ps : List Spot) where
   -- ---- whole trees
 
   not_bare : (c : Bool) (k l n : ℕ) → c ≡ false → n ≡ l → n ≡ (if c then k else l)
-  not_bare true k l n e f = cc
+  not_bare true k l n e f = absurd (true≢false e)
   not_bare false k l n e f = f
 
   same_if : (c : Bool) (k l n : ℕ) → l ≡ n → (if c then k else l) ≡ (if c then k else n)

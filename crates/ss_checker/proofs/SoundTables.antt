@@ -268,7 +268,7 @@ module _ (is : List ItemAt) (qs : List Section) (h : AreItemsKept (tables is qs)
     where
       not_fewer : (b : Bool) (k l m : ℕ) → b ≡ true → k ≡ m →
           Rattle.std.specs.Prelude.◌&&◌ b (Rattle.std.specs.Prelude.nat_lt k l) ≡ false → l ≤ m
-      not_fewer false k l m e f g = cc
+      not_fewer false k l m e f g = absurd (Rattle.std.proofs.lemmas.Bool.false≢true e)
       not_fewer true k l m e f g = let o = Rattle.std.proofs.lemmas.Bool.ltb-false k l g in omega (arith, f, o)
 
   sound_kind : (n : Name) (o : Option NameKind) → kind_of D n ≡ o →

@@ -2,7 +2,7 @@
 use Rattle.std.proofs.Common.{◌≡◌, ◌<◌, true, false, not, List, [], ◌∷◌, ◌++◌, length, refl, Option, Some, None}
 use Rattle.std.specs.Prelude.{slice_get, codes}
 use Rattle.std.specs.List.{list_any}
-use Rattle.std.proofs.lemmas.Bool.{or_parts}
+use Rattle.std.proofs.lemmas.Bool.{true≢false, false≢true, or_parts}
 use Rattle.ss_words.specs.Lists.{Name}
 use Rattle.ss_check.specs.ProgramExpr.{Expr, Exprs, no_exprs, exprs}
 use Rattle.ss_check.specs.ProgramSound.{Scope, IsClass, IsSettable, IsSoundExpr, IsSoundFactor, IsSoundSubscript, AreSoundArguments, IsSoundOption, IsTarget}
@@ -113,10 +113,10 @@ module _ (d : Tables) (v : Names) (locals : List Name) (sc : Scope) (S : Scoped 
   sound_named n (Some (k.Attribute c)) e a b h = (S.attribute n c e, S.attribute_variable n c e)
   sound_named n (Some (k.OwnerKept q s)) e a b h = (S.owner_kept n q s e, sound_owner s None tt)
   sound_named n (Some (k.MemberKept q s)) e a b h = (S.member_kept n q s e, S.member n q s e)
-  sound_named n (Some (k.Function f)) e a b h = cc
+  sound_named n (Some (k.Function f)) e a b h = absurd (true≢false b)
   sound_named n (Some k.Clock) e a b h = tt
-  sound_named n (Some k.Set) e a b h = cc
-  sound_named n (Some k.Routine) e a b h = cc
+  sound_named n (Some k.Set) e a b h = absurd (true≢false a)
+  sound_named n (Some k.Routine) e a b h = absurd (true≢false a)
 
   sound_function : (f : Function) (x : Expr) (xs : Exprs) → IsSoundExpr sc x → AreSoundArguments sc xs →
       IsSoundFactor sc (function_factor d v locals f x xs)
@@ -132,17 +132,17 @@ module _ (d : Tables) (v : Names) (locals : List Name) (sc : Scope) (S : Scoped 
   pub sound_applied : (n : Name) (j : Option NameKind) (x : Expr) (xs : Exprs) → kind_of d n ≡ j → is_bare d j ≡ false →
       IsSoundExpr sc x →
       AreSoundArguments sc xs → IsSoundFactor sc (applied_factor d v locals j n x xs)
-  sound_applied n None x xs e a y ys = cc
-  sound_applied n (Some k.Variable) x xs e a y ys = cc
-  sound_applied n (Some k.ClassCount) x xs e a y ys = cc
-  sound_applied n (Some (k.Class g)) x xs e a y ys = cc
+  sound_applied n None x xs e a y ys = absurd (true≢false a)
+  sound_applied n (Some k.Variable) x xs e a y ys = absurd (true≢false a)
+  sound_applied n (Some k.ClassCount) x xs e a y ys = absurd (true≢false a)
+  sound_applied n (Some (k.Class g)) x xs e a y ys = absurd (true≢false a)
   sound_applied n (Some (k.Attribute c)) x xs e a y ys = (S.attribute n c e, y)
   sound_applied n (Some (k.OwnerKept q s)) x xs e a y ys = (S.owner_kept n q s e, sound_owner s (Some x) y)
   sound_applied n (Some (k.MemberKept q s)) x xs e a y ys = (S.member_kept n q s e, y)
   sound_applied n (Some (k.Function f)) x xs e a y ys = sound_function f x xs y ys
-  sound_applied n (Some k.Clock) x xs e a y ys = cc
-  sound_applied n (Some k.Set) x xs e a y ys = cc
-  sound_applied n (Some k.Routine) x xs e a y ys = cc
+  sound_applied n (Some k.Clock) x xs e a y ys = absurd (true≢false a)
+  sound_applied n (Some k.Set) x xs e a y ys = absurd (true≢false a)
+  sound_applied n (Some k.Routine) x xs e a y ys = absurd (true≢false a)
 
   -- a name as a target
   pub sound_bare_target : (n : Name) (j : Option NameKind) → kind_of d n ≡ j → is_valueless j ≡ false →
@@ -153,27 +153,27 @@ module _ (d : Tables) (v : Names) (locals : List Name) (sc : Scope) (S : Scoped 
   sound_bare_target n (Some k.ClassCount) e a b h = S.global n k.ClassCount e refl
   sound_bare_target n (Some (k.Class g)) e a b h = S.global n (k.Class g) e refl
   sound_bare_target n (Some (k.Attribute c)) e a b h = (S.attribute n c e, S.attribute_variable n c e)
-  sound_bare_target n (Some (k.OwnerKept q s)) e a b h = cc
-  sound_bare_target n (Some (k.MemberKept q s)) e a b h = cc
-  sound_bare_target n (Some (k.Function f)) e a b h = cc
-  sound_bare_target n (Some k.Clock) e a b h = cc
-  sound_bare_target n (Some k.Set) e a b h = cc
-  sound_bare_target n (Some k.Routine) e a b h = cc
+  sound_bare_target n (Some (k.OwnerKept q s)) e a b h = absurd (true≢false b)
+  sound_bare_target n (Some (k.MemberKept q s)) e a b h = absurd (true≢false b)
+  sound_bare_target n (Some (k.Function f)) e a b h = absurd (true≢false b)
+  sound_bare_target n (Some k.Clock) e a b h = absurd (true≢false b)
+  sound_bare_target n (Some k.Set) e a b h = absurd (true≢false a)
+  sound_bare_target n (Some k.Routine) e a b h = absurd (true≢false a)
 
   pub sound_target_at : (n : Name) (j : Option NameKind) (x : Expr) → kind_of d n ≡ j → is_bare d j ≡ false →
       names_fixed j ≡ false →
       IsSoundExpr sc x → IsTarget sc (target_of d v locals j n (Some x))
-  sound_target_at n None x e a b y = cc
-  sound_target_at n (Some k.Variable) x e a b y = cc
-  sound_target_at n (Some k.ClassCount) x e a b y = cc
-  sound_target_at n (Some (k.Class g)) x e a b y = cc
+  sound_target_at n None x e a b y = absurd (true≢false a)
+  sound_target_at n (Some k.Variable) x e a b y = absurd (true≢false a)
+  sound_target_at n (Some k.ClassCount) x e a b y = absurd (true≢false a)
+  sound_target_at n (Some (k.Class g)) x e a b y = absurd (true≢false a)
   sound_target_at n (Some (k.Attribute c)) x e a b y = (S.attribute n c e, y)
-  sound_target_at n (Some (k.OwnerKept q s)) x e a b y = cc
-  sound_target_at n (Some (k.MemberKept q s)) x e a b y = cc
-  sound_target_at n (Some (k.Function f)) x e a b y = cc
-  sound_target_at n (Some k.Clock) x e a b y = cc
-  sound_target_at n (Some k.Set) x e a b y = cc
-  sound_target_at n (Some k.Routine) x e a b y = cc
+  sound_target_at n (Some (k.OwnerKept q s)) x e a b y = absurd (true≢false b)
+  sound_target_at n (Some (k.MemberKept q s)) x e a b y = absurd (true≢false b)
+  sound_target_at n (Some (k.Function f)) x e a b y = absurd (true≢false b)
+  sound_target_at n (Some k.Clock) x e a b y = absurd (true≢false a)
+  sound_target_at n (Some k.Set) x e a b y = absurd (true≢false a)
+  sound_target_at n (Some k.Routine) x e a b y = absurd (true≢false a)
 
   -- a name as the variable of a loop
   pub sound_loop_variable : (n : Name) (j : Option NameKind) → kind_of d n ≡ j → not (names_variable j) ≡ false →
@@ -182,45 +182,45 @@ module _ (d : Tables) (v : Names) (locals : List Name) (sc : Scope) (S : Scoped 
   sound_loop_variable n (Some k.Variable) e a h = S.global n k.Variable e refl
   sound_loop_variable n (Some k.ClassCount) e a h = S.global n k.ClassCount e refl
   sound_loop_variable n (Some (k.Class g)) e a h = S.global n (k.Class g) e refl
-  sound_loop_variable n (Some (k.Attribute c)) e a h = cc
-  sound_loop_variable n (Some (k.OwnerKept q s)) e a h = cc
-  sound_loop_variable n (Some (k.MemberKept q s)) e a h = cc
-  sound_loop_variable n (Some (k.Function f)) e a h = cc
-  sound_loop_variable n (Some k.Clock) e a h = cc
-  sound_loop_variable n (Some k.Set) e a h = cc
-  sound_loop_variable n (Some k.Routine) e a h = cc
+  sound_loop_variable n (Some (k.Attribute c)) e a h = absurd (true≢false a)
+  sound_loop_variable n (Some (k.OwnerKept q s)) e a h = absurd (true≢false a)
+  sound_loop_variable n (Some (k.MemberKept q s)) e a h = absurd (true≢false a)
+  sound_loop_variable n (Some (k.Function f)) e a h = absurd (true≢false a)
+  sound_loop_variable n (Some k.Clock) e a h = absurd (true≢false a)
+  sound_loop_variable n (Some k.Set) e a h = absurd (true≢false a)
+  sound_loop_variable n (Some k.Routine) e a h = absurd (true≢false a)
 
   -- the variable of a class's name
   class_is_global : (n : Name) (j : Option NameKind) → kind_of d n ≡ j → names_ending j ≡ true →
       number n v.globals < sc.globals
-  class_is_global n None e a = cc
-  class_is_global n (Some k.Variable) e a = cc
-  class_is_global n (Some k.ClassCount) e a = cc
+  class_is_global n None e a = absurd (false≢true a)
+  class_is_global n (Some k.Variable) e a = absurd (false≢true a)
+  class_is_global n (Some k.ClassCount) e a = absurd (false≢true a)
   class_is_global n (Some (k.Class g)) e a = S.global n (k.Class g) e refl
-  class_is_global n (Some (k.Attribute c)) e a = cc
-  class_is_global n (Some (k.OwnerKept q s)) e a = cc
-  class_is_global n (Some (k.MemberKept q s)) e a = cc
-  class_is_global n (Some (k.Function f)) e a = cc
-  class_is_global n (Some k.Clock) e a = cc
-  class_is_global n (Some k.Set) e a = cc
-  class_is_global n (Some k.Routine) e a = cc
+  class_is_global n (Some (k.Attribute c)) e a = absurd (false≢true a)
+  class_is_global n (Some (k.OwnerKept q s)) e a = absurd (false≢true a)
+  class_is_global n (Some (k.MemberKept q s)) e a = absurd (false≢true a)
+  class_is_global n (Some (k.Function f)) e a = absurd (false≢true a)
+  class_is_global n (Some k.Clock) e a = absurd (false≢true a)
+  class_is_global n (Some k.Set) e a = absurd (false≢true a)
+  class_is_global n (Some k.Routine) e a = absurd (false≢true a)
 
   pub sound_class_variable : (n : Name) → names_ending (kind_of d n) ≡ true → number n v.globals < sc.globals
   sound_class_variable n h = class_is_global n (kind_of d n) refl h
 
   permanent_is_global : (n : Name) (j : Option NameKind) → kind_of d n ≡ j → names_permanent j ≡ true →
       number n v.globals < sc.globals
-  permanent_is_global n None e a = cc
-  permanent_is_global n (Some k.Variable) e a = cc
-  permanent_is_global n (Some k.ClassCount) e a = cc
+  permanent_is_global n None e a = absurd (false≢true a)
+  permanent_is_global n (Some k.Variable) e a = absurd (false≢true a)
+  permanent_is_global n (Some k.ClassCount) e a = absurd (false≢true a)
   permanent_is_global n (Some (k.Class g)) e a = S.global n (k.Class g) e refl
-  permanent_is_global n (Some (k.Attribute c)) e a = cc
-  permanent_is_global n (Some (k.OwnerKept q s)) e a = cc
-  permanent_is_global n (Some (k.MemberKept q s)) e a = cc
-  permanent_is_global n (Some (k.Function f)) e a = cc
-  permanent_is_global n (Some k.Clock) e a = cc
-  permanent_is_global n (Some k.Set) e a = cc
-  permanent_is_global n (Some k.Routine) e a = cc
+  permanent_is_global n (Some (k.Attribute c)) e a = absurd (false≢true a)
+  permanent_is_global n (Some (k.OwnerKept q s)) e a = absurd (false≢true a)
+  permanent_is_global n (Some (k.MemberKept q s)) e a = absurd (false≢true a)
+  permanent_is_global n (Some (k.Function f)) e a = absurd (false≢true a)
+  permanent_is_global n (Some k.Clock) e a = absurd (false≢true a)
+  permanent_is_global n (Some k.Set) e a = absurd (false≢true a)
+  permanent_is_global n (Some k.Routine) e a = absurd (false≢true a)
 
   pub sound_permanent_variable : (n : Name) → names_permanent (kind_of d n) ≡ true → number n v.globals < sc.globals
   sound_permanent_variable n h = permanent_is_global n (kind_of d n) refl h
