@@ -24,3 +24,4 @@ pub mod Wells
 pub mod Starts
 pub mod LawsHold
 pub mod Executing
+pub mod Repeats

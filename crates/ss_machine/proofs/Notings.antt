@@ -1,5 +1,5 @@
 -- what several pieces of a step leave in the journal
-use Rattle.std.proofs.Common.{◌≡◌, ℕ, ◌+◌, ◌≤◌, arith, refl, ap, sym, subst, ◌∙◌}
+use Rattle.std.proofs.Common.{◌≡◌, ℕ, ◌+◌, ◌≤◌, List, [], ◌∷◌, length, arith, refl, ap, sym, subst, ◌∙◌}
 use Rattle.ss_journal.specs.Log.{Log}
 use Rattle.ss_journal.specs.Undoing.{unapply_all, FitsAll, GoesOn}
 use Rattle.ss_machine.specs.declared.change.Change.{Change}
@@ -37,4 +37,44 @@ notes_none n h k j e = record {
   closes = omega arith;
   noted = omega arith;
   room = omega arith;
+}
+
+-- one change was noted
+pub noted_one : (c : Change) (h k : Held) (i j : Log Change) → Fits c k → unapply c k ≡ h → j.steps ≡ i.steps →
+    j.current ≡ c ∷ i.current → i.notes ≤ j.notes + 1 → j.closes ≡ i.closes → GoesOn Fits unapply 1 h i k j
+noted_one c h k i j fit back steps current notes closes = record {
+  origin = ap (λ (cs : List Change). unapply_all unapply cs k) current ∙ ap (unapply_all unapply i.current) back;
+  fitting =
+      λ before. subst (λ (cs : List Change). FitsAll Fits unapply cs k) (sym current)
+      (fit, subst (FitsAll Fits unapply i.current) (sym back) before);
+  steps = steps;
+  closes = omega (arith, closes);
+  noted = omega (arith, ap length current);
+  room = omega (arith, notes);
+}
+
+-- what was open is taken back first
+pub noted_anew : {S : Type 0} (n : ℕ) (a b c : Executor S) →
+    b.held ≡ unapply_all unapply a.journal.current a.held → b.journal.steps ≡ a.journal.steps →
+    b.journal.current ≡ [] → a.journal.notes ≤ b.journal.notes → b.journal.closes ≡ a.journal.closes → Notes n b c →
+    Notes n a c
+noted_anew n a b c held steps current notes closes f = record {
+  origin = f.origin ∙ ap (λ (cs : List Change). unapply_all unapply cs b.held) current ∙ held;
+  fitting = λ x. f.fitting (subst (λ (cs : List Change). FitsAll Fits unapply cs b.held) (sym current) tt);
+  steps = f.steps ∙ steps;
+  closes = omega (arith, f.closes, closes);
+  noted = omega (arith, f.noted, ap length current);
+  room = omega (arith, f.room, notes);
+}
+
+-- one change more was noted
+pub noted_more : (n : ℕ) (h k l : Held) (i j m : Log Change) → GoesOn Fits unapply n h i k j →
+    GoesOn Fits unapply 1 k j l m → GoesOn Fits unapply (n + 1) h i l m
+noted_more n h k l i j m f g = record {
+  origin = g.origin ∙ f.origin;
+  fitting = λ x. g.fitting (f.fitting x);
+  steps = g.steps ∙ f.steps;
+  closes = omega (arith, f.closes, g.closes);
+  noted = omega (arith, f.noted, g.noted);
+  room = omega (arith, f.room, g.room);
 }

@@ -1,7 +1,8 @@
 -- Heads, seats and rows made and taken off.
 use Rattle.std.proofs.Common.{◌≡◌, ℕ, ℤ, zero, suc, ◌+◌, ◌-◌, ◌<◌, ◌≤◌, List, [], ◌∷◌, ◌++◌, length, map, take}
 use Rattle.std.proofs.Common.{replicate, refl, ap, sym, subst, ◌∙◌, arith, slice_get, slice_set, slice_index_or, Option}
-use Rattle.std.proofs.Common.{Some, None, Bool, true, false, length-set}
+use Rattle.std.proofs.Common.{Some, None, Bool, true, false, length-set, length-append}
+use Rattle.std.proofs.Math.Seq.{take-append_seam}
 use Rattle.std.specs.Prelude.{Result, Ok, Err, IfOk, OnErr}
 use Rattle.ss_links.specs.Board.{Board, IsSound, list_at, head_of}
 use Rattle.ss_links.proofs.BoardLaws.{head_of-above, head_of-found, times-list_at}
@@ -14,7 +15,7 @@ use Rattle.ss_store.specs.Writing.{with_values}
 use Rattle.ss_store.proofs.Core.{some_eq}
 use Rattle.ss_store.proofs.Agree.{get_below}
 use Rattle.ss_store.proofs.More.{IsTable, table_here, table_made, change_change}
-use Rattle.ss_store.proofs.Grown.{list_more}
+use Rattle.ss_store.proofs.Grown.{list_more, list_past}
 use Rattle.ss_links.specs.Seats.{has}
 use Rattle.std.proofs.lemmas.Bool.Decides.{nat_tests}
 use Rattle.ss_links.proofs.SeatLaws.{times_in-present}
@@ -58,6 +59,41 @@ free_grown b new h s n t w e f le =
           let none = w.below t above in let some = times-list_at b.lists i t in
           grind (arith, nat_tests, none, some, g, times_in-present (list_at b.lists i) t))
     ]) refl
+
+-- the seats that were there are there among more
+pub seats_there : (b new : Board) (h s n : ℕ) → new ≡ with_places h s b → n ≡ b.seats → n ≤ new.seats
+seats_there b new h s n e f = omega (arith, ap (λ (z : Board). z.seats) e, f)
+
+-- the heads that were there are there among more
+pub heads_there : (ls new : List (List ℕ)) (h n : ℕ) → new ≡ ls ++ replicate h [] → n ≡ length ls → n ≤ length new
+heads_there ls new h n e f = omega (arith, ap length e, length-append ls (replicate h []), f)
+
+-- the lists of those that were added are empty
+pub heads_empty : (ls new : List (List ℕ)) (h n i : ℕ) → new ≡ ls ++ replicate h [] → n ≡ length ls → n ≤ i
+    → list_at new i ≡ []
+heads_empty ls new h n i e f le =
+    ap (λ z. list_at z i) e ∙ list_more ls h i ∙ list_past ls i (omega (arith, f, le))
+
+-- what was added behind a list is taken off
+pub front_back : {A : Type 0} (xs ys mid new : List A) (n : ℕ) → mid ≡ xs ++ ys → n ≡ length xs → new ≡ take n mid
+    → new ≡ xs
+front_back xs ys mid new n e f k = k ∙ (λ i. take (f i) (e i)) ∙ take-append_seam xs ys
+
+-- a board is as it was once its new heads are taken off
+pub heads_back : (b mid new : Board) (h n : ℕ) → mid ≡ with_heads h b → n ≡ length b.lists
+    → new ≡ record { lists = take n mid.lists; seats = mid.seats } → new ≡ b
+heads_back b mid new h n e f k =
+    let ls = front_back b.lists (replicate h []) mid.lists (take n mid.lists) n (ap (λ (z : Board). z.lists) e) f refl in
+    let ss : mid.seats ≡ b.seats = ap (λ (z : Board). z.seats) e in
+    k ∙ (λ i. record { lists = ls i; seats = ss i })
+
+-- and its new seats
+pub places_back : (b mid left new : Board) (h s n t : ℕ) → mid ≡ with_places h s b → n ≡ length b.lists → t ≡ b.seats
+    → left ≡ record { lists = mid.lists; seats = t } → new ≡ record { lists = take n left.lists; seats = left.seats }
+    → new ≡ b
+places_back b mid left new h s n t e f u g k =
+    let ls : mid.lists ≡ b.lists ++ replicate h [] = ap (λ (z : Board). z.lists) e in
+    heads_back b left new h n (g ∙ (λ i. record { lists = ls i; seats = u i })) f k
 
 -- ---- numberings
 
