@@ -76,7 +76,7 @@ def attributes_above(lines, head):
 
 def opened(lines, function):
     """Returns the paths of the definitions that a function's goals open, and those of its file."""
-    around = [it for it in lines[:2] if it.startswith("#!")] 
+    around = [it for it in lines[:2] if it.startswith("#!")]
     around += attributes_above(lines, function.first)
     tactics = [it[1] for it in map(TACTIC.match, around) if it]
     return [path for it in tactics for said in UNFOLDING.findall(it) for path in said.split(", ")]
