@@ -81,33 +81,27 @@ fn numbers_are_taken_in_order(rt: HostRuntime) -> Result<(), Fail> {
     Ok(())
 }
 
+/// Texts that begin with no number, a line each.
+const NO_NUMBERS: &[u8] = b"\
+    --1\n\
+    +\n\
+    1+\n\
+    12a\n\
+    1.5\n\
+    1\x0b2\n\
+    9223372036854775808\n\
+    -9223372036854775809\
+    ";
+
 #[test]
 fn what_is_no_number_is_not_taken(rt: HostRuntime) -> Result<(), Fail> {
     let alloc = rt.alloc();
-    gives(&rt, alloc, b"--1", &[], RunFault::NotANumber)?;
-    gives(&rt, alloc, b"+", &[], RunFault::NotANumber)?;
+    for text in NO_NUMBERS.split(|byte| *byte == b'\n') {
+        gives(&rt, alloc, text, &[], RunFault::NotANumber)?;
+    }
     gives(&rt, alloc, b"3 - 4", &[3], RunFault::NotANumber)?;
-    gives(&rt, alloc, b"1+", &[], RunFault::NotANumber)?;
-    gives(&rt, alloc, b"12a", &[], RunFault::NotANumber)?;
-    gives(&rt, alloc, b"1.5", &[], RunFault::NotANumber)?;
-    gives(&rt, alloc, b"1\x0b2", &[], RunFault::NotANumber)?;
     gives(&rt, alloc, b"1 \xff 2", &[1], RunFault::NotANumber)?;
-    gives(
-        &rt,
-        alloc,
-        b"9223372036854775808",
-        &[],
-        RunFault::NotANumber,
-    )?;
-    gives(
-        &rt,
-        alloc,
-        b"-9223372036854775809",
-        &[],
-        RunFault::NotANumber,
-    )?;
-    let long = [b'9'; 90];
-    gives(&rt, alloc, &long, &[], RunFault::NotANumber)?;
+    gives(&rt, alloc, &[b'9'; 90], &[], RunFault::NotANumber)?;
     Ok(())
 }
 

@@ -120,8 +120,65 @@ fn forget(dial: &Dial, journal: &mut Journal<Turn>, kept: usize)
     journal.keep_last(kept);
 }
 
-// Six steps forward and all back, each state compared. A step that is refused memory is tried
-// again, with nothing changed.
+// One step forward from a value. One that is refused memory is tried again, with nothing changed.
+fn step(
+    rt: &(impl Abort + Print),
+    dial: &mut Dial,
+    journal: &mut Journal<Turn>,
+    before: u64,
+    values: &[u64],
+) -> Result<(), Fail>
+    requires closed { journal.old.current ≡ [] }
+    requires fits { FitsSteps ⟦<Dial as Undo>⟧.fits ⟦<Dial as Undo>⟧.unapply journal.old.steps dial.old }
+    ensures closed { journal.new.current ≡ [] }
+    ensures fits { FitsSteps ⟦<Dial as Undo>⟧.fits ⟦<Dial as Undo>⟧.unapply journal.new.steps dial.new }
+{
+    let kept = journal.steps();
+    assert_eq!(rt; dial.value, before);
+    if forward(dial, journal, values).is_err() {
+        assert_eq!(rt; dial.value, before);
+        assert_eq!(rt; journal.steps(), kept);
+        println!(rt; "memory was refused at step {kept}")?;
+        forward(dial, journal, values)?;
+    }
+    Ok(())
+}
+
+// Six steps forward, each state compared.
+fn there(
+    rt: &(impl Abort + Print),
+    dial: &mut Dial,
+    journal: &mut Journal<Turn>,
+) -> Result<(), Fail>
+    requires closed { journal.old.current ≡ [] }
+    requires fits { FitsSteps ⟦<Dial as Undo>⟧.fits ⟦<Dial as Undo>⟧.unapply journal.old.steps dial.old }
+    ensures closed { journal.new.current ≡ [] }
+    ensures fits { FitsSteps ⟦<Dial as Undo>⟧.fits ⟦<Dial as Undo>⟧.unapply journal.new.steps dial.new }
+{
+    step(rt, dial, journal, 0, &[3])?;
+    step(rt, dial, journal, 3, &[5, 7])?;
+    step(rt, dial, journal, 7, &[])?;
+    step(rt, dial, journal, 7, &[11, 13, 17])?;
+    step(rt, dial, journal, 17, &[2])?;
+    step(rt, dial, journal, 2, &[19, 23, 29, 31, 37])
+}
+
+// Six steps back, each state compared, and no more.
+fn all_back(rt: &impl Abort, dial: &mut Dial, journal: &mut Journal<Turn>)
+    requires closed { journal.old.current ≡ [] }
+    requires fits { FitsSteps ⟦<Dial as Undo>⟧.fits ⟦<Dial as Undo>⟧.unapply journal.old.steps dial.old }
+    ensures closed { journal.new.current ≡ [] }
+    ensures fits { FitsSteps ⟦<Dial as Undo>⟧.fits ⟦<Dial as Undo>⟧.unapply journal.new.steps dial.new }
+{
+    assert_eq!(rt; dial.value, 37);
+    for (kept, before) in [(5, 2), (4, 17), (3, 7), (2, 7), (1, 3), (0, 0)] {
+        goes_back(rt, dial, journal, before);
+        assert_eq!(rt; journal.steps(), kept);
+    }
+    stays(rt, dial, journal, 0);
+}
+
+// Six steps forward and all back.
 fn there_and_back(
     rt: &(impl Abort + Print),
     dial: &mut Dial,
@@ -132,30 +189,8 @@ fn there_and_back(
     ensures closed { journal.new.current ≡ [] }
     ensures fits { FitsSteps ⟦<Dial as Undo>⟧.fits ⟦<Dial as Undo>⟧.unapply journal.new.steps dial.new }
 {
-    let rows = [
-        (0, [3].as_slice()),
-        (3, [5, 7].as_slice()),
-        (7, [].as_slice()),
-        (7, [11, 13, 17].as_slice()),
-        (17, [2].as_slice()),
-        (2, [19, 23, 29, 31, 37].as_slice()),
-    ];
-    for (before, values) in rows {
-        let kept = journal.steps();
-        assert_eq!(rt; dial.value, before);
-        if forward(dial, journal, values).is_err() {
-            assert_eq!(rt; dial.value, before);
-            assert_eq!(rt; journal.steps(), kept);
-            println!(rt; "memory was refused at step {kept}")?;
-            forward(dial, journal, values)?;
-        }
-    }
-    assert_eq!(rt; dial.value, 37);
-    for (kept, before) in [(5, 2), (4, 17), (3, 7), (2, 7), (1, 3), (0, 0)] {
-        goes_back(rt, dial, journal, before);
-        assert_eq!(rt; journal.steps(), kept);
-    }
-    stays(rt, dial, journal, 0);
+    there(rt, dial, journal)?;
+    all_back(rt, dial, journal);
     Ok(())
 }
 
