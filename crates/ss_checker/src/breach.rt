@@ -53,7 +53,9 @@ fn check_whole(
         (rules.breach (preamble.decls_view decls.now) (map view.section_view sections.now))) }
 {
     let mut before = Tables::new(alloc)?;
-    check_statements(alloc, whole, &mut before, decls, sections)
+    let checked = check_statements(alloc, whole, &mut before, decls, sections);
+    drop(before);
+    checked
 }
 
 /// Looks at each statement of a program that says `whole`, behind what the language declares before

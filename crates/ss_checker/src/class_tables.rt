@@ -1,4 +1,4 @@
-ghost use Rattle.std.specs.Prelude.{◌≡◌, [], map, slice_index_or, IfOk};
+ghost use Rattle.std.specs.Prelude.{◌≡◌, ◌++◌, [], map, slice_index_or, IfOk, OnOk};
 ghost use Rattle.ss_words.specs.Lists.{all_of, several_view};
 ghost use Rattle.ss_preamble.specs.View.{key_view};
 ghost use Rattle.ss_checker.specs.Declarations.{kind_of};
@@ -26,10 +26,30 @@ pub(crate) fn class_tables(
         ≡ map (resolved.class_table tables.now names.now rankings.now) names.now.classes) }
 {
     let mut classes = Vec::with_capacity(alloc, names.classes().len())?;
+    match add_classes(alloc, tables, names, rankings, &mut classes) {
+        Ok(()) => Ok(classes),
+        Err(fault) => {
+            drop(classes);
+            Err(fault)
+        }
+    }
+}
+
+/// Puts the classes of a program at the end of a list, in order of declaration.
+fn add_classes(
+    alloc: Global,
+    tables: &Tables,
+    names: &NameTables,
+    rankings: &Rankings<'_>,
+    classes: &mut Vec<Class>,
+) -> Result<(), AllocError>
+    ensures { OnOk result (classes.new.items ≡ classes.old.items
+        ++ map (resolved.class_table tables.now names.now rankings.now) names.now.classes) }
+{
     for name in names.classes() {
         classes.push(class_table(alloc, tables, names, rankings, &name.bytes)?)?;
     }
-    Ok(classes)
+    Ok(())
 }
 
 /// The class of this name.

@@ -68,12 +68,10 @@ pub(crate) fn head_rule(
     ensures tables { OnOk result (before.new ≡ with_head before.old (view.section_view section.now).head) }
 {
     let is_second_main = is_main(section) & before.has_main;
-    let parameters = parameter_list(alloc, section)?;
+    let repeats_parameter = repeats_parameter(alloc, section)?;
     before.add_head(section)?;
     let breaks = HeadBreaks {
-        declares_twice: says_twice(before)
-            | parameters.has_repeat()
-            | declares_parameter(whole, section),
+        declares_twice: says_twice(before) | repeats_parameter | declares_parameter(whole, section),
         has_too_many: has_too_many(whole, section),
         lacks_class: lacks_class(whole, section),
         is_second_main,
@@ -97,22 +95,42 @@ fn says_twice(tables: &Tables) -> bool
     tables.kinds.has_conflict() || tables.events.has_repeat()
 }
 
-/// The names of a section's parameters.
-fn parameter_list(alloc: Global, section: &Section) -> Result<NameList, AllocError>
-    ensures { IfOk result (λ list. list ≡ declared.parameters (view.section_view section.now).head) }
+/// Whether a section has two parameters of one name.
+fn repeats_parameter(alloc: Global, section: &Section) -> Result<bool, AllocError>
+    ensures { IfOk result
+        (λ r. r ≡ repeats [] (declared.parameters (view.section_view section.now).head)) }
 {
     let mut list = NameList::new(alloc);
+    let added = add_parameters(&mut list, section);
+    let is_repeated = list.has_repeat();
+    drop(list);
+    added?;
+    Ok(is_repeated)
+}
+
+/// Adds the names of a section's parameters.
+fn add_parameters(list: &mut NameList, section: &Section) -> Result<(), AllocError>
+    ensures { OnOk result
+        (list.new ≡ list.old ++ declared.parameters (view.section_view section.now).head) }
+{
     match &section.kind {
-        SectionKind::Main => {}
+        SectionKind::Main => Ok(()),
         SectionKind::Routine { given, yielded } => {
-            add_listed(&mut list, given)?;
-            for name in yielded {
-                list.add(name.bytes())?;
-            }
+            add_listed(list, given)?;
+            add_yielded(list, yielded)
         }
-        SectionKind::Event { given, .. } => add_listed(&mut list, given)?,
+        SectionKind::Event { given, .. } => add_listed(list, given),
     }
-    Ok(list)
+}
+
+/// Adds the names of yielded parameters.
+fn add_yielded(list: &mut NameList, names: &[Name]) -> Result<(), AllocError>
+    ensures { OnOk result (list.new ≡ list.old ++ names.now) }
+{
+    for name in names {
+        list.add(name.bytes())?;
+    }
+    Ok(())
 }
 
 /// Adds the names of a list that may be left out.

@@ -409,6 +409,9 @@ fn names_twice(alloc: Global, names: &Names) -> Result<bool, AllocError>
     ensures { IfOk result (λ r. r ≡ repeats [] (all_of (several_view (λ n. n) names.now))) }
 {
     let mut list = NameList::new(alloc);
-    add_names(&mut list, names)?;
-    Ok(list.has_repeat())
+    let added = add_names(&mut list, names);
+    let is_repeated = list.has_repeat();
+    drop(list);
+    added?;
+    Ok(is_repeated)
 }

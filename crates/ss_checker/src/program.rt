@@ -141,11 +141,59 @@ fn classes_and_sets(
         ≡ map (λ c. number c names.now.classes) whole.now.priority) }
 {
     let rankings = Rankings::new(alloc, &decls.items)?;
-    Ok(ClassesAndSets {
-        priority: priority(alloc, whole, names)?,
-        classes: class_tables(alloc, whole, names, &rankings)?,
-        sets: set_tables(alloc, whole, names, &rankings)?,
-    })
+    let made = ranked_classes_and_sets(alloc, whole, names, &rankings);
+    drop(rankings);
+    made
+}
+
+/// What items that say `whole` and give these rankings make of the classes and sets of these names.
+fn ranked_classes_and_sets(
+    alloc: Global,
+    whole: &Tables,
+    names: &NameTables,
+    rankings: &Rankings<'_>,
+) -> Result<ClassesAndSets, AllocError>
+    ensures classes { IfOk result (λ made. made.classes.items
+        ≡ map (resolved.class_table whole.now names.now rankings.now) names.now.classes) }
+    ensures sets { IfOk result
+        (λ made. made.sets.items ≡ map (resolved.set_table whole.now names.now rankings.now) names.now.sets) }
+    ensures priority { IfOk result (λ made. made.priority.items
+        ≡ map (λ c. number c names.now.classes) whole.now.priority) }
+{
+    let classes = class_tables(alloc, whole, names, rankings)?;
+    match sets_and_priority(alloc, whole, names, rankings) {
+        Ok((sets, priority)) => Ok(ClassesAndSets {
+            classes,
+            sets,
+            priority,
+        }),
+        Err(fault) => {
+            drop(classes);
+            Err(fault)
+        }
+    }
+}
+
+/// The sets, and the order of the event classes, of items that say `whole` and give these rankings.
+fn sets_and_priority(
+    alloc: Global,
+    whole: &Tables,
+    names: &NameTables,
+    rankings: &Rankings<'_>,
+) -> Result<(Vec<Set>, Vec<usize>), AllocError>
+    ensures sets { IfOk result
+        (λ x. x.0.items ≡ map (resolved.set_table whole.now names.now rankings.now) names.now.sets) }
+    ensures priority { IfOk result
+        (λ x. x.1.items ≡ map (λ c. number c names.now.classes) whole.now.priority) }
+{
+    let sets = set_tables(alloc, whole, names, rankings)?;
+    match priority(alloc, whole, names) {
+        Ok(priority) => Ok((sets, priority)),
+        Err(fault) => {
+            drop(sets);
+            Err(fault)
+        }
+    }
 }
 
 /// The sections of a program, with the numbers of their names. What the text says of a section is

@@ -1,4 +1,4 @@
-ghost use Rattle.std.specs.Prelude.{◌≡◌, [], map, option_map, unwrap_or, IfOk};
+ghost use Rattle.std.specs.Prelude.{◌≡◌, ◌++◌, [], map, option_map, unwrap_or, IfOk, OnOk};
 ghost use Rattle.ss_preamble.specs.View.{set_kind_view};
 ghost use Rattle.ss_checker.specs.Facts.{fact_of};
 ghost use Rattle.ss_checker.specs.Resolved as resolved;
@@ -24,10 +24,30 @@ pub(crate) fn set_tables(
         ≡ map (resolved.set_table tables.now names.now rankings.now) names.now.sets) }
 {
     let mut sets = Vec::with_capacity(alloc, names.sets().len())?;
+    match add_sets(alloc, tables, names, rankings, &mut sets) {
+        Ok(()) => Ok(sets),
+        Err(fault) => {
+            drop(sets);
+            Err(fault)
+        }
+    }
+}
+
+/// Puts the sets of a program at the end of a list, in order of declaration.
+fn add_sets(
+    alloc: Global,
+    tables: &Tables,
+    names: &NameTables,
+    rankings: &Rankings<'_>,
+    sets: &mut Vec<Set>,
+) -> Result<(), AllocError>
+    ensures { OnOk result (sets.new.items ≡ sets.old.items
+        ++ map (resolved.set_table tables.now names.now rankings.now) names.now.sets) }
+{
     for name in names.sets() {
         sets.push(set_table(alloc, tables, names, rankings, &name.bytes)?)?;
     }
-    Ok(sets)
+    Ok(())
 }
 
 /// The set of this name.

@@ -1,4 +1,4 @@
-ghost use Rattle.std.specs.Prelude.{◌≡◌, [], length, IfOk, OnOk};
+ghost use Rattle.std.specs.Prelude.{◌≡◌, ◌++◌, [], length, IfOk, OnOk};
 ghost use Rattle.ss_preamble.specs.View as items;
 ghost use Rattle.ss_grammar.specs.Tree.{listed};
 ghost use Rattle.ss_grammar.specs.View as heads;
@@ -135,11 +135,23 @@ fn language_kinds(alloc: Global) -> Result<KindTable, AllocError>
     ensures { IfOk result (λ kinds. kinds ≡ language_facts) }
 {
     let mut kinds = KindTable::new(alloc);
+    match add_language(&mut kinds) {
+        Ok(()) => Ok(kinds),
+        Err(fault) => {
+            drop(kinds);
+            Err(fault)
+        }
+    }
+}
+
+/// Adds what the language declares before all.
+fn add_language(kinds: &mut KindTable) -> Result<(), AllocError>
+    ensures { OnOk result (kinds.new ≡ kinds.old ++ language_facts) }
+{
     kinds.add(b"ABS.F", NameKind::Function(Function::Absolute))?;
     kinds.add(b"MAX.F", NameKind::Function(Function::Greatest))?;
     kinds.add(b"MIN.F", NameKind::Function(Function::Least))?;
     kinds.add(b"DIV.F", NameKind::Function(Function::Quotient))?;
     kinds.add(b"MOD.F", NameKind::Function(Function::Remainder))?;
-    kinds.add(b"TIME.V", NameKind::Clock)?;
-    Ok(kinds)
+    kinds.add(b"TIME.V", NameKind::Clock)
 }
