@@ -20,7 +20,8 @@ use Rattle.ss_values.specs.Values.{value_of, subscript_value, counted, FaultIs}
 use Rattle.ss_machine.specs.State.{State}
 use Rattle.ss_machine.specs.Held.{Held}
 use Rattle.ss_machine.specs.Readings.{readings}
-use Rattle.ss_machine.specs.Step.{state_with_store, state_after_assignment, number_asked, state_after_making, existing, state_after_destroy, state_with_value, state_after_scheduling, state_after_new, state_after_arrival, attributes_now, state_with_attributes, state_with_notice, tie_attributes, state_after_create, state_with_agenda, agenda_without, state_after_cancel, arguments_asked, time_asked, state_after_notice, state_after_schedule}
+use Rattle.ss_machine.specs.declared.status.Status.TheVariants.{Faulted}
+use Rattle.ss_machine.specs.Step.{state_after_result, state_at_place, state_with_store, state_after_assignment, number_asked, state_after_making, existing, state_after_destroy, state_with_value, state_after_scheduling, state_after_new, state_after_arrival, attributes_now, state_with_attributes, state_with_notice, tie_attributes, state_after_create, state_with_agenda, agenda_without, state_after_cancel, arguments_asked, time_asked, state_after_notice, state_after_schedule}
 use Rattle.ss_machine.specs.declared.change.Change.{Change}
 use Rattle.ss_machine.specs.declared.entry.Entry.TheVariants.{Waiting}
 use Rattle.ss_machine.specs.Storing.{LeavesStore, IsRefused, IsCreating, IsMakingAll, IsScheduling, IsCancelling}
@@ -323,3 +324,11 @@ pub attribute_ends : (t : Tables) (s new : State) (target : Target) (class a : �
     with_attribute s.store class a (number_of x) v ≡ Ok st → new ≡ state_with_store s st →
     state_with_value t s target v ≡ Ok new
 attribute_ends t s new target class a index x v st g o w n = rw (g, o, w, n) refl
+
+-- ---- a statement that is settled
+
+pub settled_by : (done : Result (Unit {0}) RunFault) (s mid new : State) (q : Result State RunFault) (next : ℕ) →
+    OnOk done (q ≡ Ok mid) → IfErr done (λ e. q ≡ Err e) → OnOk done (new ≡ state_at_place next mid) →
+    IfErr done (λ e. new ≡ record s { status = Faulted e }) → new ≡ state_after_result s q (state_at_place next)
+settled_by (Ok x) s mid new q next a b c d = rw a c
+settled_by (Err e) s mid new q next a b c d = rw b d

@@ -580,20 +580,27 @@ impl<S: SetBoard> Executor<S> {
         ensures notes { Notes (changes.most_looping_changes ways looping.now) self.old self.new }
     {
         match looping {
-            Looping::For(phrase) => self.run_phrase(ways, phrase.value())?,
-            Looping::Loop => self.go_to(ways.next),
-            Looping::Find => self.find(ways),
+            Looping::For(phrase) => self.run_phrase(ways, phrase.value()),
+            Looping::Loop => {
+                self.go_to(ways.next);
+                Ok(())
+            }
+            Looping::Find => {
+                self.find(ways);
+                Ok(())
+            }
             Looping::Gather(e) => {
                 let got = value(self.held.view(), e.value());
                 self.gather(ways.next, got);
+                Ok(())
             }
             Looping::Tell(tellings) => {
                 let statistics = self.held.statistics();
                 let done = self.tell(tellings, statistics);
                 self.settle(ways.next, done);
+                Ok(())
             }
         }
-        Ok(())
     }
 
     fn run_call(&mut self, program: &Program, call: &Call) -> Result<(), AllocError>
@@ -1016,10 +1023,12 @@ impl<S: SetBoard> Executor<S> {
         ensures notes { Notes (3 + yield_count program.now self.old.held.state.below) self.old self.new }
     {
         match control {
-            Control::Stop => self.mark(Status::Stopped),
-            Control::Return | Control::End => self.end_section(program)?,
+            Control::Stop => {
+                self.mark(Status::Stopped);
+                Ok(())
+            }
+            Control::Return | Control::End => self.end_section(program),
         }
-        Ok(())
     }
 
     #[tactic(auto, using(crate::proofs::Sounds::section_found, crate::proofs::Sounds::few_parameters))]
@@ -1036,11 +1045,16 @@ impl<S: SetBoard> Executor<S> {
         let (section, _) = self.held.place();
         let (kind, given) = ending(program.section(section));
         match kind {
-            SectionKind::Main => self.mark(Status::Finished),
-            SectionKind::Routine => self.run_return(program, given)?,
-            SectionKind::Event => self.end_event(),
+            SectionKind::Main => {
+                self.mark(Status::Finished);
+                Ok(())
+            }
+            SectionKind::Routine => self.run_return(program, given),
+            SectionKind::Event => {
+                self.end_event();
+                Ok(())
+            }
         }
-        Ok(())
     }
 
     /// Runs a place. After an error the changes made so far stand in the open step.
@@ -1059,18 +1073,26 @@ impl<S: SetBoard> Executor<S> {
         ensures notes { Notes (most_changes program.now self.old.held.state ways place.now) self.old self.new }
     {
         match place {
-            Place::Assign(assign) => self.run_assign(ways.next, assign),
-            Place::Making(making) => self.run_making(ways.next, making.value())?,
-            Place::Filing(filing) => self.run_filing(ways.next, filing.value()),
-            Place::Output(output) => self.run_output(ways.next, output.value())?,
-            Place::Control(control) => self.run_control(program, *control)?,
-            Place::Branch(branch) => self.run_branch(ways, branch),
-            Place::Looping(looping) => self.run_looping(ways, looping)?,
-            Place::Call(call) => self.run_call(program, call.value())?,
-            Place::Timing(timing) => self.run_timing(program, ways.next, timing.value())?,
-            Place::Read(targets) => self.read(program, ways.next, targets)?,
+            Place::Assign(assign) => {
+                self.run_assign(ways.next, assign);
+                Ok(())
+            }
+            Place::Making(making) => self.run_making(ways.next, making.value()),
+            Place::Filing(filing) => {
+                self.run_filing(ways.next, filing.value());
+                Ok(())
+            }
+            Place::Output(output) => self.run_output(ways.next, output.value()),
+            Place::Control(control) => self.run_control(program, *control),
+            Place::Branch(branch) => {
+                self.run_branch(ways, branch);
+                Ok(())
+            }
+            Place::Looping(looping) => self.run_looping(ways, looping),
+            Place::Call(call) => self.run_call(program, call.value()),
+            Place::Timing(timing) => self.run_timing(program, ways.next, timing.value()),
+            Place::Read(targets) => self.read(program, ways.next, targets),
         }
-        Ok(())
     }
 
     /// Runs the place where the state stands. After an error the changes made so far stand in the

@@ -1,6 +1,7 @@
-use Rattle.std.proofs.Common.{◌≡◌, rules}
+use Rattle.std.proofs.Common.{◌≡◌, ◌+◌, length, arith, rules}
 use Rattle.ss_journal.specs.Undoing.{unapply_all}
 use Rattle.ss_machine.specs.Change.{unapply}
+use Rattle.ss_machine.proofs.Notings.{notes_both}
 use Rattle.ss_machine.proofs.Storings.{settled_as}
 use Rattle.ss_machine.proofs.executor.Executor.read.Goals as goal
 
@@ -12,3 +13,9 @@ returns-clause-state g c =
     c.settle_or_refuse.new.self.held.state _ c.args.next
     c.take-done.ensures.ok c.take-done.ensures.err c.settle_or_refuse.ensures.ok
     (rw o at c.settle_or_refuse.ensures.err)
+
+pub returns-clause-notes : goal.returns-clause-notes
+returns-clause-notes g c =
+    let n = length c.args.targets.now in
+    notes_both (1 + n) 1 (2 + n) c.args.self.now c.take-done.new.self c.settle_or_refuse.new.self c.take-done.ensures.notes
+    c.settle_or_refuse.ensures.notes (omega arith)

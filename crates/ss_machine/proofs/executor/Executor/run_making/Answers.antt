@@ -1,6 +1,7 @@
-use Rattle.std.proofs.Common.{◌≡◌, rules}
+use Rattle.std.proofs.Common.{◌≡◌, arith, rules}
 use Rattle.ss_journal.specs.Undoing.{unapply_all}
 use Rattle.ss_machine.specs.Change.{unapply}
+use Rattle.ss_machine.proofs.Notings.{notes_both}
 use Rattle.ss_machine.proofs.Storings.{settled_as}
 use Rattle.ss_machine.proofs.executor.Executor.run_making.Goals as goal
 
@@ -12,3 +13,8 @@ returns-clause-state g c =
     c.settle_or_refuse.new.self.held.state _ c.args.next
     c.make-done.ensures.ok c.make-done.ensures.err c.settle_or_refuse.ensures.ok
     (rw o at c.settle_or_refuse.ensures.err)
+
+pub returns-clause-notes : goal.returns-clause-notes
+returns-clause-notes g c =
+    notes_both 2 1 3 c.args.self.now c.make-done.new.self c.settle_or_refuse.new.self c.make-done.ensures.notes
+    c.settle_or_refuse.ensures.notes (omega arith)
