@@ -83,7 +83,8 @@ front_back xs ys mid new n e f k = k ∙ (λ i. take (f i) (e i)) ∙ take-appen
 pub heads_back : (b mid new : Board) (h n : ℕ) → mid ≡ with_heads h b → n ≡ length b.lists
     → new ≡ record { lists = take n mid.lists; seats = mid.seats } → new ≡ b
 heads_back b mid new h n e f k =
-    let ls = front_back b.lists (replicate h []) mid.lists (take n mid.lists) n (ap (λ (z : Board). z.lists) e) f refl in
+    let ls =
+    front_back b.lists (replicate h []) mid.lists (take n mid.lists) n (ap (λ (z : Board). z.lists) e) f refl in
     let ss : mid.seats ≡ b.seats = ap (λ (z : Board). z.seats) e in
     k ∙ (λ i. record { lists = ls i; seats = ss i })
 

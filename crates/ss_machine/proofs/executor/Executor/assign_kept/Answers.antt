@@ -1,4 +1,4 @@
-use Rattle.std.proofs.Common.{◌≡◌, ◌<◌, ◌+◌, [], ◌∷◌, length, drop, arith, rules, refl, ap, sym, ◌∙◌, Ok, Err, w64, FitsSigned, to_z, of_z}
+use Rattle.std.proofs.Common.{◌≡◌, ◌+◌, [], ◌∷◌, length, drop, arith, rules, refl, ap, sym, ◌∙◌, Ok, Err, w64, FitsSigned, to_z, of_z}
 use Rattle.std.proofs.lemmas.Int.{to_z-of_z}
 use Rattle.ss_words.specs.declared.fault.RunFault.{RunFault}
 use Rattle.ss_machine.specs.Seen.{scope_held}
@@ -24,7 +24,7 @@ assign_target-requires-clause-target g c =
     let i = c.loop-target.target-index in
     let here : c.deref-target-items.result.now ≡ xs = search rules in
     targets_first (scope_held c.loop-target.self.held) xs i c.target-item.result
-    (drop_at i xs _ c.target-item.result c.loop-target-test.true here c.target-item.is)
+    (drop_at i xs c.deref-target-items.result.now c.target-item.result c.loop-target-test.true here c.target-item.is)
     c.loop-target.invariant.sound
 
 pub assign_target-requires-clause-room : goal.assign_target-requires-clause-room
@@ -44,7 +44,8 @@ loop-target-preserved g c =
     let i = c.loop-target.target-index in
     let x = c.target-item.result in
     let here : c.deref-target-items.result.now ≡ xs = search rules in
-    let d : drop i xs ≡ x ∷ drop (i + 1) xs = drop_at i xs _ x c.loop-target-test.true here c.target-item.is in
+    let d : drop i xs ≡ x ∷ drop (i + 1) xs =
+    drop_at i xs c.deref-target-items.result.now x c.loop-target-test.true here c.target-item.is in
     let fits : FitsSigned w64 c.kept-value.result = search rules in
     let a : to_z w64 (of_z w64 c.kept-value.result) ≡ c.kept-value.result = to_z-of_z w64 _ fits in
     let u = c.loop-target.invariant in
@@ -58,7 +59,9 @@ loop-target-preserved g c =
       state =
           targets_more c.args.self.now.held.beside.tables c.loop-target.self.held.beside.tables
           c.args.self.now.values.items c.loop-target.self.held.state c.assign_target.new.self.held.state xs i
-          c.loop-target.number x _ _ d u.tables (a ∙ rw u.values at c.kept-value.ensures)
+          c.loop-target.number x (to_z w64 (of_z w64 c.kept-value.result))
+          (state_with_values c.args.self.now.held.beside.tables c.args.self.now.values.items c.args.self.now.held.state
+          c.args.first c.args.targets.now) d u.tables (a ∙ rw u.values at c.kept-value.ensures)
           c.in_ok-assign_target.ensures.ok u.state;
       notes =
           notes_both i 1 (i + 1) c.args.self.now c.loop-target.self c.assign_target.new.self u.notes
@@ -72,14 +75,17 @@ returns-in_err-assign_target-clause-err g c =
     let i = c.loop-target.target-index in
     let x = c.target-item.result in
     let here : c.deref-target-items.result.now ≡ xs = search rules in
-    let d : drop i xs ≡ x ∷ drop (i + 1) xs = drop_at i xs _ x c.loop-target-test.true here c.target-item.is in
+    let d : drop i xs ≡ x ∷ drop (i + 1) xs =
+    drop_at i xs c.deref-target-items.result.now x c.loop-target-test.true here c.target-item.is in
     let fits : FitsSigned w64 c.kept-value.result = search rules in
     let a : to_z w64 (of_z w64 c.kept-value.result) ≡ c.kept-value.result = to_z-of_z w64 _ fits in
     let u = c.loop-target.invariant in
     let r : c.from_residual.result ≡ Err e = search rules in
     rw r
     (targets_fail c.args.self.now.held.beside.tables c.loop-target.self.held.beside.tables c.args.self.now.values.items
-    c.loop-target.self.held.state xs i c.loop-target.number x _ e _ d u.tables
+    c.loop-target.self.held.state xs i c.loop-target.number x (to_z w64 (of_z w64 c.kept-value.result)) e
+    (state_with_values c.args.self.now.held.beside.tables c.args.self.now.values.items c.args.self.now.held.state
+    c.args.first c.args.targets.now) d u.tables
     (a ∙ rw u.values at c.kept-value.ensures) c.in_err-assign_target.ensures.err u.state)
 
 pub returns-in_err-assign_target-clause-notes : goal.returns-in_err-assign_target-clause-notes

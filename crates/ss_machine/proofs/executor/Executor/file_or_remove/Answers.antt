@@ -40,7 +40,8 @@ returns-in_ok-how-in-File-clause-ok g c =
     let fits : FitsSigned w64 x = search rules in
     let a : to_z w64 (of_z w64 x) ≡ x = to_z-of_z w64 _ fits in
     let v : value_of (readings h.beside.tables h.state) c.in-File.member ≡ Ok x = search rules in
-    let w : how_asked (readings h.beside.tables h.state) c.in-File.position ≡ Ok c.in_ok-how-in-File.how = search rules in
+    let w : how_asked (readings h.beside.tables h.state) c.in-File.position ≡ Ok c.in_ok-how-in-File.how =
+    search rules in
     rw (c.in-File.is, v, w) (rw a at c.file.ensures.ok)
 
 pub returns-in_ok-how-in-File-clause-err : goal.returns-in_ok-how-in-File-clause-err
@@ -50,7 +51,8 @@ returns-in_ok-how-in-File-clause-err g c =
     let fits : FitsSigned w64 x = search rules in
     let a : to_z w64 (of_z w64 x) ≡ x = to_z-of_z w64 _ fits in
     let v : value_of (readings h.beside.tables h.state) c.in-File.member ≡ Ok x = search rules in
-    let w : how_asked (readings h.beside.tables h.state) c.in-File.position ≡ Ok c.in_ok-how-in-File.how = search rules in
+    let w : how_asked (readings h.beside.tables h.state) c.in-File.position ≡ Ok c.in_ok-how-in-File.how =
+    search rules in
     rw (c.in-File.is, v, w) (rw a at c.file.ensures.err)
 
 pub returns-in_ok-how-in-File-clause-notes : goal.returns-in_ok-how-in-File-clause-notes

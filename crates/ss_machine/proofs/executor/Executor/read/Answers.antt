@@ -17,5 +17,5 @@ returns-clause-state g c =
 pub returns-clause-notes : goal.returns-clause-notes
 returns-clause-notes g c =
     let n = length c.args.targets.now in
-    notes_both (1 + n) 1 (2 + n) c.args.self.now c.take-done.new.self c.settle_or_refuse.new.self c.take-done.ensures.notes
-    c.settle_or_refuse.ensures.notes (omega arith)
+    notes_both (1 + n) 1 (2 + n) c.args.self.now c.take-done.new.self c.settle_or_refuse.new.self
+    c.take-done.ensures.notes c.settle_or_refuse.ensures.notes (omega arith)

@@ -11,11 +11,13 @@ returns-clause-state g c =
     let h = c.args.self.now.held in
     let o : unapply_all unapply c.file_or_remove-done.new.self.journal.current c.file_or_remove-done.new.self.held ≡ h =
     search rules in
-    settled_by c.file_or_remove-done.result h.state c.file_or_remove-done.new.self.held.state c.settle.new.self.held.state
+    settled_by c.file_or_remove-done.result h.state c.file_or_remove-done.new.self.held.state
+    c.settle.new.self.held.state
     (state_after_filing h.beside.tables h.state c.args.filing.now) c.args.next
-    c.file_or_remove-done.ensures.ok c.file_or_remove-done.ensures.err c.settle.ensures.ok (rw o at c.settle.ensures.err)
+    c.file_or_remove-done.ensures.ok c.file_or_remove-done.ensures.err c.settle.ensures.ok
+    (rw o at c.settle.ensures.err)
 
 pub returns-clause-notes : goal.returns-clause-notes
 returns-clause-notes g c =
-    notes_both 2 1 3 c.args.self.now c.file_or_remove-done.new.self c.settle.new.self c.file_or_remove-done.ensures.notes
-    c.settle.ensures.notes (omega arith)
+    notes_both 2 1 3 c.args.self.now c.file_or_remove-done.new.self c.settle.new.self
+    c.file_or_remove-done.ensures.notes c.settle.ensures.notes (omega arith)

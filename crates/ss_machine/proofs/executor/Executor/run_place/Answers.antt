@@ -21,7 +21,8 @@ pub run_making-requires-clause-room : goal.run_making-requires-clause-room
 run_making-requires-clause-room g c = omega (arith, rw c.in-Making.is at c.requires.room)
 
 pub returns-in-Making-clause-state : goal.returns-in-Making-clause-state
-returns-in-Making-clause-state g c = rw (c.in-Making.is, ← c.requires.tables) (rw c.value.ensures at c.run_making.ensures.state)
+returns-in-Making-clause-state g c =
+    rw (c.in-Making.is, ← c.requires.tables) (rw c.value.ensures at c.run_making.ensures.state)
 
 pub returns-in-Making-clause-notes : goal.returns-in-Making-clause-notes
 returns-in-Making-clause-notes g c = rw c.in-Making.is c.run_making.ensures.notes
@@ -33,7 +34,8 @@ pub run_filing-requires-clause-room : goal.run_filing-requires-clause-room
 run_filing-requires-clause-room g c = omega (arith, rw c.in-Filing.is at c.requires.room)
 
 pub returns-in-Filing-clause-state : goal.returns-in-Filing-clause-state
-returns-in-Filing-clause-state g c = rw (c.in-Filing.is, ← c.requires.tables) (rw c.value-in-Filing.ensures at c.run_filing.ensures.state)
+returns-in-Filing-clause-state g c =
+    rw (c.in-Filing.is, ← c.requires.tables) (rw c.value-in-Filing.ensures at c.run_filing.ensures.state)
 
 pub returns-in-Filing-clause-notes : goal.returns-in-Filing-clause-notes
 returns-in-Filing-clause-notes g c = rw c.in-Filing.is c.run_filing.ensures.notes
@@ -45,7 +47,8 @@ pub run_output-requires-clause-room : goal.run_output-requires-clause-room
 run_output-requires-clause-room g c = omega (arith, rw c.in-Output.is at c.requires.room)
 
 pub returns-in-Output-clause-state : goal.returns-in-Output-clause-state
-returns-in-Output-clause-state g c = rw (c.in-Output.is, ← c.requires.tables) (rw c.value-in-Output.ensures at c.run_output.ensures.state)
+returns-in-Output-clause-state g c =
+    rw (c.in-Output.is, ← c.requires.tables) (rw c.value-in-Output.ensures at c.run_output.ensures.state)
 
 pub returns-in-Output-clause-notes : goal.returns-in-Output-clause-notes
 returns-in-Output-clause-notes g c = rw c.in-Output.is c.run_output.ensures.notes

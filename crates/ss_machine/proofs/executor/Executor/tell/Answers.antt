@@ -1,4 +1,4 @@
-use Rattle.std.proofs.Common.{◌≡◌, ◌<◌, ◌+◌, [], ◌∷◌, length, drop, arith, rules, refl, ap, sym, ◌∙◌, Ok, Err, w64, FitsSigned, to_z, of_z}
+use Rattle.std.proofs.Common.{◌≡◌, ◌+◌, [], ◌∷◌, length, drop, arith, rules, refl, ap, sym, ◌∙◌, Ok, Err, w64, FitsSigned, to_z, of_z}
 use Rattle.std.proofs.lemmas.Int.{to_z-of_z}
 use Rattle.ss_words.specs.declared.fault.RunFault.{RunFault}
 use Rattle.ss_machine.specs.Seen.{scope_held}
@@ -22,8 +22,8 @@ assign_target-requires-clause-target g c =
     let i = c.loop-telling.telling-index in
     let here : c.deref-telling-items.result.now ≡ xs = search rules in
     telling_target (scope_held c.loop-telling.self.held) xs i c.telling-item.result
-    (drop_at i xs _ c.telling-item.result c.loop-telling-test.true here c.telling-item.is)
-    c.loop-telling.invariant.sound
+    (drop_at i xs c.deref-telling-items.result.now c.telling-item.result c.loop-telling-test.true here
+    c.telling-item.is) c.loop-telling.invariant.sound
 
 pub assign_target-requires-clause-room : goal.assign_target-requires-clause-room
 assign_target-requires-clause-room g c =
@@ -42,7 +42,8 @@ loop-telling-preserved g c =
     let i = c.loop-telling.telling-index in
     let x = c.telling-item.result in
     let here : c.deref-telling-items.result.now ≡ xs = search rules in
-    let d : drop i xs ≡ x ∷ drop (i + 1) xs = drop_at i xs _ x c.loop-telling-test.true here c.telling-item.is in
+    let d : drop i xs ≡ x ∷ drop (i + 1) xs =
+    drop_at i xs c.deref-telling-items.result.now x c.loop-telling-test.true here c.telling-item.is in
     let fits : FitsSigned w64 c.statistic_value.result = search rules in
     let a : to_z w64 (of_z w64 c.statistic_value.result) ≡ c.statistic_value.result = to_z-of_z w64 _ fits in
     let u = c.loop-telling.invariant in
@@ -53,7 +54,10 @@ loop-telling-preserved g c =
       tables = c.assign_target.ensures.tables ∙ u.tables;
       state =
           telling_more c.args.self.now.held.beside.tables c.loop-telling.self.held.beside.tables c.args.statistics
-          c.loop-telling.self.held.state c.assign_target.new.self.held.state xs i x _ _ d u.tables
+          c.loop-telling.self.held.state c.assign_target.new.self.held.state xs i x
+          (to_z w64 (of_z w64 c.statistic_value.result))
+          (state_after_telling c.args.self.now.held.beside.tables c.args.statistics c.args.self.now.held.state
+          c.args.tellings.now) d u.tables
           (a ∙ c.statistic_value.ensures) c.in_ok-assign_target.ensures.ok u.state;
       notes =
           notes_both i 1 (i + 1) c.args.self.now c.loop-telling.self c.assign_target.new.self u.notes
@@ -67,13 +71,16 @@ returns-in_err-assign_target-clause-err g c =
     let i = c.loop-telling.telling-index in
     let x = c.telling-item.result in
     let here : c.deref-telling-items.result.now ≡ xs = search rules in
-    let d : drop i xs ≡ x ∷ drop (i + 1) xs = drop_at i xs _ x c.loop-telling-test.true here c.telling-item.is in
+    let d : drop i xs ≡ x ∷ drop (i + 1) xs =
+    drop_at i xs c.deref-telling-items.result.now x c.loop-telling-test.true here c.telling-item.is in
     let fits : FitsSigned w64 c.statistic_value.result = search rules in
     let a : to_z w64 (of_z w64 c.statistic_value.result) ≡ c.statistic_value.result = to_z-of_z w64 _ fits in
     let r : c.from_residual.result ≡ Err e = search rules in
     rw r
     (telling_fails c.args.self.now.held.beside.tables c.loop-telling.self.held.beside.tables c.args.statistics
-    c.loop-telling.self.held.state xs i x _ e _ d c.loop-telling.invariant.tables (a ∙ c.statistic_value.ensures)
+    c.loop-telling.self.held.state xs i x (to_z w64 (of_z w64 c.statistic_value.result)) e
+    (state_after_telling c.args.self.now.held.beside.tables c.args.statistics c.args.self.now.held.state
+    c.args.tellings.now) d c.loop-telling.invariant.tables (a ∙ c.statistic_value.ensures)
     c.in_err-assign_target.ensures.err c.loop-telling.invariant.state)
 
 pub returns-in_err-assign_target-clause-notes : goal.returns-in_err-assign_target-clause-notes
@@ -81,7 +88,8 @@ returns-in_err-assign_target-clause-notes g c =
     let i = c.loop-telling.telling-index in
     let here : c.deref-telling-items.result.now ≡ c.args.tellings.now = search rules in
     notes_both i 1 (length c.args.tellings.now) c.args.self.now c.loop-telling.self c.assign_target.new.self
-    c.loop-telling.invariant.notes c.assign_target.ensures.notes (omega (arith, ap length here, c.loop-telling-test.true))
+    c.loop-telling.invariant.notes c.assign_target.ensures.notes
+    (omega (arith, ap length here, c.loop-telling-test.true))
 
 pub returns-clause-ok : goal.returns-clause-ok
 returns-clause-ok g c =
