@@ -1,5 +1,5 @@
 //! Random calls on an agenda beside a plain list, and calls that are refused memory.
-ghost use Rattle.std.specs.Prelude.{◌≡◌, ◌<◌, ◌≤◌, [], length, map, IfOk, ◌<ℤ◌, pos};
+ghost use Rattle.std.specs.Prelude.{◌≡◌, ◌≤◌, [], length, map, IfOk};
 ghost use Rattle.ss_journal.specs.Undoing.{FitsSteps};
 ghost use Rattle.ss_events.specs.Changes.{Fits, unapply};
 ghost use Rattle.ss_events.specs.State.{AreRanked};
@@ -290,11 +290,9 @@ fn back<S: SetBoard>(agenda: &mut Agenda<S>, journal: &mut Journal<AgendaChange>
 }
 
 impl Dice {
-    fn notice(&mut self, clock: i64, filing: u64) -> Plain
-        requires { clock <ℤ pos 1000 }
-    {
-        let notice = self.below(200) as u32 + 1;
-        let time = clock + self.below(6) as i64;
+    fn notice(&mut self, clock: i64, filing: u64) -> Plain {
+        let notice = (self.below(200) as u32).wrapping_add(1);
+        let time = clock.wrapping_add(self.below(6) as i64);
         let class = self.below(4) as usize;
         let keys = [self.below(3) as i64, self.below(3) as i64];
         Plain {
@@ -442,7 +440,6 @@ fn turn<S: SetBoard>(
     dice: &mut Dice,
     number: u64,
 ) -> Result<(), AllocError>
-    requires few { number < 1000 }
     requires closed { journal.old.current ≡ [] }
     requires fits { FitsSteps Fits unapply journal.old.steps agenda.old }
     ensures closed { journal.new.current ≡ [] }
