@@ -9,3 +9,4 @@ pub mod Walks
 pub mod Starts
 pub mod Entries
 pub mod Forgets
+pub mod Classes

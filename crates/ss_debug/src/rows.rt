@@ -34,6 +34,15 @@ pub fn class_name(program: &Program, class: usize) -> &[u8]
     &program.classes[class].name.bytes
 }
 
+/// The number of the variable of the class with this number.
+#[tactic(auto, using(crate::proofs::Tables::row_at))]
+pub fn class_variable(program: &Program, class: usize) -> usize
+    requires { class < length program.now.classes }
+    ensures { result ≡ (class_of program.now class).variable }
+{
+    program.classes[class].variable
+}
+
 /// The name of the set with this number.
 #[tactic(auto, using(crate::proofs::Tables::row_at))]
 pub fn set_name(program: &Program, set: usize) -> &[u8]

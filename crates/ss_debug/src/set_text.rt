@@ -11,7 +11,7 @@ ghost use Rattle.ss_debug.specs.Entities.{owned_list_text, list_text, owner_or_v
 
 use crate::entity_text::no_entity_text;
 use crate::name::Name;
-use crate::rows::{class_name, find_set, set_owner};
+use crate::rows::{class_name, class_variable, find_set, set_owner};
 use crate::text::{push_integer, push_number};
 use ss_check::{Owner, Variable};
 use ss_links::SetBoard;
@@ -123,7 +123,7 @@ fn class_value<S: SetBoard>(machine: &Machine<S>, class: usize) -> i64
     machine.known();
     let program = machine.program();
     program.known();
-    machine.variable(Variable::Global(program.classes[class].variable))
+    machine.variable(Variable::Global(class_variable(program, class)))
 }
 
 /// The list of a set of the system, which has no owner's number.
