@@ -68,9 +68,17 @@ fn equation(cursor: &mut Cursor<'_>, room: u32) -> Result<(Reference, Expr), Ref
     ensures shorter { length cursor.new ≤ length cursor.old }
 {
     let target = reference(cursor, room)?;
-    cursor.expect(Mark::Sign(Sign::Equal))?;
-    let value = expression(cursor, room)?;
-    Ok((target, value))
+    if let Err(refusal) = cursor.expect(Mark::Sign(Sign::Equal)) {
+        drop(target);
+        return Err(refusal);
+    }
+    match expression(cursor, room) {
+        Ok(value) => Ok((target, value)),
+        Err(refusal) => {
+            drop(target);
+            Err(refusal)
+        }
+    }
 }
 
 /// `expression mark reference`
@@ -80,9 +88,17 @@ pub fn moved(cursor: &mut Cursor<'_>, mark: Mark, room: u32) -> Result<(Expr, Re
     ensures shorter { length cursor.new ≤ length cursor.old }
 {
     let value = expression(cursor, room)?;
-    cursor.expect(mark)?;
-    let target = reference(cursor, room)?;
-    Ok((value, target))
+    if let Err(refusal) = cursor.expect(mark) {
+        drop(value);
+        return Err(refusal);
+    }
+    match reference(cursor, room) {
+        Ok(target) => Ok((value, target)),
+        Err(refusal) => {
+            drop(value);
+            Err(refusal)
+        }
+    }
 }
 
 /// CREATE EVERY, CREATE or DESTROY, if one stands here.

@@ -35,8 +35,13 @@ fn several_computed(cursor: &mut Cursor<'_>, room: u32) -> Result<Several<Comput
     ensures shorter { length cursor.new ≤ length cursor.old }
 {
     let first = computed(cursor, room)?;
-    let others = other_computed(cursor, room)?;
-    Ok(Several { first, others })
+    match other_computed(cursor, room) {
+        Ok(others) => Ok(Several { first, others }),
+        Err(refusal) => {
+            drop(first);
+            Err(refusal)
+        }
+    }
 }
 
 /// `{"," computed}`

@@ -4,10 +4,11 @@
 ghost use Rattle.std.specs.Prelude.{IfSome, IfOk, length, ◌≡◌, ◌≤◌, ◌<◌, Ok, None};
 ghost use Rattle.ss_words.specs.declared.mark.Mark.TheVariants as m;
 ghost use Rattle.ss_words.specs.declared.reserved.Reserved.TheVariants as r;
-ghost use Rattle.ss_words.specs.Reading.{Gives, option_view};
+ghost use Rattle.ss_words.specs.Reading.{Gives, option_view, bind, pure};
 ghost use Rattle.ss_grammar.specs.Combined.{by_table, if_open, if_mark, star};
 ghost use Rattle.ss_grammar.specs.ConditionReading as reading;
 ghost use Rattle.ss_grammar.specs.Expr as tree;
+ghost use Rattle.ss_grammar.specs.ExprReading.{rest_with};
 ghost use Rattle.ss_grammar.specs.OrValueView.{or_value_view};
 ghost use Rattle.ss_grammar.specs.PartView.{relations_view, conjunctions_view};
 ghost use Rattle.ss_grammar.specs.View.{expr_view, application_view, factor_view, reference_view};
@@ -77,6 +78,31 @@ fn copula(cursor: &mut Cursor<'_>) -> Copula
         Copula::IsNot
     } else {
         Copula::Is
+    }
+}
+
+/// The expression that one in parentheses begins, behind it.
+#[tactic(auto, unfolding(crate::proofs::Unfoldings::steps))]
+fn behind_inner(cursor: &mut Cursor<'_>, inner: Expr, room: u32) -> Result<Expr, Refusal>
+    ensures exact { Gives expr_view result cursor.new (bind (rest_with room) (λ z. pure
+        (tree.expr None (tree.term (tree.within (expr_view inner)) (tree.products_of z.0)) (tree.sums_of z.1)))
+        cursor.old) }
+    ensures shorter { length cursor.new ≤ length cursor.old }
+{
+    let inner = Factor::Within(Box::new(cursor.alloc(), inner)?);
+    match rest(cursor, room) {
+        Ok((factors, terms)) => Ok(Expr {
+            sign: None,
+            first: Term {
+                first: inner,
+                more: factors,
+            },
+            more: terms,
+        }),
+        Err(refusal) => {
+            drop(inner);
+            Err(refusal)
+        }
     }
 }
 
@@ -150,18 +176,28 @@ fn of_set(
     ensures shorter { length cursor.new ≤ length cursor.old }
 {
     if cursor.eat(Mark::Reserved(Reserved::In)) {
-        let set = reference(cursor, room)?;
-        return Ok(Relation::Member {
-            member: value,
-            copula,
-            set,
-        });
+        return match reference(cursor, room) {
+            Ok(set) => Ok(Relation::Member {
+                member: value,
+                copula,
+                set,
+            }),
+            Err(refusal) => {
+                drop(value);
+                Err(refusal)
+            }
+        };
     }
     let Some(set) = as_reference(value) else {
         return Err(Refusal::Unexpected);
     };
-    cursor.expect(Mark::Reserved(Reserved::Empty))?;
-    Ok(Relation::Empty { set, copula })
+    match cursor.expect(Mark::Reserved(Reserved::Empty)) {
+        Ok(()) => Ok(Relation::Empty { set, copula }),
+        Err(refusal) => {
+            drop(set);
+            Err(refusal)
+        }
+    }
 }
 
 /// Behind a value: a comparison and a value, IS, or nothing of a relation.
@@ -176,12 +212,17 @@ fn behind_value(
     ensures shorter { length cursor.new ≤ length cursor.old }
 {
     if let Some(comparison) = comparison(cursor) {
-        let right = expression(cursor, room)?;
-        return Ok(OrValue::Other(Relation::Compared {
-            left: value,
-            comparison,
-            right,
-        }));
+        return match expression(cursor, room) {
+            Ok(right) => Ok(OrValue::Other(Relation::Compared {
+                left: value,
+                comparison,
+                right,
+            })),
+            Err(refusal) => {
+                drop(value);
+                Err(refusal)
+            }
+        };
     }
     if !cursor.eat(Mark::Reserved(Reserved::Is)) {
         return Ok(OrValue::Value(value));
@@ -201,8 +242,13 @@ fn either(cursor: &mut Cursor<'_>, room: u32) -> Result<OrValue<Condition>, Refu
     match conjoined(cursor, room)? {
         OrValue::Value(value) => Ok(OrValue::Value(value)),
         OrValue::Other(first) => {
-            let more = alternatives(cursor, room)?;
-            Ok(OrValue::Other(Condition { first, more }))
+            match alternatives(cursor, room) {
+                Ok(more) => Ok(OrValue::Other(Condition { first, more })),
+                Err(refusal) => {
+                    drop(first);
+                    Err(refusal)
+                }
+            }
         }
     }
 }
@@ -261,8 +307,13 @@ fn conjoined(cursor: &mut Cursor<'_>, room: u32) -> Result<OrValue<Conjunction>,
     match value(cursor, room)? {
         OrValue::Value(value) => Ok(OrValue::Value(value)),
         OrValue::Other(first) => {
-            let more = additions(cursor, room)?;
-            Ok(OrValue::Other(Conjunction { first, more }))
+            match additions(cursor, room) {
+                Ok(more) => Ok(OrValue::Other(Conjunction { first, more })),
+                Err(refusal) => {
+                    drop(first);
+                    Err(refusal)
+                }
+            }
         }
     }
 }
@@ -323,17 +374,8 @@ fn value(cursor: &mut Cursor<'_>, room: u32) -> Result<OrValue<Relation>, Refusa
             let value = expression(cursor, room)?;
             behind_value(cursor, value, room)
         }
-        Some(OrValue::Value(value)) => {
-            let (factors, terms) = rest(cursor, room)?;
-            let first = Factor::Within(Box::new(cursor.alloc(), value)?);
-            let value = Expr {
-                sign: None,
-                first: Term {
-                    first,
-                    more: factors,
-                },
-                more: terms,
-            };
+        Some(OrValue::Value(inner)) => {
+            let value = behind_inner(cursor, inner, room)?;
             behind_value(cursor, value, room)
         }
         Some(OrValue::Other(condition)) => {
@@ -355,8 +397,13 @@ fn within(cursor: &mut Cursor<'_>, room: u32) -> Result<Option<OrValue<Condition
         return Ok(None);
     }
     let inner = inner(cursor, room)?;
-    cursor.expect(Mark::Sign(Sign::Close))?;
-    Ok(Some(inner))
+    match cursor.expect(Mark::Sign(Sign::Close)) {
+        Ok(()) => Ok(Some(inner)),
+        Err(refusal) => {
+            drop(inner);
+            Err(refusal)
+        }
+    }
 }
 
 /// An expression or a condition in one more parenthesis.

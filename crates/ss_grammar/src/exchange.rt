@@ -27,8 +27,13 @@ fn print(cursor: &mut Cursor<'_>, room: u32) -> Result<(u64, Vec<Expr>, Vec<Vec<
     let count = cursor.number()?;
     cursor.expect(Mark::Reserved(Reserved::Lines))?;
     let values = printed_values(cursor, room)?;
-    let picture = cursor.picture()?;
-    Ok((count, values, picture))
+    match cursor.picture() {
+        Ok(picture) => Ok((count, values, picture)),
+        Err(refusal) => {
+            drop(values);
+            Err(refusal)
+        }
+    }
 }
 
 /// `[WITH values] THUS`
@@ -39,8 +44,13 @@ fn printed_values(cursor: &mut Cursor<'_>, room: u32) -> Result<Vec<Expr>, Refus
     ensures shorter { length cursor.new ≤ length cursor.old }
 {
     let values = expressions_behind(cursor, Mark::Reserved(Reserved::With), room)?;
-    cursor.expect(Mark::Reserved(Reserved::Thus))?;
-    Ok(values)
+    match cursor.expect(Mark::Reserved(Reserved::Thus)) {
+        Ok(()) => Ok(values),
+        Err(refusal) => {
+            drop(values);
+            Err(refusal)
+        }
+    }
 }
 
 /// READ, PRINT or SKIP, if one stands here.

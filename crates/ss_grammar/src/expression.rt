@@ -82,8 +82,13 @@ pub fn rest(cursor: &mut Cursor<'_>, room: u32) -> Result<(Vec<Factor>, Vec<Adde
     ensures shorter { length cursor.new ≤ length cursor.old }
 {
     let factors = products(cursor, room)?;
-    let terms = sums(cursor, room)?;
-    Ok((factors, terms))
+    match sums(cursor, room) {
+        Ok(terms) => Ok((factors, terms)),
+        Err(refusal) => {
+            drop(factors);
+            Err(refusal)
+        }
+    }
 }
 
 /// `expression = ["+" | "-"] term {("+" | "-") term}`
@@ -95,8 +100,13 @@ fn expr(cursor: &mut Cursor<'_>, room: u32) -> Result<Expr, Refusal>
 {
     let sign = lead(cursor);
     let first = term(cursor, room)?;
-    let more = sums(cursor, room)?;
-    Ok(Expr { sign, first, more })
+    match sums(cursor, room) {
+        Ok(more) => Ok(Expr { sign, first, more }),
+        Err(refusal) => {
+            drop(first);
+            Err(refusal)
+        }
+    }
 }
 
 /// `{("+" | "-") term}`
@@ -136,8 +146,13 @@ fn term(cursor: &mut Cursor<'_>, room: u32) -> Result<Term, Refusal>
     ensures shorter { length cursor.new ≤ length cursor.old }
 {
     let first = factor(cursor, room)?;
-    let more = products(cursor, room)?;
-    Ok(Term { first, more })
+    match products(cursor, room) {
+        Ok(more) => Ok(Term { first, more }),
+        Err(refusal) => {
+            drop(first);
+            Err(refusal)
+        }
+    }
 }
 
 /// `{"*" factor}`
@@ -206,8 +221,13 @@ pub fn within(cursor: &mut Cursor<'_>, room: u32) -> Result<Option<Expr>, Refusa
         return Ok(None);
     }
     let value = inner(cursor, room)?;
-    cursor.expect(Mark::Sign(Sign::Close))?;
-    Ok(Some(value))
+    match cursor.expect(Mark::Sign(Sign::Close)) {
+        Ok(()) => Ok(Some(value)),
+        Err(refusal) => {
+            drop(value);
+            Err(refusal)
+        }
+    }
 }
 
 /// Arguments in parentheses, if one opens here.
@@ -222,8 +242,13 @@ pub fn arguments(cursor: &mut Cursor<'_>, room: u32) -> Result<Option<Several<Ex
         return Ok(None);
     }
     let values = inner_values(cursor, room)?;
-    cursor.expect(Mark::Sign(Sign::Close))?;
-    Ok(Some(values))
+    match cursor.expect(Mark::Sign(Sign::Close)) {
+        Ok(()) => Ok(Some(values)),
+        Err(refusal) => {
+            drop(values);
+            Err(refusal)
+        }
+    }
 }
 
 /// `expression {"," expression}` in one more parenthesis.
@@ -234,8 +259,13 @@ fn inner_values(cursor: &mut Cursor<'_>, room: u32) -> Result<Several<Expr>, Ref
     ensures shorter { length cursor.new ≤ length cursor.old }
 {
     let first = inner(cursor, room)?;
-    let others = inner_others(cursor, room)?;
-    Ok(Several { first, others })
+    match inner_others(cursor, room) {
+        Ok(others) => Ok(Several { first, others }),
+        Err(refusal) => {
+            drop(first);
+            Err(refusal)
+        }
+    }
 }
 
 /// `{"," expression}` in one more parenthesis.

@@ -26,8 +26,13 @@ pub fn expressions(cursor: &mut Cursor<'_>, room: u32) -> Result<Several<Expr>, 
     ensures shorter { length cursor.new ≤ length cursor.old }
 {
     let first = expression(cursor, room)?;
-    let others = other_expressions(cursor, room)?;
-    Ok(Several { first, others })
+    match other_expressions(cursor, room) {
+        Ok(others) => Ok(Several { first, others }),
+        Err(refusal) => {
+            drop(first);
+            Err(refusal)
+        }
+    }
 }
 
 /// `{"," expression}`
@@ -63,8 +68,13 @@ pub fn references(cursor: &mut Cursor<'_>, room: u32) -> Result<Several<Referenc
     ensures shorter { length cursor.new ≤ length cursor.old }
 {
     let first = reference(cursor, room)?;
-    let others = other_references(cursor, room)?;
-    Ok(Several { first, others })
+    match other_references(cursor, room) {
+        Ok(others) => Ok(Several { first, others }),
+        Err(refusal) => {
+            drop(first);
+            Err(refusal)
+        }
+    }
 }
 
 /// `{"," reference}`

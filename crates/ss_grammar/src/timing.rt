@@ -31,12 +31,22 @@ fn details(cursor: &mut Cursor<'_>, room: u32) -> Result<Details, Refusal>
     ensures shorter { length cursor.new ≤ length cursor.old }
 {
     if let Some(values) = arguments(cursor, room)? {
-        let called = called(cursor, room)?;
-        return Ok(Details::ValuesFirst { values, called });
+        return match called(cursor, room) {
+            Ok(called) => Ok(Details::ValuesFirst { values, called }),
+            Err(refusal) => {
+                drop(values);
+                Err(refusal)
+            }
+        };
     }
     let called = called(cursor, room)?;
-    let values = expressions_behind(cursor, Mark::Reserved(Reserved::Given), room)?;
-    Ok(Details::CalledFirst { called, values })
+    match expressions_behind(cursor, Mark::Reserved(Reserved::Given), room) {
+        Ok(values) => Ok(Details::CalledFirst { called, values }),
+        Err(refusal) => {
+            drop(called);
+            Err(refusal)
+        }
+    }
 }
 
 /// `AT expression`, NOW, or `IN expression DAYS`
@@ -53,8 +63,13 @@ fn when(cursor: &mut Cursor<'_>, room: u32) -> Result<When, Refusal>
     }
     cursor.expect(Mark::Reserved(Reserved::In))?;
     let delay = expression(cursor, room)?;
-    cursor.expect(Mark::Reserved(Reserved::Days))?;
-    Ok(When::In(delay))
+    match cursor.expect(Mark::Reserved(Reserved::Days)) {
+        Ok(()) => Ok(When::In(delay)),
+        Err(refusal) => {
+            drop(delay);
+            Err(refusal)
+        }
+    }
 }
 
 /// SCHEDULE, CANCEL or START SIMULATION, if one stands here.
