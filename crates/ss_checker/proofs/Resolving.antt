@@ -1,7 +1,7 @@
 -- The parts of a tree resolved one by one.
-use Rattle.std.proofs.Common.{◌≡◌, ℕ, ◌+◌, ◌<◌, List, [], ◌∷◌, ◌++◌, length, get_or, take, refl, sym, ap, ◌∙◌}
+use Rattle.std.proofs.Common.{◌≡◌, ℕ, ◌+◌, ◌<◌, ◌≤◌, List, [], ◌∷◌, ◌++◌, length, get_or, take, refl, sym, ap, ◌∙◌}
 use Rattle.std.specs.Prelude.{map, Result, Ok, Err, IfOk}
-use Rattle.std.proofs.lemmas.List.{map-append, map_more}
+use Rattle.std.proofs.lemmas.List.{map-append, map_more, take_all}
 use Rattle.ss_words.specs.Lists.{Name}
 use Rattle.ss_grammar.specs.Expr as e
 use Rattle.ss_grammar.specs.Condition as c
@@ -69,3 +69,8 @@ pub shown_put : {X Y A : Type 0} (f : X → A) (g : Y → A) (done : List Y) (y 
 shown_put f g done y xs i x l e same h =
     map-append g done (y ∷ []) ∙ ap (λ z. map g done ++ z ∷ []) (same ∙ ap f e)
     ∙ ap (λ ys. ys ++ f (get_or xs i x) ∷ []) h ∙ sym (map_more f xs i x l)
+
+-- until all are there
+pub shown_all : {X Y A : Type 0} (f : X → A) (g : Y → A) (done : List Y) (xs : List X) (i : ℕ) →
+    length xs ≤ i → map g done ≡ map f (take i xs) → map g done ≡ map f xs
+shown_all f g done xs i l h = h ∙ ap (map f) (take_all i xs l)

@@ -4,8 +4,8 @@ ghost use Rattle.ss_check.specs.ProgramCondition.{condition_of, conjunction_of, 
 ghost use Rattle.ss_checker.specs.Resolved as resolved;
 ghost use Rattle.ss_checker.specs.Scope.{in_scope};
 
-use crate::resolve_expr::resolve_expr;
-use crate::resolve_reference::resolve_set;
+use crate::resolve_expr::resolve_two;
+use crate::resolve_reference::{member_and_set, resolve_set};
 use crate::scope::Scope;
 use ss_check::{Comparison, Condition, Conjunction, Copula, Disjunction, Relation};
 use std::alloc::AllocError;
@@ -90,11 +90,15 @@ fn resolve_relation(scope: Scope<'_>, r: &ss_grammar::Relation) -> Result<Relati
             left,
             comparison,
             right,
-        } => Ok(Relation::Compared {
-            left: resolve_expr(scope, left)?,
-            comparison: resolve_comparison(*comparison),
-            right: resolve_expr(scope, right)?,
-        }),
+        } => {
+            let comparison = resolve_comparison(*comparison);
+            let (left, right) = resolve_two(scope, left, right)?;
+            Ok(Relation::Compared {
+                left,
+                comparison,
+                right,
+            })
+        }
         ss_grammar::Relation::Empty { set, copula } => Ok(Relation::IsEmpty {
             set: resolve_set(scope, set)?,
             copula: resolve_copula(*copula),
@@ -104,10 +108,11 @@ fn resolve_relation(scope: Scope<'_>, r: &ss_grammar::Relation) -> Result<Relati
             copula,
             set,
         } => {
-            let set = resolve_set(scope, set)?;
+            let copula = resolve_copula(*copula);
+            let (member, set) = member_and_set(scope, member, set)?;
             Ok(Relation::IsIn {
-                member: resolve_expr(scope, member)?,
-                copula: resolve_copula(*copula),
+                member,
+                copula,
                 set,
             })
         }

@@ -29,6 +29,27 @@ pub(crate) fn resolve_expr(scope: Scope<'_>, e: &ss_grammar::Expr) -> Result<Exp
     Ok(Expr { sum })
 }
 
+/// Two expressions with the numbers of their names.
+pub(crate) fn resolve_two(
+    scope: Scope<'_>,
+    first: &ss_grammar::Expr,
+    last: &ss_grammar::Expr,
+) -> Result<(Expr, Expr), AllocError>
+    ensures first { IfOk result
+        (λ x. x.0 ≡ in_scope scope.entry resolved.resolved_expr (expr_view first.now)) }
+    ensures last { IfOk result
+        (λ x. x.1 ≡ in_scope scope.entry resolved.resolved_expr (expr_view last.now)) }
+{
+    let first = resolve_expr(scope, first)?;
+    match resolve_expr(scope, last) {
+        Ok(last) => Ok((first, last)),
+        Err(fault) => {
+            drop(first);
+            Err(fault)
+        }
+    }
+}
+
 /// An expression that may be left out.
 pub(crate) fn resolve_option(
     scope: Scope<'_>,
@@ -123,7 +144,6 @@ fn resolve_sum(scope: Scope<'_>, e: &ss_grammar::Expr) -> Result<Sum, AllocError
     ensures { IfOk result
         (λ x. expr_of x ≡ in_scope scope.entry resolved.resolved_expr (expr_view e.now)) }
 {
-    let first = resolve_term(scope, &e.first)?;
     let mut more = Vec::with_capacity(scope.alloc, e.more.len())?;
     for further in &e.more {
         let term = resolve_term(scope, &further.term)?;
@@ -132,6 +152,7 @@ fn resolve_sum(scope: Scope<'_>, e: &ss_grammar::Expr) -> Result<Sum, AllocError
             term,
         })?;
     }
+    let first = resolve_term(scope, &e.first)?;
     Ok(Sum {
         sign: e.sign,
         first,
@@ -176,12 +197,12 @@ fn resolve_application(scope: Scope<'_>, a: &ss_grammar::Application) -> Result<
     ensures { IfOk result
         (λ x. factor_of x ≡ in_scope scope.entry resolved.resolved_factor (application_view a.now)) }
 {
-    let first = resolve_sum(scope, &a.first)?;
-    let first = Box::new(scope.alloc, first)?;
     let mut more = Vec::with_capacity(scope.alloc, a.others.len())?;
     for other in &a.others {
         more.push(resolve_sum(scope, other)?)?;
     }
+    let first = resolve_sum(scope, &a.first)?;
+    let first = Box::new(scope.alloc, first)?;
     let name = a.name.bytes();
     applied_factor(scope, kind(scope, name), name, Arguments { first, more })
 }

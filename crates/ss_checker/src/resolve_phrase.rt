@@ -6,12 +6,12 @@ ghost use Rattle.ss_checker.specs.Resolved as resolved;
 ghost use Rattle.ss_checker.specs.Scope.{in_scope};
 
 use crate::resolve_condition::resolve_condition;
-use crate::resolve_expr::{resolve_expr, resolve_option};
+use crate::resolve_expr::{resolve_expr, resolve_option, resolve_two};
 use crate::resolve_reference::{resolve_set, resolve_target};
 use crate::scope::{Scope, class_variable, resolve_variable};
 use ss_check::{
-    Begin, Boxed, Direction, Expr, ForPhrase, Looping, Phrase, Qualifier, QualifierWord,
-    Qualifiers, Statistic, Telling, Tellings, Variable,
+    Begin, Boxed, Direction, ForPhrase, Looping, Phrase, Qualifier, QualifierWord, Qualifiers,
+    Statistic, Telling, Tellings, Variable,
 };
 use ss_grammar::{Computed, Loop, Range, WalkStart};
 use ss_words::{Name, Several};
@@ -62,7 +62,7 @@ fn resolve_range(scope: Scope<'_>, range: &Range) -> Result<Phrase, AllocError>
             last,
             step,
         } => {
-            let (first, last) = resolve_bounds(scope, first, last)?;
+            let (first, last) = resolve_two(scope, first, last)?;
             match resolve_option(scope, step) {
                 Ok(step) => Ok(Phrase::Counting {
                     direction: resolve_direction(*direction),
@@ -103,27 +103,6 @@ fn resolve_range(scope: Scope<'_>, range: &Range) -> Result<Phrase, AllocError>
                     Err(fault)
                 }
             }
-        }
-    }
-}
-
-/// The values that a FOR phrase counts from and to.
-fn resolve_bounds(
-    scope: Scope<'_>,
-    first: &ss_grammar::Expr,
-    last: &ss_grammar::Expr,
-) -> Result<(Expr, Expr), AllocError>
-    ensures first { IfOk result
-        (λ x. x.0 ≡ in_scope scope.entry resolved.resolved_expr (view.expr_view first.now)) }
-    ensures last { IfOk result
-        (λ x. x.1 ≡ in_scope scope.entry resolved.resolved_expr (view.expr_view last.now)) }
-{
-    let first = resolve_expr(scope, first)?;
-    match resolve_expr(scope, last) {
-        Ok(last) => Ok((first, last)),
-        Err(fault) => {
-            drop(first);
-            Err(fault)
         }
     }
 }

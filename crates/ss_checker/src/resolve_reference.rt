@@ -1,14 +1,14 @@
 ghost use Rattle.std.specs.Prelude.{◌≡◌, ◌++◌, map, option_map, IfOk, OnOk};
 ghost use Rattle.ss_words.specs.Lists.{all_of, several_view};
 ghost use Rattle.ss_words.specs.Reading.{option_view};
-ghost use Rattle.ss_grammar.specs.View.{reference_view};
+ghost use Rattle.ss_grammar.specs.View.{expr_view, reference_view};
 ghost use Rattle.ss_check.specs.ProgramExpr.{expr_of, factor_of, subscript_of};
 ghost use Rattle.ss_checker.specs.Resolved as resolved;
 ghost use Rattle.ss_checker.specs.ResolvedNames as names;
 ghost use Rattle.ss_checker.specs.Scope.{in_scope};
 
 use crate::name_kind::NameKind;
-use crate::resolve_expr::{applied_factor, plain_factor, resolve_subscript};
+use crate::resolve_expr::{applied_factor, plain_factor, resolve_expr, resolve_subscript};
 use crate::scope::{Scope, class_subscript, class_variable, kind, owner_subscript, variable_of};
 use ss_check::{Arguments, Expr, Factor, Index, SetRef, Subscript, Sum, Target, Targets, Term};
 use ss_grammar::Reference;
@@ -151,6 +151,27 @@ pub(crate) fn resolve_set(scope: Scope<'_>, r: &Reference) -> Result<SetRef, All
         set: scope.names.set(name),
         owner: resolve_index(scope.alloc, subscript)?,
     })
+}
+
+/// A value that is or becomes a member of a set, and the set.
+pub(crate) fn member_and_set(
+    scope: Scope<'_>,
+    member: &ss_grammar::Expr,
+    set: &Reference,
+) -> Result<(Expr, SetRef), AllocError>
+    ensures member { IfOk result
+        (λ x. x.0 ≡ in_scope scope.entry resolved.resolved_expr (expr_view member.now)) }
+    ensures set { IfOk result
+        (λ x. x.1 ≡ in_scope scope.entry resolved.resolved_set (reference_view set.now)) }
+{
+    let set = resolve_set(scope, set)?;
+    match resolve_expr(scope, member) {
+        Ok(member) => Ok((member, set)),
+        Err(fault) => {
+            drop(set);
+            Err(fault)
+        }
+    }
 }
 
 /// The target behind CALLED, else the variable of the class's name.

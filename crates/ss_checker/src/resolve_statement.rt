@@ -12,13 +12,13 @@ use crate::resolve_expr::{
     resolve_expr, resolve_listed, resolve_option, resolve_several, resolve_values,
 };
 use crate::resolve_reference::{
-    called_target, called_value, resolve_set, resolve_several_targets, resolve_target,
-    resolve_targets,
+    called_target, called_value, member_and_set, resolve_set, resolve_several_targets,
+    resolve_target, resolve_targets,
 };
 use crate::scope::Scope;
 use ss_check::{
     Assign, Boxed, Call, Control, End, Expr, Filing, Listing, Making, Notice, Output, Place,
-    Position, Schedule, Target, Timing, When,
+    Position, Schedule, SetRef, Target, Timing, When,
 };
 use ss_grammar::{Article, Details, Exchange, FilePlace, Reference, SetEnd, Simple, Transfer};
 use ss_report::{Picture, PictureFault};
@@ -153,36 +153,54 @@ fn resolve_filing(scope: Scope<'_>, filing: &ss_grammar::Filing) -> Result<Filin
 {
     match filing {
         ss_grammar::Filing::File { member, place, set } => {
-            let set = resolve_set(scope, set)?;
-            let member = resolve_expr(scope, member)?;
-            Ok(Filing::File {
-                member,
-                position: resolve_position(scope, place)?,
-                set,
-            })
+            let (member, set) = member_and_set(scope, member, set)?;
+            match resolve_position(scope, place) {
+                Ok(position) => Ok(Filing::File {
+                    member,
+                    position,
+                    set,
+                }),
+                Err(fault) => {
+                    drop(member);
+                    drop(set);
+                    Err(fault)
+                }
+            }
         }
         ss_grammar::Filing::FileAt { end, member, set } => {
-            let set = resolve_set(scope, set)?;
-            Ok(Filing::FileAt {
-                end: resolve_end(*end),
-                member: resolve_expr(scope, member)?,
-                set,
-            })
+            let end = resolve_end(*end);
+            let (member, set) = member_and_set(scope, member, set)?;
+            Ok(Filing::FileAt { end, member, set })
         }
         ss_grammar::Filing::RemoveEnd { end, target, set } => {
-            let set = resolve_set(scope, set)?;
-            Ok(Filing::RemoveAt {
-                end: resolve_end(*end),
-                target: resolve_target(scope, target)?,
-                set,
-            })
+            let end = resolve_end(*end);
+            let (target, set) = target_and_set(scope, target, set)?;
+            Ok(Filing::RemoveAt { end, target, set })
         }
         ss_grammar::Filing::Remove { member, set } => {
-            let set = resolve_set(scope, set)?;
-            Ok(Filing::Remove {
-                member: resolve_expr(scope, member)?,
-                set,
-            })
+            let (member, set) = member_and_set(scope, member, set)?;
+            Ok(Filing::Remove { member, set })
+        }
+    }
+}
+
+/// What is taken out of a set as a target, and the set.
+fn target_and_set(
+    scope: Scope<'_>,
+    target: &Reference,
+    set: &Reference,
+) -> Result<(Target, SetRef), AllocError>
+    ensures target { IfOk result
+        (λ x. x.0 ≡ in_scope scope.entry resolved.resolved_target (view.reference_view target.now)) }
+    ensures set { IfOk result
+        (λ x. x.1 ≡ in_scope scope.entry resolved.resolved_set (view.reference_view set.now)) }
+{
+    let set = resolve_set(scope, set)?;
+    match resolve_target(scope, target) {
+        Ok(target) => Ok((target, set)),
+        Err(fault) => {
+            drop(set);
+            Err(fault)
         }
     }
 }
@@ -259,21 +277,50 @@ fn resolve_schedule(
             (
                 Listing::InParentheses,
                 called,
-                resolve_several(scope, values)?,
+                resolve_several(scope, values),
             )
         }
         Details::CalledFirst { called, values } => {
-            (Listing::Given, called, resolve_values(scope, values)?)
+            (Listing::Given, called, resolve_values(scope, values))
         }
     };
+    let arguments = arguments?;
+    match notice_and_time(scope, article, event, called, when) {
+        Ok((notice, when)) => Ok(Timing::Schedule(Schedule {
+            class: scope.names.class(event),
+            notice,
+            listing,
+            arguments,
+            when,
+        })),
+        Err(fault) => {
+            drop(arguments);
+            Err(fault)
+        }
+    }
+}
+
+/// The notice that is scheduled, and when.
+fn notice_and_time(
+    scope: Scope<'_>,
+    article: Article,
+    event: &[u8],
+    called: &Option<Reference>,
+    when: &ss_grammar::When,
+) -> Result<(Notice, When), AllocError>
+    ensures notice { IfOk result (λ x. x.0 ≡ in_scope scope.entry resolved.resolved_notice article event.now
+        (option_view view.reference_view called.now)) }
+    ensures when { IfOk result
+        (λ x. x.1 ≡ in_scope scope.entry resolved.resolved_when (view.when_view when.now)) }
+{
     let when = resolve_when(scope, when)?;
-    Ok(Timing::Schedule(Schedule {
-        class: scope.names.class(event),
-        notice: resolve_notice(scope, article, event, called)?,
-        listing,
-        arguments,
-        when,
-    }))
+    match resolve_notice(scope, article, event, called) {
+        Ok(notice) => Ok((notice, when)),
+        Err(fault) => {
+            drop(when);
+            Err(fault)
+        }
+    }
 }
 
 fn resolve_timing(scope: Scope<'_>, timing: &ss_grammar::Timing) -> Result<Timing, AllocError>

@@ -1,6 +1,5 @@
-use Rattle.std.proofs.Common.{◌≡◌, ap, ◌∙◌, refl, arith}
+use Rattle.std.proofs.Common.{◌≡◌, ap, ◌∙◌, refl}
 use Rattle.std.specs.Prelude.{map}
-use Rattle.std.proofs.lemmas.Grind.{common_steps}
 use Rattle.ss_grammar.specs.declared.condition.Condition.{out-Condition}
 use Rattle.ss_grammar.specs.declared.condition.Conjunction.{out-Conjunction}
 use Rattle.ss_grammar.specs.declared.condition.Relation.TheFolds.{fold_out-Condition, fold_out-Conjunction}
@@ -11,15 +10,36 @@ use Rattle.ss_grammar.specs.View as written
 use Rattle.ss_check.specs.ProgramCondition as checked
 use Rattle.ss_checker.specs.Resolved.{resolved_conjunction, resolved_relation, resolved_alternatives, resolved_additions}
 use Rattle.ss_checker.specs.Scope.{in_scope}
-use Rattle.ss_checker.proofs.Resolving.{alternatives_map, additions_map}
+use Rattle.ss_checker.proofs.Resolving.{alternatives_map, additions_map, shown_all, shown_put}
 use Rattle.ss_checker.proofs.resolve_condition.+resolve.Goals as goal
+
+pub resolve_disjunction-loop-further-preserved : goal.resolve_disjunction-loop-further-preserved
+resolve_disjunction-loop-further-preserved t c =
+    rw c.in_ok-push.ensures.items
+    (shown_put (λ a. in_scope c.args.scope resolved_conjunction (written.conjunction_view a)) checked.conjunction_of
+    c.loop-further.more.items c.in_ok-resolve_conjunction.field-0 c.deref-further-items.result.now
+    c.loop-further.further-index c.further-item.result c.loop-further-test.true c.further-item.is
+    c.in_ok-resolve_conjunction.ensures c.loop-further.invariant)
+
+pub resolve_conjunction-loop-further-preserved : goal.resolve_conjunction-loop-further-preserved
+resolve_conjunction-loop-further-preserved t c =
+    rw c.in_ok-push.ensures.items
+    (shown_put (λ a. in_scope c.args.scope resolved_relation (written.relation_view a)) checked.relation_of
+    c.loop-further.more.items c.in_ok-resolve_relation.field-0 c.deref-further-items.result.now
+    c.loop-further.further-index c.further-item.result c.loop-further-test.true c.further-item.is
+    c.in_ok-resolve_relation.ensures c.loop-further.invariant)
 
 pub resolve_disjunction-returns : goal.resolve_disjunction-returns
 resolve_disjunction-returns t c =
     let s = c.args.scope in
     let parts = (out-Condition c.args.c.now).more.items in
     let all : map checked.conjunction_of c.loop-further.more.items
-    ≡ map (λ a. in_scope s resolved_conjunction (written.conjunction_view a)) parts = grind (arith, common_steps) in
+    ≡ map (λ a. in_scope s resolved_conjunction (written.conjunction_view a)) parts
+    = shown_all (λ a. in_scope s resolved_conjunction (written.conjunction_view a)) checked.conjunction_of
+    c.loop-further.more.items c.deref-further-items.result.now c.loop-further.further-index c.loop-further-test.false
+    c.loop-further.invariant
+    ∙ ap (map (λ a. in_scope s resolved_conjunction (written.conjunction_view a)))
+    c.deref-further-items.ensures.value in
     let others : checked.conjunctions_of (map checked.conjunction_of c.loop-further.more.items)
     ≡ in_scope s resolved_alternatives (alternatives_of (map written.conjunction_view parts))
     = ap checked.conjunctions_of all
@@ -38,7 +58,11 @@ resolve_conjunction-returns t c =
     let s = c.args.scope in
     let parts = (out-Conjunction c.args.c.now).more.items in
     let all : map checked.relation_of c.loop-further.more.items
-    ≡ map (λ a. in_scope s resolved_relation (written.relation_view a)) parts = grind (arith, common_steps) in
+    ≡ map (λ a. in_scope s resolved_relation (written.relation_view a)) parts
+    = shown_all (λ a. in_scope s resolved_relation (written.relation_view a)) checked.relation_of
+    c.loop-further.more.items c.deref-further-items.result.now c.loop-further.further-index c.loop-further-test.false
+    c.loop-further.invariant
+    ∙ ap (map (λ a. in_scope s resolved_relation (written.relation_view a))) c.deref-further-items.ensures.value in
     let others : checked.relations_of (map checked.relation_of c.loop-further.more.items)
     ≡ in_scope s resolved_additions (additions_of (map written.relation_view parts))
     = ap checked.relations_of all

@@ -1,19 +1,19 @@
-use Rattle.std.proofs.Common.{◌≡◌, ap, ◌∙◌, refl, arith, rules, ℕ}
+use Rattle.std.proofs.Common.{◌≡◌, ap, ◌∙◌, refl, rules, ℕ}
 use Rattle.std.specs.Prelude.{map, option_map}
-use Rattle.std.proofs.lemmas.Grind.{common_steps}
 use Rattle.ss_grammar.specs.declared.expr.Expr.{out-Expr}
 use Rattle.ss_grammar.specs.declared.expr.Term.{out-Term}
 use Rattle.ss_grammar.specs.declared.expr.Application.{out-Application}
-use Rattle.ss_grammar.specs.declared.expr.Factor.TheFolds.{fold_out-Application, fold_out-Expr, fold_out-Term}
+use Rattle.ss_grammar.specs.declared.expr.Factor.TheFolds.{fold_out-Added, fold_out-Application, fold_out-Expr, fold_out-Term}
 use Rattle.ss_words.specs.declared.term_sign.TermSign.{TermSign}
-use Rattle.ss_check.specs.declared.sum.Factor.TheFolds.{fold-roll-Arguments, fold-roll-Sum, fold-roll-Term}
+use Rattle.ss_check.specs.declared.sum.SignedTerm.{roll-SignedTerm}
+use Rattle.ss_check.specs.declared.sum.Factor.TheFolds.{fold-roll-Arguments, fold-roll-SignedTerm, fold-roll-Sum, fold-roll-Term}
 use Rattle.ss_grammar.specs.Expr as tree
 use Rattle.ss_grammar.specs.View as written
 use Rattle.ss_check.specs.ProgramExpr as checked
 use Rattle.ss_checker.specs.Resolved.{resolved_expr, resolved_exprs, resolved_factor, resolved_products, resolved_sums}
 use Rattle.ss_checker.specs.Declarations.{kind_of}
 use Rattle.ss_checker.specs.Scope.{in_scope}
-use Rattle.ss_checker.proofs.Resolving.{along, shown_put, resolved_signed, exprs_map, products_map, sums_map}
+use Rattle.ss_checker.proofs.Resolving.{along, shown_all, shown_put, resolved_signed, exprs_map, products_map, sums_map}
 use Rattle.ss_checker.proofs.resolve_expr.+resolve.Goals as goal
 
 pub resolve_term-loop-further-preserved : goal.resolve_term-loop-further-preserved
@@ -32,12 +32,36 @@ resolve_application-loop-other-preserved t c =
     c.loop-other.other-index c.other-item.result c.loop-other-test.true c.other-item.is
     c.in_ok-resolve_sum.ensures c.loop-other.invariant)
 
+pub resolve_sum-loop-further-preserved : goal.resolve_sum-loop-further-preserved
+resolve_sum-loop-further-preserved t c =
+    let one : checked.signed_of (roll-SignedTerm record { sign = c.further-item.result.sign; term = c.in_ok-term.term })
+    ≡ in_scope c.args.scope resolved_signed (written.added_view c.further-item.result)
+    = rw (
+      fold-roll-SignedTerm checked.Factor checked.Subscript (checked.Expr × checked.Exprs)
+          (TermSign × checked.Term) (ℕ × checked.Subscript) checked.Expr checked.Term checked.factor_level
+          checked.subscript_level checked.arguments_level checked.signed_level checked.subscripted_level
+          checked.sum_level checked.term_level,
+      fold_out-Added tree.Factor
+          (TermSign × tree.Term) tree.Factor tree.Expr tree.Term written.factor_step written.added_step
+          written.application_step written.expr_step written.term_step,
+      c.in_ok-term.ensures,
+    ) refl in
+    rw c.in_ok-push.ensures.items
+    (shown_put (λ a. in_scope c.args.scope resolved_signed (written.added_view a)) checked.signed_of
+    c.loop-further.more.items _ c.deref-further-items.result.now
+    c.loop-further.further-index c.further-item.result c.loop-further-test.true c.further-item.is
+    one c.loop-further.invariant)
+
 pub resolve_sum-returns : goal.resolve_sum-returns
 resolve_sum-returns t c =
     let s = c.args.scope in
     let terms = (out-Expr c.args.e.now).more.items in
     let all : map checked.signed_of c.loop-further.more.items
-    ≡ map (λ a. in_scope s resolved_signed (written.added_view a)) terms = grind (arith, common_steps) in
+    ≡ map (λ a. in_scope s resolved_signed (written.added_view a)) terms
+    = shown_all (λ a. in_scope s resolved_signed (written.added_view a)) checked.signed_of
+    c.loop-further.more.items c.deref-further-items.result.now c.loop-further.further-index c.loop-further-test.false
+    c.loop-further.invariant
+    ∙ ap (map (λ a. in_scope s resolved_signed (written.added_view a))) c.deref-further-items.ensures.value in
     let sums : checked.sums_of (map checked.signed_of c.loop-further.more.items)
     ≡ in_scope s resolved_sums (tree.sums_of (map written.added_view terms))
     = ap checked.sums_of all ∙ sums_map s.whole.now s.names.now s.locals.now written.added_view terms in
@@ -58,7 +82,11 @@ resolve_term-returns t c =
     let s = c.args.scope in
     let factors = (out-Term c.args.t.now).more.items in
     let all : map checked.factor_of c.loop-further.more.items
-    ≡ map (λ f. in_scope s resolved_factor (written.factor_view f)) factors = grind (arith, common_steps) in
+    ≡ map (λ f. in_scope s resolved_factor (written.factor_view f)) factors
+    = shown_all (λ a. in_scope s resolved_factor (written.factor_view a)) checked.factor_of
+    c.loop-further.more.items c.deref-further-items.result.now c.loop-further.further-index c.loop-further-test.false
+    c.loop-further.invariant
+    ∙ ap (map (λ a. in_scope s resolved_factor (written.factor_view a))) c.deref-further-items.ensures.value in
     let products : checked.products_of (map checked.factor_of c.loop-further.more.items)
     ≡ in_scope s resolved_products (tree.products_of (map written.factor_view factors))
     = ap checked.products_of all ∙ products_map s.whole.now s.names.now s.locals.now written.factor_view factors in
@@ -88,7 +116,11 @@ resolve_application-returns t c =
     let kind : option_map (λ k. k.now) c.kind.result ≡ kind_of s.whole.now a.name = search rules in
     let name : c.bytes-name.result.now ≡ a.name = search rules in
     let all : map checked.expr_of c.loop-other.more.items
-    ≡ map (λ e. in_scope s resolved_expr (written.expr_view e)) a.others.items = grind (arith, common_steps) in
+    ≡ map (λ e. in_scope s resolved_expr (written.expr_view e)) a.others.items
+    = shown_all (λ a. in_scope s resolved_expr (written.expr_view a)) checked.expr_of
+    c.loop-other.more.items c.deref-other-items.result.now c.loop-other.other-index c.loop-other-test.false
+    c.loop-other.invariant
+    ∙ ap (map (λ a. in_scope s resolved_expr (written.expr_view a))) c.deref-other-items.ensures.value in
     let exprs : checked.exprs_of (map checked.expr_of c.loop-other.more.items)
     ≡ in_scope s resolved_exprs (tree.exprs_of (map written.expr_view a.others.items))
     = ap checked.exprs_of all ∙ exprs_map s.whole.now s.names.now s.locals.now written.expr_view a.others.items in
