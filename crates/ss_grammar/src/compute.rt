@@ -23,9 +23,17 @@ pub fn compute(cursor: &mut Cursor<'_>, room: u32) -> Result<(Several<Computed>,
     ensures shorter { length cursor.new ≤ length cursor.old }
 {
     let targets = several_computed(cursor, room)?;
-    cursor.expect(Mark::Reserved(Reserved::In))?;
-    let value = expression(cursor, room)?;
-    Ok((targets, value))
+    if let Err(refusal) = cursor.expect(Mark::Reserved(Reserved::In)) {
+        drop(targets);
+        return Err(refusal);
+    }
+    match expression(cursor, room) {
+        Ok(value) => Ok((targets, value)),
+        Err(refusal) => {
+            drop(targets);
+            Err(refusal)
+        }
+    }
 }
 
 /// `computed {"," computed}`
@@ -78,11 +86,17 @@ fn computed(cursor: &mut Cursor<'_>, room: u32) -> Result<Computed, Refusal>
     ensures shorter { length cursor.new ≤ length cursor.old }
 {
     let target = reference(cursor, room)?;
-    cursor.expect(Mark::Reserved(Reserved::As))?;
-    let Some(statistic) = statistic(cursor) else {
-        return Err(Refusal::Unexpected);
-    };
-    Ok(Computed { target, statistic })
+    if let Err(refusal) = cursor.expect(Mark::Reserved(Reserved::As)) {
+        drop(target);
+        return Err(refusal);
+    }
+    match statistic(cursor) {
+        Some(statistic) => Ok(Computed { target, statistic }),
+        None => {
+            drop(target);
+            Err(Refusal::Unexpected)
+        }
+    }
 }
 
 /// The statistic that stands here, if one does.
