@@ -1,5 +1,5 @@
 -- What readings of several parts give or refuse, by what their parts do.
-use Rattle.std.proofs.Common.{◌≡◌, Bool, true, List, Option, Some, Result, Ok, ap, ◌∙◌}
+use Rattle.std.proofs.Common.{◌≡◌, Bool, true, List, Some, Result, Ok, ap, ◌∙◌}
 use Rattle.ss_words.specs.declared.mark.Mark.{Mark}
 use Rattle.ss_words.specs.declared.refusal.Refusal.{Refusal}
 use Rattle.ss_words.specs.Plain.{Plain}
