@@ -151,17 +151,9 @@ fn bare_equation(cursor: &mut Cursor<'_>, room: u32) -> Result<Option<(Reference
         return Ok(None);
     };
     let subscript = subscript(cursor, room)?;
-    if let Err(refusal) = cursor.expect(Mark::Sign(Sign::Equal)) {
-        drop(subscript);
-        return Err(refusal);
-    }
-    match expression(cursor, room) {
-        Ok(value) => Ok(Some((Reference { name, subscript }, value))),
-        Err(refusal) => {
-            drop(subscript);
-            Err(refusal)
-        }
-    }
+    cursor.expect(Mark::Sign(Sign::Equal))?;
+    let value = expression(cursor, room)?;
+    Ok(Some((Reference { name, subscript }, value)))
 }
 
 /// LET, ADD, SUBTRACT or an assignment without LET, if one stands here.

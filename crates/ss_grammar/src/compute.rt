@@ -23,17 +23,9 @@ pub fn compute(cursor: &mut Cursor<'_>, room: u32) -> Result<(Several<Computed>,
     ensures shorter { length cursor.new ≤ length cursor.old }
 {
     let targets = several_computed(cursor, room)?;
-    if let Err(refusal) = cursor.expect(Mark::Reserved(Reserved::In)) {
-        drop(targets);
-        return Err(refusal);
-    }
-    match expression(cursor, room) {
-        Ok(value) => Ok((targets, value)),
-        Err(refusal) => {
-            drop(targets);
-            Err(refusal)
-        }
-    }
+    cursor.expect(Mark::Reserved(Reserved::In))?;
+    let value = expression(cursor, room)?;
+    Ok((targets, value))
 }
 
 /// `computed {"," computed}`
@@ -86,17 +78,11 @@ fn computed(cursor: &mut Cursor<'_>, room: u32) -> Result<Computed, Refusal>
     ensures shorter { length cursor.new ≤ length cursor.old }
 {
     let target = reference(cursor, room)?;
-    if let Err(refusal) = cursor.expect(Mark::Reserved(Reserved::As)) {
-        drop(target);
-        return Err(refusal);
-    }
-    match statistic(cursor) {
-        Some(statistic) => Ok(Computed { target, statistic }),
-        None => {
-            drop(target);
-            Err(Refusal::Unexpected)
-        }
-    }
+    cursor.expect(Mark::Reserved(Reserved::As))?;
+    let Some(statistic) = statistic(cursor) else {
+        return Err(Refusal::Unexpected);
+    };
+    Ok(Computed { target, statistic })
 }
 
 /// The statistic that stands here, if one does.
