@@ -15,6 +15,7 @@ mod ListLoop
 mod Instead
 mod Chosen
 mod Absent
+mod Marked
 mod Allowed
 mod Parting
 mod BlockLaw

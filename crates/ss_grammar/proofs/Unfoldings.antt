@@ -5,9 +5,8 @@ use Rattle.ss_words.specs.Noting.{here}
 use Rattle.ss_grammar.specs.Combined.{pair, behind, before, made, if_mark, if_word, either, by_table}
 use Rattle.ss_grammar.specs.Combined.{either_of, made_of, must}
 use Rattle.ss_grammar.specs.SimpleReading.{subscript_at, making_at}
-use Rattle.ss_grammar.specs.SimpleReading.{print_at, exchange_at, file_at, remove_at, filing_at}
-use Rattle.ss_grammar.specs.SimpleReading.{call_at, transfer_at, schedule_at, timing_at}
-use Rattle.ss_grammar.specs.LoopReading.{walk_at, counting_at, range_at}
+use Rattle.ss_grammar.specs.SimpleReading.{print_at, exchange_at}
+use Rattle.ss_grammar.specs.SimpleReading.{call_at, transfer_at}
 use Rattle.ss_grammar.specs.SectionReading.{as_variables, a_define, head_at}
 use Rattle.ss_grammar.specs.PlacesAtLines.{noting_one, noting_branch, noting_else, noting_controlled}
 use Rattle.ss_grammar.specs.PlacesAtLines.{noting_repeated, noting_last, noting_must, noting_local, noting_section}
@@ -58,25 +57,10 @@ unfoldable pub makings : ⊤
 unfolding choices subscript_at making_at
 makings = tt
 
--- FILE and REMOVE
-unfoldable pub filings : ⊤
-unfolding choices file_at remove_at filing_at
-filings = tt
-
 -- CALL and the statements of control
 unfoldable pub transfers : ⊤
 unfolding choices call_at transfer_at
 transfers = tt
-
--- SCHEDULE, CANCEL and START
-unfoldable pub timings : ⊤
-unfolding choices schedule_at timing_at
-timings = tt
-
--- what a FOR phrase goes through
-unfoldable pub ranges : ⊤
-unfolding choices walk_at counting_at range_at
-ranges = tt
 
 -- ---- sections
 

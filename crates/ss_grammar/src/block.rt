@@ -133,7 +133,6 @@ fn branch(
 
 /// `question {statement} [ELSE {statement}] ALWAYS`, behind an IF in this line.
 #[cycle(statements)]
-#[tactic(auto, unfolding(crate::proofs::Unfoldings::steps, crate::specs::PlacesAtLines::noting_branch))]
 fn behind_if(
     cursor: &mut Cursor<'_>,
     text: &[PlainWord<'_>],
@@ -238,7 +237,6 @@ fn controlled(
 
 /// `{statement} LOOP`, behind DO.
 #[cycle(statements)]
-#[tactic(auto, unfolding(crate::proofs::Unfoldings::steps, crate::specs::PlacesAtLines::noting_repeated))]
 fn repeated(
     cursor: &mut Cursor<'_>,
     text: &[PlainWord<'_>],

@@ -1,12 +1,16 @@
 //! Reading the statements on sets.
 
+ghost use mathlib.Core.Logic.{inl, inr};
 ghost use Rattle.std.specs.Prelude.{IfSome, IfOk, length, ◌≡◌, ◌≤◌, ◌<◌, Ok};
+ghost use Rattle.ss_words.specs.declared.mark.Mark.TheVariants as m;
+ghost use Rattle.ss_words.specs.declared.reserved.Reserved.TheVariants as r;
 ghost use Rattle.ss_words.specs.Reading.{Gives, option_view};
-ghost use Rattle.ss_grammar.specs.Combined.{by_table};
+ghost use Rattle.ss_grammar.specs.Combined.{before, by_table, made, pair};
 ghost use Rattle.ss_grammar.specs.SimpleReading as reading;
-ghost use Rattle.ss_grammar.specs.View.{file_place_view, filing_view};
+ghost use Rattle.ss_grammar.specs.View.{file_place_view, filing_view, reference_view};
 
 use crate::assignment::{moved, reference};
+use crate::condition::Reference;
 use crate::expression::expression;
 use crate::simple::{FilePlace, Filing, SetEnd};
 use ss_words::{Cursor, Mark, Plain, Refusal, Reserved};
@@ -49,33 +53,96 @@ fn file_place(cursor: &mut Cursor<'_>, room: u32) -> Result<FilePlace, Refusal>
     Ok(FilePlace::ByDiscipline)
 }
 
+/// `place IN reference`, behind the member of a FILE
+#[tactic(auto, unfolding(crate::proofs::Unfoldings::in_turn))]
+fn place_in_set(cursor: &mut Cursor<'_>, room: u32) -> Result<(FilePlace, Reference), Refusal>
+    ensures exact { Gives (λ x. (file_place_view x.0, reference_view x.1)) result cursor.new
+        (pair (before (reading.file_place_at room) (m.Reserved r.In)) (reading.reference_at room) cursor.old) }
+    ensures shorter { length cursor.new ≤ length cursor.old }
+{
+    let place = file_place(cursor, room)?;
+    if let Err(refusal) = cursor.expect(Mark::Reserved(Reserved::In)) {
+        drop(place);
+        return Err(refusal);
+    }
+    match reference(cursor, room) {
+        Ok(set) => Ok((place, set)),
+        Err(refusal) => {
+            drop(place);
+            Err(refusal)
+        }
+    }
+}
+
+/// What FILE files, behind FILE.
+#[tactic(auto, unfolding(crate::proofs::Unfoldings::choices, crate::specs::SimpleReading::file_at))]
+fn filed(cursor: &mut Cursor<'_>, room: u32) -> Result<Filing, Refusal>
+    ensures exact { Gives filing_view result cursor.new
+        (made (λ x. reading.filing_of (inl x)) (reading.file_at room) cursor.old) }
+    ensures shorter { length cursor.new ≤ length cursor.old }
+{
+    if let Some(end) = set_end(cursor) {
+        let (member, set) = moved(cursor, Mark::Reserved(Reserved::In), room)?;
+        return Ok(Filing::FileAt { end, member, set });
+    }
+    let member = expression(cursor, room)?;
+    match place_in_set(cursor, room) {
+        Ok((place, set)) => Ok(Filing::File { member, place, set }),
+        Err(refusal) => {
+            drop(member);
+            Err(refusal)
+        }
+    }
+}
+
+/// `reference FROM reference`, behind `REMOVE FIRST` or `REMOVE LAST`
+#[tactic(auto, unfolding(crate::proofs::Unfoldings::in_turn))]
+fn target_from_set(cursor: &mut Cursor<'_>, room: u32) -> Result<(Reference, Reference), Refusal>
+    ensures exact { Gives (λ x. (reference_view x.0, reference_view x.1)) result cursor.new
+        (pair (before (reading.reference_at room) (m.Reserved r.From)) (reading.reference_at room) cursor.old) }
+    ensures shorter { length cursor.new ≤ length cursor.old }
+{
+    let target = reference(cursor, room)?;
+    if let Err(refusal) = cursor.expect(Mark::Reserved(Reserved::From)) {
+        drop(target);
+        return Err(refusal);
+    }
+    match reference(cursor, room) {
+        Ok(set) => Ok((target, set)),
+        Err(refusal) => {
+            drop(target);
+            Err(refusal)
+        }
+    }
+}
+
+/// What REMOVE takes off, behind REMOVE.
+#[tactic(auto, unfolding(crate::proofs::Unfoldings::choices, crate::specs::SimpleReading::remove_at))]
+fn removed(cursor: &mut Cursor<'_>, room: u32) -> Result<Filing, Refusal>
+    ensures exact { Gives filing_view result cursor.new
+        (made (λ x. reading.filing_of (inr x)) (reading.remove_at room) cursor.old) }
+    ensures shorter { length cursor.new ≤ length cursor.old }
+{
+    if let Some(end) = set_end(cursor) {
+        let (target, set) = target_from_set(cursor, room)?;
+        return Ok(Filing::RemoveEnd { end, target, set });
+    }
+    let (member, set) = moved(cursor, Mark::Reserved(Reserved::From), room)?;
+    Ok(Filing::Remove { member, set })
+}
+
 /// FILE or REMOVE, if one stands here.
-#[tactic(auto, unfolding(crate::proofs::Unfoldings::filings))]
+#[tactic(auto, unfolding(crate::proofs::Unfoldings::choices, crate::specs::SimpleReading::filing_at))]
 pub fn filing(cursor: &mut Cursor<'_>, room: u32) -> Result<Option<Filing>, Refusal>
     ensures exact { Gives (option_view filing_view) result cursor.new (reading.filing_at room cursor.old) }
     ensures shorter { length cursor.new ≤ length cursor.old }
     ensures taken { IfOk result (λ o. IfSome o (λ _. length cursor.new < length cursor.old)) }
 {
     if cursor.eat(Mark::Reserved(Reserved::File)) {
-        if let Some(end) = set_end(cursor) {
-            let (member, set) = moved(cursor, Mark::Reserved(Reserved::In), room)?;
-            return Ok(Some(Filing::FileAt { end, member, set }));
-        }
-        let member = expression(cursor, room)?;
-        let place = file_place(cursor, room)?;
-        cursor.expect(Mark::Reserved(Reserved::In))?;
-        let set = reference(cursor, room)?;
-        return Ok(Some(Filing::File { member, place, set }));
+        return Ok(Some(filed(cursor, room)?));
     }
     if cursor.eat(Mark::Reserved(Reserved::Remove)) {
-        if let Some(end) = set_end(cursor) {
-            let target = reference(cursor, room)?;
-            cursor.expect(Mark::Reserved(Reserved::From))?;
-            let set = reference(cursor, room)?;
-            return Ok(Some(Filing::RemoveEnd { end, target, set }));
-        }
-        let (member, set) = moved(cursor, Mark::Reserved(Reserved::From), room)?;
-        return Ok(Some(Filing::Remove { member, set }));
+        return Ok(Some(removed(cursor, room)?));
     }
     Ok(None)
 }

@@ -1,17 +1,21 @@
 //! Reading FOR phrases.
 
+ghost use mathlib.Core.Logic.{inl, inr};
 ghost use Rattle.std.specs.Prelude.{IfSome, IfOk, length, ◌≡◌, ◌≤◌, ◌<◌, Ok};
 ghost use Rattle.ss_words.specs.declared.mark.Mark.TheVariants as m;
 ghost use Rattle.ss_words.specs.declared.reserved.Reserved.TheVariants as r;
 ghost use Rattle.ss_words.specs.Marks.{a_name};
 ghost use Rattle.ss_words.specs.Reading.{Gives, option_view};
-ghost use Rattle.ss_grammar.specs.Combined.{by_table, if_mark};
+ghost use Rattle.ss_grammar.specs.Combined.{before, by_table, if_mark, made, pair};
 ghost use Rattle.ss_grammar.specs.ExprReading.{expr_at};
 ghost use Rattle.ss_grammar.specs.LoopReading as reading;
 ghost use Rattle.ss_grammar.specs.PartView.{qualifiers_view};
-ghost use Rattle.ss_grammar.specs.View.{expr_view, walk_start_view, range_view, qualifier_view, phrase_view};
+ghost use Rattle.ss_grammar.specs.SimpleReading.{reference_at};
+ghost use Rattle.ss_grammar.specs.View.{expr_view, reference_view, walk_start_view, range_view, qualifier_view};
+ghost use Rattle.ss_grammar.specs.View.{phrase_view};
 
 use crate::assignment::reference;
+use crate::condition::Reference;
 use crate::conditions::condition;
 use crate::expr::Expr;
 use crate::expression::expression;
@@ -36,43 +40,122 @@ pub fn phrase(cursor: &mut Cursor<'_>, room: u32) -> Result<Phrase, Refusal>
 }
 
 /// What a FOR phrase goes through.
-#[tactic(auto, unfolding(crate::proofs::Unfoldings::ranges))]
+#[tactic(auto, unfolding(crate::proofs::Unfoldings::choices, crate::specs::LoopReading::range_at))]
 fn range(cursor: &mut Cursor<'_>, room: u32) -> Result<Range, Refusal>
     ensures exact { Gives range_view result cursor.new (reading.range_at room cursor.old) }
     ensures shorter { length cursor.new ≤ length cursor.old }
 {
     if cursor.eat(Mark::Reserved(Reserved::Every)) {
-        let name = cursor.name()?;
-        if cursor.eat(Mark::Reserved(Reserved::In)) {
-            let set = reference(cursor, room)?;
-            let start = walk_start(cursor, room)?;
-            let direction = order(cursor)?;
-            return Ok(Range::Walking {
-                direction,
-                variable: name,
-                set,
-                start,
-            });
-        }
-        let variable = called_name(cursor)?;
-        return Ok(Range::Each {
-            class: name,
-            variable,
+        return every(cursor, room);
+    }
+    counting(cursor, room)
+}
+
+/// What a FOR phrase goes through, behind EVERY.
+#[tactic(auto, unfolding(crate::proofs::Unfoldings::choices, crate::specs::LoopReading::walk_at))]
+fn every(cursor: &mut Cursor<'_>, room: u32) -> Result<Range, Refusal>
+    ensures exact { Gives range_view result cursor.new
+        (made (λ x. reading.range_of (inl x)) (pair a_name (reading.walk_at room)) cursor.old) }
+    ensures shorter { length cursor.new ≤ length cursor.old }
+{
+    let name = cursor.name()?;
+    if cursor.eat(Mark::Reserved(Reserved::In)) {
+        let (set, start, direction) = walk(cursor, room)?;
+        return Ok(Range::Walking {
+            direction,
+            variable: name,
+            set,
+            start,
         });
     }
+    let variable = called_name(cursor)?;
+    Ok(Range::Each {
+        class: name,
+        variable,
+    })
+}
+
+/// A set, where its walk begins and the way in which it goes.
+#[tactic(auto, unfolding(crate::proofs::Unfoldings::in_turn))]
+fn walk(cursor: &mut Cursor<'_>, room: u32) -> Result<(Reference, WalkStart, Direction), Refusal>
+    ensures exact { Gives (λ x. (reference_view x.0, (walk_start_view x.1, x.2))) result cursor.new
+        (pair (reference_at room) (pair (reading.start_at room) reading.an_order) cursor.old) }
+    ensures shorter { length cursor.new ≤ length cursor.old }
+{
+    let set = reference(cursor, room)?;
+    let start = match walk_start(cursor, room) {
+        Ok(start) => start,
+        Err(refusal) => {
+            drop(set);
+            return Err(refusal);
+        }
+    };
+    match order(cursor) {
+        Ok(direction) => Ok((set, start, direction)),
+        Err(refusal) => {
+            drop(set);
+            drop(start);
+            Err(refusal)
+        }
+    }
+}
+
+/// What a FOR phrase without EVERY counts through.
+#[tactic(auto, unfolding(crate::proofs::Unfoldings::in_turn, crate::specs::LoopReading::counting_at))]
+fn counting(cursor: &mut Cursor<'_>, room: u32) -> Result<Range, Refusal>
+    ensures exact { Gives range_view result cursor.new
+        (made (λ x. reading.range_of (inr x)) (reading.counting_at room) cursor.old) }
+    ensures shorter { length cursor.new ≤ length cursor.old }
+{
     let variable = cursor.name()?;
     let direction = direction(cursor)?;
+    let first = expression_to(cursor, room)?;
+    match last_and_step(cursor, room) {
+        Ok((last, step)) => Ok(Range::Counting {
+            direction,
+            variable,
+            first,
+            last,
+            step,
+        }),
+        Err(refusal) => {
+            drop(first);
+            Err(refusal)
+        }
+    }
+}
+
+/// `expression TO`
+#[tactic(auto, unfolding(crate::proofs::Unfoldings::in_turn))]
+fn expression_to(cursor: &mut Cursor<'_>, room: u32) -> Result<Expr, Refusal>
+    ensures exact { Gives expr_view result cursor.new (before (expr_at room) (m.Reserved r.To) cursor.old) }
+    ensures shorter { length cursor.new ≤ length cursor.old }
+{
     let first = expression(cursor, room)?;
-    cursor.expect(Mark::Reserved(Reserved::To))?;
+    match cursor.expect(Mark::Reserved(Reserved::To)) {
+        Ok(()) => Ok(first),
+        Err(refusal) => {
+            drop(first);
+            Err(refusal)
+        }
+    }
+}
+
+/// `expression [BY expression]`
+#[tactic(auto, unfolding(crate::proofs::Unfoldings::in_turn))]
+fn last_and_step(cursor: &mut Cursor<'_>, room: u32) -> Result<(Expr, Option<Expr>), Refusal>
+    ensures exact { Gives (λ x. (expr_view x.0, option_view expr_view x.1)) result cursor.new
+        (pair (expr_at room) (if_mark (m.Reserved r.By) (expr_at room)) cursor.old) }
+    ensures shorter { length cursor.new ≤ length cursor.old }
+{
     let last = expression(cursor, room)?;
-    let step = step(cursor, room)?;
-    Ok(Range::Counting {
-        direction,
-        variable,
-        first,
-        last,
-        step,
-    })
+    match step(cursor, room) {
+        Ok(step) => Ok((last, step)),
+        Err(refusal) => {
+            drop(last);
+            Err(refusal)
+        }
+    }
 }
 
 /// `[CALLED name]`

@@ -1,7 +1,9 @@
 //! Reading the statements on events.
 
+ghost use mathlib.Core.Logic.{inl};
 ghost use Rattle.std.specs.Prelude.{IfSome, IfOk, length, ◌≤◌, ◌<◌};
 ghost use Rattle.ss_words.specs.Reading.{Gives, option_view};
+ghost use Rattle.ss_grammar.specs.Combined.{made};
 ghost use Rattle.ss_grammar.specs.SimpleReading as reading;
 ghost use Rattle.ss_grammar.specs.View.{details_view, when_view, timing_view};
 
@@ -72,24 +74,39 @@ fn when(cursor: &mut Cursor<'_>, room: u32) -> Result<When, Refusal>
     }
 }
 
+/// `(A | THE) name details when`, behind SCHEDULE.
+#[tactic(auto, unfolding(crate::proofs::Unfoldings::in_turn, crate::specs::SimpleReading::schedule_at))]
+fn scheduled(cursor: &mut Cursor<'_>, room: u32) -> Result<Timing, Refusal>
+    ensures exact { Gives timing_view result cursor.new
+        (made (λ x. reading.timing_of (inl x)) (reading.schedule_at room) cursor.old) }
+    ensures shorter { length cursor.new ≤ length cursor.old }
+{
+    let article = article(cursor)?;
+    let event = cursor.name()?;
+    let details = details(cursor, room)?;
+    match when(cursor, room) {
+        Ok(when) => Ok(Timing::Schedule {
+            article,
+            event,
+            details,
+            when,
+        }),
+        Err(refusal) => {
+            drop(details);
+            Err(refusal)
+        }
+    }
+}
+
 /// SCHEDULE, CANCEL or START SIMULATION, if one stands here.
-#[tactic(auto, unfolding(crate::proofs::Unfoldings::timings))]
+#[tactic(auto, unfolding(crate::proofs::Unfoldings::choices, crate::specs::SimpleReading::timing_at))]
 pub fn timing(cursor: &mut Cursor<'_>, room: u32) -> Result<Option<Timing>, Refusal>
     ensures exact { Gives (option_view timing_view) result cursor.new (reading.timing_at room cursor.old) }
     ensures shorter { length cursor.new ≤ length cursor.old }
     ensures taken { IfOk result (λ o. IfSome o (λ _. length cursor.new < length cursor.old)) }
 {
     if cursor.eat(Mark::Reserved(Reserved::Schedule)) {
-        let article = article(cursor)?;
-        let event = cursor.name()?;
-        let details = details(cursor, room)?;
-        let when = when(cursor, room)?;
-        return Ok(Some(Timing::Schedule {
-            article,
-            event,
-            details,
-            when,
-        }));
+        return Ok(Some(scheduled(cursor, room)?));
     }
     if cursor.eat(Mark::Reserved(Reserved::Cancel)) {
         let (event, called) = named(cursor, room)?;

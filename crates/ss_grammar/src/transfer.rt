@@ -19,12 +19,17 @@ pub fn transfer(cursor: &mut Cursor<'_>, room: u32) -> Result<Option<Transfer>, 
     if cursor.eat(Mark::Reserved(Reserved::Call)) {
         let routine = cursor.name()?;
         let values = values(cursor, room)?;
-        let targets = references_behind(cursor, Mark::Reserved(Reserved::Yielding), room)?;
-        return Ok(Some(Transfer::Call {
-            routine,
-            values,
-            targets,
-        }));
+        return match references_behind(cursor, Mark::Reserved(Reserved::Yielding), room) {
+            Ok(targets) => Ok(Some(Transfer::Call {
+                routine,
+                values,
+                targets,
+            })),
+            Err(refusal) => {
+                drop(values);
+                Err(refusal)
+            }
+        };
     }
     if cursor.eat(Mark::Reserved(Reserved::Return)) {
         return Ok(Some(Transfer::Return));

@@ -10,10 +10,11 @@ use Rattle.ss_grammar.specs.Combined.{allowed}
 use Rattle.ss_grammar.specs.LoopReading.{phrase_at}
 use Rattle.ss_grammar.specs.Places.{Spot}
 use Rattle.ss_grammar.specs.PlacesAtLines.{noting_statement, noting_block, noting_if, noting_loop, noting_statements}
-use Rattle.ss_grammar.specs.PlacesAtLines.{noting_branch, noting_controlled}
+use Rattle.ss_grammar.specs.PlacesAtLines.{noting_branch, noting_controlled, noting_repeated}
 use Rattle.ss_grammar.specs.View.{phrase_view, spots}
 use Rattle.ss_grammar.proofs.NotingRooms.{if_fails, if_absent, if_done, if_undone, for_fails, for_absent, for_unread}
 use Rattle.ss_grammar.proofs.NotingRooms.{for_done, for_undone}
+use Rattle.ss_grammar.proofs.Marked.{stops, stops_behind, gives_behind}
 use Rattle.ss_grammar.proofs.block.+statements.Goals as goal
 
 -- a statement, where so many may be open
@@ -146,3 +147,47 @@ for_loop-returns-clause-exact t c =
     (rw c.if-not-branch.false at c.in_ok-allowed.ensures.exact) c.line-line.result c.line-line.ensures
     (phrase_view c.in_ok-phrase.phrase) c.phrase.new.cursor c.in_ok-phrase.ensures.exact
     (spots c.controlled.new.out.items) c.controlled.new.cursor c.in_ok-controlled.ensures.exact
+
+pub behind_if-returns-in_err-question-clause-exact : goal.behind_if-returns-in_err-question-clause-exact
+unfolding noting_branch
+behind_if-returns-in_err-question-clause-exact t c =
+    let p = err_from_is_err_and c.from_residual.result c.from_residual.ensures.1 in
+    rw (p.1, p.2) (stops _ _ _ _ _ c.in_err-question.ensures.exact)
+
+pub behind_if-returns-in_err-block-clause-exact : goal.behind_if-returns-in_err-block-clause-exact
+unfolding noting_branch
+behind_if-returns-in_err-block-clause-exact t c =
+    let p = err_from_is_err_and c.from_residual-in_err-block.result c.from_residual-in_err-block.ensures.1 in
+    rw (p.1, p.2) (stops_behind _ _ _ _ _ _ _ c.in_ok-question.ensures.exact
+    (stops _ _ _ _ _ (rw c.in_ok-note.ensures.noted at c.in_err-block.ensures.exact)))
+
+pub behind_if-returns-in_err-otherwise-clause-exact : goal.behind_if-returns-in_err-otherwise-clause-exact
+unfolding noting_branch
+behind_if-returns-in_err-otherwise-clause-exact t c =
+    let p = err_from_is_err_and c.from_residual-in_err-otherwise.result c.from_residual-in_err-otherwise.ensures.1 in
+    rw (p.1, p.2) (stops_behind _ _ _ _ _ _ _ c.in_ok-question.ensures.exact
+    (stops_behind _ _ _ _ _ _ _ (rw c.in_ok-note.ensures.noted at c.in_ok-block.ensures.exact)
+    (stops _ _ _ _ _ c.in_err-otherwise.ensures.exact)))
+
+pub behind_if-returns-clause-exact : goal.behind_if-returns-clause-exact
+unfolding noting_branch
+behind_if-returns-clause-exact t c =
+    gives_behind _ _ _ _ _ _ _ _ c.in_ok-question.ensures.exact
+    (gives_behind _ _ _ _ _ _ _ _ (rw c.in_ok-note.ensures.noted at c.in_ok-block.ensures.exact)
+    (gives_behind _ _ _ _ _ _ _ _ c.in_ok-otherwise.ensures.exact c.always.ensures.exact))
+
+pub controlled-returns-then-repeats-clause-exact : goal.controlled-returns-then-repeats-clause-exact
+unfolding noting_controlled
+controlled-returns-then-repeats-clause-exact t c =
+    gives_behind _ _ _ _ _ _ _ _ (rw c.if-repeats.true at c.eat-repeats.ensures.exact)
+    (rw (c.in_ok-note.ensures.noted, c.in_ok-phrase.ensures.ok, c.if-repeats.true) at c.repeated.ensures.exact)
+
+pub repeated-returns-in_err-block-clause-exact : goal.repeated-returns-in_err-block-clause-exact
+unfolding noting_repeated
+repeated-returns-in_err-block-clause-exact t c =
+    let p = err_from_is_err_and c.from_residual.result c.from_residual.ensures.1 in
+    rw (p.1, p.2) (stops _ _ _ _ _ c.in_err-block.ensures.exact)
+
+pub repeated-returns-clause-exact : goal.repeated-returns-clause-exact
+unfolding noting_repeated
+repeated-returns-clause-exact t c = gives_behind _ _ _ _ _ _ _ _ c.in_ok-block.ensures.exact c.next.ensures.exact

@@ -8,6 +8,8 @@ use Rattle.ss_grammar.specs.Combined.{if_mark, if_word, star}
 use Rattle.ss_grammar.specs.ExprReading.{lead, factor_with, term_with, inner_at}
 use Rattle.ss_grammar.specs.View.{expr_view, factor_view, added_view}
 use Rattle.ss_grammar.proofs.Rooms.{inner_shut, inner_deeper, list_begins, list_turns, list_stops}
+use Rattle.ss_grammar.proofs.Absent.{no_mark}
+use Rattle.ss_grammar.proofs.Marked.{mark_reads, mark_fails}
 use Rattle.ss_grammar.proofs.expression.+expression.Goals as goal
 
 pub sums-loop-more-init : goal.sums-loop-more-init
@@ -127,3 +129,17 @@ inner-returns-then-room-eq0-clause-exact t c = rw (inner_shut c.args.room c.if-r
 
 pub inner-returns-clause-exact : goal.inner-returns-clause-exact
 inner-returns-clause-exact t c = rw (inner_deeper c.args.room c.if-room-eq0.false) c.expr.ensures.exact
+
+pub next_product-returns-then-not-eat-clause-exact : goal.next_product-returns-then-not-eat-clause-exact
+next_product-returns-then-not-eat-clause-exact t c = no_mark _ _ c.eat.result _ _ c.eat.ensures.exact c.if-not-eat.true
+
+pub next_product-returns-in_err-factor-clause-exact : goal.next_product-returns-in_err-factor-clause-exact
+next_product-returns-in_err-factor-clause-exact t c =
+    let p = err_from_is_err_and c.from_residual.result c.from_residual.ensures.1 in
+    rw (p.1, p.2) (mark_fails _ _ c.eat.result _ _ c.in_err-factor.field-0.0 _ c.eat.ensures.exact c.if-not-eat.false
+    c.in_err-factor.ensures.exact)
+
+pub next_product-returns-clause-exact : goal.next_product-returns-clause-exact
+next_product-returns-clause-exact t c =
+    mark_reads _ _ c.eat.result _ _ (factor_view c.in_ok-factor.field-0) _ c.eat.ensures.exact c.if-not-eat.false
+    c.in_ok-factor.ensures.exact
