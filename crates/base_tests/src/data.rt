@@ -1,25 +1,25 @@
+use crate::compare::same;
 use ss_data::{Feed, Kind};
 use ss_words::RunFault;
-use std::alloc::{AllocError, Global};
+use std::alloc::Global;
 use std::process::Abort;
-use std::test::Fail;
 
 // A feed; where memory is refused once, a second try makes it.
-fn feed_of(alloc: Global, text: &[u8]) -> Result<Feed, AllocError> {
+fn feed_of(rt: &impl Abort, alloc: Global, text: &[u8]) -> Feed {
     match Feed::new(alloc, text) {
-        Ok(feed) => Ok(feed),
-        Err(_) => Feed::new(alloc, text),
+        Ok(feed) => feed,
+        Err(_) => Feed::new(alloc, text).expect(rt, "a feed"),
     }
 }
 
-// Takes a number, or meets a fault, in the feed of a text.
+// Takes a number, or meets a fault, in the feed of a text, which a message names as well.
 fn takes(rt: &impl Abort, feed: &mut Feed, text: &[u8], number: Result<i64, RunFault>) {
-    assert_eq!(rt; feed.take(), number, "in {text:?}");
+    same(rt, (text, feed.take()), (text, number));
 }
 
 // So many pieces are taken.
 fn has_taken(rt: &impl Abort, feed: &Feed, taken: usize) {
-    assert_eq!(rt; feed.taken(), taken);
+    same(rt, feed.taken(), taken);
 }
 
 // Takes these numbers, then meets this fault, and again: a refused take leaves the feed as it was.
@@ -35,50 +35,27 @@ fn takes_all(rt: &impl Abort, feed: &mut Feed, text: &[u8], numbers: &[i64], end
 }
 
 // The same, in a feed of this text.
-fn gives(
-    rt: &impl Abort,
-    alloc: Global,
-    text: &[u8],
-    numbers: &[i64],
-    end: RunFault,
-) -> Result<(), AllocError> {
-    let mut feed = feed_of(alloc, text)?;
+fn gives(rt: &impl Abort, alloc: Global, text: &[u8], numbers: &[i64], end: RunFault) {
+    let mut feed = feed_of(rt, alloc, text);
     takes_all(rt, &mut feed, text, numbers, end);
-    Ok(())
+    drop(feed);
 }
 
 #[test]
-fn numbers_are_taken_in_order(rt: HostRuntime) -> Result<(), Fail> {
+fn numbers_are_taken_in_order(rt: HostRuntime) {
     let alloc = rt.alloc();
-    gives(&rt, alloc, b"", &[], RunFault::NoMoreData)?;
-    gives(&rt, alloc, b"  \t\r\n  ", &[], RunFault::NoMoreData)?;
-    gives(&rt, alloc, b"4 -5", &[4, -5], RunFault::NoMoreData)?;
-    gives(
-        &rt,
-        alloc,
-        b" 1\t2\r3\n4\r\n5",
-        &[1, 2, 3, 4, 5],
-        RunFault::NoMoreData,
-    )?;
-    gives(
-        &rt,
-        alloc,
-        b"+7 -0 007 -0012",
-        &[7, 0, 7, -12],
-        RunFault::NoMoreData,
-    )?;
-    gives(
-        &rt,
-        alloc,
-        b"9223372036854775807 -9223372036854775808",
-        &[i64::MAX, i64::MIN],
-        RunFault::NoMoreData,
-    )?;
+    let end = RunFault::NoMoreData;
+    gives(&rt, alloc, b"", &[], end);
+    gives(&rt, alloc, b"  \t\r\n  ", &[], end);
+    gives(&rt, alloc, b"4 -5", &[4, -5], end);
+    gives(&rt, alloc, b" 1\t2\r3\n4\r\n5", &[1, 2, 3, 4, 5], end);
+    gives(&rt, alloc, b"+7 -0 007 -0012", &[7, 0, 7, -12], end);
+    let greatest = b"9223372036854775807 -9223372036854775808";
+    gives(&rt, alloc, greatest, &[i64::MAX, i64::MIN], end);
     let mut long = [b'0'; 92];
     long[0] = b'-';
     long[91] = b'8';
-    gives(&rt, alloc, &long, &[-8], RunFault::NoMoreData)?;
-    Ok(())
+    gives(&rt, alloc, &long, &[-8], end);
 }
 
 /// Texts that begin with no number, a line each.
@@ -94,15 +71,15 @@ const NO_NUMBERS: &[u8] = b"\
     ";
 
 #[test]
-fn what_is_no_number_is_not_taken(rt: HostRuntime) -> Result<(), Fail> {
+fn what_is_no_number_is_not_taken(rt: HostRuntime) {
     let alloc = rt.alloc();
+    let end = RunFault::NotANumber;
     for text in NO_NUMBERS.split(|byte| *byte == b'\n') {
-        gives(&rt, alloc, text, &[], RunFault::NotANumber)?;
+        gives(&rt, alloc, text, &[], end);
     }
-    gives(&rt, alloc, b"3 - 4", &[3], RunFault::NotANumber)?;
-    gives(&rt, alloc, b"1 \xff 2", &[1], RunFault::NotANumber)?;
-    gives(&rt, alloc, &[b'9'; 90], &[], RunFault::NotANumber)?;
-    Ok(())
+    gives(&rt, alloc, b"3 - 4", &[3], end);
+    gives(&rt, alloc, b"1 \xff 2", &[1], end);
+    gives(&rt, alloc, &[b'9'; 90], &[], end);
 }
 
 // Gives back all but so many pieces.
@@ -126,11 +103,10 @@ fn gives_back(rt: &impl Abort, feed: &mut Feed, text: &[u8]) {
 }
 
 #[test]
-fn what_is_given_back_is_taken_again(rt: HostRuntime) -> Result<(), Fail> {
+fn what_is_given_back_is_taken_again(rt: HostRuntime) {
     let text = b"10 20 x";
-    let mut feed = feed_of(rt.alloc(), text)?;
+    let mut feed = feed_of(&rt, rt.alloc(), text);
     gives_back(&rt, &mut feed, text);
-    Ok(())
 }
 
 // Passes the next piece, where there is one.
@@ -142,25 +118,25 @@ fn pass(feed: &mut Feed) {
 
 // Passes the next piece, which is of this kind.
 fn passes(rt: &impl Abort, feed: &mut Feed, kind: Kind) {
-    assert_eq!(rt; feed.kind(), kind);
+    same(rt, feed.kind(), kind);
     pass(feed);
 }
 
 // Says whether the next piece is the name ARRIVAL, and passes it.
 fn tells(rt: &impl Abort, feed: &mut Feed, told: bool) {
-    assert_eq!(rt; feed.names(b"ARRIVAL"), told);
+    same(rt, feed.names(b"ARRIVAL"), told);
     pass(feed);
 }
 
 // Passes the pieces up to and with the next mark, or meets none; so many are then taken.
 fn passes_entry(rt: &impl Abort, feed: &mut Feed, passed: Result<(), RunFault>, taken: usize) {
-    assert_eq!(rt; feed.pass_entry(), passed);
+    same(rt, feed.pass_entry(), passed);
     has_taken(rt, feed, taken);
 }
 
 #[test]
-fn each_piece_has_its_kind(rt: HostRuntime) -> Result<(), Fail> {
-    let mut feed = feed_of(rt.alloc(), b"5 * ** arrival. 9223372036854775808")?;
+fn each_piece_has_its_kind(rt: HostRuntime) {
+    let mut feed = feed_of(&rt, rt.alloc(), b"5 * ** arrival. 9223372036854775808");
     passes(&rt, &mut feed, Kind::Number);
     passes(&rt, &mut feed, Kind::Mark);
     passes(&rt, &mut feed, Kind::Other);
@@ -170,26 +146,21 @@ fn each_piece_has_its_kind(rt: HostRuntime) -> Result<(), Fail> {
     has_taken(&rt, &feed, 5);
     feed.undo(0);
     passes(&rt, &mut feed, Kind::Number);
-    Ok(())
 }
 
 #[test]
-fn a_name_is_told_whatever_its_capitals(rt: HostRuntime) -> Result<(), Fail> {
-    let mut feed = feed_of(rt.alloc(), b"arrival Arrival.. ARRIVALS .arrival *")?;
-    tells(&rt, &mut feed, true);
-    tells(&rt, &mut feed, true);
-    tells(&rt, &mut feed, false);
-    tells(&rt, &mut feed, false);
-    tells(&rt, &mut feed, false);
-    tells(&rt, &mut feed, false);
+fn a_name_is_told_whatever_its_capitals(rt: HostRuntime) {
+    let mut feed = feed_of(&rt, rt.alloc(), b"arrival Arrival.. ARRIVALS .arrival *");
+    for told in [true, true, false, false, false, false] {
+        tells(&rt, &mut feed, told);
+    }
     feed.undo(0);
     tells(&rt, &mut feed, true);
-    Ok(())
 }
 
 #[test]
-fn an_entry_is_passed_with_its_mark(rt: HostRuntime) -> Result<(), Fail> {
-    let mut feed = feed_of(rt.alloc(), b"a 1 * b ** 2 * * c 3")?;
+fn an_entry_is_passed_with_its_mark(rt: HostRuntime) {
+    let mut feed = feed_of(&rt, rt.alloc(), b"a 1 * b ** 2 * * c 3");
     let no_mark = Err(RunFault::OutsideEntry);
     passes_entry(&rt, &mut feed, Ok(()), 3);
     passes_entry(&rt, &mut feed, Ok(()), 7);
@@ -198,11 +169,9 @@ fn an_entry_is_passed_with_its_mark(rt: HostRuntime) -> Result<(), Fail> {
     passes_entry(&rt, &mut feed, no_mark, 8);
     feed.undo(0);
     passes_entry(&rt, &mut feed, Ok(()), 3);
-    Ok(())
 }
 
 #[test]
-fn the_mark_is_no_number(rt: HostRuntime) -> Result<(), Fail> {
-    gives(&rt, rt.alloc(), b"1 * 2", &[1], RunFault::NotANumber)?;
-    Ok(())
+fn the_mark_is_no_number(rt: HostRuntime) {
+    gives(&rt, rt.alloc(), b"1 * 2", &[1], RunFault::NotANumber);
 }

@@ -1,10 +1,10 @@
-ghost use Rattle.std.specs.Prelude.{◌≡◌, ◌≤◌, [], OnOk};
+ghost use Rattle.std.specs.Prelude.{◌≡◌, ◌≤◌, []};
 ghost use Rattle.ss_journal.specs.Undoing.{FitsSteps};
 
+use crate::compare::same;
 use ss_journal::{Journal, Undo, roll_back};
 use std::alloc::AllocError;
 use std::process::Abort;
-use std::test::Fail;
 
 // A dial with a value, and one turn of it.
 #[derive(Drop)]
@@ -58,20 +58,15 @@ fn forward(dial: &mut Dial, journal: &mut Journal<Turn>, values: &[u64]) -> Resu
 }
 
 // The same; a step that is refused memory is tried again.
-fn forward_again(
-    dial: &mut Dial,
-    journal: &mut Journal<Turn>,
-    values: &[u64],
-) -> Result<(), AllocError>
+fn forward_again(rt: &impl Abort, dial: &mut Dial, journal: &mut Journal<Turn>, values: &[u64])
     requires closed { journal.old.current ≡ [] }
     requires fits { FitsSteps ⟦<Dial as Undo>⟧.fits ⟦<Dial as Undo>⟧.unapply journal.old.steps dial.old }
     ensures closed { journal.new.current ≡ [] }
     ensures fits { FitsSteps ⟦<Dial as Undo>⟧.fits ⟦<Dial as Undo>⟧.unapply journal.new.steps dial.new }
 {
     if forward(dial, journal, values).is_err() {
-        forward(dial, journal, values)?;
+        forward(dial, journal, values).expect(rt, "a step");
     }
-    Ok(())
 }
 
 // One step back; false where there is none.
@@ -95,8 +90,8 @@ fn goes_back(rt: &impl Abort, dial: &mut Dial, journal: &mut Journal<Turn>, valu
     ensures closed { journal.new.current ≡ [] }
     ensures fits { FitsSteps ⟦<Dial as Undo>⟧.fits ⟦<Dial as Undo>⟧.unapply journal.new.steps dial.new }
 {
-    assert!(rt; back(dial, journal));
-    assert_eq!(rt; dial.value, value);
+    same(rt, back(dial, journal), true);
+    same(rt, dial.value, value);
 }
 
 // Has no step to go back; the dial stays at this value.
@@ -106,8 +101,8 @@ fn stays(rt: &impl Abort, dial: &mut Dial, journal: &mut Journal<Turn>, value: u
     ensures closed { journal.new.current ≡ [] }
     ensures fits { FitsSteps ⟦<Dial as Undo>⟧.fits ⟦<Dial as Undo>⟧.unapply journal.new.steps dial.new }
 {
-    assert!(rt; !back(dial, journal));
-    assert_eq!(rt; dial.value, value);
+    same(rt, back(dial, journal), false);
+    same(rt, dial.value, value);
 }
 
 // Forgets all steps but the newest.
@@ -120,6 +115,11 @@ fn forget(dial: &Dial, journal: &mut Journal<Turn>, kept: usize)
     journal.keep_last(kept);
 }
 
+// Tells that memory was refused for a step, whose number counts from 0.
+fn tell(rt: &(impl Abort + Print), step: usize) {
+    println!(rt; "memory was refused at step {step}").expect(rt, "a line");
+}
+
 // One step forward from a value. One that is refused memory is tried again, with nothing changed.
 fn step(
     rt: &(impl Abort + Print),
@@ -127,40 +127,46 @@ fn step(
     journal: &mut Journal<Turn>,
     before: u64,
     values: &[u64],
-) -> Result<(), Fail>
+)
     requires closed { journal.old.current ≡ [] }
     requires fits { FitsSteps ⟦<Dial as Undo>⟧.fits ⟦<Dial as Undo>⟧.unapply journal.old.steps dial.old }
     ensures closed { journal.new.current ≡ [] }
     ensures fits { FitsSteps ⟦<Dial as Undo>⟧.fits ⟦<Dial as Undo>⟧.unapply journal.new.steps dial.new }
 {
     let kept = journal.steps();
-    assert_eq!(rt; dial.value, before);
+    same(rt, dial.value, before);
     if forward(dial, journal, values).is_err() {
-        assert_eq!(rt; dial.value, before);
-        assert_eq!(rt; journal.steps(), kept);
-        println!(rt; "memory was refused at step {kept}")?;
-        forward(dial, journal, values)?;
+        same(rt, dial.value, before);
+        same(rt, journal.steps(), kept);
+        tell(rt, kept);
+        forward(dial, journal, values).expect(rt, "a step");
     }
-    Ok(())
 }
 
+// The turns of six steps, one step behind the other.
+const TURNS: [u64; 12] = [3, 5, 7, 11, 13, 17, 2, 19, 23, 29, 31, 37];
+
+// Of each step the value before it, and where its turns begin and end; the third has none.
+const STEPS: [(u64, usize, usize); 6] = [
+    (0, 0, 1),
+    (3, 1, 3),
+    (7, 3, 3),
+    (7, 3, 6),
+    (17, 6, 7),
+    (2, 7, 12),
+];
+
 // Six steps forward, each state compared.
-fn there(
-    rt: &(impl Abort + Print),
-    dial: &mut Dial,
-    journal: &mut Journal<Turn>,
-) -> Result<(), Fail>
+fn there(rt: &(impl Abort + Print), dial: &mut Dial, journal: &mut Journal<Turn>)
     requires closed { journal.old.current ≡ [] }
     requires fits { FitsSteps ⟦<Dial as Undo>⟧.fits ⟦<Dial as Undo>⟧.unapply journal.old.steps dial.old }
     ensures closed { journal.new.current ≡ [] }
     ensures fits { FitsSteps ⟦<Dial as Undo>⟧.fits ⟦<Dial as Undo>⟧.unapply journal.new.steps dial.new }
 {
-    step(rt, dial, journal, 0, &[3])?;
-    step(rt, dial, journal, 3, &[5, 7])?;
-    step(rt, dial, journal, 7, &[])?;
-    step(rt, dial, journal, 7, &[11, 13, 17])?;
-    step(rt, dial, journal, 17, &[2])?;
-    step(rt, dial, journal, 2, &[19, 23, 29, 31, 37])
+    for (before, begin, end) in STEPS {
+        let values = TURNS.get(begin..end).expect(rt, "turns");
+        step(rt, dial, journal, before, values);
+    }
 }
 
 // Six steps back, each state compared, and no more.
@@ -170,50 +176,44 @@ fn all_back(rt: &impl Abort, dial: &mut Dial, journal: &mut Journal<Turn>)
     ensures closed { journal.new.current ≡ [] }
     ensures fits { FitsSteps ⟦<Dial as Undo>⟧.fits ⟦<Dial as Undo>⟧.unapply journal.new.steps dial.new }
 {
-    assert_eq!(rt; dial.value, 37);
+    same(rt, dial.value, 37);
     for (kept, before) in [(5, 2), (4, 17), (3, 7), (2, 7), (1, 3), (0, 0)] {
         goes_back(rt, dial, journal, before);
-        assert_eq!(rt; journal.steps(), kept);
+        same(rt, journal.steps(), kept);
     }
     stays(rt, dial, journal, 0);
 }
 
 // Six steps forward and all back.
-fn there_and_back(
-    rt: &(impl Abort + Print),
-    dial: &mut Dial,
-    journal: &mut Journal<Turn>,
-) -> Result<(), Fail>
+fn there_and_back(rt: &(impl Abort + Print), dial: &mut Dial, journal: &mut Journal<Turn>)
     requires closed { journal.old.current ≡ [] }
     requires fits { FitsSteps ⟦<Dial as Undo>⟧.fits ⟦<Dial as Undo>⟧.unapply journal.old.steps dial.old }
     ensures closed { journal.new.current ≡ [] }
     ensures fits { FitsSteps ⟦<Dial as Undo>⟧.fits ⟦<Dial as Undo>⟧.unapply journal.new.steps dial.new }
 {
-    there(rt, dial, journal)?;
+    there(rt, dial, journal);
     all_back(rt, dial, journal);
-    Ok(())
 }
 
 #[test]
-fn each_earlier_state_comes_back(rt: HostRuntime) -> Result<(), Fail> {
+fn each_earlier_state_comes_back(rt: HostRuntime) {
     let mut dial = Dial { value: 0 };
     let mut journal = Journal::new(rt.alloc());
-    there_and_back(&rt, &mut dial, &mut journal)?;
-    there_and_back(&rt, &mut dial, &mut journal)?;
-    Ok(())
+    there_and_back(&rt, &mut dial, &mut journal);
+    there_and_back(&rt, &mut dial, &mut journal);
+    drop(journal);
 }
 
 // Makes room for two turns. Where memory is refused nothing has changed, and room is made again.
-fn make_room(rt: &(impl Abort + Print), journal: &mut Journal<Turn>) -> Result<(), Fail>
+fn make_room(rt: &(impl Abort + Print), journal: &mut Journal<Turn>)
     ensures current { journal.new.current ≡ journal.old.current }
-    ensures notes { OnOk result (2 ≤ journal.new.notes) }
+    ensures notes { 2 ≤ journal.new.notes }
 {
     if journal.reserve(2).is_err() {
-        assert_eq!(rt; journal.steps(), 0);
-        println!(rt; "memory was refused at step 0")?;
-        journal.reserve(2)?;
+        same(rt, journal.steps(), 0);
+        tell(rt, 0);
+        journal.reserve(2).expect(rt, "room");
     }
-    Ok(())
 }
 
 // Turns twice in a step that stays open, and takes both turns back.
@@ -233,100 +233,85 @@ fn turn_twice(dial: &mut Dial, journal: &mut Journal<Turn>)
 fn is_empty(rt: &impl Abort, journal: &mut Journal<Turn>)
     requires closed { journal.old.current ≡ [] }
 {
-    assert_eq!(rt; journal.steps(), 0);
-    assert!(rt; journal.pop_open().is_none());
-    assert!(rt; !journal.reopen_last());
+    same(rt, journal.steps(), 0);
+    same(rt, journal.pop_open().is_none(), true);
+    same(rt, journal.reopen_last(), false);
 }
 
 #[test]
-fn work_that_was_not_closed_is_taken_back(rt: HostRuntime) -> Result<(), Fail> {
+fn work_that_was_not_closed_is_taken_back(rt: HostRuntime) {
     let mut dial = Dial { value: 3 };
     let mut journal = Journal::new(rt.alloc());
-    make_room(&rt, &mut journal)?;
+    make_room(&rt, &mut journal);
     turn_twice(&mut dial, &mut journal);
-    assert_eq!(rt; dial.value, 3);
+    same(&rt, dial.value, 3);
     is_empty(&rt, &mut journal);
-    Ok(())
+    drop(journal);
 }
 
 // Three steps forward, of which two are kept; then these two back.
-fn two_of_three_are_kept(
-    rt: &impl Abort,
-    dial: &mut Dial,
-    journal: &mut Journal<Turn>,
-) -> Result<(), AllocError>
+fn two_of_three_are_kept(rt: &impl Abort, dial: &mut Dial, journal: &mut Journal<Turn>)
     requires closed { journal.old.current ≡ [] }
     requires fits { FitsSteps ⟦<Dial as Undo>⟧.fits ⟦<Dial as Undo>⟧.unapply journal.old.steps dial.old }
     ensures closed { journal.new.current ≡ [] }
     ensures fits { FitsSteps ⟦<Dial as Undo>⟧.fits ⟦<Dial as Undo>⟧.unapply journal.new.steps dial.new }
 {
-    forward_again(dial, journal, &[3])?;
-    forward_again(dial, journal, &[5, 7])?;
-    forward_again(dial, journal, &[11])?;
+    forward_again(rt, dial, journal, &[3]);
+    forward_again(rt, dial, journal, &[5, 7]);
+    forward_again(rt, dial, journal, &[11]);
     forget(dial, journal, 5);
-    assert_eq!(rt; journal.steps(), 3);
+    same(rt, journal.steps(), 3);
     forget(dial, journal, 2);
-    assert_eq!(rt; journal.steps(), 2);
+    same(rt, journal.steps(), 2);
     goes_back(rt, dial, journal, 7);
     goes_back(rt, dial, journal, 3);
     stays(rt, dial, journal, 3);
-    Ok(())
 }
 
 // One step forward, which is not kept.
-fn none_is_kept(
-    rt: &impl Abort,
-    dial: &mut Dial,
-    journal: &mut Journal<Turn>,
-) -> Result<(), AllocError>
+fn none_is_kept(rt: &impl Abort, dial: &mut Dial, journal: &mut Journal<Turn>)
     requires closed { journal.old.current ≡ [] }
     requires fits { FitsSteps ⟦<Dial as Undo>⟧.fits ⟦<Dial as Undo>⟧.unapply journal.old.steps dial.old }
     ensures closed { journal.new.current ≡ [] }
     ensures fits { FitsSteps ⟦<Dial as Undo>⟧.fits ⟦<Dial as Undo>⟧.unapply journal.new.steps dial.new }
 {
-    forward_again(dial, journal, &[13])?;
+    forward_again(rt, dial, journal, &[13]);
     forget(dial, journal, 0);
-    assert_eq!(rt; journal.steps(), 0);
+    same(rt, journal.steps(), 0);
     stays(rt, dial, journal, 13);
-    Ok(())
 }
 
 #[test]
-fn what_is_kept_comes_back(rt: HostRuntime) -> Result<(), Fail> {
+fn what_is_kept_comes_back(rt: HostRuntime) {
     let mut dial = Dial { value: 0 };
     let mut journal = Journal::new(rt.alloc());
-    two_of_three_are_kept(&rt, &mut dial, &mut journal)?;
-    none_is_kept(&rt, &mut dial, &mut journal)?;
-    Ok(())
+    two_of_three_are_kept(&rt, &mut dial, &mut journal);
+    none_is_kept(&rt, &mut dial, &mut journal);
+    drop(journal);
 }
 
 // Thirty steps forward, after each of which the newest two are kept; then these two back.
-fn two_are_kept(
-    rt: &impl Abort,
-    dial: &mut Dial,
-    journal: &mut Journal<Turn>,
-) -> Result<(), AllocError>
+fn two_are_kept(rt: &impl Abort, dial: &mut Dial, journal: &mut Journal<Turn>)
     requires closed { journal.old.current ≡ [] }
     requires fits { FitsSteps ⟦<Dial as Undo>⟧.fits ⟦<Dial as Undo>⟧.unapply journal.old.steps dial.old }
     ensures closed { journal.new.current ≡ [] }
     ensures fits { FitsSteps ⟦<Dial as Undo>⟧.fits ⟦<Dial as Undo>⟧.unapply journal.new.steps dial.new }
 {
     for value in 0..30 {
-        forward_again(dial, journal, &[value, value + 1])?;
+        forward_again(rt, dial, journal, &[value, value + 1]);
         forget(dial, journal, 2);
     }
     for before in [29, 28] {
         goes_back(rt, dial, journal, before);
     }
     stays(rt, dial, journal, 28);
-    Ok(())
 }
 
 #[test]
-fn room_goes_round(rt: HostRuntime) -> Result<(), Fail> {
+fn room_goes_round(rt: HostRuntime) {
     let mut dial = Dial { value: 0 };
     let mut journal = Journal::new(rt.alloc());
-    two_are_kept(&rt, &mut dial, &mut journal)?;
-    two_are_kept(&rt, &mut dial, &mut journal)?;
-    Ok(())
+    two_are_kept(&rt, &mut dial, &mut journal);
+    two_are_kept(&rt, &mut dial, &mut journal);
+    drop(journal);
 }

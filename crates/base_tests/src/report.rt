@@ -1,3 +1,4 @@
+use crate::compare::same;
 use ss_report::{Picture, PictureFault, Report};
 use ss_words::{RunFault, StepFault};
 use std::alloc::Global;
@@ -36,7 +37,7 @@ fn print(
     picture: &Picture,
     values: &[i64],
 ) -> Result<(), StepFault> {
-    assert_eq!(rt; picture.fields(), values.len());
+    assert!(rt; picture.fields() == values.len());
     report.print(picture, values)
 }
 
@@ -45,7 +46,7 @@ fn print_seven(rt: &impl Abort, report: &mut Report, picture: &Picture) -> &'sta
     match print(rt, report, picture, &[7]) {
         Ok(()) => b"  7\n",
         Err(fault) => {
-            assert_eq!(rt; fault, StepFault::Memory);
+            same(rt, fault, StepFault::Memory);
             b""
         }
     }
@@ -54,8 +55,8 @@ fn print_seven(rt: &impl Abort, report: &mut Report, picture: &Picture) -> &'sta
 /// A report that refuses to skip so many lines, which is to be for this reason, has these bytes.
 fn refuses(rt: &impl Abort, report: &mut Report, lines: usize, reason: StepFault, bytes: &[u8]) {
     if let Err(fault) = skip(report, lines) {
-        assert_eq!(rt; fault, reason);
-        assert_eq!(rt; report.bytes(), bytes);
+        same(rt, fault, reason);
+        same(rt, report.bytes(), bytes);
     }
 }
 
@@ -63,10 +64,10 @@ fn refuses(rt: &impl Abort, report: &mut Report, lines: usize, reason: StepFault
 /// stays as it was.
 fn append(rt: &impl Abort, report: &mut Report, picture: &Picture) {
     let bytes = print_seven(rt, report, picture);
-    assert_eq!(rt; report.bytes(), bytes);
+    same(rt, report.bytes(), bytes);
     let full = StepFault::Fault(RunFault::ReportFull);
     refuses(rt, report, 16_777_217, full, bytes);
-    assert_eq!(rt; report.bytes(), bytes);
+    same(rt, report.bytes(), bytes);
     refuses(rt, report, 1000, StepFault::Memory, bytes);
 }
 

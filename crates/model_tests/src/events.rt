@@ -6,6 +6,7 @@ ghost use Rattle.ss_events.specs.State.{AreRanked};
 ghost use Rattle.ss_events.specs.Rows.{rule_of};
 ghost use Rattle.ss_links.specs.Board.{empty_board};
 
+use crate::compare::same;
 use crate::dice::Dice;
 use crate::model::checked;
 use ss_check::{Key, Rank};
@@ -48,7 +49,7 @@ fn comes_first(a: &Plain, b: &Plain) -> bool {
 }
 
 // Puts a notice where it belongs in the plain list.
-fn put(rt: &impl Abort, plain: &mut Vec<Plain>, notice: Plain) -> Result<(), AllocError> {
+fn put(rt: &impl Abort, plain: &mut Vec<Plain>, notice: Plain) {
     let mut place = plain.len();
     for i in 0..plain.len() {
         if comes_first(&notice, &plain[i]) {
@@ -57,8 +58,7 @@ fn put(rt: &impl Abort, plain: &mut Vec<Plain>, notice: Plain) -> Result<(), All
         }
     }
     assert!(rt; place <= plain.len());
-    plain.insert(place, notice)?;
-    Ok(())
+    plain.insert(place, notice).expect(rt, "room");
 }
 
 // Where a notice stands in the plain list.
@@ -119,14 +119,9 @@ fn four_rules(alloc: Global) -> Result<Vec<ClassRule>, AllocError>
     }
 }
 
-// Compares a notice, or that there is none.
-fn is_notice(rt: &impl Abort, found: Option<u32>, wanted: Option<u32>) {
-    assert_eq!(rt; found, wanted);
-}
-
 // Compares what stands at a place of the order.
 fn stands<S: SetBoard>(rt: &impl Abort, agenda: &Agenda<S>, number: usize, notice: Option<u32>) {
-    is_notice(rt, agenda.in_order(number), notice);
+    same(rt, agenda.in_order(number), notice);
 }
 
 // Compares the slot of a notice with the plain list's.
@@ -136,7 +131,7 @@ fn agrees_on_slot<S: SetBoard>(rt: &impl Abort, agenda: &Agenda<S>, notice: &Pla
         time: notice.time,
         class: notice.class,
     };
-    assert_eq!(rt; agenda.slot(notice.notice), Some(slot));
+    same(rt, agenda.slot(notice.notice), Some(slot));
 }
 
 // Compares the order with the plain list.
@@ -147,7 +142,7 @@ fn agrees_on_order<S: SetBoard>(rt: &impl Abort, agenda: &Agenda<S>, plain: &[Pl
     }
     stands(rt, agenda, plain.len(), None);
     let first = plain.first().map(|notice| notice.notice);
-    is_notice(rt, agenda.next(), first);
+    same(rt, agenda.next(), first);
 }
 
 // Compares a listing with the plain list.
@@ -155,9 +150,9 @@ fn agrees_on_listing<S: SetBoard>(rt: &impl Abort, agenda: &Agenda<S>, plain: &[
     let mut listing = agenda.listing();
     for notice in plain {
         let next = agenda.list_next(&mut listing);
-        is_notice(rt, next, Some(notice.notice));
+        same(rt, next, Some(notice.notice));
     }
-    is_notice(rt, agenda.list_next(&mut listing), None);
+    same(rt, agenda.list_next(&mut listing), None);
 }
 
 // Compares every reading call with the plain list.
@@ -179,7 +174,7 @@ fn behind_seat<S: SetBoard>(
     let board = agenda.board();
     let seat = at.expect(rt, "a notice more on the board");
     assert!(rt; seat < board.seats());
-    assert_eq!(rt; agenda.notice(seat), notice);
+    same(rt, agenda.notice(seat), notice);
     board.next(seat)
 }
 
@@ -198,7 +193,7 @@ fn lists_class<S: SetBoard>(rt: &impl Abort, agenda: &Agenda<S>, plain: &[Plain]
             at = behind_seat(rt, agenda, at, notice.notice);
         }
     }
-    assert!(rt; at.is_none());
+    same(rt, at, None);
 }
 
 // One step that schedules a notice, or the fault where that is refused.
@@ -230,25 +225,40 @@ fn schedule<S: SetBoard>(
     }
 }
 
+// The same where no memory is refused.
+fn schedules<S: SetBoard>(
+    rt: &impl Abort,
+    agenda: &mut Agenda<S>,
+    journal: &mut Journal<AgendaChange>,
+    notice: &Plain,
+    clock: i64,
+) -> Option<RunFault>
+    requires closed { journal.old.current ≡ [] }
+    requires fits { FitsSteps Fits unapply journal.old.steps agenda.old }
+    ensures closed { journal.new.current ≡ [] }
+    ensures fits { FitsSteps Fits unapply journal.new.steps agenda.new }
+{
+    schedule(rt, agenda, journal, notice, clock).expect(rt, "a step")
+}
+
 // One step that takes a pending notice off.
 fn take<S: SetBoard>(
     rt: &impl Abort,
     agenda: &mut Agenda<S>,
     journal: &mut Journal<AgendaChange>,
     notice: u32,
-) -> Result<(), AllocError>
+)
     requires closed { journal.old.current ≡ [] }
     requires fits { FitsSteps Fits unapply journal.old.steps agenda.old }
     ensures closed { journal.new.current ≡ [] }
     ensures fits { FitsSteps Fits unapply journal.new.steps agenda.new }
 {
-    journal.reserve(1)?;
+    journal.reserve(1).expect(rt, "room");
     assert!(rt; notice > 0);
     assert!(rt; agenda.slot(notice).is_some());
     let change = agenda.take(notice);
     journal.note(change);
     journal.close();
-    Ok(())
 }
 
 // One step that cancels a notice, or the fault where it isn't pending.
@@ -257,21 +267,21 @@ fn cancel<S: SetBoard>(
     agenda: &mut Agenda<S>,
     journal: &mut Journal<AgendaChange>,
     notice: u32,
-) -> Result<Option<RunFault>, AllocError>
+) -> Option<RunFault>
     requires closed { journal.old.current ≡ [] }
     requires fits { FitsSteps Fits unapply journal.old.steps agenda.old }
     ensures closed { journal.new.current ≡ [] }
     ensures fits { FitsSteps Fits unapply journal.new.steps agenda.new }
 {
-    journal.reserve(1)?;
+    journal.reserve(1).expect(rt, "room");
     assert!(rt; notice > 0);
     match agenda.cancel(notice) {
         Ok(change) => {
             journal.note(change);
             journal.close();
-            Ok(None)
+            None
         }
-        Err(fault) => Ok(Some(fault)),
+        Err(fault) => Some(fault),
     }
 }
 
@@ -313,18 +323,16 @@ struct Plains {
 }
 
 impl Plains {
-    fn step(&mut self) -> Result<(), AllocError> {
-        let old = self.now.clone()?;
-        self.before.push(old)?;
-        Ok(())
+    fn step(&mut self, rt: &impl Abort) {
+        let old = self.now.clone().expect(rt, "a copy");
+        self.before.push(old).expect(rt, "room");
     }
 
     // One step that takes the notice at a place off.
-    fn take(&mut self, rt: &impl Abort, place: usize) -> Result<(), AllocError> {
-        self.step()?;
+    fn take(&mut self, rt: &impl Abort, place: usize) {
+        self.step(rt);
         assert!(rt; place < self.now.len());
         self.now.remove(place);
-        Ok(())
     }
 }
 
@@ -336,20 +344,20 @@ fn schedule_in_both<S: SetBoard>(
     plains: &mut Plains,
     notice: Plain,
     clock: i64,
-) -> Result<(), AllocError>
+)
     requires closed { journal.old.current ≡ [] }
     requires fits { FitsSteps Fits unapply journal.old.steps agenda.old }
     ensures closed { journal.new.current ≡ [] }
     ensures fits { FitsSteps Fits unapply journal.new.steps agenda.new }
 {
-    let fault = schedule(rt, agenda, journal, &notice, clock)?;
+    let fault = schedules(rt, agenda, journal, &notice, clock);
     if place_of(&plains.now, notice.notice).is_some() {
-        assert!(rt; fault == Some(RunFault::AlreadyScheduled));
-        return Ok(());
+        same(rt, fault, Some(RunFault::AlreadyScheduled));
+        return;
     }
-    assert!(rt; fault == None);
-    plains.step()?;
-    put(rt, &mut plains.now, notice)
+    same(rt, fault, None);
+    plains.step(rt);
+    put(rt, &mut plains.now, notice);
 }
 
 // Takes the next notice off in both.
@@ -359,14 +367,14 @@ fn take_in_both<S: SetBoard>(
     journal: &mut Journal<AgendaChange>,
     plains: &mut Plains,
     next: u32,
-) -> Result<(), AllocError>
+)
     requires closed { journal.old.current ≡ [] }
     requires fits { FitsSteps Fits unapply journal.old.steps agenda.old }
     ensures closed { journal.new.current ≡ [] }
     ensures fits { FitsSteps Fits unapply journal.new.steps agenda.new }
 {
-    take(rt, agenda, journal, next)?;
-    plains.take(rt, 0)
+    take(rt, agenda, journal, next);
+    plains.take(rt, 0);
 }
 
 // Cancels a notice in both, or in neither where it isn't pending.
@@ -376,22 +384,19 @@ fn cancel_in_both<S: SetBoard>(
     journal: &mut Journal<AgendaChange>,
     plains: &mut Plains,
     notice: u32,
-) -> Result<(), AllocError>
+)
     requires closed { journal.old.current ≡ [] }
     requires fits { FitsSteps Fits unapply journal.old.steps agenda.old }
     ensures closed { journal.new.current ≡ [] }
     ensures fits { FitsSteps Fits unapply journal.new.steps agenda.new }
 {
-    let fault = cancel(rt, agenda, journal, notice)?;
+    let fault = cancel(rt, agenda, journal, notice);
     match place_of(&plains.now, notice) {
         Some(place) => {
-            assert!(rt; fault == None);
-            plains.take(rt, place)
+            same(rt, fault, None);
+            plains.take(rt, place);
         }
-        None => {
-            assert!(rt; fault == Some(RunFault::NotScheduled));
-            Ok(())
-        }
+        None => same(rt, fault, Some(RunFault::NotScheduled)),
     }
 }
 
@@ -401,15 +406,14 @@ fn too_early<S: SetBoard>(
     agenda: &mut Agenda<S>,
     journal: &mut Journal<AgendaChange>,
     notice: &Plain,
-) -> Result<(), AllocError>
+)
     requires closed { journal.old.current ≡ [] }
     requires fits { FitsSteps Fits unapply journal.old.steps agenda.old }
     ensures closed { journal.new.current ≡ [] }
     ensures fits { FitsSteps Fits unapply journal.new.steps agenda.new }
 {
-    let early = schedule(rt, agenda, journal, notice, i64::MAX)?;
-    assert!(rt; early == Some(RunFault::TimeBeforeClock));
-    Ok(())
+    let early = schedules(rt, agenda, journal, notice, i64::MAX);
+    same(rt, early, Some(RunFault::TimeBeforeClock));
 }
 
 // One step back in both, where there is one.
@@ -425,7 +429,7 @@ fn back_in_both<S: SetBoard>(
     ensures fits { FitsSteps Fits unapply journal.new.steps agenda.new }
 {
     let undone = back(agenda, journal);
-    assert!(rt; undone != plains.before.is_empty());
+    same(rt, undone, !plains.before.is_empty());
     if let Some(before) = plains.before.pop() {
         plains.now = before;
     }
@@ -439,7 +443,7 @@ fn turn<S: SetBoard>(
     plains: &mut Plains,
     dice: &mut Dice,
     number: u64,
-) -> Result<(), AllocError>
+)
     requires closed { journal.old.current ≡ [] }
     requires fits { FitsSteps Fits unapply journal.old.steps agenda.old }
     ensures closed { journal.new.current ≡ [] }
@@ -451,14 +455,11 @@ fn turn<S: SetBoard>(
         0 | 1 | 2 | 3 => schedule_in_both(rt, agenda, journal, plains, notice, clock),
         4 => match agenda.next() {
             Some(next) => take_in_both(rt, agenda, journal, plains, next),
-            None => Ok(()),
+            None => {}
         },
         5 => cancel_in_both(rt, agenda, journal, plains, notice.notice),
         6 => too_early(rt, agenda, journal, &notice),
-        _ => {
-            back_in_both(rt, agenda, journal, plains);
-            Ok(())
-        }
+        _ => back_in_both(rt, agenda, journal, plains),
     }
 }
 
@@ -469,43 +470,41 @@ fn mixture<S: SetBoard>(
     journal: &mut Journal<AgendaChange>,
     plains: &mut Plains,
     dice: &mut Dice,
-) -> Result<(), AllocError>
+)
     requires closed { journal.old.current ≡ [] }
     requires fits { FitsSteps Fits unapply journal.old.steps agenda.old }
     ensures closed { journal.new.current ≡ [] }
     ensures fits { FitsSteps Fits unapply journal.new.steps agenda.new }
 {
     for number in 0..300 {
-        turn(rt, agenda, journal, plains, dice, number)?;
+        turn(rt, agenda, journal, plains, dice, number);
         agrees(rt, agenda, &plains.now);
     }
-    assert!(rt; plains.now.len() > 20);
-    Ok(())
+    same(rt, plains.now.len() > 20, true);
 }
 
 // The mixture on a new agenda.
-fn mixture_on<S: SetBoard>(rt: &impl Abort, alloc: Global, board: S) -> Result<(), AllocError>
+fn mixture_on<S: SetBoard>(rt: &impl Abort, alloc: Global, board: S)
     requires { S.board board ≡ empty_board }
 {
-    let mut agenda = started(alloc, board)?;
+    let mut agenda = started(alloc, board).expect(rt, "an agenda");
     let mut journal = Journal::new(alloc);
     let mut plains = Plains {
         now: Vec::new(alloc),
         before: Vec::new(alloc),
     };
     let mut dice = Dice { state: 19 };
-    let result = mixture(rt, &mut agenda, &mut journal, &mut plains, &mut dice);
+    mixture(rt, &mut agenda, &mut journal, &mut plains, &mut dice);
     drop(plains);
     drop(journal);
     drop(agenda);
-    result
 }
 
 #[test]
-fn every_call_agrees_with_a_plain_list(rt: HostRuntime) -> Result<(), AllocError> {
+fn every_call_agrees_with_a_plain_list(rt: HostRuntime) {
     let alloc = rt.alloc();
-    mixture_on(&rt, alloc, PlainSets::new(alloc))?;
-    mixture_on(&rt, alloc, LinkedSets::new(alloc))
+    mixture_on(&rt, alloc, PlainSets::new(alloc));
+    mixture_on(&rt, alloc, LinkedSets::new(alloc));
 }
 
 // Compares the order with these notices.
@@ -548,7 +547,7 @@ fn schedule_row<S: SetBoard>(
     agenda: &mut Agenda<S>,
     journal: &mut Journal<AgendaChange>,
     number: usize,
-) -> Result<(), AllocError>
+)
     requires closed { journal.old.current ≡ [] }
     requires fits { FitsSteps Fits unapply journal.old.steps agenda.old }
     ensures closed { journal.new.current ≡ [] }
@@ -559,10 +558,9 @@ fn schedule_row<S: SetBoard>(
     let notice = with_key(notice, time, class, key);
     if schedule(rt, agenda, journal, &notice, 0).is_err() {
         stand_behind(rt, agenda, number);
-        schedule(rt, agenda, journal, &notice, 0)?;
+        schedules(rt, agenda, journal, &notice, 0);
     }
     stand_behind(rt, agenda, number + 1);
-    Ok(())
 }
 
 // Takes all five schedulings back.
@@ -577,7 +575,7 @@ fn all_back<S: SetBoard>(
     ensures fits { FitsSteps Fits unapply journal.new.steps agenda.new }
 {
     for number in 0..5 {
-        assert!(rt; back(agenda, journal));
+        same(rt, back(agenda, journal), true);
         stand_behind(rt, agenda, 4 - number);
     }
 }
@@ -587,17 +585,16 @@ fn there_and_back<S: SetBoard>(
     rt: &impl Abort,
     agenda: &mut Agenda<S>,
     journal: &mut Journal<AgendaChange>,
-) -> Result<(), AllocError>
+)
     requires closed { journal.old.current ≡ [] }
     requires fits { FitsSteps Fits unapply journal.old.steps agenda.old }
     ensures closed { journal.new.current ≡ [] }
     ensures fits { FitsSteps Fits unapply journal.new.steps agenda.new }
 {
     for number in 0..5 {
-        schedule_row(rt, agenda, journal, number)?;
+        schedule_row(rt, agenda, journal, number);
     }
     all_back(rt, agenda, journal);
-    Ok(())
 }
 
 // An agenda of four classes.
@@ -614,10 +611,10 @@ fn linked(alloc: Global) -> Result<Agenda<LinkedSets>, AllocError> {
 }
 
 // The same, made again where memory was refused.
-fn linked_again(alloc: Global) -> Result<Agenda<LinkedSets>, AllocError> {
+fn linked_again(rt: &impl Abort, alloc: Global) -> Agenda<LinkedSets> {
     match linked(alloc) {
-        Ok(agenda) => Ok(agenda),
-        Err(_) => linked(alloc),
+        Ok(agenda) => agenda,
+        Err(_) => linked(alloc).expect(rt, "an agenda"),
     }
 }
 
@@ -626,23 +623,22 @@ fn there_and_back_twice<S: SetBoard>(
     rt: &impl Abort,
     agenda: &mut Agenda<S>,
     journal: &mut Journal<AgendaChange>,
-) -> Result<(), AllocError>
+)
     requires closed { journal.old.current ≡ [] }
     requires fits { FitsSteps Fits unapply journal.old.steps agenda.old }
 {
-    there_and_back(rt, agenda, journal)?;
-    there_and_back(rt, agenda, journal)
+    there_and_back(rt, agenda, journal);
+    there_and_back(rt, agenda, journal);
 }
 
 #[test]
-fn a_refused_growth_changes_nothing(rt: HostRuntime) -> Result<(), AllocError> {
+fn a_refused_growth_changes_nothing(rt: HostRuntime) {
     let alloc = rt.alloc();
-    let mut agenda = linked_again(alloc)?;
+    let mut agenda = linked_again(&rt, alloc);
     let mut journal = Journal::new(alloc);
-    let result = there_and_back_twice(&rt, &mut agenda, &mut journal);
+    there_and_back_twice(&rt, &mut agenda, &mut journal);
     drop(journal);
     drop(agenda);
-    result
 }
 
 // A notice of a class, with one key.
@@ -662,16 +658,15 @@ fn schedule_all<S: SetBoard>(
     agenda: &mut Agenda<S>,
     journal: &mut Journal<AgendaChange>,
     rows: &[(u32, usize, i64)],
-) -> Result<(), AllocError>
+)
     requires closed { journal.old.current ≡ [] }
     requires fits { FitsSteps Fits unapply journal.old.steps agenda.old }
     ensures closed { journal.new.current ≡ [] }
     ensures fits { FitsSteps Fits unapply journal.new.steps agenda.new }
 {
     for &(notice, class, key) in rows {
-        schedule(rt, agenda, journal, &with_key(notice, 5, class, key), 0)?;
+        schedules(rt, agenda, journal, &with_key(notice, 5, class, key), 0);
     }
-    Ok(())
 }
 
 // Schedules a notice whose attributes then change: nothing moves, and later notices are compared
@@ -680,28 +675,26 @@ fn keeps_keys<S: SetBoard>(
     rt: &impl Abort,
     agenda: &mut Agenda<S>,
     journal: &mut Journal<AgendaChange>,
-) -> Result<(), AllocError>
+)
     requires closed { journal.old.current ≡ [] }
     requires fits { FitsSteps Fits unapply journal.old.steps agenda.old }
 {
     let mut first = with_key(1, 5, 1, 3);
-    schedule(rt, agenda, journal, &first, 0)?;
+    schedules(rt, agenda, journal, &first, 0);
     first.keys = [9, 9];
-    schedule_all(rt, agenda, journal, &[(2, 1, 7), (3, 1, 2)])?;
+    schedule_all(rt, agenda, journal, &[(2, 1, 7), (3, 1, 2)]);
     stand_so(rt, agenda, &[2, 1, 3]);
-    assert!(rt; first.keys[0] == 9);
-    Ok(())
+    same(rt, first.keys[0], 9);
 }
 
 #[test]
-fn keys_are_those_of_the_scheduling(rt: HostRuntime) -> Result<(), AllocError> {
+fn keys_are_those_of_the_scheduling(rt: HostRuntime) {
     let alloc = rt.alloc();
-    let mut agenda = linked(alloc)?;
+    let mut agenda = linked(alloc).expect(&rt, "an agenda");
     let mut journal = Journal::new(alloc);
-    let result = keeps_keys(&rt, &mut agenda, &mut journal);
+    keeps_keys(&rt, &mut agenda, &mut journal);
     drop(journal);
     drop(agenda);
-    result
 }
 
 // Compares a change with one that took off notice 9, behind notice 7 and of the second filing.
@@ -712,9 +705,9 @@ fn took_second_filing(rt: &impl Abort, change: &AgendaChange) {
             entry,
             predecessor,
         } => {
-            is_notice(rt, Some(*notice), Some(9));
-            is_notice(rt, *predecessor, Some(7));
-            assert_eq!(rt; entry.filing, 2);
+            same(rt, *notice, 9);
+            same(rt, *predecessor, Some(7));
+            same(rt, entry.filing, 2);
         }
         AgendaChange::Scheduled { .. } => panic!(rt; "a notice that was taken off"),
     }
@@ -725,6 +718,7 @@ fn takes_second_filing<S: SetBoard>(rt: &impl Abort, agenda: &mut Agenda<S>) {
     assert!(rt; agenda.slot(9).is_some());
     let change = agenda.take(9);
     took_second_filing(rt, &change);
+    drop(change);
 }
 
 // Schedules notices 7 and 8, one step back, and schedules notice 9.
@@ -732,26 +726,24 @@ fn gives_a_filing_number_again<S: SetBoard>(
     rt: &impl Abort,
     agenda: &mut Agenda<S>,
     journal: &mut Journal<AgendaChange>,
-) -> Result<(), AllocError>
+)
     requires closed { journal.old.current ≡ [] }
     requires fits { FitsSteps Fits unapply journal.old.steps agenda.old }
 {
-    schedule_all(rt, agenda, journal, &[(7, 0, 0), (8, 0, 0)])?;
-    assert!(rt; back(agenda, journal));
-    schedule_all(rt, agenda, journal, &[(9, 0, 0)])?;
+    schedule_all(rt, agenda, journal, &[(7, 0, 0), (8, 0, 0)]);
+    same(rt, back(agenda, journal), true);
+    schedule_all(rt, agenda, journal, &[(9, 0, 0)]);
     takes_second_filing(rt, agenda);
-    Ok(())
 }
 
 #[test]
-fn a_filing_number_comes_back(rt: HostRuntime) -> Result<(), AllocError> {
+fn a_filing_number_comes_back(rt: HostRuntime) {
     let alloc = rt.alloc();
-    let mut agenda = linked(alloc)?;
+    let mut agenda = linked(alloc).expect(&rt, "an agenda");
     let mut journal = Journal::new(alloc);
-    let result = gives_a_filing_number_again(&rt, &mut agenda, &mut journal);
+    gives_a_filing_number_again(&rt, &mut agenda, &mut journal);
     drop(journal);
     drop(agenda);
-    result
 }
 
 // Takes each of five notices that tie off in turn, and back: it stands again where it stood.
@@ -759,37 +751,35 @@ fn out_and_in<S: SetBoard>(
     rt: &impl Abort,
     agenda: &mut Agenda<S>,
     journal: &mut Journal<AgendaChange>,
-) -> Result<(), AllocError>
+)
     requires closed { journal.old.current ≡ [] }
     requires fits { FitsSteps Fits unapply journal.old.steps agenda.old }
 {
     let ties = [(4, 0, 0), (2, 0, 0), (5, 0, 0), (1, 0, 0), (3, 0, 0)];
-    schedule_all(rt, agenda, journal, &ties)?;
+    schedule_all(rt, agenda, journal, &ties);
     for number in [5, 4, 3, 2, 1] {
-        take(rt, agenda, journal, number)?;
-        assert!(rt; back(agenda, journal));
+        take(rt, agenda, journal, number);
+        same(rt, back(agenda, journal), true);
         stand_so(rt, agenda, &[4, 2, 5, 1, 3]);
     }
-    Ok(())
 }
 
 // The same on a new agenda.
-fn out_and_in_on<S: SetBoard>(rt: &impl Abort, alloc: Global, board: S) -> Result<(), AllocError>
+fn out_and_in_on<S: SetBoard>(rt: &impl Abort, alloc: Global, board: S)
     requires { S.board board ≡ empty_board }
 {
-    let mut agenda = started(alloc, board)?;
+    let mut agenda = started(alloc, board).expect(rt, "an agenda");
     let mut journal = Journal::new(alloc);
-    let result = out_and_in(rt, &mut agenda, &mut journal);
+    out_and_in(rt, &mut agenda, &mut journal);
     drop(journal);
     drop(agenda);
-    result
 }
 
 #[test]
-fn what_is_taken_off_comes_back_among_its_ties(rt: HostRuntime) -> Result<(), AllocError> {
+fn what_is_taken_off_comes_back_among_its_ties(rt: HostRuntime) {
     let alloc = rt.alloc();
-    out_and_in_on(&rt, alloc, PlainSets::new(alloc))?;
-    out_and_in_on(&rt, alloc, LinkedSets::new(alloc))
+    out_and_in_on(&rt, alloc, PlainSets::new(alloc));
+    out_and_in_on(&rt, alloc, LinkedSets::new(alloc));
 }
 
 // Four classes, of which the second and the last are event classes.
@@ -805,9 +795,9 @@ fn two_event_classes(alloc: Global) -> Result<Vec<ClassRule>, AllocError>
 
 // Only an event class counts keys.
 fn counts_keys<S: SetBoard>(rt: &impl Abort, agenda: &Agenda<S>) {
-    assert!(rt; agenda.key_count(0) == None);
-    assert!(rt; agenda.key_count(3) == Some(0));
-    assert!(rt; agenda.key_count(4) == None);
+    same(rt, agenda.key_count(0), None);
+    same(rt, agenda.key_count(3), Some(0));
+    same(rt, agenda.key_count(4), None);
 }
 
 // Schedules a notice of each event class, which stands at its head.
@@ -815,17 +805,16 @@ fn stand_at_heads<S: SetBoard>(
     rt: &impl Abort,
     agenda: &mut Agenda<S>,
     journal: &mut Journal<AgendaChange>,
-) -> Result<(), AllocError>
+)
     requires closed { journal.old.current ≡ [] }
     requires fits { FitsSteps Fits unapply journal.old.steps agenda.old }
 {
     counts_keys(rt, agenda);
-    schedule_all(rt, agenda, journal, &[(1, 1, 0), (2, 3, 0)])?;
+    schedule_all(rt, agenda, journal, &[(1, 1, 0), (2, 3, 0)]);
     stand_so(rt, agenda, &[2, 1]);
-    assert!(rt; agenda.board().heads() == 2);
+    same(rt, agenda.board().heads(), 2);
     behind_seat(rt, agenda, first_seat(rt, agenda, 0), 1);
     behind_seat(rt, agenda, first_seat(rt, agenda, 1), 2);
-    Ok(())
 }
 
 // An agenda of these classes.
@@ -835,22 +824,22 @@ fn of_two_event_classes(alloc: Global) -> Result<Agenda<LinkedSets>, AllocError>
 }
 
 #[test]
-fn each_event_class_has_a_head(rt: HostRuntime) -> Result<(), AllocError> {
+fn each_event_class_has_a_head(rt: HostRuntime) {
     let alloc = rt.alloc();
-    let mut agenda = of_two_event_classes(alloc)?;
+    let mut agenda = of_two_event_classes(alloc).expect(&rt, "an agenda");
     let mut journal = Journal::new(alloc);
-    let result = stand_at_heads(&rt, &mut agenda, &mut journal);
+    stand_at_heads(&rt, &mut agenda, &mut journal);
     drop(journal);
     drop(agenda);
-    result
 }
 
 #[test]
-fn a_program_without_events_has_none(rt: HostRuntime) -> Result<(), AllocError> {
+fn a_program_without_events_has_none(rt: HostRuntime) {
     let alloc = rt.alloc();
     let program = checked(alloc, b"MAIN\nSTOP\nEND\n").expect(&rt, "a program");
     let agenda = Agenda::new(alloc, &program, PlainSets::new(alloc));
     drop(program);
-    assert_eq!(rt; agenda?.next(), None);
-    Ok(())
+    let agenda = agenda.expect(&rt, "an agenda");
+    same(&rt, agenda.next(), None);
+    drop(agenda);
 }

@@ -1,10 +1,12 @@
 //! Runs forward and back, state by state, and calls that are refused memory.
+use crate::compare::same;
 use crate::model::started;
 use ss_check::Variable;
-use ss_links::LinkedSets;
+use ss_links::{LinkedSets, SetBoard};
 use ss_machine::{Machine, Status, Stepped};
 use ss_words::RunFault;
-use std::alloc::{AllocError, Global};
+use std::alloc::Global;
+use std::fmt::Debug;
 use std::process::Abort;
 
 // Each model is a MAIN; its locals are numbered in the order of their first place.
@@ -24,7 +26,7 @@ fn start(rt: &(impl Abort + Print), alloc: Global, model: &[u8]) -> Machine<Link
 }
 
 // A local of the last frame.
-fn local(rt: &impl Abort, machine: &Machine<LinkedSets>, number: usize) -> i64 {
+fn local<S: SetBoard>(rt: &impl Abort, machine: &Machine<S>, number: usize) -> i64 {
     machine.known();
     let (section, _) = machine.place();
     let locals = machine.program().section(section).locals.len();
@@ -42,121 +44,99 @@ struct Shown<'a> {
     report: &'a [u8],
 }
 
-// Compares a number at a position.
-fn is_number(rt: &impl Abort, position: u64, found: i64, wanted: i64) {
-    assert_eq!(rt; found, wanted, "at {position}");
-}
-
-// Compares the report.
-fn is_report(rt: &impl Abort, machine: &Machine<LinkedSets>, report: &[u8]) {
-    assert_eq!(rt; machine.report(), report, "at {}", machine.position());
+// Compares what is at a position, which a message names as well.
+fn same_at<T: PartialEq + Debug + Copy>(rt: &impl Abort, position: u64, found: T, wanted: T) {
+    same(rt, (position, found), (position, wanted));
 }
 
 // Compares the locals with those of a state.
-fn compare_locals(rt: &impl Abort, machine: &Machine<LinkedSets>, shown: &Shown<'_>) {
+fn compare_locals<S: SetBoard>(rt: &impl Abort, machine: &Machine<S>, shown: &Shown<'_>) {
     for (number, &value) in shown.locals.iter().enumerate() {
-        is_number(rt, shown.position, local(rt, machine, number), value);
+        same_at(rt, shown.position, local(rt, machine, number), value);
     }
 }
 
 // Compares the position and the place with those of a state, and the time with 0.
-fn compare_place(rt: &impl Abort, machine: &Machine<LinkedSets>, shown: &Shown<'_>) {
+fn compare_place<S: SetBoard>(rt: &impl Abort, machine: &Machine<S>, shown: &Shown<'_>) {
     let position = shown.position;
-    assert_eq!(rt; machine.position(), position);
-    assert!(rt; machine.place() == (0, shown.place), "at {position}");
-    is_number(rt, position, machine.clock(), 0);
-    is_number(rt, position, machine.variable(Variable::Clock), 0);
+    same(rt, machine.position(), position);
+    same_at(rt, position, machine.place(), (0, shown.place));
+    same_at(rt, position, machine.clock(), 0);
+    same_at(rt, position, machine.variable(Variable::Clock), 0);
 }
 
-fn compare(rt: &impl Abort, machine: &Machine<LinkedSets>, shown: &Shown<'_>) {
+fn compare<S: SetBoard>(rt: &impl Abort, machine: &Machine<S>, shown: &Shown<'_>) {
     compare_place(rt, machine, shown);
     compare_locals(rt, machine, shown);
-    is_report(rt, machine, shown.report);
-    assert!(rt; machine.status() == shown.status, "at {}", shown.position);
+    same_at(rt, shown.position, machine.report(), shown.report);
+    same_at(rt, shown.position, machine.status(), shown.status);
 }
 
 // One step, which moves or is at the end.
-fn steps(
-    rt: &impl Abort,
-    machine: &mut Machine<LinkedSets>,
-    wanted: Stepped,
-) -> Result<(), AllocError> {
-    let stepped = machine.step()?;
-    assert_eq!(rt; stepped, wanted);
-    Ok(())
+fn steps<S: SetBoard>(rt: &impl Abort, machine: &mut Machine<S>, wanted: Stepped) {
+    let stepped = machine.step().expect(rt, "a step");
+    same(rt, stepped, wanted);
 }
 
 // A step that was refused memory changed nothing; makes it again.
-fn step_again(
-    rt: &(impl Abort + Print),
-    machine: &mut Machine<LinkedSets>,
-    from: &Shown<'_>,
-) -> Result<(), AllocError> {
+fn step_again<S: SetBoard>(rt: &(impl Abort + Print), machine: &mut Machine<S>, from: &Shown<'_>) {
     compare(rt, machine, from);
     println!(rt; "memory was refused at position {}", from.position).expect(rt, "a line");
-    steps(rt, machine, Stepped::Moved)
+    steps(rt, machine, Stepped::Moved);
 }
 
 // One step from a state to the next; one that is refused memory is made again.
-fn step(
+fn step<S: SetBoard>(
     rt: &(impl Abort + Print),
-    machine: &mut Machine<LinkedSets>,
+    machine: &mut Machine<S>,
     from: &Shown<'_>,
     to: &Shown<'_>,
-) -> Result<(), AllocError> {
+) {
     compare(rt, machine, from);
     match machine.step() {
-        Ok(stepped) => assert_eq!(rt; stepped, Stepped::Moved),
-        Err(_) => step_again(rt, machine, from)?,
+        Ok(stepped) => same(rt, stepped, Stepped::Moved),
+        Err(_) => step_again(rt, machine, from),
     }
     compare(rt, machine, to);
-    Ok(())
 }
 
 // All states of a run, back to the start.
-fn back_to_start(rt: &impl Abort, machine: &mut Machine<LinkedSets>, run: &[Shown<'_>]) {
+fn back_to_start<S: SetBoard>(rt: &impl Abort, machine: &mut Machine<S>, run: &[Shown<'_>]) {
     for shown in run.iter().rev().skip(1) {
-        assert!(rt; machine.back());
+        same(rt, machine.back(), true);
         compare(rt, machine, shown);
     }
-    assert!(rt; !machine.back());
+    same(rt, machine.back(), false);
 }
 
 // All states of a run, forward and back to the start.
-fn forth_and_back(
+fn forth_and_back<S: SetBoard>(
     rt: &(impl Abort + Print),
-    machine: &mut Machine<LinkedSets>,
+    machine: &mut Machine<S>,
     run: &[Shown<'_>],
-) -> Result<(), AllocError> {
+) {
     for pair in run.windows(2) {
-        step(rt, machine, &pair[0], &pair[1])?;
+        step(rt, machine, &pair[0], &pair[1]);
     }
-    steps(rt, machine, Stepped::AtEnd)?;
+    steps(rt, machine, Stepped::AtEnd);
     back_to_start(rt, machine, run);
-    Ok(())
 }
 
 // All states of a run, forward, back to the start, and forward and back again.
-fn forth_and_back_twice(
+fn forth_and_back_twice<S: SetBoard>(
     rt: &(impl Abort + Print),
-    machine: &mut Machine<LinkedSets>,
+    machine: &mut Machine<S>,
     run: &[Shown<'_>],
-) -> Result<(), AllocError> {
-    forth_and_back(rt, machine, run)?;
-    forth_and_back(rt, machine, run)
+) {
+    forth_and_back(rt, machine, run);
+    forth_and_back(rt, machine, run);
 }
 
 // The same with a machine at the start of a model's run.
-fn there_and_back(
-    rt: &(impl Abort + Print),
-    alloc: Global,
-    model: &[u8],
-    run: &[Shown<'_>],
-) -> Result<(), AllocError> {
+fn there_and_back(rt: &(impl Abort + Print), alloc: Global, model: &[u8], run: &[Shown<'_>]) {
     let mut machine = start(rt, alloc, model);
-    let result = forth_and_back_twice(rt, &mut machine, run);
+    forth_and_back_twice(rt, &mut machine, run);
     drop(machine);
-    result
 }
 
 // State number 0 to 3 of a run of two steps and a last one that stays where it is, with nothing
@@ -172,7 +152,7 @@ fn silent(position: u64, locals: &[i64], status: Status) -> Shown<'_> {
 }
 
 #[test]
-fn five_is_printed_and_taken_back(rt: HostRuntime) -> Result<(), AllocError> {
+fn five_is_printed_and_taken_back(rt: HostRuntime) {
     let printed = b"X =   5\n".as_slice();
     let run = [
         silent(0, [0].as_slice(), Status::Ready),
@@ -186,11 +166,11 @@ fn five_is_printed_and_taken_back(rt: HostRuntime) -> Result<(), AllocError> {
             ..silent(3, [5].as_slice(), Status::Stopped)
         },
     ];
-    there_and_back(&rt, rt.alloc(), FIVE, &run)
+    there_and_back(&rt, rt.alloc(), FIVE, &run);
 }
 
 #[test]
-fn the_greatest_integer_plus_one_faults(rt: HostRuntime) -> Result<(), AllocError> {
+fn the_greatest_integer_plus_one_faults(rt: HostRuntime) {
     let faulted = Status::Faulted(RunFault::OutOfRange);
     let run = [
         silent(0, [0, 0].as_slice(), Status::Ready),
@@ -198,11 +178,11 @@ fn the_greatest_integer_plus_one_faults(rt: HostRuntime) -> Result<(), AllocErro
         silent(2, [i64::MAX, 7].as_slice(), Status::Ready),
         silent(3, [i64::MAX, 7].as_slice(), faulted),
     ];
-    there_and_back(&rt, rt.alloc(), GREATEST, &run)
+    there_and_back(&rt, rt.alloc(), GREATEST, &run);
 }
 
 #[test]
-fn a_product_within_a_sum_faults(rt: HostRuntime) -> Result<(), AllocError> {
+fn a_product_within_a_sum_faults(rt: HostRuntime) {
     let faulted = Status::Faulted(RunFault::OutOfRange);
     let run = [
         silent(0, [0, 0].as_slice(), Status::Ready),
@@ -210,5 +190,5 @@ fn a_product_within_a_sum_faults(rt: HostRuntime) -> Result<(), AllocError> {
         silent(2, [3_037_000_500, 6_074_001_007].as_slice(), Status::Ready),
         silent(3, [3_037_000_500, 6_074_001_007].as_slice(), faulted),
     ];
-    there_and_back(&rt, rt.alloc(), PRODUCTS, &run)
+    there_and_back(&rt, rt.alloc(), PRODUCTS, &run);
 }

@@ -1,8 +1,8 @@
 //! Whole sessions whose outlet fails or whose memory is refused, and what each session ends with.
+use crate::compare::same;
 use ss_session::{End, Outlet, PutFault, SessionFault, session};
 use std::alloc::Global;
 use std::process::Abort;
-use std::test::Fail;
 
 const FIVE: &str = "MAIN\nLET X = 5\nPRINT 1 LINE WITH X THUS\nX = ***\nSTOP\nEND\n";
 
@@ -59,8 +59,8 @@ fn ends_after_failures(
     failures: u64,
     count: u64,
 ) {
-    assert_eq!(rt; end, wanted);
-    assert_eq!(rt; failures, count);
+    same(rt, end, wanted);
+    same(rt, failures, count);
 }
 
 /// Runs a session over an outlet that takes `room` bytes, and compares what it took: all where
@@ -83,7 +83,7 @@ fn cut<R: Abort + AllocGlobal>(
     };
     let end = session(rt.alloc(), model.as_bytes(), b"", SOME.as_bytes(), &mut out);
     let count = room.min(whole.len());
-    assert_eq!(rt; out.bytes.as_slice(), &whole.as_bytes()[..count]);
+    same(rt, out.bytes.as_slice(), &whole.as_bytes()[..count]);
     if room < whole.len() {
         ends_after_failures(rt, end, Err(SessionFault::Write), out.failures, 1);
     } else {
@@ -160,8 +160,8 @@ fn fail_once<R: Abort + AllocGlobal>(
         failures: 0,
     };
     let end = session(rt.alloc(), model.as_bytes(), b"", SOME.as_bytes(), &mut out);
-    assert_eq!(rt; end, wanted);
-    assert_eq!(rt; out.calls, calls);
+    same(rt, end, wanted);
+    same(rt, out.calls, calls);
     out.bytes
 }
 
@@ -176,10 +176,10 @@ fn put_ends<R: Abort + AllocGlobal>(
 ) {
     for fails_at in 0..calls {
         let bytes = fail_once(rt, model, fails_at, Err(SessionFault::Write), fails_at + 1);
-        assert!(rt; whole.as_bytes().starts_with(&bytes));
+        same(rt, whole.as_bytes().starts_with(&bytes), true);
     }
     let bytes = fail_once(rt, model, calls, wanted, calls);
-    assert_eq!(rt; bytes.as_slice(), whole.as_bytes());
+    same(rt, bytes.as_slice(), whole.as_bytes());
 }
 
 #[test]
@@ -224,7 +224,7 @@ fn count_whole(bytes: &[u8], answers: &[&str]) -> Option<usize> {
 fn roomy<R: Abort + AllocGlobal>(rt: &R) -> Narrow {
     let mut bytes = Vec::new(rt.alloc());
     if bytes.try_reserve(512).is_err() {
-        assert!(rt; bytes.try_reserve(512).is_ok());
+        same(rt, bytes.try_reserve(512).is_ok(), true);
     }
     Narrow {
         bytes,
@@ -252,8 +252,8 @@ fn grow_again(
     if end != Err(SessionFault::Memory) {
         return end;
     }
-    let lines = count_whole(&out.bytes, &GROWN);
-    assert!(rt; lines.is_some() && lines < Some(7));
+    let lines = count_whole(&out.bytes, &GROWN).expect(rt, "whole answers");
+    same(rt, lines < 7, true);
     out.bytes.clear();
     grow(alloc, out)
 }
@@ -265,6 +265,7 @@ fn a_refused_growth_leaves_whole_answers(rt: HostRuntime) {
     let mut out = roomy(&rt);
     let end = grow(rt.alloc(), &mut out);
     let end = grow_again(&rt, rt.alloc(), &mut out, end);
-    assert_eq!(rt; end, Ok(End::Done));
-    assert_eq!(rt; count_whole(&out.bytes, &GROWN), Some(7));
+    same(&rt, end, Ok(End::Done));
+    same(&rt, count_whole(&out.bytes, &GROWN), Some(7));
+    drop(out);
 }

@@ -10,6 +10,7 @@ ghost use Rattle.ss_links.specs.Board.{empty_board};
 ghost use Rattle.ss_store.specs.Change.{FitsStore, unapply_store};
 ghost use Rattle.model_tests.specs.Ground.{IsGround};
 
+use crate::compare::same;
 use crate::dice::Dice;
 use crate::model::checked;
 use crate::store::ground::{ATTRIBUTES, ENDS, JOB, MACHINE, PART, SETS, ground};
@@ -24,12 +25,12 @@ use std::process::Abort;
 
 // Compares an entity with the plain store's.
 fn agrees_on_entity<S: SetBoard>(rt: &impl Abort, store: &Store<S>, entity: &Entity) {
-    assert!(rt; store.exists(entity.class, entity.number));
+    same(rt, store.exists(entity.class, entity.number), true);
     assert!(rt; entity.class < 3);
     for attribute in 0..ATTRIBUTES[entity.class] {
         assert!(rt; attribute < 2);
         let value = store.get(entity.class, attribute, entity.number);
-        assert!(rt; value == Ok(entity.values[attribute]));
+        same(rt, value, Ok(entity.values[attribute]));
     }
 }
 
@@ -52,8 +53,8 @@ fn agrees_on_neighbours<S: SetBoard>(
     requires { IsGround store.now.tables }
 {
     assert!(rt; member.set < SETS);
-    assert!(rt; store.predecessor(member.set, member.x) == Ok(before));
-    assert!(rt; store.successor(member.set, member.x) == next);
+    same(rt, store.predecessor(member.set, member.x), Ok(before));
+    same(rt, store.successor(member.set, member.x), next);
 }
 
 // Compares a member's place in a list, where a walk stands, and walks on.
@@ -68,9 +69,9 @@ fn agrees_on_member<S: SetBoard>(
     let (set, owner, x) = (member.set, member.owner, member.x);
     assert!(rt; set < SETS);
     let here = u32::try_from(x).ok();
-    assert!(rt; walked.at == Ok(here));
-    assert!(rt; store.walk_prev(set, owner, x) == Ok(walked.before));
-    assert!(rt; store.is_in(set, owner, x) == Ok(true));
+    same(rt, walked.at, Ok(here));
+    same(rt, store.walk_prev(set, owner, x), Ok(walked.before));
+    same(rt, store.is_in(set, owner, x), Ok(true));
     let next = store.walk_next(set, owner, x);
     agrees_on_neighbours(rt, store, member, walked.before, next);
     Walked {
@@ -91,9 +92,9 @@ fn agrees_on_end<S: SetBoard>(
     requires { IsGround store.now.tables }
 {
     assert!(rt; set < SETS);
-    assert!(rt; walked.at == Ok(None));
-    assert!(rt; store.walk_last(set, owner) == Ok(walked.before));
-    assert!(rt; store.count(set, owner) == Ok(walked.count));
+    same(rt, walked.at, Ok(None));
+    same(rt, store.walk_last(set, owner), Ok(walked.before));
+    same(rt, store.count(set, owner), Ok(walked.count));
 }
 
 // Walks the list of a set for an owner both ways, beside the plain store's.
@@ -135,7 +136,7 @@ fn agrees_on_set<S: SetBoard>(rt: &impl Abort, store: &Store<S>, plain: &Plain, 
         }
         if member == entity.class {
             let is_filed = plain.is_filed(set, entity.number);
-            assert!(rt; store.membership(set, entity.number) == Ok(is_filed));
+            same(rt, store.membership(set, entity.number), Ok(is_filed));
         }
     }
 }
@@ -174,7 +175,7 @@ fn back_in_both<S: SetBoard>(
     ensures fits { FitsSteps FitsStore unapply_store journal.new.steps store.new }
 {
     let undone = back(store, journal);
-    assert!(rt; undone != plains.before.is_empty());
+    same(rt, undone, !plains.before.is_empty());
     if let Some(before) = plains.before.pop() {
         plains.now = before;
     }
@@ -187,7 +188,7 @@ fn make_in_both<S: SetBoard>(
     journal: &mut Journal<StoreChange>,
     plain: &mut Plain,
     call: Call,
-) -> Result<bool, AllocError>
+) -> bool
     requires ground { IsGround store.old.tables }
     requires closed { journal.old.current ≡ [] }
     requires fits { FitsSteps FitsStore unapply_store journal.old.steps store.old }
@@ -195,10 +196,10 @@ fn make_in_both<S: SetBoard>(
     ensures closed { journal.new.current ≡ [] }
     ensures fits { FitsSteps FitsStore unapply_store journal.new.steps store.new }
 {
-    let wanted = plain.make(rt, call)?;
-    let made = step(rt, store, journal, call)?;
-    assert!(rt; made == wanted);
-    Ok(made.is_ok())
+    let wanted = plain.make(rt, call);
+    let made = step(rt, store, journal, call).expect(rt, "a step");
+    same(rt, made, wanted);
+    made.is_ok()
 }
 
 // One call in both; one that is refused leaves the plain store as it was.
@@ -208,7 +209,7 @@ fn call_in_both<S: SetBoard>(
     journal: &mut Journal<StoreChange>,
     plains: &mut Plains,
     call: Call,
-) -> Result<(), AllocError>
+)
     requires ground { IsGround store.old.tables }
     requires closed { journal.old.current ≡ [] }
     requires fits { FitsSteps FitsStore unapply_store journal.old.steps store.old }
@@ -216,13 +217,12 @@ fn call_in_both<S: SetBoard>(
     ensures closed { journal.new.current ≡ [] }
     ensures fits { FitsSteps FitsStore unapply_store journal.new.steps store.new }
 {
-    let old = plains.now.copy()?;
-    if make_in_both(rt, store, journal, &mut plains.now, call)? {
-        plains.before.push(old)?;
+    let old = plains.now.copy(rt);
+    if make_in_both(rt, store, journal, &mut plains.now, call) {
+        plains.before.push(old).expect(rt, "room");
     } else {
         plains.now = old;
     }
-    Ok(())
 }
 
 // One turn: a call, or a step back.
@@ -232,7 +232,7 @@ fn turn<S: SetBoard>(
     journal: &mut Journal<StoreChange>,
     plains: &mut Plains,
     dice: &mut Dice,
-) -> Result<(), AllocError>
+)
     requires ground { IsGround store.old.tables }
     requires closed { journal.old.current ≡ [] }
     requires fits { FitsSteps FitsStore unapply_store journal.old.steps store.old }
@@ -242,10 +242,10 @@ fn turn<S: SetBoard>(
 {
     if dice.below(6) == 0 {
         back_in_both(rt, store, journal, plains);
-        return Ok(());
+    } else {
+        let call = dice.call(&plains.now);
+        call_in_both(rt, store, journal, plains, call);
     }
-    let call = dice.call(&plains.now);
-    call_in_both(rt, store, journal, plains, call)
 }
 
 // A random mixture of 10,000 calls and steps back; the store agrees with the plain one after each.
@@ -255,54 +255,52 @@ fn mixture<S: SetBoard>(
     journal: &mut Journal<StoreChange>,
     plains: &mut Plains,
     dice: &mut Dice,
-) -> Result<(), AllocError>
+)
     requires ground { IsGround store.old.tables }
     requires closed { journal.old.current ≡ [] }
     requires fits { FitsSteps FitsStore unapply_store journal.old.steps store.old }
 {
     for _ in 0..10_000 {
-        turn(rt, store, journal, plains, dice)?;
+        turn(rt, store, journal, plains, dice);
         agrees(rt, store, &plains.now);
     }
-    assert!(rt; plains.now.given > 20);
-    assert!(rt; plains.now.members.len() > 4);
-    Ok(())
+    same(rt, plains.now.given > 20, true);
+    same(rt, plains.now.members.len() > 4, true);
 }
 
 // The mixture on a new store.
-fn mixture_on<S: SetBoard>(rt: &impl Abort, alloc: Global, board: S) -> Result<(), AllocError>
+fn mixture_on<S: SetBoard>(rt: &impl Abort, alloc: Global, board: S)
     requires { S.board board ≡ empty_board }
 {
-    let mut store = ground(alloc, board)?;
+    let mut store = ground(alloc, board).expect(rt, "a store");
     let mut journal = Journal::new(alloc);
     let mut plains = Plains {
         now: Plain::new(alloc),
         before: Vec::new(alloc),
     };
     let mut dice = Dice { state: 7 };
-    let result = mixture(rt, &mut store, &mut journal, &mut plains, &mut dice);
+    mixture(rt, &mut store, &mut journal, &mut plains, &mut dice);
     drop(plains);
     drop(journal);
     drop(store);
-    result
 }
 
 #[test]
-fn every_call_agrees_with_a_plain_store(rt: HostRuntime) -> Result<(), AllocError> {
+fn every_call_agrees_with_a_plain_store(rt: HostRuntime) {
     let alloc = rt.alloc();
-    mixture_on(&rt, alloc, PlainSets::new(alloc))?;
-    mixture_on(&rt, alloc, LinkedSets::new(alloc))
+    mixture_on(&rt, alloc, PlainSets::new(alloc));
+    mixture_on(&rt, alloc, LinkedSets::new(alloc));
 }
 
 // A call that names what there isn't is refused, by the lowest fault that applies.
 fn refuses<S: SetBoard>(rt: &impl Abort, store: &Store<S>)
     requires { IsGround store.now.tables }
 {
-    assert!(rt; !store.exists(JOB, 9));
-    assert!(rt; store.get(JOB, 0, 9) == Err(RunFault::NoEntity));
-    assert!(rt; store.count(5, 9) == Err(RunFault::NoEntity));
-    assert!(rt; store.is_in(0, 0, 9) == Err(RunFault::NoEntity));
-    assert!(rt; store.walk_next(0, 0, 1) == Err(RunFault::MemberLeft));
+    same(rt, store.exists(JOB, 9), false);
+    same(rt, store.get(JOB, 0, 9), Err(RunFault::NoEntity));
+    same(rt, store.count(5, 9), Err(RunFault::NoEntity));
+    same(rt, store.is_in(0, 0, 9), Err(RunFault::NoEntity));
+    same(rt, store.walk_next(0, 0, 1), Err(RunFault::MemberLeft));
 }
 
 // Makes a call whose answer is this. Where memory is refused nothing changes, and it is made again.
@@ -312,7 +310,7 @@ fn answers<S: SetBoard>(
     journal: &mut Journal<StoreChange>,
     call: Call,
     answer: Result<i64, RunFault>,
-) -> Result<(), AllocError>
+)
     requires ground { IsGround store.old.tables }
     requires closed { journal.old.current ≡ [] }
     requires fits { FitsSteps FitsStore unapply_store journal.old.steps store.old }
@@ -321,12 +319,11 @@ fn answers<S: SetBoard>(
     ensures fits { FitsSteps FitsStore unapply_store journal.new.steps store.new }
 {
     if let Ok(made) = step(rt, store, journal, call) {
-        assert!(rt; made == answer);
-        return Ok(());
+        same(rt, made, answer);
+    } else {
+        let made = step(rt, store, journal, call).expect(rt, "a step");
+        same(rt, made, answer);
     }
-    let made = step(rt, store, journal, call)?;
-    assert!(rt; made == answer);
-    Ok(())
 }
 
 // Calls that make machines, jobs and a part, file one, and end the part, with their answers.
@@ -352,11 +349,7 @@ const CALLS: [(Call, Result<i64, RunFault>); 7] = [
 ];
 
 // Makes these calls.
-fn there<S: SetBoard>(
-    rt: &impl Abort,
-    store: &mut Store<S>,
-    journal: &mut Journal<StoreChange>,
-) -> Result<(), AllocError>
+fn there<S: SetBoard>(rt: &impl Abort, store: &mut Store<S>, journal: &mut Journal<StoreChange>)
     requires ground { IsGround store.old.tables }
     requires closed { journal.old.current ≡ [] }
     requires fits { FitsSteps FitsStore unapply_store journal.old.steps store.old }
@@ -365,10 +358,9 @@ fn there<S: SetBoard>(
     ensures fits { FitsSteps FitsStore unapply_store journal.new.steps store.new }
 {
     for (call, answer) in CALLS {
-        answers(rt, store, journal, call, answer)?;
+        answers(rt, store, journal, call, answer);
     }
     refuses(rt, store);
-    Ok(())
 }
 
 // Takes the six calls that were made back.
@@ -381,9 +373,9 @@ fn all_back<S: SetBoard>(rt: &impl Abort, store: &mut Store<S>, journal: &mut Jo
     ensures fits { FitsSteps FitsStore unapply_store journal.new.steps store.new }
 {
     for _ in 0..6 {
-        assert!(rt; back(store, journal));
+        same(rt, back(store, journal), true);
     }
-    assert!(rt; !back(store, journal));
+    same(rt, back(store, journal), false);
 }
 
 // Makes these calls, takes them back, and makes them again.
@@ -391,14 +383,14 @@ fn there_back_and_there<S: SetBoard>(
     rt: &impl Abort,
     store: &mut Store<S>,
     journal: &mut Journal<StoreChange>,
-) -> Result<(), AllocError>
+)
     requires ground { IsGround store.old.tables }
     requires closed { journal.old.current ≡ [] }
     requires fits { FitsSteps FitsStore unapply_store journal.old.steps store.old }
 {
-    there(rt, store, journal)?;
+    there(rt, store, journal);
     all_back(rt, store, journal);
-    there(rt, store, journal)
+    there(rt, store, journal);
 }
 
 // A store on linked sets.
@@ -409,24 +401,23 @@ fn linked(alloc: Global) -> Result<Store<LinkedSets>, AllocError>
 }
 
 // The same, made again where memory was refused.
-fn linked_again(alloc: Global) -> Result<Store<LinkedSets>, AllocError>
-    ensures { IfOk result (λ store. IsGround store.tables) }
+fn linked_again(rt: &impl Abort, alloc: Global) -> Store<LinkedSets>
+    ensures { IsGround result.tables }
 {
     match linked(alloc) {
-        Ok(store) => Ok(store),
-        Err(_) => linked(alloc),
+        Ok(store) => store,
+        Err(_) => linked(alloc).expect(rt, "a store"),
     }
 }
 
 #[test]
-fn a_refused_growth_changes_nothing(rt: HostRuntime) -> Result<(), AllocError> {
+fn a_refused_growth_changes_nothing(rt: HostRuntime) {
     let alloc = rt.alloc();
-    let mut store = linked_again(alloc)?;
+    let mut store = linked_again(&rt, alloc);
     let mut journal = Journal::new(alloc);
-    let result = there_back_and_there(&rt, &mut store, &mut journal);
+    there_back_and_there(&rt, &mut store, &mut journal);
     drop(journal);
     drop(store);
-    result
 }
 
 // The number that a creation gives.
@@ -452,7 +443,7 @@ fn give<S: SetBoard>(rt: &impl Abort, store: &mut Store<S>, count: u32)
 {
     for given in 0..count {
         let made = store.create(PART);
-        assert!(rt; number_of(made) == given.checked_add(1));
+        same(rt, number_of(made), given.checked_add(1));
     }
 }
 
@@ -462,70 +453,64 @@ fn gives_a_million<S: SetBoard>(rt: &impl Abort, store: &mut Store<S>)
 {
     give(rt, store, 1_000_000);
     let refused = store.create(JOB);
-    assert!(rt; fault_of(refused) == Some(RunFault::TooManyReferences));
-    assert!(rt; store.exists(PART, 1_000_000));
-    assert!(rt; !store.exists(PART, 1_000_001));
+    same(rt, fault_of(refused), Some(RunFault::TooManyReferences));
+    same(rt, store.exists(PART, 1_000_000), true);
+    same(rt, store.exists(PART, 1_000_001), false);
 }
 
 #[test]
-fn a_reference_more_than_a_million_is_refused(rt: HostRuntime) -> Result<(), AllocError> {
+fn a_reference_more_than_a_million_is_refused(rt: HostRuntime) {
     let alloc = rt.alloc();
-    let mut store = linked(alloc)?;
+    let mut store = linked_again(&rt, alloc);
     gives_a_million(&rt, &mut store);
     drop(store);
-    Ok(())
 }
 
 // There are 10,000 machines, and no more.
 fn has_all<S: SetBoard>(rt: &impl Abort, store: &Store<S>) {
-    assert!(rt; store.exists(MACHINE, 10_000));
-    assert!(rt; !store.exists(MACHINE, 10_001));
+    same(rt, store.exists(MACHINE, 10_000), true);
+    same(rt, store.exists(MACHINE, 10_001), false);
 }
 
 // There is no machine.
 fn has_none<S: SetBoard>(rt: &impl Abort, store: &Store<S>) {
-    assert!(rt; !store.exists(MACHINE, 1));
+    same(rt, store.exists(MACHINE, 1), false);
 }
 
 // Makes 10,000 machines at once, not 10,001, and takes them back.
-fn makes_all<S: SetBoard>(
-    rt: &impl Abort,
-    store: &mut Store<S>,
-    journal: &mut Journal<StoreChange>,
-) -> Result<(), AllocError>
+fn makes_all<S: SetBoard>(rt: &impl Abort, store: &mut Store<S>, journal: &mut Journal<StoreChange>)
     requires ground { IsGround store.old.tables }
     requires closed { journal.old.current ≡ [] }
     requires fits { FitsSteps FitsStore unapply_store journal.old.steps store.old }
 {
     let too_many = Call::CreateAll { n: 10_001 };
-    answers(rt, store, journal, too_many, Err(RunFault::CountOutOfRange))?;
+    answers(rt, store, journal, too_many, Err(RunFault::CountOutOfRange));
     has_none(rt, store);
     let all = Call::CreateAll { n: 10_000 };
-    answers(rt, store, journal, all, Ok(0))?;
+    answers(rt, store, journal, all, Ok(0));
     has_all(rt, store);
-    answers(rt, store, journal, all, Err(RunFault::AlreadyCreated))?;
-    assert!(rt; back(store, journal));
+    answers(rt, store, journal, all, Err(RunFault::AlreadyCreated));
+    same(rt, back(store, journal), true);
     has_none(rt, store);
-    Ok(())
 }
 
 #[test]
-fn ten_thousand_entities_of_a_class_are_made_at_once(rt: HostRuntime) -> Result<(), AllocError> {
+fn ten_thousand_entities_of_a_class_are_made_at_once(rt: HostRuntime) {
     let alloc = rt.alloc();
-    let mut store = linked(alloc)?;
+    let mut store = linked_again(&rt, alloc);
     let mut journal = Journal::new(alloc);
-    let result = makes_all(&rt, &mut store, &mut journal);
+    makes_all(&rt, &mut store, &mut journal);
     drop(journal);
     drop(store);
-    result
 }
 
 #[test]
-fn a_program_without_classes_has_no_entities(rt: HostRuntime) -> Result<(), AllocError> {
+fn a_program_without_classes_has_no_entities(rt: HostRuntime) {
     let alloc = rt.alloc();
     let program = checked(alloc, b"MAIN\nSTOP\nEND\n").expect(&rt, "a program");
     let store = Store::new(alloc, &program, PlainSets::new(alloc));
     drop(program);
-    assert!(&rt; !store?.exists(0, 1));
-    Ok(())
+    let store = store.expect(&rt, "a store");
+    same(&rt, store.exists(0, 1), false);
+    drop(store);
 }

@@ -4,7 +4,7 @@ use crate::store::ground::{ENDS, JOB, MACHINE};
 use crate::store::play::Call;
 use ss_store::{How, Which};
 use ss_words::RunFault;
-use std::alloc::{AllocError, Global};
+use std::alloc::Global;
 use std::process::Abort;
 
 /// An entity that is alive.
@@ -66,13 +66,13 @@ impl Plain {
         }
     }
 
-    pub fn copy(&self) -> Result<Self, AllocError> {
-        Ok(Plain {
+    pub fn copy(&self, rt: &impl Abort) -> Self {
+        Plain {
             made: self.made,
             given: self.given,
-            entities: self.entities.clone()?,
-            members: self.members.clone()?,
-        })
+            entities: self.entities.clone().expect(rt, "a copy"),
+            members: self.members.clone().expect(rt, "a copy"),
+        }
     }
 
     pub fn find(&self, class: usize, x: i64) -> Option<usize> {
@@ -242,44 +242,43 @@ impl Plain {
         Ok(found)
     }
 
-    fn add(&mut self, class: usize, number: i64) -> Result<(), AllocError> {
-        self.entities.push(Entity {
+    fn add(&mut self, rt: &impl Abort, class: usize, number: i64) {
+        let values = [0, 0];
+        let entity = Entity {
             class,
             number,
-            values: [0, 0],
-        })?;
-        Ok(())
+            values,
+        };
+        self.entities.push(entity).expect(rt, "room");
     }
 
-    fn make_all(&mut self, n: i64) -> Result<Result<i64, RunFault>, AllocError> {
+    fn make_all(&mut self, rt: &impl Abort, n: i64) -> Result<i64, RunFault> {
         if self.made > 0 {
-            return Ok(Err(RunFault::AlreadyCreated));
+            return Err(RunFault::AlreadyCreated);
         }
         if n < 1 {
-            return Ok(Err(RunFault::CountOutOfRange));
+            return Err(RunFault::CountOutOfRange);
         }
         for number in 1..=n {
-            self.add(MACHINE, number)?;
+            self.add(rt, MACHINE, number);
         }
         self.made = n;
-        Ok(Ok(0))
+        Ok(0)
     }
 
-    fn file(
-        &mut self,
-        rt: &impl Abort,
-        member: Member,
-        how: How,
-    ) -> Result<Result<i64, RunFault>, AllocError> {
-        match self.spot(member.set, member.owner, member.x, how) {
-            Err(fault) => Ok(Err(fault)),
-            Ok(spot) => {
-                assert!(rt; spot <= self.members.len());
-                let owner = owner_of(member.set, member.owner);
-                self.members.insert(spot, Member { owner, ..member })?;
-                Ok(Ok(0))
-            }
-        }
+    fn create(&mut self, rt: &impl Abort, class: usize) -> i64 {
+        self.given = self.given.wrapping_add(1);
+        self.add(rt, class, self.given);
+        self.given
+    }
+
+    fn file(&mut self, rt: &impl Abort, member: Member, how: How) -> Result<i64, RunFault> {
+        let spot = self.spot(member.set, member.owner, member.x, how)?;
+        assert!(rt; spot <= self.members.len());
+        let owner = owner_of(member.set, member.owner);
+        let member = Member { owner, ..member };
+        self.members.insert(spot, member).expect(rt, "room");
+        Ok(0)
     }
 
     fn remove(
@@ -311,27 +310,19 @@ impl Plain {
     }
 
     /// Makes a call, and answers the number that it gives, 0 where it gives none, or the fault.
-    pub fn make(
-        &mut self,
-        rt: &impl Abort,
-        call: Call,
-    ) -> Result<Result<i64, RunFault>, AllocError> {
+    pub fn make(&mut self, rt: &impl Abort, call: Call) -> Result<i64, RunFault> {
         match call {
-            Call::CreateAll { n } => self.make_all(n),
-            Call::Create { class } => {
-                self.given = self.given.wrapping_add(1);
-                self.add(class, self.given)?;
-                Ok(Ok(self.given))
-            }
+            Call::CreateAll { n } => self.make_all(rt, n),
+            Call::Create { class } => Ok(self.create(rt, class)),
             Call::File { set, owner, x, how } => self.file(rt, Member { set, owner, x }, how),
-            Call::Remove { set, owner, which } => Ok(self.remove(rt, set, owner, which)),
+            Call::Remove { set, owner, which } => self.remove(rt, set, owner, which),
             Call::Set {
                 class,
                 attribute,
                 x,
                 value,
-            } => Ok(self.set(class, attribute, x, value)),
-            Call::Destroy { class, x } => Ok(self.end(rt, class, x)),
+            } => self.set(class, attribute, x, value),
+            Call::Destroy { class, x } => self.end(rt, class, x),
         }
     }
 }
