@@ -1,6 +1,5 @@
 use Rattle.std.proofs.Common as usual
 use Rattle.std.proofs.lemmas.Grind as steps
-use borrow.Author.Tests as branches
 use Rattle.ss_check.specs.declared.condition.Relation.TheFolds as folds
 use Rattle.ss_values.proofs.conditions.+holds.Goals as goal
 
