@@ -1,12 +1,20 @@
 use ss_links::SetBoard;
 use ss_store::Store;
+use std::alloc::AllocError;
 
 /// What values are read from: the store, the global variables, the locals of the last frame, and
 /// the clock.
-#[derive_where(Clone, Copy)]
 pub struct View<'a, S: SetBoard> {
     pub store: &'a Store<S>,
     pub variables: &'a [i64],
     pub locals: &'a [i64],
     pub clock: i64,
 }
+
+impl<S: SetBoard> Clone for View<'_, S> {
+    fn clone(&self) -> Result<Self, AllocError> {
+        Ok(*self)
+    }
+}
+
+impl<S: SetBoard> Copy for View<'_, S> {}
