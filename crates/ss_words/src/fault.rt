@@ -1,5 +1,4 @@
 use std::alloc::{AllocError, AllocFailed};
-use std::fmt::{self, Display, Formatter, Write};
 use thiserror::Error;
 
 /// A rule that a model's text breaks (docs/LANGUAGE.md, "Refusals of the text").
@@ -79,62 +78,53 @@ impl<T: Drop> From<AllocFailed<T>> for TextFault {
 
 /// What stops a run: the place stays, and the status keeps the fault (docs/LANGUAGE.md, "Run
 /// faults").
-#[derive(Clone, Copy, Debug, Drop, PartialEq, Eq)]
+#[derive(Clone, Copy, Debug, Drop, PartialEq, Eq, Error)]
 pub enum RunFault {
+    #[error("a value out of range")]
     OutOfRange,
+    #[error("a zero divisor")]
     ZeroDivisor,
+    #[error("no such entity of that class")]
     NoEntity,
+    #[error("already in a list of that set")]
     AlreadyInSet,
+    #[error("not in that list")]
     NotInList,
+    #[error("the set is empty")]
     EmptySet,
+    #[error("ended while a member or scheduled")]
     EndedInUse,
+    #[error("ended while owner of a set with members")]
     EndedOwner,
+    #[error("a time before the clock")]
     TimeBeforeClock,
+    #[error("already scheduled")]
     AlreadyScheduled,
+    #[error("not scheduled")]
     NotScheduled,
+    #[error("class already created")]
     AlreadyCreated,
+    #[error("a count out of range")]
     CountOutOfRange,
+    #[error("the loop's next member has left the list")]
     MemberLeft,
+    #[error("BY below 1")]
     StepBelowOne,
+    #[error("no more data")]
     NoMoreData,
+    #[error("the next datum is no number")]
     NotANumber,
+    #[error("more than 200 frames")]
     TooManyFrames,
+    #[error("report over 16,777,216 bytes")]
     ReportFull,
+    #[error("too many references or schedulings")]
     TooManyReferences,
+    #[error("the entry's name is no external event")]
     NotExternal,
+    #[error("the mark * is missing or met, or the entry still waits")]
     OutsideEntry,
 }
-
-impl Display for RunFault {
-    fn fmt<W: Write>(&self, f: &mut Formatter<W>) -> fmt::Result {
-        f.write_str(match self {
-            RunFault::OutOfRange => "a value out of range",
-            RunFault::ZeroDivisor => "a zero divisor",
-            RunFault::NoEntity => "no such entity of that class",
-            RunFault::AlreadyInSet => "already in a list of that set",
-            RunFault::NotInList => "not in that list",
-            RunFault::EmptySet => "the set is empty",
-            RunFault::EndedInUse => "ended while a member or scheduled",
-            RunFault::EndedOwner => "ended while owner of a set with members",
-            RunFault::TimeBeforeClock => "a time before the clock",
-            RunFault::AlreadyScheduled => "already scheduled",
-            RunFault::NotScheduled => "not scheduled",
-            RunFault::AlreadyCreated => "class already created",
-            RunFault::CountOutOfRange => "a count out of range",
-            RunFault::MemberLeft => "the loop's next member has left the list",
-            RunFault::StepBelowOne => "BY below 1",
-            RunFault::NoMoreData => "no more data",
-            RunFault::NotANumber => "the next datum is no number",
-            RunFault::TooManyFrames => "more than 200 frames",
-            RunFault::ReportFull => "report over 16,777,216 bytes",
-            RunFault::TooManyReferences => "too many references or schedulings",
-            RunFault::NotExternal => "the entry's name is no external event",
-            RunFault::OutsideEntry => "the mark * is missing or met, or the entry still waits",
-        })
-    }
-}
-
-impl std::error::Error for RunFault {}
 
 impl RunFault {
     ghost use Rattle.std.specs.Prelude.{◌≡◌};
