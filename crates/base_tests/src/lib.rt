@@ -1,5 +1,5 @@
-//! Tests of ss_report, ss_data, ss_journal and ss_links, a module each, in a crate of their own: the
-//! gate proves a crate once more with its tests.
+//! Tests of ss_report, ss_data, ss_journal and ss_links, a module each, in a crate of their own:
+//! the gate proves a crate once more with its tests.
 #![tactic(auto)]
 
 #[cfg(test)]

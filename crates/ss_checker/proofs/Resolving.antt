@@ -11,7 +11,9 @@ use Rattle.ss_check.specs.ProgramExpr as x
 use Rattle.ss_check.specs.ProgramCondition as y
 use Rattle.ss_checker.specs.declared.tables.Tables.{Tables}
 use Rattle.ss_checker.specs.ResolvedNames.{Names}
-use Rattle.ss_checker.specs.Resolved.{resolved_expr, resolved_sums, resolved_term, resolved_products, resolved_factor, resolved_exprs, resolved_alternatives, resolved_conjunction, resolved_additions, resolved_relation}
+use Rattle.ss_checker.specs.Resolved.{resolved_expr, resolved_sums, resolved_term, resolved_products}
+use Rattle.ss_checker.specs.Resolved.{resolved_factor, resolved_exprs, resolved_alternatives, resolved_conjunction}
+use Rattle.ss_checker.specs.Resolved.{resolved_additions, resolved_relation}
 
 -- a result of which something is this, is that too where the two are the same
 pub along : {A B E : Type 0} (r : Result A E) (f : A → B) (y z : B) → IfOk r (λ a. f a ≡ y) → y ≡ z →

@@ -8,7 +8,8 @@ use Rattle.ss_grammar.specs.Condition as tree
 use Rattle.ss_grammar.specs.ConditionReading.{alternatives_of, additions_of}
 use Rattle.ss_grammar.specs.View as written
 use Rattle.ss_check.specs.ProgramCondition as checked
-use Rattle.ss_checker.specs.Resolved.{resolved_conjunction, resolved_relation, resolved_alternatives, resolved_additions}
+use Rattle.ss_checker.specs.Resolved.{resolved_conjunction, resolved_relation, resolved_alternatives}
+use Rattle.ss_checker.specs.Resolved.{resolved_additions}
 use Rattle.ss_checker.specs.Scope.{in_scope}
 use Rattle.ss_checker.proofs.Resolving.{alternatives_map, additions_map, shown_all, shown_put}
 use Rattle.ss_checker.proofs.resolve_condition.+resolve.Goals as goal

@@ -3,10 +3,12 @@ use Rattle.std.specs.Prelude.{map, option_map}
 use Rattle.ss_grammar.specs.declared.expr.Expr.{out-Expr}
 use Rattle.ss_grammar.specs.declared.expr.Term.{out-Term}
 use Rattle.ss_grammar.specs.declared.expr.Application.{out-Application}
-use Rattle.ss_grammar.specs.declared.expr.Factor.TheFolds.{fold_out-Added, fold_out-Application, fold_out-Expr, fold_out-Term}
+use Rattle.ss_grammar.specs.declared.expr.Factor.TheFolds.{fold_out-Added, fold_out-Application}
+use Rattle.ss_grammar.specs.declared.expr.Factor.TheFolds.{fold_out-Expr, fold_out-Term}
 use Rattle.ss_words.specs.declared.term_sign.TermSign.{TermSign}
 use Rattle.ss_check.specs.declared.sum.SignedTerm.{roll-SignedTerm}
-use Rattle.ss_check.specs.declared.sum.Factor.TheFolds.{fold-roll-Arguments, fold-roll-SignedTerm, fold-roll-Sum, fold-roll-Term}
+use Rattle.ss_check.specs.declared.sum.Factor.TheFolds.{fold-roll-Arguments, fold-roll-SignedTerm}
+use Rattle.ss_check.specs.declared.sum.Factor.TheFolds.{fold-roll-Sum, fold-roll-Term}
 use Rattle.ss_grammar.specs.Expr as tree
 use Rattle.ss_grammar.specs.View as written
 use Rattle.ss_check.specs.ProgramExpr as checked

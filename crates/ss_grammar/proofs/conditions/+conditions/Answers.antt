@@ -97,7 +97,8 @@ inner-returns-clause-exact t c = rw (either_deeper c.args.room c.if-room-eq0.fal
 pub next_conjunction-returns-then-not-eat-clause-exact : goal.next_conjunction-returns-then-not-eat-clause-exact
 next_conjunction-returns-then-not-eat-clause-exact t c = no_mark _ _ c.eat.result _ _ c.eat.ensures.exact c.if-not-eat.true
 
-pub next_conjunction-returns-in_err-conjunction-clause-exact : goal.next_conjunction-returns-in_err-conjunction-clause-exact
+pub next_conjunction-returns-in_err-conjunction-clause-exact :
+    goal.next_conjunction-returns-in_err-conjunction-clause-exact
 next_conjunction-returns-in_err-conjunction-clause-exact t c =
     let p = err_from_is_err_and c.from_residual.result c.from_residual.ensures.1 in
     rw (p.1, p.2) (mark_fails _ _ c.eat.result _ _ c.in_err-conjunction.field-0.0 _ c.eat.ensures.exact c.if-not-eat.false
