@@ -1,8 +1,7 @@
 use crate::answer::or_refusal;
-use ss_check::{CheckFault, Program};
-use ss_checker::check;
-use ss_grammar::sections;
+use ss_check::{CheckFault, Program, check};
 use ss_preamble::preamble;
+use ss_routines::sections;
 use ss_words::{TextFault, Words, words};
 use std::alloc::{AllocError, Global};
 

@@ -1,5 +1,5 @@
-use ss_grammar::sections;
 use ss_preamble::preamble;
+use ss_routines::sections;
 use ss_words::{TextFault, words};
 use std::alloc::Global;
 

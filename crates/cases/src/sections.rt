@@ -1,5 +1,5 @@
 use crate::shown::{put_places, put_section};
-use ss_grammar::{Sections, sections};
+use ss_routines::{Sections, sections};
 use ss_words::{TextFault, words};
 use std::alloc::{AllocError, Global};
 

@@ -1,4 +1,4 @@
-use ss_grammar::{Section, Spot};
+use ss_routines::{Section, Spot};
 use std::alloc::{AllocError, Global};
 
 /// Puts a section: its line, what it is, its name, its local DEFINEs and its places.

@@ -1,9 +1,9 @@
 //! Runs forward and back, state by state, and calls that are refused memory.
 use crate::compare::same;
 use crate::model::started;
-use ss_check::Variable;
 use ss_links::{LinkedSets, SetBoard};
 use ss_machine::{Machine, Status, Stepped};
+use ss_program::Variable;
 use ss_words::RunFault;
 use std::alloc::Global;
 use std::fmt::Debug;

@@ -1,11 +1,11 @@
 //! The program of a model, and a machine that runs it.
-use ss_check::Program;
-use ss_checker::check;
+use ss_check::check;
 use ss_data::Feed;
-use ss_grammar::sections;
 use ss_links::LinkedSets;
 use ss_machine::Machine;
 use ss_preamble::preamble;
+use ss_program::Program;
+use ss_routines::sections;
 use ss_words::{Words, words};
 use std::alloc::Global;
 

@@ -1,7 +1,188 @@
-//! A law on the definitions. The function does nothing, and its contract says the law.
-ghost use Rattle.ss_check.specs.Examples.{NamesAreFound};
+//! Laws on the definitions. Each function does nothing, and its contract says the law.
+ghost use Rattle.ss_check.specs.FurtherExamples.{SectionsAreDeclaredOnce, OrdersAreGivenOnce, LocalsHaveNamesOfTheirOwn, OrdersNameEvents, ValuesAreNoRoutines, KeysAreOfTheirClass, NoticesHaveAttributesForValues, YieldedAreCounted, FirstNamingIsRefused, AttributesMayChange, EventsStartNoSimulation};
+ghost use Rattle.ss_check.specs.NamedTree.{TablesGiveTheText};
+ghost use Rattle.ss_check.specs.NamedItems.{TablesGiveTheItems};
+ghost use Rattle.ss_check.specs.TableExample.{PreambleHasTables};
+ghost use Rattle.ss_check.specs.Examples.{VariablesAreDeclaredOnce, ClassesHaveOneKind, SetsAreDeclaredOnce, RoutinesAreDeclaredOnce, ClassesAreNamedUnderHeadings, StatementsNeedClasses, NamesAreUsedAsDeclared, SetsHaveOneOwner, SetsHaveOneMemberClass, KeysAreAttributes, CountsAgree, EventsHaveAttributesForParameters, EventsHaveSections, TargetsMayChange, FieldsHaveValues, ThereIsOneMain, PriorityNamesEventsOnce, SimulationStartsInMain, FoundIsAskedBehindFind, EarlierStatementCounts, LowerRuleCounts};
 
-/// A name is found whole and in upper case, and TIME.V is not found.
-pub fn names_are_found()
-    ensures { NamesAreFound }
+/// A variable is declared once, and TIME.V is declared before all.
+pub fn variables_are_declared_once()
+    ensures { VariablesAreDeclaredOnce }
+{}
+
+/// A class stands under one kind of heading, and a permanent class c has N.c.
+pub fn classes_have_one_kind()
+    ensures { ClassesHaveOneKind }
+{}
+
+/// The kept attributes of a set are declared with it, and it has one discipline.
+pub fn sets_are_declared_once()
+    ensures { SetsAreDeclaredOnce }
+{}
+
+/// A routine is declared once, and its parameters have names of their own.
+pub fn routines_are_declared_once()
+    ensures { RoutinesAreDeclaredOnce }
+{}
+
+/// EVERY stands under a heading, and BREAK and EXTERNAL name event classes.
+pub fn classes_are_named_under_headings()
+    ensures { ClassesAreNamedUnderHeadings }
+{}
+
+/// CREATE and FOR EVERY need a class of their kind.
+pub fn statements_need_classes()
+    ensures { StatementsNeedClasses }
+{}
+
+/// A name is used as what it is declared as.
+pub fn names_are_used_as_declared()
+    ensures { NamesAreUsedAsDeclared }
+{}
+
+/// A set has one owner; the item that first names the set is refused, or the second OWNS.
+pub fn sets_have_one_owner()
+    ensures { SetsHaveOneOwner }
+{}
+
+/// A set has members of one class, which is not the system.
+pub fn sets_have_one_member_class()
+    ensures { SetsHaveOneMemberClass }
+{}
+
+/// A rank key is an attribute of the member class, and no kept one.
+pub fn keys_are_attributes()
+    ensures { KeysAreAttributes }
+{}
+
+/// Functions and routines take their counts of values.
+pub fn counts_agree()
+    ensures { CountsAgree }
+{}
+
+/// An event has an attribute for each of its parameters.
+pub fn events_have_attributes_for_parameters()
+    ensures { EventsHaveAttributesForParameters }
+{}
+
+/// An event class has a section, and a section of an event has a class; the item that first names
+/// the class is refused.
+pub fn events_have_sections()
+    ensures { EventsHaveSections }
+{}
+
+/// TIME.V, functions and kept attributes are no targets, and loop variables are variables.
+pub fn targets_may_change()
+    ensures { TargetsMayChange }
+{}
+
+/// A PRINT has as many values as fields, and no decimal field.
+pub fn fields_have_values()
+    ensures { FieldsHaveValues }
+{}
+
+/// A program has one MAIN; the last END is refused where there is none, and the second MAIN.
+pub fn there_is_one_main()
+    ensures { ThereIsOneMain }
+{}
+
+/// One PRIORITY names event classes, each once.
+pub fn priority_names_events_once()
+    ensures { PriorityNamesEventsOnce }
+{}
+
+/// START SIMULATION stands in MAIN.
+pub fn simulation_starts_in_main()
+    ensures { SimulationStartsInMain }
+{}
+
+/// IF FOUND and IF NONE stand directly behind a FIND.
+pub fn found_is_asked_behind_find()
+    ensures { FoundIsAskedBehindFind }
+{}
+
+/// Of two statements that break a rule the earlier one is refused, also where its rule has the
+/// higher number.
+pub fn earlier_statement_counts()
+    ensures { EarlierStatementCounts }
+{}
+
+/// Of two rules that one statement breaks the lower one is told.
+pub fn lower_rule_counts()
+    ensures { LowerRuleCounts }
+{}
+
+/// An event class has one section, and a section's name and parameters are its own.
+pub fn sections_are_declared_once()
+    ensures { SectionsAreDeclaredOnce }
+{}
+
+/// The ties of an event class are broken once, and it is named once as external.
+pub fn orders_are_given_once()
+    ensures { OrdersAreGivenOnce }
+{}
+
+/// A local DEFINE names what is not declared.
+pub fn locals_have_names_of_their_own()
+    ensures { LocalsHaveNamesOfTheirOwn }
+{}
+
+/// EXTERNAL and PRIORITY name event classes, before or behind their headings.
+pub fn orders_name_events()
+    ensures { OrdersNameEvents }
+{}
+
+/// A routine has no value, and TIME.V has no subscript.
+pub fn values_are_no_routines()
+    ensures { ValuesAreNoRoutines }
+{}
+
+/// A tie key is an attribute of the event class, and a rank key one of the members, not of the
+/// owners.
+pub fn keys_are_of_their_class()
+    ensures { KeysAreOfTheirClass }
+{}
+
+/// A notice has an attribute for each value of its SCHEDULE.
+pub fn notices_have_attributes_for_values()
+    ensures { NoticesHaveAttributesForValues }
+{}
+
+/// A CALL has a target for each yielded parameter.
+pub fn yielded_are_counted()
+    ensures { YieldedAreCounted }
+{}
+
+/// Of an event class without section the first item that names it is refused, whatever its kind.
+pub fn first_naming_is_refused()
+    ensures { FirstNamingIsRefused }
+{}
+
+/// An attribute is a target with its subscript.
+pub fn attributes_may_change()
+    ensures { AttributesMayChange }
+{}
+
+/// START SIMULATION does not stand in an event.
+pub fn events_start_no_simulation()
+    ensures { EventsStartNoSimulation }
+{}
+
+/// The tables of a small preamble: attributes, owners, members and priority are numbers.
+pub fn preamble_has_tables()
+    ensures { PreambleHasTables }
+{}
+
+/// A program without a breach, each number looked up in its table, is its text again: heads,
+/// parameters, places and their names and subscripts. It does not keep the local DEFINEs, nor
+/// whether arguments of CALL and parameters stand in parentheses or behind GIVEN.
+pub fn tables_give_the_text()
+    ensures { TablesGiveTheText }
+{}
+
+/// The tables of a program without a breach, each number looked up in its table, say what the
+/// items of its preamble write: the variables, the classes with their kinds, attributes, ties and
+/// sections, the sets with their owners, members and disciplines, and the order of priority.
+pub fn tables_give_the_items()
+    ensures { TablesGiveTheItems }
 {}

@@ -1,59 +1,15 @@
-//! The checker and the checked program: tables of distinct names, and sections as lists of places
-//! in which each name is its number in a table.
+//! The checker: the first statement that breaks a rule of the language, or the program with the
+//! number of each name in its table (docs/LANGUAGE.md, "Rules of the checker").
 #![tactic(auto)]
 
-mod boxed;
-mod branch;
-mod call;
-mod condition;
-mod expr;
+mod declared;
 mod fault;
-mod filing;
-mod find;
-mod keys;
-mod kinds;
 pub mod laws;
-mod looping;
-mod making;
-mod name;
-mod name_table;
-mod names;
-mod place;
 mod program;
-mod section;
-mod sum;
-mod tables;
-mod target;
-mod timing;
-mod variable;
-mod ways;
+mod resolved;
+mod rules;
+mod uses;
 
-pub use boxed::Boxed;
-pub use branch::{Branch, Question};
-pub use call::{Call, Targets};
-pub use condition::{Comparison, Condition, Conjunction, Copula, Disjunction, Relation};
-pub use expr::{Expr, Values};
 pub use fault::{CheckFault, CheckRule};
-pub use filing::{End, Filing, Position};
-pub use find::Named;
-pub use keys::{Key, Keys, Rank};
-pub use kinds::{ClassKind, Discipline, EventClass, Owner, SectionKind};
-pub use looping::{
-    Begin, Direction, ForPhrase, Looping, Phrase, Qualifier, QualifierWord, Qualifiers, Statistic,
-    Telling, Tellings,
-};
-pub use making::Making;
-pub use name::Name;
-pub use name_table::NameTable;
-pub use place::{Assign, Control, Output, Place, Spot};
-pub use program::Program;
-pub use section::{Head, Section};
-pub use ss_words::TermSign;
-pub use sum::{
-    Arguments, Factor, MemberKept, OwnerKept, SignedTerm, Subscript, Subscripted, Sum, Term,
-};
-pub use tables::{Class, Set};
-pub use target::{Index, SetRef, Target};
-pub use timing::{Listing, Notice, Schedule, Timing, When};
-pub use variable::Variable;
-pub use ways::{Resets, Ways};
+pub use program::check;
+pub use ss_program::{Named, Program};

@@ -1,151 +1,218 @@
-ghost use Rattle.std.specs.Prelude.{◌≡◌, ◌<◌, length, position, slice_get, Some};
-ghost use Rattle.ss_check.specs.Program.{ProgramTable, event_of, is_main, main_number, places_of, spot_at};
-ghost use Rattle.ss_check.specs.ProgramSound.{IsSound};
-ghost use Rattle.ss_check.specs.Match.{section_ways};
+ghost use Rattle.std.specs.Prelude.{◌≡◌, false, map, None, IfErr, IfOk};
+ghost use Rattle.std.specs.List.{list_any};
+ghost use Rattle.ss_preamble.specs.Limits.{IsWithin};
+ghost use Rattle.ss_preamble.specs.Tree.{items_of};
+ghost use Rattle.ss_preamble.specs.View as preamble;
+ghost use Rattle.ss_routines.specs.View as view;
+ghost use Rattle.ss_program.specs.ProgramSound.{IsSound};
+ghost use Rattle.ss_check.specs.Breach as rules;
+ghost use Rattle.ss_check.specs.Declarations as declared;
+ghost use Rattle.ss_check.specs.PlaceRules.{has_wrong_picture};
+ghost use Rattle.ss_check.specs.Resolved as resolved;
+ghost use Rattle.ss_check.specs.ResolvedNames.{names as names_of, number};
+ghost use Rattle.ss_check.specs.Statements.{IsBreach};
 
-use crate::kinds::SectionKind;
-use crate::name::Name;
-use crate::place::Spot;
-use crate::section::Section;
-use crate::tables::{Class, Set};
-use crate::ways::Ways;
-use std::marker::Model;
+use crate::declared::name_tables::NameTables;
+use crate::declared::tables::Tables;
+use crate::fault::CheckFault;
+use crate::resolved::class_tables::{class_tables, priority};
+use crate::resolved::rankings::Rankings;
+use crate::resolved::sections::resolve_section;
+use crate::resolved::set_tables::set_tables;
+use crate::rules::breach::check_rules;
+use ss_preamble::Decls;
+use ss_program::{Class, Program, Set};
+use ss_routines::{Section, Sections};
+use std::alloc::{AllocError, Global};
 
-/// A checked program. The names of its global variables, classes and sets, those of a class's
-/// attributes and those of a section's locals stand in order of declaration, each once in its
-/// table.
+/// The checked program of what a text declares and of its sections: each name is a number in its
+/// table, and each picture has its fields (docs/LANGUAGE.md, "Rules of the checker"). What is
+/// declared is within the limits, as `preamble` ensures.
+///
+/// `Broken` tells the first statement that breaks a rule, by its line, and the lowest of the rules
+/// that it breaks; `Memory` that a growth was refused.
+pub fn check(alloc: Global, decls: Decls, sections: Sections) -> Result<Program, CheckFault>
+    requires { IsWithin (items_of (preamble.decls_view decls)) }
+    ensures sound { IfOk result (λ _. rules.breach (preamble.decls_view decls) sections ≡ None) }
+    ensures ok { IfOk result
+        (λ program. program ≡ resolved.resolved (preamble.decls_view decls) sections) }
+    ensures err { IfErr result (λ f. IsBreach f (rules.breach (preamble.decls_view decls) sections)) }
+{
+    let sections = sections.into_list();
+    match check_rules(alloc, &decls, &sections) {
+        Ok(whole) => {
+            let program = resolve_program(alloc, &whole, &decls, sections);
+            drop(whole);
+            drop(decls);
+            Ok(program?)
+        }
+        Err(fault) => {
+            drop(sections);
+            drop(decls);
+            Err(fault)
+        }
+    }
+}
+
+/// The program of these items and sections, which say `whole` and break no rule.
+fn resolve_program(
+    alloc: Global,
+    whole: &Tables,
+    decls: &Decls,
+    sections: Vec<Section>,
+) -> Result<Program, AllocError>
+    requires whole { whole.now
+        ≡ declared.tables (preamble.decls_view decls.now).items (map view.section_view sections.items) }
+    requires pictures { list_any (λ q. list_any (λ s. has_wrong_picture s.place) q.places)
+        (map view.section_view sections.items) ≡ false }
+    requires sound { IsSound (resolved.resolved (preamble.decls_view decls.now)
+        (map view.section_view sections.items)) }
+    ensures { IfOk result (λ program. program
+        ≡ resolved.resolved (preamble.decls_view decls.now) (map view.section_view sections.items)) }
+{
+    match NameTables::new(alloc, whole, &sections) {
+        Ok(names) => resolve_named(alloc, whole, decls, names, sections),
+        Err(fault) => {
+            drop(sections);
+            Err(fault)
+        }
+    }
+}
+
+/// The program of these items and sections, whose names these are. Where it ends early, it lets go
+/// by calls: the proof of each end writes out what is still held there.
+fn resolve_named(
+    alloc: Global,
+    whole: &Tables,
+    decls: &Decls,
+    names: NameTables,
+    sections: Vec<Section>,
+) -> Result<Program, AllocError>
+    requires whole { whole.now
+        ≡ declared.tables (preamble.decls_view decls.now).items (map view.section_view sections.items) }
+    requires names { names
+        ≡ names_of whole.now (declared.heads (map view.section_view sections.items)) }
+    requires pictures { list_any (λ q. list_any (λ s. has_wrong_picture s.place) q.places)
+        (map view.section_view sections.items) ≡ false }
+    requires sound { IsSound (resolved.resolved (preamble.decls_view decls.now)
+        (map view.section_view sections.items)) }
+    ensures { IfOk result (λ program. program
+        ≡ resolved.resolved (preamble.decls_view decls.now) (map view.section_view sections.items)) }
+{
+    match classes_and_sets(alloc, whole, decls, &names) {
+        Ok(made) => match resolve_sections(alloc, whole, &names, sections) {
+            Ok(list) => {
+                let globals = names.into_globals();
+                Ok(Program::new(globals, made.classes, made.sets, made.priority, list))
+            }
+            Err(fault) => {
+                drop(made);
+                drop(names);
+                Err(fault)
+            }
+        },
+        Err(fault) => {
+            drop(sections);
+            drop(names);
+            Err(fault)
+        }
+    }
+}
+
+/// The tables of a program's classes and of its sets, and the order of its event classes.
 #[derive(Drop)]
-pub struct Program {
-    pub globals: Vec<Name>,
-    pub classes: Vec<Class>,
-    pub sets: Vec<Set>,
-    /// The event classes that PRIORITY names, by their numbers, the first in priority first.
-    pub priority: Vec<usize>,
-    pub sections: Vec<Section>,
+struct ClassesAndSets {
+    classes: Vec<Class>,
+    sets: Vec<Set>,
+    priority: Vec<usize>,
 }
 
-impl Model for Program {
-    ghost use Rattle.std.specs.Coded.{codes};
-    ghost use Rattle.ss_check.specs.Program.{ProgramTable};
-    ghost use Rattle.ss_check.specs.ProgramSound.{IsSound};
-    ghost use Rattle.ss_check.specs.contracts.section.Section as section;
-
-    ghost Value = { ProgramTable };
-
-    ghost coded = { Prim.hlevel (codes, section.the_row.coded) };
-
-    ghost view = { λ a. record {
-      globals = a.globals.items;
-      classes = a.classes.items;
-      sets = a.sets.items;
-      priority = a.priority.items;
-      sections = a.sections.items;
-    } };
-
-    ghost invariant = { λ a. IsSound (record {
-      globals = a.globals.items;
-      classes = a.classes.items;
-      sets = a.sets.items;
-      priority = a.priority.items;
-      sections = a.sections.items;
-    }) };
+/// What these items, which say `whole`, make of the classes and sets of these names.
+fn classes_and_sets(
+    alloc: Global,
+    whole: &Tables,
+    decls: &Decls,
+    names: &NameTables,
+) -> Result<ClassesAndSets, AllocError>
+    ensures classes { IfOk result (λ made. made.classes.items ≡ map (resolved.class_table whole.now names.now
+        (resolved.rankings (preamble.decls_view decls.now).items)) names.now.classes) }
+    ensures sets { IfOk result (λ made. made.sets.items ≡ map (resolved.set_table whole.now names.now
+        (resolved.rankings (preamble.decls_view decls.now).items)) names.now.sets) }
+    ensures priority { IfOk result (λ made. made.priority.items
+        ≡ map (λ c. number c names.now.classes) whole.now.priority) }
+{
+    let rankings = Rankings::new(alloc, &decls.items)?;
+    let made = ranked_classes_and_sets(alloc, whole, names, &rankings);
+    drop(rankings);
+    made
 }
 
-impl Program {
-    /// A program of these tables.
-    pub fn new(
-        globals: Vec<Name>,
-        classes: Vec<Class>,
-        sets: Vec<Set>,
-        priority: Vec<usize>,
-        sections: Vec<Section>,
-    ) -> Self
-        requires { IsSound (record {
-          globals = globals.items;
-          classes = classes.items;
-          sets = sets.items;
-          priority = priority.items;
-          sections = sections.items;
-        }) }
-        ensures { result ≡ record {
-          globals = globals.items;
-          classes = classes.items;
-          sets = sets.items;
-          priority = priority.items;
-          sections = sections.items;
-        } }
-    {
-        Program {
-            globals,
+/// What items that say `whole` and give these rankings make of the classes and sets of these names.
+fn ranked_classes_and_sets(
+    alloc: Global,
+    whole: &Tables,
+    names: &NameTables,
+    rankings: &Rankings<'_>,
+) -> Result<ClassesAndSets, AllocError>
+    ensures classes { IfOk result (λ made. made.classes.items
+        ≡ map (resolved.class_table whole.now names.now rankings.now) names.now.classes) }
+    ensures sets { IfOk result
+        (λ made. made.sets.items ≡ map (resolved.set_table whole.now names.now rankings.now) names.now.sets) }
+    ensures priority { IfOk result (λ made. made.priority.items
+        ≡ map (λ c. number c names.now.classes) whole.now.priority) }
+{
+    let classes = class_tables(alloc, whole, names, rankings)?;
+    match sets_and_priority(alloc, whole, names, rankings) {
+        Ok((sets, priority)) => Ok(ClassesAndSets {
             classes,
             sets,
             priority,
-            sections,
+        }),
+        Err(fault) => {
+            drop(classes);
+            Err(fault)
         }
     }
+}
 
-    /// Tells its caller that the program is sound.
-    pub fn known(&self)
-        ensures { IsSound self.now }
-    {
-        // The invariant is known where a field is read.
-        let _ = &self.sections;
-    }
-
-    /// The number of the section MAIN.
-    #[tactic(auto, using(crate::proofs::Mains::found_main, crate::proofs::Mains::one_main))]
-    pub fn main(&self) -> usize
-        ensures main { result ≡ main_number self.now }
-        ensures there { result < length self.now.sections }
-    {
-        // The invariant is known where a field is read: there is one MAIN.
-        let _ = &self.sections;
-        match self.find_main() {
-            Some(number) => number,
-            None => 0,
+/// The sets, and the order of the event classes, of items that say `whole` and give these rankings.
+fn sets_and_priority(
+    alloc: Global,
+    whole: &Tables,
+    names: &NameTables,
+    rankings: &Rankings<'_>,
+) -> Result<(Vec<Set>, Vec<usize>), AllocError>
+    ensures sets { IfOk result
+        (λ x. x.0.items ≡ map (resolved.set_table whole.now names.now rankings.now) names.now.sets) }
+    ensures priority { IfOk result
+        (λ x. x.1.items ≡ map (λ c. number c names.now.classes) whole.now.priority) }
+{
+    let sets = set_tables(alloc, whole, names, rankings)?;
+    match priority(alloc, whole, names) {
+        Ok(priority) => Ok((sets, priority)),
+        Err(fault) => {
+            drop(sets);
+            Err(fault)
         }
     }
+}
 
-    fn find_main(&self) -> Option<usize>
-        ensures { result ≡ position is_main self.now.sections }
-    {
-        self.sections
-            .iter()
-            .position(|s| s.kind == SectionKind::Main)
+/// The sections of a program, with the numbers of their names. What the text says of a section is
+/// let go as soon as the section is made.
+fn resolve_sections(
+    alloc: Global,
+    whole: &Tables,
+    names: &NameTables,
+    sections: Vec<Section>,
+) -> Result<Vec<ss_program::Section>, AllocError>
+    requires { list_any (λ q. list_any (λ s. has_wrong_picture s.place) q.places)
+        (map view.section_view sections.items) ≡ false }
+    ensures { IfOk result (λ list. list.items
+        ≡ map (resolved.resolved_section whole.now names.now) (map view.section_view sections.items)) }
+{
+    let mut list = Vec::with_capacity(alloc, sections.len())?;
+    for section in sections {
+        list.push(resolve_section(alloc, whole, names, section)?)?;
     }
-
-    /// Whether the class with this number is an event class whose notices the data may name
-    /// (docs/LANGUAGE.md, "External events").
-    pub fn is_external(&self, class: usize) -> bool
-        requires { class < length self.now.classes }
-        ensures { result ≡ (event_of self.now class).external }
-    {
-        self.classes[class].is_external()
-    }
-
-    /// The section with this number.
-    pub fn section(&self, number: usize) -> &Section
-        requires { number < length self.now.sections }
-        ensures { slice_get self.now.sections number ≡ Some result.now }
-    {
-        &self.sections[number]
-    }
-
-    /// The place with this number of the section with this number.
-    pub fn spot(&self, section: usize, place: usize) -> &Spot
-        requires section { section < length self.now.sections }
-        requires place { place < length (places_of (slice_get self.now.sections section)) }
-        ensures { spot_at self.now section place ≡ Some result.now }
-    {
-        &self.sections[section].places[place]
-    }
-
-    /// Where the place with this number of the section with this number goes on.
-    pub fn ways(&self, section: usize, place: usize) -> Ways
-        requires section { section < length self.now.sections }
-        requires place { place < length (places_of (slice_get self.now.sections section)) }
-        ensures { slice_get (section_ways (places_of (slice_get self.now.sections section))) place ≡ Some result }
-    {
-        self.sections[section].ways(place)
-    }
+    Ok(list)
 }

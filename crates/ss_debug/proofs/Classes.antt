@@ -1,8 +1,8 @@
 -- The variables of classes.
 use Rattle.std.proofs.Common.{ℕ, ◌<◌, length, arith}
 use Rattle.std.proofs.lemmas.Option.{slice_get_within}
-use Rattle.ss_check.specs.Program.{ProgramTable, class_of}
-use Rattle.ss_check.specs.ProgramSound.{IsSound}
+use Rattle.ss_program.specs.Program.{ProgramTable, class_of}
+use Rattle.ss_program.specs.ProgramSound.{IsSound}
 use Rattle.ss_machine.specs.State.{State}
 use Rattle.ss_machine.specs.Well.{IsWell}
 use Rattle.ss_machine.proofs.Sounds.{class_there}

@@ -1,7 +1,7 @@
 -- The class of the entry of an external event.
 use Rattle.std.proofs.Common.{◌≡◌, ℕ, zero, suc, ◌<◌, true, false, List, [], ◌∷◌, length, refl, arith}
 use Rattle.std.proofs.Common.{unwrap_or, slice_get}
-use Rattle.ss_check.specs.Program.{ProgramTable, ClassTable, event_of_kind}
+use Rattle.ss_program.specs.Program.{ProgramTable, ClassTable, event_of_kind}
 use Rattle.ss_events.specs.Agenda.{Pending}
 use Rattle.ss_machine.specs.declared.entry.Entry.TheVariants.{Waiting, Running}
 use Rattle.ss_machine.specs.State.{FrameState}

@@ -7,7 +7,7 @@ use Rattle.std.specs.Ordering.{is_lt}
 use Rattle.std.proofs.lemmas.Bool.Decides.{nat_tests}
 use Rattle.std.proofs.lemmas.List.{append-nil, append_assoc}
 use Rattle.std.proofs.lemmas.List.FromFn.{length-map-range_with_len}
-use Rattle.ss_check.specs.Program.{ProgramTable}
+use Rattle.ss_program.specs.Program.{ProgramTable}
 use Rattle.ss_events.specs.Rules.{Rule, program_rule, rules_of}
 use Rattle.ss_events.specs.Agenda.{Pending, Agenda, pending_at, by_time, least_of, first_notices, in_order}
 use Rattle.ss_events.specs.declared.agenda.Slot.{Slot}

@@ -7,10 +7,10 @@ use Rattle.std.specs.Prelude.{position, bytes_eq}
 use Rattle.std.specs.List.{position_or_len}
 use Rattle.std.specs.Option.{option_and_then}
 use borrow.Author.Tests.{ltb-true}
-use Rattle.ss_check.specs.Names.{is_clock}
-use Rattle.ss_check.specs.declared.find.Named.{Named}
-use Rattle.ss_check.specs.Found.{numbers_of, is_any}
-use Rattle.ss_check.specs.Program.{ProgramTable}
+use Rattle.ss_program.specs.Names.{is_clock}
+use Rattle.ss_program.specs.declared.find.Named.{Named}
+use Rattle.ss_program.specs.Found.{numbers_of, is_any}
+use Rattle.ss_program.specs.Program.{ProgramTable}
 use Rattle.ss_store.specs.Tables.{Tables, set_shape, tables_of}
 use Rattle.ss_store.proofs.Core.{some_eq}
 use Rattle.ss_debug.specs.Entities.{class_named, set_named, lines_below}

@@ -10,8 +10,8 @@ use Rattle.std.proofs.lemmas.List.{append-nil, append_assoc}
 use Rattle.ss_links.specs.Board.{times}
 use Rattle.ss_links.specs.Seats.{has, times_in, first_of, seat_behind}
 use Rattle.ss_links.proofs.SeatLaws.{times_in-present}
-use Rattle.ss_check.specs.declared.kinds.Owner.{Owner}
-use Rattle.ss_check.specs.declared.kinds.Owner.TheVariants.{System, OwnedBy}
+use Rattle.ss_program.specs.declared.kinds.Owner.{Owner}
+use Rattle.ss_program.specs.declared.kinds.Owner.TheVariants.{System, OwnedBy}
 use Rattle.ss_store.specs.declared.shape.SetShape.{SetShape}
 use Rattle.ss_store.specs.Store.{Entity, Store, of_class, made_of, entity, entities, exists, list_number, list_by}
 use Rattle.ss_store.specs.Store.{lists_by, is_owner, members_of, stands_in, number_of}

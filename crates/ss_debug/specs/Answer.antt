@@ -5,9 +5,9 @@ use Rattle.std.specs.Option.{option_map, option_or}
 use Rattle.std.specs.Fmt.{signed_decimal}
 use Rattle.std.specs.Str.{bytes_eq}
 use Rattle.ss_words.specs.Faults.{run_fault_number}
-use Rattle.ss_check.specs.Program.{ProgramTable, SectionTable, class_of, locals_of}
-use Rattle.ss_check.specs.declared.variable.Variable.{Variable}
-use Rattle.ss_check.specs.declared.variable.Variable.TheVariants.{Global, Local, Clock}
+use Rattle.ss_program.specs.Program.{ProgramTable, SectionTable, class_of, locals_of}
+use Rattle.ss_program.specs.declared.variable.Variable.{Variable}
+use Rattle.ss_program.specs.declared.variable.Variable.TheVariants.{Global, Local, Clock}
 use Rattle.ss_events.specs.declared.agenda.Slot.{Slot}
 use Rattle.ss_events.specs.Rules.{rules_of}
 use Rattle.ss_events.specs.Agenda.{Pending, in_order}

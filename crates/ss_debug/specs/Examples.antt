@@ -1,9 +1,9 @@
 -- Command lines, small programs and states of examples, and what they say.
 use Rattle.std.specs.Prelude.{ℕ, ℤ, ◌≡◌, pos, neg_ℤ, false, List, [], ◌∷◌, map, codes, Option, Some, None}
-use Rattle.ss_check.specs.declared.kinds.ClassKind.TheVariants.{Event, Permanent, Temporary}
-use Rattle.ss_check.specs.declared.kinds.Discipline.TheVariants.{Fifo}
-use Rattle.ss_check.specs.declared.kinds.Owner.TheVariants.{System, OwnedBy}
-use Rattle.ss_check.specs.Program.{ClassTable, ProgramTable}
+use Rattle.ss_program.specs.declared.kinds.ClassKind.TheVariants.{Event, Permanent, Temporary}
+use Rattle.ss_program.specs.declared.kinds.Discipline.TheVariants.{Fifo}
+use Rattle.ss_program.specs.declared.kinds.Owner.TheVariants.{System, OwnedBy}
+use Rattle.ss_program.specs.Program.{ClassTable, ProgramTable}
 use Rattle.ss_store.specs.Store.{Entity, Store}
 use Rattle.ss_events.specs.Agenda.{Pending, Agenda, empty_agenda}
 use Rattle.ss_machine.specs.declared.entry.Entry.TheVariants.{Absent}

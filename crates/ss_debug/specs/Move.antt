@@ -2,8 +2,8 @@
 use Rattle.std.specs.Prelude.{ℕ, zero, suc, ◌+◌, ◌-◌, min, max, pos, int_le, ◌≡◌, ◌<◌, ◌≤◌}
 use Rattle.std.specs.Prelude.{Bool, true, false, not, ◌&&◌, ◌||◌, ◌⊎◌}
 use Rattle.std.specs.Prelude.{List, Option, Some, None, if◌then◌else◌, nat_lt, length}
-use Rattle.ss_check.specs.Program.{spot_at, section_of, is_event_section}
-use Rattle.ss_check.specs.declared.place.Spot.{Spot}
+use Rattle.ss_program.specs.Program.{spot_at, section_of, is_event_section}
+use Rattle.ss_program.specs.declared.place.Spot.{Spot}
 use Rattle.ss_machine.specs.declared.limits.TheConstants.{LAST_POSITION}
 use Rattle.ss_machine.specs.State.{State, is_ready}
 use Rattle.ss_machine.specs.Run.{Input, run}

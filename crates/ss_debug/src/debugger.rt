@@ -42,7 +42,7 @@ pub struct Debugger<S: SetBoard> {
 impl<S: SetBoard> Model for Debugger<S> {
     ghost use Rattle.std.specs.Coded.{codes};
     ghost use Rattle.ss_debug.specs.View.{DebuggerView};
-    ghost use Rattle.ss_check.specs.contracts.program.Program as checked;
+    ghost use Rattle.ss_program.specs.contracts.program.Program as checked;
 
     ghost Value = { DebuggerView };
 

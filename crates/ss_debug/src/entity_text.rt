@@ -1,7 +1,7 @@
 //! The answer to a question about an entity.
 ghost use Rattle.std.specs.Prelude.{◌≡◌, ◌++◌, ◌<◌, length, OnOk, IfOk};
-ghost use Rattle.ss_check.specs.declared.kinds.Owner.TheVariants.{OwnedBy};
-ghost use Rattle.ss_check.specs.Program.{class_of, is_same_owner};
+ghost use Rattle.ss_program.specs.declared.kinds.Owner.TheVariants.{OwnedBy};
+ghost use Rattle.ss_program.specs.Program.{class_of, is_same_owner};
 ghost use Rattle.ss_store.specs.Tables.{set_of};
 ghost use Rattle.ss_store.specs.Store.{number_of};
 ghost use Rattle.ss_machine.specs.Moment.{position};
@@ -12,9 +12,9 @@ ghost use Rattle.ss_debug.specs.Entities.{no_entity_text, entity_text};
 use crate::name::Name;
 use crate::rows::{attribute_count, attribute_name, find_class, member_class, set_name, set_owner};
 use crate::text::{push_integer, push_number};
-use ss_check::Owner;
 use ss_links::SetBoard;
 use ss_machine::Machine;
+use ss_program::Owner;
 use ss_store::Store;
 use ss_words::RunFault;
 use std::alloc::{AllocError, Global};

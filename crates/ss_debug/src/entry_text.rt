@@ -1,14 +1,14 @@
 //! The answer to SHOW ENTRY.
 ghost use Rattle.std.specs.Prelude.{◌≡◌, ◌++◌, ◌<◌, codes, decimal, length, IfOk};
-ghost use Rattle.ss_check.specs.Program.{class_of};
+ghost use Rattle.ss_program.specs.Program.{class_of};
 ghost use Rattle.ss_machine.specs.Moment.{position};
 ghost use Rattle.ss_debug.specs.Answer.{entry_text};
 
 use crate::rows::class_name;
 use crate::text::push_number;
-use ss_check::Program;
 use ss_links::SetBoard;
 use ss_machine::{Entry, Machine};
+use ss_program::Program;
 use std::alloc::{AllocError, Global};
 
 /// The line of an entry of this class with this notice, and what is said of it.

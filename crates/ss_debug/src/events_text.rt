@@ -5,10 +5,10 @@ ghost use Rattle.ss_debug.specs.Answer.{notice_line, events_text};
 
 use crate::rows::class_name;
 use crate::text::{push_integer, push_number};
-use ss_check::Program;
 use ss_events::Slot;
 use ss_links::SetBoard;
 use ss_machine::Machine;
+use ss_program::Program;
 use std::alloc::{AllocError, Global};
 
 /// Appends the line of a pending notice: its class, its reference and its time.

@@ -9,9 +9,9 @@ ghost use Rattle.ss_debug.specs.View.{condition_of};
 
 use crate::break_lines::BreakLines;
 use crate::stop_condition::StopCondition;
-use ss_check::SectionKind;
 use ss_links::SetBoard;
 use ss_machine::{LAST_POSITION, Machine, Status};
+use ss_program::SectionKind;
 use std::alloc::AllocError;
 
 /// Whether the next step runs a place.

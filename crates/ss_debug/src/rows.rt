@@ -1,9 +1,9 @@
 //! Rows of a program's tables by their names, and the names of rows.
 ghost use Rattle.std.specs.Prelude.{◌≡◌, ◌<◌, [], length, IfSome, slice_index_or};
-ghost use Rattle.ss_check.specs.Program.{class_of, set_of};
+ghost use Rattle.ss_program.specs.Program.{class_of, set_of};
 ghost use Rattle.ss_debug.specs.Entities.{class_named, set_named};
 
-use ss_check::{Owner, Program};
+use ss_program::{Owner, Program};
 
 /// The class of this name.
 #[tactic(auto, using(crate::proofs::Tables::class_within))]

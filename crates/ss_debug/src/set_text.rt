@@ -1,8 +1,8 @@
 //! The answer to a question about the list of a set.
 ghost use Rattle.std.specs.Prelude.{◌≡◌, ◌++◌, ◌<◌, length, OnOk, IfOk, true, slice_index_or, pos};
 ghost use Rattle.ss_links.specs.Seats.{has, seat_behind};
-ghost use Rattle.ss_check.specs.declared.kinds.Owner.TheVariants.{System};
-ghost use Rattle.ss_check.specs.Program.{class_of};
+ghost use Rattle.ss_program.specs.declared.kinds.Owner.TheVariants.{System};
+ghost use Rattle.ss_program.specs.Program.{class_of};
 ghost use Rattle.ss_store.specs.Tables.{set_of};
 ghost use Rattle.ss_store.specs.Store.{number_of, members_of};
 ghost use Rattle.ss_machine.specs.Moment.{position};
@@ -13,9 +13,9 @@ use crate::entity_text::no_entity_text;
 use crate::name::Name;
 use crate::rows::{class_name, class_variable, find_set, set_owner};
 use crate::text::{push_integer, push_number};
-use ss_check::{Owner, Variable};
 use ss_links::SetBoard;
 use ss_machine::Machine;
+use ss_program::{Owner, Variable};
 use ss_store::Store;
 use std::alloc::{AllocError, Global};
 

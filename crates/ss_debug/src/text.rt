@@ -14,9 +14,9 @@ use crate::movement::{is_in_time, is_met, is_ready_now, present_line, stands_on_
 use crate::name::Name;
 use crate::stop_condition::StopCondition;
 use itoa::Buffer;
-use ss_check::Variable;
 use ss_links::SetBoard;
 use ss_machine::{Machine, Status};
+use ss_program::Variable;
 use std::alloc::{AllocError, Global};
 
 /// Appends a number in least digits.

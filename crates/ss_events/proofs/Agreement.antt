@@ -7,10 +7,10 @@ use Rattle.std.proofs.lemmas.Int.{ints}
 use Rattle.std.specs.Ordering.{is_lt, ordering_then, nat_cmp, int_cmp}
 use Rattle.std.specs.declared.cmp.Ordering.{Ordering}
 use Rattle.std.specs.declared.cmp.Ordering.TheVariants.{Less, Equal, Greater}
-use Rattle.ss_check.specs.declared.keys.Rank.{Rank}
-use Rattle.ss_check.specs.declared.keys.Rank.TheVariants.{High, Low}
-use Rattle.ss_check.specs.declared.keys.Key.{Key}
-use Rattle.ss_check.specs.Keys.{ranked, by_keys}
+use Rattle.ss_program.specs.declared.keys.Rank.{Rank}
+use Rattle.ss_program.specs.declared.keys.Rank.TheVariants.{High, Low}
+use Rattle.ss_program.specs.declared.keys.Key.{Key}
+use Rattle.ss_program.specs.Keys.{ranked, by_keys}
 use Rattle.ss_events.specs.Rules.{Rule, rule_at, is_event_class}
 use Rattle.ss_events.specs.State.{AreRanked}
 use Rattle.ss_events.specs.Agenda.{Pending, Agenda, by_time, least_of, least, without_notice, first_notices, in_order}

@@ -7,7 +7,7 @@ use Rattle.std.specs.declared.cmp.Ordering.{Ordering}
 use Rattle.ss_words.specs.declared.fault.RunFault.{RunFault}
 use Rattle.ss_words.specs.declared.fault.RunFault.TheVariants.{TimeBeforeClock, AlreadyScheduled, TooManyReferences}
 use Rattle.ss_events.specs.Rules.{Rule, rule_at}
-use Rattle.ss_check.specs.Keys.{by_keys}
+use Rattle.ss_program.specs.Keys.{by_keys}
 
 -- a pending notice: its reference, its time, its class, the BREAK keys as they were when it was scheduled, and its
 -- filing number

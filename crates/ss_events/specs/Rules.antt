@@ -1,8 +1,8 @@
 -- What the order of notices asks of the program's classes.
 use Rattle.std.specs.Prelude.{ℕ, zero, suc, ◌+◌, if◌then◌else◌, Bool, false, List, [], ◌∷◌, length, map, slice_index_or}
 use Rattle.std.specs.List.{range_with_len}
-use Rattle.ss_check.specs.declared.keys.Key.{Key}
-use Rattle.ss_check.specs.Program.{ProgramTable, class_of, is_event, priority_of, event_of}
+use Rattle.ss_program.specs.declared.keys.Key.{Key}
+use Rattle.ss_program.specs.Program.{ProgramTable, class_of, is_event, priority_of, event_of}
 
 -- whether a class is an event class, its place in the order of priority, and the keys of its BREAK ties
 pub record Rule : Type 0 where

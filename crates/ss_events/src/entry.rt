@@ -1,4 +1,4 @@
-use ss_check::Key;
+use ss_program::Key;
 
 /// What is kept of a pending notice.
 #[derive(Drop)]

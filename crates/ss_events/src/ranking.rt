@@ -6,7 +6,7 @@ ghost use Rattle.ss_events.specs.Weights.{before, less, compared};
 ghost use Rattle.ss_events.specs.Rows.{rule_of, notice_of, row_at, IsEntry, IsGrown};
 
 use crate::entry::{ClassRule, Entry, Row};
-use ss_check::{Key, Rank};
+use ss_program::{Key, Rank};
 use std::alloc::AllocError;
 
 /// The entry of a notice, if it is pending.

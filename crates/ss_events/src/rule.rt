@@ -1,10 +1,10 @@
 ghost use Rattle.std.specs.Prelude.{◌≡◌, ◌<◌, ◌≤◌, ◌==◌, IfOk, length, map, position};
-ghost use Rattle.ss_check.specs.Program.{priority_of};
+ghost use Rattle.ss_program.specs.Program.{priority_of};
 ghost use Rattle.ss_events.specs.Rules.{program_rule, rules_of, event_number};
 ghost use Rattle.ss_events.specs.Rows.{rule_of};
 
 use crate::entry::ClassRule;
-use ss_check::{ClassKind, Key, Program};
+use ss_program::{ClassKind, Key, Program};
 use std::alloc::{AllocError, Global};
 
 /// What the order of notices asks of a program's classes, class by class.

@@ -7,8 +7,8 @@ use Rattle.std.specs.declared.cmp.Ordering.TheVariants.{Less, Equal, Greater}
 use Rattle.std.proofs.lemmas.Bool.{eq-eqb, eqb-true}
 use Rattle.std.proofs.lemmas.Int.{ints}
 use Rattle.std.specs.Option.{option_map}
-use Rattle.ss_check.specs.Keys.{by_keys}
-use Rattle.ss_check.specs.Program.{ProgramTable}
+use Rattle.ss_program.specs.Keys.{by_keys}
+use Rattle.ss_program.specs.Program.{ProgramTable}
 use Rattle.ss_events.specs.Rules.{Rule, rule_at}
 use Rattle.ss_events.specs.Agenda.{Pending, Agenda, pending_at, is_pending, by_time, least_of, least, without_notice, with_notice}
 use Rattle.ss_events.specs.State.{Each}

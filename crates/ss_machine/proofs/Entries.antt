@@ -3,9 +3,9 @@ use Rattle.std.proofs.Common.{◌≡◌, ◌≢◌, ℕ, ℤ, List, [], ◌∷�
 use Rattle.std.specs.Prelude.{is_some, nat_lt, ◌==◌, if◌then◌else◌}
 use Rattle.std.proofs.lemmas.Bool.{eq-eqb, eqb-true}
 use Rattle.ss_words.specs.declared.fault.RunFault.{RunFault}
-use Rattle.ss_check.specs.declared.kinds.SectionKind.{SectionKind}
-use Rattle.ss_check.specs.declared.kinds.SectionKind.TheVariants.{Main, Routine, Event}
-use Rattle.ss_check.specs.Program.{ProgramTable, event_of, section_of, is_event_kind}
+use Rattle.ss_program.specs.declared.kinds.SectionKind.{SectionKind}
+use Rattle.ss_program.specs.declared.kinds.SectionKind.TheVariants.{Main, Routine, Event}
+use Rattle.ss_program.specs.Program.{ProgramTable, event_of, section_of, is_event_kind}
 use Rattle.ss_events.specs.Agenda.{Pending, pending_at, without_notice, with_notice}
 use Rattle.ss_events.specs.State.{Each}
 use Rattle.ss_machine.specs.declared.entry.Entry.{Entry}

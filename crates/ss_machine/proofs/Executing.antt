@@ -5,13 +5,13 @@ use Rattle.ss_words.specs.declared.fault.RunFault.{RunFault}
 use Rattle.ss_words.specs.declared.fault.RunFault.TheVariants.{NoEntity}
 use Rattle.ss_words.specs.declared.fault.StepFault.{StepFault}
 use Rattle.ss_words.specs.declared.fault.StepFault.TheVariants.{Fault, Memory}
-use Rattle.ss_check.specs.declared.making.Making.TheVariants.{CreateEvery}
-use Rattle.ss_check.specs.declared.variable.Variable.TheVariants.{Global}
-use Rattle.ss_check.specs.declared.target.Target.{Target}
-use Rattle.ss_check.specs.declared.target.Target.TheVariants.{Attribute}
-use Rattle.ss_check.specs.declared.timing.Schedule.{Schedule}
-use Rattle.ss_check.specs.ProgramExpr.{Expr, Subscript}
-use Rattle.ss_check.specs.Program.{ProgramTable}
+use Rattle.ss_program.specs.declared.making.Making.TheVariants.{CreateEvery}
+use Rattle.ss_program.specs.declared.variable.Variable.TheVariants.{Global}
+use Rattle.ss_program.specs.declared.target.Target.{Target}
+use Rattle.ss_program.specs.declared.target.Target.TheVariants.{Attribute}
+use Rattle.ss_program.specs.declared.timing.Schedule.{Schedule}
+use Rattle.ss_program.specs.ProgramExpr.{Expr, Subscript}
+use Rattle.ss_program.specs.Program.{ProgramTable}
 use Rattle.ss_store.specs.Tables.{Tables, tables_of, class_of}
 use Rattle.ss_store.specs.Store.{Store, number_of, exists, last_reference, with_new, with_class, with_attribute, without_entity}
 use Rattle.ss_events.specs.Agenda.{Agenda, is_pending}

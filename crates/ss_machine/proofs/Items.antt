@@ -3,7 +3,7 @@ use Rattle.std.proofs.Common.{◌≡◌, ◌<◌, ◌≤◌, ◌+◌, ◌^◌, �
 use Rattle.std.specs.Prelude.{map, slice_get, nat_lt, nat_le, neg_ℤ, ◌&&◌, ◌==◌, if◌then◌else◌}
 use Rattle.std.proofs.lemmas.Bool.{lt-ltb, leb-true, and_parts}
 use Rattle.ss_words.specs.declared.fault.RunFault.{RunFault}
-use Rattle.ss_check.specs.declared.target.Target.{Target}
+use Rattle.ss_program.specs.declared.target.Target.{Target}
 use Rattle.ss_data.specs.Numbers.{is_numeral, natural, non_negative, non_positive, number}
 use Rattle.ss_data.specs.Pieces.{pieces}
 use Rattle.ss_data.specs.Items.{Item, item, items, number_or_fault, value_or_fault}

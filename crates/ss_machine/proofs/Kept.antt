@@ -3,24 +3,24 @@ use Rattle.std.proofs.Common.{◌≡◌, ℕ, ℤ, zero, suc, ◌+◌, Bool, tru
 use Rattle.std.specs.Prelude.{pos, int_lt, length, slice_index_or, if◌then◌else◌}
 use Rattle.std.specs.List.{range_with_len}
 use Rattle.ss_words.specs.declared.fault.RunFault.{RunFault}
-use Rattle.ss_check.specs.declared.variable.Variable.{Variable}
-use Rattle.ss_check.specs.declared.variable.Variable.TheVariants.{Global, Local, Clock}
-use Rattle.ss_check.specs.declared.place.Output.TheVariants.{Print, Skip}
-use Rattle.ss_check.specs.declared.place.Control.TheVariants.{Stop, Return, End}
-use Rattle.ss_check.specs.declared.place.Place.{Place}
-use Rattle.ss_check.specs.declared.place.Place.TheVariants.{Assign, Making, Filing, Output, Control, Branch, Looping, Call, Timing, Read}
-use Rattle.ss_check.specs.declared.place.Spot.{Spot}
-use Rattle.ss_check.specs.declared.branch.Branch.TheVariants.{If, Else, Always}
-use Rattle.ss_check.specs.declared.looping.ForPhrase.{ForPhrase}
-use Rattle.ss_check.specs.declared.looping.Telling.{Telling}
-use Rattle.ss_check.specs.declared.looping.Looping.TheVariants.{For, Loop, Find, Gather, Tell}
-use Rattle.ss_check.specs.declared.timing.Timing.TheVariants.{Schedule, Cancel, Start}
-use Rattle.ss_check.specs.declared.ways.Resets.{Resets}
-use Rattle.ss_check.specs.declared.ways.Resets.TheVariants as resets
-use Rattle.ss_check.specs.declared.ways.Ways.{Ways}
-use Rattle.ss_check.specs.declared.kinds.SectionKind.{SectionKind}
-use Rattle.ss_check.specs.declared.kinds.SectionKind.TheVariants as kinds
-use Rattle.ss_check.specs.Program.{ProgramTable, has_external, section_of, spot_at}
+use Rattle.ss_program.specs.declared.variable.Variable.{Variable}
+use Rattle.ss_program.specs.declared.variable.Variable.TheVariants.{Global, Local, Clock}
+use Rattle.ss_program.specs.declared.place.Output.TheVariants.{Print, Skip}
+use Rattle.ss_program.specs.declared.place.Control.TheVariants.{Stop, Return, End}
+use Rattle.ss_program.specs.declared.place.Place.{Place}
+use Rattle.ss_program.specs.declared.place.Place.TheVariants.{Assign, Making, Filing, Output, Control, Branch, Looping, Call, Timing, Read}
+use Rattle.ss_program.specs.declared.place.Spot.{Spot}
+use Rattle.ss_program.specs.declared.branch.Branch.TheVariants.{If, Else, Always}
+use Rattle.ss_program.specs.declared.looping.ForPhrase.{ForPhrase}
+use Rattle.ss_program.specs.declared.looping.Telling.{Telling}
+use Rattle.ss_program.specs.declared.looping.Looping.TheVariants.{For, Loop, Find, Gather, Tell}
+use Rattle.ss_program.specs.declared.timing.Timing.TheVariants.{Schedule, Cancel, Start}
+use Rattle.ss_program.specs.declared.ways.Resets.{Resets}
+use Rattle.ss_program.specs.declared.ways.Resets.TheVariants as resets
+use Rattle.ss_program.specs.declared.ways.Ways.{Ways}
+use Rattle.ss_program.specs.declared.kinds.SectionKind.{SectionKind}
+use Rattle.ss_program.specs.declared.kinds.SectionKind.TheVariants as kinds
+use Rattle.ss_program.specs.Program.{ProgramTable, has_external, section_of, spot_at}
 use Rattle.ss_machine.specs.declared.statistics.Statistics.{Statistics}
 use Rattle.ss_machine.specs.declared.loops.OpenLoop.{OpenLoop}
 use Rattle.ss_machine.specs.declared.verdict.Verdict.{Verdict}

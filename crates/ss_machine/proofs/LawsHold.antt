@@ -1,13 +1,13 @@
 -- the laws on the definitions
 use Rattle.std.proofs.Common.{◌≡◌, ◌≤◌, ◌+◌, ◌*◌, length, Option, Some, None, arith, refl}
-use Rattle.ss_check.specs.declared.place.Place.{Place}
-use Rattle.ss_check.specs.declared.place.Place.TheVariants.{Assign, Making, Filing, Output, Control, Branch, Looping, Call, Timing, Read}
-use Rattle.ss_check.specs.declared.looping.Looping.TheVariants.{For, Loop, Find, Gather, Tell}
-use Rattle.ss_check.specs.declared.place.Spot.{Spot}
-use Rattle.ss_check.specs.declared.ways.Ways.{Ways}
-use Rattle.ss_check.specs.declared.timing.Timing.TheVariants.{Schedule, Cancel, Start}
-use Rattle.ss_check.specs.Program.{ProgramTable, section_of, spot_at}
-use Rattle.ss_check.specs.ProgramSound.{IsSound, IsTimed, loop_limit}
+use Rattle.ss_program.specs.declared.place.Place.{Place}
+use Rattle.ss_program.specs.declared.place.Place.TheVariants.{Assign, Making, Filing, Output, Control, Branch, Looping, Call, Timing, Read}
+use Rattle.ss_program.specs.declared.looping.Looping.TheVariants.{For, Loop, Find, Gather, Tell}
+use Rattle.ss_program.specs.declared.place.Spot.{Spot}
+use Rattle.ss_program.specs.declared.ways.Ways.{Ways}
+use Rattle.ss_program.specs.declared.timing.Timing.TheVariants.{Schedule, Cancel, Start}
+use Rattle.ss_program.specs.Program.{ProgramTable, section_of, spot_at}
+use Rattle.ss_program.specs.ProgramSound.{IsSound, IsTimed, loop_limit}
 use Rattle.ss_machine.specs.State.{State}
 use Rattle.ss_machine.specs.Run.{input_with}
 use Rattle.ss_machine.specs.Step.{ways_here}

@@ -6,31 +6,31 @@ use Rattle.std.proofs.lemmas.Slice.Eq.{bytes_eq-Decides}
 use Rattle.std.specs.Prelude.{if◌then◌else◌, slice_get, slice_index_or, pos, int_lt, length, bytes_eq, ◌&&◌, ◌||◌}
 use Rattle.ss_words.specs.declared.fault.RunFault.{RunFault}
 use Rattle.ss_words.specs.declared.fault.RunFault.TheVariants.{StepBelowOne}
-use Rattle.ss_check.specs.declared.variable.Variable.{Variable}
-use Rattle.ss_check.specs.declared.variable.Variable.TheVariants.{Global, Local, Clock}
-use Rattle.ss_check.specs.declared.branch.Branch.TheVariants.{If, Else, Always}
-use Rattle.ss_check.specs.declared.looping.Direction.{Direction}
-use Rattle.ss_check.specs.declared.looping.Direction.TheVariants.{Onward}
-use Rattle.ss_check.specs.declared.looping.Phrase.{Phrase}
-use Rattle.ss_check.specs.declared.looping.Phrase.TheVariants.{Counting, Each, Walking}
-use Rattle.ss_check.specs.declared.looping.ForPhrase.{ForPhrase}
-use Rattle.ss_check.specs.declared.looping.Telling.{Telling}
-use Rattle.ss_check.specs.declared.looping.Looping.TheVariants.{For, Loop, Find, Gather, Tell}
-use Rattle.ss_check.specs.declared.place.Output.TheVariants.{Print, Skip}
-use Rattle.ss_check.specs.declared.place.Control.TheVariants.{Stop, Return, End}
-use Rattle.ss_check.specs.declared.place.Place.{Place}
-use Rattle.ss_check.specs.declared.place.Place.TheVariants.{Assign, Making, Filing, Output, Control, Branch, Looping, Call, Timing, Read}
-use Rattle.ss_check.specs.declared.place.Spot.{Spot}
-use Rattle.ss_check.specs.declared.timing.Timing.TheVariants.{Schedule, Cancel, Start}
-use Rattle.ss_check.specs.declared.ways.Resets.{Resets}
-use Rattle.ss_check.specs.declared.ways.Resets.TheVariants as resets
-use Rattle.ss_check.specs.declared.ways.Ways.{Ways}
-use Rattle.ss_check.specs.declared.kinds.SectionKind.{SectionKind}
-use Rattle.ss_check.specs.declared.kinds.SectionKind.TheVariants as kinds
-use Rattle.ss_check.specs.Match.{is_at, passes}
-use Rattle.ss_check.specs.Nesting.{is_phrase, is_around, phrases_before, phrases_around, may_be_open, is_nested}
-use Rattle.ss_check.specs.Program.{ProgramTable, has_external, places_of, section_of, spot_at}
-use Rattle.ss_check.specs.ProgramSound.{IsSound}
+use Rattle.ss_program.specs.declared.variable.Variable.{Variable}
+use Rattle.ss_program.specs.declared.variable.Variable.TheVariants.{Global, Local, Clock}
+use Rattle.ss_program.specs.declared.branch.Branch.TheVariants.{If, Else, Always}
+use Rattle.ss_program.specs.declared.looping.Direction.{Direction}
+use Rattle.ss_program.specs.declared.looping.Direction.TheVariants.{Onward}
+use Rattle.ss_program.specs.declared.looping.Phrase.{Phrase}
+use Rattle.ss_program.specs.declared.looping.Phrase.TheVariants.{Counting, Each, Walking}
+use Rattle.ss_program.specs.declared.looping.ForPhrase.{ForPhrase}
+use Rattle.ss_program.specs.declared.looping.Telling.{Telling}
+use Rattle.ss_program.specs.declared.looping.Looping.TheVariants.{For, Loop, Find, Gather, Tell}
+use Rattle.ss_program.specs.declared.place.Output.TheVariants.{Print, Skip}
+use Rattle.ss_program.specs.declared.place.Control.TheVariants.{Stop, Return, End}
+use Rattle.ss_program.specs.declared.place.Place.{Place}
+use Rattle.ss_program.specs.declared.place.Place.TheVariants.{Assign, Making, Filing, Output, Control, Branch, Looping, Call, Timing, Read}
+use Rattle.ss_program.specs.declared.place.Spot.{Spot}
+use Rattle.ss_program.specs.declared.timing.Timing.TheVariants.{Schedule, Cancel, Start}
+use Rattle.ss_program.specs.declared.ways.Resets.{Resets}
+use Rattle.ss_program.specs.declared.ways.Resets.TheVariants as resets
+use Rattle.ss_program.specs.declared.ways.Ways.{Ways}
+use Rattle.ss_program.specs.declared.kinds.SectionKind.{SectionKind}
+use Rattle.ss_program.specs.declared.kinds.SectionKind.TheVariants as kinds
+use Rattle.ss_program.specs.Match.{is_at, passes}
+use Rattle.ss_program.specs.Nesting.{is_phrase, is_around, phrases_before, phrases_around, may_be_open, is_nested}
+use Rattle.ss_program.specs.Program.{ProgramTable, has_external, places_of, section_of, spot_at}
+use Rattle.ss_program.specs.ProgramSound.{IsSound}
 use Rattle.ss_machine.specs.declared.statistics.Statistics.{Statistics}
 use Rattle.ss_machine.specs.declared.loops.OpenLoop.{OpenLoop}
 use Rattle.ss_machine.specs.declared.loops.Walk.TheVariants.{Numbers}

@@ -2,9 +2,9 @@
 use Rattle.std.proofs.Common.{◌≡◌, ℕ, ℤ, pos, ◌+◌, List, ◌∷◌, drop, Result, Ok, Err, refl, ap, sym, subst, ◌∙◌}
 use Rattle.std.specs.Prelude.{slice_index_or}
 use Rattle.ss_words.specs.declared.fault.RunFault.{RunFault}
-use Rattle.ss_check.specs.declared.target.Target.{Target}
-use Rattle.ss_check.specs.declared.looping.Telling.{Telling}
-use Rattle.ss_check.specs.ProgramSound.{Scope, IsTarget, AreTargets, AreSoundTellings}
+use Rattle.ss_program.specs.declared.target.Target.{Target}
+use Rattle.ss_program.specs.declared.looping.Telling.{Telling}
+use Rattle.ss_program.specs.ProgramSound.{Scope, IsTarget, AreTargets, AreSoundTellings}
 use Rattle.ss_store.specs.Tables.{Tables}
 use Rattle.ss_store.specs.Store.{Store, with_attribute}
 use Rattle.ss_machine.specs.State.{State}

@@ -2,24 +2,24 @@
 use Rattle.std.proofs.Common.{◌≡◌, ℕ, ℤ, ◌+◌, List, [], ◌∷◌, Option, Some, None, Result, Ok, Err, refl, ◌∙◌}
 use Rattle.std.specs.Prelude.{pos, length, slice_index_or, int_lt}
 use Rattle.ss_words.specs.declared.fault.RunFault.{RunFault}
-use Rattle.ss_check.specs.declared.variable.Variable.{Variable as AVariable}
-use Rattle.ss_check.specs.declared.variable.Variable.TheVariants.{Global, Local, Clock}
-use Rattle.ss_check.specs.declared.target.SetRef.{SetRef}
-use Rattle.ss_check.specs.declared.target.Target.{Target}
-use Rattle.ss_check.specs.declared.target.Target.TheVariants.{Variable, Attribute}
-use Rattle.ss_check.specs.declared.place.Assign.{Assign as AnAssign}
-use Rattle.ss_check.specs.declared.making.Making.{Making as AMaking}
-use Rattle.ss_check.specs.declared.making.Making.TheVariants.{Create, CreateEvery, Destroy}
-use Rattle.ss_check.specs.declared.filing.End.{End}
-use Rattle.ss_check.specs.declared.filing.Filing.{Filing as AFiling}
-use Rattle.ss_check.specs.declared.filing.Filing.TheVariants.{File, FileAt, RemoveAt, Remove}
-use Rattle.ss_check.specs.declared.looping.Telling.{Telling}
-use Rattle.ss_check.specs.declared.timing.Notice.{Notice}
-use Rattle.ss_check.specs.declared.timing.Notice.TheVariants.{New, Known}
-use Rattle.ss_check.specs.declared.timing.Schedule.{Schedule}
-use Rattle.ss_check.specs.Program.{ProgramTable}
+use Rattle.ss_program.specs.declared.variable.Variable.{Variable as AVariable}
+use Rattle.ss_program.specs.declared.variable.Variable.TheVariants.{Global, Local, Clock}
+use Rattle.ss_program.specs.declared.target.SetRef.{SetRef}
+use Rattle.ss_program.specs.declared.target.Target.{Target}
+use Rattle.ss_program.specs.declared.target.Target.TheVariants.{Variable, Attribute}
+use Rattle.ss_program.specs.declared.place.Assign.{Assign as AnAssign}
+use Rattle.ss_program.specs.declared.making.Making.{Making as AMaking}
+use Rattle.ss_program.specs.declared.making.Making.TheVariants.{Create, CreateEvery, Destroy}
+use Rattle.ss_program.specs.declared.filing.End.{End}
+use Rattle.ss_program.specs.declared.filing.Filing.{Filing as AFiling}
+use Rattle.ss_program.specs.declared.filing.Filing.TheVariants.{File, FileAt, RemoveAt, Remove}
+use Rattle.ss_program.specs.declared.looping.Telling.{Telling}
+use Rattle.ss_program.specs.declared.timing.Notice.{Notice}
+use Rattle.ss_program.specs.declared.timing.Notice.TheVariants.{New, Known}
+use Rattle.ss_program.specs.declared.timing.Schedule.{Schedule}
+use Rattle.ss_program.specs.Program.{ProgramTable}
 use Rattle.ss_words.specs.declared.fault.RunFault.TheVariants.{TimeBeforeClock}
-use Rattle.ss_check.specs.ProgramExpr.{Expr}
+use Rattle.ss_program.specs.ProgramExpr.{Expr}
 use Rattle.ss_store.specs.declared.shape.How.{How}
 use Rattle.ss_store.specs.declared.shape.Which.TheVariants as which
 use Rattle.ss_store.specs.Tables.{Tables, tables_of, class_of, set_of}

@@ -1,6 +1,6 @@
 -- the frame to which a RETURN comes back
 use Rattle.std.proofs.Common.{◌≡◌, List, [], ◌∷◌, length, None, subst, refl}
-use Rattle.ss_check.specs.Program.{ProgramTable}
+use Rattle.ss_program.specs.Program.{ProgramTable}
 use Rattle.ss_machine.specs.State.{State, FrameState}
 use Rattle.ss_machine.specs.Well.{IsInBounds, IsWellFrame, AreWellFrames}
 use Rattle.ss_machine.specs.Dropping.{HasDropped, caller_place}

@@ -4,21 +4,21 @@ use Rattle.std.specs.Prelude.{map, slice_get, unwrap_or}
 use Rattle.std.specs.List.{range_with_len}
 use Rattle.std.proofs.lemmas.List.{length-map}
 use Rattle.std.proofs.lemmas.List.FromFn.{length-map-range_with_len}
-use Rattle.ss_check.specs.declared.kinds.ClassKind.{ClassKind}
-use Rattle.ss_check.specs.declared.kinds.ClassKind.TheVariants.{Permanent, Temporary, Event}
-use Rattle.ss_check.specs.declared.place.Spot.{Spot}
-use Rattle.ss_check.specs.Program.{ClassTable, SetTable, ProgramTable, is_permanent, locals_of, spot_at}
-use Rattle.ss_check.specs.Program as program
-use Rattle.ss_check.specs.ProgramSound.{Scope, IsSound, IsSoundPlace}
+use Rattle.ss_program.specs.declared.kinds.ClassKind.{ClassKind}
+use Rattle.ss_program.specs.declared.kinds.ClassKind.TheVariants.{Permanent, Temporary, Event}
+use Rattle.ss_program.specs.declared.place.Spot.{Spot}
+use Rattle.ss_program.specs.Program.{ClassTable, SetTable, ProgramTable, is_permanent, locals_of, spot_at}
+use Rattle.ss_program.specs.Program as program
+use Rattle.ss_program.specs.ProgramSound.{Scope, IsSound, IsSoundPlace}
 use Rattle.ss_store.specs.declared.shape.ClassShape.{ClassShape}
 use Rattle.ss_store.specs.declared.shape.SetShape.{SetShape}
 use Rattle.ss_store.specs.Tables.{Tables, tables_of, class_shape, set_shape, class_in}
 use Rattle.ss_store.specs.Tables as shapes
 use Rattle.ss_words.specs.declared.fault.RunFault.{RunFault}
-use Rattle.ss_check.specs.declared.variable.Variable.{Variable as AVariable}
-use Rattle.ss_check.specs.declared.variable.Variable.TheVariants.{Global, Local, Clock}
-use Rattle.ss_check.specs.declared.target.Target.{Target}
-use Rattle.ss_check.specs.declared.target.Target.TheVariants.{Variable, Attribute}
+use Rattle.ss_program.specs.declared.variable.Variable.{Variable as AVariable}
+use Rattle.ss_program.specs.declared.variable.Variable.TheVariants.{Global, Local, Clock}
+use Rattle.ss_program.specs.declared.target.Target.{Target}
+use Rattle.ss_program.specs.declared.target.Target.TheVariants.{Variable, Attribute}
 use Rattle.ss_store.specs.Store.{Store, number_of, with_attribute}
 use Rattle.ss_values.specs.Values.{subscript_value}
 use Rattle.ss_machine.specs.Step.{state_after_assignment, state_with_value}

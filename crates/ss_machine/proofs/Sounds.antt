@@ -2,19 +2,19 @@
 use Rattle.std.proofs.Common.{◌≡◌, ℕ, zero, suc, ◌+◌, ◌<◌, ◌≤◌, List, [], ◌∷◌, length, true, false, Option, Some, None, arith, refl, ap, sym, subst, ◌∙◌}
 use Rattle.std.specs.Prelude.{map, slice_get, unwrap_or}
 use Rattle.std.proofs.lemmas.Option.{unwrap_or-slice_get}
-use Rattle.ss_check.specs.declared.place.Spot.{Spot}
-use Rattle.ss_check.specs.declared.place.Place.{Place}
-use Rattle.ss_check.specs.declared.place.Place.TheVariants.{Assign, Making, Filing, Output, Control, Branch, Looping, Call, Timing, Read}
-use Rattle.ss_check.specs.declared.looping.Looping.TheVariants.{For, Loop, Find, Gather, Tell}
-use Rattle.ss_check.specs.declared.call.Call.{Call as ACall}
-use Rattle.ss_check.specs.declared.ways.Ways.{Ways}
-use Rattle.ss_check.specs.declared.kinds.SectionKind.TheVariants.{Main}
-use Rattle.ss_check.specs.declared.kinds.ClassKind.{ClassKind}
-use Rattle.ss_check.specs.declared.kinds.ClassKind.TheVariants.{Permanent, Temporary, Event}
-use Rattle.ss_check.specs.Match.{ways_of, ways_from, section_ways}
-use Rattle.ss_check.specs.Nesting.{is_nested, AreNestedPlaces}
-use Rattle.ss_check.specs.Program.{ClassTable, SectionTable, ProgramTable, class_of, event_of, event_of_kind, is_event, places_of, locals_of, section_of, spot_at, is_permanent}
-use Rattle.ss_check.specs.ProgramSound.{Scope, IsSound, IsSoundSection, AreSoundSections, IsSoundPlace, AreSoundPlaces, IsEnded, LeadsOn, IsCalledBy, IsLinkedPlace, AreLinkedPlaces, AreLinkedSections, IsTimed, AreTimed, IsEventClass, IsSoundClass, IsSoundEvent, IsSoundKind, HasSoundTables, loop_limit, parameter_limit, attribute_limit}
+use Rattle.ss_program.specs.declared.place.Spot.{Spot}
+use Rattle.ss_program.specs.declared.place.Place.{Place}
+use Rattle.ss_program.specs.declared.place.Place.TheVariants.{Assign, Making, Filing, Output, Control, Branch, Looping, Call, Timing, Read}
+use Rattle.ss_program.specs.declared.looping.Looping.TheVariants.{For, Loop, Find, Gather, Tell}
+use Rattle.ss_program.specs.declared.call.Call.{Call as ACall}
+use Rattle.ss_program.specs.declared.ways.Ways.{Ways}
+use Rattle.ss_program.specs.declared.kinds.SectionKind.TheVariants.{Main}
+use Rattle.ss_program.specs.declared.kinds.ClassKind.{ClassKind}
+use Rattle.ss_program.specs.declared.kinds.ClassKind.TheVariants.{Permanent, Temporary, Event}
+use Rattle.ss_program.specs.Match.{ways_of, ways_from, section_ways}
+use Rattle.ss_program.specs.Nesting.{is_nested, AreNestedPlaces}
+use Rattle.ss_program.specs.Program.{ClassTable, SectionTable, ProgramTable, class_of, event_of, event_of_kind, is_event, places_of, locals_of, section_of, spot_at, is_permanent}
+use Rattle.ss_program.specs.ProgramSound.{Scope, IsSound, IsSoundSection, AreSoundSections, IsSoundPlace, AreSoundPlaces, IsEnded, LeadsOn, IsCalledBy, IsLinkedPlace, AreLinkedPlaces, AreLinkedSections, IsTimed, AreTimed, IsEventClass, IsSoundClass, IsSoundEvent, IsSoundKind, HasSoundTables, loop_limit, parameter_limit, attribute_limit}
 use Rattle.ss_machine.specs.Moment.{call_targets}
 
 -- what stands at a place of a list that is long enough

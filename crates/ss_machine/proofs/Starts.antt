@@ -12,15 +12,15 @@ use Rattle.ss_words.specs.declared.fault.StepFault.{StepFault}
 use Rattle.ss_words.specs.declared.fault.StepFault.TheVariants.{Fault, Memory}
 use Rattle.ss_journal.specs.Log.{Log}
 use Rattle.ss_journal.specs.Undoing.{GoesOn, FitsAll, unapply_all}
-use Rattle.ss_check.specs.declared.kinds.ClassKind.{ClassKind}
-use Rattle.ss_check.specs.declared.kinds.ClassKind.TheVariants.{Permanent, Temporary, Event}
-use Rattle.ss_check.specs.declared.timing.Notice.{Notice}
-use Rattle.ss_check.specs.declared.timing.Listing.{Listing}
-use Rattle.ss_check.specs.declared.timing.Listing.TheVariants.{InParentheses, Given}
-use Rattle.ss_check.specs.ProgramExpr.{Expr}
-use Rattle.ss_check.specs.declared.keys.Key.{Key}
-use Rattle.ss_check.specs.Program.{ProgramTable, class_of, event_of, section_of, is_event, is_main}
-use Rattle.ss_check.specs.ProgramSound.{IsSound, IsEventClass}
+use Rattle.ss_program.specs.declared.kinds.ClassKind.{ClassKind}
+use Rattle.ss_program.specs.declared.kinds.ClassKind.TheVariants.{Permanent, Temporary, Event}
+use Rattle.ss_program.specs.declared.timing.Notice.{Notice}
+use Rattle.ss_program.specs.declared.timing.Listing.{Listing}
+use Rattle.ss_program.specs.declared.timing.Listing.TheVariants.{InParentheses, Given}
+use Rattle.ss_program.specs.ProgramExpr.{Expr}
+use Rattle.ss_program.specs.declared.keys.Key.{Key}
+use Rattle.ss_program.specs.Program.{ProgramTable, class_of, event_of, section_of, is_event, is_main}
+use Rattle.ss_program.specs.ProgramSound.{IsSound, IsEventClass}
 use Rattle.ss_store.specs.declared.shape.ClassShape.{ClassShape}
 use Rattle.ss_store.specs.Tables.{tables_of, class_shape}
 use Rattle.ss_store.specs.Tables as shapes
@@ -38,7 +38,7 @@ use Rattle.ss_machine.specs.State.{State, FrameState, new_frame}
 use Rattle.ss_machine.specs.Held.{Held}
 use Rattle.ss_machine.specs.Change.{Fits, unapply}
 use Rattle.ss_machine.specs.Step.{notice_named, arguments_asked, attributes_now, event_section, store_at_start, state_at_time, state_with_store, state_after_assignment, state_with_frame, state_after_start, external_class}
-use Rattle.ss_check.specs.declared.variable.Variable.TheVariants.{Global}
+use Rattle.ss_program.specs.declared.variable.Variable.TheVariants.{Global}
 use Rattle.ss_machine.specs.Storing.{IsScheduling}
 use Rattle.ss_machine.specs.Well.{IsInBounds, IsDue}
 use Rattle.ss_machine.proofs.Ranges.{Got, after_got, anything}

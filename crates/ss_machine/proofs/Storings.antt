@@ -7,9 +7,9 @@ use Rattle.ss_words.specs.declared.fault.RunFault.{RunFault}
 use Rattle.ss_words.specs.declared.fault.StepFault.{StepFault}
 use Rattle.ss_words.specs.declared.fault.StepFault.TheVariants.{Fault, Memory}
 use Rattle.ss_store.specs.declared.change.StoreChange.{StoreChange}
-use Rattle.ss_check.specs.declared.filing.End.{End}
-use Rattle.ss_check.specs.declared.target.SetRef.{SetRef}
-use Rattle.ss_check.specs.declared.target.Target.{Target}
+use Rattle.ss_program.specs.declared.filing.End.{End}
+use Rattle.ss_program.specs.declared.target.SetRef.{SetRef}
+use Rattle.ss_program.specs.declared.target.Target.{Target}
 use Rattle.ss_store.specs.declared.shape.How.{How}
 use Rattle.ss_store.specs.declared.shape.Which.TheVariants as which
 use Rattle.ss_store.specs.Tables.{Tables, set_of}

@@ -3,7 +3,7 @@ use Rattle.std.proofs.Common.{◌≡◌, ◌<◌, ◌+◌, ℕ, ℤ, Bool, List,
 use Rattle.std.specs.Prelude.{slice_get}
 use Rattle.std.proofs.lemmas.List.{append_assoc, length-drop}
 use Rattle.ss_words.specs.declared.fault.RunFault.{RunFault}
-use Rattle.ss_check.specs.declared.target.Target.{Target}
+use Rattle.ss_program.specs.declared.target.Target.{Target}
 use Rattle.ss_data.specs.Items.{Item, DataRead, with_taken}
 use Rattle.ss_values.specs.Faults.{◌>>=◌}
 use Rattle.ss_machine.specs.Step.{value_taken, values_taken}

@@ -8,8 +8,8 @@ use Rattle.std.proofs.lemmas.List.{length-replicate, length-drop}
 use borrow.Author.Tests.{leb-true, ltb-true}
 use Rattle.ss_words.specs.declared.fault.RunFault.{RunFault}
 use Rattle.ss_words.specs.declared.fault.RunFault.TheVariants.{ReportFull, StepBelowOne, TooManyFrames, NotInList, NoEntity, EndedInUse, TimeBeforeClock, AlreadyScheduled, NotScheduled, TooManyReferences, OutsideEntry}
-use Rattle.ss_check.specs.declared.kinds.ClassKind.{ClassKind}
-use Rattle.ss_check.specs.declared.kinds.ClassKind.TheVariants.{Permanent, Temporary, Event as OfEvent}
+use Rattle.ss_program.specs.declared.kinds.ClassKind.{ClassKind}
+use Rattle.ss_program.specs.declared.kinds.ClassKind.TheVariants.{Permanent, Temporary, Event as OfEvent}
 use Rattle.ss_data.specs.Items.{Item, value_or_fault}
 use Rattle.ss_data.specs.Entries as entries
 use Rattle.ss_data.specs.Entries.{item_writes, behind_mark, place_behind_mark}
@@ -21,54 +21,54 @@ use Rattle.std.proofs.lemmas.Bool.{and_parts}
 use Rattle.ss_report.specs.Pictures.{picture_text}
 use Rattle.ss_report.specs.Reports.{report_limit}
 use Rattle.ss_journal.specs.Log.{Log}
-use Rattle.ss_check.specs.declared.variable.Variable.{Variable as AVariable}
-use Rattle.ss_check.specs.declared.target.SetRef.{SetRef}
-use Rattle.ss_check.specs.declared.target.Target.{Target}
-use Rattle.ss_check.specs.declared.target.Target.TheVariants.{Variable, Attribute}
-use Rattle.ss_check.specs.declared.making.Making.{Making as AMaking}
-use Rattle.ss_check.specs.declared.making.Making.TheVariants.{Create, CreateEvery, Destroy}
-use Rattle.ss_check.specs.declared.filing.Filing.{Filing as AFiling}
-use Rattle.ss_check.specs.declared.filing.Filing.TheVariants.{File, FileAt, RemoveAt, Remove}
-use Rattle.ss_check.specs.declared.looping.Begin.{Begin}
-use Rattle.ss_check.specs.declared.looping.Begin.TheVariants.{AtTheEnd, From, After}
-use Rattle.ss_check.specs.declared.variable.Variable.TheVariants.{Global, Local, Clock}
-use Rattle.ss_check.specs.declared.place.Assign.{Assign as AnAssign}
-use Rattle.ss_check.specs.declared.place.Output.TheVariants.{Print, Skip}
-use Rattle.ss_check.specs.declared.place.Control.TheVariants.{Stop, Return, End}
-use Rattle.ss_check.specs.declared.place.Place.{Place}
-use Rattle.ss_check.specs.declared.place.Place.TheVariants.{Assign, Making, Filing, Output, Control, Branch, Looping, Call, Timing, Read}
-use Rattle.ss_check.specs.declared.place.Spot.{Spot}
-use Rattle.ss_check.specs.declared.branch.Branch.{Branch as ABranch}
-use Rattle.ss_check.specs.declared.branch.Branch.TheVariants.{If, Else, Always}
-use Rattle.ss_check.specs.declared.looping.Direction.{Direction}
-use Rattle.ss_check.specs.declared.looping.Direction.TheVariants.{Onward, Backward}
-use Rattle.ss_check.specs.declared.looping.Phrase.{Phrase}
-use Rattle.ss_check.specs.declared.looping.Phrase.TheVariants.{Counting, Each, Walking}
-use Rattle.ss_check.specs.declared.looping.ForPhrase.{ForPhrase}
-use Rattle.ss_check.specs.declared.looping.Telling.{Telling}
-use Rattle.ss_check.specs.declared.looping.Statistic.{Statistic}
-use Rattle.ss_check.specs.declared.looping.Statistic.TheVariants.{Number, Sum, Maximum, Minimum}
-use Rattle.ss_check.specs.declared.looping.Looping.{Looping as ALooping}
-use Rattle.ss_check.specs.declared.looping.Looping.TheVariants.{For, Loop, Find, Gather, Tell}
-use Rattle.ss_check.specs.declared.call.Call.{Call as ACall}
-use Rattle.ss_check.specs.declared.timing.Notice.{Notice}
-use Rattle.ss_check.specs.declared.timing.Notice.TheVariants.{New, Known}
-use Rattle.ss_check.specs.declared.timing.Listing.{Listing}
-use Rattle.ss_check.specs.declared.timing.Listing.TheVariants.{InParentheses, Given}
-use Rattle.ss_check.specs.declared.timing.When.{When}
-use Rattle.ss_check.specs.declared.timing.When.TheVariants.{At, Now, In}
-use Rattle.ss_check.specs.declared.timing.Schedule.{Schedule as ASchedule}
-use Rattle.ss_check.specs.declared.timing.Timing.TheVariants.{Schedule, Cancel, Start}
-use Rattle.ss_check.specs.declared.ways.Resets.{Resets}
-use Rattle.ss_check.specs.declared.ways.Resets.TheVariants as resets
-use Rattle.ss_check.specs.declared.ways.Ways.{Ways}
-use Rattle.ss_check.specs.declared.kinds.SectionKind.{SectionKind}
-use Rattle.ss_check.specs.declared.kinds.SectionKind.TheVariants.{Main, Routine, Event}
-use Rattle.ss_check.specs.ProgramExpr.{Expr}
-use Rattle.ss_check.specs.Program as program
-use Rattle.ss_check.specs.Program.{ClassTable, SectionTable, ProgramTable, event_of, event_of_kind, has_external, is_main, is_main_kind, is_event, is_event_kind, is_routine_kind, main_number, section_of, places_of, locals_of, spot_at}
-use Rattle.ss_check.specs.ProgramSound.{Scope, IsSoundPhrase, IsSoundLooping, IsSoundPlace, IsSound, is_end, GoesOn, IsCalledBy, IsLinkedPlace, IsTimed}
-use Rattle.ss_check.proofs.Mains.{one_main}
+use Rattle.ss_program.specs.declared.variable.Variable.{Variable as AVariable}
+use Rattle.ss_program.specs.declared.target.SetRef.{SetRef}
+use Rattle.ss_program.specs.declared.target.Target.{Target}
+use Rattle.ss_program.specs.declared.target.Target.TheVariants.{Variable, Attribute}
+use Rattle.ss_program.specs.declared.making.Making.{Making as AMaking}
+use Rattle.ss_program.specs.declared.making.Making.TheVariants.{Create, CreateEvery, Destroy}
+use Rattle.ss_program.specs.declared.filing.Filing.{Filing as AFiling}
+use Rattle.ss_program.specs.declared.filing.Filing.TheVariants.{File, FileAt, RemoveAt, Remove}
+use Rattle.ss_program.specs.declared.looping.Begin.{Begin}
+use Rattle.ss_program.specs.declared.looping.Begin.TheVariants.{AtTheEnd, From, After}
+use Rattle.ss_program.specs.declared.variable.Variable.TheVariants.{Global, Local, Clock}
+use Rattle.ss_program.specs.declared.place.Assign.{Assign as AnAssign}
+use Rattle.ss_program.specs.declared.place.Output.TheVariants.{Print, Skip}
+use Rattle.ss_program.specs.declared.place.Control.TheVariants.{Stop, Return, End}
+use Rattle.ss_program.specs.declared.place.Place.{Place}
+use Rattle.ss_program.specs.declared.place.Place.TheVariants.{Assign, Making, Filing, Output, Control, Branch, Looping, Call, Timing, Read}
+use Rattle.ss_program.specs.declared.place.Spot.{Spot}
+use Rattle.ss_program.specs.declared.branch.Branch.{Branch as ABranch}
+use Rattle.ss_program.specs.declared.branch.Branch.TheVariants.{If, Else, Always}
+use Rattle.ss_program.specs.declared.looping.Direction.{Direction}
+use Rattle.ss_program.specs.declared.looping.Direction.TheVariants.{Onward, Backward}
+use Rattle.ss_program.specs.declared.looping.Phrase.{Phrase}
+use Rattle.ss_program.specs.declared.looping.Phrase.TheVariants.{Counting, Each, Walking}
+use Rattle.ss_program.specs.declared.looping.ForPhrase.{ForPhrase}
+use Rattle.ss_program.specs.declared.looping.Telling.{Telling}
+use Rattle.ss_program.specs.declared.looping.Statistic.{Statistic}
+use Rattle.ss_program.specs.declared.looping.Statistic.TheVariants.{Number, Sum, Maximum, Minimum}
+use Rattle.ss_program.specs.declared.looping.Looping.{Looping as ALooping}
+use Rattle.ss_program.specs.declared.looping.Looping.TheVariants.{For, Loop, Find, Gather, Tell}
+use Rattle.ss_program.specs.declared.call.Call.{Call as ACall}
+use Rattle.ss_program.specs.declared.timing.Notice.{Notice}
+use Rattle.ss_program.specs.declared.timing.Notice.TheVariants.{New, Known}
+use Rattle.ss_program.specs.declared.timing.Listing.{Listing}
+use Rattle.ss_program.specs.declared.timing.Listing.TheVariants.{InParentheses, Given}
+use Rattle.ss_program.specs.declared.timing.When.{When}
+use Rattle.ss_program.specs.declared.timing.When.TheVariants.{At, Now, In}
+use Rattle.ss_program.specs.declared.timing.Schedule.{Schedule as ASchedule}
+use Rattle.ss_program.specs.declared.timing.Timing.TheVariants.{Schedule, Cancel, Start}
+use Rattle.ss_program.specs.declared.ways.Resets.{Resets}
+use Rattle.ss_program.specs.declared.ways.Resets.TheVariants as resets
+use Rattle.ss_program.specs.declared.ways.Ways.{Ways}
+use Rattle.ss_program.specs.declared.kinds.SectionKind.{SectionKind}
+use Rattle.ss_program.specs.declared.kinds.SectionKind.TheVariants.{Main, Routine, Event}
+use Rattle.ss_program.specs.ProgramExpr.{Expr}
+use Rattle.ss_program.specs.Program as program
+use Rattle.ss_program.specs.Program.{ClassTable, SectionTable, ProgramTable, event_of, event_of_kind, has_external, is_main, is_main_kind, is_event, is_event_kind, is_routine_kind, main_number, section_of, places_of, locals_of, spot_at}
+use Rattle.ss_program.specs.ProgramSound.{Scope, IsSoundPhrase, IsSoundLooping, IsSoundPlace, IsSound, is_end, GoesOn, IsCalledBy, IsLinkedPlace, IsTimed}
+use Rattle.ss_program.proofs.Mains.{one_main}
 use Rattle.ss_machine.specs.declared.change.Change.{Change}
 use Rattle.ss_machine.specs.declared.status.Status.{Status}
 use Rattle.ss_machine.specs.declared.status.Status.TheVariants.{Stopped, Finished, Faulted}

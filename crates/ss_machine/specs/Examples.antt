@@ -1,46 +1,46 @@
 -- Small programs, and what their runs come to.
 use Rattle.std.specs.Prelude.{ℕ, zero, suc, ◌-◌, pos, List, [], ◌∷◌, ◌++◌, map, replicate, codes, Bool, true, false, Some, None}
 use Rattle.ss_words.specs.declared.term_sign.TermSign.TheVariants.{Plus, Minus}
-use Rattle.ss_check.specs.declared.target.Target.TheVariants.{Variable as ToVariable, Attribute}
-use Rattle.ss_check.specs.declared.target.SetRef.{SetRef}
-use Rattle.ss_check.specs.declared.making.Making.TheVariants.{Create, Destroy}
-use Rattle.ss_check.specs.declared.filing.End.TheVariants as ends
-use Rattle.ss_check.specs.declared.filing.Position.TheVariants.{ByRule}
-use Rattle.ss_check.specs.declared.filing.Filing.TheVariants.{File, RemoveAt}
-use Rattle.ss_check.specs.declared.looping.Begin.TheVariants.{AtTheEnd}
-use Rattle.ss_check.specs.declared.keys.Key.{Key}
-use Rattle.ss_check.specs.declared.keys.Rank.TheVariants.{Low}
-use Rattle.ss_check.specs.declared.kinds.ClassKind.TheVariants.{Temporary, Event as OfEvent}
-use Rattle.ss_check.specs.declared.kinds.Discipline.{Discipline}
-use Rattle.ss_check.specs.declared.kinds.Discipline.TheVariants.{Fifo, Ranked}
-use Rattle.ss_check.specs.declared.kinds.Owner.TheVariants.{System}
-use Rattle.ss_check.specs.declared.variable.Variable.{Variable}
-use Rattle.ss_check.specs.declared.variable.Variable.TheVariants.{Global, Local}
-use Rattle.ss_check.specs.declared.condition.Comparison.{Comparison}
-use Rattle.ss_check.specs.declared.looping.Direction.{Direction}
-use Rattle.ss_check.specs.declared.looping.Direction.TheVariants.{Onward}
-use Rattle.ss_check.specs.declared.looping.Phrase.TheVariants.{Counting, Each, Walking}
-use Rattle.ss_check.specs.declared.looping.Qualifier.{Qualifier}
-use Rattle.ss_check.specs.declared.looping.QualifierWord.{QualifierWord}
-use Rattle.ss_check.specs.declared.looping.Statistic.TheVariants.{Number, Sum, Maximum, Minimum}
-use Rattle.ss_check.specs.declared.looping.Looping.TheVariants.{For, Find, Gather, Tell}
-use Rattle.ss_check.specs.declared.branch.Question.TheVariants.{WasFound}
-use Rattle.ss_check.specs.declared.branch.Branch.TheVariants.{If, Else, Always}
-use Rattle.ss_check.specs.declared.place.Assign.TheVariants.{Let, Add}
-use Rattle.ss_check.specs.declared.place.Output.TheVariants.{Skip}
-use Rattle.ss_check.specs.declared.place.Control.TheVariants.{Return, End}
-use Rattle.ss_check.specs.declared.place.Place.{Place}
-use Rattle.ss_check.specs.declared.place.Place.TheVariants.{Assign, Making, Filing, Output, Control, Branch, Looping, Call, Timing, Read}
-use Rattle.ss_check.specs.declared.timing.Notice.TheVariants.{New, Known}
-use Rattle.ss_check.specs.declared.timing.Listing.TheVariants.{Given}
-use Rattle.ss_check.specs.declared.timing.When.{When}
-use Rattle.ss_check.specs.declared.timing.When.TheVariants.{At, Now, In}
-use Rattle.ss_check.specs.declared.timing.Timing.TheVariants.{Schedule, Cancel, Start}
-use Rattle.ss_check.specs.declared.place.Spot.{Spot}
-use Rattle.ss_check.specs.declared.kinds.SectionKind.TheVariants.{Main, Routine, Event}
-use Rattle.ss_check.specs.ProgramExpr.{Expr, expr, no_sums, sum, term, no_products, product, Factor, digits, variable, attribute, implied, of_system}
-use Rattle.ss_check.specs.ProgramCondition.{Condition, any, no_conjunctions, all, no_relations, compared}
-use Rattle.ss_check.specs.Program.{ProgramTable, SectionTable}
+use Rattle.ss_program.specs.declared.target.Target.TheVariants.{Variable as ToVariable, Attribute}
+use Rattle.ss_program.specs.declared.target.SetRef.{SetRef}
+use Rattle.ss_program.specs.declared.making.Making.TheVariants.{Create, Destroy}
+use Rattle.ss_program.specs.declared.filing.End.TheVariants as ends
+use Rattle.ss_program.specs.declared.filing.Position.TheVariants.{ByRule}
+use Rattle.ss_program.specs.declared.filing.Filing.TheVariants.{File, RemoveAt}
+use Rattle.ss_program.specs.declared.looping.Begin.TheVariants.{AtTheEnd}
+use Rattle.ss_program.specs.declared.keys.Key.{Key}
+use Rattle.ss_program.specs.declared.keys.Rank.TheVariants.{Low}
+use Rattle.ss_program.specs.declared.kinds.ClassKind.TheVariants.{Temporary, Event as OfEvent}
+use Rattle.ss_program.specs.declared.kinds.Discipline.{Discipline}
+use Rattle.ss_program.specs.declared.kinds.Discipline.TheVariants.{Fifo, Ranked}
+use Rattle.ss_program.specs.declared.kinds.Owner.TheVariants.{System}
+use Rattle.ss_program.specs.declared.variable.Variable.{Variable}
+use Rattle.ss_program.specs.declared.variable.Variable.TheVariants.{Global, Local}
+use Rattle.ss_program.specs.declared.condition.Comparison.{Comparison}
+use Rattle.ss_program.specs.declared.looping.Direction.{Direction}
+use Rattle.ss_program.specs.declared.looping.Direction.TheVariants.{Onward}
+use Rattle.ss_program.specs.declared.looping.Phrase.TheVariants.{Counting, Each, Walking}
+use Rattle.ss_program.specs.declared.looping.Qualifier.{Qualifier}
+use Rattle.ss_program.specs.declared.looping.QualifierWord.{QualifierWord}
+use Rattle.ss_program.specs.declared.looping.Statistic.TheVariants.{Number, Sum, Maximum, Minimum}
+use Rattle.ss_program.specs.declared.looping.Looping.TheVariants.{For, Find, Gather, Tell}
+use Rattle.ss_program.specs.declared.branch.Question.TheVariants.{WasFound}
+use Rattle.ss_program.specs.declared.branch.Branch.TheVariants.{If, Else, Always}
+use Rattle.ss_program.specs.declared.place.Assign.TheVariants.{Let, Add}
+use Rattle.ss_program.specs.declared.place.Output.TheVariants.{Skip}
+use Rattle.ss_program.specs.declared.place.Control.TheVariants.{Return, End}
+use Rattle.ss_program.specs.declared.place.Place.{Place}
+use Rattle.ss_program.specs.declared.place.Place.TheVariants.{Assign, Making, Filing, Output, Control, Branch, Looping, Call, Timing, Read}
+use Rattle.ss_program.specs.declared.timing.Notice.TheVariants.{New, Known}
+use Rattle.ss_program.specs.declared.timing.Listing.TheVariants.{Given}
+use Rattle.ss_program.specs.declared.timing.When.{When}
+use Rattle.ss_program.specs.declared.timing.When.TheVariants.{At, Now, In}
+use Rattle.ss_program.specs.declared.timing.Timing.TheVariants.{Schedule, Cancel, Start}
+use Rattle.ss_program.specs.declared.place.Spot.{Spot}
+use Rattle.ss_program.specs.declared.kinds.SectionKind.TheVariants.{Main, Routine, Event}
+use Rattle.ss_program.specs.ProgramExpr.{Expr, expr, no_sums, sum, term, no_products, product, Factor, digits, variable, attribute, implied, of_system}
+use Rattle.ss_program.specs.ProgramCondition.{Condition, any, no_conjunctions, all, no_relations, compared}
+use Rattle.ss_program.specs.Program.{ProgramTable, SectionTable}
 use Rattle.ss_machine.specs.State.{State}
 use Rattle.ss_values.specs.Values.{Readings}
 use Rattle.ss_journal.specs.Log.{newest}

@@ -1,7 +1,7 @@
 -- What is said of the definitions, for every checked program.
 use Rattle.std.specs.Prelude.{◌≡◌, ℕ, List, ◌+◌, ◌*◌, ◌≤◌}
-use Rattle.ss_check.specs.Program.{ProgramTable}
-use Rattle.ss_check.specs.ProgramSound.{IsSound}
+use Rattle.ss_program.specs.Program.{ProgramTable}
+use Rattle.ss_program.specs.ProgramSound.{IsSound}
 use Rattle.ss_machine.specs.State.{State}
 use Rattle.ss_machine.specs.Step.{step}
 use Rattle.ss_machine.specs.Run.{Input, input_with, start, run}

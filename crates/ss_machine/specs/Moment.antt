@@ -2,16 +2,16 @@
 use Rattle.std.specs.Prelude.{◌≡◌, ◌≢◌, ℕ, ◌+◌, ◌-◌, ◌<◌, ◌≤◌, ◌⊎◌, List, [], ◌∷◌, ◌++◌, length, map, drop, Bool, true, false, Option, Some, None}
 use Rattle.ss_journal.specs.Log.{Log, newest}
 use Rattle.ss_journal.specs.Undoing.{past, Kept}
-use Rattle.ss_check.specs.Program.{ProgramTable, spot_at}
-use Rattle.ss_check.specs.ProgramSound.{IsSound}
-use Rattle.ss_check.specs.declared.place.Place.{Place}
-use Rattle.ss_check.specs.declared.place.Place.TheVariants.{Assign, Making, Filing, Output, Control, Branch, Looping, Call, Timing, Read}
-use Rattle.ss_check.specs.declared.looping.Looping.{Looping as ALooping}
-use Rattle.ss_check.specs.declared.looping.Looping.TheVariants.{For, Loop, Find, Gather, Tell}
-use Rattle.ss_check.specs.declared.timing.Timing.{Timing as ATiming}
-use Rattle.ss_check.specs.declared.timing.Timing.TheVariants.{Schedule, Cancel, Start}
-use Rattle.ss_check.specs.declared.ways.Ways.{Ways}
-use Rattle.ss_check.specs.declared.place.Spot.{Spot}
+use Rattle.ss_program.specs.Program.{ProgramTable, spot_at}
+use Rattle.ss_program.specs.ProgramSound.{IsSound}
+use Rattle.ss_program.specs.declared.place.Place.{Place}
+use Rattle.ss_program.specs.declared.place.Place.TheVariants.{Assign, Making, Filing, Output, Control, Branch, Looping, Call, Timing, Read}
+use Rattle.ss_program.specs.declared.looping.Looping.{Looping as ALooping}
+use Rattle.ss_program.specs.declared.looping.Looping.TheVariants.{For, Loop, Find, Gather, Tell}
+use Rattle.ss_program.specs.declared.timing.Timing.{Timing as ATiming}
+use Rattle.ss_program.specs.declared.timing.Timing.TheVariants.{Schedule, Cancel, Start}
+use Rattle.ss_program.specs.declared.ways.Ways.{Ways}
+use Rattle.ss_program.specs.declared.place.Spot.{Spot}
 use Rattle.ss_store.specs.Tables.{tables_of}
 use Rattle.ss_events.specs.Rules.{rules_of}
 use Rattle.ss_machine.specs.declared.change.Change.{Change}

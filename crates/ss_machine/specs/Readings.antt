@@ -1,7 +1,7 @@
 -- What values are read from in a state.
 use Rattle.std.specs.Prelude.{ℤ, pos, ◌<◌, length, slice_index_or}
-use Rattle.ss_check.specs.declared.variable.Variable.{Variable}
-use Rattle.ss_check.specs.declared.variable.Variable.TheVariants.{Global, Local, Clock}
+use Rattle.ss_program.specs.declared.variable.Variable.{Variable}
+use Rattle.ss_program.specs.declared.variable.Variable.TheVariants.{Global, Local, Clock}
 use Rattle.ss_store.specs.Tables.{Tables}
 use Rattle.ss_values.specs.Values.{Readings}
 use Rattle.ss_machine.specs.State.{State}

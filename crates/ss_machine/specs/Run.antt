@@ -1,6 +1,6 @@
 -- The one run of a program.
 use Rattle.std.specs.Prelude.{ℕ, zero, suc, pos, ◌+◌, List, [], ◌∷◌, ◌++◌, length, replicate, if◌then◌else◌}
-use Rattle.ss_check.specs.Program.{ProgramTable, main_number}
+use Rattle.ss_program.specs.Program.{ProgramTable, main_number}
 use Rattle.ss_data.specs.Items.{Item, items}
 use Rattle.ss_store.specs.Tables.{tables_of}
 use Rattle.ss_store.specs.Store.{empty_store}

@@ -1,6 +1,6 @@
 -- The state of a run.
 use Rattle.std.specs.Prelude.{ℕ, ℤ, pos, ◌-◌, ◌==◌, if◌then◌else◌, Bool, true, false, List, [], ◌++◌, length, replicate, slice_get}
-use Rattle.ss_check.specs.Program.{ProgramTable, locals_of}
+use Rattle.ss_program.specs.Program.{ProgramTable, locals_of}
 use Rattle.ss_data.specs.Items.{DataRead}
 use Rattle.ss_store.specs.Store.{Store}
 use Rattle.ss_events.specs.Agenda.{Agenda}

@@ -6,57 +6,57 @@ use Rattle.ss_words.specs.declared.fault.RunFault.{RunFault}
 use Rattle.ss_words.specs.declared.fault.RunFault.TheVariants.{NoEntity, EndedInUse, TimeBeforeClock, NotScheduled, NotExternal, OutsideEntry, CountOutOfRange, ReportFull, TooManyFrames}
 use Rattle.ss_report.specs.Pictures.{picture_text}
 use Rattle.ss_report.specs.Reports.{report_limit}
-use Rattle.ss_check.specs.declared.target.SetRef.{SetRef}
-use Rattle.ss_check.specs.declared.target.Target.{Target}
-use Rattle.ss_check.specs.declared.target.Target.TheVariants.{Variable, Attribute}
-use Rattle.ss_check.specs.declared.making.Making.{Making as AMaking}
-use Rattle.ss_check.specs.declared.making.Making.TheVariants.{Create, CreateEvery, Destroy}
-use Rattle.ss_check.specs.declared.filing.End.{End as ListEnd}
-use Rattle.ss_check.specs.declared.filing.End.TheVariants as ends
-use Rattle.ss_check.specs.declared.filing.Position.{Position}
-use Rattle.ss_check.specs.declared.filing.Position.TheVariants.{ByRule, AtEnd, Before, After}
-use Rattle.ss_check.specs.declared.filing.Filing.{Filing as AFiling}
-use Rattle.ss_check.specs.declared.filing.Filing.TheVariants.{File, FileAt, RemoveAt, Remove}
-use Rattle.ss_check.specs.declared.variable.Variable.{Variable as AVariable}
-use Rattle.ss_check.specs.declared.variable.Variable.TheVariants.{Global, Local, Clock}
-use Rattle.ss_check.specs.declared.place.Assign.{Assign as AnAssign}
-use Rattle.ss_check.specs.declared.place.Assign.TheVariants.{Let, Add, Subtract}
-use Rattle.ss_check.specs.declared.place.Output.{Output as AnOutput}
-use Rattle.ss_check.specs.declared.place.Output.TheVariants.{Print, Skip}
-use Rattle.ss_check.specs.declared.place.Control.{Control as AControl}
-use Rattle.ss_check.specs.declared.place.Control.TheVariants.{Stop, Return, End}
-use Rattle.ss_check.specs.declared.branch.Question.{Question}
-use Rattle.ss_check.specs.declared.branch.Question.TheVariants.{Whether, WasFound, WasNone}
-use Rattle.ss_check.specs.declared.branch.Branch.{Branch as ABranch}
-use Rattle.ss_check.specs.declared.branch.Branch.TheVariants.{If, Else, Always}
-use Rattle.ss_check.specs.declared.looping.ForPhrase.{ForPhrase}
-use Rattle.ss_check.specs.declared.looping.Statistic.{Statistic}
-use Rattle.ss_check.specs.declared.looping.Statistic.TheVariants.{Number, Sum, Maximum, Minimum}
-use Rattle.ss_check.specs.declared.looping.Telling.{Telling}
-use Rattle.ss_check.specs.declared.looping.Looping.{Looping as ALooping}
-use Rattle.ss_check.specs.declared.looping.Looping.TheVariants.{For, Loop, Find, Gather, Tell}
-use Rattle.ss_check.specs.declared.call.Call.{Call as ACall}
-use Rattle.ss_check.specs.declared.timing.Notice.{Notice}
-use Rattle.ss_check.specs.declared.timing.Notice.TheVariants.{New, Known}
-use Rattle.ss_check.specs.declared.timing.Listing.{Listing}
-use Rattle.ss_check.specs.declared.timing.Listing.TheVariants.{InParentheses, Given}
-use Rattle.ss_check.specs.declared.timing.When.{When}
-use Rattle.ss_check.specs.declared.timing.When.TheVariants.{At, Now, In}
-use Rattle.ss_check.specs.declared.timing.Schedule.{Schedule as ASchedule}
-use Rattle.ss_check.specs.declared.timing.Timing.{Timing as ATiming}
-use Rattle.ss_check.specs.declared.timing.Timing.TheVariants.{Schedule, Cancel, Start}
-use Rattle.ss_check.specs.declared.ways.Resets.{Resets}
-use Rattle.ss_check.specs.declared.ways.Resets.TheVariants as resets
-use Rattle.ss_check.specs.declared.ways.Ways.{Ways}
-use Rattle.ss_check.specs.declared.kinds.SectionKind.{SectionKind}
-use Rattle.ss_check.specs.declared.kinds.SectionKind.TheVariants as kinds
-use Rattle.ss_check.specs.declared.place.Place.{Place}
-use Rattle.ss_check.specs.declared.place.Place.TheVariants.{Assign, Making, Filing, Output, Control, Branch, Looping, Call, Timing, Read}
-use Rattle.ss_check.specs.declared.place.Spot.{Spot}
-use Rattle.ss_check.specs.Program as program
-use Rattle.ss_check.specs.Program.{ProgramTable, places_of, section_of, event_of, event_of_kind, has_external, spot_at}
-use Rattle.ss_check.specs.ProgramExpr.{Expr}
-use Rattle.ss_check.specs.Match.{ways_of}
+use Rattle.ss_program.specs.declared.target.SetRef.{SetRef}
+use Rattle.ss_program.specs.declared.target.Target.{Target}
+use Rattle.ss_program.specs.declared.target.Target.TheVariants.{Variable, Attribute}
+use Rattle.ss_program.specs.declared.making.Making.{Making as AMaking}
+use Rattle.ss_program.specs.declared.making.Making.TheVariants.{Create, CreateEvery, Destroy}
+use Rattle.ss_program.specs.declared.filing.End.{End as ListEnd}
+use Rattle.ss_program.specs.declared.filing.End.TheVariants as ends
+use Rattle.ss_program.specs.declared.filing.Position.{Position}
+use Rattle.ss_program.specs.declared.filing.Position.TheVariants.{ByRule, AtEnd, Before, After}
+use Rattle.ss_program.specs.declared.filing.Filing.{Filing as AFiling}
+use Rattle.ss_program.specs.declared.filing.Filing.TheVariants.{File, FileAt, RemoveAt, Remove}
+use Rattle.ss_program.specs.declared.variable.Variable.{Variable as AVariable}
+use Rattle.ss_program.specs.declared.variable.Variable.TheVariants.{Global, Local, Clock}
+use Rattle.ss_program.specs.declared.place.Assign.{Assign as AnAssign}
+use Rattle.ss_program.specs.declared.place.Assign.TheVariants.{Let, Add, Subtract}
+use Rattle.ss_program.specs.declared.place.Output.{Output as AnOutput}
+use Rattle.ss_program.specs.declared.place.Output.TheVariants.{Print, Skip}
+use Rattle.ss_program.specs.declared.place.Control.{Control as AControl}
+use Rattle.ss_program.specs.declared.place.Control.TheVariants.{Stop, Return, End}
+use Rattle.ss_program.specs.declared.branch.Question.{Question}
+use Rattle.ss_program.specs.declared.branch.Question.TheVariants.{Whether, WasFound, WasNone}
+use Rattle.ss_program.specs.declared.branch.Branch.{Branch as ABranch}
+use Rattle.ss_program.specs.declared.branch.Branch.TheVariants.{If, Else, Always}
+use Rattle.ss_program.specs.declared.looping.ForPhrase.{ForPhrase}
+use Rattle.ss_program.specs.declared.looping.Statistic.{Statistic}
+use Rattle.ss_program.specs.declared.looping.Statistic.TheVariants.{Number, Sum, Maximum, Minimum}
+use Rattle.ss_program.specs.declared.looping.Telling.{Telling}
+use Rattle.ss_program.specs.declared.looping.Looping.{Looping as ALooping}
+use Rattle.ss_program.specs.declared.looping.Looping.TheVariants.{For, Loop, Find, Gather, Tell}
+use Rattle.ss_program.specs.declared.call.Call.{Call as ACall}
+use Rattle.ss_program.specs.declared.timing.Notice.{Notice}
+use Rattle.ss_program.specs.declared.timing.Notice.TheVariants.{New, Known}
+use Rattle.ss_program.specs.declared.timing.Listing.{Listing}
+use Rattle.ss_program.specs.declared.timing.Listing.TheVariants.{InParentheses, Given}
+use Rattle.ss_program.specs.declared.timing.When.{When}
+use Rattle.ss_program.specs.declared.timing.When.TheVariants.{At, Now, In}
+use Rattle.ss_program.specs.declared.timing.Schedule.{Schedule as ASchedule}
+use Rattle.ss_program.specs.declared.timing.Timing.{Timing as ATiming}
+use Rattle.ss_program.specs.declared.timing.Timing.TheVariants.{Schedule, Cancel, Start}
+use Rattle.ss_program.specs.declared.ways.Resets.{Resets}
+use Rattle.ss_program.specs.declared.ways.Resets.TheVariants as resets
+use Rattle.ss_program.specs.declared.ways.Ways.{Ways}
+use Rattle.ss_program.specs.declared.kinds.SectionKind.{SectionKind}
+use Rattle.ss_program.specs.declared.kinds.SectionKind.TheVariants as kinds
+use Rattle.ss_program.specs.declared.place.Place.{Place}
+use Rattle.ss_program.specs.declared.place.Place.TheVariants.{Assign, Making, Filing, Output, Control, Branch, Looping, Call, Timing, Read}
+use Rattle.ss_program.specs.declared.place.Spot.{Spot}
+use Rattle.ss_program.specs.Program as program
+use Rattle.ss_program.specs.Program.{ProgramTable, places_of, section_of, event_of, event_of_kind, has_external, spot_at}
+use Rattle.ss_program.specs.ProgramExpr.{Expr}
+use Rattle.ss_program.specs.Match.{ways_of}
 use Rattle.ss_data.specs.Items.{Item, with_taken, value_or_fault}
 use Rattle.ss_data.specs.declared.entry.Kind.{Kind}
 use Rattle.ss_data.specs.declared.entry.Kind.TheVariants.{Mark}

@@ -1,14 +1,14 @@
 -- A well-formed state.
 use Rattle.std.specs.Prelude.{◌≡◌, ℕ, ℤ, ◌<◌, ◌≤◌, List, [], ◌∷◌, length, slice_get, true, false, int_lt, is_some, Option, Some, None}
 use Rattle.ss_report.specs.Reports.{report_limit}
-use Rattle.ss_check.specs.declared.kinds.SectionKind.{SectionKind}
-use Rattle.ss_check.specs.declared.kinds.SectionKind.TheVariants.{Main, Routine, Event}
-use Rattle.ss_check.specs.declared.place.Place.{Place}
-use Rattle.ss_check.specs.declared.place.Place.TheVariants.{Call, Timing}
-use Rattle.ss_check.specs.declared.timing.Timing.TheVariants.{Start}
-use Rattle.ss_check.specs.declared.place.Spot.{Spot}
-use Rattle.ss_check.specs.Nesting.{may_be_open}
-use Rattle.ss_check.specs.Program.{ProgramTable, places_of, locals_of, class_of, event_of, section_of, is_main, is_event, spot_at}
+use Rattle.ss_program.specs.declared.kinds.SectionKind.{SectionKind}
+use Rattle.ss_program.specs.declared.kinds.SectionKind.TheVariants.{Main, Routine, Event}
+use Rattle.ss_program.specs.declared.place.Place.{Place}
+use Rattle.ss_program.specs.declared.place.Place.TheVariants.{Call, Timing}
+use Rattle.ss_program.specs.declared.timing.Timing.TheVariants.{Start}
+use Rattle.ss_program.specs.declared.place.Spot.{Spot}
+use Rattle.ss_program.specs.Nesting.{may_be_open}
+use Rattle.ss_program.specs.Program.{ProgramTable, places_of, locals_of, class_of, event_of, section_of, is_main, is_event, spot_at}
 use Rattle.ss_data.specs.Items.{Item}
 use Rattle.ss_store.specs.Store.{Entity, Store, exists}
 use Rattle.ss_events.specs.Agenda.{Pending, pending_at}

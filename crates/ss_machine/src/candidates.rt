@@ -1,5 +1,5 @@
 ghost use Rattle.std.specs.Prelude.{◌≡◌, ◌<◌, length, Ok};
-ghost use Rattle.ss_check.specs.ProgramSound.{IsSoundPhrase, IsSoundExpr, IsSoundSetRef, IsSoundOption, IsSoundBegin, AreSoundQualifiers};
+ghost use Rattle.ss_program.specs.ProgramSound.{IsSoundPhrase, IsSoundExpr, IsSoundSetRef, IsSoundOption, IsSoundBegin, AreSoundQualifiers};
 ghost use Rattle.ss_values.specs.Faults.{◌>>=◌ as and_then};
 ghost use Rattle.ss_values.specs.Values.{value_of, subscript_value};
 ghost use Rattle.ss_values.specs.Seen.{view_readings, InView};
@@ -7,8 +7,8 @@ ghost use Rattle.ss_machine.specs.Loops as loops;
 
 use crate::loops::{OpenLoop, Walk};
 use crate::verdict::Verdict;
-use ss_check::{Begin, Direction, Expr, Phrase, QualifierWord, Qualifiers, SetRef, Variable};
 use ss_links::SetBoard;
+use ss_program::{Begin, Direction, Expr, Phrase, QualifierWord, Qualifiers, SetRef, Variable};
 use ss_values::{View, holds, subscript_value, value, variable_value};
 use ss_words::RunFault;
 

@@ -2,12 +2,12 @@
 
 ghost use Rattle.std.specs.Prelude.{◌≡◌, [], ◌∷◌, pos, neg_ℤ, length, codes, Ok, Err, true, false};
 ghost use Rattle.ss_words.specs.declared.fault.RunFault.TheVariants.{OutOfRange, ZeroDivisor, CountOutOfRange, NoMoreData, NotANumber, TooManyFrames, MemberLeft, EndedInUse, TimeBeforeClock, AlreadyScheduled, NotScheduled, NotExternal, OutsideEntry};
-ghost use Rattle.ss_check.specs.declared.looping.Direction.TheVariants.{Onward, Backward};
-ghost use Rattle.ss_check.specs.declared.kinds.Discipline.TheVariants.{Fifo, Lifo};
-ghost use Rattle.ss_check.specs.declared.condition.Comparison.TheVariants.{Equals, Differs, Below, Above};
-ghost use Rattle.ss_check.specs.declared.looping.QualifierWord.TheVariants.{With, Unless, While, Until};
-ghost use Rattle.ss_check.specs.declared.variable.Variable.TheVariants.{Local};
-ghost use Rattle.ss_check.specs.ProgramExpr.{absolute, greatest, least, quotient, remainder, exprs, no_exprs};
+ghost use Rattle.ss_program.specs.declared.looping.Direction.TheVariants.{Onward, Backward};
+ghost use Rattle.ss_program.specs.declared.kinds.Discipline.TheVariants.{Fifo, Lifo};
+ghost use Rattle.ss_program.specs.declared.condition.Comparison.TheVariants.{Equals, Differs, Below, Above};
+ghost use Rattle.ss_program.specs.declared.looping.QualifierWord.TheVariants.{With, Unless, While, Until};
+ghost use Rattle.ss_program.specs.declared.variable.Variable.TheVariants.{Local};
+ghost use Rattle.ss_program.specs.ProgramExpr.{absolute, greatest, least, quotient, remainder, exprs, no_exprs};
 ghost use Rattle.ss_machine.specs.declared.entry.Entry.TheVariants.{Absent, Waiting, Running};
 ghost use Rattle.ss_machine.specs.declared.status.Status.TheVariants.{Ready, Finished, Faulted};
 ghost use Rattle.ss_values.specs.Values.{value_of};

@@ -1,9 +1,9 @@
 ghost use Rattle.std.specs.Prelude.{◌≡◌, ◌+◌, ◌<◌, ◌≤◌, ◌^◌, ◌∷◌, [], length, drop, slice_get, slice_index_or, pos, true, Some, OnOk, IfOk, IfErr, false, OnErr};
-ghost use Rattle.ss_check.specs.Match.{ways_of};
+ghost use Rattle.ss_program.specs.Match.{ways_of};
 ghost use Rattle.ss_report.specs.Pictures.{field_count};
-ghost use Rattle.ss_check.specs.Program.{places_of, section_of, spot_at};
-ghost use Rattle.ss_check.specs.ProgramSound.{IsSettable, IsTarget, IsSoundSetRef, IsSoundOption, IsSoundExpr, IsSoundMaking, IsSoundFiling};
-ghost use Rattle.ss_check.specs.ProgramSound.{AreTargets, IsSoundAssign, IsSoundOutput, IsSoundQuestion, IsSoundBranch, IsSoundPhrase, AreSoundQualifiers, AreSoundTellings, IsSoundLooping, IsSoundPlace, AreSoundExprs, IsCalledBy, IsTimed, LeadsOn, loop_limit, parameter_limit};
+ghost use Rattle.ss_program.specs.Program.{places_of, section_of, spot_at};
+ghost use Rattle.ss_program.specs.ProgramSound.{IsSettable, IsTarget, IsSoundSetRef, IsSoundOption, IsSoundExpr, IsSoundMaking, IsSoundFiling};
+ghost use Rattle.ss_program.specs.ProgramSound.{AreTargets, IsSoundAssign, IsSoundOutput, IsSoundQuestion, IsSoundBranch, IsSoundPhrase, AreSoundQualifiers, AreSoundTellings, IsSoundLooping, IsSoundPlace, AreSoundExprs, IsCalledBy, IsTimed, LeadsOn, loop_limit, parameter_limit};
 ghost use Rattle.ss_journal.specs.Undoing.{unapply_all, FitsAll};
 ghost use Rattle.ss_links.specs.Board.{empty_board};
 ghost use Rattle.ss_store.specs.Tables.{tables_of};
@@ -29,7 +29,7 @@ ghost use Rattle.ss_machine.specs.Step.{state_behind_place, state_after_return, 
 ghost use Rattle.ss_machine.specs.Step.{question_answer, ways_here};
 ghost use Rattle.ss_machine.specs.Loops.{IsSoundWalk, AreSoundWalks};
 ghost use Rattle.ss_machine.specs.declared.status.Status.TheVariants.{Faulted};
-ghost use Rattle.ss_check.specs.declared.making.Making.TheVariants as making;
+ghost use Rattle.ss_program.specs.declared.making.Making.TheVariants as making;
 ghost use Rattle.ss_store.specs.Tables.{class_of};
 ghost use Rattle.ss_values.specs.Values.{FaultIs};
 ghost use Rattle.ss_machine.specs.Run.{start};
@@ -47,14 +47,14 @@ use crate::statistics::{Statistics, no_statistics, statistic_value, statistics_w
 use crate::status::Status;
 use crate::timing::most_timing_changes;
 use crate::verdict::Verdict;
-use ss_check::{
+use ss_data::Feed;
+use ss_journal::Undo;
+use ss_links::SetBoard;
+use ss_program::{
     Assign, Branch, Call, Control, End, Expr, Filing, ForPhrase, Looping, Making, Output, Place,
     Program, Question, Resets, Section, SectionKind, SetRef, Spot, Target, Targets, Tellings,
     Values, Variable, Ways,
 };
-use ss_data::Feed;
-use ss_journal::Undo;
-use ss_links::SetBoard;
 use ss_report::Picture;
 use ss_store::{How, Which};
 use ss_values::{assigned_value, holds, subscript_value, value, values};

@@ -1,10 +1,10 @@
 //! The external classes of a program, and the data that name them.
 ghost use Rattle.std.specs.Prelude.{◌≡◌, slice_get};
-ghost use Rattle.ss_check.specs.Program as programs;
+ghost use Rattle.ss_program.specs.Program as programs;
 ghost use Rattle.ss_machine.specs.Step as steps;
 
-use ss_check::Program;
 use ss_data::Feed;
+use ss_program::Program;
 
 /// Whether the data may name some class of a program.
 pub fn has_external(program: &Program) -> bool

@@ -1,7 +1,7 @@
 ghost use Rattle.std.specs.Prelude.{◌≡◌};
 ghost use Rattle.ss_machine.specs.History.{unfolded, narrowed, is_set, owner_of};
 
-use ss_check::Owner;
+use ss_program::Owner;
 
 /// A number with sign as one without: 0, -1, 1, -2, 2 as 0, 1, 2, 3, 4, so that small ones stay
 /// small.

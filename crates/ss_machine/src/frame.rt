@@ -1,10 +1,10 @@
 ghost use Rattle.std.specs.Prelude.{◌≡◌, ◌<◌, ◌≤◌, length, slice_get, slice_set, IfOk};
-ghost use Rattle.ss_check.specs.Program.{locals_of};
+ghost use Rattle.ss_program.specs.Program.{locals_of};
 ghost use Rattle.ss_machine.specs.State.{new_frame};
 
 use crate::loops::Loops;
 use crate::statistics::{Statistics, no_statistics};
-use ss_check::Program;
+use ss_program::Program;
 use std::alloc::{AllocError, Global};
 use std::marker::Model;
 

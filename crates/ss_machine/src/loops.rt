@@ -1,7 +1,7 @@
 ghost use Rattle.std.specs.Prelude.{◌≡◌, ◌∷◌, [], MatchOption, OnOk, OnErr, IfOk};
 ghost use Rattle.ss_machine.specs.Loops.{innermost, loops_with_candidate};
 
-use ss_check::Direction;
+use ss_program::Direction;
 use std::alloc::{AllocError, Global};
 use std::marker::Model;
 

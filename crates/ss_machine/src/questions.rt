@@ -1,13 +1,13 @@
 //! What a statement asks of a view.
 ghost use Rattle.std.specs.Prelude.{◌≡◌, ◌<◌, length, Ok, IfOk, IfErr};
-ghost use Rattle.ss_check.specs.ProgramSound.{IsSoundExpr, AreSoundExprs, IsSoundOption, IsSoundPosition, IsSoundSetRef, IsSoundNotice, IsSoundWhen};
+ghost use Rattle.ss_program.specs.ProgramSound.{IsSoundExpr, AreSoundExprs, IsSoundOption, IsSoundPosition, IsSoundSetRef, IsSoundNotice, IsSoundWhen};
 ghost use Rattle.ss_values.specs.Seen.{view_readings, InView};
 ghost use Rattle.ss_values.specs.Values as evaluated;
 ghost use Rattle.ss_values.specs.Values.{FaultIs};
 ghost use Rattle.ss_machine.specs.Step as steps;
 
-use ss_check::{End, Expr, Listing, Notice, Position, Schedule, SetRef, Variable, When};
 use ss_links::SetBoard;
+use ss_program::{End, Expr, Listing, Notice, Position, Schedule, SetRef, Variable, When};
 use ss_store::{How, Which};
 use ss_values::{View, subscript_value, value, values, variable_value};
 use ss_words::{RunFault, StepFault};

@@ -13,9 +13,9 @@ use crate::kind::{
 use crate::numbers::Numbers;
 use crate::statistics::Statistics;
 use crate::tape::{Kept, Tape};
-use ss_check::Owner;
 use ss_events::{AgendaChange, Entry as Notice};
 use ss_journal::Journal;
+use ss_program::Owner;
 use ss_store::StoreChange;
 
 /// A change of what a variable, FIND or COMPUTE holds.

@@ -2,7 +2,7 @@ ghost use Rattle.std.specs.Prelude.{◌≡◌};
 ghost use Rattle.ss_machine.specs.Step as steps;
 ghost use Rattle.ss_machine.specs.State as states;
 
-use ss_check::Statistic;
+use ss_program::Statistic;
 use ss_values::sum;
 use ss_words::RunFault;
 

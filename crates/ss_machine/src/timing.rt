@@ -1,9 +1,9 @@
 //! The statements on event notices, and the timing routine.
 ghost use Rattle.std.specs.Prelude.{◌≡◌, ◌+◌, ◌<◌, ◌≤◌, [], length, slice_get, Ok, Err, OnOk, IfErr, OnErr, true, false, if◌then◌else◌};
-ghost use Rattle.ss_check.specs.Program.{class_of, section_of, locals_of, event_of, is_main};
-ghost use Rattle.ss_check.specs.ProgramSound.{IsTarget, IsSoundExpr, IsSoundTiming, IsSoundNotice, AreSoundExprs, IsSoundWhen, IsEventClass, IsTimed};
-ghost use Rattle.ss_check.specs.declared.place.Place.TheVariants as places;
-ghost use Rattle.ss_check.specs.declared.timing.Timing.TheVariants as timings;
+ghost use Rattle.ss_program.specs.Program.{class_of, section_of, locals_of, event_of, is_main};
+ghost use Rattle.ss_program.specs.ProgramSound.{IsTarget, IsSoundExpr, IsSoundTiming, IsSoundNotice, AreSoundExprs, IsSoundWhen, IsEventClass, IsTimed};
+ghost use Rattle.ss_program.specs.declared.place.Place.TheVariants as places;
+ghost use Rattle.ss_program.specs.declared.timing.Timing.TheVariants as timings;
 ghost use Rattle.ss_store.specs.Tables as shapes;
 ghost use Rattle.ss_store.specs.Tables.{tables_of};
 ghost use Rattle.ss_store.specs.Store.{without_entity};
@@ -23,9 +23,11 @@ use crate::executor::Executor;
 use crate::external::has_external;
 use crate::frame::FrameBox;
 use crate::questions::{arguments_asked, time_asked};
-use ss_check::{ClassKind, EventClass, Expr, Notice, Program, Schedule, Target, Timing, Variable};
 use ss_events::Slot;
 use ss_links::SetBoard;
+use ss_program::{
+    ClassKind, EventClass, Expr, Notice, Program, Schedule, Target, Timing, Variable,
+};
 use ss_values::value;
 use ss_words::{RunFault, StepFault};
 use std::alloc::AllocError;

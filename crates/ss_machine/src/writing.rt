@@ -12,8 +12,8 @@ use crate::kind::{
 };
 use crate::statistics::Statistics;
 use crate::tape::{Kept, Tape};
-use ss_check::Owner;
 use ss_events::{AgendaChange, Entry as Notice};
+use ss_program::Owner;
 use ss_store::StoreChange;
 
 impl Tape {

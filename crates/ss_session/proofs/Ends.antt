@@ -4,7 +4,7 @@ use Rattle.ss_words.specs.declared.fault.TextRule.{TextRule}
 use Rattle.ss_words.specs.Faults.{text_rule_code}
 use Rattle.ss_check.specs.declared.fault.CheckRule.{CheckRule}
 use Rattle.ss_check.specs.CheckRules.{check_rule_code}
-use Rattle.ss_check.specs.Program.{ProgramTable}
+use Rattle.ss_program.specs.Program.{ProgramTable}
 use Rattle.ss_machine.specs.State.{State}
 use Rattle.ss_machine.specs.Run.{Input, input_with, run}
 use Rattle.ss_debug.specs.CommandLines.{command_lines}

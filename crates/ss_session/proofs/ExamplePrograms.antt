@@ -6,21 +6,21 @@ use Rattle.ss_words.specs.declared.reserved.Reserved.TheVariants as r
 use Rattle.ss_words.specs.Plain.{PlainAt, name, number, mark, picture, plains}
 use Rattle.ss_words.specs.Spellings.{spellings, mark_of}
 use Rattle.ss_words.specs.PlainRules.{plain_words_of}
-use Rattle.ss_grammar.specs.Expr.{Expr, expr, no_sums, term, no_products, digits, named}
-use Rattle.ss_grammar.specs.Condition.{Reference}
-use Rattle.ss_grammar.specs.Simple.{Let as Lets, Add as Adds, Print as Prints, Stop as Stops, Simple, Assigns, Transfers, Exchanges}
-use Rattle.ss_grammar.specs.Tree.{Block, no_statements, statement, alone, simple, MainHead, Tree, spell}
-use Rattle.ss_check.specs.declared.kinds.SectionKind.TheVariants.{Main}
-use Rattle.ss_check.specs.declared.target.Target.TheVariants.{Variable as ToVariable}
-use Rattle.ss_check.specs.declared.variable.Variable.TheVariants.{Local}
-use Rattle.ss_check.specs.declared.place.Assign.TheVariants.{Let, Add}
-use Rattle.ss_check.specs.declared.place.Output.TheVariants.{Print}
-use Rattle.ss_check.specs.declared.place.Control.TheVariants.{Stop, End}
-use Rattle.ss_check.specs.declared.place.Place.{Place}
-use Rattle.ss_check.specs.declared.place.Place.TheVariants.{Assign, Output, Control}
-use Rattle.ss_check.specs.declared.place.Spot.{Spot}
-use Rattle.ss_check.specs.ProgramExpr as checked
-use Rattle.ss_check.specs.Program.{ProgramTable}
+use Rattle.ss_routines.specs.Expr.{Expr, expr, no_sums, term, no_products, digits, named}
+use Rattle.ss_routines.specs.Condition.{Reference}
+use Rattle.ss_routines.specs.Simple.{Let as Lets, Add as Adds, Print as Prints, Stop as Stops, Simple, Assigns, Transfers, Exchanges}
+use Rattle.ss_routines.specs.Tree.{Block, no_statements, statement, alone, simple, MainHead, Tree, spell}
+use Rattle.ss_program.specs.declared.kinds.SectionKind.TheVariants.{Main}
+use Rattle.ss_program.specs.declared.target.Target.TheVariants.{Variable as ToVariable}
+use Rattle.ss_program.specs.declared.variable.Variable.TheVariants.{Local}
+use Rattle.ss_program.specs.declared.place.Assign.TheVariants.{Let, Add}
+use Rattle.ss_program.specs.declared.place.Output.TheVariants.{Print}
+use Rattle.ss_program.specs.declared.place.Control.TheVariants.{Stop, End}
+use Rattle.ss_program.specs.declared.place.Place.{Place}
+use Rattle.ss_program.specs.declared.place.Place.TheVariants.{Assign, Output, Control}
+use Rattle.ss_program.specs.declared.place.Spot.{Spot}
+use Rattle.ss_program.specs.ProgramExpr as checked
+use Rattle.ss_program.specs.Program.{ProgramTable}
 use Rattle.ss_session.proofs.Transcripts.{at}
 use Rattle.ss_session.proofs.ExampleWords.{stop_words, five_words, overflow_words, two_values_words, word_behind_words, unended_words}
 

@@ -12,14 +12,14 @@ use Rattle.ss_preamble.specs.Refused as preamble
 use Rattle.ss_preamble.specs.Laws as preamble_laws
 use Rattle.ss_preamble.proofs.Decided as preamble_answer
 use Rattle.ss_preamble.proofs.Unique as preamble_unique
-use Rattle.ss_grammar.specs.Places.{Section}
-use Rattle.ss_grammar.specs.Refused.{Answers, words_from}
-use Rattle.ss_grammar.specs.Laws.{IsDefinite}
-use Rattle.ss_grammar.proofs.Answered.{always}
-use Rattle.ss_grammar.proofs.Unique.{one_answer}
+use Rattle.ss_routines.specs.Places.{Section}
+use Rattle.ss_routines.specs.Refused.{Answers, words_from}
+use Rattle.ss_routines.specs.Laws.{IsDefinite}
+use Rattle.ss_routines.proofs.Answered.{always}
+use Rattle.ss_routines.proofs.Unique.{one_answer}
 use Rattle.ss_check.specs.declared.fault.CheckRule.{CheckRule}
-use Rattle.ss_checker.specs.Breach.{breach}
-use Rattle.ss_checker.specs.Resolved.{resolved}
+use Rattle.ss_check.specs.Breach.{breach}
+use Rattle.ss_check.specs.Resolved.{resolved}
 use Rattle.ss_session.specs.Model.{Outcome, refused_text, refused_check, accepted, AreProgram, Spells, IsOutcome}
 use Rattle.ss_session.specs.Refused.{IsRefused}
 use Rattle.ss_session.specs.Laws.{ModelHasOutcome, OutcomeIsUnique, IsRefusedInPart}

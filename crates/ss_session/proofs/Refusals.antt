@@ -31,14 +31,14 @@ use Rattle.ss_preamble.proofs.Unique.{one_head, has_preamble, same_count}
 use Rattle.ss_preamble.proofs.Behind.{drop_behind}
 use Rattle.ss_preamble.proofs.Programs.{farthest_of_program}
 use Rattle.ss_preamble.proofs.Decided as preamble_answer
-use Rattle.ss_grammar.specs.Places.{Section}
-use Rattle.ss_grammar.specs.Tree.{Tree, Head, MainHead, RoutineHead, EventHead}
-use Rattle.ss_grammar.specs.Tree as grammar
-use Rattle.ss_grammar.specs.Refused as sections
-use Rattle.ss_grammar.specs.Laws.{IsDefinite}
-use Rattle.ss_grammar.proofs.Answered.{always}
-use Rattle.ss_grammar.proofs.Unique.{less, equal, greater, order}
-use Rattle.ss_grammar.proofs.Whole.{room_less}
+use Rattle.ss_routines.specs.Places.{Section}
+use Rattle.ss_routines.specs.Tree.{Tree, Head, MainHead, RoutineHead, EventHead}
+use Rattle.ss_routines.specs.Tree as grammar
+use Rattle.ss_routines.specs.Refused as sections
+use Rattle.ss_routines.specs.Laws.{IsDefinite}
+use Rattle.ss_routines.proofs.Answered.{always}
+use Rattle.ss_routines.proofs.Unique.{less, equal, greater, order}
+use Rattle.ss_routines.proofs.Whole.{room_less}
 use Rattle.ss_session.specs.Refused.{spell, Begins, IsHead, InRoom, PassesLimit, IsUnexpectedWord, IsUnexpectedEnd}
 use Rattle.ss_session.specs.Refused.{IsPastLimit, IsRefused}
 use Rattle.ss_session.specs.Laws.{IsRefusedInPart, ProgramIsRefusedInPart}

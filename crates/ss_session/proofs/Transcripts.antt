@@ -8,15 +8,15 @@ use Rattle.ss_words.specs.TextWords.{words_of}
 use Rattle.ss_words.specs.Faults.{text_rule_code}
 use Rattle.ss_words.specs.Plain.{Plain, PlainAt, plains}
 use Rattle.ss_words.specs.PlainRules.{plain_words_of}
-use Rattle.ss_grammar.specs.Tree.{Tree, spell}
-use Rattle.ss_grammar.specs.Written.{written}
-use Rattle.ss_grammar.specs.Refused.{IsWithin, IsRefused, AreSections, words_from, lines}
+use Rattle.ss_routines.specs.Tree.{Tree, spell}
+use Rattle.ss_routines.specs.Written.{written}
+use Rattle.ss_routines.specs.Refused.{IsWithin, IsRefused, AreSections, words_from, lines}
 use Rattle.ss_preamble.specs.Refused.{HasPreamble, no_decls, AreDecls}
 use Rattle.ss_check.specs.declared.fault.CheckRule.{CheckRule}
 use Rattle.ss_check.specs.CheckRules.{check_rule_code}
-use Rattle.ss_checker.specs.Breach.{breach}
-use Rattle.ss_checker.specs.Resolved.{resolved}
-use Rattle.ss_check.specs.Program.{ProgramTable}
+use Rattle.ss_check.specs.Breach.{breach}
+use Rattle.ss_check.specs.Resolved.{resolved}
+use Rattle.ss_program.specs.Program.{ProgramTable}
 use Rattle.std.specs.Prelude.{codes}
 use Rattle.ss_machine.specs.Run.{input_with}
 use Rattle.ss_debug.specs.CommandLines.{command_lines}

@@ -8,12 +8,12 @@ use Rattle.ss_words.specs.PlainRules.{plain_words_of}
 use Rattle.ss_words.specs.Plain.{PlainAt}
 use Rattle.ss_preamble.specs.Tree.{Decls}
 use Rattle.ss_preamble.specs.Refused.{AreDecls}
-use Rattle.ss_grammar.specs.Places.{Section}
-use Rattle.ss_grammar.specs.Refused.{AreSections, words_from}
+use Rattle.ss_routines.specs.Places.{Section}
+use Rattle.ss_routines.specs.Refused.{AreSections, words_from}
 use Rattle.ss_check.specs.declared.fault.CheckRule.{CheckRule}
-use Rattle.ss_checker.specs.Breach.{breach}
-use Rattle.ss_checker.specs.Resolved.{resolved}
-use Rattle.ss_check.specs.Program.{ProgramTable}
+use Rattle.ss_check.specs.Breach.{breach}
+use Rattle.ss_check.specs.Resolved.{resolved}
+use Rattle.ss_program.specs.Program.{ProgramTable}
 use Rattle.ss_session.specs.Refused.{IsRefused}
 
 -- refused by a rule L or P, refused by a rule C, or a program

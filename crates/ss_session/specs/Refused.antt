@@ -10,9 +10,9 @@ use Rattle.ss_preamble.specs.Roles.{roles}
 use Rattle.ss_preamble.specs.WordLimits.{AreWithin}
 use Rattle.ss_preamble.specs.Laws.{Program, spell_program}
 use Rattle.ss_preamble.specs.Refused.{HasPreamble, CountUpTo, lines}
-use Rattle.ss_grammar.specs.Tree.{Tree}
-use Rattle.ss_grammar.specs.Tree as grammar
-use Rattle.ss_grammar.specs.Refused as sections
+use Rattle.ss_routines.specs.Tree.{Tree}
+use Rattle.ss_routines.specs.Tree as grammar
+use Rattle.ss_routines.specs.Refused as sections
 
 -- the plain words of a preamble or none, and of sections
 abbrev pub spell : Program Tree → List Plain

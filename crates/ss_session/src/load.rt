@@ -2,10 +2,9 @@ ghost use Rattle.std.specs.Prelude.{IfOk, IfErr};
 ghost use Rattle.ss_session.specs.Model.{accepted, IsOutcome};
 ghost use Rattle.ss_session.specs.Private.{IsLoadFault};
 
-use ss_check::{CheckFault, CheckRule, Program};
-use ss_checker::check;
-use ss_grammar::sections;
+use ss_check::{CheckFault, CheckRule, Program, check};
 use ss_preamble::preamble;
+use ss_routines::sections;
 use ss_words::{TextFault, TextRule, words};
 use std::alloc::Global;
 

@@ -13,10 +13,10 @@ use crate::ending::{Cut, End, SessionFault};
 use crate::load::{LoadFault, load};
 use crate::outlet::{Outlet, put_all};
 use crate::refusal::refusal_text;
-use ss_check::Program;
 use ss_data::Feed;
 use ss_links::{LinkedSets, SetBoard};
 use ss_machine::Machine;
+use ss_program::Program;
 use std::alloc::{AllocError, Global};
 
 /// Writes the line of a refused model.

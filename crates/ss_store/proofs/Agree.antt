@@ -9,8 +9,8 @@ use Rattle.std.specs.List.{cons_option}
 use Rattle.ss_links.specs.Board.{list_at, head_of}
 use Rattle.ss_links.specs.Seats.{has}
 use Rattle.ss_links.proofs.BoardLaws.{head_of-found, head_of-list_at}
-use Rattle.ss_check.specs.declared.kinds.Owner.{Owner}
-use Rattle.ss_check.specs.declared.kinds.Owner.TheVariants.{System, OwnedBy}
+use Rattle.ss_program.specs.declared.kinds.Owner.{Owner}
+use Rattle.ss_program.specs.declared.kinds.Owner.TheVariants.{System, OwnedBy}
 use Rattle.ss_store.specs.declared.shape.SetShape.{SetShape}
 use Rattle.ss_store.specs.declared.rows.Row.{Row}
 use Rattle.ss_store.specs.Tables.{class_of}

@@ -13,12 +13,12 @@ use Rattle.std.proofs.lemmas.List.FromFn.{length-map-range_with_len, length-rang
 use Rattle.std.proofs.lemmas.List.Sums.{count_by-le-length}
 use Rattle.ss_links.specs.Board.{Board, IsSound, empty_board, list_at}
 use Rattle.ss_links.specs.Seats.{has}
-use Rattle.ss_check.specs.declared.kinds.Owner.{Owner}
-use Rattle.ss_check.specs.declared.kinds.Owner.TheVariants.{System, OwnedBy}
-use Rattle.ss_check.specs.declared.kinds.Discipline.TheVariants.{Fifo}
-use Rattle.ss_check.specs.Program as program
-use Rattle.ss_check.specs.Program.{SetTable, ProgramTable, is_same_owner, owned_among}
-use Rattle.ss_check.specs.ProgramSound as sound
+use Rattle.ss_program.specs.declared.kinds.Owner.{Owner}
+use Rattle.ss_program.specs.declared.kinds.Owner.TheVariants.{System, OwnedBy}
+use Rattle.ss_program.specs.declared.kinds.Discipline.TheVariants.{Fifo}
+use Rattle.ss_program.specs.Program as program
+use Rattle.ss_program.specs.Program.{SetTable, ProgramTable, is_same_owner, owned_among}
+use Rattle.ss_program.specs.ProgramSound as sound
 use Rattle.std.specs.List.{All}
 use Rattle.ss_store.specs.declared.rows.Row.{Row}
 use Rattle.ss_store.specs.declared.shape.ClassShape.{ClassShape}

@@ -6,10 +6,10 @@ use Rattle.std.proofs.Common.{eqb→eq, T}
 use Rattle.std.specs.Prelude.{option_and_then, unwrap_or}
 use Rattle.std.specs.Option.{option_map, option_or}
 use Rattle.ss_links.specs.Seats.{has, first_of, last_of, put_before, put_behind}
-use Rattle.ss_check.specs.declared.kinds.Discipline.{Discipline}
-use Rattle.ss_check.specs.declared.kinds.Discipline.TheVariants.{Fifo, Lifo, Ranked}
-use Rattle.ss_check.specs.declared.kinds.Owner.{Owner}
-use Rattle.ss_check.specs.declared.kinds.Owner.TheVariants.{System, OwnedBy}
+use Rattle.ss_program.specs.declared.kinds.Discipline.{Discipline}
+use Rattle.ss_program.specs.declared.kinds.Discipline.TheVariants.{Fifo, Lifo, Ranked}
+use Rattle.ss_program.specs.declared.kinds.Owner.{Owner}
+use Rattle.ss_program.specs.declared.kinds.Owner.TheVariants.{System, OwnedBy}
 use Rattle.ss_store.specs.declared.shape.SetShape.{SetShape}
 use Rattle.ss_store.specs.declared.shape.How.{How}
 use Rattle.ss_store.specs.declared.shape.How.TheVariants.{ByRule, First, Last, Before, After}

@@ -4,8 +4,8 @@ use Rattle.std.proofs.Common.{subst, ◌∙◌, slice_get, slice_index_or, Optio
 use Rattle.std.specs.Option.{option_map, option_or}
 use Rattle.ss_links.specs.Board.{list_at}
 use Rattle.ss_links.specs.Seats.{has}
-use Rattle.ss_check.specs.declared.kinds.Owner.{Owner}
-use Rattle.ss_check.specs.declared.kinds.Owner.TheVariants.{System, OwnedBy}
+use Rattle.ss_program.specs.declared.kinds.Owner.{Owner}
+use Rattle.ss_program.specs.declared.kinds.Owner.TheVariants.{System, OwnedBy}
 use Rattle.ss_store.specs.declared.shape.SetShape.{SetShape}
 use Rattle.ss_store.specs.declared.rows.Row.{Row}
 use Rattle.ss_store.specs.Tables.{class_of}

@@ -10,8 +10,8 @@ use Rattle.ss_links.specs.Board.{Board, IsSound, list_at}
 use Rattle.ss_links.specs.Seats.{has, times_in}
 use Rattle.ss_links.proofs.BoardLaws.{times-list_at}
 use Rattle.ss_links.proofs.SeatLaws.{times_in-present}
-use Rattle.ss_check.specs.declared.kinds.Owner.{Owner}
-use Rattle.ss_check.specs.declared.kinds.Owner.TheVariants.{System, OwnedBy}
+use Rattle.ss_program.specs.declared.kinds.Owner.{Owner}
+use Rattle.ss_program.specs.declared.kinds.Owner.TheVariants.{System, OwnedBy}
 use Rattle.ss_store.specs.declared.rows.Row.{Row}
 use Rattle.ss_store.specs.declared.shape.ClassShape.{ClassShape}
 use Rattle.ss_store.specs.declared.shape.SetShape.{SetShape}

@@ -9,8 +9,8 @@ use Rattle.std.specs.List.{list_any}
 use Rattle.ss_links.specs.Board.{Board, list_at, head_of}
 use Rattle.ss_links.specs.Seats.{has, first_of}
 use Rattle.ss_links.proofs.BoardLaws.{head_of-list_at}
-use Rattle.ss_check.specs.declared.kinds.Owner.{Owner}
-use Rattle.ss_check.specs.declared.kinds.Owner.TheVariants.{System, OwnedBy}
+use Rattle.ss_program.specs.declared.kinds.Owner.{Owner}
+use Rattle.ss_program.specs.declared.kinds.Owner.TheVariants.{System, OwnedBy}
 use Rattle.ss_store.specs.declared.rows.Row.{Row}
 use Rattle.ss_store.specs.declared.shape.SetShape.{SetShape}
 use Rattle.ss_store.specs.declared.shape.ClassShape.{ClassShape}

@@ -11,8 +11,8 @@ use Rattle.ss_links.specs.Seats.{has, times_in, put_at, put_before, put_behind, 
 use Rattle.ss_links.proofs.BoardLaws.{head_of-found, head_of-list_at, times-list_at, times-free}
 use Rattle.ss_links.proofs.SeatLaws.{without-put_at, has-put_at, has-put_at_other, has-from_times_in, put_at-last_of}
 use Rattle.ss_links.proofs.SeatLaws.{put_at-seat_before, has-last_of, has-seat_before}
-use Rattle.ss_check.specs.declared.kinds.Discipline.{Discipline}
-use Rattle.ss_check.specs.declared.kinds.Discipline.TheVariants.{Fifo, Lifo, Ranked}
+use Rattle.ss_program.specs.declared.kinds.Discipline.{Discipline}
+use Rattle.ss_program.specs.declared.kinds.Discipline.TheVariants.{Fifo, Lifo, Ranked}
 use Rattle.ss_store.specs.declared.shape.SetShape.{SetShape}
 use Rattle.ss_store.specs.declared.shape.How.{How}
 use Rattle.ss_store.specs.declared.shape.How.TheVariants.{ByRule, First, Last, Before, After}

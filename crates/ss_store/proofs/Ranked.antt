@@ -8,10 +8,10 @@ use Rattle.std.specs.Ordering.{is_gt}
 use Rattle.ss_links.specs.Board.{list_at}
 use Rattle.ss_links.specs.Seats.{has, times_in, put_at}
 use Rattle.ss_links.proofs.SeatLaws.{times_in-present}
-use Rattle.ss_check.specs.declared.keys.Key.{Key}
+use Rattle.ss_program.specs.declared.keys.Key.{Key}
 use Rattle.ss_store.specs.declared.rows.Row.{Row}
 use Rattle.ss_store.specs.declared.shape.SetShape.{SetShape}
-use Rattle.ss_check.specs.Keys.{by_keys, key_values}
+use Rattle.ss_program.specs.Keys.{by_keys, key_values}
 use Rattle.ss_store.specs.Lists.{placed_before}
 use Rattle.ss_store.specs.Rows.{RowTable, EntityTable, rows_in, row_if, living_in, row_of, values_if, values_in}
 use Rattle.ss_store.specs.Rows.{values_of}

@@ -5,8 +5,8 @@ use Rattle.std.proofs.Common.{map, refl, ap, sym, subst, ◌∙◌, arith, slice
 use Rattle.std.proofs.Common.{true, false, cond, eqb→eq, T, set}
 use Rattle.ss_links.specs.Board.{Board, IsSound, list_at}
 use Rattle.ss_links.specs.Seats.{has}
-use Rattle.ss_check.specs.declared.kinds.Owner.{Owner}
-use Rattle.ss_check.specs.declared.kinds.Owner.TheVariants.{System, OwnedBy}
+use Rattle.ss_program.specs.declared.kinds.Owner.{Owner}
+use Rattle.ss_program.specs.declared.kinds.Owner.TheVariants.{System, OwnedBy}
 use Rattle.ss_store.specs.declared.shape.ClassShape.{ClassShape}
 use Rattle.ss_store.specs.declared.shape.SetShape.{SetShape}
 use Rattle.ss_store.specs.declared.rows.Row.{Row}

@@ -9,7 +9,7 @@ use Rattle.ss_links.specs.Seats.{has, put_at, without, seat_before}
 use Rattle.ss_links.proofs.BoardLaws.{head_of-found, head_of-list_at, head_of-free, times-unlinked}
 use Rattle.ss_links.proofs.SeatLaws.{without-absent, put_at-without, has-without_other, has-without, has-seat_before}
 use Rattle.ss_links.proofs.SeatLaws.{has-without-seat_before}
-use Rattle.ss_check.specs.declared.kinds.Owner.{Owner}
+use Rattle.ss_program.specs.declared.kinds.Owner.{Owner}
 use Rattle.ss_store.specs.declared.shape.SetShape.{SetShape}
 use Rattle.ss_store.specs.declared.change.StoreChange.TheVariants.{Filed, Removed}
 use Rattle.ss_store.specs.Tables.{set_of}

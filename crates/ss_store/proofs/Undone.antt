@@ -1,7 +1,7 @@
 -- Changes of sets taken back.
 use Rattle.std.proofs.Common.{◌≡◌, ℕ, refl, ◌∙◌, Option, Some, None}
 use Rattle.std.specs.Option.{IsSome, ForNone, ForSome}
-use Rattle.ss_check.specs.declared.kinds.Owner.{Owner}
+use Rattle.ss_program.specs.declared.kinds.Owner.{Owner}
 use Rattle.ss_store.specs.declared.shape.SetShape.{SetShape}
 use Rattle.ss_store.specs.Change.{FitsFiled, FitsRemoved}
 use Rattle.ss_store.specs.Held.{Held, StoreValue, head_at, seat_at}

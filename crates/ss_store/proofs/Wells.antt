@@ -11,8 +11,8 @@ use Rattle.ss_links.specs.Board.{Board, list_at, head_of, times}
 use Rattle.ss_links.specs.Seats.{has, times_in}
 use Rattle.ss_links.proofs.SeatLaws.{times_in-absent}
 use Rattle.ss_links.proofs.BoardLaws.{head_of-list_at, times-list_at}
-use Rattle.ss_check.specs.declared.kinds.Owner.{Owner}
-use Rattle.ss_check.specs.declared.kinds.Owner.TheVariants.{System, OwnedBy}
+use Rattle.ss_program.specs.declared.kinds.Owner.{Owner}
+use Rattle.ss_program.specs.declared.kinds.Owner.TheVariants.{System, OwnedBy}
 use Rattle.ss_store.specs.declared.rows.Row.{Row}
 use Rattle.ss_store.specs.declared.shape.ClassShape.{ClassShape}
 use Rattle.ss_store.specs.declared.shape.SetShape.{SetShape}

@@ -13,8 +13,8 @@ use Rattle.ss_words.specs.declared.fault.RunFault.TheVariants.{NoEntity}
 use Rattle.ss_store.specs.declared.change.StoreChange.{StoreChange}
 use Rattle.ss_links.specs.Board.{list_at}
 use Rattle.ss_links.specs.Seats.{has}
-use Rattle.ss_check.specs.declared.kinds.Owner.{Owner}
-use Rattle.ss_check.specs.declared.kinds.Owner.TheVariants.{System, OwnedBy}
+use Rattle.ss_program.specs.declared.kinds.Owner.{Owner}
+use Rattle.ss_program.specs.declared.kinds.Owner.TheVariants.{System, OwnedBy}
 use Rattle.ss_store.specs.declared.rows.Row.{Row}
 use Rattle.ss_store.specs.declared.shape.ClassShape.{ClassShape}
 use Rattle.ss_store.specs.declared.shape.SetShape.{SetShape}

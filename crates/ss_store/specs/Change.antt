@@ -6,7 +6,7 @@ use Rattle.ss_words.specs.declared.fault.RunFault.{RunFault}
 use Rattle.ss_words.specs.declared.fault.StepFault.{StepFault}
 use Rattle.ss_words.specs.declared.fault.StepFault.TheVariants.{Fault, Memory}
 use Rattle.ss_links.specs.Seats.{has, put_at, without}
-use Rattle.ss_check.specs.declared.kinds.Owner.{Owner}
+use Rattle.ss_program.specs.declared.kinds.Owner.{Owner}
 use Rattle.ss_store.specs.declared.change.StoreChange.{StoreChange}
 use Rattle.ss_store.specs.declared.change.StoreChange.TheVariants.{Filed, Removed, Created, ClassCreated, AttributeSet}
 use Rattle.ss_store.specs.declared.change.StoreChange.TheVariants.{Ended}

@@ -3,10 +3,10 @@ use Rattle.std.specs.Prelude.{◌≡◌, ℕ, ℤ, pos, false, List, [], ◌∷�
 use Rattle.ss_words.specs.declared.fault.RunFault.{RunFault}
 use Rattle.ss_words.specs.declared.fault.RunFault.TheVariants.{NoEntity, AlreadyInSet, NotInList, EmptySet, EndedInUse}
 use Rattle.ss_words.specs.declared.fault.RunFault.TheVariants.{EndedOwner}
-use Rattle.ss_check.specs.declared.keys.Rank.TheVariants.{High, Low}
-use Rattle.ss_check.specs.declared.kinds.Discipline.{Discipline}
-use Rattle.ss_check.specs.declared.kinds.Discipline.TheVariants.{Fifo, Lifo, Ranked}
-use Rattle.ss_check.specs.declared.kinds.Owner.TheVariants.{System}
+use Rattle.ss_program.specs.declared.keys.Rank.TheVariants.{High, Low}
+use Rattle.ss_program.specs.declared.kinds.Discipline.{Discipline}
+use Rattle.ss_program.specs.declared.kinds.Discipline.TheVariants.{Fifo, Lifo, Ranked}
+use Rattle.ss_program.specs.declared.kinds.Owner.TheVariants.{System}
 use Rattle.ss_store.specs.declared.shape.ClassShape.{ClassShape}
 use Rattle.ss_store.specs.declared.shape.SetShape.{SetShape}
 use Rattle.ss_store.specs.declared.shape.How.{How}

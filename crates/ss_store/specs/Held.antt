@@ -7,10 +7,10 @@ use Rattle.ss_words.specs.declared.fault.RunFault.{RunFault}
 use Rattle.ss_words.specs.declared.fault.RunFault.TheVariants.{NoEntity, NotInList, EmptySet}
 use Rattle.ss_links.specs.Board.{Board, IsSound, list_at, list_of, head_of}
 use Rattle.ss_links.specs.Seats.{has, first_of, last_of, seat_before}
-use Rattle.ss_check.specs.declared.kinds.Owner.{Owner}
-use Rattle.ss_check.specs.declared.kinds.Owner.TheVariants.{System, OwnedBy}
-use Rattle.ss_check.specs.declared.kinds.Discipline.{Discipline}
-use Rattle.ss_check.specs.declared.kinds.Discipline.TheVariants.{Fifo, Lifo, Ranked}
+use Rattle.ss_program.specs.declared.kinds.Owner.{Owner}
+use Rattle.ss_program.specs.declared.kinds.Owner.TheVariants.{System, OwnedBy}
+use Rattle.ss_program.specs.declared.kinds.Discipline.{Discipline}
+use Rattle.ss_program.specs.declared.kinds.Discipline.TheVariants.{Fifo, Lifo, Ranked}
 use Rattle.ss_store.specs.declared.shape.ClassShape.{ClassShape}
 use Rattle.ss_store.specs.declared.shape.SetShape.{SetShape}
 use Rattle.ss_store.specs.declared.shape.How.{How}
@@ -20,9 +20,9 @@ use Rattle.ss_store.specs.declared.shape.Which.TheVariants as which
 use Rattle.ss_store.specs.declared.rows.Row.{Row}
 use Rattle.ss_store.specs.declared.places.Spot.{Spot}
 use Rattle.ss_store.specs.declared.places.Spot.TheVariants as spot
-use Rattle.ss_check.specs.declared.keys.Key.{Key}
+use Rattle.ss_program.specs.declared.keys.Key.{Key}
 use Rattle.std.specs.Ordering.{is_gt}
-use Rattle.ss_check.specs.Keys.{by_keys, key_values}
+use Rattle.ss_program.specs.Keys.{by_keys, key_values}
 use Rattle.ss_store.specs.Tables.{Tables, class_in, class_of}
 use Rattle.ss_store.specs.Store.{Entity, Store, AreInRange, number_of, empty_store, class_limit, reference_limit}
 use Rattle.ss_store.specs.Filing.{or_fault}

@@ -2,7 +2,7 @@
 use Rattle.std.specs.Prelude.{◌≡◌, ℕ, ℤ, pos, zero, suc, ◌-◌, ◌+◌, ◌<◌, ◌≤◌, Bool, true, false, if◌then◌else◌, List, []}
 use Rattle.std.specs.Prelude.{◌∷◌, ◌++◌, length, take, replicate, slice_get, slice_index_or, Option, Some, None}
 use Rattle.ss_links.specs.Board.{Board, list_at, head_of}
-use Rattle.ss_check.specs.declared.kinds.Owner.TheVariants.{OwnedBy}
+use Rattle.ss_program.specs.declared.kinds.Owner.TheVariants.{OwnedBy}
 use Rattle.ss_store.specs.declared.rows.Row.{Row}
 use Rattle.ss_store.specs.declared.shape.ClassShape.{ClassShape}
 use Rattle.ss_store.specs.Lists.{change_at}

@@ -10,8 +10,8 @@ use Rattle.ss_words.specs.declared.fault.RunFault.{RunFault}
 use Rattle.ss_words.specs.declared.fault.RunFault.TheVariants.{NoEntity, EndedInUse, EndedOwner, AlreadyCreated}
 use Rattle.ss_words.specs.declared.fault.RunFault.TheVariants.{CountOutOfRange, TooManyReferences}
 use Rattle.ss_links.specs.Seats.{has}
-use Rattle.ss_check.specs.declared.kinds.Owner.{Owner}
-use Rattle.ss_check.specs.declared.kinds.Owner.TheVariants.{System, OwnedBy}
+use Rattle.ss_program.specs.declared.kinds.Owner.{Owner}
+use Rattle.ss_program.specs.declared.kinds.Owner.TheVariants.{System, OwnedBy}
 use Rattle.ss_store.specs.declared.shape.ClassShape.{ClassShape}
 use Rattle.ss_store.specs.declared.shape.SetShape.{SetShape}
 use Rattle.ss_store.specs.Lists.{change_at}

@@ -1,12 +1,12 @@
 -- What a store needs of a program: its classes and its sets, in order of declaration.
 use Rattle.std.specs.Prelude.{ℕ, ◌==◌, Bool, true, false, List, length, take, map, count_by, slice_get, unwrap_or}
 use Rattle.std.specs.List.{range_with_len}
-use Rattle.ss_check.specs.declared.kinds.ClassKind.{ClassKind}
-use Rattle.ss_check.specs.declared.kinds.ClassKind.TheVariants.{Permanent}
-use Rattle.ss_check.specs.declared.kinds.Discipline.TheVariants.{Fifo}
-use Rattle.ss_check.specs.declared.kinds.Owner.TheVariants.{System, OwnedBy}
-use Rattle.ss_check.specs.Program as program
-use Rattle.ss_check.specs.Program.{SetTable, ProgramTable, owned_among, list_number}
+use Rattle.ss_program.specs.declared.kinds.ClassKind.{ClassKind}
+use Rattle.ss_program.specs.declared.kinds.ClassKind.TheVariants.{Permanent}
+use Rattle.ss_program.specs.declared.kinds.Discipline.TheVariants.{Fifo}
+use Rattle.ss_program.specs.declared.kinds.Owner.TheVariants.{System, OwnedBy}
+use Rattle.ss_program.specs.Program as program
+use Rattle.ss_program.specs.Program.{SetTable, ProgramTable, owned_among, list_number}
 use Rattle.ss_store.specs.declared.shape.ClassShape.{ClassShape}
 use Rattle.ss_store.specs.declared.shape.SetShape.{SetShape}
 

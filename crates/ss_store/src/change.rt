@@ -1,4 +1,4 @@
-use ss_check::Owner;
+use ss_program::Owner;
 
 /// What one call of a [`Store`](crate::Store) changed, enough to take it back.
 #[derive(Drop)]

@@ -11,8 +11,8 @@ ghost use Rattle.ss_links.specs.Board.{head_of, IsSound};
 use crate::ranking::ranked_place;
 use crate::rows::{Entities, Row, Rows};
 use crate::shape::{How, SetShape, Which};
-use ss_check::{Discipline, Owner};
 use ss_links::SetBoard;
+use ss_program::{Discipline, Owner};
 use ss_words::RunFault;
 
 /// The number of the entity that a value names, 0 where it is below 1 and names none.

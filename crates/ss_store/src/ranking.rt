@@ -4,14 +4,14 @@ ghost use Rattle.std.specs.Ordering.{is_gt};
 ghost use Rattle.std.specs.Option.{ForSome};
 ghost use Rattle.ss_links.specs.Board.{list_at, list_of, head_of, IsSound};
 ghost use Rattle.ss_links.specs.Seats.{seat_behind};
-ghost use Rattle.ss_check.specs.Keys.{by_keys, key_values};
+ghost use Rattle.ss_program.specs.Keys.{by_keys, key_values};
 ghost use Rattle.ss_store.specs.Rows as table;
 ghost use Rattle.ss_store.specs.Held.{keys_in, number_at, rank_before, seat_behind_in};
 
 use crate::places::number_of;
 use crate::rows::{Entities, Rows};
-use ss_check::{Key, Keys, Rank};
 use ss_links::SetBoard;
+use ss_program::{Key, Keys, Rank};
 
 /// The values of the attributes of the entity with this index, if it is of this class and has not
 /// ended.

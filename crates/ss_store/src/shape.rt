@@ -1,4 +1,4 @@
-use ss_check::{Discipline, Owner};
+use ss_program::{Discipline, Owner};
 
 /// What is kept of a class: how many attributes its entities have, how many sets they own, in how
 /// many sets they may be, and whether it is permanent.

@@ -1,12 +1,12 @@
 //! What a store keeps of a program.
 ghost use Rattle.std.specs.Prelude.{◌≡◌, ◌<◌, ◌≤◌, IfOk, length, take, slice_get, unwrap_or, map};
 ghost use Rattle.std.specs.List.{range_with_len};
-ghost use Rattle.ss_check.specs.Program.{is_same_owner, owned_among};
+ghost use Rattle.ss_program.specs.Program.{is_same_owner, owned_among};
 ghost use Rattle.ss_store.specs.Tables as pure;
 ghost use Rattle.ss_store.specs.Tables.{joined_among};
 
 use crate::shape::{ClassShape, SetShape};
-use ss_check::{ClassKind, Discipline, Keys, Owner, Program, Set};
+use ss_program::{ClassKind, Discipline, Keys, Owner, Program, Set};
 use std::alloc::{AllocError, Global};
 
 /// Whether two owners are the same.

@@ -2,18 +2,18 @@
 use Rattle.std.specs.Prelude.{ℤ, int_lt, int_le, ◌==◌, Bool, true, false, not, Result, Ok}
 use Rattle.std.specs.Ordering.{int_eq}
 use Rattle.ss_words.specs.declared.fault.RunFault.{RunFault}
-use Rattle.ss_check.specs.declared.condition.Comparison.{Comparison}
-use Rattle.ss_check.specs.declared.condition.Comparison.TheVariants.{Equals, Differs, Below, Above, AtMost, AtLeast}
-use Rattle.ss_check.specs.declared.condition.Copula.{Copula}
-use Rattle.ss_check.specs.declared.condition.Copula.TheVariants.{Is, IsNot}
-use Rattle.ss_check.specs.declared.target.SetRef.{SetRef}
-use Rattle.ss_check.specs.ProgramExpr.{Expr}
+use Rattle.ss_program.specs.declared.condition.Comparison.{Comparison}
+use Rattle.ss_program.specs.declared.condition.Comparison.TheVariants.{Equals, Differs, Below, Above, AtMost, AtLeast}
+use Rattle.ss_program.specs.declared.condition.Copula.{Copula}
+use Rattle.ss_program.specs.declared.condition.Copula.TheVariants.{Is, IsNot}
+use Rattle.ss_program.specs.declared.target.SetRef.{SetRef}
+use Rattle.ss_program.specs.ProgramExpr.{Expr}
 use Rattle.ss_store.specs.Tables.{set_of}
 use Rattle.ss_store.specs.Store.{number_of}
 use Rattle.ss_store.specs.Filing.{count, is_in as member_stands}
-use Rattle.ss_check.specs.ProgramCondition.{Condition, any, Conjunctions, no_conjunctions, or_else, Conjunction, all}
-use Rattle.ss_check.specs.ProgramCondition.{Relations, no_relations, and_also, Relation, compared, is_empty, is_in}
-use Rattle.ss_check.specs.ProgramCondition.{nested}
+use Rattle.ss_program.specs.ProgramCondition.{Condition, any, Conjunctions, no_conjunctions, or_else, Conjunction, all}
+use Rattle.ss_program.specs.ProgramCondition.{Relations, no_relations, and_also, Relation, compared, is_empty, is_in}
+use Rattle.ss_program.specs.ProgramCondition.{nested}
 use Rattle.ss_values.specs.Faults.{◌>>=◌}
 use Rattle.ss_values.specs.Values.{Readings, value_of, subscript_value}
 

@@ -1,6 +1,6 @@
 -- Private: what a view shows, and what is sound about a place for it.
 use Rattle.std.specs.Prelude.{length, map}
-use Rattle.ss_check.specs.ProgramSound.{Scope}
+use Rattle.ss_program.specs.ProgramSound.{Scope}
 use Rattle.ss_store.specs.Held.{StoreValue}
 use Rattle.ss_values.specs.declared.view.View.{View}
 use Rattle.ss_values.specs.Values.{Readings}

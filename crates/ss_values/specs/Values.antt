@@ -9,20 +9,20 @@ use Rattle.ss_words.specs.declared.fault.StepFault.{StepFault}
 use Rattle.ss_words.specs.declared.fault.StepFault.TheVariants.{Fault, Memory}
 use Rattle.ss_words.specs.declared.term_sign.TermSign.{TermSign}
 use Rattle.ss_words.specs.declared.term_sign.TermSign.TheVariants.{Plus, Minus}
-use Rattle.ss_check.specs.declared.sum.OwnerKept.{OwnerKept}
-use Rattle.ss_check.specs.declared.sum.OwnerKept.TheVariants.{First, Last, Count}
-use Rattle.ss_check.specs.declared.sum.MemberKept.{MemberKept}
-use Rattle.ss_check.specs.declared.sum.MemberKept.TheVariants.{Predecessor, Successor, Membership}
-use Rattle.ss_check.specs.declared.place.Assign.{Assign}
-use Rattle.ss_check.specs.declared.place.Assign.TheVariants.{Let, Add, Subtract}
-use Rattle.ss_check.specs.declared.target.Target.{Target}
-use Rattle.ss_check.specs.declared.target.Target.TheVariants.{Variable, Attribute}
-use Rattle.ss_check.specs.declared.variable.Variable.{Variable as AVariable}
-use Rattle.ss_check.specs.declared.variable.Variable.TheVariants.{Global, Local, Clock}
-use Rattle.ss_check.specs.ProgramExpr.{Expr, expr, Sums, no_sums, sum, Term, term, Products, no_products, product}
-use Rattle.ss_check.specs.ProgramExpr.{Factor, digits, variable, absolute, greatest, least, quotient, remainder}
-use Rattle.ss_check.specs.ProgramExpr.{attribute, owner_kept, member_kept, within, Subscript, implied, of_system, at}
-use Rattle.ss_check.specs.ProgramExpr.{Exprs, no_exprs, exprs}
+use Rattle.ss_program.specs.declared.sum.OwnerKept.{OwnerKept}
+use Rattle.ss_program.specs.declared.sum.OwnerKept.TheVariants.{First, Last, Count}
+use Rattle.ss_program.specs.declared.sum.MemberKept.{MemberKept}
+use Rattle.ss_program.specs.declared.sum.MemberKept.TheVariants.{Predecessor, Successor, Membership}
+use Rattle.ss_program.specs.declared.place.Assign.{Assign}
+use Rattle.ss_program.specs.declared.place.Assign.TheVariants.{Let, Add, Subtract}
+use Rattle.ss_program.specs.declared.target.Target.{Target}
+use Rattle.ss_program.specs.declared.target.Target.TheVariants.{Variable, Attribute}
+use Rattle.ss_program.specs.declared.variable.Variable.{Variable as AVariable}
+use Rattle.ss_program.specs.declared.variable.Variable.TheVariants.{Global, Local, Clock}
+use Rattle.ss_program.specs.ProgramExpr.{Expr, expr, Sums, no_sums, sum, Term, term, Products, no_products, product}
+use Rattle.ss_program.specs.ProgramExpr.{Factor, digits, variable, absolute, greatest, least, quotient, remainder}
+use Rattle.ss_program.specs.ProgramExpr.{attribute, owner_kept, member_kept, within, Subscript, implied, of_system, at}
+use Rattle.ss_program.specs.ProgramExpr.{Exprs, no_exprs, exprs}
 use Rattle.ss_values.specs.Faults.{◌>>=◌, ◌>>◌, refuse_if}
 use Rattle.ss_store.specs.Tables.{Tables, set_of}
 use Rattle.ss_store.specs.Store.{Store, number_of, attribute_of}

@@ -1,14 +1,14 @@
 ghost use Rattle.std.specs.Prelude.{◌≡◌};
-ghost use Rattle.ss_check.specs.ProgramCondition.{condition_of, conjunction_of, relation_of};
-ghost use Rattle.ss_check.specs.ProgramSound.{IsSoundCondition, IsSoundConjunction, IsSoundRelation, IsSoundExpr};
-ghost use Rattle.ss_check.specs.ProgramSound.{IsSoundSetRef};
+ghost use Rattle.ss_program.specs.ProgramCondition.{condition_of, conjunction_of, relation_of};
+ghost use Rattle.ss_program.specs.ProgramSound.{IsSoundCondition, IsSoundConjunction, IsSoundRelation, IsSoundExpr};
+ghost use Rattle.ss_program.specs.ProgramSound.{IsSoundSetRef};
 ghost use Rattle.ss_values.specs.Conditions as conditions;
 ghost use Rattle.ss_values.specs.Seen.{view_readings, InView};
 
 use crate::evaluation::{subscript_seen, value_seen};
 use crate::view::View;
-use ss_check::{Comparison, Condition, Conjunction, Copula, Disjunction, Expr, Relation, SetRef};
 use ss_links::SetBoard;
+use ss_program::{Comparison, Condition, Conjunction, Copula, Disjunction, Expr, Relation, SetRef};
 use ss_words::RunFault;
 
 fn compare(comparison: Comparison, x: i64, y: i64) -> bool

@@ -1,19 +1,19 @@
 ghost use Rattle.std.specs.Prelude.{◌≡◌, ◌<◌, ℤ, pos, neg_ℤ, ◌+ℤ◌, ◌-ℤ◌, ◌*ℤ◌, unsigned_abs, length, Ok, OnOk, IfErr};
-ghost use Rattle.ss_check.specs.ProgramExpr.{expr_of, arguments_of, term_of, factor_of, subscript_of};
-ghost use Rattle.ss_check.specs.ProgramExpr as tree;
-ghost use Rattle.ss_check.specs.ProgramSound.{IsSoundVariable, IsSoundExpr, IsSoundTerm, IsSoundFactor};
-ghost use Rattle.ss_check.specs.ProgramSound.{IsSoundSubscript};
-ghost use Rattle.ss_check.specs.ProgramSound.{AreSoundArguments, AreSoundExprs, IsTarget, IsSoundAssign};
+ghost use Rattle.ss_program.specs.ProgramExpr.{expr_of, arguments_of, term_of, factor_of, subscript_of};
+ghost use Rattle.ss_program.specs.ProgramExpr as tree;
+ghost use Rattle.ss_program.specs.ProgramSound.{IsSoundVariable, IsSoundExpr, IsSoundTerm, IsSoundFactor};
+ghost use Rattle.ss_program.specs.ProgramSound.{IsSoundSubscript};
+ghost use Rattle.ss_program.specs.ProgramSound.{AreSoundArguments, AreSoundExprs, IsTarget, IsSoundAssign};
 ghost use Rattle.ss_values.specs.Values.{result_in_range, with_sign, sum_or_difference, value_of, values_of, FaultIs};
 ghost use Rattle.ss_values.specs.Values as terms;
 ghost use Rattle.ss_values.specs.Seen.{view_readings, InView};
 
 use crate::view::View;
-use ss_check::{
+use ss_links::SetBoard;
+use ss_program::{
     Arguments, Assign, Expr, Factor, Index, MemberKept, OwnerKept, Subscript, Sum, Target, Term,
     TermSign, Values, Variable,
 };
-use ss_links::SetBoard;
 use ss_words::{RunFault, StepFault};
 
 /// A sum, or F1.

@@ -3,8 +3,8 @@ ghost use Rattle.std.specs.Prelude.{◌≡◌, IfOk};
 ghost use Rattle.ss_links.specs.Board.{empty_board};
 ghost use Rattle.model_tests.specs.Ground.{ground_class, ground_classes, ground_set, AreGroundSets, IsGround};
 
-use ss_check::{Discipline, Key, Keys, Owner, Rank};
 use ss_links::SetBoard;
+use ss_program::{Discipline, Key, Keys, Owner, Rank};
 use ss_store::{ClassShape, SetShape, Store};
 use std::alloc::{AllocError, Global};
 

@@ -1,6 +1,6 @@
 use Rattle.std.proofs.Common.{◌≡◌, rules}
-use Rattle.ss_check.specs.Program.{class_of}
-use Rattle.ss_check.specs.ProgramSound.{IsSound}
+use Rattle.ss_program.specs.Program.{class_of}
+use Rattle.ss_program.specs.ProgramSound.{IsSound}
 use Rattle.ss_debug.proofs.Classes.{class_variable_there}
 use Rattle.ss_debug.proofs.set_text.class_value.Goals as goal
 

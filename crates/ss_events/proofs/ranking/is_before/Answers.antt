@@ -4,7 +4,7 @@ use Rattle.std.specs.Prelude.{int_lt}
 use Rattle.std.proofs.lemmas.Bool.Decides.{nat_tests}
 use Rattle.std.proofs.lemmas.Int.{ints, to_z-of_z}
 use Rattle.std.proofs.lemmas.List.{length-map, get_or-map}
-use Rattle.ss_check.specs.declared.keys.Key.{Key}
+use Rattle.ss_program.specs.declared.keys.Key.{Key}
 use Rattle.ss_events.specs.declared.entry.ClassRule.{ClassRule}
 use Rattle.ss_events.specs.declared.entry.Entry.{Entry}
 use Rattle.ss_events.specs.Rules.{Rule, rule_at}

@@ -1,5 +1,5 @@
 use Rattle.std.proofs.Common.{◌≡◌, drop}
-use Rattle.ss_check.specs.ProgramSound.{AreSoundQualifiers}
+use Rattle.ss_program.specs.ProgramSound.{AreSoundQualifiers}
 use Rattle.ss_machine.specs.Loops.{verdict_of}
 use Rattle.ss_values.specs.Seen.{view_readings, InView}
 use Rattle.ss_machine.proofs.candidates.verdict.Given as goal

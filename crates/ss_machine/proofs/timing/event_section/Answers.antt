@@ -1,6 +1,6 @@
 use Rattle.std.proofs.Common.{◌≡◌, ◌<◌, length, rules, ap}
-use Rattle.ss_check.specs.EventTable.{EventTable}
-use Rattle.ss_check.specs.Program.{event_of}
+use Rattle.ss_program.specs.EventTable.{EventTable}
+use Rattle.ss_program.specs.Program.{event_of}
 use Rattle.ss_machine.proofs.Sounds.{event_there, given_few}
 use Rattle.ss_machine.proofs.timing.event_section.Goals as goal
 

@@ -1,6 +1,6 @@
 use Rattle.std.proofs.Common.{ap, sym, ◌∙◌, ◌+◌, arith}
 use Rattle.std.specs.Option.{option_map}
-use Rattle.ss_check.specs.declared.kinds.Owner.{Owner}
+use Rattle.ss_program.specs.declared.kinds.Owner.{Owner}
 use Rattle.ss_store.specs.declared.rows.Row.{Row}
 use Rattle.ss_store.specs.Held.{head_by}
 use Rattle.ss_store.proofs.places.head_of.Goals as goal

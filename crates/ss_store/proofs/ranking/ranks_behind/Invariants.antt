@@ -1,5 +1,5 @@
 use Rattle.std.proofs.Common.{◌≡◌, drop}
-use Rattle.ss_check.specs.Keys.{by_keys, key_values}
+use Rattle.ss_program.specs.Keys.{by_keys, key_values}
 use Rattle.ss_store.proofs.ranking.ranks_behind.Given as goal
 
 -- the keys that are left tell them apart as all do

@@ -1,5 +1,5 @@
 use Rattle.std.proofs.Common.{◌≡◌, ◌≤◌, take}
-use Rattle.ss_check.specs.Program.{owned_among}
+use Rattle.ss_program.specs.Program.{owned_among}
 use Rattle.ss_store.proofs.tables.count_owned.Given as goal
 
 -- those that were passed are counted

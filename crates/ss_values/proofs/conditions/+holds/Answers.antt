@@ -1,6 +1,6 @@
 use Rattle.std.proofs.Common as usual
 use Rattle.std.proofs.lemmas.Grind as steps
-use Rattle.ss_check.specs.declared.condition.Relation.TheFolds as folds
+use Rattle.ss_program.specs.declared.condition.Relation.TheFolds as folds
 use Rattle.ss_values.proofs.conditions.+holds.Goals as goal
 
 -- what the tactics show late, by the one that shows it

@@ -1,7 +1,7 @@
 use Rattle.std.proofs.Common.{◌≡◌, drop}
 use Rattle.std.specs.Prelude.{map}
-use Rattle.ss_check.specs.ProgramCondition.{condition_of, conjunction_of, relation_of, conjunctions_of, relations_of}
-use Rattle.ss_check.specs.ProgramSound.{AreSoundConjunctions, AreSoundRelations}
+use Rattle.ss_program.specs.ProgramCondition.{condition_of, conjunction_of, relation_of, conjunctions_of, relations_of}
+use Rattle.ss_program.specs.ProgramSound.{AreSoundConjunctions, AreSoundRelations}
 use Rattle.ss_values.specs.Conditions.{holds, any_holds, conjunction_holds, all_hold}
 use Rattle.ss_values.specs.Seen.{view_readings, InView}
 use Rattle.ss_values.proofs.conditions.+holds.Given as goal

@@ -1,7 +1,7 @@
 use Rattle.std.proofs.Common as usual
 use Rattle.std.proofs.lemmas.Grind as steps
 use borrow.Author.Tests as branches
-use Rattle.ss_check.specs.declared.sum.Factor.TheFolds as folds
+use Rattle.ss_program.specs.declared.sum.Factor.TheFolds as folds
 use Rattle.ss_values.proofs.evaluation.+value.Goals as goal
 
 -- what the tactics show late, by the one that shows it

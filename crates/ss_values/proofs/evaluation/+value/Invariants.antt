@@ -1,8 +1,8 @@
 use Rattle.std.proofs.Common.{◌≡◌, drop}
 use Rattle.std.specs.Prelude.{map}
-use Rattle.ss_check.specs.ProgramExpr.{expr_of, exprs_of, arguments_of, term_of, factor_of, signed_of, sums_of}
-use Rattle.ss_check.specs.ProgramExpr.{products_of, greatest, least}
-use Rattle.ss_check.specs.ProgramSound.{IsSoundSums, IsSoundProducts, AreSoundArguments}
+use Rattle.ss_program.specs.ProgramExpr.{expr_of, exprs_of, arguments_of, term_of, factor_of, signed_of, sums_of}
+use Rattle.ss_program.specs.ProgramExpr.{products_of, greatest, least}
+use Rattle.ss_program.specs.ProgramSound.{IsSoundSums, IsSoundProducts, AreSoundArguments}
 use Rattle.ss_values.specs.Values.{value_of, sums_value, term_value, products_value, factor_value, greatest_value}
 use Rattle.ss_values.specs.Values.{least_value}
 use Rattle.ss_values.specs.Seen.{view_readings, scope_of}

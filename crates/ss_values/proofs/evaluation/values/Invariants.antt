@@ -1,5 +1,5 @@
 use Rattle.std.proofs.Common.{◌≡◌, ◌++◌, drop, Ok}
-use Rattle.ss_check.specs.ProgramSound.{AreSoundExprs}
+use Rattle.ss_program.specs.ProgramSound.{AreSoundExprs}
 use Rattle.ss_values.specs.Faults.{◌>>=◌}
 use Rattle.ss_values.specs.Values.{values_of}
 use Rattle.ss_values.specs.Seen.{view_readings, scope_of}

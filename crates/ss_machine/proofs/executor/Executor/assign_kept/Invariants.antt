@@ -1,5 +1,5 @@
 use Rattle.std.proofs.Common.{◌≡◌, ◌+◌, drop}
-use Rattle.ss_check.specs.ProgramSound.{AreTargets}
+use Rattle.ss_program.specs.ProgramSound.{AreTargets}
 use Rattle.ss_machine.specs.Noting.{Notes}
 use Rattle.ss_machine.specs.Seen.{scope_held}
 use Rattle.ss_machine.specs.Step.{state_with_values}

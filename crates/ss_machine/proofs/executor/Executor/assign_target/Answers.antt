@@ -1,7 +1,7 @@
 use Rattle.std.proofs.Common.{◌≡◌, rules, w64, FitsSigned, to_z, of_z, Ok, Err}
 use Rattle.std.proofs.lemmas.Int.{to_z-of_z}
 use Rattle.ss_words.specs.declared.fault.RunFault.{RunFault}
-use Rattle.ss_check.specs.declared.target.Target.TheVariants.{Attribute}
+use Rattle.ss_program.specs.declared.target.Target.TheVariants.{Attribute}
 use Rattle.ss_values.specs.Values.{subscript_value}
 use Rattle.ss_machine.specs.Readings.{readings}
 use Rattle.ss_machine.proofs.Storings.{refusal_is, storing_is}

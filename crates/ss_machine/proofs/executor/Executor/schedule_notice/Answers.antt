@@ -2,7 +2,7 @@ use Rattle.std.proofs.Common.{◌≡◌, ◌≤◌, ◌+◌, ap, arith, length, 
 use Rattle.std.specs.Prelude.{map}
 use Rattle.std.proofs.lemmas.Int.{to_z-of_z}
 use Rattle.ss_words.specs.declared.fault.StepFault.{StepFault}
-use Rattle.ss_check.specs.Program.{event_of}
+use Rattle.ss_program.specs.Program.{event_of}
 use Rattle.ss_values.specs.Values.{FaultIs}
 use Rattle.ss_machine.specs.Held.{Held}
 use Rattle.ss_machine.specs.Step.{attributes_now, tie_attributes}

@@ -1,6 +1,6 @@
 use Rattle.std.proofs.Common.{◌≡◌, ℕ, Option, Some, rules, sym, subst}
 use Rattle.std.specs.Option.{option_map}
-use Rattle.ss_check.specs.ProgramSound.{IsEventClass}
+use Rattle.ss_program.specs.ProgramSound.{IsEventClass}
 use Rattle.ss_events.specs.Rules.{rules_of}
 use Rattle.ss_events.specs.Agenda.{least}
 use Rattle.ss_events.specs.Slots.{slot_of}

@@ -2,8 +2,8 @@ use Rattle.std.proofs.Common.{◌≡◌, ◌<◌, ◌≤◌, ◌^◌, pos, lengt
 use Rattle.std.specs.List.{range_with_len}
 use Rattle.std.proofs.lemmas.Int.{to_z-of_z}
 use Rattle.std.proofs.lemmas.List.FromFn.{length-range_with_len}
-use Rattle.ss_check.specs.Program.{class_of, section_of}
-use Rattle.ss_check.specs.declared.variable.Variable.TheVariants.{Global}
+use Rattle.ss_program.specs.Program.{class_of, section_of}
+use Rattle.ss_program.specs.declared.variable.Variable.TheVariants.{Global}
 use Rattle.ss_store.specs.Tables.{tables_of}
 use Rattle.ss_machine.specs.State.{State}
 use Rattle.ss_machine.proofs.Sounds.{section_found}

@@ -1,0 +1,195 @@
+-- What a table of facts finds, and what it is after one more fact.
+use Rattle.std.proofs.Common.{◌≡◌, ◌≤◌, ◌+◌, suc, ◌||◌, ℕ, Bool, true, false, not, cond, List, [], ◌∷◌, ◌++◌, length, Option, Some, None, refl, sym, ap, ◌∙◌, nat_lt, ◌==◌, arith, subst, append_assoc}
+use Rattle.std.specs.Prelude.{bytes_eq, option_map, position, is_some, slice_get}
+use Rattle.std.specs.List.{find, position_or_len}
+use Rattle.std.specs.Option.{option_or}
+use Rattle.std.specs.Global.{Vec}
+use Rattle.std.specs.BTreeMap.{BTreeMap, UpdatesBy}
+use Rattle.std.specs.Cmp.Lexicographic.{slice_cmp}
+use Rattle.std.specs.Ordering.{nat_cmp}
+use Rattle.std.proofs.lemmas.Bool.{ltb-false}
+use Rattle.std.proofs.lemmas.Grind.{common_steps}
+use Rattle.std.proofs.lemmas.List.{length-append}
+use Rattle.std.proofs.lemmas.List.Folds.{position_or_len_push}
+use Rattle.std.proofs.lemmas.Option.{slice_get_past}
+use Rattle.std.proofs.lemmas.Slice.Eq.{bytes_eq-Decides}
+use Rattle.ss_words.specs.Lists.{Name}
+use Rattle.ss_program.specs.Indexed.{IsIndex, entry_of}
+use Rattle.ss_program.proofs.Indexed.{index_at, index_more, none_is}
+use Rattle.ss_program.proofs.Mains.{found_first, found_none, position_or_len-le}
+use Rattle.ss_check.specs.declared.declared.fact.Fact.{Fact}
+use Rattle.ss_check.specs.Facts.{fact_of, is_among, names_of, repeats}
+
+-- ---- lists
+
+-- nothing behind a list
+pub append_none : {A : Type 0} (xs : List A) → xs ++ [] ≡ xs
+append_none [] = refl
+append_none (x ∷ xs) = ap (λ ys. x ∷ ys) (append_none xs)
+
+-- or false
+pub or_none : (b : Bool) → (b || false) ≡ b
+or_none true = refl
+or_none false = refl
+
+-- or true
+pub or_all : (b : Bool) → (b || true) ≡ true
+or_all true = refl
+or_all false = refl
+
+-- or is associative
+pub or_assoc : (a b c : Bool) → (a || (b || c)) ≡ ((a || b) || c)
+or_assoc true b c = refl
+or_assoc false b c = refl
+
+-- the names of facts with one more behind them
+pub names_of_push : {A : Type 0} (fs : List (Fact A)) (f : Fact A) →
+    names_of (fs ++ f ∷ []) ≡ names_of fs ++ f.name ∷ []
+names_of_push [] f = refl
+names_of_push (g ∷ gs) f = ap (λ ns. g.name ∷ ns) (names_of_push gs f)
+
+-- there are as many names as facts
+pub names_length : {A : Type 0} (fs : List (Fact A)) → length (names_of fs) ≡ length fs
+names_length [] = refl
+names_length (f ∷ fs) = ap suc (names_length fs)
+
+-- ---- finding
+
+get_behind : {X : Type 0} (x : X) (xs : List X) (k : ℕ) → slice_get (x ∷ xs) (1 + k) ≡ slice_get xs k
+get_behind x xs k =
+    let z : 1 + k ≡ suc k = omega arith in
+    ap (λ (i : ℕ). slice_get (x ∷ xs) i) z
+
+-- what stands at the place of a name is its first fact
+pub fact_at : {A : Type 0} (n : Name) (fs : List (Fact A)) →
+    option_map (λ f. f.what) (slice_get fs (position_or_len (bytes_eq n) (names_of fs))) ≡ fact_of fs n
+fact_at n [] = refl
+fact_at {A = A} n (f ∷ fs) = at (bytes_eq n f.name) (fact_at n fs)
+  where
+    at : (b : Bool) → option_map (λ f. f.what) (slice_get fs (position_or_len (bytes_eq n) (names_of fs)))
+        ≡ fact_of fs n →
+        option_map {T = Fact A} (λ f. f.what)
+        (slice_get (f ∷ fs) (cond (not b) (1 + position_or_len (bytes_eq n) (names_of fs)) 0))
+        ≡ option_map (λ f. f.what) (cond b (Some f) (find (λ g. bytes_eq n g.name) fs))
+    at true h = refl
+    at false h = ap (option_map (λ f. f.what)) (get_behind f fs (position_or_len (bytes_eq n) (names_of fs))) ∙ h
+
+-- the fact at the place of a name
+pub fact_found : {A : Type 0} (n : Name) (fs : List (Fact A)) (i : ℕ) (f : Fact A) →
+    i ≡ position_or_len (bytes_eq n) (names_of fs) → slice_get fs i ≡ Some f → Some f.what ≡ fact_of fs n
+fact_found n fs i f p e = sym (ap (option_map (λ g. g.what)) (ap (slice_get fs) (sym p) ∙ e)) ∙ fact_at n fs
+
+-- a name whose place is past the facts has none
+pub fact_none : {A : Type 0} (n : Name) (fs : List (Fact A)) (i : ℕ) →
+    i ≡ position_or_len (bytes_eq n) (names_of fs) → nat_lt i (length fs) ≡ false → None ≡ fact_of fs n
+fact_none n fs i p e =
+    sym (ap (option_map (λ g. g.what)) (ap (slice_get fs) (sym p)
+    ∙ slice_get_past fs i (ltb-false i (length fs) e))) ∙ fact_at n fs
+
+any_cons : (b c : Bool) (i l : ℕ) → c ≡ nat_lt i l → (b || c) ≡ nat_lt (cond (not b) (1 + i) 0) (suc l)
+any_cons true c i l e = grind (arith, common_steps)
+any_cons false c i l e = grind (arith, common_steps, e)
+
+any_place : (n : Name) (ns : List Name) → is_among n ns ≡ nat_lt (position_or_len (bytes_eq n) ns) (length ns)
+any_place n [] = refl
+any_place n (m ∷ ms) = any_cons (bytes_eq n m) (is_among n ms) (position_or_len (bytes_eq n) ms) (length ms)
+    (any_place n ms)
+
+-- a name has a fact where its place is before the end
+pub among_at : {A : Type 0} (n : Name) (fs : List (Fact A)) (i l : ℕ) →
+    i ≡ position_or_len (bytes_eq n) (names_of fs) → l ≡ length fs → nat_lt i l ≡ is_among n (names_of fs)
+among_at n fs i l p e = rw (p, e, sym (names_length fs)) (sym (any_place n (names_of fs)))
+
+-- the place of a name by a map that tells it
+pub place_some : (ns : List Name) (m : BTreeMap (Vec ℕ) ℕ) (n : Name) (i : ℕ) → IsIndex ns m → Some i ≡ entry_of m n →
+    i ≡ position_or_len (bytes_eq n) ns
+place_some ns m n i h e = found_first (bytes_eq n) ns i (e ∙ index_at ns m n h)
+
+-- the place of a name of which it tells nothing
+pub place_none : (ns : List Name) (m : BTreeMap (Vec ℕ) ℕ) (n : Name) → IsIndex ns m → None ≡ entry_of m n →
+    length ns ≡ position_or_len (bytes_eq n) ns
+place_none ns m n h e = found_none (bytes_eq n) ns (e ∙ index_at ns m n h)
+
+-- ---- one more fact
+
+some_if : (b : Bool) (i : ℕ) → is_some (cond b (Some i) None) ≡ b
+some_if true i = refl
+some_if false i = refl
+
+any_is : (ns : List Name) (n : Name) → is_among n ns ≡ is_some (position (bytes_eq n) ns)
+any_is ns n = any_place n ns ∙ sym (some_if _ _)
+
+push_place : (a l : ℕ) (b : Bool) → a ≤ l →
+    cond (nat_lt (cond (a == l) (l + cond b 0 1) a) (l + 1)) (Some (cond (a == l) (l + cond b 0 1) a)) None
+    ≡ option_or (cond (nat_lt a l) (Some a) None) (cond b (Some l) None)
+push_place a l true h = grind (arith, common_steps, h)
+push_place a l false h = grind (arith, common_steps, h)
+
+position_push : (p : Name → Bool) (xs : List Name) (y : Name) →
+    position p (xs ++ y ∷ []) ≡ option_or (position p xs) (cond (p y) (Some (length xs)) None)
+position_push p xs y =
+    rw (position_or_len_push p xs y, length-append xs (y ∷ []))
+    (push_place (position_or_len p xs) (length xs) (p y) (position_or_len-le p xs))
+
+or_none_option : (o : Option ℕ) → option_or o None ≡ o
+or_none_option None = refl
+or_none_option (Some i) = refl
+
+or_some : (o p : Option ℕ) → is_some o ≡ true → option_or o p ≡ o
+or_some (Some i) p h = refl
+or_some None p h = cc
+
+kept : (ns : List Name) (n b : Name) → is_among n ns ≡ true → (e : Bool) → bytes_eq b n ≡ e →
+    option_or (position (bytes_eq b) ns) (cond e (Some (length ns)) None) ≡ position (bytes_eq b) ns
+kept ns n b t false e = or_none_option (position (bytes_eq b) ns)
+kept ns n b t true e =
+    or_some (position (bytes_eq b) ns) (Some (length ns))
+    (subst (λ (c : Name). is_some (position (bytes_eq c) ns) ≡ true) (sym ((bytes_eq-Decides b n).0 e))
+    (sym (any_is ns n) ∙ t))
+
+kept_push : (ns : List Name) (m : BTreeMap (Vec ℕ) ℕ) (n : Name) → is_among n ns ≡ true → IsIndex ns m →
+    IsIndex (ns ++ n ∷ []) m
+unfolding IsIndex
+kept_push ns m n t h b = h b ∙ sym (position_push (bytes_eq b) ns n ∙ kept ns n b t (bytes_eq b n) refl)
+
+-- a map stays right behind a second fact of a name
+pub index_again : {A : Type 0} (fs : List (Fact A)) (f : Fact A) (m : BTreeMap (Vec ℕ) ℕ) →
+    is_among f.name (names_of fs) ≡ true → IsIndex (names_of fs) m → IsIndex (names_of (fs ++ f ∷ [])) m
+index_again fs f m t h = rw (names_of_push fs f) (kept_push (names_of fs) m f.name t h)
+
+-- a map with the place of the first fact of a name
+pub index_first : {A : Type 0} (fs : List (Fact A)) (f : Fact A) (m n : BTreeMap (Vec ℕ) ℕ) (k : Vec ℕ) (l : ℕ) →
+    k.items ≡ f.name →
+    l ≡ length fs → UpdatesBy (λ x y. slice_cmp nat_cmp x.items y.items)
+    (λ y. slice_cmp nat_cmp k.items y.items) m n (Some l) →
+    is_among f.name (names_of fs) ≡ false → IsIndex (names_of fs) m → IsIndex (names_of (fs ++ f ∷ [])) n
+index_first fs f m n k l e s u t h =
+    let ns = names_of fs in
+    let size : l ≡ length ns = s ∙ sym (names_length fs) in
+    let v = subst (λ (i : ℕ). UpdatesBy (λ x y. slice_cmp nat_cmp x.items y.items)
+    (λ y. slice_cmp nat_cmp k.items y.items) m n (Some i)) size u in
+    let none : position (bytes_eq k.items) ns
+    ≡ None = rw e (none_is (position (bytes_eq f.name) ns) (sym (any_is ns f.name) ∙ t)) in
+    rw (names_of_push fs f, sym e) (index_more ns m n k v none h)
+
+-- a name behind others repeats one where one of them is repeated or the name is among them
+repeats_push : (before ns : List Name) (n : Name) →
+    repeats before (ns ++ n ∷ []) ≡ (repeats before ns || is_among n (before ++ ns))
+repeats_push before [] n = or_none (is_among n before)
+    ∙ ap (λ (ms : List Name). is_among n ms) (sym (append_none before))
+repeats_push before (m ∷ ms) n =
+    ap (λ (b : Bool). is_among m before || b) (repeats_push (before ++ m ∷ []) ms n)
+    ∙ rw (append_assoc before (m ∷ []) ms) (or_assoc (is_among m before) (repeats (before ++ m ∷ []) ms)
+    (is_among n (before ++ m ∷ ms)))
+
+-- behind a second fact of a name there is a repeat
+pub repeats_again : {A : Type 0} (fs : List (Fact A)) (f : Fact A) → is_among f.name (names_of fs) ≡ true →
+    true ≡ repeats [] (names_of (fs ++ f ∷ []))
+repeats_again fs f t = rw (names_of_push fs f, repeats_push [] (names_of fs) f.name, t)
+    (sym (or_all (repeats [] (names_of fs))))
+
+-- behind the first fact of a name there is one where there was one
+pub repeats_first : {A : Type 0} (fs : List (Fact A)) (f : Fact A) (b : Bool) → is_among f.name (names_of fs) ≡ false →
+    b ≡ repeats [] (names_of fs) → b ≡ repeats [] (names_of (fs ++ f ∷ []))
+repeats_first fs f b t h = rw (names_of_push fs f, repeats_push [] (names_of fs) f.name, t) (h
+    ∙ sym (or_none (repeats [] (names_of fs))))

@@ -1,0 +1,218 @@
+-- The first breach of statements one behind the other.
+use Rattle.std.proofs.Common.{◌≡◌, ℕ, Bool, true, false, not, List, [], ◌∷◌, ◌++◌, refl, sym, ap, subst, ◌∙◌, Option, Some, None}
+use Rattle.std.specs.Prelude.{map, option_map, unwrap_or, Result, Ok, Err, IfOk, IfErr, OnOk}
+use Rattle.std.specs.List.{list_any}
+use Rattle.std.specs.Option.{option_or}
+use Rattle.ss_preamble.specs.Tree.{Decls}
+use Rattle.ss_routines.specs.Tree.{Head}
+use Rattle.ss_routines.specs.Places.{Section}
+use Rattle.ss_check.specs.declared.fault.CheckRule.{CheckRule}
+use Rattle.ss_check.specs.declared.fault.CheckRule.TheVariants.{WrongMain}
+use Rattle.ss_check.specs.declared.fault.CheckFault.{CheckFault}
+use Rattle.ss_check.specs.declared.fault.CheckFault.TheVariants.{Broken, Memory}
+use Rattle.ss_check.specs.declared.declared.tables.Tables.{Tables}
+use Rattle.ss_check.specs.Adding.{items_breach, locals_breach, places_breach, section_breach, sections_breach, with_entries, with_head}
+use Rattle.ss_check.specs.Breach.{breach, end_statement, item_statements, last_end, section_statements, sections_statements}
+use Rattle.ss_check.specs.Declarations.{Entry, entries, is_main, tables, tables_of}
+use Rattle.ss_check.specs.ItemRules.{head_rule, head_statement, item_statement, local_statement}
+use Rattle.ss_check.specs.PlaceRules.{place_statements}
+use Rattle.ss_check.specs.Statements.{IsBreach, Statement, breach_of, broken, first_breach}
+use Rattle.ss_check.proofs.Filling.{entries_more, entry_more, head_more}
+use Rattle.ss_check.proofs.Tests.{any_map}
+
+option_or-assoc : {T : Type 0} (a b c : Option T) → option_or (option_or a b) c ≡ option_or a (option_or b c)
+option_or-assoc None b c = refl
+option_or-assoc (Some x) b c = refl
+
+-- of two lists the first one's, else the second one's
+pub first_breach-append : (xs ys : List Statement) →
+    first_breach (xs ++ ys) ≡ option_or (first_breach xs) (first_breach ys)
+first_breach-append [] ys = refl
+first_breach-append (x ∷ xs) ys =
+    ap (option_or (breach_of x)) (first_breach-append xs ys)
+    ∙ sym (option_or-assoc (breach_of x) (first_breach xs) (first_breach ys))
+
+-- items behind others
+items_bridge : (d : Tables) (before xs : List Entry) →
+    items_breach d (tables_of before []) xs ≡ first_breach (item_statements d before xs)
+unfolding items_breach
+items_bridge d before [] = refl
+items_bridge d before (x ∷ xs) =
+    ap (option_or (breach_of (item_statement d (tables_of before []) x)))
+    (ap (λ (t : Tables). items_breach d t xs) (sym (entry_more before x)) ∙ items_bridge d (before ++ x ∷ []) xs)
+
+-- a section behind items and other heads
+section_bridge : (d b : Tables) (s : Section) → section_breach d b s ≡ first_breach (section_statements d b s)
+unfolding section_breach locals_breach places_breach
+section_bridge d b s =
+    ap (option_or (breach_of (head_statement d b s)))
+    (sym (first_breach-append (map (local_statement d) s.locals) (place_statements d (is_main s.head) false s.places)))
+
+-- sections behind items and other heads
+sections_bridge : (d : Tables) (xs : List Entry) (before : List Head) (ss : List Section) →
+    sections_breach d (tables_of xs before) ss ≡ first_breach (sections_statements d xs before ss)
+unfolding sections_breach
+sections_bridge d xs before [] = refl
+sections_bridge d xs before (s ∷ ss) =
+    ap (λ (b : Option (CheckRule × ℕ)). option_or b (sections_breach d (with_head (tables_of xs before) s.head) ss))
+    (section_bridge d (tables_of xs before) s)
+    ∙ ap (option_or (first_breach (section_statements d (tables_of xs before) s)))
+    (ap (λ (t : Tables). sections_breach d t ss) (sym (head_more xs before s.head))
+    ∙ sections_bridge d xs (before ++ s.head ∷ []) ss)
+    ∙ sym
+    (first_breach-append (section_statements d (tables_of xs before) s)
+    (sections_statements d xs (before ++ s.head ∷ []) ss))
+
+-- the first breach of a program: of its items, else of its sections, else of its last END
+pub breach_is : (p : Decls) (ss : List Section) →
+    option_or (items_breach (tables p.items ss) (tables_of [] []) (entries p.items))
+    (option_or (sections_breach (tables p.items ss) (tables_of (entries p.items) []) ss)
+    (first_breach (end_statement p.end ss ∷ [])))
+    ≡ breach p ss
+breach_is p ss =
+    let d = tables p.items ss in
+    let xs = entries p.items in
+    let is = item_statements d [] xs in
+    let ks = sections_statements d xs [] ss in
+    rw (items_bridge d [] xs, sections_bridge d xs [] ss)
+    (sym (option_or-assoc (first_breach is) (first_breach ks) (first_breach (end_statement p.end ss ∷ [])))
+    ∙ ap (λ (o : Option (CheckRule × ℕ)). option_or o (first_breach (end_statement p.end ss ∷ [])))
+    (sym (first_breach-append is ks))
+    ∙ sym (first_breach-append (is ++ ks) (end_statement p.end ss ∷ [])))
+
+-- ---- faults
+
+-- a fault of the first part is one of the whole
+pub fault_first : (f : CheckFault) (a b : Option (CheckRule × ℕ)) → IsBreach f a → IsBreach f (option_or a b)
+fault_first (Broken r l) None b h = cc
+fault_first (Broken r l) (Some x) b h = h
+fault_first Memory a b h = tt
+
+-- behind a part without breach a fault of the rest is one of the whole
+pub fault_rest : (f : CheckFault) (a b : Option (CheckRule × ℕ)) → a ≡ None → IsBreach f b → IsBreach f (option_or a b)
+fault_rest f None b e h = h
+fault_rest f (Some x) b e h = cc
+
+-- two parts without breach have none
+pub none_both : (a b : Option (CheckRule × ℕ)) → a ≡ None → b ≡ None → option_or a b ≡ None
+none_both None b e h = h
+none_both (Some x) b e h = cc
+
+-- ---- a section
+
+-- its head breaks a rule
+pub section_head : (d b : Tables) (s : Section) (r : CheckRule) → head_rule d b s ≡ Some r →
+    section_breach d b s ≡ Some (r, s.line)
+unfolding section_breach head_rule
+section_head d b s r h =
+    ap (λ (o : Option CheckRule). option_or (option_map (λ k. (k, s.line)) o)
+    (option_or (locals_breach d s.locals) (places_breach d (is_main s.head) false s.places))) h
+
+-- its head breaks none
+pub section_behind : (d b : Tables) (s : Section) → head_rule d b s ≡ None →
+    section_breach d b s ≡ option_or (locals_breach d s.locals) (places_breach d (is_main s.head) false s.places)
+unfolding section_breach head_rule
+section_behind d b s h =
+    ap (λ (o : Option CheckRule). option_or (option_map (λ k. (k, s.line)) o)
+    (option_or (locals_breach d s.locals) (places_breach d (is_main s.head) false s.places))) h
+
+-- a fault of its local DEFINEs
+pub section_locals : (f : CheckFault) (d b : Tables) (s : Section) → head_rule d b s ≡ None →
+    IsBreach f (locals_breach d s.locals) →
+    IsBreach f (section_breach d b s)
+section_locals f d b s h k =
+    subst (IsBreach f) (sym (section_behind d b s h))
+    (fault_first f (locals_breach d s.locals) (places_breach d (is_main s.head) false s.places) k)
+
+-- a fault of its places
+pub section_err : (f : CheckFault) (d b : Tables) (s : Section) → head_rule d b s ≡ None →
+    locals_breach d s.locals ≡ None →
+    IsBreach f (places_breach d (is_main s.head) false s.places) → IsBreach f (section_breach d b s)
+section_err f d b s h e k =
+    subst (IsBreach f) (sym (section_behind d b s h))
+    (fault_rest f (locals_breach d s.locals) (places_breach d (is_main s.head) false s.places) e k)
+
+-- no breach
+pub section_sound : (d b : Tables) (s : Section) → head_rule d b s ≡ None → locals_breach d s.locals ≡ None →
+    places_breach d (is_main s.head) false s.places ≡ None → section_breach d b s ≡ None
+section_sound d b s h e k =
+    section_behind d b s h ∙ none_both (locals_breach d s.locals) (places_breach d (is_main s.head) false s.places) e k
+
+-- ---- a program
+
+-- the tables that a program's parts are looked at with
+pub record AreTables (p : Decls) (ss : List Section) (whole start middle : Tables) : Type 0 where
+  -- what the whole program says
+  pub all : whole ≡ tables p.items ss
+  -- what is said before all
+  pub none : start ≡ tables_of [] []
+  -- what the items say
+  pub items : middle ≡ with_entries start (entries p.items)
+
+parts : (p : Decls) (ss : List Section) (whole start middle : Tables) → AreTables p ss whole start middle →
+    option_or (items_breach whole start (entries p.items))
+    (option_or (sections_breach whole middle ss) (first_breach (end_statement p.end ss ∷ [])))
+    ≡ breach p ss
+parts p ss whole start middle t =
+    rw (t.items, t.none, t.all, entries_more [] (entries p.items)) (breach_is p ss)
+
+-- a fault of the items
+pub fault_items : (f : CheckFault) (p : Decls) (ss : List Section) (whole start middle : Tables) →
+    AreTables p ss whole start middle →
+    IsBreach f (items_breach whole start (entries p.items)) → IsBreach f (breach p ss)
+fault_items f p ss whole start middle t h =
+    subst (IsBreach f) (parts p ss whole start middle t) (fault_first f _ _ h)
+
+-- a fault of the sections, where the items have none
+pub fault_sections : (f : CheckFault) (p : Decls) (ss : List Section) (whole start middle : Tables) →
+    AreTables p ss whole start middle →
+    items_breach whole start (entries p.items) ≡ None → IsBreach f (sections_breach whole middle ss) →
+    IsBreach f (breach p ss)
+fault_sections f p ss whole start middle t e h =
+    subst (IsBreach f) (parts p ss whole start middle t) (fault_rest f _ _ e (fault_first f _ _ h))
+
+-- what is left at the last END, where neither has one
+at_end : (p : Decls) (ss : List Section) (whole start middle : Tables) → AreTables p ss whole start middle →
+    items_breach whole start (entries p.items) ≡ None → sections_breach whole middle ss ≡ None →
+    breach p ss ≡ first_breach
+    (record { line = last_end (unwrap_or p.end 1) ss; breaks = broken WrongMain (not whole.has_main) } ∷ [])
+at_end p ss whole start middle t e h =
+    let m : whole.has_main ≡ list_any (λ s. is_main s.head) ss = ap (λ (d : Tables). d.has_main) t.all
+    ∙ any_map is_main (λ s. s.head) ss in
+    sym (parts p ss whole start middle t) ∙ rw (e, h, m) refl
+
+-- no MAIN
+pub fault_end : (p : Decls) (ss : List Section) (whole start middle : Tables) → AreTables p ss whole start middle →
+    items_breach whole start (entries p.items) ≡ None → sections_breach whole middle ss ≡ None →
+    whole.has_main ≡ false →
+    IsBreach (Broken WrongMain (last_end (unwrap_or p.end 1) ss)) (breach p ss)
+fault_end p ss whole start middle t e h m =
+    at_end p ss whole start middle t e h
+    ∙ ap (λ (b : Bool). first_breach
+    (record { line = last_end (unwrap_or p.end 1) ss; breaks = broken WrongMain (not b) } ∷ [])) m
+
+-- no breach
+pub sound_all : (p : Decls) (ss : List Section) (whole start middle : Tables) → AreTables p ss whole start middle →
+    items_breach whole start (entries p.items) ≡ None → sections_breach whole middle ss ≡ None →
+    whole.has_main ≡ true → breach p ss ≡ None
+sound_all p ss whole start middle t e h m =
+    at_end p ss whole start middle t e h
+    ∙ ap (λ (b : Bool). first_breach
+    (record { line = last_end (unwrap_or p.end 1) ss; breaks = broken WrongMain (not b) } ∷ [])) m
+
+-- ---- results
+
+-- what follows from what holds of a value
+pub ok_more : {T E : Type 0} (r : Result T E) (P Q : Type 0) → (P → Q) → IfOk r (λ x. P) → IfOk r (λ x. Q)
+ok_more (Ok x) P Q f h = f h
+ok_more (Err e) P Q f h = tt
+
+-- and of an error
+pub err_more : {T E : Type 0} (r : Result T E) (P Q : E → Type 0) → ((e : E) → P e → Q e) → IfErr r P → IfErr r Q
+err_more (Ok x) P Q f h = tt
+err_more (Err e) P Q f h = f e h
+
+-- what holds anyway
+pub ok_anyway : {T E : Type 0} (r : Result T E) (P : Type 0) → P → OnOk r P
+ok_anyway (Ok x) P h = h
+ok_anyway (Err e) P h = tt

@@ -1,0 +1,260 @@
+-- The turns of the loops over items, sections, local DEFINEs and places.
+use Rattle.std.proofs.Common.{◌≡◌, ℕ, ◌+◌, ◌-◌, ◌<◌, ◌≤◌, Bool, List, [], ◌∷◌, length, get_or, drop, refl, sym, ap, subst, ◌∙◌, Option, Some, None, arith, sub-one}
+use Rattle.std.specs.Prelude.{map, option_map}
+use Rattle.std.specs.Option.{option_or}
+use Rattle.std.specs.List.{slice_get}
+use Rattle.std.proofs.lemmas.Option.{get_or_from_slice_get, slice_get-get_or}
+use Rattle.std.proofs.lemmas.List.{drop_all, drop_more, nil_from_length}
+use Rattle.ss_preamble.specs.declared.item.Heading.{Heading}
+use Rattle.ss_preamble.specs.declared.item.ItemAt.{ItemAt as CodeItemAt}
+use Rattle.ss_preamble.specs.View.{item_at_view, item_view, items_view}
+use Rattle.ss_routines.specs.declared.section.LocalNames.{LocalNames as CodeLocalNames}
+use Rattle.ss_routines.specs.declared.section.Section.{Section as CodeSection}
+use Rattle.ss_routines.specs.declared.place.Spot.{Spot as CodeSpot}
+use Rattle.ss_routines.specs.Places.{Spot}
+use Rattle.ss_routines.specs.View.{local_view, place_view, section_view, spot_view, spots}
+use Rattle.ss_check.specs.declared.fault.CheckRule.{CheckRule}
+use Rattle.ss_check.specs.declared.fault.CheckFault.{CheckFault}
+use Rattle.ss_check.specs.declared.declared.tables.Tables.{Tables}
+use Rattle.ss_check.specs.Adding.{entry_at, items_breach, locals_breach, places_breach, section_breach, sections_breach, with_entries, with_entry, with_head, with_sections}
+use Rattle.ss_check.specs.Breach.{last_line}
+use Rattle.ss_check.specs.Declarations.{entries_under, heading_at}
+use Rattle.ss_check.specs.ItemRules.{item_rule, local_rule}
+use Rattle.ss_check.specs.PlaceRules.{is_find, place_rule}
+use Rattle.ss_check.specs.Statements.{IsBreach}
+use Rattle.ss_check.proofs.Statements.{fault_first}
+
+-- what is left of a list at an element
+left_at : {X : Type 0} (xs : List X) (i : ℕ) (x : X) → i < length xs → x ≡ get_or xs i x →
+    drop i xs ≡ x ∷ drop (i + 1) xs
+left_at xs i x l e = drop_more xs i x l ∙ ap (λ y. y ∷ drop (i + 1) xs) (sym e)
+
+-- a rule is broken on this line, and what stands behind counts no more
+pub told : (o : Option CheckRule) (l : ℕ) (rest whole : Option (CheckRule × ℕ)) (r : CheckRule) →
+    option_or (option_map (λ k. (k, l)) o) rest ≡ whole → o ≡ Some r → whole ≡ Some (r, l)
+told None l rest whole r h e = cc
+told (Some k) l rest whole r h e = sym h ∙ ap (option_map (λ j. (j, l))) e
+
+-- none is, and what stands behind counts
+pub passed : (o : Option CheckRule) (l : ℕ) (rest whole : Option (CheckRule × ℕ)) →
+    option_or (option_map (λ k. (k, l)) o) rest ≡ whole → o ≡ None → rest ≡ whole
+passed None l rest whole h e = h
+passed (Some k) l rest whole h e = cc
+
+-- ---- items
+
+-- the tables with the next item
+pub filled_turn : (t : Tables) (h : Option Heading) (xs : List CodeItemAt) (i : ℕ) (x : CodeItemAt) (whole : Tables) →
+    i < length xs → x ≡ get_or xs i x → with_entries t (entries_under h (items_view (drop i xs))) ≡ whole →
+    with_entries (with_entry t (entry_at (heading_at h (item_view x.item)) (item_at_view x)))
+    (entries_under (heading_at h (item_view x.item)) (items_view (drop (i + 1) xs))) ≡ whole
+unfolding with_entries
+filled_turn t h xs i x whole l e k =
+    ap (λ (ys : List CodeItemAt). with_entries t (entries_under h (items_view ys))) (sym (left_at xs i x l e)) ∙ k
+
+-- its lowest rule, else the breach of what stands behind it
+pub item_turn : (d t : Tables) (h : Option Heading) (xs : List CodeItemAt) (i : ℕ) (x : CodeItemAt)
+    (whole : Option (CheckRule × ℕ)) →
+    i < length xs → x ≡ get_or xs i x → items_breach d t (entries_under h (items_view (drop i xs))) ≡ whole →
+    option_or (option_map (λ k. (k, x.line))
+    (item_rule d t (entry_at (heading_at h (item_view x.item)) (item_at_view x))))
+    (items_breach d (with_entry t (entry_at (heading_at h (item_view x.item)) (item_at_view x)))
+    (entries_under (heading_at h (item_view x.item)) (items_view (drop (i + 1) xs)))) ≡ whole
+unfolding items_breach item_rule
+item_turn d t h xs i x whole l e k =
+    ap (λ (ys : List CodeItemAt). items_breach d t (entries_under h (items_view ys))) (sym (left_at xs i x l e)) ∙ k
+
+-- it breaks a rule; h: the heading over it
+pub item_told : (d t : Tables) (g h : Option Heading) (xs : List CodeItemAt) (i : ℕ) (x : CodeItemAt)
+    (whole : Option (CheckRule × ℕ)) (r : CheckRule) →
+    i < length xs → x ≡ get_or xs i x → items_breach d t (entries_under g (items_view (drop i xs))) ≡ whole →
+    h ≡ heading_at g (item_view x.item) → item_rule d t (entry_at h (item_at_view x)) ≡ Some r →
+    whole ≡ Some (r, x.line)
+item_told d t g h xs i x whole r l e k q n =
+    let v = heading_at g (item_view x.item) in
+    told (item_rule d t (entry_at v (item_at_view x))) x.line
+    (items_breach d (with_entry t (entry_at v (item_at_view x))) (entries_under v (items_view (drop (i + 1) xs))))
+    whole r (item_turn d t g xs i x whole l e k)
+    (ap (λ (w : Option Heading). item_rule d t (entry_at w (item_at_view x))) (sym q) ∙ n)
+
+-- it breaks none
+pub item_passed : (d t : Tables) (g h : Option Heading) (xs : List CodeItemAt) (i : ℕ) (x : CodeItemAt)
+    (whole : Option (CheckRule × ℕ)) →
+    i < length xs → x ≡ get_or xs i x → items_breach d t (entries_under g (items_view (drop i xs))) ≡ whole →
+    h ≡ heading_at g (item_view x.item) → item_rule d t (entry_at h (item_at_view x)) ≡ None →
+    items_breach d (with_entry t (entry_at h (item_at_view x))) (entries_under h (items_view (drop (i + 1) xs))) ≡ whole
+item_passed d t g h xs i x whole l e k q n =
+    let v = heading_at g (item_view x.item) in
+    rw q
+    (passed (item_rule d t (entry_at v (item_at_view x))) x.line
+    (items_breach d (with_entry t (entry_at v (item_at_view x))) (entries_under v (items_view (drop (i + 1) xs))))
+    whole (item_turn d t g xs i x whole l e k)
+    (ap (λ (w : Option Heading). item_rule d t (entry_at w (item_at_view x))) (sym q) ∙ n))
+
+-- at the end the tables are filled
+pub filled_end : (t : Tables) (h : Option Heading) (xs : List CodeItemAt) (i : ℕ) (whole : Tables) →
+    length xs ≤ i → with_entries t (entries_under h (items_view (drop i xs))) ≡ whole → t ≡ whole
+unfolding with_entries
+filled_end t h xs i whole l k =
+    ap (λ (ys : List CodeItemAt). with_entries t (entries_under h (items_view ys))) (sym (drop_all i xs l)) ∙ k
+
+-- and no item is left that could break a rule
+pub items_end : (d t : Tables) (h : Option Heading) (xs : List CodeItemAt) (i : ℕ) (whole : Option (CheckRule × ℕ)) →
+    length xs ≤ i → items_breach d t (entries_under h (items_view (drop i xs))) ≡ whole → whole ≡ None
+unfolding items_breach
+items_end d t h xs i whole l k =
+    sym k ∙ ap (λ (ys : List CodeItemAt). items_breach d t (entries_under h (items_view ys))) (drop_all i xs l)
+
+-- ---- sections
+
+-- at the end the tables are filled
+pub headed_end : (t : Tables) (xs : List CodeSection) (i : ℕ) (whole : Tables) →
+    length xs ≤ i → with_sections t (map section_view (drop i xs)) ≡ whole → t ≡ whole
+unfolding with_sections
+headed_end t xs i whole l k = ap (λ (ys : List CodeSection). with_sections t (map section_view ys))
+    (sym (drop_all i xs l)) ∙ k
+
+-- and no section is left
+pub sections_end : (d t : Tables) (xs : List CodeSection) (i : ℕ) (whole : Option (CheckRule × ℕ)) →
+    length xs ≤ i → sections_breach d t (map section_view (drop i xs)) ≡ whole → whole ≡ None
+unfolding sections_breach
+sections_end d t xs i whole l k =
+    sym k ∙ ap (λ (ys : List CodeSection). sections_breach d t (map section_view ys)) (drop_all i xs l)
+
+-- the tables with the next head
+pub headed_turn : (t : Tables) (xs : List CodeSection) (i : ℕ) (x : CodeSection) (whole : Tables) →
+    i < length xs → x ≡ get_or xs i x → with_sections t (map section_view (drop i xs)) ≡ whole →
+    with_sections (with_head t (section_view x).head) (map section_view (drop (i + 1) xs)) ≡ whole
+unfolding with_sections
+headed_turn t xs i x whole l e k =
+    ap (λ (ys : List CodeSection). with_sections t (map section_view ys)) (sym (left_at xs i x l e)) ∙ k
+
+-- the breach of the next section, else of those behind it
+pub section_turn : (d t : Tables) (xs : List CodeSection) (i : ℕ) (x : CodeSection) (whole : Option (CheckRule × ℕ)) →
+    i < length xs → x ≡ get_or xs i x → sections_breach d t (map section_view (drop i xs)) ≡ whole →
+    option_or (section_breach d t (section_view x))
+    (sections_breach d (with_head t (section_view x).head) (map section_view (drop (i + 1) xs))) ≡ whole
+unfolding sections_breach
+section_turn d t xs i x whole l e k =
+    ap (λ (ys : List CodeSection). sections_breach d t (map section_view ys)) (sym (left_at xs i x l e)) ∙ k
+
+-- a fault of it is one of all
+pub section_told : (f : CheckFault) (d t : Tables) (xs : List CodeSection) (i : ℕ) (x : CodeSection)
+    (whole : Option (CheckRule × ℕ)) →
+    i < length xs → x ≡ get_or xs i x → sections_breach d t (map section_view (drop i xs)) ≡ whole →
+    IsBreach f (section_breach d t (section_view x)) →
+    IsBreach f whole
+section_told f d t xs i x whole l e k h =
+    subst (IsBreach f) (section_turn d t xs i x whole l e k)
+    (fault_first f (section_breach d t (section_view x))
+    (sections_breach d (with_head t (section_view x).head) (map section_view (drop (i + 1) xs))) h)
+
+-- it has no breach
+pub section_passed : (d t : Tables) (xs : List CodeSection) (i : ℕ) (x : CodeSection) (whole : Option (CheckRule × ℕ)) →
+    i < length xs → x ≡ get_or xs i x → sections_breach d t (map section_view (drop i xs)) ≡ whole →
+    section_breach d t (section_view x) ≡ None →
+    sections_breach d (with_head t (section_view x).head) (map section_view (drop (i + 1) xs)) ≡ whole
+section_passed d t xs i x whole l e k h =
+    ap (λ (o : Option (CheckRule × ℕ)). option_or o
+    (sections_breach d (with_head t (section_view x).head) (map section_view (drop (i + 1) xs)))) (sym h)
+    ∙ section_turn d t xs i x whole l e k
+
+-- ---- local DEFINEs
+
+-- the rule of the next one, else the breach of those behind it
+pub local_turn : (d : Tables) (xs : List CodeLocalNames) (i : ℕ) (x : CodeLocalNames) (whole : Option (CheckRule × ℕ)) →
+    i < length xs → x ≡ get_or xs i x → locals_breach d (map local_view (drop i xs)) ≡ whole →
+    option_or (option_map (λ k. (k, x.line)) (local_rule d (local_view x)))
+    (locals_breach d (map local_view (drop (i + 1) xs))) ≡ whole
+unfolding locals_breach local_rule
+local_turn d xs i x whole l e k =
+    ap (λ (ys : List CodeLocalNames). locals_breach d (map local_view ys)) (sym (left_at xs i x l e)) ∙ k
+
+-- it breaks a rule
+pub local_told : (d : Tables) (xs : List CodeLocalNames) (i : ℕ) (x : CodeLocalNames)
+    (whole : Option (CheckRule × ℕ)) (r : CheckRule) →
+    i < length xs → x ≡ get_or xs i x → locals_breach d (map local_view (drop i xs)) ≡ whole →
+    local_rule d (local_view x) ≡ Some r →
+    whole ≡ Some (r, x.line)
+local_told d xs i x whole r l e k n =
+    told (local_rule d (local_view x)) x.line (locals_breach d (map local_view (drop (i + 1) xs))) whole r
+    (local_turn d xs i x whole l e k) n
+
+-- it breaks none
+pub local_passed : (d : Tables) (xs : List CodeLocalNames) (i : ℕ) (x : CodeLocalNames)
+    (whole : Option (CheckRule × ℕ)) →
+    i < length xs → x ≡ get_or xs i x → locals_breach d (map local_view (drop i xs)) ≡ whole →
+    local_rule d (local_view x) ≡ None →
+    locals_breach d (map local_view (drop (i + 1) xs)) ≡ whole
+local_passed d xs i x whole l e k n =
+    passed (local_rule d (local_view x)) x.line (locals_breach d (map local_view (drop (i + 1) xs))) whole
+    (local_turn d xs i x whole l e k) n
+
+-- at the end none is left
+pub locals_end : (d : Tables) (xs : List CodeLocalNames) (i : ℕ) (whole : Option (CheckRule × ℕ)) →
+    length xs ≤ i → locals_breach d (map local_view (drop i xs)) ≡ whole → whole ≡ None
+unfolding locals_breach
+locals_end d xs i whole l k = sym k ∙ ap (λ (ys : List CodeLocalNames). locals_breach d (map local_view ys))
+    (drop_all i xs l)
+
+-- ---- places
+
+-- the lowest rule of the first place, else the breach of those behind it
+pub place_turn : (d : Tables) (m f : Bool) (p : Spot) (ps : List Spot) →
+    places_breach d m f (p ∷ ps)
+    ≡ option_or (option_map (λ k. (k, p.line)) (place_rule d m f p ps)) (places_breach d m (is_find p.place) ps)
+unfolding places_breach place_rule
+place_turn d m f p ps = refl
+
+-- it breaks a rule
+pub place_told : (d : Tables) (m f : Bool) (rest : List CodeSpot) (x : CodeSpot) (xs : List CodeSpot)
+    (whole : Option (CheckRule × ℕ)) (r : CheckRule) →
+    rest ≡ x ∷ xs → places_breach d m f (spots rest) ≡ whole → place_rule d m f (spot_view x) (spots xs) ≡ Some r →
+    whole ≡ Some (r, x.line)
+place_told d m f rest x xs whole r e k n =
+    told (place_rule d m f (spot_view x) (spots xs)) x.line
+    (places_breach d m (is_find (place_view x.place)) (spots xs)) whole r
+    (sym (place_turn d m f (spot_view x) (spots xs))
+    ∙ (ap (λ (ys : List CodeSpot). places_breach d m f (spots ys)) (sym e) ∙ k)) n
+
+-- it breaks none
+pub place_passed : (d : Tables) (m f : Bool) (rest : List CodeSpot) (x : CodeSpot) (xs : List CodeSpot)
+    (whole : Option (CheckRule × ℕ)) →
+    rest ≡ x ∷ xs → places_breach d m f (spots rest) ≡ whole → place_rule d m f (spot_view x) (spots xs) ≡ None →
+    places_breach d m (is_find (place_view x.place)) (spots xs) ≡ whole
+place_passed d m f rest x xs whole e k n =
+    passed (place_rule d m f (spot_view x) (spots xs)) x.line
+    (places_breach d m (is_find (place_view x.place)) (spots xs)) whole
+    (sym (place_turn d m f (spot_view x) (spots xs))
+    ∙ (ap (λ (ys : List CodeSpot). places_breach d m f (spots ys)) (sym e) ∙ k)) n
+
+-- at the end none is left
+pub places_end : (d : Tables) (m f : Bool) (rest : List CodeSpot) (whole : Option (CheckRule × ℕ)) →
+    length rest ≡ 0 → places_breach d m f (spots rest) ≡ whole → whole ≡ None
+unfolding places_breach
+places_end d m f rest whole e k = sym k
+    ∙ ap (λ (ys : List CodeSpot). places_breach d m f (spots ys)) (nil_from_length rest e)
+
+-- ---- lines
+
+last_at : (x : CodeSpot) (xs : List CodeSpot) (n : ℕ) (d : CodeSpot) →
+    last_line n (spots (x ∷ xs)) ≡ (get_or (x ∷ xs) (length xs) d).line
+last_at x [] n d = refl
+last_at x (y ∷ ys) n d = last_at y ys x.line d
+
+-- the line of the last place
+pub last_line_last : (n : ℕ) (xs : List CodeSpot) (x : CodeSpot) → Some x ≡ slice_get xs (length xs - 1) →
+    x.line ≡ last_line n (spots xs)
+last_line_last n [] x h = cc
+last_line_last n (y ∷ ys) x h =
+    let e : Some x ≡ slice_get (y ∷ ys) (length ys) = rw sub-one at h in
+    ap (λ (z : CodeSpot). z.line) (sym (get_or_from_slice_get (y ∷ ys) (length ys) x x (sym e)))
+    ∙ sym (last_at y ys n x)
+
+-- where there is none the line is the one before
+pub last_line_none : (n : ℕ) (xs : List CodeSpot) → None ≡ slice_get xs (length xs - 1) → n ≡ last_line n (spots xs)
+last_line_none n [] h = refl
+last_line_none n (y ∷ ys) h =
+    let e : None ≡ slice_get (y ∷ ys) (length ys) = rw sub-one at h in
+    let f : None ≡ Some (get_or (y ∷ ys) (length ys) y) = e ∙ slice_get-get_or (y ∷ ys) (length ys) y (omega arith) in
+    cc

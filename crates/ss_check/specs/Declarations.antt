@@ -1,0 +1,273 @@
+-- What the items of a preamble and the heads of sections declare, in the order in which they are written.
+use Rattle.std.specs.Prelude.{ℕ, Bool, true, false, List, [], ◌∷◌, ◌++◌, length, map, count_by, bytes_eq, Option, Some, None}
+use Rattle.std.specs.List.{flat_map, list_any}
+use Rattle.ss_words.specs.Lists.{Name, Several, all_of}
+use Rattle.ss_preamble.specs.declared.item.Heading.{Heading}
+use Rattle.ss_preamble.specs.Tree.{Key, Clause, Has, Owns, BelongsTo, SetKind, Definition, Variables, Sets, EventRule, PriorityOrder, BreakTies, ExternalEvents, Item, Headed, OfEvery, OfSystem, Defines, Orders, ItemAt}
+use Rattle.ss_routines.specs.Tree.{Head, MainHead, RoutineHead, EventHead, listed}
+use Rattle.ss_routines.specs.Places.{Section}
+use Rattle.ss_check.specs.declared.declared.name_kind.NameKind.{NameKind}
+use Rattle.ss_check.specs.declared.declared.name_kind.NameKind.TheVariants as k
+use Rattle.ss_check.specs.declared.declared.fact.Fact.{Fact}
+use Rattle.ss_check.specs.declared.declared.tables.Counts.{Counts}
+use Rattle.ss_check.specs.declared.declared.tables.Tables.{Tables}
+use Rattle.ss_check.specs.Facts.{is_among, fact, fact_of, names_of}
+use Rattle.ss_check.specs.NameKinds.{language_facts, class_facts, set_facts, names_event}
+
+-- ---- items under their headings
+
+-- an item, and where it stands
+pub record Entry : Type 0 where
+  -- its line
+  pub line : ℕ
+  -- the heading over it, if there is one
+  pub heading : Option Heading
+  -- the item
+  pub item : Item
+
+-- the heading over an item that stands behind others under h: a heading's own, else h
+abbrev pub heading_at : Option Heading → Item → Option Heading
+heading_at h (Headed g names) = Some g
+heading_at h _ = h
+
+-- items behind others under a heading, each under its own
+abbrev pub entries_under : Option Heading → List ItemAt → List Entry
+entries_under h [] = []
+entries_under h (i ∷ is) =
+    record { line = i.line; heading = heading_at h i.item; item = i.item } ∷ entries_under (heading_at h i.item) is
+
+-- the items of a preamble
+abbrev pub entries : List ItemAt → List Entry
+entries is = entries_under None is
+
+-- the class whose the clauses of an item are, none for the system
+abbrev pub class_of : Item → Option Name
+class_of (OfEvery c clauses) = Some c
+class_of _ = None
+
+-- the clauses of an item
+abbrev pub clauses_of : Item → List Clause
+clauses_of (OfEvery c clauses) = all_of clauses
+clauses_of (OfSystem clauses) = all_of clauses
+clauses_of _ = []
+
+-- the names behind INCLUDE, or none
+abbrev pub included : Option (Several Name) → List Name
+included None = []
+included (Some names) = all_of names
+
+-- ---- what an item declares
+
+-- what a clause declares for a class or the system
+abbrev pub clause_facts : Option Name → Clause → List (Fact NameKind)
+clause_facts (Some c) (Has names) = map (λ n. fact n (k.Attribute c)) (all_of names)
+clause_facts None (Has names) = map (λ n. fact n k.Variable) (all_of names)
+clause_facts o (Owns names) = flat_map set_facts (all_of names)
+clause_facts o (BelongsTo names) = flat_map set_facts (all_of names)
+
+-- what a DEFINE declares
+abbrev pub definition_facts : Definition → List (Fact NameKind)
+definition_facts (Variables names) = map (λ n. fact n k.Variable) (all_of names)
+definition_facts (Sets names kind) = flat_map set_facts (all_of names)
+
+-- what an item under a heading declares besides its clauses
+abbrev pub item_facts : Option Heading → Item → List (Fact NameKind)
+item_facts h (Headed g names) = flat_map (class_facts (Some g)) (included names)
+item_facts h (OfEvery c clauses) = class_facts h c
+item_facts h (Defines d) = definition_facts d
+item_facts h _ = []
+
+-- all that an item declares
+abbrev pub declarations : Entry → List (Fact NameKind)
+declarations x = item_facts x.heading x.item ++ flat_map (clause_facts (class_of x.item)) (clauses_of x.item)
+
+-- a class, once for each attribute that a clause declares
+abbrev pub attribute_classes : Name → Clause → List Name
+attribute_classes c (Has names) = map (λ n. c) (all_of names)
+attribute_classes c _ = []
+
+-- the class of each attribute that an item declares
+abbrev pub attributes_in : Item → List Name
+attributes_in (OfEvery c clauses) = flat_map (attribute_classes c) (all_of clauses)
+attributes_in _ = []
+
+-- the sets that a clause says are owned
+abbrev pub owned_in : Clause → List Name
+owned_in (Owns names) = all_of names
+owned_in _ = []
+
+-- BELONGS TO
+abbrev pub is_belongs_to : Clause → Bool
+is_belongs_to (BelongsTo names) = true
+is_belongs_to _ = false
+
+-- the sets of which a clause says who belongs to them
+abbrev pub joined_in : Clause → List Name
+joined_in (BelongsTo names) = all_of names
+joined_in _ = []
+
+-- the owner of each set that an item says is owned: a class, or none for the system
+abbrev pub owners_in : Item → List (Fact (Option Name))
+owners_in i = map (λ s. fact s (class_of i)) (flat_map owned_in (clauses_of i))
+
+-- the sets of which an item says who belongs to them
+abbrev pub joined : Item → List Name
+joined i = flat_map joined_in (clauses_of i)
+
+-- the class of their members; the system is none
+abbrev pub members_for : Option Name → List Name → List (Fact Name)
+members_for (Some c) sets = map (λ s. fact s c) sets
+members_for None sets = []
+
+-- the class of the members of each set of which an item says who belongs to it
+abbrev pub members_in : Item → List (Fact Name)
+members_in i = members_for (class_of i) (joined i)
+
+-- the disciplines that an item gives
+abbrev pub disciplines_in : Item → List (Fact SetKind)
+disciplines_in (Defines (Sets names kind)) = map (λ s. fact s kind) (all_of names)
+disciplines_in _ = []
+
+-- the sets whose discipline an item gives
+abbrev pub disciplined_sets : Item → List Name
+disciplined_sets (Defines (Sets names kind)) = all_of names
+disciplined_sets _ = []
+
+-- the keys of an event class's ties that an item gives
+abbrev pub ties_in : Item → List (Fact (List Key))
+ties_in (Orders (BreakTies c keys)) = fact c (all_of keys) ∷ []
+ties_in _ = []
+
+-- the event class whose ties an item breaks
+abbrev pub tied_events : Item → List Name
+tied_events (Orders (BreakTies c keys)) = c ∷ []
+tied_events _ = []
+
+-- the sets that a clause names
+abbrev pub sets_of : Clause → List Name
+sets_of (Has names) = []
+sets_of (Owns names) = all_of names
+sets_of (BelongsTo names) = all_of names
+
+-- the sets that an item names
+abbrev pub sets_in : Item → List Name
+sets_in i = disciplined_sets i ++ flat_map sets_of (clauses_of i)
+
+-- the external classes that an item names
+abbrev pub external_in : Item → List Name
+external_in (Orders (ExternalEvents names)) = all_of names
+external_in _ = []
+
+-- the classes that a PRIORITY item names
+abbrev pub priority_in : Item → List Name
+priority_in (Orders (PriorityOrder names)) = all_of names
+priority_in _ = []
+
+-- the classes that an item on events names
+abbrev pub classes_ordered : EventRule → List Name
+classes_ordered (PriorityOrder names) = all_of names
+classes_ordered (BreakTies c keys) = c ∷ []
+classes_ordered (ExternalEvents names) = all_of names
+
+-- the classes that an item names as classes
+abbrev pub classes_in : Item → List Name
+classes_in (Headed h names) = included names
+classes_in (OfEvery c clauses) = c ∷ []
+classes_in (Orders r) = classes_ordered r
+classes_in _ = []
+
+-- ---- sections
+
+-- the names of the given parameters
+abbrev pub given_of : Head → List Name
+given_of MainHead = []
+given_of (RoutineHead n given yielded) = listed given
+given_of (EventHead n given saving) = listed given
+
+-- the names of the yielded parameters
+abbrev pub yielded_of : Head → List Name
+yielded_of (RoutineHead n given yielded) = yielded
+yielded_of _ = []
+
+-- the names of all parameters
+abbrev pub parameters : Head → List Name
+parameters h = given_of h ++ yielded_of h
+
+-- MAIN
+abbrev pub is_main : Head → Bool
+is_main MainHead = true
+is_main _ = false
+
+-- the routine that a head declares
+abbrev pub routine_facts : Head → List (Fact NameKind)
+routine_facts (RoutineHead n given yielded) = fact n k.Routine ∷ []
+routine_facts _ = []
+
+-- the counts of its parameters
+abbrev pub counts_of : Head → Counts
+counts_of h = record { given = length (given_of h); yielded = length (yielded_of h) }
+
+-- the same as a fact on its name
+abbrev pub routine_counts : Head → List (Fact Counts)
+routine_counts (RoutineHead n given yielded) = fact n (counts_of (RoutineHead n given yielded)) ∷ []
+routine_counts _ = []
+
+-- the event class whose section a head begins
+abbrev pub events_in : Head → List Name
+events_in (EventHead n given saving) = n ∷ []
+events_in _ = []
+
+-- ---- the whole program
+
+-- what items and heads say: what names are declared as; the class of each attribute; the owners of sets and the classes
+-- of their members; the sets whose discipline is given and the event classes whose ties are broken; the external
+-- classes, those that PRIORITY names and all that are named as classes; the event classes that have a section, the
+-- routines with the counts of their parameters, and whether there is a MAIN
+abbrev pub tables_of : List Entry → List Head → Tables
+tables_of xs hs = record {
+  kinds = language_facts ++ flat_map declarations xs ++ flat_map routine_facts hs;
+  attributes = flat_map (λ x. attributes_in x.item) xs;
+  owners = flat_map (λ x. owners_in x.item) xs;
+  members = flat_map (λ x. members_in x.item) xs;
+  disciplines = flat_map (λ x. disciplined_sets x.item) xs;
+  ties = flat_map (λ x. tied_events x.item) xs;
+  external = flat_map (λ x. external_in x.item) xs;
+  priority = flat_map (λ x. priority_in x.item) xs;
+  classes = flat_map (λ x. classes_in x.item) xs;
+  events = flat_map events_in hs;
+  routines = flat_map routine_counts hs;
+  has_main = list_any is_main hs;
+}
+
+-- the heads of sections
+abbrev pub heads : List Section → List Head
+heads ss = map (λ s. s.head) ss
+
+-- what a whole program says
+abbrev pub tables : List ItemAt → List Section → Tables
+tables is ss = tables_of (entries is) (heads ss)
+
+-- what a name is declared as; a local variable is not declared
+abbrev pub kind_of : Tables → Name → Option NameKind
+kind_of d n = fact_of d.kinds n
+
+-- whether a name is declared
+abbrev pub is_declared : Tables → Name → Bool
+is_declared d n = is_among n (names_of d.kinds)
+
+-- whether the owner of a set, if one is said, is the system
+abbrev pub is_system : Option (Option Name) → Bool
+is_system (Some None) = true
+is_system _ = false
+
+-- whether the system owns a set
+abbrev pub is_of_system : Tables → Name → Bool
+is_of_system d s = is_system (fact_of d.owners s)
+
+-- how many attributes a class has
+abbrev pub attribute_count : Tables → Name → ℕ
+attribute_count d c = count_by (bytes_eq c) d.attributes
+
+-- whether a name is an event class
+abbrev pub is_event_class : Tables → Name → Bool
+is_event_class d c = names_event (kind_of d c)

@@ -1,0 +1,38 @@
+-- Names in lists, and tables of facts on names.
+use Rattle.std.specs.Prelude.{Bool, false, not, ◌||◌, if◌then◌else◌, List, [], ◌∷◌, ◌++◌, map, bytes_eq, Option, option_map}
+use Rattle.std.specs.List.{list_any, find, fold}
+use Rattle.ss_words.specs.Lists.{Name}
+use Rattle.ss_check.specs.declared.declared.fact.Fact.{Fact}
+
+-- ---- names
+
+-- whether a name is among others
+abbrev pub is_among : Name → List Name → Bool
+is_among name names = list_any (bytes_eq name) names
+
+-- whether one of these names stands among those before it
+abbrev pub repeats : List Name → List Name → Bool
+repeats before [] = false
+repeats before (n ∷ ns) = is_among n before || repeats (before ++ n ∷ []) ns
+
+-- whether one of these names is not among others
+abbrev pub is_one_outside : List Name → List Name → Bool
+is_one_outside others names = list_any (λ n. not (is_among n others)) names
+
+-- each name once, where it stands first
+abbrev pub each_once : List Name → List Name
+each_once names = fold (λ table n. if is_among n table then table else table ++ n ∷ []) [] names
+
+-- ---- tables
+
+-- this holds of a name
+abbrev pub fact : {A : Type 0} → Name → A → Fact A
+fact n x = record { name = n; what = x }
+
+-- the first fact of a name, if there is one
+abbrev pub fact_of : {A : Type 0} → List (Fact A) → Name → Option A
+fact_of table n = option_map (λ f. f.what) (find (λ f. bytes_eq n f.name) table)
+
+-- the names that have facts
+abbrev pub names_of : {A : Type 0} → List (Fact A) → List Name
+names_of table = map (λ f. f.name) table

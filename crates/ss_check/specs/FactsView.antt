@@ -1,0 +1,8 @@
+-- Facts seen by what they say.
+use Rattle.std.specs.Prelude.{List, map}
+use Rattle.ss_check.specs.declared.declared.fact.Fact.{Fact}
+use Rattle.ss_check.specs.Facts.{fact}
+
+-- facts, what they say seen by f
+abbrev pub facts_view : {X A : Type 0} → (X → A) → List (Fact X) → List (Fact A)
+facts_view f table = map (λ x. fact x.name (f x.what)) table

@@ -1,0 +1,187 @@
+-- What a program's tables say of the items of its preamble: each number is the name that its table has there.
+use Rattle.std.specs.Prelude.{◌≡◌, true, List, [], ◌∷◌, ◌++◌, map, codes, bytes_eq, Option, Some, None}
+use Rattle.std.specs.List.{All, filter, flat_map}
+use Rattle.ss_words.specs.Lists.{Name, all_of}
+use Rattle.ss_preamble.specs.declared.item.Heading.{Heading}
+use Rattle.ss_preamble.specs.declared.item.Heading.TheVariants.{PermanentEntities, TemporaryEntities, EventNotices}
+use Rattle.ss_preamble.specs.declared.item.Rank.{Rank as WrittenRank}
+use Rattle.ss_preamble.specs.declared.item.Rank.TheVariants as ranks
+use Rattle.ss_preamble.specs.Tree.{Key as WrittenKey, SetKind, Fifo, Lifo, Ranked, Variables, Item, Headed, OfEvery, OfSystem, Defines, Decls}
+use Rattle.ss_preamble.specs.Limits.{clause_has, class_names}
+use Rattle.ss_routines.specs.Places.{Section}
+use Rattle.ss_program.specs.declared.keys.Key.{Key}
+use Rattle.ss_program.specs.declared.keys.Rank.{Rank}
+use Rattle.ss_program.specs.declared.keys.Rank.TheVariants as rank
+use Rattle.ss_program.specs.declared.kinds.ClassKind.{ClassKind}
+use Rattle.ss_program.specs.declared.kinds.ClassKind.TheVariants.{Permanent, Temporary, Event}
+use Rattle.ss_program.specs.declared.kinds.Discipline.{Discipline}
+use Rattle.ss_program.specs.declared.kinds.Discipline.TheVariants as discipline
+use Rattle.ss_program.specs.declared.kinds.Owner.{Owner}
+use Rattle.ss_program.specs.declared.kinds.Owner.TheVariants.{System, OwnedBy}
+use Rattle.ss_program.specs.Program.{ClassTable, SetTable, ProgramTable, class_of, section_of, event_of_kind, is_event_section}
+use Rattle.ss_check.specs.declared.declared.fact.Fact.{Fact}
+use Rattle.ss_check.specs.Facts.{is_among, each_once, fact}
+use Rattle.ss_check.specs.Declarations.{Entry, entries, included, owners_in, members_in, disciplines_in, ties_in, sets_in, external_in, priority_in}
+use Rattle.ss_check.specs.Breach.{breach}
+use Rattle.ss_check.specs.Resolved.{resolved}
+use Rattle.ss_check.specs.NamedTree.{several, name_at}
+
+-- ---- names for numbers
+
+-- the heading over the classes of a kind
+abbrev pub named_heading : ClassKind → Heading
+named_heading (Permanent count) = PermanentEntities
+named_heading Temporary = TemporaryEntities
+named_heading (Event e) = EventNotices
+
+-- HIGH or LOW
+abbrev pub named_rank : Rank → WrittenRank
+named_rank rank.High = ranks.High
+named_rank rank.Low = ranks.Low
+
+-- a key, by the names of the attributes of its class
+abbrev pub named_key : List Name → Key → WrittenKey
+named_key attributes k = record { rank = named_rank k.rank; name = name_at attributes k.attribute }
+
+-- a discipline, by the names of the attributes of the members
+abbrev pub named_discipline : List Name → Discipline → SetKind
+named_discipline attributes discipline.Fifo = Fifo
+named_discipline attributes discipline.Lifo = Lifo
+named_discipline attributes (discipline.Ranked keys) =
+    Ranked (several (record { rank = ranks.High; name = [] }) (map (named_key attributes) keys))
+
+-- the class that owns a set, none for the system
+abbrev pub named_owner : ProgramTable → Owner → Option Name
+named_owner p System = None
+named_owner p (OwnedBy c) = Some (class_of p c).name
+
+-- ---- what items write
+
+-- all that facts say of a name, in order
+abbrev pub said_of : {A : Type 0} → List (Fact A) → Name → List A
+said_of facts n = map (λ f. f.what) (filter (λ f. bytes_eq n f.name) facts)
+
+-- each class that an item names, with the heading over it
+abbrev pub headings_in : Option Heading → Item → List (Fact (Option Heading))
+headings_in h (Headed g names) = map (λ c. fact c (Some g)) (included names)
+headings_in h (OfEvery c clauses) = fact c h ∷ []
+headings_in h _ = []
+
+-- each attribute that an item gives its class
+abbrev pub has_in : Item → List (Fact Name)
+has_in (OfEvery c clauses) = map (λ a. fact c a) (flat_map clause_has (all_of clauses))
+has_in _ = []
+
+-- the variable of a class, and N.c of a permanent class c
+abbrev pub class_variables : Option Heading → Name → List Name
+class_variables (Some PermanentEntities) c = c ∷ (codes "N." ++ c) ∷ []
+class_variables h c = c ∷ []
+
+-- the global variables of an item: of its classes, of the system, and of a DEFINE
+abbrev pub globals_in : Option Heading → Item → List Name
+globals_in h (Headed g names) = flat_map (class_variables (Some g)) (included names)
+globals_in h (OfEvery c clauses) = class_variables h c
+globals_in h (OfSystem clauses) = flat_map clause_has (all_of clauses)
+globals_in h (Defines (Variables names)) = all_of names
+globals_in h _ = []
+
+-- what items write
+pub record Written : Type 0 where
+  -- the global variables, each once in the order in which they are first named
+  pub variables : List Name
+  -- the classes, in the same way
+  pub classes : List Name
+  -- the sets, in the same way
+  pub sets : List Name
+  -- of a class the heading over each item that names it
+  pub headings : List (Fact (Option Heading))
+  -- of a class the attributes that HAS gives it
+  pub attributes : List (Fact Name)
+  -- of an event class the keys of its BREAK
+  pub ties : List (Fact (List WrittenKey))
+  -- the classes that EXTERNAL names
+  pub external : List Name
+  -- the classes that PRIORITY names
+  pub priority : List Name
+  -- of a set who owns it: a class, or none for the system
+  pub owners : List (Fact (Option Name))
+  -- of a set the class of its members
+  pub members : List (Fact Name)
+  -- of a set the discipline of its DEFINE
+  pub disciplines : List (Fact SetKind)
+
+-- the same of items under their headings
+abbrev pub written : List Entry → Written
+written xs = record {
+  variables = each_once (flat_map (λ x. globals_in x.heading x.item) xs);
+  classes = each_once (flat_map (λ x. class_names x.item) xs);
+  sets = each_once (flat_map (λ x. sets_in x.item) xs);
+  headings = flat_map (λ x. headings_in x.heading x.item) xs;
+  attributes = flat_map (λ x. has_in x.item) xs;
+  ties = flat_map (λ x. ties_in x.item) xs;
+  external = flat_map (λ x. external_in x.item) xs;
+  priority = flat_map (λ x. priority_in x.item) xs;
+  owners = flat_map (λ x. owners_in x.item) xs;
+  members = flat_map (λ x. members_in x.item) xs;
+  disciplines = flat_map (λ x. disciplines_in x.item) xs;
+}
+
+-- ---- the law; p: a program; w: what items write
+
+-- the one thing that is said, or this where nothing is
+abbrev pub IsSaid : {A : Type 0} → A → List A → A → Type 0
+IsSaid without [] a = a ≡ without
+IsSaid without (b ∷ []) a = a ≡ b
+IsSaid without (b ∷ c ∷ rest) a = ⊥
+
+-- a kind of the class n: N.n counts a permanent class, and the section of an event class is that of the event n
+abbrev pub IsKindOf : ProgramTable → Name → ClassKind → Type 0
+IsKindOf p n (Permanent count) = name_at p.globals count ≡ codes "N." ++ n
+IsKindOf p n Temporary = Unit {0}
+IsKindOf p n (Event e) = ((section_of p e.section).name ≡ n) × (is_event_section (section_of p e.section) ≡ true)
+
+-- a class
+pub record IsClassOf (p : ProgramTable) (w : Written) (c : ClassTable) : Type 0 where
+  -- its variable has its name
+  pub variable : name_at p.globals c.variable ≡ c.name
+  -- it has the counter or the section of its kind
+  pub kind : IsKindOf p c.name c.kind
+  -- each item that names it stands under the heading of its kind
+  pub heading : All (λ h. h ≡ Some (named_heading c.kind)) (said_of w.headings c.name)
+  -- its attributes are those that HAS gives it, in order
+  pub attributes : c.attributes ≡ said_of w.attributes c.name
+  -- the keys that break its ties are those of its one BREAK, or none
+  pub ties : IsSaid [] (said_of w.ties c.name) (map (named_key c.attributes) (event_of_kind c.kind).ties)
+  -- it is external where EXTERNAL names it
+  pub external : (event_of_kind c.kind).external ≡ is_among c.name w.external
+
+-- a set
+pub record IsSetOf (p : ProgramTable) (w : Written) (t : SetTable) : Type 0 where
+  -- one OWNS names it, with its owner
+  pub owner : said_of w.owners t.name ≡ named_owner p t.owner ∷ []
+  -- one BELONGS names it, with the class of its members
+  pub member : said_of w.members t.name ≡ (class_of p t.member).name ∷ []
+  -- its discipline is that of its one DEFINE, or FIFO
+  pub discipline : IsSaid Fifo (said_of w.disciplines t.name)
+      (named_discipline (class_of p t.member).attributes t.discipline)
+
+-- all tables of a preamble
+pub record IsOfItems (p : ProgramTable) (w : Written) : Type 0 where
+  -- the global variables that items write, in order
+  pub variables : p.globals ≡ w.variables
+  -- the classes, in order
+  pub class_order : map (λ c. c.name) p.classes ≡ w.classes
+  -- each as it is written
+  pub classes : All (IsClassOf p w) p.classes
+  -- the sets, in order
+  pub set_order : map (λ t. t.name) p.sets ≡ w.sets
+  -- each as it is written
+  pub sets : All (IsSetOf p w) p.sets
+  -- the classes of PRIORITY, in order
+  pub priority : map (λ c. (class_of p c).name) p.priority ≡ w.priority
+
+-- the tables of a program without a breach, each number looked up in its table, say what the items of its preamble say
+abbrev pub TablesGiveTheItems : Type 0
+TablesGiveTheItems =
+    (decls : Decls) (qs : List Section) → breach decls qs ≡ None →
+    IsOfItems (resolved decls qs) (written (entries decls.items))

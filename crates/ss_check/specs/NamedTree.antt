@@ -1,0 +1,500 @@
+-- The text that a program stands for: each number replaced by the name that its table has there.
+use Rattle.std.specs.Prelude.{◌≡◌, ℕ, Bool, true, false, List, [], ◌∷◌, ◌++◌, map, take, drop, codes, slice_get, Option, Some, None, option_map, unwrap_or}
+use Rattle.ss_words.specs.Lists.{Name, Several}
+use Rattle.ss_preamble.specs.Tree.{Decls}
+use Rattle.ss_routines.specs.declared.condition.Comparison.{Comparison}
+use Rattle.ss_routines.specs.declared.condition.Comparison.TheVariants.{Equal, Unequal, Less, Greater, AtMost, AtLeast}
+use Rattle.ss_routines.specs.declared.condition.Copula.{Copula}
+use Rattle.ss_routines.specs.declared.condition.Copula.TheVariants as copulas
+use Rattle.ss_routines.specs.declared.simple.SetEnd.{SetEnd}
+use Rattle.ss_routines.specs.declared.simple.SetEnd.TheVariants as ends
+use Rattle.ss_routines.specs.declared.simple.Article.{Article}
+use Rattle.ss_routines.specs.declared.simple.Article.TheVariants.{A, The}
+use Rattle.ss_routines.specs.declared.place.Direction.{Direction}
+use Rattle.ss_routines.specs.declared.place.Direction.TheVariants as directions
+use Rattle.ss_routines.specs.declared.place.QualifierWord.{QualifierWord}
+use Rattle.ss_routines.specs.declared.place.QualifierWord.TheVariants as words
+use Rattle.ss_routines.specs.declared.place.Statistic.{Statistic}
+use Rattle.ss_routines.specs.declared.place.Statistic.TheVariants as statistics
+use Rattle.ss_routines.specs.Expr as e
+use Rattle.ss_routines.specs.Condition as c
+use Rattle.ss_routines.specs.Condition.{Reference}
+use Rattle.ss_routines.specs.Simple as s
+use Rattle.ss_routines.specs.Loops as l
+use Rattle.ss_routines.specs.Tree.{Head, MainHead, RoutineHead, EventHead}
+use Rattle.ss_routines.specs.Places as w
+use Rattle.ss_program.specs.declared.condition.Comparison.{Comparison as ItsComparison}
+use Rattle.ss_program.specs.declared.condition.Comparison.TheVariants as comparison
+use Rattle.ss_program.specs.declared.condition.Copula.{Copula as ItsCopula}
+use Rattle.ss_program.specs.declared.condition.Copula.TheVariants as copula
+use Rattle.ss_program.specs.declared.filing.End.{End}
+use Rattle.ss_program.specs.declared.filing.End.TheVariants as end
+use Rattle.ss_program.specs.declared.filing.Position.{Position}
+use Rattle.ss_program.specs.declared.filing.Position.TheVariants as position
+use Rattle.ss_program.specs.declared.filing.Filing.{Filing}
+use Rattle.ss_program.specs.declared.filing.Filing.TheVariants as filing
+use Rattle.ss_program.specs.declared.looping.Direction.{Direction as ItsDirection}
+use Rattle.ss_program.specs.declared.looping.Direction.TheVariants as direction
+use Rattle.ss_program.specs.declared.looping.QualifierWord.{QualifierWord as ItsWord}
+use Rattle.ss_program.specs.declared.looping.QualifierWord.TheVariants as word
+use Rattle.ss_program.specs.declared.looping.Qualifier.{Qualifier}
+use Rattle.ss_program.specs.declared.looping.Statistic.{Statistic as ItsStatistic}
+use Rattle.ss_program.specs.declared.looping.Statistic.TheVariants as statistic
+use Rattle.ss_program.specs.declared.looping.Begin.{Begin}
+use Rattle.ss_program.specs.declared.looping.Begin.TheVariants as begin
+use Rattle.ss_program.specs.declared.looping.ForPhrase.{ForPhrase}
+use Rattle.ss_program.specs.declared.looping.Phrase.{Phrase}
+use Rattle.ss_program.specs.declared.looping.Phrase.TheVariants as phrase
+use Rattle.ss_program.specs.declared.looping.Telling.{Telling}
+use Rattle.ss_program.specs.declared.looping.Looping.{Looping}
+use Rattle.ss_program.specs.declared.looping.Looping.TheVariants as looping
+use Rattle.ss_program.specs.declared.making.Making.{Making}
+use Rattle.ss_program.specs.declared.making.Making.TheVariants as making
+use Rattle.ss_program.specs.declared.branch.Question.{Question}
+use Rattle.ss_program.specs.declared.branch.Question.TheVariants as question
+use Rattle.ss_program.specs.declared.branch.Branch.{Branch}
+use Rattle.ss_program.specs.declared.branch.Branch.TheVariants as branch
+use Rattle.ss_program.specs.declared.call.Call.{Call}
+use Rattle.ss_program.specs.declared.timing.Notice.{Notice}
+use Rattle.ss_program.specs.declared.timing.Notice.TheVariants as notice
+use Rattle.ss_program.specs.declared.timing.Listing.{Listing}
+use Rattle.ss_program.specs.declared.timing.Listing.TheVariants as listing
+use Rattle.ss_program.specs.declared.timing.When.{When}
+use Rattle.ss_program.specs.declared.timing.When.TheVariants as when
+use Rattle.ss_program.specs.declared.timing.Timing.{Timing}
+use Rattle.ss_program.specs.declared.timing.Timing.TheVariants as timing
+use Rattle.ss_program.specs.declared.place.Assign.{Assign}
+use Rattle.ss_program.specs.declared.place.Assign.TheVariants as assign
+use Rattle.ss_program.specs.declared.place.Output.{Output}
+use Rattle.ss_program.specs.declared.place.Output.TheVariants as output
+use Rattle.ss_program.specs.declared.place.Control.{Control}
+use Rattle.ss_program.specs.declared.place.Control.TheVariants as control
+use Rattle.ss_program.specs.declared.place.Place.{Place}
+use Rattle.ss_program.specs.declared.place.Place.TheVariants as place
+use Rattle.ss_program.specs.declared.place.Spot.{Spot}
+use Rattle.ss_program.specs.declared.target.SetRef.{SetRef}
+use Rattle.ss_program.specs.declared.target.Target.{Target}
+use Rattle.ss_program.specs.declared.target.Target.TheVariants as target
+use Rattle.ss_program.specs.declared.variable.Variable.{Variable}
+use Rattle.ss_program.specs.declared.variable.Variable.TheVariants.{Global, Local, Clock}
+use Rattle.ss_program.specs.declared.kinds.SectionKind.{SectionKind}
+use Rattle.ss_program.specs.declared.kinds.SectionKind.TheVariants as sections
+use Rattle.ss_program.specs.declared.sum.OwnerKept.{OwnerKept}
+use Rattle.ss_program.specs.declared.sum.OwnerKept.TheVariants as owner
+use Rattle.ss_program.specs.declared.sum.MemberKept.{MemberKept}
+use Rattle.ss_program.specs.declared.sum.MemberKept.TheVariants as member
+use Rattle.ss_program.specs.Program.{class_of, set_of, section_of, SectionTable, ProgramTable}
+use Rattle.ss_program.specs.ProgramExpr as x
+use Rattle.ss_program.specs.ProgramCondition as y
+use Rattle.ss_check.specs.Breach.{breach}
+use Rattle.ss_check.specs.Resolved.{resolved}
+
+-- ---- words that stay what they are
+
+-- how two values are compared
+abbrev pub named_comparison : ItsComparison → Comparison
+named_comparison comparison.Equals = Equal
+named_comparison comparison.Differs = Unequal
+named_comparison comparison.Below = Less
+named_comparison comparison.Above = Greater
+named_comparison comparison.AtMost = AtMost
+named_comparison comparison.AtLeast = AtLeast
+
+-- IS or IS NOT
+abbrev pub named_copula : ItsCopula → Copula
+named_copula copula.Is = copulas.Is
+named_copula copula.IsNot = copulas.IsNot
+
+-- an end of a list
+abbrev pub named_end : End → SetEnd
+named_end end.First = ends.First
+named_end end.Last = ends.Last
+
+-- the way in which a FOR phrase goes
+abbrev pub named_direction : ItsDirection → Direction
+named_direction direction.Onward = directions.Onward
+named_direction direction.Backward = directions.Backward
+
+-- the word of a qualifier
+abbrev pub named_word : ItsWord → QualifierWord
+named_word word.With = words.With
+named_word word.Unless = words.Unless
+named_word word.While = words.While
+named_word word.Until = words.Until
+
+-- what a COMPUTE tells
+abbrev pub named_statistic : ItsStatistic → Statistic
+named_statistic statistic.Number = statistics.Number
+named_statistic statistic.Sum = statistics.Sum
+named_statistic statistic.Maximum = statistics.Maximum
+named_statistic statistic.Minimum = statistics.Minimum
+
+-- ---- lists
+
+-- a list that is not empty
+abbrev pub several : {A : Type 0} → A → List A → Several A
+several none [] = record { first = none; others = [] }
+several none (a ∷ rest) = record { first = a; others = rest }
+
+-- a list of arguments or parameters, behind GIVEN
+abbrev pub given : {A : Type 0} → List A → s.Listing A
+given [] = s.Unwritten
+given (a ∷ rest) = s.BehindGiven (record { first = a; others = rest })
+
+-- ---- names of the language
+
+-- what a set keeps of its owner
+abbrev pub owner_kept_name : OwnerKept → Name → Name
+owner_kept_name owner.First n = codes "F." ++ n
+owner_kept_name owner.Last n = codes "L." ++ n
+owner_kept_name owner.Count n = codes "N." ++ n
+
+-- what a set keeps of its members
+abbrev pub member_kept_name : MemberKept → Name → Name
+member_kept_name member.Predecessor n = codes "P." ++ n
+member_kept_name member.Successor n = codes "S." ++ n
+member_kept_name member.Membership n = codes "M." ++ n
+
+-- the name with this number in a table
+abbrev pub name_at : List Name → ℕ → Name
+name_at table i = unwrap_or (slice_get table i) []
+
+-- the reference that an expression of one name is
+abbrev pub reference_of : e.Expr → Reference
+reference_of (e.expr None (e.term (e.applied n a e.no_exprs) e.no_products) e.no_sums) =
+    record { name = n; subscript = Some a }
+reference_of (e.expr None (e.term (e.named n) e.no_products) e.no_sums) = record { name = n; subscript = None }
+reference_of _ = record { name = []; subscript = None }
+
+-- p: the program; locals: the names of a section's local variables
+module _ (p : ProgramTable) (locals : List Name) where
+  -- ---- expressions
+
+  -- a variable
+  abbrev pub named_variable : Variable → Name
+  named_variable (Global i) = name_at p.globals i
+  named_variable (Local i) = name_at locals i
+  named_variable Clock = codes "TIME.V"
+
+  -- an attribute of a class
+  abbrev pub named_attribute : ℕ → ℕ → Name
+  named_attribute c a = name_at (class_of p c).attributes a
+
+  abbrev mutual
+    -- an expression, with names for numbers
+    pub named_expr : x.Expr → e.Expr
+    named_expr (x.expr sign t ts) = e.expr sign (named_term t) (named_sums ts)
+
+    -- its further terms
+    pub named_sums : x.Sums → e.Sums
+    named_sums x.no_sums = e.no_sums
+    named_sums (x.sum sign t ts) = e.sum sign (named_term t) (named_sums ts)
+
+    -- a product
+    pub named_term : x.Term → e.Term
+    named_term (x.term f fs) = e.term (named_factor f) (named_products fs)
+
+    -- its further factors
+    pub named_products : x.Products → e.Products
+    named_products x.no_products = e.no_products
+    named_products (x.product f fs) = e.product (named_factor f) (named_products fs)
+
+    -- a number, a variable, a function, an attribute, or an expression in parentheses
+    pub named_factor : x.Factor → e.Factor
+    named_factor (x.digits n) = e.digits n
+    named_factor (x.variable u) = e.named (named_variable u)
+    named_factor (x.absolute a) = e.applied (codes "ABS.F") (named_expr a) e.no_exprs
+    named_factor (x.greatest a bs) = e.applied (codes "MAX.F") (named_expr a) (named_exprs bs)
+    named_factor (x.least a bs) = e.applied (codes "MIN.F") (named_expr a) (named_exprs bs)
+    named_factor (x.quotient a b) = e.applied (codes "DIV.F") (named_expr a) (e.exprs (named_expr b) e.no_exprs)
+    named_factor (x.remainder a b) = e.applied (codes "MOD.F") (named_expr a) (e.exprs (named_expr b) e.no_exprs)
+    named_factor (x.attribute c a i) = named_applied (named_attribute c a) i
+    named_factor (x.owner_kept kept t i) = named_applied (owner_kept_name kept (set_of p t).name) i
+    named_factor (x.member_kept kept t i) = named_applied (member_kept_name kept (set_of p t).name) i
+    named_factor (x.within a) = e.within (named_expr a)
+
+    -- a name with its subscript, if one is written
+    pub named_applied : Name → x.Subscript → e.Factor
+    named_applied n (x.implied v) = e.named n
+    named_applied n x.of_system = e.named n
+    named_applied n (x.at a) = e.applied n (named_expr a) e.no_exprs
+
+    -- the arguments behind the first
+    pub named_exprs : x.Exprs → e.Exprs
+    named_exprs x.no_exprs = e.no_exprs
+    named_exprs (x.exprs a bs) = e.exprs (named_expr a) (named_exprs bs)
+
+  -- ---- references
+
+  -- a subscript, if one is written
+  abbrev pub named_subscript : x.Subscript → Option e.Expr
+  named_subscript (x.implied v) = None
+  named_subscript x.of_system = None
+  named_subscript (x.at a) = Some (named_expr a)
+
+  -- as a value
+  abbrev pub named_value : x.Expr → Reference
+  named_value a = reference_of (named_expr a)
+
+  -- as a target
+  abbrev pub named_target : Target → Reference
+  named_target (target.Variable u) = record { name = named_variable u; subscript = None }
+  named_target (target.Attribute c a i) = record { name = named_attribute c a; subscript = named_subscript i }
+
+  -- as a set
+  abbrev pub named_set : SetRef → Reference
+  named_set r = record { name = (set_of p r.set).name; subscript = named_subscript r.owner }
+
+  -- what stands behind CALLED, if it is written: a target, and a value
+  abbrev pub named_called_target : Bool → Target → Option Reference
+  named_called_target false t = None
+  named_called_target true t = Some (named_target t)
+
+  -- the same of a value
+  abbrev pub named_called_value : Bool → x.Expr → Option Reference
+  named_called_value false a = None
+  named_called_value true a = Some (named_value a)
+
+  -- targets, of which there is one at least
+  abbrev pub named_targets : List Target → Several Reference
+  named_targets ts = several (record { name = []; subscript = None }) (map named_target ts)
+
+  -- ---- conditions
+
+  abbrev mutual
+    -- a condition
+    pub named_condition : y.Condition → c.Condition
+    named_condition (y.any a bs) = c.condition (named_conjunction a) (named_alternatives bs)
+
+    -- what OR joins to it
+    pub named_alternatives : y.Conjunctions → c.Alternatives
+    named_alternatives y.no_conjunctions = c.no_alternatives
+    named_alternatives (y.or_else a bs) = c.alternative (named_conjunction a) (named_alternatives bs)
+
+    -- relations that AND joins
+    pub named_conjunction : y.Conjunction → c.Conjunction
+    named_conjunction (y.all r rs) = c.conjunction (named_relation r) (named_additions rs)
+
+    -- the relations behind the first
+    pub named_additions : y.Relations → c.Additions
+    named_additions y.no_relations = c.no_additions
+    named_additions (y.and_also r rs) = c.addition (named_relation r) (named_additions rs)
+
+    -- a comparison, IS EMPTY, IS IN, or a condition in parentheses
+    pub named_relation : y.Relation → c.Relation
+    named_relation (y.compared a how b) = c.compared (named_expr a) (named_comparison how) (named_expr b)
+    named_relation (y.is_empty r is) = c.is_empty (named_set r) (named_copula is)
+    named_relation (y.is_in a is r) = c.is_in (named_expr a) (named_copula is) (named_set r)
+    named_relation (y.nested a) = c.nested (named_condition a)
+
+  -- ---- statements that hold no other
+
+  -- LET, ADD and SUBTRACT
+  abbrev pub named_assign : Assign → s.Assign
+  named_assign (assign.Let written t a) = s.Let written (named_target t) (named_expr a)
+  named_assign (assign.Add a t) = s.Add (named_expr a) (named_target t)
+  named_assign (assign.Subtract a t) = s.Subtract (named_expr a) (named_target t)
+
+  -- CREATE, CREATE EVERY and DESTROY
+  abbrev pub named_making : Making → s.Making
+  named_making (making.Create k called t) = s.Create (class_of p k).name (named_called_target called t)
+  named_making (making.CreateEvery k n count) = s.CreateEvery (class_of p k).name (option_map named_expr n)
+  named_making (making.Destroy k called a) = s.Destroy (class_of p k).name (named_called_value called a)
+
+  -- where FILE puts a member
+  abbrev pub named_position : Position → s.FilePlace
+  named_position position.ByRule = s.ByDiscipline
+  named_position (position.AtEnd z) = s.AtEnd (named_end z)
+  named_position (position.Before a) = s.Before (named_expr a)
+  named_position (position.After a) = s.After (named_expr a)
+
+  -- FILE and REMOVE
+  abbrev pub named_filing : Filing → s.Filing
+  named_filing (filing.File a how r) = s.File (named_expr a) (named_position how) (named_set r)
+  named_filing (filing.FileAt z a r) = s.FileAt (named_end z) (named_expr a) (named_set r)
+  named_filing (filing.RemoveAt z t r) = s.RemoveEnd (named_end z) (named_target t) (named_set r)
+  named_filing (filing.Remove a r) = s.Remove (named_expr a) (named_set r)
+
+  -- CALL, its arguments behind GIVEN
+  abbrev pub named_call : Call → s.Transfer
+  named_call k = s.Call (section_of p k.section).name (given (map named_expr k.given)) (map named_target k.targets)
+
+  -- A or THE
+  abbrev pub named_article : Notice → Article
+  named_article (notice.New called t) = A
+  named_article (notice.Known called a) = The
+
+  -- what a notice is CALLED
+  abbrev pub named_notice : Notice → Option Reference
+  named_notice (notice.New called t) = named_called_target called t
+  named_notice (notice.Known called a) = named_called_value called a
+
+  -- the values and the reference of a SCHEDULE
+  abbrev pub named_details : Listing → Option Reference → List e.Expr → s.Details
+  named_details listing.InParentheses r values =
+      s.ValuesFirst (several (e.expr None (e.term (e.digits 0) e.no_products) e.no_sums) values) r
+  named_details listing.Given r values = s.CalledFirst r values
+
+  -- when a notice is due
+  abbrev pub named_when : When → s.When
+  named_when (when.At a) = s.At (named_expr a)
+  named_when when.Now = s.Now
+  named_when (when.In a) = s.In (named_expr a)
+
+  -- SCHEDULE, CANCEL and START SIMULATION
+  abbrev pub named_timing : Timing → s.Timing
+  named_timing (timing.Schedule t) =
+      s.Schedule (named_article t.notice) (class_of p t.class).name
+      (named_details t.listing (named_notice t.notice) (map named_expr t.arguments)) (named_when t.when)
+  named_timing (timing.Cancel k called a) = s.Cancel (class_of p k).name (named_called_value called a)
+  named_timing timing.Start = s.StartSimulation
+
+  -- PRINT and SKIP
+  abbrev pub named_output : Output → s.Exchange
+  named_output (output.Print n values picture) = s.Print n (map named_expr values) picture
+  named_output (output.Skip a) = s.Skip (named_expr a)
+
+  -- ---- FOR phrases
+
+  -- where a walk through a list begins
+  abbrev pub named_begin : Begin → l.WalkStart
+  named_begin begin.AtTheEnd = l.AtEnd
+  named_begin (begin.From a) = l.From (named_expr a)
+  named_begin (begin.After a) = l.After (named_expr a)
+
+  -- the variable of FOR EACH behind CALLED, if it is written
+  abbrev pub named_loop_variable : Bool → Variable → Option Name
+  named_loop_variable false u = None
+  named_loop_variable true u = Some (named_variable u)
+
+  -- what a FOR phrase goes through
+  abbrev pub named_range : Phrase → l.Range
+  named_range (phrase.Counting way u a b step) =
+      l.Counting (named_direction way) (named_variable u) (named_expr a) (named_expr b) (option_map named_expr step)
+  named_range (phrase.Each k called u count) = l.Each (class_of p k).name (named_loop_variable called u)
+  named_range (phrase.Walking way u r start) =
+      l.Walking (named_direction way) (named_variable u) (named_set r) (named_begin start)
+
+  -- a qualifier with its condition
+  abbrev pub named_qualifier : Qualifier → l.Qualifier
+  named_qualifier q = record { word = named_word q.word; condition = named_condition q.condition }
+
+  -- a FOR phrase
+  abbrev pub named_phrase : ForPhrase → l.Phrase
+  named_phrase f = record { range = named_range f.phrase; qualifiers = map named_qualifier f.qualifiers }
+
+  -- ---- places
+
+  -- what an IF asks
+  abbrev pub named_question : Question → l.Question
+  named_question (question.Whether a) = l.Holds (named_condition a)
+  named_question question.WasFound = l.Found
+  named_question question.WasNone = l.NoneFound
+
+  -- IF, ELSE and ALWAYS
+  abbrev pub named_branch : Branch → w.Branch
+  named_branch (branch.If q) = w.If (named_question q)
+  named_branch branch.Else = w.Else
+  named_branch branch.Always = w.Always
+
+  -- a target of COMPUTE and its statistic
+  abbrev pub named_telling : Telling → l.Computed
+  named_telling t = record { target = named_target t.target; statistic = named_statistic t.statistic }
+
+  -- a FOR phrase, LOOP, FIND, and the two places of COMPUTE
+  abbrev pub named_loop : Looping → w.Loop
+  named_loop (looping.For f) = w.For (named_phrase f) f.has_do
+  named_loop looping.Loop = w.Next
+  named_loop looping.Find = w.Find
+  named_loop (looping.Gather a) = w.Gather (named_expr a)
+  named_loop (looping.Tell ts) =
+      w.Compute (several (record { target = record { name = []; subscript = None }; statistic = statistics.Number })
+      (map named_telling ts))
+
+  -- what ends a section or the run
+  abbrev pub named_control : Control → w.Place
+  named_control control.Stop = w.Simply (s.Transfers s.Stop)
+  named_control control.Return = w.Simply (s.Transfers s.Return)
+  named_control control.End = w.EndOfSection
+
+  -- a place, by its kind
+  abbrev pub named_place : Place → w.Place
+  named_place (place.Assign a) = w.Simply (s.Assigns (named_assign a))
+  named_place (place.Making a) = w.Simply (s.Makes (named_making a))
+  named_place (place.Filing a) = w.Simply (s.Files (named_filing a))
+  named_place (place.Output a) = w.Simply (s.Exchanges (named_output a))
+  named_place (place.Control a) = named_control a
+  named_place (place.Branch b) = w.Branches (named_branch b)
+  named_place (place.Looping b) = w.Loops (named_loop b)
+  named_place (place.Call k) = w.Simply (s.Transfers (named_call k))
+  named_place (place.Timing t) = w.Simply (s.Times (named_timing t))
+  named_place (place.Read ts) = w.Simply (s.Exchanges (s.Read (named_targets ts)))
+
+  -- a place on its line
+  abbrev pub named_spot : Spot → w.Spot
+  named_spot q = record { line = q.line; place = named_place q.place }
+
+-- ---- sections
+
+-- a head, by the kind of the section: its name, the names of the given and of the yielded parameters, and SAVING
+abbrev pub named_head : SectionKind → Name → List Name → List Name → Bool → Head
+named_head sections.Main n ps ys saving = MainHead
+named_head sections.Routine n ps ys saving = RoutineHead n (given ps) ys
+named_head sections.Event n ps ys saving = EventHead n (given ps) saving
+
+-- a section of a program; its parameters are the first of its locals
+abbrev pub named_section : ProgramTable → SectionTable → w.Section
+named_section p q = record {
+  line = q.line;
+  head = named_head q.kind q.name (take q.given q.locals) (take q.yielded (drop q.given q.locals)) q.saving;
+  locals = [];
+  places = map (named_spot p q.locals) q.places;
+}
+
+-- the sections of a program
+abbrev pub named_sections : ProgramTable → List w.Section
+named_sections p = map (named_section p) p.sections
+
+-- ---- what a program does not keep of its text
+
+-- a list of arguments or parameters as written behind GIVEN
+abbrev pub behind_given : {A : Type 0} → s.Listing A → s.Listing A
+behind_given (s.InParentheses rest) = s.BehindGiven rest
+behind_given a = a
+
+-- a CALL with its arguments behind GIVEN
+abbrev pub plain_transfer : s.Transfer → s.Transfer
+plain_transfer (s.Call n values targets) = s.Call n (behind_given values) targets
+plain_transfer a = a
+
+-- a place, with the arguments of a CALL behind GIVEN
+abbrev pub plain_place : w.Place → w.Place
+plain_place (w.Simply (s.Transfers a)) = w.Simply (s.Transfers (plain_transfer a))
+plain_place a = a
+
+-- the same on its line
+abbrev pub plain_spot : w.Spot → w.Spot
+plain_spot q = record { line = q.line; place = plain_place q.place }
+
+-- a head, with its parameters behind GIVEN
+abbrev pub plain_head : Head → Head
+plain_head MainHead = MainHead
+plain_head (RoutineHead n ps ys) = RoutineHead n (behind_given ps) ys
+plain_head (EventHead n ps saving) = EventHead n (behind_given ps) saving
+
+-- a section without its local DEFINEs, and with parameters and arguments behind GIVEN
+abbrev pub plain_section : w.Section → w.Section
+plain_section q = record {
+  line = q.line;
+  head = plain_head q.head;
+  locals = [];
+  places = map plain_spot q.places;
+}
+
+-- ---- the law
+
+-- a program without a breach, each number looked up in its table, is its text again, but for what it does not keep
+abbrev pub TablesGiveTheText : Type 0
+TablesGiveTheText =
+    (decls : Decls) (qs : List w.Section) → breach decls qs ≡ None →
+    named_sections (resolved decls qs) ≡ map plain_section qs

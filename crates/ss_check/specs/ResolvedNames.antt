@@ -1,0 +1,233 @@
+-- The tables of a program's names, and what a name stands for: its number in its table.
+use Rattle.std.specs.Prelude.{ℕ, ◌+◌, Bool, false, if◌then◌else◌, List, [], ◌∷◌, ◌++◌, map, codes, bytes_eq, slice_index_or, Option, Some, None, unwrap_or}
+use Rattle.std.specs.List.{filter, flat_map, position_or_len}
+use Rattle.ss_words.specs.Lists.{Name}
+use Rattle.ss_routines.specs.Tree.{Head}
+use Rattle.ss_routines.specs.Places.{Section}
+use Rattle.ss_program.specs.declared.sum.OwnerKept.{OwnerKept}
+use Rattle.ss_program.specs.declared.sum.OwnerKept.TheVariants as owner
+use Rattle.ss_program.specs.declared.sum.MemberKept.{MemberKept}
+use Rattle.ss_program.specs.declared.sum.MemberKept.TheVariants as member
+use Rattle.ss_program.specs.declared.variable.Variable.{Variable}
+use Rattle.ss_program.specs.declared.variable.Variable.TheVariants.{Global, Local, Clock}
+use Rattle.ss_program.specs.declared.target.Target.{Target}
+use Rattle.ss_program.specs.declared.target.Target.TheVariants as target
+use Rattle.ss_program.specs.ProgramExpr.{Expr, Exprs, no_exprs, exprs, Factor, variable, absolute, greatest, least, quotient, remainder, attribute, owner_kept, member_kept, Subscript, implied, of_system, at, within}
+use Rattle.ss_check.specs.declared.declared.fact.Fact.{Fact}
+use Rattle.ss_check.specs.declared.declared.function.Function.{Function}
+use Rattle.ss_check.specs.declared.declared.function.Function.TheVariants.{Absolute, Greatest, Least, Quotient, Remainder}
+use Rattle.ss_check.specs.declared.declared.kept.OwnerKept.{OwnerKept as OwnersKept}
+use Rattle.ss_check.specs.declared.declared.kept.OwnerKept.TheVariants.{First, Last, Count}
+use Rattle.ss_check.specs.declared.declared.kept.MemberKept.{MemberKept as MembersKept}
+use Rattle.ss_check.specs.declared.declared.kept.MemberKept.TheVariants.{Predecessor, Successor, Membership}
+use Rattle.ss_check.specs.declared.declared.name_kind.NameKind.{NameKind}
+use Rattle.ss_check.specs.declared.declared.name_kind.NameKind.TheVariants as k
+use Rattle.ss_check.specs.declared.declared.tables.Tables.{Tables}
+use Rattle.ss_check.specs.Facts.{each_once, fact, fact_of, names_of}
+use Rattle.ss_check.specs.NameKinds.{is_attribute_of, is_class, is_global, names_set}
+use Rattle.ss_check.specs.Declarations.{is_declared, kind_of, parameters, routine_facts, events_in}
+use Rattle.ss_check.specs.Uses.{Use, Value, Target as AsTarget, LoopVariable, uses}
+
+-- the number of a name in a table
+abbrev pub number : Name → List Name → ℕ
+number n table = position_or_len (bytes_eq n) table
+
+-- the tables in which names have their numbers
+pub record Names : Type 0 where
+  -- the names of the global variables
+  pub globals : List Name
+  -- those of the classes
+  pub classes : List Name
+  -- those of each class's attributes
+  pub attributes : List (List Name)
+  -- those of the sets
+  pub sets : List Name
+  -- the number of the section of each routine
+  pub routines : List (Fact ℕ)
+  -- the number of the section of each event class
+  pub events : List (Fact ℕ)
+
+-- the names whose facts pass a test
+abbrev pub names_where : {A : Type 0} → (A → Bool) → List (Fact A) → List Name
+names_where test table = names_of (filter (λ f. test f.what) table)
+
+-- the names whose facts pass a test, each once
+abbrev pub each_of : {A : Type 0} → (A → Bool) → List (Fact A) → List Name
+each_of test table = each_once (names_where test table)
+
+-- the names of some kind, in order of declaration
+abbrev pub of_kind : (NameKind → Bool) → Tables → List Name
+of_kind test d = each_of test d.kinds
+
+-- a set
+abbrev pub is_set : NameKind → Bool
+is_set j = names_set (Some j)
+
+-- the attributes of a class, in order of declaration
+abbrev pub attributes_of : Tables → Name → List Name
+attributes_of d c = names_where (is_attribute_of c) d.kinds
+
+-- the names of the attributes of a class, by the tables
+abbrev pub attribute_names : Names → Name → List Name
+attribute_names v c = slice_index_or v.attributes (number c v.classes) []
+
+-- the names of facts of so many sections, each with the section's number
+abbrev pub numbered : {A : Type 0} → ℕ → List (List A) → (A → Name) → List (Fact ℕ)
+numbered i [] name = []
+numbered i (fs ∷ rest) name = map (λ f. fact (name f) i) fs ++ numbered (i + 1) rest name
+
+-- the tables of a whole program
+abbrev pub names : Tables → List Head → Names
+names d heads = record {
+  globals = of_kind is_global d;
+  classes = of_kind is_class d;
+  attributes = map (attributes_of d) (of_kind is_class d);
+  sets = of_kind is_set d;
+  routines = numbered 0 (map routine_facts heads) (λ f. f.name);
+  events = numbered 0 (map events_in heads) (λ n. n);
+}
+
+-- ---- the local variables of a section
+
+-- the name that a use takes for a variable
+abbrev pub variable_used : Use → List Name
+variable_used (Value n None) = n ∷ []
+variable_used (AsTarget n false) = n ∷ []
+variable_used (LoopVariable n) = n ∷ []
+variable_used _ = []
+
+-- a name that is not declared
+abbrev pub undeclared : Tables → Name → List Name
+undeclared d n = if is_declared d n then [] else n ∷ []
+
+-- the names that the places of a section take for variables
+abbrev pub variables_used : Section → List Name
+variables_used s = flat_map (λ x. flat_map variable_used (uses x.place)) s.places
+
+-- its parameters, then the other names that are not declared, in the order of the places
+abbrev pub locals_of : Tables → Section → List Name
+locals_of d s = each_once (parameters s.head ++ flat_map (undeclared d) (variables_used s))
+
+-- ---- what a name stands for
+
+-- what a set keeps of its owner
+abbrev pub kept_of_owner : OwnersKept → OwnerKept
+kept_of_owner First = owner.First
+kept_of_owner Last = owner.Last
+kept_of_owner Count = owner.Count
+
+-- what a set keeps of its members
+abbrev pub kept_of_member : MembersKept → MemberKept
+kept_of_member Predecessor = member.Predecessor
+kept_of_member Successor = member.Successor
+kept_of_member Membership = member.Membership
+
+-- the subscript of a set that the system owns; no program without a breach writes one
+abbrev pub system_subscript : Option Expr → Subscript
+system_subscript None = of_system
+system_subscript (Some e) = at e
+
+-- d: what the whole program says; v: its tables; locals: those of the section
+module _ (d : Tables) (v : Names) (locals : List Name) where
+  -- the number of a class
+  abbrev pub class_number : Name → ℕ
+  class_number c = number c v.classes
+
+  -- the number of a set
+  abbrev pub set_number : Name → ℕ
+  set_number s = number s v.sets
+
+  -- the number of the global variable of a class's name
+  abbrev pub class_variable : Name → ℕ
+  class_variable c = number c v.globals
+
+  -- the number of the global variable N.c
+  abbrev pub count_variable : Name → ℕ
+  count_variable c = number (codes "N." ++ c) v.globals
+
+  -- the number of an attribute in its class
+  abbrev pub attribute_number : Name → Name → ℕ
+  attribute_number c a = number a (attribute_names v c)
+
+  -- the number of a routine's section
+  abbrev pub routine_number : Name → ℕ
+  routine_number n = unwrap_or (fact_of v.routines n) 0
+
+  -- the number of an event class's section
+  abbrev pub event_section : Name → ℕ
+  event_section n = unwrap_or (fact_of v.events n) 0
+
+  -- a variable: a name that is not declared is a local one
+  abbrev pub variable_of : Option NameKind → Name → Variable
+  variable_of None n = Local (number n locals)
+  variable_of (Some k.Clock) n = Clock
+  variable_of (Some j) n = Global (number n v.globals)
+
+  -- a variable, by what its name is declared as
+  abbrev pub resolved_variable : Name → Variable
+  resolved_variable n = variable_of (kind_of d n) n
+
+  -- ---- subscripts; without one the variable of the class's name stands for it
+
+  -- of a class
+  abbrev pub class_subscript : Name → Option Expr → Subscript
+  class_subscript c None = implied (class_variable c)
+  class_subscript c (Some e) = at e
+
+  -- by the owner of a set, a class or the system
+  abbrev pub subscript_of_owner : Option Name → Option Expr → Subscript
+  subscript_of_owner None e = system_subscript e
+  subscript_of_owner (Some c) e = class_subscript c e
+
+  -- the class that owns a set, none for the system
+  abbrev pub owner_of : Name → Option Name
+  owner_of s = unwrap_or (fact_of d.owners s) None
+
+  -- the class of its members
+  abbrev pub member_class : Name → Name
+  member_class s = unwrap_or (fact_of d.members s) []
+
+  -- of the owner of a set
+  abbrev pub owner_subscript : Name → Option Expr → Subscript
+  owner_subscript s e = subscript_of_owner (owner_of s) e
+
+  -- of a member of a set
+  abbrev pub member_subscript : Name → Option Expr → Subscript
+  member_subscript s e = class_subscript (member_class s) e
+
+  -- ---- values and targets
+
+  -- a name with a subscript or none, by what it is declared as
+  abbrev pub factor_of : Option NameKind → Name → Option Expr → Factor
+  factor_of (Some (k.Attribute c)) n e = attribute (class_number c) (attribute_number c n) (class_subscript c e)
+  factor_of (Some (k.OwnerKept a s)) n e = owner_kept (kept_of_owner a) (set_number s) (owner_subscript s e)
+  factor_of (Some (k.MemberKept a s)) n e = member_kept (kept_of_member a) (set_number s) (member_subscript s e)
+  factor_of j n e = variable (variable_of j n)
+
+  -- DIV.F and MOD.F of two arguments; no program without a breach has another number of them
+  abbrev pub factor_of_two : (Expr → Expr → Factor) → Expr → Exprs → Factor
+  factor_of_two f x no_exprs = within x
+  factor_of_two f x (exprs y ys) = f x y
+
+  -- a function of its arguments
+  abbrev pub function_factor : Function → Expr → Exprs → Factor
+  function_factor Absolute x xs = absolute x
+  function_factor Greatest x xs = greatest x xs
+  function_factor Least x xs = least x xs
+  function_factor Quotient x xs = factor_of_two quotient x xs
+  function_factor Remainder x xs = factor_of_two remainder x xs
+
+  -- a name with arguments: a function of them, or what takes the first as its subscript
+  abbrev pub applied_factor : Option NameKind → Name → Expr → Exprs → Factor
+  applied_factor (Some (k.Function f)) n x xs = function_factor f x xs
+  applied_factor j n x xs = factor_of j n (Some x)
+
+  -- a name with a subscript or none, as a value
+  abbrev pub value_factor : Option NameKind → Name → Option Expr → Factor
+  value_factor j n None = factor_of j n None
+  value_factor j n (Some x) = applied_factor j n x no_exprs
+
+  -- as a target
+  abbrev pub target_of : Option NameKind → Name → Option Expr → Target
+  target_of (Some (k.Attribute c)) n e = target.Attribute (class_number c) (attribute_number c n) (class_subscript c e)
+  target_of j n e = target.Variable (variable_of j n)

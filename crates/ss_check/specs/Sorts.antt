@@ -1,0 +1,13 @@
+-- The sorts of names that have a table.
+use Rattle.std.specs.Prelude.{Bool}
+use Rattle.ss_check.specs.declared.declared.name_kind.NameKind.{NameKind}
+use Rattle.ss_check.specs.declared.declared.name_tables.Sort.{Sort}
+use Rattle.ss_check.specs.declared.declared.name_tables.Sort.TheVariants as sort
+use Rattle.ss_check.specs.NameKinds.{is_class, is_global}
+use Rattle.ss_check.specs.ResolvedNames.{is_set}
+
+-- whether names declared as this are of a sort
+abbrev pub belongs : Sort → NameKind → Bool
+belongs sort.GlobalVariable j = is_global j
+belongs sort.Class j = is_class j
+belongs sort.Set j = is_set j

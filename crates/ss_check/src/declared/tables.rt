@@ -1,0 +1,159 @@
+ghost use Rattle.std.specs.Prelude.{◌≡◌, ◌++◌, [], length, IfOk, OnOk};
+ghost use Rattle.ss_preamble.specs.View as items;
+ghost use Rattle.ss_routines.specs.Tree.{listed};
+ghost use Rattle.ss_routines.specs.View as heads;
+ghost use Rattle.ss_check.specs.Adding.{entry_at, with_entry, with_head};
+ghost use Rattle.ss_check.specs.Declarations.{tables_of};
+ghost use Rattle.ss_check.specs.NameKinds.{language_facts};
+
+use crate::declared::fact_table::FactTable;
+use crate::declared::function::Function;
+use crate::declared::item_names::{
+    add_classes, add_disciplines, add_external, add_priority, add_ties,
+};
+use crate::declared::kind_table::KindTable;
+use crate::declared::name_counts::NameCounts;
+use crate::declared::name_kind::NameKind;
+use crate::declared::name_list::NameList;
+use crate::declared::set_facts::{add_attributes, add_members, add_owners};
+use crate::resolved::declarations::add_declarations;
+use ss_preamble::{Heading, ItemAt};
+use ss_program::Name;
+use ss_routines::{Listing, Section, SectionKind};
+use std::alloc::{AllocError, Global};
+
+/// How many given and how many yielded parameters a routine has.
+#[derive(Clone, Copy, PartialEq, Eq)]
+pub struct Counts {
+    pub given: usize,
+    pub yielded: usize,
+}
+
+/// What items and heads say of names (docs/LANGUAGE.md, "Rules of the checker").
+#[derive(Drop)]
+pub struct Tables {
+    /// What names are declared as.
+    pub kinds: KindTable,
+    /// The class of each attribute.
+    pub attributes: NameCounts,
+    /// The owner of each set: a class, or none for the system.
+    pub owners: FactTable<Option<Name>>,
+    /// The class of each set's members.
+    pub members: FactTable<Name>,
+    /// The sets whose discipline is given.
+    pub disciplines: NameList,
+    /// The event classes whose ties are broken.
+    pub ties: NameList,
+    /// The external classes.
+    pub external: NameList,
+    /// The classes that PRIORITY names.
+    pub priority: NameList,
+    /// All names that are named as classes.
+    pub classes: NameList,
+    /// The event classes that have a section.
+    pub events: NameList,
+    pub routines: FactTable<Counts>,
+    pub has_main: bool,
+}
+
+impl Tables {
+    /// What no item and no head says: what the language declares before all.
+    pub fn new(alloc: Global) -> Result<Self, AllocError>
+        ensures { IfOk result (λ tables. tables ≡ tables_of [] []) }
+    {
+        Ok(Tables {
+            kinds: language_kinds(alloc)?,
+            attributes: NameCounts::new(alloc),
+            owners: FactTable::new(alloc),
+            members: FactTable::new(alloc),
+            disciplines: NameList::new(alloc),
+            ties: NameList::new(alloc),
+            external: NameList::new(alloc),
+            priority: NameList::new(alloc),
+            classes: NameList::new(alloc),
+            events: NameList::new(alloc),
+            routines: FactTable::new(alloc),
+            has_main: false,
+        })
+    }
+
+    /// Adds what an item says, under this heading.
+    #[tactic(auto, unfolding(crate::specs::Adding::with_entry))]
+    pub fn add_item(
+        &mut self,
+        alloc: Global,
+        heading: Option<Heading>,
+        one: &ItemAt,
+    ) -> Result<(), AllocError>
+        ensures { OnOk result (self.new ≡ with_entry self.old (entry_at heading (items.item_at_view one.now))) }
+    {
+        let item = &one.item;
+        add_declarations(alloc, &mut self.kinds, heading, item)?;
+        add_attributes(&mut self.attributes, item)?;
+        add_owners(alloc, &mut self.owners, item)?;
+        add_members(alloc, &mut self.members, item)?;
+        add_disciplines(&mut self.disciplines, item)?;
+        add_ties(&mut self.ties, item)?;
+        add_external(&mut self.external, item)?;
+        add_priority(&mut self.priority, item)?;
+        add_classes(&mut self.classes, item)
+    }
+
+    /// Adds what the head of a section says.
+    #[tactic(auto, unfolding(crate::specs::Adding::with_head))]
+    pub fn add_head(&mut self, section: &Section) -> Result<(), AllocError>
+        ensures { OnOk result (self.new ≡ with_head self.old (heads.section_view section.now).head) }
+    {
+        match &section.kind {
+            SectionKind::Main => {
+                self.has_main = true;
+                Ok(())
+            }
+            SectionKind::Routine { given, yielded } => {
+                let counts = Counts {
+                    given: name_count(given),
+                    yielded: yielded.len(),
+                };
+                self.kinds.add(section.name.bytes(), NameKind::Routine)?;
+                self.routines.add(section.name.bytes(), counts)
+            }
+            SectionKind::Event { .. } => self.events.add(section.name.bytes()),
+        }
+    }
+}
+
+/// How many names are listed.
+pub(crate) fn name_count(names: &Listing<ss_words::Name>) -> usize
+    ensures { result ≡ length (listed (heads.listing_view (λ n. n) names.now)) }
+{
+    match names {
+        Listing::Unwritten => 0,
+        Listing::BehindGiven(names) | Listing::InParentheses(names) => 1 + names.others.len(),
+    }
+}
+
+/// What the language declares before all.
+fn language_kinds(alloc: Global) -> Result<KindTable, AllocError>
+    ensures { IfOk result (λ kinds. kinds ≡ language_facts) }
+{
+    let mut kinds = KindTable::new(alloc);
+    match add_language(&mut kinds) {
+        Ok(()) => Ok(kinds),
+        Err(fault) => {
+            drop(kinds);
+            Err(fault)
+        }
+    }
+}
+
+/// Adds what the language declares before all.
+fn add_language(kinds: &mut KindTable) -> Result<(), AllocError>
+    ensures { OnOk result (kinds.new ≡ kinds.old ++ language_facts) }
+{
+    kinds.add(b"ABS.F", NameKind::Function(Function::Absolute))?;
+    kinds.add(b"MAX.F", NameKind::Function(Function::Greatest))?;
+    kinds.add(b"MIN.F", NameKind::Function(Function::Least))?;
+    kinds.add(b"DIV.F", NameKind::Function(Function::Quotient))?;
+    kinds.add(b"MOD.F", NameKind::Function(Function::Remainder))?;
+    kinds.add(b"TIME.V", NameKind::Clock)
+}

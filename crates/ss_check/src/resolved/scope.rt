@@ -1,0 +1,136 @@
+ghost use Rattle.std.specs.Prelude.{◌≡◌, option_map};
+ghost use Rattle.ss_program.specs.ProgramExpr.{expr_of, subscript_of};
+ghost use Rattle.ss_program.specs.declared.variable.Variable.TheVariants as variable;
+ghost use Rattle.ss_check.specs.Declarations.{kind_of};
+ghost use Rattle.ss_check.specs.ResolvedNames as resolved;
+ghost use Rattle.ss_check.specs.Scope.{in_scope};
+
+use crate::declared::kept::{MemberKept, OwnerKept};
+use crate::declared::name_kind::NameKind;
+use crate::declared::name_tables::{NameTables, number};
+use crate::declared::tables::Tables;
+use ss_program::{NameTable, Subscript, Sum, Variable};
+use std::alloc::Global;
+
+/// What the names of a section are resolved in.
+#[derive(Clone, Copy)]
+pub(crate) struct Scope<'a> {
+    pub alloc: Global,
+    /// What the whole program says.
+    pub whole: &'a Tables,
+    /// The tables of its names.
+    pub names: &'a NameTables,
+    /// The names of the section's local variables.
+    pub locals: &'a NameTable,
+}
+
+/// What a name is declared as, if it is.
+pub(crate) fn kind<'a>(scope: Scope<'a>, name: &[u8]) -> Option<&'a NameKind>
+    ensures { option_map (λ k. k.now) result ≡ kind_of scope.entry.whole.now name.now }
+{
+    scope.whole.kinds.get(name)
+}
+
+/// The variable that a name of this kind stands for.
+pub(crate) fn variable_of(scope: Scope<'_>, kind: Option<&NameKind>, name: &[u8]) -> Variable
+    ensures { result
+        ≡ in_scope scope.entry resolved.variable_of (option_map (λ k. k.now) kind.entry) name.now }
+{
+    match kind {
+        None => Variable::Local(number(scope.locals, name)),
+        Some(NameKind::Clock) => Variable::Clock,
+        Some(_) => Variable::Global(scope.names.global(name)),
+    }
+}
+
+/// The variable that a name stands for.
+pub(crate) fn resolve_variable(scope: Scope<'_>, name: &[u8]) -> Variable
+    ensures { result ≡ in_scope scope.entry resolved.resolved_variable name.now }
+{
+    variable_of(scope, kind(scope, name), name)
+}
+
+/// The global variable of a class's name.
+pub(crate) fn class_variable(scope: Scope<'_>, class: &[u8]) -> Variable
+    ensures { result ≡ variable.Global (in_scope scope.entry resolved.class_variable class.now) }
+{
+    Variable::Global(scope.names.global(class))
+}
+
+/// What a set keeps of its owner.
+pub(crate) fn owner_kept(kept: OwnerKept) -> ss_program::OwnerKept
+    ensures { result ≡ resolved.kept_of_owner kept }
+{
+    match kept {
+        OwnerKept::First => ss_program::OwnerKept::First,
+        OwnerKept::Last => ss_program::OwnerKept::Last,
+        OwnerKept::Count => ss_program::OwnerKept::Count,
+    }
+}
+
+/// What a set keeps of its members.
+pub(crate) fn member_kept(kept: MemberKept) -> ss_program::MemberKept
+    ensures { result ≡ resolved.kept_of_member kept }
+{
+    match kept {
+        MemberKept::Predecessor => ss_program::MemberKept::Predecessor,
+        MemberKept::Successor => ss_program::MemberKept::Successor,
+        MemberKept::Membership => ss_program::MemberKept::Membership,
+    }
+}
+
+/// The subscript of what an entity of a class has; without one, the variable of the class's name.
+pub(crate) fn class_subscript(
+    scope: Scope<'_>,
+    class: &[u8],
+    subscript: Option<Box<Sum>>,
+) -> Subscript
+    ensures { subscript_of result ≡ in_scope scope.entry resolved.class_subscript class.now
+        (option_map (λ e. expr_of e.value) subscript) }
+{
+    match subscript {
+        None => Subscript::Implied(scope.names.global(class)),
+        Some(e) => Subscript::Written(e),
+    }
+}
+
+/// The subscript of a set, by its owner.
+pub(crate) fn owner_subscript(
+    scope: Scope<'_>,
+    set: &[u8],
+    subscript: Option<Box<Sum>>,
+) -> Subscript
+    ensures { subscript_of result ≡ in_scope scope.entry resolved.owner_subscript set.now
+        (option_map (λ e. expr_of e.value) subscript) }
+{
+    match scope.whole.owners.get(set) {
+        Some(Some(class)) => class_subscript(scope, &class.bytes, subscript),
+        Some(None) | None => system_subscript(subscript),
+    }
+}
+
+/// The subscript of a set that the system owns.
+fn system_subscript(subscript: Option<Box<Sum>>) -> Subscript
+    ensures { subscript_of result
+        ≡ resolved.system_subscript (option_map (λ e. expr_of e.value) subscript) }
+{
+    match subscript {
+        None => Subscript::System,
+        Some(e) => Subscript::Written(e),
+    }
+}
+
+/// The subscript of a set, by the class of its members.
+pub(crate) fn member_subscript(
+    scope: Scope<'_>,
+    set: &[u8],
+    subscript: Option<Box<Sum>>,
+) -> Subscript
+    ensures { subscript_of result ≡ in_scope scope.entry resolved.member_subscript set.now
+        (option_map (λ e. expr_of e.value) subscript) }
+{
+    match scope.whole.members.get(set) {
+        Some(class) => class_subscript(scope, &class.bytes, subscript),
+        None => class_subscript(scope, b"", subscript),
+    }
+}

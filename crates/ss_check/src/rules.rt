@@ -1,0 +1,7 @@
+//! The rules of the checker, by the kind of statement that breaks them (docs/LANGUAGE.md, "Rules of the checker").
+pub mod breach;
+pub mod fields;
+pub mod heads;
+pub mod items;
+pub mod places;
+pub mod uses;

@@ -1,0 +1,288 @@
+ghost use Rattle.std.specs.Prelude.{◌≡◌, false, [], map, None, IfErr, IfOk, OnOk};
+ghost use Rattle.ss_preamble.specs.View as preamble;
+ghost use Rattle.ss_routines.specs.View as view;
+ghost use Rattle.ss_check.specs.Adding as later;
+ghost use Rattle.ss_check.specs.Adding.{IsOnce};
+ghost use Rattle.ss_check.specs.Breach as rules;
+ghost use Rattle.ss_check.specs.Declarations as declared;
+ghost use Rattle.ss_check.specs.Statements.{IsBreach};
+
+use crate::declared::tables::Tables;
+use crate::fault::{CheckFault, CheckRule};
+use crate::rules::heads::{head_rule, is_main, local_rule};
+use crate::rules::items::item_rule;
+use crate::rules::places::{is_find, place_rule};
+use ss_preamble::{Decls, Heading, Item, ItemAt};
+use ss_routines::{LocalNames, Section, Spot};
+use std::alloc::{AllocError, Global};
+
+/// What a program declares, where it breaks no rule (docs/LANGUAGE.md, "Rules of the checker").
+///
+/// `Broken` tells the first statement that breaks a rule, by its line, and the lowest of the rules
+/// that it breaks; `Memory` that a growth was refused.
+pub fn check_rules(alloc: Global, decls: &Decls, sections: &[Section]) -> Result<Tables, CheckFault>
+    ensures sound { IfOk result
+        (λ _. rules.breach (preamble.decls_view decls.now) (map view.section_view sections.now) ≡ None) }
+    ensures ok { IfOk result (λ tables. tables
+        ≡ declared.tables (preamble.decls_view decls.now).items (map view.section_view sections.now)) }
+    ensures err { IfErr result (λ f. IsBreach f
+        (rules.breach (preamble.decls_view decls.now) (map view.section_view sections.now))) }
+{
+    let whole = tables(alloc, &decls.items, sections)?;
+    match check_whole(alloc, &whole, decls, sections) {
+        Ok(()) => Ok(whole),
+        Err(fault) => {
+            drop(whole);
+            Err(fault)
+        }
+    }
+}
+
+/// Looks at each statement of a program that says `whole`, and tells the first breach.
+fn check_whole(
+    alloc: Global,
+    whole: &Tables,
+    decls: &Decls,
+    sections: &[Section],
+) -> Result<(), CheckFault>
+    requires { whole.now
+        ≡ declared.tables (preamble.decls_view decls.now).items (map view.section_view sections.now) }
+    ensures sound { IfOk result
+        (λ _. rules.breach (preamble.decls_view decls.now) (map view.section_view sections.now) ≡ None) }
+    ensures err { IfErr result (λ f. IsBreach f
+        (rules.breach (preamble.decls_view decls.now) (map view.section_view sections.now))) }
+{
+    let mut before = Tables::new(alloc)?;
+    let checked = check_statements(alloc, whole, &mut before, decls, sections);
+    drop(before);
+    checked
+}
+
+/// Looks at each statement of a program that says `whole`, behind what the language declares before
+/// all, and tells the first breach.
+fn check_statements(
+    alloc: Global,
+    whole: &Tables,
+    before: &mut Tables,
+    decls: &Decls,
+    sections: &[Section],
+) -> Result<(), CheckFault>
+    requires whole { whole.now
+        ≡ declared.tables (preamble.decls_view decls.now).items (map view.section_view sections.now) }
+    requires start { before.old ≡ declared.tables_of [] [] }
+    ensures sound { IfOk result
+        (λ _. rules.breach (preamble.decls_view decls.now) (map view.section_view sections.now) ≡ None) }
+    ensures err { IfErr result (λ f. IsBreach f
+        (rules.breach (preamble.decls_view decls.now) (map view.section_view sections.now))) }
+{
+    check_items(alloc, whole, before, &decls.items)?;
+    check_sections(alloc, whole, before, sections)?;
+    if !whole.has_main {
+        let line = last_end(decls.end.unwrap_or(FIRST_LINE), sections);
+        let rule = CheckRule::WrongMain;
+        return Err(CheckFault::Broken { rule, line });
+    }
+    Ok(())
+}
+
+/// The line of a text's first statement.
+const FIRST_LINE: usize = 1;
+
+/// What items and the heads of sections say.
+fn tables(alloc: Global, items: &[ItemAt], sections: &[Section]) -> Result<Tables, AllocError>
+    ensures { IfOk result (λ tables. tables
+        ≡ declared.tables (preamble.items_view items.now) (map view.section_view sections.now)) }
+{
+    let mut tables = Tables::new(alloc)?;
+    match add_all(alloc, &mut tables, items, sections) {
+        Ok(()) => Ok(tables),
+        Err(fault) => {
+            drop(tables);
+            Err(fault)
+        }
+    }
+}
+
+/// Adds what items and the heads of sections say.
+fn add_all(
+    alloc: Global,
+    tables: &mut Tables,
+    items: &[ItemAt],
+    sections: &[Section],
+) -> Result<(), AllocError>
+    ensures { OnOk result (tables.new ≡ later.with_sections
+        (later.with_entries tables.old (declared.entries (preamble.items_view items.now)))
+        (map view.section_view sections.now)) }
+{
+    add_items(alloc, tables, items)?;
+    add_heads(tables, sections)
+}
+
+/// Adds what items say, each under the heading over it.
+fn add_items(alloc: Global, tables: &mut Tables, items: &[ItemAt]) -> Result<(), AllocError>
+    ensures { OnOk result (tables.new
+        ≡ later.with_entries tables.old (declared.entries (preamble.items_view items.now))) }
+{
+    let mut heading = None;
+    for one in items {
+        heading = heading_at(heading, &one.item);
+        tables.add_item(alloc, heading, one)?;
+    }
+    Ok(())
+}
+
+/// The heading over an item behind others under this heading: its own, if it is one.
+fn heading_at(heading: Option<Heading>, item: &Item) -> Option<Heading>
+    ensures { result ≡ declared.heading_at heading (preamble.item_view item.now) }
+{
+    match item {
+        Item::Headed { heading, .. } => Some(*heading),
+        _ => heading,
+    }
+}
+
+/// Adds what the heads of sections say.
+fn add_heads(tables: &mut Tables, sections: &[Section]) -> Result<(), AllocError>
+    ensures { OnOk result (tables.new
+        ≡ later.with_sections tables.old (map view.section_view sections.now)) }
+{
+    for section in sections {
+        tables.add_head(section)?;
+    }
+    Ok(())
+}
+
+/// Looks at each item behind what `before` says, to which they are added, and tells the first
+/// breach.
+fn check_items(
+    alloc: Global,
+    whole: &Tables,
+    before: &mut Tables,
+    items: &[ItemAt],
+) -> Result<(), CheckFault>
+    requires { IsOnce before.old }
+    ensures sound { IfOk result (λ _. later.items_breach whole.now before.old
+        (declared.entries (preamble.items_view items.now)) ≡ None) }
+    ensures once { OnOk result (IsOnce before.new) }
+    ensures tables { OnOk result (before.new
+        ≡ later.with_entries before.old (declared.entries (preamble.items_view items.now))) }
+    ensures err { IfErr result (λ f. IsBreach f (later.items_breach whole.now before.old
+        (declared.entries (preamble.items_view items.now)))) }
+{
+    let mut heading = None;
+    for one in items {
+        heading = heading_at(heading, &one.item);
+        if let Some(rule) = item_rule(alloc, whole, before, heading, one)? {
+            let line = one.line;
+            return Err(CheckFault::Broken { rule, line });
+        }
+    }
+    Ok(())
+}
+
+/// Looks at each section behind what `before` says, to which their heads are added, and tells the
+/// first breach.
+fn check_sections(
+    alloc: Global,
+    whole: &Tables,
+    before: &mut Tables,
+    sections: &[Section],
+) -> Result<(), CheckFault>
+    requires { IsOnce before.old }
+    ensures sound { IfOk result (λ _. later.sections_breach whole.now before.old
+        (map view.section_view sections.now) ≡ None) }
+    ensures err { IfErr result (λ f. IsBreach f (later.sections_breach whole.now before.old
+        (map view.section_view sections.now))) }
+{
+    for section in sections {
+        check_section(alloc, whole, before, section)?;
+    }
+    Ok(())
+}
+
+/// Looks at a section behind what `before` says, to which its head is added, and tells the first
+/// breach.
+fn check_section(
+    alloc: Global,
+    whole: &Tables,
+    before: &mut Tables,
+    section: &Section,
+) -> Result<(), CheckFault>
+    requires { IsOnce before.old }
+    ensures sound { IfOk result (λ _. later.section_breach whole.now before.old
+        (view.section_view section.now) ≡ None) }
+    ensures once { OnOk result (IsOnce before.new) }
+    ensures tables { OnOk result (before.new
+        ≡ later.with_head before.old (view.section_view section.now).head) }
+    ensures err { IfErr result (λ f. IsBreach f (later.section_breach whole.now before.old
+        (view.section_view section.now))) }
+{
+    if let Some(rule) = head_rule(alloc, whole, before, section)? {
+        let line = section.line;
+        return Err(CheckFault::Broken { rule, line });
+    }
+    check_locals(whole, &section.locals)?;
+    check_places(alloc, whole, is_main(section), &section.places)
+}
+
+/// Looks at each local DEFINE, and tells the first breach.
+fn check_locals(whole: &Tables, locals: &[LocalNames]) -> Result<(), CheckFault>
+    ensures sound { IfOk result (λ _. later.locals_breach whole.now (map view.local_view locals.now) ≡ None) }
+    ensures err { IfErr result
+        (λ f. IsBreach f (later.locals_breach whole.now (map view.local_view locals.now))) }
+{
+    for local in locals {
+        if let Some(rule) = local_rule(whole, local) {
+            let line = local.line;
+            return Err(CheckFault::Broken { rule, line });
+        }
+    }
+    Ok(())
+}
+
+/// Looks at each place of a section, and tells the first breach.
+fn check_places(
+    alloc: Global,
+    whole: &Tables,
+    in_main: bool,
+    places: &[Spot],
+) -> Result<(), CheckFault>
+    ensures sound { IfOk result
+        (λ _. later.places_breach whole.now in_main false (view.spots places.now) ≡ None) }
+    ensures err { IfErr result
+        (λ f. IsBreach f (later.places_breach whole.now in_main false (view.spots places.now))) }
+{
+    let mut behind_find = false;
+    let mut rest = places;
+    while let Some((spot, behind)) = rest.split_first() {
+        if let Some(rule) = place_rule(alloc, whole, in_main, behind_find, spot, behind)? {
+            let line = spot.line;
+            return Err(CheckFault::Broken { rule, line });
+        }
+        behind_find = is_find(&spot.place);
+        rest = behind;
+    }
+    Ok(())
+}
+
+/// The line of the last END of sections, or this line where there is none.
+fn last_end(line: usize, sections: &[Section]) -> usize
+    ensures { result ≡ rules.last_end line (map view.section_view sections.now) }
+{
+    let mut last = line;
+    for section in sections {
+        last = last_line(last, &section.places);
+    }
+    last
+}
+
+/// The line of the last place, or this line where there is none.
+#[tactic(auto, using(crate::proofs::Turns::last_line_last, crate::proofs::Turns::last_line_none))]
+fn last_line(line: usize, places: &[Spot]) -> usize
+    ensures { result ≡ rules.last_line line (view.spots places.now) }
+{
+    match places.last() {
+        Some(spot) => spot.line,
+        None => line,
+    }
+}

@@ -1,0 +1,417 @@
+ghost use Rattle.std.specs.Prelude.{◌≡◌, ◌++◌, ◌&&◌, ◌||◌, [], not, Some, IfOk, OnOk};
+ghost use Rattle.std.specs.List.{list_any};
+ghost use Rattle.ss_check.specs.declared.fault.CheckRule.TheVariants as check;
+ghost use Rattle.ss_words.specs.Lists.{all_of, several_view};
+ghost use Rattle.ss_preamble.specs.View as view;
+ghost use Rattle.ss_check.specs.Adding.{IsOnce, entry_at, with_entry};
+ghost use Rattle.ss_check.specs.Declarations as declared;
+ghost use Rattle.ss_check.specs.Facts.{fact_of, is_among, names_of, repeats};
+ghost use Rattle.ss_check.specs.Declarations.{is_belongs_to};
+ghost use Rattle.ss_check.specs.ItemRules as rules;
+ghost use Rattle.ss_check.specs.NameKinds.{names_set, one_conflicts};
+ghost use Rattle.ss_check.specs.Statements.{broken, lowest};
+
+use crate::declared::class_need::ClassNeed;
+use crate::declared::fact_table::FactTable;
+use crate::declared::item_names::add_names;
+use crate::declared::kind_table::KindTable;
+use crate::declared::name_kind::{NameKind, names_set, serves};
+use crate::declared::name_list::NameList;
+use crate::declared::tables::Tables;
+use crate::fault::CheckRule;
+use ss_preamble::{Clause, Definition, EventRule, Heading, Item, ItemAt, Key, Names, SetKind};
+use ss_words::{Name, Several};
+use std::alloc::{AllocError, Global};
+
+/// Which rules an item breaks.
+#[derive(Clone, Copy)]
+struct ItemBreaks {
+    /// C1
+    declares_twice: bool,
+    /// C2
+    names_wrong_class: bool,
+    /// C4
+    has_wrong_owner: bool,
+    /// C5
+    has_wrong_member: bool,
+    /// C6
+    has_wrong_keys: bool,
+    /// C8
+    lacks_section: bool,
+    /// C12
+    has_wrong_priority: bool,
+}
+
+impl ItemBreaks {
+    /// The lowest of these rules.
+    fn lowest(&self) -> Option<CheckRule>
+        ensures { result ≡ lowest (broken check.DeclaredTwice self.now.declares_twice
+            ++ broken check.WrongClass self.now.names_wrong_class
+            ++ broken check.WrongOwner self.now.has_wrong_owner
+            ++ broken check.WrongMember self.now.has_wrong_member
+            ++ broken check.WrongKey self.now.has_wrong_keys
+            ++ broken check.WrongEvent self.now.lacks_section
+            ++ broken check.WrongPriority self.now.has_wrong_priority) }
+    {
+        if self.declares_twice {
+            Some(CheckRule::DeclaredTwice)
+        } else if self.names_wrong_class {
+            Some(CheckRule::WrongClass)
+        } else if self.has_wrong_owner {
+            Some(CheckRule::WrongOwner)
+        } else if self.has_wrong_member {
+            Some(CheckRule::WrongMember)
+        } else if self.has_wrong_keys {
+            Some(CheckRule::WrongKey)
+        } else if self.lacks_section {
+            Some(CheckRule::WrongEvent)
+        } else if self.has_wrong_priority {
+            Some(CheckRule::WrongPriority)
+        } else {
+            None
+        }
+    }
+}
+
+/// The lowest rule that an item under this heading breaks behind what `before` says, to which it is
+/// added.
+pub(crate) fn item_rule(
+    alloc: Global,
+    whole: &Tables,
+    before: &mut Tables,
+    heading: Option<Heading>,
+    one: &ItemAt,
+) -> Result<Option<CheckRule>, AllocError>
+    requires { IsOnce before.old }
+    ensures rule { IfOk result
+        (λ r. r ≡ rules.item_rule whole.now before.old (entry_at heading (view.item_at_view one.now))) }
+    ensures tables { OnOk result
+        (before.new ≡ with_entry before.old (entry_at heading (view.item_at_view one.now))) }
+{
+    let item = &one.item;
+    let is_ownerless = names_new_without(&whole.owners, &before.kinds, item);
+    let is_memberless = names_new_without(&whole.members, &before.kinds, item);
+    let lacks_section = lacks_section(whole, &before.classes, item);
+    let has_wrong_priority = has_wrong_priority(alloc, whole, &before.priority, item)?;
+    before.add_item(alloc, heading, one)?;
+    let breaks = ItemBreaks {
+        declares_twice: says_twice(before),
+        names_wrong_class: names_wrong_class(whole, heading, item),
+        has_wrong_owner: is_ownerless | before.owners.has_repeat(),
+        has_wrong_member: is_memberless | before.members.has_repeat() | joins_system(item),
+        has_wrong_keys: has_wrong_keys(whole, item),
+        lacks_section,
+        has_wrong_priority,
+    };
+    Ok(breaks.lowest())
+}
+
+// ---- C1
+
+/// Whether these tables declare a name twice, give a set two disciplines, break the ties of an
+/// event class twice or name one twice as external.
+fn says_twice(tables: &Tables) -> bool
+    ensures { result ≡ (one_conflicts [] tables.now.kinds || repeats [] tables.now.disciplines
+        || repeats [] tables.now.ties || repeats [] tables.now.external) }
+{
+    tables.kinds.has_conflict()
+        || tables.disciplines.has_repeat()
+        || tables.ties.has_repeat()
+        || tables.external.has_repeat()
+}
+
+// ---- C2
+
+/// Whether an item is EVERY under no heading, or BREAK or EXTERNAL of what is no event class.
+fn names_wrong_class(whole: &Tables, heading: Option<Heading>, item: &Item) -> bool
+    ensures { result ≡ rules.names_wrong_class whole.now whole.now heading (view.item_view item.now) }
+{
+    match item {
+        Item::OfEvery { .. } => heading.is_none(),
+        Item::Orders(EventRule::BreakTies { event, .. }) => !is_event_class(whole, event.bytes()),
+        Item::Orders(EventRule::ExternalEvents(names)) => names_no_event(whole, names),
+        _ => false,
+    }
+}
+
+/// Whether a name is an event class.
+pub(crate) fn is_event_class(whole: &Tables, name: &[u8]) -> bool
+    ensures { result ≡ declared.is_event_class whole.now name.now }
+{
+    serves(ClassNeed::Event, whole.kinds.get(name))
+}
+
+/// Whether one of these names is no event class.
+#[tactic(auto, using(crate::proofs::Tests::any_map))]
+fn names_no_event(whole: &Tables, names: &Names) -> bool
+    ensures { result ≡ list_any (λ c. not (declared.is_event_class whole.now c))
+        (all_of (several_view (λ n. n) names.now)) }
+{
+    !is_event_class(whole, names.first.bytes()) || any_no_event(whole, &names.others)
+}
+
+fn any_no_event(whole: &Tables, names: &[Name]) -> bool
+    ensures { result ≡ list_any (λ n. not (declared.is_event_class whole.now n)) names.now }
+{
+    names
+        .iter()
+        .any(|name| !is_event_class(whole, name.bytes()))
+}
+
+// ---- C4 and C5
+
+/// Whether an item is the first to name a set of which there is no fact.
+#[tactic(auto, using(crate::proofs::Tests::any_append, crate::proofs::Tests::any_end, crate::proofs::Tests::any_parts))]
+fn names_new_without<T: Drop>(facts: &FactTable<T>, kinds: &KindTable, item: &Item) -> bool
+    ensures { result ≡ list_any (λ s. not (names_set (fact_of kinds.now s)) && not (is_among s (names_of facts.now)))
+        (declared.sets_in (view.item_view item.now)) }
+{
+    match item {
+        Item::OfEvery { clauses, .. } | Item::OfSystem(clauses) => {
+            clause_names_new(facts, kinds, &clauses.first)
+                || any_clause_names_new(facts, kinds, &clauses.others)
+        }
+        Item::Defines(Definition::Sets { names, .. }) => any_new_without(facts, kinds, names),
+        _ => false,
+    }
+}
+
+fn any_clause_names_new<T: Drop>(
+    facts: &FactTable<T>,
+    kinds: &KindTable,
+    clauses: &[Clause],
+) -> bool
+    ensures { result ≡ list_any (λ c. list_any
+        (λ s. not (names_set (fact_of kinds.now s)) && not (is_among s (names_of facts.now)))
+        (declared.sets_of (view.clause_view c))) clauses.now }
+{
+    clauses
+        .iter()
+        .any(|clause| clause_names_new(facts, kinds, clause))
+}
+
+/// Whether a clause names a set that is not declared and of which there is no fact.
+fn clause_names_new<T: Drop>(facts: &FactTable<T>, kinds: &KindTable, clause: &Clause) -> bool
+    ensures { result ≡ list_any (λ s. not (names_set (fact_of kinds.now s)) && not (is_among s (names_of facts.now)))
+        (declared.sets_of (view.clause_view clause.now)) }
+{
+    match clause {
+        Clause::Has(_) => false,
+        Clause::Owns(sets) | Clause::BelongsTo(sets) => any_new_without(facts, kinds, sets),
+    }
+}
+
+/// Whether one of these names is not declared as a set, and there is no fact of it.
+#[tactic(auto, using(crate::proofs::Tests::any_map))]
+fn any_new_without<T: Drop>(facts: &FactTable<T>, kinds: &KindTable, sets: &Names) -> bool
+    ensures { result ≡ list_any (λ s. not (names_set (fact_of kinds.now s)) && not (is_among s (names_of facts.now)))
+        (all_of (several_view (λ n. n) sets.now)) }
+{
+    is_new_without(facts, kinds, sets.first.bytes())
+        || any_other_without(facts, kinds, &sets.others)
+}
+
+fn any_other_without<T: Drop>(facts: &FactTable<T>, kinds: &KindTable, sets: &[Name]) -> bool
+    ensures { result ≡ list_any
+        (λ s. not (names_set (fact_of kinds.now s)) && not (is_among s (names_of facts.now))) sets.now }
+{
+    sets.iter()
+        .any(|set| is_new_without(facts, kinds, set.bytes()))
+}
+
+fn is_new_without<T: Drop>(facts: &FactTable<T>, kinds: &KindTable, set: &[u8]) -> bool
+    ensures { result
+        ≡ (not (names_set (fact_of kinds.now set.now)) && not (is_among set.now (names_of facts.now))) }
+{
+    !names_set(kinds.get(set)) && !facts.has(set)
+}
+
+/// Whether an item is SYSTEM with a BELONGS.
+#[tactic(auto, using(crate::proofs::Tests::joins_first))]
+fn joins_system(item: &Item) -> bool
+    ensures { result ≡ rules.joins_system (declared.class_of (view.item_view item.now))
+        (declared.joined (view.item_view item.now)) }
+{
+    let Item::OfSystem(clauses) = item else {
+        return false;
+    };
+    is_belongs(&clauses.first) || any_belongs(&clauses.others)
+}
+
+fn any_belongs(clauses: &[Clause]) -> bool
+    ensures { result ≡ list_any (λ c. is_belongs_to (view.clause_view c)) clauses.now }
+{
+    clauses.iter().any(is_belongs)
+}
+
+fn is_belongs(clause: &Clause) -> bool
+    ensures { result ≡ is_belongs_to (view.clause_view clause.now) }
+{
+    matches!(clause, Clause::BelongsTo(_))
+}
+
+// ---- C6
+
+/// Whether an item ranks a set by what is no attribute of its members, or breaks the ties of an
+/// event class by what is none of it.
+#[tactic(auto, using(crate::proofs::Tests::any_map))]
+fn has_wrong_keys(whole: &Tables, item: &Item) -> bool
+    ensures { result ≡ rules.has_wrong_keys whole.now whole.now (view.item_view item.now) }
+{
+    match item {
+        Item::Defines(Definition::Sets { names, kind }) => any_wrong_rank(whole, names, kind),
+        Item::Orders(EventRule::BreakTies { event, keys }) => any_wrong_key(
+            whole,
+            event.bytes(),
+            keys,
+        ),
+        _ => false,
+    }
+}
+
+/// Whether one of these sets is ranked by what is no attribute of its members.
+#[tactic(auto, using(crate::proofs::Tests::any_map))]
+fn any_wrong_rank(whole: &Tables, sets: &Names, kind: &SetKind) -> bool
+    ensures { result ≡ list_any (λ s. rules.has_wrong_rank whole.now whole.now (fact_of whole.now.members s)
+        (view.set_kind_view kind.now)) (all_of (several_view (λ n. n) sets.now)) }
+{
+    is_wrong_rank(whole, sets.first.bytes(), kind) || any_other_rank(whole, &sets.others, kind)
+}
+
+fn any_other_rank(whole: &Tables, sets: &[Name], kind: &SetKind) -> bool
+    ensures { result ≡ list_any (λ s. rules.has_wrong_rank whole.now whole.now (fact_of whole.now.members s)
+        (view.set_kind_view kind.now)) sets.now }
+{
+    sets.iter()
+        .any(|set| is_wrong_rank(whole, set.bytes(), kind))
+}
+
+/// Whether a set is ranked by what is no attribute of its members, or has none and is ranked.
+fn is_wrong_rank(whole: &Tables, set: &[u8], kind: &SetKind) -> bool
+    ensures { result ≡ rules.has_wrong_rank whole.now whole.now (fact_of whole.now.members set.now)
+        (view.set_kind_view kind.now) }
+{
+    match kind {
+        SetKind::Fifo | SetKind::Lifo => false,
+        SetKind::Ranked(keys) => match whole.members.get(set) {
+            Some(class) => any_wrong_key(whole, &class.bytes, keys),
+            None => true,
+        },
+    }
+}
+
+/// Whether one of these keys is no attribute of a class.
+#[tactic(auto, using(crate::proofs::Tests::any_map))]
+fn any_wrong_key(whole: &Tables, class: &[u8], keys: &Several<Key>) -> bool
+    ensures { result ≡ rules.has_wrong_key whole.now whole.now (Some class.now)
+        (all_of (several_view view.key_view keys.now)) }
+{
+    is_wrong_key(whole, class, &keys.first) || any_other_key(whole, class, &keys.others)
+}
+
+fn any_other_key(whole: &Tables, class: &[u8], keys: &[Key]) -> bool
+    ensures { result ≡ list_any (λ k. rules.is_wrong_key whole.now whole.now class.now (view.key_view k)) keys.now }
+{
+    keys.iter().any(|key| is_wrong_key(whole, class, key))
+}
+
+fn is_wrong_key(whole: &Tables, class: &[u8], key: &Key) -> bool
+    ensures { result ≡ rules.is_wrong_key whole.now whole.now class.now (view.key_view key.now) }
+{
+    match whole.kinds.get(key.name.bytes()) {
+        Some(NameKind::Attribute(of)) => class != of.bytes.as_slice(),
+        _ => true,
+    }
+}
+
+// ---- C8
+
+/// Whether an item names an event class without a section that is not among `classes`, those named
+/// before.
+fn lacks_section(whole: &Tables, classes: &NameList, item: &Item) -> bool
+    ensures { result ≡ list_any (λ c. not (is_among c classes.now) && rules.is_without_section whole.now whole.now c)
+        (declared.classes_in (view.item_view item.now)) }
+{
+    match item {
+        Item::Headed {
+            included: Some(names),
+            ..
+        } => any_lacks_section(whole, classes, names),
+        Item::OfEvery { class, .. } => is_new_without_section(whole, classes, class.bytes()),
+        Item::Orders(order) => order_lacks_section(whole, classes, order),
+        Item::Normally
+        | Item::Headed { included: None, .. }
+        | Item::OfSystem(_)
+        | Item::Defines(_) => false,
+    }
+}
+
+/// Whether an item on events names such a class.
+fn order_lacks_section(whole: &Tables, classes: &NameList, order: &EventRule) -> bool
+    ensures { result ≡ list_any (λ c. not (is_among c classes.now) && rules.is_without_section whole.now whole.now c)
+        (declared.classes_ordered (view.event_rule_view order.now)) }
+{
+    match order {
+        EventRule::PriorityOrder(names) => any_lacks_section(whole, classes, names),
+        EventRule::ExternalEvents(names) => any_lacks_section(whole, classes, names),
+        EventRule::BreakTies { event, .. } => is_new_without_section(whole, classes, event.bytes()),
+    }
+}
+
+/// Whether one of these is an event class without a section, and not among `classes`.
+#[tactic(auto, using(crate::proofs::Tests::any_map))]
+fn any_lacks_section(whole: &Tables, classes: &NameList, names: &Names) -> bool
+    ensures { result ≡ list_any (λ c. not (is_among c classes.now) && rules.is_without_section whole.now whole.now c)
+        (all_of (several_view (λ n. n) names.now)) }
+{
+    is_new_without_section(whole, classes, names.first.bytes())
+        || any_other_section(whole, classes, &names.others)
+}
+
+fn any_other_section(whole: &Tables, classes: &NameList, names: &[Name]) -> bool
+    ensures { result ≡ list_any
+        (λ n. not (is_among n classes.now) && rules.is_without_section whole.now whole.now n) names.now }
+{
+    names.iter().any(|name| is_new_without_section(whole, classes, name.bytes()))
+}
+
+fn is_new_without_section(whole: &Tables, classes: &NameList, name: &[u8]) -> bool
+    ensures { result
+        ≡ (not (is_among name.now classes.now) && rules.is_without_section whole.now whole.now name.now) }
+{
+    !classes.has(name) && is_event_class(whole, name) && !whole.events.has(name)
+}
+
+// ---- C12
+
+/// Whether an item is a PRIORITY behind others, names a class twice or names what is no event
+/// class.
+fn has_wrong_priority(
+    alloc: Global,
+    whole: &Tables,
+    before: &NameList,
+    item: &Item,
+) -> Result<bool, AllocError>
+    ensures { IfOk result (λ r. r ≡ rules.has_wrong_priority whole.now whole.now before.now
+        (declared.priority_in (view.item_view item.now))) }
+{
+    let Item::Orders(EventRule::PriorityOrder(names)) = item else {
+        return Ok(false);
+    };
+    if !before.is_empty() {
+        return Ok(true);
+    }
+    Ok(names_twice(alloc, names)? || names_no_event(whole, names))
+}
+
+/// Whether a name stands twice among these.
+fn names_twice(alloc: Global, names: &Names) -> Result<bool, AllocError>
+    ensures { IfOk result (λ r. r ≡ repeats [] (all_of (several_view (λ n. n) names.now))) }
+{
+    let mut list = NameList::new(alloc);
+    let added = add_names(&mut list, names);
+    let is_repeated = list.has_repeat();
+    drop(list);
+    added?;
+    Ok(is_repeated)
+}

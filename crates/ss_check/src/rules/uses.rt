@@ -1,0 +1,173 @@
+ghost use Rattle.std.specs.Prelude.{◌≡◌, option_map};
+ghost use Rattle.std.specs.List.{list_any};
+ghost use Rattle.ss_check.specs.Declarations as declarations;
+ghost use Rattle.ss_check.specs.PlaceRules as rules;
+ghost use Rattle.ss_check.specs.UseView.{use_view};
+
+use crate::declared::function::Function;
+use crate::declared::name_kind::{
+    NameKind, names_fixed, names_function, names_routine, names_set, names_variable, serves,
+};
+use crate::declared::tables::{Counts, Tables};
+use crate::uses::use_list::Use;
+
+/// Whether one of these names a class that isn't of the kind needed.
+pub(crate) fn any_wrong_class(whole: &Tables, uses: &[Use<'_>]) -> bool
+    ensures { result ≡ list_any (λ u. rules.is_wrong_class whole.now (use_view u)) uses.now }
+{
+    uses.iter().any(|one| is_wrong_class(whole, one))
+}
+
+fn is_wrong_class(whole: &Tables, one: &Use<'_>) -> bool
+    ensures { result ≡ rules.is_wrong_class whole.now (use_view one.now) }
+{
+    match one {
+        Use::OfClass { need, name } => !serves(*need, whole.kinds.get(name)),
+        _ => false,
+    }
+}
+
+/// Whether one of these uses a name as what it is not.
+pub(crate) fn any_misused(whole: &Tables, uses: &[Use<'_>]) -> bool
+    ensures { result ≡ list_any (λ u. rules.is_misused whole.now (use_view u)) uses.now }
+{
+    uses.iter().any(|one| is_misused(whole, one))
+}
+
+fn is_misused(whole: &Tables, one: &Use<'_>) -> bool
+    ensures { result ≡ rules.is_misused whole.now (use_view one.now) }
+{
+    match one {
+        Use::Value {
+            name,
+            arguments: None,
+        }
+        | Use::Target {
+            name,
+            subscripted: false,
+        } => is_valueless(whole.kinds.get(name)),
+        Use::Value {
+            name,
+            arguments: Some(_),
+        }
+        | Use::Target {
+            name,
+            subscripted: true,
+        } => is_bare(whole, whole.kinds.get(name)),
+        Use::InSet { name, subscripted } => {
+            !names_set(whole.kinds.get(name)) || (*subscripted && is_of_system(whole, name))
+        }
+        Use::Routine { name, .. } => !names_routine(whole.kinds.get(name)),
+        Use::LoopVariable(_) | Use::OfClass { .. } | Use::Notice { .. } => false,
+    }
+}
+
+/// Whether it is the name of what has no value.
+fn is_valueless(kind: Option<&NameKind>) -> bool
+    ensures { result ≡ rules.is_valueless (option_map (λ k. k.now) kind.entry) }
+{
+    names_set(kind) || names_routine(kind)
+}
+
+/// Whether it is the name of what takes no parentheses.
+fn is_bare(whole: &Tables, kind: Option<&NameKind>) -> bool
+    ensures { result ≡ rules.is_bare whole.now (option_map (λ k. k.now) kind.entry) }
+{
+    !(names_function(kind) || takes_subscript(whole, kind))
+}
+
+/// Whether it is the name of an attribute, or of a kept attribute whose owner is not the system.
+fn takes_subscript(whole: &Tables, kind: Option<&NameKind>) -> bool
+    ensures { result ≡ rules.takes_subscript whole.now (option_map (λ k. k.now) kind.entry) }
+{
+    match kind {
+        Some(NameKind::Attribute(_) | NameKind::MemberKept { .. }) => true,
+        Some(NameKind::OwnerKept { set, .. }) => !is_of_system(whole, &set.bytes),
+        _ => false,
+    }
+}
+
+/// Whether the system owns a set.
+fn is_of_system(whole: &Tables, set: &[u8]) -> bool
+    ensures { result ≡ declarations.is_of_system whole.now set.now }
+{
+    matches!(whole.owners.get(set), Some(None))
+}
+
+/// Whether a function takes so many arguments.
+fn takes(function: Function, arguments: usize) -> bool
+    ensures { result ≡ rules.takes function arguments }
+{
+    match function {
+        Function::Absolute => arguments == 1,
+        Function::Greatest | Function::Least => arguments >= 2,
+        Function::Quotient | Function::Remainder => arguments == 2,
+    }
+}
+
+/// Whether a function takes another count of arguments, or what takes a subscript has more than
+/// one.
+fn has_wrong_arguments(whole: &Tables, kind: Option<&NameKind>, arguments: usize) -> bool
+    ensures { result ≡ rules.has_wrong_arguments whole.now (option_map (λ k. k.now) kind.entry) arguments }
+{
+    match kind {
+        Some(NameKind::Function(function)) => !takes(*function, arguments),
+        _ => takes_subscript(whole, kind) && arguments != 1,
+    }
+}
+
+/// Whether a routine, if there is one, is called with other counts.
+fn is_wrong_call(counts: Option<&Counts>, values: usize, targets: usize) -> bool
+    ensures { result ≡ rules.is_wrong_call values targets (option_map (λ c. c.now) counts.entry) }
+{
+    match counts {
+        Some(counts) => counts.given != values || counts.yielded != targets,
+        None => false,
+    }
+}
+
+/// Whether one of these has another count of values, targets or arguments than is needed.
+pub(crate) fn any_wrong_count(whole: &Tables, uses: &[Use<'_>]) -> bool
+    ensures { result ≡ list_any (λ u. rules.is_wrong_count whole.now (use_view u)) uses.now }
+{
+    uses.iter().any(|one| is_wrong_count(whole, one))
+}
+
+fn is_wrong_count(whole: &Tables, one: &Use<'_>) -> bool
+    ensures { result ≡ rules.is_wrong_count whole.now (use_view one.now) }
+{
+    match one {
+        Use::Value {
+            name,
+            arguments: None,
+        } => names_function(whole.kinds.get(name)),
+        Use::Value {
+            name,
+            arguments: Some(count),
+        } => has_wrong_arguments(whole, whole.kinds.get(name), *count),
+        Use::Notice { event, values } => whole.attributes.count(event) < *values,
+        Use::Routine {
+            name,
+            values,
+            targets,
+        } => is_wrong_call(whole.routines.get(name), *values, *targets),
+        _ => false,
+    }
+}
+
+/// Whether one of these assigns to what is never assigned.
+pub(crate) fn any_fixed(whole: &Tables, uses: &[Use<'_>]) -> bool
+    ensures { result ≡ list_any (λ u. rules.is_fixed whole.now (use_view u)) uses.now }
+{
+    uses.iter().any(|one| is_fixed(whole, one))
+}
+
+fn is_fixed(whole: &Tables, one: &Use<'_>) -> bool
+    ensures { result ≡ rules.is_fixed whole.now (use_view one.now) }
+{
+    match one {
+        Use::Target { name, .. } => names_fixed(whole.kinds.get(name)),
+        Use::LoopVariable(name) => !names_variable(whole.kinds.get(name)),
+        _ => false,
+    }
+}

@@ -1,5 +1,0 @@
-use Rattle.ss_checker.proofs.NamedSections.{text_again}
-use Rattle.ss_checker.proofs.laws.tables_give_the_text.Goals as goal
-
-pub returns : goal.returns
-returns c = text_again

@@ -1,8 +1,0 @@
-use ss_check::Name;
-
-/// A name, and what holds of it.
-#[derive(Drop)]
-pub struct Fact<T> {
-    pub name: Name,
-    pub what: T,
-}

@@ -1,5 +1,0 @@
-use Rattle.ss_grammar.proofs.Examples.{and_binds_more_tightly}
-use Rattle.ss_grammar.proofs.laws.and_binds_more_tightly.Goals as goal
-
-pub returns : goal.returns
-returns c = and_binds_more_tightly

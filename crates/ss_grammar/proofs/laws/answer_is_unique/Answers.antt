@@ -1,5 +1,0 @@
-use Rattle.ss_grammar.proofs.Unique.{one_answer}
-use Rattle.ss_grammar.proofs.laws.answer_is_unique.Goals as goal
-
-pub returns : goal.returns
-returns c = one_answer

@@ -1,5 +1,0 @@
-use Rattle.ss_grammar.proofs.Examples.{compute_is_two_places}
-use Rattle.ss_grammar.proofs.laws.compute_is_two_places.Goals as goal
-
-pub returns : goal.returns
-returns c = compute_is_two_places

@@ -1,5 +1,0 @@
-use Rattle.ss_grammar.proofs.Examples.{for_controls_one_statement}
-use Rattle.ss_grammar.proofs.laws.for_controls_one_statement.Goals as goal
-
-pub returns : goal.returns
-returns c = for_controls_one_statement

@@ -1,5 +1,0 @@
-use Rattle.ss_grammar.proofs.LimitWords.{limit_is_counted}
-use Rattle.ss_grammar.proofs.laws.limit_is_counted.Goals as goal
-
-pub returns : goal.returns
-returns c = limit_is_counted

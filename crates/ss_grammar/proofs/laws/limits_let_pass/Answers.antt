@@ -1,5 +1,0 @@
-use Rattle.ss_grammar.proofs.Unique.{let_pass}
-use Rattle.ss_grammar.proofs.laws.limits_let_pass.Goals as goal
-
-pub returns : goal.returns
-returns c = let_pass

@@ -1,5 +1,0 @@
-use Rattle.ss_grammar.proofs.Examples.{loop_ends_the_chain}
-use Rattle.ss_grammar.proofs.laws.loop_ends_the_chain.Goals as goal
-
-pub returns : goal.returns
-returns c = loop_ends_the_chain

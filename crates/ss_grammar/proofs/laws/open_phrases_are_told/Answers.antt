@@ -1,5 +1,0 @@
-use Rattle.ss_grammar.proofs.Examples.{open_phrases_are_told}
-use Rattle.ss_grammar.proofs.laws.open_phrases_are_told.Goals as goal
-
-pub returns : goal.returns
-returns c = open_phrases_are_told

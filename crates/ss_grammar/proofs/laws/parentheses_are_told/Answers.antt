@@ -1,5 +1,0 @@
-use Rattle.ss_grammar.proofs.Examples.{parentheses_are_told}
-use Rattle.ss_grammar.proofs.laws.parentheses_are_told.Goals as goal
-
-pub returns : goal.returns
-returns c = parentheses_are_told

@@ -1,0 +1,4 @@
+pub mod Mains
+pub mod WaysKept
+pub mod Backward
+pub mod Indexed

@@ -1,0 +1,22 @@
+-- The order that keys make.
+use Rattle.std.specs.Prelude.{ℤ, pos, List, ◌∷◌, map, slice_index_or}
+use Rattle.std.specs.Ordering.{ordering_then, int_cmp}
+use Rattle.std.specs.declared.cmp.Ordering.{Ordering}
+use Rattle.std.specs.declared.cmp.Ordering.TheVariants.{Equal}
+use Rattle.ss_program.specs.declared.keys.Key.{Key}
+use Rattle.ss_program.specs.declared.keys.Rank.{Rank}
+use Rattle.ss_program.specs.declared.keys.Rank.TheVariants.{High, Low}
+
+-- which of two values comes first: by HIGH the greater, by LOW the less
+abbrev pub ranked : Rank → ℤ → ℤ → Ordering
+ranked High x y = int_cmp y x
+ranked Low x y = int_cmp x y
+
+-- which of two rows of key values comes first: by the first key that tells them apart
+abbrev pub by_keys : List Key → List ℤ → List ℤ → Ordering
+by_keys (k ∷ ks) (x ∷ xs) (y ∷ ys) = ordering_then (ranked k.rank x y) (by_keys ks xs ys)
+by_keys _ _ _ = Equal
+
+-- the values of keys among the values of attributes
+abbrev pub key_values : List Key → List ℤ → List ℤ
+key_values keys attributes = map (λ k. slice_index_or attributes k.attribute (pos 0)) keys

@@ -1,0 +1,15 @@
+pub mod ProgramExpr
+pub mod ProgramExprCode
+pub mod Program
+pub mod ProgramSound
+pub mod Names
+pub mod Found
+pub mod Examples
+pub mod Keys
+pub mod EventTable
+pub mod Indexed
+pub mod ProgramCondition
+pub mod ProgramConditionCode
+pub mod Match
+pub mod Nesting
+pub mod Pairings

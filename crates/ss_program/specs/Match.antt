@@ -1,0 +1,189 @@
+-- Which places belong together, found by counting what opens and closes, and where each place goes on.
+use Rattle.std.specs.Prelude.{ℕ, ◌+◌, ◌-◌, ◌==◌, Bool, true, false, ◌&&◌, ◌||◌, if◌then◌else◌, List, [], ◌∷◌, take, drop, reverse, slice_get, Option, Some, None}
+use Rattle.ss_program.specs.declared.branch.Branch.TheVariants.{If, Else, Always}
+use Rattle.ss_program.specs.declared.looping.ForPhrase.{ForPhrase}
+use Rattle.ss_program.specs.declared.looping.Looping.TheVariants.{For, Loop, Find, Gather}
+use Rattle.ss_program.specs.declared.place.Place.{Place}
+use Rattle.ss_program.specs.declared.place.Place.TheVariants.{Branch, Looping}
+use Rattle.ss_program.specs.declared.place.Spot.{Spot}
+use Rattle.ss_program.specs.declared.ways.Resets.{Resets}
+use Rattle.ss_program.specs.declared.ways.Resets.TheVariants as resets
+use Rattle.ss_program.specs.declared.ways.Ways.{Ways}
+
+-- ---- kinds of places
+
+-- an IF
+abbrev pub is_if : Place → Bool
+is_if (Branch (If question)) = true
+is_if _ = false
+
+-- an ELSE
+abbrev pub is_else : Place → Bool
+is_else (Branch Else) = true
+is_else _ = false
+
+-- an ALWAYS
+abbrev pub is_always : Place → Bool
+is_always (Branch Always) = true
+is_always _ = false
+
+-- what continues or closes an IF
+abbrev pub is_branch_end : Place → Bool
+is_branch_end x = is_else x || is_always x
+
+-- a LOOP
+abbrev pub is_loop : Place → Bool
+is_loop (Looping Loop) = true
+is_loop _ = false
+
+-- a phrase before DO
+abbrev pub is_do : Place → Bool
+is_do (Looping (For f)) = f.has_do
+is_do _ = false
+
+-- a phrase that controls what stands directly behind it: a further phrase, one statement, FIND or COMPUTE
+abbrev pub is_bare : Place → Bool
+is_bare (Looping (For f)) = if f.has_do then false else true
+is_bare _ = false
+
+-- ---- counting
+
+-- one deeper behind a place of `up`, one less deep behind one of `down`
+abbrev pub depth_behind : (Place → Bool) → (Place → Bool) → ℕ → Place → ℕ
+depth_behind up down depth x = if up x then depth + 1 else (if down x then depth - 1 else depth)
+
+-- how many places stand before the first wanted one at no depth
+abbrev pub distance : (Place → Bool) → (Place → Bool) → (Place → Bool) → ℕ → List Spot → ℕ
+distance wanted up down depth [] = 0
+distance wanted up down depth (x ∷ xs) =
+    if wanted x.place && depth == 0 then 0 else 1 + distance wanted up down (depth_behind up down depth x.place) xs
+
+-- how many bare phrases stand at the head
+abbrev pub bare_phrases : List Spot → ℕ
+bare_phrases [] = 0
+bare_phrases (x ∷ xs) = if is_bare x.place then 1 + bare_phrases xs else 0
+
+-- whether a place that stands there passes a test
+abbrev pub passes : (Place → Bool) → Option Spot → Bool
+passes test None = false
+passes test (Some x) = test x.place
+
+module _ (places : List Spot) where
+  -- whether the place at i passes a test
+  abbrev pub is_at : (Place → Bool) → ℕ → Bool
+  is_at test i = passes test (slice_get places i)
+
+  -- whether the one directly before i does
+  abbrev pub is_before : (Place → Bool) → ℕ → Bool
+  is_before test i = if i == 0 then false else is_at test (i - 1)
+
+  -- the first wanted place behind i
+  abbrev pub later : (Place → Bool) → (Place → Bool) → (Place → Bool) → ℕ → ℕ
+  later wanted up down i = i + 1 + distance wanted up down 0 (drop (i + 1) places)
+
+  -- the last wanted place before i
+  abbrev pub earlier : (Place → Bool) → (Place → Bool) → (Place → Bool) → ℕ → ℕ
+  earlier wanted up down i = i - 1 - distance wanted up down 0 (reverse (take i places))
+
+  -- the ELSE or ALWAYS that continues or closes the IF or ELSE at i
+  abbrev pub branch_end : ℕ → ℕ
+  branch_end i = later is_branch_end is_if is_always i
+
+  -- the IF that the ALWAYS at i closes
+  abbrev pub if_of : ℕ → ℕ
+  if_of i = earlier is_if is_always is_if i
+
+  -- the innermost phrase that the LOOP at i closes
+  abbrev pub phrase_of : ℕ → ℕ
+  phrase_of i = earlier is_do is_loop is_do i
+
+  -- how many phrases of the chain of place i stand before it
+  abbrev pub chain_before : ℕ → ℕ
+  chain_before i = bare_phrases (reverse (take i places))
+
+  -- what the chain of the phrase at i controls: the first place from i on that is no bare phrase
+  abbrev pub controlled : ℕ → ℕ
+  controlled i = i + bare_phrases (drop i places)
+
+  -- the last place of what begins at i: an IF goes up to its ALWAYS, a phrase before DO up to its LOOP
+  abbrev pub last_place : ℕ → ℕ
+  last_place i =
+      if is_at is_if i then later is_always is_if is_always i
+      else (if is_at is_do i then later is_loop is_do is_loop i else i)
+
+  -- the place behind the body of the phrase at i; for COMPUTE the place that tells the statistics
+  abbrev pub behind_body : ℕ → ℕ
+  behind_body i = last_place (controlled i) + 1
+
+  -- where the statement at i goes on: to the phrase that controls it alone, else to the next place
+  abbrev pub next_place : ℕ → ℕ
+  next_place i = if is_before is_bare i then i - 1 else i + 1
+
+  -- where the ALWAYS at i goes on: as the statement that it ends with its IF
+  abbrev pub behind_always : ℕ → ℕ
+  behind_always i = if is_before is_bare (if_of i) then if_of i - 1 else i + 1
+
+  -- where a false IF goes: behind its ELSE, or to its ALWAYS
+  abbrev pub behind_false : ℕ → ℕ
+  behind_false i = if is_at is_else (branch_end i) then branch_end i + 1 else branch_end i
+
+  -- where the loop of the phrase at i goes on when it closes: to the phrase directly before it in its chain, else
+  -- behind its body
+  abbrev pub behind_loop : ℕ → ℕ
+  behind_loop i = if is_before is_bare i then i - 1 else behind_body i
+
+  -- ---- where a place goes on
+
+  -- when it is done
+  abbrev pub next_of : ℕ → Place → ℕ
+  next_of i (Branch (If question)) = i + 1
+  next_of i (Branch Else) = branch_end i
+  next_of i (Branch Always) = behind_always i
+  next_of i (Looping (For f)) = i + 1
+  next_of i (Looping Loop) = phrase_of i
+  next_of i (Looping Find) = i + 1
+  next_of i other = next_place i
+
+  -- a false IF, and a loop that closes
+  abbrev pub exit_of : ℕ → Place → ℕ
+  exit_of i (Branch (If question)) = behind_false i
+  exit_of i (Looping (For f)) = behind_loop i
+  exit_of i other = 0
+
+  -- how many loops FIND closes
+  abbrev pub chain_of : ℕ → Place → ℕ
+  chain_of i (Looping Find) = chain_before i
+  chain_of i other = 0
+
+  -- what the first phrase of a chain sets back, by what the chain controls
+  abbrev pub resets_before : Place → Resets
+  resets_before (Looping Find) = resets.Found
+  resets_before (Looping (Gather value)) = resets.Statistics
+  resets_before other = resets.Nothing
+
+  -- the same by the place that stands there, if one does
+  abbrev pub resets_by : Option Spot → Resets
+  resets_by None = resets.Nothing
+  resets_by (Some x) = resets_before x.place
+
+  -- what the phrase at i sets back at its entry
+  abbrev pub phrase_resets : ℕ → Resets
+  phrase_resets i = if is_before is_bare i then resets.Nothing else resets_by (slice_get places (controlled i))
+
+  -- the same of any place
+  abbrev pub resets_of : ℕ → Place → Resets
+  resets_of i (Looping (For f)) = phrase_resets i
+  resets_of i other = resets.Nothing
+
+  -- all of these
+  abbrev pub ways_of : ℕ → Place → Ways
+  ways_of i x = record { next = next_of i x; exit = exit_of i x; chain = chain_of i x; resets = resets_of i x }
+
+  -- those of each place of a list that begins at place i
+  abbrev pub ways_from : ℕ → List Spot → List Ways
+  ways_from i [] = []
+  ways_from i (x ∷ xs) = ways_of i x.place ∷ ways_from (i + 1) xs
+
+-- where each place of a section goes on
+abbrev pub section_ways : List Spot → List Ways
+section_ways places = ways_from places 0 places

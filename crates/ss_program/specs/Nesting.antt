@@ -1,0 +1,46 @@
+-- Which FOR phrases stand around a place, and where a place leads with the loops of those that are open there.
+use Rattle.std.specs.Prelude.{◌≡◌, ℕ, zero, suc, ◌+◌, ◌&&◌, ◌||◌, nat_lt, bytes_eq, Bool, true, false, if◌then◌else◌, List, [], ◌∷◌, drop}
+use Rattle.ss_program.specs.declared.branch.Branch.TheVariants.{If}
+use Rattle.ss_program.specs.declared.looping.Looping.TheVariants.{For, Find}
+use Rattle.ss_program.specs.declared.place.Place.{Place}
+use Rattle.ss_program.specs.declared.place.Place.TheVariants.{Control, Branch, Looping}
+use Rattle.ss_program.specs.declared.place.Spot.{Spot}
+use Rattle.ss_program.specs.declared.ways.Ways.{Ways}
+use Rattle.ss_program.specs.Match.{is_at, behind_body, ways_of}
+
+-- a FOR phrase
+abbrev pub is_phrase : Place → Bool
+is_phrase (Looping (For f)) = true
+is_phrase _ = false
+
+module _ (places : List Spot) where
+  -- a phrase at j, before place i, is around it where its body ends behind i
+  abbrev pub is_around : ℕ → ℕ → Bool
+  is_around i j = is_at places is_phrase j && nat_lt i (behind_body places j)
+
+  -- the phrases around place i among the places before j, the innermost first
+  abbrev pub phrases_before : ℕ → ℕ → List ℕ
+  phrases_before i zero = []
+  phrases_before i (suc j) = if is_around i j then j ∷ phrases_before i j else phrases_before i j
+
+  -- all phrases around place i
+  abbrev pub phrases_around : ℕ → List ℕ
+  phrases_around i = phrases_before i i
+
+  -- the loops of these phrases may be open at place n: those around it, with or without that of place n itself
+  abbrev pub may_be_open : List ℕ → ℕ → Bool
+  may_be_open js n = bytes_eq js (phrases_around n) || (is_at places is_phrase n && bytes_eq js (n ∷ phrases_around n))
+
+  -- place i with these ways leads to places at which the loops may be open that it leaves open: a phrase its own, FIND
+  -- those around it but the ones that it closes, and any other place those around it
+  abbrev pub is_nested : ℕ → Ways → Place → Bool
+  is_nested i w (Control c) = true
+  is_nested i w (Branch (If q)) = may_be_open (phrases_around i) w.next && may_be_open (phrases_around i) w.exit
+  is_nested i w (Looping (For f)) = may_be_open (i ∷ phrases_around i) w.next && may_be_open (phrases_around i) w.exit
+  is_nested i w (Looping Find) = may_be_open (drop w.chain (phrases_around i)) w.next
+  is_nested i w other = may_be_open (phrases_around i) w.next
+
+  -- so do the places from number i on
+  abbrev pub AreNestedPlaces : ℕ → List Spot → Type 0
+  AreNestedPlaces i [] = Unit {0}
+  AreNestedPlaces i (x ∷ xs) = (is_nested i (ways_of places i x.place) x.place ≡ true) × AreNestedPlaces (i + 1) xs

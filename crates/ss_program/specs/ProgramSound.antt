@@ -1,0 +1,548 @@
+-- What is sound about every checked program.
+use Rattle.std.specs.Prelude.{◌≡◌, ℕ, ◌<◌, ◌≤◌, ◌+◌, ◌^◌, ◌==◌, List, [], ◌∷◌, length, map, count_by, bytes_eq, slice_get, Option, Some, None, Bool, true, false}
+use Rattle.std.specs.List.{All, IsDistinct, list_all, list_any}
+use Rattle.ss_report.specs.Pictures.{field_count, has_decimal_field}
+use Rattle.ss_program.specs.declared.variable.Variable.{Variable as AVariable}
+use Rattle.ss_program.specs.declared.variable.Variable.TheVariants.{Global, Local, Clock}
+use Rattle.ss_program.specs.declared.place.Assign.{Assign as AnAssign}
+use Rattle.ss_program.specs.declared.place.Assign.TheVariants.{Let, Add, Subtract}
+use Rattle.ss_program.specs.declared.place.Output.{Output as AnOutput}
+use Rattle.ss_program.specs.declared.place.Output.TheVariants.{Print, Skip}
+use Rattle.ss_program.specs.declared.place.Control.TheVariants.{Stop, Return, End}
+use Rattle.ss_program.specs.declared.place.Place.{Place}
+use Rattle.ss_program.specs.declared.place.Place.TheVariants.{Assign, Making, Filing, Output, Control, Branch, Looping, Call, Timing, Read}
+use Rattle.ss_program.specs.declared.branch.Question.{Question}
+use Rattle.ss_program.specs.declared.branch.Question.TheVariants.{Whether, WasFound, WasNone}
+use Rattle.ss_program.specs.declared.branch.Branch.{Branch as ABranch}
+use Rattle.ss_program.specs.declared.branch.Branch.TheVariants.{If, Else, Always}
+use Rattle.ss_program.specs.declared.looping.Qualifier.{Qualifier}
+use Rattle.ss_program.specs.declared.looping.Phrase.{Phrase}
+use Rattle.ss_program.specs.declared.looping.Phrase.TheVariants.{Counting, Each, Walking}
+use Rattle.ss_program.specs.declared.looping.Begin.{Begin}
+use Rattle.ss_program.specs.declared.looping.Begin.TheVariants.{AtTheEnd, From, After}
+use Rattle.ss_program.specs.declared.making.Making.{Making as AMaking}
+use Rattle.ss_program.specs.declared.making.Making.TheVariants.{Create, CreateEvery, Destroy}
+use Rattle.ss_program.specs.declared.filing.Position.{Position}
+use Rattle.ss_program.specs.declared.filing.Position.TheVariants as position
+use Rattle.ss_program.specs.declared.filing.Position.TheVariants.{ByRule, AtEnd, Before}
+use Rattle.ss_program.specs.declared.filing.Filing.{Filing as AFiling}
+use Rattle.ss_program.specs.declared.filing.Filing.TheVariants.{File, FileAt, RemoveAt, Remove}
+use Rattle.ss_program.specs.declared.target.SetRef.{SetRef}
+use Rattle.ss_program.specs.declared.timing.Notice.{Notice}
+use Rattle.ss_program.specs.declared.timing.Notice.TheVariants.{New, Known}
+use Rattle.ss_program.specs.declared.timing.When.{When}
+use Rattle.ss_program.specs.declared.timing.When.TheVariants.{At, Now, In}
+use Rattle.ss_program.specs.declared.timing.Timing.{Timing as ATiming}
+use Rattle.ss_program.specs.declared.timing.Timing.TheVariants.{Schedule, Cancel, Start}
+use Rattle.ss_program.specs.declared.target.Target.{Target}
+use Rattle.ss_program.specs.declared.target.Target.TheVariants.{Variable, Attribute}
+use Rattle.ss_program.specs.declared.looping.Telling.{Telling}
+use Rattle.ss_program.specs.declared.looping.Looping.{Looping as ALooping}
+use Rattle.ss_program.specs.declared.looping.Looping.TheVariants.{For, Loop, Find, Gather, Tell}
+use Rattle.ss_program.specs.declared.call.Call.{Call as ACall}
+use Rattle.ss_program.specs.declared.ways.Ways.{Ways}
+use Rattle.ss_program.specs.ProgramCondition.{Condition, any, Conjunctions, no_conjunctions, or_else, Conjunction, all, Relations, no_relations, and_also, Relation, compared, is_empty, is_in, nested}
+use Rattle.ss_program.specs.Match.{ways_of}
+use Rattle.ss_program.specs.Nesting.{AreNestedPlaces}
+use Rattle.ss_program.specs.declared.place.Spot.{Spot}
+use Rattle.ss_program.specs.ProgramExpr.{Expr, expr, Sums, no_sums, sum, Term, term, Products, no_products, product, Factor, digits, variable, absolute, greatest, least, quotient, remainder, attribute, owner_kept, member_kept, within, Subscript, implied, of_system, at, Exprs, no_exprs, exprs}
+use Rattle.ss_program.specs.declared.keys.Key.{Key}
+use Rattle.ss_program.specs.declared.kinds.ClassKind.{ClassKind}
+use Rattle.ss_program.specs.declared.kinds.ClassKind.TheVariants.{Permanent, Temporary, Event}
+use Rattle.ss_program.specs.declared.kinds.Discipline.{Discipline}
+use Rattle.ss_program.specs.declared.kinds.Discipline.TheVariants.{Fifo, Lifo, Ranked}
+use Rattle.ss_program.specs.declared.kinds.Owner.{Owner}
+use Rattle.ss_program.specs.declared.kinds.Owner.TheVariants.{System, OwnedBy}
+use Rattle.ss_program.specs.EventTable.{EventTable}
+use Rattle.ss_program.specs.Program.{ClassTable, SetTable, SectionTable, ProgramTable, is_main, is_routine, class_of, is_permanent, is_event, is_event_section, section_of}
+
+-- what a place may name
+pub record Scope : Type 0 where
+  -- how many global variables there are
+  pub globals : ℕ
+  -- how many locals the section has
+  pub locals : ℕ
+  -- of each class, whether it is permanent
+  pub permanent : List Bool
+  -- how many sets there are
+  pub sets : ℕ
+
+-- a variable is one of the global ones, one of the locals, or the clock
+abbrev pub IsSoundVariable : Scope → AVariable → Type 0
+IsSoundVariable sc (Global i) = i < sc.globals
+IsSoundVariable sc (Local i) = i < sc.locals
+IsSoundVariable sc Clock = Unit {0}
+
+-- one to which a value may be assigned is one of the global ones or one of the locals
+abbrev pub IsSettable : Scope → AVariable → Type 0
+IsSettable sc (Global i) = i < sc.globals
+IsSettable sc (Local i) = i < sc.locals
+IsSettable sc Clock = ⊥
+
+-- a class is one of the table
+abbrev pub IsClass : Scope → ℕ → Type 0
+IsClass sc c = c < length sc.permanent
+
+-- each variable of an expression is sound
+abbrev mutual
+  -- of the whole expression
+  pub IsSoundExpr : Scope → Expr → Type 0
+  IsSoundExpr sc (expr l t ss) = IsSoundTerm sc t × IsSoundSums sc ss
+
+  -- of the terms behind the first
+  pub IsSoundSums : Scope → Sums → Type 0
+  IsSoundSums sc no_sums = Unit {0}
+  IsSoundSums sc (sum s t ss) = IsSoundTerm sc t × IsSoundSums sc ss
+
+  -- of a term
+  pub IsSoundTerm : Scope → Term → Type 0
+  IsSoundTerm sc (term f ps) = IsSoundFactor sc f × IsSoundProducts sc ps
+
+  -- of the factors behind the first
+  pub IsSoundProducts : Scope → Products → Type 0
+  IsSoundProducts sc no_products = Unit {0}
+  IsSoundProducts sc (product f ps) = IsSoundFactor sc f × IsSoundProducts sc ps
+
+  -- of a factor, whose class or set is one of the table
+  pub IsSoundFactor : Scope → Factor → Type 0
+  IsSoundFactor sc (digits k) = Unit {0}
+  IsSoundFactor sc (variable x) = IsSoundVariable sc x
+  IsSoundFactor sc (absolute e) = IsSoundExpr sc e
+  IsSoundFactor sc (greatest e es) = IsSoundExpr sc e × AreSoundArguments sc es
+  IsSoundFactor sc (least e es) = IsSoundExpr sc e × AreSoundArguments sc es
+  IsSoundFactor sc (quotient e f) = IsSoundExpr sc e × IsSoundExpr sc f
+  IsSoundFactor sc (remainder e f) = IsSoundExpr sc e × IsSoundExpr sc f
+  IsSoundFactor sc (attribute c a i) = IsClass sc c × IsSoundSubscript sc i
+  IsSoundFactor sc (owner_kept kept s i) = (s < sc.sets) × IsSoundSubscript sc i
+  IsSoundFactor sc (member_kept kept s i) = (s < sc.sets) × IsSoundSubscript sc i
+  IsSoundFactor sc (within e) = IsSoundExpr sc e
+
+  -- of a subscript: a class's variable is a global one
+  pub IsSoundSubscript : Scope → Subscript → Type 0
+  IsSoundSubscript sc (implied v) = v < sc.globals
+  IsSoundSubscript sc of_system = Unit {0}
+  IsSoundSubscript sc (at e) = IsSoundExpr sc e
+
+  -- of the arguments behind the first
+  pub AreSoundArguments : Scope → Exprs → Type 0
+  AreSoundArguments sc no_exprs = Unit {0}
+  AreSoundArguments sc (exprs e es) = IsSoundExpr sc e × AreSoundArguments sc es
+
+-- the same of each expression of a list
+abbrev pub AreSoundExprs : Scope → List Expr → Type 0
+AreSoundExprs sc [] = Unit {0}
+AreSoundExprs sc (e ∷ es) = IsSoundExpr sc e × AreSoundExprs sc es
+
+-- a target is a variable or an attribute
+abbrev pub IsTarget : Scope → Target → Type 0
+IsTarget sc (Variable x) = IsSettable sc x
+IsTarget sc (Attribute c a i) = IsClass sc c × IsSoundSubscript sc i
+
+-- a set is one of the table, and its owner's subscript is sound
+abbrev pub IsSoundSetRef : Scope → SetRef → Type 0
+IsSoundSetRef sc r = (r.set < sc.sets) × IsSoundSubscript sc r.owner
+
+-- an assignment has a target and a sound value
+abbrev pub IsSoundAssign : Scope → AnAssign → Type 0
+IsSoundAssign sc (Let written target value) = IsTarget sc target × IsSoundExpr sc value
+IsSoundAssign sc (Add value target) = IsTarget sc target × IsSoundExpr sc value
+IsSoundAssign sc (Subtract value target) = IsTarget sc target × IsSoundExpr sc value
+
+-- a PRINT has sound values, as many as its picture has fields, and no decimal field; a SKIP has a sound value
+abbrev pub IsSoundOutput : Scope → AnOutput → Type 0
+IsSoundOutput sc (Print count values picture) =
+    (length values ≡ field_count picture) × (has_decimal_field picture ≡ false) × AreSoundExprs sc values
+IsSoundOutput sc (Skip count) = IsSoundExpr sc count
+
+-- each value of a condition is sound
+abbrev mutual
+  -- of the whole condition
+  pub IsSoundCondition : Scope → Condition → Type 0
+  IsSoundCondition sc (any c cs) = IsSoundConjunction sc c × AreSoundConjunctions sc cs
+
+  -- of the conjunctions behind OR
+  pub AreSoundConjunctions : Scope → Conjunctions → Type 0
+  AreSoundConjunctions sc no_conjunctions = Unit {0}
+  AreSoundConjunctions sc (or_else c cs) = IsSoundConjunction sc c × AreSoundConjunctions sc cs
+
+  -- of a conjunction
+  pub IsSoundConjunction : Scope → Conjunction → Type 0
+  IsSoundConjunction sc (all r rs) = IsSoundRelation sc r × AreSoundRelations sc rs
+
+  -- of the relations behind AND
+  pub AreSoundRelations : Scope → Relations → Type 0
+  AreSoundRelations sc no_relations = Unit {0}
+  AreSoundRelations sc (and_also r rs) = IsSoundRelation sc r × AreSoundRelations sc rs
+
+  -- of a relation
+  pub IsSoundRelation : Scope → Relation → Type 0
+  IsSoundRelation sc (compared e c f) = IsSoundExpr sc e × IsSoundExpr sc f
+  IsSoundRelation sc (is_empty r is) = IsSoundSetRef sc r
+  IsSoundRelation sc (is_in e is r) = IsSoundExpr sc e × IsSoundSetRef sc r
+  IsSoundRelation sc (nested c) = IsSoundCondition sc c
+
+-- what an IF asks
+abbrev pub IsSoundQuestion : Scope → Question → Type 0
+IsSoundQuestion sc (Whether c) = IsSoundCondition sc c
+IsSoundQuestion sc WasFound = Unit {0}
+IsSoundQuestion sc WasNone = Unit {0}
+
+-- IF, ELSE, ALWAYS
+abbrev pub IsSoundBranch : Scope → ABranch → Type 0
+IsSoundBranch sc (If q) = IsSoundQuestion sc q
+IsSoundBranch sc Else = Unit {0}
+IsSoundBranch sc Always = Unit {0}
+
+-- the conditions of qualifiers
+abbrev pub AreSoundQualifiers : Scope → List Qualifier → Type 0
+AreSoundQualifiers sc [] = Unit {0}
+AreSoundQualifiers sc (q ∷ qs) = IsSoundCondition sc q.condition × AreSoundQualifiers sc qs
+
+-- an expression that may be left out
+abbrev pub IsSoundOption : Scope → Option Expr → Type 0
+IsSoundOption sc None = Unit {0}
+IsSoundOption sc (Some e) = IsSoundExpr sc e
+
+-- where a walk through a list begins
+abbrev pub IsSoundBegin : Scope → Begin → Type 0
+IsSoundBegin sc AtTheEnd = Unit {0}
+IsSoundBegin sc (From e) = IsSoundExpr sc e
+IsSoundBegin sc (After e) = IsSoundExpr sc e
+
+-- what a FOR phrase goes through: its variable is a target, its bounds and its step are sound, and the number of a
+-- class's entities is a global variable
+abbrev pub IsSoundPhrase : Scope → Phrase → Type 0
+IsSoundPhrase sc (Counting d x first last step) =
+    IsSettable sc x × IsSoundExpr sc first × IsSoundExpr sc last × IsSoundOption sc step
+IsSoundPhrase sc (Each class is_called x count) = IsSettable sc x × (count < sc.globals)
+IsSoundPhrase sc (Walking d x r begin) = IsSettable sc x × IsSoundSetRef sc r × IsSoundBegin sc begin
+
+-- the targets of a COMPUTE
+abbrev pub AreSoundTellings : Scope → List Telling → Type 0
+AreSoundTellings sc [] = Unit {0}
+AreSoundTellings sc (t ∷ ts) = IsTarget sc t.target × AreSoundTellings sc ts
+
+-- FOR phrases, and what only they control
+abbrev pub IsSoundLooping : Scope → ALooping → Type 0
+IsSoundLooping sc (For f) = IsSoundPhrase sc f.phrase × AreSoundQualifiers sc f.qualifiers
+IsSoundLooping sc Loop = Unit {0}
+IsSoundLooping sc Find = Unit {0}
+IsSoundLooping sc (Gather e) = IsSoundExpr sc e
+IsSoundLooping sc (Tell ts) = AreSoundTellings sc ts
+
+-- the targets of a CALL, or of a READ
+abbrev pub AreTargets : Scope → List Target → Type 0
+AreTargets sc [] = Unit {0}
+AreTargets sc (x ∷ xs) = IsTarget sc x × AreTargets sc xs
+
+-- the values and targets of a CALL
+abbrev pub IsSoundCall : Scope → ACall → Type 0
+IsSoundCall sc c = AreSoundExprs sc c.given × AreTargets sc c.targets
+
+-- what makes and ends entities: those of permanent classes are made all at once, and not ended
+abbrev pub IsSoundMaking : Scope → AMaking → Type 0
+IsSoundMaking sc (Create c is_called t) = (slice_get sc.permanent c ≡ Some false) × IsTarget sc t
+IsSoundMaking sc (CreateEvery c e count) =
+    (slice_get sc.permanent c ≡ Some true) × IsSoundOption sc e × (count < sc.globals)
+IsSoundMaking sc (Destroy c is_called e) = (slice_get sc.permanent c ≡ Some false) × IsSoundExpr sc e
+
+-- where FILE puts a member
+abbrev pub IsSoundPosition : Scope → Position → Type 0
+IsSoundPosition sc ByRule = Unit {0}
+IsSoundPosition sc (AtEnd end) = Unit {0}
+IsSoundPosition sc (Before e) = IsSoundExpr sc e
+IsSoundPosition sc (position.After e) = IsSoundExpr sc e
+
+-- what files and removes members
+abbrev pub IsSoundFiling : Scope → AFiling → Type 0
+IsSoundFiling sc (File e how r) = IsSoundExpr sc e × IsSoundPosition sc how × IsSoundSetRef sc r
+IsSoundFiling sc (FileAt end e r) = IsSoundExpr sc e × IsSoundSetRef sc r
+IsSoundFiling sc (RemoveAt end t r) = IsTarget sc t × IsSoundSetRef sc r
+IsSoundFiling sc (Remove e r) = IsSoundExpr sc e × IsSoundSetRef sc r
+
+-- which notice is scheduled
+abbrev pub IsSoundNotice : Scope → Notice → Type 0
+IsSoundNotice sc (New is_called t) = IsTarget sc t
+IsSoundNotice sc (Known is_called e) = IsSoundExpr sc e
+
+-- when it is due
+abbrev pub IsSoundWhen : Scope → When → Type 0
+IsSoundWhen sc (At e) = IsSoundExpr sc e
+IsSoundWhen sc Now = Unit {0}
+IsSoundWhen sc (In e) = IsSoundExpr sc e
+
+-- what schedules notices, takes them off, and starts events
+abbrev pub IsSoundTiming : Scope → ATiming → Type 0
+IsSoundTiming sc (Schedule s) =
+    (slice_get sc.permanent s.class ≡ Some false)
+    × IsSoundNotice sc s.notice × AreSoundExprs sc s.arguments × IsSoundWhen sc s.when
+IsSoundTiming sc (Cancel c is_called e) = (slice_get sc.permanent c ≡ Some false) × IsSoundExpr sc e
+IsSoundTiming sc Start = Unit {0}
+
+-- a place, by its kind
+abbrev pub IsSoundPlace : Scope → Place → Type 0
+IsSoundPlace sc (Assign a) = IsSoundAssign sc a
+IsSoundPlace sc (Making m) = IsSoundMaking sc m
+IsSoundPlace sc (Filing f) = IsSoundFiling sc f
+IsSoundPlace sc (Output o) = IsSoundOutput sc o
+IsSoundPlace sc (Control c) = Unit {0}
+IsSoundPlace sc (Branch b) = IsSoundBranch sc b
+IsSoundPlace sc (Looping l) = IsSoundLooping sc l
+IsSoundPlace sc (Call c) = IsSoundCall sc c
+IsSoundPlace sc (Timing t) = IsSoundTiming sc t
+IsSoundPlace sc (Read ts) = AreTargets sc ts
+
+-- the same of each place of a list
+abbrev pub AreSoundPlaces : Scope → List Spot → Type 0
+AreSoundPlaces sc [] = Unit {0}
+AreSoundPlaces sc (s ∷ ss) = IsSoundPlace sc s.place × AreSoundPlaces sc ss
+
+-- the END of a section
+abbrev pub is_end : Place → Bool
+is_end (Control End) = true
+is_end _ = false
+
+-- the last place is END, and no other is
+abbrev pub IsEnded : List Spot → Type 0
+IsEnded [] = ⊥
+IsEnded (s ∷ []) = is_end s.place ≡ true
+IsEnded (s ∷ t ∷ ts) = (is_end s.place ≡ false) × IsEnded (t ∷ ts)
+
+-- ---- where places go on
+
+-- a place of a section with `count` places goes on to one of them; END goes on nowhere
+abbrev pub GoesOn : ℕ → Bool → ℕ → Type 0
+GoesOn count true next = Unit {0}
+GoesOn count false next = next < count
+
+-- a routine that takes these values and yields to these targets
+abbrev pub IsCalledBy : ACall → Option SectionTable → Type 0
+IsCalledBy c None = ⊥
+IsCalledBy c (Some t) =
+    (is_routine t ≡ true) × (length c.given ≡ t.given) × (length c.targets ≡ t.yielded)
+
+-- no chain is longer, and so no more loops are open at once in a section
+abbrev pub loop_limit : ℕ
+loop_limit = 16
+
+-- a place with these ways, in a section with `count` places: where else it may go on is a place, too; FIND closes few
+-- loops; a CALL is one of a routine
+abbrev pub LeadsOn : List SectionTable → ℕ → Ways → Place → Type 0
+LeadsOn ss count w (Branch (If q)) = w.exit < count
+LeadsOn ss count w (Looping (For f)) = w.exit < count
+LeadsOn ss count w (Looping Find) = w.chain ≤ loop_limit
+LeadsOn ss count w (Call c) = IsCalledBy c (slice_get ss c.section)
+LeadsOn ss count w other = Unit {0}
+
+-- what holds of the place with these ways
+pub record IsLinkedPlace (ss : List SectionTable) (count : ℕ) (w : Ways) (x : Place) : Type 0 where
+  -- it goes on to a place
+  pub next : GoesOn count (is_end x) w.next
+  -- and so where it goes on elsewhere
+  pub leads : LeadsOn ss count w x
+
+-- the places of a section from number i on
+abbrev pub AreLinkedPlaces : List SectionTable → List Spot → ℕ → List Spot → Type 0
+AreLinkedPlaces ss places i [] = Unit {0}
+AreLinkedPlaces ss places i (x ∷ xs) =
+    IsLinkedPlace ss (length places) (ways_of places i x.place) x.place × AreLinkedPlaces ss places (i + 1) xs
+
+-- the places of each section
+abbrev pub AreLinkedSections : List SectionTable → List SectionTable → Type 0
+AreLinkedSections ss [] = Unit {0}
+AreLinkedSections ss (s ∷ more) = AreLinkedPlaces ss s.places 0 s.places × AreLinkedSections ss more
+
+-- ---- events
+
+-- class number c is an event class, with this many attributes at least
+pub record IsEventClass (p : ProgramTable) (c n : ℕ) : Type 0 where
+  -- it is a class of the table
+  pub class : c < length p.classes
+  -- of event notices
+  pub event : is_event (class_of p c).kind ≡ true
+  -- its attributes
+  pub attributes : n ≤ length (class_of p c).attributes
+
+-- notices are of event classes, with no more arguments than attributes; events start in MAIN
+abbrev pub IsTimed : ProgramTable → SectionTable → Place → Type 0
+IsTimed p s (Timing (Schedule x)) = IsEventClass p x.class (length x.arguments)
+IsTimed p s (Timing (Cancel c is_called e)) = IsEventClass p c 0
+IsTimed p s (Timing Start) = is_main s ≡ true
+IsTimed p s other = Unit {0}
+
+-- the same of the places of a section
+abbrev pub AreTimed : ProgramTable → SectionTable → List Spot → Type 0
+AreTimed p s [] = Unit {0}
+AreTimed p s (x ∷ xs) = IsTimed p s x.place × AreTimed p s xs
+
+-- no two names of a table are alike
+abbrev pub AreDistinct : List (List ℕ) → Type 0
+AreDistinct names = IsDistinct bytes_eq names
+
+-- the most parameters of a section
+abbrev pub parameter_limit : ℕ
+parameter_limit = 32
+
+-- what the places of a section may name
+abbrev pub scope_of : ProgramTable → SectionTable → Scope
+scope_of p s = record {
+  globals = length p.globals;
+  locals = length s.locals;
+  permanent = map (λ c. is_permanent c.kind) p.classes;
+  sets = length p.sets;
+}
+
+-- a section of a program
+pub record IsSoundSection (p : ProgramTable) (s : SectionTable) : Type 0 where
+  -- no two locals have one name
+  pub distinct : AreDistinct s.locals
+  -- the parameters are locals
+  pub parameters : s.given + s.yielded ≤ length s.locals
+  -- of which there are not too many
+  pub few_parameters : s.given + s.yielded ≤ parameter_limit
+  -- its places name what there is
+  pub places : AreSoundPlaces (scope_of p s) s.places
+  -- END is the last place, and no other one
+  pub ended : IsEnded s.places
+  -- each place leads to places where as many loops may be open
+  pub nested : AreNestedPlaces s.places 0 s.places
+  -- notices are of event classes, and events start in MAIN
+  pub timed : AreTimed p s s.places
+  -- its places can be counted
+  pub few : length s.places < 2 ^ 63
+
+-- the same of each section of a list
+abbrev pub AreSoundSections : ProgramTable → List SectionTable → Type 0
+AreSoundSections p [] = Unit {0}
+AreSoundSections p (s ∷ ss) = IsSoundSection p s × AreSoundSections p ss
+
+-- no two attributes of one class are alike
+abbrev pub HaveDistinctAttributes : List ClassTable → Type 0
+HaveDistinctAttributes [] = Unit {0}
+HaveDistinctAttributes (c ∷ cs) = AreDistinct c.attributes × HaveDistinctAttributes cs
+
+-- each of a program's own tables has distinct names, and each class has the name of a global variable
+pub record HasSoundNames (p : ProgramTable) : Type 0 where
+  -- the global variables
+  pub globals : AreDistinct p.globals
+  -- the classes
+  pub classes : AreDistinct (map (λ c. c.name) p.classes)
+  -- the attributes of each class
+  pub attributes : HaveDistinctAttributes p.classes
+  -- the sets
+  pub sets : AreDistinct (map (λ s. s.name) p.sets)
+  -- each class's name is one of a global variable
+  pub class_variables : list_all (λ c. list_any (bytes_eq c.name) p.globals) p.classes ≡ true
+
+-- ---- classes and sets
+
+-- the most classes
+abbrev pub class_limit : ℕ
+class_limit = 64
+
+-- the most sets
+abbrev pub set_limit : ℕ
+set_limit = 64
+
+-- the most attributes of a class
+abbrev pub attribute_limit : ℕ
+attribute_limit = 32
+
+-- the most keys of a ranking
+abbrev pub key_limit : ℕ
+key_limit = 8
+
+-- at most eight keys, each of one of n attributes
+pub record AreSoundKeys (n : ℕ) (keys : List Key) : Type 0 where
+  -- each key is one of the attributes
+  pub attributes : All (λ k. k.attribute < n) keys
+  -- there are not too many
+  pub few : length keys ≤ key_limit
+
+-- an event class with n attributes: its section is the section of an event, with at most n parameters, and its ties are
+-- broken by its attributes
+pub record IsSoundEvent (p : ProgramTable) (n : ℕ) (e : EventTable) : Type 0 where
+  -- its section is one of the table
+  pub section : e.section < length p.sections
+  -- the section of an event
+  pub kind : is_event_section (section_of p e.section) ≡ true
+  -- each given parameter has an attribute
+  pub given : (section_of p e.section).given ≤ n
+  -- nothing is yielded
+  pub yielded : (section_of p e.section).yielded ≡ 0
+  -- its ties
+  pub ties : AreSoundKeys n e.ties
+
+-- a kind of class with n attributes
+abbrev pub IsSoundKind : ProgramTable → ℕ → ClassKind → Type 0
+IsSoundKind p n (Permanent count) = count < length p.globals
+IsSoundKind p n Temporary = Unit {0}
+IsSoundKind p n (Event e) = IsSoundEvent p n e
+
+-- a class
+pub record IsSoundClass (p : ProgramTable) (c : ClassTable) : Type 0 where
+  -- the global variable of its name has its name
+  pub variable : slice_get p.globals c.variable ≡ Some c.name
+  -- its kind
+  pub kind : IsSoundKind p (length c.attributes) c.kind
+  -- its attributes are not too many
+  pub few : length c.attributes ≤ attribute_limit
+
+-- the system, or one of n classes
+abbrev pub IsSoundOwner : ℕ → Owner → Type 0
+IsSoundOwner n System = Unit {0}
+IsSoundOwner n (OwnedBy c) = c < n
+
+-- a ranked set's keys are of the n attributes of its members
+abbrev pub IsSoundDiscipline : ℕ → Discipline → Type 0
+IsSoundDiscipline n Fifo = Unit {0}
+IsSoundDiscipline n Lifo = Unit {0}
+IsSoundDiscipline n (Ranked keys) = AreSoundKeys n keys
+
+-- a set
+pub record IsSoundSet (p : ProgramTable) (t : SetTable) : Type 0 where
+  -- its owner's class is one of the table
+  pub owner : IsSoundOwner (length p.classes) t.owner
+  -- so is the class of its members
+  pub member : t.member < length p.classes
+  -- its keys are attributes of its members
+  pub discipline : IsSoundDiscipline (length (class_of p t.member).attributes) t.discipline
+
+-- a class that PRIORITY names
+pub record IsSoundPriority (p : ProgramTable) (c : ℕ) : Type 0 where
+  -- it is one of the table
+  pub class : c < length p.classes
+  -- of event notices
+  pub event : is_event (class_of p c).kind ≡ true
+
+-- the tables of classes and sets, and the priority
+pub record HasSoundTables (p : ProgramTable) : Type 0 where
+  -- each class
+  pub classes : All (IsSoundClass p) p.classes
+  -- each set
+  pub sets : All (IsSoundSet p) p.sets
+  -- each class that PRIORITY names
+  pub priority : All (IsSoundPriority p) p.priority
+  -- PRIORITY names no class twice
+  pub once : IsDistinct ◌==◌ p.priority
+  -- there are not too many classes
+  pub few_classes : length p.classes ≤ class_limit
+  -- nor too many sets
+  pub few_sets : length p.sets ≤ set_limit
+
+-- a program
+pub record IsSound (p : ProgramTable) : Type 0 where
+  -- one section is MAIN
+  pub main : count_by is_main p.sections ≡ 1
+  -- each section
+  pub sections : AreSoundSections p p.sections
+  -- the sections can be counted
+  pub few : length p.sections < 2 ^ 63
+  -- each place goes on to places of its section
+  pub linked : AreLinkedSections p.sections p.sections
+  -- its names
+  pub names : HasSoundNames p
+  -- its tables
+  pub tables : HasSoundTables p
+  -- 32 bits can number its names
+  pub few_names : length p.globals + length p.classes + length p.sets < 2 ^ 32

@@ -1,0 +1,12 @@
+-- What stands where an expression may stand alone or begin something else.
+use Rattle.std.specs.Prelude.{◌⊎◌}
+use mathlib.Core.Logic.{inl, inr}
+use Rattle.ss_routines.specs.declared.conditions.OrValue.{OrValue}
+use Rattle.ss_routines.specs.declared.conditions.OrValue.TheVariants.{Value, Other}
+use Rattle.ss_routines.specs.Expr.{Expr}
+use Rattle.ss_routines.specs.View.{expr_view}
+
+-- an expression of the code, or what else is read
+abbrev pub or_value_view : {X A : Type 0} → (X → A) → OrValue X → Expr ⊎ A
+or_value_view f (Value e) = inl (expr_view e)
+or_value_view f (Other x) = inr (f x)
