@@ -9,8 +9,8 @@ use Rattle.std.proofs.lemmas.Option.{slice_get-map}
 use Rattle.ss_words.specs.Lists.{Name, all_of}
 use Rattle.ss_preamble.specs.declared.item.Heading.{Heading}
 use Rattle.ss_preamble.specs.declared.item.Heading.TheVariants.{PermanentEntities, TemporaryEntities, EventNotices}
-use Rattle.ss_preamble.specs.declared.item.Rank.{Rank as WrittenRank}
-use Rattle.ss_preamble.specs.declared.item.Rank.TheVariants.{High, Low}
+use Rattle.ss_words.specs.declared.terms.Rank.{Rank}
+use Rattle.ss_words.specs.declared.terms.Rank.TheVariants.{High}
 use Rattle.ss_preamble.specs.Tree.{Key as WrittenKey, SetKind, Fifo, Lifo, Ranked, PriorityOrder, BreakTies, ExternalEvents, Item, Normally, Headed, OfEvery, OfSystem, Defines, Orders, ItemAt}
 use Rattle.ss_preamble.specs.Limits.{class_names}
 use Rattle.ss_routines.specs.Tree.{Head, MainHead, RoutineHead, EventHead}
@@ -27,9 +27,9 @@ use Rattle.ss_check.specs.NameKinds.{is_class, names_event}
 use Rattle.ss_check.specs.Declarations.{Entry, entries, heads, tables, classes_in, events_in, disciplines_in, ties_in, external_in, tables_of, kind_of, is_event_class}
 use Rattle.ss_check.specs.ItemRules.{names_wrong_class, is_wrong_key, has_wrong_key}
 use Rattle.ss_check.specs.ResolvedNames.{Names, names, number, names_where, attributes_of, attribute_names, owner_of, member_class}
-use Rattle.ss_check.specs.Resolved.{Rankings, rankings, resolved_rank, resolved_key, resolved_discipline, resolved_owner, event_table, class_kind, class_table, set_table, section_name, resolved_section, resolved_with}
+use Rattle.ss_check.specs.Resolved.{Rankings, rankings, resolved_key, resolved_discipline, resolved_owner, event_table, class_kind, class_table, set_table, section_name, resolved_section, resolved_with}
 use Rattle.ss_check.specs.NamedTree.{several, name_at}
-use Rattle.ss_check.specs.NamedItems.{named_heading, named_rank, named_key, named_discipline, named_owner, said_of, headings_in, Written, written, IsSaid, IsKindOf, IsClassOf, IsSetOf, IsOfItems, TablesGiveTheItems}
+use Rattle.ss_check.specs.NamedItems.{named_heading, named_key, named_discipline, named_owner, said_of, headings_in, Written, written, IsSaid, IsKindOf, IsClassOf, IsSetOf, IsOfItems, TablesGiveTheItems}
 use Rattle.ss_check.proofs.SoundLists.{In, all_from, same_again, none_in, among_in, number_there, image_at, once_from, fact_in, fact_there, flat_in, in_flat, where_from}
 use Rattle.ss_check.proofs.SoundDeclared.{HasClass}
 use Rattle.ss_check.proofs.SoundItems.{item_at, sets_have_owners, right_ranks, right_ties, events_have_sections, priority_kept}
@@ -47,13 +47,9 @@ use Rattle.ss_check.proofs.NamedItemsHeadings.{class_kept, heading_declared, hea
 name_again : (n : Name) (ns : List Name) → In n ns → name_at ns (number n ns) ≡ n
 name_again n ns i = ap (λ (o : Option Name). unwrap_or o []) (number_finds n ns (number_there n ns i))
 
-rank_again : (r : WrittenRank) → named_rank (resolved_rank r) ≡ r
-rank_again High = refl
-rank_again Low = refl
-
 key_again : (ns : List Name) (q : WrittenKey) → In q.name ns → named_key ns (resolved_key ns q) ≡ q
 key_again ns q i =
-    two (λ (r : WrittenRank) (n : Name). record { rank = r; name = n }) (rank_again q.rank) (name_again q.name ns i)
+    two (λ (r : Rank) (n : Name). record { rank = r; name = n }) refl (name_again q.name ns i)
 
 keys_again : (ns : List Name) (qs : List WrittenKey) → ((q : WrittenKey) → In q qs → In q.name ns) →
     map (named_key ns) (map (resolved_key ns) qs) ≡ qs

@@ -12,15 +12,15 @@ use Rattle.ss_routines.specs.Tree.{Head, MainHead, RoutineHead, EventHead}
 use Rattle.ss_check.specs.declared.declared.fact.Fact.{Fact}
 use Rattle.ss_check.specs.declared.declared.function.Function.{Function}
 use Rattle.ss_check.specs.declared.declared.function.Function.TheVariants.{Absolute, Greatest, Least, Quotient, Remainder}
-use Rattle.ss_check.specs.declared.declared.kept.OwnerKept.TheVariants.{First, Last, Count}
-use Rattle.ss_check.specs.declared.declared.kept.MemberKept.TheVariants.{Predecessor, Successor, Membership}
+use Rattle.ss_words.specs.declared.terms.OwnerKept.TheVariants.{First, Last, Count}
+use Rattle.ss_words.specs.declared.terms.MemberKept.TheVariants.{Predecessor, Successor, Membership}
 use Rattle.ss_check.specs.declared.declared.name_kind.NameKind.{NameKind}
 use Rattle.ss_check.specs.declared.declared.name_kind.NameKind.TheVariants as k
 use Rattle.ss_check.specs.Facts.{fact}
 use Rattle.ss_check.specs.NameKinds.{language_facts, class_facts, set_facts}
 use Rattle.ss_check.specs.Declarations.{Entry, class_of, clauses_of, included, clause_facts, item_facts, declarations, routine_facts}
 use Rattle.ss_check.specs.NamedTree.{owner_kept_name, member_kept_name}
-use Rattle.ss_check.specs.ResolvedNames.{number, kept_of_owner, kept_of_member}
+use Rattle.ss_check.specs.ResolvedNames.{number}
 use Rattle.ss_check.proofs.SoundLists.{In, in_split, map_in, flat_in}
 use Rattle.ss_check.proofs.SoundDeclared.{Facts, all_kinds}
 
@@ -37,8 +37,8 @@ function_name Remainder = codes "MOD.F"
 abbrev pub IsCalled : Name → NameKind → Type 0
 IsCalled n (k.Function f) = n ≡ function_name f
 IsCalled n k.Clock = n ≡ codes "TIME.V"
-IsCalled n (k.OwnerKept a s) = n ≡ owner_kept_name (kept_of_owner a) s
-IsCalled n (k.MemberKept a s) = n ≡ member_kept_name (kept_of_member a) s
+IsCalled n (k.OwnerKept a s) = n ≡ owner_kept_name a s
+IsCalled n (k.MemberKept a s) = n ≡ member_kept_name a s
 IsCalled n _ = Unit {0}
 
 abbrev AreCalled : Facts → Type 0

@@ -5,20 +5,12 @@ use Rattle.std.specs.List.{flat_map}
 use Rattle.std.proofs.lemmas.Bool.{false≢true, or_parts, not-false}
 use Rattle.std.proofs.lemmas.Option.{none-some, same_Some}
 use Rattle.ss_words.specs.Lists.{Name, all_of}
-use Rattle.ss_routines.specs.declared.condition.Comparison.{Comparison}
-use Rattle.ss_routines.specs.declared.condition.Comparison.TheVariants as comparisons
-use Rattle.ss_routines.specs.declared.condition.Copula.{Copula}
-use Rattle.ss_routines.specs.declared.condition.Copula.TheVariants as copulas
-use Rattle.ss_routines.specs.declared.simple.SetEnd.{SetEnd}
-use Rattle.ss_routines.specs.declared.simple.SetEnd.TheVariants as ends
 use Rattle.ss_routines.specs.declared.simple.Article.{Article}
 use Rattle.ss_routines.specs.declared.simple.Article.TheVariants.{A, The}
-use Rattle.ss_routines.specs.declared.place.Direction.{Direction}
-use Rattle.ss_routines.specs.declared.place.Direction.TheVariants as directions
-use Rattle.ss_routines.specs.declared.place.QualifierWord.{QualifierWord}
-use Rattle.ss_routines.specs.declared.place.QualifierWord.TheVariants as words
-use Rattle.ss_routines.specs.declared.place.Statistic.{Statistic}
-use Rattle.ss_routines.specs.declared.place.Statistic.TheVariants as statistics
+use Rattle.ss_words.specs.declared.terms.Direction.{Direction}
+use Rattle.ss_words.specs.declared.terms.QualifierWord.{QualifierWord}
+use Rattle.ss_words.specs.declared.terms.Statistic.{Statistic}
+use Rattle.ss_words.specs.declared.terms.Statistic.TheVariants as statistics
 use Rattle.ss_routines.specs.Expr.{Expr, expr, Sums, no_sums, sum, Term, term, Products, no_products, product, Factor, digits, named, applied, within, Exprs, no_exprs, exprs}
 use Rattle.ss_routines.specs.Condition.{Reference, Condition, condition, Alternatives, no_alternatives, alternative, Conjunction, conjunction, Additions, no_additions, addition, Relation, compared, is_empty, is_in, nested}
 use Rattle.ss_routines.specs.Simple.{Assign, Let, Add, Subtract, Making, Create, CreateEvery, Destroy, FilePlace, ByDiscipline, AtEnd, Before, After, Filing, File, FileAt, RemoveEnd, Remove, Listing, Unwritten, BehindGiven, InParentheses, Call, Return, Stop, ValuesFirst, CalledFirst, When, At, Now, In, Timing, Schedule, Cancel, StartSimulation, Read, Print, Skip, Simple, Assigns, Makes, Files, Transfers, Times, Exchanges}
@@ -36,44 +28,12 @@ use Rattle.ss_check.specs.NameKinds.{names_set, names_routine, serves}
 use Rattle.ss_check.specs.Declarations.{kind_of}
 use Rattle.ss_check.specs.Uses.{Use, LoopVariable, OfClass, uses_expr, uses_sums, uses_term, uses_products, uses_factor, uses_exprs, uses_option, uses_target, uses_set, uses_value, uses_called_target, uses_called_value, uses_condition, uses_alternatives, uses_conjunction, uses_additions, uses_relation, uses_assign, uses_making, uses_file_place, uses_filing, uses_called, uses_details, uses_when, uses_timing, uses_simple, uses_start, uses_range, uses_branch, uses_loop, uses}
 use Rattle.ss_check.specs.ResolvedNames.{Names, number, owner_of, resolved_variable}
-use Rattle.ss_check.specs.Resolved.{resolved_comparison, resolved_copula, resolved_end, resolved_direction, resolved_word, resolved_statistic, resolved_expr, resolved_sums, resolved_term, resolved_products, resolved_factor, resolved_exprs, resolved_option, resolved_value, resolved_target, resolved_set, called_target, called_value, resolved_condition, resolved_alternatives, resolved_conjunction, resolved_additions, resolved_relation, resolved_assign, resolved_making, resolved_position, resolved_filing, resolved_notice, resolved_when, resolved_timing, resolved_simple, resolved_begin, resolved_range, resolved_qualifier, resolved_branch, resolved_telling, resolved_loop, resolved_place}
-use Rattle.ss_check.specs.NamedTree.{named_comparison, named_copula, named_end, named_direction, named_word, named_statistic, several, given, reference_of, named_variable, named_expr, named_sums, named_term, named_products, named_factor, named_exprs, named_value, named_target, named_set, named_called_target, named_called_value, named_condition, named_alternatives, named_conjunction, named_additions, named_relation, named_assign, named_making, named_position, named_filing, named_article, named_notice, named_when, named_timing, named_begin, named_range, named_qualifier, named_branch, named_telling, named_loop, named_place, behind_given, plain_place}
+use Rattle.ss_check.specs.Resolved.{resolved_expr, resolved_sums, resolved_term, resolved_products, resolved_factor, resolved_exprs, resolved_option, resolved_value, resolved_target, resolved_set, called_target, called_value, resolved_condition, resolved_alternatives, resolved_conjunction, resolved_additions, resolved_relation, resolved_assign, resolved_making, resolved_position, resolved_filing, resolved_notice, resolved_when, resolved_timing, resolved_simple, resolved_begin, resolved_range, resolved_qualifier, resolved_branch, resolved_telling, resolved_loop, resolved_place}
+use Rattle.ss_check.specs.NamedTree.{several, given, reference_of, named_variable, named_expr, named_sums, named_term, named_products, named_factor, named_exprs, named_value, named_target, named_set, named_called_target, named_called_value, named_condition, named_alternatives, named_conjunction, named_additions, named_relation, named_assign, named_making, named_position, named_filing, named_article, named_notice, named_when, named_timing, named_begin, named_range, named_qualifier, named_branch, named_telling, named_loop, named_place, behind_given, plain_place}
 use Rattle.ss_check.proofs.SoundUses.{IsGood, AreGood, good_parts}
 use Rattle.ss_check.proofs.NamedUses.{two, three, IsListed, variable_is, owner_is, value_is, applied_is, target_is, target_at_is}
 
 -- ---- words that stay what they are
-
-comparison_is : (a : Comparison) → named_comparison (resolved_comparison a) ≡ a
-comparison_is comparisons.Equal = refl
-comparison_is comparisons.Unequal = refl
-comparison_is comparisons.Less = refl
-comparison_is comparisons.Greater = refl
-comparison_is comparisons.AtMost = refl
-comparison_is comparisons.AtLeast = refl
-
-copula_is : (a : Copula) → named_copula (resolved_copula a) ≡ a
-copula_is copulas.Is = refl
-copula_is copulas.IsNot = refl
-
-end_is : (a : SetEnd) → named_end (resolved_end a) ≡ a
-end_is ends.First = refl
-end_is ends.Last = refl
-
-direction_is : (a : Direction) → named_direction (resolved_direction a) ≡ a
-direction_is directions.Onward = refl
-direction_is directions.Backward = refl
-
-word_is : (a : QualifierWord) → named_word (resolved_word a) ≡ a
-word_is words.With = refl
-word_is words.Unless = refl
-word_is words.While = refl
-word_is words.Until = refl
-
-statistic_is : (a : Statistic) → named_statistic (resolved_statistic a) ≡ a
-statistic_is statistics.Number = refl
-statistic_is statistics.Sum = refl
-statistic_is statistics.Maximum = refl
-statistic_is statistics.Minimum = refl
 
 -- ---- kinds that serve
 
@@ -299,10 +259,10 @@ module _ (d : Tables) (v : Names) (locals : List Name) (p : ProgramTable) (S : I
         named_relation p locals (resolved_relation d v locals q) ≡ q
     relation_is (compared e how f) h =
         let g = parts (uses_expr e) (uses_expr f) h in
-        three compared (expr_is e g.0) (comparison_is how) (expr_is f g.1)
-    relation_is (is_empty r how) h = two is_empty (set_is r h) (copula_is how)
+        three compared (expr_is e g.0) refl (expr_is f g.1)
+    relation_is (is_empty r how) h = two is_empty (set_is r h) refl
     relation_is (is_in e how r) h =
-        let g = parts (uses_expr e) (uses_set r) h in three is_in (expr_is e g.0) (copula_is how) (set_is r g.1)
+        let g = parts (uses_expr e) (uses_set r) h in three is_in (expr_is e g.0) refl (set_is r g.1)
     relation_is (nested c) h = ap nested (condition_is c h)
 
   -- ---- statements that hold no other
@@ -321,7 +281,7 @@ module _ (d : Tables) (v : Names) (locals : List Name) (p : ProgramTable) (S : I
   position_is : (f : FilePlace) → AreGood d locals (uses_file_place f) →
       named_position p locals (resolved_position d v locals f) ≡ f
   position_is ByDiscipline h = refl
-  position_is (AtEnd z) h = ap AtEnd (end_is z)
+  position_is (AtEnd z) h = refl
   position_is (Before e) h = ap Before (expr_is e h)
   position_is (After e) h = ap After (expr_is e h)
 
@@ -331,9 +291,9 @@ module _ (d : Tables) (v : Names) (locals : List Name) (p : ProgramTable) (S : I
       let o = parts (uses_expr e) (uses_file_place how) q.0 in
       three File (expr_is e o.0) (position_is how o.1) (set_is r q.1)
   filing_is (FileAt z e r) h =
-      let q = parts (uses_expr e) (uses_set r) h in three FileAt (end_is z) (expr_is e q.0) (set_is r q.1)
+      let q = parts (uses_expr e) (uses_set r) h in three FileAt refl (expr_is e q.0) (set_is r q.1)
   filing_is (RemoveEnd z t r) h =
-      let q = parts (uses_target t) (uses_set r) h in three RemoveEnd (end_is z) (ref_is t q.0) (set_is r q.1)
+      let q = parts (uses_target t) (uses_set r) h in three RemoveEnd refl (ref_is t q.0) (set_is r q.1)
   filing_is (Remove e r) h = let q = parts (uses_expr e) (uses_set r) h in two Remove (expr_is e q.0) (set_is r q.1)
 
   given_is : (es : Listing Expr) → AreGood d locals (flat_map uses_expr (listed es)) →
@@ -420,7 +380,7 @@ module _ (d : Tables) (v : Names) (locals : List Name) (p : ProgramTable) (S : I
   range_is (l.Counting way n a b step) h =
       let q = parts (uses_expr a ++ uses_expr b) (uses_option step) h.1 in
       let o = parts (uses_expr a) (uses_expr b) q.0 in
-      counted (direction_is way) (loop_variable_is n h.0) (expr_is a o.0) (expr_is b o.1) (option_is step q.1)
+      counted refl (loop_variable_is n h.0) (expr_is a o.0) (expr_is b o.1) (option_is step q.1)
     where
       counted : {y z : Direction} {m n : Name} {a b c e : Expr} {i j : Option Expr} → y ≡ z → m ≡ n → a ≡ b → c ≡ e →
           i ≡ j →
@@ -434,13 +394,13 @@ module _ (d : Tables) (v : Names) (locals : List Name) (p : ProgramTable) (S : I
       let q = parts (uses_set r) (uses_start start) h.1 in
       two (λ (y : Direction) (m : Name). l.Walking y m (named_set p locals (resolved_set d v locals r))
       (named_begin p locals (resolved_begin d v locals start)))
-      (direction_is way) (loop_variable_is n h.0)
+      refl (loop_variable_is n h.0)
       ∙ two (l.Walking way n) (set_is r q.0) (begin_is start q.1)
 
   qualifier_is : (q : l.Qualifier) → AreGood d locals (uses_condition q.condition) →
       named_qualifier p locals (resolved_qualifier d v locals q) ≡ q
   qualifier_is q h =
-      two (λ (a : QualifierWord) (c : Condition). record { word = a; condition = c }) (word_is q.word)
+      two (λ (a : QualifierWord) (c : Condition). record { word = a; condition = c }) refl
       (condition_is q.condition h)
 
   qualifiers_are : (qs : List l.Qualifier) → AreGood d locals (flat_map (λ q. uses_condition q.condition) qs) →
@@ -454,7 +414,7 @@ module _ (d : Tables) (v : Names) (locals : List Name) (p : ProgramTable) (S : I
       named_telling p locals (resolved_telling d v locals t) ≡ t
   telling_is t h =
       two (λ (a : Reference) (b : Statistic). record { target = a; statistic = b }) (ref_is t.target h)
-      (statistic_is t.statistic)
+      refl
 
   tellings_are : (ts : List l.Computed) → AreGood d locals (flat_map (λ t. uses_target t.target) ts) →
       map (named_telling p locals) (map (resolved_telling d v locals) ts) ≡ ts

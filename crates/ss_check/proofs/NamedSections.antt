@@ -22,7 +22,7 @@ use Rattle.ss_check.specs.Facts.{is_among, repeats, each_once, fact}
 use Rattle.ss_check.specs.NameKinds.{is_attribute_of}
 use Rattle.ss_check.specs.Declarations as declared
 use Rattle.ss_check.specs.Declarations.{Entry, entries, heads, tables, given_of, yielded_of, parameters, kind_of}
-use Rattle.ss_check.specs.ResolvedNames.{Names, names, number, attribute_names, attributes_of, kept_of_owner, kept_of_member, variables_used, undeclared, locals_of, routine_number}
+use Rattle.ss_check.specs.ResolvedNames.{Names, names, number, attribute_names, attributes_of, variables_used, undeclared, locals_of, routine_number}
 use Rattle.ss_check.specs.Resolved.{Rankings, rankings, class_table, set_table, section_name, section_kind, says_saving, resolved_spot, resolved_section, resolved_with}
 use Rattle.ss_check.specs.NamedTree.{given, behind_given, owner_kept_name, member_kept_name, name_at, named_attribute, named_spot, named_head, named_section, named_sections, plain_spot, plain_head, plain_section, TablesGiveTheText}
 use Rattle.ss_check.proofs.SoundLists.{In, same_name, number_there, image_at, where_has}
@@ -169,11 +169,11 @@ module _ (is : List ItemAt) (qs : List Section) (h : AreItemsKept (tables is qs)
         (number_finds n V.globals (number_there n V.globals (global_in xs hs h n j (kind_in xs hs h n j e) t)));
     attribute = λ n c e. attribute_at locals n c e;
     owner_kept = λ n a t e.
-        ap (λ (z : SetTable). owner_kept_name (kept_of_owner a) z.name)
+        ap (λ (z : SetTable). owner_kept_name a z.name)
         (set_at t (closed_kind xs hs h n (k.OwnerKept a t) e))
         ∙ sym (all_called xs hs (fact n (k.OwnerKept a t)) (kind_in xs hs h n (k.OwnerKept a t) e));
     member_kept = λ n a t e.
-        ap (λ (z : SetTable). member_kept_name (kept_of_member a) z.name)
+        ap (λ (z : SetTable). member_kept_name a z.name)
         (set_at t (closed_kind xs hs h n (k.MemberKept a t) e))
         ∙ sym (all_called xs hs (fact n (k.MemberKept a t)) (kind_in xs hs h n (k.MemberKept a t) e));
     set = λ n e. ap (λ (z : SetTable). z.name) (set_at n (kind_in xs hs h n k.Set e));

@@ -9,8 +9,8 @@ use Rattle.ss_program.specs.Program.{ProgramTable, class_of, set_of, section_of}
 use Rattle.ss_program.specs.ProgramExpr as x
 use Rattle.ss_check.specs.declared.declared.function.Function.{Function}
 use Rattle.ss_check.specs.declared.declared.function.Function.TheVariants.{Absolute, Greatest, Least, Quotient, Remainder}
-use Rattle.ss_check.specs.declared.declared.kept.OwnerKept.{OwnerKept as OwnersKept}
-use Rattle.ss_check.specs.declared.declared.kept.MemberKept.{MemberKept as MembersKept}
+use Rattle.ss_words.specs.declared.terms.OwnerKept.{OwnerKept}
+use Rattle.ss_words.specs.declared.terms.MemberKept.{MemberKept}
 use Rattle.ss_check.specs.declared.declared.name_kind.NameKind.{NameKind}
 use Rattle.ss_check.specs.declared.declared.name_kind.NameKind.TheVariants as k
 use Rattle.ss_check.specs.declared.declared.tables.Tables.{Tables}
@@ -18,7 +18,7 @@ use Rattle.ss_check.specs.NameKinds.{is_global, names_function, names_variable, 
 use Rattle.ss_check.specs.Declarations.{kind_of, is_of_system}
 use Rattle.ss_check.specs.PlaceRules.{is_valueless, takes, is_bare, has_wrong_arguments}
 use Rattle.ss_check.specs.Uses.{count}
-use Rattle.ss_check.specs.ResolvedNames.{Names, number, attribute_names, kept_of_owner, kept_of_member, variable_of, subscript_of_owner, owner_of, routine_number, factor_of, function_factor, applied_factor, target_of}
+use Rattle.ss_check.specs.ResolvedNames.{Names, number, attribute_names, variable_of, subscript_of_owner, owner_of, routine_number, factor_of, function_factor, applied_factor, target_of}
 use Rattle.ss_check.specs.Resolved.{resolved_expr, resolved_exprs, resolved_option}
 use Rattle.ss_check.specs.NamedTree.{owner_kept_name, member_kept_name, name_at, named_variable, named_attribute, named_expr, named_exprs, named_factor, named_applied, named_subscript, named_target}
 use Rattle.ss_check.proofs.NamedKinds.{function_name, number_finds}
@@ -51,10 +51,10 @@ pub record IsListed (d : Tables) (v : Names) (locals : List Name) (p : ProgramTa
       name_at p.globals (number n v.globals) ≡ n
   pub attribute : (n c : Name) → kind_of d n ≡ Some (k.Attribute c) →
       named_attribute p locals (number c v.classes) (number n (attribute_names v c)) ≡ n
-  pub owner_kept : (n : Name) (a : OwnersKept) (s : Name) → kind_of d n ≡ Some (k.OwnerKept a s) →
-      owner_kept_name (kept_of_owner a) (set_of p (number s v.sets)).name ≡ n
-  pub member_kept : (n : Name) (a : MembersKept) (s : Name) → kind_of d n ≡ Some (k.MemberKept a s) →
-      member_kept_name (kept_of_member a) (set_of p (number s v.sets)).name ≡ n
+  pub owner_kept : (n : Name) (a : OwnerKept) (s : Name) → kind_of d n ≡ Some (k.OwnerKept a s) →
+      owner_kept_name a (set_of p (number s v.sets)).name ≡ n
+  pub member_kept : (n : Name) (a : MemberKept) (s : Name) → kind_of d n ≡ Some (k.MemberKept a s) →
+      member_kept_name a (set_of p (number s v.sets)).name ≡ n
   pub set : (n : Name) → kind_of d n ≡ Some k.Set → (set_of p (number n v.sets)).name ≡ n
   pub class : (n : Name) (g : Option Rattle.ss_preamble.specs.declared.item.Heading.Heading) →
       kind_of d n ≡ Some (k.Class g) →
@@ -110,7 +110,7 @@ module _ (d : Tables) (v : Names) (locals : List Name) (p : ProgramTable) (S : I
   value_is n (Some (k.Class g)) e a b h = ap named (S.global n (k.Class g) e refl)
   value_is n (Some (k.Attribute c)) e a b h = ap named (S.attribute n c e)
   value_is n (Some (k.OwnerKept q s)) e a b h =
-      owner_none (owner_of d v locals s) (owner_kept_name (kept_of_owner q) (set_of p (number s v.sets)).name)
+      owner_none (owner_of d v locals s) (owner_kept_name q (set_of p (number s v.sets)).name)
       ∙ ap named (S.owner_kept n q s e)
   value_is n (Some (k.MemberKept q s)) e a b h = ap named (S.member_kept n q s e)
   value_is n (Some (k.Function f)) e a b h = absurd (true≢false b)
@@ -154,7 +154,7 @@ module _ (d : Tables) (v : Names) (locals : List Name) (p : ProgramTable) (S : I
   applied_is n (Some (k.Attribute c)) a bs e b h g i = three applied (S.attribute n c e) g (sym (single bs h))
   applied_is n (Some (k.OwnerKept q s)) a bs e b h g i =
       let t = not-false (not (is_of_system d s)) b in
-      owner_some (owner_of d v locals s) (owner_kept_name (kept_of_owner q) (set_of p (number s v.sets)).name)
+      owner_some (owner_of d v locals s) (owner_kept_name q (set_of p (number s v.sets)).name)
       (resolved_expr d v locals a)
       ∙ three applied (S.owner_kept n q s e) g
       (sym (single bs (second_of (not (is_of_system d s)) (not (1 + count bs == 1)) t h)))

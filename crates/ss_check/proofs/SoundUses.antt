@@ -8,8 +8,8 @@ use Rattle.ss_program.specs.ProgramExpr.{Expr, Exprs, no_exprs, exprs}
 use Rattle.ss_program.specs.ProgramSound.{Scope, IsClass, IsSettable, IsSoundExpr, IsSoundFactor, IsSoundSubscript, AreSoundArguments, IsSoundOption, IsTarget}
 use Rattle.ss_check.specs.declared.declared.function.Function.{Function}
 use Rattle.ss_check.specs.declared.declared.function.Function.TheVariants.{Absolute, Greatest, Least, Quotient, Remainder}
-use Rattle.ss_check.specs.declared.declared.kept.OwnerKept.{OwnerKept as OwnersKept}
-use Rattle.ss_check.specs.declared.declared.kept.MemberKept.{MemberKept as MembersKept}
+use Rattle.ss_words.specs.declared.terms.OwnerKept.{OwnerKept}
+use Rattle.ss_words.specs.declared.terms.MemberKept.{MemberKept}
 use Rattle.ss_check.specs.declared.declared.name_kind.NameKind.{NameKind}
 use Rattle.ss_check.specs.declared.declared.name_kind.NameKind.TheVariants as k
 use Rattle.ss_check.specs.declared.declared.tables.Tables.{Tables}
@@ -27,12 +27,12 @@ pub record Scoped (d : Tables) (v : Names) (locals : List Name) (sc : Scope) : T
   pub global : (n : Name) (j : NameKind) → kind_of d n ≡ Some j → is_global j ≡ true → number n v.globals < sc.globals
   pub attribute : (n c : Name) → kind_of d n ≡ Some (k.Attribute c) → IsClass sc (number c v.classes)
   pub attribute_variable : (n c : Name) → kind_of d n ≡ Some (k.Attribute c) → number c v.globals < sc.globals
-  pub owner_kept : (n : Name) (a : OwnersKept) (s : Name) → kind_of d n ≡ Some (k.OwnerKept a s) →
+  pub owner_kept : (n : Name) (a : OwnerKept) (s : Name) → kind_of d n ≡ Some (k.OwnerKept a s) →
       number s v.sets < sc.sets
   pub owner : (s c : Name) → owner_of d v locals s ≡ Some c → number c v.globals < sc.globals
-  pub member_kept : (n : Name) (a : MembersKept) (s : Name) → kind_of d n ≡ Some (k.MemberKept a s) →
+  pub member_kept : (n : Name) (a : MemberKept) (s : Name) → kind_of d n ≡ Some (k.MemberKept a s) →
       number s v.sets < sc.sets
-  pub member : (n : Name) (a : MembersKept) (s : Name) → kind_of d n ≡ Some (k.MemberKept a s) →
+  pub member : (n : Name) (a : MemberKept) (s : Name) → kind_of d n ≡ Some (k.MemberKept a s) →
       number (member_class d v locals s) v.globals < sc.globals
   pub set : (n : Name) → kind_of d n ≡ Some k.Set → number n v.sets < sc.sets
   pub locals_are : sc.locals ≡ length locals

@@ -2,10 +2,10 @@
 use Rattle.std.specs.Prelude.{◌≡◌, ℕ, ◌+◌, true, false, List, [], ◌∷◌, ◌++◌, length, codes, Option, Some, None}
 use Rattle.ss_words.specs.Lists.{Name, Several}
 use Rattle.ss_preamble.specs.declared.item.Heading.TheVariants.{PermanentEntities, TemporaryEntities, EventNotices}
-use Rattle.ss_preamble.specs.declared.item.Rank.TheVariants.{High}
+use Rattle.ss_words.specs.declared.terms.Rank.TheVariants.{High}
 use Rattle.ss_preamble.specs.Tree.{Key, Clause, Has, Owns, BelongsTo, Fifo, Lifo, Ranked, Variables, Sets, PriorityOrder, BreakTies, ExternalEvents, Item, Headed, OfEvery, OfSystem, Defines, Orders, ItemAt, Decls}
-use Rattle.ss_routines.specs.declared.place.Direction.TheVariants.{Onward}
-use Rattle.ss_routines.specs.declared.place.Statistic.TheVariants.{Sum}
+use Rattle.ss_words.specs.declared.terms.Direction.TheVariants.{Onward}
+use Rattle.ss_words.specs.declared.terms.Statistic.TheVariants.{Sum}
 use Rattle.ss_routines.specs.Expr.{Expr, expr, no_sums, term, no_products, Factor, digits, named, applied, no_exprs}
 use Rattle.ss_routines.specs.Condition.{Reference}
 use Rattle.ss_routines.specs.Simple.{Let, Create, ByDiscipline, File, Listing, Unwritten, BehindGiven, Call, StartSimulation, Print, Assigns, Makes, Files, Transfers, Times, Exchanges}

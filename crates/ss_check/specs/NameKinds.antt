@@ -4,8 +4,8 @@ use Rattle.ss_words.specs.Lists.{Name}
 use Rattle.ss_preamble.specs.declared.item.Heading.{Heading}
 use Rattle.ss_preamble.specs.declared.item.Heading.TheVariants.{PermanentEntities, TemporaryEntities, EventNotices}
 use Rattle.ss_check.specs.declared.declared.function.Function.TheVariants.{Absolute, Greatest, Least, Quotient, Remainder}
-use Rattle.ss_check.specs.declared.declared.kept.OwnerKept.TheVariants.{First, Last, Count}
-use Rattle.ss_check.specs.declared.declared.kept.MemberKept.TheVariants.{Predecessor, Successor, Membership}
+use Rattle.ss_words.specs.declared.terms.OwnerKept.TheVariants.{First, Last, Count}
+use Rattle.ss_words.specs.declared.terms.MemberKept.TheVariants.{Predecessor, Successor, Membership}
 use Rattle.ss_check.specs.declared.declared.class_need.ClassNeed.{ClassNeed}
 use Rattle.ss_check.specs.declared.declared.class_need.ClassNeed.TheVariants.{Permanent, Ending, Event}
 use Rattle.ss_check.specs.declared.declared.name_kind.NameKind.{NameKind}

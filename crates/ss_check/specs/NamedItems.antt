@@ -4,14 +4,11 @@ use Rattle.std.specs.List.{All, filter, flat_map}
 use Rattle.ss_words.specs.Lists.{Name, all_of}
 use Rattle.ss_preamble.specs.declared.item.Heading.{Heading}
 use Rattle.ss_preamble.specs.declared.item.Heading.TheVariants.{PermanentEntities, TemporaryEntities, EventNotices}
-use Rattle.ss_preamble.specs.declared.item.Rank.{Rank as WrittenRank}
-use Rattle.ss_preamble.specs.declared.item.Rank.TheVariants as ranks
+use Rattle.ss_words.specs.declared.terms.Rank.TheVariants as ranks
 use Rattle.ss_preamble.specs.Tree.{Key as WrittenKey, SetKind, Fifo, Lifo, Ranked, Variables, Item, Headed, OfEvery, OfSystem, Defines, Decls}
 use Rattle.ss_preamble.specs.Limits.{clause_has, class_names}
 use Rattle.ss_routines.specs.Places.{Section}
 use Rattle.ss_program.specs.declared.keys.Key.{Key}
-use Rattle.ss_program.specs.declared.keys.Rank.{Rank}
-use Rattle.ss_program.specs.declared.keys.Rank.TheVariants as rank
 use Rattle.ss_program.specs.declared.kinds.ClassKind.{ClassKind}
 use Rattle.ss_program.specs.declared.kinds.ClassKind.TheVariants.{Permanent, Temporary, Event}
 use Rattle.ss_program.specs.declared.kinds.Discipline.{Discipline}
@@ -34,14 +31,9 @@ named_heading (Permanent count) = PermanentEntities
 named_heading Temporary = TemporaryEntities
 named_heading (Event e) = EventNotices
 
--- HIGH or LOW
-abbrev pub named_rank : Rank → WrittenRank
-named_rank rank.High = ranks.High
-named_rank rank.Low = ranks.Low
-
 -- a key, by the names of the attributes of its class
 abbrev pub named_key : List Name → Key → WrittenKey
-named_key attributes k = record { rank = named_rank k.rank; name = name_at attributes k.attribute }
+named_key attributes k = record { rank = k.rank; name = name_at attributes k.attribute }
 
 -- a discipline, by the names of the attributes of the members
 abbrev pub named_discipline : List Name → Discipline → SetKind

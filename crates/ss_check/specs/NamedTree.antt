@@ -2,20 +2,9 @@
 use Rattle.std.specs.Prelude.{◌≡◌, ℕ, Bool, true, false, List, [], ◌∷◌, ◌++◌, map, take, drop, codes, slice_get, Option, Some, None, option_map, unwrap_or}
 use Rattle.ss_words.specs.Lists.{Name, Several}
 use Rattle.ss_preamble.specs.Tree.{Decls}
-use Rattle.ss_routines.specs.declared.condition.Comparison.{Comparison}
-use Rattle.ss_routines.specs.declared.condition.Comparison.TheVariants.{Equal, Unequal, Less, Greater, AtMost, AtLeast}
-use Rattle.ss_routines.specs.declared.condition.Copula.{Copula}
-use Rattle.ss_routines.specs.declared.condition.Copula.TheVariants as copulas
-use Rattle.ss_routines.specs.declared.simple.SetEnd.{SetEnd}
-use Rattle.ss_routines.specs.declared.simple.SetEnd.TheVariants as ends
 use Rattle.ss_routines.specs.declared.simple.Article.{Article}
 use Rattle.ss_routines.specs.declared.simple.Article.TheVariants.{A, The}
-use Rattle.ss_routines.specs.declared.place.Direction.{Direction}
-use Rattle.ss_routines.specs.declared.place.Direction.TheVariants as directions
-use Rattle.ss_routines.specs.declared.place.QualifierWord.{QualifierWord}
-use Rattle.ss_routines.specs.declared.place.QualifierWord.TheVariants as words
-use Rattle.ss_routines.specs.declared.place.Statistic.{Statistic}
-use Rattle.ss_routines.specs.declared.place.Statistic.TheVariants as statistics
+use Rattle.ss_words.specs.declared.terms.Statistic.TheVariants as statistics
 use Rattle.ss_routines.specs.Expr as e
 use Rattle.ss_routines.specs.Condition as c
 use Rattle.ss_routines.specs.Condition.{Reference}
@@ -23,23 +12,11 @@ use Rattle.ss_routines.specs.Simple as s
 use Rattle.ss_routines.specs.Loops as l
 use Rattle.ss_routines.specs.Tree.{Head, MainHead, RoutineHead, EventHead}
 use Rattle.ss_routines.specs.Places as w
-use Rattle.ss_program.specs.declared.condition.Comparison.{Comparison as ItsComparison}
-use Rattle.ss_program.specs.declared.condition.Comparison.TheVariants as comparison
-use Rattle.ss_program.specs.declared.condition.Copula.{Copula as ItsCopula}
-use Rattle.ss_program.specs.declared.condition.Copula.TheVariants as copula
-use Rattle.ss_program.specs.declared.filing.End.{End}
-use Rattle.ss_program.specs.declared.filing.End.TheVariants as end
 use Rattle.ss_program.specs.declared.filing.Position.{Position}
 use Rattle.ss_program.specs.declared.filing.Position.TheVariants as position
 use Rattle.ss_program.specs.declared.filing.Filing.{Filing}
 use Rattle.ss_program.specs.declared.filing.Filing.TheVariants as filing
-use Rattle.ss_program.specs.declared.looping.Direction.{Direction as ItsDirection}
-use Rattle.ss_program.specs.declared.looping.Direction.TheVariants as direction
-use Rattle.ss_program.specs.declared.looping.QualifierWord.{QualifierWord as ItsWord}
-use Rattle.ss_program.specs.declared.looping.QualifierWord.TheVariants as word
 use Rattle.ss_program.specs.declared.looping.Qualifier.{Qualifier}
-use Rattle.ss_program.specs.declared.looping.Statistic.{Statistic as ItsStatistic}
-use Rattle.ss_program.specs.declared.looping.Statistic.TheVariants as statistic
 use Rattle.ss_program.specs.declared.looping.Begin.{Begin}
 use Rattle.ss_program.specs.declared.looping.Begin.TheVariants as begin
 use Rattle.ss_program.specs.declared.looping.ForPhrase.{ForPhrase}
@@ -79,55 +56,15 @@ use Rattle.ss_program.specs.declared.variable.Variable.{Variable}
 use Rattle.ss_program.specs.declared.variable.Variable.TheVariants.{Global, Local, Clock}
 use Rattle.ss_program.specs.declared.kinds.SectionKind.{SectionKind}
 use Rattle.ss_program.specs.declared.kinds.SectionKind.TheVariants as sections
-use Rattle.ss_program.specs.declared.sum.OwnerKept.{OwnerKept}
-use Rattle.ss_program.specs.declared.sum.OwnerKept.TheVariants as owner
-use Rattle.ss_program.specs.declared.sum.MemberKept.{MemberKept}
-use Rattle.ss_program.specs.declared.sum.MemberKept.TheVariants as member
+use Rattle.ss_words.specs.declared.terms.OwnerKept.{OwnerKept}
+use Rattle.ss_words.specs.declared.terms.OwnerKept.TheVariants as owner
+use Rattle.ss_words.specs.declared.terms.MemberKept.{MemberKept}
+use Rattle.ss_words.specs.declared.terms.MemberKept.TheVariants as member
 use Rattle.ss_program.specs.Program.{class_of, set_of, section_of, SectionTable, ProgramTable}
 use Rattle.ss_program.specs.ProgramExpr as x
 use Rattle.ss_program.specs.ProgramCondition as y
 use Rattle.ss_check.specs.Breach.{breach}
 use Rattle.ss_check.specs.Resolved.{resolved}
-
--- ---- words that stay what they are
-
--- how two values are compared
-abbrev pub named_comparison : ItsComparison → Comparison
-named_comparison comparison.Equals = Equal
-named_comparison comparison.Differs = Unequal
-named_comparison comparison.Below = Less
-named_comparison comparison.Above = Greater
-named_comparison comparison.AtMost = AtMost
-named_comparison comparison.AtLeast = AtLeast
-
--- IS or IS NOT
-abbrev pub named_copula : ItsCopula → Copula
-named_copula copula.Is = copulas.Is
-named_copula copula.IsNot = copulas.IsNot
-
--- an end of a list
-abbrev pub named_end : End → SetEnd
-named_end end.First = ends.First
-named_end end.Last = ends.Last
-
--- the way in which a FOR phrase goes
-abbrev pub named_direction : ItsDirection → Direction
-named_direction direction.Onward = directions.Onward
-named_direction direction.Backward = directions.Backward
-
--- the word of a qualifier
-abbrev pub named_word : ItsWord → QualifierWord
-named_word word.With = words.With
-named_word word.Unless = words.Unless
-named_word word.While = words.While
-named_word word.Until = words.Until
-
--- what a COMPUTE tells
-abbrev pub named_statistic : ItsStatistic → Statistic
-named_statistic statistic.Number = statistics.Number
-named_statistic statistic.Sum = statistics.Sum
-named_statistic statistic.Maximum = statistics.Maximum
-named_statistic statistic.Minimum = statistics.Minimum
 
 -- ---- lists
 
@@ -282,9 +219,9 @@ module _ (p : ProgramTable) (locals : List Name) where
 
     -- a comparison, IS EMPTY, IS IN, or a condition in parentheses
     pub named_relation : y.Relation → c.Relation
-    named_relation (y.compared a how b) = c.compared (named_expr a) (named_comparison how) (named_expr b)
-    named_relation (y.is_empty r is) = c.is_empty (named_set r) (named_copula is)
-    named_relation (y.is_in a is r) = c.is_in (named_expr a) (named_copula is) (named_set r)
+    named_relation (y.compared a how b) = c.compared (named_expr a) how (named_expr b)
+    named_relation (y.is_empty r is) = c.is_empty (named_set r) is
+    named_relation (y.is_in a is r) = c.is_in (named_expr a) is (named_set r)
     named_relation (y.nested a) = c.nested (named_condition a)
 
   -- ---- statements that hold no other
@@ -304,15 +241,15 @@ module _ (p : ProgramTable) (locals : List Name) where
   -- where FILE puts a member
   abbrev pub named_position : Position → s.FilePlace
   named_position position.ByRule = s.ByDiscipline
-  named_position (position.AtEnd z) = s.AtEnd (named_end z)
+  named_position (position.AtEnd z) = s.AtEnd z
   named_position (position.Before a) = s.Before (named_expr a)
   named_position (position.After a) = s.After (named_expr a)
 
   -- FILE and REMOVE
   abbrev pub named_filing : Filing → s.Filing
   named_filing (filing.File a how r) = s.File (named_expr a) (named_position how) (named_set r)
-  named_filing (filing.FileAt z a r) = s.FileAt (named_end z) (named_expr a) (named_set r)
-  named_filing (filing.RemoveAt z t r) = s.RemoveEnd (named_end z) (named_target t) (named_set r)
+  named_filing (filing.FileAt z a r) = s.FileAt z (named_expr a) (named_set r)
+  named_filing (filing.RemoveAt z t r) = s.RemoveEnd z (named_target t) (named_set r)
   named_filing (filing.Remove a r) = s.Remove (named_expr a) (named_set r)
 
   -- CALL, its arguments behind GIVEN
@@ -370,14 +307,14 @@ module _ (p : ProgramTable) (locals : List Name) where
   -- what a FOR phrase goes through
   abbrev pub named_range : Phrase → l.Range
   named_range (phrase.Counting way u a b step) =
-      l.Counting (named_direction way) (named_variable u) (named_expr a) (named_expr b) (option_map named_expr step)
+      l.Counting way (named_variable u) (named_expr a) (named_expr b) (option_map named_expr step)
   named_range (phrase.Each k called u count) = l.Each (class_of p k).name (named_loop_variable called u)
   named_range (phrase.Walking way u r start) =
-      l.Walking (named_direction way) (named_variable u) (named_set r) (named_begin start)
+      l.Walking way (named_variable u) (named_set r) (named_begin start)
 
   -- a qualifier with its condition
   abbrev pub named_qualifier : Qualifier → l.Qualifier
-  named_qualifier q = record { word = named_word q.word; condition = named_condition q.condition }
+  named_qualifier q = record { word = q.word; condition = named_condition q.condition }
 
   -- a FOR phrase
   abbrev pub named_phrase : ForPhrase → l.Phrase
@@ -399,7 +336,7 @@ module _ (p : ProgramTable) (locals : List Name) where
 
   -- a target of COMPUTE and its statistic
   abbrev pub named_telling : Telling → l.Computed
-  named_telling t = record { target = named_target t.target; statistic = named_statistic t.statistic }
+  named_telling t = record { target = named_target t.target; statistic = t.statistic }
 
   -- a FOR phrase, LOOP, FIND, and the two places of COMPUTE
   abbrev pub named_loop : Looping → w.Loop

@@ -3,46 +3,20 @@ use Rattle.std.specs.Prelude.{Bool, false, List, [], length, map, codes, Option,
 use Rattle.std.specs.List.{flat_map}
 use Rattle.ss_words.specs.Lists.{Name, all_of}
 use Rattle.ss_preamble.specs.declared.item.Heading.TheVariants.{PermanentEntities, EventNotices}
-use Rattle.ss_preamble.specs.declared.item.Rank.{Rank as WrittenRank}
-use Rattle.ss_preamble.specs.declared.item.Rank.TheVariants as ranks
 use Rattle.ss_preamble.specs.Tree.{Key as WrittenKey, SetKind, Fifo, Lifo, Ranked, ItemAt, Decls}
-use Rattle.ss_routines.specs.declared.condition.Comparison.{Comparison as WrittenComparison}
-use Rattle.ss_routines.specs.declared.condition.Comparison.TheVariants as comparisons
-use Rattle.ss_routines.specs.declared.condition.Copula.{Copula as WrittenCopula}
-use Rattle.ss_routines.specs.declared.condition.Copula.TheVariants as copulas
-use Rattle.ss_routines.specs.declared.simple.SetEnd.{SetEnd}
-use Rattle.ss_routines.specs.declared.simple.SetEnd.TheVariants as ends
 use Rattle.ss_routines.specs.declared.simple.Article.{Article}
 use Rattle.ss_routines.specs.declared.simple.Article.TheVariants.{A, The}
-use Rattle.ss_routines.specs.declared.place.Direction.{Direction as WrittenDirection}
-use Rattle.ss_routines.specs.declared.place.Direction.TheVariants as directions
-use Rattle.ss_routines.specs.declared.place.QualifierWord.{QualifierWord as WrittenWord}
-use Rattle.ss_routines.specs.declared.place.QualifierWord.TheVariants as words
-use Rattle.ss_routines.specs.declared.place.Statistic.{Statistic as WrittenStatistic}
-use Rattle.ss_routines.specs.declared.place.Statistic.TheVariants as statistics
 use Rattle.ss_routines.specs.Expr as e
 use Rattle.ss_routines.specs.Condition as c
 use Rattle.ss_routines.specs.Simple as s
 use Rattle.ss_routines.specs.Loops as l
 use Rattle.ss_routines.specs.Tree.{Head, MainHead, RoutineHead, EventHead, listed}
 use Rattle.ss_routines.specs.Places as w
-use Rattle.ss_program.specs.declared.condition.Comparison.{Comparison}
-use Rattle.ss_program.specs.declared.condition.Comparison.TheVariants.{Equals, Differs, Below, Above, AtMost, AtLeast}
-use Rattle.ss_program.specs.declared.condition.Copula.{Copula}
-use Rattle.ss_program.specs.declared.condition.Copula.TheVariants.{Is, IsNot}
-use Rattle.ss_program.specs.declared.filing.End.{End as ListEnd}
-use Rattle.ss_program.specs.declared.filing.End.TheVariants as list_end
 use Rattle.ss_program.specs.declared.filing.Position.{Position}
 use Rattle.ss_program.specs.declared.filing.Position.TheVariants as position
 use Rattle.ss_program.specs.declared.filing.Filing.{Filing}
 use Rattle.ss_program.specs.declared.filing.Filing.TheVariants as filing
-use Rattle.ss_program.specs.declared.looping.Direction.{Direction}
-use Rattle.ss_program.specs.declared.looping.Direction.TheVariants.{Onward, Backward}
-use Rattle.ss_program.specs.declared.looping.QualifierWord.{QualifierWord}
-use Rattle.ss_program.specs.declared.looping.QualifierWord.TheVariants.{With, Unless, While, Until}
 use Rattle.ss_program.specs.declared.looping.Qualifier.{Qualifier}
-use Rattle.ss_program.specs.declared.looping.Statistic.{Statistic}
-use Rattle.ss_program.specs.declared.looping.Statistic.TheVariants.{Number, Sum, Maximum, Minimum}
 use Rattle.ss_program.specs.declared.looping.Begin.{Begin}
 use Rattle.ss_program.specs.declared.looping.Begin.TheVariants as begin
 use Rattle.ss_program.specs.declared.looping.ForPhrase.{ForPhrase}
@@ -77,8 +51,6 @@ use Rattle.ss_program.specs.declared.target.Target.TheVariants as target
 use Rattle.ss_program.specs.declared.variable.Variable.{Variable}
 use Rattle.ss_program.specs.declared.variable.Variable.TheVariants.{Global}
 use Rattle.ss_program.specs.declared.keys.Key.{Key}
-use Rattle.ss_program.specs.declared.keys.Rank.{Rank}
-use Rattle.ss_program.specs.declared.keys.Rank.TheVariants.{High, Low}
 use Rattle.ss_program.specs.declared.kinds.ClassKind.{ClassKind}
 use Rattle.ss_program.specs.declared.kinds.ClassKind.TheVariants as class_kinds
 use Rattle.ss_program.specs.declared.kinds.Discipline.{Discipline}
@@ -98,51 +70,6 @@ use Rattle.ss_check.specs.declared.declared.tables.Tables.{Tables}
 use Rattle.ss_check.specs.Facts.{is_among, fact_of}
 use Rattle.ss_check.specs.Declarations.{given_of, yielded_of, heads, tables, kind_of, disciplines_in, ties_in}
 use Rattle.ss_check.specs.ResolvedNames.{Names, names, number, attribute_names, attributes_of, locals_of, class_number, set_number, class_variable, count_variable, routine_number, event_section, resolved_variable, owner_of, member_class, owner_subscript, factor_of, applied_factor, value_factor, target_of}
-
--- ---- words that stay what they are
-
--- how two values are compared
-abbrev pub resolved_comparison : WrittenComparison → Comparison
-resolved_comparison comparisons.Equal = Equals
-resolved_comparison comparisons.Unequal = Differs
-resolved_comparison comparisons.Less = Below
-resolved_comparison comparisons.Greater = Above
-resolved_comparison comparisons.AtMost = AtMost
-resolved_comparison comparisons.AtLeast = AtLeast
-
--- IS or IS NOT
-abbrev pub resolved_copula : WrittenCopula → Copula
-resolved_copula copulas.Is = Is
-resolved_copula copulas.IsNot = IsNot
-
--- an end of a list
-abbrev pub resolved_end : SetEnd → ListEnd
-resolved_end ends.First = list_end.First
-resolved_end ends.Last = list_end.Last
-
--- the way in which a FOR phrase goes
-abbrev pub resolved_direction : WrittenDirection → Direction
-resolved_direction directions.Onward = Onward
-resolved_direction directions.Backward = Backward
-
--- the word of a qualifier
-abbrev pub resolved_word : WrittenWord → QualifierWord
-resolved_word words.With = With
-resolved_word words.Unless = Unless
-resolved_word words.While = While
-resolved_word words.Until = Until
-
--- what a COMPUTE tells
-abbrev pub resolved_statistic : WrittenStatistic → Statistic
-resolved_statistic statistics.Number = Number
-resolved_statistic statistics.Sum = Sum
-resolved_statistic statistics.Maximum = Maximum
-resolved_statistic statistics.Minimum = Minimum
-
--- whether the greater or the less comes first
-abbrev pub resolved_rank : WrittenRank → Rank
-resolved_rank ranks.High = High
-resolved_rank ranks.Low = Low
 
 -- a factor alone as an expression
 abbrev pub alone : x.Factor → x.Expr
@@ -237,9 +164,9 @@ module _ (d : Tables) (v : Names) (locals : List Name) where
 
     -- a comparison, IS EMPTY, IS IN, or a condition in parentheses
     pub resolved_relation : c.Relation → y.Relation
-    resolved_relation (c.compared a how b) = y.compared (resolved_expr a) (resolved_comparison how) (resolved_expr b)
-    resolved_relation (c.is_empty r is) = y.is_empty (resolved_set r) (resolved_copula is)
-    resolved_relation (c.is_in a is r) = y.is_in (resolved_expr a) (resolved_copula is) (resolved_set r)
+    resolved_relation (c.compared a how b) = y.compared (resolved_expr a) how (resolved_expr b)
+    resolved_relation (c.is_empty r is) = y.is_empty (resolved_set r) is
+    resolved_relation (c.is_in a is r) = y.is_in (resolved_expr a) is (resolved_set r)
     resolved_relation (c.nested a) = y.nested (resolved_condition a)
 
   -- ---- statements that hold no other
@@ -260,15 +187,15 @@ module _ (d : Tables) (v : Names) (locals : List Name) where
   -- where FILE puts a member
   abbrev pub resolved_position : s.FilePlace → Position
   resolved_position s.ByDiscipline = position.ByRule
-  resolved_position (s.AtEnd end) = position.AtEnd (resolved_end end)
+  resolved_position (s.AtEnd end) = position.AtEnd end
   resolved_position (s.Before a) = position.Before (resolved_expr a)
   resolved_position (s.After a) = position.After (resolved_expr a)
 
   -- FILE and REMOVE
   abbrev pub resolved_filing : s.Filing → Filing
   resolved_filing (s.File a how r) = filing.File (resolved_expr a) (resolved_position how) (resolved_set r)
-  resolved_filing (s.FileAt end a r) = filing.FileAt (resolved_end end) (resolved_expr a) (resolved_set r)
-  resolved_filing (s.RemoveEnd end q r) = filing.RemoveAt (resolved_end end) (resolved_target q) (resolved_set r)
+  resolved_filing (s.FileAt end a r) = filing.FileAt end (resolved_expr a) (resolved_set r)
+  resolved_filing (s.RemoveEnd end q r) = filing.RemoveAt end (resolved_target q) (resolved_set r)
   resolved_filing (s.Remove a r) = filing.Remove (resolved_expr a) (resolved_set r)
 
   -- CALL, RETURN and STOP
@@ -346,16 +273,16 @@ module _ (d : Tables) (v : Names) (locals : List Name) where
   -- what a FOR phrase goes through
   abbrev pub resolved_range : l.Range → Phrase
   resolved_range (l.Counting way n a b step) =
-      phrase.Counting (resolved_direction way) (resolved_variable d v locals n) (resolved_expr a) (resolved_expr b)
+      phrase.Counting way (resolved_variable d v locals n) (resolved_expr a) (resolved_expr b)
       (resolved_option step)
   resolved_range (l.Each n called) =
       phrase.Each (class_number d v locals n) (is_some called) (loop_variable n called) (count_variable d v locals n)
   resolved_range (l.Walking way n r start) =
-      phrase.Walking (resolved_direction way) (resolved_variable d v locals n) (resolved_set r) (resolved_begin start)
+      phrase.Walking way (resolved_variable d v locals n) (resolved_set r) (resolved_begin start)
 
   -- a qualifier with its condition
   abbrev pub resolved_qualifier : l.Qualifier → Qualifier
-  resolved_qualifier q = record { word = resolved_word q.word; condition = resolved_condition q.condition }
+  resolved_qualifier q = record { word = q.word; condition = resolved_condition q.condition }
 
   -- with whether DO stands behind it
   abbrev pub resolved_phrase : l.Phrase → Bool → ForPhrase
@@ -381,7 +308,7 @@ module _ (d : Tables) (v : Names) (locals : List Name) where
 
   -- a target of COMPUTE and its statistic
   abbrev pub resolved_telling : l.Computed → Telling
-  resolved_telling t = record { target = resolved_target t.target; statistic = resolved_statistic t.statistic }
+  resolved_telling t = record { target = resolved_target t.target; statistic = t.statistic }
 
   -- a FOR phrase, LOOP, FIND, and the two places of COMPUTE
   abbrev pub resolved_loop : w.Loop → Looping
@@ -420,7 +347,7 @@ rankings is = record {
 
 -- a key: its attribute by its number among those of its class
 abbrev pub resolved_key : List Name → WrittenKey → Key
-resolved_key attributes key = record { rank = resolved_rank key.rank; attribute = number key.name attributes }
+resolved_key attributes key = record { rank = key.rank; attribute = number key.name attributes }
 
 -- the discipline of a set whose members have these attributes; FIFO where none is given
 abbrev pub resolved_discipline : List Name → Option SetKind → Discipline

@@ -4,10 +4,8 @@ use Rattle.std.specs.List.{filter, flat_map, position_or_len}
 use Rattle.ss_words.specs.Lists.{Name}
 use Rattle.ss_routines.specs.Tree.{Head}
 use Rattle.ss_routines.specs.Places.{Section}
-use Rattle.ss_program.specs.declared.sum.OwnerKept.{OwnerKept}
-use Rattle.ss_program.specs.declared.sum.OwnerKept.TheVariants as owner
-use Rattle.ss_program.specs.declared.sum.MemberKept.{MemberKept}
-use Rattle.ss_program.specs.declared.sum.MemberKept.TheVariants as member
+use Rattle.ss_words.specs.declared.terms.OwnerKept.{OwnerKept}
+use Rattle.ss_words.specs.declared.terms.MemberKept.{MemberKept}
 use Rattle.ss_program.specs.declared.variable.Variable.{Variable}
 use Rattle.ss_program.specs.declared.variable.Variable.TheVariants.{Global, Local, Clock}
 use Rattle.ss_program.specs.declared.target.Target.{Target}
@@ -16,10 +14,6 @@ use Rattle.ss_program.specs.ProgramExpr.{Expr, Exprs, no_exprs, exprs, Factor, v
 use Rattle.ss_check.specs.declared.declared.fact.Fact.{Fact}
 use Rattle.ss_check.specs.declared.declared.function.Function.{Function}
 use Rattle.ss_check.specs.declared.declared.function.Function.TheVariants.{Absolute, Greatest, Least, Quotient, Remainder}
-use Rattle.ss_check.specs.declared.declared.kept.OwnerKept.{OwnerKept as OwnersKept}
-use Rattle.ss_check.specs.declared.declared.kept.OwnerKept.TheVariants.{First, Last, Count}
-use Rattle.ss_check.specs.declared.declared.kept.MemberKept.{MemberKept as MembersKept}
-use Rattle.ss_check.specs.declared.declared.kept.MemberKept.TheVariants.{Predecessor, Successor, Membership}
 use Rattle.ss_check.specs.declared.declared.name_kind.NameKind.{NameKind}
 use Rattle.ss_check.specs.declared.declared.name_kind.NameKind.TheVariants as k
 use Rattle.ss_check.specs.declared.declared.tables.Tables.{Tables}
@@ -110,18 +104,6 @@ locals_of d s = each_once (parameters s.head ++ flat_map (undeclared d) (variabl
 
 -- ---- what a name stands for
 
--- what a set keeps of its owner
-abbrev pub kept_of_owner : OwnersKept → OwnerKept
-kept_of_owner First = owner.First
-kept_of_owner Last = owner.Last
-kept_of_owner Count = owner.Count
-
--- what a set keeps of its members
-abbrev pub kept_of_member : MembersKept → MemberKept
-kept_of_member Predecessor = member.Predecessor
-kept_of_member Successor = member.Successor
-kept_of_member Membership = member.Membership
-
 -- the subscript of a set that the system owns; no program without a breach writes one
 abbrev pub system_subscript : Option Expr → Subscript
 system_subscript None = of_system
@@ -200,8 +182,8 @@ module _ (d : Tables) (v : Names) (locals : List Name) where
   -- a name with a subscript or none, by what it is declared as
   abbrev pub factor_of : Option NameKind → Name → Option Expr → Factor
   factor_of (Some (k.Attribute c)) n e = attribute (class_number c) (attribute_number c n) (class_subscript c e)
-  factor_of (Some (k.OwnerKept a s)) n e = owner_kept (kept_of_owner a) (set_number s) (owner_subscript s e)
-  factor_of (Some (k.MemberKept a s)) n e = member_kept (kept_of_member a) (set_number s) (member_subscript s e)
+  factor_of (Some (k.OwnerKept a s)) n e = owner_kept a (set_number s) (owner_subscript s e)
+  factor_of (Some (k.MemberKept a s)) n e = member_kept a (set_number s) (member_subscript s e)
   factor_of j n e = variable (variable_of j n)
 
   -- DIV.F and MOD.F of two arguments; no program without a breach has another number of them

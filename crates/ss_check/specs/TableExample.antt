@@ -2,12 +2,12 @@
 use Rattle.std.specs.Prelude.{◌≡◌, true, false, List, [], ◌∷◌, codes, Some, None}
 use Rattle.ss_words.specs.Lists.{Name}
 use Rattle.ss_preamble.specs.declared.item.Heading.TheVariants.{PermanentEntities, TemporaryEntities, EventNotices}
-use Rattle.ss_preamble.specs.declared.item.Rank.TheVariants as ranks
+use Rattle.ss_words.specs.declared.terms.Rank.TheVariants as ranks
 use Rattle.ss_preamble.specs.Tree.{Has, Owns, BelongsTo, Ranked, Sets, PriorityOrder, BreakTies, ExternalEvents, Item, Headed, OfEvery, Defines, Orders}
 use Rattle.ss_routines.specs.Simple.{Unwritten}
 use Rattle.ss_routines.specs.Tree.{MainHead, EventHead}
 use Rattle.ss_routines.specs.Places.{Section}
-use Rattle.ss_program.specs.declared.keys.Rank.TheVariants.{High, Low}
+use Rattle.ss_words.specs.declared.terms.Rank.TheVariants.{High, Low}
 use Rattle.ss_program.specs.declared.kinds.ClassKind.{ClassKind}
 use Rattle.ss_program.specs.declared.kinds.ClassKind.TheVariants.{Permanent, Temporary, Event}
 use Rattle.ss_program.specs.declared.kinds.Discipline.TheVariants as discipline

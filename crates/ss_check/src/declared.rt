@@ -4,7 +4,6 @@ pub mod fact;
 pub mod fact_table;
 pub mod function;
 pub mod item_names;
-pub mod kept;
 pub mod kind_table;
 pub mod name_counts;
 pub mod name_kind;

@@ -1,7 +1,7 @@
 -- The order of notices as it is computed: notices are compared as lists of numbers.
 use Rattle.std.specs.Prelude.{ℤ, pos, neg_ℤ, int_lt, Bool, true, false, if◌then◌else◌, List, [], ◌∷◌, ◌++◌}
-use Rattle.ss_program.specs.declared.keys.Rank.{Rank}
-use Rattle.ss_program.specs.declared.keys.Rank.TheVariants.{High, Low}
+use Rattle.ss_words.specs.declared.terms.Rank.{Rank}
+use Rattle.ss_words.specs.declared.terms.Rank.TheVariants.{High, Low}
 use Rattle.ss_program.specs.declared.keys.Key.{Key}
 use Rattle.ss_events.specs.Rules.{Rule, rule_at}
 use Rattle.ss_events.specs.Agenda.{Pending}

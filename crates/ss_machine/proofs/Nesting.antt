@@ -9,8 +9,8 @@ use Rattle.ss_words.specs.declared.fault.RunFault.TheVariants.{StepBelowOne}
 use Rattle.ss_program.specs.declared.variable.Variable.{Variable}
 use Rattle.ss_program.specs.declared.variable.Variable.TheVariants.{Global, Local, Clock}
 use Rattle.ss_program.specs.declared.branch.Branch.TheVariants.{If, Else, Always}
-use Rattle.ss_program.specs.declared.looping.Direction.{Direction}
-use Rattle.ss_program.specs.declared.looping.Direction.TheVariants.{Onward}
+use Rattle.ss_words.specs.declared.terms.Direction.{Direction}
+use Rattle.ss_words.specs.declared.terms.Direction.TheVariants.{Onward}
 use Rattle.ss_program.specs.declared.looping.Phrase.{Phrase}
 use Rattle.ss_program.specs.declared.looping.Phrase.TheVariants.{Counting, Each, Walking}
 use Rattle.ss_program.specs.declared.looping.ForPhrase.{ForPhrase}

@@ -10,7 +10,7 @@ use Rattle.ss_program.specs.declared.target.Target.TheVariants.{Variable, Attrib
 use Rattle.ss_program.specs.declared.place.Assign.{Assign as AnAssign}
 use Rattle.ss_program.specs.declared.making.Making.{Making as AMaking}
 use Rattle.ss_program.specs.declared.making.Making.TheVariants.{Create, CreateEvery, Destroy}
-use Rattle.ss_program.specs.declared.filing.End.{End}
+use Rattle.ss_words.specs.declared.terms.SetEnd.{SetEnd}
 use Rattle.ss_program.specs.declared.filing.Filing.{Filing as AFiling}
 use Rattle.ss_program.specs.declared.filing.Filing.TheVariants.{File, FileAt, RemoveAt, Remove}
 use Rattle.ss_program.specs.declared.looping.Telling.{Telling}

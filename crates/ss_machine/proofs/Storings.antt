@@ -7,7 +7,7 @@ use Rattle.ss_words.specs.declared.fault.RunFault.{RunFault}
 use Rattle.ss_words.specs.declared.fault.StepFault.{StepFault}
 use Rattle.ss_words.specs.declared.fault.StepFault.TheVariants.{Fault, Memory}
 use Rattle.ss_store.specs.declared.change.StoreChange.{StoreChange}
-use Rattle.ss_program.specs.declared.filing.End.{End}
+use Rattle.ss_words.specs.declared.terms.SetEnd.{SetEnd}
 use Rattle.ss_program.specs.declared.target.SetRef.{SetRef}
 use Rattle.ss_program.specs.declared.target.Target.{Target}
 use Rattle.ss_store.specs.declared.shape.How.{How}
@@ -162,7 +162,7 @@ pub remove_fails : (t : Tables) (s : State) (r : SetRef) (x o : ℤ) (e : RunFau
     removed (set_of t r.set) s.store (number_of o) (which.Member x) ≡ Err e → state_after_remove t s r x ≡ Err e
 remove_fails t s r x o e a b = rw (a, b) refl
 
-pub remove_end_fails : (t : Tables) (s : State) (r : SetRef) (end : End) (target : Target) (o : ℤ) (e : RunFault) →
+pub remove_end_fails : (t : Tables) (s : State) (r : SetRef) (end : SetEnd) (target : Target) (o : ℤ) (e : RunFault) →
     subscript_value (readings t s) r.owner ≡ Ok o →
     removed (set_of t r.set) s.store (number_of o) (which_at end) ≡ Err e →
     state_after_remove_end t s r end target ≡ Err e
@@ -176,7 +176,7 @@ counted_small n h = chosen (nat_lt n (2 ^ 63)) (lt-ltb n (2 ^ 63) (omega (arith,
     chosen true e = refl
     chosen false e = cc
 
-pub remove_end_then : (t v : Tables) (s u : State) (r : SetRef) (end : End) (target : Target) (o x : ℤ) (n : ℕ)
+pub remove_end_then : (t v : Tables) (s u : State) (r : SetRef) (end : SetEnd) (target : Target) (o x : ℤ) (n : ℕ)
     (st : Store) (done : Result (Unit {0}) RunFault) →
     subscript_value (readings t s) r.owner ≡ Ok o →
     removed (set_of t r.set) s.store (number_of o) (which_at end) ≡ Ok (n, st) →

@@ -3,10 +3,10 @@ use Rattle.std.proofs.Common.{ℕ, ℤ, pos, List, [], ◌∷◌, Bool, true, fa
 use Rattle.std.specs.Prelude.{◌*ℤ◌, ◌+ℤ◌, ◌-ℤ◌, unsigned_abs, unwrap_or}
 use Rattle.std.specs.Int.{int_min, int_max}
 use Rattle.ss_words.specs.declared.fault.RunFault.{RunFault}
-use Rattle.ss_program.specs.declared.sum.OwnerKept.{OwnerKept}
-use Rattle.ss_program.specs.declared.sum.OwnerKept.TheVariants.{First, Last, Count}
-use Rattle.ss_program.specs.declared.sum.MemberKept.{MemberKept}
-use Rattle.ss_program.specs.declared.sum.MemberKept.TheVariants.{Predecessor, Successor, Membership}
+use Rattle.ss_words.specs.declared.terms.OwnerKept.{OwnerKept}
+use Rattle.ss_words.specs.declared.terms.OwnerKept.TheVariants.{First, Last, Count}
+use Rattle.ss_words.specs.declared.terms.MemberKept.{MemberKept}
+use Rattle.ss_words.specs.declared.terms.MemberKept.TheVariants.{Predecessor, Successor, Membership}
 use Rattle.ss_program.specs.declared.place.Assign.{Assign}
 use Rattle.ss_program.specs.declared.place.Assign.TheVariants.{Let, Add, Subtract}
 use Rattle.ss_program.specs.ProgramExpr.{Expr, expr, Sums, no_sums, sum, Term, term, Products, no_products, product, Factor, digits, variable, absolute, greatest, least, quotient, remainder, attribute, owner_kept, member_kept, within, Exprs, no_exprs, exprs}

@@ -40,14 +40,14 @@ use Rattle.ss_program.specs.declared.place.Place.TheVariants.{Assign, Making, Fi
 use Rattle.ss_program.specs.declared.place.Spot.{Spot}
 use Rattle.ss_program.specs.declared.branch.Branch.{Branch as ABranch}
 use Rattle.ss_program.specs.declared.branch.Branch.TheVariants.{If, Else, Always}
-use Rattle.ss_program.specs.declared.looping.Direction.{Direction}
-use Rattle.ss_program.specs.declared.looping.Direction.TheVariants.{Onward, Backward}
+use Rattle.ss_words.specs.declared.terms.Direction.{Direction}
+use Rattle.ss_words.specs.declared.terms.Direction.TheVariants.{Onward, Backward}
 use Rattle.ss_program.specs.declared.looping.Phrase.{Phrase}
 use Rattle.ss_program.specs.declared.looping.Phrase.TheVariants.{Counting, Each, Walking}
 use Rattle.ss_program.specs.declared.looping.ForPhrase.{ForPhrase}
 use Rattle.ss_program.specs.declared.looping.Telling.{Telling}
-use Rattle.ss_program.specs.declared.looping.Statistic.{Statistic}
-use Rattle.ss_program.specs.declared.looping.Statistic.TheVariants.{Number, Sum, Maximum, Minimum}
+use Rattle.ss_words.specs.declared.terms.Statistic.{Statistic}
+use Rattle.ss_words.specs.declared.terms.Statistic.TheVariants.{Number, Sum, Maximum, Minimum}
 use Rattle.ss_program.specs.declared.looping.Looping.{Looping as ALooping}
 use Rattle.ss_program.specs.declared.looping.Looping.TheVariants.{For, Loop, Find, Gather, Tell}
 use Rattle.ss_program.specs.declared.call.Call.{Call as ACall}

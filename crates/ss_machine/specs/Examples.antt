@@ -1,28 +1,28 @@
 -- Small programs, and what their runs come to.
 use Rattle.std.specs.Prelude.{ℕ, zero, suc, ◌-◌, pos, List, [], ◌∷◌, ◌++◌, map, replicate, codes, Bool, true, false, Some, None}
-use Rattle.ss_words.specs.declared.term_sign.TermSign.TheVariants.{Plus, Minus}
+use Rattle.ss_words.specs.declared.terms.TermSign.TheVariants.{Plus, Minus}
 use Rattle.ss_program.specs.declared.target.Target.TheVariants.{Variable as ToVariable, Attribute}
 use Rattle.ss_program.specs.declared.target.SetRef.{SetRef}
 use Rattle.ss_program.specs.declared.making.Making.TheVariants.{Create, Destroy}
-use Rattle.ss_program.specs.declared.filing.End.TheVariants as ends
+use Rattle.ss_words.specs.declared.terms.SetEnd.TheVariants as ends
 use Rattle.ss_program.specs.declared.filing.Position.TheVariants.{ByRule}
 use Rattle.ss_program.specs.declared.filing.Filing.TheVariants.{File, RemoveAt}
 use Rattle.ss_program.specs.declared.looping.Begin.TheVariants.{AtTheEnd}
 use Rattle.ss_program.specs.declared.keys.Key.{Key}
-use Rattle.ss_program.specs.declared.keys.Rank.TheVariants.{Low}
+use Rattle.ss_words.specs.declared.terms.Rank.TheVariants.{Low}
 use Rattle.ss_program.specs.declared.kinds.ClassKind.TheVariants.{Temporary, Event as OfEvent}
 use Rattle.ss_program.specs.declared.kinds.Discipline.{Discipline}
 use Rattle.ss_program.specs.declared.kinds.Discipline.TheVariants.{Fifo, Ranked}
 use Rattle.ss_program.specs.declared.kinds.Owner.TheVariants.{System}
 use Rattle.ss_program.specs.declared.variable.Variable.{Variable}
 use Rattle.ss_program.specs.declared.variable.Variable.TheVariants.{Global, Local}
-use Rattle.ss_program.specs.declared.condition.Comparison.{Comparison}
-use Rattle.ss_program.specs.declared.looping.Direction.{Direction}
-use Rattle.ss_program.specs.declared.looping.Direction.TheVariants.{Onward}
+use Rattle.ss_words.specs.declared.terms.Comparison.{Comparison}
+use Rattle.ss_words.specs.declared.terms.Direction.{Direction}
+use Rattle.ss_words.specs.declared.terms.Direction.TheVariants.{Onward}
 use Rattle.ss_program.specs.declared.looping.Phrase.TheVariants.{Counting, Each, Walking}
 use Rattle.ss_program.specs.declared.looping.Qualifier.{Qualifier}
-use Rattle.ss_program.specs.declared.looping.QualifierWord.{QualifierWord}
-use Rattle.ss_program.specs.declared.looping.Statistic.TheVariants.{Number, Sum, Maximum, Minimum}
+use Rattle.ss_words.specs.declared.terms.QualifierWord.{QualifierWord}
+use Rattle.ss_words.specs.declared.terms.Statistic.TheVariants.{Number, Sum, Maximum, Minimum}
 use Rattle.ss_program.specs.declared.looping.Looping.TheVariants.{For, Find, Gather, Tell}
 use Rattle.ss_program.specs.declared.branch.Question.TheVariants.{WasFound}
 use Rattle.ss_program.specs.declared.branch.Branch.TheVariants.{If, Else, Always}

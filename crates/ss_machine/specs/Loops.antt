@@ -4,15 +4,15 @@ use Rattle.ss_words.specs.declared.fault.RunFault.{RunFault}
 use Rattle.ss_words.specs.declared.fault.RunFault.TheVariants.{StepBelowOne, NotInList, MemberLeft}
 use Rattle.ss_program.specs.declared.variable.Variable.{Variable}
 use Rattle.ss_program.specs.declared.variable.Variable.TheVariants.{Global}
-use Rattle.ss_program.specs.declared.looping.Direction.{Direction}
-use Rattle.ss_program.specs.declared.looping.Direction.TheVariants.{Onward, Backward}
+use Rattle.ss_words.specs.declared.terms.Direction.{Direction}
+use Rattle.ss_words.specs.declared.terms.Direction.TheVariants.{Onward, Backward}
 use Rattle.ss_program.specs.declared.looping.Phrase.{Phrase}
 use Rattle.ss_program.specs.declared.looping.Phrase.TheVariants.{Counting, Each, Walking}
 use Rattle.ss_program.specs.declared.looping.Begin.{Begin}
 use Rattle.ss_program.specs.declared.looping.Begin.TheVariants.{AtTheEnd, From, After}
 use Rattle.ss_program.specs.declared.looping.Qualifier.{Qualifier}
-use Rattle.ss_program.specs.declared.looping.QualifierWord.{QualifierWord}
-use Rattle.ss_program.specs.declared.looping.QualifierWord.TheVariants.{With, Unless, While, Until}
+use Rattle.ss_words.specs.declared.terms.QualifierWord.{QualifierWord}
+use Rattle.ss_words.specs.declared.terms.QualifierWord.TheVariants.{With, Unless, While, Until}
 use Rattle.ss_program.specs.ProgramExpr.{Expr}
 use Rattle.ss_store.specs.Tables.{set_of}
 use Rattle.ss_store.specs.Store.{number_of}

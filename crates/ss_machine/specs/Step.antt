@@ -11,8 +11,8 @@ use Rattle.ss_program.specs.declared.target.Target.{Target}
 use Rattle.ss_program.specs.declared.target.Target.TheVariants.{Variable, Attribute}
 use Rattle.ss_program.specs.declared.making.Making.{Making as AMaking}
 use Rattle.ss_program.specs.declared.making.Making.TheVariants.{Create, CreateEvery, Destroy}
-use Rattle.ss_program.specs.declared.filing.End.{End as ListEnd}
-use Rattle.ss_program.specs.declared.filing.End.TheVariants as ends
+use Rattle.ss_words.specs.declared.terms.SetEnd.{SetEnd}
+use Rattle.ss_words.specs.declared.terms.SetEnd.TheVariants as ends
 use Rattle.ss_program.specs.declared.filing.Position.{Position}
 use Rattle.ss_program.specs.declared.filing.Position.TheVariants.{ByRule, AtEnd, Before, After}
 use Rattle.ss_program.specs.declared.filing.Filing.{Filing as AFiling}
@@ -30,8 +30,8 @@ use Rattle.ss_program.specs.declared.branch.Question.TheVariants.{Whether, WasFo
 use Rattle.ss_program.specs.declared.branch.Branch.{Branch as ABranch}
 use Rattle.ss_program.specs.declared.branch.Branch.TheVariants.{If, Else, Always}
 use Rattle.ss_program.specs.declared.looping.ForPhrase.{ForPhrase}
-use Rattle.ss_program.specs.declared.looping.Statistic.{Statistic}
-use Rattle.ss_program.specs.declared.looping.Statistic.TheVariants.{Number, Sum, Maximum, Minimum}
+use Rattle.ss_words.specs.declared.terms.Statistic.{Statistic}
+use Rattle.ss_words.specs.declared.terms.Statistic.TheVariants.{Number, Sum, Maximum, Minimum}
 use Rattle.ss_program.specs.declared.looping.Telling.{Telling}
 use Rattle.ss_program.specs.declared.looping.Looping.{Looping as ALooping}
 use Rattle.ss_program.specs.declared.looping.Looping.TheVariants.{For, Loop, Find, Gather, Tell}
@@ -247,12 +247,12 @@ abbrev pub step_making : Tables → State → ℕ → AMaking → State
 step_making t s next m = state_after_result s (state_after_making t s m) (state_at_place next)
 
 -- an end of a list, as FILE names it
-abbrev pub how_at : ListEnd → How
+abbrev pub how_at : SetEnd → How
 how_at ends.First = how.First
 how_at ends.Last = how.Last
 
 -- the same, as REMOVE names it
-abbrev pub which_at : ListEnd → Which
+abbrev pub which_at : SetEnd → Which
 which_at ends.First = which.First
 which_at ends.Last = which.Last
 
@@ -270,7 +270,7 @@ state_after_file t s r x h =
     >>= λ o. filed (set_of t r.set) s.store (number_of o) (number_of x) h >>= λ st. Ok (state_with_store s st)
 
 -- the state after REMOVE of an end, whose member's number is assigned
-abbrev pub state_after_remove_end : Tables → State → SetRef → ListEnd → Target → Result State RunFault
+abbrev pub state_after_remove_end : Tables → State → SetRef → SetEnd → Target → Result State RunFault
 state_after_remove_end t s r end target =
     subscript_value (readings t s) r.owner
     >>= λ o. removed (set_of t r.set) s.store (number_of o) (which_at end)

@@ -2,10 +2,10 @@
 
 ghost use Rattle.std.specs.Prelude.{◌≡◌, [], ◌∷◌, pos, neg_ℤ, length, codes, Ok, Err, true, false};
 ghost use Rattle.ss_words.specs.declared.fault.RunFault.TheVariants.{OutOfRange, ZeroDivisor, CountOutOfRange, NoMoreData, NotANumber, TooManyFrames, MemberLeft, EndedInUse, TimeBeforeClock, AlreadyScheduled, NotScheduled, NotExternal, OutsideEntry};
-ghost use Rattle.ss_program.specs.declared.looping.Direction.TheVariants.{Onward, Backward};
+ghost use Rattle.ss_words.specs.declared.terms.Direction.TheVariants.{Onward, Backward};
 ghost use Rattle.ss_program.specs.declared.kinds.Discipline.TheVariants.{Fifo, Lifo};
-ghost use Rattle.ss_program.specs.declared.condition.Comparison.TheVariants.{Equals, Differs, Below, Above};
-ghost use Rattle.ss_program.specs.declared.looping.QualifierWord.TheVariants.{With, Unless, While, Until};
+ghost use Rattle.ss_words.specs.declared.terms.Comparison.TheVariants.{Equal, Unequal, Less, Greater};
+ghost use Rattle.ss_words.specs.declared.terms.QualifierWord.TheVariants.{With, Unless, While, Until};
 ghost use Rattle.ss_program.specs.declared.variable.Variable.TheVariants.{Local};
 ghost use Rattle.ss_program.specs.ProgramExpr.{absolute, greatest, least, quotient, remainder, exprs, no_exprs};
 ghost use Rattle.ss_machine.specs.declared.entry.Entry.TheVariants.{Absent, Waiting, Running};
@@ -63,16 +63,16 @@ fn each_goes_through_all_entities()
 
 fn qualifiers_are_tested_in_written_order()
     ensures pass_first { (e.main_run [] 2 (e.sum_of_passed
-        (e.qualifier With 0 Differs 2 ∷ e.qualifier Until 0 Equals 2 ∷ [])) 30).frame.locals ≡ pos 9 ∷ pos 43 ∷ [] }
+        (e.qualifier With 0 Unequal 2 ∷ e.qualifier Until 0 Equal 2 ∷ [])) 30).frame.locals ≡ pos 9 ∷ pos 43 ∷ [] }
     ensures close_first { (e.main_run [] 2 (e.sum_of_passed
-        (e.qualifier Until 0 Equals 2 ∷ e.qualifier With 0 Differs 2 ∷ [])) 30).frame.locals ≡ pos 2 ∷ pos 1 ∷ [] }
-    ensures all_four { (e.main_run [] 2 (e.sum_of_passed (e.qualifier With 0 Differs 2 ∷ e.qualifier Unless 0 Equals 3
-        ∷ e.qualifier While 0 Below 7 ∷ e.qualifier Until 0 Above 5 ∷ [])) 30).frame.locals ≡ pos 6 ∷ pos 10 ∷ [] }
+        (e.qualifier Until 0 Equal 2 ∷ e.qualifier With 0 Unequal 2 ∷ [])) 30).frame.locals ≡ pos 2 ∷ pos 1 ∷ [] }
+    ensures all_four { (e.main_run [] 2 (e.sum_of_passed (e.qualifier With 0 Unequal 2 ∷ e.qualifier Unless 0 Equal 3
+        ∷ e.qualifier While 0 Less 7 ∷ e.qualifier Until 0 Greater 5 ∷ [])) 30).frame.locals ≡ pos 6 ∷ pos 10 ∷ [] }
 {}
 
 fn a_chain_goes_on_where_its_inner_loop_closes()
     ensures { (e.main_run [] 3 (e.for_bare 0 (e.number 1) (e.number 2) []
-        ∷ e.for_bare 1 (e.number 1) (e.number 5) (e.qualifier While 1 Below 3 ∷ []) ∷ e.add_to (Local 2) (e.local 1)
+        ∷ e.for_bare 1 (e.number 1) (e.number 5) (e.qualifier While 1 Less 3 ∷ []) ∷ e.add_to (Local 2) (e.local 1)
         ∷ e.ending ∷ []) 30).frame.locals ≡ pos 2 ∷ pos 3 ∷ pos 6 ∷ [] }
 {}
 
@@ -82,11 +82,11 @@ fn candidates_end_at_the_greatest_integer()
 {}
 
 fn find_tells_whether_it_found()
-    ensures found { (e.main_run [] 2 (e.first_of_five (e.qualifier With 0 Equals 3)) 20).frame.locals
+    ensures found { (e.main_run [] 2 (e.first_of_five (e.qualifier With 0 Equal 3)) 20).frame.locals
         ≡ pos 3 ∷ pos 3 ∷ [] }
-    ensures none { (e.main_run [] 2 (e.first_of_five (e.qualifier With 0 Equals 9)) 20).frame.locals
+    ensures none { (e.main_run [] 2 (e.first_of_five (e.qualifier With 0 Equal 9)) 20).frame.locals
         ≡ pos 5 ∷ pos 100 ∷ [] }
-    ensures closed { (e.main_run [] 2 (e.first_of_five (e.qualifier With 0 Equals 3)) 20).frame.loops ≡ [] }
+    ensures closed { (e.main_run [] 2 (e.first_of_five (e.qualifier With 0 Equal 3)) 20).frame.loops ≡ [] }
 {}
 
 fn compute_gathers_cases_or_none()

@@ -51,9 +51,9 @@ use ss_data::Feed;
 use ss_journal::Undo;
 use ss_links::SetBoard;
 use ss_program::{
-    Assign, Branch, Call, Control, End, Expr, Filing, ForPhrase, Looping, Making, Output, Place,
-    Program, Question, Resets, Section, SectionKind, SetRef, Spot, Target, Targets, Tellings,
-    Values, Variable, Ways,
+    Assign, Branch, Call, Control, Expr, Filing, ForPhrase, Looping, Making, Output, Place,
+    Program, Question, Resets, Section, SectionKind, SetEnd, SetRef, Spot, Target, Targets,
+    Tellings, Values, Variable, Ways,
 };
 use ss_report::Picture;
 use ss_store::{How, Which};
@@ -832,7 +832,7 @@ impl<S: SetBoard> Executor<S> {
     }
 
     /// Removes an end of a list, and assigns its number.
-    fn remove_end(&mut self, end: End, target: &Target, set: &SetRef) -> Result<(), RunFault>
+    fn remove_end(&mut self, end: SetEnd, target: &Target, set: &SetRef) -> Result<(), RunFault>
         requires sound { InHeld self.old.held IsSoundSetRef set.now }
         requires target { InHeld self.old.held IsTarget target.now }
         requires room { 1 < self.old.journal.notes }

@@ -7,7 +7,7 @@ ghost use Rattle.ss_values.specs.Values.{FaultIs};
 ghost use Rattle.ss_machine.specs.Step as steps;
 
 use ss_links::SetBoard;
-use ss_program::{End, Expr, Listing, Notice, Position, Schedule, SetRef, Variable, When};
+use ss_program::{Expr, Listing, Notice, Position, Schedule, SetEnd, SetRef, Variable, When};
 use ss_store::{How, Which};
 use ss_values::{View, subscript_value, value, values, variable_value};
 use ss_words::{RunFault, StepFault};
@@ -52,22 +52,22 @@ pub fn owner_value<S: SetBoard>(view: View<'_, S>, set: &SetRef) -> Result<i64, 
 }
 
 /// An end of a list as FILE names it.
-pub fn how_at(end: End) -> How
+pub fn how_at(end: SetEnd) -> How
     ensures { result ≡ steps.how_at end }
 {
     match end {
-        End::First => How::First,
-        End::Last => How::Last,
+        SetEnd::First => How::First,
+        SetEnd::Last => How::Last,
     }
 }
 
 /// An end of a list as REMOVE names it.
-pub fn which_at(end: End) -> Which
+pub fn which_at(end: SetEnd) -> Which
     ensures { result ≡ steps.which_at end }
 {
     match end {
-        End::First => Which::First,
-        End::Last => Which::Last,
+        SetEnd::First => Which::First,
+        SetEnd::Last => Which::Last,
     }
 }
 

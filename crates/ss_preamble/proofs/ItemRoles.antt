@@ -8,8 +8,8 @@ use Rattle.ss_preamble.specs.declared.limits.Counted.{Counted}
 use Rattle.ss_preamble.specs.declared.limits.Counted.TheVariants.{NoNames, Classes, Owned, Sets, Variables, Keys}
 use Rattle.ss_preamble.specs.declared.item.Heading.{Heading}
 use Rattle.ss_preamble.specs.declared.item.Heading.TheVariants as h
-use Rattle.ss_preamble.specs.declared.item.Rank.{Rank}
-use Rattle.ss_preamble.specs.declared.item.Rank.TheVariants as k
+use Rattle.ss_words.specs.declared.terms.Rank.{Rank}
+use Rattle.ss_words.specs.declared.terms.Rank.TheVariants as k
 use Rattle.ss_preamble.specs.Tree.{Key, Clause, Has, Owns, BelongsTo, SetKind, Fifo, Lifo, Ranked, Definition}
 use Rattle.ss_preamble.specs.Tree as t
 use Rattle.ss_preamble.specs.Tree.{EventRule, PriorityOrder, BreakTies, ExternalEvents, Item, Normally, Headed}

@@ -14,7 +14,7 @@ use Rattle.ss_words.proofs.Marks.{expect_local, eat_local, name_local}
 use Rattle.ss_words.proofs.Lists.{names-local, names_behind-local}
 use Rattle.ss_preamble.specs.declared.item.Heading.{Heading}
 use Rattle.ss_preamble.specs.declared.item.Heading.TheVariants as h
-use Rattle.ss_preamble.specs.declared.item.Rank.TheVariants as k
+use Rattle.ss_words.specs.declared.terms.Rank.TheVariants as k
 use Rattle.ss_preamble.specs.Tree.{Clause, Has, Owns, BelongsTo, Fifo, Lifo, Ranked, Variables, Sets, PriorityOrder}
 use Rattle.ss_preamble.specs.Tree.{BreakTies, ExternalEvents, Item, Normally, Headed, OfEvery, OfSystem, Defines}
 use Rattle.ss_preamble.specs.Tree.{Orders}

@@ -13,8 +13,8 @@ use Rattle.ss_words.proofs.ReadBack.{then, many_ends, many_goes}
 use Rattle.ss_words.proofs.Lists.{no_comma, names-read_back, names_behind-read_back}
 use Rattle.ss_preamble.specs.declared.item.Heading.{Heading}
 use Rattle.ss_preamble.specs.declared.item.Heading.TheVariants as h
-use Rattle.ss_preamble.specs.declared.item.Rank.{Rank}
-use Rattle.ss_preamble.specs.declared.item.Rank.TheVariants as k
+use Rattle.ss_words.specs.declared.terms.Rank.{Rank}
+use Rattle.ss_words.specs.declared.terms.Rank.TheVariants as k
 use Rattle.ss_preamble.specs.Tree.{Key, Clause, Has, Owns, BelongsTo, SetKind, Fifo, Lifo, Ranked, Definition}
 use Rattle.ss_preamble.specs.Tree.{Variables, Sets, PriorityOrder, BreakTies, ExternalEvents, Item, Normally, Headed}
 use Rattle.ss_preamble.specs.Tree.{OfEvery, OfSystem, Defines, Orders, Preamble}

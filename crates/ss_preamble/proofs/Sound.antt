@@ -14,8 +14,8 @@ use Rattle.ss_words.proofs.Marks.{spell_mark, spell_eaten, spell_name, expect_go
 use Rattle.ss_words.proofs.Lists.{names-good, names_behind-good}
 use Rattle.ss_preamble.specs.declared.item.Heading.{Heading}
 use Rattle.ss_preamble.specs.declared.item.Heading.TheVariants as h
-use Rattle.ss_preamble.specs.declared.item.Rank.{Rank}
-use Rattle.ss_preamble.specs.declared.item.Rank.TheVariants as k
+use Rattle.ss_words.specs.declared.terms.Rank.{Rank}
+use Rattle.ss_words.specs.declared.terms.Rank.TheVariants as k
 use Rattle.ss_preamble.specs.Tree.{Clause, Has, Owns, BelongsTo, Fifo, Lifo, Ranked, Variables, Sets, PriorityOrder}
 use Rattle.ss_preamble.specs.Tree.{BreakTies, ExternalEvents, Item, Normally, Headed, OfEvery, OfSystem, Defines}
 use Rattle.ss_preamble.specs.Tree.{Orders}

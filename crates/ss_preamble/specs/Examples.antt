@@ -12,7 +12,7 @@ use Rattle.ss_words.specs.PlainRules.{plain_words_of}
 use Rattle.ss_words.specs.PlainLaws.{words_on}
 use Rattle.ss_words.specs.Lists.{Name, Several}
 use Rattle.ss_preamble.specs.declared.item.Heading.TheVariants.{PermanentEntities, TemporaryEntities, EventNotices}
-use Rattle.ss_preamble.specs.declared.item.Rank.TheVariants.{High, Low}
+use Rattle.ss_words.specs.declared.terms.Rank.TheVariants.{High, Low}
 use Rattle.ss_preamble.specs.Tree.{Has, Owns, BelongsTo, Fifo, Lifo, Ranked, Variables, Sets, PriorityOrder}
 use Rattle.ss_preamble.specs.Tree.{BreakTies, ExternalEvents, Item, Normally, Headed, OfEvery, OfSystem, Defines}
 use Rattle.ss_preamble.specs.Tree.{Orders, ItemAt, Decls}

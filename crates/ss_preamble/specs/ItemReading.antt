@@ -10,8 +10,8 @@ use Rattle.ss_words.specs.Marks.{expect, eat, a_name}
 use Rattle.ss_words.specs.Lists.{Name, Several, names, names_behind}
 use Rattle.ss_preamble.specs.declared.item.Heading.{Heading}
 use Rattle.ss_preamble.specs.declared.item.Heading.TheVariants as h
-use Rattle.ss_preamble.specs.declared.item.Rank.{Rank}
-use Rattle.ss_preamble.specs.declared.item.Rank.TheVariants as k
+use Rattle.ss_words.specs.declared.terms.Rank.{Rank}
+use Rattle.ss_words.specs.declared.terms.Rank.TheVariants as k
 use Rattle.ss_preamble.specs.Tree.{Key, Clause, Has, Owns, BelongsTo, Fifo, Lifo, Ranked, Definition, Variables, Sets}
 use Rattle.ss_preamble.specs.Tree.{EventRule, PriorityOrder, BreakTies, ExternalEvents, Item, Normally, Headed}
 use Rattle.ss_preamble.specs.Tree.{OfEvery, OfSystem, Defines, Orders, Preamble}

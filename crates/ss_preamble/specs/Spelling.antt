@@ -8,8 +8,8 @@ use Rattle.ss_words.specs.Plain.{Plain, name, mark}
 use Rattle.ss_words.specs.Lists.{Several, spell_names, spell_names_behind}
 use Rattle.ss_preamble.specs.declared.item.Heading.{Heading}
 use Rattle.ss_preamble.specs.declared.item.Heading.TheVariants as h
-use Rattle.ss_preamble.specs.declared.item.Rank.{Rank}
-use Rattle.ss_preamble.specs.declared.item.Rank.TheVariants as rank
+use Rattle.ss_words.specs.declared.terms.Rank.{Rank}
+use Rattle.ss_words.specs.declared.terms.Rank.TheVariants as rank
 use Rattle.ss_preamble.specs.Tree.{Key, Clause, Has, Owns, BelongsTo, SetKind, Fifo, Lifo, Ranked, Definition}
 use Rattle.ss_preamble.specs.Tree.{Variables, Sets, EventRule, PriorityOrder, BreakTies, ExternalEvents, Item}
 use Rattle.ss_preamble.specs.Tree.{Normally, Headed, OfEvery, OfSystem, Defines, Orders, Preamble}

@@ -2,7 +2,7 @@
 use Rattle.std.specs.Prelude.{ℕ, List, map, Option}
 use Rattle.ss_words.specs.Lists.{Name, Several}
 use Rattle.ss_preamble.specs.declared.item.Heading.{Heading}
-use Rattle.ss_preamble.specs.declared.item.Rank.{Rank}
+use Rattle.ss_words.specs.declared.terms.Rank.{Rank}
 
 -- BY HIGH or BY LOW, and a name
 pub record Key : Type 0 where

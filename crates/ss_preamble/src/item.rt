@@ -1,4 +1,4 @@
-use ss_words::{Name, Several};
+use ss_words::{Name, Rank, Several};
 
 /// One or more names, in upper case.
 pub type Names = Several<Name>;
@@ -20,13 +20,6 @@ pub enum Clause {
     Owns(Names),
     /// `BELONGS TO names`
     BelongsTo(Names),
-}
-
-/// Which of two values of a key ranks first: the greater or the less.
-#[derive(Clone, Copy, Debug, PartialEq, Eq)]
-pub enum Rank {
-    High,
-    Low,
 }
 
 /// A key of a ranking: `BY HIGH name` or `BY LOW name`.

@@ -5,8 +5,8 @@ ghost use Rattle.ss_words.specs.Lists.{several_view};
 ghost use Rattle.ss_preamble.specs.ItemReading as reading;
 ghost use Rattle.ss_preamble.specs.View.{key_view};
 
-use crate::item::{Key, Rank};
-use ss_words::{Cursor, Mark, Refusal, Reserved, Several};
+use crate::item::Key;
+use ss_words::{Cursor, Mark, Rank, Refusal, Reserved, Several};
 
 /// `key {THEN key}`
 #[tactic(auto, unfolding(crate::proofs::Unfoldings::steps, crate::specs::ItemReading::keys))]

@@ -10,7 +10,6 @@ mod limits;
 mod reader;
 mod text;
 
-pub use item::{
-    Clause, Decls, Definition, EventRule, Heading, Item, ItemAt, Key, Names, Rank, SetKind,
-};
+pub use item::{Clause, Decls, Definition, EventRule, Heading, Item, ItemAt, Key, Names, SetKind};
+pub use ss_words::Rank;
 pub use text::preamble;

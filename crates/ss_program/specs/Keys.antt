@@ -4,8 +4,8 @@ use Rattle.std.specs.Ordering.{ordering_then, int_cmp}
 use Rattle.std.specs.declared.cmp.Ordering.{Ordering}
 use Rattle.std.specs.declared.cmp.Ordering.TheVariants.{Equal}
 use Rattle.ss_program.specs.declared.keys.Key.{Key}
-use Rattle.ss_program.specs.declared.keys.Rank.{Rank}
-use Rattle.ss_program.specs.declared.keys.Rank.TheVariants.{High, Low}
+use Rattle.ss_words.specs.declared.terms.Rank.{Rank}
+use Rattle.ss_words.specs.declared.terms.Rank.TheVariants.{High, Low}
 
 -- which of two values comes first: by HIGH the greater, by LOW the less
 abbrev pub ranked : Rank → ℤ → ℤ → Ordering

@@ -1,7 +1,7 @@
 -- The tree of a condition.
 use Rattle.std.specs.Prelude.{List, [], ◌∷◌}
-use Rattle.ss_program.specs.declared.condition.Comparison.{Comparison}
-use Rattle.ss_program.specs.declared.condition.Copula.{Copula}
+use Rattle.ss_words.specs.declared.terms.Comparison.{Comparison}
+use Rattle.ss_words.specs.declared.terms.Copula.{Copula}
 use Rattle.ss_program.specs.declared.target.SetRef.{SetRef}
 use Rattle.ss_program.specs.declared.condition.Disjunction.{Disjunction as Code, fold-Disjunction}
 use Rattle.ss_program.specs.declared.condition.Conjunction.{Conjunction as CodeConjunction, fold-Conjunction}

@@ -3,11 +3,11 @@
 use Rattle.std.specs.Prelude.{◌≡◌, ℕ, zero, suc, List, [], ◌∷◌, None}
 use Rattle.std.proofs.Common.{refl, ap, ◌∙◌}
 use Rattle.std.specs.Coded.{Coded, code_by, coded×, coded_ℕ, coded_list}
-use Rattle.ss_program.specs.declared.condition.Comparison.{Comparison}
-use Rattle.ss_program.specs.declared.condition.Copula.{Copula}
-use Rattle.ss_program.specs.declared.condition.Copula.TheVariants.{Is, IsNot}
+use Rattle.ss_words.specs.declared.terms.Comparison.{Comparison}
+use Rattle.ss_words.specs.declared.terms.Copula.{Copula}
+use Rattle.ss_words.specs.declared.terms.Copula.TheVariants.{Is, IsNot}
 use Rattle.ss_program.specs.declared.target.SetRef.{SetRef}
-use Rattle.ss_program.specs.declared.condition.Comparison.TheVariants.{Equals, Differs, Below, Above, AtMost, AtLeast}
+use Rattle.ss_words.specs.declared.terms.Comparison.TheVariants.{Equal, Unequal, Less, Greater, AtMost, AtLeast}
 use Rattle.ss_program.specs.ProgramExpr.{Expr, expr, Sums, no_sums, Term, term, no_products, Factor, digits, attribute, of_system}
 use Rattle.ss_program.specs.ProgramExprCode.{expr_code, ten_more}
 use Rattle.ss_program.specs.ProgramCondition.{Condition, any, Conjunctions, no_conjunctions, or_else, Conjunction, all, Relations, no_relations, and_also, Relation, compared, is_empty, is_in, nested}
@@ -61,10 +61,10 @@ in_number IsNot = 16
 
 -- the number of a comparison
 abbrev pub comparison_number : Comparison → ℕ
-comparison_number Equals = 5
-comparison_number Differs = 6
-comparison_number Below = 7
-comparison_number Above = 8
+comparison_number Equal = 5
+comparison_number Unequal = 6
+comparison_number Less = 7
+comparison_number Greater = 8
 comparison_number AtMost = 9
 comparison_number AtLeast = 10
 
@@ -127,10 +127,10 @@ token_read (suc zero) e f st = some_conjunctions no_conjunctions ∷ st
 token_read (suc (suc zero)) e f st = or_read st
 token_read (suc (suc (suc zero))) e f st = all_read st
 token_read (suc (suc (suc (suc zero)))) e f st = nested_read st
-token_read (suc (suc (suc (suc (suc zero))))) e f st = a_relation (compared e Equals f) ∷ st
-token_read (suc (suc (suc (suc (suc (suc zero)))))) e f st = a_relation (compared e Differs f) ∷ st
-token_read (suc (suc (suc (suc (suc (suc (suc zero))))))) e f st = a_relation (compared e Below f) ∷ st
-token_read (suc (suc (suc (suc (suc (suc (suc (suc zero)))))))) e f st = a_relation (compared e Above f) ∷ st
+token_read (suc (suc (suc (suc (suc zero))))) e f st = a_relation (compared e Equal f) ∷ st
+token_read (suc (suc (suc (suc (suc (suc zero)))))) e f st = a_relation (compared e Unequal f) ∷ st
+token_read (suc (suc (suc (suc (suc (suc (suc zero))))))) e f st = a_relation (compared e Less f) ∷ st
+token_read (suc (suc (suc (suc (suc (suc (suc (suc zero)))))))) e f st = a_relation (compared e Greater f) ∷ st
 token_read (suc (suc (suc (suc (suc (suc (suc (suc (suc zero))))))))) e f st = a_relation (compared e AtMost f) ∷ st
 token_read (ten_more zero) e f st = a_relation (compared e AtLeast f) ∷ st
 token_read (ten_more (suc zero)) e f st = some_relations no_relations ∷ st
@@ -148,15 +148,15 @@ parts (w ∷ ws) = token_read w.0 w.1.0 w.1.1 (parts ws)
 -- the condition that stands first
 abbrev pub first_condition : List Part → Condition
 first_condition (a_condition c ∷ st) = c
-first_condition st = any (all (compared no_value Equals no_value) no_relations) no_conjunctions
+first_condition st = any (all (compared no_value Equal no_value) no_relations) no_conjunctions
 
 -- the token of a comparison is read back
 pub comparison_again : (c : Comparison) (e f : Expr) (st : List Part) →
     token_read (comparison_number c) e f st ≡ a_relation (compared e c f) ∷ st
-comparison_again Equals e f st = refl
-comparison_again Differs e f st = refl
-comparison_again Below e f st = refl
-comparison_again Above e f st = refl
+comparison_again Equal e f st = refl
+comparison_again Unequal e f st = refl
+comparison_again Less e f st = refl
+comparison_again Greater e f st = refl
 comparison_again AtMost e f st = refl
 comparison_again AtLeast e f st = refl
 

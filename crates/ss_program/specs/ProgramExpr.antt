@@ -1,6 +1,6 @@
 -- The tree of an expression, with a variable where the text has a name.
 use Rattle.std.specs.Prelude.{ℕ, List, [], ◌∷◌, Option}
-use Rattle.ss_words.specs.declared.term_sign.TermSign.{TermSign}
+use Rattle.ss_words.specs.declared.terms.TermSign.{TermSign}
 use Rattle.ss_program.specs.declared.variable.Variable.{Variable}
 use Rattle.ss_program.specs.declared.sum.Sum.{Sum as Code, fold-Sum}
 use Rattle.ss_program.specs.declared.sum.Term.{Term as CodeTerm, fold-Term}
@@ -10,8 +10,8 @@ use Rattle.ss_program.specs.declared.sum.Factor.{Factor as CodeFactor, fold-Fact
 use Rattle.ss_program.specs.declared.sum.Factor.TheOpen.{Arguments-F, Factor-F, SignedTerm-F, Subscript-F, Subscripted-F, Sum-F, Term-F}
 use Rattle.ss_program.specs.declared.sum.Subscript.{Subscript as CodeSubscript, fold-Subscript}
 use Rattle.ss_program.specs.declared.sum.Subscripted.{Subscripted as CodeSubscripted, fold-Subscripted}
-use Rattle.ss_program.specs.declared.sum.OwnerKept.{OwnerKept}
-use Rattle.ss_program.specs.declared.sum.MemberKept.{MemberKept}
+use Rattle.ss_words.specs.declared.terms.OwnerKept.{OwnerKept}
+use Rattle.ss_words.specs.declared.terms.MemberKept.{MemberKept}
 
 mutual
   -- a sign at the head or none, a first term, and the terms behind it

@@ -1,5 +1,6 @@
 use crate::expr::Expr;
 use crate::target::SetRef;
+use ss_words::{Comparison, Copula};
 use std::marker::Model;
 
 /// A condition of a place. Contracts see it as the tree of its text.
@@ -56,22 +57,4 @@ pub enum Relation {
         set: SetRef,
     },
     Within(Box<Disjunction>),
-}
-
-/// `IS` or `IS NOT`.
-#[derive(Clone, Copy, PartialEq, Eq)]
-pub enum Copula {
-    Is,
-    IsNot,
-}
-
-/// How two values are compared: `=`, `NE`, `<`, `>`, `<=`, `>=`.
-#[derive(Clone, Copy, PartialEq, Eq)]
-pub enum Comparison {
-    Equals,
-    Differs,
-    Below,
-    Above,
-    AtMost,
-    AtLeast,
 }

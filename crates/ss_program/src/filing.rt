@@ -1,19 +1,13 @@
 use crate::expr::Expr;
 use crate::target::{SetRef, Target};
-
-/// An end of a list.
-#[derive(Clone, Copy, PartialEq, Eq)]
-pub enum End {
-    First,
-    Last,
-}
+use ss_words::SetEnd;
 
 /// Where FILE puts a member.
 #[derive(Drop)]
 pub enum Position {
     /// By the set's discipline.
     ByRule,
-    AtEnd(End),
+    AtEnd(SetEnd),
     /// Directly before the member that a value names.
     Before(Expr),
     /// Directly behind it.
@@ -31,13 +25,13 @@ pub enum Filing {
     },
     /// `FILE (FIRST | LAST) member IN set`.
     FileAt {
-        end: End,
+        end: SetEnd,
         member: Expr,
         set: SetRef,
     },
     /// `REMOVE (FIRST | LAST) target FROM set`.
     RemoveAt {
-        end: End,
+        end: SetEnd,
         target: Target,
         set: SetRef,
     },

@@ -1,11 +1,5 @@
+use ss_words::Rank;
 use std::marker::Model;
-
-/// Which of two values of a key comes first: the greater or the less.
-#[derive(Clone, Copy, PartialEq, Eq)]
-pub enum Rank {
-    High,
-    Low,
-}
 
 /// A key: how it ranks, and the number of an attribute in its class.
 #[derive(Clone, Copy, PartialEq, Eq)]

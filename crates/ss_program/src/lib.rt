@@ -1,5 +1,5 @@
-//! The checker and the checked program: tables of distinct names, and sections as lists of places
-//! in which each name is its number in a table.
+//! The program: tables of distinct names, and sections as lists of places in which each name is its
+//! number in a table.
 #![tactic(auto)]
 
 mod boxed;
@@ -30,26 +30,24 @@ mod ways;
 pub use boxed::Boxed;
 pub use branch::{Branch, Question};
 pub use call::{Call, Targets};
-pub use condition::{Comparison, Condition, Conjunction, Copula, Disjunction, Relation};
+pub use condition::{Condition, Conjunction, Disjunction, Relation};
 pub use expr::{Expr, Values};
-pub use filing::{End, Filing, Position};
+pub use filing::{Filing, Position};
 pub use find::Named;
-pub use keys::{Key, Keys, Rank};
+pub use keys::{Key, Keys};
 pub use kinds::{ClassKind, Discipline, EventClass, Owner, SectionKind};
-pub use looping::{
-    Begin, Direction, ForPhrase, Looping, Phrase, Qualifier, QualifierWord, Qualifiers, Statistic,
-    Telling, Tellings,
-};
+pub use looping::{Begin, ForPhrase, Looping, Phrase, Qualifier, Qualifiers, Telling, Tellings};
 pub use making::Making;
 pub use name::Name;
 pub use name_table::NameTable;
 pub use place::{Assign, Control, Output, Place, Spot};
 pub use program::Program;
 pub use section::{Head, Section};
-pub use ss_words::TermSign;
-pub use sum::{
-    Arguments, Factor, MemberKept, OwnerKept, SignedTerm, Subscript, Subscripted, Sum, Term,
+pub use ss_words::{
+    Comparison, Copula, Direction, MemberKept, OwnerKept, QualifierWord, Rank, SetEnd, Statistic,
+    TermSign,
 };
+pub use sum::{Arguments, Factor, SignedTerm, Subscript, Subscripted, Sum, Term};
 pub use tables::{Class, Set};
 pub use target::{Index, SetRef, Target};
 pub use timing::{Listing, Notice, Schedule, Timing, When};

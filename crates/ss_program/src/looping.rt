@@ -3,16 +3,8 @@ use crate::condition::Condition;
 use crate::expr::Expr;
 use crate::target::{SetRef, Target};
 use crate::variable::Variable;
+use ss_words::{Direction, QualifierWord, Statistic};
 use std::marker::Model;
-
-/// The word before a condition of a FOR phrase.
-#[derive(Clone, Copy, PartialEq, Eq)]
-pub enum QualifierWord {
-    With,
-    Unless,
-    While,
-    Until,
-}
 
 /// A qualifier of a FOR phrase.
 #[derive(Drop)]
@@ -38,13 +30,6 @@ impl Model for Qualifiers {
     ghost coded = { Prim.hlevel (codes, one.the_row.coded) };
 
     ghost view = { λ a. a.list.items };
-}
-
-/// Upwards and from the first, or BACK.
-#[derive(Clone, Copy, PartialEq, Eq)]
-pub enum Direction {
-    Onward,
-    Backward,
 }
 
 /// What a FOR phrase goes through.
@@ -92,15 +77,6 @@ pub struct ForPhrase {
     pub phrase: Phrase,
     pub qualifiers: Qualifiers,
     pub has_do: bool,
-}
-
-/// What COMPUTE tells of the values that it gathered.
-#[derive(Clone, Copy, PartialEq, Eq)]
-pub enum Statistic {
-    Number,
-    Sum,
-    Maximum,
-    Minimum,
 }
 
 /// A target of COMPUTE, and what is assigned to it.

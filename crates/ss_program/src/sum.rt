@@ -1,5 +1,5 @@
 use crate::variable::Variable;
-use ss_words::TermSign;
+use ss_words::{MemberKept, OwnerKept, TermSign};
 
 /// A first term, which may have a sign at its head, and further terms, each with its sign.
 #[derive(Drop)]
@@ -78,28 +78,6 @@ pub enum Subscript {
     /// The system, which owns a list and has no subscript.
     System,
     Written(Box<Sum>),
-}
-
-/// A kept attribute of a set's owner.
-#[derive(Clone, Copy, PartialEq, Eq)]
-pub enum OwnerKept {
-    /// `F.s`, the first member.
-    First,
-    /// `L.s`, the last member.
-    Last,
-    /// `N.s`, the number of members.
-    Count,
-}
-
-/// A kept attribute of a set's member.
-#[derive(Clone, Copy, PartialEq, Eq)]
-pub enum MemberKept {
-    /// `P.s`, the member directly before it.
-    Predecessor,
-    /// `S.s`, the member directly behind it.
-    Successor,
-    /// `M.s`, 1 for a member and else 0.
-    Membership,
 }
 
 /// The arguments of `MAX.F` and `MIN.F`: a first one, and further ones.

@@ -16,12 +16,12 @@ use Rattle.ss_words.proofs.Local.{Rooms, same, more, Local, pure_local, refuse_l
 use Rattle.ss_words.proofs.Marks.{spell_mark, spell_eaten, expect_good, eat_good, expect_local, eat_local}
 use Rattle.ss_words.proofs.Marks.{expect_read_back, eat_read_back, not_eaten}
 use Rattle.ss_words.proofs.ReadBack.{then}
-use Rattle.ss_words.specs.declared.term_sign.TermSign.{TermSign}
-use Rattle.ss_words.specs.declared.term_sign.TermSign.TheVariants.{Plus, Minus}
-use Rattle.ss_routines.specs.declared.condition.Comparison.{Comparison}
-use Rattle.ss_routines.specs.declared.condition.Comparison.TheVariants.{Equal, Unequal, Less, Greater, AtMost, AtLeast}
-use Rattle.ss_routines.specs.declared.condition.Copula.{Copula}
-use Rattle.ss_routines.specs.declared.condition.Copula.TheVariants.{Is, IsNot}
+use Rattle.ss_words.specs.declared.terms.TermSign.{TermSign}
+use Rattle.ss_words.specs.declared.terms.TermSign.TheVariants.{Plus, Minus}
+use Rattle.ss_words.specs.declared.terms.Comparison.{Comparison}
+use Rattle.ss_words.specs.declared.terms.Comparison.TheVariants.{Equal, Unequal, Less, Greater, AtMost, AtLeast}
+use Rattle.ss_words.specs.declared.terms.Copula.{Copula}
+use Rattle.ss_words.specs.declared.terms.Copula.TheVariants.{Is, IsNot}
 use Rattle.ss_routines.specs.Combined.{by_table, if_open, if_mark, star}
 use Rattle.ss_routines.specs.Expr.{Expr, expr, no_sums, Term, term, no_products, Factor, digits, named}
 use Rattle.ss_routines.specs.Expr.{applied, within, no_exprs, sign, spell_within, spell_expr, spell_term}

@@ -11,8 +11,8 @@ use Rattle.ss_words.specs.Lists.{Name, Several, spell_others, spell_several}
 use Rattle.ss_words.specs.Reading.{Reading, refuse}
 use Rattle.ss_words.specs.Marks.{is}
 use Rattle.ss_words.proofs.Local.{Rooms, same, more}
-use Rattle.ss_words.specs.declared.term_sign.TermSign.{TermSign}
-use Rattle.ss_words.specs.declared.term_sign.TermSign.TheVariants.{Plus, Minus}
+use Rattle.ss_words.specs.declared.terms.TermSign.{TermSign}
+use Rattle.ss_words.specs.declared.terms.TermSign.TheVariants.{Plus, Minus}
 use Rattle.ss_routines.specs.Combined.{pair, if_mark, if_word, star, by_table, if_open, several}
 use Rattle.ss_routines.specs.Expr.{Expr, expr, Sums, no_sums, sum, Term, term, Products, no_products, product, Factor}
 use Rattle.ss_routines.specs.Expr.{digits, named, applied, within, Exprs, no_exprs, exprs, sign, spell_within}

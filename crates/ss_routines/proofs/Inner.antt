@@ -7,22 +7,22 @@ use Rattle.ss_words.specs.declared.word.Sign.TheVariants as s
 use Rattle.ss_words.specs.declared.reserved.Reserved.TheVariants as r
 use Rattle.ss_words.specs.Plain.{Plain, name, mark}
 use Rattle.ss_words.specs.Lists.{Name, Several, spell_others, spell_several}
-use Rattle.ss_words.specs.declared.term_sign.TermSign.{TermSign}
-use Rattle.ss_words.specs.declared.term_sign.TermSign.TheVariants.{Plus, Minus}
-use Rattle.ss_routines.specs.declared.condition.Comparison.{Comparison}
-use Rattle.ss_routines.specs.declared.condition.Comparison.TheVariants.{Equal, Unequal, Less, Greater, AtMost, AtLeast}
-use Rattle.ss_routines.specs.declared.condition.Copula.{Copula}
-use Rattle.ss_routines.specs.declared.condition.Copula.TheVariants.{Is, IsNot}
-use Rattle.ss_routines.specs.declared.simple.SetEnd.{SetEnd}
-use Rattle.ss_routines.specs.declared.simple.SetEnd.TheVariants as end
+use Rattle.ss_words.specs.declared.terms.TermSign.{TermSign}
+use Rattle.ss_words.specs.declared.terms.TermSign.TheVariants.{Plus, Minus}
+use Rattle.ss_words.specs.declared.terms.Comparison.{Comparison}
+use Rattle.ss_words.specs.declared.terms.Comparison.TheVariants.{Equal, Unequal, Less, Greater, AtMost, AtLeast}
+use Rattle.ss_words.specs.declared.terms.Copula.{Copula}
+use Rattle.ss_words.specs.declared.terms.Copula.TheVariants.{Is, IsNot}
+use Rattle.ss_words.specs.declared.terms.SetEnd.{SetEnd}
+use Rattle.ss_words.specs.declared.terms.SetEnd.TheVariants as end
 use Rattle.ss_routines.specs.declared.simple.Article.{Article}
 use Rattle.ss_routines.specs.declared.simple.Article.TheVariants as article
-use Rattle.ss_routines.specs.declared.place.Direction.{Direction}
-use Rattle.ss_routines.specs.declared.place.Direction.TheVariants.{Onward, Backward}
-use Rattle.ss_routines.specs.declared.place.QualifierWord.{QualifierWord}
-use Rattle.ss_routines.specs.declared.place.QualifierWord.TheVariants.{With, Unless, While, Until}
-use Rattle.ss_routines.specs.declared.place.Statistic.{Statistic}
-use Rattle.ss_routines.specs.declared.place.Statistic.TheVariants.{Number, Sum, Maximum, Minimum}
+use Rattle.ss_words.specs.declared.terms.Direction.{Direction}
+use Rattle.ss_words.specs.declared.terms.Direction.TheVariants.{Onward, Backward}
+use Rattle.ss_words.specs.declared.terms.QualifierWord.{QualifierWord}
+use Rattle.ss_words.specs.declared.terms.QualifierWord.TheVariants.{With, Unless, While, Until}
+use Rattle.ss_words.specs.declared.terms.Statistic.{Statistic}
+use Rattle.ss_words.specs.declared.terms.Statistic.TheVariants.{Number, Sum, Maximum, Minimum}
 use Rattle.ss_routines.specs.Expr.{Expr, expr, Sums, no_sums, sum, Term, term, Products, no_products, product, Factor}
 use Rattle.ss_routines.specs.Expr.{digits, named, applied, within, Exprs, no_exprs, exprs, sign, spell_lead}
 use Rattle.ss_routines.specs.Expr.{spell_within}

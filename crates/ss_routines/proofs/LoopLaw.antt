@@ -11,14 +11,14 @@ use Rattle.ss_words.specs.Lists.{Name, Several, spell_several}
 use Rattle.ss_words.specs.Marks.{is}
 use Rattle.ss_words.proofs.Laws.{Any}
 use Rattle.ss_words.proofs.Local.{Rooms}
-use Rattle.ss_routines.specs.declared.place.Direction.{Direction}
-use Rattle.ss_routines.specs.declared.place.Direction.TheVariants.{Onward, Backward}
-use Rattle.ss_routines.specs.declared.place.QualifierWord.{QualifierWord}
-use Rattle.ss_routines.specs.declared.place.QualifierWord.TheVariants.{With, Unless, While, Until}
-use Rattle.ss_routines.specs.declared.place.Statistic.{Statistic}
-use Rattle.ss_routines.specs.declared.place.Statistic.TheVariants as statistic
+use Rattle.ss_words.specs.declared.terms.Direction.{Direction}
+use Rattle.ss_words.specs.declared.terms.Direction.TheVariants.{Onward, Backward}
+use Rattle.ss_words.specs.declared.terms.QualifierWord.{QualifierWord}
+use Rattle.ss_words.specs.declared.terms.QualifierWord.TheVariants.{With, Unless, While, Until}
+use Rattle.ss_words.specs.declared.terms.Statistic.{Statistic}
+use Rattle.ss_words.specs.declared.terms.Statistic.TheVariants as statistic
 use Rattle.ss_routines.specs.Combined.{several}
-use Rattle.ss_words.specs.declared.term_sign.TermSign.TheVariants.{Plus, Minus}
+use Rattle.ss_words.specs.declared.terms.TermSign.TheVariants.{Plus, Minus}
 use Rattle.ss_routines.specs.Expr.{Expr, expr, term, digits, named, applied, within, spell_expr, depth_expr}
 use Rattle.ss_routines.specs.ExprReading.{expr_at}
 use Rattle.ss_routines.specs.Condition.{Reference, Condition, condition, Conjunction, conjunction, Relation, compared}

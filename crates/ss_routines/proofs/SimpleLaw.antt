@@ -13,12 +13,12 @@ use Rattle.ss_words.specs.Marks.{is}
 use Rattle.ss_words.proofs.Laws.{Good, Any, fits_option}
 use Rattle.ss_words.proofs.Laws as word
 use Rattle.ss_words.proofs.Local.{Rooms, Local}
-use Rattle.ss_routines.specs.declared.simple.SetEnd.{SetEnd}
-use Rattle.ss_routines.specs.declared.simple.SetEnd.TheVariants as end
+use Rattle.ss_words.specs.declared.terms.SetEnd.{SetEnd}
+use Rattle.ss_words.specs.declared.terms.SetEnd.TheVariants as end
 use Rattle.ss_routines.specs.declared.simple.Article.{Article}
 use Rattle.ss_routines.specs.declared.simple.Article.TheVariants as article
 use Rattle.ss_routines.specs.Combined.{if_open, several}
-use Rattle.ss_words.specs.declared.term_sign.TermSign.TheVariants.{Plus, Minus}
+use Rattle.ss_words.specs.declared.terms.TermSign.TheVariants.{Plus, Minus}
 use Rattle.ss_routines.specs.Expr as x
 use Rattle.ss_routines.specs.Expr.{Expr, expr, term, digits, applied, within, spell_within, spell_expr, depth_expr}
 use Rattle.ss_routines.specs.ExprReading.{sign_of, expr_at, inner_at}

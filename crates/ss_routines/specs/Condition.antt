@@ -5,10 +5,10 @@ use Rattle.ss_words.specs.declared.word.Sign.TheVariants as s
 use Rattle.ss_words.specs.declared.reserved.Reserved.TheVariants as r
 use Rattle.ss_words.specs.Plain.{Plain, name, mark}
 use Rattle.ss_words.specs.Lists.{Name}
-use Rattle.ss_routines.specs.declared.condition.Comparison.{Comparison}
-use Rattle.ss_routines.specs.declared.condition.Comparison.TheVariants.{Equal, Unequal, Less, Greater, AtMost, AtLeast}
-use Rattle.ss_routines.specs.declared.condition.Copula.{Copula}
-use Rattle.ss_routines.specs.declared.condition.Copula.TheVariants.{Is, IsNot}
+use Rattle.ss_words.specs.declared.terms.Comparison.{Comparison}
+use Rattle.ss_words.specs.declared.terms.Comparison.TheVariants.{Equal, Unequal, Less, Greater, AtMost, AtLeast}
+use Rattle.ss_words.specs.declared.terms.Copula.{Copula}
+use Rattle.ss_words.specs.declared.terms.Copula.TheVariants.{Is, IsNot}
 use Rattle.ss_routines.specs.Expr.{Expr, spell_within, spell_expr, depth_expr}
 
 -- a name, with a subscript in parentheses or none

@@ -3,10 +3,10 @@
 use Rattle.std.specs.Prelude.{◌≡◌, ℕ, zero, suc, List, [], ◌∷◌, Option, None}
 use Rattle.std.proofs.Common.{refl, ap, ◌∙◌}
 use Rattle.std.specs.Coded.{Coded, code_by, coded×, coded_ℕ, coded_list, coded_option}
-use Rattle.ss_routines.specs.declared.condition.Comparison.{Comparison}
-use Rattle.ss_routines.specs.declared.condition.Comparison.TheVariants.{Equal, Unequal, Less, Greater, AtMost, AtLeast}
-use Rattle.ss_routines.specs.declared.condition.Copula.{Copula}
-use Rattle.ss_routines.specs.declared.condition.Copula.TheVariants.{Is, IsNot}
+use Rattle.ss_words.specs.declared.terms.Comparison.{Comparison}
+use Rattle.ss_words.specs.declared.terms.Comparison.TheVariants.{Equal, Unequal, Less, Greater, AtMost, AtLeast}
+use Rattle.ss_words.specs.declared.terms.Copula.{Copula}
+use Rattle.ss_words.specs.declared.terms.Copula.TheVariants.{Is, IsNot}
 use Rattle.ss_words.specs.Lists.{Name}
 use Rattle.ss_routines.specs.Expr.{Expr, expr, no_sums, term, no_products, digits}
 use Rattle.ss_routines.specs.ExprCode.{name_code, expr_code}

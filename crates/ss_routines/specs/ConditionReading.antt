@@ -9,10 +9,10 @@ use Rattle.ss_words.specs.declared.refusal.Refusal.TheVariants.{Unexpected, Past
 use Rattle.ss_words.specs.Plain.{Plain, mark}
 use Rattle.ss_words.specs.Reading.{Reading, ◌>>=◌, pure, refuse}
 use Rattle.ss_words.specs.Marks.{expect, eat}
-use Rattle.ss_routines.specs.declared.condition.Comparison.{Comparison}
-use Rattle.ss_routines.specs.declared.condition.Comparison.TheVariants.{Equal, Unequal, Less, Greater, AtMost, AtLeast}
-use Rattle.ss_routines.specs.declared.condition.Copula.{Copula}
-use Rattle.ss_routines.specs.declared.condition.Copula.TheVariants.{Is, IsNot}
+use Rattle.ss_words.specs.declared.terms.Comparison.{Comparison}
+use Rattle.ss_words.specs.declared.terms.Comparison.TheVariants.{Equal, Unequal, Less, Greater, AtMost, AtLeast}
+use Rattle.ss_words.specs.declared.terms.Copula.{Copula}
+use Rattle.ss_words.specs.declared.terms.Copula.TheVariants.{Is, IsNot}
 use Rattle.ss_routines.specs.Combined.{if_mark, star, by_table, if_open}
 use Rattle.ss_routines.specs.Expr.{Expr, expr, no_sums, term, no_products, named, applied, within}
 use Rattle.ss_routines.specs.Expr.{no_exprs, sums_of, products_of}

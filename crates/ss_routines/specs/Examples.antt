@@ -6,8 +6,8 @@ use Rattle.ss_words.specs.declared.reserved.Reserved.{Reserved}
 use Rattle.ss_words.specs.declared.reserved.Reserved.TheVariants as r
 use Rattle.ss_words.specs.Lists.{Name, Several}
 use Rattle.ss_words.specs.Plain.{Plain, PlainAt, name, number, mark}
-use Rattle.ss_routines.specs.declared.condition.Comparison.TheVariants.{Equal}
-use Rattle.ss_routines.specs.declared.place.Statistic.TheVariants.{Sum}
+use Rattle.ss_words.specs.declared.terms.Comparison.TheVariants.{Equal}
+use Rattle.ss_words.specs.declared.terms.Statistic.TheVariants.{Sum}
 use Rattle.ss_routines.specs.Expr.{Expr, expr, no_sums, term, no_products, Factor, digits, named, within}
 use Rattle.ss_routines.specs.Condition.{Condition, condition, no_alternatives, alternative}
 use Rattle.ss_routines.specs.Condition.{conjunction, no_additions, addition, Relation, compared, nested}

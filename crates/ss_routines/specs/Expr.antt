@@ -4,8 +4,8 @@ use Rattle.ss_words.specs.declared.mark.Mark.TheVariants as m
 use Rattle.ss_words.specs.declared.word.Sign.TheVariants as s
 use Rattle.ss_words.specs.Plain.{Plain, name, number, mark}
 use Rattle.ss_words.specs.Lists.{Name}
-use Rattle.ss_words.specs.declared.term_sign.TermSign.{TermSign}
-use Rattle.ss_words.specs.declared.term_sign.TermSign.TheVariants.{Plus, Minus}
+use Rattle.ss_words.specs.declared.terms.TermSign.{TermSign}
+use Rattle.ss_words.specs.declared.terms.TermSign.TheVariants.{Plus, Minus}
 
 -- sums of products of factors
 mutual

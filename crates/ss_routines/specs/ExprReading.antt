@@ -9,8 +9,8 @@ use Rattle.ss_words.specs.Reading.{Reading, refuse}
 use Rattle.ss_words.specs.Marks.{a_name}
 use Rattle.ss_words.specs.Lists.{Name, Several}
 use Rattle.ss_routines.specs.Combined.{pair, made, if_mark, if_word, either, star, by_table, if_open, several}
-use Rattle.ss_words.specs.declared.term_sign.TermSign.{TermSign}
-use Rattle.ss_words.specs.declared.term_sign.TermSign.TheVariants.{Plus, Minus}
+use Rattle.ss_words.specs.declared.terms.TermSign.{TermSign}
+use Rattle.ss_words.specs.declared.terms.TermSign.TheVariants.{Plus, Minus}
 use Rattle.ss_routines.specs.Expr.{Expr, expr, Term, term, Factor, digits, named, applied, within}
 use Rattle.ss_routines.specs.Expr.{sums_of, products_of, exprs_of}
 

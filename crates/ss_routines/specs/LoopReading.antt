@@ -8,12 +8,12 @@ use Rattle.ss_words.specs.Plain.{Plain, mark}
 use Rattle.ss_words.specs.Lists.{Name, Several}
 use Rattle.ss_words.specs.Reading.{Reading, pure}
 use Rattle.ss_words.specs.Marks.{a_name}
-use Rattle.ss_routines.specs.declared.place.Direction.{Direction}
-use Rattle.ss_routines.specs.declared.place.Direction.TheVariants.{Onward, Backward}
-use Rattle.ss_routines.specs.declared.place.QualifierWord.{QualifierWord}
-use Rattle.ss_routines.specs.declared.place.QualifierWord.TheVariants.{With, Unless, While, Until}
-use Rattle.ss_routines.specs.declared.place.Statistic.{Statistic}
-use Rattle.ss_routines.specs.declared.place.Statistic.TheVariants as statistic
+use Rattle.ss_words.specs.declared.terms.Direction.{Direction}
+use Rattle.ss_words.specs.declared.terms.Direction.TheVariants.{Onward, Backward}
+use Rattle.ss_words.specs.declared.terms.QualifierWord.{QualifierWord}
+use Rattle.ss_words.specs.declared.terms.QualifierWord.TheVariants.{With, Unless, While, Until}
+use Rattle.ss_words.specs.declared.terms.Statistic.{Statistic}
+use Rattle.ss_words.specs.declared.terms.Statistic.TheVariants as statistic
 use Rattle.ss_routines.specs.Combined.{pair, behind, before, made, if_mark, if_word, either, star, by_table, several}
 use Rattle.ss_routines.specs.Combined.{made_of, must}
 use Rattle.ss_routines.specs.Expr.{Expr}

@@ -4,7 +4,7 @@ use Rattle.std.specs.Global.{Vec}
 use Rattle.ss_words.specs.declared.several.Several.{Several as CodeSeveral}
 use Rattle.ss_words.specs.Lists.{Name, Several, several_view}
 use Rattle.ss_words.specs.Reading.{option_view}
-use Rattle.ss_words.specs.declared.term_sign.TermSign.{TermSign}
+use Rattle.ss_words.specs.declared.terms.TermSign.{TermSign}
 use Rattle.ss_routines.specs.declared.expr.Expr.{Expr as CodeExpr}
 use Rattle.ss_routines.specs.declared.expr.Added.{Added as CodeAdded}
 use Rattle.ss_routines.specs.declared.expr.Factor.{Factor as CodeFactor}

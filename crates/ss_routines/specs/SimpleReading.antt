@@ -9,8 +9,8 @@ use Rattle.ss_words.specs.Plain.{Plain, name, mark}
 use Rattle.ss_words.specs.Lists.{Name, Several, all_of}
 use Rattle.ss_words.specs.Reading.{Reading, pure}
 use Rattle.ss_words.specs.Marks.{a_name, a_number, a_picture}
-use Rattle.ss_routines.specs.declared.simple.SetEnd.{SetEnd}
-use Rattle.ss_routines.specs.declared.simple.SetEnd.TheVariants as end
+use Rattle.ss_words.specs.declared.terms.SetEnd.{SetEnd}
+use Rattle.ss_words.specs.declared.terms.SetEnd.TheVariants as end
 use Rattle.ss_routines.specs.declared.simple.Article.{Article}
 use Rattle.ss_routines.specs.declared.simple.Article.TheVariants as article
 use Rattle.ss_routines.specs.Combined.{pair, behind, before, made, if_mark, if_word, either, by_table, if_open, several}

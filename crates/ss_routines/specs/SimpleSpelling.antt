@@ -6,8 +6,8 @@ use Rattle.ss_words.specs.declared.word.Sign.TheVariants as s
 use Rattle.ss_words.specs.declared.reserved.Reserved.TheVariants as r
 use Rattle.ss_words.specs.Plain.{Plain, name, number, mark, picture}
 use Rattle.ss_words.specs.Lists.{Several, spell_others, spell_several}
-use Rattle.ss_routines.specs.declared.simple.SetEnd.{SetEnd}
-use Rattle.ss_routines.specs.declared.simple.SetEnd.TheVariants as end
+use Rattle.ss_words.specs.declared.terms.SetEnd.{SetEnd}
+use Rattle.ss_words.specs.declared.terms.SetEnd.TheVariants as end
 use Rattle.ss_routines.specs.declared.simple.Article.{Article}
 use Rattle.ss_routines.specs.declared.simple.Article.TheVariants as article
 use Rattle.ss_routines.specs.Expr.{spell_within, spell_expr, depth_expr}

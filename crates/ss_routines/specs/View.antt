@@ -2,7 +2,7 @@
 use Rattle.std.specs.Prelude.{List, map}
 use Rattle.ss_words.specs.Lists.{Name, several_view}
 use Rattle.ss_words.specs.Reading.{option_view}
-use Rattle.ss_words.specs.declared.term_sign.TermSign.{TermSign}
+use Rattle.ss_words.specs.declared.terms.TermSign.{TermSign}
 use Rattle.ss_routines.specs.declared.expr.Expr.{Expr as CodeExpr, fold-Expr}
 use Rattle.ss_routines.specs.declared.expr.Term.{Term as CodeTerm, fold-Term}
 use Rattle.ss_routines.specs.declared.expr.Added.{Added as CodeAdded, fold-Added}

@@ -13,8 +13,8 @@ ghost use Rattle.ss_routines.specs.View.{computed_view};
 use crate::assignment::reference;
 use crate::expr::Expr;
 use crate::expression::expression;
-use crate::place::{Computed, Statistic};
-use ss_words::{Cursor, Mark, Plain, Refusal, Reserved, Several, Sign};
+use crate::place::Computed;
+use ss_words::{Cursor, Mark, Plain, Refusal, Reserved, Several, Sign, Statistic};
 
 /// The targets and the expression of a COMPUTE, behind COMPUTE.
 #[tactic(auto, unfolding(crate::proofs::Unfoldings::in_turn, crate::specs::LoopReading::compute_at))]

@@ -1,5 +1,5 @@
 use crate::expr::Expr;
-use ss_words::Name;
+use ss_words::{Comparison, Copula, Name};
 
 /// A name, in upper case, with a subscript or without: what a statement assigns to, or a set
 /// (docs/LANGUAGE.md, "References").
@@ -7,24 +7,6 @@ use ss_words::Name;
 pub struct Reference {
     pub name: Name,
     pub subscript: Option<Box<Expr>>,
-}
-
-/// How two values are compared.
-#[derive(Clone, Copy, Debug, PartialEq, Eq)]
-pub enum Comparison {
-    Equal,
-    Unequal,
-    Less,
-    Greater,
-    AtMost,
-    AtLeast,
-}
-
-/// Whether NOT stands behind IS.
-#[derive(Clone, Copy, Debug, PartialEq, Eq)]
-pub enum Copula {
-    Is,
-    IsNot,
 }
 
 /// A condition: conjunctions joined by OR (docs/LANGUAGE.md, "Conditions").

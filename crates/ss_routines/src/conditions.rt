@@ -15,10 +15,10 @@ ghost use Rattle.ss_routines.specs.View.{expr_view, application_view, factor_vie
 ghost use Rattle.ss_routines.specs.View.{condition_view, conjunction_view, relation_view};
 
 use crate::assignment::reference;
-use crate::condition::{Comparison, Condition, Conjunction, Copula, Reference, Relation};
+use crate::condition::{Condition, Conjunction, Reference, Relation};
 use crate::expr::{Application, Expr, Factor, Term};
 use crate::expression::{expression, open, rest};
-use ss_words::{Cursor, Mark, Plain, Refusal, Reserved, Sign};
+use ss_words::{Comparison, Copula, Cursor, Mark, Plain, Refusal, Reserved, Sign};
 
 /// What stands where an expression may stand alone or begin something else.
 #[derive(Drop)]

@@ -12,8 +12,8 @@ ghost use Rattle.ss_routines.specs.View.{file_place_view, filing_view, reference
 use crate::assignment::{moved, reference};
 use crate::condition::Reference;
 use crate::expression::expression;
-use crate::simple::{FilePlace, Filing, SetEnd};
-use ss_words::{Cursor, Mark, Plain, Refusal, Reserved};
+use crate::simple::{FilePlace, Filing};
+use ss_words::{Cursor, Mark, Plain, Refusal, Reserved, SetEnd};
 
 /// FIRST or LAST, if one stands here.
 #[tactic(auto, unfolding(crate::proofs::Unfoldings::steps_by_table))]

@@ -26,15 +26,15 @@ mod statement;
 mod timing;
 mod transfer;
 
-pub use condition::{Comparison, Condition, Conjunction, Copula, Reference, Relation};
+pub use condition::{Condition, Conjunction, Reference, Relation};
 pub use expr::{Added, Application, Expr, Factor, Term};
 pub use place::{
-    Branch, Computed, Direction, Loop, Phrase, Place, Qualifier, QualifierWord, Question, Range,
-    Spot, Statistic, WalkStart,
+    Branch, Computed, Loop, Phrase, Place, Qualifier, Question, Range, Spot, WalkStart,
 };
 pub use program::sections;
 pub use section::{LocalNames, Section, SectionKind, Sections};
 pub use simple::{
-    Article, Assign, Details, Exchange, FilePlace, Filing, Listing, Making, SetEnd, Simple, Timing,
+    Article, Assign, Details, Exchange, FilePlace, Filing, Listing, Making, Simple, Timing,
     Transfer, When,
 };
+pub use ss_words::{Comparison, Copula, Direction, QualifierWord, SetEnd, Statistic};

@@ -19,8 +19,8 @@ use crate::condition::Reference;
 use crate::conditions::condition;
 use crate::expr::Expr;
 use crate::expression::expression;
-use crate::place::{Direction, Phrase, Qualifier, QualifierWord, Range, WalkStart};
-use ss_words::{Cursor, Mark, Name, Plain, Refusal, Reserved, Sign};
+use crate::place::{Phrase, Qualifier, Range, WalkStart};
+use ss_words::{Cursor, Direction, Mark, Name, Plain, QualifierWord, Refusal, Reserved, Sign};
 
 /// A FOR phrase, behind FOR.
 #[tactic(auto, unfolding(crate::proofs::Unfoldings::in_turn, crate::specs::LoopReading::phrase_at))]

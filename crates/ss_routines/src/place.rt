@@ -1,14 +1,7 @@
 use crate::condition::{Condition, Reference};
 use crate::expr::Expr;
 use crate::simple::Simple;
-use ss_words::{Name, Several};
-
-/// The way in which a FOR phrase goes.
-#[derive(Clone, Copy, Debug, PartialEq, Eq)]
-pub enum Direction {
-    Onward,
-    Backward,
-}
+use ss_words::{Direction, Name, QualifierWord, Several, Statistic};
 
 /// Where the walk of a set begins.
 #[derive(Debug, Drop)]
@@ -46,15 +39,6 @@ pub enum Range {
     },
 }
 
-/// What a qualifier does with its condition.
-#[derive(Clone, Copy, Debug, PartialEq, Eq)]
-pub enum QualifierWord {
-    With,
-    Unless,
-    While,
-    Until,
-}
-
 /// A condition on the candidates of a FOR phrase.
 #[derive(Debug, Drop)]
 pub struct Qualifier {
@@ -67,15 +51,6 @@ pub struct Qualifier {
 pub struct Phrase {
     pub range: Range,
     pub qualifiers: Vec<Qualifier>,
-}
-
-/// What a COMPUTE tells of its values.
-#[derive(Clone, Copy, Debug, PartialEq, Eq)]
-pub enum Statistic {
-    Number,
-    Sum,
-    Maximum,
-    Minimum,
 }
 
 /// A target of a COMPUTE and the statistic that it is given.

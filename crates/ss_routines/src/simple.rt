@@ -1,6 +1,6 @@
 use crate::condition::Reference;
 use crate::expr::Expr;
-use ss_words::{Name, Several};
+use ss_words::{Name, SetEnd, Several};
 
 /// A statement that assigns.
 #[derive(Debug, Drop)]
@@ -41,13 +41,6 @@ pub enum Making {
         class: Name,
         entity: Option<Reference>,
     },
-}
-
-/// An end of a set's list.
-#[derive(Clone, Copy, Debug, PartialEq, Eq)]
-pub enum SetEnd {
-    First,
-    Last,
 }
 
 /// Where a member is filed, as it is written behind the member.

@@ -3,7 +3,7 @@ use Rattle.std.specs.Prelude.{◌≡◌, ℕ, ℤ, pos, false, List, [], ◌∷�
 use Rattle.ss_words.specs.declared.fault.RunFault.{RunFault}
 use Rattle.ss_words.specs.declared.fault.RunFault.TheVariants.{NoEntity, AlreadyInSet, NotInList, EmptySet, EndedInUse}
 use Rattle.ss_words.specs.declared.fault.RunFault.TheVariants.{EndedOwner}
-use Rattle.ss_program.specs.declared.keys.Rank.TheVariants.{High, Low}
+use Rattle.ss_words.specs.declared.terms.Rank.TheVariants.{High, Low}
 use Rattle.ss_program.specs.declared.kinds.Discipline.{Discipline}
 use Rattle.ss_program.specs.declared.kinds.Discipline.TheVariants.{Fifo, Lifo, Ranked}
 use Rattle.ss_program.specs.declared.kinds.Owner.TheVariants.{System}

@@ -2,10 +2,10 @@
 use Rattle.std.specs.Prelude.{ℤ, int_lt, int_le, ◌==◌, Bool, true, false, not, Result, Ok}
 use Rattle.std.specs.Ordering.{int_eq}
 use Rattle.ss_words.specs.declared.fault.RunFault.{RunFault}
-use Rattle.ss_program.specs.declared.condition.Comparison.{Comparison}
-use Rattle.ss_program.specs.declared.condition.Comparison.TheVariants.{Equals, Differs, Below, Above, AtMost, AtLeast}
-use Rattle.ss_program.specs.declared.condition.Copula.{Copula}
-use Rattle.ss_program.specs.declared.condition.Copula.TheVariants.{Is, IsNot}
+use Rattle.ss_words.specs.declared.terms.Comparison.{Comparison}
+use Rattle.ss_words.specs.declared.terms.Comparison.TheVariants.{Equal, Unequal, Less, Greater, AtMost, AtLeast}
+use Rattle.ss_words.specs.declared.terms.Copula.{Copula}
+use Rattle.ss_words.specs.declared.terms.Copula.TheVariants.{Is, IsNot}
 use Rattle.ss_program.specs.declared.target.SetRef.{SetRef}
 use Rattle.ss_program.specs.ProgramExpr.{Expr}
 use Rattle.ss_store.specs.Tables.{set_of}
@@ -19,10 +19,10 @@ use Rattle.ss_values.specs.Values.{Readings, value_of, subscript_value}
 
 -- the truth of a comparison
 abbrev pub comparison_holds : Comparison → ℤ → ℤ → Bool
-comparison_holds Equals x y = int_eq x y
-comparison_holds Differs x y = not (int_eq x y)
-comparison_holds Below x y = int_lt x y
-comparison_holds Above x y = int_lt y x
+comparison_holds Equal x y = int_eq x y
+comparison_holds Unequal x y = not (int_eq x y)
+comparison_holds Less x y = int_lt x y
+comparison_holds Greater x y = int_lt y x
 comparison_holds AtMost x y = int_le x y
 comparison_holds AtLeast x y = int_le y x
 

@@ -7,12 +7,12 @@ use Rattle.ss_words.specs.declared.fault.RunFault.{RunFault}
 use Rattle.ss_words.specs.declared.fault.RunFault.TheVariants.{OutOfRange, ZeroDivisor}
 use Rattle.ss_words.specs.declared.fault.StepFault.{StepFault}
 use Rattle.ss_words.specs.declared.fault.StepFault.TheVariants.{Fault, Memory}
-use Rattle.ss_words.specs.declared.term_sign.TermSign.{TermSign}
-use Rattle.ss_words.specs.declared.term_sign.TermSign.TheVariants.{Plus, Minus}
-use Rattle.ss_program.specs.declared.sum.OwnerKept.{OwnerKept}
-use Rattle.ss_program.specs.declared.sum.OwnerKept.TheVariants.{First, Last, Count}
-use Rattle.ss_program.specs.declared.sum.MemberKept.{MemberKept}
-use Rattle.ss_program.specs.declared.sum.MemberKept.TheVariants.{Predecessor, Successor, Membership}
+use Rattle.ss_words.specs.declared.terms.TermSign.{TermSign}
+use Rattle.ss_words.specs.declared.terms.TermSign.TheVariants.{Plus, Minus}
+use Rattle.ss_words.specs.declared.terms.OwnerKept.{OwnerKept}
+use Rattle.ss_words.specs.declared.terms.OwnerKept.TheVariants.{First, Last, Count}
+use Rattle.ss_words.specs.declared.terms.MemberKept.{MemberKept}
+use Rattle.ss_words.specs.declared.terms.MemberKept.TheVariants.{Predecessor, Successor, Membership}
 use Rattle.ss_program.specs.declared.place.Assign.{Assign}
 use Rattle.ss_program.specs.declared.place.Assign.TheVariants.{Let, Add, Subtract}
 use Rattle.ss_program.specs.declared.target.Target.{Target}

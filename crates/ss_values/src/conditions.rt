@@ -15,10 +15,10 @@ fn compare(comparison: Comparison, x: i64, y: i64) -> bool
     ensures { result ≡ conditions.comparison_holds comparison x y }
 {
     match comparison {
-        Comparison::Equals => x == y,
-        Comparison::Differs => x != y,
-        Comparison::Below => x < y,
-        Comparison::Above => y < x,
+        Comparison::Equal => x == y,
+        Comparison::Unequal => x != y,
+        Comparison::Less => x < y,
+        Comparison::Greater => y < x,
         Comparison::AtMost => x <= y,
         Comparison::AtLeast => y <= x,
     }

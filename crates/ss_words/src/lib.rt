@@ -18,7 +18,7 @@ mod reserved;
 mod scan;
 mod several;
 mod spelling;
-mod term_sign;
+mod terms;
 mod text_laws;
 mod word;
 
@@ -32,5 +32,8 @@ pub use refusal::Refusal;
 pub use reserved::Reserved;
 pub use scan::{without_stops, words};
 pub use several::Several;
-pub use term_sign::TermSign;
+pub use terms::{
+    Comparison, Copula, Direction, MemberKept, OwnerKept, QualifierWord, Rank, SetEnd, Statistic,
+    TermSign,
+};
 pub use word::{Sign, Word, WordKind, Words};

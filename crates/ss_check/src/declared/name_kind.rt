@@ -3,9 +3,9 @@ ghost use Rattle.ss_check.specs.NameKinds as kinds;
 
 use crate::declared::class_need::ClassNeed;
 use crate::declared::function::Function;
-use crate::declared::kept::{MemberKept, OwnerKept};
 use ss_preamble::Heading;
 use ss_program::Name;
+use ss_words::{MemberKept, OwnerKept};
 
 /// What a name is declared as (docs/LANGUAGE.md, "Rules of the checker"). A local variable is not
 /// declared.

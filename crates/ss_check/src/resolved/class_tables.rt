@@ -11,7 +11,7 @@ use crate::declared::tables::Tables;
 use crate::resolved::declarations::copied;
 use crate::resolved::rankings::Rankings;
 use ss_preamble::Heading;
-use ss_program::{Class, ClassKind, EventClass, Key, Keys, Rank};
+use ss_program::{Class, ClassKind, EventClass, Key, Keys};
 use ss_words::Several;
 use std::alloc::{AllocError, Global};
 
@@ -144,12 +144,10 @@ fn resolve_key(names: &NameTables, class: usize, key: &ss_preamble::Key) -> Key
     ensures { result
         ≡ resolved.resolved_key (slice_index_or names.now.attributes class []) (key_view key.now) }
 {
-    let rank = match key.rank {
-        ss_preamble::Rank::High => Rank::High,
-        ss_preamble::Rank::Low => Rank::Low,
-    };
-    let attribute = names.attribute(class, key.name.bytes());
-    Key { rank, attribute }
+    Key {
+        rank: key.rank,
+        attribute: names.attribute(class, key.name.bytes()),
+    }
 }
 
 /// The numbers of the classes that PRIORITY names, in its order.

@@ -7,32 +7,8 @@ ghost use Rattle.ss_check.specs.Scope.{in_scope};
 use crate::resolved::expressions::resolve_two;
 use crate::resolved::references::{member_and_set, resolve_set};
 use crate::resolved::scope::Scope;
-use ss_program::{Comparison, Condition, Conjunction, Copula, Disjunction, Relation};
+use ss_program::{Condition, Conjunction, Disjunction, Relation};
 use std::alloc::AllocError;
-
-/// How two values are compared.
-fn resolve_comparison(comparison: ss_routines::Comparison) -> Comparison
-    ensures { result ≡ resolved.resolved_comparison comparison }
-{
-    match comparison {
-        ss_routines::Comparison::Equal => Comparison::Equals,
-        ss_routines::Comparison::Unequal => Comparison::Differs,
-        ss_routines::Comparison::Less => Comparison::Below,
-        ss_routines::Comparison::Greater => Comparison::Above,
-        ss_routines::Comparison::AtMost => Comparison::AtMost,
-        ss_routines::Comparison::AtLeast => Comparison::AtLeast,
-    }
-}
-
-/// Whether NOT stands behind IS.
-fn resolve_copula(copula: ss_routines::Copula) -> Copula
-    ensures { result ≡ resolved.resolved_copula copula }
-{
-    match copula {
-        ss_routines::Copula::Is => Copula::Is,
-        ss_routines::Copula::IsNot => Copula::IsNot,
-    }
-}
 
 /// A condition with the numbers of its names.
 pub(crate) fn resolve_condition(
@@ -91,7 +67,7 @@ fn resolve_relation(scope: Scope<'_>, r: &ss_routines::Relation) -> Result<Relat
             comparison,
             right,
         } => {
-            let comparison = resolve_comparison(*comparison);
+            let comparison = *comparison;
             let (left, right) = resolve_two(scope, left, right)?;
             Ok(Relation::Compared {
                 left,
@@ -101,14 +77,14 @@ fn resolve_relation(scope: Scope<'_>, r: &ss_routines::Relation) -> Result<Relat
         }
         ss_routines::Relation::Empty { set, copula } => Ok(Relation::IsEmpty {
             set: resolve_set(scope, set)?,
-            copula: resolve_copula(*copula),
+            copula: *copula,
         }),
         ss_routines::Relation::Member {
             member,
             copula,
             set,
         } => {
-            let copula = resolve_copula(*copula);
+            let copula = *copula;
             let (member, set) = member_and_set(scope, member, set)?;
             Ok(Relation::IsIn {
                 member,

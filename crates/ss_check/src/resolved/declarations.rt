@@ -7,12 +7,11 @@ ghost use Rattle.ss_check.specs.Declarations as declared;
 ghost use Rattle.ss_check.specs.Facts.{fact};
 ghost use Rattle.ss_check.specs.NameKinds.{class_facts, set_facts};
 
-use crate::declared::kept::{MemberKept, OwnerKept};
 use crate::declared::kind_table::KindTable;
 use crate::declared::name_kind::NameKind;
 use ss_preamble::{Clause, Definition, Heading, Item, Names};
 use ss_program::Name;
-use ss_words::Several;
+use ss_words::{MemberKept, OwnerKept, Several};
 use std::alloc::{AllocError, Global};
 
 /// A name with letters and a stop before it.

@@ -13,8 +13,7 @@ ghost use Rattle.ss_check.specs.Scope.{in_scope};
 use crate::declared::function::Function;
 use crate::declared::name_kind::NameKind;
 use crate::resolved::scope::{
-    Scope, class_subscript, kind, member_kept, member_subscript, owner_kept, owner_subscript,
-    variable_of,
+    Scope, class_subscript, kind, member_subscript, owner_subscript, variable_of,
 };
 use ss_program::{Arguments, Expr, Factor, SignedTerm, Subscript, Subscripted, Sum, Term, Values};
 use ss_routines::Listing;
@@ -243,7 +242,7 @@ pub(crate) fn plain_factor(
             let number = scope.names.set(&set.bytes);
             let subscript = owner_subscript(scope, &set.bytes, subscript);
             Ok(Factor::OwnerKept {
-                kept: owner_kept(*kept),
+                kept: *kept,
                 set: subscripted(scope.alloc, number, subscript)?,
             })
         }
@@ -251,7 +250,7 @@ pub(crate) fn plain_factor(
             let number = scope.names.set(&set.bytes);
             let subscript = member_subscript(scope, &set.bytes, subscript);
             Ok(Factor::MemberKept {
-                kept: member_kept(*kept),
+                kept: *kept,
                 set: subscripted(scope.alloc, number, subscript)?,
             })
         }

@@ -10,21 +10,11 @@ use crate::resolved::expressions::{resolve_expr, resolve_option, resolve_two};
 use crate::resolved::references::{resolve_set, resolve_target};
 use crate::resolved::scope::{Scope, class_variable, resolve_variable};
 use ss_program::{
-    Begin, Boxed, Direction, ForPhrase, Looping, Phrase, Qualifier, QualifierWord, Qualifiers,
-    Statistic, Telling, Tellings, Variable,
+    Begin, Boxed, ForPhrase, Looping, Phrase, Qualifier, Qualifiers, Telling, Tellings, Variable,
 };
 use ss_routines::{Computed, Loop, Range, WalkStart};
 use ss_words::{Name, Several};
 use std::alloc::AllocError;
-
-fn resolve_direction(direction: ss_routines::Direction) -> Direction
-    ensures { result ≡ resolved.resolved_direction direction }
-{
-    match direction {
-        ss_routines::Direction::Onward => Direction::Onward,
-        ss_routines::Direction::Backward => Direction::Backward,
-    }
-}
 
 /// Where the walk of a set begins.
 fn resolve_begin(scope: Scope<'_>, start: &WalkStart) -> Result<Begin, AllocError>
@@ -65,7 +55,7 @@ fn resolve_range(scope: Scope<'_>, range: &Range) -> Result<Phrase, AllocError>
             let (first, last) = resolve_two(scope, first, last)?;
             match resolve_option(scope, step) {
                 Ok(step) => Ok(Phrase::Counting {
-                    direction: resolve_direction(*direction),
+                    direction: *direction,
                     variable: resolve_variable(scope, variable.bytes()),
                     first,
                     last,
@@ -93,7 +83,7 @@ fn resolve_range(scope: Scope<'_>, range: &Range) -> Result<Phrase, AllocError>
             let set = resolve_set(scope, set)?;
             match resolve_begin(scope, start) {
                 Ok(begin) => Ok(Phrase::Walking {
-                    direction: resolve_direction(*direction),
+                    direction: *direction,
                     variable: resolve_variable(scope, variable.bytes()),
                     set,
                     begin,
@@ -107,17 +97,6 @@ fn resolve_range(scope: Scope<'_>, range: &Range) -> Result<Phrase, AllocError>
     }
 }
 
-fn resolve_word(word: ss_routines::QualifierWord) -> QualifierWord
-    ensures { result ≡ resolved.resolved_word word }
-{
-    match word {
-        ss_routines::QualifierWord::With => QualifierWord::With,
-        ss_routines::QualifierWord::Unless => QualifierWord::Unless,
-        ss_routines::QualifierWord::While => QualifierWord::While,
-        ss_routines::QualifierWord::Until => QualifierWord::Until,
-    }
-}
-
 fn resolve_qualifier(
     scope: Scope<'_>,
     qualifier: &ss_routines::Qualifier,
@@ -126,7 +105,7 @@ fn resolve_qualifier(
         (λ x. x ≡ in_scope scope.entry resolved.resolved_qualifier (view.qualifier_view qualifier.now)) }
 {
     Ok(Qualifier {
-        word: resolve_word(qualifier.word),
+        word: qualifier.word,
         condition: resolve_condition(scope, &qualifier.condition)?,
     })
 }
@@ -146,24 +125,13 @@ fn resolve_qualifiers(
     Ok(Qualifiers { list })
 }
 
-fn resolve_statistic(statistic: ss_routines::Statistic) -> Statistic
-    ensures { result ≡ resolved.resolved_statistic statistic }
-{
-    match statistic {
-        ss_routines::Statistic::Number => Statistic::Number,
-        ss_routines::Statistic::Sum => Statistic::Sum,
-        ss_routines::Statistic::Maximum => Statistic::Maximum,
-        ss_routines::Statistic::Minimum => Statistic::Minimum,
-    }
-}
-
 fn resolve_telling(scope: Scope<'_>, computed: &Computed) -> Result<Telling, AllocError>
     ensures { IfOk result
         (λ x. x ≡ in_scope scope.entry resolved.resolved_telling (view.computed_view computed.now)) }
 {
     Ok(Telling {
         target: resolve_target(scope, &computed.target)?,
-        statistic: resolve_statistic(computed.statistic),
+        statistic: computed.statistic,
     })
 }
 

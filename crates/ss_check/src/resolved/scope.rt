@@ -5,7 +5,6 @@ ghost use Rattle.ss_check.specs.Declarations.{kind_of};
 ghost use Rattle.ss_check.specs.ResolvedNames as resolved;
 ghost use Rattle.ss_check.specs.Scope.{in_scope};
 
-use crate::declared::kept::{MemberKept, OwnerKept};
 use crate::declared::name_kind::NameKind;
 use crate::declared::name_tables::{NameTables, number};
 use crate::declared::tables::Tables;
@@ -55,28 +54,6 @@ pub(crate) fn class_variable(scope: Scope<'_>, class: &[u8]) -> Variable
     ensures { result ≡ variable.Global (in_scope scope.entry resolved.class_variable class.now) }
 {
     Variable::Global(scope.names.global(class))
-}
-
-/// What a set keeps of its owner.
-pub(crate) fn owner_kept(kept: OwnerKept) -> ss_program::OwnerKept
-    ensures { result ≡ resolved.kept_of_owner kept }
-{
-    match kept {
-        OwnerKept::First => ss_program::OwnerKept::First,
-        OwnerKept::Last => ss_program::OwnerKept::Last,
-        OwnerKept::Count => ss_program::OwnerKept::Count,
-    }
-}
-
-/// What a set keeps of its members.
-pub(crate) fn member_kept(kept: MemberKept) -> ss_program::MemberKept
-    ensures { result ≡ resolved.kept_of_member kept }
-{
-    match kept {
-        MemberKept::Predecessor => ss_program::MemberKept::Predecessor,
-        MemberKept::Successor => ss_program::MemberKept::Successor,
-        MemberKept::Membership => ss_program::MemberKept::Membership,
-    }
 }
 
 /// The subscript of what an entity of a class has; without one, the variable of the class's name.

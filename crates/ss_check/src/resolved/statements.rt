@@ -17,11 +17,11 @@ use crate::resolved::references::{
 };
 use crate::resolved::scope::Scope;
 use ss_program::{
-    Assign, Boxed, Call, Control, End, Expr, Filing, Listing, Making, Notice, Output, Place,
-    Position, Schedule, SetRef, Target, Timing, When,
+    Assign, Boxed, Call, Control, Expr, Filing, Listing, Making, Notice, Output, Place, Position,
+    Schedule, SetRef, Target, Timing, When,
 };
 use ss_report::{Picture, PictureFault};
-use ss_routines::{Article, Details, Exchange, FilePlace, Reference, SetEnd, Simple, Transfer};
+use ss_routines::{Article, Details, Exchange, FilePlace, Reference, Simple, Transfer};
 use std::alloc::{AllocError, Global};
 
 /// A statement that holds no other, with the numbers of its names.
@@ -125,23 +125,13 @@ fn resolve_making(scope: Scope<'_>, making: &ss_routines::Making) -> Result<Maki
     }
 }
 
-/// An end of a set's list.
-fn resolve_end(end: SetEnd) -> End
-    ensures { result ≡ resolved.resolved_end end }
-{
-    match end {
-        SetEnd::First => End::First,
-        SetEnd::Last => End::Last,
-    }
-}
-
 fn resolve_position(scope: Scope<'_>, place: &FilePlace) -> Result<Position, AllocError>
     ensures { IfOk result
         (λ x. x ≡ in_scope scope.entry resolved.resolved_position (view.file_place_view place.now)) }
 {
     match place {
         FilePlace::ByDiscipline => Ok(Position::ByRule),
-        FilePlace::AtEnd(end) => Ok(Position::AtEnd(resolve_end(*end))),
+        FilePlace::AtEnd(end) => Ok(Position::AtEnd(*end)),
         FilePlace::Before(other) => Ok(Position::Before(resolve_expr(scope, other)?)),
         FilePlace::After(other) => Ok(Position::After(resolve_expr(scope, other)?)),
     }
@@ -168,12 +158,12 @@ fn resolve_filing(scope: Scope<'_>, filing: &ss_routines::Filing) -> Result<Fili
             }
         }
         ss_routines::Filing::FileAt { end, member, set } => {
-            let end = resolve_end(*end);
+            let end = *end;
             let (member, set) = member_and_set(scope, member, set)?;
             Ok(Filing::FileAt { end, member, set })
         }
         ss_routines::Filing::RemoveEnd { end, target, set } => {
-            let end = resolve_end(*end);
+            let end = *end;
             let (target, set) = target_and_set(scope, target, set)?;
             Ok(Filing::RemoveAt { end, target, set })
         }

@@ -1,5 +1,5 @@
 use Rattle.std.proofs.Common.{length, sym, ap, arith}
-use Rattle.ss_words.specs.declared.term_sign.TermSign.{TermSign}
+use Rattle.ss_words.specs.declared.terms.TermSign.{TermSign}
 use Rattle.ss_routines.specs.declared.expr.Application.{out-Application}
 use Rattle.ss_routines.specs.declared.expr.Factor.TheFolds.{fold_out-Application}
 use Rattle.ss_routines.specs.Expr.{Expr, Term, Factor}

@@ -1,5 +1,5 @@
 use Rattle.std.proofs.Common.{length, map, sym, ap, arith}
-use Rattle.ss_words.specs.declared.term_sign.TermSign.{TermSign}
+use Rattle.ss_words.specs.declared.terms.TermSign.{TermSign}
 use Rattle.ss_routines.specs.declared.expr.Expr.{out-Expr}
 use Rattle.ss_routines.specs.declared.expr.Term.{out-Term}
 use Rattle.ss_routines.specs.declared.expr.Factor.TheFolds.{fold_out-Expr, fold_out-Term}

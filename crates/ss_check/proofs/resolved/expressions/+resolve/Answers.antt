@@ -5,7 +5,7 @@ use Rattle.ss_routines.specs.declared.expr.Term.{out-Term}
 use Rattle.ss_routines.specs.declared.expr.Application.{out-Application}
 use Rattle.ss_routines.specs.declared.expr.Factor.TheFolds.{fold_out-Added, fold_out-Application}
 use Rattle.ss_routines.specs.declared.expr.Factor.TheFolds.{fold_out-Expr, fold_out-Term}
-use Rattle.ss_words.specs.declared.term_sign.TermSign.{TermSign}
+use Rattle.ss_words.specs.declared.terms.TermSign.{TermSign}
 use Rattle.ss_program.specs.declared.sum.SignedTerm.{roll-SignedTerm}
 use Rattle.ss_program.specs.declared.sum.Factor.TheFolds.{fold-roll-Arguments, fold-roll-SignedTerm}
 use Rattle.ss_program.specs.declared.sum.Factor.TheFolds.{fold-roll-Sum, fold-roll-Term}

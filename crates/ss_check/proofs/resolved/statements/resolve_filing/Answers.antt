@@ -15,7 +15,6 @@ pub returns-in_ok-member-in-FileAt : goal.returns-in_ok-member-in-FileAt
 returns-in_ok-member-in-FileAt c =
     rw (
       c.in-FileAt.is,
-      c.resolve_end-end.ensures,
       c.in_ok-member-in-FileAt.ensures.member,
       c.in_ok-member-in-FileAt.ensures.set,
     )
@@ -25,7 +24,6 @@ pub returns-in_ok-target-in-RemoveEnd : goal.returns-in_ok-target-in-RemoveEnd
 returns-in_ok-target-in-RemoveEnd c =
     rw (
       c.in-RemoveEnd.is,
-      c.resolve_end-end-in-RemoveEnd.ensures,
       c.in_ok-target-in-RemoveEnd.ensures.target,
       c.in_ok-target-in-RemoveEnd.ensures.set,
     )

@@ -1,6 +1,6 @@
 use Rattle.std.proofs.Common.{◌++◌, append_assoc, refl}
 use Rattle.std.specs.Prelude.{map}
-use Rattle.ss_words.specs.declared.term_sign.TermSign.{TermSign}
+use Rattle.ss_words.specs.declared.terms.TermSign.{TermSign}
 use Rattle.ss_routines.specs.declared.expr.Factor.TheFolds.{fold_out-Added, fold_out-Expr, fold_out-Term}
 use Rattle.ss_routines.specs.Expr.{Expr, Factor, Term, sums_of, products_of, exprs_of}
 use Rattle.ss_routines.specs.View.{application_view, expr_view, term_view, factor_view, added_view, factor_step, added_step, application_step, expr_step, term_step}

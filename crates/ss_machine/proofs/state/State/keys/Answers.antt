@@ -5,7 +5,7 @@ use Rattle.std.proofs.lemmas.Option.{slice_get-get_or}
 use Rattle.ss_words.specs.declared.fault.RunFault.{RunFault}
 use Rattle.ss_words.specs.declared.fault.StepFault.TheVariants.{Fault}
 use Rattle.ss_program.specs.declared.keys.Key.{Key}
-use Rattle.ss_program.specs.declared.keys.Rank.TheVariants.{High}
+use Rattle.ss_words.specs.declared.terms.Rank.TheVariants.{High}
 use Rattle.ss_store.specs.Store.{attribute_of}
 use Rattle.ss_machine.proofs.Attributes.{attributes_more, attributes_fail, mapped_at}
 use Rattle.ss_machine.proofs.state.State.keys.Goals as goal
