@@ -1,5 +1,5 @@
 use crate::compare::same;
-use ss_data::{Feed, Kind};
+use ss_data::{Feed, PieceKind};
 use ss_words::RunFault;
 use std::alloc::Global;
 use std::process::Abort;
@@ -111,13 +111,13 @@ fn what_is_given_back_is_taken_again(rt: HostRuntime) {
 
 // Passes the next piece, where there is one.
 fn pass(feed: &mut Feed) {
-    if feed.kind() != Kind::End {
+    if feed.kind() != PieceKind::End {
         feed.pass();
     }
 }
 
 // Passes the next piece, which is of this kind.
-fn passes(rt: &impl Abort, feed: &mut Feed, kind: Kind) {
+fn passes(rt: &impl Abort, feed: &mut Feed, kind: PieceKind) {
     same(rt, feed.kind(), kind);
     pass(feed);
 }
@@ -137,15 +137,15 @@ fn passes_entry(rt: &impl Abort, feed: &mut Feed, passed: Result<(), RunFault>, 
 #[test]
 fn each_piece_has_its_kind(rt: HostRuntime) {
     let mut feed = feed_of(&rt, rt.alloc(), b"5 * ** arrival. 9223372036854775808");
-    passes(&rt, &mut feed, Kind::Number);
-    passes(&rt, &mut feed, Kind::Mark);
-    passes(&rt, &mut feed, Kind::Other);
-    passes(&rt, &mut feed, Kind::Other);
-    passes(&rt, &mut feed, Kind::Other);
-    passes(&rt, &mut feed, Kind::End);
+    passes(&rt, &mut feed, PieceKind::Number);
+    passes(&rt, &mut feed, PieceKind::Mark);
+    passes(&rt, &mut feed, PieceKind::Other);
+    passes(&rt, &mut feed, PieceKind::Other);
+    passes(&rt, &mut feed, PieceKind::Other);
+    passes(&rt, &mut feed, PieceKind::End);
     has_taken(&rt, &feed, 5);
     feed.undo(0);
-    passes(&rt, &mut feed, Kind::Number);
+    passes(&rt, &mut feed, PieceKind::Number);
 }
 
 #[test]

@@ -1,7 +1,7 @@
 -- The number of arguments.
 use Rattle.std.proofs.Common.{◌≡◌, List, [], ◌∷◌, length, refl, ap, ◌∙◌, ◌+◌, suc, ℕ, arith}
 use Rattle.std.specs.Prelude.{map}
-use Rattle.ss_routines.specs.declared.expr.Expr.{Expr as CodeExpr}
+use Rattle.ss_routines.specs.declared.tree.expr.Expr.{Expr as CodeExpr}
 use Rattle.ss_routines.specs.Expr.{exprs_of}
 use Rattle.ss_routines.specs.View.{expr_view}
 use Rattle.ss_check.specs.Uses.{count}

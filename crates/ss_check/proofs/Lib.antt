@@ -9,7 +9,7 @@ pub mod PlaceRules
 pub mod Statements
 pub mod Tests
 pub mod Turns
-pub mod Named
+pub mod TableTurns
 pub mod Resolving
 pub mod Pictures
 pub mod SoundShapes

@@ -11,7 +11,7 @@ use Rattle.ss_preamble.specs.declared.item.Heading.{Heading}
 use Rattle.ss_preamble.specs.declared.item.Heading.TheVariants.{PermanentEntities, TemporaryEntities, EventNotices}
 use Rattle.ss_words.specs.declared.terms.Rank.{Rank}
 use Rattle.ss_words.specs.declared.terms.Rank.TheVariants.{High}
-use Rattle.ss_preamble.specs.Tree.{Key as WrittenKey, SetKind, Fifo, Lifo, Ranked, PriorityOrder, BreakTies, ExternalEvents, Item, Normally, Headed, OfEvery, OfSystem, Defines, Orders, ItemAt}
+use Rattle.ss_preamble.specs.Tree.{Key as WrittenKey, SetDiscipline, Fifo, Lifo, Ranked, PriorityOrder, BreakTies, ExternalEvents, Item, Normally, Headed, OfEvery, OfSystem, Defines, Orders, ItemAt}
 use Rattle.ss_preamble.specs.Limits.{class_names}
 use Rattle.ss_routines.specs.Tree.{Head, MainHead, RoutineHead, EventHead}
 use Rattle.ss_routines.specs.Places.{Section}
@@ -344,7 +344,7 @@ module _ (xs : List Entry) (qs : List Section) where
 
     -- ---- sets
 
-    discipline_is : (n b : Name) (o : Option SetKind) → fact_of W.disciplines n ≡ o →
+    discipline_is : (n b : Name) (o : Option SetDiscipline) → fact_of W.disciplines n ≡ o →
         fact_of D.members n ≡ Some b → In b V.classes →
         IsSaid Fifo (some_list o) (named_discipline (attributes b) (resolved_discipline (attribute_names V b) o))
     discipline_is n b None e m i = refl
@@ -424,7 +424,7 @@ module _ (xs : List Entry) (qs : List Section) where
 rankings_are : (is : List ItemAt) →
     rankings is ≡ record { disciplines = (written (entries is)).disciplines; ties = (written (entries is)).ties }
 rankings_are is =
-    two (λ (a : List (Fact SetKind)) (b : List (Fact (List WrittenKey))). record { disciplines = a; ties = b })
+    two (λ (a : List (Fact SetDiscipline)) (b : List (Fact (List WrittenKey))). record { disciplines = a; ties = b })
     (sym (entries_say disciplines_in None is)) (sym (entries_say ties_in None is))
 
 -- the tables give the items

@@ -5,8 +5,8 @@ use Rattle.std.specs.List.{flat_map}
 use Rattle.std.proofs.lemmas.Bool.{false≢true, or_parts, not-false}
 use Rattle.std.proofs.lemmas.Option.{none-some, same_Some}
 use Rattle.ss_words.specs.Lists.{Name, all_of}
-use Rattle.ss_routines.specs.declared.simple.Article.{Article}
-use Rattle.ss_routines.specs.declared.simple.Article.TheVariants.{A, The}
+use Rattle.ss_routines.specs.declared.tree.simple.Article.{Article}
+use Rattle.ss_routines.specs.declared.tree.simple.Article.TheVariants.{A, The}
 use Rattle.ss_words.specs.declared.terms.Direction.{Direction}
 use Rattle.ss_words.specs.declared.terms.QualifierWord.{QualifierWord}
 use Rattle.ss_words.specs.declared.terms.Statistic.{Statistic}

@@ -3,7 +3,7 @@ use Rattle.std.proofs.Common.{◌<◌, ◌^◌, List, [], ◌∷◌, length, ari
 use Rattle.std.specs.Prelude.{map}
 use Rattle.std.proofs.lemmas.List.{length-map}
 use Rattle.std.proofs.lemmas.List.Elements.{All-nil, All-cons}
-use Rattle.ss_routines.specs.declared.section.Section.{Section as CodeSection}
+use Rattle.ss_routines.specs.declared.tree.section.Section.{Section as CodeSection}
 use Rattle.ss_routines.specs.Places.{Section}
 use Rattle.ss_routines.specs.View.{section_view, spot_view}
 use Rattle.ss_check.specs.Readable.{AreFew}

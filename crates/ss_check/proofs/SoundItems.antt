@@ -9,7 +9,7 @@ use Rattle.std.proofs.lemmas.Grind.{flat_map-append}
 use Rattle.std.proofs.lemmas.Map.Keys.{IsDistinct-push}
 use Rattle.std.proofs.lemmas.Option.{none-some}
 use Rattle.ss_words.specs.Lists.{Name}
-use Rattle.ss_preamble.specs.Tree.{Key, SetKind, Item}
+use Rattle.ss_preamble.specs.Tree.{Key, SetDiscipline, Item}
 use Rattle.ss_routines.specs.Tree.{Head, MainHead, RoutineHead, EventHead}
 use Rattle.ss_check.specs.declared.declared.fact.Fact.{Fact}
 use Rattle.ss_check.specs.declared.declared.name_kind.NameKind.{NameKind}
@@ -141,7 +141,7 @@ sets_have_members d xs h = sets_among d (names_of d.members) [] xs (members_new 
 -- ---- keys
 
 -- the keys that rank a set, and those that break ties, are attributes
-pub right_ranks : (d b : Tables) (i : Item) (n : Name) (kind : SetKind) → has_wrong_keys d b i ≡ false →
+pub right_ranks : (d b : Tables) (i : Item) (n : Name) (kind : SetDiscipline) → has_wrong_keys d b i ≡ false →
     In (fact n kind) (disciplines_in i) → has_wrong_rank d b (fact_of d.members n) kind ≡ false
 right_ranks d b i n kind h x =
     let ranks = list_any (λ s. has_wrong_rank d b (fact_of d.members s.name) s.what) (disciplines_in i) in

@@ -6,8 +6,8 @@ use Rattle.std.proofs.lemmas.Bool.{false≢true, or_parts, not-false, eqb-true}
 use Rattle.std.proofs.lemmas.List.{length-map}
 use Rattle.ss_words.specs.Lists.{Name, all_of}
 use Rattle.ss_report.specs.Pictures.{field_count, has_decimal_field}
-use Rattle.ss_routines.specs.declared.simple.Article.{Article}
-use Rattle.ss_routines.specs.declared.simple.Article.TheVariants.{A, The}
+use Rattle.ss_routines.specs.declared.tree.simple.Article.{Article}
+use Rattle.ss_routines.specs.declared.tree.simple.Article.TheVariants.{A, The}
 use Rattle.ss_routines.specs.Expr.{Expr, expr, Sums, no_sums, sum, Term, term, Products, no_products, product, Factor, digits, named, applied, within, Exprs, no_exprs, exprs}
 use Rattle.ss_routines.specs.Condition.{Reference, Condition, condition, Alternatives, no_alternatives, alternative, Conjunction, conjunction, Additions, no_additions, addition, Relation, compared, is_empty, is_in, nested}
 use Rattle.ss_routines.specs.Simple.{Assign, Let, Add, Subtract, Making, Create, CreateEvery, Destroy, FilePlace, ByDiscipline, AtEnd, Before, After, Filing, File, FileAt, RemoveEnd, Remove, Call, Return, Stop, ValuesFirst, CalledFirst, When, At, Now, In, Timing, Schedule, Cancel, StartSimulation, Read, Print, Skip, Simple, Assigns, Makes, Files, Transfers, Times, Exchanges}

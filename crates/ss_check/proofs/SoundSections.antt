@@ -11,7 +11,7 @@ use Rattle.std.proofs.lemmas.Option.{slice_get-map}
 use Rattle.ss_words.specs.Lists.{Name, all_of}
 use Rattle.ss_preamble.specs.Tree.{ItemAt}
 use Rattle.ss_preamble.specs.Limits.{IsWithin}
-use Rattle.ss_routines.specs.declared.simple.Article.{Article}
+use Rattle.ss_routines.specs.declared.tree.simple.Article.{Article}
 use Rattle.ss_routines.specs.Condition.{Reference}
 use Rattle.ss_routines.specs.Simple.{Details, ValuesFirst, CalledFirst, Call, Return, Stop, Schedule, Cancel, StartSimulation, Read, Print, Skip, Simple, Assigns, Makes, Files, Transfers, Times, Exchanges}
 use Rattle.ss_routines.specs.Simple as written

@@ -9,7 +9,7 @@ use Rattle.std.proofs.lemmas.List.Elements.{All-nil, All-map}
 use Rattle.std.proofs.lemmas.Option.{slice_get-map, slice_get_within}
 use Rattle.ss_words.specs.Lists.{Name, Several, all_of}
 use Rattle.ss_preamble.specs.declared.item.Heading.TheVariants.{PermanentEntities, TemporaryEntities, EventNotices}
-use Rattle.ss_preamble.specs.Tree.{Key as WrittenKey, SetKind, Fifo, Lifo, Ranked, Variables, Sets, PriorityOrder, BreakTies, ExternalEvents, Item, Normally, Headed, OfEvery, OfSystem, Defines, Orders, ItemAt}
+use Rattle.ss_preamble.specs.Tree.{Key as WrittenKey, SetDiscipline, Fifo, Lifo, Ranked, Variables, Sets, PriorityOrder, BreakTies, ExternalEvents, Item, Normally, Headed, OfEvery, OfSystem, Defines, Orders, ItemAt}
 use Rattle.ss_preamble.specs.Limits.{key_count, class_names, IsWithin}
 use Rattle.ss_routines.specs.Tree.{Head}
 use Rattle.ss_routines.specs.Places.{Section}
@@ -184,10 +184,10 @@ module _ (is : List ItemAt) (qs : List Section) (h : AreItemsKept (tables is qs)
   discipline_counted (Defines (Sets ns kind)) n ks x =
       let q = Rattle.ss_check.proofs.SoundLists.map_in (λ m. fact m kind) (fact n (Ranked ks)) (all_of ns) x in
       let e : Ranked ks ≡ kind = what_same (fact n (Ranked ks)) (fact q.one kind) q.is in
-      ap (λ (z : SetKind). key_count (Defines (Sets ns z))) e
+      ap (λ (z : SetDiscipline). key_count (Defines (Sets ns z))) e
 
   -- the keys that rank a set
-  sound_discipline : (n : Name) (c : Name) (o : Option SetKind) → fact_of R.disciplines n ≡ o →
+  sound_discipline : (n : Name) (c : Name) (o : Option SetDiscipline) → fact_of R.disciplines n ≡ o →
       fact_of D.members n ≡ Some c → In c V.classes →
       IsSoundDiscipline (length (attributes_of D c)) (resolved_discipline (attribute_names V c) o)
   sound_discipline n c None e m i = tt

@@ -8,9 +8,9 @@ use Rattle.std.proofs.lemmas.List.{drop_all, drop_more, nil_from_length}
 use Rattle.ss_preamble.specs.declared.item.Heading.{Heading}
 use Rattle.ss_preamble.specs.declared.item.ItemAt.{ItemAt as CodeItemAt}
 use Rattle.ss_preamble.specs.View.{item_at_view, item_view, items_view}
-use Rattle.ss_routines.specs.declared.section.LocalNames.{LocalNames as CodeLocalNames}
-use Rattle.ss_routines.specs.declared.section.Section.{Section as CodeSection}
-use Rattle.ss_routines.specs.declared.place.Spot.{Spot as CodeSpot}
+use Rattle.ss_routines.specs.declared.tree.section.LocalNames.{LocalNames as CodeLocalNames}
+use Rattle.ss_routines.specs.declared.tree.section.Section.{Section as CodeSection}
+use Rattle.ss_routines.specs.declared.tree.place.Spot.{Spot as CodeSpot}
 use Rattle.ss_routines.specs.Places.{Spot}
 use Rattle.ss_routines.specs.View.{local_view, place_view, section_view, spot_view, spots}
 use Rattle.ss_check.specs.declared.fault.CheckRule.{CheckRule}

@@ -3,7 +3,7 @@ use Rattle.std.specs.Prelude.{ℕ, Bool, true, false, List, [], ◌∷◌, ◌++
 use Rattle.std.specs.List.{flat_map, list_any}
 use Rattle.ss_words.specs.Lists.{Name, Several, all_of}
 use Rattle.ss_preamble.specs.declared.item.Heading.{Heading}
-use Rattle.ss_preamble.specs.Tree.{Key, Clause, Has, Owns, BelongsTo, SetKind, Definition, Variables, Sets, EventRule, PriorityOrder, BreakTies, ExternalEvents, Item, Headed, OfEvery, OfSystem, Defines, Orders, ItemAt}
+use Rattle.ss_preamble.specs.Tree.{Key, Clause, Has, Owns, BelongsTo, SetDiscipline, Definition, Variables, Sets, EventRule, PriorityOrder, BreakTies, ExternalEvents, Item, Headed, OfEvery, OfSystem, Defines, Orders, ItemAt}
 use Rattle.ss_routines.specs.Tree.{Head, MainHead, RoutineHead, EventHead, listed}
 use Rattle.ss_routines.specs.Places.{Section}
 use Rattle.ss_check.specs.declared.declared.name_kind.NameKind.{NameKind}
@@ -124,7 +124,7 @@ abbrev pub members_in : Item → List (Fact Name)
 members_in i = members_for (class_of i) (joined i)
 
 -- the disciplines that an item gives
-abbrev pub disciplines_in : Item → List (Fact SetKind)
+abbrev pub disciplines_in : Item → List (Fact SetDiscipline)
 disciplines_in (Defines (Sets names kind)) = map (λ s. fact s kind) (all_of names)
 disciplines_in _ = []
 

@@ -3,7 +3,7 @@ use Rattle.std.specs.Prelude.{◌≡◌, ℕ, false, List, [], ◌∷◌, ◌++�
 use Rattle.ss_words.specs.Lists.{Name}
 use Rattle.ss_preamble.specs.declared.item.Heading.TheVariants.{PermanentEntities}
 use Rattle.ss_preamble.specs.Tree.{Has, Owns, BelongsTo, Ranked, Sets, BreakTies, ExternalEvents, PriorityOrder, Item, Headed, OfEvery, Defines, Orders}
-use Rattle.ss_routines.specs.declared.simple.Article.TheVariants.{A}
+use Rattle.ss_routines.specs.declared.tree.simple.Article.TheVariants.{A}
 use Rattle.ss_routines.specs.Expr.{Expr, named}
 use Rattle.ss_routines.specs.Simple.{Unwritten, BehindGiven, Call, CalledFirst, Now, Schedule, Transfers, Times}
 use Rattle.ss_routines.specs.Tree.{Head, MainHead, RoutineHead, EventHead}

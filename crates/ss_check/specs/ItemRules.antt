@@ -3,7 +3,7 @@ use Rattle.std.specs.Prelude.{Bool, true, false, not, ◌||◌, ◌&&◌, nat_lt
 use Rattle.std.specs.List.{list_any, filter}
 use Rattle.ss_words.specs.Lists.{Name, all_of}
 use Rattle.ss_preamble.specs.declared.item.Heading.{Heading}
-use Rattle.ss_preamble.specs.Tree.{Key, SetKind, Ranked, EventRule, BreakTies, ExternalEvents, Item, OfEvery, Orders}
+use Rattle.ss_preamble.specs.Tree.{Key, SetDiscipline, Ranked, EventRule, BreakTies, ExternalEvents, Item, OfEvery, Orders}
 use Rattle.ss_routines.specs.Tree.{Head}
 use Rattle.ss_routines.specs.Places.{LocalNames, Section}
 use Rattle.ss_check.specs.declared.fault.CheckRule.{CheckRule}
@@ -69,7 +69,7 @@ module _ (d b : Tables) where
   has_wrong_key (Some c) keys = list_any (is_wrong_key c) keys
 
   -- whether a key of a discipline is no attribute of the member class
-  abbrev pub has_wrong_rank : Option Name → SetKind → Bool
+  abbrev pub has_wrong_rank : Option Name → SetDiscipline → Bool
   has_wrong_rank c (Ranked keys) = has_wrong_key c (all_of keys)
   has_wrong_rank c _ = false
 

@@ -5,7 +5,7 @@ use Rattle.ss_words.specs.Lists.{Name, all_of}
 use Rattle.ss_preamble.specs.declared.item.Heading.{Heading}
 use Rattle.ss_preamble.specs.declared.item.Heading.TheVariants.{PermanentEntities, TemporaryEntities, EventNotices}
 use Rattle.ss_words.specs.declared.terms.Rank.TheVariants as ranks
-use Rattle.ss_preamble.specs.Tree.{Key as WrittenKey, SetKind, Fifo, Lifo, Ranked, Variables, Item, Headed, OfEvery, OfSystem, Defines, Decls}
+use Rattle.ss_preamble.specs.Tree.{Key as WrittenKey, SetDiscipline, Fifo, Lifo, Ranked, Variables, Item, Headed, OfEvery, OfSystem, Defines, Decls}
 use Rattle.ss_preamble.specs.Limits.{clause_has, class_names}
 use Rattle.ss_routines.specs.Places.{Section}
 use Rattle.ss_program.specs.declared.keys.Key.{Key}
@@ -36,7 +36,7 @@ abbrev pub named_key : List Name → Key → WrittenKey
 named_key attributes k = record { rank = k.rank; name = name_at attributes k.attribute }
 
 -- a discipline, by the names of the attributes of the members
-abbrev pub named_discipline : List Name → Discipline → SetKind
+abbrev pub named_discipline : List Name → Discipline → SetDiscipline
 named_discipline attributes discipline.Fifo = Fifo
 named_discipline attributes discipline.Lifo = Lifo
 named_discipline attributes (discipline.Ranked keys) =
@@ -100,7 +100,7 @@ pub record Written : Type 0 where
   -- of a set the class of its members
   pub members : List (Fact Name)
   -- of a set the discipline of its DEFINE
-  pub disciplines : List (Fact SetKind)
+  pub disciplines : List (Fact SetDiscipline)
 
 -- the same of items under their headings
 abbrev pub written : List Entry → Written

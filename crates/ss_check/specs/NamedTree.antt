@@ -2,8 +2,8 @@
 use Rattle.std.specs.Prelude.{◌≡◌, ℕ, Bool, true, false, List, [], ◌∷◌, ◌++◌, map, take, drop, codes, slice_get, Option, Some, None, option_map, unwrap_or}
 use Rattle.ss_words.specs.Lists.{Name, Several}
 use Rattle.ss_preamble.specs.Tree.{Decls}
-use Rattle.ss_routines.specs.declared.simple.Article.{Article}
-use Rattle.ss_routines.specs.declared.simple.Article.TheVariants.{A, The}
+use Rattle.ss_routines.specs.declared.tree.simple.Article.{Article}
+use Rattle.ss_routines.specs.declared.tree.simple.Article.TheVariants.{A, The}
 use Rattle.ss_words.specs.declared.terms.Statistic.TheVariants as statistics
 use Rattle.ss_routines.specs.Expr as e
 use Rattle.ss_routines.specs.Condition as c

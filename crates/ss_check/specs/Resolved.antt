@@ -3,9 +3,9 @@ use Rattle.std.specs.Prelude.{Bool, false, List, [], length, map, codes, Option,
 use Rattle.std.specs.List.{flat_map}
 use Rattle.ss_words.specs.Lists.{Name, all_of}
 use Rattle.ss_preamble.specs.declared.item.Heading.TheVariants.{PermanentEntities, EventNotices}
-use Rattle.ss_preamble.specs.Tree.{Key as WrittenKey, SetKind, Fifo, Lifo, Ranked, ItemAt, Decls}
-use Rattle.ss_routines.specs.declared.simple.Article.{Article}
-use Rattle.ss_routines.specs.declared.simple.Article.TheVariants.{A, The}
+use Rattle.ss_preamble.specs.Tree.{Key as WrittenKey, SetDiscipline, Fifo, Lifo, Ranked, ItemAt, Decls}
+use Rattle.ss_routines.specs.declared.tree.simple.Article.{Article}
+use Rattle.ss_routines.specs.declared.tree.simple.Article.TheVariants.{A, The}
 use Rattle.ss_routines.specs.Expr as e
 use Rattle.ss_routines.specs.Condition as c
 use Rattle.ss_routines.specs.Simple as s
@@ -334,7 +334,7 @@ module _ (d : Tables) (v : Names) (locals : List Name) where
 -- what items say of orders
 pub record Rankings : Type 0 where
   -- the disciplines of sets
-  pub disciplines : List (Fact SetKind)
+  pub disciplines : List (Fact SetDiscipline)
   -- the keys of the ties that they break
   pub ties : List (Fact (List WrittenKey))
 
@@ -350,7 +350,7 @@ abbrev pub resolved_key : List Name → WrittenKey → Key
 resolved_key attributes key = record { rank = key.rank; attribute = number key.name attributes }
 
 -- the discipline of a set whose members have these attributes; FIFO where none is given
-abbrev pub resolved_discipline : List Name → Option SetKind → Discipline
+abbrev pub resolved_discipline : List Name → Option SetDiscipline → Discipline
 resolved_discipline attributes None = disciplines.Fifo
 resolved_discipline attributes (Some Fifo) = disciplines.Fifo
 resolved_discipline attributes (Some Lifo) = disciplines.Lifo

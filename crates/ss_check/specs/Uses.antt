@@ -2,8 +2,8 @@
 use Rattle.std.specs.Prelude.{ℕ, ◌+◌, Bool, List, [], ◌∷◌, ◌++◌, length, Option, Some, None, is_some}
 use Rattle.std.specs.List.{flat_map}
 use Rattle.ss_words.specs.Lists.{Name, all_of}
-use Rattle.ss_routines.specs.declared.simple.Article.{Article}
-use Rattle.ss_routines.specs.declared.simple.Article.TheVariants as a
+use Rattle.ss_routines.specs.declared.tree.simple.Article.{Article}
+use Rattle.ss_routines.specs.declared.tree.simple.Article.TheVariants as a
 use Rattle.ss_routines.specs.Expr.{Expr, expr, Sums, no_sums, sum, Term, term, Products, no_products, product, Factor, digits, named, applied, within, Exprs, no_exprs, exprs}
 use Rattle.ss_routines.specs.Condition.{Reference, Condition, condition, Alternatives, no_alternatives, alternative, Conjunction, conjunction, Additions, no_additions, addition, Relation, compared, is_empty, is_in, nested}
 use Rattle.ss_routines.specs.Simple.{Assign, Let, Add, Subtract, Making, Create, CreateEvery, Destroy, FilePlace, Before, After, Filing, File, FileAt, RemoveEnd, Remove, Transfer, Call, Details, ValuesFirst, CalledFirst, When, At, In, Timing, Schedule, Cancel, StartSimulation, Exchange, Read, Print, Skip, Simple, Assigns, Makes, Files, Transfers, Times, Exchanges}

@@ -6,8 +6,8 @@ use Rattle.std.specs.Str.{str_eq_ignore_ascii_case}
 use Rattle.ss_words.specs.declared.limits.TheConstants.{LONGEST_RUN}
 use Rattle.ss_words.specs.TextBytes.{in_run}
 use Rattle.ss_words.specs.TextRuns.{has_letter, without_stops}
-use Rattle.ss_data.specs.declared.entry.Kind.{Kind}
-use Rattle.ss_data.specs.declared.entry.Kind.TheVariants.{End, Number, Mark, Other}
+use Rattle.ss_data.specs.declared.entry.PieceKind.{PieceKind}
+use Rattle.ss_data.specs.declared.entry.PieceKind.TheVariants.{End, Number, Mark, Other}
 use Rattle.ss_data.specs.Items.{Item, DataRead}
 
 -- the mark that ends an entry
@@ -15,16 +15,16 @@ abbrev pub is_mark : List ℕ → Bool
 is_mark piece = bytes_eq piece (codes "*")
 
 -- what an item is
-abbrev pub kind_of_item : Item → Kind
+abbrev pub kind_of_item : Item → PieceKind
 kind_of_item i = if is_some i.value then Number else (if is_mark i.bytes then Mark else Other)
 
 -- what an item is, or the end
-abbrev pub kind_or_end : Option Item → Kind
+abbrev pub kind_or_end : Option Item → PieceKind
 kind_or_end None = End
 kind_or_end (Some i) = kind_of_item i
 
 -- what the first item is that is not taken
-abbrev pub next_kind : DataRead → Kind
+abbrev pub next_kind : DataRead → PieceKind
 next_kind d = kind_or_end (slice_get d.items d.taken)
 
 -- letters, digits and stops, with a letter, and not too long

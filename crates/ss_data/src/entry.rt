@@ -12,7 +12,7 @@ use ss_words::without_stops;
 
 /// What the next piece of the data is (docs/LANGUAGE.md, "READ and the data").
 #[derive(Clone, Copy, Debug, PartialEq, Eq)]
-pub enum Kind {
+pub enum PieceKind {
     /// No piece is left.
     End,
     /// A number from -2^63 to 2^63 - 1.
@@ -24,15 +24,15 @@ pub enum Kind {
 }
 
 /// What a piece is.
-pub(crate) fn kind_of(piece: &[u8]) -> Kind
+pub(crate) fn kind_of(piece: &[u8]) -> PieceKind
     ensures { result ≡ kind_of_item (item piece.now) }
 {
     if parse_number(piece).is_some() {
-        Kind::Number
+        PieceKind::Number
     } else if is_mark(piece) {
-        Kind::Mark
+        PieceKind::Mark
     } else {
-        Kind::Other
+        PieceKind::Other
     }
 }
 

@@ -1,4 +1,4 @@
-use crate::entry::{Kind, is_mark, kind_of, writes_name};
+use crate::entry::{PieceKind, is_mark, kind_of, writes_name};
 use crate::number::parse_number;
 use crate::pieces::Pieces;
 use ss_words::RunFault;
@@ -69,12 +69,12 @@ impl Feed {
     }
 
     /// What the next piece is.
-    pub fn kind(&self) -> Kind
+    pub fn kind(&self) -> PieceKind
         ensures kind { result ≡ next_kind self.now }
-        ensures left { result ≢ Kind.End → self.now.taken < length self.now.items }
+        ensures left { result ≢ PieceKind.End → self.now.taken < length self.now.items }
     {
         match self.pieces.get(self.taken) {
-            None => Kind::End,
+            None => PieceKind::End,
             Some(piece) => kind_of(piece),
         }
     }

@@ -3,7 +3,7 @@
 #![tactic(auto, unfolding(ss_words::specs::TextBytes::in_run, ss_words::specs::TextRuns::without_stops))]
 
 ghost use Rattle.std.specs.Prelude.{◌≡◌, true, false, codes, replicate, Some, None};
-ghost use Rattle.ss_data.specs.declared.entry.Kind.TheVariants.{End, Number, Mark, Other};
+ghost use Rattle.ss_data.specs.declared.entry.PieceKind.TheVariants.{End, Number, Mark, Other};
 ghost use Rattle.ss_data.specs.Items.{data_at_start, with_taken};
 ghost use Rattle.ss_data.specs.Entries.{next_kind, writes_name, place_behind_mark};
 

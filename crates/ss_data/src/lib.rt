@@ -7,5 +7,5 @@ mod laws;
 mod number;
 mod pieces;
 
-pub use entry::Kind;
+pub use entry::PieceKind;
 pub use feed::Feed;

@@ -11,7 +11,7 @@ use Rattle.ss_events.specs.State.{AreRanked}
 use Rattle.ss_events.specs.State.{AgendaState, seats_of, order, no_notices}
 use Rattle.ss_events.specs.Places.{notice_on}
 use Rattle.ss_events.specs.Rows.{IsAgenda, notices_from}
-use Rattle.ss_events.specs.declared.entry.Row.{Row}
+use Rattle.ss_events.specs.declared.pending_notice.Row.{Row}
 use Rattle.ss_events.proofs.OrderLaws.{Each-of_class}
 use Rattle.ss_events.proofs.EventLaws.{list_at-head}
 use Rattle.ss_events.proofs.StateLaws.{AreSeated, seat_in-notice}

@@ -2,8 +2,8 @@
 use Rattle.std.proofs.Common.{◌≡◌, ℕ, Bool, true, List, [], ◌∷◌, Option, Some, None, refl, sym, ap, ◌∙◌}
 use Rattle.ss_links.specs.Board.{Board, list_at}
 use Rattle.ss_links.specs.Seats.{first_of}
-use Rattle.ss_events.specs.declared.entry.Entry.{Entry}
-use Rattle.ss_events.specs.declared.entry.Row.{Row}
+use Rattle.ss_events.specs.declared.pending_notice.PendingNotice.{PendingNotice}
+use Rattle.ss_events.specs.declared.pending_notice.Row.{Row}
 use Rattle.ss_events.specs.Agenda.{Pending, pending_at, of_class}
 use Rattle.ss_events.specs.Weights.{before}
 use Rattle.ss_events.specs.State.{AgendaState, seats_of, order}
@@ -50,7 +50,7 @@ pub first-of_none : (s : AgendaState) (c : ℕ) (e : Pending) → StandsFirst s 
     passed (before s.rules) e (of_class c (order s)) ≡ []
 first-of_none s c e f = no-first (before s.rules) e (of_class c (order s)) f.pending
 
-pub first-of_some : (s : AgendaState) (c : ℕ) (e : Pending) (x : ℕ) (y : Entry) → StandsFirst s c (Some x) →
+pub first-of_some : (s : AgendaState) (c : ℕ) (e : Pending) (x : ℕ) (y : PendingNotice) → StandsFirst s c (Some x) →
     pending_at s.agenda.pending (notice_on s x) ≡ Some (notice_of (notice_on s x) y) →
     before s.rules e (notice_of 0 y) ≡ true → passed (before s.rules) e (of_class c (order s)) ≡ []
 first-of_some s c e x y f h b =

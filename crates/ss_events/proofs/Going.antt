@@ -9,8 +9,8 @@ use Rattle.ss_events.specs.Agenda.{in_range, filing_limit, may_schedule}
 use Rattle.ss_links.specs.Board.{Board}
 use Rattle.ss_links.specs.Seats.{has}
 use Rattle.ss_links.proofs.SeatLaws.{has-append}
-use Rattle.ss_events.specs.declared.entry.Entry.{Entry}
-use Rattle.ss_events.specs.declared.entry.Row.{Row}
+use Rattle.ss_events.specs.declared.pending_notice.PendingNotice.{PendingNotice}
+use Rattle.ss_events.specs.declared.pending_notice.Row.{Row}
 use Rattle.ss_events.specs.declared.agenda.AgendaChange.TheVariants.{Scheduled, TakenOff}
 use Rattle.ss_events.specs.Agenda.{Pending, without_notice}
 use Rattle.ss_events.specs.Rules.{Rule, rule_at, is_event_class}
@@ -54,7 +54,7 @@ NoneFiled-without n e (f ∷ fs) a h p = elim (eqb f.notice n)
     ] refl p
 
 -- a pending notice is taken off
-pub went-taken : (rows : List Row) (s new : AgendaState) (b : Board) (n : ℕ) (x : Entry) (p : Option ℕ) →
+pub went-taken : (rows : List Row) (s new : AgendaState) (b : Board) (n : ℕ) (x : PendingNotice) (p : Option ℕ) →
     IsAgenda rows s b →
     0 < n → pending_at s.agenda.pending n ≡ Some (notice_of n x) →
     new ≡ with_pending s (without_notice n s.agenda.pending) → p ≡ predecessor_of new (notice_of n x) →
@@ -99,7 +99,7 @@ has-seated ns n = elim (has ns n) as (λ t. has ns n ≡ t → has (cond t ns (n
 ] refl
 
 -- what is scheduled may become pending
-pub can-pend : (rows : List Row) (s : AgendaState) (b : Board) (n : ℕ) (x : Entry) → IsAgenda rows s b →
+pub can-pend : (rows : List Row) (s : AgendaState) (b : Board) (n : ℕ) (x : PendingNotice) → IsAgenda rows s b →
     NoneNoted n s.agenda.pending → is_event_class s.rules x.class ≡ true →
     in_range x.time ≡ true → length x.keys.items ≡ length (rule_at s.rules x.class).ties →
     x.filing ≡ s.agenda.next_filing → CanPend (with_filing (with_notices s (seated s.notices n)) (s.agenda.next_filing
@@ -189,7 +189,7 @@ is_some-map f None t h = h
 is_some-map f (Some a) t h = h
 
 -- the steps of a scheduling
-pub record IsStepped (s s1 s2 : AgendaState) (n : ℕ) (x : Entry) : Type 0 where
+pub record IsStepped (s s1 s2 : AgendaState) (n : ℕ) (x : PendingNotice) : Type 0 where
   pub first : s1 ≡ with_notices s (seated s.notices n)
   pub second : s2 ≡ with_filing s1 (s1.agenda.next_filing + 1)
   pub filing : x.filing ≡ s1.agenda.next_filing
@@ -198,15 +198,15 @@ pub record IsStepped (s s1 s2 : AgendaState) (n : ℕ) (x : Entry) : Type 0 wher
   pub time : in_range x.time ≡ true
   pub keys : length x.keys.items ≡ length (rule_at s.rules x.class).ties
 
-pub stepped-filing : (s s1 s2 : AgendaState) (n : ℕ) (x : Entry) → IsStepped s s1 s2 n x →
+pub stepped-filing : (s s1 s2 : AgendaState) (n : ℕ) (x : PendingNotice) → IsStepped s s1 s2 n x →
     x.filing ≡ s.agenda.next_filing
 stepped-filing s s1 s2 n x p = p.filing ∙ ap (λ (t : AgendaState). t.agenda.next_filing) p.first
 
-pub stepped-state : (s s1 s2 : AgendaState) (n : ℕ) (x : Entry) → IsStepped s s1 s2 n x →
+pub stepped-state : (s s1 s2 : AgendaState) (n : ℕ) (x : PendingNotice) → IsStepped s s1 s2 n x →
     s2 ≡ with_filing (with_notices s (seated s.notices n)) (s.agenda.next_filing + 1)
 stepped-state s s1 s2 n x p = rw (p.second, p.first) refl
 
-pub stepped-can : (rows : List Row) (s s1 s2 : AgendaState) (b : Board) (n : ℕ) (x : Entry) → IsAgenda rows s b →
+pub stepped-can : (rows : List Row) (s s1 s2 : AgendaState) (b : Board) (n : ℕ) (x : PendingNotice) → IsAgenda rows s b →
     IsStepped s s1 s2 n x → CanPend s2 (notice_of n x)
 stepped-can rows s s1 s2 b n x k p = rw (stepped-state s s1 s2 n x p) (can-pend rows s b n x k (none-noted n
     s.agenda.pending p.idle) p.class p.time p.keys (stepped-filing s s1 s2 n x p))
@@ -219,7 +219,7 @@ record_with s n v = with_pending (with_filing (with_notices s (seated s.notices 
     (with_notice v s.agenda.pending)
 
 pub stepped-went : (rows : List Row) (s s1 s2 new : AgendaState) (b : Board) (n : ℕ) (time clock : ℤ) (keys : List ℤ)
-    (x : Entry) (made : Bool) → IsAgenda rows s b → IsStepped s s1 s2 n x → 0 < n → int_lt time clock ≡ false →
+    (x : PendingNotice) (made : Bool) → IsAgenda rows s b → IsStepped s s1 s2 n x → 0 < n → int_lt time clock ≡ false →
     s.agenda.next_filing ≤ filing_limit → x.time ≡ time → x.keys.items ≡ keys → made ≡ not (has s.notices n) →
     new ≡ with_pending s2 (with_notice (notice_of n x) s2.agenda.pending) →
     IsScheduled (Ok (Scheduled n made)) (may_schedule s.agenda n time clock) (after_scheduling s n time x.class keys)

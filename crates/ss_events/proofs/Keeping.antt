@@ -8,8 +8,8 @@ use Rattle.std.specs.Option.{IsSome, option_map}
 use Rattle.ss_links.specs.Board.{Board, head_of, IsSound, CanRelink, relinked, unlinked}
 use Rattle.ss_links.specs.Seats.{has, last_of}
 use Rattle.ss_links.specs.declared.board.Place.{Place}
-use Rattle.ss_events.specs.declared.entry.Entry.{Entry}
-use Rattle.ss_events.specs.declared.entry.Row.{Row}
+use Rattle.ss_events.specs.declared.pending_notice.PendingNotice.{PendingNotice}
+use Rattle.ss_events.specs.declared.pending_notice.Row.{Row}
 use Rattle.ss_events.specs.Agenda.{Pending, of_class, without_notice}
 use Rattle.ss_events.specs.Rules.{is_event_class, event_number}
 use Rattle.ss_events.specs.Weights.{before}
@@ -57,7 +57,7 @@ pending-seat rows s b n e k h =
     (rw p.1 at p.0.seat, p.0.class)
 
 -- an entry that is read off a row
-none-map : (n : ℕ) (o : Option Entry) → option_map (notice_of n) o ≡ None → o ≡ None
+none-map : (n : ℕ) (o : Option PendingNotice) → option_map (notice_of n) o ≡ None → o ≡ None
 none-map n None h = refl
 none-map n (Some x) h = absurd (cc)
 
@@ -80,7 +80,7 @@ row-seat_set rows j i r l h = elim (eqb i j)
     ] refl
 
 -- a notice is put in
-pub put_in-read : (rows : List Row) (s : AgendaState) (b : Board) (n : ℕ) (x : Entry) (r : Row) →
+pub put_in-read : (rows : List Row) (s : AgendaState) (b : Board) (n : ℕ) (x : PendingNotice) (r : Row) →
     IsAgenda rows s b → CanPend s (notice_of n x) → r.entry ≡ Some x →
     with_notice (notice_of n x) s.agenda.pending ≡ notices_from 1 (set rows (n - 1) r)
 put_in-read rows s b n x r k p h =
@@ -89,7 +89,7 @@ put_in-read rows s b n x r k p h =
     rw k.read (sym (rw same at (from-with 1 rows (n - 1) r x (has-row rows s b n k p.kept.seat) (row-none rows s b n
     k above p.notice) h)))
 
-pub put_in-kept : (rows : List Row) (s : AgendaState) (b c : Board) (n : ℕ) (x : Entry) (r : Row) →
+pub put_in-kept : (rows : List Row) (s : AgendaState) (b c : Board) (n : ℕ) (x : PendingNotice) (r : Row) →
     IsAgenda rows s b → CanPend s (notice_of n x) → r.entry ≡ Some x → r.seat ≡ (row_at rows (n - 1)).seat →
     c ≡ relinked b (seat_in s.notices n) (rank_place s (notice_of n x)) → IsSound c →
     IsAgenda (set rows (n - 1) r) (with_pending s (with_notice (notice_of n x) s.agenda.pending)) c
@@ -145,16 +145,16 @@ take_out-kept rows s b c n r k a h seat e sound = record {
 }
 
 -- where a notice belongs doesn't depend on its number
-pub passed-number : (s : AgendaState) (m n : ℕ) (x : Entry) (es : List Pending) →
+pub passed-number : (s : AgendaState) (m n : ℕ) (x : PendingNotice) (es : List Pending) →
     passed (before s.rules) (notice_of m x) es ≡ passed (before s.rules) (notice_of n x) es
 passed-number s m n x [] = refl
 passed-number s m n x (f ∷ fs) = ap (λ (l : List Pending). cond (before s.rules (notice_of n x) f) [] (f ∷ l))
     (passed-number s m n x fs)
 
-abbrev place_with : AgendaState → Entry → List Pending → Place
+abbrev place_with : AgendaState → PendingNotice → List Pending → Place
 place_with s x l = record { head = event_number s.rules x.class; before = last_of (seats_of s.notices l) }
 
-pub rank_place-number : (s : AgendaState) (m n : ℕ) (x : Entry) →
+pub rank_place-number : (s : AgendaState) (m n : ℕ) (x : PendingNotice) →
     rank_place s (notice_of m x) ≡ rank_place s (notice_of n x)
 rank_place-number s m n x = ap (place_with s x) (passed-number s m n x (of_class x.class (order s)))
 
@@ -181,7 +181,7 @@ pub seat-read : (rows : List Row) (s : AgendaState) (b : Board) (n x : ℕ) (q :
 seat-read rows s b n x q k h e f = some-same x (seat_in s.notices n) q.seat f (read-seat rows s b n q k h e)
 
 -- the seat and the place that are found are those of the notice
-pub put_in-relink : (rows : List Row) (s : AgendaState) (b : Board) (n : ℕ) (x : Entry) (q : Row) (seat : ℕ) (place :
+pub put_in-relink : (rows : List Row) (s : AgendaState) (b : Board) (n : ℕ) (x : PendingNotice) (q : Row) (seat : ℕ) (place :
     Place) → IsAgenda rows s b → CanPend s (notice_of n x) → q ≡ get_or rows (n - 1) q → q.seat ≡ Some seat →
     place ≡ rank_place s (notice_of 0 x) → CanRelink b seat place
 put_in-relink rows s b n x q seat place k p e f g = rw (
@@ -191,7 +191,7 @@ put_in-relink rows s b n x q seat place k p e f g = rw (
   rank_place-number s 0 n x,
 ) (CanRelink-rank s (notice_of n x) (told rows s b k) (new-notice s (notice_of n x) p))
 
-pub put_in-closed : (rows : List Row) (s : AgendaState) (b c : Board) (n : ℕ) (x : Entry) (q r : Row) (seat : ℕ)
+pub put_in-closed : (rows : List Row) (s : AgendaState) (b c : Board) (n : ℕ) (x : PendingNotice) (q r : Row) (seat : ℕ)
     (place : Place) → IsAgenda rows s b → CanPend s (notice_of n x) → q ≡ get_or rows (n - 1) q →
     q.seat ≡ Some seat → place ≡ rank_place s (notice_of 0 x) → c ≡ relinked b seat place → IsSound c →
     r ≡ get_or rows (n - 1) r → IsAgenda (set rows (n - 1) (record {
@@ -254,7 +254,7 @@ taken-entry rows s b n r k a h i = ap (λ (es : List Pending). pending_at es n) 
     ap (λ (q : Row). option_map (notice_of n) q.entry) (row-is rows (n - 1) r (pending-row rows s b n k h).row i))
 
 pub take_out-closed : (rows : List Row) (s : AgendaState) (b c : Board) (n : ℕ) (q r : Row) (seat : ℕ) (o : Option
-    Entry) → IsAgenda rows s b → IsSome (pending_at s.agenda.pending n) → q ≡ get_or rows (n - 1) q →
+    PendingNotice) → IsAgenda rows s b → IsSome (pending_at s.agenda.pending n) → q ≡ get_or rows (n - 1) q →
     q.seat ≡ Some seat → c ≡ unlinked b seat → IsSound c → r ≡ get_or rows (n - 1) r → o ≡ None →
     IsAgenda (set rows (n - 1) (record {
       seat = r.seat;

@@ -8,8 +8,8 @@ use Rattle.std.proofs.lemmas.Bool.Decides.{nat_tests}
 use Rattle.ss_links.specs.Board.{Board, list_of}
 use Rattle.ss_links.specs.Seats.{times_in, first_of, seat_behind}
 use Rattle.ss_links.proofs.SeatLaws.{times_in-present}
-use Rattle.ss_events.specs.declared.entry.Entry.{Entry}
-use Rattle.ss_events.specs.declared.entry.Row.{Row}
+use Rattle.ss_events.specs.declared.pending_notice.PendingNotice.{PendingNotice}
+use Rattle.ss_events.specs.declared.pending_notice.Row.{Row}
 use Rattle.ss_events.specs.declared.listing.Listing.{Listing}
 use Rattle.ss_events.specs.Agenda.{Pending, pending_at, least, of_class}
 use Rattle.ss_events.specs.Weights.{before}
@@ -192,7 +192,7 @@ few-listed rows s b i e k h =
     omega (arith, below-at (order s) i e h, long, rows_long, k.few)
 
 -- a listing goes on behind the notice that it lists
-pub listing-on : (rows : List Row) (s : AgendaState) (b : Board) (l : Listing) (x : ℕ) (y : Entry) (at : Option ℕ)
+pub listing-on : (rows : List Row) (s : AgendaState) (b : Board) (l : Listing) (x : ℕ) (y : PendingNotice) (at : Option ℕ)
     (seats : List (Option ℕ)) (n : ℕ) → IsAgenda rows s b → IsListing s l → x < length s.notices →
     pending_at s.agenda.pending (notice_on s x) ≡ Some (notice_of (notice_on s x) y) →
     slice_get (order s) l.listed ≡ Some (notice_of (notice_on s x) y) → at ≡ seat_behind (list_of b.lists x) x →

@@ -5,8 +5,8 @@ use Rattle.std.proofs.lemmas.Bool.Decides.{nat_tests}
 use Rattle.std.specs.Option.{option_map, ForSome}
 use Rattle.ss_links.specs.Board.{Board, list_of}
 use Rattle.ss_links.specs.Seats.{has, last_of, seat_before}
-use Rattle.ss_events.specs.declared.entry.Entry.{Entry}
-use Rattle.ss_events.specs.declared.entry.Row.{Row}
+use Rattle.ss_events.specs.declared.pending_notice.PendingNotice.{PendingNotice}
+use Rattle.ss_events.specs.declared.pending_notice.Row.{Row}
 use Rattle.ss_events.specs.Agenda.{Pending, pending_at, of_class, without_notice}
 use Rattle.ss_events.specs.Weights.{before}
 use Rattle.ss_events.specs.State.{AgendaState, Each, seat_in, seats_of, order, board_of}
@@ -108,12 +108,12 @@ last-is s es a = rw (last-seat s.notices es) (go (last es) refl)
         }
 
 -- the seat before that of a notice that is taken out is its predecessor's
-pub record IsPredecessor (s : AgendaState) (n : ℕ) (x : Entry) (at : Option ℕ) : Type 0 where
+pub record IsPredecessor (s : AgendaState) (n : ℕ) (x : PendingNotice) (at : Option ℕ) : Type 0 where
   pub made : ForSome at (λ y. y < length s.notices)
   pub notice : option_map (notice_on s) at ≡ predecessor_of (with_pending s (without_notice n s.agenda.pending))
       (notice_of n x)
 
-pub predecessor-taken : (rows : List Row) (s : AgendaState) (b : Board) (n : ℕ) (x : Entry) (seat : ℕ) (at : Option
+pub predecessor-taken : (rows : List Row) (s : AgendaState) (b : Board) (n : ℕ) (x : PendingNotice) (seat : ℕ) (at : Option
     ℕ) → IsAgenda rows s b → pending_at s.agenda.pending n ≡ Some (notice_of n x) → seat ≡ seat_in s.notices n →
     at ≡ seat_before (list_of b.lists seat) seat → IsPredecessor s n x at
 predecessor-taken rows s b n x seat at k h i p =
@@ -145,19 +145,19 @@ predecessor-taken rows s b n x seat at k h i p =
     front-each P [] b h = tt
     front-each P (f ∷ fs) b h = (h.0, front-each P fs b h.1)
 
-pub predecessor-read : (s : AgendaState) (n : ℕ) (x : Entry) (at : Option ℕ) (es : List Pending) →
+pub predecessor-read : (s : AgendaState) (n : ℕ) (x : PendingNotice) (at : Option ℕ) (es : List Pending) →
     IsPredecessor s n x at → without_notice n s.agenda.pending ≡ es →
     option_map (notice_on s) at ≡ predecessor_of (with_pending s es) (notice_of n x)
 predecessor-read s n x at es p h =
     p.notice ∙ ap (λ (l : List Pending). predecessor_of (with_pending s l) (notice_of n x)) h
 
 -- the row of a predecessor
-pub record IsBehind (rows : List Row) (s : AgendaState) (x : Entry) (n : ℕ) : Type 0 where
+pub record IsBehind (rows : List Row) (s : AgendaState) (x : PendingNotice) (n : ℕ) : Type 0 where
   pub above : 0 < n
   pub row : n - 1 < length rows
   pub seat : (row_at rows (n - 1)).seat ≡ (rank_place s (notice_of 0 x)).before
 
-pub predecessor-row : (rows : List Row) (s : AgendaState) (b : Board) (x : Entry) (n : ℕ) → IsAgenda rows s b →
+pub predecessor-row : (rows : List Row) (s : AgendaState) (b : Board) (x : PendingNotice) (n : ℕ) → IsAgenda rows s b →
     Some n ≡ predecessor_of s (notice_of 0 x) → IsBehind rows s x n
 predecessor-row rows s b x n k h = go (last es) refl h
   where
@@ -182,7 +182,7 @@ predecessor-row rows s b x n k h = go (last es) refl h
         })
 
 -- in front of all there is no seat
-pub predecessor-none : (s : AgendaState) (x : Entry) → None ≡ predecessor_of s (notice_of 0 x) →
+pub predecessor-none : (s : AgendaState) (x : PendingNotice) → None ≡ predecessor_of s (notice_of 0 x) →
     (rank_place s (notice_of 0 x)).before ≡ None
 predecessor-none s x h = go (last es) refl h
   where
@@ -195,7 +195,7 @@ predecessor-none s x h = go (last es) refl h
     go (Some f) e i = absurd (cc)
 
 -- it doesn't depend on the number of the notice
-pub predecessor-number : (s : AgendaState) (m n : ℕ) (x : Entry) →
+pub predecessor-number : (s : AgendaState) (m n : ℕ) (x : PendingNotice) →
     predecessor_of s (notice_of m x) ≡ predecessor_of s (notice_of n x)
 predecessor-number s m n x = ap (λ (l : List Pending). option_map (λ f. f.notice) (last l)) (passed-number s m n x
     (of_class x.class (order s)))

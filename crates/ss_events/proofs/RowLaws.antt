@@ -4,8 +4,8 @@ use Rattle.std.proofs.Common.{Option, Some, None, refl, sym, ap, arith, suc, zer
 use Rattle.std.proofs.Math.ListN.{set}
 use Rattle.std.proofs.lemmas.Bool.Decides.{nat_tests}
 use Rattle.std.specs.Option.{option_map}
-use Rattle.ss_events.specs.declared.entry.Entry.{Entry}
-use Rattle.ss_events.specs.declared.entry.Row.{Row}
+use Rattle.ss_events.specs.declared.pending_notice.PendingNotice.{PendingNotice}
+use Rattle.ss_events.specs.declared.pending_notice.Row.{Row}
 use Rattle.ss_events.specs.Agenda.{Pending, without_notice}
 use Rattle.ss_events.specs.Agenda.{pending_at, with_notice}
 use Rattle.ss_events.specs.State.{Each, NoneNoted}
@@ -103,7 +103,7 @@ with-first e [] n = refl
 with-first e (f ∷ fs) n = let first : ltb e.notice f.notice ≡ true = grind (arith, nat_tests, n.0) in rw first refl
 
 -- a row's entry is put in
-pub from-with : (b : ℕ) (rs : List Row) (i : ℕ) (r : Row) (x : Entry) → i < length rs → (row_at rs i).entry ≡ None →
+pub from-with : (b : ℕ) (rs : List Row) (i : ℕ) (r : Row) (x : PendingNotice) → i < length rs → (row_at rs i).entry ≡ None →
     r.entry ≡ Some x → notices_from b (set rs i r) ≡ with_notice (notice_of (b + i) x) (notices_from b rs)
 from-with b [] i r x l h k = absurd (omega arith)
 from-with b (q ∷ qs) zero r x l h k =
@@ -194,6 +194,6 @@ pub pending_row : (rs : List Row) (n : ℕ) → 0 < n →
     pending_at (notices_from 1 rs) n ≡ option_map (notice_of n) (row_at rs (n - 1)).entry
 pending_row rs n h = let same : 1 + (n - 1) ≡ n = omega arith in rw same at (pending_at-from 1 rs (n - 1))
 
-pub pending_of_row : (rs qs : List Row) (n : ℕ) (o : Option Entry) (es : List Pending) → 0 < n →
+pub pending_of_row : (rs qs : List Row) (n : ℕ) (o : Option PendingNotice) (es : List Pending) → 0 < n →
     notices_from 1 rs ≡ es → qs ≡ rs → o ≡ (row_at qs (n - 1)).entry → pending_at es n ≡ option_map (notice_of n) o
 pending_of_row rs qs n o es h e f g = let row = pending_row rs n h in rw (← e, g, f) row

@@ -10,7 +10,7 @@ use Rattle.std.specs.Result.{OnErr}
 use Rattle.ss_links.specs.Board.{Board, head_of, IsSound, with_seat, without_last_seat}
 use Rattle.ss_links.specs.Seats.{has, times_in}
 use Rattle.ss_links.proofs.SeatLaws.{has-append, times_in-append, times_in-absent, times_in-present, length-le_count}
-use Rattle.ss_events.specs.declared.entry.Row.{Row}
+use Rattle.ss_events.specs.declared.pending_notice.Row.{Row}
 use Rattle.ss_events.specs.Agenda.{Pending}
 use Rattle.ss_events.specs.Rules.{Rule}
 use Rattle.ss_events.specs.State.{AgendaState, seat_in, seat_at, board_of, Each, NoneNoted, IsPending}

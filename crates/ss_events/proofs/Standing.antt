@@ -12,10 +12,10 @@ use Rattle.ss_events.specs.Agenda.{Pending, of_class}
 use Rattle.ss_events.specs.Agenda.{pending_at}
 use Rattle.ss_events.specs.State.{AgendaState, seat_in, seats_of, order, board_of, Each, NoneNoted, IsPending}
 use Rattle.ss_events.specs.Places.{notice_on, IsTaken}
-use Rattle.ss_events.specs.declared.entry.Row.{Row}
+use Rattle.ss_events.specs.declared.pending_notice.Row.{Row}
 use Rattle.ss_events.specs.Rules.{is_event_class, event_classes, event_number}
 use Rattle.ss_events.proofs.EventLaws.{list_at-by, length-lists_by}
-use Rattle.ss_events.specs.declared.entry.Entry.{Entry}
+use Rattle.ss_events.specs.declared.pending_notice.PendingNotice.{PendingNotice}
 use Rattle.ss_events.specs.Rows.{IsAgenda, IsEntry, notice_of}
 use Rattle.ss_events.proofs.RowLaws.{AreNoted-from, pending_at-each}
 use Rattle.ss_events.proofs.OrderLaws.{AreNoted, Each-of_class, Each-map}
@@ -144,7 +144,7 @@ pub notice_on-above : (rows : List Row) (s : AgendaState) (b : Board) (x : ℕ) 
 notice_on-above rows s b x k h = (k.seated (notice_on s x) (has-get_or s.notices x 0 h)).0
 
 -- the entry of a pending notice is one of its class
-pub entry-pending : (rows : List Row) (s : AgendaState) (b : Board) (n : ℕ) (y : Entry) → IsAgenda rows s b →
+pub entry-pending : (rows : List Row) (s : AgendaState) (b : Board) (n : ℕ) (y : PendingNotice) → IsAgenda rows s b →
     pending_at s.agenda.pending n ≡ Some (notice_of n y) → IsEntry s.rules y
 entry-pending rows s b n y k h = let p = (pending_at-each (IsPending s.rules s.notices s.agenda.next_filing)
     s.agenda.pending n (notice_of n y) k.pending h).0 in (p.class, p.keys)

@@ -6,7 +6,7 @@ use Rattle.std.proofs.lemmas.List.{length-map}
 use Rattle.ss_links.specs.Board.{list_at, list_of, IsSound}
 use Rattle.ss_links.specs.Seats.{has, last_of, seat_before}
 use Rattle.ss_links.proofs.BoardLaws.{once-list_at}
-use Rattle.ss_events.specs.declared.entry.Entry.{Entry}
+use Rattle.ss_events.specs.declared.pending_notice.PendingNotice.{PendingNotice}
 use Rattle.ss_events.specs.Agenda.{Pending, of_class}
 use Rattle.ss_events.specs.Weights.{before}
 use Rattle.ss_events.specs.Agenda.{pending_at}
@@ -111,7 +111,7 @@ walk-taken s e x w t sound k = let r = walk-stands s e x w t sound k in
     rw r.seat at (taken-stands s e.class r.others r.last w.rear r.stands)
 
 -- the notice on which a walk stands, as its entry says
-pub walk-entry : (s : AgendaState) (e : Pending) (x : ℕ) (y : Entry) (w : IsWalk s e (Some x)) (r : WalkStands s e x
+pub walk-entry : (s : AgendaState) (e : Pending) (x : ℕ) (y : PendingNotice) (w : IsWalk s e (Some x)) (r : WalkStands s e x
     w) → pending_at s.agenda.pending (notice_on s x) ≡ Some (notice_of (notice_on s x) y) →
     r.last ≡ notice_of r.last.notice y
 walk-entry s e x y w r h =
@@ -120,7 +120,7 @@ walk-entry s e x y w r h =
     cc
 
 -- the walk goes on in front of a notice behind which the other doesn't belong
-abbrev pub walk-on : (s : AgendaState) (e : Pending) (x : ℕ) (y : Entry) (at : Option ℕ) → IsWalk s e (Some x) →
+abbrev pub walk-on : (s : AgendaState) (e : Pending) (x : ℕ) (y : PendingNotice) (at : Option ℕ) → IsWalk s e (Some x) →
     IsTold s → IsSound (board_of s) → is_event_class s.rules e.class ≡ true →
     pending_at s.agenda.pending (notice_on s x) ≡ Some (notice_of (notice_on s x) y) →
     before s.rules e (notice_of 0 y) ≡ true → at ≡ seat_before (list_of (board_of s).lists x) x → IsWalk s e at
@@ -137,7 +137,7 @@ walk-on s e x y at w t sound k h b p =
     }
 
 -- the walk ends where the notice belongs
-pub walk-ends : (s : AgendaState) (e : Pending) (x : ℕ) (y : Entry) → IsWalk s e (Some x) → IsTold s →
+pub walk-ends : (s : AgendaState) (e : Pending) (x : ℕ) (y : PendingNotice) → IsWalk s e (Some x) → IsTold s →
     IsSound (board_of s) → is_event_class s.rules e.class ≡ true → pending_at s.agenda.pending (notice_on s x) ≡ Some
     (notice_of
     (notice_on s x) y) → before s.rules e (notice_of 0 y) ≡ false → (rank_place s e).before ≡ Some x
@@ -198,7 +198,7 @@ walk-left s e at w sound k = elim at
           length-append r.others (r.last ∷ []),
         ))
 
-pub walk-less : (s : AgendaState) (e : Pending) (x : ℕ) (y : Entry) (at : Option ℕ) → IsWalk s e (Some x) →
+pub walk-less : (s : AgendaState) (e : Pending) (x : ℕ) (y : PendingNotice) (at : Option ℕ) → IsWalk s e (Some x) →
     IsTold s → IsSound (board_of s) → is_event_class s.rules e.class ≡ true →
     pending_at s.agenda.pending (notice_on s x) ≡ Some (notice_of (notice_on s x) y) →
     before s.rules e (notice_of 0 y) ≡ true → at ≡ seat_before (list_of (board_of s).lists x) x →

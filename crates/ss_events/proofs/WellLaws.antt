@@ -1,7 +1,7 @@
 -- What is kept makes a well-formed agenda.
 use Rattle.std.proofs.Common.{ℕ, ◌+◌, ◌<◌, List, [], ◌∷◌, Some, None, arith}
 use Rattle.ss_links.specs.Board.{Board}
-use Rattle.ss_events.specs.declared.entry.Row.{Row}
+use Rattle.ss_events.specs.declared.pending_notice.Row.{Row}
 use Rattle.ss_events.specs.State.{AgendaState, IsPending}
 use Rattle.ss_events.specs.Rows.{and_others, notices_from, IsAgenda}
 use Rattle.ss_events.specs.WellAgenda.{IsRising, IsWellNotice, IsWellAgenda}

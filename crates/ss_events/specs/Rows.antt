@@ -3,9 +3,9 @@ use Rattle.std.specs.Prelude.{◌≡◌, ℕ, ◌+◌, ◌<◌, ◌≤◌, true,
 use Rattle.std.specs.Prelude.{slice_index_or, Option, Some, None}
 use Rattle.ss_links.specs.Board.{Board, IsSound}
 use Rattle.ss_links.specs.Seats.{has, times_in}
-use Rattle.ss_events.specs.declared.entry.ClassRule.{ClassRule}
-use Rattle.ss_events.specs.declared.entry.Entry.{Entry}
-use Rattle.ss_events.specs.declared.entry.Row.{Row}
+use Rattle.ss_events.specs.declared.pending_notice.ClassRule.{ClassRule}
+use Rattle.ss_events.specs.declared.pending_notice.PendingNotice.{PendingNotice}
+use Rattle.ss_events.specs.declared.pending_notice.Row.{Row}
 use Rattle.ss_events.specs.Rules.{Rule, rule_at, is_event_class}
 use Rattle.ss_events.specs.State.{AreRanked}
 use Rattle.ss_events.specs.Agenda.{Pending, filing_limit}
@@ -16,11 +16,11 @@ abbrev pub rule_of : ClassRule → Rule
 rule_of k = record { for_events = k.for_events; priority = k.priority; ties = k.ties.items }
 
 -- the pending notice of an entry
-abbrev pub notice_of : ℕ → Entry → Pending
+abbrev pub notice_of : ℕ → PendingNotice → Pending
 notice_of n x = record { notice = n; time = x.time; class = x.class; keys = x.keys.items; filing = x.filing }
 
 -- perhaps a notice, and others
-abbrev pub and_others : ℕ → Option Entry → List Pending → List Pending
+abbrev pub and_others : ℕ → Option PendingNotice → List Pending → List Pending
 and_others n None es = es
 and_others n (Some x) es = notice_of n x ∷ es
 
@@ -75,7 +75,7 @@ pub record IsAgenda (rows : List Row) (s : AgendaState) (b : Board) : Type 0 whe
   pub classes : length s.rules ≤ 64
 
 -- an entry's class is an event class, and it has a key for each of the class's
-abbrev pub IsEntry : List Rule → Entry → Type 0
+abbrev pub IsEntry : List Rule → PendingNotice → Type 0
 IsEntry rules x = (is_event_class rules x.class ≡ true) × (length x.keys.items ≡ length (rule_at rules x.class).ties)
 
 -- rows became more, the new ones empty, but not more than a count

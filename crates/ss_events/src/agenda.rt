@@ -37,8 +37,8 @@ ghost use Rattle.ss_events.specs.Rows.{notice_of, rule_of, IsEntry};
 ghost use Rattle.ss_events.specs.WellAgenda.{IsWellAgenda};
 ghost use Rattle.ss_events.specs.Slots.{slot_of};
 
-use crate::entry::{ClassRule, Entry, Row};
 use crate::listing::{CLASS_LIMIT, Listing};
+use crate::pending_notice::{ClassRule, PendingNotice, Row};
 use crate::ranking::{entry_of, grow, is_before, notice_if};
 use crate::rule::{class_rules, event_number};
 use ss_journal::Undo;
@@ -75,7 +75,7 @@ pub enum AgendaChange {
         /// The notice.
         notice: u32,
         /// What was kept of it.
-        entry: Entry,
+        entry: PendingNotice,
         /// The notice of its class that stood directly before it, or none where it stood first.
         predecessor: Option<u32>,
     },
@@ -174,7 +174,7 @@ impl<S: SetBoard> Agenda<S> {
     }
 
     /// The entry of the notice of a seat.
-    fn entry_on(&self, seat: u32) -> &Entry
+    fn entry_on(&self, seat: u32) -> &PendingNotice
         requires { IsTaken self.now seat }
         ensures { pending_at self.now.agenda.pending (notice_on self.now seat)
             ≡ Some (notice_of (notice_on self.now seat) result.now) }
@@ -192,7 +192,7 @@ impl<S: SetBoard> Agenda<S> {
     }
 
     /// Whether a notice with this entry comes before all those of its class, whose head is given.
-    fn is_first(&self, entry: &Entry, head: u32) -> bool
+    fn is_first(&self, entry: &PendingNotice, head: u32) -> bool
         requires entry { IsEntry self.now.rules entry.now }
         requires head { head ≡ event_number self.now.rules entry.now.class }
         ensures { result ≡ true →
@@ -208,7 +208,7 @@ impl<S: SetBoard> Agenda<S> {
 
     /// Where a notice with this entry belongs on the board: in front of all those of its class, or
     /// looked for from their end.
-    fn rank_place(&self, entry: &Entry) -> Place
+    fn rank_place(&self, entry: &PendingNotice) -> Place
         requires { IsEntry self.now.rules entry.now }
         ensures { result ≡ rank_place self.now (notice_of 0 entry.now) }
     {
@@ -228,7 +228,7 @@ impl<S: SetBoard> Agenda<S> {
     }
 
     /// The place directly behind a notice of the entry's class, or in front of all of them.
-    fn place_behind(&self, entry: &Entry, predecessor: Option<u32>) -> Place
+    fn place_behind(&self, entry: &PendingNotice, predecessor: Option<u32>) -> Place
         requires entry { IsEntry self.now.rules entry.now }
         requires predecessor { predecessor ≡ predecessor_of self.now (notice_of 0 entry.now) }
         ensures { result ≡ rank_place self.now (notice_of 0 entry.now) }
@@ -245,7 +245,7 @@ impl<S: SetBoard> Agenda<S> {
     }
 
     /// Makes a notice pending, with its seat at the place where it belongs.
-    fn put_at(&mut self, notice: u32, entry: Entry, place: Place)
+    fn put_at(&mut self, notice: u32, entry: PendingNotice, place: Place)
         requires can { CanPend self.old (notice_of notice entry) }
         requires place { place ≡ rank_place self.old (notice_of 0 entry) }
         ensures { self.new ≡ with_pending self.old (with_notice (notice_of notice entry) self.old.agenda.pending) }
@@ -257,7 +257,7 @@ impl<S: SetBoard> Agenda<S> {
     }
 
     /// Makes a notice pending, at a place that is looked for.
-    fn put_in(&mut self, notice: u32, entry: Entry)
+    fn put_in(&mut self, notice: u32, entry: PendingNotice)
         requires { CanPend self.old (notice_of notice entry) }
         ensures { self.new ≡ with_pending self.old (with_notice (notice_of notice entry) self.old.agenda.pending) }
     {
@@ -266,7 +266,7 @@ impl<S: SetBoard> Agenda<S> {
     }
 
     /// Makes a notice pending again, directly behind the notice that stood before it.
-    fn put_back(&mut self, notice: u32, entry: Entry, predecessor: Option<u32>)
+    fn put_back(&mut self, notice: u32, entry: PendingNotice, predecessor: Option<u32>)
         requires can { CanPend self.old (notice_of notice entry) }
         requires predecessor { predecessor ≡ predecessor_of self.old (notice_of notice entry) }
         ensures { self.new ≡ with_pending self.old (with_notice (notice_of notice entry) self.old.agenda.pending) }
@@ -276,7 +276,7 @@ impl<S: SetBoard> Agenda<S> {
     }
 
     /// Takes a pending notice out, and gives what was kept of it and the notice before it.
-    fn take_out(&mut self, notice: u32) -> (Entry, Option<u32>)
+    fn take_out(&mut self, notice: u32) -> (PendingNotice, Option<u32>)
         requires number { 0 < notice }
         requires pending { IsSome (pending_at self.old.agenda.pending notice) }
         ensures entry { pending_at self.old.agenda.pending notice ≡ Some (notice_of notice result.0) }
@@ -374,7 +374,7 @@ impl<S: SetBoard> Agenda<S> {
         let keys = keys.to_vec(self.alloc)?;
         let seated = self.give_seat(notice)?;
         let filing = self.file();
-        let entry = Entry {
+        let entry = PendingNotice {
             time,
             class,
             keys,

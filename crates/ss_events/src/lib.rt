@@ -2,12 +2,12 @@
 #![tactic(auto)]
 
 mod agenda;
-mod entry;
 pub mod laws;
 mod listing;
+mod pending_notice;
 mod ranking;
 mod rule;
 
 pub use agenda::{Agenda, AgendaChange, Slot};
-pub use entry::{ClassRule, Entry};
 pub use listing::Listing;
+pub use pending_notice::{ClassRule, PendingNotice};

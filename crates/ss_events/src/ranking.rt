@@ -5,12 +5,12 @@ ghost use Rattle.ss_events.specs.State.{AreRanked};
 ghost use Rattle.ss_events.specs.Weights.{before, less, compared};
 ghost use Rattle.ss_events.specs.Rows.{rule_of, notice_of, row_at, IsEntry, IsGrown};
 
-use crate::entry::{ClassRule, Entry, Row};
+use crate::pending_notice::{ClassRule, PendingNotice, Row};
 use ss_program::{Key, Rank};
 use std::alloc::AllocError;
 
 /// The entry of a notice, if it is pending.
-pub(crate) fn entry_of(rows: &[Row], notice: u32) -> Option<&Entry>
+pub(crate) fn entry_of(rows: &[Row], notice: u32) -> Option<&PendingNotice>
     requires { 0 < notice }
     ensures { option_map (λ entry. entry.now) result ≡ (row_at rows.now (notice - 1)).entry }
 {
@@ -68,7 +68,7 @@ fn keys_decide(ties: &[Key], a: &[i64], b: &[i64]) -> Option<bool>
 }
 
 /// Whether the notice of one entry comes before that of another.
-pub(crate) fn is_before(rules: &[ClassRule], a: &Entry, b: &Entry) -> bool
+pub(crate) fn is_before(rules: &[ClassRule], a: &PendingNotice, b: &PendingNotice) -> bool
     requires a { IsEntry (map rule_of rules.now) a.now }
     requires b { IsEntry (map rule_of rules.now) b.now }
     requires ranked { AreRanked (map rule_of rules.now) }

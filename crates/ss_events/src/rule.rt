@@ -3,7 +3,7 @@ ghost use Rattle.ss_program.specs.Program.{priority_of};
 ghost use Rattle.ss_events.specs.Rules.{program_rule, rules_of, event_number};
 ghost use Rattle.ss_events.specs.Rows.{rule_of};
 
-use crate::entry::ClassRule;
+use crate::pending_notice::ClassRule;
 use ss_program::{ClassKind, Key, Program};
 use std::alloc::{AllocError, Global};
 

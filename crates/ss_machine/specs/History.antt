@@ -10,7 +10,7 @@ use Rattle.ss_store.specs.declared.change.StoreChange.TheVariants as stores
 use Rattle.ss_events.specs.declared.agenda.AgendaChange.TheVariants as notices
 use Rattle.ss_machine.specs.declared.entry.Entry.{Entry}
 use Rattle.ss_machine.specs.declared.entry.Entry.TheVariants as entry
-use Rattle.ss_events.specs.declared.entry.Entry.{Entry as Notice}
+use Rattle.ss_events.specs.declared.pending_notice.PendingNotice.{Entry as Notice}
 use Rattle.ss_machine.specs.declared.tape.Tape.{Tape}
 use Rattle.ss_machine.specs.declared.change.Change.{Change}
 use Rattle.ss_machine.specs.declared.change.Change.TheVariants as changes

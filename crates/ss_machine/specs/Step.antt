@@ -58,8 +58,8 @@ use Rattle.ss_program.specs.Program.{ProgramTable, places_of, section_of, event_
 use Rattle.ss_program.specs.ProgramExpr.{Expr}
 use Rattle.ss_program.specs.Match.{ways_of}
 use Rattle.ss_data.specs.Items.{Item, with_taken, value_or_fault}
-use Rattle.ss_data.specs.declared.entry.Kind.{Kind}
-use Rattle.ss_data.specs.declared.entry.Kind.TheVariants.{Mark}
+use Rattle.ss_data.specs.declared.entry.PieceKind.{PieceKind}
+use Rattle.ss_data.specs.declared.entry.PieceKind.TheVariants.{Mark}
 use Rattle.ss_data.specs.Entries.{kind_or_end, item_writes, place_behind_mark}
 use Rattle.ss_store.specs.declared.shape.How.{How}
 use Rattle.ss_store.specs.declared.shape.How.TheVariants as how
@@ -169,7 +169,7 @@ step_output t s next (Skip e) = state_after_skip s next (lines_asked (readings t
 -- ---- READ
 
 -- the mark that ends an entry
-abbrev pub is_mark : Kind → Bool
+abbrev pub is_mark : PieceKind → Bool
 is_mark Mark = true
 is_mark _ = false
 

@@ -13,7 +13,7 @@ use crate::kind::{
 use crate::numbers::Numbers;
 use crate::statistics::Statistics;
 use crate::tape::{Kept, Tape};
-use ss_events::{AgendaChange, Entry as Notice};
+use ss_events::{AgendaChange, PendingNotice};
 use ss_journal::Journal;
 use ss_program::Owner;
 use ss_store::StoreChange;
@@ -234,11 +234,11 @@ impl Tape {
     }
 
     /// What is kept of a notice that was taken off.
-    fn notice(&mut self) -> Notice
+    fn notice(&mut self) -> PendingNotice
         requires { AreValues self.old.kept.current }
         ensures { IsNoticeRead result self.old self.new }
     {
-        Notice {
+        PendingNotice {
             time: self.numbers.take_signed(),
             class: self.numbers.take() as usize,
             filing: self.numbers.take(),

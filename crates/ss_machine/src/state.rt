@@ -39,7 +39,7 @@ use crate::frame::{Frame, FrameBox};
 use crate::loops::OpenLoop;
 use crate::statistics::{Statistics, no_statistics};
 use crate::status::Status;
-use ss_data::{Feed, Kind};
+use ss_data::{Feed, PieceKind};
 use ss_events::{Agenda, Slot};
 use ss_journal::Undo;
 use ss_links::SetBoard;
@@ -727,7 +727,7 @@ impl<S: SetBoard> State<S> {
         ensures { result ≡ nat_lt self.now.state.feed.taken (length self.now.state.feed.items) }
     {
         match self.feed.kind() {
-            Kind::End => false,
+            PieceKind::End => false,
             _ => true,
         }
     }
@@ -843,7 +843,7 @@ fn take_value(feed: &mut Feed, external: bool) -> Result<i64, RunFault>
     ensures err { OnErr result (feed.new ≡ feed.old) }
 {
     if external {
-        if let Kind::Mark = feed.kind() {
+        if let PieceKind::Mark = feed.kind() {
             return Err(RunFault::OutsideEntry);
         }
     }

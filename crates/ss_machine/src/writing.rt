@@ -12,7 +12,7 @@ use crate::kind::{
 };
 use crate::statistics::Statistics;
 use crate::tape::{Kept, Tape};
-use ss_events::{AgendaChange, Entry as Notice};
+use ss_events::{AgendaChange, PendingNotice};
 use ss_program::Owner;
 use ss_store::StoreChange;
 
@@ -109,7 +109,7 @@ impl Tape {
         }
     }
 
-    fn note_taken_off(&mut self, notice: u32, entry: Notice, predecessor: Option<u32>)
+    fn note_taken_off(&mut self, notice: u32, entry: PendingNotice, predecessor: Option<u32>)
         requires numbers { 7 < self.old.numbers.notes }
         requires kept { 0 < self.old.kept.notes }
         ensures { IsNoted (changes.Agenda (notices.TakenOff notice entry predecessor)) self.old self.new }

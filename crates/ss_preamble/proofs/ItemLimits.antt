@@ -8,7 +8,7 @@ use Rattle.std.proofs.lemmas.Grind.{flat_map-append}
 use Rattle.std.proofs.lemmas.List.{append-nil}
 use Rattle.std.proofs.lemmas.List.Sums.{sum_by-cons}
 use Rattle.ss_words.specs.Lists.{Name, Several, all_of}
-use Rattle.ss_preamble.specs.Tree.{Key, Clause, Has, Owns, BelongsTo, SetKind, Fifo, Lifo, Ranked, Item, Normally}
+use Rattle.ss_preamble.specs.Tree.{Key, Clause, Has, Owns, BelongsTo, SetDiscipline, Fifo, Lifo, Ranked, Item, Normally}
 use Rattle.ss_preamble.specs.Tree.{Variables, Sets, PriorityOrder, BreakTies, ExternalEvents, Headed, OfEvery}
 use Rattle.ss_preamble.specs.Tree.{OfSystem, Defines, Orders, Preamble}
 use Rattle.ss_preamble.specs.Spelling.{spell}
@@ -62,11 +62,11 @@ module _ {A : Type 0} (g : Role → List A) (none : g Nothing ≡ []) where
       ∙ ap (λ (u : List A). of_clause o x ++ u) (clauses o cs)
 
   -- what the keys of a set are to g
-  abbrev of_kind : SetKind → List A
+  abbrev of_kind : SetDiscipline → List A
   of_kind (Ranked ks) = flat_map g (keys_roles ks)
   of_kind _ = []
 
-  kind : (x : SetKind) → flat_map g (kind_roles x) ≡ of_kind x
+  kind : (x : SetDiscipline) → flat_map g (kind_roles x) ≡ of_kind x
   kind Fifo = behind_two []
   kind Lifo = behind_two []
   kind (Ranked ks) = behind_two (keys_roles ks)

@@ -10,7 +10,7 @@ use Rattle.ss_preamble.specs.declared.item.Heading.{Heading}
 use Rattle.ss_preamble.specs.declared.item.Heading.TheVariants as h
 use Rattle.ss_words.specs.declared.terms.Rank.{Rank}
 use Rattle.ss_words.specs.declared.terms.Rank.TheVariants as k
-use Rattle.ss_preamble.specs.Tree.{Key, Clause, Has, Owns, BelongsTo, SetKind, Fifo, Lifo, Ranked, Definition}
+use Rattle.ss_preamble.specs.Tree.{Key, Clause, Has, Owns, BelongsTo, SetDiscipline, Fifo, Lifo, Ranked, Definition}
 use Rattle.ss_preamble.specs.Tree as t
 use Rattle.ss_preamble.specs.Tree.{EventRule, PriorityOrder, BreakTies, ExternalEvents, Item, Normally, Headed}
 use Rattle.ss_preamble.specs.Tree.{OfEvery, OfSystem, Defines, Orders, Preamble}
@@ -49,7 +49,7 @@ abbrev pub keys_roles : Several Key → List Role
 keys_roles ks = Nothing ∷ Nothing ∷ AKey 1 ∷ other_keys_roles 1 ks.others
 
 -- what DEFINE makes of sets
-abbrev pub kind_roles : SetKind → List Role
+abbrev pub kind_roles : SetDiscipline → List Role
 kind_roles (Ranked ks) = Nothing ∷ Nothing ∷ keys_roles ks
 kind_roles _ = Nothing ∷ Nothing ∷ []
 
@@ -180,14 +180,14 @@ defined_names c a ns z e stays =
     (looked ns.others z ∙ e)
     ∙ ap (λ (rs : List Role). Nothing ∷ rs) (all_kept (record a { counted = c }) stays ns (word r.As ∷ z))
 
-kind : (a : Standing) (x : SetKind) (y : List Plain)
+kind : (a : Standing) (x : SetDiscipline) (y : List Plain)
     → Counts (record a { counted = Sets }) (spell_set_kind x) (kind_roles x) y
 kind a Fifo y = (record a { counted = Sets }, refl)
 kind a Lifo y = (record a { counted = Sets }, refl)
 kind a (Ranked ks) y =
     let (b, e) = keys a.owner ks y in (b, ap (λ (rs : List Role). Nothing ∷ Nothing ∷ rs) e)
 
-kind_is : (x : SetKind) (y : List Plain) → defined_as (spell_set_kind x ++ y) ≡ Sets
+kind_is : (x : SetDiscipline) (y : List Plain) → defined_as (spell_set_kind x ++ y) ≡ Sets
 kind_is Fifo y = refl
 kind_is Lifo y = refl
 kind_is (Ranked ks) y = refl

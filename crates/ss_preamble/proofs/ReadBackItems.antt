@@ -15,7 +15,7 @@ use Rattle.ss_preamble.specs.declared.item.Heading.{Heading}
 use Rattle.ss_preamble.specs.declared.item.Heading.TheVariants as h
 use Rattle.ss_words.specs.declared.terms.Rank.{Rank}
 use Rattle.ss_words.specs.declared.terms.Rank.TheVariants as k
-use Rattle.ss_preamble.specs.Tree.{Key, Clause, Has, Owns, BelongsTo, SetKind, Fifo, Lifo, Ranked, Definition}
+use Rattle.ss_preamble.specs.Tree.{Key, Clause, Has, Owns, BelongsTo, SetDiscipline, Fifo, Lifo, Ranked, Definition}
 use Rattle.ss_preamble.specs.Tree.{Variables, Sets, PriorityOrder, BreakTies, ExternalEvents, Item, Normally, Headed}
 use Rattle.ss_preamble.specs.Tree.{OfEvery, OfSystem, Defines, Orders, Preamble}
 use Rattle.ss_preamble.specs.Spelling.{word, spell_clause, spell_other_clauses, spell_clauses, spell_rank, spell_key}
@@ -138,7 +138,7 @@ heading-read_back x b ns y e =
     behind b _ z ∙ then (names_behind (m.Reserved r.Include)) _ ns z y
     (names_behind-read_back (m.Reserved r.Include) ns y e.comma e.include)
 
-kind-read_back : (ns : Several _) (x : SetKind) (y : List Plain) → Ends y
+kind-read_back : (ns : Several _) (x : SetDiscipline) (y : List Plain) → Ends y
     → definition_of ns (spell_set_kind x ++ y) ≡ (Ok (Sets ns x), y)
 unfolding definition_of look skip pure
 kind-read_back ns Fifo y e = behind (m.Reserved r.Sets) _ y

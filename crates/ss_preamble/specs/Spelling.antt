@@ -10,7 +10,7 @@ use Rattle.ss_preamble.specs.declared.item.Heading.{Heading}
 use Rattle.ss_preamble.specs.declared.item.Heading.TheVariants as h
 use Rattle.ss_words.specs.declared.terms.Rank.{Rank}
 use Rattle.ss_words.specs.declared.terms.Rank.TheVariants as rank
-use Rattle.ss_preamble.specs.Tree.{Key, Clause, Has, Owns, BelongsTo, SetKind, Fifo, Lifo, Ranked, Definition}
+use Rattle.ss_preamble.specs.Tree.{Key, Clause, Has, Owns, BelongsTo, SetDiscipline, Fifo, Lifo, Ranked, Definition}
 use Rattle.ss_preamble.specs.Tree.{Variables, Sets, EventRule, PriorityOrder, BreakTies, ExternalEvents, Item}
 use Rattle.ss_preamble.specs.Tree.{Normally, Headed, OfEvery, OfSystem, Defines, Orders, Preamble}
 
@@ -60,7 +60,7 @@ abbrev pub spell_keys : Several Key → List Plain
 spell_keys ks = spell_key ks.first ++ spell_other_keys ks.others
 
 -- what DEFINE makes of sets
-abbrev pub spell_set_kind : SetKind → List Plain
+abbrev pub spell_set_kind : SetDiscipline → List Plain
 spell_set_kind Fifo = word r.Fifo ∷ word r.Sets ∷ []
 spell_set_kind Lifo = word r.Lifo ∷ word r.Sets ∷ []
 spell_set_kind (Ranked ks) = word r.Sets ∷ word r.Ranked ∷ spell_keys ks

@@ -16,14 +16,14 @@ pub data Clause : Type 0 where
   Has Owns BelongsTo : Several Name → Clause
 
 -- FIFO SETS, LIFO SETS, SETS RANKED by keys
-pub data SetKind : Type 0 where
-  Fifo Lifo : SetKind
-  Ranked : Several Key → SetKind
+pub data SetDiscipline : Type 0 where
+  Fifo Lifo : SetDiscipline
+  Ranked : Several Key → SetDiscipline
 
 -- DEFINE of variables, DEFINE of sets
 pub data Definition : Type 0 where
   Variables : Several Name → Definition
-  Sets : Several Name → SetKind → Definition
+  Sets : Several Name → SetDiscipline → Definition
 
 -- PRIORITY ORDER IS names; BREAK name TIES keys; EXTERNAL EVENTS ARE names
 pub data EventRule : Type 0 where

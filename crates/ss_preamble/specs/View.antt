@@ -5,8 +5,8 @@ use Rattle.ss_words.specs.Lists.{several_view}
 use Rattle.ss_preamble.specs.declared.item.Clause.{Clause as CodeClause}
 use Rattle.ss_preamble.specs.declared.item.Clause.TheVariants as c
 use Rattle.ss_preamble.specs.declared.item.Key.{Key as CodeKey}
-use Rattle.ss_preamble.specs.declared.item.SetKind.{SetKind as CodeSetKind}
-use Rattle.ss_preamble.specs.declared.item.SetKind.TheVariants as s
+use Rattle.ss_preamble.specs.declared.item.SetDiscipline.{SetDiscipline as CodeSetKind}
+use Rattle.ss_preamble.specs.declared.item.SetDiscipline.TheVariants as s
 use Rattle.ss_preamble.specs.declared.item.Definition.{Definition as CodeDefinition}
 use Rattle.ss_preamble.specs.declared.item.Definition.TheVariants as d
 use Rattle.ss_preamble.specs.declared.item.EventRule.{EventRule as CodeEventRule}
@@ -15,7 +15,7 @@ use Rattle.ss_preamble.specs.declared.item.Item.{Item as CodeItem}
 use Rattle.ss_preamble.specs.declared.item.Item.TheVariants as i
 use Rattle.ss_preamble.specs.declared.item.ItemAt.{ItemAt as CodeItemAt}
 use Rattle.ss_preamble.specs.declared.item.Decls.{Decls as CodeDecls}
-use Rattle.ss_preamble.specs.Tree.{Key, Clause, Has, Owns, BelongsTo, SetKind, Fifo, Lifo, Ranked, Definition}
+use Rattle.ss_preamble.specs.Tree.{Key, Clause, Has, Owns, BelongsTo, SetDiscipline, Fifo, Lifo, Ranked, Definition}
 use Rattle.ss_preamble.specs.Tree.{Variables, Sets, EventRule, PriorityOrder, BreakTies, ExternalEvents, Item}
 use Rattle.ss_preamble.specs.Tree.{Normally, Headed, OfEvery, OfSystem, Defines, Orders, ItemAt, Decls}
 
@@ -30,7 +30,7 @@ abbrev pub key_view : CodeKey → Key
 key_view k = record { rank = k.rank; name = k.name }
 
 -- what DEFINE makes of sets
-abbrev pub set_kind_view : CodeSetKind → SetKind
+abbrev pub set_kind_view : CodeSetKind → SetDiscipline
 set_kind_view s.Fifo = Fifo
 set_kind_view s.Lifo = Lifo
 set_kind_view (s.Ranked ks) = Ranked (several_view key_view ks)

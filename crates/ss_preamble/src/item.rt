@@ -31,7 +31,7 @@ pub struct Key {
 
 /// What DEFINE makes of sets.
 #[derive(Debug, Drop)]
-pub enum SetKind {
+pub enum SetDiscipline {
     /// `FIFO SETS`
     Fifo,
     /// `LIFO SETS`
@@ -46,7 +46,7 @@ pub enum Definition {
     /// `DEFINE names AS INTEGER VARIABLES`
     Variables(Names),
     /// `DEFINE names AS` and what they are.
-    Sets { names: Names, kind: SetKind },
+    Sets { names: Names, kind: SetDiscipline },
 }
 
 /// An item on the order of events, or on events from outside.

@@ -10,6 +10,8 @@ mod limits;
 mod reader;
 mod text;
 
-pub use item::{Clause, Decls, Definition, EventRule, Heading, Item, ItemAt, Key, Names, SetKind};
+pub use item::{
+    Clause, Decls, Definition, EventRule, Heading, Item, ItemAt, Key, Names, SetDiscipline,
+};
 pub use ss_words::Rank;
 pub use text::preamble;

@@ -14,7 +14,7 @@ ghost use Rattle.ss_preamble.specs.View.{definition_view, event_rule_view, item_
 ghost use Rattle.ss_preamble.specs.View.{set_kind_view};
 
 use crate::clause::clauses;
-use crate::item::{Decls, Definition, EventRule, Heading, Item, ItemAt, Names, SetKind};
+use crate::item::{Decls, Definition, EventRule, Heading, Item, ItemAt, Names, SetDiscipline};
 use crate::key::keys;
 use ss_words::{Cursor, Mark, Plain, PlainWord, Refusal, Reserved};
 
@@ -198,8 +198,8 @@ fn definition_by(
 {
     match word {
         Reserved::Integer => variables(cursor, names),
-        Reserved::Fifo => unranked(cursor, names, SetKind::Fifo),
-        Reserved::Lifo => unranked(cursor, names, SetKind::Lifo),
+        Reserved::Fifo => unranked(cursor, names, SetDiscipline::Fifo),
+        Reserved::Lifo => unranked(cursor, names, SetDiscipline::Lifo),
         Reserved::Sets => ranked(cursor, names),
         _ => Err(Refusal::Unexpected),
     }
@@ -219,7 +219,11 @@ fn variables(cursor: &mut Cursor<'_>, names: Names) -> Result<Definition, Refusa
 
 /// `FIFO SETS | LIFO SETS`, from its first word on, which says this kind.
 #[tactic(auto, unfolding(crate::proofs::Unfoldings::steps_by_word))]
-fn unranked(cursor: &mut Cursor<'_>, names: Names, kind: SetKind) -> Result<Definition, Refusal>
+fn unranked(
+    cursor: &mut Cursor<'_>,
+    names: Names,
+    kind: SetDiscipline,
+) -> Result<Definition, Refusal>
     ensures exact { Gives definition_view result cursor.new
         (bind (expect (mark.Reserved reserved.Sets))
         (λ u. pure (Sets (several_view (λ n. n) names) (set_kind_view kind))) (rest_of cursor.old)) }
@@ -239,7 +243,7 @@ fn ranked(cursor: &mut Cursor<'_>, names: Names) -> Result<Definition, Refusal>
 {
     cursor.pass();
     cursor.expect(Mark::Reserved(Reserved::Ranked))?;
-    let kind = SetKind::Ranked(keys(cursor)?);
+    let kind = SetDiscipline::Ranked(keys(cursor)?);
     Ok(Definition::Sets { names, kind })
 }
 

@@ -15,8 +15,8 @@ use Rattle.ss_words.specs.declared.terms.Copula.{Copula}
 use Rattle.ss_words.specs.declared.terms.Copula.TheVariants.{Is, IsNot}
 use Rattle.ss_words.specs.declared.terms.SetEnd.{SetEnd}
 use Rattle.ss_words.specs.declared.terms.SetEnd.TheVariants as end
-use Rattle.ss_routines.specs.declared.simple.Article.{Article}
-use Rattle.ss_routines.specs.declared.simple.Article.TheVariants as article
+use Rattle.ss_routines.specs.declared.tree.simple.Article.{Article}
+use Rattle.ss_routines.specs.declared.tree.simple.Article.TheVariants as article
 use Rattle.ss_words.specs.declared.terms.Direction.{Direction}
 use Rattle.ss_words.specs.declared.terms.Direction.TheVariants.{Onward, Backward}
 use Rattle.ss_words.specs.declared.terms.QualifierWord.{QualifierWord}

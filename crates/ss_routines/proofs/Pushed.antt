@@ -1,8 +1,8 @@
 -- A place that is pushed, and a local DEFINE.
 use Rattle.std.proofs.Common.{◌≡◌, List, [], ◌∷◌, ◌++◌, map}
 use Rattle.std.proofs.lemmas.List.{map_push}
-use Rattle.ss_routines.specs.declared.place.Spot.{Spot as CodeSpot}
-use Rattle.ss_routines.specs.declared.section.LocalNames.{LocalNames as CodeLocalNames}
+use Rattle.ss_routines.specs.declared.tree.place.Spot.{Spot as CodeSpot}
+use Rattle.ss_routines.specs.declared.tree.section.LocalNames.{LocalNames as CodeLocalNames}
 use Rattle.ss_routines.specs.View.{spot_view, spots, local_view}
 
 pub pushed : (xs ys : List CodeSpot) (s : CodeSpot) → ys ≡ xs ++ s ∷ [] → spots ys ≡ spots xs ++ spot_view s ∷ []

@@ -15,8 +15,8 @@ use Rattle.ss_words.proofs.Laws as word
 use Rattle.ss_words.proofs.Local.{Rooms, Local}
 use Rattle.ss_words.specs.declared.terms.SetEnd.{SetEnd}
 use Rattle.ss_words.specs.declared.terms.SetEnd.TheVariants as end
-use Rattle.ss_routines.specs.declared.simple.Article.{Article}
-use Rattle.ss_routines.specs.declared.simple.Article.TheVariants as article
+use Rattle.ss_routines.specs.declared.tree.simple.Article.{Article}
+use Rattle.ss_routines.specs.declared.tree.simple.Article.TheVariants as article
 use Rattle.ss_routines.specs.Combined.{if_open, several}
 use Rattle.ss_words.specs.declared.terms.TermSign.TheVariants.{Plus, Minus}
 use Rattle.ss_routines.specs.Expr as x

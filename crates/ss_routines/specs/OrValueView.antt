@@ -1,8 +1,8 @@
 -- What stands where an expression may stand alone or begin something else.
 use Rattle.std.specs.Prelude.{◌⊎◌}
 use mathlib.Core.Logic.{inl, inr}
-use Rattle.ss_routines.specs.declared.conditions.OrValue.{OrValue}
-use Rattle.ss_routines.specs.declared.conditions.OrValue.TheVariants.{Value, Other}
+use Rattle.ss_routines.specs.declared.reading.conditions.OrValue.{OrValue}
+use Rattle.ss_routines.specs.declared.reading.conditions.OrValue.TheVariants.{Value, Other}
 use Rattle.ss_routines.specs.Expr.{Expr}
 use Rattle.ss_routines.specs.View.{expr_view}
 

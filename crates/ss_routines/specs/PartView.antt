@@ -5,14 +5,14 @@ use Rattle.ss_words.specs.declared.several.Several.{Several as CodeSeveral}
 use Rattle.ss_words.specs.Lists.{Name, Several, several_view}
 use Rattle.ss_words.specs.Reading.{option_view}
 use Rattle.ss_words.specs.declared.terms.TermSign.{TermSign}
-use Rattle.ss_routines.specs.declared.expr.Expr.{Expr as CodeExpr}
-use Rattle.ss_routines.specs.declared.expr.Added.{Added as CodeAdded}
-use Rattle.ss_routines.specs.declared.expr.Factor.{Factor as CodeFactor}
-use Rattle.ss_routines.specs.declared.condition.Reference.{Reference as CodeReference}
-use Rattle.ss_routines.specs.declared.condition.Conjunction.{Conjunction as CodeConjunction}
-use Rattle.ss_routines.specs.declared.condition.Relation.{Relation as CodeRelation}
-use Rattle.ss_routines.specs.declared.place.Qualifier.{Qualifier as CodeQualifier}
-use Rattle.ss_routines.specs.declared.place.Computed.{Computed as CodeComputed}
+use Rattle.ss_routines.specs.declared.tree.expr.Expr.{Expr as CodeExpr}
+use Rattle.ss_routines.specs.declared.tree.expr.Added.{Added as CodeAdded}
+use Rattle.ss_routines.specs.declared.tree.expr.Factor.{Factor as CodeFactor}
+use Rattle.ss_routines.specs.declared.tree.condition.Reference.{Reference as CodeReference}
+use Rattle.ss_routines.specs.declared.tree.condition.Conjunction.{Conjunction as CodeConjunction}
+use Rattle.ss_routines.specs.declared.tree.condition.Relation.{Relation as CodeRelation}
+use Rattle.ss_routines.specs.declared.tree.place.Qualifier.{Qualifier as CodeQualifier}
+use Rattle.ss_routines.specs.declared.tree.place.Computed.{Computed as CodeComputed}
 use Rattle.ss_routines.specs.Expr.{Expr, Term, Factor}
 use Rattle.ss_routines.specs.Condition.{Reference, Conjunction, Relation}
 use Rattle.ss_routines.specs.Loops.{Qualifier, Computed}

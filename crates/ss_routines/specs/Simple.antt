@@ -2,7 +2,7 @@
 use Rattle.std.specs.Prelude.{ℕ, Bool, List, Option}
 use Rattle.ss_words.specs.Lists.{Name, Several}
 use Rattle.ss_words.specs.declared.terms.SetEnd.{SetEnd}
-use Rattle.ss_routines.specs.declared.simple.Article.{Article}
+use Rattle.ss_routines.specs.declared.tree.simple.Article.{Article}
 use Rattle.ss_routines.specs.Expr.{Expr}
 use Rattle.ss_routines.specs.Condition.{Reference}
 

@@ -11,8 +11,8 @@ use Rattle.ss_words.specs.Reading.{Reading, pure}
 use Rattle.ss_words.specs.Marks.{a_name, a_number, a_picture}
 use Rattle.ss_words.specs.declared.terms.SetEnd.{SetEnd}
 use Rattle.ss_words.specs.declared.terms.SetEnd.TheVariants as end
-use Rattle.ss_routines.specs.declared.simple.Article.{Article}
-use Rattle.ss_routines.specs.declared.simple.Article.TheVariants as article
+use Rattle.ss_routines.specs.declared.tree.simple.Article.{Article}
+use Rattle.ss_routines.specs.declared.tree.simple.Article.TheVariants as article
 use Rattle.ss_routines.specs.Combined.{pair, behind, before, made, if_mark, if_word, either, by_table, if_open, several}
 use Rattle.ss_routines.specs.Combined.{either_of, made_of}
 use Rattle.ss_routines.specs.Expr.{Expr}

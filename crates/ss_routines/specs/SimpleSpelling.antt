@@ -8,8 +8,8 @@ use Rattle.ss_words.specs.Plain.{Plain, name, number, mark, picture}
 use Rattle.ss_words.specs.Lists.{Several, spell_others, spell_several}
 use Rattle.ss_words.specs.declared.terms.SetEnd.{SetEnd}
 use Rattle.ss_words.specs.declared.terms.SetEnd.TheVariants as end
-use Rattle.ss_routines.specs.declared.simple.Article.{Article}
-use Rattle.ss_routines.specs.declared.simple.Article.TheVariants as article
+use Rattle.ss_routines.specs.declared.tree.simple.Article.{Article}
+use Rattle.ss_routines.specs.declared.tree.simple.Article.TheVariants as article
 use Rattle.ss_routines.specs.Expr.{spell_within, spell_expr, depth_expr}
 use Rattle.ss_routines.specs.Condition.{Reference, spell_subscript, spell_reference, depth_subscript, depth_reference}
 use Rattle.ss_routines.specs.Simple.{Assign, Let, Add, Subtract, Making, Create, CreateEvery, Destroy, FilePlace}

@@ -3,59 +3,59 @@ use Rattle.std.specs.Prelude.{List, map}
 use Rattle.ss_words.specs.Lists.{Name, several_view}
 use Rattle.ss_words.specs.Reading.{option_view}
 use Rattle.ss_words.specs.declared.terms.TermSign.{TermSign}
-use Rattle.ss_routines.specs.declared.expr.Expr.{Expr as CodeExpr, fold-Expr}
-use Rattle.ss_routines.specs.declared.expr.Term.{Term as CodeTerm, fold-Term}
-use Rattle.ss_routines.specs.declared.expr.Added.{Added as CodeAdded, fold-Added}
-use Rattle.ss_routines.specs.declared.expr.Application.{Application as CodeApplication, fold-Application}
-use Rattle.ss_routines.specs.declared.expr.Factor.{Factor as CodeFactor, fold-Factor}
-use Rattle.ss_routines.specs.declared.expr.Factor.TheOpen.{Factor-F, Added-F, Application-F, Expr-F, Term-F}
-use Rattle.ss_routines.specs.declared.condition.Reference.{Reference as CodeReference}
-use Rattle.ss_routines.specs.declared.condition.Condition.{Condition as CodeCondition, fold-Condition}
-use Rattle.ss_routines.specs.declared.condition.Conjunction.{Conjunction as CodeConjunction, fold-Conjunction}
-use Rattle.ss_routines.specs.declared.condition.Relation.{Relation as CodeRelation, fold-Relation}
-use Rattle.ss_routines.specs.declared.condition.Relation.TheOpen.{Condition-F, Conjunction-F, Relation-F}
-use Rattle.ss_routines.specs.declared.simple.Assign.{Assign as CodeAssign}
-use Rattle.ss_routines.specs.declared.simple.Assign.TheVariants as assign
-use Rattle.ss_routines.specs.declared.simple.Making.{Making as CodeMaking}
-use Rattle.ss_routines.specs.declared.simple.Making.TheVariants as making
-use Rattle.ss_routines.specs.declared.simple.FilePlace.{FilePlace as CodeFilePlace}
-use Rattle.ss_routines.specs.declared.simple.FilePlace.TheVariants as place
-use Rattle.ss_routines.specs.declared.simple.Filing.{Filing as CodeFiling}
-use Rattle.ss_routines.specs.declared.simple.Filing.TheVariants as filing
-use Rattle.ss_routines.specs.declared.simple.Listing.{Listing as CodeListing}
-use Rattle.ss_routines.specs.declared.simple.Listing.TheVariants as listing
-use Rattle.ss_routines.specs.declared.simple.Transfer.{Transfer as CodeTransfer}
-use Rattle.ss_routines.specs.declared.simple.Transfer.TheVariants as transfer
-use Rattle.ss_routines.specs.declared.simple.Details.{Details as CodeDetails}
-use Rattle.ss_routines.specs.declared.simple.Details.TheVariants as details
-use Rattle.ss_routines.specs.declared.simple.When.{When as CodeWhen}
-use Rattle.ss_routines.specs.declared.simple.When.TheVariants as when
-use Rattle.ss_routines.specs.declared.simple.Timing.{Timing as CodeTiming}
-use Rattle.ss_routines.specs.declared.simple.Timing.TheVariants as timing
-use Rattle.ss_routines.specs.declared.simple.Exchange.{Exchange as CodeExchange}
-use Rattle.ss_routines.specs.declared.simple.Exchange.TheVariants as exchange
-use Rattle.ss_routines.specs.declared.simple.Simple.{Simple as CodeSimple}
-use Rattle.ss_routines.specs.declared.simple.Simple.TheVariants as simple
-use Rattle.ss_routines.specs.declared.place.WalkStart.{WalkStart as CodeWalkStart}
-use Rattle.ss_routines.specs.declared.place.WalkStart.TheVariants as start
-use Rattle.ss_routines.specs.declared.place.Range.{Range as CodeRange}
-use Rattle.ss_routines.specs.declared.place.Range.TheVariants as range
-use Rattle.ss_routines.specs.declared.place.Qualifier.{Qualifier as CodeQualifier}
-use Rattle.ss_routines.specs.declared.place.Phrase.{Phrase as CodePhrase}
-use Rattle.ss_routines.specs.declared.place.Computed.{Computed as CodeComputed}
-use Rattle.ss_routines.specs.declared.place.Question.{Question as CodeQuestion}
-use Rattle.ss_routines.specs.declared.place.Question.TheVariants as question
-use Rattle.ss_routines.specs.declared.place.Branch.{Branch as CodeBranch}
-use Rattle.ss_routines.specs.declared.place.Branch.TheVariants as branch
-use Rattle.ss_routines.specs.declared.place.Loop.{Loop as CodeLoop}
-use Rattle.ss_routines.specs.declared.place.Loop.TheVariants as loop
-use Rattle.ss_routines.specs.declared.place.Place.{Place as CodePlace}
-use Rattle.ss_routines.specs.declared.place.Place.TheVariants as at
-use Rattle.ss_routines.specs.declared.place.Spot.{Spot as CodeSpot}
-use Rattle.ss_routines.specs.declared.section.SectionKind.{SectionKind as CodeKind}
-use Rattle.ss_routines.specs.declared.section.SectionKind.TheVariants as kind
-use Rattle.ss_routines.specs.declared.section.LocalNames.{LocalNames as CodeLocalNames}
-use Rattle.ss_routines.specs.declared.section.Section.{Section as CodeSection}
+use Rattle.ss_routines.specs.declared.tree.expr.Expr.{Expr as CodeExpr, fold-Expr}
+use Rattle.ss_routines.specs.declared.tree.expr.Term.{Term as CodeTerm, fold-Term}
+use Rattle.ss_routines.specs.declared.tree.expr.Added.{Added as CodeAdded, fold-Added}
+use Rattle.ss_routines.specs.declared.tree.expr.Application.{Application as CodeApplication, fold-Application}
+use Rattle.ss_routines.specs.declared.tree.expr.Factor.{Factor as CodeFactor, fold-Factor}
+use Rattle.ss_routines.specs.declared.tree.expr.Factor.TheOpen.{Factor-F, Added-F, Application-F, Expr-F, Term-F}
+use Rattle.ss_routines.specs.declared.tree.condition.Reference.{Reference as CodeReference}
+use Rattle.ss_routines.specs.declared.tree.condition.Condition.{Condition as CodeCondition, fold-Condition}
+use Rattle.ss_routines.specs.declared.tree.condition.Conjunction.{Conjunction as CodeConjunction, fold-Conjunction}
+use Rattle.ss_routines.specs.declared.tree.condition.Relation.{Relation as CodeRelation, fold-Relation}
+use Rattle.ss_routines.specs.declared.tree.condition.Relation.TheOpen.{Condition-F, Conjunction-F, Relation-F}
+use Rattle.ss_routines.specs.declared.tree.simple.Assign.{Assign as CodeAssign}
+use Rattle.ss_routines.specs.declared.tree.simple.Assign.TheVariants as assign
+use Rattle.ss_routines.specs.declared.tree.simple.Making.{Making as CodeMaking}
+use Rattle.ss_routines.specs.declared.tree.simple.Making.TheVariants as making
+use Rattle.ss_routines.specs.declared.tree.simple.FilePlace.{FilePlace as CodeFilePlace}
+use Rattle.ss_routines.specs.declared.tree.simple.FilePlace.TheVariants as place
+use Rattle.ss_routines.specs.declared.tree.simple.Filing.{Filing as CodeFiling}
+use Rattle.ss_routines.specs.declared.tree.simple.Filing.TheVariants as filing
+use Rattle.ss_routines.specs.declared.tree.simple.Listing.{Listing as CodeListing}
+use Rattle.ss_routines.specs.declared.tree.simple.Listing.TheVariants as listing
+use Rattle.ss_routines.specs.declared.tree.simple.Transfer.{Transfer as CodeTransfer}
+use Rattle.ss_routines.specs.declared.tree.simple.Transfer.TheVariants as transfer
+use Rattle.ss_routines.specs.declared.tree.simple.Details.{Details as CodeDetails}
+use Rattle.ss_routines.specs.declared.tree.simple.Details.TheVariants as details
+use Rattle.ss_routines.specs.declared.tree.simple.When.{When as CodeWhen}
+use Rattle.ss_routines.specs.declared.tree.simple.When.TheVariants as when
+use Rattle.ss_routines.specs.declared.tree.simple.Timing.{Timing as CodeTiming}
+use Rattle.ss_routines.specs.declared.tree.simple.Timing.TheVariants as timing
+use Rattle.ss_routines.specs.declared.tree.simple.Exchange.{Exchange as CodeExchange}
+use Rattle.ss_routines.specs.declared.tree.simple.Exchange.TheVariants as exchange
+use Rattle.ss_routines.specs.declared.tree.simple.Simple.{Simple as CodeSimple}
+use Rattle.ss_routines.specs.declared.tree.simple.Simple.TheVariants as simple
+use Rattle.ss_routines.specs.declared.tree.place.WalkStart.{WalkStart as CodeWalkStart}
+use Rattle.ss_routines.specs.declared.tree.place.WalkStart.TheVariants as start
+use Rattle.ss_routines.specs.declared.tree.place.Range.{Range as CodeRange}
+use Rattle.ss_routines.specs.declared.tree.place.Range.TheVariants as range
+use Rattle.ss_routines.specs.declared.tree.place.Qualifier.{Qualifier as CodeQualifier}
+use Rattle.ss_routines.specs.declared.tree.place.Phrase.{Phrase as CodePhrase}
+use Rattle.ss_routines.specs.declared.tree.place.Computed.{Computed as CodeComputed}
+use Rattle.ss_routines.specs.declared.tree.place.Question.{Question as CodeQuestion}
+use Rattle.ss_routines.specs.declared.tree.place.Question.TheVariants as question
+use Rattle.ss_routines.specs.declared.tree.place.Branch.{Branch as CodeBranch}
+use Rattle.ss_routines.specs.declared.tree.place.Branch.TheVariants as branch
+use Rattle.ss_routines.specs.declared.tree.place.Loop.{Loop as CodeLoop}
+use Rattle.ss_routines.specs.declared.tree.place.Loop.TheVariants as loop
+use Rattle.ss_routines.specs.declared.tree.place.Place.{Place as CodePlace}
+use Rattle.ss_routines.specs.declared.tree.place.Place.TheVariants as at
+use Rattle.ss_routines.specs.declared.tree.place.Spot.{Spot as CodeSpot}
+use Rattle.ss_routines.specs.declared.tree.section.SectionKind.{SectionKind as CodeKind}
+use Rattle.ss_routines.specs.declared.tree.section.SectionKind.TheVariants as kind
+use Rattle.ss_routines.specs.declared.tree.section.LocalNames.{LocalNames as CodeLocalNames}
+use Rattle.ss_routines.specs.declared.tree.section.Section.{Section as CodeSection}
 use Rattle.ss_routines.specs.Expr.{Expr, expr, Term, term, Factor}
 use Rattle.ss_routines.specs.Expr.{digits, named, applied, within, sums_of, products_of}
 use Rattle.ss_routines.specs.Expr.{exprs_of}

@@ -13,11 +13,11 @@ ghost use Rattle.ss_routines.specs.PlacesAtLines as places;
 ghost use Rattle.ss_routines.specs.Refused.{AreSections, IsFault, words_from};
 ghost use Rattle.ss_routines.specs.View.{local_view, section_view, spots};
 
-use crate::block::{Room, block};
-use crate::head::{SectionHead, begins, head, local_list};
-use crate::noted::end;
-use crate::place::Spot;
-use crate::section::{LocalNames, Section, Sections};
+use crate::reading::block::{Room, block};
+use crate::reading::head::{SectionHead, begins, head, local_list};
+use crate::reading::noted::end;
+use crate::tree::place::Spot;
+use crate::tree::section::{LocalNames, Section, Sections};
 use ss_words::{Cursor, PlainWord, Refusal, TextFault, TextRule, Words, plain_words};
 use std::alloc::Global;
 

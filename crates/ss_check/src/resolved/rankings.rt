@@ -7,7 +7,7 @@ ghost use Rattle.ss_check.specs.FactsView.{facts_view};
 ghost use Rattle.ss_check.specs.Resolved as resolved;
 
 use crate::declared::fact_table::FactTable;
-use ss_preamble::{Definition, EventRule, Item, ItemAt, Key, Names, SetKind};
+use ss_preamble::{Definition, EventRule, Item, ItemAt, Key, Names, SetDiscipline};
 use ss_words::Several;
 use std::alloc::{AllocError, Global};
 use std::marker::Model;
@@ -16,7 +16,7 @@ use std::marker::Model;
 /// classes.
 #[derive(Drop)]
 pub(crate) struct Rankings<'a> {
-    disciplines: FactTable<&'a SetKind>,
+    disciplines: FactTable<&'a SetDiscipline>,
     ties: FactTable<&'a Several<Key>>,
 }
 
@@ -50,7 +50,7 @@ impl<'a> Rankings<'a> {
 
     /// The discipline of a set, if one is given.
     #[tactic(auto, using(crate::proofs::Named::fact_of_view))]
-    pub(crate) fn discipline(&self, set: &[u8]) -> Option<&'a SetKind>
+    pub(crate) fn discipline(&self, set: &[u8]) -> Option<&'a SetDiscipline>
         ensures { option_map (λ k. view.set_kind_view k.now) result
             ≡ fact_of self.now.disciplines set.now }
     {
@@ -69,7 +69,7 @@ impl<'a> Rankings<'a> {
 
 /// Adds the disciplines that an item gives.
 fn add_disciplines<'a>(
-    disciplines: &mut FactTable<&'a SetKind>,
+    disciplines: &mut FactTable<&'a SetDiscipline>,
     item: &'a Item,
 ) -> Result<(), AllocError>
     ensures { OnOk result (facts_view (λ k. view.set_kind_view k.now) disciplines.new
@@ -85,9 +85,9 @@ fn add_disciplines<'a>(
 /// Adds this as the discipline of sets.
 #[tactic(auto, using(crate::proofs::Named::facts_view_push))]
 fn add_kinds<'a>(
-    disciplines: &mut FactTable<&'a SetKind>,
+    disciplines: &mut FactTable<&'a SetDiscipline>,
     sets: &Names,
-    kind: &'a SetKind,
+    kind: &'a SetDiscipline,
 ) -> Result<(), AllocError>
     ensures { OnOk result (facts_view (λ k. view.set_kind_view k.now) disciplines.new
         ≡ facts_view (λ k. view.set_kind_view k.now) disciplines.old ++ map (λ s. fact s (view.set_kind_view kind.now))

@@ -9,7 +9,7 @@ use crate::declared::tables::Tables;
 use crate::resolved::class_tables::resolve_keys;
 use crate::resolved::declarations::copied;
 use crate::resolved::rankings::Rankings;
-use ss_preamble::SetKind;
+use ss_preamble::SetDiscipline;
 use ss_program::{Discipline, Owner, Set};
 use std::alloc::{AllocError, Global};
 
@@ -85,16 +85,16 @@ fn discipline(
     alloc: Global,
     names: &NameTables,
     class: &[u8],
-    given: Option<&SetKind>,
+    given: Option<&SetDiscipline>,
 ) -> Result<Discipline, AllocError>
     ensures { IfOk result (λ discipline. discipline
         ≡ resolved.resolved_discipline (attribute_names names.now class.now)
         (option_map (λ k. set_kind_view k.now) given.entry)) }
 {
     match given {
-        None | Some(SetKind::Fifo) => Ok(Discipline::Fifo),
-        Some(SetKind::Lifo) => Ok(Discipline::Lifo),
-        Some(SetKind::Ranked(keys)) => {
+        None | Some(SetDiscipline::Fifo) => Ok(Discipline::Fifo),
+        Some(SetDiscipline::Lifo) => Ok(Discipline::Lifo),
+        Some(SetDiscipline::Ranked(keys)) => {
             let keys = resolve_keys(alloc, names, class, keys)?;
             Ok(Discipline::Ranked(keys))
         }

@@ -19,7 +19,9 @@ use crate::declared::name_kind::{NameKind, names_set, serves};
 use crate::declared::name_list::NameList;
 use crate::declared::tables::Tables;
 use crate::fault::CheckRule;
-use ss_preamble::{Clause, Definition, EventRule, Heading, Item, ItemAt, Key, Names, SetKind};
+use ss_preamble::{
+    Clause, Definition, EventRule, Heading, Item, ItemAt, Key, Names, SetDiscipline,
+};
 use ss_words::{Name, Several};
 use std::alloc::{AllocError, Global};
 
@@ -271,14 +273,14 @@ fn has_wrong_keys(whole: &Tables, item: &Item) -> bool
 
 /// Whether one of these sets is ranked by what is no attribute of its members.
 #[tactic(auto, using(crate::proofs::Tests::any_map))]
-fn any_wrong_rank(whole: &Tables, sets: &Names, kind: &SetKind) -> bool
+fn any_wrong_rank(whole: &Tables, sets: &Names, kind: &SetDiscipline) -> bool
     ensures { result ≡ list_any (λ s. rules.has_wrong_rank whole.now whole.now (fact_of whole.now.members s)
         (view.set_kind_view kind.now)) (all_of (several_view (λ n. n) sets.now)) }
 {
     is_wrong_rank(whole, sets.first.bytes(), kind) || any_other_rank(whole, &sets.others, kind)
 }
 
-fn any_other_rank(whole: &Tables, sets: &[Name], kind: &SetKind) -> bool
+fn any_other_rank(whole: &Tables, sets: &[Name], kind: &SetDiscipline) -> bool
     ensures { result ≡ list_any (λ s. rules.has_wrong_rank whole.now whole.now (fact_of whole.now.members s)
         (view.set_kind_view kind.now)) sets.now }
 {
@@ -287,13 +289,13 @@ fn any_other_rank(whole: &Tables, sets: &[Name], kind: &SetKind) -> bool
 }
 
 /// Whether a set is ranked by what is no attribute of its members, or has none and is ranked.
-fn is_wrong_rank(whole: &Tables, set: &[u8], kind: &SetKind) -> bool
+fn is_wrong_rank(whole: &Tables, set: &[u8], kind: &SetDiscipline) -> bool
     ensures { result ≡ rules.has_wrong_rank whole.now whole.now (fact_of whole.now.members set.now)
         (view.set_kind_view kind.now) }
 {
     match kind {
-        SetKind::Fifo | SetKind::Lifo => false,
-        SetKind::Ranked(keys) => match whole.members.get(set) {
+        SetDiscipline::Fifo | SetDiscipline::Lifo => false,
+        SetDiscipline::Ranked(keys) => match whole.members.get(set) {
             Some(class) => any_wrong_key(whole, &class.bytes, keys),
             None => true,
         },

@@ -5,7 +5,7 @@ use Rattle.ss_routines.specs.Places.{Section}
 use Rattle.ss_routines.specs.View.{section_view}
 use Rattle.ss_check.specs.PlaceRules.{has_wrong_picture}
 use Rattle.ss_check.specs.Resolved.{resolved_section}
-use Rattle.ss_check.proofs.Named.{maps_turn}
+use Rattle.ss_check.proofs.TableTurns.{maps_turn}
 use Rattle.ss_check.proofs.Pictures.{none_behind, none_here}
 use Rattle.ss_check.proofs.program.resolve_sections.Goals as goal
 

@@ -5,8 +5,8 @@ use Rattle.std.proofs.lemmas.Bool.Decides.{nat_tests}
 use Rattle.std.proofs.lemmas.Int.{ints, to_z-of_z}
 use Rattle.std.proofs.lemmas.List.{length-map, get_or-map}
 use Rattle.ss_program.specs.declared.keys.Key.{Key}
-use Rattle.ss_events.specs.declared.entry.ClassRule.{ClassRule}
-use Rattle.ss_events.specs.declared.entry.Entry.{Entry}
+use Rattle.ss_events.specs.declared.pending_notice.ClassRule.{ClassRule}
+use Rattle.ss_events.specs.declared.pending_notice.PendingNotice.{PendingNotice}
 use Rattle.ss_events.specs.Rules.{Rule, rule_at}
 use Rattle.ss_events.specs.Rows.{rule_of, notice_of, IsEntry}
 use Rattle.ss_events.specs.State.{AreRanked}
@@ -25,14 +25,14 @@ less-same x y xs ys e = grind (arith, ints)
 less-single : (x y : ℕ) → ltb x y ≡ less (pos x ∷ []) (pos y ∷ [])
 less-single x y = grind (arith, nat_tests)
 
-class-below : (rules : List ClassRule) (x : Entry) → IsEntry (map rule_of rules) x → x.class < length rules
+class-below : (rules : List ClassRule) (x : PendingNotice) → IsEntry (map rule_of rules) x → x.class < length rules
 class-below rules x h = omega (arith, event-below (map rule_of rules) x.class h.0, length-map rules rule_of)
 
-rule-at : (rules : List ClassRule) (p : ClassRule) (x : Entry) → IsEntry (map rule_of rules) x →
+rule-at : (rules : List ClassRule) (p : ClassRule) (x : PendingNotice) → IsEntry (map rule_of rules) x →
     rule_of (get_or rules x.class p) ≡ rule_at (map rule_of rules) x.class
 rule-at rules p x h = sym (get_or-map rule_of rules x.class p _ (class-below rules x h))
 
-by-time : (rules : List Rule) (a b : Entry) → (a.time ≡ b.time → ⊥) →
+by-time : (rules : List Rule) (a b : PendingNotice) → (a.time ≡ b.time → ⊥) →
     int_lt a.time b.time ≡ before rules (notice_of 0 a) (notice_of 0 b)
 by-time rules a b h = less-apart a.time b.time
     (pos (rule_at rules a.class).priority
@@ -40,7 +40,7 @@ by-time rules a b h = less-apart a.time b.time
     (pos (rule_at rules b.class).priority
     ∷ (compared (rule_at rules b.class).ties b.keys.items ++ pos b.filing ∷ [])) h
 
-by-class : (rules : List ClassRule) (a b : Entry) (p q : ClassRule) → IsEntry (map rule_of rules) a →
+by-class : (rules : List ClassRule) (a b : PendingNotice) (p q : ClassRule) → IsEntry (map rule_of rules) a →
     IsEntry (map rule_of rules) b → AreRanked (map rule_of rules) → a.time ≡ b.time → (a.class ≡ b.class → ⊥) →
     ltb (get_or rules a.class p).priority (get_or rules b.class q).priority
     ≡ before (map rule_of rules) (notice_of 0 a) (notice_of 0 b)
@@ -58,7 +58,7 @@ by-class rules a b p q h k ranked same apart =
     ∙ (ap (λ (i : ℕ). ltb m i) f
     ∙ (less-apart (pos m) (pos n) xs ys different ∙ less-same a.time b.time (pos m ∷ xs) (pos n ∷ ys) same))
 
-by-keys : (rules : List ClassRule) (a b : Entry) (p : ClassRule) (ties : List Key) (x y : List ℤ) (r : Option Bool) →
+by-keys : (rules : List ClassRule) (a b : PendingNotice) (p : ClassRule) (ties : List Key) (x y : List ℤ) (r : Option Bool) →
     IsEntry (map rule_of rules) a → a.time ≡ b.time → a.class ≡ b.class → ties ≡ (get_or rules a.class p).ties.items →
     x ≡ a.keys.items → y ≡ b.keys.items →
     ((u v : List ℤ) → less (compared ties x ++ u) (compared ties y ++ v) ≡ unwrap_or r (less u v)) →

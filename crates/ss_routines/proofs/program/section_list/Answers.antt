@@ -4,7 +4,7 @@ use Rattle.std.proofs.lemmas.Result.{err_from_is_err_and}
 use Rattle.ss_words.specs.Plain.{Plain, word_lines}
 use Rattle.ss_words.specs.Reading.{Read}
 use Rattle.ss_words.proofs.Loop.{passes_on}
-use Rattle.ss_routines.specs.declared.section.Section.{Section as CodeSection}
+use Rattle.ss_routines.specs.declared.tree.section.Section.{Section as CodeSection}
 use Rattle.ss_routines.specs.Places.{Section}
 use Rattle.ss_routines.specs.PlacesAtLines.{noting_section}
 use Rattle.ss_routines.specs.View.{section_view}

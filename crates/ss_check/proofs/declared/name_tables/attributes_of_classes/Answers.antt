@@ -2,7 +2,7 @@ use Rattle.std.proofs.Common.{ap, ◌∙◌}
 use Rattle.std.specs.Prelude.{map}
 use Rattle.ss_check.specs.NameKinds.{is_attribute_of}
 use Rattle.ss_check.specs.ResolvedNames.{names_where}
-use Rattle.ss_check.proofs.Named.{shown_end, shown_turn}
+use Rattle.ss_check.proofs.TableTurns.{shown_end, shown_turn}
 use Rattle.ss_check.proofs.declared.name_tables.attributes_of_classes.Goals as goal
 
 pub loop-class-preserved : goal.loop-class-preserved

@@ -1,7 +1,7 @@
 use Rattle.std.proofs.Common.{◌++◌}
 use Rattle.std.specs.Prelude.{map}
 use Rattle.ss_check.specs.Resolved.{class_table}
-use Rattle.ss_check.proofs.Named.{map_turn}
+use Rattle.ss_check.proofs.TableTurns.{map_turn}
 use Rattle.ss_check.proofs.resolved.class_tables.add_classes.Goals as goal
 
 pub loop-name-preserved : goal.loop-name-preserved

@@ -4,7 +4,7 @@ use Rattle.ss_words.specs.Lists.{all_of, several_view}
 use Rattle.ss_preamble.specs.View.{key_view}
 use Rattle.ss_check.specs.Resolved.{resolved_key}
 use Rattle.ss_check.specs.ResolvedNames.{attribute_names}
-use Rattle.ss_check.proofs.Named.{seen_end, seen_turn}
+use Rattle.ss_check.proofs.TableTurns.{seen_end, seen_turn}
 use Rattle.ss_check.proofs.resolved.class_tables.resolve_keys.Goals as goal
 
 pub loop-key-init : goal.loop-key-init

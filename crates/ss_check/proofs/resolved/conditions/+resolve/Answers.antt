@@ -1,8 +1,8 @@
 use Rattle.std.proofs.Common.{◌≡◌, ap, ◌∙◌, refl}
 use Rattle.std.specs.Prelude.{map}
-use Rattle.ss_routines.specs.declared.condition.Condition.{out-Condition}
-use Rattle.ss_routines.specs.declared.condition.Conjunction.{out-Conjunction}
-use Rattle.ss_routines.specs.declared.condition.Relation.TheFolds.{fold_out-Condition, fold_out-Conjunction}
+use Rattle.ss_routines.specs.declared.tree.condition.Condition.{out-Condition}
+use Rattle.ss_routines.specs.declared.tree.condition.Conjunction.{out-Conjunction}
+use Rattle.ss_routines.specs.declared.tree.condition.Relation.TheFolds.{fold_out-Condition, fold_out-Conjunction}
 use Rattle.ss_program.specs.declared.condition.Relation.TheFolds.{fold-roll-Conjunction, fold-roll-Disjunction}
 use Rattle.ss_routines.specs.Condition as tree
 use Rattle.ss_routines.specs.ConditionReading.{alternatives_of, additions_of}

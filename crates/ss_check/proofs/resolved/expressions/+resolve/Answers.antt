@@ -1,10 +1,10 @@
 use Rattle.std.proofs.Common.{◌≡◌, ap, ◌∙◌, refl, rules, ℕ}
 use Rattle.std.specs.Prelude.{map, option_map}
-use Rattle.ss_routines.specs.declared.expr.Expr.{out-Expr}
-use Rattle.ss_routines.specs.declared.expr.Term.{out-Term}
-use Rattle.ss_routines.specs.declared.expr.Application.{out-Application}
-use Rattle.ss_routines.specs.declared.expr.Factor.TheFolds.{fold_out-Added, fold_out-Application}
-use Rattle.ss_routines.specs.declared.expr.Factor.TheFolds.{fold_out-Expr, fold_out-Term}
+use Rattle.ss_routines.specs.declared.tree.expr.Expr.{out-Expr}
+use Rattle.ss_routines.specs.declared.tree.expr.Term.{out-Term}
+use Rattle.ss_routines.specs.declared.tree.expr.Application.{out-Application}
+use Rattle.ss_routines.specs.declared.tree.expr.Factor.TheFolds.{fold_out-Added, fold_out-Application}
+use Rattle.ss_routines.specs.declared.tree.expr.Factor.TheFolds.{fold_out-Expr, fold_out-Term}
 use Rattle.ss_words.specs.declared.terms.TermSign.{TermSign}
 use Rattle.ss_program.specs.declared.sum.SignedTerm.{roll-SignedTerm}
 use Rattle.ss_program.specs.declared.sum.Factor.TheFolds.{fold-roll-Arguments, fold-roll-SignedTerm}

@@ -4,7 +4,7 @@ use Rattle.ss_words.specs.Lists.{all_of, several_view}
 use Rattle.ss_routines.specs.View.{computed_view}
 use Rattle.ss_check.specs.Resolved.{resolved_telling}
 use Rattle.ss_check.specs.Scope.{in_scope}
-use Rattle.ss_check.proofs.Named.{seen_end, seen_turn}
+use Rattle.ss_check.proofs.TableTurns.{seen_end, seen_turn}
 use Rattle.ss_check.proofs.resolved.phrases.resolve_tellings.Goals as goal
 
 pub loop-other-init : goal.loop-other-init

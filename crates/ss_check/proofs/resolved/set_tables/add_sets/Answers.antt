@@ -1,7 +1,7 @@
 use Rattle.std.proofs.Common.{◌++◌}
 use Rattle.std.specs.Prelude.{map}
 use Rattle.ss_check.specs.Resolved.{set_table}
-use Rattle.ss_check.proofs.Named.{map_turn}
+use Rattle.ss_check.proofs.TableTurns.{map_turn}
 use Rattle.ss_check.proofs.resolved.set_tables.add_sets.Goals as goal
 
 pub loop-name-preserved : goal.loop-name-preserved

@@ -1,11 +1,11 @@
 use Rattle.std.proofs.Common.{◌++◌, append_assoc, refl}
 use Rattle.std.specs.Prelude.{map}
 use Rattle.ss_words.specs.declared.terms.TermSign.{TermSign}
-use Rattle.ss_routines.specs.declared.expr.Factor.TheFolds.{fold_out-Added, fold_out-Expr, fold_out-Term}
+use Rattle.ss_routines.specs.declared.tree.expr.Factor.TheFolds.{fold_out-Added, fold_out-Expr, fold_out-Term}
 use Rattle.ss_routines.specs.Expr.{Expr, Factor, Term, sums_of, products_of, exprs_of}
 use Rattle.ss_routines.specs.View.{application_view, expr_view, term_view, factor_view, added_view, factor_step, added_step, application_step, expr_step, term_step}
 use Rattle.ss_check.specs.Uses.{uses_expr, uses_sums, uses_term, uses_products, uses_factor, uses_exprs}
-use Rattle.ss_check.proofs.Named.{added_end, added_turn}
+use Rattle.ss_check.proofs.TableTurns.{added_end, added_turn}
 use Rattle.ss_check.proofs.uses.expressions.+uses.Goals as goal
 
 pub add_expr-loop-further-init : goal.add_expr-loop-further-init

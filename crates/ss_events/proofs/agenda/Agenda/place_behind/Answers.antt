@@ -2,7 +2,7 @@ use Rattle.std.proofs.Common.{ℕ, Option, arith, sym, ◌∙◌, ap}
 use Rattle.ss_links.specs.declared.board.Place.{Place}
 use Rattle.ss_events.proofs.Standing.{kept}
 use Rattle.ss_events.proofs.Keeping.{row-is}
-use Rattle.ss_events.specs.declared.entry.Row.{Row}
+use Rattle.ss_events.specs.declared.pending_notice.Row.{Row}
 use Rattle.ss_events.specs.Rules.{event_number}
 use Rattle.ss_events.proofs.Predecessors.{predecessor-row, predecessor-none}
 use Rattle.ss_events.proofs.agenda.Agenda.place_behind.Goals as goal

@@ -1,0 +1,6 @@
+//! Sections as trees: what the text says, with the names as they are written.
+pub mod condition;
+pub mod expr;
+pub mod place;
+pub mod section;
+pub mod simple;
