@@ -16,7 +16,7 @@ use Rattle.ss_routines.specs.Condition.{Reference, Condition, condition, Alterna
 use Rattle.ss_routines.specs.Simple.{Assign, Let, Add, Subtract, Making, Create, CreateEvery, Destroy, FilePlace, ByDiscipline, AtEnd, Before, After, Filing, File, FileAt, RemoveEnd, Remove, Listing, Unwritten, BehindGiven, InParentheses, Call, Return, Stop, ValuesFirst, CalledFirst, When, At, Now, In, Timing, Schedule, Cancel, StartSimulation, Read, Print, Skip, Simple, Assigns, Makes, Files, Transfers, Times, Exchanges}
 use Rattle.ss_routines.specs.Simple as s
 use Rattle.ss_routines.specs.Loops as l
-use Rattle.ss_routines.specs.Tree.{listed}
+use Rattle.ss_routines.specs.Tree.{listing_names}
 use Rattle.ss_routines.specs.Places as w
 use Rattle.ss_program.specs.Program.{ProgramTable, class_of}
 use Rattle.ss_check.specs.declared.declared.class_need.ClassNeed.{ClassNeed}
@@ -296,8 +296,8 @@ module _ (d : Tables) (v : Names) (locals : List Name) (p : ProgramTable) (S : I
       let q = parts (uses_target t) (uses_set r) h in three RemoveEnd refl (ref_is t q.0) (set_is r q.1)
   filing_is (Remove e r) h = let q = parts (uses_expr e) (uses_set r) h in two Remove (expr_is e q.0) (set_is r q.1)
 
-  given_is : (es : Listing Expr) → AreGood d locals (flat_map uses_expr (listed es)) →
-      given (map (named_expr p locals) (map (resolved_expr d v locals) (listed es))) ≡ behind_given es
+  given_is : (es : Listing Expr) → AreGood d locals (flat_map uses_expr (listing_names es)) →
+      given (map (named_expr p locals) (map (resolved_expr d v locals) (listing_names es))) ≡ behind_given es
   given_is Unwritten h = refl
   given_is (BehindGiven es) h = ap given (exprs_are (all_of es) h)
   given_is (InParentheses es) h = ap given (exprs_are (all_of es) h)
@@ -351,9 +351,9 @@ module _ (d : Tables) (v : Names) (locals : List Name) (p : ProgramTable) (S : I
   simple_is (Makes m) h = ap (λ (z : Making). w.Simply (Makes z)) (making_is m h)
   simple_is (Files f) h = ap (λ (z : Filing). w.Simply (Files z)) (filing_is f h)
   simple_is (Transfers (Call n es rs)) h =
-      let q = parts (flat_map uses_expr (listed es)) (flat_map uses_target rs) h.1 in
+      let q = parts (flat_map uses_expr (listing_names es)) (flat_map uses_target rs) h.1 in
       three (λ (m : Name) (z : Listing Expr) (ts : List Reference). w.Simply (Transfers (Call m z ts)))
-      (routine_named n (length (listed es)) (length rs) h.0) (given_is es q.0) (targets_are rs q.1)
+      (routine_named n (length (listing_names es)) (length rs) h.0) (given_is es q.0) (targets_are rs q.1)
   simple_is (Transfers Return) h = refl
   simple_is (Transfers Stop) h = refl
   simple_is (Times t) h = ap (λ (z : Timing). w.Simply (Times z)) (timing_is t h)

@@ -9,7 +9,7 @@ use Rattle.std.proofs.lemmas.Option.{slice_get-map}
 use Rattle.ss_words.specs.Lists.{Name}
 use Rattle.ss_preamble.specs.Tree.{ItemAt}
 use Rattle.ss_routines.specs.Simple.{Listing, Unwritten, BehindGiven, InParentheses}
-use Rattle.ss_routines.specs.Tree.{Head, MainHead, RoutineHead, EventHead, listed}
+use Rattle.ss_routines.specs.Tree.{Head, MainHead, RoutineHead, EventHead, listing_names}
 use Rattle.ss_routines.specs.Places.{Section}
 use Rattle.ss_routines.specs.Places as w
 use Rattle.ss_program.specs.declared.kinds.ClassKind.TheVariants.{Temporary}
@@ -81,7 +81,7 @@ module _ (xs ys names : List Name) (h : IsLonger (xs ++ ys) names) where
       ap (λ (zs : List Name). take (length ys) (drop (length xs) zs)) split
       ∙ ap (take (length ys)) (drop-append_seam xs (ys ++ h.more)) ∙ take-append_seam ys h.more
 
-given_listed : (ps : Listing Name) → given (listed ps) ≡ behind_given ps
+given_listed : (ps : Listing Name) → given (listing_names ps) ≡ behind_given ps
 given_listed Unwritten = refl
 given_listed (BehindGiven ns) = refl
 given_listed (InParentheses ns) = refl
@@ -91,10 +91,10 @@ head_by : (hd : Head) (names : List Name) → IsLonger (given_of hd ++ yielded_o
     (take (length (yielded_of hd)) (drop (length (given_of hd)) names)) (says_saving hd) ≡ plain_head hd
 head_by MainHead names h = refl
 head_by (RoutineHead n ps ys) names h =
-    two (RoutineHead n) (ap given (first_part (listed ps) ys names h) ∙ given_listed ps)
-    (second_part (listed ps) ys names h)
+    two (RoutineHead n) (ap given (first_part (listing_names ps) ys names h) ∙ given_listed ps)
+    (second_part (listing_names ps) ys names h)
 head_by (EventHead n ps saving) names h =
-    ap (λ (zs : Listing Name). EventHead n zs saving) (ap given (first_part (listed ps) [] names h) ∙ given_listed ps)
+    ap (λ (zs : Listing Name). EventHead n zs saving) (ap given (first_part (listing_names ps) [] names h) ∙ given_listed ps)
 
 -- the name of a routine
 routine_is : (n : Name) (hd : Head) → In n (routine_names hd) → section_name hd ≡ n

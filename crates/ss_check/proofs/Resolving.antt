@@ -5,7 +5,7 @@ use Rattle.std.proofs.lemmas.List.{map-append, map_more, take_all}
 use Rattle.ss_words.specs.Lists.{Name}
 use Rattle.ss_routines.specs.Expr as e
 use Rattle.ss_routines.specs.Condition as c
-use Rattle.ss_routines.specs.ConditionReading.{alternatives_of, additions_of}
+use Rattle.ss_routines.specs.Condition.{alternatives_of, additions_of}
 use Rattle.ss_words.specs.declared.terms.TermSign.{TermSign}
 use Rattle.ss_program.specs.ProgramExpr as x
 use Rattle.ss_program.specs.ProgramCondition as y

@@ -12,7 +12,7 @@ use Rattle.ss_routines.specs.Expr.{Expr, expr, Sums, no_sums, sum, Term, term, P
 use Rattle.ss_routines.specs.Condition.{Reference, Condition, condition, Alternatives, no_alternatives, alternative, Conjunction, conjunction, Additions, no_additions, addition, Relation, compared, is_empty, is_in, nested}
 use Rattle.ss_routines.specs.Simple.{Assign, Let, Add, Subtract, Making, Create, CreateEvery, Destroy, FilePlace, ByDiscipline, AtEnd, Before, After, Filing, File, FileAt, RemoveEnd, Remove, Call, Return, Stop, ValuesFirst, CalledFirst, When, At, Now, In, Timing, Schedule, Cancel, StartSimulation, Read, Print, Skip, Simple, Assigns, Makes, Files, Transfers, Times, Exchanges}
 use Rattle.ss_routines.specs.Loops as l
-use Rattle.ss_routines.specs.Tree.{listed}
+use Rattle.ss_routines.specs.Tree.{listing_names}
 use Rattle.ss_routines.specs.Places as w
 use Rattle.ss_program.specs.ProgramSound.{Scope, IsSoundExpr, IsSoundSums, IsSoundTerm, IsSoundProducts, IsSoundFactor, AreSoundArguments, AreSoundExprs, IsSoundOption, IsTarget, AreTargets, IsSoundSetRef, IsSoundAssign, IsSoundMaking, IsSoundPosition, IsSoundFiling, IsSoundNotice, IsSoundWhen, IsSoundTiming, IsSoundCondition, AreSoundConjunctions, IsSoundConjunction, AreSoundRelations, IsSoundRelation, IsSoundBranch, AreSoundQualifiers, IsSoundBegin, IsSoundPhrase, AreSoundTellings, IsSoundLooping, IsSoundPlace}
 use Rattle.ss_check.specs.declared.declared.class_need.ClassNeed.{ClassNeed}
@@ -285,8 +285,8 @@ module _ (d : Tables) (v : Names) (locals : List Name) (sc : Scope) (S : Scoped 
   sound_simple (Makes m) h p = sound_making m h
   sound_simple (Files f) h p = sound_filing f h
   sound_simple (Transfers (Call n es rs)) h p =
-      let q = parts (flat_map uses_expr (listed es)) (flat_map uses_target rs) h.1 in
-      (sound_exprs (listed es) q.0, sound_targets rs q.1)
+      let q = parts (flat_map uses_expr (listing_names es)) (flat_map uses_target rs) h.1 in
+      (sound_exprs (listing_names es) q.0, sound_targets rs q.1)
   sound_simple (Transfers Return) h p = tt
   sound_simple (Transfers Stop) h p = tt
   sound_simple (Times t) h p = sound_timing t h

@@ -15,7 +15,7 @@ use Rattle.ss_routines.specs.declared.tree.simple.Article.{Article}
 use Rattle.ss_routines.specs.Condition.{Reference}
 use Rattle.ss_routines.specs.Simple.{Details, ValuesFirst, CalledFirst, Call, Return, Stop, Schedule, Cancel, StartSimulation, Read, Print, Skip, Simple, Assigns, Makes, Files, Transfers, Times, Exchanges}
 use Rattle.ss_routines.specs.Simple as written
-use Rattle.ss_routines.specs.Tree.{Head, MainHead, RoutineHead, EventHead, listed, parameters_head}
+use Rattle.ss_routines.specs.Tree.{Head, MainHead, RoutineHead, EventHead, listing_names, parameters_head}
 use Rattle.ss_routines.specs.Places.{Section}
 use Rattle.ss_routines.specs.Places as w
 use Rattle.ss_program.specs.declared.branch.Branch.TheVariants.{If}
@@ -305,10 +305,10 @@ module _ (is : List ItemAt) (qs : List Section) (h : AreItemsKept (tables is qs)
         let y = f.section in
         let holds = f.holds in
         let counts =
-        (or_parts (is_wrong_call (length (listed es)) (length rs) (fact_of D.routines n)) _ kept.count).0 in
-        let same : has_other_counts (length (listed es)) (length rs) (declared.counts_of y.head) ≡ false =
-        ap (is_wrong_call (length (listed es)) (length rs)) (sym holds.says) ∙ counts in
-        let right = right_counts (length (listed es)) (length rs) (declared.counts_of y.head) same in
+        (or_parts (is_wrong_call (length (listing_names es)) (length rs) (fact_of D.routines n)) _ kept.count).0 in
+        let same : has_other_counts (length (listing_names es)) (length rs) (declared.counts_of y.head) ≡ false =
+        ap (is_wrong_call (length (listing_names es)) (length rs)) (sym holds.says) ∙ counts in
+        let right = right_counts (length (listing_names es)) (length rs) (declared.counts_of y.head) same in
         let number_is : Rattle.ss_check.specs.ResolvedNames.routine_number D V locals n ≡ f.place =
         ap (λ (o : Option ℕ). unwrap_or o 0) f.number ∙ omega arith in
         let there : slice_get p.sections (Rattle.ss_check.specs.ResolvedNames.routine_number D V locals n)
@@ -318,13 +318,13 @@ module _ (is : List ItemAt) (qs : List Section) (h : AreItemsKept (tables is qs)
         called_by
         (record {
           section = Rattle.ss_check.specs.ResolvedNames.routine_number D V locals n;
-          given = map (resolved_expr D V locals) (listed es);
+          given = map (resolved_expr D V locals) (listing_names es);
           targets = map (resolved_target D V locals) rs;
         })
         (resolved_section D V y)
         (slice_get p.sections (Rattle.ss_check.specs.ResolvedNames.routine_number D V locals n)) there (
           holds.kind,
-          length-map (listed es) (resolved_expr D V locals)
+          length-map (listing_names es) (resolved_expr D V locals)
               ∙ right.0,
           length-map rs (resolved_target D V locals) ∙ right.1,
         )

@@ -4,7 +4,7 @@ use Rattle.std.specs.List.{flat_map, list_any}
 use Rattle.ss_words.specs.Lists.{Name, Several, all_of}
 use Rattle.ss_preamble.specs.declared.item.Heading.{Heading}
 use Rattle.ss_preamble.specs.Tree.{Key, Clause, Has, Owns, BelongsTo, SetDiscipline, Definition, Variables, Sets, EventRule, PriorityOrder, BreakTies, ExternalEvents, Item, Headed, OfEvery, OfSystem, Defines, Orders, ItemAt}
-use Rattle.ss_routines.specs.Tree.{Head, MainHead, RoutineHead, EventHead, listed}
+use Rattle.ss_routines.specs.Tree.{Head, MainHead, RoutineHead, EventHead, listing_names}
 use Rattle.ss_routines.specs.Places.{Section}
 use Rattle.ss_check.specs.declared.declared.name_kind.NameKind.{NameKind}
 use Rattle.ss_check.specs.declared.declared.name_kind.NameKind.TheVariants as k
@@ -181,8 +181,8 @@ classes_in _ = []
 -- the names of the given parameters
 abbrev pub given_of : Head → List Name
 given_of MainHead = []
-given_of (RoutineHead n given yielded) = listed given
-given_of (EventHead n given saving) = listed given
+given_of (RoutineHead n given yielded) = listing_names given
+given_of (EventHead n given saving) = listing_names given
 
 -- the names of the yielded parameters
 abbrev pub yielded_of : Head → List Name

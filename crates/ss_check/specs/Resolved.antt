@@ -10,7 +10,7 @@ use Rattle.ss_routines.specs.Expr as e
 use Rattle.ss_routines.specs.Condition as c
 use Rattle.ss_routines.specs.Simple as s
 use Rattle.ss_routines.specs.Loops as l
-use Rattle.ss_routines.specs.Tree.{Head, MainHead, RoutineHead, EventHead, listed}
+use Rattle.ss_routines.specs.Tree.{Head, MainHead, RoutineHead, EventHead, listing_names}
 use Rattle.ss_routines.specs.Places as w
 use Rattle.ss_program.specs.declared.filing.Position.{Position}
 use Rattle.ss_program.specs.declared.filing.Position.TheVariants as position
@@ -202,7 +202,7 @@ module _ (d : Tables) (v : Names) (locals : List Name) where
   abbrev pub resolved_transfer : s.Transfer → Place
   resolved_transfer (s.Call n bs rs) = place.Call (record {
     section = routine_number d v locals n;
-    given = map resolved_expr (listed bs);
+    given = map resolved_expr (listing_names bs);
     targets = map resolved_target rs;
   })
   resolved_transfer s.Return = place.Control control.Return

@@ -8,7 +8,7 @@ use Rattle.ss_routines.specs.Expr.{Expr, expr, Sums, no_sums, sum, Term, term, P
 use Rattle.ss_routines.specs.Condition.{Reference, Condition, condition, Alternatives, no_alternatives, alternative, Conjunction, conjunction, Additions, no_additions, addition, Relation, compared, is_empty, is_in, nested}
 use Rattle.ss_routines.specs.Simple.{Assign, Let, Add, Subtract, Making, Create, CreateEvery, Destroy, FilePlace, Before, After, Filing, File, FileAt, RemoveEnd, Remove, Transfer, Call, Details, ValuesFirst, CalledFirst, When, At, In, Timing, Schedule, Cancel, StartSimulation, Exchange, Read, Print, Skip, Simple, Assigns, Makes, Files, Transfers, Times, Exchanges}
 use Rattle.ss_routines.specs.Loops as l
-use Rattle.ss_routines.specs.Tree.{listed}
+use Rattle.ss_routines.specs.Tree.{listing_names}
 use Rattle.ss_routines.specs.Places.{Branch, If, Loop, For, Gather, Compute, Place, Simply, Branches, Loops}
 use Rattle.ss_check.specs.declared.declared.class_need.ClassNeed.{ClassNeed}
 use Rattle.ss_check.specs.declared.declared.class_need.ClassNeed.TheVariants.{Permanent, Ending, Event}
@@ -152,8 +152,8 @@ uses_filing (Remove e s) = uses_expr e ++ uses_set s
 -- CALL
 abbrev pub uses_transfer : Transfer → List Use
 uses_transfer (Call r values targets) =
-    Routine r (length (listed values)) (length targets) ∷
-    (flat_map uses_expr (listed values) ++ flat_map uses_target targets)
+    Routine r (length (listing_names values)) (length targets) ∷
+    (flat_map uses_expr (listing_names values) ++ flat_map uses_target targets)
 uses_transfer _ = []
 
 -- what is CALLED: a target behind A, a value behind THE

@@ -9,10 +9,10 @@ use Rattle.ss_words.specs.declared.reserved.Reserved.TheVariants as r
 use Rattle.ss_words.specs.Plain.{Plain, PlainAt, name, mark, first, plains}
 use Rattle.ss_words.specs.Noting.{line}
 use Rattle.ss_words.specs.Farthest.{IsFarthest}
-use Rattle.ss_preamble.specs.declared.limits.Counted.TheVariants.{NoNames}
 use Rattle.ss_preamble.specs.Tree.{Preamble}
 use Rattle.ss_preamble.specs.Spelling.{spell}
-use Rattle.ss_preamble.specs.Roles.{Role, Nothing, Standing, at_start, behind_word, role, roles_from, roles, defined}
+use Rattle.ss_preamble.specs.Roles.{NoNames, Role, Nothing, Standing, at_start, behind_word, role, roles_from, roles}
+use Rattle.ss_preamble.specs.Roles.{kind_behind_define}
 use Rattle.ss_preamble.specs.WordLimits.{AreWithin}
 use Rattle.ss_preamble.specs.Refused.{Text, spell_text, InRoom, IsUnexpectedEnd, lines}
 use Rattle.ss_preamble.specs.Laws.{BeginningsAreRefused}
@@ -47,7 +47,8 @@ no_words = record { size = 0; roles = λ a. refl }
 
 -- what DEFINE makes of its names is said by these words, or they are names alone, perhaps with AS behind them
 define_cut : (ws : List Plain) (n : ℕ)
-    → (defined (take n ws) ≡ defined ws) ⊎ ((defined (take n ws) ≡ NoNames) × CountsNot (take n ws))
+    → (kind_behind_define (take n ws) ≡ kind_behind_define ws)
+    ⊎ ((kind_behind_define (take n ws) ≡ NoNames) × CountsNot (take n ws))
 define_cut [] zero = inl refl
 define_cut [] (suc n) = inl refl
 define_cut (w ∷ ws) zero = inr (refl, no_words)

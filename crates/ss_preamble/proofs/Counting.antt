@@ -8,6 +8,7 @@ use Rattle.std.proofs.lemmas.List.{append-nil}
 use Rattle.std.proofs.lemmas.List.Sums.{sum_by-append, sum_by-cons, fold-append}
 use Rattle.std.proofs.lemmas.Slice.Eq.{bytes_eq-Decides}
 use Rattle.ss_words.specs.Lists.{Name}
+use Rattle.ss_words.specs.declared.limits.TheConstants.{MOST_CLASSES, MOST_ATTRIBUTES, MOST_VARIABLES, MOST_SETS}
 use Rattle.ss_preamble.specs.Roles.{Role, AClass, AnAttribute, AVariable, ASet, AKey, Nothing}
 use Rattle.ss_preamble.specs.Limits.{with_name, distinct}
 use Rattle.ss_preamble.specs.WordLimits.{class_of, set_of, is_attribute_of, is_variable, is_late_key, AreWithin}
@@ -116,43 +117,45 @@ module _ (rs : List Role) (w : AreWithin rs) where
   abbrev InRoom : Role → Type 0
   InRoom r = is_in_room (tally_of (rs ++ r ∷ [])) r ≡ true
 
-  classes_more : (r : Role) → InRoom r → length (distinct (flat_map class_of (rs ++ r ∷ []))) ≤ 64
-  classes_more (AClass n) e = leb-true _ 64 e
-  classes_more (AnAttribute n) e = same_length _ _ 64 (classes_with rs (AnAttribute n)) w.classes
-  classes_more AVariable e = same_length _ _ 64 (classes_with rs AVariable) w.classes
-  classes_more (ASet n) e = same_length _ _ 64 (classes_with rs (ASet n)) w.classes
-  classes_more (AKey k) e = same_length _ _ 64 (classes_with rs (AKey k)) w.classes
-  classes_more Nothing e = same_length _ _ 64 (classes_with rs Nothing) w.classes
+  classes_more : (r : Role) → InRoom r → length (distinct (flat_map class_of (rs ++ r ∷ []))) ≤ MOST_CLASSES
+  classes_more (AClass n) e = leb-true _ MOST_CLASSES e
+  classes_more (AnAttribute n) e = same_length _ _ MOST_CLASSES (classes_with rs (AnAttribute n)) w.classes
+  classes_more AVariable e = same_length _ _ MOST_CLASSES (classes_with rs AVariable) w.classes
+  classes_more (ASet n) e = same_length _ _ MOST_CLASSES (classes_with rs (ASet n)) w.classes
+  classes_more (AKey k) e = same_length _ _ MOST_CLASSES (classes_with rs (AKey k)) w.classes
+  classes_more Nothing e = same_length _ _ MOST_CLASSES (classes_with rs Nothing) w.classes
 
-  sets_more : (r : Role) → InRoom r → length (distinct (flat_map set_of (rs ++ r ∷ []))) ≤ 64
-  sets_more (AClass n) e = same_length _ _ 64 (sets_with rs (AClass n)) w.sets
-  sets_more (AnAttribute n) e = same_length _ _ 64 (sets_with rs (AnAttribute n)) w.sets
-  sets_more AVariable e = same_length _ _ 64 (sets_with rs AVariable) w.sets
-  sets_more (ASet n) e = leb-true _ 64 e
-  sets_more (AKey k) e = same_length _ _ 64 (sets_with rs (AKey k)) w.sets
-  sets_more Nothing e = same_length _ _ 64 (sets_with rs Nothing) w.sets
+  sets_more : (r : Role) → InRoom r → length (distinct (flat_map set_of (rs ++ r ∷ []))) ≤ MOST_SETS
+  sets_more (AClass n) e = same_length _ _ MOST_SETS (sets_with rs (AClass n)) w.sets
+  sets_more (AnAttribute n) e = same_length _ _ MOST_SETS (sets_with rs (AnAttribute n)) w.sets
+  sets_more AVariable e = same_length _ _ MOST_SETS (sets_with rs AVariable) w.sets
+  sets_more (ASet n) e = leb-true _ MOST_SETS e
+  sets_more (AKey k) e = same_length _ _ MOST_SETS (sets_with rs (AKey k)) w.sets
+  sets_more Nothing e = same_length _ _ MOST_SETS (sets_with rs Nothing) w.sets
 
-  variables_more : (r : Role) → InRoom r → count_by is_variable (rs ++ r ∷ []) ≤ 256
+  variables_more : (r : Role) → InRoom r → count_by is_variable (rs ++ r ∷ []) ≤ MOST_VARIABLES
   variables_more (AClass n) e = let h = variables_with rs (AClass n) in let k = w.variables in omega (arith, h, k)
   variables_more (AnAttribute n) e =
       let h = variables_with rs (AnAttribute n) in let k = w.variables in omega (arith, h, k)
-  variables_more AVariable e = leb-true _ 256 e
+  variables_more AVariable e = leb-true _ MOST_VARIABLES e
   variables_more (ASet n) e = let h = variables_with rs (ASet n) in let k = w.variables in omega (arith, h, k)
   variables_more (AKey k) e = let h = variables_with rs (AKey k) in let l = w.variables in omega (arith, h, l)
   variables_more Nothing e = let h = variables_with rs Nothing in let k = w.variables in omega (arith, h, k)
 
   -- the attributes of another class, and those of this one
   attribute_more : (n : Name) → InRoom (AnAttribute n) → (c : Name) (b : Bool) → bytes_eq c n ≡ b
-      → count_by (is_attribute_of c) (rs ++ AnAttribute n ∷ []) ≤ 32
+      → count_by (is_attribute_of c) (rs ++ AnAttribute n ∷ []) ≤ MOST_ATTRIBUTES
   attribute_more n e c true is =
       let same : c ≡ n = (bytes_eq-Decides c n).0 is in
-      let le : count_by (bytes_eq n) (flat_map attribute_owner (rs ++ AnAttribute n ∷ [])) ≤ 32 = leb-true _ 32 e in
-      subst (λ (d : Name). count_by (is_attribute_of d) (rs ++ AnAttribute n ∷ []) ≤ 32) (sym same)
+      let le : count_by (bytes_eq n) (flat_map attribute_owner (rs ++ AnAttribute n ∷ [])) ≤ MOST_ATTRIBUTES =
+      leb-true _ MOST_ATTRIBUTES e in
+      subst (λ (d : Name). count_by (is_attribute_of d) (rs ++ AnAttribute n ∷ []) ≤ MOST_ATTRIBUTES) (sym same)
       (let h = owners_count n (rs ++ AnAttribute n ∷ []) in omega (arith, h, le))
   attribute_more n e c false is =
       let h = count_same (is_attribute_of c) rs (AnAttribute n) is in let k = w.attributes c in omega (arith, h, k)
 
-  attributes_more : (r : Role) → InRoom r → (c : Name) → count_by (is_attribute_of c) (rs ++ r ∷ []) ≤ 32
+  attributes_more : (r : Role) → InRoom r → (c : Name)
+      → count_by (is_attribute_of c) (rs ++ r ∷ []) ≤ MOST_ATTRIBUTES
   attributes_more (AClass n) e c =
       let h = count_same (is_attribute_of c) rs (AClass n) refl in let k = w.attributes c in omega (arith, h, k)
   attributes_more (AnAttribute n) e c = attribute_more n e c (bytes_eq c n) refl
@@ -188,11 +191,12 @@ no_le k n e le = let h = le-leb k n le in cc
 
 pub not_within : (rs : List Role) (r : Role) → is_in_room (tally_of (rs ++ r ∷ [])) r ≡ false → AreWithin (rs ++ r ∷ [])
     → ⊥
-not_within rs (AClass n) e w = no_le _ 64 e w.classes
+not_within rs (AClass n) e w = no_le _ MOST_CLASSES e w.classes
 not_within rs (AnAttribute n) e w =
-    no_le _ 32 e (let h = owners_count n (rs ++ AnAttribute n ∷ []) in let k = w.attributes n in omega (arith, h, k))
-not_within rs AVariable e w = no_le _ 256 e w.variables
-not_within rs (ASet n) e w = no_le _ 64 e w.sets
+    no_le _ MOST_ATTRIBUTES e
+    (let h = owners_count n (rs ++ AnAttribute n ∷ []) in let k = w.attributes n in omega (arith, h, k))
+not_within rs AVariable e w = no_le _ MOST_VARIABLES e w.variables
+not_within rs (ASet n) e w = no_le _ MOST_SETS e w.sets
 not_within rs (AKey k) e w =
     let h = count_one is_late_key rs (AKey k) (ap not e) in let g = w.keys in omega (arith, h, g)
 not_within rs Nothing e w = absurd cc

@@ -8,7 +8,8 @@ use Rattle.ss_words.specs.declared.plain_word.PlainWord.{PlainWord}
 use Rattle.ss_words.specs.Words.{WordAt}
 use Rattle.ss_words.specs.Plain.{Plain, PlainAt, name, number, mark, picture, plains, plain_at}
 use Rattle.ss_words.specs.PlainRules.{PlainRule, Surroundings, surroundings, ruled_word, follow_behind, plain_from}
-use Rattle.ss_words.specs.PlainRules.{spelled, as_follows, without_fillers, governed, single_commas, parting_commas}
+use Rattle.ss_words.specs.PlainRules.{unruled_words, as_follows, without_fillers, by_governing_word, single_commas}
+use Rattle.ss_words.specs.PlainRules.{parting_commas}
 use Rattle.ss_words.specs.PlainRules.{plain_words_of}
 
 -- the words rise from l on, below n
@@ -49,9 +50,9 @@ rising_spelled i n (w ∷ ws) le = (omega arith, omega (arith, le), rising_spell
 pub rising : (ws : List WordAt) → Rising 0 (length ws) (plain_words_of ws)
 rising ws =
     let n = length ws in
-    let a = rising_follow as_follows [] (spelled ws) 0 n (rising_spelled 0 n ws (omega arith)) in
+    let a = rising_follow as_follows [] (unruled_words ws) 0 n (rising_spelled 0 n ws (omega arith)) in
     let b = rising_follow without_fillers [] _ 0 n a in
-    let c = rising_follow governed [] _ 0 n b in
+    let c = rising_follow by_governing_word [] _ 0 n b in
     let d = rising_follow single_commas [] _ 0 n c in
     rising_follow parting_commas [] _ 0 n d
 

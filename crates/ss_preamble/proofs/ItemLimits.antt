@@ -8,12 +8,13 @@ use Rattle.std.proofs.lemmas.Grind.{flat_map-append}
 use Rattle.std.proofs.lemmas.List.{append-nil}
 use Rattle.std.proofs.lemmas.List.Sums.{sum_by-cons}
 use Rattle.ss_words.specs.Lists.{Name, Several, all_of}
+use Rattle.ss_words.specs.declared.limits.TheConstants.{MOST_CLASSES, MOST_SETS, MOST_KEYS}
 use Rattle.ss_preamble.specs.Tree.{Key, Clause, Has, Owns, BelongsTo, SetDiscipline, Fifo, Lifo, Ranked, Item, Normally}
 use Rattle.ss_preamble.specs.Tree.{Variables, Sets, PriorityOrder, BreakTies, ExternalEvents, Headed, OfEvery}
 use Rattle.ss_preamble.specs.Tree.{OfSystem, Defines, Orders, Preamble}
 use Rattle.ss_preamble.specs.Spelling.{spell}
 use Rattle.ss_preamble.specs.Roles.{Role, AClass, AVariable, ASet, AKey, Nothing, owned_role, roles}
-use Rattle.ss_preamble.specs.Limits.{most_keys, distinct, class_names, clause_sets, set_names, clause_has, has_count}
+use Rattle.ss_preamble.specs.Limits.{distinct, class_names, clause_sets, set_names, clause_has, has_count}
 use Rattle.ss_preamble.specs.Limits.{attribute_count, variable_count, key_count, IsWithin}
 use Rattle.ss_preamble.specs.WordLimits.{class_of, set_of, is_attribute_of, is_variable, is_late_key, AreWithin}
 use Rattle.ss_preamble.specs.Laws.{WordsCountItems}
@@ -369,24 +370,24 @@ abbrev late : Role → List Mark
 late r = marks is_late_key r
 
 -- whether key number k stands past its limit
-late_key : (k : ℕ) (b : Bool) → leb k most_keys ≡ b → length (late (AKey k)) ≡ (k - most_keys) - (k - 1 - most_keys)
+late_key : (k : ℕ) (b : Bool) → leb k MOST_KEYS ≡ b → length (late (AKey k)) ≡ (k - MOST_KEYS) - (k - 1 - MOST_KEYS)
 late_key k true e =
-    let le = leb-true k most_keys e in
+    let le = leb-true k MOST_KEYS e in
     ap (λ (b : Bool). length (let us : List Mark = if not b then tt ∷ [] else [] in us)) e ∙ omega (arith, le)
 late_key k false e =
-    let more : k ≤ most_keys → ⊥ = no_le k most_keys e in
+    let more : k ≤ MOST_KEYS → ⊥ = no_le k MOST_KEYS e in
     ap (λ (b : Bool). length (let us : List Mark = if not b then tt ∷ [] else [] in us)) e ∙ omega (arith, more)
 
 late_others : (j : ℕ) (ks : List Key)
-    → length (flat_map late (other_keys_roles j ks)) ≡ (j + length ks - most_keys) - (j - most_keys)
+    → length (flat_map late (other_keys_roles j ks)) ≡ (j + length ks - MOST_KEYS) - (j - MOST_KEYS)
 late_others j [] = omega arith
 late_others j (a ∷ ks) =
     let h = length-append (late (AKey (suc j))) (flat_map late (other_keys_roles (suc j) ks)) in
-    let one = late_key (suc j) (leb (suc j) most_keys) refl in
+    let one = late_key (suc j) (leb (suc j) MOST_KEYS) refl in
     let rest = late_others (suc j) ks in
     omega (arith, h, one, rest)
 
-late_keys : (ks : Several Key) → length (flat_map late (keys_roles ks)) ≡ length (all_of ks) - most_keys
+late_keys : (ks : Several Key) → length (flat_map late (keys_roles ks)) ≡ length (all_of ks) - MOST_KEYS
 late_keys ks = let h = late_others 1 ks.others in omega (arith, h)
 
 late_clause : (o : Option Name) (x : Clause) → of_clause late refl o x ≡ []
@@ -395,7 +396,7 @@ late_clause (Some n) (Has ns) = empty (all_of ns)
 late_clause o (Owns ns) = empty (all_of ns)
 late_clause o (BelongsTo ns) = empty (all_of ns)
 
-late_item : (i : Item) → length (of_item late refl i) ≡ key_count i - most_keys
+late_item : (i : Item) → length (of_item late refl i) ≡ key_count i - MOST_KEYS
 late_item Normally = refl
 late_item (Headed h None) = refl
 late_item (Headed h (Some ns)) = none_of _ (empty (all_of ns))
@@ -410,26 +411,26 @@ late_item (Orders (PriorityOrder ns)) = refl
 late_item (Orders (BreakTies n ks)) = late_keys ks
 late_item (Orders (ExternalEvents ns)) = refl
 
-late_words : (is : Preamble) → count_by is_late_key (roles (spell is)) ≡ sum_by (λ i. key_count i - most_keys) is
+late_words : (is : Preamble) → count_by is_late_key (roles (spell is)) ≡ sum_by (λ i. key_count i - MOST_KEYS) is
 late_words is =
     count_is is_late_key (roles (spell is)) ∙ ap length (words late refl is)
-    ∙ sum_is (of_item late refl) (λ i. key_count i - most_keys) late_item is
+    ∙ sum_is (of_item late refl) (λ i. key_count i - MOST_KEYS) late_item is
 
 -- how many keys of an item stand past the limit
 abbrev over : Item → ℕ
-over i = key_count i - most_keys
+over i = key_count i - MOST_KEYS
 
-few_keys : (is : List Item) → sum_by over is ≡ 0 → All (λ i. key_count i ≤ most_keys) is
+few_keys : (is : List Item) → sum_by over is ≡ 0 → All (λ i. key_count i ≤ MOST_KEYS) is
 few_keys [] e k d lt = absurd (omega (arith, lt))
 few_keys (i ∷ is) e zero d lt = let h = sum_by-cons over i is in omega (arith, h, e)
 few_keys (i ∷ is) e (suc k) d lt =
     let h = sum_by-cons over i is in few_keys is (omega (arith, h, e)) k d (omega (arith, lt))
 
-none_over : (is : List Item) → All (λ i. key_count i ≤ most_keys) is → sum_by over is ≡ 0
+none_over : (is : List Item) → All (λ i. key_count i ≤ MOST_KEYS) is → sum_by over is ≡ 0
 none_over [] few = refl
 none_over (i ∷ is) few =
     let h = sum_by-cons over i is in
-    let one : key_count i ≤ most_keys = few 0 i (omega arith) in
+    let one : key_count i ≤ MOST_KEYS = few 0 i (omega arith) in
     let rest = none_over is (λ k d lt. few (suc k) d (omega (arith, lt))) in
     omega (arith, h, one, rest)
 
@@ -437,19 +438,19 @@ none_over (i ∷ is) few =
 
 pub words_within : (is : Preamble) → IsWithin is → AreWithin (roles (spell is))
 words_within is w = record {
-  classes = subst (λ (ns : List Name). length (distinct ns) ≤ 64) (sym (class_words is)) w.classes;
+  classes = subst (λ (ns : List Name). length (distinct ns) ≤ MOST_CLASSES) (sym (class_words is)) w.classes;
   attributes = λ c. (let h = attribute_words c is in let k = w.attributes c in omega (arith, h, k));
   variables = (let h = variable_words is in let k = w.variables in omega (arith, h, k));
-  sets = subst (λ (ns : List Name). length (distinct ns) ≤ 64) (sym (set_words is)) w.sets;
+  sets = subst (λ (ns : List Name). length (distinct ns) ≤ MOST_SETS) (sym (set_words is)) w.sets;
   keys = late_words is ∙ none_over is w.keys;
 }
 
 pub items_within : (is : Preamble) → AreWithin (roles (spell is)) → IsWithin is
 items_within is w = record {
-  classes = subst (λ (ns : List Name). length (distinct ns) ≤ 64) (class_words is) w.classes;
+  classes = subst (λ (ns : List Name). length (distinct ns) ≤ MOST_CLASSES) (class_words is) w.classes;
   attributes = λ c. (let h = attribute_words c is in let k = w.attributes c in omega (arith, h, k));
   variables = (let h = variable_words is in let k = w.variables in omega (arith, h, k));
-  sets = subst (λ (ns : List Name). length (distinct ns) ≤ 64) (set_words is) w.sets;
+  sets = subst (λ (ns : List Name). length (distinct ns) ≤ MOST_SETS) (set_words is) w.sets;
   keys = few_keys is (sym (late_words is) ∙ w.keys);
 }
 

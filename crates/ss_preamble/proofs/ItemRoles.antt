@@ -4,8 +4,6 @@ use Rattle.std.specs.List.{flat_map}
 use Rattle.ss_words.specs.declared.reserved.Reserved.TheVariants as r
 use Rattle.ss_words.specs.Plain.{Plain, name}
 use Rattle.ss_words.specs.Lists.{Name, Several, all_of, spell_others, spell_names}
-use Rattle.ss_preamble.specs.declared.limits.Counted.{Counted}
-use Rattle.ss_preamble.specs.declared.limits.Counted.TheVariants.{NoNames, Classes, Owned, Sets, Variables, Keys}
 use Rattle.ss_preamble.specs.declared.item.Heading.{Heading}
 use Rattle.ss_preamble.specs.declared.item.Heading.TheVariants as h
 use Rattle.ss_words.specs.declared.terms.Rank.{Rank}
@@ -15,9 +13,10 @@ use Rattle.ss_preamble.specs.Tree as t
 use Rattle.ss_preamble.specs.Tree.{EventRule, PriorityOrder, BreakTies, ExternalEvents, Item, Normally, Headed}
 use Rattle.ss_preamble.specs.Tree.{OfEvery, OfSystem, Defines, Orders, Preamble}
 use Rattle.ss_preamble.specs.Spelling.{word, spell_clause, spell_clauses, spell_other_clauses, spell_rank, spell_key}
-use Rattle.ss_preamble.specs.Spelling.{spell_keys, spell_other_keys, spell_set_kind, spell_item, spell_items, spell}
+use Rattle.ss_preamble.specs.Spelling.{spell_keys, spell_other_keys, spell_set_discipline, spell_item, spell_items, spell}
+use Rattle.ss_preamble.specs.Roles.{CountedKind, NoNames, Classes, Owned, Sets, Variables, Keys}
 use Rattle.ss_preamble.specs.Roles.{Role, AClass, AVariable, ASet, AKey, Nothing, Standing, at_start, behind_name}
-use Rattle.ss_preamble.specs.Roles.{name_role, owned_role, defined, defined_as, roles_from, roles}
+use Rattle.ss_preamble.specs.Roles.{name_role, owned_role, kind_behind_define, kind_behind_as, roles_from, roles}
 
 -- ---- what the words count to
 
@@ -69,7 +68,7 @@ item_roles (Orders (ExternalEvents ns)) = Nothing ∷ Nothing ∷ Nothing ∷ na
 -- ---- names
 
 -- a standing, by its parts
-abbrev standing : Counted → Option Name → ℕ → Standing
+abbrev standing : CountedKind → Option Name → ℕ → Standing
 standing c o j = record { counted = c; owner = o; keys = j }
 
 -- names behind the first
@@ -104,8 +103,8 @@ class_names o j (n ∷ ns) y =
 abbrev Counts : Standing → List Plain → List Role → List Plain → Type 0
 Counts a q rs y = (b : Standing) × (roles_from a (q ++ y) ≡ rs ++ roles_from b y)
 
-clause : (c : Counted) (o : Option Name) (j : ℕ) (x : Clause) (y : List Plain)
-    → (d : Counted) × (roles_from (standing c o j) (spell_clause x ++ y) ≡ clause_roles o x ++ roles_from
+clause : (c : CountedKind) (o : Option Name) (j : ℕ) (x : Clause) (y : List Plain)
+    → (d : CountedKind) × (roles_from (standing c o j) (spell_clause x ++ y) ≡ clause_roles o x ++ roles_from
     (standing d o j) y)
 clause c o j (Has ns) y =
     (Owned, ap (λ (rs : List Role). Nothing ∷ rs) (all_kept (standing Owned o j) (λ n. refl) ns y))
@@ -114,7 +113,7 @@ clause c o j (Owns ns) y =
 clause c o j (BelongsTo ns) y =
     (Sets, ap (λ (rs : List Role). Nothing ∷ Nothing ∷ rs) (all_kept (standing Sets o j) (λ n. refl) ns y))
 
-other_clauses : (c : Counted) (o : Option Name) (j : ℕ) (cs : List Clause) (y : List Plain)
+other_clauses : (c : CountedKind) (o : Option Name) (j : ℕ) (cs : List Clause) (y : List Plain)
     → Counts (standing c o j) (spell_other_clauses cs) (flat_map (clause_roles o) cs) y
 other_clauses c o j [] y = (standing c o j, refl)
 other_clauses c o j (x ∷ cs) y =
@@ -127,13 +126,13 @@ other_clauses c o j (x ∷ cs) y =
           ∙ sym (append_assoc (clause_roles o x) (flat_map (clause_roles o) cs) (roles_from b y)),
     )
 
-clauses : (c : Counted) (o : Option Name) (j : ℕ) (cs : Several Clause) (y : List Plain)
+clauses : (c : CountedKind) (o : Option Name) (j : ℕ) (cs : Several Clause) (y : List Plain)
     → Counts (standing c o j) (spell_clauses cs) (clauses_roles o cs) y
 clauses c o j cs y = other_clauses c o j (all_of cs) y
 
 -- ---- keys
 
-key : (c : Counted) (o : Option Name) (j : ℕ) (a : Key) (y : List Plain)
+key : (c : CountedKind) (o : Option Name) (j : ℕ) (a : Key) (y : List Plain)
     → roles_from (standing Keys o j) (spell_key a ++ y)
     ≡ Nothing ∷ Nothing ∷ AKey (suc j) ∷ roles_from (standing Keys o (suc j)) y
 key c o j a y = at a.rank
@@ -165,29 +164,29 @@ keys o ks y =
 -- ---- DEFINE
 
 -- what stands behind AS says what the names before it are
-looked : (ns : List Name) (z : List Plain) → defined (spelled ns ++ word r.As ∷ z) ≡ defined_as z
+looked : (ns : List Name) (z : List Plain) → kind_behind_define (spelled ns ++ word r.As ∷ z) ≡ kind_behind_as z
 looked [] z = refl
 looked (n ∷ ns) z = looked ns z
 
 -- the names of a DEFINE whose next words are z
-defined_names : (c : Counted) (a : Standing) (ns : Several Name) (z : List Plain) → defined_as z ≡ c
+defined_names : (c : CountedKind) (a : Standing) (ns : Several Name) (z : List Plain) → kind_behind_as z ≡ c
     → ((n : Name) → behind_name (record a { counted = c }) n ≡ record a { counted = c })
     → roles_from a (word r.Define ∷ (spell_names ns ++ word r.As ∷ z))
     ≡ Nothing ∷ (names_roles (name_role (record a { counted = c })) ns ++ Nothing ∷ roles_from
     (record a { counted = c }) z)
 defined_names c a ns z e stays =
-    ap (λ (d : Counted). Nothing ∷ roles_from (record a { counted = d }) (spell_names ns ++ word r.As ∷ z))
+    ap (λ (d : CountedKind). Nothing ∷ roles_from (record a { counted = d }) (spell_names ns ++ word r.As ∷ z))
     (looked ns.others z ∙ e)
     ∙ ap (λ (rs : List Role). Nothing ∷ rs) (all_kept (record a { counted = c }) stays ns (word r.As ∷ z))
 
 kind : (a : Standing) (x : SetDiscipline) (y : List Plain)
-    → Counts (record a { counted = Sets }) (spell_set_kind x) (kind_roles x) y
+    → Counts (record a { counted = Sets }) (spell_set_discipline x) (kind_roles x) y
 kind a Fifo y = (record a { counted = Sets }, refl)
 kind a Lifo y = (record a { counted = Sets }, refl)
 kind a (Ranked ks) y =
     let (b, e) = keys a.owner ks y in (b, ap (λ (rs : List Role). Nothing ∷ Nothing ∷ rs) e)
 
-kind_is : (x : SetDiscipline) (y : List Plain) → defined_as (spell_set_kind x ++ y) ≡ Sets
+kind_is : (x : SetDiscipline) (y : List Plain) → kind_behind_as (spell_set_discipline x ++ y) ≡ Sets
 kind_is Fifo y = refl
 kind_is Lifo y = refl
 kind_is (Ranked ks) y = refl
@@ -208,8 +207,8 @@ define a (t.Sets ns x) y =
     let (b, e) = kind a x y in (
       b,
       ap (λ (q : List Plain). roles_from a (word r.Define ∷ q))
-          (append_assoc (spell_names ns) (word r.As ∷ spell_set_kind x) y)
-          ∙ defined_names Sets a ns (spell_set_kind x ++ y) (kind_is x y) (λ n. refl)
+          (append_assoc (spell_names ns) (word r.As ∷ spell_set_discipline x) y)
+          ∙ defined_names Sets a ns (spell_set_discipline x ++ y) (kind_is x y) (λ n. refl)
           ∙ ap (λ (us : List Role). Nothing ∷ (rs ++ Nothing ∷ us)) e
           ∙ ap (λ (us : List Role). Nothing ∷ us) (sym (append_assoc rs (Nothing ∷ kind_roles x) (roles_from b y))),
     )

@@ -1,20 +1,20 @@
 pub mod Unfoldings
-mod Pushed
+mod NotedItems
 mod Texts
-pub mod Sound
-pub mod NoFurther
+pub mod ReadIsSpelled
+pub mod ReadingIsLocal
 pub mod ReadBackItems
 pub mod Counting
-pub mod Passing
+pub mod PastLimitLoop
 pub mod ItemRoles
 pub mod ItemLimits
 pub mod Whole
-pub mod Told
-pub mod Sure
-pub mod Decided
+pub mod AnswerAtStop
+pub mod NoMemoryRefusal
+pub mod AnswerByReading
 pub mod Indexes
-pub mod Behind
+pub mod WordsBehind
 pub mod Unique
 pub mod Beginnings
 pub mod Programs
-mod Within
+mod DeclsWithin

@@ -19,12 +19,12 @@ use Rattle.ss_preamble.specs.Tree.{Key, Clause, Has, Owns, BelongsTo, SetDiscipl
 use Rattle.ss_preamble.specs.Tree.{Variables, Sets, PriorityOrder, BreakTies, ExternalEvents, Item, Normally, Headed}
 use Rattle.ss_preamble.specs.Tree.{OfEvery, OfSystem, Defines, Orders, Preamble}
 use Rattle.ss_preamble.specs.Spelling.{word, spell_clause, spell_other_clauses, spell_clauses, spell_rank, spell_key}
-use Rattle.ss_preamble.specs.Spelling.{spell_other_keys, spell_keys, spell_set_kind, spell_item, spell_items, spell}
+use Rattle.ss_preamble.specs.Spelling.{spell_other_keys, spell_keys, spell_set_discipline, spell_item, spell_items, spell}
 use Rattle.ss_preamble.specs.ItemReading.{clause_by, next_clause, a_clause, other_clauses, clauses, a_rank, a_key}
 use Rattle.ss_preamble.specs.ItemReading.{next_key, other_keys, keys, heading_with, definition_of, definition_with}
 use Rattle.ss_preamble.specs.ItemReading.{normally_with, every_with, priority_with, break_with, external_with}
 use Rattle.ss_preamble.specs.ItemReading.{next_item, items_with, preamble_with}
-use Rattle.ss_preamble.proofs.NoFurther.{some_clause, some_item}
+use Rattle.ss_preamble.proofs.ReadingIsLocal.{some_clause, some_item}
 
 -- a text that goes on with no part of an item
 record Ends (y : List Plain) : Type 0 where
@@ -139,7 +139,7 @@ heading-read_back x b ns y e =
     (names_behind-read_back (m.Reserved r.Include) ns y e.comma e.include)
 
 kind-read_back : (ns : Several _) (x : SetDiscipline) (y : List Plain) → Ends y
-    → definition_of ns (spell_set_kind x ++ y) ≡ (Ok (Sets ns x), y)
+    → definition_of ns (spell_set_discipline x ++ y) ≡ (Ok (Sets ns x), y)
 unfolding definition_of look skip pure
 kind-read_back ns Fifo y e = behind (m.Reserved r.Sets) _ y
 kind-read_back ns Lifo y e = behind (m.Reserved r.Sets) _ y
@@ -156,7 +156,7 @@ defined-read_back ns z =
 -- behind DEFINE
 abbrev rest_of_definition : Definition → List Plain
 rest_of_definition (Variables ns) = spell_names ns ++ word r.As ∷ word r.Integer ∷ word r.Variables ∷ []
-rest_of_definition (Sets ns x) = spell_names ns ++ word r.As ∷ spell_set_kind x
+rest_of_definition (Sets ns x) = spell_names ns ++ word r.As ∷ spell_set_discipline x
 
 definition-read_back : (d : Definition) (y : List Plain) → Ends y
     → definition_with (rest_of_definition d ++ y) ≡ (Ok d, y)
@@ -165,8 +165,8 @@ definition-read_back (Variables ns) y e =
     ap definition_with (append_assoc (spell_names ns) (word r.As ∷ word r.Integer ∷ word r.Variables ∷ []) y)
     ∙ defined-read_back ns (word r.Integer ∷ word r.Variables ∷ y) ∙ behind (m.Reserved r.Variables) _ y
 definition-read_back (Sets ns x) y e =
-    ap definition_with (append_assoc (spell_names ns) (word r.As ∷ spell_set_kind x) y)
-    ∙ defined-read_back ns (spell_set_kind x ++ y) ∙ kind-read_back ns x y e
+    ap definition_with (append_assoc (spell_names ns) (word r.As ∷ spell_set_discipline x) y)
+    ∙ defined-read_back ns (spell_set_discipline x ++ y) ∙ kind-read_back ns x y e
 
 -- an item whose first word was passed
 some_read_back : {A : Type 0} (f : A → Item) (p : Reading A) (a : A) (z y : List Plain) → p z ≡ (Ok a, y)

@@ -26,8 +26,8 @@ use Rattle.ss_preamble.specs.ItemReading.{next_item, items_with, preamble_with}
 use Rattle.ss_preamble.specs.ItemsAtLines.{next_item_at, items_at, preamble_at}
 use Rattle.ss_preamble.specs.Written.{written_items, written}
 use Rattle.ss_preamble.specs.Refused.{Text, spell_text, lines}
-use Rattle.ss_preamble.proofs.Sound.{next_item-good, items-good, preamble-good}
-use Rattle.ss_preamble.proofs.NoFurther.{preamble-local}
+use Rattle.ss_preamble.proofs.ReadIsSpelled.{next_item-good, items-good, preamble-good}
+use Rattle.ss_preamble.proofs.ReadingIsLocal.{preamble-local}
 use Rattle.ss_preamble.proofs.ReadBackItems.{preamble-read_back}
 
 -- ---- a preamble and all that stands behind it

@@ -176,14 +176,14 @@ abbrev pub IsRead : List PlainAt → Type 0
 IsRead ws = (d : Decls) × (number : ℕ) × Answers (Ok (d, number)) ws
 
 -- a name of two letters for each number below 676
-abbrev pub numbered : ℕ → Name
-numbered k = (65 + k / 26) ∷ (65 + k % 26) ∷ []
+abbrev pub name_of_number : ℕ → Name
+name_of_number k = (65 + k / 26) ∷ (65 + k % 26) ∷ []
 
 -- so many names with commas between, numbered from k on, and what stands behind them
 abbrev pub names_then : ℕ → ℕ → List Plain → List Plain
 names_then k zero ws = ws
-names_then k (suc zero) ws = name (numbered k) ∷ ws
-names_then k (suc (suc n)) ws = name (numbered k) ∷ mark (m.Sign s.Comma) ∷ names_then (k + 1) (suc n) ws
+names_then k (suc zero) ws = name (name_of_number k) ∷ ws
+names_then k (suc (suc n)) ws = name (name_of_number k) ∷ mark (m.Sign s.Comma) ∷ names_then (k + 1) (suc n) ws
 
 -- 32 classes behind INCLUDE and, with them again, so many behind EVERY
 abbrev pub classes : ℕ → List Plain
@@ -192,7 +192,7 @@ classes n =
   where
     every : ℕ → ℕ → List Plain
     every k zero = []
-    every k (suc n) = word r.Every ∷ name (numbered k) ∷ word r.Has ∷ name (codes "X") ∷ every (k + 1) n
+    every k (suc n) = word r.Every ∷ name (name_of_number k) ∷ word r.Has ∷ name (codes "X") ∷ every (k + 1) n
 
 -- of 64 classes each may stand twice; the 65th is refused at its name
 abbrev pub ClassesLimit : Type 0

@@ -1,31 +1,11 @@
--- The limits, what the items of a preamble have of each thing that is limited, and what is within the limits.
+-- What the items of a preamble have of each thing that is limited, and what is within the limits.
 use Rattle.std.specs.Prelude.{◌≤◌, ℕ, List, [], ◌∷◌, ◌++◌, length, if◌then◌else◌, bytes_eq, fold, All, Some}
 use Rattle.std.specs.List.{flat_map, list_any, sum_by}
+use Rattle.ss_words.specs.declared.limits.TheConstants.{MOST_CLASSES, MOST_ATTRIBUTES, MOST_VARIABLES}
+use Rattle.ss_words.specs.declared.limits.TheConstants.{MOST_SETS, MOST_KEYS}
 use Rattle.ss_words.specs.Lists.{Name, Several, all_of}
 use Rattle.ss_preamble.specs.Tree.{Clause, Has, Owns, BelongsTo, Ranked, Variables, Sets, BreakTies, Item, Headed}
 use Rattle.ss_preamble.specs.Tree.{OfEvery, OfSystem, Defines, Orders, Preamble}
-
--- ---- the limits
-
--- a program has at most so many classes
-abbrev pub most_classes : ℕ
-most_classes = 64
-
--- a class has at most so many attributes
-abbrev pub most_attributes : ℕ
-most_attributes = 32
-
--- the system and the preamble have at most so many variables together
-abbrev pub most_variables : ℕ
-most_variables = 256
-
--- a program has at most so many sets
-abbrev pub most_sets : ℕ
-most_sets = 64
-
--- a ranking has at most so many keys
-abbrev pub most_keys : ℕ
-most_keys = 8
 
 -- ---- names that count once
 
@@ -89,12 +69,12 @@ key_count _ = 0
 -- a preamble is within the limits
 pub record IsWithin (is : Preamble) : Type 0 where
   -- its distinct classes
-  pub classes : length (distinct (flat_map class_names is)) ≤ most_classes
+  pub classes : length (distinct (flat_map class_names is)) ≤ MOST_CLASSES
   -- the attributes of each class, over all items EVERY of this class
-  pub attributes : (c : Name) → sum_by (attribute_count c) is ≤ most_attributes
+  pub attributes : (c : Name) → sum_by (attribute_count c) is ≤ MOST_ATTRIBUTES
   -- the variables of the system and of the preamble together
-  pub variables : sum_by variable_count is ≤ most_variables
+  pub variables : sum_by variable_count is ≤ MOST_VARIABLES
   -- its distinct sets
-  pub sets : length (distinct (flat_map set_names is)) ≤ most_sets
+  pub sets : length (distinct (flat_map set_names is)) ≤ MOST_SETS
   -- the keys of each ranking
-  pub keys : All (λ i. key_count i ≤ most_keys) is
+  pub keys : All (λ i. key_count i ≤ MOST_KEYS) is

@@ -6,8 +6,11 @@ use Rattle.ss_words.specs.declared.reserved.Reserved.{Reserved}
 use Rattle.ss_words.specs.declared.reserved.Reserved.TheVariants as r
 use Rattle.ss_words.specs.Plain.{Plain, name, mark}
 use Rattle.ss_words.specs.Lists.{Name}
-use Rattle.ss_preamble.specs.declared.limits.Counted.{Counted}
-use Rattle.ss_preamble.specs.declared.limits.Counted.TheVariants.{NoNames, Classes, Owned, Sets, Variables, Keys}
+
+-- what names count to: nothing; classes, as behind INCLUDE and EVERY; what HAS gives to its owner; sets, as behind OWNS
+-- and BELONGS, and in their DEFINE; variables; keys
+pub data CountedKind : Type 0 where
+  NoNames Classes Owned Sets Variables Keys : CountedKind
 
 -- a class of this name, an attribute of this class, a variable, a set of this name, a key with its number in its
 -- ranking, from 1; or nothing that is limited, as words that are no names
@@ -19,11 +22,10 @@ pub data Role : Type 0 where
   AKey : ℕ → Role
   Nothing : Role
 
--- behind a word: what names count to (nothing; classes, as behind INCLUDE and EVERY; what HAS gives to its owner; sets,
--- as behind OWNS and BELONGS; variables; keys), the class that HAS gives to, and the keys of the ranking so far
+-- behind a word: what names count to, the class that HAS gives to, and the keys of the ranking so far
 pub record Standing : Type 0 where
   -- what the next names count to
-  pub counted : Counted
+  pub counted : CountedKind
   -- the class that HAS gives to; none: the system
   pub owner : Option Name
   -- the keys of the ranking so far
@@ -34,52 +36,52 @@ abbrev pub at_start : Standing
 at_start = record { counted = NoNames; owner = None; keys = 0 }
 
 -- what a word behind AS makes of the names of a DEFINE
-abbrev pub defined_by : Plain → Counted
-defined_by (mark (m.Reserved r.Integer)) = Variables
-defined_by (mark (m.Reserved r.Fifo)) = Sets
-defined_by (mark (m.Reserved r.Lifo)) = Sets
-defined_by (mark (m.Reserved r.Sets)) = Sets
-defined_by _ = NoNames
+abbrev pub kind_by_word : Plain → CountedKind
+kind_by_word (mark (m.Reserved r.Integer)) = Variables
+kind_by_word (mark (m.Reserved r.Fifo)) = Sets
+kind_by_word (mark (m.Reserved r.Lifo)) = Sets
+kind_by_word (mark (m.Reserved r.Sets)) = Sets
+kind_by_word _ = NoNames
 
 -- the same, where that word is the first of these
-abbrev pub defined_as : List Plain → Counted
-defined_as [] = NoNames
-defined_as (w ∷ ws) = defined_by w
+abbrev pub kind_behind_as : List Plain → CountedKind
+kind_behind_as [] = NoNames
+kind_behind_as (w ∷ ws) = kind_by_word w
 
 -- what DEFINE makes of its names, by the words behind it: the word behind AS says it, and where none stands they count
 -- to nothing
-abbrev pub defined : List Plain → Counted
-defined (name n ∷ ws) = defined ws
-defined (mark (m.Sign s.Comma) ∷ ws) = defined ws
-defined (mark (m.Reserved r.As) ∷ ws) = defined_as ws
-defined _ = NoNames
+abbrev pub kind_behind_define : List Plain → CountedKind
+kind_behind_define (name n ∷ ws) = kind_behind_define ws
+kind_behind_define (mark (m.Sign s.Comma) ∷ ws) = kind_behind_define ws
+kind_behind_define (mark (m.Reserved r.As) ∷ ws) = kind_behind_as ws
+kind_behind_define _ = NoNames
 
 -- behind a reserved word, which the words ws follow
 abbrev pub behind_reserved : Standing → Reserved → List Plain → Standing
-behind_reserved a r.Include ws = record a { counted = Classes }
-behind_reserved a r.Every ws = record a { counted = Classes }
-behind_reserved a r.System ws = record a { counted = NoNames; owner = None }
-behind_reserved a r.Has ws = record a { counted = Owned }
-behind_reserved a r.Owns ws = record a { counted = Sets }
-behind_reserved a r.Belongs ws = record a { counted = Sets }
-behind_reserved a r.Define ws = record a { counted = defined ws }
-behind_reserved a r.Priority ws = record a { counted = NoNames }
-behind_reserved a r.Break ws = record a { counted = NoNames }
-behind_reserved a r.External ws = record a { counted = NoNames }
-behind_reserved a r.Ranked ws = record a { counted = Keys; keys = 0 }
-behind_reserved a r.Ties ws = record a { counted = Keys; keys = 0 }
-behind_reserved a r.By ws = record a { keys = suc a.keys }
-behind_reserved a _ ws = a
+behind_reserved standing r.Include ws = record standing { counted = Classes }
+behind_reserved standing r.Every ws = record standing { counted = Classes }
+behind_reserved standing r.System ws = record standing { counted = NoNames; owner = None }
+behind_reserved standing r.Has ws = record standing { counted = Owned }
+behind_reserved standing r.Owns ws = record standing { counted = Sets }
+behind_reserved standing r.Belongs ws = record standing { counted = Sets }
+behind_reserved standing r.Define ws = record standing { counted = kind_behind_define ws }
+behind_reserved standing r.Priority ws = record standing { counted = NoNames }
+behind_reserved standing r.Break ws = record standing { counted = NoNames }
+behind_reserved standing r.External ws = record standing { counted = NoNames }
+behind_reserved standing r.Ranked ws = record standing { counted = Keys; keys = 0 }
+behind_reserved standing r.Ties ws = record standing { counted = Keys; keys = 0 }
+behind_reserved standing r.By ws = record standing { keys = suc standing.keys }
+behind_reserved standing _ ws = standing
 
 -- behind a name: a class is the owner of what HAS gives
 abbrev pub behind_name : Standing → Name → Standing
-behind_name a n = elim a.counted [ Classes ↦ record a { owner = Some n } | _ ↦ a ]
+behind_name standing n = elim standing.counted [ Classes ↦ record standing { owner = Some n } | _ ↦ standing ]
 
 -- behind a word, which the words ws follow
 abbrev pub behind_word : Standing → Plain → List Plain → Standing
-behind_word a (name n) ws = behind_name a n
-behind_word a (mark (m.Reserved w)) ws = behind_reserved a w ws
-behind_word a _ ws = a
+behind_word standing (name n) ws = behind_name standing n
+behind_word standing (mark (m.Reserved w)) ws = behind_reserved standing w ws
+behind_word standing _ ws = standing
 
 -- what HAS gives to its owner
 abbrev pub owned_role : Option Name → Role
@@ -88,24 +90,24 @@ owned_role (Some c) = AnAttribute c
 
 -- what a name counts to
 abbrev pub name_role : Standing → Name → Role
-name_role a n = elim a.counted [
+name_role standing n = elim standing.counted [
   | NoNames ↦ Nothing
   | Classes ↦ AClass n
-  | Owned ↦ owned_role a.owner
+  | Owned ↦ owned_role standing.owner
   | Sets ↦ ASet n
   | Variables ↦ AVariable
-  | Keys ↦ AKey a.keys
+  | Keys ↦ AKey standing.keys
 ]
 
 -- what a word counts to
 abbrev pub role : Standing → Plain → Role
-role a (name n) = name_role a n
-role a _ = Nothing
+role standing (name n) = name_role standing n
+role standing _ = Nothing
 
 -- what each word counts to, behind a standing
 abbrev pub roles_from : Standing → List Plain → List Role
-roles_from a [] = []
-roles_from a (w ∷ ws) = role a w ∷ roles_from (behind_word a w ws) ws
+roles_from standing [] = []
+roles_from standing (w ∷ ws) = role standing w ∷ roles_from (behind_word standing w ws) ws
 
 -- what each word counts to
 abbrev pub roles : List Plain → List Role

@@ -60,15 +60,15 @@ abbrev pub spell_keys : Several Key → List Plain
 spell_keys ks = spell_key ks.first ++ spell_other_keys ks.others
 
 -- what DEFINE makes of sets
-abbrev pub spell_set_kind : SetDiscipline → List Plain
-spell_set_kind Fifo = word r.Fifo ∷ word r.Sets ∷ []
-spell_set_kind Lifo = word r.Lifo ∷ word r.Sets ∷ []
-spell_set_kind (Ranked ks) = word r.Sets ∷ word r.Ranked ∷ spell_keys ks
+abbrev pub spell_set_discipline : SetDiscipline → List Plain
+spell_set_discipline Fifo = word r.Fifo ∷ word r.Sets ∷ []
+spell_set_discipline Lifo = word r.Lifo ∷ word r.Sets ∷ []
+spell_set_discipline (Ranked ks) = word r.Sets ∷ word r.Ranked ∷ spell_keys ks
 
 -- DEFINE
 abbrev pub spell_definition : Definition → List Plain
 spell_definition (Variables ns) = word r.Define ∷ (spell_names ns ++ word r.As ∷ word r.Integer ∷ word r.Variables ∷ [])
-spell_definition (Sets ns k) = word r.Define ∷ (spell_names ns ++ word r.As ∷ spell_set_kind k)
+spell_definition (Sets ns k) = word r.Define ∷ (spell_names ns ++ word r.As ∷ spell_set_discipline k)
 
 -- an item on events
 abbrev pub spell_event_rule : EventRule → List Plain

@@ -2,14 +2,18 @@
 use Rattle.std.specs.Prelude.{ℕ, ◌+◌, Bool, true, leb, List, [], ◌∷◌, ◌++◌, length, map, bytes_eq, count_by}
 use Rattle.std.specs.List.{flat_map}
 use Rattle.std.specs.Borrow.{Bor}
+use Rattle.ss_words.specs.declared.limits.TheConstants.{MOST_CLASSES, MOST_ATTRIBUTES, MOST_VARIABLES}
+use Rattle.ss_words.specs.declared.limits.TheConstants.{MOST_SETS, MOST_KEYS}
 use Rattle.ss_words.specs.Lists.{Name}
 use Rattle.ss_words.specs.Reading.{option_view}
+use Rattle.ss_preamble.specs.declared.limits.CountedKind.{CountedKind as CodeCountedKind}
+use Rattle.ss_preamble.specs.declared.limits.CountedKind.TheVariants as k
 use Rattle.ss_preamble.specs.declared.limits.Role.{Role as CodeRole}
 use Rattle.ss_preamble.specs.declared.limits.Role.TheVariants as c
 use Rattle.ss_preamble.specs.declared.limits.Standing.{Standing as CodeStanding}
 use Rattle.ss_preamble.specs.declared.limits.Tally.{Tally as CodeTally}
+use Rattle.ss_preamble.specs.Roles.{CountedKind, NoNames, Classes, Owned, Sets, Variables, Keys}
 use Rattle.ss_preamble.specs.Roles.{Role, AClass, AnAttribute, AVariable, ASet, AKey, Nothing, Standing}
-use Rattle.ss_preamble.specs.Limits.{most_classes, most_attributes, most_variables, most_sets, most_keys}
 use Rattle.ss_preamble.specs.Limits.{with_name, distinct}
 use Rattle.ss_preamble.specs.WordLimits.{class_of, set_of, is_variable}
 
@@ -17,9 +21,18 @@ use Rattle.ss_preamble.specs.WordLimits.{class_of, set_of, is_variable}
 abbrev pub texts : List (Bor (List ℕ)) → List Name
 texts ns = map (λ n. n.now) ns
 
+-- what names count to, of the code
+abbrev pub counted_view : CodeCountedKind → CountedKind
+counted_view k.NoNames = NoNames
+counted_view k.Classes = Classes
+counted_view k.Owned = Owned
+counted_view k.Sets = Sets
+counted_view k.Variables = Variables
+counted_view k.Keys = Keys
+
 -- a standing of the code
 abbrev pub standing_view : CodeStanding → Standing
-standing_view a = record { counted = a.counted; owner = option_view (λ n. n.now) a.owner; keys = a.keys }
+standing_view a = record { counted = counted_view a.counted; owner = option_view (λ n. n.now) a.owner; keys = a.keys }
 
 -- a role of the code
 abbrev pub role_view : CodeRole → Role
@@ -27,7 +40,7 @@ role_view (c.Class n) = AClass n.now
 role_view (c.Attribute n) = AnAttribute n.now
 role_view c.Variable = AVariable
 role_view (c.Set n) = ASet n.now
-role_view (c.Key k) = AKey k
+role_view (c.Key n) = AKey n
 role_view c.Nothing = Nothing
 
 -- distinct classes, the class of each attribute, how many variables, distinct sets
@@ -75,9 +88,9 @@ with_role a _ = a
 
 -- whether what this name was counted to is within its limit
 abbrev pub is_in_room : Counts → Role → Bool
-is_in_room a (AClass n) = leb (length a.classes) most_classes
-is_in_room a (AnAttribute n) = leb (count_by (bytes_eq n) a.attributes) most_attributes
-is_in_room a AVariable = leb a.variables most_variables
-is_in_room a (ASet n) = leb (length a.sets) most_sets
-is_in_room a (AKey k) = leb k most_keys
+is_in_room a (AClass n) = leb (length a.classes) MOST_CLASSES
+is_in_room a (AnAttribute n) = leb (count_by (bytes_eq n) a.attributes) MOST_ATTRIBUTES
+is_in_room a AVariable = leb a.variables MOST_VARIABLES
+is_in_room a (ASet n) = leb (length a.sets) MOST_SETS
+is_in_room a (AKey k) = leb k MOST_KEYS
 is_in_room a Nothing = true

@@ -30,15 +30,15 @@ abbrev pub key_view : CodeKey → Key
 key_view k = record { rank = k.rank; name = k.name }
 
 -- what DEFINE makes of sets
-abbrev pub set_kind_view : CodeSetKind → SetDiscipline
-set_kind_view s.Fifo = Fifo
-set_kind_view s.Lifo = Lifo
-set_kind_view (s.Ranked ks) = Ranked (several_view key_view ks)
+abbrev pub set_discipline_view : CodeSetKind → SetDiscipline
+set_discipline_view s.Fifo = Fifo
+set_discipline_view s.Lifo = Lifo
+set_discipline_view (s.Ranked ks) = Ranked (several_view key_view ks)
 
 -- a DEFINE
 abbrev pub definition_view : CodeDefinition → Definition
 definition_view (d.Variables ns) = Variables (several_view (λ n. n) ns)
-definition_view (d.Sets ns k) = Sets (several_view (λ n. n) ns) (set_kind_view k)
+definition_view (d.Sets ns k) = Sets (several_view (λ n. n) ns) (set_discipline_view k)
 
 -- an item on events
 abbrev pub event_rule_view : CodeEventRule → EventRule

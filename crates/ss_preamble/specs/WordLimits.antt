@@ -1,9 +1,11 @@
 -- When words, by what each of them counts to, are within the limits.
 use Rattle.std.specs.Prelude.{◌≡◌, ◌≤◌, Bool, false, true, List, [], ◌∷◌, length, bytes_eq, count_by, leb, not}
 use Rattle.std.specs.List.{flat_map}
+use Rattle.ss_words.specs.declared.limits.TheConstants.{MOST_CLASSES, MOST_ATTRIBUTES, MOST_VARIABLES}
+use Rattle.ss_words.specs.declared.limits.TheConstants.{MOST_SETS, MOST_KEYS}
 use Rattle.ss_words.specs.Lists.{Name}
 use Rattle.ss_preamble.specs.Roles.{Role, AClass, AnAttribute, AVariable, ASet, AKey}
-use Rattle.ss_preamble.specs.Limits.{most_classes, most_attributes, most_variables, most_sets, most_keys, distinct}
+use Rattle.ss_preamble.specs.Limits.{distinct}
 
 -- the names of classes
 abbrev pub class_of : Role → List Name
@@ -27,19 +29,19 @@ is_variable _ = false
 
 -- whether it is a key behind as many others of its ranking as there may be
 abbrev pub is_late_key : Role → Bool
-is_late_key (AKey k) = not (leb k most_keys)
+is_late_key (AKey k) = not (leb k MOST_KEYS)
 is_late_key _ = false
 
 -- what these words count to is within the limits: classes and sets by their distinct names; attributes of one
 -- class, variables and keys of one ranking as they are written
 pub record AreWithin (rs : List Role) : Type 0 where
   -- the distinct classes
-  pub classes : length (distinct (flat_map class_of rs)) ≤ most_classes
+  pub classes : length (distinct (flat_map class_of rs)) ≤ MOST_CLASSES
   -- the attributes of each class
-  pub attributes : (c : Name) → count_by (is_attribute_of c) rs ≤ most_attributes
+  pub attributes : (c : Name) → count_by (is_attribute_of c) rs ≤ MOST_ATTRIBUTES
   -- the variables
-  pub variables : count_by is_variable rs ≤ most_variables
+  pub variables : count_by is_variable rs ≤ MOST_VARIABLES
   -- the distinct sets
-  pub sets : length (distinct (flat_map set_of rs)) ≤ most_sets
+  pub sets : length (distinct (flat_map set_of rs)) ≤ MOST_SETS
   -- no key stands past its limit
   pub keys : count_by is_late_key rs ≡ 0

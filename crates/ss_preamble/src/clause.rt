@@ -13,7 +13,8 @@ use ss_words::{Cursor, Mark, Plain, Refusal, Reserved, Several};
 /// `clause {clause}`
 #[tactic(auto, unfolding(crate::proofs::Unfoldings::steps, crate::specs::ItemReading::clauses))]
 pub fn clauses(cursor: &mut Cursor<'_>) -> Result<Several<Clause>, Refusal>
-    ensures exact { Gives (several_view clause_view) result cursor.new (reading.clauses cursor.old) }
+    ensures exact { Gives (several_view clause_view) result cursor.new
+        (reading.clauses cursor.old) }
     ensures shorter { length cursor.new ≤ length cursor.old }
 {
     let first = clause(cursor)?;
@@ -35,7 +36,8 @@ fn clause(cursor: &mut Cursor<'_>) -> Result<Clause, Refusal>
 
 /// `{clause}`
 fn other_clauses(cursor: &mut Cursor<'_>) -> Result<Vec<Clause>, Refusal>
-    ensures exact { Gives (λ v. map clause_view v.items) result cursor.new (reading.other_clauses cursor.old) }
+    ensures exact { Gives (λ v. map clause_view v.items) result cursor.new
+        (reading.other_clauses cursor.old) }
     ensures shorter { length cursor.new ≤ length cursor.old }
 {
     let mut clauses = Vec::new(cursor.alloc());
@@ -48,7 +50,8 @@ fn other_clauses(cursor: &mut Cursor<'_>) -> Result<Vec<Clause>, Refusal>
 /// `HAS names | OWNS names | BELONGS TO names`, or nothing where none of these words stands here.
 #[tactic(auto, unfolding(crate::proofs::Unfoldings::steps_by_word, crate::specs::ItemReading::next_clause))]
 fn next_clause(cursor: &mut Cursor<'_>) -> Result<Option<Clause>, Refusal>
-    ensures exact { Gives (option_view clause_view) result cursor.new (reading.next_clause cursor.old) }
+    ensures exact { Gives (option_view clause_view) result cursor.new
+        (reading.next_clause cursor.old) }
     ensures shorter { length cursor.new ≤ length cursor.old }
     ensures taken { IfOk result (λ o. IfSome o (λ _. length cursor.new < length cursor.old)) }
 {

@@ -21,7 +21,8 @@ pub fn keys(cursor: &mut Cursor<'_>) -> Result<Several<Key>, Refusal>
 
 /// `{THEN key}`
 fn other_keys(cursor: &mut Cursor<'_>) -> Result<Vec<Key>, Refusal>
-    ensures exact { Gives (λ v. map key_view v.items) result cursor.new (reading.other_keys cursor.old) }
+    ensures exact { Gives (λ v. map key_view v.items) result cursor.new
+        (reading.other_keys cursor.old) }
     ensures shorter { length cursor.new ≤ length cursor.old }
 {
     let mut keys = Vec::new(cursor.alloc());

@@ -2,34 +2,22 @@
 ghost use Rattle.std.specs.Prelude.{IfOk, IfSome, IfNone, [], bytes_eq, count_by, ◌≡◌, ◌≤◌, ◌<◌};
 ghost use Rattle.std.specs.Prelude.{◌+◌, ◌^◌};
 ghost use Rattle.std.specs.List.{list_any};
+ghost use Rattle.ss_words.specs.declared.limits.TheConstants.{MOST_VARIABLES};
 ghost use Rattle.ss_words.specs.Plain.{plain_of, plains_of};
 ghost use Rattle.ss_preamble.specs.Roles as roles;
 ghost use Rattle.ss_preamble.specs.WordLimits.{AreWithin};
 ghost use Rattle.ss_preamble.specs.Refused.{PassesLimit};
 ghost use Rattle.ss_preamble.specs.Limits.{with_name};
-ghost use Rattle.ss_preamble.specs.Tally.{standing_view, role_view, tally_view, tally_of, with_role, is_in_room, texts};
+ghost use Rattle.ss_preamble.specs.Tally.{counted_view, standing_view, role_view, tally_view, tally_of};
+ghost use Rattle.ss_preamble.specs.Tally.{with_role, is_in_room, texts};
 
+use ss_words::limits::{MOST_ATTRIBUTES, MOST_CLASSES, MOST_KEYS, MOST_SETS, MOST_VARIABLES};
 use ss_words::{Mark, Plain, PlainWord, Reserved, Sign};
 use std::alloc::{AllocError, Global};
 
-/// How many classes a program may have.
-const MOST_CLASSES: usize = 64;
-
-/// How many attributes a class may have.
-const MOST_ATTRIBUTES: usize = 32;
-
-/// How many variables the system and the preamble may have together.
-const MOST_VARIABLES: usize = 256;
-
-/// How many sets a program may have.
-const MOST_SETS: usize = 64;
-
-/// How many keys a ranking may have.
-const MOST_KEYS: usize = 8;
-
-/// What the names count to that stand behind a word.
+/// What names count to.
 #[derive(Clone, Copy)]
-pub enum Counted {
+pub enum CountedKind {
     NoNames,
     /// Behind INCLUDE and EVERY.
     Classes,
@@ -59,7 +47,7 @@ pub enum Role<'a> {
 /// What the words before a place say of the names behind it.
 #[derive(Clone, Copy)]
 pub struct Standing<'a> {
-    pub counted: Counted,
+    pub counted: CountedKind,
     /// The class to which HAS gives attributes; `None` where it gives variables to the system.
     pub owner: Option<&'a [u8]>,
     /// The keys of the ranking so far.
@@ -77,13 +65,13 @@ pub struct Tally<'a> {
 }
 
 /// The number of the first of these words that passes a limit; `None` where none does.
-#[tactic(auto, using(crate::proofs::Passing::past_limits))]
+#[tactic(auto, using(crate::proofs::PastLimitLoop::past_limits))]
 pub fn past_limit(alloc: Global, words: &[PlainWord<'_>]) -> Result<Option<usize>, AllocError>
     ensures none { IfOk result (λ o. IfNone o (AreWithin (roles.roles (plains_of words.now)))) }
     ensures some { IfOk result (λ o. IfSome o (λ k. PassesLimit (plains_of words.now) k)) }
 {
     let mut standing = Standing {
-        counted: Counted::NoNames,
+        counted: CountedKind::NoNames,
         owner: None,
         keys: 0,
     };
@@ -116,15 +104,15 @@ impl<'a> Standing<'a> {
         ensures { role_view result ≡ roles.name_role (standing_view self.now) name.now }
     {
         match self.counted {
-            Counted::NoNames => Role::Nothing,
-            Counted::Classes => Role::Class(name),
-            Counted::Owned => match self.owner {
+            CountedKind::NoNames => Role::Nothing,
+            CountedKind::Classes => Role::Class(name),
+            CountedKind::Owned => match self.owner {
                 Some(class) => Role::Attribute(class),
                 None => Role::Variable,
             },
-            Counted::Sets => Role::Set(name),
-            Counted::Variables => Role::Variable,
-            Counted::Keys => Role::Key(self.keys),
+            CountedKind::Sets => Role::Set(name),
+            CountedKind::Variables => Role::Variable,
+            CountedKind::Keys => Role::Key(self.keys),
         }
     }
 
@@ -132,7 +120,8 @@ impl<'a> Standing<'a> {
     fn behind(self, word: Plain<'a>, rest: &[PlainWord<'_>]) -> Self
         requires { self.keys < 2 ^ 63 }
         ensures exact { standing_view result
-            ≡ roles.behind_word (standing_view self.entry) (plain_of word.entry) (plains_of rest.now) }
+            ≡ roles.behind_word (standing_view self.entry) (plain_of word.entry)
+            (plains_of rest.now) }
         ensures keys { result.keys ≤ self.entry.keys + 1 }
     {
         match word {
@@ -144,11 +133,12 @@ impl<'a> Standing<'a> {
 
     /// Behind a name: a class is the owner of what HAS gives.
     fn behind_name(self, name: &'a [u8]) -> Self
-        ensures exact { standing_view result ≡ roles.behind_name (standing_view self.entry) name.now }
+        ensures exact { standing_view result
+            ≡ roles.behind_name (standing_view self.entry) name.now }
         ensures keys { result.keys ≡ self.entry.keys }
     {
         match self.counted {
-            Counted::Classes => Standing {
+            CountedKind::Classes => Standing {
                 owner: Some(name),
                 ..self
             },
@@ -164,20 +154,20 @@ impl<'a> Standing<'a> {
         ensures keys { result.keys ≤ self.entry.keys + 1 }
     {
         match word {
-            Reserved::Include | Reserved::Every => self.counting(Counted::Classes),
+            Reserved::Include | Reserved::Every => self.counting(CountedKind::Classes),
             Reserved::System => Standing {
-                counted: Counted::NoNames,
+                counted: CountedKind::NoNames,
                 owner: None,
                 ..self
             },
-            Reserved::Has => self.counting(Counted::Owned),
-            Reserved::Owns | Reserved::Belongs => self.counting(Counted::Sets),
-            Reserved::Define => self.counting(defined(rest)),
+            Reserved::Has => self.counting(CountedKind::Owned),
+            Reserved::Owns | Reserved::Belongs => self.counting(CountedKind::Sets),
+            Reserved::Define => self.counting(kind_behind_define(rest)),
             Reserved::Priority | Reserved::Break | Reserved::External => {
-                self.counting(Counted::NoNames)
+                self.counting(CountedKind::NoNames)
             }
             Reserved::Ranked | Reserved::Ties => Standing {
-                counted: Counted::Keys,
+                counted: CountedKind::Keys,
                 keys: 0,
                 ..self
             },
@@ -190,7 +180,7 @@ impl<'a> Standing<'a> {
     }
 
     /// The same, where names count to this.
-    fn counting(self, counted: Counted) -> Self
+    fn counting(self, counted: CountedKind) -> Self
         ensures { result ≡ record self.entry { counted = counted } }
     {
         Standing { counted, ..self }
@@ -198,40 +188,40 @@ impl<'a> Standing<'a> {
 }
 
 /// What DEFINE makes of its names, by the words behind it: the word behind AS says it.
-fn defined(words: &[PlainWord<'_>]) -> Counted
-    ensures { result ≡ roles.defined (plains_of words.now) }
+fn kind_behind_define(words: &[PlainWord<'_>]) -> CountedKind
+    ensures { counted_view result ≡ roles.kind_behind_define (plains_of words.now) }
 {
     let mut rest = words;
     while let [word, behind @ ..] = rest {
         match word.kind() {
             Plain::Name(_) | Plain::Mark(Mark::Sign(Sign::Comma)) => rest = behind,
-            Plain::Mark(Mark::Reserved(Reserved::As)) => return defined_as(behind),
-            _ => return Counted::NoNames,
+            Plain::Mark(Mark::Reserved(Reserved::As)) => return kind_behind_as(behind),
+            _ => return CountedKind::NoNames,
         }
     }
-    Counted::NoNames
+    CountedKind::NoNames
 }
 
 /// What the word behind AS says.
-fn defined_as(words: &[PlainWord<'_>]) -> Counted
-    ensures { result ≡ roles.defined_as (plains_of words.now) }
+fn kind_behind_as(words: &[PlainWord<'_>]) -> CountedKind
+    ensures { counted_view result ≡ roles.kind_behind_as (plains_of words.now) }
 {
     match words {
-        [word, ..] => defined_by(word.kind()),
-        [] => Counted::NoNames,
+        [word, ..] => kind_by_word(word.kind()),
+        [] => CountedKind::NoNames,
     }
 }
 
 /// What this word says behind AS.
-fn defined_by(word: Plain<'_>) -> Counted
-    ensures { result ≡ roles.defined_by (plain_of word.entry) }
+fn kind_by_word(word: Plain<'_>) -> CountedKind
+    ensures { counted_view result ≡ roles.kind_by_word (plain_of word.entry) }
 {
     match word {
-        Plain::Mark(Mark::Reserved(Reserved::Integer)) => Counted::Variables,
+        Plain::Mark(Mark::Reserved(Reserved::Integer)) => CountedKind::Variables,
         Plain::Mark(Mark::Reserved(Reserved::Fifo | Reserved::Lifo | Reserved::Sets)) => {
-            Counted::Sets
+            CountedKind::Sets
         }
-        _ => Counted::NoNames,
+        _ => CountedKind::NoNames,
     }
 }
 
@@ -249,10 +239,11 @@ impl<'a> Tally<'a> {
 
     /// Counts this too, and tells whether it is within its limit.
     fn takes(&mut self, role: Role<'a>) -> Result<bool, AllocError>
-        requires { self.now.variables ≤ 256 }
+        requires { self.now.variables ≤ MOST_VARIABLES }
         ensures exact { IfOk result
             (λ b. tally_view self.new ≡ with_role (tally_view self.old) (role_view role.entry)) }
-        ensures fits { IfOk result (λ b. b ≡ is_in_room (tally_view self.new) (role_view role.entry)) }
+        ensures fits { IfOk result
+            (λ b. b ≡ is_in_room (tally_view self.new) (role_view role.entry)) }
     {
         Ok(match role {
             Role::Class(name) => {
@@ -280,7 +271,8 @@ impl<'a> Tally<'a> {
 /// Pushes a name that is not among these.
 #[tactic(auto, using(crate::proofs::Texts::added, crate::proofs::Texts::kept))]
 fn add<'a>(names: &mut Vec<&'a [u8]>, name: &'a [u8]) -> Result<(), AllocError>
-    ensures { IfOk result (λ _. texts names.new.items ≡ with_name (texts names.old.items) name.now) }
+    ensures { IfOk result
+        (λ _. texts names.new.items ≡ with_name (texts names.old.items) name.now) }
 {
     if !is_among(names, name) {
         names.push(name)?;

@@ -11,7 +11,7 @@ ghost use Rattle.ss_preamble.specs.ItemReading as reading;
 ghost use Rattle.ss_preamble.specs.ItemsAtLines as lined;
 ghost use Rattle.ss_preamble.specs.Tree.{Sets};
 ghost use Rattle.ss_preamble.specs.View.{definition_view, event_rule_view, item_view, items_view, decls_view};
-ghost use Rattle.ss_preamble.specs.View.{set_kind_view};
+ghost use Rattle.ss_preamble.specs.View.{set_discipline_view};
 
 use crate::clause::clauses;
 use crate::item::{Decls, Definition, EventRule, Heading, Item, ItemAt, Names, SetDiscipline};
@@ -21,7 +21,8 @@ use ss_words::{Cursor, Mark, Plain, PlainWord, Refusal, Reserved};
 /// `preamble = PREAMBLE {item} END`, whose words are the last ones of `text`.
 #[tactic(auto, unfolding(crate::proofs::Unfoldings::steps_at_line, crate::specs::ItemsAtLines::preamble_at))]
 pub fn declarations(cursor: &mut Cursor<'_>, text: &[PlainWord<'_>]) -> Result<Decls, Refusal>
-    ensures exact { Gives decls_view result cursor.new (lined.preamble_at (word_lines text.now) cursor.old) }
+    ensures exact { Gives decls_view result cursor.new
+        (lined.preamble_at (word_lines text.now) cursor.old) }
     ensures shorter { length cursor.new ≤ length cursor.old }
 {
     cursor.expect(Mark::Reserved(Reserved::Preamble))?;
@@ -50,7 +51,7 @@ fn item_list(
 }
 
 /// Reads an item, if one begins here, and pushes it.
-#[tactic(auto, using(crate::proofs::Pushed::pushed), unfolding(crate::proofs::Unfoldings::item_at_line))]
+#[tactic(auto, using(crate::proofs::NotedItems::pushed), unfolding(crate::proofs::Unfoldings::item_at_line))]
 fn push_item(
     cursor: &mut Cursor<'_>,
     text: &[PlainWord<'_>],
@@ -193,7 +194,8 @@ fn definition_by(
     word: Reserved,
 ) -> Result<Definition, Refusal>
     ensures exact { Gives definition_view result cursor.new
-        (reading.definition_by (several_view (λ n. n) names) (Some (plain.mark (mark.Reserved word))) cursor.old) }
+        (reading.definition_by (several_view (λ n. n) names)
+        (Some (plain.mark (mark.Reserved word))) cursor.old) }
     ensures shorter { length cursor.new ≤ length cursor.old }
 {
     match word {
@@ -209,7 +211,8 @@ fn definition_by(
 #[tactic(auto, unfolding(crate::proofs::Unfoldings::steps_by_word))]
 fn variables(cursor: &mut Cursor<'_>, names: Names) -> Result<Definition, Refusal>
     ensures exact { Gives definition_view result cursor.new (reading.definition_by
-        (several_view (λ n. n) names) (Some (plain.mark (mark.Reserved reserved.Integer))) cursor.old) }
+        (several_view (λ n. n) names)
+        (Some (plain.mark (mark.Reserved reserved.Integer))) cursor.old) }
     ensures shorter { length cursor.new ≤ length cursor.old }
 {
     cursor.pass();
@@ -226,7 +229,8 @@ fn unranked(
 ) -> Result<Definition, Refusal>
     ensures exact { Gives definition_view result cursor.new
         (bind (expect (mark.Reserved reserved.Sets))
-        (λ u. pure (Sets (several_view (λ n. n) names) (set_kind_view kind))) (rest_of cursor.old)) }
+        (λ u. pure (Sets (several_view (λ n. n) names) (set_discipline_view kind)))
+        (rest_of cursor.old)) }
     ensures shorter { length cursor.new ≤ length cursor.old }
 {
     cursor.pass();
@@ -238,7 +242,8 @@ fn unranked(
 #[tactic(auto, unfolding(crate::proofs::Unfoldings::steps_by_word))]
 fn ranked(cursor: &mut Cursor<'_>, names: Names) -> Result<Definition, Refusal>
     ensures exact { Gives definition_view result cursor.new (reading.definition_by
-        (several_view (λ n. n) names) (Some (plain.mark (mark.Reserved reserved.Sets))) cursor.old) }
+        (several_view (λ n. n) names)
+        (Some (plain.mark (mark.Reserved reserved.Sets))) cursor.old) }
     ensures shorter { length cursor.new ≤ length cursor.old }
 {
     cursor.pass();

@@ -69,7 +69,8 @@ fn declared(
 ) -> Result<(Decls, usize), TextFault>
     requires indexes { All (λ w. w.index < count) text.now }
     requires begins { HasPreamble (plains_of text.now) }
-    requires read { preamble_at (word_lines text.now) (plains_of text.now) ≡ (Ok (decls_view decls), cursor.now) }
+    requires read { preamble_at (word_lines text.now) (plains_of text.now)
+        ≡ (Ok (decls_view decls), cursor.now) }
     ensures declared { IfOk result (λ d. AreDecls (decls_view d.0) d.1 (map plain_at text.now)) }
     ensures refused { IfErr result (λ f. IsFault f (map plain_at text.now)) }
 {
@@ -83,7 +84,8 @@ fn declared(
 /// What a text is refused with, by what stopped its reading at the word that the cursor reached.
 fn fault(refusal: Refusal, cursor: &Cursor<'_>, text: &[PlainWord<'_>]) -> TextFault
     requires begins { HasPreamble (plains_of text.now) }
-    requires stopped { Fails refusal cursor.now (preamble_at (word_lines text.now) (plains_of text.now)) }
+    requires stopped { Fails refusal cursor.now
+        (preamble_at (word_lines text.now) (plains_of text.now)) }
     ensures { IsFault result (map plain_at text.now) }
 {
     match refusal {
@@ -97,7 +99,8 @@ fn fault(refusal: Refusal, cursor: &Cursor<'_>, text: &[PlainWord<'_>]) -> TextF
 /// ends with that word.
 fn unexpected(cursor: &Cursor<'_>, text: &[PlainWord<'_>]) -> TextFault
     requires begins { HasPreamble (plains_of text.now) }
-    requires stopped { preamble_at (word_lines text.now) (plains_of text.now) ≡ (Err Unexpected, cursor.now) }
+    requires stopped { preamble_at (word_lines text.now) (plains_of text.now)
+        ≡ (Err Unexpected, cursor.now) }
     ensures { IsFault result (map plain_at text.now) }
 {
     let reached = text.len().saturating_sub(cursor.len());

@@ -14,7 +14,8 @@ use Rattle.ss_words.specs.Marks.{is, expect, eat}
 use Rattle.ss_words.proofs.Laws.{fits_option, spell_option}
 use Rattle.ss_words.proofs.Local.{same, more}
 use Rattle.ss_words.proofs.Marks.{is_mark}
-use Rattle.ss_routines.specs.Combined.{pair, behind, before, made, if_mark, either, star, allowed, if_allowed, either_of}
+use Rattle.ss_routines.specs.Combined.{pair, behind, before, made, if_mark, either, star, eat_allowed, if_allowed}
+use Rattle.ss_routines.specs.Combined.{either_of}
 use Rattle.ss_routines.specs.Combined.{made_of, must}
 use Rattle.ss_routines.specs.Simple.{Simple}
 use Rattle.ss_routines.specs.SimpleSpelling.{spell_simple, depth_simple}
@@ -27,7 +28,7 @@ use Rattle.ss_routines.specs.BlockReading.{controlled_of, branch_with, one_with,
 use Rattle.ss_routines.specs.BlockReading.{controlled_with, loop_in, branch_at, block_at}
 use Rattle.ss_routines.specs.Counts.{opens, closes}
 use Rattle.ss_routines.specs.OneTooMany.{branches, rejoins, ends}
-use Rattle.ss_routines.specs.OpenPhrases.{Open, For, settled, step, open_behind, phrases_of}
+use Rattle.ss_routines.specs.OpenPhrases.{Open, For, without_inner_phrases, step, open_behind, phrases_of}
 use Rattle.ss_routines.proofs.SimpleLaw.{simple_law}
 use Rattle.ss_routines.proofs.LoopLaw.{question_law, compute_law, phrase_law, ComputeWords, ComputeFits, PhraseWords}
 use Rattle.ss_routines.proofs.Form.{Form, behind_form, nothing_form}
@@ -39,7 +40,8 @@ use Rattle.ss_routines.proofs.Operands.{Walks, a_phrase, begun_simple}
 use Rattle.ss_routines.proofs.Counting.{Place, Anywhere, Settled, Behind, At, EvenAt, Even, RoomAt, FullAt, PastAt}
 use Rattle.ss_routines.proofs.Counting.{OutAt, Out, Tally, nothing, plain, pure_tally, bind_tally, expect_tally}
 use Rattle.ss_routines.proofs.Counting.{eat_tally, many_tally, Encloses, Shuts, bind_shuts, made_shuts, close_shuts}
-use Rattle.ss_routines.proofs.Counting.{none_of, branches_build, rejoins_build, ends_build, Refused, PartOut, Part, part}
+use Rattle.ss_routines.proofs.Counting.{none_of, branches_build, rejoins_build, ends_build, Refused, PartOut, Part}
+use Rattle.ss_routines.proofs.Counting.{part}
 use Rattle.ss_routines.proofs.Counting.{enclosed_at, part_even, part_room, part_past, part_tally}
 
 -- ---- readings that are made of readings
@@ -293,7 +295,7 @@ module _ (A : Type 0) (k : Mark) where
   behind_allowed q b = elim b [ true ↦ bind q (λ a. pure (Some a)) | false ↦ pure None ]
 
   shut_is : (q : Reading A) (ws : List Plain) → if_allowed 0 k q ws ≡ shut_answer (is k (first ws)) ws
-  unfolding if_allowed allowed look bind pure refuse
+  unfolding if_allowed eat_allowed look bind pure refuse
   shut_is q ws =
       (elim (is k (first ws)) as (λ b. goes_on (behind_allowed q)
       (let h : Reading Bool = elim b [ true ↦ refuse PastLimit | false ↦ pure false ] in h ws).0
@@ -360,7 +362,7 @@ Anyhow a q = Unit {0}
 -- nothing, or words that close the phrases that stand innermost
 abbrev Begun : Option Simple → List Plain → Type 0
 Begun None q = q ≡ []
-Begun (Some a) q = (os : List Open) → open_behind true os q ≡ settled os
+Begun (Some a) q = (os : List Open) → open_behind true os q ≡ without_inner_phrases os
 
 begun_option : (a : Option Simple) → Begun a (spell_option spell_simple a)
 begun_option None = refl
@@ -418,8 +420,8 @@ module _ (n : ℕ) where
   module _ (i fs : ℕ) where
     -- a statement that holds no other, behind a phrase or where none stands innermost
     simple_found : (from : Place)
-        → ((q : List Plain) → Inner q → ((os : List Open) → open_behind true os q ≡ settled os)
-        → (b : Bool) (os : List Open) → At from b os → open_behind b os q ≡ settled os)
+        → ((q : List Plain) → Inner q → ((os : List Open) → open_behind true os q ≡ without_inner_phrases os)
+        → (b : Bool) (os : List Open) → At from b os → open_behind b os q ≡ without_inner_phrases os)
         → (o : Result (Option Simple) Refusal) (ws r : List Plain) → PartOut n Begun o ws r
         → FoundAt from n i fs o ws r
     simple_found from keeps (Ok None) ws r (q, e, x, l, s) = e ∙ ap (λ (u : List Plain). u ++ r) s
@@ -442,7 +444,7 @@ module _ (n : ℕ) where
 
     -- a word that closes the phrases that stand innermost, and a part behind it
     module _ {A : Type 0} (k : Mark) (one : Leaves 0 (mark k ∷ [])) (none : builds (mark k) ≡ false)
-        (shuts : (os : List Open) → step true os (mark k) ≡ settled os) where
+        (shuts : (os : List Open) → step true os (mark k) ≡ without_inner_phrases os) where
       started : (o : Result A Refusal) (ws r : List Plain) → PartOut n Anyhow o ws r
           → OutAt Behind false n i fs o (mark k ∷ ws) r
       started (Ok a) ws r (q, e, x, l, s) = (
@@ -497,7 +499,7 @@ module _ (n : ℕ) where
           (part_tally false n i fs Anyhow (question_at n) question_part)
 
       branch_more : (j : ℕ) → Finds Anywhere n (suc i) fs (if_allowed (suc j) (m.Reserved r.If) (branch_with n inside))
-      unfolding if_allowed allowed
+      unfolding if_allowed eat_allowed
       branch_more j =
           mark_finds Anywhere n (suc i) fs (m.Reserved r.If) (branch_with n inside)
           (enclosed_at false (mark (m.Reserved r.If)) (m.Reserved r.Always) n i fs n (suc i) (encloses_if n i fs)
@@ -671,7 +673,7 @@ module _ (n : ℕ) where
 
       loop_more : (j : ℕ) → Finds Anywhere n i (suc fs) (if_allowed (suc j) (m.Reserved r.For)
           (pair (phrase_at n) (controlled_with n b l)))
-      unfolding if_allowed allowed pair bind
+      unfolding if_allowed eat_allowed pair bind
       loop_more j =
           let p = phrase_part in
           mark_finds Anywhere n i (suc fs) (m.Reserved r.For) _

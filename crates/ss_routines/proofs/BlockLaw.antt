@@ -22,7 +22,8 @@ use Rattle.ss_routines.specs.LoopReading.{phrase_at, compute_at, question_at}
 use Rattle.ss_routines.specs.Tree.{Block, no_statements, statement, Statement, alone, loop, One, simple, branch}
 use Rattle.ss_routines.specs.Tree.{Otherwise, no_else, else_with, Controlled, further, repeated, single, find, compute}
 use Rattle.ss_routines.specs.Tree.{spell_block, spell_statement, spell_one, spell_otherwise, spell_controlled}
-use Rattle.ss_routines.specs.Tree.{depth_block, depth_statement, depth_one, depth_otherwise, depth_controlled, ifs_block}
+use Rattle.ss_routines.specs.Tree.{depth_block, depth_statement, depth_one, depth_otherwise, depth_controlled}
+use Rattle.ss_routines.specs.Tree.{ifs_block}
 use Rattle.ss_routines.specs.Tree.{ifs_statement, ifs_one, ifs_otherwise, ifs_controlled, phrases_block}
 use Rattle.ss_routines.specs.Tree.{phrases_statement, phrases_one, phrases_otherwise, phrases_controlled}
 use Rattle.ss_routines.specs.BlockReading.{Branching, Looping, otherwise_of, one_of, statement_of, block_of}
@@ -38,9 +39,10 @@ use Rattle.ss_routines.proofs.SimpleLaw.{Calm, NoSimple, simple_law}
 use Rattle.ss_routines.proofs.ConditionLaw.{EndsCondition}
 use Rattle.ss_routines.proofs.LoopLaw.{question_law, compute_law, phrase_law, ComputeWords, ComputeFits}
 use Rattle.ss_routines.proofs.LoopLaw.{PhraseWords, EndsPhrase}
-use Rattle.ss_routines.proofs.Allowed.{PartLaw, item_of, laws_of, Not}
-use Rattle.ss_routines.proofs.Parting.{Settled, settled, statement_parts, controlled_parts, one_no_loop, NoStatement}
-use Rattle.ss_routines.proofs.Parting.{EndsBlock, if_begins, for_begins, always_ends, loop_ends, otherwise_ends}
+use Rattle.ss_routines.proofs.LimitedParts.{PartLaw, item_of, laws_of, Not}
+use Rattle.ss_routines.proofs.PartingWords.{Settled, settled, statement_parts, controlled_parts, one_no_loop}
+use Rattle.ss_routines.proofs.PartingWords.{NoStatement}
+use Rattle.ss_routines.proofs.PartingWords.{EndsBlock, if_begins, for_begins, always_ends, loop_ends, otherwise_ends}
 
 -- ---- the same part by other words for its spelling and for what keeps the limits
 

@@ -16,8 +16,8 @@ use Rattle.ss_routines.proofs.Form.{Anything}
 use Rattle.ss_routines.proofs.Law.{Law, form_of}
 use Rattle.ss_routines.proofs.ExprLaw.{Wider}
 use Rattle.ss_routines.proofs.SimpleLaw.{Calm}
-use Rattle.ss_routines.proofs.Allowed.{allowed_law, none_law, none_more_law}
-use Rattle.ss_routines.proofs.Parting.{EndsBlock}
+use Rattle.ss_routines.proofs.LimitedParts.{allowed_law, none_law, none_more_law}
+use Rattle.ss_routines.proofs.PartingWords.{EndsBlock}
 use Rattle.ss_routines.proofs.BlockLaw.{FitsBlock, FitsBranch, FitsLoop, BranchLaw, LoopLaw, branch_words, loop_words}
 use Rattle.ss_routines.proofs.BlockLaw.{branch_law, looping_law, block_level, controlled_level}
 

@@ -19,7 +19,8 @@ use Rattle.ss_words.proofs.Loop.{on_ok}
 use Rattle.ss_words.proofs.Marks.{spell_mark, spell_eaten, expect_good, eat_good}
 use Rattle.ss_words.proofs.Writes.{Writes, pure_writes, refuse_writes, here_writes, bind_writes, same_writes}
 use Rattle.ss_words.proofs.Writes.{map_writes, noted, many_writes}
-use Rattle.ss_routines.specs.Combined.{pair, behind, before, made, if_mark, either, star, allowed, if_allowed, either_of}
+use Rattle.ss_routines.specs.Combined.{pair, behind, before, made, if_mark, either, star, eat_allowed, if_allowed}
+use Rattle.ss_routines.specs.Combined.{either_of}
 use Rattle.ss_routines.specs.Combined.{made_of, must}
 use Rattle.ss_routines.specs.Simple.{Simple}
 use Rattle.ss_routines.specs.SimpleSpelling.{spell_simple}
@@ -78,8 +79,8 @@ out_writes {A} {B} words k out out' alike p p' l = record { at = λ ws h. l.at w
 -- a mark of which none may be open
 pub none_writes : {A : Type 0} (words k : ℕ) (c : Mark) (q : Reading A) (acc : List Spot) (flat : A → List Spot)
     → Writes words (noted flat acc) k (if_allowed 0 c q)
-    (bind (allowed 0 c) (λ b. elim b [ true ↦ refuse PastLimit | false ↦ pure (false, acc) ]))
-unfolding if_allowed allowed look bind pure refuse
+    (bind (eat_allowed 0 c) (λ b. elim b [ true ↦ refuse PastLimit | false ↦ pure (false, acc) ]))
+unfolding if_allowed eat_allowed look bind pure refuse
 none_writes {A} words k c q acc flat = record { at = λ ws h. put (is c (first ws)) ws }
   where
     put : (b : Bool) (ws : List Plain) → (let x : Read

@@ -35,7 +35,8 @@ use Rattle.ss_routines.specs.Condition.{spell_copula, spell_condition, spell_alt
 use Rattle.ss_routines.specs.Condition.{spell_additions, spell_relation, depth_reference, depth_condition}
 use Rattle.ss_routines.specs.Condition.{depth_alternatives, depth_conjunction, depth_additions, depth_relation}
 use Rattle.ss_routines.specs.SimpleReading.{reference_at}
-use Rattle.ss_routines.specs.ConditionReading.{comparison_of, reference_of, alternatives_of, additions_of, copula}
+use Rattle.ss_routines.specs.ConditionReading.{comparison_of, reference_of, copula}
+use Rattle.ss_routines.specs.Condition.{alternatives_of, additions_of}
 use Rattle.ss_routines.specs.ConditionReading.{set_with, behind_value, value_with, relation_with, conjoined_with}
 use Rattle.ss_routines.specs.ConditionReading.{conjunction_with, either_with, either_at, condition_at}
 use Rattle.ss_routines.proofs.Tally.{Leaves, Tally, plain_word, pure_tally, refuse_tally, bind_tally, expect_tally}

@@ -19,7 +19,7 @@ use Rattle.ss_words.proofs.Marks.{is_mark}
 use Rattle.ss_words.proofs.Goal as goal
 use Rattle.ss_routines.specs.Counts.{count, opens, closes}
 use Rattle.ss_routines.specs.OneTooMany.{branches, rejoins, ends}
-use Rattle.ss_routines.specs.OpenPhrases.{Open, settled, may_end, step, open_behind, phrases_of}
+use Rattle.ss_routines.specs.OpenPhrases.{Open, without_inner_phrases, may_end, step, open_behind, phrases_of}
 use Rattle.ss_routines.proofs.Tally as tally
 use Rattle.ss_routines.proofs.Tally.{count-append, Leaves}
 use Rattle.ss_routines.proofs.Inner.{builds, Inner, front}
@@ -33,7 +33,7 @@ pub data Place : Type 0 where
 -- a word that may end a phrase stands before them or does not, as b says, and os is open there
 abbrev pub At : Place → Bool → List Open → Type 0
 At Anywhere b os = Unit {0}
-At Settled b os = settled os ≡ os
+At Settled b os = without_inner_phrases os ≡ os
 At Behind b os = b ≡ true
 
 -- as many parentheses are closed as opened and as many IFs rejoined as begun, what is opened is closed, and no section
@@ -41,7 +41,7 @@ At Behind b os = b ≡ true
 pub record EvenAt (from : Place) (q : List Plain) : Type 0 where
   pub parentheses : count opens q ≡ count closes q
   pub ifs : count branches q ≡ count rejoins q
-  pub phrases : (b : Bool) (os : List Open) → At from b os → open_behind b os q ≡ settled os
+  pub phrases : (b : Bool) (os : List Open) → At from b os → open_behind b os q ≡ without_inner_phrases os
   pub no_end : count ends q ≡ 0
 
 abbrev pub Even : List Plain → Type 0
@@ -111,7 +111,7 @@ room_of n i fs q e = let a = e.parentheses in let b = e.ifs in record {
 }
 
 -- behind words that close what they open
-both : (b : Bool) (os : List Open) (x y : List Plain) → Even x → settled os ≡ os
+both : (b : Bool) (os : List Open) (x y : List Plain) → Even x → without_inner_phrases os ≡ os
     → open_behind b os (x ++ y) ≡ open_behind (ended_by b x) os y
 both b os x y h e =
     behind_both b os x y ∙ ap (λ (o : List Open). open_behind (ended_by b x) o y) (h.phrases b os e ∙ e)
@@ -262,7 +262,7 @@ module _ (h : Bool) (n i fs : ℕ) where
 -- how many may be open behind word w, where n and i may be before it; no phrase stands innermost behind w
 pub record Encloses (from : Place) (w c : Plain) (n i fs n' i' : ℕ) : Type 0 where
   pub even : EvenAt from (w ∷ c ∷ [])
-  pub inner : (b : Bool) (os : List Open) → At from b os → settled (step b os w) ≡ step b os w
+  pub inner : (b : Bool) (os : List Open) → At from b os → without_inner_phrases (step b os w) ≡ step b os w
   pub same : (b : Bool) (os : List Open) → At from b os → phrases_of (step b os w) ≡ phrases_of os
   pub parentheses : (q : List Plain) → count opens q ≤ count closes q + n
       → count opens (w ∷ q) ≤ count closes (w ∷ q) + n'
@@ -555,7 +555,7 @@ module _ {A : Type 0} (n : ℕ) (fits fits' : A → Type 0) (sp sp' : A → List
 -- ---- what is counted in a part
 
 pub part_even : (from : Place) (q : List Plain) → Inner q → Leaves 0 q
-    → ((b : Bool) (os : List Open) → At from b os → open_behind b os q ≡ settled os) → EvenAt from q
+    → ((b : Bool) (os : List Open) → At from b os → open_behind b os q ≡ without_inner_phrases os) → EvenAt from q
 part_even from q x l keeps = let h = l.open_ones in record {
   parentheses = omega (arith, h);
   ifs = none_of branches branches_build q x ∙ sym (none_of rejoins rejoins_build q x);

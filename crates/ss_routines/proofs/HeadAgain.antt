@@ -9,12 +9,12 @@ use Rattle.ss_words.specs.declared.refusal.Refusal.{Refusal}
 use Rattle.ss_words.specs.declared.refusal.Refusal.TheVariants.{Unexpected, PastLimit, Memory}
 use Rattle.ss_words.specs.Plain.{Plain, name, mark, first}
 use Rattle.ss_words.specs.Lists.{Name, Several, all_of}
-use Rattle.ss_words.specs.Reading.{Reading, goes_on, bind, pure, refuse, look, rest_of, skip, ended}
+use Rattle.ss_words.specs.Reading.{Reading, goes_on, bind, pure, refuse, look, rest_of, skip, end_of_words}
 use Rattle.ss_words.specs.Marks.{is, expect, eat, name_by, a_name}
 use Rattle.ss_words.proofs.Marks.{expect_read_back, eat_read_back, not_eaten, name_read_back}
 use Rattle.ss_words.proofs.ReadBack.{then}
 use Rattle.ss_routines.specs.Simple.{Listing, Unwritten, BehindGiven, InParentheses}
-use Rattle.ss_routines.specs.Tree.{Head, MainHead, RoutineHead, EventHead, listed, parameters_head, spell_saving}
+use Rattle.ss_routines.specs.Tree.{Head, MainHead, RoutineHead, EventHead, listing_names, parameters_head, spell_saving}
 use Rattle.ss_routines.specs.Tree.{spell_head}
 use Rattle.ss_routines.specs.Refused.{announces}
 use Rattle.ss_routines.specs.SectionReading.{refusal_of, no_name, others_at, names_at, given_at, yielded_at, saving}
@@ -53,7 +53,7 @@ names_again k ns y le e =
     then a_name _ ns.first (name ns.first ∷ z) z (name_read_back ns.first z)
     ∙ then (others_at k) _ ns.others z y (others_again k ns.others y (omega (arith, le)) e)
 
-given_again : (k : ℕ) (ps : Listing Name) (y : List Plain) → length (listed ps) ≤ suc k
+given_again : (k : ℕ) (ps : Listing Name) (y : List Plain) → length (listing_names ps) ≤ suc k
     → is (m.Sign s.Comma) (first y) ≡ false → is (m.Reserved r.Given) (first y) ≡ false
     → is (m.Sign s.Open) (first y) ≡ false
     → given_at (suc k) (spell_given ps ++ y) ≡ (Ok ps, y)
@@ -116,7 +116,7 @@ saving_ends false y e = (e.no_comma, (e.no_given, e.no_open))
 saving_ends true y e = (refl, (refl, refl))
 
 routine_again : (k : ℕ) (n : Name) (ps : Listing Name) (ys : List Name) (y : List Plain)
-    → length (listed ps) + length ys ≤ suc k → EndsHead y
+    → length (listing_names ps) + length ys ≤ suc k → EndsHead y
     → routine_at (suc k) (name n ∷ ((spell_given ps ++ spell_yielded ys) ++ y)) ≡ (Ok (RoutineHead n ps ys), y)
 unfolding routine_at pure
 routine_again k n ps ys y le e =
@@ -126,10 +126,10 @@ routine_again k n ps ys y le e =
     ap (λ (u : List Plain). routine_at (suc k) (name n ∷ u)) (append_assoc (spell_given ps) (spell_yielded ys) y)
     ∙ then a_name _ n (name n ∷ z) z (name_read_back n z)
     ∙ then (given_at (suc k)) _ ps z w (given_again k ps w (omega (arith, le)) h.0 h.1.0 h.1.1)
-    ∙ then (yielded_at (suc k - length (listed ps))) _ ys w y
-    (yielded_again (suc k - length (listed ps)) ys y (omega (arith, le)) e.no_comma e.no_yielding)
+    ∙ then (yielded_at (suc k - length (listing_names ps))) _ ys w y
+    (yielded_again (suc k - length (listing_names ps)) ys y (omega (arith, le)) e.no_comma e.no_yielding)
 
-event_again : (k : ℕ) (n : Name) (ps : Listing Name) (b : Bool) (y : List Plain) → length (listed ps) ≤ suc k
+event_again : (k : ℕ) (n : Name) (ps : Listing Name) (b : Bool) (y : List Plain) → length (listing_names ps) ≤ suc k
     → EndsHead y
     → event_at (suc k) (name n ∷ ((spell_given ps ++ spell_saving b) ++ y)) ≡ (Ok (EventHead n ps b), y)
 unfolding event_at pure
@@ -214,8 +214,8 @@ ended_at_spares : (w : Option Plain) → Spares {A = Unit {0}} (elim w [ Some v 
 ended_at_spares (Some v) = refuse_spares
 ended_at_spares None = pure_spares tt
 
-pub ended_spares : Spares ended
-unfolding ended
+pub ended_spares : Spares end_of_words
+unfolding end_of_words
 ended_spares = look_spares _ (λ w ws e. let h = ended_at_spares w in h.at ws)
 
 name_at_spares : (w : Option Plain) → Spares (name_by w)
@@ -308,7 +308,8 @@ routine_spares : (k : ℕ) → Spares (routine_at k)
 unfolding routine_at
 routine_spares k =
     bind_spares _ (λ n. bind_spares _ (λ ps. bind_spares _ (λ ys. pure_spares (RoutineHead n ps ys))
-    (yielded_at (k - length (listed ps))) (yielded_spare (k - length (listed ps)))) (given_at k) (given_spare k)) a_name
+    (yielded_at (k - length (listing_names ps))) (yielded_spare (k - length (listing_names ps)))) (given_at k)
+    (given_spare k)) a_name
     name_spares
 
 event_spares : (k : ℕ) → Spares (event_at k)

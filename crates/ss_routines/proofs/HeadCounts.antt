@@ -13,7 +13,7 @@ use Rattle.ss_words.specs.Reading.{Reading, goes_on, bind, pure, refuse, look, s
 use Rattle.ss_words.specs.Marks.{is, expect, eat, name_by, a_name}
 use Rattle.ss_words.proofs.Marks.{is_mark}
 use Rattle.ss_routines.specs.Simple.{Listing, Unwritten, BehindGiven, InParentheses}
-use Rattle.ss_routines.specs.Tree.{MainHead, RoutineHead, EventHead, listed}
+use Rattle.ss_routines.specs.Tree.{MainHead, RoutineHead, EventHead, listing_names}
 use Rattle.ss_routines.specs.SectionReading.{refusal_of, no_name, others_at, names_at, given_at, yielded_at, saving}
 use Rattle.ss_routines.specs.SectionReading.{routine_at, event_at, head_by, head_at, as_variables, a_define, locals}
 use Rattle.ss_routines.specs.OneTooMany.{asks, names_in_head}
@@ -130,8 +130,8 @@ module _ (n i fs : ℕ) where
   unfolding routine_at
   routine_tally k =
       bind_tally true (suc n) i fs _ (λ v. bind_tally true (suc n) i fs _ (λ ps. bind_tally true (suc n) i fs _
-      (λ ys. pure_tally true (suc n) i fs (RoutineHead v ps ys)) (yielded_at (k - length (listed ps)))
-      (yielded_tally (suc n) i fs (k - length (listed ps)))) (given_at k) (given_tally k)) a_name
+      (λ ys. pure_tally true (suc n) i fs (RoutineHead v ps ys)) (yielded_at (k - length (listing_names ps)))
+      (yielded_tally (suc n) i fs (k - length (listing_names ps)))) (given_at k) (given_tally k)) a_name
       (name_tally true (suc n) i fs)
 
   event_tally : (k : ℕ) → Tally true (suc n) i fs (event_at k)
@@ -383,7 +383,7 @@ module _ (l : ℕ) where
       (others_at k) (others_tells k (suc j) y d (omega (arith, e)))) a_name (name_tells j pre h)
 
   abbrev HasGiven : ℕ → ℕ → Listing Name → List Plain → Type 0
-  HasGiven k j ps x = HasOthers k j (listed ps) x
+  HasGiven k j ps x = HasOthers k j (listing_names ps) x
 
   closed : (j : ℕ) (pre : List Plain) → Has false j pre → Has false j (pre ++ mark (m.Sign s.Close) ∷ [])
   closed j pre h z =
@@ -443,8 +443,8 @@ module _ (k : ℕ) where
       (λ v y d. bind_tells (suc k) (HasGiven (suc k) k 1) Anyhow y _
       (λ ps c f. let le = f.0 in bind_tells (suc k) Anyhow Anyhow c _ (λ ys b o. pure_tells (suc k) Anyhow b
       (RoutineHead v ps ys) tt)
-      (yielded_at (k - length (listed ps)))
-      (yielded_tells (suc k) (k - length (listed ps)) (1 + length (listed ps)) c f.1 (omega (arith, le))))
+      (yielded_at (k - length (listing_names ps)))
+      (yielded_tells (suc k) (k - length (listing_names ps)) (1 + length (listing_names ps)) c f.1 (omega (arith, le))))
       (given_at k) (given_tells (suc k) k 1 y d (omega arith))) a_name
       (name_tells (suc k) 0 pre (λ z. omega arith))
 

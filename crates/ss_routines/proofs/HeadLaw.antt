@@ -19,13 +19,13 @@ use Rattle.ss_words.proofs.Marks.{is_mark, spell_mark, spell_eaten, spell_name, 
 use Rattle.ss_routines.specs.Simple.{Listing, Unwritten, BehindGiven, InParentheses}
 use Rattle.ss_routines.specs.SimpleSpelling.{spell_behind, spell_listing}
 use Rattle.ss_routines.specs.Loops as loops
-use Rattle.ss_routines.specs.Tree.{Head, MainHead, RoutineHead, EventHead, listed, parameters_head, spell_saving}
+use Rattle.ss_routines.specs.Tree.{Head, MainHead, RoutineHead, EventHead, listing_names, parameters_head, spell_saving}
 use Rattle.ss_routines.specs.Tree.{spell_head}
 use Rattle.ss_routines.specs.Refused.{announces}
 use Rattle.ss_routines.specs.SectionReading.{no_name, others_at, names_at, given_at, yielded_at, saving, routine_at}
 use Rattle.ss_routines.specs.SectionReading.{event_at, head_by, head_at}
-use Rattle.ss_routines.proofs.Begun.{IsKept, Keeps, KeepsAt, keeps_of, bind_keeps, keeps_at}
-use Rattle.ss_routines.proofs.Begun.{look_keeps, skip_keeps}
+use Rattle.ss_routines.proofs.AnnouncedParts.{IsKept, Keeps, KeepsAt, keeps_of, bind_keeps, keeps_at}
+use Rattle.ss_routines.proofs.AnnouncedParts.{look_keeps, skip_keeps}
 
 -- ---- what is read keeps the limits
 
@@ -121,7 +121,7 @@ names_keep k =
 -- ---- parameters
 
 abbrev pub AtMostGiven : ℕ → Listing Name → Type 0
-AtMostGiven k ps = length (listed ps) ≤ k
+AtMostGiven k ps = length (listing_names ps) ≤ k
 
 abbrev pub spell_given : Listing Name → List Plain
 spell_given ps = spell_listing loops.spell_name ps
@@ -208,11 +208,12 @@ routine_keep k =
     let word : Plain = mark (m.Reserved r.Routine) in
     bind_keeps Any fits spell_name spell_head (word ∷ []) _
     (λ n u. bind_keeps (AtMostGiven (suc k)) fits spell_given spell_head (word ∷ name n ∷ []) _ (λ ps h.
-    bind_keeps (AtMost (suc k - length (listed ps))) fits spell_yielded spell_head (word ∷ name n ∷ spell_given ps) _
+    bind_keeps (AtMost (suc k - length (listing_names ps))) fits spell_yielded spell_head
+    (word ∷ name n ∷ spell_given ps) _
     (λ ys g. keeps_of fits spell_head _ (pure (RoutineHead n ps ys))
     (pure_good fits spell_head _ (RoutineHead n ps ys) (omega (arith, h, g)) refl))
     (λ ys. (RoutineHead n ps ys, tt, [], sym (append-nil (spell_head (RoutineHead n ps ys)))))
-    (yielded_at (suc k - length (listed ps))) (yielded_keep (suc k - length (listed ps))))
+    (yielded_at (suc k - length (listing_names ps))) (yielded_keep (suc k - length (listing_names ps))))
     (λ ps. (RoutineHead n ps [], tt, [], refl)) (given_at (suc k)) (given_keep k))
     (λ n. (RoutineHead n Unwritten [], tt, [], refl)) a_name (keeps_of Any spell_name [] a_name name_good)
 

@@ -11,13 +11,14 @@ use Rattle.ss_words.specs.Plain.{Plain, name, number, mark, picture, first}
 use Rattle.ss_words.specs.Lists.{Name, Several, all_of}
 use Rattle.ss_routines.specs.Simple.{Listing, Unwritten, BehindGiven, InParentheses}
 use Rattle.ss_routines.specs.Tree.{Block, no_statements, statement, Head, MainHead, RoutineHead, EventHead, SectionTree}
-use Rattle.ss_routines.specs.Tree.{Tree, listed, parameters_head, parameters, spell_head, spell_define, spell_saving}
+use Rattle.ss_routines.specs.Tree.{Tree, listing_names, parameters_head, parameters, spell_head, spell_define}
+use Rattle.ss_routines.specs.Tree.{spell_saving}
 use Rattle.ss_routines.specs.Tree.{spell_block, spell_statement, spell_section, spell}
 use Rattle.ss_routines.specs.Counts.{count, closes}
 use Rattle.ss_routines.specs.OneTooMany.{ends, behind_end, asks, names_in_head}
 use Rattle.ss_routines.proofs.Tally.{count-append}
 use Rattle.ss_routines.proofs.Form.{Each}
-use Rattle.ss_routines.proofs.Parting.{parts, statement_parts}
+use Rattle.ss_routines.proofs.PartingWords.{parts, statement_parts}
 use Rattle.ss_routines.proofs.HeadLaw.{spell_more, spell_list, spell_given, spell_yielded}
 use Rattle.ss_routines.proofs.SectionCounts.{Spelled, behind_section, all_open}
 
@@ -36,7 +37,7 @@ list_names : (ns : Several Name) (z : List Plain)
 list_names ns z = let h = more_names ns.others z in omega (arith, h)
 
 given_names : (ps : Listing Name) (z : List Plain)
-    → names_in_head false (spell_given ps ++ z) ≡ length (listed ps) + names_in_head false z
+    → names_in_head false (spell_given ps ++ z) ≡ length (listing_names ps) + names_in_head false z
 given_names Unwritten z = omega arith
 given_names (BehindGiven ns) z = list_names ns z
 given_names (InParentheses ns) z =

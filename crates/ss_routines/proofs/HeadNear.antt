@@ -15,11 +15,12 @@ use Rattle.ss_words.proofs.Local.{refuse_local, shut_local, bind_local, anywhere
 use Rattle.ss_words.proofs.Marks.{expect_local, eat_local, name_local}
 use Rattle.ss_routines.specs.Simple.{Listing, Unwritten, BehindGiven, InParentheses}
 use Rattle.ss_routines.specs.SimpleReading.{name_of}
-use Rattle.ss_routines.specs.Tree.{Head, MainHead, RoutineHead, EventHead, listed}
-use Rattle.ss_routines.specs.SectionReading.{is_head, refusal_of, no_name, others_at, names_at, given_at, yielded_at}
+use Rattle.ss_routines.specs.Tree.{Head, MainHead, RoutineHead, EventHead, listing_names}
+use Rattle.ss_routines.specs.SectionReading.{refusal_of, no_name, others_at, names_at, given_at, yielded_at}
+use Rattle.ss_routines.specs.Tree.{is_head}
 use Rattle.ss_routines.specs.SectionReading.{saving, routine_at, event_at, head_by, head_at}
 use Rattle.ss_routines.proofs.ExprLaw.{Wider}
-use Rattle.ss_routines.proofs.Begun.{IsKept, Keeps}
+use Rattle.ss_routines.proofs.AnnouncedParts.{IsKept, Keeps}
 use Rattle.ss_routines.proofs.HeadLaw.{AtMostGiven, spell_given, given_keep}
 
 first_same : (q a b : List Plain) → first a ≡ first b → first (q ++ a) ≡ first (q ++ b)
@@ -230,20 +231,21 @@ left_over same k j l w le = omega (arith, w, le)
 left_over more k j l w le = omega (arith, w, le)
 
 abbrev behind_given : ℕ → Name → Listing Name → Reading Head
-behind_given k n ps = bind (yielded_at (k - length (listed ps))) (λ ys. pure (RoutineHead n ps ys))
+behind_given k n ps = bind (yielded_at (k - length (listing_names ps))) (λ ys. pure (RoutineHead n ps ys))
 
 behind_given_near : (rooms : Rooms) (k j : ℕ) → Wider rooms k j → (n : Name) (ps : Listing Name)
     → AtMostGiven (suc k) ps → Local rooms (behind_given (suc k) n ps) (behind_given (suc j) n ps)
 behind_given_near rooms k j w n ps h =
-    bind_local rooms _ _ (λ ys. pure_local rooms (RoutineHead n ps ys)) (yielded_at (suc j - length (listed ps)))
-    (yielded_at (suc k - length (listed ps))) (yielded_near rooms (suc k - length (listed ps))
-    (suc j - length (listed ps)) (left_over rooms k j (length (listed ps)) w h))
+    bind_local rooms _ _ (λ ys. pure_local rooms (RoutineHead n ps ys)) (yielded_at (suc j - length (listing_names ps)))
+    (yielded_at (suc k - length (listing_names ps))) (yielded_near rooms (suc k - length (listing_names ps))
+    (suc j - length (listing_names ps)) (left_over rooms k j (length (listing_names ps)) w h))
 
 behind_given_short : (j : ℕ) (n : Name) (ps : Listing Name) (r : List Plain)
     → length (behind_given (suc j) n ps r).1 ≤ length r
 behind_given_short j n ps r =
-    let l = bind_local same _ _ (λ ys. pure_local same (RoutineHead n ps ys)) (yielded_at (suc j - length (listed ps)))
-    (yielded_at (suc j - length (listed ps))) (yielded_same (suc j - length (listed ps))) in (l.at r).2
+    let l = bind_local same _ _ (λ ys. pure_local same (RoutineHead n ps ys))
+    (yielded_at (suc j - length (listing_names ps)))
+    (yielded_at (suc j - length (listing_names ps))) (yielded_same (suc j - length (listing_names ps))) in (l.at r).2
 
 routine_near : (rooms : Rooms) (k j : ℕ) → Wider rooms k j → Local rooms (routine_at (suc k)) (routine_at (suc j))
 unfolding routine_at

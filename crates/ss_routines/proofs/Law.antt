@@ -15,7 +15,7 @@ use Rattle.ss_words.proofs.Marks.{is_mark, spell_mark, spell_eaten, expect_good,
 use Rattle.ss_words.proofs.Marks.{expect_read_back, eat_read_back, not_eaten}
 use Rattle.ss_words.proofs.ReadBack.{then}
 use Rattle.ss_routines.specs.Expr.{spell_within}
-use Rattle.ss_routines.specs.Combined.{opened, if_open}
+use Rattle.ss_routines.specs.Combined.{eat_open, if_open}
 use Rattle.ss_routines.proofs.Tally.{Leaves, Refused, Out, Tally, nothing, opened_refused, opened_under}
 use Rattle.ss_routines.proofs.Tally.{opened_some, enclosed}
 use Rattle.ss_routines.proofs.Form.{Form, Item}
@@ -76,7 +76,7 @@ close q = bind q (λ a. bind (expect (m.Sign s.Close)) (λ u. pure (Some a)))
 
 pub open_stops : {A : Type 0} (n : ℕ) (q : Reading A) (y : List Plain) → is (m.Sign s.Open) (first y) ≡ false
     → if_open n q y ≡ (Ok None, y)
-unfolding if_open opened look pure bind
+unfolding if_open eat_open look pure bind
 open_stops zero q y e =
     ap (λ (b : Bool). let h : Reading Bool = elim b [ true ↦ refuse PastLimit | false ↦ pure false ] in goes_on
     (λ c. elim c [ true ↦ close q | false ↦ pure None ]) (h y).0 (h y).1) e
@@ -96,7 +96,7 @@ module _ {A : Type 0} (rooms : Rooms) (n k : ℕ) (d : A → ℕ) (sp : A → Li
   within_fits a = suc (d a) ≤ suc n
 
   more_good : Good (fits_option within_fits) (spell_option within_sp) [] (if_open (suc n) q)
-  unfolding if_open opened
+  unfolding if_open eat_open
   more_good =
       bind_good Any (fits_option within_fits) (spell_eaten (m.Sign s.Open)) (spell_option within_sp) [] _ (elim [
         | true ↦ (λ u. bind_good (λ a. d a ≤ n) (fits_option within_fits) sp (spell_option within_sp)
@@ -108,7 +108,7 @@ module _ {A : Type 0} (rooms : Rooms) (n k : ℕ) (d : A → ℕ) (sp : A → Li
       ]) (eat (m.Sign s.Open)) (eat_good (m.Sign s.Open))
 
   more_near : Local rooms (if_open (suc n) q) (if_open (suc k) q')
-  unfolding if_open opened
+  unfolding if_open eat_open
   more_near = bind_local rooms _ _ (elim [
     | true ↦ bind_local rooms _ _ (λ a. bind_local rooms _ _ (λ u. pure_local rooms (Some a)) (expect (m.Sign s.Close))
         (expect (m.Sign s.Close)) (expect_local rooms (m.Sign s.Close))) q' q l.near
@@ -116,7 +116,7 @@ module _ {A : Type 0} (rooms : Rooms) (n k : ℕ) (d : A → ℕ) (sp : A → Li
   ]) (eat (m.Sign s.Open)) (eat (m.Sign s.Open)) (eat_local rooms (m.Sign s.Open))
 
   more_goes : (a : A) (y : List Plain) → within_fits a → if_open (suc n) q (within_sp a ++ y) ≡ (Ok (Some a), y)
-  unfolding if_open opened pure
+  unfolding if_open eat_open pure
   more_goes a y f =
       let shut = mark (m.Sign s.Close) in
       let z = shut ∷ y in
@@ -166,7 +166,7 @@ module _ {A : Type 0} (rooms : Rooms) (n k : ℕ) (d : A → ℕ) (sp : A → Li
   open_out ws false e = ([], refl, nothing)
 
   more_counted : Tally (suc n) (if_open (suc n) q)
-  unfolding if_open opened bind eat look
+  unfolding if_open eat_open bind eat look
   more_counted = record { at = λ ws. open_out ws (is (m.Sign s.Open) (first ws)) refl }
 
   pub open_law : OpenLaw rooms (suc n) d sp (if_open (suc n) q) (if_open (suc k) q')
@@ -192,7 +192,7 @@ module _ {A : Type 0} (d : A → ℕ) (sp : A → List Plain) (q : Reading A) wh
   shut_answer false ws = (Ok None, ws)
 
   shut_is : (ws : List Plain) → if_open 0 q ws ≡ shut_answer (is (m.Sign s.Open) (first ws)) ws
-  unfolding if_open opened look bind pure refuse
+  unfolding if_open eat_open look bind pure refuse
   shut_is ws =
       (elim (is (m.Sign s.Open) (first ws)) as (λ b. goes_on (λ c. elim c [ true ↦ close q | false ↦ pure None ])
       (let h : Reading Bool = elim b [ true ↦ refuse PastLimit | false ↦ pure false ] in h ws).0
@@ -261,7 +261,7 @@ module _ {A : Type 0} (d : A → ℕ) (sp : A → List Plain) (q : Reading A) wh
 
     goes_past : (v : Plain) (ws : List Plain) → v ≡ mark (m.Sign s.Open)
         → length (if_open (suc k) q' (v ∷ ws)).1 ≤ length ws
-    unfolding if_open opened
+    unfolding if_open eat_open
     goes_past v ws e =
         let c = λ (b : Bool). let h : Reading (Option A) = elim b [ true ↦ close q' | false ↦ pure None ] in h in
         let step : bind (eat (m.Sign s.Open)) c (mark (m.Sign s.Open) ∷ ws) ≡ close q' ws =

@@ -11,7 +11,7 @@ use Rattle.ss_words.proofs.Laws.{Good, Any, fits_option, spell_option}
 use Rattle.ss_words.proofs.Local.{same}
 use Rattle.ss_words.proofs.Marks.{spell_eaten, eat_good}
 use Rattle.ss_words.proofs.Writes.{Writes, pure_writes, here_writes, bind_writes, same_writes, noted}
-use Rattle.ss_routines.specs.Combined.{pair, allowed, if_allowed}
+use Rattle.ss_routines.specs.Combined.{pair, eat_allowed, if_allowed}
 use Rattle.ss_routines.specs.SimpleSpelling.{spell_simple, depth_simple}
 use Rattle.ss_routines.specs.SimpleReading.{simple_at}
 use Rattle.ss_routines.specs.Loops.{Phrase, spell_phrase, spell_question, depth_phrase, depth_question}
@@ -139,7 +139,7 @@ module _ (lines : List ℕ) (n : ℕ) where
     -- FOR, where one more phrase may be open
     for_writes : LoopWrites lines n (loop_in n (branch_at n i) (suc f))
         (noting_loop lines n (noting_if lines n i) (suc f))
-    unfolding loop_in noting_loop if_allowed allowed pair
+    unfolding loop_in noting_loop if_allowed eat_allowed pair
     for_writes k acc =
         here_writes (length lines) _ k lines _ _ refl (same_writes (length lines) Any (spell_eaten (m.Reserved r.For))
         (for_out k acc) k _ _ (elim [
@@ -155,7 +155,7 @@ module _ (lines : List ℕ) (n : ℕ) where
 
     -- IF, where one more may be open
     if_writes : BranchWrites lines n (branch_at n (suc i) f) (noting_if lines n (suc i) f)
-    unfolding branch_at noting_if if_allowed allowed
+    unfolding branch_at noting_if if_allowed eat_allowed
     if_writes k acc =
         here_writes (length lines) _ k lines _ _ refl (same_writes (length lines) Any (spell_eaten (m.Reserved r.If))
         (if_out k acc) k _ _ (elim [

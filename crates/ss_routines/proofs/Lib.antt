@@ -12,15 +12,15 @@ mod LoopLaw
 mod Rooms
 mod EitherRooms
 mod ListLoop
-mod Instead
-mod Chosen
-mod Absent
-mod Marked
-mod Allowed
-mod Parting
+mod AlternativeParts
+mod ChoiceAnswers
+mod AbsentParts
+mod PartAnswers
+mod LimitedParts
+mod PartingWords
 mod BlockLaw
 mod BlockLevels
-mod Begun
+mod AnnouncedParts
 mod HeadLaw
 mod HeadNear
 mod HeadAgain
@@ -36,15 +36,15 @@ mod HeadNames
 pub mod Whole
 pub mod Unique
 mod LimitWords
-pub mod Answered
-pub mod Decided
+pub mod AlwaysAnswered
+pub mod AnswerByReading
 mod BlockWrites
 mod LevelWrites
 mod SectionWrites
-mod Told
-mod Pushed
+mod NotedAnswers
+mod PushedPlaces
 mod NotingRooms
 mod NamesLoop
 mod SectionLoop
-pub mod Ended
+pub mod EndIsLast
 mod Examples

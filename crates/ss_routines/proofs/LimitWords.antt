@@ -14,7 +14,8 @@ use Rattle.ss_words.specs.Plain.{Plain, name, mark, first}
 use Rattle.ss_words.specs.Reading.{Read, whole}
 use Rattle.ss_words.proofs.Goal.{front_is, back_is, front_and}
 use Rattle.ss_routines.specs.Tree.{SectionTree, Tree, spell_section, spell}
-use Rattle.ss_routines.specs.SectionReading.{is_head, sections_upto}
+use Rattle.ss_routines.specs.SectionReading.{sections_upto}
+use Rattle.ss_routines.specs.Tree.{is_head}
 use Rattle.ss_routines.specs.Refused.{IsWithin, BeginsWithin, announces, IsAnnounced, InRoom, PassesLimit}
 use Rattle.ss_routines.specs.Counts.{count, opens, closes}
 use Rattle.ss_routines.specs.OpenPhrases.{phrases_of, open_phrases}

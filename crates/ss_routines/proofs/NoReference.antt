@@ -2,7 +2,8 @@
 use Rattle.std.proofs.Common.{◌≡◌, ◌≤◌, List, [], ◌∷◌, length, map, Option, Some, None, refl, arith}
 use Rattle.ss_words.specs.Lists.{Name}
 use Rattle.ss_words.specs.declared.terms.TermSign.{TermSign}
-use Rattle.ss_routines.specs.Expr.{Expr, expr, Sums, no_sums, Term, term, Products, no_products, product, Factor, digits}
+use Rattle.ss_routines.specs.Expr.{Expr, expr, Sums, no_sums, Term, term, Products, no_products, product, Factor}
+use Rattle.ss_routines.specs.Expr.{digits}
 use Rattle.ss_routines.specs.Expr.{named, applied, within, no_exprs, exprs, sums_of, products_of, exprs_of}
 use Rattle.ss_routines.specs.ConditionReading.{reference_of}
 

@@ -12,7 +12,7 @@ use Rattle.ss_words.specs.Plain.{Plain, first, word_lines}
 use Rattle.ss_words.specs.Reading.{Read, Reading, goes_on, bind, pure, refuse, look}
 use Rattle.ss_words.specs.Marks.{is, eat}
 use Rattle.ss_words.specs.Noting.{line, here}
-use Rattle.ss_routines.specs.Combined.{allowed}
+use Rattle.ss_routines.specs.Combined.{eat_allowed}
 use Rattle.ss_routines.specs.Loops.{Phrase}
 use Rattle.ss_routines.specs.LoopReading.{phrase_at}
 use Rattle.ss_routines.specs.Places.{Spot}
@@ -21,25 +21,25 @@ use Rattle.ss_routines.specs.PlacesAtLines.{noting_statements}
 
 -- ---- a mark of which so many may be open
 
-pub allowed_more : (n : ℕ) (k : Mark) → 0 < n → allowed n k ≡ eat k
-unfolding allowed
+pub allowed_more : (n : ℕ) (k : Mark) → 0 < n → eat_allowed n k ≡ eat k
+unfolding eat_allowed
 allowed_more zero k lt = absurd (omega (arith, lt))
 allowed_more (suc n) k lt = refl
 
 allowed_none : (n : ℕ) (k : Mark) (b : Bool) (ws : List Plain) → n ≡ 0 → is k (first ws) ≡ b
-    → allowed n k ws ≡ (let p : Reading Bool = elim b [ true ↦ refuse PastLimit | false ↦ pure false ] in p ws)
-unfolding allowed look
+    → eat_allowed n k ws ≡ (let p : Reading Bool = elim b [ true ↦ refuse PastLimit | false ↦ pure false ] in p ws)
+unfolding eat_allowed look
 allowed_none zero k b ws e h =
     ap (λ (c : Bool). let p : Reading Bool = elim c [ true ↦ refuse PastLimit | false ↦ pure false ] in p ws) h
 allowed_none (suc n) k b ws e h = absurd (omega (arith, e))
 
 pub allowed_shut : (n : ℕ) (k : Mark) (ws : List Plain) → n ≡ 0 → is k (first ws) ≡ true
-    → allowed n k ws ≡ (Err PastLimit, ws)
+    → eat_allowed n k ws ≡ (Err PastLimit, ws)
 unfolding refuse
 allowed_shut n k ws e h = allowed_none n k true ws e h
 
 pub allowed_not : (n : ℕ) (k : Mark) (ws : List Plain) → n ≡ 0 → is k (first ws) ≡ false
-    → allowed n k ws ≡ (Ok false, ws)
+    → eat_allowed n k ws ≡ (Ok false, ws)
 unfolding pure
 allowed_not n k ws e h = allowed_none n k false ws e h
 
@@ -51,7 +51,7 @@ module _ (lines : List ℕ) (n : ℕ) where
   here_line ws = line lines (length lines - length ws)
 
   pub if_fails : (i f : ℕ) (acc : List Spot) (ws z : List Plain) (g : Refusal)
-      → allowed i (m.Reserved r.If) ws ≡ (Err g, z) → noting_if lines n i f acc ws ≡ (Err g, z)
+      → eat_allowed i (m.Reserved r.If) ws ≡ (Err g, z) → noting_if lines n i f acc ws ≡ (Err g, z)
   unfolding noting_if here bind
   if_fails zero f acc ws z g e =
       ap (λ (x : Read Bool). goes_on (λ b. elim b [ true ↦ refuse PastLimit | false ↦ pure (false, acc) ]) x.0 x.1) e
@@ -64,7 +64,7 @@ module _ (lines : List ℕ) (n : ℕ) where
       ]) x.0
       x.1) e
 
-  pub if_absent : (i f : ℕ) (acc : List Spot) (ws z : List Plain) → allowed i (m.Reserved r.If) ws ≡ (Ok false, z)
+  pub if_absent : (i f : ℕ) (acc : List Spot) (ws z : List Plain) → eat_allowed i (m.Reserved r.If) ws ≡ (Ok false, z)
       → noting_if lines n i f acc ws ≡ (Ok (false, acc), z)
   unfolding noting_if here bind pure
   if_absent zero f acc ws z e =
@@ -78,7 +78,7 @@ module _ (lines : List ℕ) (n : ℕ) where
       ]) x.0
       x.1) e
 
-  if_suc : (i f : ℕ) (acc : List Spot) (ws z : List Plain) → allowed (suc i) (m.Reserved r.If) ws ≡ (Ok true, z)
+  if_suc : (i f : ℕ) (acc : List Spot) (ws z : List Plain) → eat_allowed (suc i) (m.Reserved r.If) ws ≡ (Ok true, z)
       → noting_if lines n (suc i) f acc ws ≡ bind (noting_branch lines n (noting_statements lines n i f) (here_line ws)
       acc) (λ a. pure (true, a)) z
   unfolding noting_if here bind
@@ -91,7 +91,8 @@ module _ (lines : List ℕ) (n : ℕ) where
       ]) x.0
       x.1) e
 
-  if_at : (i j f : ℕ) (acc : List Spot) (ws z : List Plain) → i ≡ suc j → allowed i (m.Reserved r.If) ws ≡ (Ok true, z)
+  if_at : (i j f : ℕ) (acc : List Spot) (ws z : List Plain) → i ≡ suc j → eat_allowed i (m.Reserved r.If) ws
+      ≡ (Ok true, z)
       → noting_if lines n i f acc ws ≡ bind (noting_branch lines n (noting_statements lines n j f) (here_line ws) acc)
       (λ a. pure (true, a)) z
   if_at zero j f acc ws z h e = absurd (omega (arith, h))
@@ -100,7 +101,8 @@ module _ (lines : List ℕ) (n : ℕ) where
       ∙ ap (λ (k : ℕ). bind (noting_branch lines n (noting_statements lines n k f) (here_line ws) acc)
       (λ a. pure (true, a)) z) same_room
 
-  pub if_there : (i f : ℕ) (acc : List Spot) (ws z : List Plain) → 0 < i → allowed i (m.Reserved r.If) ws ≡ (Ok true, z)
+  pub if_there : (i f : ℕ) (acc : List Spot) (ws z : List Plain) → 0 < i → eat_allowed i (m.Reserved r.If) ws
+      ≡ (Ok true, z)
       → noting_if lines n i f acc ws ≡ bind (noting_branch lines n (noting_statements lines n (i - 1) f) (here_line ws)
       acc) (λ a. pure (true, a)) z
   if_there i f acc ws z lt e = if_at i (i - 1) f acc ws z (omega (arith, lt)) e
@@ -115,33 +117,34 @@ module _ (lines : List ℕ) (n : ℕ) where
         ]
 
     pub for_fails : (f : ℕ) (acc : List Spot) (ws z : List Plain) (g : Refusal)
-        → allowed f (m.Reserved r.For) ws ≡ (Err g, z) → noting_loop lines n b f acc ws ≡ (Err g, z)
+        → eat_allowed f (m.Reserved r.For) ws ≡ (Err g, z) → noting_loop lines n b f acc ws ≡ (Err g, z)
     unfolding noting_loop here bind
     for_fails zero acc ws z g e =
         ap (λ (x : Read Bool). goes_on (λ b. elim b [ true ↦ refuse PastLimit | false ↦ pure (false, acc) ]) x.0 x.1) e
     for_fails (suc f) acc ws z g e = ap (λ (x : Read Bool). goes_on (behind_for f acc ws) x.0 x.1) e
 
-    pub for_absent : (f : ℕ) (acc : List Spot) (ws z : List Plain) → allowed f (m.Reserved r.For) ws ≡ (Ok false, z)
+    pub for_absent : (f : ℕ) (acc : List Spot) (ws z : List Plain) → eat_allowed f (m.Reserved r.For) ws ≡ (Ok false, z)
         → noting_loop lines n b f acc ws ≡ (Ok (false, acc), z)
     unfolding noting_loop here bind pure
     for_absent zero acc ws z e =
         ap (λ (x : Read Bool). goes_on (λ b. elim b [ true ↦ refuse PastLimit | false ↦ pure (false, acc) ]) x.0 x.1) e
     for_absent (suc f) acc ws z e = ap (λ (x : Read Bool). goes_on (behind_for f acc ws) x.0 x.1) e
 
-    for_suc : (f : ℕ) (acc : List Spot) (ws z : List Plain) → allowed (suc f) (m.Reserved r.For) ws ≡ (Ok true, z)
+    for_suc : (f : ℕ) (acc : List Spot) (ws z : List Plain) → eat_allowed (suc f) (m.Reserved r.For) ws ≡ (Ok true, z)
         → noting_loop lines n b (suc f) acc ws ≡ behind_for f acc ws true z
     unfolding noting_loop here bind
     for_suc f acc ws z e = ap (λ (x : Read Bool). goes_on (behind_for f acc ws) x.0 x.1) e
 
     for_at : (f g : ℕ) (acc : List Spot) (ws z : List Plain) → f ≡ suc g
-        → allowed f (m.Reserved r.For) ws ≡ (Ok true, z) → noting_loop lines n b f acc ws ≡ behind_for g acc ws true z
+        → eat_allowed f (m.Reserved r.For) ws ≡ (Ok true, z) → noting_loop lines n b f acc ws
+        ≡ behind_for g acc ws true z
     for_at zero g acc ws z h e = absurd (omega (arith, h))
     for_at (suc f) g acc ws z h e =
         let same_room : f ≡ g = omega (arith, h) in for_suc f acc ws z e
         ∙ ap (λ (k : ℕ). behind_for k acc ws true z) same_room
 
     pub for_there : (f : ℕ) (acc : List Spot) (ws z : List Plain) → 0 < f
-        → allowed f (m.Reserved r.For) ws ≡ (Ok true, z)
+        → eat_allowed f (m.Reserved r.For) ws ≡ (Ok true, z)
         → noting_loop lines n b f acc ws ≡ bind (phrase_at n)
         (λ g. bind (noting_controlled lines n (b (f - 1)) (noting_loop lines n b (f - 1)) (here_line ws) g acc)
         (λ a. pure (true, a))) z
@@ -161,7 +164,7 @@ module _ (text : List PlainWord) (n : ℕ) where
   same_line ws l e = ap (λ (k : ℕ). line lines (k - length ws)) (length-map text (λ w. w.word.now.line)) ∙ sym e
 
   module _ (i f : ℕ) (acc : List Spot) (ws z : List Plain) (lt : 0 < i)
-      (e : allowed i (m.Reserved r.If) ws ≡ (Ok true, z)) (l : ℕ) (at : l ≡ line_of ws) where
+      (e : eat_allowed i (m.Reserved r.If) ws ≡ (Ok true, z)) (l : ℕ) (at : l ≡ line_of ws) where
     if_behind : noting_if lines n i f acc ws ≡ bind (noting_branch lines n (noting_statements lines n (i - 1) f) l acc)
         (λ a. pure (true, a)) z
     if_behind =
@@ -179,7 +182,7 @@ module _ (text : List PlainWord) (n : ℕ) where
     if_undone g y h = if_behind ∙ ap (λ (x : Read (List Spot)). goes_on (λ a. pure (true, a)) x.0 x.1) h
 
   module _ (b : ℕ → NotingItem) (f : ℕ) (acc : List Spot) (ws z : List Plain) (lt : 0 < f)
-      (e : allowed f (m.Reserved r.For) ws ≡ (Ok true, z)) where
+      (e : eat_allowed f (m.Reserved r.For) ws ≡ (Ok true, z)) where
     pub for_unread : (g : Refusal) (y : List Plain) → phrase_at n z ≡ (Err g, y)
         → noting_loop lines n b f acc ws ≡ (Err g, y)
     unfolding bind

@@ -5,7 +5,7 @@ use Rattle.ss_words.specs.declared.mark.Mark.TheVariants as m
 use Rattle.ss_words.specs.declared.reserved.Reserved.TheVariants as r
 use Rattle.ss_words.specs.Plain.{Plain, name, mark}
 use Rattle.ss_routines.specs.Counts.{count}
-use Rattle.ss_routines.specs.OpenPhrases.{Open, For, Do, If, settled, begins, may_end, step, open_behind}
+use Rattle.ss_routines.specs.OpenPhrases.{Open, For, Do, If, without_inner_phrases, begins, may_end, step, open_behind}
 use Rattle.ss_routines.specs.OpenPhrases.{phrases_of}
 use Rattle.ss_routines.proofs.Inner.{builds, Inner}
 
@@ -23,13 +23,13 @@ pub ended_both : (b : Bool) (x y : List Plain) → ended_by b (x ++ y) ≡ ended
 ended_both b [] y = refl
 ended_both b (w ∷ x) y = ended_both (may_end w) x y
 
-pub settled_twice : (os : List Open) → settled (settled os) ≡ settled os
+pub settled_twice : (os : List Open) → without_inner_phrases (without_inner_phrases os) ≡ without_inner_phrases os
 settled_twice [] = refl
 settled_twice (For ∷ os) = settled_twice os
 settled_twice (Do ∷ os) = refl
 settled_twice (If ∷ os) = refl
 
-pub settled_less : (os : List Open) → phrases_of (settled os) ≤ phrases_of os
+pub settled_less : (os : List Open) → phrases_of (without_inner_phrases os) ≤ phrases_of os
 settled_less [] = omega arith
 settled_less (For ∷ os) = let h = settled_less os in omega (arith, h)
 settled_less (Do ∷ os) = omega arith
@@ -54,16 +54,18 @@ changes_build _ e = refl
 
 -- ---- a word that neither opens nor closes
 
-either_stays : (t : Bool) (os : List Open) → settled os ≡ os → (if t then settled os else os) ≡ os
+either_stays : (t : Bool) (os : List Open) → without_inner_phrases os ≡ os
+    → (if t then without_inner_phrases os else os) ≡ os
 either_stays true os e = e
 either_stays false os e = refl
 
-either_less : (t : Bool) (os : List Open) → phrases_of (if t then settled os else os) ≤ phrases_of os
+either_less : (t : Bool) (os : List Open) → phrases_of (if t then without_inner_phrases os else os) ≤ phrases_of os
 either_less true os = settled_less os
 either_less false os = omega arith
 
 -- leaves what is open as it is where no phrase stands innermost
-pub stays : (b : Bool) (os : List Open) (w : Plain) → changes w ≡ false → settled os ≡ os → step b os w ≡ os
+pub stays : (b : Bool) (os : List Open) (w : Plain) → changes w ≡ false → without_inner_phrases os ≡ os → step b os w
+    ≡ os
 stays b os (mark (m.Reserved r.For)) h e = absurd cc
 stays b os (mark (m.Reserved r.Do)) h e = absurd cc
 stays b os (mark (m.Reserved r.If)) h e = absurd cc
@@ -85,7 +87,7 @@ opens_none b os w h = either_less (begins w) os
 
 -- ---- the word before words, where no phrase stands innermost
 
-same_step : (b c : Bool) (os : List Open) (w : Plain) → settled os ≡ os → step b os w ≡ step c os w
+same_step : (b c : Bool) (os : List Open) (w : Plain) → without_inner_phrases os ≡ os → step b os w ≡ step c os w
 same_step b c os (mark (m.Reserved r.For)) e = refl
 same_step b c os (mark (m.Reserved r.Do)) e = refl
 same_step b c os (mark (m.Reserved r.If)) e = refl
@@ -94,7 +96,7 @@ same_step b c os (mark (m.Reserved r.Always)) e = refl
 same_step b c os (name n) e = either_stays b os e ∙ sym (either_stays c os e)
 same_step b c os w e = refl
 
-pub same_behind : (b c : Bool) (os : List Open) (q : List Plain) → settled os ≡ os
+pub same_behind : (b c : Bool) (os : List Open) (q : List Plain) → without_inner_phrases os ≡ os
     → open_behind b os q ≡ open_behind c os q
 same_behind b c os [] e = refl
 same_behind b c os (w ∷ q) e = ap (λ (x : List Open). open_behind (may_end w) x q) (same_step b c os w e)
@@ -111,7 +113,8 @@ module _ (P : List Plain → Type 0) (w : Plain) (q : List Plain) (f : builds w 
       let c : count builds (w ∷ q) ≡ count builds q = rw e (omega arith) in
       f e (record { none = omega (arith, c, k) })
 
-pub inner_stays : (b : Bool) (os : List Open) (q : List Plain) → Inner q → settled os ≡ os → open_behind b os q ≡ os
+pub inner_stays : (b : Bool) (os : List Open) (q : List Plain) → Inner q → without_inner_phrases os ≡ os
+    → open_behind b os q ≡ os
 inner_stays b os [] x e = refl
 inner_stays b os (w ∷ q) x e =
     by_first (λ u. open_behind b os u ≡ os) w q
@@ -127,9 +130,10 @@ inner_opens_none b os (w ∷ q) x =
     let k = opens_none b os w (changes_build w none) in omega (arith, h, k)) (builds w) refl x
 
 -- a first word that closes the phrases that stand innermost
-pub begun : (w : Plain) (q : List Plain) → ((os : List Open) → step true os w ≡ settled os) → Inner (w ∷ q)
-    → (os : List Open) → open_behind true os (w ∷ q) ≡ settled os
+pub begun : (w : Plain) (q : List Plain) → ((os : List Open) → step true os w ≡ without_inner_phrases os)
+    → Inner (w ∷ q)
+    → (os : List Open) → open_behind true os (w ∷ q) ≡ without_inner_phrases os
 begun w q h x os =
-    by_first (λ u. open_behind true os u ≡ settled os) w q
+    by_first (λ u. open_behind true os u ≡ without_inner_phrases os) w q
     (λ none y. ap (λ (z : List Open). open_behind (may_end w) z q) (h os)
-    ∙ inner_stays (may_end w) (settled os) q y (settled_twice os)) (builds w) refl x
+    ∙ inner_stays (may_end w) (without_inner_phrases os) q y (settled_twice os)) (builds w) refl x

@@ -36,7 +36,7 @@ use Rattle.ss_routines.specs.SimpleSpelling.{spell_timing, spell_exchange, spell
 use Rattle.ss_routines.specs.Loops.{WalkStart, AtEnd, From, After, Range, Counting, Each, Walking, Qualifier, Phrase}
 use Rattle.ss_routines.specs.Loops.{spell_walk_start, spell_direction, spell_order, spell_name, spell_range}
 use Rattle.ss_routines.specs.Loops.{spell_qualifier_word, spell_qualifier}
-use Rattle.ss_routines.specs.OpenPhrases.{Open, settled, may_end, step, open_behind}
+use Rattle.ss_routines.specs.OpenPhrases.{Open, without_inner_phrases, may_end, step, open_behind}
 use Rattle.ss_routines.proofs.Inner.{Inner, inner_simple}
 use Rattle.ss_routines.proofs.OpenWords.{ended_by, behind_both, ended_both, begun}
 
@@ -207,7 +207,7 @@ a_phrase f = joined (range f.range) (qualifiers f.qualifiers)
 
 -- behind a phrase
 abbrev Closes : List Plain → Type 0
-Closes q = Inner q → (os : List Open) → open_behind true os q ≡ settled os
+Closes q = Inner q → (os : List Open) → open_behind true os q ≡ without_inner_phrases os
 
 assign : (a : Assign) → Closes (spell_assign a)
 assign (Let true v e) x = begun _ _ (λ os. refl) x
@@ -249,5 +249,5 @@ simple (Transfers a) x = transfer a x
 simple (Times a) x = timing a x
 simple (Exchanges a) x = exchange a x
 
-pub begun_simple : (a : Simple) (os : List Open) → open_behind true os (spell_simple a) ≡ settled os
+pub begun_simple : (a : Simple) (os : List Open) → open_behind true os (spell_simple a) ≡ without_inner_phrases os
 begun_simple a os = simple a (inner_simple a) os

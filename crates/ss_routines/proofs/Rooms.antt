@@ -8,7 +8,7 @@ use Rattle.ss_words.specs.Plain.{Plain, first}
 use Rattle.ss_words.specs.Marks.{is, eat}
 use Rattle.ss_words.specs.Reading.{Read, Reading, pure, refuse, look}
 use Rattle.ss_words.proofs.Loop.{Going, loop_begins, loop_turns, stops, prepend_list}
-use Rattle.ss_routines.specs.Combined.{star, opened}
+use Rattle.ss_routines.specs.Combined.{star, eat_open}
 use Rattle.ss_routines.specs.ExprReading.{expr_with, expr_at, inner_at}
 
 pub expr_at-is : (n : ℕ) → expr_at n ≡ expr_with n (inner_at n)
@@ -49,23 +49,24 @@ module _ {A X : Type 0} (i : Reading (Option A)) (view : X → A) where
 
 -- ---- a parenthesis that opens
 
-pub open_more : (n : ℕ) → 0 < n → opened n ≡ eat (m.Sign s.Open)
-unfolding opened
+pub open_more : (n : ℕ) → 0 < n → eat_open n ≡ eat (m.Sign s.Open)
+unfolding eat_open
 open_more zero lt = absurd (omega (arith, lt))
 open_more (suc n) lt = refl
 
 open_none : (n : ℕ) (b : Bool) (ws : List Plain) → n ≡ 0 → is (m.Sign s.Open) (first ws) ≡ b
-    → opened n ws ≡ (let p : Reading Bool = elim b [ true ↦ refuse PastLimit | false ↦ pure false ] in p ws)
-unfolding opened look
+    → eat_open n ws ≡ (let p : Reading Bool = elim b [ true ↦ refuse PastLimit | false ↦ pure false ] in p ws)
+unfolding eat_open look
 open_none zero b ws e h =
     ap (λ (c : Bool). let p : Reading Bool = elim c [ true ↦ refuse PastLimit | false ↦ pure false ] in p ws) h
 open_none (suc n) b ws e h = absurd (omega (arith, e))
 
 pub open_shut : (n : ℕ) (ws : List Plain) → n ≡ 0 → is (m.Sign s.Open) (first ws) ≡ true
-    → opened n ws ≡ (Err PastLimit, ws)
+    → eat_open n ws ≡ (Err PastLimit, ws)
 unfolding refuse
 open_shut n ws e h = open_none n true ws e h
 
-pub open_not : (n : ℕ) (ws : List Plain) → n ≡ 0 → is (m.Sign s.Open) (first ws) ≡ false → opened n ws ≡ (Ok false, ws)
+pub open_not : (n : ℕ) (ws : List Plain) → n ≡ 0 → is (m.Sign s.Open) (first ws) ≡ false → eat_open n ws
+    ≡ (Ok false, ws)
 unfolding pure
 open_not n ws e h = open_none n false ws e h

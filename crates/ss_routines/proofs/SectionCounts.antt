@@ -7,19 +7,20 @@ use Rattle.ss_words.specs.declared.mark.Mark.TheVariants as m
 use Rattle.ss_words.specs.declared.word.Sign.TheVariants as s
 use Rattle.ss_words.specs.declared.reserved.Reserved.TheVariants as r
 use Rattle.ss_words.specs.Plain.{Plain, name, mark, first}
-use Rattle.ss_words.specs.Reading.{Read, Reading, goes_on, bind, pure, refuse, look, skip, ended, whole}
+use Rattle.ss_words.specs.Reading.{Read, Reading, goes_on, bind, pure, refuse, look, skip, end_of_words, whole}
 use Rattle.ss_words.specs.Marks.{is, expect}
 use Rattle.ss_words.proofs.Marks.{is_mark}
 use Rattle.ss_words.proofs.Goal as goal
 use Rattle.ss_routines.specs.Tree.{Head, SectionTree, Tree, spell_section}
 use Rattle.ss_routines.specs.BlockReading.{block_at}
-use Rattle.ss_routines.specs.SectionReading.{is_head, head_at, locals, section_at, sections_upto}
+use Rattle.ss_routines.specs.SectionReading.{head_at, locals, section_at, sections_upto}
+use Rattle.ss_routines.specs.Tree.{is_head}
 use Rattle.ss_routines.specs.Counts.{count, opens, closes}
 use Rattle.ss_routines.specs.OneTooMany.{branches, rejoins, ends, has_end, behind_end, names_in_head}
 use Rattle.ss_routines.specs.OpenPhrases.{Open, open_behind, phrases_of}
 use Rattle.ss_routines.proofs.Tally.{count-append}
 use Rattle.ss_routines.proofs.Form.{Each}
-use Rattle.ss_routines.proofs.Begun.{IsKept}
+use Rattle.ss_routines.proofs.AnnouncedParts.{IsKept}
 use Rattle.ss_routines.proofs.SectionLaw.{FitsSection, of_parts, section_keeps}
 use Rattle.ss_routines.proofs.OpenWords.{ended_by, behind_both}
 use Rattle.ss_routines.proofs.Counting.{Even, Room, Full, Past, Out, Tally, joined, room_behind, past_behind, nothing}
@@ -333,8 +334,8 @@ module _ (n i fs l : ℕ) where
   none_at ws false e = ([], refl, record { parentheses = refl; ifs = refl; phrases = λ b. refl; sections = refl }, tt)
 
   whole_of : (j : ℕ) (o : Result Tree Refusal) (ws r : List Plain) → Program j o ws r
-      → (let x : Read Tree = goes_on (λ t. bind ended (λ u. pure t)) o r in Program j x.0 ws x.1)
-  unfolding bind ended look pure refuse
+      → (let x : Read Tree = goes_on (λ t. bind end_of_words (λ u. pure t)) o r in Program j x.0 ws x.1)
+  unfolding bind end_of_words look pure refuse
   whole_of j (Ok ts) ws [] out = out
   whole_of j (Ok ts) ws (w ∷ r) (q, e, y, each) = (q, e, kept_of (length ts) q y)
   whole_of j (Err Unexpected) ws r out = out

@@ -15,7 +15,7 @@ use Rattle.ss_words.specs.Reading.{Reading, bind, pure, refuse, look}
 use Rattle.ss_words.specs.Marks.{is, expect, eat, a_name}
 use Rattle.ss_words.proofs.Laws.{Good, Any, fits_option, spell_option, pure_good, refuse_good}
 use Rattle.ss_routines.specs.Combined.{if_mark}
-use Rattle.ss_routines.proofs.Allowed.{laws_of}
+use Rattle.ss_routines.proofs.LimitedParts.{laws_of}
 use Rattle.ss_words.proofs.Local.{Rooms, same, more, IsLimited, Local, LocalAt, pure_local, shut_local, bind_local}
 use Rattle.ss_words.proofs.Local.{shorter, anywhere, past_at, look_local}
 use Rattle.ss_words.proofs.Marks.{spell_mark, expect_good, expect_local, expect_read_back}
@@ -26,17 +26,19 @@ use Rattle.ss_routines.specs.Tree.{Block, no_statements, statement, Head, MainHe
 use Rattle.ss_routines.specs.Tree.{Tree, spell_block, spell_statement, spell_head, spell_define, spell_section, spell}
 use Rattle.ss_routines.specs.Tree.{depth_head, depth_section, ifs_block, phrases_block, parameters_head}
 use Rattle.ss_routines.specs.BlockReading.{block_at}
-use Rattle.ss_routines.specs.SectionReading.{is_head, head_at, as_variables, a_define, locals, section_at, sections_upto}
+use Rattle.ss_routines.specs.SectionReading.{head_at, as_variables, a_define, locals, section_at}
+use Rattle.ss_routines.specs.Tree.{is_head}
+use Rattle.ss_routines.specs.SectionReading.{sections_upto}
 use Rattle.ss_routines.proofs.Tally.{Leaves, Tally, plain_word, pure_tally, bind_tally, eat_tally, name_tally}
 use Rattle.ss_routines.proofs.Tally.{many_tally}
 use Rattle.ss_routines.proofs.Form.{Form, Each, Anything, nothing_form, pair_form, behind_form, made_form}
 use Rattle.ss_routines.proofs.Form.{mark_item, star_form}
 use Rattle.ss_routines.proofs.Law.{Law, form_of}
 use Rattle.ss_routines.proofs.ExprLaw.{Wider, comma_leaves}
-use Rattle.ss_routines.proofs.Parting.{settled, parts, parts_other, statement_parts, end_ends}
+use Rattle.ss_routines.proofs.PartingWords.{settled, parts, parts_other, statement_parts, end_ends}
 use Rattle.ss_routines.proofs.BlockLaw.{Fits, FitsBlock}
 use Rattle.ss_routines.proofs.BlockLevels.{block_law}
-use Rattle.ss_routines.proofs.Begun.{IsBegun, Keeps, keeps_of, bind_keeps, look_keeps, keeps_at}
+use Rattle.ss_routines.proofs.AnnouncedParts.{IsBegun, Keeps, keeps_of, bind_keeps, look_keeps, keeps_at}
 use Rattle.ss_routines.proofs.HeadLaw.{AtMostHead, head_keep}
 use Rattle.ss_routines.proofs.HeadNear.{head_near, head_takes}
 use Rattle.ss_routines.proofs.HeadAgain.{EndsHead, head_again, Counts, IsSpared, Spares, pure_spares, bind_spares}

@@ -8,7 +8,7 @@ use Rattle.ss_words.specs.Plain.{Plain, first}
 use Rattle.ss_words.specs.Reading.{Read, Reading, goes_on, bind, pure, refuse, look}
 use Rattle.ss_words.proofs.Loop.{on_ok}
 use Rattle.ss_routines.specs.Places.{Section}
-use Rattle.ss_routines.specs.SectionReading.{is_head}
+use Rattle.ss_routines.specs.Tree.{is_head}
 use Rattle.ss_routines.specs.PlacesAtLines.{noting_section, noting_sections}
 
 -- what stands in front, before what is read

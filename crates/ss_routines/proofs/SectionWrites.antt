@@ -6,7 +6,7 @@ use Rattle.ss_words.specs.declared.mark.Mark.TheVariants as m
 use Rattle.ss_words.specs.declared.reserved.Reserved.TheVariants as r
 use Rattle.ss_words.specs.declared.refusal.Refusal.TheVariants.{PastLimit}
 use Rattle.ss_words.specs.Lists.{Name, Several}
-use Rattle.ss_words.specs.Reading.{Reading, bind, pure, refuse, whole, ended}
+use Rattle.ss_words.specs.Reading.{Reading, bind, pure, refuse, whole, end_of_words}
 use Rattle.ss_words.specs.Marks.{expect, eat}
 use Rattle.ss_words.specs.Noting.{repeat, line}
 use Rattle.ss_words.proofs.Laws.{Good, Any, fits_option}
@@ -19,12 +19,13 @@ use Rattle.ss_routines.specs.Combined.{if_mark, star}
 use Rattle.ss_routines.specs.Places.{LocalNames, Section}
 use Rattle.ss_routines.specs.Tree.{spell_head, spell_define, spell_block, spell_section, spell}
 use Rattle.ss_routines.specs.BlockReading.{block_at}
-use Rattle.ss_routines.specs.SectionReading.{is_head, head_at, a_define, locals, section_at, sections_upto}
+use Rattle.ss_routines.specs.SectionReading.{head_at, a_define, locals, section_at, sections_upto}
+use Rattle.ss_routines.specs.Tree.{is_head}
 use Rattle.ss_routines.specs.Written.{flat_block, written_locals, written_section, written_from, written}
 use Rattle.ss_routines.specs.PlacesAtLines.{noting_local, noting_statements, noting_section, noting_sections}
 use Rattle.ss_routines.proofs.BlockLaw.{FitsBlock}
 use Rattle.ss_routines.proofs.BlockLevels.{block_law}
-use Rattle.ss_routines.proofs.Begun.{good_of}
+use Rattle.ss_routines.proofs.AnnouncedParts.{good_of}
 use Rattle.ss_routines.proofs.HeadLaw.{AtMostHead, head_keep}
 use Rattle.ss_routines.proofs.LevelWrites.{statements_write}
 use Rattle.ss_routines.proofs.SectionLaw.{FitsLocals, locals_law, FitsSection, FitsTree, define_item_good, define_good}
@@ -129,5 +130,5 @@ module _ (lines : List ℕ) where
     whole_writes s =
         bind_writes words Any spell (written_from lines 0) (written lines) 0 _ _
         (λ t. same_writes words Any spell_ended (written lines) _ _ _
-        (λ u. pure_writes words (written lines) _ t (written lines t) refl) ended ended_good)
+        (λ u. pure_writes words (written lines) _ t (written lines t) refl) end_of_words ended_good)
         (sections_upto n i f (suc k) s) _ (sections_good s) (sections_write s 0)

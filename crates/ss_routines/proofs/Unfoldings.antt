@@ -1,6 +1,6 @@
 -- Definitions that functions unfold together: the steps that a reading is made of, and readings made of readings.
 use Rattle.std.specs.Prelude.{⊤}
-use Rattle.ss_words.specs.Reading.{bind, pure, refuse, look, skip, whole, ended}
+use Rattle.ss_words.specs.Reading.{bind, pure, refuse, look, skip, whole, end_of_words}
 use Rattle.ss_words.specs.Noting.{here}
 use Rattle.ss_routines.specs.Combined.{pair, behind, before, made, if_mark, if_word, either, by_table}
 use Rattle.ss_routines.specs.Combined.{either_of, made_of, must}
@@ -30,7 +30,7 @@ steps_by_table = tt
 
 -- a reading and nothing behind it
 unfoldable pub whole_text : ⊤
-unfolding steps_by_word whole ended
+unfolding steps_by_word whole end_of_words
 whole_text = tt
 
 -- ---- readings made of readings

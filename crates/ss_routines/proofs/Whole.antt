@@ -11,19 +11,20 @@ use Rattle.ss_words.specs.declared.refusal.Refusal.TheVariants.{Unexpected, Past
 use Rattle.ss_words.specs.declared.mark.Mark.TheVariants as m
 use Rattle.ss_words.specs.declared.reserved.Reserved.TheVariants as r
 use Rattle.ss_words.specs.Plain.{Plain, mark, first}
-use Rattle.ss_words.specs.Reading.{Read, Reading, pure, ended, whole}
+use Rattle.ss_words.specs.Reading.{Read, Reading, pure, end_of_words, whole}
 use Rattle.ss_words.specs.Farthest.{IsFarthest}
 use Rattle.ss_words.proofs.Laws.{Good, Any, pure_good}
 use Rattle.ss_words.proofs.Local.{same, more, IsLimited, Local}
 use Rattle.ss_words.proofs.Goal as goal
 use Rattle.ss_words.proofs.Goal.{spell_ended, ended_good}
-use Rattle.ss_routines.specs.Tree.{SectionTree, Tree, spell_head, spell_define, spell_block, spell_section, spell, depth}
+use Rattle.ss_routines.specs.Tree.{SectionTree, Tree, spell_head, spell_define, spell_block, spell_section, spell}
+use Rattle.ss_routines.specs.Tree.{depth}
 use Rattle.ss_routines.specs.Tree.{ifs, phrases, parameters}
 use Rattle.ss_routines.specs.SectionReading.{sections_upto}
 use Rattle.ss_routines.specs.Refused.{IsWithin, Begins, BeginsWithin, announces, IsAnnounced, InRoom, PassesLimit}
 use Rattle.ss_routines.specs.Refused.{IsUnexpectedWord, IsUnexpectedEnd, IsPastLimit}
 use Rattle.ss_routines.proofs.Form.{Each}
-use Rattle.ss_routines.proofs.Begun.{Stood, IsKept, Keeps, keeps_of, good_of, bind_keeps}
+use Rattle.ss_routines.proofs.AnnouncedParts.{Stood, IsKept, Keeps, keeps_of, good_of, bind_keeps}
 use Rattle.ss_routines.proofs.HeadAgain.{Counts, IsSpared, Spares, pure_spares, bind_spares, ended_spares}
 use Rattle.ss_routines.proofs.SectionLaw.{FitsSection, FitsTree, sections_keep, sections_again, sections_spare}
 use Rattle.ss_routines.proofs.SectionLaw.{sections_near}
@@ -97,13 +98,13 @@ unfolding whole
 whole_kept =
     bind_keeps FitsLimits FitsLimits spell spell [] _ (λ t h. bind_keeps Any FitsLimits spell_ended spell (spell t) _
     (λ u v. keeps_of FitsLimits spell _ (pure t) (pure_good FitsLimits spell _ t h (append-nil (spell t))))
-    (λ u. (t, tt, [], sym (append-nil (spell t ++ []) ∙ append-nil (spell t)))) ended
-    (keeps_of Any spell_ended [] ended ended_good)) (λ t. (t, tt, [], sym (append-nil (spell t)))) reading kept
+    (λ u. (t, tt, [], sym (append-nil (spell t ++ []) ∙ append-nil (spell t)))) end_of_words
+    (keeps_of Any spell_ended [] end_of_words ended_good)) (λ t. (t, tt, [], sym (append-nil (spell t)))) reading kept
 
 pub whole_spared : Spares (whole reading)
 unfolding whole
 whole_spared =
-    bind_spares _ (λ t. bind_spares _ (λ u. pure_spares t) ended ended_spares) reading
+    bind_spares _ (λ t. bind_spares _ (λ u. pure_spares t) end_of_words ended_spares) reading
     (sections_spare 50 64 16 31 (omega arith) 256)
 
 again : (t : Tree) → IsWithin t → reading (spell t) ≡ (Ok t, [])

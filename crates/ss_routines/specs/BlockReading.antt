@@ -6,7 +6,8 @@ use Rattle.ss_words.specs.declared.reserved.Reserved.TheVariants as r
 use Rattle.ss_words.specs.declared.refusal.Refusal.TheVariants.{PastLimit}
 use Rattle.ss_words.specs.Lists.{Several}
 use Rattle.ss_words.specs.Reading.{Reading, pure, refuse}
-use Rattle.ss_routines.specs.Combined.{pair, behind, before, made, if_mark, either, star, if_allowed, either_of, made_of}
+use Rattle.ss_routines.specs.Combined.{pair, behind, before, made, if_mark, either, star, if_allowed, either_of}
+use Rattle.ss_routines.specs.Combined.{made_of}
 use Rattle.ss_routines.specs.Combined.{must}
 use Rattle.ss_routines.specs.Expr.{Expr}
 use Rattle.ss_routines.specs.Simple.{Simple}

@@ -47,25 +47,25 @@ unfoldable pub by_table : {W : Type 0} → (Option Plain → Option W) → Readi
 by_table of = look (λ v. elim (of v) [ Some w ↦ skip (pure (Some w)) | None ↦ pure None ])
 
 -- whether a parenthesis opens here, which is then passed; refused where none more may be open
-unfoldable pub opened : ℕ → Reading Bool
-opened zero = look (λ w. elim (is (m.Sign s.Open) w) [ true ↦ refuse PastLimit | false ↦ pure false ])
-opened (suc n) = eat (m.Sign s.Open)
+unfoldable pub eat_open : ℕ → Reading Bool
+eat_open zero = look (λ w. elim (is (m.Sign s.Open) w) [ true ↦ refuse PastLimit | false ↦ pure false ])
+eat_open (suc n) = eat (m.Sign s.Open)
 
 -- what p reads in parentheses, if one opens here
 unfoldable pub if_open : {A : Type 0} → ℕ → Reading A → Reading (Option A)
-if_open n p = opened n >>= λ b. elim b [
+if_open n p = eat_open n >>= λ b. elim b [
   | true ↦ (p >>= λ a. expect (m.Sign s.Close) >>= λ u. pure (Some a))
   | false ↦ pure None
 ]
 
 -- whether a mark stands here, which is then passed; refused where no more of them may be open
-unfoldable pub allowed : ℕ → Mark → Reading Bool
-allowed zero k = look (λ w. elim (is k w) [ true ↦ refuse PastLimit | false ↦ pure false ])
-allowed (suc n) k = eat k
+unfoldable pub eat_allowed : ℕ → Mark → Reading Bool
+eat_allowed zero k = look (λ w. elim (is k w) [ true ↦ refuse PastLimit | false ↦ pure false ])
+eat_allowed (suc n) k = eat k
 
 -- a mark of which so many may be open and what p reads, if the mark stands here
 unfoldable pub if_allowed : {A : Type 0} → ℕ → Mark → Reading A → Reading (Option A)
-if_allowed n k p = allowed n k >>= λ b. elim b [ true ↦ (p >>= λ a. pure (Some a)) | false ↦ pure None ]
+if_allowed n k p = eat_allowed n k >>= λ b. elim b [ true ↦ (p >>= λ a. pure (Some a)) | false ↦ pure None ]
 
 -- one or more with commas between
 unfoldable pub several : {A : Type 0} → Reading A → Reading (Several A)

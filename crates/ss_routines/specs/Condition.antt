@@ -130,3 +130,13 @@ abbrev mutual
   depth_relation (is_empty v c) = depth_reference v
   depth_relation (is_in e c v) = max (depth_expr e) (depth_reference v)
   depth_relation (nested c) = suc (depth_condition c)
+
+-- the conjunctions behind a first one
+abbrev pub alternatives_of : List Conjunction → Alternatives
+alternatives_of [] = no_alternatives
+alternatives_of (c ∷ cs) = alternative c (alternatives_of cs)
+
+-- the relations behind a first one
+abbrev pub additions_of : List Relation → Additions
+additions_of [] = no_additions
+additions_of (q ∷ qs) = addition q (additions_of qs)

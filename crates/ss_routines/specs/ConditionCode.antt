@@ -35,8 +35,8 @@ abbrev pub no_value : Expr
 no_value = expr None (term (digits 0) no_products) no_sums
 
 -- nothing held
-abbrev pub nothing : Held
-nothing = ((no_value, no_value), ([], None))
+abbrev pub no_parts : Held
+no_parts = ((no_value, no_value), ([], None))
 
 -- the number of a comparison
 abbrev pub comparison_number : Comparison → ℕ
@@ -61,25 +61,25 @@ in_number IsNot = 14
 abbrev mutual
   -- a condition: its alternatives
   pub condition_tokens : Condition → List Token → List Token
-  condition_tokens (condition c cs) k = (0, nothing) ∷ conjunction_tokens c (alternatives_tokens cs k)
+  condition_tokens (condition c cs) k = (0, no_parts) ∷ conjunction_tokens c (alternatives_tokens cs k)
 
   -- the alternatives behind the first
   pub alternatives_tokens : Alternatives → List Token → List Token
-  alternatives_tokens no_alternatives k = (1, nothing) ∷ k
-  alternatives_tokens (alternative c cs) k = (2, nothing) ∷ conjunction_tokens c (alternatives_tokens cs k)
+  alternatives_tokens no_alternatives k = (1, no_parts) ∷ k
+  alternatives_tokens (alternative c cs) k = (2, no_parts) ∷ conjunction_tokens c (alternatives_tokens cs k)
 
   -- an alternative: its relations
   pub conjunction_tokens : Conjunction → List Token → List Token
-  conjunction_tokens (conjunction r rs) k = (3, nothing) ∷ relation_tokens r (additions_tokens rs k)
+  conjunction_tokens (conjunction r rs) k = (3, no_parts) ∷ relation_tokens r (additions_tokens rs k)
 
   -- the relations behind the first
   pub additions_tokens : Additions → List Token → List Token
-  additions_tokens no_additions k = (15, nothing) ∷ k
-  additions_tokens (addition r rs) k = (16, nothing) ∷ relation_tokens r (additions_tokens rs k)
+  additions_tokens no_additions k = (15, no_parts) ∷ k
+  additions_tokens (addition r rs) k = (16, no_parts) ∷ relation_tokens r (additions_tokens rs k)
 
   -- a relation
   pub relation_tokens : Relation → List Token → List Token
-  relation_tokens (nested c) k = (4, nothing) ∷ condition_tokens c k
+  relation_tokens (nested c) k = (4, no_parts) ∷ condition_tokens c k
   relation_tokens (compared e c f) k = (comparison_number c, ((e, f), ([], None))) ∷ k
   relation_tokens (is_empty v c) k = (empty_number c, ((no_value, no_value), (v.name, v.subscript))) ∷ k
   relation_tokens (is_in e c v) k = (in_number c, ((e, no_value), (v.name, v.subscript))) ∷ k
@@ -205,16 +205,16 @@ mutual
   relation_again (is_in e c v) k = in_again e v c (parts k)
 
 -- a condition as its tokens
-abbrev pub stored : Condition → List Token
-stored c = condition_tokens c []
+abbrev pub tokens_of_condition : Condition → List Token
+tokens_of_condition c = condition_tokens c []
 
 -- and read back from them
-abbrev pub restored : List Token → Condition
-restored ws = first_condition (parts ws)
+abbrev pub condition_of_tokens : List Token → Condition
+condition_of_tokens ws = first_condition (parts ws)
 
 -- a condition comes back from its tokens
-pub restored_stored : (c : Condition) → restored (stored c) ≡ c
-restored_stored c = ap first_condition (condition_again c [])
+pub condition_of_tokens-tokens_of_condition : (c : Condition) → condition_of_tokens (tokens_of_condition c) ≡ c
+condition_of_tokens-tokens_of_condition c = ap first_condition (condition_again c [])
 
 -- how what a relation holds is stored
 abbrev pub held_code : Coded Held
@@ -222,4 +222,6 @@ held_code = coded× (coded× expr_code expr_code) (coded× name_code (coded_opti
 
 -- how a condition is stored
 abbrev pub condition_code : Coded Condition
-condition_code = code_by (List Token) (coded_list (coded× coded_ℕ held_code)) stored restored restored_stored
+condition_code =
+    code_by (List Token) (coded_list (coded× coded_ℕ held_code)) tokens_of_condition condition_of_tokens
+    condition_of_tokens-tokens_of_condition

@@ -21,6 +21,7 @@ use Rattle.ss_routines.specs.Condition.{Reference, Condition, condition, Alterna
 use Rattle.ss_routines.specs.Condition.{Conjunction, conjunction, Additions, no_additions, addition}
 use Rattle.ss_routines.specs.Condition.{Relation, compared, is_empty, is_in, nested}
 use Rattle.ss_routines.specs.SimpleReading.{reference_at}
+use Rattle.ss_routines.specs.Condition.{alternatives_of, additions_of}
 
 -- the sign of a comparison, or NE
 abbrev pub comparison_of : Option Plain → Option Comparison
@@ -38,16 +39,6 @@ reference_of (expr None (term (named n) no_products) no_sums) = Some (record { n
 reference_of (expr None (term (applied n e no_exprs) no_products) no_sums) =
     Some (record { name = n; subscript = Some e })
 reference_of _ = None
-
--- the conjunctions behind a first one
-abbrev pub alternatives_of : List Conjunction → Alternatives
-alternatives_of [] = no_alternatives
-alternatives_of (c ∷ cs) = alternative c (alternatives_of cs)
-
--- the relations behind a first one
-abbrev pub additions_of : List Relation → Additions
-additions_of [] = no_additions
-additions_of (q ∷ qs) = addition q (additions_of qs)
 
 -- NOT, or nothing, behind IS
 unfoldable pub copula : Reading Copula

@@ -14,7 +14,8 @@ use Rattle.ss_routines.specs.Condition.{conjunction, no_additions, addition, Rel
 use Rattle.ss_routines.specs.Simple.{Stop, Transfers}
 use Rattle.ss_routines.specs.Loops.{Computed, Each, Phrase, Holds, Found, NoneFound}
 use Rattle.ss_routines.specs.Places.{For, Next, Gather, Compute, Place, Loops, EndOfSection, Spot}
-use Rattle.ss_routines.specs.Tree.{Block, no_statements, statement, alone, loop, One, simple, branch, no_else, else_with}
+use Rattle.ss_routines.specs.Tree.{Block, no_statements, statement, alone, loop, One, simple, branch, no_else}
+use Rattle.ss_routines.specs.Tree.{else_with}
 use Rattle.ss_routines.specs.Tree.{further, repeated, single, MainHead, Tree, spell}
 use Rattle.ss_routines.specs.OpenPhrases.{open_phrases}
 use Rattle.ss_routines.specs.Refused.{AreSections}

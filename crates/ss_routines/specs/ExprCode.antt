@@ -193,16 +193,16 @@ mutual
       ap argument_read (expr_again e (exprs_tokens es k) ∙ ap (λ st. an_expr e ∷ st) (exprs_again es k))
 
 -- an expression as its tokens
-abbrev pub stored : Expr → List Token
-stored e = expr_tokens e []
+abbrev pub tokens_of_expr : Expr → List Token
+tokens_of_expr e = expr_tokens e []
 
 -- and read back from them
-abbrev pub restored : List Token → Expr
-restored ws = first_expr (parts ws)
+abbrev pub expr_of_tokens : List Token → Expr
+expr_of_tokens ws = first_expr (parts ws)
 
 -- an expression comes back from its tokens
-pub restored_stored : (e : Expr) → restored (stored e) ≡ e
-restored_stored e = ap first_expr (expr_again e [])
+pub expr_of_tokens-tokens_of_expr : (e : Expr) → expr_of_tokens (tokens_of_expr e) ≡ e
+expr_of_tokens-tokens_of_expr e = ap first_expr (expr_again e [])
 
 -- how a name is stored
 abbrev pub name_code : Coded Name
@@ -211,4 +211,5 @@ name_code = coded_list coded_ℕ
 -- how an expression is stored
 abbrev pub expr_code : Coded Expr
 expr_code =
-    code_by (List Token) (coded_list (coded× coded_ℕ (coded× coded_ℕ name_code))) stored restored restored_stored
+    code_by (List Token) (coded_list (coded× coded_ℕ (coded× coded_ℕ name_code))) tokens_of_expr expr_of_tokens
+    expr_of_tokens-tokens_of_expr

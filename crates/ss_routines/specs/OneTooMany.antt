@@ -1,6 +1,8 @@
 -- The word that is one too many, by counting the words before it.
 use Rattle.std.specs.Prelude.{◌≡◌, ℕ, suc, ◌+◌, ◌<◌, Bool, true, false, if◌then◌else◌, List, [], ◌∷◌}
 use Rattle.std.specs.Prelude.{length, take, drop, Some}
+use Rattle.ss_words.specs.declared.limits.TheConstants.{MOST_PARENTHESES, MOST_IFS, MOST_PHRASES}
+use Rattle.ss_words.specs.declared.limits.TheConstants.{MOST_PARAMETERS, MOST_SECTIONS}
 use Rattle.ss_words.specs.declared.mark.Mark.TheVariants as m
 use Rattle.ss_words.specs.declared.word.Sign.TheVariants as s
 use Rattle.ss_words.specs.declared.reserved.Reserved.TheVariants as r
@@ -8,7 +10,7 @@ use Rattle.ss_words.specs.Plain.{Plain, name, mark, first}
 use Rattle.ss_words.specs.Lists.{Name}
 use Rattle.ss_routines.specs.Counts.{count, opens, closes}
 use Rattle.ss_routines.specs.OpenPhrases.{open_phrases}
-use Rattle.ss_routines.specs.SectionReading.{is_head}
+use Rattle.ss_routines.specs.Tree.{is_head}
 use Rattle.ss_routines.specs.Refused.{Begins, InRoom, PassesLimit}
 
 -- IF
@@ -58,19 +60,22 @@ names_in_head false (w ∷ ws) =
 pub data Counted : Type 0 where
   Parentheses Ifs Phrases Parameters Sections : Counted
 
--- word k is one too many: an opening parenthesis before which 50 are open; an IF before which 64 are open; a FOR before
--- which 16 phrases are open; a name with which its head has 34, its own and 33 parameters; the first word of a head
--- before which 256 sections have ended
+-- word k is one too many, where before it as many are open or ended as there may be: an opening parenthesis, an IF or a
+-- FOR; the first word of a head, where sections have ended; or a name with which its head has its own and one parameter
+-- more than there may be
 abbrev pub IsOneTooMany : Counted → List Plain → ℕ → Type 0
 IsOneTooMany Parentheses ws k =
-    (first (drop k ws) ≡ Some (mark (m.Sign s.Open))) × (count opens (take k ws) ≡ count closes (take k ws) + 50)
+    (first (drop k ws) ≡ Some (mark (m.Sign s.Open)))
+    × (count opens (take k ws) ≡ count closes (take k ws) + MOST_PARENTHESES)
 IsOneTooMany Ifs ws k =
-    (first (drop k ws) ≡ Some (mark (m.Reserved r.If))) × (count branches (take k ws) ≡ count rejoins (take k ws) + 64)
+    (first (drop k ws) ≡ Some (mark (m.Reserved r.If)))
+    × (count branches (take k ws) ≡ count rejoins (take k ws) + MOST_IFS)
 IsOneTooMany Phrases ws k =
-    (first (drop k ws) ≡ Some (mark (m.Reserved r.For))) × (open_phrases (take k ws) ≡ 16)
+    (first (drop k ws) ≡ Some (mark (m.Reserved r.For))) × (open_phrases (take k ws) ≡ MOST_PHRASES)
 IsOneTooMany Parameters ws k =
-    (n : Name) × (first (drop k ws) ≡ Some (name n)) × (names_in_head false (behind_end (take (k + 1) ws)) ≡ 34)
-IsOneTooMany Sections ws k = (is_head (first (drop k ws)) ≡ true) × (count ends (take k ws) ≡ 256)
+    (n : Name) × (first (drop k ws) ≡ Some (name n))
+    × (names_in_head false (behind_end (take (k + 1) ws)) ≡ 1 + (MOST_PARAMETERS + 1))
+IsOneTooMany Sections ws k = (is_head (first (drop k ws)) ≡ true) × (count ends (take k ws) ≡ MOST_SECTIONS)
 
 -- a word that passes a limit is one too many by counting
 abbrev pub LimitIsCounted : Type 0

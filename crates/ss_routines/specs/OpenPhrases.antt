@@ -10,14 +10,14 @@ pub data Open : Type 0 where
   For Do If : Open
 
 -- what stays open where the innermost phrases close: all of them that stand before any DO or IF
-abbrev pub settled : List Open → List Open
-settled (For ∷ os) = settled os
-settled os = os
+abbrev pub without_inner_phrases : List Open → List Open
+without_inner_phrases (For ∷ os) = without_inner_phrases os
+without_inner_phrases os = os
 
 -- what stays open behind LOOP or ALWAYS: it closes the innermost DO or IF, and the phrases directly before that
-abbrev pub closed : List Open → List Open
-closed [] = []
-closed (o ∷ os) = settled os
+abbrev pub without_inner_block : List Open → List Open
+without_inner_block [] = []
+without_inner_block (o ∷ os) = without_inner_phrases os
 
 -- a word with which a statement begins that holds no other: the phrases before it close here, since no FOR stands in it
 abbrev pub begins : Plain → Bool
@@ -55,10 +55,10 @@ abbrev pub step : Bool → List Open → Plain → List Open
 step b os (mark (m.Reserved r.For)) = For ∷ os
 step b os (mark (m.Reserved r.Do)) = Do ∷ os
 step b os (mark (m.Reserved r.If)) = If ∷ os
-step b os (mark (m.Reserved r.Loop)) = closed os
-step b os (mark (m.Reserved r.Always)) = closed os
-step b os (name n) = if b then settled os else os
-step b os w = if begins w then settled os else os
+step b os (mark (m.Reserved r.Loop)) = without_inner_block os
+step b os (mark (m.Reserved r.Always)) = without_inner_block os
+step b os (name n) = if b then without_inner_phrases os else os
+step b os w = if begins w then without_inner_phrases os else os
 
 -- what is open behind words, the innermost first
 abbrev pub open_behind : Bool → List Open → List Plain → List Open

@@ -1,18 +1,21 @@
 -- Reading statements and sections and noting their places behind those that were noted before.
 use Rattle.std.specs.Prelude.{ℕ, zero, suc, Bool, true, false, List, [], ◌∷◌, ◌++◌, Some, None}
+use Rattle.ss_words.specs.declared.limits.TheConstants.{MOST_PARENTHESES, MOST_IFS, MOST_PHRASES}
+use Rattle.ss_words.specs.declared.limits.TheConstants.{MOST_PARAMETERS, MOST_SECTIONS}
 use Rattle.ss_words.specs.declared.mark.Mark.TheVariants as m
 use Rattle.ss_words.specs.declared.reserved.Reserved.TheVariants as r
 use Rattle.ss_words.specs.declared.refusal.Refusal.TheVariants.{Unexpected, PastLimit}
 use Rattle.ss_words.specs.Reading.{Reading, ◌>>=◌, pure, refuse, look}
 use Rattle.ss_words.specs.Marks.{expect, eat}
 use Rattle.ss_words.specs.Noting.{Noting, repeat, here}
-use Rattle.ss_routines.specs.Combined.{behind, allowed}
+use Rattle.ss_routines.specs.Combined.{behind, eat_allowed}
 use Rattle.ss_routines.specs.SimpleReading.{simple_at}
 use Rattle.ss_routines.specs.Loops.{Phrase}
 use Rattle.ss_routines.specs.LoopReading.{phrase_at, compute_at, question_at}
 use Rattle.ss_routines.specs.Places.{If, Else, Always, For, Next, Find, Gather, Compute, Place, Simply, Branches, Loops}
 use Rattle.ss_routines.specs.Places.{EndOfSection, Spot, LocalNames, Section}
-use Rattle.ss_routines.specs.SectionReading.{is_head, head_at, a_define}
+use Rattle.ss_routines.specs.SectionReading.{head_at, a_define}
+use Rattle.ss_routines.specs.Tree.{is_head}
 
 -- a place and its line
 abbrev pub noted_at : ℕ → Place → Spot
@@ -88,8 +91,8 @@ module _ (lines : List ℕ) (n : ℕ) where
   -- FOR and what stands behind it, where so many more phrases may be open
   unfoldable pub noting_loop : (ℕ → NotingItem) → ℕ → NotingItem
   noting_loop a_branch zero acc =
-      allowed 0 (m.Reserved r.For) >>= λ b. elim b [ true ↦ refuse PastLimit | false ↦ pure (false, acc) ]
-  noting_loop a_branch (suc f) acc = here lines (λ l. allowed (suc f) (m.Reserved r.For) >>= λ b. elim b [
+      eat_allowed 0 (m.Reserved r.For) >>= λ b. elim b [ true ↦ refuse PastLimit | false ↦ pure (false, acc) ]
+  noting_loop a_branch (suc f) acc = here lines (λ l. eat_allowed (suc f) (m.Reserved r.For) >>= λ b. elim b [
     | true ↦ (phrase_at n >>= λ g. noting_controlled (a_branch f) (noting_loop a_branch f) l g acc >>= λ a. pure
         (true, a))
     | false ↦ pure (false, acc)
@@ -98,8 +101,8 @@ module _ (lines : List ℕ) (n : ℕ) where
   -- IF and what stands behind it, where so many more IFs and phrases may be open
   unfoldable pub noting_if : ℕ → ℕ → NotingItem
   noting_if zero f acc =
-      allowed 0 (m.Reserved r.If) >>= λ b. elim b [ true ↦ refuse PastLimit | false ↦ pure (false, acc) ]
-  noting_if (suc i) f acc = here lines (λ l. allowed (suc i) (m.Reserved r.If) >>= λ b. elim b [
+      eat_allowed 0 (m.Reserved r.If) >>= λ b. elim b [ true ↦ refuse PastLimit | false ↦ pure (false, acc) ]
+  noting_if (suc i) f acc = here lines (λ l. eat_allowed (suc i) (m.Reserved r.If) >>= λ b. elim b [
     | true ↦ (noting_branch (noting_block (noting_if i f) (noting_loop (noting_if i) f)) l acc >>= λ a. pure (true, a))
     | false ↦ pure (false, acc)
   ])
@@ -138,3 +141,15 @@ module _ (lines : List ℕ) where
               (t ∷ ts))
           | false ↦ pure []
         ])
+
+  -- statements within the limits
+  abbrev pub limited_statements : Noting Spot
+  limited_statements = noting_statements lines MOST_PARENTHESES MOST_IFS MOST_PHRASES
+
+  -- a section within the limits
+  abbrev pub limited_section : Reading Section
+  limited_section = noting_section MOST_PARENTHESES MOST_IFS MOST_PHRASES MOST_PARAMETERS
+
+  -- sections within the limits
+  abbrev pub limited_sections : Reading (List Section)
+  limited_sections = noting_sections MOST_PARENTHESES MOST_IFS MOST_PHRASES MOST_PARAMETERS MOST_SECTIONS

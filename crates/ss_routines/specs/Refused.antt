@@ -6,6 +6,8 @@ use Rattle.ss_words.specs.declared.fault.TextRule.{TextRule}
 use Rattle.ss_words.specs.declared.fault.TextRule.TheVariants.{UnexpectedWord, UnexpectedEnd, PastLimit}
 use Rattle.ss_words.specs.declared.fault.TextFault.{TextFault}
 use Rattle.ss_words.specs.declared.fault.TextFault.TheVariants.{Refused, Memory}
+use Rattle.ss_words.specs.declared.limits.TheConstants.{MOST_PARENTHESES, MOST_IFS, MOST_PHRASES}
+use Rattle.ss_words.specs.declared.limits.TheConstants.{MOST_PARAMETERS, MOST_SECTIONS}
 use Rattle.ss_words.specs.declared.mark.Mark.TheVariants as m
 use Rattle.ss_words.specs.declared.word.Sign.TheVariants as s
 use Rattle.ss_words.specs.declared.reserved.Reserved.TheVariants as r
@@ -27,15 +29,15 @@ lines ws = map (λ w. w.line) ws
 -- a program within the limits
 pub record IsWithin (t : Tree) : Type 0 where
   -- open at once
-  pub parentheses : depth t ≤ 50
+  pub parentheses : depth t ≤ MOST_PARENTHESES
   -- open at once
-  pub ifs : ifs t ≤ 64
+  pub ifs : ifs t ≤ MOST_IFS
   -- open at once
-  pub phrases : phrases t ≤ 16
+  pub phrases : phrases t ≤ MOST_PHRASES
   -- of a section, given and yielded
-  pub parameters : parameters t ≤ 32
+  pub parameters : parameters t ≤ MOST_PARAMETERS
   -- all of them
-  pub sections : length t ≤ 256
+  pub sections : length t ≤ MOST_SECTIONS
 
 -- some program begins with these words
 abbrev pub Begins : List Plain → Type 0

@@ -12,8 +12,9 @@ use Rattle.ss_words.specs.Marks.{expect, eat, a_name}
 use Rattle.ss_routines.specs.Combined.{pair, behind, made, if_mark, star}
 use Rattle.ss_routines.specs.Simple.{Listing, Unwritten, BehindGiven, InParentheses}
 use Rattle.ss_routines.specs.SimpleReading.{name_of}
-use Rattle.ss_routines.specs.Tree.{Head, MainHead, RoutineHead, EventHead, SectionTree, Tree, listed}
+use Rattle.ss_routines.specs.Tree.{Head, MainHead, RoutineHead, EventHead, SectionTree, Tree, listing_names}
 use Rattle.ss_routines.specs.BlockReading.{block_at}
+use Rattle.ss_routines.specs.Tree.{is_head}
 
 -- how many parentheses, IFs and phrases may be open at once, how many parameters a section may have, and how many
 -- sections there may be
@@ -79,19 +80,13 @@ saving =
       | false ↦ pure false
     ]
 
--- whether a section begins so
-abbrev pub is_head : Option Plain → Bool
-is_head (Some (mark (m.Reserved r.Main))) = true
-is_head (Some (mark (m.Reserved r.Routine))) = true
-is_head (Some (mark (m.Reserved r.Event))) = true
-is_head _ = false
-
 -- with at most so many parameters, given and yielded together
 module _ (k : ℕ) where
   -- behind ROUTINE: name [GIVEN names | "(" names ")"] [YIELDING names]
   unfoldable pub routine_at : Reading Head
   routine_at =
-      a_name >>= λ n. given_at k >>= λ ps. yielded_at (k - length (listed ps)) >>= λ ys. pure (RoutineHead n ps ys)
+      a_name >>= λ n. given_at k >>= λ ps. yielded_at (k - length (listing_names ps)) >>= λ ys.
+      pure (RoutineHead n ps ys)
 
   -- behind EVENT: name [GIVEN names | "(" names ")"] [SAVING EVENT NOTICES]
   unfoldable pub event_at : Reading Head

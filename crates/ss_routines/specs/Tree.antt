@@ -1,5 +1,6 @@
 -- The tree of a program's sections, its spelling, and what of it is open at once.
 use Rattle.std.specs.Prelude.{ℕ, suc, max, ◌+◌, Bool, true, false, List, [], ◌∷◌, ◌++◌, length}
+use Rattle.std.specs.Prelude.{Option, Some}
 use Rattle.std.specs.List.{flat_map}
 use Rattle.ss_words.specs.declared.mark.Mark.TheVariants as m
 use Rattle.ss_words.specs.declared.reserved.Reserved.TheVariants as r
@@ -247,17 +248,24 @@ phrases ts = greatest (λ t. phrases_block t.block) ts
 -- ---- parameters
 
 -- a written list as a list
-abbrev pub listed : {A : Type 0} → Listing A → List A
-listed Unwritten = []
-listed (BehindGiven xs) = all_of xs
-listed (InParentheses xs) = all_of xs
+abbrev pub listing_names : {A : Type 0} → Listing A → List A
+listing_names Unwritten = []
+listing_names (BehindGiven xs) = all_of xs
+listing_names (InParentheses xs) = all_of xs
 
 -- how many parameters a head has, given and yielded ones
 abbrev pub parameters_head : Head → ℕ
 parameters_head MainHead = 0
-parameters_head (RoutineHead n ps ys) = length (listed ps) + length ys
-parameters_head (EventHead n ps b) = length (listed ps)
+parameters_head (RoutineHead n ps ys) = length (listing_names ps) + length ys
+parameters_head (EventHead n ps b) = length (listing_names ps)
 
 -- the greatest number of parameters of a section
 abbrev pub parameters : Tree → ℕ
 parameters ts = greatest (λ t. parameters_head t.head) ts
+
+-- whether a section begins with this word
+abbrev pub is_head : Option Plain → Bool
+is_head (Some (mark (m.Reserved r.Main))) = true
+is_head (Some (mark (m.Reserved r.Routine))) = true
+is_head (Some (mark (m.Reserved r.Event))) = true
+is_head _ = false

@@ -62,7 +62,7 @@ use Rattle.ss_routines.specs.Expr.{exprs_of}
 use Rattle.ss_routines.specs.Condition.{Reference, Condition, condition}
 use Rattle.ss_routines.specs.Condition.{Conjunction, conjunction, Relation, compared}
 use Rattle.ss_routines.specs.Condition.{is_empty, is_in, nested}
-use Rattle.ss_routines.specs.ConditionReading.{alternatives_of, additions_of}
+use Rattle.ss_routines.specs.Condition.{alternatives_of, additions_of}
 use Rattle.ss_routines.specs.Simple as s
 use Rattle.ss_routines.specs.Loops as l
 use Rattle.ss_routines.specs.Tree.{Head, MainHead, RoutineHead, EventHead}

@@ -18,20 +18,9 @@ use crate::reading::head::{SectionHead, begins, head, local_list};
 use crate::reading::noted::end;
 use crate::tree::place::Spot;
 use crate::tree::section::{LocalNames, Section, Sections};
+use ss_words::limits::{MOST_IFS, MOST_PARENTHESES, MOST_PHRASES, MOST_SECTIONS};
 use ss_words::{Cursor, PlainWord, Refusal, TextFault, TextRule, Words, plain_words};
 use std::alloc::Global;
-
-/// How many parentheses may be open at once.
-const MOST_PARENTHESES: u32 = 50;
-
-/// How many IFs may be open at once.
-const MOST_IFS: u32 = 64;
-
-/// How many FOR phrases may be open at once.
-const MOST_PHRASES: u32 = 16;
-
-/// How many sections a program may have.
-const MOST_SECTIONS: usize = 256;
 
 /// For so many words that are left, a section's list has room for one place from its start: it is
 /// then not moved as it grows, which would take its size once more.
@@ -44,9 +33,10 @@ fn body(
     cursor: &mut Cursor<'_>,
     text: &[PlainWord<'_>],
 ) -> Result<(Vec<LocalNames>, Vec<Spot>), Refusal>
-    ensures exact { Gives {Y = List p.LocalNames × List p.Spot} (λ x. (map local_view x.0.items, spots x.1.items))
+    ensures exact { Gives {Y = List p.LocalNames × List p.Spot}
+        (λ x. (map local_view x.0.items, spots x.1.items))
         result cursor.new (bind (repeat (places.noting_local (word_lines text.now)) []) (λ ls.
-        bind (places.noting_statements (word_lines text.now) 50 64 16 []) (λ ps.
+        bind (places.limited_statements (word_lines text.now) []) (λ ps.
         here (word_lines text.now) (λ j. bind (expect (m.Reserved r.End))
         (λ u. pure (ls, ps ++ places.noted_at j p.EndOfSection ∷ []))))) cursor.old) }
     ensures shorter { length cursor.new ≤ length cursor.old }
@@ -69,7 +59,7 @@ fn body(
 #[tactic(auto, unfolding(crate::proofs::Notings::at_lines, crate::specs::PlacesAtLines::noting_section))]
 fn section(cursor: &mut Cursor<'_>, text: &[PlainWord<'_>]) -> Result<Section, Refusal>
     ensures exact { Gives section_view result cursor.new
-        (places.noting_section (word_lines text.now) 50 64 16 32 cursor.old) }
+        (places.limited_section (word_lines text.now) cursor.old) }
     ensures shorter { length cursor.new ≤ length cursor.old }
     ensures taken { IfOk result (λ _. length cursor.new < length cursor.old) }
 {
@@ -88,7 +78,7 @@ fn section(cursor: &mut Cursor<'_>, text: &[PlainWord<'_>]) -> Result<Section, R
 /// Reads sections, as long as one begins.
 fn section_list(cursor: &mut Cursor<'_>, text: &[PlainWord<'_>]) -> Result<Vec<Section>, Refusal>
     ensures exact { Gives (λ v. map section_view v.items) result cursor.new
-        (places.noting_sections (word_lines text.now) 50 64 16 32 256 cursor.old) }
+        (places.limited_sections (word_lines text.now) cursor.old) }
     ensures shorter { length cursor.new ≤ length cursor.old }
 {
     let mut list = Vec::new(cursor.alloc());
@@ -105,7 +95,7 @@ fn section_list(cursor: &mut Cursor<'_>, text: &[PlainWord<'_>]) -> Result<Vec<S
 #[tactic(auto, unfolding(crate::proofs::Unfoldings::whole_text))]
 fn whole_text(cursor: &mut Cursor<'_>, text: &[PlainWord<'_>]) -> Result<Vec<Section>, Refusal>
     ensures exact { Gives (λ v. map section_view v.items) result cursor.new
-        (whole (places.noting_sections (word_lines text.now) 50 64 16 32 256) cursor.old) }
+        (whole (places.limited_sections (word_lines text.now)) cursor.old) }
     ensures shorter { length cursor.new ≤ length cursor.old }
 {
     let list = section_list(cursor, text)?;
@@ -120,7 +110,7 @@ fn whole_text(cursor: &mut Cursor<'_>, text: &[PlainWord<'_>]) -> Result<Vec<Sec
 /// word passes, since no program ends with that word.
 fn fault(refusal: Refusal, cursor: &Cursor<'_>, text: &[PlainWord<'_>]) -> TextFault
     requires { Fails refusal cursor.now
-        (whole (places.noting_sections (word_lines text.now) 50 64 16 32 256) (plains_of text.now)) }
+        (whole (places.limited_sections (word_lines text.now)) (plains_of text.now)) }
     ensures { IsFault result (map plain_at text.now) }
 {
     let left = cursor.len();
@@ -169,7 +159,8 @@ fn read(alloc: Global, text: &[PlainWord<'_>]) -> Result<Sections, TextFault>
 /// - `Memory` where memory was refused.
 pub fn sections(alloc: Global, words: &Words, from: usize) -> Result<Sections, TextFault>
     // The words spell one program within the limits, and these are its sections.
-    ensures sections { IfOk result (λ s. AreSections s (words_from from (plain_words_of words.now))) }
+    ensures sections { IfOk result
+        (λ s. AreSections s (words_from from (plain_words_of words.now))) }
     // Otherwise the words are refused by this rule at this line.
     ensures refused { IfErr result (λ f. IsFault f (words_from from (plain_words_of words.now))) }
 {

@@ -10,12 +10,12 @@ use Rattle.ss_preamble.specs.Tree.{Decls}
 use Rattle.ss_preamble.specs.Refused.{AreDecls}
 use Rattle.ss_preamble.specs.Refused as preamble
 use Rattle.ss_preamble.specs.Laws as preamble_laws
-use Rattle.ss_preamble.proofs.Decided as preamble_answer
+use Rattle.ss_preamble.proofs.AnswerByReading as preamble_answer
 use Rattle.ss_preamble.proofs.Unique as preamble_unique
 use Rattle.ss_routines.specs.Places.{Section}
 use Rattle.ss_routines.specs.Refused.{Answers, words_from}
 use Rattle.ss_routines.specs.Laws.{IsDefinite}
-use Rattle.ss_routines.proofs.Answered.{always}
+use Rattle.ss_routines.proofs.AlwaysAnswered.{always}
 use Rattle.ss_routines.proofs.Unique.{one_answer}
 use Rattle.ss_check.specs.declared.fault.CheckRule.{CheckRule}
 use Rattle.ss_check.specs.Breach.{breach}

@@ -28,15 +28,15 @@ use Rattle.ss_preamble.specs.Refused as preamble
 use Rattle.ss_preamble.proofs.Counting.{within_less, none_within}
 use Rattle.ss_preamble.proofs.ItemLimits.{words_within}
 use Rattle.ss_preamble.proofs.Unique.{one_head, has_preamble, same_count}
-use Rattle.ss_preamble.proofs.Behind.{drop_behind}
+use Rattle.ss_preamble.proofs.WordsBehind.{drop_behind}
 use Rattle.ss_preamble.proofs.Programs.{farthest_of_program}
-use Rattle.ss_preamble.proofs.Decided as preamble_answer
+use Rattle.ss_preamble.proofs.AnswerByReading as preamble_answer
 use Rattle.ss_routines.specs.Places.{Section}
 use Rattle.ss_routines.specs.Tree.{Tree, Head, MainHead, RoutineHead, EventHead}
 use Rattle.ss_routines.specs.Tree as grammar
 use Rattle.ss_routines.specs.Refused as sections
 use Rattle.ss_routines.specs.Laws.{IsDefinite}
-use Rattle.ss_routines.proofs.Answered.{always}
+use Rattle.ss_routines.proofs.AlwaysAnswered.{always}
 use Rattle.ss_routines.proofs.Unique.{less, equal, greater, order}
 use Rattle.ss_routines.proofs.Whole.{room_less}
 use Rattle.ss_session.specs.Refused.{spell, Begins, IsHead, InRoom, PassesLimit, IsUnexpectedWord, IsUnexpectedEnd}

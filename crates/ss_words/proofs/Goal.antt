@@ -5,7 +5,7 @@ use Rattle.std.proofs.lemmas.List.{append-nil, take_at, drop_at, take-append-dro
 use Rattle.ss_words.specs.declared.refusal.Refusal.{Refusal}
 use Rattle.ss_words.specs.declared.refusal.Refusal.TheVariants.{Unexpected, PastLimit}
 use Rattle.ss_words.specs.Plain.{Plain, first}
-use Rattle.ss_words.specs.Reading.{Read, Reading, goes_on, bind, pure, refuse, look, ended, whole}
+use Rattle.ss_words.specs.Reading.{Read, Reading, goes_on, bind, pure, refuse, look, end_of_words, whole}
 use Rattle.ss_words.specs.Farthest.{IsFarthest}
 use Rattle.ss_words.proofs.Laws.{IsRead, Good, Any, pure_good, bind_good}
 use Rattle.ss_words.proofs.Local.{Rooms, same, more, IsLimited, Local, Stops, pure_local, refuse_local, bind_local}
@@ -14,16 +14,16 @@ use Rattle.ss_words.proofs.Local.{look_local, anywhere}
 abbrev pub spell_ended : Unit {0} → List Plain
 spell_ended u = []
 
-pub ended_good : Good Any spell_ended [] ended
-unfolding ended look pure refuse
+pub ended_good : Good Any spell_ended [] end_of_words
+unfolding end_of_words look pure refuse
 ended_good = record { read = at; some = (tt, tt, [], refl) }
   where
-    at : (ws : List Plain) → IsRead Any spell_ended [] (ended ws).0 ws (ended ws).1
+    at : (ws : List Plain) → IsRead Any spell_ended [] (end_of_words ws).0 ws (end_of_words ws).1
     at [] = (tt, [], refl, refl)
     at (w ∷ ws) = ([], refl, tt, tt, [], refl)
 
-pub ended_local : (rooms : Rooms) → Local rooms ended ended
-unfolding ended
+pub ended_local : (rooms : Rooms) → Local rooms end_of_words end_of_words
+unfolding end_of_words
 ended_local rooms =
     look_local rooms _ _ (elim [
       | Some v ↦ anywhere rooms (Some v) _ _ (refuse_local rooms)
@@ -59,7 +59,8 @@ module _ {A : Type 0} (fits : A → Type 0) (sp : A → List Plain) (p : Reading
   unfolding whole
   whole_good =
       bind_good fits fits sp sp [] _
-      (λ a fa. bind_good Any fits spell_ended sp (sp a) _ (λ u fu. pure_good fits sp _ a fa (append-nil (sp a))) ended
+      (λ a fa.
+      bind_good Any fits spell_ended sp (sp a) _ (λ u fu. pure_good fits sp _ a fa (append-nil (sp a))) end_of_words
       ended_good) p good
 
   abbrev Ended : Result A Refusal → List Plain → Type 0
@@ -67,11 +68,12 @@ module _ {A : Type 0} (fits : A → Type 0) (sp : A → List Plain) (p : Reading
   Ended (Err f) r = Unit {0}
 
   whole_ended : (ws : List Plain) → Ended (whole p ws).0 (whole p ws).1
-  unfolding whole bind ended look pure refuse
+  unfolding whole bind end_of_words look pure refuse
   whole_ended ws = at (p ws).0 (p ws).1
     where
       at : (o : Result A Refusal) (r : List Plain)
-          → Ended (goes_on (λ e. bind ended (λ u. pure e)) o r).0 (goes_on (λ e. bind ended (λ u. pure e)) o r).1
+          → Ended (goes_on (λ e. bind end_of_words (λ u. pure e)) o r).0
+          (goes_on (λ e. bind end_of_words (λ u. pure e)) o r).1
       at (Ok e) [] = refl
       at (Ok e) (w ∷ r) = tt
       at (Err f) r = tt
@@ -105,13 +107,14 @@ module _ {A : Type 0} (sp : A → List Plain) where
       let h : x.0 ≡ Ok t = ap (λ (u : Read A). u.0) e in let k : x.0 ≡ Err g = ap (λ (u : Read A). u.0) f in cc
 
   pub whole_read_back : (p : Reading A) (t : A) → p (sp t) ≡ (Ok t, []) → whole p (sp t) ≡ (Ok t, [])
-  unfolding whole bind ended look pure
-  whole_read_back p t again = ap (λ (x : Read A). goes_on (λ a. bind ended (λ u. pure a)) x.0 x.1) again
+  unfolding whole bind end_of_words look pure
+  whole_read_back p t again = ap (λ (x : Read A). goes_on (λ a. bind end_of_words (λ u. pure a)) x.0 x.1) again
 
   pub whole_local : (rooms : Rooms) (p p' : Reading A) → Local rooms p p' → Local rooms (whole p) (whole p')
   unfolding whole
   whole_local rooms p p' loc =
-      bind_local rooms _ _ (λ a. bind_local rooms _ _ (λ u. pure_local rooms a) ended ended (ended_local rooms)) p' p
+      bind_local rooms _ _
+      (λ a. bind_local rooms _ _ (λ u. pure_local rooms a) end_of_words end_of_words (ended_local rooms)) p' p
       loc
 
   module _ (fits : A → Type 0) (p : Reading A) (good : Good fits sp [] p) where

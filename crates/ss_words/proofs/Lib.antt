@@ -13,12 +13,12 @@ pub mod TextBytesLemmas
 pub mod TextCuts
 pub mod TextPlaces
 pub mod TextComments
-pub mod TextTracked
+pub mod TextIsTracked
 pub mod TextLineLemmas
 pub mod TextRunLemmas
 pub mod TextSteps
 pub mod TextWordSteps
-pub mod TextDrawn
+pub mod TextPictureLines
 pub mod TextOrderLemmas
 pub mod TextRefusalLemmas
 mod TextLimitLemmas

@@ -7,7 +7,8 @@ use Rattle.std.specs.Prelude.{option_and_then, option_to_list, find}
 use Rattle.ss_words.specs.declared.mark.Mark.{Mark}
 use Rattle.ss_words.specs.declared.plain_word.PlainWord.{PlainWord}
 use Rattle.ss_words.specs.Plain.{Plain, PlainAt, plains, plain_in, plain_at, plains_of}
-use Rattle.ss_words.specs.PlainRules.{mark_in, beside, governing, is_governing, Surroundings, surroundings, PlainRule}
+use Rattle.ss_words.specs.PlainRules.{mark_in, beside, governing_word, is_governing, Surroundings, surroundings}
+use Rattle.ss_words.specs.PlainRules.{PlainRule}
 use Rattle.ss_words.specs.PlainRules.{ruled_word, follow_behind, follow}
 
 -- behind some words whose last one and whose governing word these are, the rule makes of the rest what is left of the
@@ -16,20 +17,20 @@ pub record IsFollowed (q : PlainRule) (total : List PlainAt) (last governs : Opt
     (kept rest : List PlainAt) : Type 0 where
   pub before : List PlainAt
   pub last_is : last ≡ beside (plains before)
-  pub governs_is : governs ≡ governing (plains before)
+  pub governs_is : governs ≡ governing_word (plains before)
   pub whole : kept ++ follow_behind q before rest ≡ total
 
 pub following_begins : (q : PlainRule) (ws : List PlainAt) → IsFollowed q (follow q ws) None None [] ws
 following_begins q ws = record { before = []; last_is = refl; governs_is = refl; whole = refl }
 
 governing_by : (b : Bool) (p : Plain) (ws : List Plain)
-    → cond b (mark_in p) (governing ws)
+    → cond b (mark_in p) (governing_word ws)
     ≡ option_and_then mark_in (cond b (Some p) (find (λ w. is_governing (mark_in w)) ws))
 governing_by true p ws = refl
 governing_by false p ws = refl
 
 governing_more : (p : Plain) (ws : List Plain)
-    → cond (is_governing (mark_in p)) (mark_in p) (governing ws) ≡ governing (p ∷ ws)
+    → cond (is_governing (mark_in p)) (mark_in p) (governing_word ws) ≡ governing_word (p ∷ ws)
 governing_more p ws = governing_by (is_governing (mark_in p)) p ws
 
 pub following_turns : (q : PlainRule) (total : List PlainAt) (last governs : Option Mark) (kept : List PlainAt)
@@ -46,7 +47,7 @@ following_turns q total last governs kept w rest m now_governs behind now_kept h
     let same : here last governs behind ≡ surroundings (plains h.before) (plains rest) =
     ap (λ (x : Option Mark). here x governs behind) h.last_is
     ∙ ap (λ (x : Option Mark). here (beside (plains h.before)) x behind) h.governs_is
-    ∙ ap (λ (x : Option Mark). here (beside (plains h.before)) (governing (plains h.before)) x) behind_is in
+    ∙ ap (λ (x : Option Mark). here (beside (plains h.before)) (governing_word (plains h.before)) x) behind_is in
     record {
       before = w ∷ h.before;
       last_is = mark_is;

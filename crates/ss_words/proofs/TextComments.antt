@@ -9,8 +9,8 @@ use Rattle.ss_words.specs.declared.fault.TextRule.TheVariants.{StrayByte}
 use Rattle.ss_words.specs.declared.fault.TextFault.TheVariants.{Refused}
 use Rattle.ss_words.specs.Words.{Kind}
 use Rattle.ss_words.specs.TextBytes.{in_run, is_blank, is_stray, is_joined, is_allowed, one_byte_sign, sign_from}
-use Rattle.ss_words.specs.TextLines.{blanked, comments, is_bare}
-use Rattle.ss_words.specs.TextWords.{broken, begun_at, found_at, found_from_place, found_in_line}
+use Rattle.ss_words.specs.TextLines.{with_blank_comments, comment_count, is_blank_rest}
+use Rattle.ss_words.specs.TextWords.{breach_if, begun_at, found_at, found_from_place, found_in_line}
 use Rattle.ss_words.specs.TextScan.{begins_comment, hidden_len, first_breach}
 use Rattle.ss_words.proofs.TextBytesLemmas.{eqb-same, eqb-not, is_blank-cases}
 use Rattle.ss_words.proofs.TextCuts.{take_while-yes, take_while-no}
@@ -49,10 +49,10 @@ hidden_len-end (b ∷ c ∷ bs) h = ap (λ (t : Bool). elim t [ true ↦ 2 | fal
 -- a line of number n with so many lines below it
 module _ (n below : ℕ) where
   hidden_at : (before : List Kind) (b : ℕ) (bs ps : List ℕ)
-      → found_at n below before 32 (b ∷ bs) (32 ∷ ps) ≡ broken StrayByte n (not (is_allowed b))
+      → found_at n below before 32 (b ∷ bs) (32 ∷ ps) ≡ breach_if StrayByte n (not (is_allowed b))
   unfolding found_at begun_at is_stray is_joined is_blank in_run one_byte_sign sign_from
   hidden_at before b bs ps =
-      elim (is_allowed b) as (λ t. broken StrayByte n (not (t && true)) ++ [] ≡ broken StrayByte n (not t))
+      elim (is_allowed b) as (λ t. breach_if StrayByte n (not (t && true)) ++ [] ≡ breach_if StrayByte n (not t))
       [ true ↦ refl | false ↦ refl ]
 
   -- an allowed byte of a comment gives nothing
@@ -60,7 +60,7 @@ module _ (n below : ℕ) where
       → found_from_place n below before 32 (b ∷ bs) (32 ∷ ps) ≡ found_from_place n below before 32 bs ps
   hidden_on before b bs ps allowed =
       from-here n below before 32 b bs 32 ps []
-      (hidden_at before b bs ps ∙ ap (λ (t : Bool). broken StrayByte n (not t)) allowed)
+      (hidden_at before b bs ps ∙ ap (λ (t : Bool). breach_if StrayByte n (not t)) allowed)
 
   hidden_stray : (before : List Kind) (b : ℕ) (bs ps : List ℕ) → is_allowed b ≡ false
       → first_breach (found_from_place n below before 32 (b ∷ bs) (32 ∷ ps)) ≡ Some (Refused StrayByte n)
@@ -71,21 +71,23 @@ module _ (n below : ℕ) where
 
   -- the bytes of a comment give nothing where each is allowed
   hidden-pass : (before : List Kind) (bs : List ℕ) → list_all is_allowed (take (hidden_len bs) bs) ≡ true
-      → found_from_place n below before 32 bs (blanked true bs) ≡ found_in_line n below before (drop (hidden_len bs) bs)
-  unfolding hidden_len blanked found_from_place
+      → found_from_place n below before 32 bs (with_blank_comments true bs)
+      ≡ found_in_line n below before (drop (hidden_len bs) bs)
+  unfolding hidden_len with_blank_comments found_from_place
   hidden-pass before [] all = refl
   hidden-pass before (b ∷ []) all = hidden_on before b [] [] (and-left (is_allowed b) true all)
   hidden-pass before (b ∷ c ∷ bs) all =
       elim (b == 39 && c == 39) as (λ t. list_all is_allowed
       (take (elim t [ true ↦ 2 | false ↦ suc (hidden_len (c ∷ bs)) ]) (b ∷ c ∷ bs)) ≡ true
       → found_from_place n below before 32 (b ∷ c ∷ bs)
-      (elim t [ true ↦ 32 ∷ 32 ∷ blanked false bs | false ↦ 32 ∷ blanked true (c ∷ bs) ])
+      (elim t [ true ↦ 32 ∷ 32 ∷ with_blank_comments false bs | false ↦ 32 ∷ with_blank_comments true (c ∷ bs) ])
       ≡ found_in_line n below before (drop (elim t [ true ↦ 2 | false ↦ suc (hidden_len (c ∷ bs)) ]) (b ∷ c ∷ bs))) [
-        | true ↦ λ two. hidden_on before b (c ∷ bs) (32 ∷ blanked false bs)
+        | true ↦ λ two. hidden_on before b (c ∷ bs) (32 ∷ with_blank_comments false bs)
             (and-left (is_allowed b) (is_allowed c && true) two)
-            ∙ hidden_on before c bs (blanked false bs)
+            ∙ hidden_on before c bs (with_blank_comments false bs)
             (and-left (is_allowed c) true (and-right (is_allowed b) (is_allowed c && true) two))
-        | false ↦ λ more. hidden_on before b (c ∷ bs) (blanked true (c ∷ bs)) (and-left (is_allowed b) _ more)
+        | false ↦ λ more.
+            hidden_on before b (c ∷ bs) (with_blank_comments true (c ∷ bs)) (and-left (is_allowed b) _ more)
             ∙ hidden-pass before (c ∷ bs) (and-right (is_allowed b) _ more)
       ] all
 
@@ -101,27 +103,28 @@ module _ (n below : ℕ) where
 
   -- a byte of a comment that is not allowed is the first breach
   hidden-first : (before : List Kind) (bs : List ℕ) → list_all is_allowed (take (hidden_len bs) bs) ≡ false
-      → first_breach (found_from_place n below before 32 bs (blanked true bs)) ≡ Some (Refused StrayByte n)
-  unfolding hidden_len blanked
+      → first_breach (found_from_place n below before 32 bs (with_blank_comments true bs)) ≡ Some (Refused StrayByte n)
+  unfolding hidden_len with_blank_comments
   hidden-first before [] some = absurd cc
   hidden-first before (b ∷ []) some = stray_or_later before b [] [] true some (λ never. absurd cc)
   hidden-first before (b ∷ c ∷ bs) some =
       elim (b == 39 && c == 39) as (λ t. list_all is_allowed
       (take (elim t [ true ↦ 2 | false ↦ suc (hidden_len (c ∷ bs)) ]) (b ∷ c ∷ bs)) ≡ false
       → first_breach (found_from_place n below before 32 (b ∷ c ∷ bs)
-      (elim t [ true ↦ 32 ∷ 32 ∷ blanked false bs | false ↦ 32 ∷ blanked true (c ∷ bs) ]))
+      (elim t [ true ↦ 32 ∷ 32 ∷ with_blank_comments false bs | false ↦ 32 ∷ with_blank_comments true (c ∷ bs) ]))
       ≡ Some (Refused StrayByte n)) [
-        | true ↦ λ two. stray_or_later before b (c ∷ bs) (32 ∷ blanked false bs) (is_allowed c && true) two
-            (λ second. stray_or_later before c bs (blanked false bs) true second (λ never. absurd cc))
-        | false ↦ λ more. stray_or_later before b (c ∷ bs) (blanked true (c ∷ bs))
+        | true ↦ λ two. stray_or_later before b (c ∷ bs) (32 ∷ with_blank_comments false bs) (is_allowed c && true) two
+            (λ second. stray_or_later before c bs (with_blank_comments false bs) true second (λ never. absurd cc))
+        | false ↦ λ more. stray_or_later before b (c ∷ bs) (with_blank_comments true (c ∷ bs))
             (list_all is_allowed (take (hidden_len (c ∷ bs)) (c ∷ bs))) more
             (λ later. hidden-first before (c ∷ bs) later)
       ] some
 
   opened : (before : List Kind) (bs : List ℕ)
-      → found_in_line n below before (39 ∷ 39 ∷ bs) ≡ found_from_place n below before 32 bs (blanked true bs)
+      → found_in_line n below before (39 ∷ 39 ∷ bs)
+      ≡ found_from_place n below before 32 bs (with_blank_comments true bs)
   unfolding found_from_place found_at begun_at is_stray is_joined is_allowed is_blank in_run one_byte_sign sign_from
-      blanked
+      with_blank_comments
   opened before bs = refl
 
   comment-pass : (before : List Kind) (bs : List ℕ) (len : ℕ) → len ≡ suc (suc (hidden_len bs))
@@ -203,48 +206,53 @@ no_quote : (b : ℕ) → is_blank b ≡ true → (b == 39) ≡ false
 no_quote b h =
     elim (is_blank-cases b h) [ inl same ↦ ap (λ (x : ℕ). x == 39) same | inr same ↦ ap (λ (x : ℕ). x == 39) same ]
 
-comments-plain : (b : ℕ) (bs : List ℕ) → begins_comment (b ∷ bs) ≡ false → comments false (b ∷ bs) ≡ comments false bs
-unfolding comments begins_comment
+comments-plain : (b : ℕ) (bs : List ℕ) → begins_comment (b ∷ bs) ≡ false → comment_count false (b ∷ bs)
+    ≡ comment_count false bs
+unfolding comment_count begins_comment
 comments-plain b [] h = refl
 comments-plain b (c ∷ bs) h =
-    ap (λ (t : Bool). elim t [ true ↦ 1 + comments true bs | false ↦ comments false (c ∷ bs) ]) h
+    ap (λ (t : Bool). elim t [ true ↦ 1 + comment_count true bs | false ↦ comment_count false (c ∷ bs) ]) h
 
 comments-begun : (b c : ℕ) (bs : List ℕ) → begins_comment (b ∷ c ∷ bs) ≡ true
-    → comments false (b ∷ c ∷ bs) ≡ 1 + comments true bs
-unfolding comments begins_comment
-comments-begun b c bs h = ap (λ (t : Bool). elim t [ true ↦ 1 + comments true bs | false ↦ comments false (c ∷ bs) ]) h
+    → comment_count false (b ∷ c ∷ bs) ≡ 1 + comment_count true bs
+unfolding comment_count begins_comment
+comments-begun b c bs h = ap
+    (λ (t : Bool). elim t [ true ↦ 1 + comment_count true bs | false ↦ comment_count false (c ∷ bs) ]) h
 
 -- only blanks and, with those before, so many comments
 abbrev holds_only : ℕ → List ℕ → Bool
-holds_only k rest = list_all is_blank (blanked false rest) && nat_le (k + comments false rest) 1
+holds_only k rest = list_all is_blank (with_blank_comments false rest) && nat_le (k + comment_count false rest) 1
 
 zero_add : (k : ℕ) → 0 + k ≡ k
 zero_add k = omega arith
 
-is_bare-holds : (rest : List ℕ) → is_bare rest ≡ holds_only 0 rest
-unfolding is_bare
-is_bare-holds rest =
-    ap (λ (k : ℕ). list_all is_blank (blanked false rest) && nat_le k 1) (sym (zero_add (comments false rest)))
+is_blank_rest-holds : (rest : List ℕ) → is_blank_rest rest ≡ holds_only 0 rest
+unfolding is_blank_rest
+is_blank_rest-holds rest =
+    ap (λ (k : ℕ). list_all is_blank (with_blank_comments false rest) && nat_le k 1)
+    (sym (zero_add (comment_count false rest)))
 
 holds_only-blank : (k b : ℕ) (bs : List ℕ) → is_blank b ≡ true → holds_only k (b ∷ bs) ≡ holds_only k bs
 holds_only-blank k b bs h =
     let plain = begins_comment-other b bs (no_quote b h) in
-    ap (λ (l : List ℕ). list_all is_blank l && nat_le (k + comments false (b ∷ bs)) 1) (blanked-plain b bs plain)
-    ∙ ap (λ (t : Bool). (t && list_all is_blank (blanked false bs)) && nat_le (k + comments false (b ∷ bs)) 1) h
-    ∙ ap (λ (m : ℕ). list_all is_blank (blanked false bs) && nat_le (k + m) 1) (comments-plain b bs plain)
+    ap (λ (l : List ℕ). list_all is_blank l && nat_le (k + comment_count false (b ∷ bs)) 1) (blanked-plain b bs plain)
+    ∙ ap (λ (t : Bool).
+    (t && list_all is_blank (with_blank_comments false bs)) && nat_le (k + comment_count false (b ∷ bs)) 1) h
+    ∙ ap (λ (m : ℕ). list_all is_blank (with_blank_comments false bs) && nat_le (k + m) 1) (comments-plain b bs plain)
 
 holds_only-other : (k b : ℕ) (bs : List ℕ) → is_blank b ≡ false → begins_comment (b ∷ bs) ≡ false
     → holds_only k (b ∷ bs) ≡ false
 holds_only-other k b bs h plain =
-    ap (λ (l : List ℕ). list_all is_blank l && nat_le (k + comments false (b ∷ bs)) 1) (blanked-plain b bs plain)
-    ∙ ap (λ (t : Bool). (t && list_all is_blank (blanked false bs)) && nat_le (k + comments false (b ∷ bs)) 1) h
+    ap (λ (l : List ℕ). list_all is_blank l && nat_le (k + comment_count false (b ∷ bs)) 1) (blanked-plain b bs plain)
+    ∙ ap (λ (t : Bool).
+    (t && list_all is_blank (with_blank_comments false bs)) && nat_le (k + comment_count false (b ∷ bs)) 1) h
 
 holds_only-none : holds_only 0 [] ≡ true
-unfolding blanked comments
+unfolding with_blank_comments comment_count
 holds_only-none = refl
 
 holds_only-none_more : holds_only 1 [] ≡ true
-unfolding blanked comments
+unfolding with_blank_comments comment_count
 holds_only-none_more = refl
 
 -- blanks at the front do not matter
@@ -278,46 +286,51 @@ holds_only-plain : (rest : List ℕ) → is_blank (slice_index rest 0) ≡ false
 holds_only-plain [] head plain = holds_only-none
 holds_only-plain (b ∷ bs) head plain = holds_only-other 0 b bs head plain ∙ sym (some_length bs)
 
-pub is_bare-plain : (rest behind : List ℕ) → behind ≡ behind_blanks rest → begins_comment behind ≡ false
-    → is_bare rest ≡ (length behind == 0)
-is_bare-plain rest behind e plain =
-    is_bare-holds rest ∙ holds_only-blanks 0 rest ∙ ap (holds_only 0) (sym e)
+pub is_blank_rest-plain : (rest behind : List ℕ) → behind ≡ behind_blanks rest → begins_comment behind ≡ false
+    → is_blank_rest rest ≡ (length behind == 0)
+is_blank_rest-plain rest behind e plain =
+    is_blank_rest-holds rest ∙ holds_only-blanks 0 rest ∙ ap (holds_only 0) (sym e)
     ∙ holds_only-plain behind (ap (λ (l : List ℕ). is_blank (slice_index l 0)) e ∙ behind_blanks-head rest) plain
 
 hidden-blanked : (bs : List ℕ)
-    → list_all is_blank (blanked true bs) ≡ list_all is_blank (blanked false (drop (hidden_len bs) bs))
-unfolding hidden_len blanked
+    → list_all is_blank (with_blank_comments true bs)
+    ≡ list_all is_blank (with_blank_comments false (drop (hidden_len bs) bs))
+unfolding hidden_len with_blank_comments
 hidden-blanked [] = refl
 hidden-blanked (b ∷ []) = ap (λ (t : Bool). t && true) is_blank-blank
 hidden-blanked (b ∷ c ∷ bs) =
     elim (b == 39 && c == 39) as (λ t. list_all is_blank
-    (elim t [ true ↦ 32 ∷ 32 ∷ blanked false bs | false ↦ 32 ∷ blanked true (c ∷ bs) ])
-    ≡ list_all is_blank (blanked false (drop (elim t [ true ↦ 2 | false ↦ suc (hidden_len (c ∷ bs)) ]) (b ∷ c ∷ bs)))) [
-      | true ↦ ap (λ (t : Bool). t && (t && list_all is_blank (blanked false bs))) is_blank-blank
-      | false ↦ ap (λ (t : Bool). t && list_all is_blank (blanked true (c ∷ bs))) is_blank-blank
+    (elim t [ true ↦ 32 ∷ 32 ∷ with_blank_comments false bs | false ↦ 32 ∷ with_blank_comments true (c ∷ bs) ])
+    ≡ list_all is_blank
+    (with_blank_comments false (drop (elim t [ true ↦ 2 | false ↦ suc (hidden_len (c ∷ bs)) ]) (b ∷ c ∷ bs)))) [
+      | true ↦ ap (λ (t : Bool). t && (t && list_all is_blank (with_blank_comments false bs))) is_blank-blank
+      | false ↦ ap (λ (t : Bool). t && list_all is_blank (with_blank_comments true (c ∷ bs))) is_blank-blank
           ∙ hidden-blanked (c ∷ bs)
     ]
 
-hidden-comments : (bs : List ℕ) → comments true bs ≡ comments false (drop (hidden_len bs) bs)
-unfolding hidden_len comments
+hidden-comments : (bs : List ℕ) → comment_count true bs ≡ comment_count false (drop (hidden_len bs) bs)
+unfolding hidden_len comment_count
 hidden-comments [] = refl
 hidden-comments (b ∷ []) = refl
 hidden-comments (b ∷ c ∷ bs) =
-    elim (b == 39 && c == 39) as (λ t. (elim t [ true ↦ 0 + comments false bs | false ↦ comments true (c ∷ bs) ])
-    ≡ comments false (drop (elim t [ true ↦ 2 | false ↦ suc (hidden_len (c ∷ bs)) ]) (b ∷ c ∷ bs))) [
-      | true ↦ zero_add (comments false bs)
+    elim (b == 39 && c == 39) as
+    (λ t. (elim t [ true ↦ 0 + comment_count false bs | false ↦ comment_count true (c ∷ bs) ])
+    ≡ comment_count false (drop (elim t [ true ↦ 2 | false ↦ suc (hidden_len (c ∷ bs)) ]) (b ∷ c ∷ bs))) [
+      | true ↦ zero_add (comment_count false bs)
       | false ↦ hidden-comments (c ∷ bs)
     ]
 
 -- a comment at the front counts, and what is behind it remains
 holds_only-comment : (bs : List ℕ) → holds_only 0 (39 ∷ 39 ∷ bs) ≡ holds_only 1 (drop (hidden_len bs) bs)
-unfolding blanked comments
+unfolding with_blank_comments comment_count
 holds_only-comment bs =
-    ap (λ (t : Bool). (t && (t && list_all is_blank (blanked true bs))) && nat_le (0 + (1 + comments true bs)) 1)
+    ap (λ (t : Bool).
+    (t && (t && list_all is_blank (with_blank_comments true bs))) && nat_le (0 + (1 + comment_count true bs)) 1)
     is_blank-blank
-    ∙ ap (λ (m : ℕ). list_all is_blank (blanked true bs) && nat_le m 1) (zero_add (1 + comments true bs))
-    ∙ ap (λ (t : Bool). t && nat_le (1 + comments true bs) 1) (hidden-blanked bs)
-    ∙ ap (λ (m : ℕ). list_all is_blank (blanked false (drop (hidden_len bs) bs)) && nat_le (1 + m) 1)
+    ∙ ap (λ (m : ℕ). list_all is_blank (with_blank_comments true bs) && nat_le m 1)
+    (zero_add (1 + comment_count true bs))
+    ∙ ap (λ (t : Bool). t && nat_le (1 + comment_count true bs) 1) (hidden-blanked bs)
+    ∙ ap (λ (m : ℕ). list_all is_blank (with_blank_comments false (drop (hidden_len bs) bs)) && nat_le (1 + m) 1)
     (hidden-comments bs)
 
 too_many : (k : ℕ) → nat_le (1 + (1 + k)) 1 ≡ false
@@ -332,9 +345,11 @@ unfolding begins_comment
 holds_only-second [] h = absurd cc
 holds_only-second (b ∷ []) h = absurd cc
 holds_only-second (b ∷ c ∷ bs) h =
-    ap (λ (m : ℕ). list_all is_blank (blanked false (b ∷ c ∷ bs)) && nat_le (1 + m) 1) (comments-begun b c bs h)
-    ∙ ap (λ (t : Bool). list_all is_blank (blanked false (b ∷ c ∷ bs)) && t) (too_many (comments true bs))
-    ∙ and_false (list_all is_blank (blanked false (b ∷ c ∷ bs)))
+    ap (λ (m : ℕ). list_all is_blank (with_blank_comments false (b ∷ c ∷ bs)) && nat_le (1 + m) 1)
+    (comments-begun b c bs h)
+    ∙ ap (λ (t : Bool). list_all is_blank (with_blank_comments false (b ∷ c ∷ bs)) && t)
+    (too_many (comment_count true bs))
+    ∙ and_false (list_all is_blank (with_blank_comments false (b ∷ c ∷ bs)))
 
 same_more : (a b : ℕ) → (a == b) ≡ (suc a == suc b)
 same_more a b = grind (arith, nat_tests)
@@ -355,15 +370,15 @@ holds_only-last (b ∷ bs) =
           ∙ ap (λ (l : List ℕ). length l == length (b ∷ bs)) (sym (take_while-no is_blank b bs h))
     ] refl
 
-pub is_bare-comment : (rest behind : List ℕ) (len : ℕ) (last : List ℕ) → behind ≡ behind_blanks rest
+pub is_blank_rest-comment : (rest behind : List ℕ) (len : ℕ) (last : List ℕ) → behind ≡ behind_blanks rest
     → begins_comment behind ≡ true → len ≡ 2 + hidden_len (drop 2 behind) → last ≡ drop len behind
-    → is_bare rest ≡ (length (take_while is_blank last) == length last)
-is_bare-comment rest behind len last e begins size is =
+    → is_blank_rest rest ≡ (length (take_while is_blank last) == length last)
+is_blank_rest-comment rest behind len last e begins size is =
     let q = quotes behind begins in
     let P : List ℕ → Type 0 =
     λ l. len ≡ 2 + hidden_len (drop 2 l) → last ≡ drop len l
     → holds_only 0 l ≡ (length (take_while is_blank last) == length last) in
-    is_bare-holds rest ∙ holds_only-blanks 0 rest ∙ ap (holds_only 0) (sym e)
+    is_blank_rest-holds rest ∙ holds_only-blanks 0 rest ∙ ap (holds_only 0) (sym e)
     ∙ subst P (sym q.1) (λ s l. holds_only-comment q.0
     ∙ ap (holds_only 1) (sym (l ∙ ap (λ (k : ℕ). drop k (39 ∷ 39 ∷ q.0)) (two_more len (hidden_len q.0) s)))
     ∙ holds_only-last last) size is

@@ -19,15 +19,15 @@ use Rattle.ss_words.specs.declared.fault.TextRule.TheVariants.{StrayByte, BadNum
 use Rattle.ss_words.specs.declared.fault.TextRule.TheVariants.{LongPictureLine}
 use Rattle.ss_words.specs.Words.{Kind, WordAt, name, number, sign, picture}
 use Rattle.ss_words.specs.TextBytes.{in_run, is_allowed, is_joined, is_stray, sign_from}
-use Rattle.ss_words.specs.TextLines.{blanked, text_lines, is_bare}
+use Rattle.ss_words.specs.TextLines.{with_blank_comments, text_lines, is_blank_rest}
 use Rattle.ss_words.specs.TextRuns.{without_stops, number_of, has_letter, is_bad_number, word_of_run, line_count}
 use Rattle.ss_words.specs.TextRuns.{behind_print, calls_picture, picture_lines, is_met, lacks_picture, is_name}
-use Rattle.ss_words.specs.TextWords.{Finding, word, breach, on_line, words_in, breaches_in, nearest_first, broken}
+use Rattle.ss_words.specs.TextWords.{Finding, word, breach, on_line, words_in, breaches_in, nearest_first, breach_if}
 use Rattle.ss_words.specs.TextWords.{sign_found, word_found, run_found, begun_at, found_at, found_from_place}
 use Rattle.ss_words.specs.TextWords.{found_in_line, picture_byte, found_in_picture, picture_size, picture_found}
 use Rattle.ss_words.specs.TextWords.{found_from_line, found_in_text, answer_of, words_of}
 use Rattle.ss_words.specs.TextLimits.{KeepsLimits, LimitsHold}
-use Rattle.ss_words.proofs.TextDrawn.{nat_le-true, line_count-some}
+use Rattle.ss_words.proofs.TextPictureLines.{nat_le-true, line_count-some}
 
 abbrev WordKeeps : WordAt → Type 0
 WordKeeps w = KeepsLimits w.kind
@@ -58,14 +58,14 @@ keeps-append fs gs left right = keeps-then fs gs left (λ _. right)
 keeps-nothing : Keeps []
 keeps-nothing none = All-nil WordKeeps
 
-keeps-broken : (r : TextRule) (n : ℕ) (b : Bool) → Keeps (broken r n b)
+keeps-broken : (r : TextRule) (n : ℕ) (b : Bool) → Keeps (breach_if r n b)
 keeps-broken r n true none = All-nil WordKeeps
 keeps-broken r n false none = All-nil WordKeeps
 
 keeps-word : (n : ℕ) (k : Kind) → KeepsLimits k → Keeps (word (on_line n k) ∷ [])
 keeps-word n k keeps none = All-cons WordKeeps (on_line n k) [] keeps (All-nil WordKeeps)
 
-is_unbroken : (r : TextRule) (n : ℕ) (b : Bool) → breaches_in (broken r n b) ≡ [] → b ≡ false
+is_unbroken : (r : TextRule) (n : ℕ) (b : Bool) → breaches_in (breach_if r n b) ≡ [] → b ≡ false
 is_unbroken r n true none = absurd cc
 is_unbroken r n false none = refl
 
@@ -222,7 +222,7 @@ module _ (n below : ℕ) where
       → Keeps (word_found n below before rest o)
   keeps-word_found before rest None all = keeps-nothing
   keeps-word_found before rest (Some k) all =
-      keeps-append (broken NoPicture n (lacks_picture (k ∷ before) rest below)) (word (on_line n k) ∷ [])
+      keeps-append (breach_if NoPicture n (lacks_picture (k ∷ before) rest below)) (word (on_line n k) ∷ [])
       (keeps-broken NoPicture n (lacks_picture (k ∷ before) rest below)) (keeps-word n k (all k refl))
 
   keeps-run : (before : List Kind) (rest run : List ℕ) → list_all in_run run ≡ true
@@ -233,12 +233,12 @@ module _ (n below : ℕ) where
       let found = word_found n below before rest (word_of_run kept) in
       let bad = is_bad_number kept in
       let long = nat_lt LONGEST_RUN (length run) in
-      let both = breaches-parts (broken BadNumber n bad ++ broken LongRun n long) found none in
-      let each = breaches-parts (broken BadNumber n bad) (broken LongRun n long) both.0 in
+      let both = breaches-parts (breach_if BadNumber n bad ++ breach_if LongRun n long) found none in
+      let each = breaches-parts (breach_if BadNumber n bad) (breach_if LongRun n long) both.0 in
       let good = is_unbroken BadNumber n bad each.0 in
       let size = not_above LONGEST_RUN (length run) (is_unbroken LongRun n long each.1) in
-      keeps-append (broken BadNumber n bad ++ broken LongRun n long) found
-      (keeps-append (broken BadNumber n bad) (broken LongRun n long) (keeps-broken BadNumber n bad)
+      keeps-append (breach_if BadNumber n bad ++ breach_if LongRun n long) found
+      (keeps-append (breach_if BadNumber n bad) (breach_if LongRun n long) (keeps-broken BadNumber n bad)
       (keeps-broken LongRun n long))
       (keeps-word_found before rest (word_of_run kept)
       (λ k e. run_word-keeps kept k good
@@ -265,7 +265,7 @@ module _ (n below : ℕ) where
   keeps-at : (before : List Kind) (last : ℕ) (line plain : List ℕ) → Keeps (found_at n below before last line plain)
   unfolding found_at
   keeps-at before last line plain =
-      keeps-append (broken StrayByte n (is_stray (slice_index line 0) (slice_index plain 0)))
+      keeps-append (breach_if StrayByte n (is_stray (slice_index line 0) (slice_index plain 0)))
       (elim (is_joined last (slice_index plain 0)) [ true ↦ [] | false ↦ begun_at n below before line plain ])
       (keeps-broken StrayByte n (is_stray (slice_index line 0) (slice_index plain 0)))
       (elim (is_joined last (slice_index plain 0)) as
@@ -329,13 +329,14 @@ module _ (n below : ℕ) where
       breaches-parts fs gs none in subst (IsMet below) (sym (nearest_first-append fs gs before))
       (right p.1 (left p.0 met))
 
-  nearest_first-broken : (r : TextRule) (b : Bool) (before : List Kind) → nearest_first (broken r n b) before ≡ before
+  nearest_first-broken : (r : TextRule) (b : Bool) (before : List Kind) → nearest_first (breach_if r n b) before
+      ≡ before
   nearest_first-broken r true before = refl
   nearest_first-broken r false before = refl
 
   -- a breach in front changes nothing
   meets-behind : (r : TextRule) (b : Bool) (before : List Kind) (fs : List Finding) → Meets below before fs
-      → Meets below before (broken r n b ++ fs)
+      → Meets below before (breach_if r n b ++ fs)
   meets-behind r true before fs all none met = absurd cc
   meets-behind r false before fs all none met = all none met
 
@@ -346,10 +347,11 @@ module _ (n below : ℕ) where
   meets-word_found before rest (Some k) none met =
       let lacks = lacks_picture (k ∷ before) rest below in
       let there =
-      is_unbroken NoPicture n lacks (breaches-parts (broken NoPicture n lacks) (word (on_line n k) ∷ []) none).0 in
-      subst (IsMet below) (sym (nearest_first-append (broken NoPicture n lacks) (word (on_line n k) ∷ []) before
+      is_unbroken NoPicture n lacks (breaches-parts (breach_if NoPicture n lacks) (word (on_line n k) ∷ []) none).0 in
+      subst (IsMet below) (sym (nearest_first-append (breach_if NoPicture n lacks) (word (on_line n k) ∷ []) before
       ∙ ap (λ (ks : List Kind). k ∷ ks) (nearest_first-broken NoPicture lacks before)))
-      (is_met-called (calls_picture (k ∷ before)) (is_bare rest) (is_met (picture_lines (k ∷ before)) below) there)
+      (is_met-called (calls_picture (k ∷ before)) (is_blank_rest rest)
+      (is_met (picture_lines (k ∷ before)) below) there)
 
   meets-run : (before : List Kind) (rest run : List ℕ) → Meets below before (run_found n below before rest run)
   unfolding run_found
@@ -358,14 +360,14 @@ module _ (n below : ℕ) where
       let bad = is_bad_number kept in
       let long = nat_lt LONGEST_RUN (length run) in
       let both =
-      breaches-parts (broken BadNumber n bad ++ broken LongRun n long)
+      breaches-parts (breach_if BadNumber n bad ++ breach_if LongRun n long)
       (word_found n below before rest (word_of_run kept)) none in
       subst (IsMet below)
-      (sym (nearest_first-append (broken BadNumber n bad ++ broken LongRun n long)
+      (sym (nearest_first-append (breach_if BadNumber n bad ++ breach_if LongRun n long)
       (word_found n below before rest (word_of_run kept)) before
       ∙ ap (nearest_first (word_found n below before rest (word_of_run kept)))
-      (nearest_first-append (broken BadNumber n bad) (broken LongRun n long) before
-      ∙ ap (nearest_first (broken LongRun n long)) (nearest_first-broken BadNumber bad before)
+      (nearest_first-append (breach_if BadNumber n bad) (breach_if LongRun n long) before
+      ∙ ap (nearest_first (breach_if LongRun n long)) (nearest_first-broken BadNumber bad before)
       ∙ nearest_first-broken LongRun long before)))
       (meets-word_found before rest (word_of_run kept) both.1 met)
 
@@ -444,8 +446,8 @@ unfolding found_in_picture
 keeps-in_picture n [] = keeps-nothing
 keeps-in_picture n (b ∷ bs) =
     let long = nat_lt LONGEST_PICTURE_LINE (length (b ∷ bs)) in
-    keeps-append (picture_byte n b ++ broken LongPictureLine n long) (flat_map (picture_byte n) bs)
-    (keeps-append (picture_byte n b) (broken LongPictureLine n long) (keeps-broken StrayByte n (not (is_allowed b)))
+    keeps-append (picture_byte n b ++ breach_if LongPictureLine n long) (flat_map (picture_byte n) bs)
+    (keeps-append (picture_byte n b) (breach_if LongPictureLine n long) (keeps-broken StrayByte n (not (is_allowed b)))
     (keeps-broken LongPictureLine n long)) (keeps-bytes n bs)
 
 short-in_picture : (n : ℕ) (line : List ℕ) → breaches_in (found_in_picture n line) ≡ []
@@ -454,8 +456,8 @@ unfolding found_in_picture
 short-in_picture n [] none = omega arith
 short-in_picture n (b ∷ bs) none =
     let long = nat_lt LONGEST_PICTURE_LINE (length (b ∷ bs)) in
-    let p = breaches-parts (picture_byte n b ++ broken LongPictureLine n long) (flat_map (picture_byte n) bs) none in
-    let q = breaches-parts (picture_byte n b) (broken LongPictureLine n long) p.0 in
+    let p = breaches-parts (picture_byte n b ++ breach_if LongPictureLine n long) (flat_map (picture_byte n) bs) none in
+    let q = breaches-parts (picture_byte n b) (breach_if LongPictureLine n long) p.0 in
     not_above LONGEST_PICTURE_LINE (length (b ∷ bs)) (is_unbroken LongPictureLine n long q.1)
 
 nat_le-few : (m : ℕ) → nat_le m MOST_PICTURE_LINES ≡ true → m ≤ MOST_PICTURE_LINES
@@ -533,9 +535,9 @@ lines_keep (l ∷ ls) before n zero quiet =
     let now = nearest_first here before in
     let drawn = picture_found (picture_size now) (n + 1) ls in (
       keeps-then here (drawn ++ found_from_line (nearest_first drawn now) (n + 1) (picture_size now) ls)
-          (keeps-from_place n (length ls) before 32 l (blanked false l))
+          (keeps-from_place n (length ls) before 32 l (with_blank_comments false l))
           (λ none. keeps-drawn now (n + 1) (picture_size now) ls (size-few now)
-          (size-met (length ls) now (meets-from_place n (length ls) before 32 l (blanked false l) none
+          (size-met (length ls) now (meets-from_place n (length ls) before 32 l (with_blank_comments false l) none
           (quiet-met (length ls) before quiet))) (lines_keep ls)),
       λ none. All-nil IsShort,
     )

@@ -12,8 +12,8 @@ use Rattle.ss_words.specs.declared.fault.TextFault.TheVariants.{Refused}
 use Rattle.ss_words.specs.Words.{Kind, sign}
 use Rattle.ss_words.specs.TextBytes.{in_run, is_blank, is_stray, is_joined, is_allowed, one_byte_sign, sign_from}
 use Rattle.ss_words.specs.TextBytes.{sign_len}
-use Rattle.ss_words.specs.TextLines.{blanked}
-use Rattle.ss_words.specs.TextWords.{Finding, word, broken, nearest_first, sign_found, on_line, run_found, begun_at}
+use Rattle.ss_words.specs.TextLines.{with_blank_comments}
+use Rattle.ss_words.specs.TextWords.{Finding, word, breach_if, nearest_first, sign_found, on_line, run_found, begun_at}
 use Rattle.ss_words.specs.TextWords.{found_at, found_from_place, found_in_line}
 use Rattle.ss_words.specs.TextScan.{begins_comment, first_breach}
 use Rattle.ss_words.proofs.TextBytesLemmas.{eqb-same, eqb-run, is_blank-cases, is_stray-run, is_stray-sign}
@@ -31,11 +31,12 @@ and-right false b h = absurd cc
 
 -- a line that begins with no comment keeps its first byte
 pub blanked-plain : (b : ℕ) (bs : List ℕ) → begins_comment (b ∷ bs) ≡ false
-    → blanked false (b ∷ bs) ≡ b ∷ blanked false bs
-unfolding blanked begins_comment
+    → with_blank_comments false (b ∷ bs) ≡ b ∷ with_blank_comments false bs
+unfolding with_blank_comments begins_comment
 blanked-plain b [] h = refl
 blanked-plain b (c ∷ bs) h =
-    ap (λ (t : Bool). elim t [ true ↦ 32 ∷ 32 ∷ blanked true bs | false ↦ b ∷ blanked false (c ∷ bs) ]) h
+    ap (λ (t : Bool).
+    elim t [ true ↦ 32 ∷ 32 ∷ with_blank_comments true bs | false ↦ b ∷ with_blank_comments false (c ∷ bs) ]) h
 
 pub begins_comment-other : (b : ℕ) (bs : List ℕ) → (b == 39) ≡ false → begins_comment (b ∷ bs) ≡ false
 unfolding begins_comment
@@ -53,16 +54,22 @@ in_run-blank = refl
 run_no_quote : (b : ℕ) → in_run b ≡ true → (b == 39) ≡ false
 run_no_quote b h = eqb-run b 39 h in_run-quote
 
-blanked-run : (b : ℕ) (bs : List ℕ) → in_run b ≡ true → blanked false (b ∷ bs) ≡ b ∷ blanked false bs
+blanked-run : (b : ℕ) (bs : List ℕ) → in_run b ≡ true → with_blank_comments false (b ∷ bs)
+    ≡ b ∷ with_blank_comments false bs
 blanked-run b bs h = blanked-plain b bs (begins_comment-other b bs (run_no_quote b h))
 
 -- a place at which no run begins begins none with its comments made blank
-in_run-blanked : (b : ℕ) (bs : List ℕ) → in_run b ≡ false → in_run (slice_index (blanked false (b ∷ bs)) 0) ≡ false
-unfolding blanked
+in_run-blanked : (b : ℕ) (bs : List ℕ) → in_run b ≡ false → in_run (slice_index (with_blank_comments false (b ∷ bs)) 0)
+    ≡ false
+unfolding with_blank_comments
 in_run-blanked b [] h = h
 in_run-blanked b (c ∷ bs) h =
     elim (b == 39 && c == 39) as (λ t. in_run
-    (slice_index (elim t [ true ↦ 32 ∷ 32 ∷ blanked true bs | false ↦ b ∷ blanked false (c ∷ bs) ]) 0) ≡ false)
+    (slice_index (elim t [
+      | true ↦ 32 ∷ 32 ∷ with_blank_comments true bs
+      | false ↦ b
+          ∷ with_blank_comments false (c ∷ bs)
+    ]) 0) ≡ false)
     [ true ↦ in_run-blank | false ↦ h ]
 
 take_while-none : (xs : List ℕ) → in_run (slice_index xs 0) ≡ false → take_while in_run xs ≡ []
@@ -80,14 +87,16 @@ behind_run-no : (b : ℕ) (bs : List ℕ) → in_run b ≡ false → behind_run 
 behind_run-no b bs h = ap (λ (r : List ℕ). drop (length r) (b ∷ bs)) (take_while-no in_run b bs h)
 
 -- the run at the front is the same with the comments made blank
-take_while-blanked : (line : List ℕ) → take_while in_run (blanked false line) ≡ take_while in_run line
-unfolding blanked
+take_while-blanked : (line : List ℕ) → take_while in_run (with_blank_comments false line) ≡ take_while in_run line
+unfolding with_blank_comments
 take_while-blanked [] = refl
 take_while-blanked (b ∷ bs) =
-    elim (in_run b) as (λ t. in_run b ≡ t → take_while in_run (blanked false (b ∷ bs)) ≡ take_while in_run (b ∷ bs)) [
-      | true ↦ λ h. ap (take_while in_run) (blanked-run b bs h) ∙ take_while-yes in_run b (blanked false bs) h
+    elim (in_run b) as
+    (λ t. in_run b ≡ t → take_while in_run (with_blank_comments false (b ∷ bs)) ≡ take_while in_run (b ∷ bs)) [
+      | true ↦ λ h. ap (take_while in_run) (blanked-run b bs h)
+          ∙ take_while-yes in_run b (with_blank_comments false bs) h
           ∙ ap (λ (r : List ℕ). b ∷ r) (take_while-blanked bs) ∙ sym (take_while-yes in_run b bs h)
-      | false ↦ λ h. take_while-none (blanked false (b ∷ bs)) (in_run-blanked b bs h)
+      | false ↦ λ h. take_while-none (with_blank_comments false (b ∷ bs)) (in_run-blanked b bs h)
           ∙ sym (take_while-no in_run b bs h)
     ] refl
 
@@ -113,7 +122,7 @@ module _ (n below : ℕ) where
       → is_joined last p ≡ true → found_at n below before last (b ∷ bs) (p ∷ ps) ≡ []
   unfolding found_at
   found_at-joined before last b bs p ps plain joined =
-      ap (λ (t : Bool). broken StrayByte n t
+      ap (λ (t : Bool). breach_if StrayByte n t
       ++ (elim (is_joined last p) [ true ↦ [] | false ↦ begun_at n below before (b ∷ bs) (p ∷ ps) ])) plain
       ∙ ap (λ (t : Bool). elim t [ true ↦ [] | false ↦ begun_at n below before (b ∷ bs) (p ∷ ps) ]) joined
 
@@ -122,7 +131,7 @@ module _ (n below : ℕ) where
       ≡ begun_at n below before (b ∷ bs) (p ∷ ps)
   unfolding found_at
   found_at-begun before last b bs p ps plain apart =
-      ap (λ (t : Bool). broken StrayByte n t
+      ap (λ (t : Bool). breach_if StrayByte n t
       ++ (elim (is_joined last p) [ true ↦ [] | false ↦ begun_at n below before (b ∷ bs) (p ∷ ps) ])) plain
       ∙ ap (λ (t : Bool). elim t [ true ↦ [] | false ↦ begun_at n below before (b ∷ bs) (p ∷ ps) ]) apart
 
@@ -130,7 +139,7 @@ module _ (n below : ℕ) where
       → found_at n below before last (b ∷ bs) (p ∷ ps) ≡ found_at n below before 32 (b ∷ bs) (p ∷ ps)
   unfolding found_at
   found_at-fresh before last b bs p ps apart =
-      ap (λ (t : Bool). broken StrayByte n (is_stray b p)
+      ap (λ (t : Bool). breach_if StrayByte n (is_stray b p)
       ++ (elim t [ true ↦ [] | false ↦ begun_at n below before (b ∷ bs) (p ∷ ps) ])) (apart ∙ sym (joined-blank p))
 
   -- where a place is not joined to the byte before it, that byte does not matter
@@ -145,34 +154,36 @@ module _ (n below : ℕ) where
 
   -- from inside a run the scan goes on behind it
   joined_run : (before : List Kind) (last : ℕ) (line : List ℕ) → in_run last ≡ true
-      → found_from_place n below before last line (blanked false line) ≡ found_in_line n below before (behind_run line)
+      → found_from_place n below before last line (with_blank_comments false line)
+      ≡ found_in_line n below before (behind_run line)
   unfolding found_from_place
   joined_run before last [] h = refl
   joined_run before last (b ∷ bs) h =
       elim (in_run b) as (λ t. in_run b ≡ t
-      → found_from_place n below before last (b ∷ bs) (blanked false (b ∷ bs))
+      → found_from_place n below before last (b ∷ bs) (with_blank_comments false (b ∷ bs))
       ≡ found_in_line n below before (behind_run (b ∷ bs))) [
         | true ↦ λ run. ap (λ (plain : List ℕ). found_from_place n below before last (b ∷ bs) plain)
             (blanked-run b bs run)
-            ∙ from-here before last b bs b (blanked false bs) []
-            (found_at-joined before last b bs b (blanked false bs) (is_stray-run b run) (is_joined-run last b h ∙ run))
+            ∙ from-here before last b bs b (with_blank_comments false bs) []
+            (found_at-joined before last b bs b (with_blank_comments false bs) (is_stray-run b run)
+            (is_joined-run last b h ∙ run))
             ∙ joined_run before b bs run
             ∙ ap (λ (l : List ℕ). found_in_line n below before l) (sym (behind_run-yes b bs run))
-        | false ↦ λ stop. fresh before last (b ∷ bs) (blanked false (b ∷ bs))
-            (is_joined-run last (slice_index (blanked false (b ∷ bs)) 0) h ∙ in_run-blanked b bs stop)
+        | false ↦ λ stop. fresh before last (b ∷ bs) (with_blank_comments false (b ∷ bs))
+            (is_joined-run last (slice_index (with_blank_comments false (b ∷ bs)) 0) h ∙ in_run-blanked b bs stop)
             ∙ ap (λ (l : List ℕ). found_in_line n below before l) (sym (behind_run-no b bs stop))
       ] refl
 
   begun_at-run : (before : List Kind) (b : ℕ) (bs : List ℕ) → in_run b ≡ true
-      → begun_at n below before (b ∷ bs) (b ∷ blanked false bs)
+      → begun_at n below before (b ∷ bs) (b ∷ with_blank_comments false bs)
       ≡ run_found n below before (behind_run (b ∷ bs)) (take_while in_run (b ∷ bs))
   unfolding begun_at
   begun_at-run before b bs run =
       ap (λ (t : Bool). elim t [
         | true ↦ run_found n below before
-            (drop (length (take_while in_run (b ∷ blanked false bs))) (b ∷ bs))
-            (take_while in_run (b ∷ blanked false bs))
-        | false ↦ sign_found n (sign_from b (slice_index (b ∷ blanked false bs) 1))
+            (drop (length (take_while in_run (b ∷ with_blank_comments false bs))) (b ∷ bs))
+            (take_while in_run (b ∷ with_blank_comments false bs))
+        | false ↦ sign_found n (sign_from b (slice_index (b ∷ with_blank_comments false bs) 1))
       ]) run
       ∙ ap (λ (r : List ℕ). run_found n below before (drop (length r) (b ∷ bs)) r)
       (sym (ap (take_while in_run) (blanked-run b bs run)) ∙ take_while-blanked (b ∷ bs))
@@ -185,8 +196,8 @@ module _ (n below : ℕ) where
   found-run before b bs run =
       let here = run_found n below before (behind_run (b ∷ bs)) (take_while in_run (b ∷ bs)) in
       ap (λ (plain : List ℕ). found_from_place n below before 32 (b ∷ bs) plain) (blanked-run b bs run)
-      ∙ from-here before 32 b bs b (blanked false bs) here
-      (found_at-begun before 32 b bs b (blanked false bs) (is_stray-run b run) (joined-blank b)
+      ∙ from-here before 32 b bs b (with_blank_comments false bs) here
+      (found_at-begun before 32 b bs b (with_blank_comments false bs) (is_stray-run b run) (joined-blank b)
       ∙ begun_at-run before b bs run)
       ∙ ap (λ (r : List Finding). here ++ r)
       (joined_run (nearest_first here before) b bs run
@@ -206,7 +217,7 @@ module _ (n below : ℕ) where
   blank_9 before bs =
       ap (λ (plain : List ℕ). found_from_place n below before 32 (9 ∷ bs) plain)
       (blanked-plain 9 bs (begins_comment-other 9 bs refl))
-      ∙ fresh before 9 bs (blanked false bs) refl
+      ∙ fresh before 9 bs (with_blank_comments false bs) refl
 
   -- a blank or a tab, and what is found behind it
   pub found-blank : (before : List Kind) (b : ℕ) (bs : List ℕ) → is_blank b ≡ true
@@ -217,13 +228,14 @@ module _ (n below : ℕ) where
   ]
 
 -- the byte behind a place is an equal sign or not, also with the comments made blank
-next-blanked : (bs : List ℕ) → (slice_index (blanked false bs) 0 == 61) ≡ (slice_index bs 0 == 61)
-unfolding blanked
+next-blanked : (bs : List ℕ) → (slice_index (with_blank_comments false bs) 0 == 61) ≡ (slice_index bs 0 == 61)
+unfolding with_blank_comments
 next-blanked [] = refl
 next-blanked (c ∷ []) = refl
 next-blanked (c ∷ d ∷ ds) =
     elim (c == 39 && d == 39) as (λ t. (c == 39 && d == 39) ≡ t
-    → (slice_index (elim t [ true ↦ 32 ∷ 32 ∷ blanked true ds | false ↦ c ∷ blanked false (d ∷ ds) ]) 0 == 61)
+    → (slice_index
+    (elim t [ true ↦ 32 ∷ 32 ∷ with_blank_comments true ds | false ↦ c ∷ with_blank_comments false (d ∷ ds) ]) 0 == 61)
     ≡ (c == 61)) [
       | true ↦ λ quotes. sym (ap (λ (x : ℕ). x == 61) (eqb-same c 39 (and-left _ _ quotes)))
       | false ↦ λ other. refl
@@ -314,11 +326,11 @@ or_and true y t no_x no_y = no_x
 or_and false y t no_x no_y = no_y
 
 is_joined-sign : (b : ℕ) (bs : List ℕ) → in_run b ≡ false → (b == 60 && slice_index bs 0 == 61) ≡ false
-    → (b == 62 && slice_index bs 0 == 61) ≡ false → is_joined b (slice_index (blanked false bs) 0) ≡ false
+    → (b == 62 && slice_index bs 0 == 61) ≡ false → is_joined b (slice_index (with_blank_comments false bs) 0) ≡ false
 unfolding is_joined
 is_joined-sign b bs no_run no_less no_greater =
-    ap (λ (r : Bool). (r && in_run (slice_index (blanked false bs) 0))
-    || ((b == 60 || b == 62) && slice_index (blanked false bs) 0 == 61)) no_run
+    ap (λ (r : Bool). (r && in_run (slice_index (with_blank_comments false bs) 0))
+    || ((b == 60 || b == 62) && slice_index (with_blank_comments false bs) 0 == 61)) no_run
     ∙ ap (λ (t : Bool). (b == 60 || b == 62) && t) (next-blanked bs)
     ∙ or_and (b == 60) (b == 62) (slice_index bs 0 == 61) no_less no_greater
 
@@ -352,53 +364,57 @@ sign_len-fits b bs g e = fits_by b bs g (sign_cases b (slice_index bs 0) g e)
 
 module _ (n below : ℕ) where
   begun_at-sign : (before : List Kind) (b : ℕ) (bs : List ℕ) (o : Option Sign) → in_run b ≡ false
-      → sign_from b (slice_index bs 0) ≡ o → begun_at n below before (b ∷ bs) (b ∷ blanked false bs) ≡ sign_found n o
+      → sign_from b (slice_index bs 0) ≡ o → begun_at n below before (b ∷ bs) (b ∷ with_blank_comments false bs)
+      ≡ sign_found n o
   unfolding begun_at
   begun_at-sign before b bs o no_run e =
       ap (λ (t : Bool). elim t [
         | true ↦ run_found n below before
-            (drop (length (take_while in_run (b ∷ blanked false bs))) (b ∷ bs))
-            (take_while in_run (b ∷ blanked false bs))
-        | false ↦ sign_found n (sign_from b (slice_index (b ∷ blanked false bs) 1))
+            (drop (length (take_while in_run (b ∷ with_blank_comments false bs))) (b ∷ bs))
+            (take_while in_run (b ∷ with_blank_comments false bs))
+        | false ↦ sign_found n (sign_from b (slice_index (b ∷ with_blank_comments false bs) 1))
       ]) no_run
       ∙ ap (λ (s : Option Sign). sign_found n s)
-      (sign_from-next b (slice_index (blanked false bs) 0) (slice_index bs 0) (next-blanked bs) ∙ e)
+      (sign_from-next b (slice_index (with_blank_comments false bs) 0) (slice_index bs 0) (next-blanked bs) ∙ e)
 
   first_byte : (before : List Kind) (b : ℕ) (bs : List ℕ) (g : Sign) → begins_comment (b ∷ bs) ≡ false
       → in_run b ≡ false → sign_from b (slice_index bs 0) ≡ Some g → is_some (one_byte_sign b) ≡ true
       → found_in_line n below before (b ∷ bs)
-      ≡ word (on_line n (sign g)) ∷ found_from_place n below (sign g ∷ before) b bs (blanked false bs)
+      ≡ word (on_line n (sign g)) ∷ found_from_place n below (sign g ∷ before) b bs (with_blank_comments false bs)
   first_byte before b bs g no_comment no_run e some =
       ap (λ (plain : List ℕ). found_from_place n below before 32 (b ∷ bs) plain) (blanked-plain b bs no_comment)
-      ∙ from-here n below before 32 b bs b (blanked false bs) (word (on_line n (sign g)) ∷ [])
-      (found_at-begun n below before 32 b bs b (blanked false bs) (is_stray-sign b some) (joined-blank b)
+      ∙ from-here n below before 32 b bs b (with_blank_comments false bs) (word (on_line n (sign g)) ∷ [])
+      (found_at-begun n below before 32 b bs b (with_blank_comments false bs) (is_stray-sign b some) (joined-blank b)
       ∙ begun_at-sign before b bs (Some g) no_run e)
 
   second_byte : (before : List Kind) (last : ℕ) (cs : List ℕ) → is_joined last 61 ≡ true
-      → found_from_place n below before last (61 ∷ cs) (blanked false (61 ∷ cs)) ≡ found_in_line n below before cs
+      → found_from_place n below before last (61 ∷ cs) (with_blank_comments false (61 ∷ cs))
+      ≡ found_in_line n below before cs
   second_byte before last cs joined =
       ap (λ (plain : List ℕ). found_from_place n below before last (61 ∷ cs) plain)
       (blanked-plain 61 cs (begins_comment-other 61 cs refl))
-      ∙ from-here n below before last 61 cs 61 (blanked false cs) []
-      (found_at-joined n below before last 61 cs 61 (blanked false cs) is_stray-equal joined)
-      ∙ fresh n below before 61 cs (blanked false cs) (is_joined-equal (slice_index (blanked false cs) 0))
+      ∙ from-here n below before last 61 cs 61 (with_blank_comments false cs) []
+      (found_at-joined n below before last 61 cs 61 (with_blank_comments false cs) is_stray-equal joined)
+      ∙ fresh n below before 61 cs (with_blank_comments false cs)
+      (is_joined-equal (slice_index (with_blank_comments false cs) 0))
 
   behind_two : (before : List Kind) (b : ℕ) (bs : List ℕ) (g : Sign) → is_joined b 61 ≡ true → sign_len g ≡ 2
       → (slice_index bs 0 == 61) ≡ true
-      → found_from_place n below before b bs (blanked false bs)
+      → found_from_place n below before b bs (with_blank_comments false bs)
       ≡ found_in_line n below before (drop (sign_len g) (b ∷ bs))
   behind_two before b [] g joined two equal = absurd cc
   behind_two before b (c ∷ cs) g joined two equal =
-      ap (λ (x : ℕ). found_from_place n below before b (x ∷ cs) (blanked false (x ∷ cs))) (eqb-same c 61 equal)
+      ap (λ (x : ℕ). found_from_place n below before b (x ∷ cs) (with_blank_comments false (x ∷ cs)))
+      (eqb-same c 61 equal)
       ∙ second_byte before b cs joined
       ∙ ap (λ (k : ℕ). found_in_line n below before (drop k (b ∷ c ∷ cs))) (sym two)
 
   behind_sign : (before : List Kind) (b : ℕ) (bs : List ℕ) (g : Sign) → in_run b ≡ false
       → SignCase b (slice_index bs 0) g
-      → found_from_place n below before b bs (blanked false bs)
+      → found_from_place n below before b bs (with_blank_comments false bs)
       ≡ found_in_line n below before (drop (sign_len g) (b ∷ bs))
   behind_sign before b bs g no_run (inl one) =
-      fresh n below before b bs (blanked false bs) (is_joined-sign b bs no_run one.1 one.2)
+      fresh n below before b bs (with_blank_comments false bs) (is_joined-sign b bs no_run one.1 one.2)
       ∙ ap (λ (k : ℕ). found_in_line n below before (drop k (b ∷ bs))) (sym (sign_len-one b g one.0))
   behind_sign before b bs g no_run (inr (inl less, equal)) =
       behind_two before b bs g (ap (λ (x : ℕ). is_joined x 61) less.0 ∙ is_joined-less) (ap sign_len less.1) equal
@@ -421,7 +437,7 @@ module _ (n below : ℕ) where
   unfolding found_at
   found_at-stray before last b bs p ps stray =
       ap (λ (t : Bool). first_breach
-      (broken StrayByte n t ++ (elim (is_joined last p)
+      (breach_if StrayByte n t ++ (elim (is_joined last p)
       [ true ↦ [] | false ↦ begun_at n below before (b ∷ bs) (p ∷ ps) ]))) stray
 
   pub place-stray : (before : List Kind) (last b : ℕ) (bs : List ℕ) (p : ℕ) (ps : List ℕ) → is_stray b p ≡ true
@@ -439,5 +455,5 @@ module _ (n below : ℕ) where
   found-stray before b bs no_comment no_run no_blank none =
       ap (λ (plain : List ℕ). first_breach (found_from_place n below before 32 (b ∷ bs) plain))
       (blanked-plain b bs no_comment)
-      ∙ place-stray before 32 b bs b (blanked false bs)
+      ∙ place-stray before 32 b bs b (with_blank_comments false bs)
       (is_stray-other b no_run no_blank (one_byte_sign-none b (slice_index bs 0) none))

@@ -13,8 +13,8 @@ use Rattle.ss_words.specs.declared.fault.TextFault.{TextFault}
 use Rattle.ss_words.specs.declared.fault.TextFault.TheVariants.{Refused, Memory}
 use Rattle.ss_words.specs.Words.{Kind, WordAt}
 use Rattle.ss_words.specs.TextBytes.{is_allowed}
-use Rattle.ss_words.specs.TextLines.{blanked, text_lines}
-use Rattle.ss_words.specs.TextWords.{Finding, word, breach, words_in, breaches_in, nearest_first, broken, found_at}
+use Rattle.ss_words.specs.TextLines.{with_blank_comments, text_lines}
+use Rattle.ss_words.specs.TextWords.{Finding, word, breach, words_in, breaches_in, nearest_first, breach_if, found_at}
 use Rattle.ss_words.specs.TextWords.{found_from_place, found_in_line, picture_byte, picture_head, found_in_picture}
 use Rattle.ss_words.specs.TextWords.{picture_size, picture_found, found_from_line, found_in_text, answer_of, words_of}
 use Rattle.ss_words.specs.TextOrder.{rule_number, rule_numbers, is_rising}
@@ -87,8 +87,9 @@ joined-line before n zero (l ∷ ls) =
     let drawn = picture_found (picture_size now) (n + 1) ls in
     let next = breaches_from_line (nearest_first drawn now) (n + 1) (picture_size now) ls in
     let rest = found_from_line (nearest_first drawn now) (n + 1) (picture_size now) ls in
-    joined-append (breaches_from_place n (length ls) before BLANK l (blanked false l)) next
-    ∙ ap (λ (x : List TextFault). x ++ joined next) (joined-place n (length ls) before BLANK l (blanked false l))
+    joined-append (breaches_from_place n (length ls) before BLANK l (with_blank_comments false l)) next
+    ∙ ap (λ (x : List TextFault). x ++ joined next)
+    (joined-place n (length ls) before BLANK l (with_blank_comments false l))
     ∙ ap (λ (x : List TextFault). breaches_in here ++ x)
     (joined-line (nearest_first drawn now) (n + 1) (picture_size now) ls)
     ∙ ap (λ (x : List TextFault). breaches_in here ++ x) (sym (drawn-none (picture_size now) (n + 1) ls rest))
@@ -100,16 +101,16 @@ joined-text text = joined-line [] 1 0 (text_lines text)
 
 -- ---- the places are the bytes of the lines
 
-length-blanked : (inside : Bool) (line : List ℕ) → length (blanked inside line) ≡ length line
-unfolding blanked
+length-blanked : (inside : Bool) (line : List ℕ) → length (with_blank_comments inside line) ≡ length line
+unfolding with_blank_comments
 length-blanked inside [] = refl
 length-blanked inside (b ∷ []) = refl
 length-blanked inside (b ∷ c ∷ bs) =
     elim (b == QUOTE && c == QUOTE) as
     (λ t. length {A = ℕ} (elim t [
-      | true ↦ BLANK ∷ BLANK ∷ blanked (not inside) bs
+      | true ↦ BLANK ∷ BLANK ∷ with_blank_comments (not inside) bs
       | false ↦ cond inside BLANK b
-          ∷ blanked inside (c ∷ bs)
+          ∷ with_blank_comments inside (c ∷ bs)
     ]) ≡ suc (suc (length bs))) [
       | true ↦ (let more = length-blanked (not inside) bs in omega (arith, more))
       | false ↦ (let more = length-blanked inside (c ∷ bs) in omega (arith, more))
@@ -143,9 +144,9 @@ length-line before n zero (l ∷ ls) =
     let now = nearest_first (found_in_line n (length ls) before l) before in
     let drawn = picture_found (picture_size now) (n + 1) ls in
     let next = breaches_from_line (nearest_first drawn now) (n + 1) (picture_size now) ls in
-    length-append (breaches_from_place n (length ls) before BLANK l (blanked false l)) next
+    length-append (breaches_from_place n (length ls) before BLANK l (with_blank_comments false l)) next
     ∙ ap (λ (x : ℕ). x + length next)
-    (length-place n (length ls) before BLANK l (blanked false l) (length-blanked false l))
+    (length-place n (length ls) before BLANK l (with_blank_comments false l) (length-blanked false l))
     ∙ ap (λ (x : ℕ). length l + x) (length-line (nearest_first drawn now) (n + 1) (picture_size now) ls)
     ∙ sym (sum_by-cons length l ls)
 
@@ -188,7 +189,7 @@ rises-place n below before last (b ∷ bs) (p ∷ ps) =
       rises-place n below (nearest_first here before) p bs ps,
     )
 
-rises-byte : (n : ℕ) (stray : Bool) → Rises 0 (breaches_in (broken StrayByte n stray))
+rises-byte : (n : ℕ) (stray : Bool) → Rises 0 (breaches_in (breach_if StrayByte n stray))
 rises-byte n true = (omega arith, tt)
 rises-byte n false = tt
 
@@ -209,7 +210,7 @@ rises-line before n (suc k) (l ∷ ls) = rises-append _ _ (rises-picture n l) (r
 rises-line before n zero (l ∷ ls) =
     let now = nearest_first (found_in_line n (length ls) before l) before in
     let drawn = picture_found (picture_size now) (n + 1) ls in
-    rises-append _ _ (rises-place n (length ls) before BLANK l (blanked false l))
+    rises-append _ _ (rises-place n (length ls) before BLANK l (with_blank_comments false l))
     (rises-line (nearest_first drawn now) (n + 1) (picture_size now) ls)
 
 rises-text : (text : List ℕ) → EachRises (breaches_by_place text)

@@ -8,8 +8,8 @@ use Rattle.ss_words.specs.declared.fault.TextRule.TheVariants.{BadNumber, LongRu
 use Rattle.ss_words.specs.declared.fault.TextFault.TheVariants.{Refused}
 use Rattle.ss_words.specs.Words.{Kind, WordAt, name, number}
 use Rattle.ss_words.specs.TextRuns.{has_letter, without_stops, is_bad_number, number_of, word_of_run, lacks_picture}
-use Rattle.ss_words.specs.TextSpelling.{spelling_of, spelled}
-use Rattle.ss_words.specs.TextWords.{word, broken, on_line, word_found, run_found}
+use Rattle.ss_words.specs.TextSpelling.{spelling_of, spelled_word}
+use Rattle.ss_words.specs.TextWords.{word, breach_if, on_line, word_found, run_found}
 use Rattle.ss_words.specs.TextScan.{nearest, SameFindings, first_breach}
 use Rattle.ss_words.proofs.TextFinds.{nearest-push}
 use Rattle.ss_words.proofs.TextSteps.{goes-word}
@@ -30,9 +30,9 @@ pub is_bad_number-none : (run : List ℕ) → spelling_of run ≡ None → is_ba
 is_bad_number-none run e = bad_if (is_bad_number run) (cond (has_letter run) Name (Number (number_of run))) e
 
 which : (letter : Bool) (run : List ℕ) (s : Spelling) → cond letter Name (Number (number_of run)) ≡ s
-    → cond letter (name (map to_ascii_uppercase run)) (number (number_of run)) ≡ spelled run s
-which true run s e = ap (spelled run) e
-which false run s e = ap (spelled run) e
+    → cond letter (name (map to_ascii_uppercase run)) (number (number_of run)) ≡ spelled_word run s
+which true run s e = ap (spelled_word run) e
+which false run s e = ap (spelled_word run) e
 
 only : (bad : Bool) (g s : Spelling) → cond bad None (Some g) ≡ Some s → g ≡ s
 only true g s e = absurd cc
@@ -40,7 +40,7 @@ only false g s e = cc
 
 -- the word that a run spells is its word
 pub word_of_run-spelled : (run : List ℕ) (s : Spelling) → 0 < length run → spelling_of run ≡ Some s
-    → word_of_run run ≡ Some (spelled run s)
+    → word_of_run run ≡ Some (spelled_word run s)
 unfolding word_of_run
 word_of_run-spelled [] s some e = absurd (omega arith)
 word_of_run-spelled (b ∷ bs) s some e =
@@ -60,7 +60,7 @@ module _ (n below : ℕ) (before : List Kind) (rest run : List ℕ) where
   unfolding run_found
   first-bad bad =
       ap (λ (t : Bool). first_breach
-      (broken BadNumber n t ++ broken LongRun n (nat_lt 80 (length run))
+      (breach_if BadNumber n t ++ breach_if LongRun n (nat_lt 80 (length run))
       ++ word_found n below before rest (word_of_run (without_stops run)))) bad
 
   -- a long run that is no bad number
@@ -69,19 +69,20 @@ module _ (n below : ℕ) (before : List Kind) (rest run : List ℕ) where
   unfolding run_found
   first-long good long =
       ap (λ (t : Bool). first_breach
-      (broken BadNumber n t ++ broken LongRun n (nat_lt 80 (length run))
+      (breach_if BadNumber n t ++ breach_if LongRun n (nat_lt 80 (length run))
       ++ word_found n below before rest (word_of_run (without_stops run)))) good
       ∙ ap (λ (t : Bool). first_breach
-      (broken LongRun n t ++ word_found n below before rest (word_of_run (without_stops run)))) long
+      (breach_if LongRun n t ++ word_found n below before rest (word_of_run (without_stops run)))) long
 
   -- a run that breaks neither rule
   pub run_found-word : (o : Option Kind) → is_bad_number (without_stops run) ≡ false → nat_lt 80 (length run) ≡ false
       → word_of_run (without_stops run) ≡ o → run_found n below before rest run ≡ word_found n below before rest o
   unfolding run_found
   run_found-word o good short e =
-      ap (λ (t : Bool). broken BadNumber n t ++ broken LongRun n (nat_lt 80 (length run))
+      ap (λ (t : Bool). breach_if BadNumber n t ++ breach_if LongRun n (nat_lt 80 (length run))
       ++ word_found n below before rest (word_of_run (without_stops run))) good
-      ∙ ap (λ (t : Bool). broken LongRun n t ++ word_found n below before rest (word_of_run (without_stops run))) short
+      ∙ ap (λ (t : Bool). breach_if LongRun n t
+      ++ word_found n below before rest (word_of_run (without_stops run))) short
       ∙ ap (λ (k : Option Kind). word_found n below before rest k) e
 
 -- a line of number n with so many lines below it
@@ -95,10 +96,10 @@ module _ (n below : ℕ) (rest : List ℕ) (old new : List WordAt) (kind : Kind)
         → SameFindings old (word_found n below (nearest old) rest (Some kind)) new []
     goes-kept there =
         goes-word (λ _. []) old (on_line n kind) new (word_found n below (nearest old) rest (Some kind))
-        (ap (λ (t : Bool). broken NoPicture n t ++ word (on_line n kind) ∷ []) (sym lacks ∙ there)) is
+        (ap (λ (t : Bool). breach_if NoPicture n t ++ word (on_line n kind) ∷ []) (sym lacks ∙ there)) is
 
     -- a word whose picture is not there
     pub first-lacking : lacks_picture (nearest new) rest below ≡ true
         → first_breach (word_found n below (nearest old) rest (Some kind)) ≡ Some (Refused NoPicture n)
     first-lacking missing =
-        ap (λ (t : Bool). first_breach (broken NoPicture n t ++ word (on_line n kind) ∷ [])) (sym lacks ∙ missing)
+        ap (λ (t : Bool). first_breach (breach_if NoPicture n t ++ word (on_line n kind) ∷ [])) (sym lacks ∙ missing)

@@ -1,7 +1,8 @@
 -- Definitions that laws and functions unfold together: those of a text's words, and the steps of a cursor.
 use Rattle.std.specs.Prelude.{⊤}
 use Rattle.ss_words.specs.TextBytes.{is_allowed, is_blank, in_run, one_byte_sign, sign_from, is_joined, is_stray}
-use Rattle.ss_words.specs.TextLines.{without_return, without_empty_last, text_lines, blanked, comments, is_bare}
+use Rattle.ss_words.specs.TextLines.{without_return, without_empty_last, text_lines, with_blank_comments, comment_count}
+use Rattle.ss_words.specs.TextLines.{is_blank_rest}
 use Rattle.ss_words.specs.TextRuns.{without_stops, number_of, is_bad_number, word_of_run, is_name, calls_picture}
 use Rattle.ss_words.specs.TextRuns.{behind_print, line_count, lacks_picture}
 use Rattle.ss_words.specs.TextWords.{run_found, begun_at, found_at, found_from_place, found_in_picture, picture_size}
@@ -17,7 +18,7 @@ bytes_together = tt
 
 -- lines and their comments
 unfoldable pub lines_together : ⊤
-unfolding without_return without_empty_last text_lines blanked comments is_bare
+unfolding without_return without_empty_last text_lines with_blank_comments comment_count is_blank_rest
 lines_together = tt
 
 -- runs

@@ -32,20 +32,20 @@ plain_of (c.Mark m) = mark m
 plain_of (c.Picture ls) = picture (map (λ l. l.items) ls.now)
 
 -- a word of the text, where a name is none of the reserved ones
-abbrev pub unreserved : Kind → Plain
-unreserved (w.name n) = name n
-unreserved (w.number n) = number n
-unreserved (w.sign s) = mark (Sign s)
-unreserved (w.picture ls) = picture ls
+abbrev pub unreserved_word : Kind → Plain
+unreserved_word (w.name n) = name n
+unreserved_word (w.number n) = number n
+unreserved_word (w.sign s) = mark (Sign s)
+unreserved_word (w.picture ls) = picture ls
 
 -- the same where the word is this reserved word or sign, if it is one
-abbrev pub meant : Option Mark → Kind → Plain
-meant None k = unreserved k
-meant (Some m) k = mark m
+abbrev pub mark_or_word : Option Mark → Kind → Plain
+mark_or_word None k = unreserved_word k
+mark_or_word (Some m) k = mark m
 
 -- a plain word of a list of the code
 abbrev pub plain_in : PlainWord → Plain
-plain_in a = meant a.mark (kind_of a.word.now.kind)
+plain_in a = mark_or_word a.mark (kind_of a.word.now.kind)
 
 -- the same with its line and place
 abbrev pub plain_at : PlainWord → PlainAt

@@ -5,7 +5,7 @@ use Rattle.ss_words.specs.declared.characters.TheConstants.{BLANK}
 use Rattle.ss_words.specs.declared.word.Sign.TheVariants as s
 use Rattle.ss_words.specs.Words.{Kind, WordAt, name, sign}
 use Rattle.ss_words.specs.Plain.{plains}
-use Rattle.ss_words.specs.PlainRules.{spelled, plain_words_of}
+use Rattle.ss_words.specs.PlainRules.{unruled_words, plain_words_of}
 
 -- the pieces of a text between its blanks
 abbrev pub pieces : List ℕ → List (List ℕ)
@@ -27,10 +27,10 @@ words_on line text = map (λ p. record { line = line; kind = kind_of_piece p }) 
 
 -- the plain words of the first text are the words of the second one, each taken for itself
 abbrev pub Becomes : List ℕ → List ℕ → Type 0
-Becomes from to = plains (plain_words_of (words_on 1 from)) ≡ plains (spelled (words_on 1 to))
+Becomes from to = plains (plain_words_of (words_on 1 from)) ≡ plains (unruled_words (words_on 1 to))
 
 -- the same for each of these words, where it stands before the two texts
 abbrev pub BecomeBehind : List ℕ → List ℕ → List ℕ → Type 0
 BecomeBehind heads from to =
     map (λ h. plains (plain_words_of (words_on 1 (h ++ from)))) (pieces heads)
-    ≡ map (λ h. plains (spelled (words_on 1 (h ++ to)))) (pieces heads)
+    ≡ map (λ h. plains (unruled_words (words_on 1 (h ++ to)))) (pieces heads)

@@ -52,8 +52,8 @@ is_governing (Some (Reserved r.Skip)) = true
 is_governing _ = false
 
 -- the word that governs what stands behind these words, the nearest of them first
-abbrev pub governing : List Plain → Option Mark
-governing ws = option_and_then mark_in (find (λ w. is_governing (mark_in w)) ws)
+abbrev pub governing_word : List Plain → Option Mark
+governing_word ws = option_and_then mark_in (find (λ w. is_governing (mark_in w)) ws)
 
 -- what stands round a word, each where it is a reserved word or a sign: what is directly before it, its governing word,
 -- and what is directly behind it
@@ -67,7 +67,8 @@ pub record Surroundings : Type 0 where
 
 -- what stands round a word between these; the words before it go backwards
 abbrev pub surroundings : List Plain → List Plain → Surroundings
-surroundings before behind = record { before = beside before; governing = governing before; behind = beside behind }
+surroundings before behind =
+    record { before = beside before; governing = governing_word before; behind = beside behind }
 
 -- what a rule makes of a reserved word or sign among its surroundings, and none where it drops it
 abbrev pub PlainRule : Type 0
@@ -113,38 +114,39 @@ is_reserved _ = false
 
 -- AS FOLLOWS is THUS, in the place of AS
 abbrev pub as_follows : PlainRule
-as_follows a (Reserved r.As) = Some (Reserved (if is_follows a.behind then r.Thus else r.As))
-as_follows a (Reserved r.Follows) = if is_as a.before then None else Some (Reserved r.Follows)
-as_follows a m = Some m
+as_follows around (Reserved r.As) = Some (Reserved (if is_follows around.behind then r.Thus else r.As))
+as_follows around (Reserved r.Follows) = if is_as around.before then None else Some (Reserved r.Follows)
+as_follows around m = Some m
 
 -- directly behind SCHEDULE, A and AN are A, THE and THIS are THE; elsewhere these four are dropped, and everywhere MAY,
 -- OUTPUT, and TO or FOR directly behind ROUTINE
 abbrev pub without_fillers : PlainRule
-without_fillers a (Reserved r.A) = if is_schedule a.before then Some (Reserved r.A) else None
-without_fillers a (Reserved r.An) = if is_schedule a.before then Some (Reserved r.A) else None
-without_fillers a (Reserved r.The) = if is_schedule a.before then Some (Reserved r.The) else None
-without_fillers a (Reserved r.This) = if is_schedule a.before then Some (Reserved r.The) else None
-without_fillers a (Reserved r.May) = None
-without_fillers a (Reserved r.Output) = None
-without_fillers a (Reserved r.To) = if is_routine a.before then None else Some (Reserved r.To)
-without_fillers a (Reserved r.For) = if is_routine a.before then None else Some (Reserved r.For)
-without_fillers a m = Some m
+without_fillers around (Reserved r.A) = if is_schedule around.before then Some (Reserved r.A) else None
+without_fillers around (Reserved r.An) = if is_schedule around.before then Some (Reserved r.A) else None
+without_fillers around (Reserved r.The) = if is_schedule around.before then Some (Reserved r.The) else None
+without_fillers around (Reserved r.This) = if is_schedule around.before then Some (Reserved r.The) else None
+without_fillers around (Reserved r.May) = None
+without_fillers around (Reserved r.Output) = None
+without_fillers around (Reserved r.To) = if is_routine around.before then None else Some (Reserved r.To)
+without_fillers around (Reserved r.For) = if is_routine around.before then None else Some (Reserved r.For)
+without_fillers around m = Some m
 
 -- AND is a comma unless IF or FOR governs it; AT is IN unless SCHEDULE governs it
-abbrev pub governed : PlainRule
-governed a (Reserved r.And) = Some (if is_if_or_for a.governing then Reserved r.And else Sign s.Comma)
-governed a (Reserved r.At) = Some (Reserved (if is_schedule a.governing then r.At else r.In))
-governed a m = Some m
+abbrev pub by_governing_word : PlainRule
+by_governing_word around (Reserved r.And) =
+    Some (if is_if_or_for around.governing then Reserved r.And else Sign s.Comma)
+by_governing_word around (Reserved r.At) = Some (Reserved (if is_schedule around.governing then r.At else r.In))
+by_governing_word around m = Some m
 
 -- of commas that stand together the first one stays
 abbrev pub single_commas : PlainRule
-single_commas a (Sign s.Comma) = if is_comma a.before then None else Some (Sign s.Comma)
-single_commas a m = Some m
+single_commas around (Sign s.Comma) = if is_comma around.before then None else Some (Sign s.Comma)
+single_commas around m = Some m
 
 -- a comma directly before a reserved word is dropped
 abbrev pub parting_commas : PlainRule
-parting_commas a (Sign s.Comma) = if is_reserved a.behind then None else Some (Sign s.Comma)
-parting_commas a m = Some m
+parting_commas around (Sign s.Comma) = if is_reserved around.behind then None else Some (Sign s.Comma)
+parting_commas around m = Some m
 
 -- ---- a rule over a whole list
 
@@ -168,13 +170,13 @@ follow rule ws = follow_behind rule [] ws
 -- ---- the plain words
 
 -- a name that is reserved is the mark that its spelling means
-abbrev pub named : List ℕ → Option Mark → Plain
-named n None = name n
-named n (Some m) = mark m
+abbrev pub name_or_mark : List ℕ → Option Mark → Plain
+name_or_mark n None = name n
+name_or_mark n (Some m) = mark m
 
 -- a word of the text as a plain word, before the rules
 abbrev pub plain_kind : Kind → Plain
-plain_kind (w.name n) = named n (mark_of n)
+plain_kind (w.name n) = name_or_mark n (mark_of n)
 plain_kind (w.number n) = number n
 plain_kind (w.sign s) = mark (Sign s)
 plain_kind (w.picture ls) = picture ls
@@ -184,12 +186,12 @@ abbrev pub plain_from : ℕ → WordAt → PlainAt
 plain_from i w = record { line = w.line; index = i; word = plain_kind w.kind }
 
 -- each word of the text as a plain word
-abbrev pub spelled : List WordAt → List PlainAt
-spelled ws = map (λ e. plain_from e.0 e.1) (enumerate_from 0 ws)
+abbrev pub unruled_words : List WordAt → List PlainAt
+unruled_words ws = map (λ e. plain_from e.0 e.1) (enumerate_from 0 ws)
 
 -- each word as a plain word, and then each rule over the list that the one before it gives
 abbrev pub plain_words_of : List WordAt → List PlainAt
 plain_words_of ws =
-    let thus = follow as_follows (spelled ws) in
+    let thus = follow as_follows (unruled_words ws) in
     let bare = follow without_fillers thus in
-    follow parting_commas (follow single_commas (follow governed bare))
+    follow parting_commas (follow single_commas (follow by_governing_word bare))

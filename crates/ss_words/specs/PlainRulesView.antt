@@ -2,7 +2,8 @@
 use Rattle.ss_words.specs.declared.plain_rules.Around.{Around}
 use Rattle.ss_words.specs.declared.plain_rules.Rule.{Rule}
 use Rattle.ss_words.specs.declared.plain_rules.Rule.TheVariants as code
-use Rattle.ss_words.specs.PlainRules.{Surroundings, PlainRule, as_follows, without_fillers, governed, single_commas}
+use Rattle.ss_words.specs.PlainRules.{Surroundings, PlainRule, as_follows, without_fillers, by_governing_word}
+use Rattle.ss_words.specs.PlainRules.{single_commas}
 use Rattle.ss_words.specs.PlainRules.{parting_commas}
 
 -- what stands round a word, as the code keeps it
@@ -13,6 +14,6 @@ surroundings_of a = record { before = a.before; governing = a.governing; behind 
 abbrev pub rule_of : Rule → PlainRule
 rule_of code.AsFollows = as_follows
 rule_of code.WithoutFillers = without_fillers
-rule_of code.Governed = governed
+rule_of code.ByGoverningWord = by_governing_word
 rule_of code.SingleCommas = single_commas
 rule_of code.PartingCommas = parting_commas

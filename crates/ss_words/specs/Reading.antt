@@ -60,12 +60,12 @@ unfoldable pub many : {A B : Type 0} → Reading (Option A) → B → (A → B �
 many item none one = λ ws. many_from item none one (suc (length ws)) ws
 
 -- refuses the next word, if there is one
-unfoldable pub ended : Reading (Unit {0})
-ended = look (λ w. elim w [ Some v ↦ refuse Unexpected | None ↦ pure tt ])
+unfoldable pub end_of_words : Reading (Unit {0})
+end_of_words = look (λ w. elim w [ Some v ↦ refuse Unexpected | None ↦ pure tt ])
 
 -- what p reads and nothing else
 unfoldable pub whole : {A : Type 0} → Reading A → Reading A
-whole p = p >>= λ a. ended >>= λ _. pure a
+whole p = p >>= λ a. end_of_words >>= λ _. pure a
 
 -- all items before what stands behind them
 abbrev pub prepend : {A B : Type 0} → (A → B → B) → List A → B → B

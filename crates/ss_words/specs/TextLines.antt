@@ -22,23 +22,23 @@ unfoldable pub text_lines : List ℕ → List (List ℕ)
 text_lines text = without_empty_last (map without_return (slice_split (λ b. b == LINE_FEED) text))
 
 -- a line with its comments made blank, where two quotes begin or end one; it begins inside one or not
-unfoldable pub blanked : Bool → List ℕ → List ℕ
-blanked inside [] = []
-blanked inside (b ∷ []) = (if inside then BLANK else b) ∷ []
-blanked inside (b ∷ c ∷ bs) = elim (b == QUOTE && c == QUOTE) [
-  | true ↦ BLANK ∷ BLANK ∷ blanked (not inside) bs
-  | false ↦ (if inside then BLANK else b) ∷ blanked inside (c ∷ bs)
+unfoldable pub with_blank_comments : Bool → List ℕ → List ℕ
+with_blank_comments inside [] = []
+with_blank_comments inside (b ∷ []) = (if inside then BLANK else b) ∷ []
+with_blank_comments inside (b ∷ c ∷ bs) = elim (b == QUOTE && c == QUOTE) [
+  | true ↦ BLANK ∷ BLANK ∷ with_blank_comments (not inside) bs
+  | false ↦ (if inside then BLANK else b) ∷ with_blank_comments inside (c ∷ bs)
 ]
 
 -- how many comments begin in a line
-unfoldable pub comments : Bool → List ℕ → ℕ
-comments inside [] = 0
-comments inside (b ∷ []) = 0
-comments inside (b ∷ c ∷ bs) = elim (b == QUOTE && c == QUOTE) [
-  | true ↦ (if inside then 0 else 1) + comments (not inside) bs
-  | false ↦ comments inside (c ∷ bs)
+unfoldable pub comment_count : Bool → List ℕ → ℕ
+comment_count inside [] = 0
+comment_count inside (b ∷ []) = 0
+comment_count inside (b ∷ c ∷ bs) = elim (b == QUOTE && c == QUOTE) [
+  | true ↦ (if inside then 0 else 1) + comment_count (not inside) bs
+  | false ↦ comment_count inside (c ∷ bs)
 ]
 
 -- only blanks, tabs and at most one comment
-unfoldable pub is_bare : List ℕ → Bool
-is_bare rest = list_all is_blank (blanked false rest) && nat_le (comments false rest) 1
+unfoldable pub is_blank_rest : List ℕ → Bool
+is_blank_rest rest = list_all is_blank (with_blank_comments false rest) && nat_le (comment_count false rest) 1

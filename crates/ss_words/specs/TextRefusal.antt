@@ -7,7 +7,7 @@ use Rattle.ss_words.specs.declared.fault.TextRule.{TextRule}
 use Rattle.ss_words.specs.declared.fault.TextFault.{TextFault}
 use Rattle.ss_words.specs.declared.fault.TextFault.TheVariants.{Refused}
 use Rattle.ss_words.specs.Words.{Kind, WordAt}
-use Rattle.ss_words.specs.TextLines.{blanked, text_lines}
+use Rattle.ss_words.specs.TextLines.{with_blank_comments, text_lines}
 use Rattle.ss_words.specs.TextWords.{breaches_in, nearest_first, found_at, found_in_line, picture_byte, picture_head}
 use Rattle.ss_words.specs.TextWords.{picture_size, picture_found, words_of}
 use Rattle.ss_words.specs.TextOrder.{rule_number}
@@ -35,7 +35,7 @@ breaches_from_line before n (suc k) (l ∷ ls) = breaches_in_picture n l ++ brea
 breaches_from_line before n zero (l ∷ ls) =
     let now = nearest_first (found_in_line n (length ls) before l) before in
     let drawn = picture_found (picture_size now) (n + 1) ls in
-    breaches_from_place n (length ls) before BLANK l (blanked false l)
+    breaches_from_place n (length ls) before BLANK l (with_blank_comments false l)
     ++ breaches_from_line (nearest_first drawn now) (n + 1) (picture_size now) ls
 
 -- the breaches at each place of a text

@@ -6,7 +6,7 @@ use Rattle.std.specs.Char.{is_ascii_alphabetic, to_ascii_uppercase}
 use Rattle.ss_words.specs.declared.limits.TheConstants.{LARGEST_NUMBER, MOST_PICTURE_LINES}
 use Rattle.ss_words.specs.declared.characters.TheConstants.{STOP, ZERO}
 use Rattle.ss_words.specs.Words.{Kind, name, number, sign, picture}
-use Rattle.ss_words.specs.TextLines.{is_bare}
+use Rattle.ss_words.specs.TextLines.{is_blank_rest}
 
 -- a run without the stops at its end
 unfoldable pub without_stops : List ℕ → List ℕ
@@ -72,4 +72,4 @@ is_met (Some n) below = nat_le n below
 
 -- the words call a picture, and it is not there: the rest of the line is not bare, no count is said, or lines lack
 unfoldable pub lacks_picture : List Kind → List ℕ → ℕ → Bool
-lacks_picture words rest below = calls_picture words && not (is_bare rest && is_met (picture_lines words) below)
+lacks_picture words rest below = calls_picture words && not (is_blank_rest rest && is_met (picture_lines words) below)

@@ -11,6 +11,6 @@ abbrev pub spelling_of : List ℕ → Option Spelling
 spelling_of run = if is_bad_number run then None else Some (if has_letter run then Name else Number (number_of run))
 
 -- the word of a run
-abbrev pub spelled : List ℕ → Spelling → Kind
-spelled run Name = name (map to_ascii_uppercase run)
-spelled run (Number n) = number n
+abbrev pub spelled_word : List ℕ → Spelling → Kind
+spelled_word run Name = name (map to_ascii_uppercase run)
+spelled_word run (Number n) = number n

@@ -12,7 +12,7 @@ use Rattle.ss_words.specs.declared.fault.TextFault.{TextFault}
 use Rattle.ss_words.specs.declared.fault.TextFault.TheVariants.{Refused, Memory}
 use Rattle.ss_words.specs.Words.{Kind, sign, picture, WordAt}
 use Rattle.ss_words.specs.TextBytes.{in_run, is_allowed, is_joined, is_stray, sign_from}
-use Rattle.ss_words.specs.TextLines.{blanked, text_lines}
+use Rattle.ss_words.specs.TextLines.{with_blank_comments, text_lines}
 use Rattle.ss_words.specs.TextRuns.{without_stops, is_bad_number, word_of_run, calls_picture, picture_lines}
 use Rattle.ss_words.specs.TextRuns.{lacks_picture}
 
@@ -23,7 +23,7 @@ pub data Finding : Type 0 where
 
 -- a word on a line
 abbrev pub on_line : ℕ → Kind → WordAt
-on_line n k = record { line = n; kind = k }
+on_line line kind = record { line = line; kind = kind }
 
 -- the words among what is found
 abbrev pub words_in : List Finding → List WordAt
@@ -43,9 +43,9 @@ nearest_first [] before = before
 nearest_first (word w ∷ fs) before = nearest_first fs (w.kind ∷ before)
 nearest_first (breach r n ∷ fs) before = nearest_first fs before
 
--- a rule that is broken or not, at a line
-abbrev pub broken : TextRule → ℕ → Bool → List Finding
-broken r n b = if b then breach r n ∷ [] else []
+-- the breach of a rule at a line, if it is broken
+abbrev pub breach_if : TextRule → ℕ → Bool → List Finding
+breach_if rule line is_broken = if is_broken then breach rule line ∷ [] else []
 
 -- the sign that begins at a place, if one does
 abbrev pub sign_found : ℕ → Option Sign → List Finding
@@ -58,13 +58,13 @@ module _ (n below : ℕ) where
   abbrev pub word_found : List Kind → List ℕ → Option Kind → List Finding
   word_found before rest None = []
   word_found before rest (Some k) =
-      broken NoPicture n (lacks_picture (k ∷ before) rest below) ++ word (on_line n k) ∷ []
+      breach_if NoPicture n (lacks_picture (k ∷ before) rest below) ++ word (on_line n k) ∷ []
 
   -- the rules that a run breaks, the lowest number first, and its word
   unfoldable pub run_found : List Kind → List ℕ → List ℕ → List Finding
   run_found before rest run =
-      broken BadNumber n (is_bad_number (without_stops run))
-      ++ broken LongRun n (nat_lt LONGEST_RUN (length run))
+      breach_if BadNumber n (is_bad_number (without_stops run))
+      ++ breach_if LongRun n (nat_lt LONGEST_RUN (length run))
       ++ word_found before rest (word_of_run (without_stops run))
 
   -- what begins at a place that is not joined to the byte before it; `plain` is the line with comments made blank
@@ -78,7 +78,7 @@ module _ (n below : ℕ) where
   -- what is found at a place, the lowest number first
   unfoldable pub found_at : List Kind → ℕ → List ℕ → List ℕ → List Finding
   found_at before last line plain =
-      broken StrayByte n (is_stray (slice_index line 0) (slice_index plain 0))
+      breach_if StrayByte n (is_stray (slice_index line 0) (slice_index plain 0))
       ++ (elim (is_joined last (slice_index plain 0)) [ true ↦ [] | false ↦ begun_at before line plain ])
 
   -- what is found at each place of a line from one on; `last` is the byte before it
@@ -91,15 +91,15 @@ module _ (n below : ℕ) where
 
   -- what is found in a line outside pictures
   abbrev pub found_in_line : List Kind → List ℕ → List Finding
-  found_in_line before line = found_from_place before BLANK line (blanked false line)
+  found_in_line before line = found_from_place before BLANK line (with_blank_comments false line)
 
 -- a byte of line n of a picture
 abbrev pub picture_byte : ℕ → ℕ → List Finding
-picture_byte n b = broken StrayByte n (not (is_allowed b))
+picture_byte n b = breach_if StrayByte n (not (is_allowed b))
 
 -- what is found at the first byte of line n of a picture, with the bytes behind it, the lowest number first
 abbrev pub picture_head : ℕ → ℕ → List ℕ → List Finding
-picture_head n b bs = picture_byte n b ++ broken LongPictureLine n (nat_lt LONGEST_PICTURE_LINE (length (b ∷ bs)))
+picture_head n b bs = picture_byte n b ++ breach_if LongPictureLine n (nat_lt LONGEST_PICTURE_LINE (length (b ∷ bs)))
 
 -- what is found in line n of a picture
 unfoldable pub found_in_picture : ℕ → List ℕ → List Finding

@@ -16,8 +16,9 @@ use crate::refusal::Refusal;
 use std::alloc::{AllocError, Global};
 use std::marker::Model;
 
-/// The plain words that are still to be read. A call that refuses passes nothing, so the word that
-/// was refused is then the next one.
+/// The plain words that are still to be read. After a refusal the word that was refused is the next
+/// one: a call that reads one word has passed nothing, and one that reads several has passed those
+/// before it.
 #[derive(Drop)]
 pub struct Cursor<'a> {
     alloc: Global,
@@ -153,7 +154,8 @@ impl<'a> Cursor<'a> {
     /// Passes a picture and gives a copy of its lines. `Unexpected` where the next word is no
     /// picture or none is left, `Memory` where the memory for the copy was refused.
     pub fn picture(&mut self) -> Result<Vec<Vec<u8>>, Refusal>
-        ensures exact { Gives (λ v. map (λ l. l.items) v.items) result self.new (marks.a_picture self.old) }
+        ensures exact { Gives (λ v. map (λ l. l.items) v.items) result self.new
+            (marks.a_picture self.old) }
         // Also where memory is refused, of which `exact` says nothing.
         ensures stays { OnErr result (self.new ≡ self.old) }
         ensures shorter { length self.new ≤ length self.old }
@@ -203,7 +205,8 @@ fn is_same(mark: Mark, found: Mark) -> bool
 
 // A copy of these lines.
 fn copied(alloc: Global, lines: &[Vec<u8>]) -> Result<Vec<Vec<u8>>, AllocError>
-    ensures { IfOk result (λ copy. map (λ line. line.items) copy.items ≡ map (λ line. line.items) lines.now) }
+    ensures { IfOk result
+        (λ copy. map (λ line. line.items) copy.items ≡ map (λ line. line.items) lines.now) }
 {
     let mut copy = Vec::with_capacity(alloc, lines.len())?;
     for line in lines {

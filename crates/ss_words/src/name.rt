@@ -29,7 +29,6 @@ impl Name {
         })
     }
 
-    /// Its bytes.
     pub fn bytes(&self) -> &[u8]
         ensures { result.now ≡ self.now }
     {

@@ -67,15 +67,19 @@ pub fn fillers()
 pub fn governing_words()
     ensures and_turns { BecomeBehind
         (codes "PREAMBLE MAIN ROUTINE EVENT DEFINE LET ADD SUBTRACT CREATE DESTROY FILE REMOVE FIND "
-        ++ codes "COMPUTE SCHEDULE CANCEL START STOP CALL RETURN READ PRINT SKIP X") (codes " Y AND Z")
+        ++ codes "COMPUTE SCHEDULE CANCEL START STOP CALL RETURN READ PRINT SKIP X")
+        (codes " Y AND Z")
         (codes " Y , Z") }
-    ensures and_stays { BecomeBehind (codes "IF FOR") (codes " Y AND Z AND X") (codes " Y AND Z AND X") }
+    ensures and_stays { BecomeBehind (codes "IF FOR") (codes " Y AND Z AND X")
+        (codes " Y AND Z AND X") }
     ensures at_turns { BecomeBehind
         (codes "PREAMBLE MAIN ROUTINE EVENT DEFINE LET ADD SUBTRACT CREATE DESTROY FILE REMOVE IF "
-        ++ codes "FOR FIND COMPUTE CANCEL START STOP CALL RETURN READ PRINT SKIP X") (codes " Y AT Z")
+        ++ codes "FOR FIND COMPUTE CANCEL START STOP CALL RETURN READ PRINT SKIP X")
+        (codes " Y AT Z")
         (codes " Y IN Z") }
     ensures at_stays { Becomes (codes "SCHEDULE THE X AT Y") (codes "SCHEDULE THE X AT Y") }
-    ensures last_counts { Becomes (codes "IF X LET Y AND Z IF X IS EMPTY AND Y SCHEDULE X IF Y AT Z")
+    ensures last_counts { Becomes
+        (codes "IF X LET Y AND Z IF X IS EMPTY AND Y SCHEDULE X IF Y AT Z")
         (codes "IF X LET Y , Z IF X IS EMPTY AND Y SCHEDULE X IF Y IN Z") }
 {}
 
@@ -89,6 +93,7 @@ pub fn commas()
           word = name
               (codes "Y");
         } ∷ [] }
-    ensures before_word { Becomes (codes "LET X , LET Y , , IF Z AND , OR") (codes "LET X LET Y IF Z AND OR") }
+    ensures before_word { Becomes (codes "LET X , LET Y , , IF Z AND , OR")
+        (codes "LET X LET Y IF Z AND OR") }
     ensures before_sign { Becomes (codes "X , EQ Y , = Z ,") (codes "X , = Y , = Z ,") }
 {}

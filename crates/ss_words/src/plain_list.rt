@@ -1,9 +1,9 @@
 //! The plain words of a list of words.
 ghost use Rattle.std.specs.Prelude.{◌≡◌, ◌+◌, IfOk, map, drop, option_to_list, if◌then◌else◌};
-ghost use Rattle.ss_words.specs.Plain.{meant, plain_at, plains_of};
+ghost use Rattle.ss_words.specs.Plain.{mark_or_word, plain_at, plains_of};
 ghost use Rattle.ss_words.specs.Words.{kind_of};
 ghost use Rattle.ss_words.specs.PlainRules as spec;
-ghost use Rattle.ss_words.specs.PlainRules.{plain_words_of, follow, ruled_word, spelled};
+ghost use Rattle.ss_words.specs.PlainRules.{plain_words_of, follow, ruled_word, unruled_words};
 ghost use Rattle.ss_words.specs.PlainRulesView.{rule_of, surroundings_of};
 
 use crate::mark::Mark;
@@ -22,14 +22,14 @@ pub fn plain_words<'a>(alloc: Global, words: &'a Words) -> Result<Vec<PlainWord<
     let mut plain = spell(alloc, words)?;
     follow(Rule::AsFollows, &mut plain);
     follow(Rule::WithoutFillers, &mut plain);
-    follow(Rule::Governed, &mut plain);
+    follow(Rule::ByGoverningWord, &mut plain);
     follow(Rule::SingleCommas, &mut plain);
     follow(Rule::PartingCommas, &mut plain);
     Ok(plain)
 }
 
 fn spell<'a>(alloc: Global, words: &'a Words) -> Result<Vec<PlainWord<'a>>, AllocError>
-    ensures { IfOk result (λ plain. map plain_at plain.items ≡ spelled words.now) }
+    ensures { IfOk result (λ plain. map plain_at plain.items ≡ unruled_words words.now) }
 {
     let mut plain = Vec::with_capacity(alloc, words.list.len())?;
     for (index, word) in words.list.iter().enumerate() {
@@ -44,7 +44,7 @@ fn spell<'a>(alloc: Global, words: &'a Words) -> Result<Vec<PlainWord<'a>>, Allo
 
 // The reserved word or sign that a word is.
 fn mark_of(kind: &WordKind) -> Option<Mark>
-    ensures { meant result (kind_of kind.now) ≡ spec.plain_kind (kind_of kind.now) }
+    ensures { mark_or_word result (kind_of kind.now) ≡ spec.plain_kind (kind_of kind.now) }
 {
     match kind {
         WordKind::Name(name) => reserved(name.bytes()),

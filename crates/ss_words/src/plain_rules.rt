@@ -22,7 +22,7 @@ pub struct Around {
 pub enum Rule {
     AsFollows,
     WithoutFillers,
-    Governed,
+    ByGoverningWord,
     SingleCommas,
     PartingCommas,
 }
@@ -38,7 +38,7 @@ impl Rule {
         match self {
             Rule::AsFollows => as_follows(around, mark),
             Rule::WithoutFillers => without_fillers(around, mark),
-            Rule::Governed => governed(around, mark),
+            Rule::ByGoverningWord => by_governing_word(around, mark),
             Rule::SingleCommas => single_commas(around, mark),
             Rule::PartingCommas => parting_commas(around, mark),
         }
@@ -134,8 +134,8 @@ fn without_fillers(around: Around, mark: Mark) -> Option<Mark>
     }
 }
 
-fn governed(around: Around, mark: Mark) -> Option<Mark>
-    ensures { result ≡ spec.governed (surroundings_of around) mark }
+fn by_governing_word(around: Around, mark: Mark) -> Option<Mark>
+    ensures { result ≡ spec.by_governing_word (surroundings_of around) mark }
 {
     match mark {
         Mark::Reserved(Reserved::And) if !is_if_or_for(around.governing) => {
@@ -158,7 +158,8 @@ fn parting_commas(around: Around, mark: Mark) -> Option<Mark>
 }
 
 fn after_schedule(around: Around, article: Reserved) -> Option<Mark>
-    ensures { result ≡ (if spec.is_schedule around.before then Some (Mark.Reserved article) else None) }
+    ensures { result
+        ≡ (if spec.is_schedule around.before then Some (Mark.Reserved article) else None) }
 {
     is_schedule(around.before).then_some(Mark::Reserved(article))
 }

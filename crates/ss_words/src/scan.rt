@@ -25,7 +25,8 @@ use std::alloc::Global;
 /// that place; lines count from 1. `Memory` comes only where the memory for the words was
 /// refused. Reads each byte a fixed number of times.
 pub fn words(alloc: Global, text: &[u8]) -> Result<Words, TextFault>
-    ensures { MatchResult result (λ ws. words_of text.now ≡ Ok ws) (λ f. IsRefusalOf f (words_of text.now)) }
+    ensures { MatchResult result (λ ws. words_of text.now ≡ Ok ws)
+        (λ f. IsRefusalOf f (words_of text.now)) }
 {
     let mut words = Collected::new(alloc);
     let mut lines = Lines::new(text);

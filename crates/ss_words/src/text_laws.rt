@@ -26,7 +26,8 @@ fn a_run_of_81_bytes_is_refused()
 {}
 
 fn the_largest_number()
-    ensures { words_of (codes "9223372036854775807") ≡ Ok (on_line 1 (number 9223372036854775807) ∷ []) }
+    ensures { words_of (codes "9223372036854775807")
+        ≡ Ok (on_line 1 (number 9223372036854775807) ∷ []) }
 {}
 
 fn a_number_too_large()
@@ -46,7 +47,8 @@ fn stops_behind_a_name()
 {}
 
 fn a_lone_stop()
-    ensures { words_of (codes "a . b") ≡ Ok (on_line 1 (name (codes "A")) ∷ on_line 1 (name (codes "B")) ∷ []) }
+    ensures { words_of (codes "a . b")
+        ≡ Ok (on_line 1 (name (codes "A")) ∷ on_line 1 (name (codes "B")) ∷ []) }
 {}
 
 fn signs_of_two_bytes()
@@ -65,7 +67,8 @@ fn a_comment_to_the_lines_end()
 {}
 
 fn a_comment_between_two_runs()
-    ensures { words_of (codes "a''b''c") ≡ Ok (on_line 1 (name (codes "A")) ∷ on_line 1 (name (codes "C")) ∷ []) }
+    ensures { words_of (codes "a''b''c")
+        ≡ Ok (on_line 1 (name (codes "A")) ∷ on_line 1 (name (codes "C")) ∷ []) }
 {}
 
 fn a_lone_quote()
@@ -74,31 +77,37 @@ fn a_lone_quote()
 
 fn a_comment_behind_thus()
     ensures { words_of (codes "print 1 lines thus ''a''" ++ LINE_FEED ∷ codes "''b")
-        ≡ Ok (on_line 1 (name (codes "PRINT")) ∷ on_line 1 (number 1) ∷ on_line 1 (name (codes "LINES"))
+        ≡ Ok (on_line 1 (name (codes "PRINT")) ∷ on_line 1 (number 1)
+        ∷ on_line 1 (name (codes "LINES"))
         ∷ on_line 1 (name (codes "THUS")) ∷ on_line 2 (picture ((codes "''b") ∷ [])) ∷ []) }
 {}
 
 fn an_open_comment_behind_thus()
     ensures { words_of (codes "print 1 lines thus ''a" ++ LINE_FEED ∷ codes "b''")
-        ≡ Ok (on_line 1 (name (codes "PRINT")) ∷ on_line 1 (number 1) ∷ on_line 1 (name (codes "LINES"))
+        ≡ Ok (on_line 1 (name (codes "PRINT")) ∷ on_line 1 (number 1)
+        ∷ on_line 1 (name (codes "LINES"))
         ∷ on_line 1 (name (codes "THUS")) ∷ on_line 2 (picture ((codes "b''") ∷ [])) ∷ []) }
 {}
 
 fn two_comments_behind_thus()
-    ensures { words_of (codes "print 1 lines thus ''a'' ''b''" ++ LINE_FEED ∷ codes "c") ≡ Err (Refused NoPicture 1) }
+    ensures { words_of (codes "print 1 lines thus ''a'' ''b''" ++ LINE_FEED ∷ codes "c")
+        ≡ Err (Refused NoPicture 1) }
 {}
 
 fn a_word_behind_thus()
-    ensures { words_of (codes "print 1 lines thus a" ++ LINE_FEED ∷ codes "c") ≡ Err (Refused NoPicture 1) }
+    ensures { words_of (codes "print 1 lines thus a" ++ LINE_FEED ∷ codes "c")
+        ≡ Err (Refused NoPicture 1) }
 {}
 
 fn a_stop_apart_behind_thus()
-    ensures { words_of (codes "print 1 lines thus ." ++ LINE_FEED ∷ codes "c") ≡ Err (Refused NoPicture 1) }
+    ensures { words_of (codes "print 1 lines thus ." ++ LINE_FEED ∷ codes "c")
+        ≡ Err (Refused NoPicture 1) }
 {}
 
 fn stops_of_thus()
     ensures { words_of (codes "print 1 thus.." ++ LINE_FEED ∷ codes "c")
-        ≡ Ok (on_line 1 (name (codes "PRINT")) ∷ on_line 1 (number 1) ∷ on_line 1 (name (codes "THUS"))
+        ≡ Ok (on_line 1 (name (codes "PRINT")) ∷ on_line 1 (number 1)
+        ∷ on_line 1 (name (codes "THUS"))
         ∷ on_line 2 (picture ((codes "c") ∷ [])) ∷ []) }
 {}
 
@@ -108,7 +117,8 @@ fn a_carriage_return_before_a_line_feed()
 {}
 
 fn a_carriage_return_at_the_end()
-    ensures { words_of (codes "a" ++ CARRIAGE_RETURN ∷ []) ≡ Ok (on_line 1 (name (codes "A")) ∷ []) }
+    ensures { words_of (codes "a" ++ CARRIAGE_RETURN ∷ [])
+        ≡ Ok (on_line 1 (name (codes "A")) ∷ []) }
 {}
 
 fn a_carriage_return_elsewhere()
@@ -121,12 +131,14 @@ fn two_carriage_returns()
 {}
 
 fn no_line_behind_the_last_line_feed()
-    ensures { words_of (codes "print 1 thus" ++ LINE_FEED ∷ CARRIAGE_RETURN ∷ []) ≡ Err (Refused NoPicture 1) }
+    ensures { words_of (codes "print 1 thus" ++ LINE_FEED ∷ CARRIAGE_RETURN ∷ [])
+        ≡ Err (Refused NoPicture 1) }
 {}
 
 fn an_empty_picture_line()
     ensures { words_of (codes "print 1 thus" ++ LINE_FEED ∷ LINE_FEED ∷ [])
-        ≡ Ok (on_line 1 (name (codes "PRINT")) ∷ on_line 1 (number 1) ∷ on_line 1 (name (codes "THUS"))
+        ≡ Ok (on_line 1 (name (codes "PRINT")) ∷ on_line 1 (number 1)
+        ∷ on_line 1 (name (codes "THUS"))
         ∷ on_line 2 (picture ([] ∷ [])) ∷ []) }
 {}
 
@@ -142,7 +154,8 @@ fn as_and_follows_on_two_lines()
     ensures { words_of (codes "print 2 as" ++ LINE_FEED ∷ codes "follows" ++ LINE_FEED ∷ codes " a"
         ++ LINE_FEED ∷ codes "b" ++ LINE_FEED ∷ codes "c") ≡ Ok (on_line 1 (name (codes "PRINT"))
         ∷ on_line 1 (number 2) ∷ on_line 1 (name (codes "AS")) ∷ on_line 2 (name (codes "FOLLOWS"))
-        ∷ on_line 3 (picture ((codes " a") ∷ (codes "b") ∷ [])) ∷ on_line 5 (name (codes "C")) ∷ []) }
+        ∷ on_line 3 (picture ((codes " a") ∷ (codes "b") ∷ [])) ∷ on_line 5 (name (codes "C"))
+        ∷ []) }
 {}
 
 fn follows_without_as()
@@ -157,8 +170,10 @@ fn a_picture_called_twice()
 {}
 
 fn the_nearest_print_counts()
-    ensures { words_of (codes "print 1 print 2 thus" ++ LINE_FEED ∷ codes "a" ++ LINE_FEED ∷ codes "b")
-        ≡ Ok (on_line 1 (name (codes "PRINT")) ∷ on_line 1 (number 1) ∷ on_line 1 (name (codes "PRINT"))
+    ensures { words_of
+        (codes "print 1 print 2 thus" ++ LINE_FEED ∷ codes "a" ++ LINE_FEED ∷ codes "b")
+        ≡ Ok (on_line 1 (name (codes "PRINT")) ∷ on_line 1 (number 1)
+        ∷ on_line 1 (name (codes "PRINT"))
         ∷ on_line 1 (number 2) ∷ on_line 1 (name (codes "THUS")) ∷ on_line 2 (picture ((codes "a")
         ∷ (codes "b") ∷ [])) ∷ []) }
 {}
@@ -191,12 +206,14 @@ fn a_picture_of_100_lines()
 {}
 
 fn a_picture_of_101_lines()
-    ensures { words_of (codes "print 101 thus" ++ replicate 103 LINE_FEED) ≡ Err (Refused NoPicture 1) }
+    ensures { words_of (codes "print 101 thus" ++ replicate 103 LINE_FEED)
+        ≡ Err (Refused NoPicture 1) }
 {}
 
 fn a_picture_line_of_132_bytes()
     ensures { words_of (codes "print 1 thus" ++ LINE_FEED ∷ replicate 132 45)
-        ≡ Ok (on_line 1 (name (codes "PRINT")) ∷ on_line 1 (number 1) ∷ on_line 1 (name (codes "THUS"))
+        ≡ Ok (on_line 1 (name (codes "PRINT")) ∷ on_line 1 (number 1)
+        ∷ on_line 1 (name (codes "THUS"))
         ∷ on_line 2 (picture (replicate 132 45 ∷ [])) ∷ []) }
 {}
 
@@ -207,7 +224,8 @@ fn a_carriage_return_behind_a_picture_line()
 {}
 
 fn a_picture_line_of_133_bytes()
-    ensures { words_of (codes "print 1 thus" ++ LINE_FEED ∷ replicate 133 45) ≡ Err (Refused LongPictureLine 2) }
+    ensures { words_of (codes "print 1 thus" ++ LINE_FEED ∷ replicate 133 45)
+        ≡ Err (Refused LongPictureLine 2) }
 {}
 
 fn the_stray_byte_is_earlier()
@@ -231,7 +249,8 @@ fn a_long_thus_without_print()
 {}
 
 fn a_long_picture_line_with_a_stray_byte_first()
-    ensures { words_of (codes "print 1 thus" ++ LINE_FEED ∷ 128 ∷ replicate 132 45) ≡ Err (Refused StrayByte 2) }
+    ensures { words_of (codes "print 1 thus" ++ LINE_FEED ∷ 128 ∷ replicate 132 45)
+        ≡ Err (Refused StrayByte 2) }
 {}
 
 fn a_long_picture_line_with_a_stray_byte_behind()
@@ -240,7 +259,8 @@ fn a_long_picture_line_with_a_stray_byte_behind()
 {}
 
 fn a_call_is_refused_at_follows()
-    ensures { words_of (codes "print 1 as" ++ LINE_FEED ∷ codes "follows x" ++ LINE_FEED ∷ codes "y")
+    ensures { words_of
+        (codes "print 1 as" ++ LINE_FEED ∷ codes "follows x" ++ LINE_FEED ∷ codes "y")
         ≡ Err (Refused NoPicture 2) }
 {}
 

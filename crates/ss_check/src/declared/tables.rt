@@ -1,6 +1,6 @@
 ghost use Rattle.std.specs.Prelude.{◌≡◌, ◌++◌, [], length, IfOk, OnOk};
 ghost use Rattle.ss_preamble.specs.View as items;
-ghost use Rattle.ss_routines.specs.Tree.{listed};
+ghost use Rattle.ss_routines.specs.Tree.{listing_names};
 ghost use Rattle.ss_routines.specs.View as heads;
 ghost use Rattle.ss_check.specs.Adding.{entry_at, with_entry, with_head};
 ghost use Rattle.ss_check.specs.Declarations.{tables_of};
@@ -124,7 +124,7 @@ impl Tables {
 
 /// How many names are listed.
 pub(crate) fn name_count(names: &Listing<ss_words::Name>) -> usize
-    ensures { result ≡ length (listed (heads.listing_view (λ n. n) names.now)) }
+    ensures { result ≡ length (listing_names (heads.listing_view (λ n. n) names.now)) }
 {
     match names {
         Listing::Unwritten => 0,

@@ -1,7 +1,7 @@
 ghost use Rattle.std.specs.Prelude.{◌≡◌, ◌++◌, map, option_map, IfOk, OnOk};
 ghost use Rattle.ss_words.specs.Lists.{all_of, several_view};
 ghost use Rattle.ss_words.specs.Reading.{option_view};
-ghost use Rattle.ss_routines.specs.Tree.{listed};
+ghost use Rattle.ss_routines.specs.Tree.{listing_names};
 ghost use Rattle.ss_routines.specs.View.{application_view, expr_view, term_view, factor_view, listing_view};
 ghost use Rattle.ss_program.specs.ProgramExpr.{expr_of, term_of, factor_of, arguments_of};
 ghost use Rattle.ss_program.specs.ProgramExpr.{subscript_of, subscripted_of};
@@ -128,7 +128,7 @@ pub(crate) fn resolve_listed(
     es: &Listing<ss_routines::Expr>,
 ) -> Result<Values, AllocError>
     ensures { IfOk result (λ xs. xs
-        ≡ map (in_scope scope.entry resolved.resolved_expr) (listed (listing_view expr_view es.now))) }
+        ≡ map (in_scope scope.entry resolved.resolved_expr) (listing_names (listing_view expr_view es.now))) }
 {
     match es {
         Listing::Unwritten => Ok(Values {

@@ -22,14 +22,14 @@ pub(crate) struct Rankings<'a> {
 
 impl<'a> Model for Rankings<'a> {
     ghost use Rattle.ss_words.specs.Lists.{all_of, several_view};
-    ghost use Rattle.ss_preamble.specs.View.{key_view, set_kind_view};
+    ghost use Rattle.ss_preamble.specs.View.{key_view, set_discipline_view};
     ghost use Rattle.ss_check.specs.FactsView.{facts_view};
     ghost use Rattle.ss_check.specs.Resolved.{Rankings as Given};
 
     ghost Value = { Given };
 
     ghost view = { λ a. record {
-      disciplines = facts_view (λ k. set_kind_view k.now) a.disciplines;
+      disciplines = facts_view (λ k. set_discipline_view k.now) a.disciplines;
       ties = facts_view (λ keys. all_of (several_view key_view keys.now)) a.ties;
     } };
 }
@@ -51,7 +51,7 @@ impl<'a> Rankings<'a> {
     /// The discipline of a set, if one is given.
     #[tactic(auto, using(crate::proofs::Named::fact_of_view))]
     pub(crate) fn discipline(&self, set: &[u8]) -> Option<&'a SetDiscipline>
-        ensures { option_map (λ k. view.set_kind_view k.now) result
+        ensures { option_map (λ k. view.set_discipline_view k.now) result
             ≡ fact_of self.now.disciplines set.now }
     {
         self.disciplines.get(set).copied()
@@ -72,8 +72,8 @@ fn add_disciplines<'a>(
     disciplines: &mut FactTable<&'a SetDiscipline>,
     item: &'a Item,
 ) -> Result<(), AllocError>
-    ensures { OnOk result (facts_view (λ k. view.set_kind_view k.now) disciplines.new
-        ≡ facts_view (λ k. view.set_kind_view k.now) disciplines.old
+    ensures { OnOk result (facts_view (λ k. view.set_discipline_view k.now) disciplines.new
+        ≡ facts_view (λ k. view.set_discipline_view k.now) disciplines.old
         ++ declared.disciplines_in (view.item_view item.now)) }
 {
     match item {
@@ -89,8 +89,8 @@ fn add_kinds<'a>(
     sets: &Names,
     kind: &'a SetDiscipline,
 ) -> Result<(), AllocError>
-    ensures { OnOk result (facts_view (λ k. view.set_kind_view k.now) disciplines.new
-        ≡ facts_view (λ k. view.set_kind_view k.now) disciplines.old ++ map (λ s. fact s (view.set_kind_view kind.now))
+    ensures { OnOk result (facts_view (λ k. view.set_discipline_view k.now) disciplines.new
+        ≡ facts_view (λ k. view.set_discipline_view k.now) disciplines.old ++ map (λ s. fact s (view.set_discipline_view kind.now))
         (all_of (several_view (λ n. n) sets.now))) }
 {
     disciplines.add(sets.first.bytes(), kind)?;

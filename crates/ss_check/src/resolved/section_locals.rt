@@ -1,6 +1,6 @@
 ghost use Rattle.std.specs.Prelude.{◌≡◌, map, IfOk, OnOk};
 ghost use Rattle.std.specs.List.{flat_map, fold};
-ghost use Rattle.ss_routines.specs.Tree.{listed};
+ghost use Rattle.ss_routines.specs.Tree.{listing_names};
 ghost use Rattle.ss_routines.specs.View as view;
 ghost use Rattle.ss_program.specs.Indexed.{with_name};
 ghost use Rattle.ss_check.specs.Declarations.{parameters};
@@ -52,7 +52,7 @@ fn add_parameters(locals: &mut NameTable, section: &Section) -> Result<(), Alloc
 /// Adds names that may be listed.
 fn add_listed(locals: &mut NameTable, names: &Listing<Name>) -> Result<(), AllocError>
     ensures { OnOk result (locals.new
-        ≡ fold with_name locals.old (listed (view.listing_view (λ n. n) names.now))) }
+        ≡ fold with_name locals.old (listing_names (view.listing_view (λ n. n) names.now))) }
 {
     match names {
         Listing::Unwritten => Ok(()),

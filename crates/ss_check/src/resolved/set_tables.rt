@@ -1,5 +1,5 @@
 ghost use Rattle.std.specs.Prelude.{◌≡◌, ◌++◌, [], map, option_map, unwrap_or, IfOk, OnOk};
-ghost use Rattle.ss_preamble.specs.View.{set_kind_view};
+ghost use Rattle.ss_preamble.specs.View.{set_discipline_view};
 ghost use Rattle.ss_check.specs.Facts.{fact_of};
 ghost use Rattle.ss_check.specs.Resolved as resolved;
 ghost use Rattle.ss_check.specs.ResolvedNames.{attribute_names};
@@ -89,7 +89,7 @@ fn discipline(
 ) -> Result<Discipline, AllocError>
     ensures { IfOk result (λ discipline. discipline
         ≡ resolved.resolved_discipline (attribute_names names.now class.now)
-        (option_map (λ k. set_kind_view k.now) given.entry)) }
+        (option_map (λ k. set_discipline_view k.now) given.entry)) }
 {
     match given {
         None | Some(SetDiscipline::Fifo) => Ok(Discipline::Fifo),

@@ -2,7 +2,7 @@ ghost use Rattle.std.specs.Prelude.{◌≡◌, ◌++◌, ◌||◌, [], IfOk, OnO
 ghost use Rattle.std.specs.List.{list_any};
 ghost use Rattle.ss_check.specs.declared.fault.CheckRule.TheVariants as check;
 ghost use Rattle.ss_words.specs.Lists.{all_of, several_view};
-ghost use Rattle.ss_routines.specs.Tree.{listed};
+ghost use Rattle.ss_routines.specs.Tree.{listing_names};
 ghost use Rattle.ss_routines.specs.View as view;
 ghost use Rattle.ss_check.specs.Adding.{IsOnce, with_head};
 ghost use Rattle.ss_check.specs.Declarations as declared;
@@ -135,7 +135,7 @@ fn add_yielded(list: &mut NameList, names: &[Name]) -> Result<(), AllocError>
 
 /// Adds the names of a list that may be left out.
 fn add_listed(list: &mut NameList, names: &Listing<Name>) -> Result<(), AllocError>
-    ensures { OnOk result (list.new ≡ list.old ++ listed (view.listing_view (λ n. n) names.now)) }
+    ensures { OnOk result (list.new ≡ list.old ++ listing_names (view.listing_view (λ n. n) names.now)) }
 {
     match names {
         Listing::Unwritten => Ok(()),
@@ -162,7 +162,7 @@ fn declares_parameter(whole: &Tables, section: &Section) -> bool
 #[tactic(auto, using(crate::proofs::Tests::any_map))]
 fn any_listed_declared(whole: &Tables, names: &Listing<Name>) -> bool
     ensures { result ≡ list_any (declared.is_declared whole.now)
-        (listed (view.listing_view (λ n. n) names.now)) }
+        (listing_names (view.listing_view (λ n. n) names.now)) }
 {
     match names {
         Listing::Unwritten => false,

@@ -275,14 +275,14 @@ fn has_wrong_keys(whole: &Tables, item: &Item) -> bool
 #[tactic(auto, using(crate::proofs::Tests::any_map))]
 fn any_wrong_rank(whole: &Tables, sets: &Names, kind: &SetDiscipline) -> bool
     ensures { result ≡ list_any (λ s. rules.has_wrong_rank whole.now whole.now (fact_of whole.now.members s)
-        (view.set_kind_view kind.now)) (all_of (several_view (λ n. n) sets.now)) }
+        (view.set_discipline_view kind.now)) (all_of (several_view (λ n. n) sets.now)) }
 {
     is_wrong_rank(whole, sets.first.bytes(), kind) || any_other_rank(whole, &sets.others, kind)
 }
 
 fn any_other_rank(whole: &Tables, sets: &[Name], kind: &SetDiscipline) -> bool
     ensures { result ≡ list_any (λ s. rules.has_wrong_rank whole.now whole.now (fact_of whole.now.members s)
-        (view.set_kind_view kind.now)) sets.now }
+        (view.set_discipline_view kind.now)) sets.now }
 {
     sets.iter()
         .any(|set| is_wrong_rank(whole, set.bytes(), kind))
@@ -291,7 +291,7 @@ fn any_other_rank(whole: &Tables, sets: &[Name], kind: &SetDiscipline) -> bool
 /// Whether a set is ranked by what is no attribute of its members, or has none and is ranked.
 fn is_wrong_rank(whole: &Tables, set: &[u8], kind: &SetDiscipline) -> bool
     ensures { result ≡ rules.has_wrong_rank whole.now whole.now (fact_of whole.now.members set.now)
-        (view.set_kind_view kind.now) }
+        (view.set_discipline_view kind.now) }
 {
     match kind {
         SetDiscipline::Fifo | SetDiscipline::Lifo => false,

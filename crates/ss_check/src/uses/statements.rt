@@ -2,7 +2,7 @@ ghost use Rattle.std.specs.Prelude.{◌≡◌, [], ◌∷◌, ◌++◌, length, 
 ghost use Rattle.std.specs.List.{flat_map};
 ghost use Rattle.ss_words.specs.Lists.{all_of, several_view};
 ghost use Rattle.ss_words.specs.Reading.{option_view};
-ghost use Rattle.ss_routines.specs.Tree.{listed};
+ghost use Rattle.ss_routines.specs.Tree.{listing_names};
 ghost use Rattle.ss_routines.specs.View as view;
 ghost use Rattle.ss_routines.specs.View.{expr_view, reference_view, listing_view};
 ghost use Rattle.ss_check.specs.Uses as uses_of;
@@ -110,7 +110,7 @@ fn add_filing<'a>(uses: &mut UseList<'a>, filing: &'a Filing) -> Result<(), Allo
 
 /// How many values are listed.
 fn value_count(values: &Listing<Expr>) -> usize
-    ensures { result ≡ length (listed (listing_view expr_view values.now)) }
+    ensures { result ≡ length (listing_names (listing_view expr_view values.now)) }
 {
     match values {
         Listing::Unwritten => 0,
@@ -128,7 +128,7 @@ fn add_several<'a>(uses: &mut UseList<'a>, values: &'a Several<Expr>) -> Result<
 
 fn add_listed<'a>(uses: &mut UseList<'a>, values: &'a Listing<Expr>) -> Result<(), AllocError>
     ensures { OnOk result
-        (uses.new ≡ uses.old ++ flat_map uses_of.uses_expr (listed (listing_view expr_view values.now))) }
+        (uses.new ≡ uses.old ++ flat_map uses_of.uses_expr (listing_names (listing_view expr_view values.now))) }
 {
     match values {
         Listing::Unwritten => Ok(()),

@@ -41,7 +41,8 @@ pub fn reference(cursor: &mut Cursor<'_>, room: u32) -> Result<Reference, Refusa
 /// `[CALLED reference]`
 #[tactic(auto, unfolding(crate::proofs::Unfoldings::choices, crate::specs::SimpleReading::called_at))]
 pub fn called(cursor: &mut Cursor<'_>, room: u32) -> Result<Option<Reference>, Refusal>
-    ensures exact { Gives (option_view reference_view) result cursor.new (reading.called_at room cursor.old) }
+    ensures exact { Gives (option_view reference_view) result cursor.new
+        (reading.called_at room cursor.old) }
     ensures shorter { length cursor.new ≤ length cursor.old }
 {
     if !cursor.eat(Mark::Reserved(Reserved::Called)) {
@@ -104,7 +105,8 @@ pub fn moved(cursor: &mut Cursor<'_>, mark: Mark, room: u32) -> Result<(Expr, Re
 /// CREATE EVERY, CREATE or DESTROY, if one stands here.
 #[tactic(auto, unfolding(crate::proofs::Unfoldings::makings))]
 pub fn making(cursor: &mut Cursor<'_>, room: u32) -> Result<Option<Making>, Refusal>
-    ensures exact { Gives (option_view making_view) result cursor.new (reading.making_at room cursor.old) }
+    ensures exact { Gives (option_view making_view) result cursor.new
+        (reading.making_at room cursor.old) }
     ensures shorter { length cursor.new ≤ length cursor.old }
     ensures taken { IfOk result (λ o. IfSome o (λ _. length cursor.new < length cursor.old)) }
 {
@@ -127,7 +129,8 @@ pub fn making(cursor: &mut Cursor<'_>, room: u32) -> Result<Option<Making>, Refu
 /// The name that stands here, if one does.
 #[tactic(auto, unfolding(crate::proofs::Unfoldings::steps_by_table, ss_words::specs::Marks::a_name))]
 fn bare_name(cursor: &mut Cursor<'_>) -> Result<Option<Name>, Refusal>
-    ensures exact { Gives (option_view (λ n. n)) result cursor.new (by_table reading.name_of cursor.old) }
+    ensures exact { Gives (option_view (λ n. n)) result cursor.new
+        (by_table reading.name_of cursor.old) }
     ensures shorter { length cursor.new ≤ length cursor.old }
     ensures taken { IfOk result (λ o. IfSome o (λ _. length cursor.new < length cursor.old)) }
 {
@@ -141,9 +144,13 @@ fn bare_name(cursor: &mut Cursor<'_>) -> Result<Option<Name>, Refusal>
 #[tactic(auto, unfolding(crate::proofs::Unfoldings::in_turn, crate::specs::Combined::if_word))]
 fn bare_equation(cursor: &mut Cursor<'_>, room: u32) -> Result<Option<(Reference, Expr)>, Refusal>
     ensures exact { Gives (option_view
-        (λ x. (x.0.name, (option_view (λ b. expr_view b.value) x.0.subscript, expr_view x.1)))) result cursor.new
+        (λ x. (
+          x.0.name,
+          (option_view (λ b. expr_view b.value) x.0.subscript, expr_view x.1),
+        ))) result cursor.new
         (if_word (by_table reading.name_of)
-        (pair (before (reading.subscript_at room) (mark.Sign sign.Equal)) (expr_at room)) cursor.old) }
+        (pair (before (reading.subscript_at room) (mark.Sign sign.Equal))
+        (expr_at room)) cursor.old) }
     ensures shorter { length cursor.new ≤ length cursor.old }
     ensures taken { IfOk result (λ o. IfSome o (λ _. length cursor.new < length cursor.old)) }
 {
@@ -159,7 +166,8 @@ fn bare_equation(cursor: &mut Cursor<'_>, room: u32) -> Result<Option<(Reference
 /// LET, ADD, SUBTRACT or an assignment without LET, if one stands here.
 #[tactic(auto, unfolding(crate::proofs::Unfoldings::choices, crate::specs::SimpleReading::assign_at))]
 pub fn assignment(cursor: &mut Cursor<'_>, room: u32) -> Result<Option<Assign>, Refusal>
-    ensures exact { Gives (option_view assign_view) result cursor.new (reading.assign_at room cursor.old) }
+    ensures exact { Gives (option_view assign_view) result cursor.new
+        (reading.assign_at room cursor.old) }
     ensures shorter { length cursor.new ≤ length cursor.old }
     ensures taken { IfOk result (λ o. IfSome o (λ _. length cursor.new < length cursor.old)) }
 {

@@ -24,7 +24,7 @@ pub struct Room {
 
 /// Whether a mark stands here, which is then passed; refused where no more of them may be open.
 fn allowed(cursor: &mut Cursor<'_>, room: u32, mark: Mark) -> Result<bool, Refusal>
-    ensures exact { Gives (λ b. b) result cursor.new (combined.allowed room mark cursor.old) }
+    ensures exact { Gives (λ b. b) result cursor.new (combined.eat_allowed room mark cursor.old) }
     ensures shorter { length cursor.new ≤ length cursor.old }
     ensures taken { IfOk result (λ b. IsTrue b → length cursor.new < length cursor.old) }
     ensures free { IfOk result (λ b. IsTrue b → 0 < room) }

@@ -31,7 +31,8 @@ pub fn compute(cursor: &mut Cursor<'_>, room: u32) -> Result<(Several<Computed>,
 /// `computed {"," computed}`
 #[tactic(auto, unfolding(crate::proofs::Unfoldings::in_turn, crate::specs::Combined::several))]
 fn several_computed(cursor: &mut Cursor<'_>, room: u32) -> Result<Several<Computed>, Refusal>
-    ensures exact { Gives several_computed_view result cursor.new (several (reading.computed_at room) cursor.old) }
+    ensures exact { Gives several_computed_view result cursor.new
+        (several (reading.computed_at room) cursor.old) }
     ensures shorter { length cursor.new ≤ length cursor.old }
 {
     let first = computed(cursor, room)?;

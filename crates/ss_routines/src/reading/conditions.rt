@@ -42,7 +42,8 @@ pub fn condition(cursor: &mut Cursor<'_>, room: u32) -> Result<Condition, Refusa
 
 /// An expression or a condition in which at most so many parentheses may be open at once.
 fn value_or_condition(cursor: &mut Cursor<'_>, room: u32) -> Result<OrValue<Condition>, Refusal>
-    ensures exact { Gives (or_value_view condition_view) result cursor.new (reading.either_at room cursor.old) }
+    ensures exact { Gives (or_value_view condition_view) result cursor.new
+        (reading.either_at room cursor.old) }
     ensures shorter { length cursor.new ≤ length cursor.old }
 {
     either(cursor, room)
@@ -85,7 +86,8 @@ fn copula(cursor: &mut Cursor<'_>) -> Copula
 #[tactic(auto, unfolding(crate::proofs::Unfoldings::steps))]
 fn behind_inner(cursor: &mut Cursor<'_>, inner: Expr, room: u32) -> Result<Expr, Refusal>
     ensures exact { Gives expr_view result cursor.new (bind (rest_with room) (λ z. pure
-        (tree.expr None (tree.term (tree.within (expr_view inner)) (tree.products_of z.0)) (tree.sums_of z.1)))
+        (tree.expr None (tree.term (tree.within (expr_view inner)) (tree.products_of z.0))
+        (tree.sums_of z.1)))
         cursor.old) }
     ensures shorter { length cursor.new ≤ length cursor.old }
 {
@@ -133,7 +135,8 @@ fn as_reference(value: Expr) -> Option<Reference>
 /// The reference that a factor is, if it is one.
 fn factor_as_reference(factor: Factor) -> Option<Reference>
     ensures { option_view reference_view result ≡
-        reading.reference_of (tree.expr None (tree.term (factor_view factor) tree.no_products) tree.no_sums) }
+        reading.reference_of
+        (tree.expr None (tree.term (factor_view factor) tree.no_products) tree.no_sums) }
 {
     match factor {
         Factor::Name(name) => Some(Reference {
@@ -172,7 +175,8 @@ fn of_set(
     copula: Copula,
     room: u32,
 ) -> Result<Relation, Refusal>
-    ensures exact { Gives relation_view result cursor.new (reading.set_with room (expr_view value) copula cursor.old) }
+    ensures exact { Gives relation_view result cursor.new
+        (reading.set_with room (expr_view value) copula cursor.old) }
     ensures shorter { length cursor.new ≤ length cursor.old }
 {
     if cursor.eat(Mark::Reserved(Reserved::In)) {
@@ -257,7 +261,8 @@ fn either(cursor: &mut Cursor<'_>, room: u32) -> Result<OrValue<Condition>, Refu
 #[cycle(conditions)]
 fn alternatives(cursor: &mut Cursor<'_>, room: u32) -> Result<Vec<Conjunction>, Refusal>
     ensures exact { Gives conjunctions_view result cursor.new
-        (star (if_mark (m.Reserved r.Or) (reading.conjunction_with room (reading.inner_either room))) cursor.old) }
+        (star (if_mark (m.Reserved r.Or)
+        (reading.conjunction_with room (reading.inner_either room))) cursor.old) }
     ensures shorter { length cursor.new ≤ length cursor.old }
 {
     let mut more = Vec::new(cursor.alloc());
@@ -272,7 +277,8 @@ fn alternatives(cursor: &mut Cursor<'_>, room: u32) -> Result<Vec<Conjunction>, 
 #[tactic(auto, unfolding(crate::proofs::Unfoldings::steps, crate::specs::Combined::if_mark))]
 fn next_conjunction(cursor: &mut Cursor<'_>, room: u32) -> Result<Option<Conjunction>, Refusal>
     ensures exact { Gives (option_view conjunction_view) result cursor.new
-        (if_mark (m.Reserved r.Or) (reading.conjunction_with room (reading.inner_either room)) cursor.old) }
+        (if_mark (m.Reserved r.Or)
+        (reading.conjunction_with room (reading.inner_either room)) cursor.old) }
     ensures shorter { length cursor.new ≤ length cursor.old }
     ensures taken { IfOk result (λ o. IfSome o (λ _. length cursor.new < length cursor.old)) }
 {
@@ -322,7 +328,8 @@ fn conjoined(cursor: &mut Cursor<'_>, room: u32) -> Result<OrValue<Conjunction>,
 #[cycle(conditions)]
 fn additions(cursor: &mut Cursor<'_>, room: u32) -> Result<Vec<Relation>, Refusal>
     ensures exact { Gives relations_view result cursor.new
-        (star (if_mark (m.Reserved r.And) (reading.relation_with room (reading.inner_either room))) cursor.old) }
+        (star (if_mark (m.Reserved r.And)
+        (reading.relation_with room (reading.inner_either room))) cursor.old) }
     ensures shorter { length cursor.new ≤ length cursor.old }
 {
     let mut more = Vec::new(cursor.alloc());
@@ -337,7 +344,8 @@ fn additions(cursor: &mut Cursor<'_>, room: u32) -> Result<Vec<Relation>, Refusa
 #[tactic(auto, unfolding(crate::proofs::Unfoldings::steps, crate::specs::Combined::if_mark))]
 fn next_relation(cursor: &mut Cursor<'_>, room: u32) -> Result<Option<Relation>, Refusal>
     ensures exact { Gives (option_view relation_view) result cursor.new
-        (if_mark (m.Reserved r.And) (reading.relation_with room (reading.inner_either room)) cursor.old) }
+        (if_mark (m.Reserved r.And)
+        (reading.relation_with room (reading.inner_either room)) cursor.old) }
     ensures shorter { length cursor.new ≤ length cursor.old }
     ensures taken { IfOk result (λ o. IfSome o (λ _. length cursor.new < length cursor.old)) }
 {
@@ -409,7 +417,8 @@ fn within(cursor: &mut Cursor<'_>, room: u32) -> Result<Option<OrValue<Condition
 /// An expression or a condition in one more parenthesis.
 #[cycle(conditions)]
 fn inner(cursor: &mut Cursor<'_>, room: u32) -> Result<OrValue<Condition>, Refusal>
-    ensures exact { Gives (or_value_view condition_view) result cursor.new (reading.inner_either room cursor.old) }
+    ensures exact { Gives (or_value_view condition_view) result cursor.new
+        (reading.inner_either room cursor.old) }
     ensures shorter { length cursor.new ≤ length cursor.old }
 {
     if room == 0 {

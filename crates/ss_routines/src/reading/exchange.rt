@@ -20,7 +20,8 @@ use ss_words::{Cursor, Mark, Refusal, Reserved};
 /// `count LINES [WITH values] THUS` and the lines of the picture, behind PRINT.
 #[tactic(auto, unfolding(crate::proofs::Unfoldings::in_turn, crate::specs::SimpleReading::print_at))]
 fn print(cursor: &mut Cursor<'_>, room: u32) -> Result<(u64, Vec<Expr>, Vec<Vec<u8>>), Refusal>
-    ensures exact { Gives (λ x. (x.0, (values_view x.1, map (λ l. l.items) x.2.items))) result cursor.new
+    ensures exact { Gives
+        (λ x. (x.0, (values_view x.1, map (λ l. l.items) x.2.items))) result cursor.new
         (reading.print_at room cursor.old) }
     ensures shorter { length cursor.new ≤ length cursor.old }
 {
@@ -56,7 +57,8 @@ fn printed_values(cursor: &mut Cursor<'_>, room: u32) -> Result<Vec<Expr>, Refus
 /// READ, PRINT or SKIP, if one stands here.
 #[tactic(auto, unfolding(crate::proofs::Unfoldings::choices, crate::specs::SimpleReading::exchange_at))]
 pub fn exchange(cursor: &mut Cursor<'_>, room: u32) -> Result<Option<Exchange>, Refusal>
-    ensures exact { Gives (option_view exchange_view) result cursor.new (reading.exchange_at room cursor.old) }
+    ensures exact { Gives (option_view exchange_view) result cursor.new
+        (reading.exchange_at room cursor.old) }
     ensures shorter { length cursor.new ≤ length cursor.old }
     ensures taken { IfOk result (λ o. IfSome o (λ _. length cursor.new < length cursor.old)) }
 {

@@ -1,6 +1,6 @@
 ghost use Rattle.std.specs.Prelude.{IfSome, IfOk, IsTrue, List, [], length, map, ◌≡◌, ◌≤◌, ◌<◌, ◌∷◌, Ok};
 ghost use Rattle.ss_words.specs.Reading.{Gives, option_view};
-ghost use Rattle.ss_routines.specs.Combined.{by_table, opened, if_open, star, several};
+ghost use Rattle.ss_routines.specs.Combined.{by_table, eat_open, if_open, star, several};
 ghost use Rattle.ss_routines.specs.ExprReading as reading;
 ghost use Rattle.ss_routines.specs.PartView.{rest_view, factors_view, terms_view, values_view, several_values_view};
 ghost use Rattle.ss_routines.specs.View.{expr_view, term_view, factor_view, added_view};
@@ -62,7 +62,7 @@ fn number(cursor: &mut Cursor<'_>) -> Option<u64>
 
 /// Whether a parenthesis opens here, which is then passed; refused where none more may be open.
 pub fn open(cursor: &mut Cursor<'_>, room: u32) -> Result<bool, Refusal>
-    ensures exact { Gives (λ b. b) result cursor.new (opened room cursor.old) }
+    ensures exact { Gives (λ b. b) result cursor.new (eat_open room cursor.old) }
     ensures shorter { length cursor.new ≤ length cursor.old }
     ensures taken { IfOk result (λ b. IsTrue b → length cursor.new < length cursor.old) }
 {
@@ -95,7 +95,8 @@ pub fn rest(cursor: &mut Cursor<'_>, room: u32) -> Result<(Vec<Factor>, Vec<Adde
 #[cycle(expression)]
 #[tactic(auto, unfolding(crate::proofs::Unfoldings::in_turn, crate::specs::ExprReading::expr_with))]
 fn expr(cursor: &mut Cursor<'_>, room: u32) -> Result<Expr, Refusal>
-    ensures exact { Gives expr_view result cursor.new (reading.expr_with room (reading.inner_at room) cursor.old) }
+    ensures exact { Gives expr_view result cursor.new
+        (reading.expr_with room (reading.inner_at room) cursor.old) }
     ensures shorter { length cursor.new ≤ length cursor.old }
 {
     let sign = lead(cursor);
@@ -112,7 +113,8 @@ fn expr(cursor: &mut Cursor<'_>, room: u32) -> Result<Expr, Refusal>
 /// `{("+" | "-") term}`
 #[cycle(expression)]
 fn sums(cursor: &mut Cursor<'_>, room: u32) -> Result<Vec<Added>, Refusal>
-    ensures exact { Gives terms_view result cursor.new (star (reading.next_term_at room) cursor.old) }
+    ensures exact { Gives terms_view result cursor.new
+        (star (reading.next_term_at room) cursor.old) }
     ensures shorter { length cursor.new ≤ length cursor.old }
 {
     let mut more = Vec::new(cursor.alloc());
@@ -127,7 +129,8 @@ fn sums(cursor: &mut Cursor<'_>, room: u32) -> Result<Vec<Added>, Refusal>
 #[cycle(expression)]
 #[tactic(auto, unfolding(crate::proofs::Unfoldings::steps, crate::specs::Combined::if_word))]
 fn next_sum(cursor: &mut Cursor<'_>, room: u32) -> Result<Option<Added>, Refusal>
-    ensures exact { Gives (option_view added_view) result cursor.new (reading.next_term_at room cursor.old) }
+    ensures exact { Gives (option_view added_view) result cursor.new
+        (reading.next_term_at room cursor.old) }
     ensures shorter { length cursor.new ≤ length cursor.old }
     ensures taken { IfOk result (λ o. IfSome o (λ _. length cursor.new < length cursor.old)) }
 {
@@ -142,7 +145,8 @@ fn next_sum(cursor: &mut Cursor<'_>, room: u32) -> Result<Option<Added>, Refusal
 #[cycle(expression)]
 #[tactic(auto, unfolding(crate::proofs::Unfoldings::in_turn, crate::specs::ExprReading::term_with))]
 fn term(cursor: &mut Cursor<'_>, room: u32) -> Result<Term, Refusal>
-    ensures exact { Gives term_view result cursor.new (reading.term_with room (reading.inner_at room) cursor.old) }
+    ensures exact { Gives term_view result cursor.new
+        (reading.term_with room (reading.inner_at room) cursor.old) }
     ensures shorter { length cursor.new ≤ length cursor.old }
 {
     let first = factor(cursor, room)?;
@@ -158,7 +162,8 @@ fn term(cursor: &mut Cursor<'_>, room: u32) -> Result<Term, Refusal>
 /// `{"*" factor}`
 #[cycle(expression)]
 fn products(cursor: &mut Cursor<'_>, room: u32) -> Result<Vec<Factor>, Refusal>
-    ensures exact { Gives factors_view result cursor.new (star (reading.next_factor_at room) cursor.old) }
+    ensures exact { Gives factors_view result cursor.new
+        (star (reading.next_factor_at room) cursor.old) }
     ensures shorter { length cursor.new ≤ length cursor.old }
 {
     let mut more = Vec::new(cursor.alloc());
@@ -173,7 +178,8 @@ fn products(cursor: &mut Cursor<'_>, room: u32) -> Result<Vec<Factor>, Refusal>
 #[cycle(expression)]
 #[tactic(auto, unfolding(crate::proofs::Unfoldings::steps, crate::specs::Combined::if_mark))]
 fn next_product(cursor: &mut Cursor<'_>, room: u32) -> Result<Option<Factor>, Refusal>
-    ensures exact { Gives (option_view factor_view) result cursor.new (reading.next_factor_at room cursor.old) }
+    ensures exact { Gives (option_view factor_view) result cursor.new
+        (reading.next_factor_at room cursor.old) }
     ensures shorter { length cursor.new ≤ length cursor.old }
     ensures taken { IfOk result (λ o. IfSome o (λ _. length cursor.new < length cursor.old)) }
 {
@@ -187,7 +193,8 @@ fn next_product(cursor: &mut Cursor<'_>, room: u32) -> Result<Option<Factor>, Re
 #[cycle(expression)]
 #[tactic(auto, unfolding(crate::proofs::Unfoldings::choices, crate::specs::ExprReading::factor_with))]
 fn factor(cursor: &mut Cursor<'_>, room: u32) -> Result<Factor, Refusal>
-    ensures exact { Gives factor_view result cursor.new (reading.factor_with room (reading.inner_at room) cursor.old) }
+    ensures exact { Gives factor_view result cursor.new
+        (reading.factor_with room (reading.inner_at room) cursor.old) }
     ensures shorter { length cursor.new ≤ length cursor.old }
 {
     if let Some(inner) = within(cursor, room)? {
@@ -213,7 +220,8 @@ fn factor(cursor: &mut Cursor<'_>, room: u32) -> Result<Factor, Refusal>
 #[cycle(expression)]
 #[tactic(auto, unfolding(crate::proofs::Unfoldings::steps, crate::specs::Combined::if_open))]
 pub fn within(cursor: &mut Cursor<'_>, room: u32) -> Result<Option<Expr>, Refusal>
-    ensures exact { Gives (option_view expr_view) result cursor.new (if_open room (reading.inner_at room) cursor.old) }
+    ensures exact { Gives (option_view expr_view) result cursor.new
+        (if_open room (reading.inner_at room) cursor.old) }
     ensures shorter { length cursor.new ≤ length cursor.old }
     ensures taken { IfOk result (λ o. IfSome o (λ _. length cursor.new < length cursor.old)) }
 {
@@ -234,7 +242,8 @@ pub fn within(cursor: &mut Cursor<'_>, room: u32) -> Result<Option<Expr>, Refusa
 #[cycle(expression)]
 #[tactic(auto, unfolding(crate::proofs::Unfoldings::steps, crate::specs::Combined::if_open))]
 pub fn arguments(cursor: &mut Cursor<'_>, room: u32) -> Result<Option<Several<Expr>>, Refusal>
-    ensures exact { Gives (option_view several_values_view) result cursor.new (reading.arguments_at room cursor.old) }
+    ensures exact { Gives (option_view several_values_view) result cursor.new
+        (reading.arguments_at room cursor.old) }
     ensures shorter { length cursor.new ≤ length cursor.old }
     ensures taken { IfOk result (λ o. IfSome o (λ _. length cursor.new < length cursor.old)) }
 {
@@ -255,7 +264,8 @@ pub fn arguments(cursor: &mut Cursor<'_>, room: u32) -> Result<Option<Several<Ex
 #[cycle(expression)]
 #[tactic(auto, unfolding(crate::proofs::Unfoldings::in_turn, crate::specs::Combined::several))]
 fn inner_values(cursor: &mut Cursor<'_>, room: u32) -> Result<Several<Expr>, Refusal>
-    ensures exact { Gives several_values_view result cursor.new (several (reading.inner_at room) cursor.old) }
+    ensures exact { Gives several_values_view result cursor.new
+        (several (reading.inner_at room) cursor.old) }
     ensures shorter { length cursor.new ≤ length cursor.old }
 {
     let first = inner(cursor, room)?;
@@ -271,7 +281,8 @@ fn inner_values(cursor: &mut Cursor<'_>, room: u32) -> Result<Several<Expr>, Ref
 /// `{"," expression}` in one more parenthesis.
 #[cycle(expression)]
 fn inner_others(cursor: &mut Cursor<'_>, room: u32) -> Result<Vec<Expr>, Refusal>
-    ensures exact { Gives values_view result cursor.new (star (reading.next_inner_at room) cursor.old) }
+    ensures exact { Gives values_view result cursor.new
+        (star (reading.next_inner_at room) cursor.old) }
     ensures shorter { length cursor.new ≤ length cursor.old }
 {
     let mut values = Vec::new(cursor.alloc());
@@ -286,7 +297,8 @@ fn inner_others(cursor: &mut Cursor<'_>, room: u32) -> Result<Vec<Expr>, Refusal
 #[cycle(expression)]
 #[tactic(auto, unfolding(crate::proofs::Unfoldings::steps, crate::specs::Combined::if_mark))]
 fn next_inner(cursor: &mut Cursor<'_>, room: u32) -> Result<Option<Expr>, Refusal>
-    ensures exact { Gives (option_view expr_view) result cursor.new (reading.next_inner_at room cursor.old) }
+    ensures exact { Gives (option_view expr_view) result cursor.new
+        (reading.next_inner_at room cursor.old) }
     ensures shorter { length cursor.new ≤ length cursor.old }
     ensures taken { IfOk result (λ o. IfSome o (λ _. length cursor.new < length cursor.old)) }
 {

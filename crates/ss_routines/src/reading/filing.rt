@@ -38,7 +38,8 @@ fn set_end(cursor: &mut Cursor<'_>) -> Option<SetEnd>
 /// `[FIRST | LAST | (BEFORE | AFTER) expression]`
 #[tactic(auto, unfolding(crate::proofs::Unfoldings::choices, crate::specs::SimpleReading::file_place_at))]
 fn file_place(cursor: &mut Cursor<'_>, room: u32) -> Result<FilePlace, Refusal>
-    ensures exact { Gives file_place_view result cursor.new (reading.file_place_at room cursor.old) }
+    ensures exact { Gives file_place_view result cursor.new
+        (reading.file_place_at room cursor.old) }
     ensures shorter { length cursor.new ≤ length cursor.old }
 {
     if let Some(end) = set_end(cursor) {
@@ -57,7 +58,8 @@ fn file_place(cursor: &mut Cursor<'_>, room: u32) -> Result<FilePlace, Refusal>
 #[tactic(auto, unfolding(crate::proofs::Unfoldings::in_turn))]
 fn place_in_set(cursor: &mut Cursor<'_>, room: u32) -> Result<(FilePlace, Reference), Refusal>
     ensures exact { Gives (λ x. (file_place_view x.0, reference_view x.1)) result cursor.new
-        (pair (before (reading.file_place_at room) (m.Reserved r.In)) (reading.reference_at room) cursor.old) }
+        (pair (before (reading.file_place_at room) (m.Reserved r.In))
+        (reading.reference_at room) cursor.old) }
     ensures shorter { length cursor.new ≤ length cursor.old }
 {
     let place = file_place(cursor, room)?;
@@ -99,7 +101,8 @@ fn filed(cursor: &mut Cursor<'_>, room: u32) -> Result<Filing, Refusal>
 #[tactic(auto, unfolding(crate::proofs::Unfoldings::in_turn))]
 fn target_from_set(cursor: &mut Cursor<'_>, room: u32) -> Result<(Reference, Reference), Refusal>
     ensures exact { Gives (λ x. (reference_view x.0, reference_view x.1)) result cursor.new
-        (pair (before (reading.reference_at room) (m.Reserved r.From)) (reading.reference_at room) cursor.old) }
+        (pair (before (reading.reference_at room) (m.Reserved r.From))
+        (reading.reference_at room) cursor.old) }
     ensures shorter { length cursor.new ≤ length cursor.old }
 {
     let target = reference(cursor, room)?;
@@ -134,7 +137,8 @@ fn removed(cursor: &mut Cursor<'_>, room: u32) -> Result<Filing, Refusal>
 /// FILE or REMOVE, if one stands here.
 #[tactic(auto, unfolding(crate::proofs::Unfoldings::choices, crate::specs::SimpleReading::filing_at))]
 pub fn filing(cursor: &mut Cursor<'_>, room: u32) -> Result<Option<Filing>, Refusal>
-    ensures exact { Gives (option_view filing_view) result cursor.new (reading.filing_at room cursor.old) }
+    ensures exact { Gives (option_view filing_view) result cursor.new
+        (reading.filing_at room cursor.old) }
     ensures shorter { length cursor.new ≤ length cursor.old }
     ensures taken { IfOk result (λ o. IfSome o (λ _. length cursor.new < length cursor.old)) }
 {

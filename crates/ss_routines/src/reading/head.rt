@@ -1,20 +1,20 @@
 //! Reading heads and local DEFINEs.
 
 ghost use Rattle.std.specs.Prelude.{IfOk, IsTrue, length, map, ◌≡◌, ◌≤◌, ◌<◌};
+ghost use Rattle.ss_words.specs.declared.limits.TheConstants.{MOST_PARAMETERS};
 ghost use Rattle.ss_words.specs.Lists.{several_view};
 ghost use Rattle.ss_words.specs.Plain.{first, word_lines};
 ghost use Rattle.ss_words.specs.Noting.{repeat};
 ghost use Rattle.ss_words.specs.Reading.{Gives};
 ghost use Rattle.ss_routines.specs.PlacesAtLines as places;
 ghost use Rattle.ss_routines.specs.SectionReading as reading;
+ghost use Rattle.ss_routines.specs.Tree.{is_head};
 ghost use Rattle.ss_routines.specs.View.{head_view, local_view};
 
 use crate::reading::names::{count, given, yielded};
 use crate::tree::section::{LocalNames, SectionKind};
+use ss_words::limits::MOST_PARAMETERS;
 use ss_words::{Cursor, Mark, Name, Plain, PlainWord, Refusal, Reserved, Several};
-
-/// How many parameters a section may have, given and yielded together.
-const MOST_PARAMETERS: usize = 32;
 
 /// What a section is, and its name in upper case; that of the main section is `MAIN`.
 #[derive(Drop)]
@@ -25,7 +25,7 @@ pub struct SectionHead {
 
 /// Whether a section begins with the next word.
 pub fn begins(cursor: &Cursor<'_>) -> bool
-    ensures { result ≡ reading.is_head (first cursor.now) }
+    ensures { result ≡ is_head (first cursor.now) }
 {
     matches!(
         cursor.peek(),
@@ -37,7 +37,8 @@ pub fn begins(cursor: &Cursor<'_>) -> bool
 /// or `EVENT name [GIVEN names | "(" names ")"] [SAVING EVENT NOTICES]`.
 #[tactic(auto, using(ss_words::proofs::Marks::taken), unfolding(crate::proofs::Unfoldings::heads))]
 pub fn head(cursor: &mut Cursor<'_>) -> Result<SectionHead, Refusal>
-    ensures exact { Gives (λ h. head_view h.name h.kind) result cursor.new (reading.head_at 32 cursor.old) }
+    ensures exact { Gives (λ h. head_view h.name h.kind) result cursor.new
+        (reading.head_at MOST_PARAMETERS cursor.old) }
     ensures shorter { length cursor.new ≤ length cursor.old }
     ensures taken { IfOk result (λ _. length cursor.new < length cursor.old) }
 {
@@ -66,7 +67,8 @@ pub fn head(cursor: &mut Cursor<'_>) -> Result<SectionHead, Refusal>
 /// `name [GIVEN names | "(" names ")"] [YIELDING names]`, behind ROUTINE.
 #[tactic(auto, unfolding(crate::proofs::Unfoldings::steps, crate::specs::SectionReading::routine_at))]
 fn routine(cursor: &mut Cursor<'_>) -> Result<SectionHead, Refusal>
-    ensures exact { Gives (λ h. head_view h.name h.kind) result cursor.new (reading.routine_at 32 cursor.old) }
+    ensures exact { Gives (λ h. head_view h.name h.kind) result cursor.new
+        (reading.routine_at MOST_PARAMETERS cursor.old) }
     ensures shorter { length cursor.new ≤ length cursor.old }
 {
     let name = cursor.name()?;
@@ -79,7 +81,8 @@ fn routine(cursor: &mut Cursor<'_>) -> Result<SectionHead, Refusal>
 /// `name [GIVEN names | "(" names ")"] [SAVING EVENT NOTICES]`, behind EVENT.
 #[tactic(auto, unfolding(crate::proofs::Unfoldings::steps, crate::specs::SectionReading::event_at))]
 fn event(cursor: &mut Cursor<'_>) -> Result<SectionHead, Refusal>
-    ensures exact { Gives (λ h. head_view h.name h.kind) result cursor.new (reading.event_at 32 cursor.old) }
+    ensures exact { Gives (λ h. head_view h.name h.kind) result cursor.new
+        (reading.event_at MOST_PARAMETERS cursor.old) }
     ensures shorter { length cursor.new ≤ length cursor.old }
 {
     let name = cursor.name()?;
@@ -117,7 +120,7 @@ fn define(cursor: &mut Cursor<'_>) -> Result<Several<Name>, Refusal>
 }
 
 /// Pushes the names of a local DEFINE and its line, if one stands here.
-#[tactic(auto, using(crate::proofs::Pushed::pushed_local), unfolding(crate::proofs::Unfoldings::notes))]
+#[tactic(auto, using(crate::proofs::PushedPlaces::pushed_local), unfolding(crate::proofs::Unfoldings::notes))]
 fn next_local(
     cursor: &mut Cursor<'_>,
     text: &[PlainWord<'_>],
@@ -144,7 +147,8 @@ pub fn local_list(
     out: &mut Vec<LocalNames>,
 ) -> Result<(), Refusal>
     ensures exact { Gives (λ u. map local_view out.new.items) result cursor.new
-        (repeat (places.noting_local (word_lines text.now)) (map local_view out.old.items) cursor.old) }
+        (repeat (places.noting_local (word_lines text.now))
+        (map local_view out.old.items) cursor.old) }
     ensures shorter { length cursor.new ≤ length cursor.old }
 {
     while next_local(cursor, text, out)? {}

@@ -22,7 +22,8 @@ use ss_words::{Cursor, Mark, Refusal, Reserved, Several, Sign};
 /// `expression {"," expression}`
 #[tactic(auto, unfolding(crate::proofs::Unfoldings::in_turn, crate::specs::Combined::several))]
 pub fn expressions(cursor: &mut Cursor<'_>, room: u32) -> Result<Several<Expr>, Refusal>
-    ensures exact { Gives several_values_view result cursor.new (several (expr_at room) cursor.old) }
+    ensures exact { Gives several_values_view result cursor.new
+        (several (expr_at room) cursor.old) }
     ensures shorter { length cursor.new ≤ length cursor.old }
 {
     let first = expression(cursor, room)?;
@@ -37,7 +38,8 @@ pub fn expressions(cursor: &mut Cursor<'_>, room: u32) -> Result<Several<Expr>, 
 
 /// `{"," expression}`
 fn other_expressions(cursor: &mut Cursor<'_>, room: u32) -> Result<Vec<Expr>, Refusal>
-    ensures exact { Gives values_view result cursor.new (star (if_mark (m.Sign s.Comma) (expr_at room)) cursor.old) }
+    ensures exact { Gives values_view result cursor.new
+        (star (if_mark (m.Sign s.Comma) (expr_at room)) cursor.old) }
     ensures shorter { length cursor.new ≤ length cursor.old }
 {
     let mut values = Vec::new(cursor.alloc());
@@ -64,7 +66,8 @@ fn next_expression(cursor: &mut Cursor<'_>, room: u32) -> Result<Option<Expr>, R
 /// `reference {"," reference}`
 #[tactic(auto, unfolding(crate::proofs::Unfoldings::in_turn, crate::specs::Combined::several))]
 pub fn references(cursor: &mut Cursor<'_>, room: u32) -> Result<Several<Reference>, Refusal>
-    ensures exact { Gives (several_view reference_view) result cursor.new (several (reference_at room) cursor.old) }
+    ensures exact { Gives (several_view reference_view) result cursor.new
+        (several (reference_at room) cursor.old) }
     ensures shorter { length cursor.new ≤ length cursor.old }
 {
     let first = reference(cursor, room)?;
@@ -121,7 +124,8 @@ pub fn expressions_behind(
     mark: Mark,
     room: u32,
 ) -> Result<Vec<Expr>, Refusal>
-    ensures exact { Gives values_view result cursor.new (list_behind mark (expr_at room) cursor.old) }
+    ensures exact { Gives values_view result cursor.new
+        (list_behind mark (expr_at room) cursor.old) }
     ensures shorter { length cursor.new ≤ length cursor.old }
 {
     if !cursor.eat(mark) {
@@ -137,7 +141,8 @@ pub fn references_behind(
     mark: Mark,
     room: u32,
 ) -> Result<Vec<Reference>, Refusal>
-    ensures exact { Gives references_view result cursor.new (list_behind mark (reference_at room) cursor.old) }
+    ensures exact { Gives references_view result cursor.new
+        (list_behind mark (reference_at room) cursor.old) }
     ensures shorter { length cursor.new ≤ length cursor.old }
 {
     if !cursor.eat(mark) {

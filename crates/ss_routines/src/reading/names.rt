@@ -5,7 +5,7 @@ ghost use Rattle.ss_words.specs.Lists.{several_view};
 ghost use Rattle.ss_words.specs.Plain.{first};
 ghost use Rattle.ss_words.specs.Reading.{Gives};
 ghost use Rattle.ss_routines.specs.SectionReading as reading;
-ghost use Rattle.ss_routines.specs.Tree.{listed};
+ghost use Rattle.ss_routines.specs.Tree.{listing_names};
 ghost use Rattle.ss_routines.specs.View.{listing_view};
 
 use crate::reading::lists::listed;
@@ -40,7 +40,8 @@ fn other_names(cursor: &mut Cursor<'_>, room: usize) -> Result<Vec<Name>, Refusa
 
 /// `name {"," name}`, at most so many.
 fn names(cursor: &mut Cursor<'_>, room: usize) -> Result<Several<Name>, Refusal>
-    ensures exact { Gives (several_view (λ n. n)) result cursor.new (reading.names_at room cursor.old) }
+    ensures exact { Gives (several_view (λ n. n)) result cursor.new
+        (reading.names_at room cursor.old) }
     ensures shorter { length cursor.new ≤ length cursor.old }
 {
     if room == 0 {
@@ -54,7 +55,8 @@ fn names(cursor: &mut Cursor<'_>, room: usize) -> Result<Several<Name>, Refusal>
 /// `[GIVEN names | "(" names ")"]`, at most so many names.
 #[tactic(auto, unfolding(crate::proofs::Unfoldings::steps, crate::specs::SectionReading::given_at))]
 pub fn given(cursor: &mut Cursor<'_>, room: usize) -> Result<Listing<Name>, Refusal>
-    ensures exact { Gives (listing_view (λ n. n)) result cursor.new (reading.given_at room cursor.old) }
+    ensures exact { Gives (listing_view (λ n. n)) result cursor.new
+        (reading.given_at room cursor.old) }
     ensures shorter { length cursor.new ≤ length cursor.old }
 {
     if cursor.eat(Mark::Reserved(Reserved::Given)) {
@@ -82,7 +84,7 @@ pub fn yielded(cursor: &mut Cursor<'_>, room: usize) -> Result<Vec<Name>, Refusa
 
 /// How many names are written.
 pub fn count(names: &Listing<Name>) -> usize
-    ensures { result ≡ length (listed (listing_view (λ n. n) names.now)) }
+    ensures { result ≡ length (listing_names (listing_view (λ n. n) names.now)) }
 {
     match names {
         Listing::Unwritten => 0,

@@ -20,7 +20,7 @@ use crate::tree::place::{Branch, Loop, Place, Spot};
 use ss_words::{Cursor, Mark, PlainWord, Refusal, Reserved};
 
 /// Pushes a place in this line.
-#[tactic(auto, using(crate::proofs::Pushed::pushed))]
+#[tactic(auto, using(crate::proofs::PushedPlaces::pushed))]
 pub fn note(out: &mut Vec<Spot>, line: usize, place: Place) -> Result<(), Refusal>
     ensures noted { IfOk result (λ _.
         spots out.new.items ≡ spots out.old.items ++ noted_at line (place_view place) ∷ []) }
@@ -37,8 +37,10 @@ pub fn always(
     text: &[PlainWord<'_>],
     out: &mut Vec<Spot>,
 ) -> Result<(), Refusal>
-    ensures exact { Gives (λ u. spots out.new.items) result cursor.new (here (word_lines text.now) (λ j.
-        bind (expect (m.Reserved r.Always)) (λ u. pure (spots out.old.items ++ noted_at j (p.Branches p.Always) ∷ [])))
+    ensures exact { Gives (λ u. spots out.new.items) result cursor.new
+        (here (word_lines text.now) (λ j.
+        bind (expect (m.Reserved r.Always))
+        (λ u. pure (spots out.old.items ++ noted_at j (p.Branches p.Always) ∷ [])))
         cursor.old) }
     ensures shorter { length cursor.new ≤ length cursor.old }
 {
@@ -54,8 +56,10 @@ pub fn next(
     text: &[PlainWord<'_>],
     out: &mut Vec<Spot>,
 ) -> Result<(), Refusal>
-    ensures exact { Gives (λ u. spots out.new.items) result cursor.new (here (word_lines text.now) (λ j.
-        bind (expect (m.Reserved r.Loop)) (λ u. pure (spots out.old.items ++ noted_at j (p.Loops p.Next) ∷ [])))
+    ensures exact { Gives (λ u. spots out.new.items) result cursor.new
+        (here (word_lines text.now) (λ j.
+        bind (expect (m.Reserved r.Loop))
+        (λ u. pure (spots out.old.items ++ noted_at j (p.Loops p.Next) ∷ [])))
         cursor.old) }
     ensures shorter { length cursor.new ≤ length cursor.old }
 {
@@ -71,8 +75,10 @@ pub fn end(
     text: &[PlainWord<'_>],
     out: &mut Vec<Spot>,
 ) -> Result<(), Refusal>
-    ensures exact { Gives (λ u. spots out.new.items) result cursor.new (here (word_lines text.now) (λ j.
-        bind (expect (m.Reserved r.End)) (λ u. pure (spots out.old.items ++ noted_at j p.EndOfSection ∷ [])))
+    ensures exact { Gives (λ u. spots out.new.items) result cursor.new
+        (here (word_lines text.now) (λ j.
+        bind (expect (m.Reserved r.End))
+        (λ u. pure (spots out.old.items ++ noted_at j p.EndOfSection ∷ [])))
         cursor.old) }
     ensures shorter { length cursor.new ≤ length cursor.old }
 {
@@ -102,7 +108,8 @@ pub fn gather(
     out: &mut Vec<Spot>,
 ) -> Result<(), Refusal>
     ensures exact { Gives (λ u. spots out.new.items) result cursor.new
-        (bind (compute_at room) (λ x. pure (spots out.old.items ++ noted_at line (p.Loops (p.Gather x.1)) ∷
+        (bind (compute_at room)
+        (λ x. pure (spots out.old.items ++ noted_at line (p.Loops (p.Gather x.1)) ∷
         noted_at line (p.Loops (p.Compute x.0)) ∷ [])) cursor.old) }
     ensures shorter { length cursor.new ≤ length cursor.old }
 {

@@ -128,7 +128,8 @@ fn counting(cursor: &mut Cursor<'_>, room: u32) -> Result<Range, Refusal>
 /// `expression TO`
 #[tactic(auto, unfolding(crate::proofs::Unfoldings::in_turn))]
 fn expression_to(cursor: &mut Cursor<'_>, room: u32) -> Result<Expr, Refusal>
-    ensures exact { Gives expr_view result cursor.new (before (expr_at room) (m.Reserved r.To) cursor.old) }
+    ensures exact { Gives expr_view result cursor.new
+        (before (expr_at room) (m.Reserved r.To) cursor.old) }
     ensures shorter { length cursor.new ≤ length cursor.old }
 {
     let first = expression(cursor, room)?;
@@ -230,7 +231,8 @@ fn step(cursor: &mut Cursor<'_>, room: u32) -> Result<Option<Expr>, Refusal>
 /// `{(WITH | UNLESS | WHILE | UNTIL) condition}`
 #[tactic(auto, unfolding(crate::specs::LoopReading::qualifiers_at))]
 fn qualifiers(cursor: &mut Cursor<'_>, room: u32) -> Result<Vec<Qualifier>, Refusal>
-    ensures exact { Gives qualifiers_view result cursor.new (reading.qualifiers_at room cursor.old) }
+    ensures exact { Gives qualifiers_view result cursor.new
+        (reading.qualifiers_at room cursor.old) }
     ensures shorter { length cursor.new ≤ length cursor.old }
 {
     let mut qualifiers = Vec::new(cursor.alloc());
@@ -243,7 +245,8 @@ fn qualifiers(cursor: &mut Cursor<'_>, room: u32) -> Result<Vec<Qualifier>, Refu
 /// A qualifier, if one begins here.
 #[tactic(auto, unfolding(crate::proofs::Unfoldings::choices))]
 fn next_qualifier(cursor: &mut Cursor<'_>, room: u32) -> Result<Option<Qualifier>, Refusal>
-    ensures exact { Gives (option_view qualifier_view) result cursor.new (reading.next_qualifier room cursor.old) }
+    ensures exact { Gives (option_view qualifier_view) result cursor.new
+        (reading.next_qualifier room cursor.old) }
     ensures shorter { length cursor.new ≤ length cursor.old }
     ensures taken { IfOk result (λ o. IfSome o (λ _. length cursor.new < length cursor.old)) }
 {

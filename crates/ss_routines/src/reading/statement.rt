@@ -20,7 +20,8 @@ use ss_words::{Cursor, Refusal};
 /// once.
 #[tactic(auto, unfolding(crate::proofs::Unfoldings::choices, crate::specs::SimpleReading::simple_at))]
 pub fn simple(cursor: &mut Cursor<'_>, room: u32) -> Result<Option<Simple>, Refusal>
-    ensures exact { Gives (option_view simple_view) result cursor.new (reading.simple_at room cursor.old) }
+    ensures exact { Gives (option_view simple_view) result cursor.new
+        (reading.simple_at room cursor.old) }
     ensures shorter { length cursor.new ≤ length cursor.old }
     ensures taken { IfOk result (λ o. IfSome o (λ _. length cursor.new < length cursor.old)) }
 {
@@ -41,7 +42,8 @@ pub fn simple(cursor: &mut Cursor<'_>, room: u32) -> Result<Option<Simple>, Refu
 fn other(cursor: &mut Cursor<'_>, room: u32) -> Result<Option<Simple>, Refusal>
     ensures exact { Gives (option_view simple_view) result cursor.new
         (made_of (λ x. simple_of (inr (inr (inr x))))
-        (either_of (reading.timing_at room) (either_of (reading.exchange_at room) (reading.assign_at room)))
+        (either_of (reading.timing_at room)
+        (either_of (reading.exchange_at room) (reading.assign_at room)))
         cursor.old) }
     ensures shorter { length cursor.new ≤ length cursor.old }
     ensures taken { IfOk result (λ o. IfSome o (λ _. length cursor.new < length cursor.old)) }

@@ -101,7 +101,8 @@ fn scheduled(cursor: &mut Cursor<'_>, room: u32) -> Result<Timing, Refusal>
 /// SCHEDULE, CANCEL or START SIMULATION, if one stands here.
 #[tactic(auto, unfolding(crate::proofs::Unfoldings::choices, crate::specs::SimpleReading::timing_at))]
 pub fn timing(cursor: &mut Cursor<'_>, room: u32) -> Result<Option<Timing>, Refusal>
-    ensures exact { Gives (option_view timing_view) result cursor.new (reading.timing_at room cursor.old) }
+    ensures exact { Gives (option_view timing_view) result cursor.new
+        (reading.timing_at room cursor.old) }
     ensures shorter { length cursor.new ≤ length cursor.old }
     ensures taken { IfOk result (λ o. IfSome o (λ _. length cursor.new < length cursor.old)) }
 {

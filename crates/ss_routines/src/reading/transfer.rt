@@ -12,7 +12,8 @@ use ss_words::{Cursor, Mark, Refusal, Reserved};
 /// CALL, RETURN or STOP, if one stands here.
 #[tactic(auto, unfolding(crate::proofs::Unfoldings::transfers))]
 pub fn transfer(cursor: &mut Cursor<'_>, room: u32) -> Result<Option<Transfer>, Refusal>
-    ensures exact { Gives (option_view transfer_view) result cursor.new (reading.transfer_at room cursor.old) }
+    ensures exact { Gives (option_view transfer_view) result cursor.new
+        (reading.transfer_at room cursor.old) }
     ensures shorter { length cursor.new ≤ length cursor.old }
     ensures taken { IfOk result (λ o. IfSome o (λ _. length cursor.new < length cursor.old)) }
 {

@@ -78,7 +78,7 @@ impl Sections {
     }
 
     /// The sections, in order.
-    #[tactic(auto, using(crate::proofs::Ended::program_ended))]
+    #[tactic(auto, using(crate::proofs::EndIsLast::program_ended))]
     pub fn list(&self) -> &[Section]
         ensures list { map section_view result.now ≡ self.now }
         ensures program { AreOfProgram self.now }
@@ -88,7 +88,7 @@ impl Sections {
     }
 
     /// Gives the sections away, in order.
-    #[tactic(auto, using(crate::proofs::Ended::program_ended))]
+    #[tactic(auto, using(crate::proofs::EndIsLast::program_ended))]
     pub fn into_list(self) -> Vec<Section>
         ensures list { map section_view result.items ≡ self }
         ensures program { AreOfProgram self }

@@ -36,7 +36,8 @@ impl Model for Collected {
     ghost view = { λ a. map word_at a.words.items };
 
     ghost invariant = { λ a.
-        IsTracked a.ends_in_as a.ends_in_print a.calls_picture a.lines (nearest (map word_at a.words.items)) };
+        IsTracked a.ends_in_as a.ends_in_print a.calls_picture a.lines
+        (nearest (map word_at a.words.items)) };
 }
 
 // A word is this name, which is in upper case.
@@ -93,7 +94,7 @@ impl Collected {
     ghost use Rattle.ss_words.specs.TextWords.{on_line};
     ghost use Rattle.ss_words.specs.TextScan.{nearest};
     ghost use Rattle.ss_words.specs.TextRuns.{calls_picture, picture_lines};
-    ghost use Rattle.ss_words.specs.TextSpelling.{spelled};
+    ghost use Rattle.ss_words.specs.TextSpelling.{spelled_word};
 
     pub fn new(alloc: Global) -> Self
         ensures { result ≡ [] }
@@ -116,7 +117,7 @@ impl Collected {
     // The word that a run spells.
     pub fn spelled(&mut self, run: &[u8], spelling: Spelling) -> Result<WordKind, AllocError>
         ensures same { self.new ≡ self.old }
-        ensures spelled { IfOk result (λ k. kind_of k ≡ spelled run.now spelling) }
+        ensures spelled { IfOk result (λ k. kind_of k ≡ spelled_word run.now spelling) }
     {
         match spelling {
             Spelling::Name => {

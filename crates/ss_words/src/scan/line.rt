@@ -3,7 +3,7 @@ ghost use Rattle.std.specs.Prelude.{◌≡◌, ℕ, ◌+◌, ◌<◌, ◌≤◌,
 ghost use Rattle.std.specs.Prelude.{slice_index, Some, MatchResult, IfOk};
 ghost use Rattle.ss_words.specs.Words.{Kind, kind_of};
 ghost use Rattle.ss_words.specs.TextBytes.{is_blank, in_run, sign_len};
-ghost use Rattle.ss_words.specs.TextLines.{text_lines, is_bare};
+ghost use Rattle.ss_words.specs.TextLines.{text_lines, is_blank_rest};
 ghost use Rattle.ss_words.specs.TextRuns.{is_met, lacks_picture};
 ghost use Rattle.ss_words.specs.TextWords.{found_in_line, run_found, word_found};
 ghost use Rattle.ss_words.specs.TextScan.{begins_comment, hidden_len, SameFindings, IsFirstIn, nearest, left_in_line};
@@ -38,7 +38,8 @@ fn scan_place(words: &mut Collected, rest: &[u8], below: &Lines) -> Result<usize
     ensures len { IfOk result (λ len. (0 < len) × (len ≤ length rest.now)) }
     ensures found { let todo = left_in_line below.now.taken below.now.rest.now in
         MatchResult result
-        (λ len. SameFindings words.old (todo words.old rest.now) words.new (todo words.new (drop len rest.now)))
+        (λ len. SameFindings words.old (todo words.old rest.now) words.new
+        (todo words.new (drop len rest.now)))
         (λ f. IsFirstIn f (todo words.old rest.now)) }
 {
     if begins_comment(rest) {
@@ -96,7 +97,6 @@ fn scan_comment(rest: &[u8], line: usize) -> Result<usize, TextFault>
     }
 }
 
-// How many bytes a sign has.
 fn sign_len(sign: Sign) -> usize
     ensures { result ≡ sign_len sign }
 {
@@ -122,7 +122,8 @@ fn scan_sign(words: &mut Collected, rest: &[u8], below: &Lines) -> Result<usize,
     ensures len { IfOk result (λ len. (0 < len) × (len ≤ length rest.now)) }
     ensures found { let todo = left_in_line below.now.taken below.now.rest.now in
         MatchResult result
-        (λ len. SameFindings words.old (todo words.old rest.now) words.new (todo words.new (drop len rest.now)))
+        (λ len. SameFindings words.old (todo words.old rest.now) words.new
+        (todo words.new (drop len rest.now)))
         (λ f. IsFirstIn f (todo words.old rest.now)) }
 {
     match sign_from(rest[0], second(rest)) {
@@ -163,7 +164,8 @@ fn scan_word(
     below: &Lines,
 ) -> Result<(), TextFault>
     ensures { let lines = length (text_lines below.now.rest.now) in
-        let todo = word_found below.now.taken lines (nearest words.old) rest.now (Some (kind_of kind)) in
+        let todo = word_found below.now.taken lines (nearest words.old) rest.now
+        (Some (kind_of kind)) in
         MatchResult result (λ _. SameFindings words.old todo words.new []) (λ f. IsFirstIn f todo) }
 {
     words.push(below.taken, kind)?;
@@ -176,12 +178,13 @@ fn scan_word(
 // The words call a picture at their end, and it is not there.
 #[tactic(auto, unfolding(crate::specs::TextRuns::lacks_picture))]
 fn lacks_picture(words: &Collected, rest: &[u8], below: &Lines) -> bool
-    ensures { result ≡ lacks_picture (nearest words.now) rest.now (length (text_lines below.now.rest.now)) }
+    ensures { result
+        ≡ lacks_picture (nearest words.now) rest.now (length (text_lines below.now.rest.now)) }
 {
     if !words.calls_picture() {
         return false;
     }
-    if !is_bare(rest) {
+    if !is_blank_rest(rest) {
         return true;
     }
     !is_met(words.picture_lines(), below)
@@ -206,8 +209,8 @@ fn blanks_len(rest: &[u8]) -> usize
 }
 
 // Only blanks, tabs and at most one comment.
-fn is_bare(rest: &[u8]) -> bool
-    ensures { result ≡ is_bare rest.now }
+fn is_blank_rest(rest: &[u8]) -> bool
+    ensures { result ≡ is_blank_rest rest.now }
 {
     let rest = &rest[blanks_len(rest)..];
     if begins_comment(rest) {

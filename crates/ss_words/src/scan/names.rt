@@ -13,7 +13,6 @@ pub struct Names {
 }
 
 impl Names {
-    /// No names.
     pub fn new(alloc: Global) -> Self {
         Names {
             alloc,

@@ -17,9 +17,12 @@ use std::alloc::Global;
 // Takes the picture that the words call at their end, if they call one: the next lines, as many
 // as PRINT says.
 pub fn scan_picture(words: &mut Collected, lines: &mut Lines) -> Result<(), TextFault>
-    ensures found { let todo = found_below (nearest words.old) (lines.old.taken + 1) (text_lines lines.old.rest.now) in
-        let left = found_from_line (nearest words.new) (lines.new.taken + 1) 0 (text_lines lines.new.rest.now) in
-        MatchResult result (λ _. SameFindings words.old todo words.new left) (λ f. IsFirstIn f todo) }
+    ensures found { let todo = found_below (nearest words.old) (lines.old.taken + 1)
+        (text_lines lines.old.rest.now) in
+        let left = found_from_line (nearest words.new) (lines.new.taken + 1) 0
+        (text_lines lines.new.rest.now) in
+        MatchResult result (λ _. SameFindings words.old todo words.new left)
+        (λ f. IsFirstIn f todo) }
     ensures shorter { length lines.new.rest.now ≤ length lines.old.rest.now }
 {
     if !words.calls_picture() {
@@ -37,10 +40,13 @@ pub fn scan_picture(words: &mut Collected, lines: &mut Lines) -> Result<(), Text
 
 // The next lines as a picture, at most so many.
 fn picture(alloc: Global, lines: &mut Lines, count: usize) -> Result<Vec<Vec<u8>>, TextFault>
-    ensures picture { IfOk result (λ p. map (λ l. l.items) p.items ≡ take count (text_lines lines.old.rest.now)) }
+    ensures picture { IfOk result
+        (λ p. map (λ l. l.items) p.items ≡ take count (text_lines lines.old.rest.now)) }
     ensures found { (before : List Kind) →
-        let todo : List Finding = found_from_line before (lines.old.taken + 1) count (text_lines lines.old.rest.now) in
-        let left : List Finding = found_from_line before (lines.new.taken + 1) 0 (text_lines lines.new.rest.now) in
+        let todo : List Finding = found_from_line before (lines.old.taken + 1) count
+        (text_lines lines.old.rest.now) in
+        let left : List Finding = found_from_line before (lines.new.taken + 1) 0
+        (text_lines lines.new.rest.now) in
         MatchResult result (λ _. todo ≡ left) (λ f. IsFirstIn f todo) }
     ensures shorter { length lines.new.rest.now ≤ length lines.old.rest.now }
 {
@@ -54,7 +60,6 @@ fn picture(alloc: Global, lines: &mut Lines, count: usize) -> Result<Vec<Vec<u8>
     Ok(picture)
 }
 
-// A line of a picture.
 fn picture_line(alloc: Global, line: &[u8], number: usize) -> Result<Vec<u8>, TextFault>
     ensures line { IfOk result (λ l. l.items ≡ line.now) }
     ensures found { let todo = found_in_picture number line.now in

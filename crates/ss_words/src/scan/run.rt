@@ -88,7 +88,6 @@ pub fn spelling_of(run: &[u8]) -> Option<Spelling>
     }
 }
 
-// A run in upper case.
 pub fn upper_case(alloc: Global, run: &[u8]) -> Result<Vec<u8>, AllocError>
     ensures { IfOk result (λ name. name.items ≡ map to_ascii_uppercase run.now) }
 {

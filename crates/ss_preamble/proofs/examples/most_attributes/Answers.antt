@@ -8,7 +8,7 @@ use Rattle.ss_preamble.specs.ItemReading.{other_keys, keys, heading_with, defini
 use Rattle.ss_preamble.specs.ItemReading.{normally_with, every_with, priority_with, break_with, external_with}
 use Rattle.ss_preamble.specs.ItemReading.{next_item, items_with, preamble_with}
 use Rattle.ss_preamble.specs.Examples.{preamble_of, attributes}
-use Rattle.ss_preamble.proofs.Decided.{decided, read}
+use Rattle.ss_preamble.proofs.AnswerByReading.{decided, read}
 use Rattle.ss_preamble.proofs.examples.most_attributes.Goals as goal
 
 pub returns : goal.returns

@@ -7,7 +7,7 @@ use Rattle.ss_preamble.specs.ItemReading.{next_clause, a_clause, other_clauses, 
 use Rattle.ss_preamble.specs.ItemReading.{other_keys, keys, heading_with, definition_of, definition_with}
 use Rattle.ss_preamble.specs.ItemReading.{normally_with, every_with, priority_with, break_with, external_with}
 use Rattle.ss_preamble.specs.ItemReading.{next_item, items_with, preamble_with}
-use Rattle.ss_preamble.proofs.Decided.{answered}
+use Rattle.ss_preamble.proofs.AnswerByReading.{answered}
 use Rattle.ss_preamble.proofs.examples.preamble_alone.Goals as goal
 
 pub returns : goal.returns

@@ -1,4 +1,4 @@
-use Rattle.ss_preamble.proofs.Decided.{always}
+use Rattle.ss_preamble.proofs.AnswerByReading.{always}
 use Rattle.ss_preamble.proofs.laws.words_are_answered.Goals as goal
 
 pub returns : goal.returns

@@ -1,4 +1,4 @@
-use Rattle.ss_preamble.proofs.Behind.{words_stand_behind}
+use Rattle.ss_preamble.proofs.WordsBehind.{words_stand_behind}
 use Rattle.ss_preamble.proofs.laws.words_stand_behind.Goals as goal
 
 pub returns : goal.returns

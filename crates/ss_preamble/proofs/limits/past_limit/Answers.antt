@@ -2,7 +2,7 @@ use Rattle.std.proofs.Common.{arith, ap, length, take, drop, ◌-◌, ◌∙◌}
 use Rattle.ss_words.specs.Plain.{Plain, plains_of}
 use Rattle.ss_preamble.specs.Roles.{role, behind_word}
 use Rattle.ss_preamble.specs.Tally.{standing_view, role_view, tally_view}
-use Rattle.ss_preamble.proofs.Passing.{split_first, turns_at, stops_at}
+use Rattle.ss_preamble.proofs.PastLimitLoop.{split_first, turns_at, stops_at}
 use Rattle.ss_preamble.proofs.limits.past_limit.Goals as goal
 
 pub returns-then-not-branch-clause-some : goal.returns-then-not-branch-clause-some

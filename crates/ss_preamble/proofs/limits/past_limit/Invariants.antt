@@ -1,7 +1,7 @@
 use Rattle.std.proofs.Common.{◌+◌, ◌≤◌, length}
 use Rattle.ss_words.specs.Plain.{plains_of}
 use Rattle.ss_preamble.specs.Tally.{standing_view, tally_view}
-use Rattle.ss_preamble.proofs.Passing.{CountedBefore}
+use Rattle.ss_preamble.proofs.PastLimitLoop.{CountedBefore}
 use Rattle.ss_preamble.proofs.limits.past_limit.Given as goal
 
 abbrev pub invariant-loop-rest : goal.invariant-loop-rest

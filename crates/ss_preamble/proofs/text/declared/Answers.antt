@@ -1,6 +1,6 @@
 use Rattle.std.proofs.Common.{arith}
 use Rattle.ss_preamble.specs.View.{decls_view}
-use Rattle.ss_preamble.proofs.Told.{told_past, told_items}
+use Rattle.ss_preamble.proofs.AnswerAtStop.{told_past, told_items}
 use Rattle.ss_preamble.proofs.text.declared.Goals as goal
 
 pub returns-in-Some-clause-refused : goal.returns-in-Some-clause-refused

@@ -1,4 +1,4 @@
-use Rattle.ss_preamble.proofs.Told.{unexpected_of}
+use Rattle.ss_preamble.proofs.AnswerAtStop.{unexpected_of}
 use Rattle.ss_preamble.proofs.text.fault.Goals as goal
 
 pub unexpected-requires : goal.unexpected-requires

@@ -10,7 +10,7 @@ use Rattle.ss_preamble.specs.View.{decls_view}
 use Rattle.ss_preamble.specs.Limits.{IsWithin}
 use Rattle.ss_preamble.specs.Refused.{AreDecls}
 use Rattle.ss_preamble.proofs.Indexes.{indexes_below}
-use Rattle.ss_preamble.proofs.Within.{decls_within}
+use Rattle.ss_preamble.proofs.DeclsWithin.{decls_within}
 use Rattle.ss_preamble.proofs.text.preamble.Goals as goal
 
 pub read-requires : goal.read-requires

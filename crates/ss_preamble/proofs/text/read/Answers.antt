@@ -1,5 +1,5 @@
 use Rattle.std.proofs.Common.{sym, ◌∙◌}
-use Rattle.ss_preamble.proofs.Told.{no_preamble}
+use Rattle.ss_preamble.proofs.AnswerAtStop.{no_preamble}
 use Rattle.ss_preamble.proofs.text.read.Goals as goal
 
 pub returns-then-not-is_next-clause-declared : goal.returns-then-not-is_next-clause-declared

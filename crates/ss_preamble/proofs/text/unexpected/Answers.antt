@@ -1,5 +1,5 @@
 use Rattle.std.proofs.Common.{arith}
-use Rattle.ss_preamble.proofs.Told.{told_limit, told_word, told_end, told_last}
+use Rattle.ss_preamble.proofs.AnswerAtStop.{told_limit, told_word, told_end, told_last}
 use Rattle.ss_preamble.proofs.text.unexpected.Goals as goal
 use Rattle.ss_preamble.proofs.text.unexpected.Goals.{in_default-past-via-in-Some+else-word-text}
 use Rattle.ss_preamble.proofs.text.unexpected.Goals.{in_default-past-via-in-None+else-reached-text}

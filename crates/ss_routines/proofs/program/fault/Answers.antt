@@ -1,5 +1,5 @@
 use Rattle.std.proofs.Common.{arith}
-use Rattle.ss_routines.proofs.Told.{told_word, told_limit, told_end, told_past_end}
+use Rattle.ss_routines.proofs.NotedAnswers.{told_word, told_limit, told_end, told_past_end}
 use Rattle.ss_routines.proofs.program.fault.Goals as goal
 use Rattle.ss_routines.proofs.program.fault.Goals.{in_default-via-in-Unexpected+else-left-gt0}
 use Rattle.ss_routines.proofs.program.fault.Goals.{in_default-via-in-PastLimit+else-left-gt1}

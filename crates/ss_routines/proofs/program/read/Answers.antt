@@ -4,7 +4,7 @@ use Rattle.ss_words.specs.Plain.{PlainAt}
 use Rattle.ss_routines.specs.Places.{Section}
 use Rattle.ss_routines.specs.Refused.{AreSections, lines}
 use Rattle.ss_routines.specs.OfProgram.{AreOfProgram}
-use Rattle.ss_routines.proofs.Told.{found}
+use Rattle.ss_routines.proofs.NotedAnswers.{found}
 use Rattle.ss_routines.proofs.program.read.Goals as goal
 
 of_program : (ss : List Section) (ws : List PlainAt) → AreSections ss ws → AreOfProgram ss

@@ -1,14 +1,14 @@
 use Rattle.std.proofs.Common.{[], codes, refl, arith}
 use Rattle.std.specs.Fmt.{digits}
 use Rattle.ss_words.specs.declared.fault.TextRule.TheVariants.{BadNumber, UnexpectedWord, UnexpectedEnd}
-use Rattle.ss_words.specs.Reading.{bind, pure, refuse, look, skip, ended, whole, many, many_from}
+use Rattle.ss_words.specs.Reading.{bind, pure, refuse, look, skip, end_of_words, whole, many, many_from}
 use Rattle.ss_words.specs.Marks.{expect, eat, a_name, a_number, a_picture}
-use Rattle.ss_routines.specs.Combined.{pair, behind, before, made, if_mark, if_word, either, star, by_table, opened, if_open, allowed, if_allowed, several, either_of, made_of, must}
+use Rattle.ss_routines.specs.Combined.{pair, behind, before, made, if_mark, if_word, either, star, by_table, eat_open, if_open, eat_allowed, if_allowed, several, either_of, made_of, must}
 use Rattle.ss_routines.specs.BlockReading.{branch_with, one_with, statement_with, block_with, controlled_with, loop_in, branch_at, block_at}
 use Rattle.ss_routines.specs.SectionReading.{no_name, others_at, names_at, given_at, yielded_at, saving, routine_at, event_at, head_at, as_variables, a_define, locals, section_at, sections_upto}
 use Rattle.ss_routines.specs.ExprReading.{factor_with, term_with, expr_with, expr_at, rest_with}
 use Rattle.ss_routines.specs.SimpleReading.{list_behind, listing_with, an_article, subscript_at, reference_at, called_at, equation_at, moved_at, assign_at, named_at, making_at, file_place_at, file_at, remove_at, filing_at, call_at, transfer_at, details_at, when_at, schedule_at, timing_at, print_at, exchange_at, simple_at}
-use Rattle.ss_routines.proofs.Decided.{at_word, at_end}
+use Rattle.ss_routines.proofs.AnswerByReading.{at_word, at_end}
 use Rattle.ss_check.specs.declared.fault.CheckRule.TheVariants.{WrongPicture, WrongMain}
 use Rattle.ss_session.specs.Examples.{two_values, word_behind, unended, too_large}
 use Rattle.ss_session.proofs.ExampleWords.{two_values_words, two_values_read, word_behind_words, word_behind_read, unended_words, unended_read, too_large_read, empty_read}
@@ -42,8 +42,8 @@ returns-clause-empty_text c =
     }) refl refl refl
 
 pub returns-clause-word_behind_end : goal.returns-clause-word_behind_end
-unfolding digits bind pure refuse look skip ended whole many many_from expect eat a_name a_number a_picture
-    pair behind before made if_mark if_word either star by_table opened if_open allowed if_allowed several
+unfolding digits bind pure refuse look skip end_of_words whole many many_from expect eat a_name a_number a_picture
+    pair behind before made if_mark if_word either star by_table eat_open if_open eat_allowed if_allowed several
     either_of made_of must branch_with one_with statement_with block_with controlled_with loop_in branch_at
     block_at no_name others_at names_at given_at yielded_at saving routine_at event_at head_at as_variables
     a_define locals section_at sections_upto factor_with term_with expr_with expr_at rest_with list_behind
@@ -55,8 +55,8 @@ returns-clause-word_behind_end c =
     UnexpectedWord 3 _ (at_word word_behind_plain _ _ 3 refl refl) refl
 
 pub returns-clause-texts_end : goal.returns-clause-texts_end
-unfolding digits bind pure refuse look skip ended whole many many_from expect eat a_name a_number a_picture
-    pair behind before made if_mark if_word either star by_table opened if_open allowed if_allowed several
+unfolding digits bind pure refuse look skip end_of_words whole many many_from expect eat a_name a_number a_picture
+    pair behind before made if_mark if_word either star by_table eat_open if_open eat_allowed if_allowed several
     either_of made_of must branch_with one_with statement_with block_with controlled_with loop_in branch_at
     block_at no_name others_at names_at given_at yielded_at saving routine_at event_at head_at as_variables
     a_define locals section_at sections_upto factor_with term_with expr_with expr_at rest_with list_behind

@@ -5,7 +5,7 @@ use Rattle.ss_words.specs.TextWords.{found_in_text, found_from_line}
 use Rattle.ss_words.specs.TextScan.{nearest}
 use Rattle.ss_words.proofs.TextFinds.{words_of-end, is_refusal-first}
 use Rattle.ss_words.proofs.TextSteps.{goes-start, goes-line, first-line}
-use Rattle.ss_words.proofs.TextDrawn.{found_from_line-none}
+use Rattle.ss_words.proofs.TextPictureLines.{found_from_line-none}
 use Rattle.ss_words.proofs.scan.words.Goals as goal
 
 pub loop-line-init : goal.loop-line-init

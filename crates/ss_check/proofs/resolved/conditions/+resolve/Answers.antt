@@ -5,7 +5,7 @@ use Rattle.ss_routines.specs.declared.tree.condition.Conjunction.{out-Conjunctio
 use Rattle.ss_routines.specs.declared.tree.condition.Relation.TheFolds.{fold_out-Condition, fold_out-Conjunction}
 use Rattle.ss_program.specs.declared.condition.Relation.TheFolds.{fold-roll-Conjunction, fold-roll-Disjunction}
 use Rattle.ss_routines.specs.Condition as tree
-use Rattle.ss_routines.specs.ConditionReading.{alternatives_of, additions_of}
+use Rattle.ss_routines.specs.Condition.{alternatives_of, additions_of}
 use Rattle.ss_routines.specs.View as written
 use Rattle.ss_program.specs.ProgramCondition as checked
 use Rattle.ss_check.specs.Resolved.{resolved_conjunction, resolved_relation, resolved_alternatives}

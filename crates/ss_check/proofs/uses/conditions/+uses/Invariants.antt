@@ -1,6 +1,6 @@
 use Rattle.std.proofs.Common.{◌≡◌, ◌++◌, drop}
 use Rattle.std.specs.Prelude.{map}
-use Rattle.ss_routines.specs.ConditionReading.{alternatives_of, additions_of}
+use Rattle.ss_routines.specs.Condition.{alternatives_of, additions_of}
 use Rattle.ss_routines.specs.View.{condition_view, conjunction_view, relation_view}
 use Rattle.ss_check.specs.Uses.{uses_condition, uses_alternatives, uses_conjunction, uses_additions}
 use Rattle.ss_check.proofs.uses.conditions.+uses.Given as goal

@@ -1,5 +1,5 @@
 use Rattle.ss_routines.specs.SimpleReading.{assign_at}
-use Rattle.ss_routines.proofs.Absent.{no_mark, no_either, no_made}
+use Rattle.ss_routines.proofs.AbsentParts.{no_mark, no_either, no_made}
 use Rattle.ss_routines.proofs.reading.assignment.assignment.Goals as goal
 
 pub returns-in_default-clause-exact : goal.returns-in_default-clause-exact

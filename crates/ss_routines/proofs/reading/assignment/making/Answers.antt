@@ -1,5 +1,5 @@
 use Rattle.ss_routines.specs.SimpleReading.{making_at}
-use Rattle.ss_routines.proofs.Absent.{no_mark, no_either, no_made}
+use Rattle.ss_routines.proofs.AbsentParts.{no_mark, no_either, no_made}
 use Rattle.ss_routines.proofs.reading.assignment.making.Goals as goal
 
 pub returns-clause-exact : goal.returns-clause-exact

@@ -6,7 +6,7 @@ use Rattle.ss_words.specs.Plain.{word_lines}
 use Rattle.ss_words.specs.Reading.{Reading}
 use Rattle.ss_words.proofs.Loop.{passes_on}
 use Rattle.ss_words.proofs.Writes.{noting_begins, noting_turns, noting_stops, noting_fails}
-use Rattle.ss_routines.specs.Combined.{allowed}
+use Rattle.ss_routines.specs.Combined.{eat_allowed}
 use Rattle.ss_routines.specs.LoopReading.{phrase_at}
 use Rattle.ss_routines.specs.Places.{Spot}
 use Rattle.ss_routines.specs.PlacesAtLines.{noting_statement, noting_block, noting_if, noting_loop, noting_statements}
@@ -14,7 +14,7 @@ use Rattle.ss_routines.specs.PlacesAtLines.{noting_branch, noting_controlled, no
 use Rattle.ss_routines.specs.View.{phrase_view, spots}
 use Rattle.ss_routines.proofs.NotingRooms.{if_fails, if_absent, if_done, if_undone, for_fails, for_absent, for_unread}
 use Rattle.ss_routines.proofs.NotingRooms.{for_done, for_undone}
-use Rattle.ss_routines.proofs.Marked.{stops, stops_behind, gives_behind}
+use Rattle.ss_routines.proofs.PartAnswers.{stops, stops_behind, gives_behind}
 use Rattle.ss_routines.proofs.reading.block.+statements.Goals as goal
 
 -- a statement, where so many may be open
@@ -64,7 +64,7 @@ pub branch-returns-in_err-allowed-clause-exact : goal.branch-returns-in_err-allo
 branch-returns-in_err-allowed-clause-exact t c =
     let p = err_from_is_err_and c.from_residual.result c.from_residual.ensures.1 in
     rw (p.1, p.2) (passes_on c.in_err-allowed.field-0.0 c.allowed.new.cursor
-    (allowed c.args.room.ifs (m.Reserved r.If) c.args.cursor.now) _
+    (eat_allowed c.args.room.ifs (m.Reserved r.If) c.args.cursor.now) _
     (λ e h. if_fails (word_lines c.args.text.now) c.args.room.parentheses c.args.room.ifs c.args.room.phrases
     (spots c.args.out.now.items) c.args.cursor.now c.allowed.new.cursor e h) c.in_err-allowed.ensures.exact)
 
@@ -98,7 +98,7 @@ pub for_loop-returns-in_err-allowed-clause-exact : goal.for_loop-returns-in_err-
 for_loop-returns-in_err-allowed-clause-exact t c =
     let p = err_from_is_err_and c.from_residual.result c.from_residual.ensures.1 in
     rw (p.1, p.2) (passes_on c.in_err-allowed.field-0.0 c.allowed.new.cursor
-    (allowed c.args.room.phrases (m.Reserved r.For) c.args.cursor.now) _
+    (eat_allowed c.args.room.phrases (m.Reserved r.For) c.args.cursor.now) _
     (λ e h. for_fails (word_lines c.args.text.now) c.args.room.parentheses
     (noting_if (word_lines c.args.text.now) c.args.room.parentheses c.args.room.ifs) c.args.room.phrases
     (spots c.args.out.now.items) c.args.cursor.now c.allowed.new.cursor e h) c.in_err-allowed.ensures.exact)

@@ -9,8 +9,8 @@ use Rattle.ss_routines.proofs.Rooms.{list_begins, list_turns, list_stops}
 use Rattle.ss_routines.proofs.ListLoop.{list_fails}
 use Rattle.ss_routines.proofs.EitherRooms.{either_shut, either_deeper}
 use Rattle.ss_words.specs.Reading.{refuse}
-use Rattle.ss_routines.proofs.Absent.{no_mark}
-use Rattle.ss_routines.proofs.Marked.{mark_reads, mark_fails}
+use Rattle.ss_routines.proofs.AbsentParts.{no_mark}
+use Rattle.ss_routines.proofs.PartAnswers.{mark_reads, mark_fails}
 use Rattle.ss_routines.proofs.reading.conditions.+conditions.Goals as goal
 
 pub additions-loop-more-init : goal.additions-loop-more-init
@@ -95,18 +95,21 @@ pub inner-returns-clause-exact : goal.inner-returns-clause-exact
 inner-returns-clause-exact t c = rw (either_deeper c.args.room c.if-room-eq0.false) c.either.ensures.exact
 
 pub next_conjunction-returns-then-not-eat-clause-exact : goal.next_conjunction-returns-then-not-eat-clause-exact
-next_conjunction-returns-then-not-eat-clause-exact t c = no_mark _ _ c.eat.result _ _ c.eat.ensures.exact c.if-not-eat.true
+next_conjunction-returns-then-not-eat-clause-exact t c =
+    no_mark _ _ c.eat.result _ _ c.eat.ensures.exact c.if-not-eat.true
 
 pub next_conjunction-returns-in_err-conjunction-clause-exact :
     goal.next_conjunction-returns-in_err-conjunction-clause-exact
 next_conjunction-returns-in_err-conjunction-clause-exact t c =
     let p = err_from_is_err_and c.from_residual.result c.from_residual.ensures.1 in
-    rw (p.1, p.2) (mark_fails _ _ c.eat.result _ _ c.in_err-conjunction.field-0.0 _ c.eat.ensures.exact c.if-not-eat.false
+    rw (p.1, p.2)
+    (mark_fails _ _ c.eat.result _ _ c.in_err-conjunction.field-0.0 _ c.eat.ensures.exact c.if-not-eat.false
     c.in_err-conjunction.ensures.exact)
 
 pub next_conjunction-returns-clause-exact : goal.next_conjunction-returns-clause-exact
 next_conjunction-returns-clause-exact t c =
-    mark_reads _ _ c.eat.result _ _ (conjunction_view c.in_ok-conjunction.field-0) _ c.eat.ensures.exact c.if-not-eat.false
+    mark_reads _ _ c.eat.result _ _
+    (conjunction_view c.in_ok-conjunction.field-0) _ c.eat.ensures.exact c.if-not-eat.false
     c.in_ok-conjunction.ensures.exact
 
 pub next_relation-returns-then-not-eat-clause-exact : goal.next_relation-returns-then-not-eat-clause-exact

@@ -1,5 +1,5 @@
 use Rattle.ss_routines.specs.SimpleReading.{exchange_at}
-use Rattle.ss_routines.proofs.Absent.{no_mark, no_either, no_made}
+use Rattle.ss_routines.proofs.AbsentParts.{no_mark, no_either, no_made}
 use Rattle.ss_routines.proofs.reading.exchange.exchange.Goals as goal
 
 pub returns-clause-exact : goal.returns-clause-exact

@@ -8,8 +8,8 @@ use Rattle.ss_routines.specs.Combined.{if_mark, if_word, star}
 use Rattle.ss_routines.specs.ExprReading.{lead, factor_with, term_with, inner_at}
 use Rattle.ss_routines.specs.View.{expr_view, factor_view, added_view}
 use Rattle.ss_routines.proofs.Rooms.{inner_shut, inner_deeper, list_begins, list_turns, list_stops}
-use Rattle.ss_routines.proofs.Absent.{no_mark}
-use Rattle.ss_routines.proofs.Marked.{mark_reads, mark_fails}
+use Rattle.ss_routines.proofs.AbsentParts.{no_mark}
+use Rattle.ss_routines.proofs.PartAnswers.{mark_reads, mark_fails}
 use Rattle.ss_routines.proofs.reading.expressions.+expression.Goals as goal
 
 pub sums-loop-more-init : goal.sums-loop-more-init

@@ -1,6 +1,6 @@
 use Rattle.ss_routines.specs.SimpleReading.{file_place_at}
-use Rattle.ss_routines.proofs.Absent.{no_mark}
-use Rattle.ss_routines.proofs.Instead.{made_reads, either_reads}
+use Rattle.ss_routines.proofs.AbsentParts.{no_mark}
+use Rattle.ss_routines.proofs.AlternativeParts.{made_reads, either_reads}
 use Rattle.ss_routines.proofs.reading.filing.file_place.Goals as goal
 
 pub returns-clause-exact : goal.returns-clause-exact

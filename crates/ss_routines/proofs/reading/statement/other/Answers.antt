@@ -1,4 +1,4 @@
-use Rattle.ss_routines.proofs.Absent.{no_either, no_made}
+use Rattle.ss_routines.proofs.AbsentParts.{no_either, no_made}
 use Rattle.ss_routines.proofs.reading.statement.other.Goals as goal
 
 pub returns-clause-exact : goal.returns-clause-exact

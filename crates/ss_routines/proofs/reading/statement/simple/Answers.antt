@@ -2,7 +2,7 @@ use mathlib.Core.Logic.{inr}
 use Rattle.ss_routines.specs.Combined.{either_of}
 use Rattle.ss_routines.specs.SimpleReading.{making_at, filing_at, transfer_at, timing_at, exchange_at, assign_at}
 use Rattle.ss_routines.specs.SimpleReading.{simple_of, simple_at}
-use Rattle.ss_routines.proofs.Chosen.{left_out}
+use Rattle.ss_routines.proofs.ChoiceAnswers.{left_out}
 use Rattle.ss_routines.proofs.reading.statement.simple.Goals as goal
 
 pub returns-clause-exact : goal.returns-clause-exact

@@ -3,7 +3,7 @@ use Rattle.std.proofs.lemmas.Result.{MatchResult-weaker}
 use Rattle.ss_words.specs.Words.{Kind, kind_of}
 use Rattle.ss_words.specs.TextLines.{text_lines}
 use Rattle.ss_words.specs.TextRuns.{without_stops}
-use Rattle.ss_words.specs.TextSpelling.{spelling_of, spelled}
+use Rattle.ss_words.specs.TextSpelling.{spelling_of, spelled_word}
 use Rattle.ss_words.specs.TextWords.{Finding, word}
 use Rattle.ss_words.specs.TextScan.{nearest}
 use Rattle.ss_words.proofs.TextBytesLemmas.{eqb-same, nat_lt-above, nat_lt-below}
@@ -51,7 +51,7 @@ returns c =
     (is_bad_number-spelled (without_stops c.args.run.now) c.in-Some.spelling some)
     (nat_lt-below 80 (length c.args.run.now) c.if-run-gt-LONGEST_RUN.false)
     (word_of_run-spelled (without_stops c.args.run.now) c.in-Some.spelling longer some
-    ∙ ap (λ (k : Kind). Some k) (ap (λ (r : List ℕ). spelled r c.in-Some.spelling)
+    ∙ ap (λ (k : Kind). Some k) (ap (λ (r : List ℕ). spelled_word r c.in-Some.spelling)
     (sym c.without_stops-kept.ensures.kept) ∙ sym c.in_ok-kind.ensures.spelled)) in
     MatchResult-weaker c.scan_word.result (rw c.in_ok-kind.ensures.same at c.scan_word.ensures)
     (λ x goes. ap (λ (fs : List Finding). map word c.args.words.now ++ fs) same ∙ goes)

@@ -4,7 +4,7 @@ use Rattle.std.proofs.lemmas.Result.{err_from_is_err_and}
 use Rattle.ss_words.specs.declared.scan.lines.Lines.{Lines}
 use Rattle.ss_words.specs.TextLines.{text_lines}
 use Rattle.ss_words.specs.TextWords.{found_from_line}
-use Rattle.ss_words.proofs.TextDrawn.{drawn-more, drawn-refused, drawn-end}
+use Rattle.ss_words.proofs.TextPictureLines.{drawn-more, drawn-refused, drawn-end}
 use Rattle.ss_words.proofs.scan.picture.picture.Goals as goal
 
 -- a line of the picture breaks a rule

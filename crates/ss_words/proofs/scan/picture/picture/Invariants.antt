@@ -1,6 +1,6 @@
 use Rattle.std.proofs.Common.{◌+◌, ◌-◌, ◌≤◌, length, map}
 use Rattle.ss_words.specs.TextLines.{text_lines}
-use Rattle.ss_words.proofs.TextDrawn.{Drawn}
+use Rattle.ss_words.proofs.TextPictureLines.{Drawn}
 use Rattle.ss_words.proofs.scan.picture.picture.Given as goal
 
 abbrev pub invariant-loop-line : goal.invariant-loop-line

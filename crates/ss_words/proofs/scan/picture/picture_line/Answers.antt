@@ -1,7 +1,8 @@
 use Rattle.std.proofs.Common.{◌∙◌, sym, arith, false-eqb}
 use Rattle.ss_words.proofs.TextBytesLemmas.{eqb-same}
 use Rattle.ss_words.proofs.TextFinds.{is_first-refused}
-use Rattle.ss_words.proofs.TextDrawn.{picture-empty, picture-stray_first, picture-long, picture-stray, picture-allowed}
+use Rattle.ss_words.proofs.TextPictureLines.{picture-empty, picture-stray_first, picture-long, picture-stray}
+use Rattle.ss_words.proofs.TextPictureLines.{picture-allowed}
 use Rattle.ss_words.proofs.scan.picture.picture_line.Goals as goal
 
 pub returns-then-is_empty-clause-found : goal.returns-then-is_empty-clause-found

@@ -4,7 +4,7 @@ use Rattle.std.proofs.lemmas.Result.{err_from_is_err_and, MatchResult-weaker}
 use Rattle.ss_words.specs.TextLines.{text_lines}
 use Rattle.ss_words.specs.TextScan.{nearest}
 use Rattle.ss_words.proofs.TextFinds.{is_first-memory}
-use Rattle.ss_words.proofs.TextDrawn.{below-plain, below-uncounted, goes-picture, first-picture}
+use Rattle.ss_words.proofs.TextPictureLines.{below-plain, below-uncounted, goes-picture, first-picture}
 use Rattle.ss_words.proofs.scan.picture.scan_picture.Goals as goal
 
 pub returns-then-not-calls_picture-clause-found : goal.returns-then-not-calls_picture-clause-found

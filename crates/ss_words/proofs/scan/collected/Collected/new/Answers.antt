@@ -1,6 +1,6 @@
 use Rattle.std.proofs.Common.{ap, map}
 use Rattle.ss_words.specs.Words.{word_at}
-use Rattle.ss_words.proofs.TextTracked.{tracked-nil}
+use Rattle.ss_words.proofs.TextIsTracked.{tracked-nil}
 use Rattle.ss_words.proofs.scan.collected.Collected.new.Goals as goal
 
 pub invariant_of-result : goal.invariant_of-result

@@ -1,7 +1,7 @@
 use Rattle.std.proofs.Common.{ap, map, ◌∙◌}
 use Rattle.std.proofs.lemmas.List.{map-append}
 use Rattle.ss_words.specs.Words.{word_at}
-use Rattle.ss_words.proofs.TextTracked.{tracked-push}
+use Rattle.ss_words.proofs.TextIsTracked.{tracked-push}
 use Rattle.ss_words.proofs.scan.collected.Collected.push.Goals as goal
 
 -- what is kept of the words stays true of them

@@ -27,10 +27,10 @@ use Rattle.ss_preamble.specs.Refused.{HasPreamble, PassesLimit, Answers, no_decl
 use Rattle.ss_preamble.specs.Laws.{IsDefinite, AlwaysAnswered}
 use Rattle.ss_preamble.specs.Examples.{IsRead, words_of_lines, IsAnswered}
 use Rattle.ss_preamble.proofs.Counting.{no_le}
-use Rattle.ss_preamble.proofs.Passing.{CountedBefore, begins, turns, stops, ends}
+use Rattle.ss_preamble.proofs.PastLimitLoop.{CountedBefore, begins, turns, stops, ends}
 use Rattle.ss_preamble.proofs.Whole.{farthest, unlimited, spelled}
-use Rattle.ss_preamble.proofs.Told.{read_past, read_items, stopped_past, stopped_word, stopped_end, at_last}
-use Rattle.ss_preamble.proofs.Sure.{IsSure, preamble_sure}
+use Rattle.ss_preamble.proofs.AnswerAtStop.{read_past, read_items, stopped_past, stopped_word, stopped_end, at_last}
+use Rattle.ss_preamble.proofs.NoMemoryRefusal.{IsSure, preamble_sure}
 
 -- ---- the first word that passes a limit
 

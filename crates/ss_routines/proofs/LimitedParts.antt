@@ -10,7 +10,7 @@ use Rattle.ss_words.proofs.Laws.{IsRead, Good, fits_option, spell_option}
 use Rattle.ss_words.proofs.Local.{Rooms, same, more, IsLimited, Local, Stops, pure_local, bind_local}
 use Rattle.ss_words.proofs.Marks.{is_mark, eat_read_back, not_eaten}
 use Rattle.ss_words.proofs.ReadBack.{then}
-use Rattle.ss_routines.specs.Combined.{if_mark, allowed, if_allowed}
+use Rattle.ss_routines.specs.Combined.{if_mark, eat_allowed, if_allowed}
 use Rattle.ss_routines.proofs.Tally.{Leaves, Refused, Out, Tally, nothing}
 use Rattle.ss_routines.proofs.Form.{Form, Item, mark_sp, mark_item}
 
@@ -58,7 +58,7 @@ module _ {A : Type 0} (k : Mark) (sp : A → List Plain) where
 
   pub allowed_law : {rooms : Rooms} {n : ℕ} (l : Leaves 0 (mark k ∷ [])) (i j : ℕ) (F : Form rooms n A)
       → PartLaw rooms n F.fits (mark_sp k l F) F.ends (Not k) (if_allowed (suc i) k F.p) (if_allowed (suc j) k F.p')
-  unfolding if_mark if_allowed allowed
+  unfolding if_mark if_allowed eat_allowed
   allowed_law l i j F =
       let m = mark_item k l F in record {
         good = m.good;
@@ -83,7 +83,7 @@ module _ {A : Type 0} (k : Mark) (sp : A → List Plain) where
   behind_allowed q b = elim b [ true ↦ bind q (λ a. pure (Some a)) | false ↦ pure None ]
 
   shut_is : (q : Reading A) (ws : List Plain) → if_allowed 0 k q ws ≡ shut_answer (is k (first ws)) ws
-  unfolding if_allowed allowed look bind pure refuse
+  unfolding if_allowed eat_allowed look bind pure refuse
   shut_is q ws =
       (elim (is k (first ws)) as (λ b. goes_on (behind_allowed q)
       (let h : Reading Bool = elim b [ true ↦ refuse PastLimit | false ↦ pure false ] in h ws).0
@@ -189,7 +189,7 @@ module _ {A : Type 0} (k : Mark) (sp : A → List Plain) where
 
           goes_past : (v : Plain) (ws : List Plain) → v ≡ mark k
               → length (if_allowed (suc j) k q' (v ∷ ws)).1 ≤ length ws
-          unfolding if_allowed allowed
+          unfolding if_allowed eat_allowed
           goes_past v ws e =
               let c = behind_allowed q' in
               let step : bind (eat k) c (mark k ∷ ws) ≡ bind q' (λ a. pure (Some a)) ws =
@@ -197,7 +197,7 @@ module _ {A : Type 0} (k : Mark) (sp : A → List Plain) where
               rw e (subst (λ (x : Read (Option A)). length x.1 ≤ length ws) (sym step) ((behind_local.at ws).2))
 
           open_stops : (y : List Plain) → Not k y → if_allowed (suc j) k q' y ≡ (Ok None, y)
-          unfolding if_allowed allowed pure
+          unfolding if_allowed eat_allowed pure
           open_stops y e = then (eat k) (behind_allowed q') false y y (not_eaten k y e)
 
           shut_more_at : (ws : List Plain) (b : Bool) → is k (first ws) ≡ b

@@ -23,7 +23,7 @@ use Rattle.ss_preamble.specs.ItemReading.{clause_by, next_clause, a_clause, othe
 use Rattle.ss_preamble.specs.ItemReading.{next_key, other_keys, keys, heading_with, definition_by, definition_of}
 use Rattle.ss_preamble.specs.ItemReading.{definition_with, normally_with, every_with, priority_with, break_with}
 use Rattle.ss_preamble.specs.ItemReading.{external_with, item_by, next_item, items_with, preamble_with}
-use Rattle.ss_preamble.proofs.Sound.{next_clause-good, next_key-good, next_item-good}
+use Rattle.ss_preamble.proofs.ReadIsSpelled.{next_clause-good, next_key-good, next_item-good}
 
 pub some_clause : (c : Clause) → 0 < length (spell_clause c)
 some_clause (Has ns) = omega arith

@@ -21,7 +21,7 @@ use Rattle.ss_preamble.specs.Tree.{BreakTies, ExternalEvents, Item, Normally, He
 use Rattle.ss_preamble.specs.Tree.{Orders}
 use Rattle.ss_preamble.specs.Spelling.{word, spell_heading, spell_clause, spell_other_clauses, spell_clauses}
 use Rattle.ss_preamble.specs.Spelling.{spell_rank, spell_key, spell_next_key, spell_other_keys, spell_keys}
-use Rattle.ss_preamble.specs.Spelling.{spell_set_kind, spell_definition, spell_event_rule, spell_item, spell_items}
+use Rattle.ss_preamble.specs.Spelling.{spell_set_discipline, spell_definition, spell_event_rule, spell_item, spell_items}
 use Rattle.ss_preamble.specs.Spelling.{spell}
 use Rattle.ss_preamble.specs.ItemReading.{clause_by, next_clause, a_clause, other_clauses, clauses, a_rank, a_key}
 use Rattle.ss_preamble.specs.ItemReading.{next_key, other_keys, keys, heading_with, definition_by, definition_of}
@@ -174,13 +174,13 @@ module _ (ns : Several Name) where
       keys-good))
   definition_at _ =
       good_at Any spell_definition defined_front _ _
-      (refuse_good Any spell_definition defined_front Unexpected (Sets ns Fifo) tt (spell_set_kind Fifo)
+      (refuse_good Any spell_definition defined_front Unexpected (Sets ns Fifo) tt (spell_set_discipline Fifo)
       (simp append_assoc refl))
 
   definition_of-good : Good Any spell_definition defined_front (definition_of ns)
   unfolding definition_of
   definition_of-good =
-      look_good Any spell_definition defined_front (definition_by ns) (Sets ns Fifo) tt (spell_set_kind Fifo)
+      look_good Any spell_definition defined_front (definition_by ns) (Sets ns Fifo) tt (spell_set_discipline Fifo)
       (simp append_assoc refl) definition_at
 
 definition-good : Good Any spell_definition (word r.Define ∷ []) definition_with

@@ -11,7 +11,7 @@ use Rattle.ss_words.specs.declared.fault.TextFault.TheVariants.{Refused}
 use Rattle.ss_words.specs.Words.{Kind, WordAt, name, number, sign, picture}
 use Rattle.ss_words.specs.TextBytes.{is_allowed}
 use Rattle.ss_words.specs.TextRuns.{calls_picture, picture_lines, line_count, behind_print}
-use Rattle.ss_words.specs.TextWords.{Finding, word, broken, on_line, picture_byte, found_in_picture, picture_size}
+use Rattle.ss_words.specs.TextWords.{Finding, word, breach_if, on_line, picture_byte, found_in_picture, picture_size}
 use Rattle.ss_words.specs.TextWords.{picture_found, nearest_first, found_from_line}
 use Rattle.ss_words.specs.TextScan.{first_breach, IsFirstIn, nearest, SameFindings, found_below}
 use Rattle.ss_words.proofs.TextBytesLemmas.{nat_lt-above, nat_lt-below}
@@ -22,7 +22,7 @@ allowed_all : (n : ℕ) (bs : List ℕ) → list_all is_allowed bs ≡ true → 
 allowed_all n [] all = refl
 allowed_all n (b ∷ bs) all =
     elim (is_allowed b) as (λ t. (t && list_all is_allowed bs) ≡ true
-    → broken StrayByte n (not t) ++ flat_map (picture_byte n) bs ≡ []) [
+    → breach_if StrayByte n (not t) ++ flat_map (picture_byte n) bs ≡ []) [
       | true ↦ λ rest. allowed_all n bs rest
       | false ↦ λ never. absurd cc
     ] all
@@ -32,7 +32,7 @@ stray_first : (n : ℕ) (bs : List ℕ) → list_all is_allowed bs ≡ false
 stray_first n [] some = absurd cc
 stray_first n (b ∷ bs) some =
     elim (is_allowed b) as (λ t. (t && list_all is_allowed bs) ≡ false
-    → first_breach (broken StrayByte n (not t) ++ flat_map (picture_byte n) bs) ≡ Some (Refused StrayByte n)) [
+    → first_breach (breach_if StrayByte n (not t) ++ flat_map (picture_byte n) bs) ≡ Some (Refused StrayByte n)) [
       | true ↦ λ rest. stray_first n bs rest
       | false ↦ λ here. refl
     ] some
@@ -48,7 +48,7 @@ unfolding found_in_picture
 picture-stray_first n [] some stray = absurd (omega arith)
 picture-stray_first n (b ∷ bs) some stray =
     ap (λ (t : Bool). first_breach
-    (broken StrayByte n (not t) ++ broken LongPictureLine n (nat_lt 132 (length (b ∷ bs)))
+    (breach_if StrayByte n (not t) ++ breach_if LongPictureLine n (nat_lt 132 (length (b ∷ bs)))
     ++ flat_map (picture_byte n) bs)) stray
 
 pub picture-long : (n : ℕ) (line : List ℕ) → is_allowed (slice_index line 0) ≡ true → 132 < length line
@@ -57,18 +57,18 @@ unfolding found_in_picture
 picture-long n [] allowed long = absurd (omega arith)
 picture-long n (b ∷ bs) allowed long =
     ap (λ (t : Bool). first_breach
-    (broken StrayByte n (not t) ++ broken LongPictureLine n (nat_lt 132 (length (b ∷ bs)))
+    (breach_if StrayByte n (not t) ++ breach_if LongPictureLine n (nat_lt 132 (length (b ∷ bs)))
     ++ flat_map (picture_byte n) bs)) allowed
-    ∙ ap (λ (t : Bool). first_breach (broken LongPictureLine n t ++ flat_map (picture_byte n) bs))
+    ∙ ap (λ (t : Bool). first_breach (breach_if LongPictureLine n t ++ flat_map (picture_byte n) bs))
     (nat_lt-above 132 (length (b ∷ bs)) long)
 
 kept : (n b : ℕ) (bs : List ℕ) → is_allowed b ≡ true → length (b ∷ bs) ≤ 132
     → found_in_picture n (b ∷ bs) ≡ flat_map (picture_byte n) bs
 unfolding found_in_picture
 kept n b bs allowed short =
-    ap (λ (t : Bool). broken StrayByte n (not t) ++ broken LongPictureLine n (nat_lt 132 (length (b ∷ bs)))
+    ap (λ (t : Bool). breach_if StrayByte n (not t) ++ breach_if LongPictureLine n (nat_lt 132 (length (b ∷ bs)))
     ++ flat_map (picture_byte n) bs) allowed
-    ∙ ap (λ (t : Bool). broken LongPictureLine n t ++ flat_map (picture_byte n) bs)
+    ∙ ap (λ (t : Bool). breach_if LongPictureLine n t ++ flat_map (picture_byte n) bs)
     (nat_lt-below 132 (length (b ∷ bs)) short)
 
 pub picture-stray : (n : ℕ) (line : List ℕ) → is_allowed (slice_index line 0) ≡ true → length line ≤ 132

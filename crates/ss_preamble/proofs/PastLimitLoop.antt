@@ -5,6 +5,7 @@ use Rattle.std.proofs.lemmas.Slice.{first_rest}
 use Rattle.std.proofs.lemmas.List.{append-nil, length-map, take_at}
 use Rattle.ss_words.specs.declared.plain_word.PlainWord.{PlainWord}
 use Rattle.ss_words.specs.Plain.{Plain, plain_in, plains_of}
+use Rattle.ss_words.specs.declared.limits.TheConstants.{MOST_VARIABLES}
 use Rattle.ss_preamble.specs.Roles.{Role, Standing, at_start, behind_word, role, roles_from, roles}
 use Rattle.ss_preamble.specs.WordLimits.{AreWithin}
 use Rattle.ss_preamble.specs.Tally.{Counts, tally_of, with_role, is_in_room}
@@ -57,9 +58,9 @@ pub ends : (ws : List Plain) (a : Standing) (t : Counts) → CountedBefore ws a 
 ends ws a t (seen, e, len, counts, within) = subst AreWithin (sym (e ∙ append-nil seen)) within
 
 pub few_variables : (ws : List Plain) (a : Standing) (t : Counts) (rest : List Plain) → CountedBefore ws a t rest
-    → t.variables ≤ 256
+    → t.variables ≤ MOST_VARIABLES
 few_variables ws a t rest (seen, e, len, counts, within) =
-    subst (λ (c : Counts). c.variables ≤ 256) (sym counts) within.variables
+    subst (λ (c : Counts). c.variables ≤ MOST_VARIABLES) (sym counts) within.variables
 
 -- ---- with the words of the code
 

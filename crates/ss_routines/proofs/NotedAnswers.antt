@@ -14,7 +14,7 @@ use Rattle.ss_words.specs.Noting.{line}
 use Rattle.ss_words.proofs.Loop.{on_ok}
 use Rattle.ss_routines.specs.Places.{Section}
 use Rattle.ss_routines.specs.Tree.{Tree, spell}
-use Rattle.ss_routines.specs.PlacesAtLines.{noting_sections}
+use Rattle.ss_routines.specs.PlacesAtLines.{limited_sections}
 use Rattle.ss_routines.specs.Written.{written}
 use Rattle.ss_routines.specs.Refused.{lines, IsWithin, IsUnexpectedWord, IsUnexpectedEnd, IsPastLimit, IsRefused}
 use Rattle.ss_routines.specs.Refused.{AreSections}
@@ -35,7 +35,7 @@ lines_are (w ∷ text) = ap (λ (u : List ℕ). w.word.now.line ∷ u) (lines_ar
 
 module _ (text : List PlainWord) where
   abbrev pub noting : Reading (List Section)
-  noting = whole (noting_sections (word_lines text) 50 64 16 32 256)
+  noting = whole (limited_sections (word_lines text))
 
   as_tree : noting (plains_of text) ≡ (
     on_ok (written (word_lines text)) (whole reading (plains_of text)).0,
