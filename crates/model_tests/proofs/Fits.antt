@@ -10,7 +10,8 @@ use Rattle.ss_program.specs.declared.kinds.Owner.TheVariants.{System, OwnedBy}
 use Rattle.ss_store.specs.declared.shape.ClassShape.{ClassShape}
 use Rattle.ss_store.specs.declared.shape.SetShape.{SetShape}
 use Rattle.ss_store.specs.Tables.{Tables, class_in, class_of}
-use Rattle.ss_store.specs.Held.{AreTables, IsSet, owned_by, empty_value}
+use Rattle.ss_store.specs.Tables.{AreTables, IsSet, owned_by}
+use Rattle.ss_store.specs.Value.{empty_value}
 use Rattle.model_tests.specs.Ground.{ground_classes, ground_sets, AreGroundSets, IsGround}
 
 some_eq : {A : Type 0} {a b : A} → Some a ≡ Some b → a ≡ b

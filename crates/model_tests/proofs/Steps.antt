@@ -8,8 +8,9 @@ use Rattle.ss_journal.specs.Undoing.{unapply_all}
 use Rattle.ss_store.specs.declared.change.StoreChange.{StoreChange}
 use Rattle.ss_store.specs.Tables.{Tables}
 use Rattle.ss_store.specs.Store.{Store}
-use Rattle.ss_store.specs.Held.{StoreValue}
-use Rattle.ss_store.specs.Change.{FitsStore, unapply_store, IsOutcome, IsRemoval, IsCreation, IsMaking, IsRefusal}
+use Rattle.ss_store.specs.Value.{StoreValue}
+use Rattle.ss_store.specs.Change.{FitsStore, unapply_store, IsOutcome, IsRemoval, IsCreation, IsMaking}
+use Rattle.ss_words.specs.Outcomes.{RefusesAs}
 use Rattle.model_tests.specs.Ground.{IsGround, IsMade, with_number}
 
 pub outcome_made : (r : Result StoreChange RunFault) (s : Result Store RunFault) (old new : StoreValue)
@@ -19,7 +20,7 @@ outcome_made (Err e) (Err f) old new d = d.1
 outcome_made (Ok c) (Err f) old new d = absurd d
 outcome_made (Err e) (Ok s) old new d = absurd d
 
-refused : (e : StepFault) (s : Result Store RunFault) (old new : StoreValue) → IsRefusal e s old new → new ≡ old
+refused : (e : StepFault) (s : Result Store RunFault) (old new : StoreValue) → RefusesAs e s old new → new ≡ old
 refused (Fault e) (Err f) old new d = d.1
 refused Memory (Ok s) old new d = d
 refused (Fault e) (Ok s) old new d = absurd d

@@ -10,7 +10,7 @@ use Rattle.ss_store.specs.declared.change.StoreChange.{StoreChange}
 use Rattle.ss_store.specs.declared.shape.ClassShape.{ClassShape}
 use Rattle.ss_store.specs.declared.shape.SetShape.{SetShape}
 use Rattle.ss_store.specs.Tables.{Tables, class_of}
-use Rattle.ss_store.specs.Held.{StoreValue}
+use Rattle.ss_store.specs.Value.{StoreValue}
 use Rattle.ss_store.specs.Change.{FitsStore, unapply_store}
 
 -- a class by its attributes, the sets that it owns, those that its entities may be in, and whether it is permanent

@@ -8,14 +8,14 @@ use Rattle.std.specs.Option.{option_map, option_or, option_and_then}
 use Rattle.std.proofs.lemmas.Bool.Decides.{nat_tests}
 use Rattle.std.proofs.lemmas.List.{append-nil, append_assoc}
 use Rattle.ss_links.specs.Board.{times}
-use Rattle.ss_links.specs.Seats.{has, times_in, first_of, seat_behind}
+use Rattle.ss_links.specs.Seats.{has, times_in, first_of, next_in}
 use Rattle.ss_links.proofs.SeatLaws.{times_in-present}
 use Rattle.ss_program.specs.declared.kinds.Owner.{Owner}
 use Rattle.ss_program.specs.declared.kinds.Owner.TheVariants.{System, OwnedBy}
 use Rattle.ss_store.specs.declared.shape.SetShape.{SetShape}
 use Rattle.ss_store.specs.Store.{Entity, Store, of_class, made_of, entity, entities, exists, list_number, list_by}
 use Rattle.ss_store.specs.Store.{lists_by, is_owner, members_of, stands_in, number_of}
-use Rattle.ss_store.specs.Filing.{next_member}
+use Rattle.ss_store.specs.Filing.{walk_next}
 use Rattle.ss_store.specs.Tables.{Tables, no_set, set_of}
 use Rattle.ss_store.specs.WellStore.{AreMembers, IsWellStore}
 use Rattle.ss_store.proofs.Core.{some_eq}
@@ -119,11 +119,11 @@ member_once s st o w k = times_by s st o (is_owner s st o) refl w k
 
 -- the member behind k that a walk comes to
 pub next_found : (s : SetShape) (st : Store) (o k : ℕ) (x : ℤ) → AreMembers st s → has (members_of s st o) k ≡ true →
-    x ≡ pos k → result_unwrap_or (next_member s st o (number_of x)) None ≡ seat_behind (members_of s st o) k
+    x ≡ pos k → result_unwrap_or (walk_next s st o (number_of x)) None ≡ next_in (members_of s st o) k
 next_found s st o k x w h e = rw (e, has_owner (list_by s.owner s.list st o) k h, member_exists s st o k w h, h) refl
 
 -- the member that a walk comes to is in the list
-pub next_there : (s : SetShape) (st : Store) (o k n : ℕ) → seat_behind (members_of s st o) k ≡ Some n →
+pub next_there : (s : SetShape) (st : Store) (o k n : ℕ) → next_in (members_of s st o) k ≡ Some n →
     has (members_of s st o) n ≡ true
 next_there s st o k n e = has-seat_behind (members_of s st o) k n e
 
@@ -143,11 +143,11 @@ passed y n ks once h =
     let other : (y == n) ≡ false = grind (arith, nat_tests, few, one) in rw other refl
 
 -- one member further
-pub behind_next : (ks : List ℕ) (k n : ℕ) → ((x : ℕ) → times_in ks x ≤ 1) → seat_behind ks k ≡ Some n →
+pub behind_next : (ks : List ℕ) (k n : ℕ) → ((x : ℕ) → times_in ks x ≤ 1) → next_in ks k ≡ Some n →
     members_behind ks k ≡ n ∷ members_behind ks n
 behind_next [] k n once e = absurd (cc)
 behind_next (y ∷ ks) k n once e =
-    (elim (y == k) as (λ t. cond t (first_of ks) (seat_behind ks k) ≡ Some n →
+    (elim (y == k) as (λ t. cond t (first_of ks) (next_in ks k) ≡ Some n →
     cond t ks (members_behind ks k) ≡ n ∷ members_behind (y ∷ ks) n) [
       | true ↦ λ f. let whole = behind_first ks n f in
           let there : has ks n ≡ true = has_first ks n f in
@@ -164,10 +164,10 @@ behind_next (y ∷ ks) k n once e =
     tail_once y l o x = let h = o x in omega (arith, h)
 
 -- none is behind the last
-pub behind_last : (ks : List ℕ) (k : ℕ) → seat_behind ks k ≡ None → members_behind ks k ≡ []
+pub behind_last : (ks : List ℕ) (k : ℕ) → next_in ks k ≡ None → members_behind ks k ≡ []
 behind_last [] k e = refl
 behind_last (y ∷ ks) k e =
-    (elim (y == k) as (λ t. cond t (first_of ks) (seat_behind ks k) ≡ None → cond t ks (members_behind ks k) ≡ []) [
+    (elim (y == k) as (λ t. cond t (first_of ks) (next_in ks k) ≡ None → cond t ks (members_behind ks k) ≡ []) [
       | true ↦ λ f. none ks f
       | false ↦ λ f. behind_last ks k f
     ]) e
@@ -180,14 +180,14 @@ behind_last (y ∷ ks) k e =
 
 -- one member more
 pub member_more : (ks : List ℕ) (k n : ℕ) (text new all : List ℕ) → ((x : ℕ) → times_in ks x ≤ 1) →
-    seat_behind ks k ≡ Some n → text ++ further_members (members_behind ks k) ≡ all →
+    next_in ks k ≡ Some n → text ++ further_members (members_behind ks k) ≡ all →
     new ≡ (text ++ codes " ") ++ decimal n → new ++ further_members (members_behind ks n) ≡ all
 member_more ks k n text new all once e h w =
     rw w (append_assoc (text ++ codes " ") (decimal n) _ ∙ append_assoc text (codes " ") _
     ∙ ap (λ (l : List ℕ). text ++ further_members l) (sym (behind_next ks k n once e)) ∙ h)
 
 -- all members
-pub members_all : (ks : List ℕ) (k : ℕ) (text all : List ℕ) → seat_behind ks k ≡ None →
+pub members_all : (ks : List ℕ) (k : ℕ) (text all : List ℕ) → next_in ks k ≡ None →
     text ++ further_members (members_behind ks k) ≡ all → text ≡ all
 members_all ks k text all e h =
     sym (append-nil text) ∙ ap (λ (l : List ℕ). text ++ further_members l) (sym (behind_last ks k e)) ∙ h

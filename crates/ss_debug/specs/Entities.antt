@@ -13,7 +13,7 @@ use Rattle.ss_store.specs.declared.shape.SetShape.{SetShape}
 use Rattle.ss_store.specs.Tables as tables
 use Rattle.ss_store.specs.Tables.{tables_of}
 use Rattle.ss_store.specs.Store.{Store, number_of, exists, attribute_of, members_of}
-use Rattle.ss_store.specs.Filing.{first_member, last_member, count, predecessor, successor, membership}
+use Rattle.ss_store.specs.Filing.{walk_first, walk_last, count, predecessor, successor, membership}
 use Rattle.ss_machine.specs.State.{State}
 use Rattle.ss_machine.specs.Run.{Input, run}
 
@@ -59,8 +59,8 @@ kept_line kept set value = kept ++ set ++ codes " = " ++ decimal value ++ 10 ∷
 -- F.s, L.s and N.s of a set of this name for owner number k
 abbrev pub owner_lines : List ℕ → SetShape → Store → ℕ → List ℕ
 owner_lines name s st k =
-    kept_line (codes "F.") name (member_read (first_member s st k))
-    ++ kept_line (codes "L.") name (member_read (last_member s st k))
+    kept_line (codes "F.") name (member_read (walk_first s st k))
+    ++ kept_line (codes "L.") name (member_read (walk_last s st k))
     ++ kept_line (codes "N.") name (result_unwrap_or (count s st k) 0)
 
 -- P.s, S.s and M.s of a set of this name for entity number k of its members' class

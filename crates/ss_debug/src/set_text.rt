@@ -1,6 +1,6 @@
 //! The answer to a question about the list of a set.
 ghost use Rattle.std.specs.Prelude.{◌≡◌, ◌++◌, ◌<◌, length, OnOk, IfOk, true, slice_index_or, pos};
-ghost use Rattle.ss_links.specs.Seats.{has, seat_behind};
+ghost use Rattle.ss_links.specs.Seats.{has, next_in};
 ghost use Rattle.ss_program.specs.declared.kinds.Owner.TheVariants.{System};
 ghost use Rattle.ss_program.specs.Program.{class_of};
 ghost use Rattle.ss_store.specs.Tables.{set_of};
@@ -24,7 +24,7 @@ fn member_behind<S: SetBoard>(store: &Store<S>, set: usize, owner: i64, member: 
     requires set { set < length store.now.tables.sets }
     requires there { has (members_of (set_of store.now.tables set) store.now.state (number_of owner)) member ≡ true }
     ensures { result
-        ≡ seat_behind (members_of (set_of store.now.tables set) store.now.state (number_of owner)) member }
+        ≡ next_in (members_of (set_of store.now.tables set) store.now.state (number_of owner)) member }
 {
     store.known();
     store

@@ -2,9 +2,9 @@
 use Rattle.std.proofs.Common.{◌≡◌, ℕ, ◌+◌, ◌<◌, ◌++◌, Bool, true, false, cond, eqb, ltb, List, [], ◌∷◌, length}
 use Rattle.std.proofs.Common.{Option, Some, None, refl, sym, ap, ◌∙◌, arith, suc, length-append, get_or}
 use Rattle.std.proofs.lemmas.Bool.Decides.{nat_tests}
-use Rattle.ss_links.specs.Board.{Board, list_at, head_of, IsSound, CanRelink, with_seat, relinked, unlinked}
+use Rattle.ss_links.specs.Board.{Board, list_at, head_of, IsSound, CanRelink, with_seat, after_relink, after_unlink}
 use Rattle.ss_links.specs.Seats.{has, put_at}
-use Rattle.ss_links.specs.Seats.{without as without_seat}
+use Rattle.ss_links.specs.Seats.{list_without as without_seat}
 use Rattle.ss_links.proofs.SeatLaws.{has-last_of}
 use Rattle.ss_links.proofs.BoardLaws.{head_of-list_at}
 use Rattle.ss_events.specs.Agenda.{Pending, without_notice, of_class}
@@ -121,7 +121,7 @@ order-without s n t = order-sorted (with_pending s (without_notice n s.agenda.pe
     ap (without_notice n) (sym (order-sorted s t)))
 
 pub relinked-with : (s : AgendaState) (e : Pending) → IsTold s → IsNew s e →
-    relinked (board_of s) (seat_in s.notices e.notice) (rank_place s e) ≡ board_of (with_pending s (with_notice e
+    after_relink (board_of s) (seat_in s.notices e.notice) (rank_place s e) ≡ board_of (with_pending s (with_notice e
     s.agenda.pending))
 relinked-with s e t n =
     let new = with_pending s (with_notice e s.agenda.pending) in
@@ -139,7 +139,7 @@ relinked-with s e t n =
     rw (here, own) (ap (λ (ls : List (List ℕ)). board_with ls (length s.notices)) lists)
 
 pub unlinked-without : (s : AgendaState) (n : ℕ) → IsTold s → has s.notices n ≡ true →
-    unlinked (board_of s) (seat_in s.notices n) ≡ board_of (with_pending s (without_notice n s.agenda.pending))
+    after_unlink (board_of s) (seat_in s.notices n) ≡ board_of (with_pending s (without_notice n s.agenda.pending))
 unlinked-without s n t h =
     let new = with_pending s (without_notice n s.agenda.pending) in
     let each : (c : ℕ) → without_seat (class_seats s c) (seat_in s.notices n) ≡ class_seats new c = λ c.

@@ -5,7 +5,7 @@ use Rattle.std.proofs.Math.ListN.{set, length-set}
 use Rattle.std.proofs.lemmas.List.{get_or-set_same, get_or-set_other}
 use Rattle.std.proofs.lemmas.Bool.Decides.{nat_tests}
 use Rattle.std.specs.Option.{IsSome, option_map}
-use Rattle.ss_links.specs.Board.{Board, head_of, IsSound, CanRelink, relinked, unlinked}
+use Rattle.ss_links.specs.Board.{Board, head_of, IsSound, CanRelink, after_relink, after_unlink}
 use Rattle.ss_links.specs.Seats.{has, last_of}
 use Rattle.ss_links.specs.declared.board.Place.{Place}
 use Rattle.ss_events.specs.declared.pending_notice.PendingNotice.{PendingNotice}
@@ -91,7 +91,7 @@ put_in-read rows s b n x r k p h =
 
 pub put_in-kept : (rows : List Row) (s : AgendaState) (b c : Board) (n : ℕ) (x : PendingNotice) (r : Row) →
     IsAgenda rows s b → CanPend s (notice_of n x) → r.entry ≡ Some x → r.seat ≡ (row_at rows (n - 1)).seat →
-    c ≡ relinked b (seat_in s.notices n) (rank_place s (notice_of n x)) → IsSound c →
+    c ≡ after_relink b (seat_in s.notices n) (rank_place s (notice_of n x)) → IsSound c →
     IsAgenda (set rows (n - 1) r) (with_pending s (with_notice (notice_of n x) s.agenda.pending)) c
 put_in-kept rows s b c n x r k p h seat e sound = record {
   sound = sound;
@@ -123,7 +123,7 @@ take_out-read rows s b n r k a h =
 
 pub take_out-kept : (rows : List Row) (s : AgendaState) (b c : Board) (n : ℕ) (r : Row) → IsAgenda rows s b →
     has s.notices n ≡ true → r.entry ≡ None → r.seat ≡ (row_at rows (n - 1)).seat →
-    c ≡ unlinked b (seat_in s.notices n) → IsSound c →
+    c ≡ after_unlink b (seat_in s.notices n) → IsSound c →
     IsAgenda (set rows (n - 1) r) (with_pending s (without_notice n s.agenda.pending)) c
 take_out-kept rows s b c n r k a h seat e sound = record {
   sound = sound;
@@ -193,7 +193,7 @@ put_in-relink rows s b n x q seat place k p e f g = rw (
 
 pub put_in-closed : (rows : List Row) (s : AgendaState) (b c : Board) (n : ℕ) (x : PendingNotice) (q r : Row) (seat : ℕ)
     (place : Place) → IsAgenda rows s b → CanPend s (notice_of n x) → q ≡ get_or rows (n - 1) q →
-    q.seat ≡ Some seat → place ≡ rank_place s (notice_of 0 x) → c ≡ relinked b seat place → IsSound c →
+    q.seat ≡ Some seat → place ≡ rank_place s (notice_of 0 x) → c ≡ after_relink b seat place → IsSound c →
     r ≡ get_or rows (n - 1) r → IsAgenda (set rows (n - 1) (record {
       seat = r.seat;
       entry = Some x;
@@ -205,9 +205,9 @@ put_in-closed rows s b c n x q r seat place k p e f g h sound i =
     let row : Row = record { seat = r.seat; entry = Some x } in
     let own : r.seat ≡ (row_at rows (n - 1)).seat = ap (λ (t : Row). t.seat) (sym (row-is rows (n - 1) r (has-row
     rows s b n k p.kept.seat) i)) in
-    let board : c ≡ relinked b (seat_in s.notices n) (rank_place s (notice_of n x)) = h ∙
-    (ap (λ (t : ℕ). relinked b t place) (seat-read rows s b n seat q k p.kept.seat e f) ∙
-    ap (λ (t : Place). relinked b (seat_in s.notices n) t) (g ∙ rank_place-number s 0 n x)) in
+    let board : c ≡ after_relink b (seat_in s.notices n) (rank_place s (notice_of n x)) = h ∙
+    (ap (λ (t : ℕ). after_relink b t place) (seat-read rows s b n seat q k p.kept.seat e f) ∙
+    ap (λ (t : Place). after_relink b (seat_in s.notices n) t) (g ∙ rank_place-number s 0 n x)) in
     let new = put_in-kept rows s b c n x row k p refl own board sound in
     rw (put_in-read rows s b n x row k p refl) at new
 
@@ -255,7 +255,7 @@ taken-entry rows s b n r k a h i = ap (λ (es : List Pending). pending_at es n) 
 
 pub take_out-closed : (rows : List Row) (s : AgendaState) (b c : Board) (n : ℕ) (q r : Row) (seat : ℕ) (o : Option
     PendingNotice) → IsAgenda rows s b → IsSome (pending_at s.agenda.pending n) → q ≡ get_or rows (n - 1) q →
-    q.seat ≡ Some seat → c ≡ unlinked b seat → IsSound c → r ≡ get_or rows (n - 1) r → o ≡ None →
+    q.seat ≡ Some seat → c ≡ after_unlink b seat → IsSound c → r ≡ get_or rows (n - 1) r → o ≡ None →
     IsAgenda (set rows (n - 1) (record {
       seat = r.seat;
       entry = o;
@@ -264,6 +264,6 @@ take_out-closed rows s b c n q r seat o k a e f h sound i z =
     let p = pending-row rows s b n k a in
     let row : Row = record { seat = r.seat; entry = o } in
     let own : r.seat ≡ (row_at rows (n - 1)).seat = ap (λ (t : Row). t.seat) (sym (row-is rows (n - 1) r p.row i)) in
-    let board : c ≡ unlinked b (seat_in s.notices n) = h ∙ rw (seat-read rows s b n seat q k p.seat e f) refl in
+    let board : c ≡ after_unlink b (seat_in s.notices n) = h ∙ rw (seat-read rows s b n seat q k p.seat e f) refl in
     let new = take_out-kept rows s b c n row k p.seat z own board sound in
     rw (take_out-read rows s b n row k p.seat z) at new

@@ -6,7 +6,7 @@ use Rattle.std.proofs.Math.ListN.{set, length-set}
 use Rattle.std.proofs.lemmas.List.{get_or-set_same, get_or-set_other}
 use Rattle.std.proofs.lemmas.Bool.Decides.{nat_tests}
 use Rattle.ss_links.specs.Board.{Board, list_of}
-use Rattle.ss_links.specs.Seats.{times_in, first_of, seat_behind}
+use Rattle.ss_links.specs.Seats.{times_in, first_of, next_in}
 use Rattle.ss_links.proofs.SeatLaws.{times_in-present}
 use Rattle.ss_events.specs.declared.pending_notice.PendingNotice.{PendingNotice}
 use Rattle.ss_events.specs.declared.pending_notice.Row.{Row}
@@ -195,7 +195,7 @@ few-listed rows s b i e k h =
 pub listing-on : (rows : List Row) (s : AgendaState) (b : Board) (l : Listing) (x : ℕ) (y : PendingNotice) (at : Option ℕ)
     (seats : List (Option ℕ)) (n : ℕ) → IsAgenda rows s b → IsListing s l → x < length s.notices →
     pending_at s.agenda.pending (notice_on s x) ≡ Some (notice_of (notice_on s x) y) →
-    slice_get (order s) l.listed ≡ Some (notice_of (notice_on s x) y) → at ≡ seat_behind (list_of b.lists x) x →
+    slice_get (order s) l.listed ≡ Some (notice_of (notice_on s x) y) → at ≡ next_in (list_of b.lists x) x →
     is_event_class s.rules y.class ≡ true → seats ≡ set l.seats y.class at → n ≡ l.listed + 1 →
     IsListing s (record { seats = seats; listed = n })
 listing-on rows s b l x y at seats n k i m p q h c z u =
@@ -212,7 +212,7 @@ listing-on rows s b l x y at seats n k i m p q h c z u =
     ap (λ (es : List Pending). of_class y.class (take l.listed (order s)) ++ es) here) in
     let seat : seat_in s.notices (notice_on s x) ≡ x = seat_in-index s.notices x 0 k.once m in
     let next : at ≡ first_of (seats_of s.notices (of_class y.class (drop (l.listed + 1) (order s)))) = h ∙
-    (ap (λ (d : Board). seat_behind (list_of d.lists x) x) k.board ∙ rw seat at t.next) in
+    (ap (λ (d : Board). next_in (list_of d.lists x) x) k.board ∙ rw seat at t.next) in
     rw (z, u) (record {
       all = length-set l.seats y.class at ∙ i.all;
       seats = λ d r. elim (eqb d y.class)

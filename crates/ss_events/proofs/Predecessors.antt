@@ -4,7 +4,7 @@ use Rattle.std.proofs.Common.{Option, Some, None, unwrap_or, refl, sym, ap, ◌�
 use Rattle.std.proofs.lemmas.Bool.Decides.{nat_tests}
 use Rattle.std.specs.Option.{option_map, ForSome}
 use Rattle.ss_links.specs.Board.{Board, list_of}
-use Rattle.ss_links.specs.Seats.{has, last_of, seat_before}
+use Rattle.ss_links.specs.Seats.{has, last_of, prev_in}
 use Rattle.ss_events.specs.declared.pending_notice.PendingNotice.{PendingNotice}
 use Rattle.ss_events.specs.declared.pending_notice.Row.{Row}
 use Rattle.ss_events.specs.Agenda.{Pending, pending_at, of_class, without_notice}
@@ -115,15 +115,15 @@ pub record IsPredecessor (s : AgendaState) (n : ℕ) (x : PendingNotice) (at : O
 
 pub predecessor-taken : (rows : List Row) (s : AgendaState) (b : Board) (n : ℕ) (x : PendingNotice) (seat : ℕ) (at : Option
     ℕ) → IsAgenda rows s b → pending_at s.agenda.pending n ≡ Some (notice_of n x) → seat ≡ seat_in s.notices n →
-    at ≡ seat_before (list_of b.lists seat) seat → IsPredecessor s n x at
+    at ≡ prev_in (list_of b.lists seat) seat → IsPredecessor s n x at
 predecessor-taken rows s b n x seat at k h i p =
     let e = notice_of n x in
     let t = told rows s b k in
     let c = (pending-seat rows s b n e k h).1 in
     let r = between (of_class x.class (order s)) n e (pending_in-class s n e t h) in
     let st = stands s x.class r.front e r.rear t (sound_board rows s b k) c r.whole in
-    let here : at ≡ last_of (seats_of s.notices r.front) = p ∙ (ap (λ (d : Board). seat_before (list_of d.lists seat)
-    seat) k.board ∙ (ap (λ (y : ℕ). seat_before (list_of (board_of s).lists y) y) i ∙ st.prev)) in
+    let here : at ≡ last_of (seats_of s.notices r.front) = p ∙ (ap (λ (d : Board). prev_in (list_of d.lists seat)
+    seat) k.board ∙ (ap (λ (y : ℕ). prev_in (list_of (board_of s).lists y) y) i ∙ st.prev)) in
     let sorted = rw r.whole at (IsSorted-of_class (before s.rules) x.class (order s) (IsSorted-order s t)) in
     let noted = rw r.whole at (AreNoted-of_class x.class (order s) (AreNoted-order s t)) in
     let rest : of_class x.class (order (with_pending s (without_notice n s.agenda.pending))) ≡ r.front ++ r.rear = ap

@@ -5,7 +5,7 @@ use Rattle.std.proofs.lemmas.Bool.Decides.{nat_tests}
 use Rattle.std.specs.Option.{IsSome, option_map}
 use Rattle.std.proofs.lemmas.Grind.{get_or_default_zero}
 use Rattle.ss_links.specs.Board.{Board, list_at, head_of, list_of, IsSound}
-use Rattle.ss_links.specs.Seats.{has, times_in, first_of, last_of, seat_before, seat_behind}
+use Rattle.ss_links.specs.Seats.{has, times_in, first_of, last_of, prev_in, next_in}
 use Rattle.ss_links.proofs.SeatLaws.{times_in-append, times_in-present, seat_before-between, seat_behind-between}
 use Rattle.ss_links.proofs.BoardLaws.{head_of-found, once-list_at}
 use Rattle.ss_events.specs.Agenda.{Pending, of_class}
@@ -74,9 +74,9 @@ pub record Stands (s : AgendaState) (c : ℕ) (a : List Pending) (f : Pending) (
   pub notice : notice_on s (seat_in s.notices f.notice) ≡ f.notice
   pub pending : pending_at s.agenda.pending f.notice ≡ Some f
   pub class : f.class ≡ c
-  pub prev : seat_before (list_of (board_of s).lists (seat_in s.notices f.notice)) (seat_in s.notices f.notice) ≡
+  pub prev : prev_in (list_of (board_of s).lists (seat_in s.notices f.notice)) (seat_in s.notices f.notice) ≡
       last_of (seats_of s.notices a)
-  pub next : seat_behind (list_of (board_of s).lists (seat_in s.notices f.notice)) (seat_in s.notices f.notice) ≡
+  pub next : next_in (list_of (board_of s).lists (seat_in s.notices f.notice)) (seat_in s.notices f.notice) ≡
       first_of (seats_of s.notices b)
 
 pub stands : (s : AgendaState) (c : ℕ) (a : List Pending) (f : Pending) (b : List Pending) → IsTold s →

@@ -4,7 +4,7 @@ use Rattle.std.proofs.Common.{get_or, Option, Some, None, unwrap_or, refl, sym, 
 use Rattle.ss_links.proofs.SeatLaws.{has-last_of}
 use Rattle.std.proofs.lemmas.Bool.Decides.{nat_tests}
 use Rattle.ss_links.specs.Seats.{has, last_of, put_behind, put_at}
-use Rattle.ss_links.specs.Seats.{without as without_seat}
+use Rattle.ss_links.specs.Seats.{list_without as without_seat}
 use Rattle.ss_events.specs.Agenda.{Pending, without_notice, of_class}
 use Rattle.ss_events.specs.Agenda.{pending_at}
 use Rattle.ss_events.specs.State.{seat_in, seats_of, Each, NoneNoted}

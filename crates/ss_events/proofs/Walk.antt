@@ -4,7 +4,7 @@ use Rattle.std.proofs.Common.{Some, None, refl, sym, ap, ◌∙◌, arith, suc, 
 use Rattle.std.proofs.lemmas.Bool.Decides.{nat_tests}
 use Rattle.std.proofs.lemmas.List.{length-map}
 use Rattle.ss_links.specs.Board.{list_at, list_of, IsSound}
-use Rattle.ss_links.specs.Seats.{has, last_of, seat_before}
+use Rattle.ss_links.specs.Seats.{has, last_of, prev_in}
 use Rattle.ss_links.proofs.BoardLaws.{once-list_at}
 use Rattle.ss_events.specs.declared.pending_notice.PendingNotice.{PendingNotice}
 use Rattle.ss_events.specs.Agenda.{Pending, of_class}
@@ -123,7 +123,7 @@ walk-entry s e x y w r h =
 abbrev pub walk-on : (s : AgendaState) (e : Pending) (x : ℕ) (y : PendingNotice) (at : Option ℕ) → IsWalk s e (Some x) →
     IsTold s → IsSound (board_of s) → is_event_class s.rules e.class ≡ true →
     pending_at s.agenda.pending (notice_on s x) ≡ Some (notice_of (notice_on s x) y) →
-    before s.rules e (notice_of 0 y) ≡ true → at ≡ seat_before (list_of (board_of s).lists x) x → IsWalk s e at
+    before s.rules e (notice_of 0 y) ≡ true → at ≡ prev_in (list_of (board_of s).lists x) x → IsWalk s e at
 walk-on s e x y at w t sound k h b p =
     let r = walk-stands s e x w t sound k in
     let is = walk-entry s e x y w r h in
@@ -201,7 +201,7 @@ walk-left s e at w sound k = elim at
 pub walk-less : (s : AgendaState) (e : Pending) (x : ℕ) (y : PendingNotice) (at : Option ℕ) → IsWalk s e (Some x) →
     IsTold s → IsSound (board_of s) → is_event_class s.rules e.class ≡ true →
     pending_at s.agenda.pending (notice_on s x) ≡ Some (notice_of (notice_on s x) y) →
-    before s.rules e (notice_of 0 y) ≡ true → at ≡ seat_before (list_of (board_of s).lists x) x →
+    before s.rules e (notice_of 0 y) ≡ true → at ≡ prev_in (list_of (board_of s).lists x) x →
     seats_left (list_at (board_of s).lists (event_number s.rules e.class)) at < seats_left (list_at (board_of s).lists
     (event_number s.rules e.class)) (Some x)
 walk-less s e x y at w t sound k h b p =

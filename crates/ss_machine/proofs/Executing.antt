@@ -16,7 +16,7 @@ use Rattle.ss_store.specs.Tables.{Tables, tables_of, class_of}
 use Rattle.ss_store.specs.Store.{Store, number_of, exists, last_reference, with_new, with_class, with_attribute, without_entity}
 use Rattle.ss_events.specs.Agenda.{Agenda, is_pending}
 use Rattle.ss_values.specs.Faults.{◌>>◌, refuse_if}
-use Rattle.ss_values.specs.Values.{value_of, subscript_value, counted, FaultIs}
+use Rattle.ss_values.specs.Values.{value_of, subscript_value, number_value, FaultIs}
 use Rattle.ss_machine.specs.State.{State}
 use Rattle.ss_machine.specs.Held.{Held}
 use Rattle.ss_machine.specs.Readings.{readings}
@@ -122,14 +122,14 @@ new_unscheduled p t s m class k target time xs st Memory a b w l n z = tt
 pub new_assigned : (p : ProgramTable) (t u : Tables) (s m r : State) (class k : ℕ) (target : Target) (time x : ℤ)
     (xs : List ℤ) (st : Store) (q : Result State RunFault) → t ≡ tables_of p → int_lt time s.clock ≡ false →
     with_new s.store class (class_of t class) ≡ Ok st → k ≡ last_reference st → m ≡ state_with_store s st →
-    state_after_scheduling p m class k time xs ≡ Ok r → counted k ≡ Ok (pos k) → u ≡ t → x ≡ pos k →
+    state_after_scheduling p m class k time xs ≡ Ok r → number_value k ≡ Ok (pos k) → u ≡ t → x ≡ pos k →
     state_with_value u r target x ≡ q →
     state_after_new p s class target time xs ≡ q
 new_assigned p t u s m r class k target time x xs st q a b w l n z d e f g =
     let v = made_there p t s.store class (Ok st) a w in
     let y = scheduled_there p s m class k time xs st (Ok r) l n z in
-    let i : counted (last_reference st) ≡ Ok (pos (last_reference st)) =
-    ap counted (sym l) ∙ d ∙ ap (λ (j : ℕ). Ok (pos j)) l in
+    let i : number_value (last_reference st) ≡ Ok (pos (last_reference st)) =
+    ap number_value (sym l) ∙ d ∙ ap (λ (j : ℕ). Ok (pos j)) l in
     let o : state_with_value (tables_of p) r target (pos (last_reference st)) ≡ q =
     ap (λ (j : Tables). state_with_value j r target (pos (last_reference st))) (sym (e ∙ a))
     ∙ ap (λ (j : ℤ). state_with_value u r target j) (sym (f ∙ ap pos l))
@@ -216,11 +216,11 @@ create_refused t s class target Memory a = tt
 
 pub create_assigned : (t u : Tables) (s m : State) (class k : ℕ) (target : Target) (x : ℤ) (st : Store)
     (q : Result State RunFault) → with_new s.store class (class_of t class) ≡ Ok st → k ≡ last_reference st →
-    m ≡ state_with_store s st → counted k ≡ Ok (pos k) → u ≡ t → x ≡ pos k → state_with_value u m target x ≡ q →
+    m ≡ state_with_store s st → number_value k ≡ Ok (pos k) → u ≡ t → x ≡ pos k → state_with_value u m target x ≡ q →
     state_after_create t s class target ≡ q
 create_assigned t u s m class k target x st q w l n d e f g =
-    let i : counted (last_reference st) ≡ Ok (pos (last_reference st)) =
-    ap counted (sym l) ∙ d ∙ ap (λ (j : ℕ). Ok (pos j)) l in
+    let i : number_value (last_reference st) ≡ Ok (pos (last_reference st)) =
+    ap number_value (sym l) ∙ d ∙ ap (λ (j : ℕ). Ok (pos j)) l in
     let o : state_with_value t (state_with_store s st) target (pos (last_reference st)) ≡ q =
     ap (λ (j : State). state_with_value t j target (pos (last_reference st))) (sym n)
     ∙ ap (λ (j : Tables). state_with_value j m target (pos (last_reference st))) (sym e)

@@ -35,7 +35,7 @@ use Rattle.ss_store.specs.Tables.{Tables, tables_of, class_of}
 use Rattle.ss_store.specs.Store.{Store, last_reference, with_new}
 use Rattle.ss_events.specs.Rules.{rules_of}
 use Rattle.ss_events.specs.Agenda.{Pending, least}
-use Rattle.ss_values.specs.Values.{counted}
+use Rattle.ss_values.specs.Values.{number_value}
 use Rattle.ss_machine.specs.State.{State, FrameState, is_ready, is_waiting}
 use Rattle.ss_machine.specs.Loops.{innermost, loop_of_phrase, loop_variable, loops_with_candidate, next_candidate, verdict_of}
 use Rattle.ss_machine.specs.Step.{state_after_result, state_with_store, state_behind_mark, state_without_entry, state_after_scheduling, state_after_arrival, arrival_asked, state_after_load, loads, state_after_event, state_after_phrase, state_after_reset, state_after_return, state_after_section, candidate_tried, state_after_turn, state_after_verdict, state_behind_call, state_behind_place, state_with_candidate, state_with_loops, state_with_taken, state_with_values, attributes_now, event_section, store_at_start, state_after_start, step_simulation, step, step_at, step_by, values_taken, ways_here}
@@ -147,7 +147,7 @@ start_items p s k c time =
     after_got (λ (_ : List ℤ). Unit {0}) (HasItemsOf s) (attributes_now s.store c k
     (range_with_len 0 (section_of p (event_section p c)).given)) _ (anything _) (λ xs _.
     after_got (λ (_ : Store). Unit {0}) (HasItemsOf s) (store_at_start p s.store c k) _ (anything _) (λ st _.
-    after_got (λ (_ : ℤ). Unit {0}) (HasItemsOf s) (counted k) _ (anything _) (λ x _. refl)))
+    after_got (λ (_ : ℤ). Unit {0}) (HasItemsOf s) (number_value k) _ (anything _) (λ x _. refl)))
 
 simulation_items : (p : ProgramTable) (s : State) (next : ℕ) (o : Option Pending) →
     HasItemsOf s (step_simulation p s next o)

@@ -45,7 +45,7 @@ use Rattle.ss_events.specs.Agenda.{Pending, least}
 use Rattle.ss_machine.proofs.Rests.{LeavesRest, assigned_rest, assign_rest, making_rest, filing_rest, telling_rest, values_rest, scheduling_rest, schedule_rest, cancel_rest}
 use Rattle.ss_machine.specs.State.{State, FrameState, new_frame, is_waiting}
 use Rattle.ss_values.specs.Faults.{◌>>=◌, ◌>>◌, refuse_if}
-use Rattle.ss_values.specs.Values.{Readings, variable_value, value_of, values_of, subscript_value, counted}
+use Rattle.ss_values.specs.Values.{Readings, variable_value, value_of, values_of, subscript_value, number_value}
 use Rattle.ss_machine.specs.Readings.{readings}
 use Rattle.ss_machine.specs.Loops.{innermost, loop_of_phrase, loops_with_candidate, next_candidate, candidate_within, candidate_at_begin, loop_variable, number_loop, loop_at_entry, step_value, verdict_of}
 use Rattle.ss_machine.specs.Step.{state_after_result, state_at_place, state_with_loops, state_with_taken, state_with_statistics, state_after_reset, state_after_closing, state_with_candidate, candidate_tried, state_after_verdict, state_after_turn, state_after_phrase, state_with_values, values_taken, room_for_frame, state_behind_call, state_behind_place, state_after_return, state_after_event, state_after_section, ways_here, step, step_by, step_at, attributes_now, event_section, store_at_start, state_after_start, step_simulation, state_with_store, state_after_scheduling, arrival_asked, state_after_load, loads}
@@ -382,7 +382,7 @@ module _ (p : ProgramTable) where
       after_got (λ (_ : List ℤ). Unit {0}) AreNested (attributes_now s.store c k
       (range_with_len 0 (section_of p (event_section p c)).given)) _ (anything _) (λ xs _.
       after_got (λ (_ : Store). Unit {0}) AreNested (store_at_start p s.store c k) _ (anything _) (λ st _.
-      after_got (λ (_ : ℤ). Unit {0}) AreNested (counted k) _ (anything _) (λ x _. (refl, h))))
+      after_got (λ (_ : ℤ). Unit {0}) AreNested (number_value k) _ (anything _) (λ x _. (refl, h))))
 
   simulation_nested : (s : State) (next : ℕ) (o : Option Pending) → IsAtPhrase s false →
       may_be_open (Places s.frame.section) (Around s) next ≡ true →

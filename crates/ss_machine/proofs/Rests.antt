@@ -24,10 +24,10 @@ use Rattle.ss_store.specs.declared.shape.How.{How}
 use Rattle.ss_store.specs.declared.shape.Which.TheVariants as which
 use Rattle.ss_store.specs.Tables.{Tables, tables_of, class_of, set_of}
 use Rattle.ss_store.specs.Store.{Store, number_of, last_reference, with_attribute, with_new, with_class}
-use Rattle.ss_store.specs.Filing.{filed, removed}
+use Rattle.ss_store.specs.Filing.{after_filing, after_removing}
 use Rattle.ss_events.specs.Agenda.{Agenda, may_schedule, scheduled}
 use Rattle.ss_values.specs.Faults.{◌>>=◌, ◌>>◌, refuse_if}
-use Rattle.ss_values.specs.Values.{value_of, subscript_value, assigned_value, counted}
+use Rattle.ss_values.specs.Values.{value_of, subscript_value, assigned_value, number_value}
 use Rattle.ss_machine.specs.declared.statistics.Statistics.{Statistics}
 use Rattle.ss_machine.specs.State.{State}
 use Rattle.ss_machine.specs.Readings.{readings}
@@ -99,7 +99,7 @@ telling_rest t g s (x ∷ xs) =
 
 pub making_rest : (t : Tables) (s : State) (m : AMaking) → Got (LeavesRest s) (state_after_making t s m)
 making_rest t s (Create c is_called target) =
-    after_value s (with_new s.store c (class_of t c)) _ (λ st. after_value s (counted (last_reference st)) _
+    after_value s (with_new s.store c (class_of t c)) _ (λ st. after_value s (number_value (last_reference st)) _
     (λ x. then_got s (state_with_store s st) _ (store_rest s st) (value_rest t (state_with_store s st) target x)))
 making_rest t s (CreateEvery c e count) =
     after_value s (number_asked (readings t s) e count) _ (λ n. after_value s (with_class s.store c (class_of t c) n) _
@@ -111,7 +111,7 @@ making_rest t s (Destroy c is_called e) =
 file_rest : (t : Tables) (s : State) (r : SetRef) (x : ℤ) (h : How) → Got (LeavesRest s) (state_after_file t s r x h)
 file_rest t s r x h =
     after_value s (subscript_value (readings t s) r.owner) _
-    (λ o. after_value s (filed (set_of t r.set) s.store (number_of o) (number_of x) h) _ (λ st. store_rest s st))
+    (λ o. after_value s (after_filing (set_of t r.set) s.store (number_of o) (number_of x) h) _ (λ st. store_rest s st))
 
 pub filing_rest : (t : Tables) (s : State) (f : AFiling) → Got (LeavesRest s) (state_after_filing t s f)
 filing_rest t s (File e position r) =
@@ -120,12 +120,12 @@ filing_rest t s (File e position r) =
 filing_rest t s (FileAt end e r) = after_value s (value_of (readings t s) e) _ (λ x. file_rest t s r x (how_at end))
 filing_rest t s (RemoveAt end target r) =
     after_value s (subscript_value (readings t s) r.owner) _
-    (λ o. after_value s (removed (set_of t r.set) s.store (number_of o) (which_at end)) _
-    (λ k. after_value s (counted k.0) _
+    (λ o. after_value s (after_removing (set_of t r.set) s.store (number_of o) (which_at end)) _
+    (λ k. after_value s (number_value k.0) _
     (λ x. then_got s (state_with_store s k.1) _ (store_rest s k.1) (value_rest t (state_with_store s k.1) target x))))
 filing_rest t s (Remove e r) =
     after_value s (value_of (readings t s) e) _ (λ x. after_value s (subscript_value (readings t s) r.owner) _
-    (λ o. after_value s (removed (set_of t r.set) s.store (number_of o) (which.Member x)) _ (λ k. store_rest s k.1)))
+    (λ o. after_value s (after_removing (set_of t r.set) s.store (number_of o) (which.Member x)) _ (λ k. store_rest s k.1)))
 
 -- ---- event notices
 
@@ -162,7 +162,7 @@ new_rest p s c target time xs =
     then_got s u _ (store_rest s st)
     (after_got (LeavesRest u) (LeavesRest u) (state_after_scheduling p u c (last_reference st) time xs) _
     (scheduling_rest p u c (last_reference st) time xs)
-    (λ r h. then_got u r _ h (after_value r (counted (last_reference st)) _
+    (λ r h. then_got u r _ h (after_value r (number_value (last_reference st)) _
     (λ x. value_rest (tables_of p) r target x)))))
 
 notice_rest : (p : ProgramTable) (s : State) (c : ℕ) (n : Notice) (x time : ℤ) (xs : List ℤ) →

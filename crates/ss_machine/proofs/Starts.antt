@@ -32,7 +32,7 @@ use Rattle.ss_events.specs.Slots.{slot_of}
 use Rattle.ss_events.specs.declared.agenda.Slot.{Slot}
 use Rattle.ss_events.proofs.RuleLaws.{rule_at-program}
 use Rattle.ss_values.specs.Faults.{◌>>=◌}
-use Rattle.ss_values.specs.Values.{Readings, values_of, counted, FaultIs}
+use Rattle.ss_values.specs.Values.{Readings, values_of, number_value, FaultIs}
 use Rattle.ss_machine.specs.declared.change.Change.{Change}
 use Rattle.ss_machine.specs.State.{State, FrameState, new_frame}
 use Rattle.ss_machine.specs.Held.{Held}
@@ -149,7 +149,7 @@ not_scheduled Memory (Err f) h k o = absurd o
 pub start_done : (p : ProgramTable) (s : State) (k c : ℕ) (time : ℤ) (xs : List ℤ) (st : Store) →
     attributes_now s.store c k (range_with_len 0 (section_of p (event_section p c)).given) ≡ Ok xs →
     store_at_start p s.store c k ≡ Ok st →
-    counted k ≡ Ok (pos k) →
+    number_value k ≡ Ok (pos k) →
     state_after_start p s k c time
     ≡ Ok (state_with_frame p (state_after_assignment (state_at_time s k time st) (Global (class_of p c).variable)
     (pos k)) (event_section p c) xs)

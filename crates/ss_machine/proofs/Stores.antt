@@ -6,7 +6,7 @@ use borrow.Author.Tests.{ltb-true}
 use Rattle.std.specs.Option.{option_or}
 use Rattle.ss_words.specs.declared.fault.RunFault.{RunFault}
 use Rattle.ss_words.specs.declared.fault.RunFault.TheVariants.{NoEntity, EndedInUse, EndedOwner, AlreadyCreated, CountOutOfRange, TooManyReferences, AlreadyInSet, NotInList}
-use Rattle.ss_links.specs.Seats.{without}
+use Rattle.ss_links.specs.Seats.{list_without}
 use Rattle.ss_program.specs.declared.kinds.Owner.{Owner}
 use Rattle.ss_program.specs.declared.kinds.Owner.TheVariants.{System, OwnedBy}
 use Rattle.ss_store.specs.declared.shape.ClassShape.{ClassShape}
@@ -15,8 +15,10 @@ use Rattle.ss_store.specs.declared.shape.How.{How}
 use Rattle.ss_store.specs.declared.shape.Which.{Which}
 use Rattle.ss_store.specs.Lists.{change_at}
 use Rattle.ss_store.specs.Tables.{Tables}
-use Rattle.ss_store.specs.Store.{Entity, Store, number_of, unless, of_class, made_of, entity, exists, attribute_in, attribute_of, is_owner, members_of, is_filed, changed_reference, with_changed, with_value, with_attribute, with_owned, with_list_by, with_list, fresh, empty_store, last_reference, reference_limit, with_reference, with_new, with_made, class_limit, with_class, is_member, owns_members, without_reference, without_entity}
-use Rattle.ss_store.specs.Filing.{filed, filed_in, names_entity, names_member, named_in, taken_out, removed}
+use Rattle.ss_store.specs.Store.{Entity, Store, number_of, unless, of_class, made_of, entity, exists, attribute_in, attribute_of, is_owner, members_of, is_filed, changed_reference, with_changed, with_value, with_attribute, with_owned, with_list_by, with_list, fresh, empty_store, last_reference, with_reference, with_new, with_made, with_class, is_member, owns_members, without_reference, without_entity}
+use Rattle.ss_store.specs.declared.limits.TheConstants.{MOST_ENTITIES}
+use Rattle.ss_words.specs.declared.limits.TheConstants.{MOST_REFERENCES}
+use Rattle.ss_store.specs.Filing.{after_filing, filed_in, names_entity, names_member, member_named, without_member, after_removing}
 use Rattle.ss_machine.specs.Well.{AreInRange, AreEntitiesInRange, AreClassesInRange, IsNoneOrEntityInRange, AreReferencesInRange, IsStoreInRange}
 use Rattle.ss_machine.proofs.Ranges.{Got, IsIn, index_in, set_in, zeros_in}
 
@@ -142,7 +144,7 @@ listed_in s st k ks h = listed_by s.owner s.list st k ks h
 
 -- FILE
 pub filed_well : (s : SetShape) (st : Store) (o k : ℕ) (how : How) → IsStoreInRange st →
-    Got IsStoreInRange (filed s st o k how)
+    Got IsStoreInRange (after_filing s st o k how)
 filed_well s st o k how h =
     unless_got IsStoreInRange NoEntity (is_owner s st o) _
     (unless_got IsStoreInRange NoEntity (exists st s.member k) _
@@ -157,15 +159,15 @@ abbrev pub LeavesInRange : ℕ × Store → Type 0
 LeavesInRange r = IsStoreInRange r.1
 
 taken_out_in : (s : SetShape) (st : Store) (o : ℕ) (r : Result ℕ RunFault) → IsStoreInRange st →
-    Got LeavesInRange (taken_out s st o r)
-taken_out_in s st o (Ok k) h = listed_in s st o (without (members_of s st o) k) h
+    Got LeavesInRange (without_member s st o r)
+taken_out_in s st o (Ok k) h = listed_in s st o (list_without (members_of s st o) k) h
 taken_out_in s st o (Err f) h = tt
 
 -- REMOVE
 pub removed_well : (s : SetShape) (st : Store) (o : ℕ) (w : Which) → IsStoreInRange st →
-    Got LeavesInRange (removed s st o w)
+    Got LeavesInRange (after_removing s st o w)
 removed_well s st o w h =
-    unless_got LeavesInRange NoEntity (is_owner s st o) _ (taken_out_in s st o (named_in s st (members_of s st o) w) h)
+    unless_got LeavesInRange NoEntity (is_owner s st o) _ (taken_out_in s st o (member_named s st (members_of s st o) w) h)
 
 -- ---- entities made and ended
 
@@ -177,7 +179,7 @@ one_more (o ∷ os) e v h = (h.0, one_more os e v h.1)
 -- an entity more
 pub new_in : (st : Store) (c : ℕ) (shape : ClassShape) → IsStoreInRange st → Got IsStoreInRange (with_new st c shape)
 new_in st c shape h =
-    unless_got IsStoreInRange TooManyReferences (nat_lt (length st.references) reference_limit)
+    unless_got IsStoreInRange TooManyReferences (nat_lt (length st.references) MOST_REFERENCES)
     (Ok (with_reference st (fresh c shape)))
     (record {
       made = h.made;
@@ -200,7 +202,7 @@ pub made_in : (st : Store) (c : ℕ) (shape : ClassShape) (n : ℤ) → IsStoreI
     Got IsStoreInRange (with_class st c shape n)
 made_in st c shape n h =
     unless_got IsStoreInRange AlreadyCreated (length (made_of st c) == 0) _
-    (unless_got IsStoreInRange CountOutOfRange (nat_lt 0 (number_of n) && nat_le (number_of n) class_limit)
+    (unless_got IsStoreInRange CountOutOfRange (nat_lt 0 (number_of n) && nat_le (number_of n) MOST_ENTITIES)
     (Ok (with_made st c (replicate (number_of n) (fresh c shape))))
     (record { made = class_set st.made c _ (fresh_in (number_of n) c shape) h.made; references = h.references }))
 
@@ -302,7 +304,7 @@ list_stays System n st k ks d zero h = h
 list_stays System n st k ks d (suc j) h = h
 list_stays (OwnedBy c) n st k ks d j h = changed_stays (with_owned n ks) st c k (λ e. refl) d j h
 
-pub filed_stays : (s : SetShape) (st : Store) (o k : ℕ) (how : How) → Got (Stays st) (filed s st o k how)
+pub filed_stays : (s : SetShape) (st : Store) (o k : ℕ) (how : How) → Got (Stays st) (after_filing s st o k how)
 filed_stays s st o k how =
     unless_got (Stays st) NoEntity (is_owner s st o) _
     (unless_got (Stays st) NoEntity (exists st s.member k) _
@@ -316,13 +318,13 @@ filed_stays s st o k how =
 abbrev pub LeavesThere : Store → ℕ × Store → Type 0
 LeavesThere st r = Stays st r.1
 
-taken_stays : (s : SetShape) (st : Store) (o : ℕ) (r : Result ℕ RunFault) → Got (LeavesThere st) (taken_out s st o r)
-taken_stays s st o (Ok k) = list_stays s.owner s.list st o (without (members_of s st o) k)
+taken_stays : (s : SetShape) (st : Store) (o : ℕ) (r : Result ℕ RunFault) → Got (LeavesThere st) (without_member s st o r)
+taken_stays s st o (Ok k) = list_stays s.owner s.list st o (list_without (members_of s st o) k)
 taken_stays s st o (Err f) = tt
 
-pub removed_stays : (s : SetShape) (st : Store) (o : ℕ) (w : Which) → Got (LeavesThere st) (removed s st o w)
+pub removed_stays : (s : SetShape) (st : Store) (o : ℕ) (w : Which) → Got (LeavesThere st) (after_removing s st o w)
 removed_stays s st o w =
-    unless_got (LeavesThere st) NoEntity (is_owner s st o) _ (taken_stays s st o (named_in s st (members_of s st o) w))
+    unless_got (LeavesThere st) NoEntity (is_owner s st o) _ (taken_stays s st o (member_named s st (members_of s st o) w))
 
 one_more_there : (d : ℕ) (os rest : List (Option Entity)) (j : ℕ) →
     is_some (option_and_then (of_class d) (slice_get os j)) ≡ true →
@@ -353,7 +355,7 @@ reference_stays st e d (suc j) h =
 -- an entity more
 pub new_stays : (st : Store) (c : ℕ) (shape : ClassShape) → Got (Stays st) (with_new st c shape)
 new_stays st c shape =
-    unless_got (Stays st) TooManyReferences (nat_lt (length st.references) reference_limit)
+    unless_got (Stays st) TooManyReferences (nat_lt (length st.references) MOST_REFERENCES)
     (Ok (with_reference st (fresh c shape)))
     (reference_stays st (fresh c shape))
 
@@ -381,9 +383,9 @@ reference_made st e d h =
 pub record IsLast (st : Store) (c : ℕ) : Type 0 where
   pub there : exists st c (last_reference st) ≡ true
   pub named : 0 < last_reference st
-  pub small : last_reference st ≤ reference_limit
+  pub small : last_reference st ≤ MOST_REFERENCES
 
-new_last_by : (st : Store) (c : ℕ) (shape : ClassShape) (b : Bool) → nat_lt (length st.references) reference_limit ≡ b →
+new_last_by : (st : Store) (c : ℕ) (shape : ClassShape) (b : Bool) → nat_lt (length st.references) MOST_REFERENCES ≡ b →
     Got (λ (r : Store). IsLast r c) (unless TooManyReferences b (Ok (with_reference st (fresh c shape))))
 new_last_by st c shape false h = tt
 new_last_by st c shape true h =
@@ -396,7 +398,7 @@ new_last_by st c shape true h =
     }
 
 pub new_last : (st : Store) (c : ℕ) (shape : ClassShape) → Got (λ (r : Store). IsLast r c) (with_new st c shape)
-new_last st c shape = new_last_by st c shape (nat_lt (length st.references) reference_limit) refl
+new_last st c shape = new_last_by st c shape (nat_lt (length st.references) MOST_REFERENCES) refl
 
 nothing_made : (es : List Entity) (j : ℕ) → (length es == 0) ≡ true → is_some (slice_get es j) ≡ true → ⊥
 nothing_made [] j h k = absurd (clash k)
@@ -430,7 +432,7 @@ unless_given P f false r h = tt
 pub class_stays : (st : Store) (c : ℕ) (shape : ClassShape) (n : ℤ) → Got (Stays st) (with_class st c shape n)
 class_stays st c shape n =
     unless_given (Stays st) AlreadyCreated (length (made_of st c) == 0) _ (λ h.
-    unless_got (Stays st) CountOutOfRange (nat_lt 0 (number_of n) && nat_le (number_of n) class_limit)
+    unless_got (Stays st) CountOutOfRange (nat_lt 0 (number_of n) && nat_le (number_of n) MOST_ENTITIES)
     (Ok (with_made st c (replicate (number_of n) (fresh c shape))))
     (made_stays st c (replicate (number_of n) (fresh c shape)) h))
 

@@ -13,7 +13,7 @@ use Rattle.ss_program.specs.declared.target.Target.{Target}
 use Rattle.ss_store.specs.declared.shape.How.{How}
 use Rattle.ss_store.specs.declared.shape.Which.TheVariants as which
 use Rattle.ss_store.specs.Tables.{Tables, set_of}
-use Rattle.ss_store.specs.Filing.{filed, removed}
+use Rattle.ss_store.specs.Filing.{after_filing, after_removing}
 use Rattle.ss_events.specs.declared.agenda.AgendaChange.{AgendaChange}
 use Rattle.ss_events.specs.declared.agenda.AgendaChange.TheVariants.{Scheduled, TakenOff}
 use Rattle.ss_events.specs.Agenda.{Agenda, may_schedule, scheduled}
@@ -21,13 +21,14 @@ use Rattle.ss_events.specs.State.{AgendaState}
 use Rattle.ss_events.specs.Changes as notices
 use Rattle.ss_events.specs.Changes.{Went, IsScheduled, after_scheduling}
 use Rattle.ss_values.specs.Faults.{◌>>◌}
-use Rattle.ss_values.specs.Values.{subscript_value, counted, FaultIs}
+use Rattle.ss_values.specs.Values.{subscript_value, number_value, FaultIs}
 use Rattle.ss_machine.specs.State.{State}
 use Rattle.ss_machine.specs.Readings.{readings}
 use Rattle.ss_machine.specs.Step.{state_after_result, state_at_place, state_with_store, state_with_agenda, state_with_notice, state_with_value, which_at, state_after_file, state_after_remove, state_after_remove_end}
 use Rattle.ss_store.specs.Store.{Store, number_of}
-use Rattle.ss_store.specs.Held.{StoreValue}
-use Rattle.ss_store.specs.Change.{Leaves, IsOutcome, IsRemoval, IsRefusal, IsCreation, IsMaking, unapply_store}
+use Rattle.ss_store.specs.Value.{StoreValue}
+use Rattle.ss_store.specs.Change.{Leaves, IsOutcome, IsRemoval, IsCreation, IsMaking, unapply_store}
+use Rattle.ss_words.specs.Outcomes.{RefusesAs}
 use Rattle.ss_machine.specs.declared.change.Change.{Change}
 use Rattle.ss_machine.specs.declared.change.Change.TheVariants as c
 use Rattle.ss_machine.specs.Held.{Held, store_of, with_store, agenda_of, with_agenda}
@@ -70,7 +71,7 @@ pub not_removing : (e : RunFault) (r : Result (ℕ × Store) RunFault) (h : Held
 not_removing e (Ok s) h v o = o
 not_removing e (Err f) h v o = (o.0, same_store h v o.1)
 
-refused : (e : StepFault) (r : Result Store RunFault) (h : Held) (v : StoreValue) → IsRefusal e r (store_of h) v →
+refused : (e : StepFault) (r : Result Store RunFault) (h : Held) (v : StoreValue) → RefusesAs e r (store_of h) v →
     IsRefused e r h (with_store h v)
 refused (Fault e) (Err f) h v o = (o.0, same_store h v o.1)
 refused Memory (Ok s) h v o = same_store h v o
@@ -148,28 +149,28 @@ removing_is n change (Err f) h k o = absurd o
 
 pub file_fails : (t : Tables) (s : State) (r : SetRef) (x o : ℤ) (how : How) (e : RunFault) →
     subscript_value (readings t s) r.owner ≡ Ok o →
-    filed (set_of t r.set) s.store (number_of o) (number_of x) how ≡ Err e → state_after_file t s r x how ≡ Err e
+    after_filing (set_of t r.set) s.store (number_of o) (number_of x) how ≡ Err e → state_after_file t s r x how ≡ Err e
 file_fails t s r x o how e a b = rw (a, b) refl
 
 pub file_ends : (t : Tables) (s : State) (r : SetRef) (x o : ℤ) (how : How) (st : Store) →
     subscript_value (readings t s) r.owner ≡ Ok o →
-    filed (set_of t r.set) s.store (number_of o) (number_of x) how ≡ Ok st →
+    after_filing (set_of t r.set) s.store (number_of o) (number_of x) how ≡ Ok st →
     state_after_file t s r x how ≡ Ok (state_with_store s st)
 file_ends t s r x o how st a b = rw (a, b) refl
 
 pub remove_fails : (t : Tables) (s : State) (r : SetRef) (x o : ℤ) (e : RunFault) →
     subscript_value (readings t s) r.owner ≡ Ok o →
-    removed (set_of t r.set) s.store (number_of o) (which.Member x) ≡ Err e → state_after_remove t s r x ≡ Err e
+    after_removing (set_of t r.set) s.store (number_of o) (which.Member x) ≡ Err e → state_after_remove t s r x ≡ Err e
 remove_fails t s r x o e a b = rw (a, b) refl
 
 pub remove_end_fails : (t : Tables) (s : State) (r : SetRef) (end : SetEnd) (target : Target) (o : ℤ) (e : RunFault) →
     subscript_value (readings t s) r.owner ≡ Ok o →
-    removed (set_of t r.set) s.store (number_of o) (which_at end) ≡ Err e →
+    after_removing (set_of t r.set) s.store (number_of o) (which_at end) ≡ Err e →
     state_after_remove_end t s r end target ≡ Err e
 remove_end_fails t s r end target o e a b = rw (a, b) refl
 
 -- the number of an entity is a value
-pub counted_small : (n : ℕ) → n < 2 ^ 32 → counted n ≡ Ok (pos n)
+pub counted_small : (n : ℕ) → n < 2 ^ 32 → number_value n ≡ Ok (pos n)
 counted_small n h = chosen (nat_lt n (2 ^ 63)) (lt-ltb n (2 ^ 63) (omega (arith, h)))
   where
     chosen : (b : Bool) → b ≡ true → (if b then Ok (pos n) else Err OutOfRange) ≡ Ok (pos n)
@@ -179,8 +180,8 @@ counted_small n h = chosen (nat_lt n (2 ^ 63)) (lt-ltb n (2 ^ 63) (omega (arith,
 pub remove_end_then : (t v : Tables) (s u : State) (r : SetRef) (end : SetEnd) (target : Target) (o x : ℤ) (n : ℕ)
     (st : Store) (done : Result (Unit {0}) RunFault) →
     subscript_value (readings t s) r.owner ≡ Ok o →
-    removed (set_of t r.set) s.store (number_of o) (which_at end) ≡ Ok (n, st) →
-    counted n ≡ Ok (pos n) → u ≡ state_with_store s st → v ≡ t → x ≡ pos n →
+    after_removing (set_of t r.set) s.store (number_of o) (which_at end) ≡ Ok (n, st) →
+    number_value n ≡ Ok (pos n) → u ≡ state_with_store s st → v ≡ t → x ≡ pos n →
     IfErr done (λ e. state_with_value v u target x ≡ Err e) →
     IfErr done (λ e. state_after_remove_end t s r end target ≡ Err e)
 remove_end_then t v s u r end target o x n st (Ok _) a b d e f g h = tt

@@ -12,8 +12,8 @@ use Rattle.ss_program.specs.declared.place.Assign.TheVariants.{Let, Add, Subtrac
 use Rattle.ss_program.specs.ProgramExpr.{Expr, expr, Sums, no_sums, sum, Term, term, Products, no_products, product, Factor, digits, variable, absolute, greatest, least, quotient, remainder, attribute, owner_kept, member_kept, within, Exprs, no_exprs, exprs}
 use Rattle.ss_store.specs.Tables.{set_of}
 use Rattle.ss_store.specs.Store.{number_of}
-use Rattle.ss_store.specs.Filing.{first_member, last_member, count, predecessor, successor, membership}
-use Rattle.ss_values.specs.Values.{Readings, result_in_range, with_sign, sum_or_difference, value_of, sums_value, term_value, products_value, factor_value, subscript_value, greatest_value, least_value, target_value, assigned_value, counted, number_or_none, one_if, owner_kept_value, member_kept_value}
+use Rattle.ss_store.specs.Filing.{walk_first, walk_last, count, predecessor, successor, membership}
+use Rattle.ss_values.specs.Values.{Readings, result_in_range, with_sign, sum_or_difference, value_of, sums_value, term_value, products_value, factor_value, subscript_value, greatest_value, least_value, target_value, assigned_value, number_value, number_or_none, one_if, owner_kept_value, member_kept_value}
 use Rattle.ss_machine.proofs.Ranges.{Got, after_got, anything, IsIn, AreIn, variable_in, ranged_in, sign_in, joined_in, max_in, min_in, quotient_in, remainder_in}
 use Rattle.ss_machine.proofs.Stores.{attribute_value_in}
 
@@ -27,13 +27,13 @@ one_in false = refl
 
 owner_kept_in : (v : Readings) (kept : OwnerKept) (s : ℕ) (x : ℤ) → Got IsIn (owner_kept_value v kept s x)
 owner_kept_in v First s x =
-    after_got (λ (_ : Option ℕ). Unit {0}) IsIn (first_member (set_of v.tables s) v.store (number_of x)) number_or_none
+    after_got (λ (_ : Option ℕ). Unit {0}) IsIn (walk_first (set_of v.tables s) v.store (number_of x)) number_or_none
     (anything _) (λ k _. none_in k)
 owner_kept_in v Last s x =
-    after_got (λ (_ : Option ℕ). Unit {0}) IsIn (last_member (set_of v.tables s) v.store (number_of x)) number_or_none
+    after_got (λ (_ : Option ℕ). Unit {0}) IsIn (walk_last (set_of v.tables s) v.store (number_of x)) number_or_none
     (anything _) (λ k _. none_in k)
 owner_kept_in v Count s x =
-    after_got (λ (_ : ℕ). Unit {0}) IsIn (count (set_of v.tables s) v.store (number_of x)) counted (anything _)
+    after_got (λ (_ : ℕ). Unit {0}) IsIn (count (set_of v.tables s) v.store (number_of x)) number_value (anything _)
     (λ n _. ranged_in (pos n))
 
 member_kept_in : (v : Readings) (kept : MemberKept) (s : ℕ) (x : ℤ) → Got IsIn (member_kept_value v kept s x)

@@ -86,12 +86,13 @@ use Rattle.ss_store.specs.declared.shape.Which.{Which}
 use Rattle.ss_store.specs.declared.shape.Which.TheVariants as which
 use Rattle.ss_store.specs.Tables.{Tables, tables_of, class_of, set_of}
 use Rattle.ss_store.specs.Store.{Store, number_of, exists, attribute_of, last_reference, with_attribute, with_new, with_class, without_entity}
-use Rattle.ss_store.specs.Filing.{filed, removed}
+use Rattle.ss_store.specs.Filing.{after_filing, after_removing}
 use Rattle.ss_events.specs.Rules.{rules_of}
 use Rattle.ss_events.specs.Agenda.{Pending, Agenda, is_pending, pending_at, least, filing_limit, may_schedule, scheduled, taken_off, without_notice}
 use Rattle.ss_machine.specs.Held.{Held}
 use Rattle.ss_values.specs.Faults.{◌>>=◌, ◌>>◌, refuse_if}
-use Rattle.ss_values.specs.Values.{Readings, in_range, variable_value, value_of, values_of, subscript_value, assigned_value, counted}
+use Rattle.ss_values.specs.Values.{Readings, variable_value, value_of, values_of, subscript_value, assigned_value, number_value}
+use Rattle.ss_words.specs.Ranges.{in_range}
 use Rattle.ss_machine.specs.Readings.{readings}
 use Rattle.ss_machine.specs.Loops.{innermost, loop_of_phrase, loops_with_candidate, candidate_within, number_behind, next_number, end_member, member_behind, as_candidate, unless_left, IsSoundWalk, AreSoundWalks, next_candidate, step_value, number_loop, member_named, candidate_at_begin, loop_at_entry, loop_variable, verdict_of}
 use Rattle.ss_machine.specs.Step.{state_after_result, state_at_place, state_after_assignment, state_with_store, state_with_value, target_of, state_after_assign, state_with_taken, values_taken, state_with_values, state_after_read, step_read, number_asked, state_after_making, how_at, which_at, how_asked, state_after_file, state_after_filing, lines_asked, longer_report, question_answer, ways_here, state_with_loops, state_with_found, state_with_statistics, state_after_reset, state_after_closing, state_with_candidate, candidate_tried, state_after_verdict, state_after_turn, state_after_phrase, statistics_with, statistic_value, state_after_telling, room_for_frame, step_call, state_behind_call, state_behind_place, state_after_return, state_after_event, state_after_section, existing, store_without, notice_named, arguments_asked, time_asked, attributes_now, tie_attributes, state_with_attributes, state_with_agenda, state_with_notice, state_after_scheduling, state_after_new, state_after_notice, state_after_schedule, agenda_without, state_after_cancel, event_section, store_at_start, state_after_start, step_simulation, state_behind_mark, state_without_entry, external_class, class_named, arrival_asked, state_after_arrival, state_after_load, loads, step_looping, step_branch, step, step_by, step_at}
@@ -354,7 +355,7 @@ making_well : (t : Tables) (p : ProgramTable) (s : State) (m : AMaking) → IsIn
 making_well t p s (Create c is_called target) w =
     after_got (IsNext s.store) (IsInBounds p) (with_new s.store c (class_of t c)) _
     (next_store s.store _ (new_in s.store c (class_of t c) w.store) (new_stays s.store c (class_of t c))) (λ st h.
-    after_got IsIn (IsInBounds p) (counted (last_reference st)) _ (ranged_in (pos (last_reference st)))
+    after_got IsIn (IsInBounds p) (number_value (last_reference st)) _ (ranged_in (pos (last_reference st)))
     (λ x k. value_well t p (state_with_store s st) target x k (store_well p s st h w)))
 making_well t p s (CreateEvery c e count) w =
     after_got IsIn (IsInBounds p) (number_asked (readings t s) e count) _
@@ -372,12 +373,12 @@ file_well : (t : Tables) (p : ProgramTable) (s : State) (r : SetRef) (x : ℤ) (
     Got (IsInBounds p) (state_after_file t s r x h)
 file_well t p s r x h w =
     after_got (λ (_ : ℤ). Unit {0}) (IsInBounds p) (subscript_value (readings t s) r.owner) _ (anything _) (λ o _.
-    after_got (IsNext s.store) (IsInBounds p) (filed (set_of t r.set) s.store (number_of o) (number_of x) h) _
+    after_got (IsNext s.store) (IsInBounds p) (after_filing (set_of t r.set) s.store (number_of o) (number_of x) h) _
     (next_store s.store _ (filed_well (set_of t r.set) s.store (number_of o) (number_of x) h w.store)
     (filed_stays (set_of t r.set) s.store (number_of o) (number_of x) h)) (λ st k. store_well p s st k w))
 
 next_removed : (st : Store) (shape : SetShape) (o : ℕ) (w : Which) → IsStoreInRange st →
-    Got (LeavesNext st) (removed shape st o w)
+    Got (LeavesNext st) (after_removing shape st o w)
 next_removed st shape o w h =
     both_got LeavesInRange (LeavesThere st) _ (removed_well shape st o w h) (removed_stays shape st o w)
 
@@ -392,14 +393,14 @@ filing_well t p s (FileAt end e r) w =
     (λ x _. file_well t p s r x (how_at end) w)
 filing_well t p s (RemoveAt end target r) w =
     after_got (λ (_ : ℤ). Unit {0}) (IsInBounds p) (subscript_value (readings t s) r.owner) _ (anything _) (λ o _.
-    after_got (LeavesNext s.store) (IsInBounds p) (removed (set_of t r.set) s.store (number_of o) (which_at end)) _
+    after_got (LeavesNext s.store) (IsInBounds p) (after_removing (set_of t r.set) s.store (number_of o) (which_at end)) _
     (next_removed s.store (set_of t r.set) (number_of o) (which_at end) w.store) (λ k g.
-    after_got IsIn (IsInBounds p) (counted k.0) _ (ranged_in (pos k.0))
+    after_got IsIn (IsInBounds p) (number_value k.0) _ (ranged_in (pos k.0))
     (λ x h. value_well t p (state_with_store s k.1) target x h (store_well p s k.1 g w))))
 filing_well t p s (Remove e r) w =
     after_got (λ (_ : ℤ). Unit {0}) (IsInBounds p) (value_of (readings t s) e) _ (anything _) (λ x _.
     after_got (λ (_ : ℤ). Unit {0}) (IsInBounds p) (subscript_value (readings t s) r.owner) _ (anything _) (λ o _.
-    after_got (LeavesNext s.store) (IsInBounds p) (removed (set_of t r.set) s.store (number_of o) (which.Member x)) _
+    after_got (LeavesNext s.store) (IsInBounds p) (after_removing (set_of t r.set) s.store (number_of o) (which.Member x)) _
     (next_removed s.store (set_of t r.set) (number_of o) (which.Member x) w.store) (λ k g. store_well p s k.1 g w)))
 
 -- a state that goes on at a place
@@ -483,7 +484,7 @@ next_number_in d last step x = chosen (in_range (number_behind d step x)) refl
 
 candidate_in : (k : Option ℕ) → Got IsNoneOrInRange (as_candidate k)
 candidate_in None = tt
-candidate_in (Some k) = after_got IsIn IsNoneOrInRange (counted k) _ (ranged_in (pos k)) (λ x h. h)
+candidate_in (Some k) = after_got IsIn IsNoneOrInRange (number_value k) _ (ranged_in (pos k)) (λ x h. h)
 
 unless_left_in : (r : Result (Option ℕ) RunFault) → Got IsNoneOrInRange (unless_left r)
 unless_left_in (Ok k) = candidate_in k
@@ -1042,7 +1043,7 @@ new_well p s c target time xs e t h w =
     xs) _
     (scheduling_well p (state_with_store s st) c (last_reference st) time xs e t h (store_well p s st n.0 w, n.1.there))
     (λ r g.
-    after_got IsIn (IsInBounds p) (counted (last_reference st)) (state_with_value (tables_of p) r target)
+    after_got IsIn (IsInBounds p) (number_value (last_reference st)) (state_with_value (tables_of p) r target)
     (ranged_in (pos (last_reference st)))
     (λ x i. value_well (tables_of p) p r target x i g)))
 
@@ -1167,7 +1168,7 @@ start_well p s n sound m at l w =
     omega (arith, h.1, length-range_with_len 0 (section_of p i).given, given_few p i sound event.section) in
     after_got (IsLeft n.notice s.store) (IsInBounds p) (store_at_start p s.store n.class n.notice) _
     (left_at_start p s.store n.class n.notice w.store) (λ st g.
-    after_got IsIn (IsInBounds p) (counted n.notice) _ (ranged_in (pos n.notice)) (λ x r. record {
+    after_got IsIn (IsInBounds p) (number_value n.notice) _ (ranged_in (pos n.notice)) (λ x r. record {
       variables = length-set s.variables (program.class_of p n.class).variable x ∙ w.variables;
       values = set_in s.variables (program.class_of p n.class).variable x w.values r;
       frame = frame_well p i xs sound event.section few h.0;

@@ -1,7 +1,7 @@
 -- Private: what is held of a run.
 use Rattle.std.specs.Prelude.{ℕ, List}
 use Rattle.ss_store.specs.Tables.{Tables}
-use Rattle.ss_store.specs.Held.{Kept, StoreValue}
+use Rattle.ss_store.specs.Value.{Layout, StoreValue}
 use Rattle.ss_events.specs.Rules.{Rule}
 use Rattle.ss_events.specs.State.{AgendaState}
 use Rattle.ss_machine.specs.State.{State}
@@ -11,7 +11,7 @@ pub record Beside : Type 0 where
   -- the store's tables
   pub tables : Tables
   -- what the store keeps
-  pub kept : Kept
+  pub kept : Layout
   -- the rules of the classes for notices
   pub rules : List Rule
   -- the notice of each seat

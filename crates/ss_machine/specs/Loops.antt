@@ -16,14 +16,15 @@ use Rattle.ss_words.specs.declared.terms.QualifierWord.TheVariants.{With, Unless
 use Rattle.ss_program.specs.ProgramExpr.{Expr}
 use Rattle.ss_store.specs.Tables.{set_of}
 use Rattle.ss_store.specs.Store.{number_of}
-use Rattle.ss_store.specs.Filing.{first_member, last_member, next_member, previous_member, is_in}
+use Rattle.ss_store.specs.Filing.{walk_first, walk_last, walk_next, walk_prev, is_in}
 use Rattle.ss_machine.specs.declared.loops.OpenLoop.{OpenLoop}
 use Rattle.ss_machine.specs.declared.loops.Walk.{Walk}
 use Rattle.ss_machine.specs.declared.loops.Walk.TheVariants.{Numbers, Members}
 use Rattle.ss_machine.specs.declared.verdict.Verdict.{Verdict}
 use Rattle.ss_machine.specs.declared.verdict.Verdict.TheVariants.{Runs, Passes, Closes}
 use Rattle.ss_values.specs.Faults.{◌>>=◌, ◌>>◌, refuse_if}
-use Rattle.ss_values.specs.Values.{Readings, in_range, variable_value, value_of, subscript_value, counted}
+use Rattle.ss_values.specs.Values.{Readings, variable_value, value_of, subscript_value, number_value}
+use Rattle.ss_words.specs.Ranges.{in_range}
 use Rattle.ss_values.specs.Conditions.{holds}
 
 -- ---- open loops
@@ -64,18 +65,18 @@ next_number d last step x =
 
 -- the member at the end where a walk in this direction begins, or none; the set by its number, the owner by a value
 abbrev pub end_member : Readings → Direction → ℕ → ℤ → Result (Option ℕ) RunFault
-end_member v Onward s o = first_member (set_of v.tables s) v.store (number_of o)
-end_member v Backward s o = last_member (set_of v.tables s) v.store (number_of o)
+end_member v Onward s o = walk_first (set_of v.tables s) v.store (number_of o)
+end_member v Backward s o = walk_last (set_of v.tables s) v.store (number_of o)
 
 -- the member behind another one in this direction, or none
 abbrev pub member_behind : Readings → Direction → ℕ → ℤ → ℤ → Result (Option ℕ) RunFault
-member_behind v Onward s o x = next_member (set_of v.tables s) v.store (number_of o) (number_of x)
-member_behind v Backward s o x = previous_member (set_of v.tables s) v.store (number_of o) (number_of x)
+member_behind v Onward s o x = walk_next (set_of v.tables s) v.store (number_of o) (number_of x)
+member_behind v Backward s o x = walk_prev (set_of v.tables s) v.store (number_of o) (number_of x)
 
 -- a member, if there is one, as a candidate
 abbrev pub as_candidate : Option ℕ → Result (Option ℤ) RunFault
 as_candidate None = Ok None
-as_candidate (Some k) = counted k >>= λ x. Ok (Some x)
+as_candidate (Some k) = number_value k >>= λ x. Ok (Some x)
 
 -- F14 where a member is no longer in its list
 abbrev pub unless_left : Result (Option ℕ) RunFault → Result (Option ℤ) RunFault

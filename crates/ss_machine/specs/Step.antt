@@ -67,7 +67,7 @@ use Rattle.ss_store.specs.declared.shape.Which.{Which}
 use Rattle.ss_store.specs.declared.shape.Which.TheVariants as which
 use Rattle.ss_store.specs.Tables.{Tables, tables_of, class_of, set_of}
 use Rattle.ss_store.specs.Store.{Store, number_of, exists, attribute_of, last_reference, with_attribute, with_new, with_class, without_entity}
-use Rattle.ss_store.specs.Filing.{filed, removed}
+use Rattle.ss_store.specs.Filing.{after_filing, after_removing}
 use Rattle.ss_events.specs.Rules.{rules_of}
 use Rattle.ss_events.specs.Agenda.{Pending, Agenda, is_pending, least, may_schedule, scheduled, taken_off}
 use Rattle.ss_machine.specs.declared.entry.Entry.{Entry}
@@ -79,7 +79,7 @@ use Rattle.ss_machine.specs.declared.verdict.Verdict.{Verdict}
 use Rattle.ss_machine.specs.declared.verdict.Verdict.TheVariants.{Runs, Passes, Closes}
 use Rattle.ss_machine.specs.State.{State, FrameState, most_below, no_statistics, new_frame, is_absent, is_waiting, waits_for, entry_at_start}
 use Rattle.ss_values.specs.Faults.{◌>>=◌, ◌>>◌, refuse_if}
-use Rattle.ss_values.specs.Values.{Readings, result_in_range, variable_value, value_of, values_of, subscript_value, assigned_value, counted}
+use Rattle.ss_values.specs.Values.{Readings, result_in_range, variable_value, value_of, values_of, subscript_value, assigned_value, number_value}
 use Rattle.ss_machine.specs.Readings.{readings}
 use Rattle.ss_values.specs.Conditions.{holds}
 use Rattle.ss_machine.specs.Loops.{innermost, loops_with_candidate, loop_of_phrase, next_candidate, loop_at_entry, loop_variable, verdict_of}
@@ -210,7 +210,7 @@ step_read p s next ts = state_after_result s (state_after_read p s ts) (state_at
 abbrev pub state_after_create : Tables → State → ℕ → Target → Result State RunFault
 state_after_create t s c target =
     with_new s.store c (class_of t c)
-    >>= λ st. counted (last_reference st) >>= state_with_value t (state_with_store s st) target
+    >>= λ st. number_value (last_reference st) >>= state_with_value t (state_with_store s st) target
 
 -- how many entities CREATE EVERY makes: as many as are written, else N.c
 abbrev pub number_asked : Readings → Option Expr → ℕ → Result ℤ RunFault
@@ -267,20 +267,20 @@ how_asked v (After e) = value_of v e >>= λ y. Ok (how.After y)
 abbrev pub state_after_file : Tables → State → SetRef → ℤ → How → Result State RunFault
 state_after_file t s r x h =
     subscript_value (readings t s) r.owner
-    >>= λ o. filed (set_of t r.set) s.store (number_of o) (number_of x) h >>= λ st. Ok (state_with_store s st)
+    >>= λ o. after_filing (set_of t r.set) s.store (number_of o) (number_of x) h >>= λ st. Ok (state_with_store s st)
 
 -- the state after REMOVE of an end, whose member's number is assigned
 abbrev pub state_after_remove_end : Tables → State → SetRef → SetEnd → Target → Result State RunFault
 state_after_remove_end t s r end target =
     subscript_value (readings t s) r.owner
-    >>= λ o. removed (set_of t r.set) s.store (number_of o) (which_at end)
-    >>= λ k. counted k.0 >>= state_with_value t (state_with_store s k.1) target
+    >>= λ o. after_removing (set_of t r.set) s.store (number_of o) (which_at end)
+    >>= λ k. number_value k.0 >>= state_with_value t (state_with_store s k.1) target
 
 -- the state after REMOVE of a member
 abbrev pub state_after_remove : Tables → State → SetRef → ℤ → Result State RunFault
 state_after_remove t s r x =
     subscript_value (readings t s) r.owner
-    >>= λ o. removed (set_of t r.set) s.store (number_of o) (which.Member x) >>= λ k. Ok (state_with_store s k.1)
+    >>= λ o. after_removing (set_of t r.set) s.store (number_of o) (which.Member x) >>= λ k. Ok (state_with_store s k.1)
 
 -- what a statement makes of the state that files or removes: its values from the left, then the deed
 abbrev pub state_after_filing : Tables → State → AFiling → Result State RunFault
@@ -531,7 +531,7 @@ abbrev pub state_after_new : ProgramTable → State → ℕ → Target → ℤ �
 state_after_new p s c target time xs =
     refuse_if (int_lt time s.clock) TimeBeforeClock >> with_new s.store c (class_of (tables_of p) c)
     >>= λ st. state_after_scheduling p (state_with_store s st) c (last_reference st) time xs
-    >>= λ r. counted (last_reference st) >>= state_with_value (tables_of p) r target
+    >>= λ r. number_value (last_reference st) >>= state_with_value (tables_of p) r target
 
 -- the notice, by what names it: SCHEDULE THE assigns nothing
 abbrev pub state_after_notice : ProgramTable → State → ℕ → Notice → ℤ → ℤ → List ℤ → Result State RunFault
@@ -585,7 +585,7 @@ state_with_frame p s section xs = record s { frame = new_frame p section xs; bel
 abbrev pub state_after_start : ProgramTable → State → ℕ → ℕ → ℤ → Result State RunFault
 state_after_start p s k c time =
     attributes_now s.store c k (range_with_len 0 (section_of p (event_section p c)).given)
-    >>= λ xs. store_at_start p s.store c k >>= λ st. counted k
+    >>= λ xs. store_at_start p s.store c k >>= λ st. number_value k
     >>= λ x. Ok (state_with_frame p (state_after_assignment (state_at_time s k time st)
     (Global (program.class_of p c).variable) x) (event_section p c) xs)
 

@@ -18,7 +18,7 @@ use Rattle.ss_machine.specs.declared.statistics.Statistics.{Statistics}
 use Rattle.ss_machine.specs.declared.loops.OpenLoop.{OpenLoop}
 use Rattle.ss_machine.specs.Loops.{AreSoundWalks}
 use Rattle.ss_machine.specs.State.{State, FrameState, most_below}
-use Rattle.ss_values.specs.Values.{in_range}
+use Rattle.ss_words.specs.Ranges.{in_range}
 
 -- values are in range
 abbrev pub AreInRange : List ℤ → Type 0

@@ -5,7 +5,7 @@ ghost use Rattle.ss_values.specs.Seen.{scope_of};
 ghost use Rattle.ss_store.specs.Tables.{class_of, set_of};
 ghost use Rattle.ss_store.specs.Store as entities;
 ghost use Rattle.ss_store.specs.Store.{number_of};
-ghost use Rattle.ss_store.specs.Filing.{filed, removed};
+ghost use Rattle.ss_store.specs.Filing.{after_filing, after_removing};
 ghost use Rattle.ss_events.specs.Agenda.{is_pending, least, taken_off};
 ghost use Rattle.ss_events.specs.Rules.{rule_at, is_event_class};
 ghost use Rattle.ss_events.specs.Slots.{slot_of};
@@ -592,7 +592,7 @@ impl<S: SetBoard> State<S> {
     ) -> Result<Change, RunFault>
         requires { set < length self.old.beside.tables.sets }
         ensures { IsStoring result
-            (filed (set_of self.old.beside.tables set) self.old.state.store (number_of owner) (number_of member) how)
+            (after_filing (set_of self.old.beside.tables set) self.old.state.store (number_of owner) (number_of member) how)
             self.old self.new }
     {
         match self.store.file(set, owner, member, how) {
@@ -610,7 +610,7 @@ impl<S: SetBoard> State<S> {
     ) -> Result<(u32, Change), RunFault>
         requires { set < length self.old.beside.tables.sets }
         ensures { IsRemoving result
-            (removed (set_of self.old.beside.tables set) self.old.state.store (number_of owner) which)
+            (after_removing (set_of self.old.beside.tables set) self.old.state.store (number_of owner) which)
             self.old self.new }
     {
         match self.store.remove(set, owner, which) {

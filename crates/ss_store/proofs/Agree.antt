@@ -14,45 +14,49 @@ use Rattle.ss_program.specs.declared.kinds.Owner.TheVariants.{System, OwnedBy}
 use Rattle.ss_store.specs.declared.shape.SetShape.{SetShape}
 use Rattle.ss_store.specs.declared.rows.Row.{Row}
 use Rattle.ss_store.specs.Tables.{class_of}
-use Rattle.ss_store.specs.Rows.{no_rows, rows_in, row_if, living_in, row_of}
+use Rattle.ss_store.specs.Rows.{no_rows, rows_in, row_if, row_in, row_of}
 use Rattle.ss_store.specs.Store.{Entity, Store, of_class, made_of, entity, entities, exists, list_number, list_by}
 use Rattle.ss_store.specs.Store.{lists_by, is_owner, members_of, stands_in, is_filed}
-use Rattle.ss_store.specs.Held.{Held, IsStore, IsSet, head_at, head_by, owned_by, seat_at, number_at, look, owned_from}
-use Rattle.ss_store.specs.Held.{entity_with, reference_with, made_with, zipped_of, state_of}
+use Rattle.ss_store.specs.Invariant.{IsStore}
+use Rattle.ss_store.specs.Parts.{StoreParts, head_at, head_by, seat_at, number_at, numbers_under, owned_from}
+use Rattle.ss_store.specs.Tables.{IsSet, owned_by}
+use Rattle.ss_store.specs.Parts.{entity_with, reference_with, made_with, zip_table, state_of}
 use Rattle.ss_store.proofs.Core.{some_eq, found, map_some, Found, one_seat, owner_of_seat, seat_number, head_entry}
 use Rattle.ss_store.proofs.Core.{seat_entry, made_none}
 use Rattle.ss_store.proofs.Relist.{zipped_get, zipped_none, zipped_short, zipped_some, index_map, reference_class}
 use Rattle.ss_store.proofs.Boards.{Apart, has-map}
 
 -- the entity of a row
-abbrev pub entity_by : Held → Row → List ℤ → Entity
-entity_by g r v = entity_with g.tables.classes (look g.board g.numbers) r v
+abbrev pub entity_by : StoreParts → Row → List ℤ → Entity
+entity_by g r v = entity_with g.tables.classes (numbers_under g.board g.numbers) r v
 
 -- the entities of a permanent class are those of its rows
-pub made_is : (g : Held) (c : ℕ) → made_of (state_of g) c
-    ≡ zipped_of (made_with g.tables.classes (look g.board g.numbers)) (rows_in g.rows (Some c))
-made_is g c = index_map (zipped_of (made_with g.tables.classes (look g.board g.numbers))) g.rows.made c no_rows
+pub made_is : (g : StoreParts) (c : ℕ) → made_of (state_of g) c
+    ≡ zip_table (made_with g.tables.classes (numbers_under g.board g.numbers)) (rows_in g.rows (Some c))
+made_is g c = index_map (zip_table (made_with g.tables.classes (numbers_under g.board g.numbers))) g.rows.made c no_rows
 
-made_get : (g : Held) (c i : ℕ) (r : Row) (v : List ℤ) → slice_get (rows_in g.rows (Some c)).rows i ≡ Some r
+made_get : (g : StoreParts) (c i : ℕ) (r : Row) (v : List ℤ) → slice_get (rows_in g.rows (Some c)).rows i ≡ Some r
     → slice_get (rows_in g.rows (Some c)).values i ≡ Some (Some v)
     → slice_get (made_of (state_of g) c) i ≡ Some (entity_by g r v)
 made_get g c i r v e f = ap (λ z. slice_get z i) (made_is g c)
-    ∙ zipped_get (made_with g.tables.classes (look g.board g.numbers)) (rows_in g.rows (Some c)).rows
+    ∙ zipped_get (made_with g.tables.classes (numbers_under g.board g.numbers)) (rows_in g.rows (Some c)).rows
     (rows_in g.rows (Some c)).values i r (Some v) e f
 
-made_gone : (g : Held) (c i : ℕ) → slice_get (rows_in g.rows (Some c)).rows i ≡ None
+made_gone : (g : StoreParts) (c i : ℕ) → slice_get (rows_in g.rows (Some c)).rows i ≡ None
     → slice_get (made_of (state_of g) c) i ≡ None
 made_gone g c i e = ap (λ z. slice_get z i) (made_is g c)
-    ∙ zipped_none (made_with g.tables.classes (look g.board g.numbers)) (rows_in g.rows (Some c)).rows
+    ∙ zipped_none (made_with g.tables.classes (numbers_under g.board g.numbers)) (rows_in g.rows (Some c)).rows
     (rows_in g.rows (Some c)).values i e
 
-pub reference_get : (g : Held) (i : ℕ) (r : Row) (v : Option (List ℤ)) → slice_get g.rows.references.rows i ≡ Some r
+pub reference_get : (g : StoreParts) (i : ℕ) (r : Row) (v : Option (List ℤ)) → slice_get g.rows.references.rows i
+    ≡ Some r
     → slice_get g.rows.references.values i ≡ Some v
-    → slice_get (state_of g).references i ≡ Some (reference_with g.tables.classes (look g.board g.numbers) r v)
-reference_get g i r v e f = zipped_get (reference_with g.tables.classes (look g.board g.numbers)) g.rows.references.rows
+    → slice_get (state_of g).references i ≡ Some (reference_with g.tables.classes (numbers_under g.board g.numbers) r v)
+reference_get g i r v e f = zipped_get
+    (reference_with g.tables.classes (numbers_under g.board g.numbers)) g.rows.references.rows
     g.rows.references.values i r v e f
 
-some_here : (g : Held) (c i : ℕ) (r : Row) (v : List ℤ) → IsStore g → r.class ≡ c → (w : Option ℕ)
+some_here : (g : StoreParts) (c i : ℕ) (r : Row) (v : List ℤ) → IsStore g → r.class ≡ c → (w : Option ℕ)
     → ((w ≡ Some c) ⊎ (w ≡ None)) → slice_get (rows_in g.rows w).rows i ≡ Some r
     → slice_get (rows_in g.rows w).values i ≡ Some (Some v) → entity (state_of g) c (suc i) ≡ Some (entity_by g r v)
 some_here g c i r v s ec w (inl is) er ev =
@@ -68,17 +72,19 @@ some_here g c i r v s ec w (inr is) er ev =
     (let same : (r.class == r.class) ≡ true = grind (arith, nat_tests) in rw same refl))
 
 -- the row of an entity says what it is
-pub entity_some : (g : Held) (c k : ℕ) (r : Row) → IsStore g → (l : Found g.rows c k r)
+pub entity_some : (g : StoreParts) (c k : ℕ) (r : Row) → IsStore g → (l : Found g.rows c k r)
     → entity (state_of g) c k ≡ Some (entity_by g r l.value)
 entity_some g c k r s l = subst (λ z. entity (state_of g) c z ≡ Some (entity_by g r l.value)) (sym l.number)
     (some_here g c l.index r l.value s l.class l.table l.which l.row l.there)
 
-none_if : (g : Held) (c i : ℕ) (a : Option Row) (b : Option (Option (List ℤ))) → slice_get g.rows.references.rows i ≡ a
+none_if : (g : StoreParts) (c i : ℕ) (a : Option Row) (b : Option (Option (List ℤ)))
+    → slice_get g.rows.references.rows i ≡ a
     → slice_get g.rows.references.values i ≡ b → row_if c a b ≡ None
     → option_and_then (of_class c) (slice_get (state_of g).references i) ≡ None
-none_if g c i None b ea eb e = rw (zipped_none (reference_with g.tables.classes (look g.board g.numbers))
+none_if g c i None b ea eb e = rw (zipped_none (reference_with g.tables.classes (numbers_under g.board g.numbers))
     g.rows.references.rows g.rows.references.values i ea) refl
-none_if g c i (Some r) None ea eb e = rw (zipped_short (reference_with g.tables.classes (look g.board g.numbers))
+none_if g c i (Some r) None ea eb e = rw
+    (zipped_short (reference_with g.tables.classes (numbers_under g.board g.numbers))
     g.rows.references.rows g.rows.references.values i eb) refl
 none_if g c i (Some r) (Some None) ea eb e = rw (reference_get g i r None ea eb) refl
 none_if g c i (Some r) (Some (Some v)) ea eb e =
@@ -97,7 +103,7 @@ over_get (y ∷ ys) zero e = cc
 over_get (y ∷ ys) (suc i) e = omega (arith, over_get ys i e)
 
 -- an entity of a permanent class that was made is living
-pub made_living : (g : Held) (c i : ℕ) (r : Row) → IsStore g → slice_get (rows_in g.rows (Some c)).rows i ≡ Some r
+pub made_living : (g : StoreParts) (c i : ℕ) (r : Row) → IsStore g → slice_get (rows_in g.rows (Some c)).rows i ≡ Some r
     → (v : List ℤ) × (slice_get (rows_in g.rows (Some c)).values i ≡ Some (Some v))
 made_living g c i r s e =
     (elim (slice_get (rows_in g.rows (Some c)).values i) as (λ o. slice_get (rows_in g.rows (Some c)).values i ≡ o
@@ -110,7 +116,7 @@ made_living g c i r s e =
       ]) refl
     ]) refl
 
-made_row : (g : Held) (c i : ℕ) → IsStore g → living_in (rows_in g.rows (Some c)) c i ≡ None
+made_row : (g : StoreParts) (c i : ℕ) → IsStore g → row_in (rows_in g.rows (Some c)) c i ≡ None
     → slice_get (rows_in g.rows (Some c)).rows i ≡ None
 made_row g c i s e =
     (elim (slice_get (rows_in g.rows (Some c)).rows i) as (λ o. slice_get (rows_in g.rows (Some c)).rows i ≡ o
@@ -119,7 +125,7 @@ made_row g c i s e =
       | Some r ↦ λ f. absurd (
           let v = made_living g c i r s f in
           let is = (s.made c i r f).0 in
-          let there : living_in (rows_in g.rows (Some c)) c i ≡ Some r =
+          let there : row_in (rows_in g.rows (Some c)) c i ≡ Some r =
           rw (f, v.1) (subst (λ z. cond (r.class == z) (Some r) None ≡ Some r) is
           (let same : (r.class == r.class) ≡ true = grind (arith, nat_tests) in rw same refl)) in
           let bad : Some r ≡ None = sym there ∙ e in cc)
@@ -130,16 +136,16 @@ or_none None b e = (refl, e)
 or_none (Some x) b e = cc
 
 -- and what is none there is none here
-pub entity_none : (g : Held) (c k : ℕ) → IsStore g → row_of g.rows c k ≡ None → entity (state_of g) c k ≡ None
+pub entity_none : (g : StoreParts) (c k : ℕ) → IsStore g → row_of g.rows c k ≡ None → entity (state_of g) c k ≡ None
 entity_none g c zero s e = refl
 entity_none g c (suc i) s e =
-    let d = or_none (living_in (rows_in g.rows (Some c)) c i) (living_in g.rows.references c i) e in
+    let d = or_none (row_in (rows_in g.rows (Some c)) c i) (row_in g.rows.references c i) e in
     rw (
       made_gone g c i (made_row g c i s d.0),
       none_if g c i (slice_get g.rows.references.rows i) (slice_get g.rows.references.values i) refl refl d.1,
     ) refl
 
-pub entity_is : (g : Held) (c k : ℕ) → IsStore g → exists (state_of g) c k ≡ is_some (row_of g.rows c k)
+pub entity_is : (g : StoreParts) (c k : ℕ) → IsStore g → exists (state_of g) c k ≡ is_some (row_of g.rows c k)
 entity_is g c k s =
     (elim (row_of g.rows c k) as (λ o. row_of g.rows c k ≡ o → exists (state_of g) c k ≡ is_some o) [
       | None ↦ λ e. ap is_some (entity_none g c k s e)
@@ -150,17 +156,18 @@ is_map : {A B : Type 0} (f : A → B) (o : Option A) → is_some (option_map f o
 is_map f None = refl
 is_map f (Some x) = refl
 
-pub member_is : (g : Held) (p : SetShape) (x : ℕ) → IsStore g
+pub member_is : (g : StoreParts) (p : SetShape) (x : ℕ) → IsStore g
     → exists (state_of g) p.member x ≡ is_some (seat_at g.rows p x)
 member_is g p x s = entity_is g p.member x s ∙ sym (is_map (λ (r : Row). r.seat + p.slot) (row_of g.rows p.member x))
 
-owner_by_is : (g : Held) (w : Owner) (p : SetShape) (o : ℕ) → IsStore g
+owner_by_is : (g : StoreParts) (w : Owner) (p : SetShape) (o : ℕ) → IsStore g
     → is_some (list_by w p.list (state_of g) o) ≡ is_some (head_by w g.rows p o)
 owner_by_is g System p o s = refl
 owner_by_is g (OwnedBy c) p o s = is_map (λ (e : Entity). list_number e.owned p.list) (entity (state_of g) c o)
     ∙ entity_is g c o s ∙ sym (is_map (λ (r : Row). r.head + p.list) (row_of g.rows c o))
 
-pub owner_is : (g : Held) (p : SetShape) (o : ℕ) → IsStore g → is_owner p (state_of g) o ≡ is_some (head_at g.rows p o)
+pub owner_is : (g : StoreParts) (p : SetShape) (o : ℕ) → IsStore g → is_owner p (state_of g) o
+    ≡ is_some (head_at g.rows p o)
 owner_is g p o s = owner_by_is g p.owner p o s
 
 owned_get : (at : ℕ → List ℕ) (f n k : ℕ) → k < n → slice_index_or (owned_from at f n) k [] ≡ at (f + k)
@@ -170,20 +177,21 @@ owned_get at f (suc n) (suc k) lt = let z : suc f + k ≡ f + suc k = omega arit
     owned_get at (suc f) n k (omega (arith, lt)) ∙ ap at z
 
 -- the list of an owner is what the board says of its head
-pub list_look : (g : Held) (w : Owner) (p : SetShape) (o h : ℕ) → IsStore g → p.list < owned_by w g.tables
-    → head_by w g.rows p o ≡ Some h → list_by w p.list (state_of g) o ≡ Some (look g.board g.numbers h)
+pub list_look : (g : StoreParts) (w : Owner) (p : SetShape) (o h : ℕ) → IsStore g → p.list < owned_by w g.tables
+    → head_by w g.rows p o ≡ Some h → list_by w p.list (state_of g) o ≡ Some (numbers_under g.board g.numbers h)
 list_look g System p o h s lt e = let z : 0 + p.list ≡ p.list = omega arith in
-    ap Some (owned_get (look g.board g.numbers) 0 g.tables.system p.list lt
-    ∙ ap (look g.board g.numbers) (z ∙ some_eq e))
+    ap Some (owned_get (numbers_under g.board g.numbers) 0 g.tables.system p.list lt
+    ∙ ap (numbers_under g.board g.numbers) (z ∙ some_eq e))
 list_look g (OwnedBy c) p o h s lt e =
     let q = map_some (row_of g.rows c o) (λ r. r.head + p.list) h e in
     let d = found g.rows c o q.0 q.1 in
     ap (option_map (λ (z : Entity). list_number z.owned p.list)) (entity_some g c o q.0 s d)
-    ∙ ap Some (owned_get (look g.board g.numbers) q.0.head (class_of g.tables q.0.class).owned p.list
-    (subst (λ z. p.list < (class_of g.tables z).owned) (sym d.class) lt) ∙ ap (look g.board g.numbers) q.2)
+    ∙ ap Some (owned_get (numbers_under g.board g.numbers) q.0.head (class_of g.tables q.0.class).owned p.list
+    (subst (λ z. p.list < (class_of g.tables z).owned) (sym d.class) lt) ∙ ap (numbers_under g.board g.numbers) q.2)
 
-pub members_look : (g : Held) (p : SetShape) (o h : ℕ) → IsStore g → IsSet g.tables.sets p → head_at g.rows p o ≡ Some h
-    → members_of p (state_of g) o ≡ look g.board g.numbers h
+pub members_look : (g : StoreParts) (p : SetShape) (o h : ℕ) → IsStore g → IsSet g.tables.sets p → head_at g.rows p o
+    ≡ Some h
+    → members_of p (state_of g) o ≡ numbers_under g.board g.numbers h
 members_look g p o h s is e = ap (λ z. unwrap_or z []) (list_look g p.owner p o h s (s.tables.lists p is) e)
 
 -- ---- all lists of a set
@@ -242,7 +250,7 @@ class_some c (Some x) e w = (elim (x.class == c) as (λ k. x.class == c ≡ k �
     ]) refl w
 
 -- each of the entities of a class is one of them by its number
-pub entity_from : (g : Held) (c j : ℕ) (e : Entity) → IsStore g → slice_get (entities (state_of g) c) j ≡ Some e
+pub entity_from : (g : StoreParts) (c j : ℕ) (e : Entity) → IsStore g → slice_get (entities (state_of g) c) j ≡ Some e
     → (k : ℕ) × (entity (state_of g) c k ≡ Some e)
 entity_from g c j e s f =
     elim (get_append (made_of (state_of g) c) (filter_map (of_class c) (state_of g).references) j e f) [
@@ -250,9 +258,10 @@ entity_from g c j e s f =
       | inr b ↦
           let d = filter_get (of_class c) (state_of g).references b.0 e b.1 in
           let q = class_some c d.1 e d.3 in
-          let z = zipped_some (reference_with g.tables.classes (look g.board g.numbers)) g.rows.references.rows
+          let z = zipped_some (reference_with g.tables.classes (numbers_under g.board g.numbers)) g.rows.references.rows
           g.rows.references.values d.0 d.1 d.2 in
-          let class : z.0.class ≡ c = reference_class g.tables.classes (look g.board g.numbers) z.0 z.1 e (z.4 ∙ q.0)
+          let class : z.0.class
+          ≡ c = reference_class g.tables.classes (numbers_under g.board g.numbers) z.0 z.1 e (z.4 ∙ q.0)
           ∙ q.1 in (
             suc d.0,
             rw (
@@ -311,16 +320,17 @@ get_map f (x ∷ xs) zero y e = (x, refl, some_eq e)
 get_map f (x ∷ xs) (suc i) y e = get_map f xs i y e
 
 -- each list of a set is that of an owner
-pub list_owner : (g : Held) (w : Owner) (p : SetShape) (i : ℕ) (l : List ℕ) → IsStore g → p.list < owned_by w g.tables
+pub list_owner : (g : StoreParts) (w : Owner) (p : SetShape) (i : ℕ) (l : List ℕ) → IsStore g → p.list
+    < owned_by w g.tables
     → slice_get (lists_by w p.list (state_of g)) i ≡ Some l
-    → (o : ℕ) × (h : ℕ) × (head_by w g.rows p o ≡ Some h) × (look g.board g.numbers h ≡ l)
+    → (o : ℕ) × (h : ℕ) × (head_by w g.rows p o ≡ Some h) × (numbers_under g.board g.numbers h ≡ l)
 list_owner g System p zero l s lt e = (0, p.list, refl, some_eq (sym (list_look g System p 0 p.list s lt refl) ∙ e))
 list_owner g System p (suc i) l s lt e = cc
 list_owner g (OwnedBy c) p i l s lt e =
     let m = get_map (λ (z : Entity). list_number z.owned p.list) (entities (state_of g) c) i l e in
     let k = entity_from g c i m.0 s m.1 in
     (elim (row_of g.rows c k.0) as (λ q. row_of g.rows c k.0 ≡ q
-    → (o : ℕ) × (h : ℕ) × (head_by (OwnedBy c) g.rows p o ≡ Some h) × (look g.board g.numbers h ≡ l)) [
+    → (o : ℕ) × (h : ℕ) × (head_by (OwnedBy c) g.rows p o ≡ Some h) × (numbers_under g.board g.numbers h ≡ l)) [
       | None ↦ λ f. absurd (let bad : None ≡ Some m.0 = sym (entity_none g c k.0 s f) ∙ k.1 in cc)
       | Some r ↦ λ f.
           let there : head_by (OwnedBy c) g.rows p k.0 ≡ Some (r.head + p.list) =
@@ -333,9 +343,9 @@ list_owner g (OwnedBy c) p i l s lt e =
           )
     ]) refl
 
-owner_list : (g : Held) (w : Owner) (p : SetShape) (o h : ℕ) → IsStore g → p.list < owned_by w g.tables
+owner_list : (g : StoreParts) (w : Owner) (p : SetShape) (o h : ℕ) → IsStore g → p.list < owned_by w g.tables
     → head_by w g.rows p o ≡ Some h → (i : ℕ)
-    × (slice_get (lists_by w p.list (state_of g)) i ≡ Some (look g.board g.numbers h))
+    × (slice_get (lists_by w p.list (state_of g)) i ≡ Some (numbers_under g.board g.numbers h))
 owner_list g System p o h s lt e = (0, list_look g System p o h s lt e)
 owner_list g (OwnedBy c) p o h s lt e =
     let q = map_some (row_of g.rows c o) (λ r. r.head + p.list) h e in
@@ -349,20 +359,22 @@ owner_list g (OwnedBy c) p o h s lt e =
     )
 
 -- seats of a list have numbers of their own
-pub apart : (g : Held) (p : SetShape) (o h t x : ℕ) → IsStore g → IsSet g.tables.sets p → head_at g.rows p o ≡ Some h
+pub apart : (g : StoreParts) (p : SetShape) (o h t x : ℕ) → IsStore g → IsSet g.tables.sets p → head_at g.rows p o
+    ≡ Some h
     → seat_at g.rows p x ≡ Some t → Apart (number_at g.numbers) (list_at g.board.lists h) t
 apart g p o h t x s is eh et u f e = one_seat g p o h t u x s is eh et f (e ∙ seat_number g p x t s is et)
 
 -- a member stands in an owner's list where its seat stands in the list of the owner's head
-pub stands_is : (g : Held) (p : SetShape) (o h t x : ℕ) → IsStore g → IsSet g.tables.sets p
+pub stands_is : (g : StoreParts) (p : SetShape) (o h t x : ℕ) → IsStore g → IsSet g.tables.sets p
     → head_at g.rows p o ≡ Some h → seat_at g.rows p x ≡ Some t
-    → has (look g.board g.numbers h) x ≡ has (list_at g.board.lists h) t
+    → has (numbers_under g.board g.numbers h) x ≡ has (list_at g.board.lists h) t
 stands_is g p o h t x s is eh et =
-    ap (has (look g.board g.numbers h)) (sym (seat_number g p x t s is et))
+    ap (has (numbers_under g.board g.numbers h)) (sym (seat_number g p x t s is et))
     ∙ has-map (number_at g.numbers) (list_at g.board.lists h) t (apart g p o h t x s is eh et)
 
 -- a member is in a list of the set where its seat stands in a list
-pub is_filed_is : (g : Held) (p : SetShape) (t x : ℕ) → IsStore g → IsSet g.tables.sets p → seat_at g.rows p x ≡ Some t
+pub is_filed_is : (g : StoreParts) (p : SetShape) (t x : ℕ) → IsStore g → IsSet g.tables.sets p → seat_at g.rows p x
+    ≡ Some t
     → is_filed p (state_of g) x ≡ is_some (head_of g.board.lists t)
 is_filed_is g p t x s is et =
     (elim (head_of g.board.lists t) as (λ q. head_of g.board.lists t ≡ q → is_filed p (state_of g) x ≡ is_some q) [
@@ -380,7 +392,7 @@ is_filed_is g p t x s is et =
           let there = (head_of-found g.board.lists t h e).1 in
           let d = owner_of_seat g p h t x s is et there in
           let l = owner_list g p.owner p d.0 h s (s.tables.lists p is) d.1 in
-          stands_from (lists_by p.owner p.list (state_of g)) x l.0 (look g.board g.numbers h) l.1
+          stands_from (lists_by p.owner p.list (state_of g)) x l.0 (numbers_under g.board g.numbers h) l.1
           (stands_is g p d.0 h t x s is d.1 et ∙ there)
     ]) refl
 
@@ -395,12 +407,14 @@ get_read [] i y lt e = absurd (omega (arith, lt))
 get_read (x ∷ xs) zero y lt e = ap Some (sym e)
 get_read (x ∷ xs) (suc i) y lt e = get_read xs i y (omega (arith, lt)) e
 
-pub head_below : (g : Held) (p : SetShape) (o h : ℕ) → IsStore g → IsSet g.tables.sets p → head_at g.rows p o ≡ Some h
+pub head_below : (g : StoreParts) (p : SetShape) (o h : ℕ) → IsStore g → IsSet g.tables.sets p → head_at g.rows p o
+    ≡ Some h
     → h < length g.board.lists
 head_below g p o h s is e = let b = get_below g.owners h _ (head_entry g p o h s is e) in let l = s.heads in
     omega (arith, b, l)
 
-pub seat_below : (g : Held) (p : SetShape) (x t : ℕ) → IsStore g → IsSet g.tables.sets p → seat_at g.rows p x ≡ Some t
+pub seat_below : (g : StoreParts) (p : SetShape) (x t : ℕ) → IsStore g → IsSet g.tables.sets p → seat_at g.rows p x
+    ≡ Some t
     → t < g.board.seats
 seat_below g p x t s is e = let b = get_below g.members t _ (seat_entry g p x t s is e) in let l = s.seats in
     omega (arith, b, l)
@@ -410,5 +424,5 @@ length_mapped f [] = refl
 length_mapped f (x ∷ xs) = ap suc (length_mapped f xs)
 
 -- as many numbers as seats
-pub numbers_length : (g : Held) → IsStore g → length g.numbers ≡ g.board.seats
+pub numbers_length : (g : StoreParts) → IsStore g → length g.numbers ≡ g.board.seats
 numbers_length g s = ap (length {A = ℕ}) s.numbers ∙ length_mapped _ g.members ∙ s.seats

@@ -2,11 +2,11 @@
 use Rattle.std.proofs.lemmas.Bool.Decides.{nat_tests}
 use Rattle.std.proofs.Common.{◌≡◌, ℕ, ◌<◌, ◌≤◌, ◌==◌, ◌||◌, List, [], ◌∷◌, ◌++◌, length, refl, ap, sym, subst, ◌∙◌}
 use Rattle.std.proofs.Common.{arith, Option, Some, None, Bool, true, false, cond, nat_lt}
-use Rattle.ss_links.specs.Seats.{has, times_in, first_of, seat_behind}
+use Rattle.ss_links.specs.Seats.{has, times_in, first_of, next_in}
 use Rattle.ss_links.specs.Board.{Board, IsSound, list_at, list_of}
 use Rattle.ss_links.proofs.BoardLaws.{times-list_at, head_of-found, head_of-list_at}
 use Rattle.ss_links.proofs.SeatLaws.{times_in-append, times_in-present, seat_behind-between}
-use Rattle.ss_store.specs.Held.{rank_before}
+use Rattle.ss_store.specs.Finding.{rank_before}
 use Rattle.ss_store.proofs.Core.{some_eq}
 
 -- the list from a seat on
@@ -86,7 +86,7 @@ apart_left a m t once =
     ]) refl
 
 pub among_goes_on : (l : List ℕ) (test : ℕ → Bool) (before : Option ℕ) (t : ℕ) (next : Option ℕ)
-    → ((y : ℕ) → times_in l y ≤ 1) → Among l test before (Some t) → test t ≡ false → next ≡ seat_behind l t
+    → ((y : ℕ) → times_in l y ≤ 1) → Among l test before (Some t) → test t ≡ false → next ≡ next_in l t
     → Among l test (Some t) next
 among_goes_on l test before t next once a e n =
     let m = left_some a.left t a.begins in
@@ -95,7 +95,7 @@ among_goes_on l test before t next once a e n =
       passed = a.passed ++ t ∷ [];
       left = m.0;
       all = all ∙ sym (append_one a.passed t m.0);
-      begins = sym (n ∙ ap (λ z. seat_behind z t) all
+      begins = sym (n ∙ ap (λ z. next_in z t) all
           ∙ seat_behind-between a.passed m.0 t (apart_left a.passed m.0 t
           (λ y. subst (λ z. times_in z y ≤ 1) all (once y))));
       result = (let w : rank_before test before (t ∷ m.0) ≡ rank_before test (Some t) m.0 = rw e refl in sym w)
@@ -111,13 +111,13 @@ among_has l test before t a =
 
 -- fewer are left
 pub fewer_left : (l : List ℕ) (test : ℕ → Bool) (before : Option ℕ) (t : ℕ) (next : Option ℕ)
-    → ((y : ℕ) → times_in l y ≤ 1) → Among l test before (Some t) → next ≡ seat_behind l t
+    → ((y : ℕ) → times_in l y ≤ 1) → Among l test before (Some t) → next ≡ next_in l t
     → length (rest_from l next) < length (rest_from l (Some t))
 fewer_left l test before t next once a n =
     let m = left_some a.left t a.begins in
     let all : l ≡ a.passed ++ t ∷ m.0 = a.all ∙ ap (λ z. a.passed ++ z) m.1 in
     let once' : (y : ℕ) → times_in (a.passed ++ t ∷ m.0) y ≤ 1 = λ y. subst (λ z. times_in z y ≤ 1) all (once y) in
-    let is : next ≡ first_of m.0 = n ∙ ap (λ z. seat_behind z t) all
+    let is : next ≡ first_of m.0 = n ∙ ap (λ z. next_in z t) all
     ∙ seat_behind-between a.passed m.0 t (apart_left a.passed m.0 t once') in
     let here : rest_from l (Some t) ≡ t ∷ m.0 = ap (λ z. rest_from z (Some t)) all
     ∙ rest_between a.passed m.0 t once' in
@@ -151,12 +151,12 @@ among_in b h test before at t s a e = seat_in b h t s
 
 -- the seat that comes next
 next_is : (b : Board) (h t : ℕ) (next : Option ℕ) → IsSound b → has (list_at b.lists h) t ≡ true
-    → next ≡ seat_behind (list_of b.lists t) t → next ≡ seat_behind (list_at b.lists h) t
-next_is b h t next s e n = n ∙ ap (λ l. seat_behind l t)
+    → next ≡ next_in (list_of b.lists t) t → next ≡ next_in (list_at b.lists h) t
+next_is b h t next s e n = n ∙ ap (λ l. next_in l t)
     (head_of-found b.lists t h (head_of-list_at b.lists h t e (s.once t))).2
 
 pub fewer_in : (b : Board) (h : ℕ) (test : ℕ → Bool) (before at : Option ℕ) (t : ℕ) (next : Option ℕ) → IsSound b
-    → Among (list_at b.lists h) test before at → at ≡ Some t → next ≡ seat_behind (list_of b.lists t) t
+    → Among (list_at b.lists h) test before at → at ≡ Some t → next ≡ next_in (list_of b.lists t) t
     → length (rest_from (list_at b.lists h) next) < length (rest_from (list_at b.lists h) at)
 fewer_in b h test before at t next s a e n =
     let here = subst (Among (list_at b.lists h) test before) e a in
@@ -165,7 +165,7 @@ fewer_in b h test before at t next s a e n =
     (next_is b h t next s (among_has (list_at b.lists h) test before t here) n))
 
 pub among_next : (b : Board) (h : ℕ) (test : ℕ → Bool) (before at : Option ℕ) (t : ℕ) (next : Option ℕ) → IsSound b
-    → Among (list_at b.lists h) test before at → at ≡ Some t → test t ≡ false → next ≡ seat_behind (list_of b.lists t) t
+    → Among (list_at b.lists h) test before at → at ≡ Some t → test t ≡ false → next ≡ next_in (list_of b.lists t) t
     → Among (list_at b.lists h) test (Some t) next
 among_next b h test before at t next s a e f n =
     let here = subst (Among (list_at b.lists h) test before) e a in

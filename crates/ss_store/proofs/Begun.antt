@@ -25,9 +25,13 @@ use Rattle.ss_store.specs.declared.shape.ClassShape.{ClassShape}
 use Rattle.ss_store.specs.declared.shape.SetShape.{SetShape}
 use Rattle.ss_store.specs.Tables.{Tables, class_of, class_shape, set_shape, joined_among, tables_of}
 use Rattle.ss_store.specs.Rows.{RowTable, EntityTable, no_rows, rows_in}
-use Rattle.ss_store.specs.Held.{Held, HeadEntry, SeatEntry, StoreValue, IsStore, AreTables, IsSet, owned_by, used_of}
-use Rattle.ss_store.specs.Held.{used_made, number_at, look, owned_from, made_with, zipped_of, state_of, value_of}
-use Rattle.ss_store.specs.Held.{empty_value}
+use Rattle.ss_store.specs.Invariant.{IsStore, used_of}
+use Rattle.ss_store.specs.Parts.{StoreParts, HeadEntry, SeatEntry}
+use Rattle.ss_store.specs.Tables.{AreTables, IsSet, owned_by}
+use Rattle.ss_store.specs.Value.{StoreValue}
+use Rattle.ss_store.specs.Invariant.{used_made}
+use Rattle.ss_store.specs.Parts.{number_at, numbers_under, owned_from, made_with, zip_table, state_of, value_of}
+use Rattle.ss_store.specs.Value.{empty_value}
 use Rattle.ss_store.specs.Making.{with_heads}
 use Rattle.ss_store.proofs.Core.{some_eq}
 use Rattle.ss_store.proofs.More.{length_rep}
@@ -266,7 +270,7 @@ no_value : (n : ℕ) (w : Option ℕ) (i : ℕ) (x : Option (List ℤ))
 no_value n w i x e = let bad : None ≡ Some x = ap (λ (t : RowTable). slice_get t.values i) (sym (no_table n w)) ∙ e in
     cc
 
-abbrev pub begun : Tables → Held
+abbrev pub begun : Tables → StoreParts
 begun t = record {
   tables = t;
   rows = nothing_made (length t.classes);
@@ -287,14 +291,15 @@ begun_store t a s = let n = length t.classes in record {
   rows = λ w. ap (λ (z : RowTable). length z.rows) (no_table n w)
       ∙ ap (λ (z : RowTable). length z.values) (sym (no_table n w));
   each = λ w i r e. absurd (no_row n w i r e);
-  valued = λ w i r v e f. absurd (no_row n w i r e);
-  ranged = λ w i v e. absurd (no_value n w i (Some v) e);
+  value_counts = λ w i r v e f. absurd (no_row n w i r e);
+  values_in_range = λ w i v e. absurd (no_value n w i (Some v) e);
   made = λ c i r e. absurd (no_row n (Some c) i r e);
   stays = λ c i e. no_value n (Some c) i None e;
-  given = λ i r e. cc;
+  not_permanent = λ i r e. cc;
   system = λ k lt. let z : 0 + k ≡ k = omega arith in get_system 0 t.system k lt
       ∙ λ j. Some (record { owner = System; list = z j; number = 0 });
-  joined = λ h u e. absurd (let bad : has [] u ≡ true = ap (λ l. has l u) (sym (list_more [] t.system h)) ∙ e in cc);
+  are_members = λ h u e.
+      absurd (let bad : has [] u ≡ true = ap (λ l. has l u) (sym (list_more [] t.system h)) ∙ e in cc);
   few_made = λ c. let e : length (rows_in (nothing_made n) (Some c)).rows ≡ 0 =
       ap (λ (z : RowTable). length z.rows) (no_table n (Some c)) in omega (arith, e);
   few_references = omega arith;
@@ -315,9 +320,10 @@ begun_value : (t : Tables) → value_of (begun t) ≡ empty_value t
 begun_value t = let n = length t.classes in λ i. record {
   tables = t;
   state = record {
-    made = map_rep (zipped_of (made_with t.classes (look (begun t).board []))) n no_rows i;
+    made = map_rep (zip_table (made_with t.classes (numbers_under (begun t).board []))) n no_rows i;
     references = [];
-    system = owned_none (look (begun t).board []) 0 t.system (λ j. ap (map (number_at [])) (list_more [] t.system j)) i;
+    system = owned_none (numbers_under (begun t).board []) 0 t.system
+        (λ j. ap (map (number_at [])) (list_more [] t.system j)) i;
   };
   kept = record {
     made = map_rep (λ (z : RowTable). z.rows) n no_rows i;

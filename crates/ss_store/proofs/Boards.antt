@@ -4,7 +4,7 @@ use Rattle.std.proofs.Common.{◌≡◌, ◌≢◌, ℕ, zero, suc, ◌<◌, ◌
 use Rattle.std.proofs.Common.{subst, ◌∙◌, arith, Some, true, false, cond, set, length-set, inl, inr}
 use Rattle.std.proofs.lemmas.List.{length-map}
 use Rattle.ss_links.specs.Board.{Board, IsSound, list_at, head_of, with_list}
-use Rattle.ss_links.specs.Seats.{has, put_behind, put_before, without}
+use Rattle.ss_links.specs.Seats.{has, put_behind, put_before, list_without}
 use Rattle.ss_links.proofs.BoardLaws.{head_of-list_at, list_at-map}
 use Rattle.ss_store.proofs.Core.{some_eq}
 use Rattle.ss_store.proofs.Relist.{Relisted, is_or_not}
@@ -94,12 +94,13 @@ map-put_before f (y ∷ l) at t a =
       | false ↦ ap (λ z. f y ∷ z) (map-put_before f l at t (apart_tail f y l at a))
     ])
 
-pub map-without : (f : ℕ → ℕ) (l : List ℕ) (t : ℕ) → Apart f l t → map f (without l t) ≡ without (map f l) (f t)
+pub map-without : (f : ℕ → ℕ) (l : List ℕ) (t : ℕ) → Apart f l t → map f (list_without l t)
+    ≡ list_without (map f l) (f t)
 map-without f [] t a = refl
 map-without f (y ∷ l) t a =
     rw (tests_same f y t (a y (has_head y l)))
-    (elim (y == t) as (λ k. map f (cond k (without l t) (y ∷ without l t))
-    ≡ cond k (without (map f l) (f t)) (f y ∷ without (map f l) (f t))) [
+    (elim (y == t) as (λ k. map f (cond k (list_without l t) (y ∷ list_without l t))
+    ≡ cond k (list_without (map f l) (f t)) (f y ∷ list_without (map f l) (f t))) [
       | true ↦ map-without f l t (apart_tail f y l t a)
       | false ↦ ap (λ z. f y ∷ z) (map-without f l t (apart_tail f y l t a))
     ])

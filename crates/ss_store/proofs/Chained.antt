@@ -13,11 +13,14 @@ use Rattle.ss_store.specs.declared.change.StoreChange.TheVariants.{Created, Clas
 use Rattle.ss_store.specs.Lists.{change_at}
 use Rattle.ss_store.specs.Tables.{Tables, class_of}
 use Rattle.ss_store.specs.Store.{Entity, Store, made_of, number_of, fresh, with_reference, with_made, with_new}
-use Rattle.ss_store.specs.Store.{with_class, reference_limit, class_limit}
+use Rattle.ss_store.specs.Store.{with_class}
+use Rattle.ss_store.specs.declared.limits.TheConstants.{MOST_ENTITIES}
+use Rattle.ss_words.specs.declared.limits.TheConstants.{MOST_REFERENCES}
 use Rattle.ss_store.specs.Change.{FitsCreated, Leaves, IsCreation, IsMaking, unapply_store}
-use Rattle.ss_store.specs.Held.{Kept, StoreValue}
-use Rattle.ss_store.specs.Making.{numbering_by, numbering, with_entity, kept_rows, kept_with, but_last, without_last}
-use Rattle.ss_store.specs.Making.{one_more, one_less, FitsLast, HasRoom, Makes, MakesAll, Less}
+use Rattle.ss_store.specs.Value.{Layout, StoreValue}
+use Rattle.ss_store.specs.Making.{numbering_by, numbering, with_entity, rows_of_numbering, layout_with, but_last}
+use Rattle.ss_store.specs.Making.{without_last}
+use Rattle.ss_store.specs.Making.{one_more, one_less, FitsLast, HasRoom, Makes, MakesAll, TakesOff}
 use Rattle.ss_store.proofs.Core.{some_eq}
 use Rattle.ss_store.proofs.More.{length_more, change_change, change_none, index_get}
 
@@ -56,7 +59,7 @@ makes_none c v = record {
   kept = ap (λ z. record v.kept { made = z })
       (sym (change_none (λ rs. rs ++ []) v.kept.made c (λ rs e. nothing_behind rs)));
   count = refl;
-  less = refl;
+  takes_off = refl;
 }
 
 pub makes_more : (c i : ℕ) (old now new : StoreValue) → (class_of old.tables c).permanent ≡ true → MakesAll c i old now
@@ -82,7 +85,7 @@ makes_more c i old now new perm m k =
       rows = m.rows ++ r ∷ [];
       heads = h;
       seats = t;
-      kept = ap (λ (z : StoreValue). z.kept) k.is ∙ (λ j. kept_with (λ rs. rs ++ r ∷ []) (m.kept j) (num j) h t)
+      kept = ap (λ (z : StoreValue). z.kept) k.is ∙ (λ j. layout_with (λ rs. rs ++ r ∷ []) (m.kept j) (num j) h t)
           ∙ (λ j. record old.kept {
             made = change_change (λ rs. rs ++ m.rows) (λ rs. rs ++ r ∷ [])
                 (λ rs. rs ++ (m.rows ++ r ∷ [])) old.kept.made c (λ rs e. assoc rs m.rows (r ∷ [])) j;
@@ -90,12 +93,12 @@ makes_more c i old now new perm m k =
             seats = t;
           });
       count = length_more m.rows r ∙ ap suc m.count;
-      less = (
-        suc (length (kept_rows now.kept (numbering (class_of now.tables c) c))),
+      takes_off = (
+        suc (length (rows_of_numbering now.kept (numbering (class_of now.tables c) c))),
         now.kept.heads,
         now.kept.seats,
         k.fits,
-        subst (λ z. Less c i z old) (sym k.back) m.less,
+        subst (λ z. TakesOff c i z old) (sym k.back) m.takes_off,
       );
     }
 
@@ -111,22 +114,22 @@ rows_below (t ∷ ts) zero rows = let d = length_both t rows in omega (arith, d)
 rows_below (t ∷ ts) (suc c) rows = rows_below ts c rows
 
 pub room_for : (c i : ℕ) (old now : StoreValue) → (class_of old.tables c).permanent ≡ true
-    → length (kept_rows old.kept (numbering (class_of old.tables c) c)) ≡ 0 → MakesAll c i old now → i < 10000
+    → length (rows_of_numbering old.kept (numbering (class_of old.tables c) c)) ≡ 0 → MakesAll c i old now → i < 10000
     → HasRoom c now
 room_for c i old now perm none m lt =
     let num : numbering (class_of now.tables c) c ≡ Some c = ap (λ z. numbering_by (class_of z c).permanent c) m.tables
     ∙ numbering_made (class_of old.tables c).permanent c perm in
-    let was : length (kept_rows old.kept (Some c)) ≡ 0 =
-    ap (λ z. length (kept_rows old.kept z)) (sym (numbering_made (class_of old.tables c).permanent c perm))
+    let was : length (rows_of_numbering old.kept (Some c)) ≡ 0 =
+    ap (λ z. length (rows_of_numbering old.kept z)) (sym (numbering_made (class_of old.tables c).permanent c perm))
     ∙ none in
-    let rows : length (kept_rows now.kept (numbering (class_of now.tables c) c))
+    let rows : length (rows_of_numbering now.kept (numbering (class_of now.tables c) c))
     ≡ length (slice_index_or (change_at (λ rs. rs ++ m.rows) old.kept.made c) c []) =
-    (λ j. length (kept_rows (m.kept j) (num j))) in
+    (λ j. length (rows_of_numbering (m.kept j) (num j))) in
     let below = rows_below old.kept.made c m.rows in
     let n = m.count in
-    let limit : cond (class_of now.tables c).permanent class_limit reference_limit ≡ 10000 =
-    ap (λ z. cond (class_of z c).permanent class_limit reference_limit) m.tables
-    ∙ ap (λ b. cond b class_limit reference_limit) perm in
+    let limit : cond (class_of now.tables c).permanent MOST_ENTITIES MOST_REFERENCES ≡ 10000 =
+    ap (λ z. cond (class_of z c).permanent MOST_ENTITIES MOST_REFERENCES) m.tables
+    ∙ ap (λ b. cond b MOST_ENTITIES MOST_REFERENCES) perm in
     omega (arith, was, rows, below, n, lt, limit)
 
 -- ---- what `create` and `create_all` answer
@@ -144,7 +147,7 @@ set_back (x ∷ xs) zero ys e = ap (λ z. z ∷ xs) (sym e)
 set_back (x ∷ xs) (suc c) ys e = ap (λ z. x ∷ z) (set_back xs c ys e)
 
 pub class_back : (c n : ℕ) (old new : StoreValue) → length (made_of old.state c) ≡ 0
-    → length (kept_rows old.kept (Some c)) ≡ 0 → MakesAll c n old new
+    → length (rows_of_numbering old.kept (Some c)) ≡ 0 → MakesAll c n old new
     → unapply_store (ClassCreated c n old.kept.heads old.kept.seats) new ≡ old
 class_back c n old new none rows m = λ i. record {
   tables = m.tables i;
@@ -153,16 +156,16 @@ class_back c n old new none rows m = λ i. record {
         made = set_back old.state.made c (replicate n (fresh c (class_of old.tables c)))
             (nil_of (made_of old.state c) none) j;
       }) i;
-  kept = ((λ j. kept_with (λ rs. []) (m.kept j) (Some c) old.kept.heads old.kept.seats)
+  kept = ((λ j. layout_with (λ rs. []) (m.kept j) (Some c) old.kept.heads old.kept.seats)
       ∙ λ j. record old.kept {
         made = (change_change (λ rs. rs ++ m.rows) (λ rs. []) (λ rs. rs) old.kept.made c
-            (λ rs e. sym (sym (index_get old.kept.made c [] rs e) ∙ nil_of (kept_rows old.kept (Some c)) rows))
+            (λ rs e. sym (sym (index_get old.kept.made c [] rs e) ∙ nil_of (rows_of_numbering old.kept (Some c)) rows))
             ∙ change_none (λ rs. rs) old.kept.made c (λ rs e. refl)) j;
       }) i;
 }
 
 class_leaves : (c n : ℕ) (old new : StoreValue) → (class_of old.tables c).permanent ≡ true
-    → length (made_of old.state c) ≡ 0 → length (kept_rows old.kept (Some c)) ≡ 0 → MakesAll c n old new
+    → length (made_of old.state c) ≡ 0 → length (rows_of_numbering old.kept (Some c)) ≡ 0 → MakesAll c n old new
     → Leaves (ClassCreated c n old.kept.heads old.kept.seats)
     (with_made old.state c (replicate n (fresh c (class_of old.tables c)))) old new
 class_leaves c n old new perm none rows m = record {
@@ -172,14 +175,15 @@ class_leaves c n old new perm none rows m = record {
   };
   fits = record {
     permanent = ap (λ z. (class_of z c).permanent) m.tables ∙ perm;
-    less = subst (Less c n new) (sym (class_back c n old new none rows m)) m.less;
+    takes_off = subst (TakesOff c n new) (sym (class_back c n old new none rows m)) m.takes_off;
   };
   back = class_back c n old new none rows m;
 }
 
 kept_none : (c : ℕ) (v : StoreValue) → (class_of v.tables c).permanent ≡ true
-    → length (kept_rows v.kept (numbering (class_of v.tables c) c)) ≡ 0 → length (kept_rows v.kept (Some c)) ≡ 0
-kept_none c v perm e = ap (λ z. length (kept_rows v.kept z))
+    → length (rows_of_numbering v.kept (numbering (class_of v.tables c) c)) ≡ 0
+    → length (rows_of_numbering v.kept (Some c)) ≡ 0
+kept_none c v perm e = ap (λ z. length (rows_of_numbering v.kept z))
     (sym (numbering_made (class_of v.tables c).permanent c perm)) ∙ e
 
 class_ok : (st : Store) (c : ℕ) (shape : ClassShape) (n : ℤ) → length (made_of st c) ≡ 0 → 0 < number_of n
@@ -192,7 +196,7 @@ class_ok st c shape n none low high =
 
 pub all_made : (c m : ℕ) (n : ℤ) (heads seats : ℕ) (old new : StoreValue) → MakesAll c m old new
     → (class_of old.tables c).permanent ≡ true → length (made_of old.state c) ≡ 0
-    → length (kept_rows old.kept (numbering (class_of old.tables c) c)) ≡ 0 → heads ≡ old.kept.heads
+    → length (rows_of_numbering old.kept (numbering (class_of old.tables c) c)) ≡ 0 → heads ≡ old.kept.heads
     → seats ≡ old.kept.seats → m ≡ number_of n → 0 < m → m ≤ 10000
     → IsMaking (Ok (ClassCreated c m heads seats)) (with_class old.state c (class_of old.tables c) n) old new
 all_made c m n heads seats old new k perm none rows eh et is low high =
@@ -237,7 +241,7 @@ one_too_many c v le = let a : nat_lt (length v.state.references) 1000000 ≡ fal
     rw a (refl, refl)
 
 one_leaves : (c k : ℕ) (old new : StoreValue) → (class_of old.tables c).permanent ≡ false
-    → k ≡ suc (length (kept_rows old.kept (numbering (class_of old.tables c) c))) → Makes c old new
+    → k ≡ suc (length (rows_of_numbering old.kept (numbering (class_of old.tables c) c))) → Makes c old new
     → Leaves (Created c k old.kept.heads old.kept.seats) (with_reference old.state (fresh c (class_of old.tables c)))
     old new
 one_leaves c k old new given number m =
@@ -248,17 +252,17 @@ one_leaves c k old new given number m =
       state = ap (λ (z : StoreValue). z.state) m.is
           ∙ λ i. with_entity (none i) old.state (fresh c (class_of old.tables c));
       fits = record {
-        given = ap (λ z. (class_of z c).permanent) tables ∙ given;
+        not_permanent = ap (λ z. (class_of z c).permanent) tables ∙ given;
         newest = subst (λ z. FitsLast c z old.kept.heads old.kept.seats new) (sym number) m.fits;
       };
       back = (λ i. record new {
         state = without_last (sym now i) new.state;
-        kept = kept_with but_last new.kept (sym now i) old.kept.heads old.kept.seats;
+        kept = layout_with but_last new.kept (sym now i) old.kept.heads old.kept.seats;
       }) ∙ m.back;
     }
 
 pub one_made : (c k number heads seats : ℕ) (old new : StoreValue) → (class_of old.tables c).permanent ≡ false
-    → k ≡ suc (length (kept_rows old.kept (numbering (class_of old.tables c) c)))
+    → k ≡ suc (length (rows_of_numbering old.kept (numbering (class_of old.tables c) c)))
     → number ≡ suc (length old.state.references) → length old.state.references < 1000000 → heads ≡ old.kept.heads
     → seats ≡ old.kept.seats → Makes c old new
     → IsCreation (Ok (number, Created c k heads seats)) (with_new old.state c (class_of old.tables c)) old new
@@ -284,10 +288,10 @@ pub same_class : (c i : ℕ) (old now : StoreValue) → MakesAll c i old now →
 same_class c i old now m lt = subst (λ (z : Tables). c < length z.classes) (sym m.tables) lt
 
 pub room_one : (c n : ℕ) (v : StoreValue) → (class_of v.tables c).permanent ≡ false
-    → n ≡ length (kept_rows v.kept (numbering (class_of v.tables c) c)) → n < 1000000 → HasRoom c v
+    → n ≡ length (rows_of_numbering v.kept (numbering (class_of v.tables c) c)) → n < 1000000 → HasRoom c v
 room_one c n v given e lt =
-    let limit : cond (class_of v.tables c).permanent class_limit reference_limit ≡ 1000000 =
-    ap (λ b. cond b class_limit reference_limit) given in
+    let limit : cond (class_of v.tables c).permanent MOST_ENTITIES MOST_REFERENCES ≡ 1000000 =
+    ap (λ b. cond b MOST_ENTITIES MOST_REFERENCES) given in
     omega (arith, e, lt, limit)
 
 pub none_made : (n m : ℕ) → n ≡ m → n ≤ 0 → m ≡ 0
@@ -298,5 +302,6 @@ none_made n m e le = omega (arith, e, le)
 pub created_back : (c k heads seats : ℕ) (v : StoreValue) → FitsCreated v c k heads seats
     → one_less c heads seats v ≡ unapply_store (Created c k heads seats) v
 created_back c k heads seats v f =
-    let none : numbering (class_of v.tables c) c ≡ None = numbering_given (class_of v.tables c).permanent c f.given in
-    λ i. record v { state = without_last (none i) v.state; kept = kept_with but_last v.kept (none i) heads seats }
+    let none : numbering (class_of v.tables c) c
+    ≡ None = numbering_given (class_of v.tables c).permanent c f.not_permanent in
+    λ i. record v { state = without_last (none i) v.state; kept = layout_with but_last v.kept (none i) heads seats }

@@ -18,9 +18,12 @@ use Rattle.ss_store.specs.declared.shape.SetShape.{SetShape}
 use Rattle.ss_store.specs.Lists.{change_at}
 use Rattle.ss_store.specs.Tables.{class_of}
 use Rattle.ss_store.specs.Rows.{RowTable, EntityTable, no_rows, rows_in, row_of}
-use Rattle.ss_store.specs.Store.{class_limit, reference_limit}
-use Rattle.ss_store.specs.Held.{Held, HeadEntry, SeatEntry, IsStore, IsRow, Joins, head_at, head_by, seat_at, number_at}
-use Rattle.ss_store.specs.Making.{more, less, with_table, heads_for, seats_for, next_number, next_row, grown, cut}
+use Rattle.ss_store.specs.declared.limits.TheConstants.{MOST_ENTITIES}
+use Rattle.ss_words.specs.declared.limits.TheConstants.{MOST_REFERENCES}
+use Rattle.ss_store.specs.Invariant.{IsStore, IsRow, Joins}
+use Rattle.ss_store.specs.Parts.{StoreParts, HeadEntry, SeatEntry, head_at, head_by, seat_at, number_at}
+use Rattle.ss_store.specs.Making.{with_row, without_last_row, with_table, heads_for, seats_for, next_number, next_row}
+use Rattle.ss_store.specs.Making.{with_next_entity, without_last_entity}
 use Rattle.ss_store.proofs.Core.{some_eq, Found, found, map_some, made_none}
 use Rattle.ss_store.proofs.Agree.{get_below, length_mapped}
 use Rattle.ss_store.proofs.More.{right, split_get, length_more, same_fronts, tail_is, length_rep, change_change}
@@ -32,12 +35,13 @@ use Rattle.ss_store.proofs.Grown.{row_was, value_was, refound}
 -- ---- what was there before an entity was made is a store
 
 -- a row of class c is in its numbering
-which_table : (g : Held) (w : Option ℕ) (c : ℕ) (shape : ClassShape) (v : List ℤ) → IsStore (grown g w c shape v)
+which_table : (g : StoreParts) (w : Option ℕ) (c : ℕ) (shape : ClassShape) (v : List ℤ)
+    → IsStore (with_next_entity g w c shape v)
     → Grows g w c shape v → (u : Option ℕ) (i : ℕ) (r : Row)
-    → slice_get (rows_in (grown g w c shape v).rows u).rows i ≡ Some r → r.class ≡ c → u ≡ w
+    → slice_get (rows_in (with_next_entity g w c shape v).rows u).rows i ≡ Some r → r.class ≡ c → u ≡ w
 which_table g w c shape v s k None i r e f = elim k.which [
   | inl a ↦ absurd (
-      let no : (class_of g.tables r.class).permanent ≡ false = s.given i r e in
+      let no : (class_of g.tables r.class).permanent ≡ false = s.not_permanent i r e in
       let yes : (class_of g.tables r.class).permanent ≡ true = ap (λ z. (class_of g.tables z).permanent) f
       ∙ ap (λ (z : ClassShape). z.permanent) k.is ∙ a.1 in
       let bad : true ≡ false = sym yes ∙ no in cc)
@@ -52,7 +56,8 @@ which_table g w c shape v s k (Some d) i r e f = elim k.which [
       let bad : true ≡ false = sym m.1 ∙ no in cc)
 ]
 
-ungrown_row : (g : Held) (w : Option ℕ) (c : ℕ) (shape : ClassShape) (v : List ℤ) → IsStore (grown g w c shape v)
+ungrown_row : (g : StoreParts) (w : Option ℕ) (c : ℕ) (shape : ClassShape) (v : List ℤ)
+    → IsStore (with_next_entity g w c shape v)
     → Grows g w c shape v → (u : Option ℕ) (i : ℕ) (r : Row) → slice_get (rows_in g.rows u).rows i ≡ Some r
     → IsRow g i r
 ungrown_row g w c shape v s k u i r e =
@@ -85,12 +90,13 @@ ungrown_row g w c shape v s k u i r e =
     }
 
 -- an entity found then was there, or is the new one
-row_of_was : (g : Held) (w : Option ℕ) (c : ℕ) (shape : ClassShape) (v : List ℤ) → IsStore (grown g w c shape v)
+row_of_was : (g : StoreParts) (w : Option ℕ) (c : ℕ) (shape : ClassShape) (v : List ℤ)
+    → IsStore (with_next_entity g w c shape v)
     → Grows g w c shape v → length (rows_in g.rows w).rows ≡ length (rows_in g.rows w).values → (d x : ℕ) (q : Row)
-    → row_of (grown g w c shape v).rows d x ≡ Some q
+    → row_of (with_next_entity g w c shape v).rows d x ≡ Some q
     → (row_of g.rows d x ≡ Some q) ⊎ (q ≡ next_row g c)
 row_of_was g w c shape v s k same d x q e =
-    let l = found (grown g w c shape v).rows d x q e in
+    let l = found (with_next_entity g w c shape v).rows d x q e in
     elim (row_was g w c shape v k.table l.table l.index q l.row) [
       | inl a ↦ elim (value_was g w c shape v k.table l.table l.index (Some l.value) l.there) [
         | inl b ↦ inl (subst (λ z. row_of g.rows d z ≡ Some q) (sym l.number)
@@ -100,11 +106,11 @@ row_of_was g w c shape v s k same d x q e =
               | None ↦ λ f. refl
               | Some z ↦ λ f. absurd (
                   let there = row_kept g w c shape v k.table (Some d) l.index z f in
-                  let row : slice_get (grown g w c shape v).rows.references.rows l.index ≡ Some q =
-                  ap (λ y. slice_get (rows_in (grown g w c shape v).rows y).rows l.index) (sym is) ∙ l.row in
-                  let gone = made_none (grown g w c shape v) l.index l.index q s row in
+                  let row : slice_get (with_next_entity g w c shape v).rows.references.rows l.index ≡ Some q =
+                  ap (λ y. slice_get (rows_in (with_next_entity g w c shape v).rows y).rows l.index) (sym is) ∙ l.row in
+                  let gone = made_none (with_next_entity g w c shape v) l.index l.index q s row in
                   let bad : None ≡ Some z = sym gone ∙ ap (λ y. slice_get
-                  (rows_in (grown g w c shape v).rows (Some y)).rows l.index) l.class ∙ there in cc)
+                  (rows_in (with_next_entity g w c shape v).rows (Some y)).rows l.index) l.class ∙ there in cc)
             ]) refl)))
         | inr b ↦ absurd (let lt = get_below (rows_in g.rows l.table).rows l.index q a in let at = b.1 in
             let is : length (rows_in g.rows l.table).rows ≡ length (rows_in g.rows w).rows =
@@ -113,24 +119,26 @@ row_of_was g w c shape v s k same d x q e =
       | inr a ↦ inr (sym a.2)
     ]
 
-head_was : (g : Held) (w : Option ℕ) (c : ℕ) (shape : ClassShape) (v : List ℤ) → IsStore (grown g w c shape v)
+head_was : (g : StoreParts) (w : Option ℕ) (c : ℕ) (shape : ClassShape) (v : List ℤ)
+    → IsStore (with_next_entity g w c shape v)
     → Grows g w c shape v → length (rows_in g.rows w).rows ≡ length (rows_in g.rows w).values
     → (o : Owner) (p : SetShape) (x h : ℕ) → h < length g.board.lists
-    → head_by o (grown g w c shape v).rows p x ≡ Some h → head_by o g.rows p x ≡ Some h
+    → head_by o (with_next_entity g w c shape v).rows p x ≡ Some h → head_by o g.rows p x ≡ Some h
 head_was g w c shape v s k same System p x h lt e = e
 head_was g w c shape v s k same (OwnedBy d) p x h lt e =
-    let q = map_some (row_of (grown g w c shape v).rows d x) (λ r. r.head + p.list) h e in
+    let q = map_some (row_of (with_next_entity g w c shape v).rows d x) (λ r. r.head + p.list) h e in
     elim (row_of_was g w c shape v s k same d x q.0 q.1) [
       | inl a ↦ ap (option_map (λ (r : Row). r.head + p.list)) a ∙ ap Some q.2
       | inr a ↦ absurd (let is : length g.board.lists + p.list ≡ h = ap (λ (r : Row). r.head + p.list) (sym a) ∙ q.2 in
           omega (arith, is, lt))
     ]
 
-seat_was : (g : Held) (w : Option ℕ) (c : ℕ) (shape : ClassShape) (v : List ℤ) → IsStore (grown g w c shape v)
+seat_was : (g : StoreParts) (w : Option ℕ) (c : ℕ) (shape : ClassShape) (v : List ℤ)
+    → IsStore (with_next_entity g w c shape v)
     → Grows g w c shape v → length (rows_in g.rows w).rows ≡ length (rows_in g.rows w).values → (p : SetShape) (x t : ℕ)
-    → t < g.board.seats → seat_at (grown g w c shape v).rows p x ≡ Some t → seat_at g.rows p x ≡ Some t
+    → t < g.board.seats → seat_at (with_next_entity g w c shape v).rows p x ≡ Some t → seat_at g.rows p x ≡ Some t
 seat_was g w c shape v s k same p x t lt e =
-    let q = map_some (row_of (grown g w c shape v).rows p.member x) (λ r. r.seat + p.slot) t e in
+    let q = map_some (row_of (with_next_entity g w c shape v).rows p.member x) (λ r. r.seat + p.slot) t e in
     elim (row_of_was g w c shape v s k same p.member x q.0 q.1) [
       | inl a ↦ ap (option_map (λ (r : Row). r.seat + p.slot)) a ∙ ap Some q.2
       | inr a ↦ absurd (let is : g.board.seats + p.slot ≡ t = ap (λ (r : Row). r.seat + p.slot) (sym a) ∙ q.2 in
@@ -143,16 +151,18 @@ nat_below zero (suc n) f = omega arith
 nat_below (suc i) zero f = absurd (f (omega arith))
 nat_below (suc i) (suc n) f = let d = nat_below i n (λ le. f (omega (arith, le))) in omega (arith, d)
 
-pub ungrown_store : (g : Held) (w : Option ℕ) (c : ℕ) (shape : ClassShape) (v : List ℤ) → IsStore (grown g w c shape v)
+pub ungrown_store : (g : StoreParts) (w : Option ℕ) (c : ℕ) (shape : ClassShape) (v : List ℤ)
+    → IsStore (with_next_entity g w c shape v)
     → Grows g w c shape v → IsSound g.board → IsStore g
 ungrown_store g w c shape v s k sound =
     let x = next_number g w in
     let rows : (u : Option ℕ) → length (rows_in g.rows u).rows ≡ length (rows_in g.rows u).values =
-    λ u. elim (table_case (more (next_row g c) v) g.rows w u k.table) [
+    λ u. elim (table_case (with_row (next_row g c) v) g.rows w u k.table) [
       | inl a ↦
-          let e : length (rows_in (grown g w c shape v).rows u).rows ≡ suc (length (rows_in g.rows u).rows) =
+          let e : length (rows_in (with_next_entity g w c shape v).rows u).rows ≡ suc (length (rows_in g.rows u).rows) =
           ap (λ (z : RowTable). length z.rows) a.1 ∙ length_more (rows_in g.rows u).rows (next_row g c) in
-          let f : length (rows_in (grown g w c shape v).rows u).values ≡ suc (length (rows_in g.rows u).values) =
+          let f : length (rows_in (with_next_entity g w c shape v).rows u).values
+          ≡ suc (length (rows_in g.rows u).values) =
           ap (λ (z : RowTable). length z.values) a.1 ∙ length_more (rows_in g.rows u).values (Some v) in
           let b = s.rows u in omega (arith, e, f, b)
       | inr a ↦ ap (λ (z : RowTable). length z.rows) (sym a.1) ∙ s.rows u ∙ ap (λ (z : RowTable). length z.values) a.1
@@ -178,21 +188,21 @@ ungrown_store g w c shape v s k sound =
       heads = heads;
       seats = seats;
       numbers = same_fronts g.numbers (map (λ (m : SeatEntry). m.number) g.members) (replicate shape.joined x) long all;
-      classes = sym (table_made (more (next_row g c) v) g.rows w) ∙ s.classes;
+      classes = sym (table_made (with_row (next_row g c) v) g.rows w) ∙ s.classes;
       rows = rows;
       each = λ u i r e. ungrown_row g w c shape v s k u i r e;
-      valued = λ u i r y er ev. s.valued u i r y (row_kept g w c shape v k.table u i r er)
+      value_counts = λ u i r y er ev. s.value_counts u i r y (row_kept g w c shape v k.table u i r er)
           (value_kept g w c shape v k.table u i (Some y) ev);
-      ranged = λ u i y e. s.ranged u i y (value_kept g w c shape v k.table u i (Some y) e);
+      values_in_range = λ u i y e. s.values_in_range u i y (value_kept g w c shape v k.table u i (Some y) e);
       made = λ d i r e. s.made d i r (row_kept g w c shape v k.table (Some d) i r e);
       stays = λ d i e. s.stays d i (value_kept g w c shape v k.table (Some d) i None e);
-      given = λ i r e. s.given i r (row_kept g w c shape v k.table None i r e);
+      not_permanent = λ i r e. s.not_permanent i r (row_kept g w c shape v k.table None i r e);
       system = λ j l. elim (split_get g.owners (heads_for c x 0 shape.owned) j _ (s.system j l)) [
         | inl a ↦ a
         | inr a ↦ absurd (let o = heads_of_one c x 0 shape.owned a.0 _ a.2 in let bad : System ≡ OwnedBy c = o.0 in cc)
       ];
-      joined = λ h t f.
-          let d = s.joined h t (ap (λ l. has l t) (list_more g.board.lists shape.owned h) ∙ f) in
+      are_members = λ h t f.
+          let d = s.are_members h t (ap (λ l. has l t) (list_more g.board.lists shape.owned h) ∙ f) in
           let head : h < length g.board.lists = nat_below h (length g.board.lists) (λ le. let none : has [] t ≡ true =
           ap (λ l. has l t) (sym (list_past g.board.lists h le)) ∙ f in cc) in
           let seat : t < g.board.seats = nat_below t g.board.seats (λ le.
@@ -206,19 +216,20 @@ ungrown_store g w c shape v s k sound =
             head = head_was g w c shape v s k (rows w) d.set.owner d.set d.owner h head d.head;
             seat = seat_was g w c shape v s k (rows w) d.set d.member t seat d.seat;
           };
-      few_made = λ d. elim (table_case (more (next_row g c) v) g.rows w (Some d) k.table) [
-        | inl a ↦ let n : length (rows_in (grown g w c shape v).rows (Some d)).rows
+      few_made = λ d. elim (table_case (with_row (next_row g c) v) g.rows w (Some d) k.table) [
+        | inl a ↦ let n : length (rows_in (with_next_entity g w c shape v).rows (Some d)).rows
             ≡ suc (length (rows_in g.rows (Some d)).rows) = ap (λ (z : RowTable). length z.rows) a.1
             ∙ length_more (rows_in g.rows (Some d)).rows (next_row g c) in let l = s.few_made d in omega (arith, l, n)
-        | inr a ↦ let n : length (rows_in (grown g w c shape v).rows (Some d)).rows
+        | inr a ↦ let n : length (rows_in (with_next_entity g w c shape v).rows (Some d)).rows
             ≡ length (rows_in g.rows (Some d)).rows = ap (λ (z : RowTable). length z.rows) a.1 in
             let l = s.few_made d in omega (arith, l, n)
       ];
-      few_references = elim (table_case (more (next_row g c) v) g.rows w None k.table) [
-        | inl a ↦ let n : length (rows_in (grown g w c shape v).rows None).rows
+      few_references = elim (table_case (with_row (next_row g c) v) g.rows w None k.table) [
+        | inl a ↦ let n : length (rows_in (with_next_entity g w c shape v).rows None).rows
             ≡ suc (length (rows_in g.rows None).rows) = ap (λ (z : RowTable). length z.rows) a.1
             ∙ length_more (rows_in g.rows None).rows (next_row g c) in let l = s.few_references in omega (arith, l, n)
-        | inr a ↦ let n : length (rows_in (grown g w c shape v).rows None).rows ≡ length (rows_in g.rows None).rows =
+        | inr a ↦ let n : length (rows_in (with_next_entity g w c shape v).rows None).rows
+            ≡ length (rows_in g.rows None).rows =
             ap (λ (z : RowTable). length z.rows) a.1 in let l = s.few_references in omega (arith, l, n)
       ];
       used_heads =
@@ -237,7 +248,7 @@ ungrown_store g w c shape v s k sound =
 
 -- ---- a store is its rest, grown by the last entity
 
-pub record Last (g : Held) (w : Option ℕ) (c : ℕ) (shape : ClassShape) (n h t : ℕ) (v : List ℤ) : Type 0 where
+pub record Last (g : StoreParts) (w : Option ℕ) (c : ℕ) (shape : ClassShape) (n h t : ℕ) (v : List ℤ) : Type 0 where
   pub class : c < length g.tables.classes
   pub is : class_of g.tables c ≡ shape
   pub table : IsTable g.rows w
@@ -263,13 +274,14 @@ last_is xs n x l e =
       | suc z ↦ λ w. cc
     ]) f)
 
-rows_back : (ch : RowTable → RowTable) (es : EntityTable) (w : Option ℕ) → ch (less (rows_in es w)) ≡ rows_in es w
-    → with_table ch (with_table less es w) w ≡ es
+rows_back : (ch : RowTable → RowTable) (es : EntityTable) (w : Option ℕ) → ch (without_last_row (rows_in es w))
+    ≡ rows_in es w
+    → with_table ch (with_table without_last_row es w) w ≡ es
 rows_back ch es None e = λ i. record es { references = e i }
 rows_back ch es (Some c) e = λ i. record es {
   made =
-      (change_change less ch (λ z. z) es.made c
-      (λ x f. subst (λ (z : RowTable). ch (less z) ≡ z) (index_get es.made c no_rows x f) e)
+      (change_change without_last_row ch (λ z. z) es.made c
+      (λ x f. subst (λ (z : RowTable). ch (without_last_row z) ≡ z) (index_get es.made c no_rows x f) e)
       ∙ change_none (λ z. z) es.made c (λ x f. refl)) i;
 }
 
@@ -283,22 +295,23 @@ rep_at zero k x lt = absurd (omega (arith, lt))
 rep_at (suc n) zero x lt = refl
 rep_at (suc n) (suc k) x lt = rep_at n k x (omega (arith, lt))
 
-cut_length : (g : Held) (w : Option ℕ) (c : ℕ) (shape : ClassShape) (n h t : ℕ) (v : List ℤ) → Last g w c shape n h t v
-    → length (rows_in (cut g w h t).rows w).rows ≡ n
+cut_length : (g : StoreParts) (w : Option ℕ) (c : ℕ) (shape : ClassShape) (n h t : ℕ) (v : List ℤ)
+    → Last g w c shape n h t v
+    → length (rows_in (without_last_entity g w h t).rows w).rows ≡ n
 cut_length g w c shape n h t v d =
     let l = d.last in
-    ap (λ (z : RowTable). length z.rows) (table_here less g.rows w d.table)
+    ap (λ (z : RowTable). length z.rows) (table_here without_last_row g.rows w d.table)
     ∙ length-take-le (length (rows_in g.rows w).rows - 1) (rows_in g.rows w).rows (omega (arith, l))
     ∙ omega (arith, l)
 
-pub cut_heads : (g : Held) (w : Option ℕ) (c : ℕ) (shape : ClassShape) (n h t : ℕ) (v : List ℤ)
-    → Last g w c shape n h t v → length (cut g w h t).board.lists ≡ h
+pub cut_heads : (g : StoreParts) (w : Option ℕ) (c : ℕ) (shape : ClassShape) (n h t : ℕ) (v : List ℤ)
+    → Last g w c shape n h t v → length (without_last_entity g w h t).board.lists ≡ h
 cut_heads g w c shape n h t v d = let e = d.heads in length-take-le h g.board.lists (omega (arith, e))
 
-pub cut_grown : (g : Held) (w : Option ℕ) (c : ℕ) (shape : ClassShape) (n h t : ℕ) (v : List ℤ) → IsStore g
-    → Last g w c shape n h t v → g ≡ grown (cut g w h t) w c shape v
+pub cut_grown : (g : StoreParts) (w : Option ℕ) (c : ℕ) (shape : ClassShape) (n h t : ℕ) (v : List ℤ) → IsStore g
+    → Last g w c shape n h t v → g ≡ with_next_entity (without_last_entity g w h t) w c shape v
 cut_grown g w c shape n h t v s d =
-    let x = next_number (cut g w h t) w in
+    let x = next_number (without_last_entity g w h t) w in
     let number : x ≡ suc n = ap suc (cut_length g w c shape n h t v d) in
     let hs = s.heads in let ss = s.seats in let hl = d.heads in let sl = d.seats in
     let row = s.each w n _ d.row in
@@ -335,10 +348,12 @@ cut_grown g w c shape n h t v s d =
     ∙ length-take-le t g.members (omega (arith, ss, sl))) in
     let fronts : take t g.numbers ≡ front = (λ i. take (long i) (numbered i))
     ∙ take-append_seam front (replicate shape.joined x) in
-    let rows : with_table (more (next_row (cut g w h t) c) v) (with_table less g.rows w) w ≡ g.rows =
-    ap (λ z. with_table (more (record { class = c; head = z; seat = t }) v) (with_table less g.rows w) w)
+    let rows : with_table (with_row (next_row (without_last_entity g w h t) c) v)
+    (with_table without_last_row g.rows w) w ≡ g.rows =
+    ap (λ z.
+    with_table (with_row (record { class = c; head = z; seat = t }) v) (with_table without_last_row g.rows w) w)
     (cut_heads g w c shape n h t v d)
-    ∙ rows_back (more (record { class = c; head = h; seat = t }) v) g.rows w (λ i. record {
+    ∙ rows_back (with_row (record { class = c; head = h; seat = t }) v) g.rows w (λ i. record {
       rows = sym (last_is (rows_in g.rows w).rows n (record { class = c; head = h; seat = t }) d.last d.row) i;
       values = (ap (λ z. take (z - 1) (rows_in g.rows w).values ++ Some v ∷ []) (s.rows w)
           ∙ sym (last_is (rows_in g.rows w).values n (Some v) values d.value)) i;
@@ -353,20 +368,20 @@ cut_grown g w c shape n h t v s d =
     }
 
 -- the rest grows by it
-pub cut_grows : (g : Held) (w : Option ℕ) (c : ℕ) (shape : ClassShape) (n h t : ℕ) (v : List ℤ) → IsStore g
-    → Last g w c shape n h t v → Grows (cut g w h t) w c shape v
+pub cut_grows : (g : StoreParts) (w : Option ℕ) (c : ℕ) (shape : ClassShape) (n h t : ℕ) (v : List ℤ) → IsStore g
+    → Last g w c shape n h t v → Grows (without_last_entity g w h t) w c shape v
 cut_grows g w c shape n h t v s d =
     let m = cut_length g w c shape n h t v d in
     let l = d.last in record {
       class = d.class;
       is = d.is;
-      table = (elim w as (λ z. IsTable g.rows z → IsTable (with_table less g.rows z) z) [
+      table = (elim w as (λ z. IsTable g.rows z → IsTable (with_table without_last_row g.rows z) z) [
         | None ↦ λ f. tt
-        | Some q ↦ λ f. subst (λ z. q < z) (sym (table_made less g.rows (Some q))) f
+        | Some q ↦ λ f. subst (λ z. q < z) (sym (table_made without_last_row g.rows (Some q))) f
       ]) d.table;
       which = d.which;
-      valued = s.valued w n _ v d.row d.value ∙ ap (λ (z : ClassShape). z.attributes) d.is;
-      ranged = s.ranged w n v d.value;
+      value_counts = s.value_counts w n _ v d.row d.value ∙ ap (λ (z : ClassShape). z.attributes) d.is;
+      values_in_range = s.values_in_range w n v d.value;
       few_made = λ q e. let f = s.few_made q in
           let a : length (rows_in g.rows (Some q)).rows ≡ length (rows_in g.rows w).rows =
           ap (λ z. length (rows_in g.rows z).rows) (sym e) in omega (arith, f, a, l, m);
@@ -375,8 +390,8 @@ cut_grows g w c shape n h t v s d =
           ap (λ z. length (rows_in g.rows z).rows) (sym e) in omega (arith, f, a, l, m);
     }
 
-pub cut_store : (g : Held) (w : Option ℕ) (c : ℕ) (shape : ClassShape) (n h t : ℕ) (v : List ℤ) → IsStore g
-    → Last g w c shape n h t v → IsSound (cut g w h t).board → IsStore (cut g w h t)
+pub cut_store : (g : StoreParts) (w : Option ℕ) (c : ℕ) (shape : ClassShape) (n h t : ℕ) (v : List ℤ) → IsStore g
+    → Last g w c shape n h t v → IsSound (without_last_entity g w h t).board → IsStore (without_last_entity g w h t)
 cut_store g w c shape n h t v s d sound =
-    ungrown_store (cut g w h t) w c shape v (subst IsStore (cut_grown g w c shape n h t v s d) s)
+    ungrown_store (without_last_entity g w h t) w c shape v (subst IsStore (cut_grown g w c shape n h t v s d) s)
     (cut_grows g w c shape n h t v s d) sound

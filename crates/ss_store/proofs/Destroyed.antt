@@ -19,8 +19,11 @@ use Rattle.ss_store.specs.Tables.{Tables, class_of}
 use Rattle.ss_store.specs.Rows.{EntityTable, rows_in, row_of}
 use Rattle.ss_store.specs.Store.{Store, Entity, entity, exists, is_member, is_filled, owns_members, without_reference}
 use Rattle.ss_store.specs.Store.{AreInRange, without_entity, with_back, entity_back}
-use Rattle.ss_store.specs.Held.{Held, HeadEntry, SeatEntry, StoreValue, IsStore, IsSet, seat_at, look, owned_from}
-use Rattle.ss_store.specs.Held.{entity_with, reference_with, state_of, kept_of, value_of}
+use Rattle.ss_store.specs.Invariant.{IsStore}
+use Rattle.ss_store.specs.Parts.{StoreParts, HeadEntry, SeatEntry, seat_at, numbers_under, owned_from}
+use Rattle.ss_store.specs.Tables.{IsSet}
+use Rattle.ss_store.specs.Value.{StoreValue}
+use Rattle.ss_store.specs.Parts.{entity_with, reference_with, state_of, layout_of, value_of}
 use Rattle.ss_store.specs.Making.{numbering_by, with_table}
 use Rattle.ss_store.specs.Writing.{with_values}
 use Rattle.ss_store.specs.Change.{FitsEnded, IsOutcome, Leaves, unapply_store}
@@ -35,7 +38,7 @@ use Rattle.ss_store.proofs.Ended.{members_are}
 use Rattle.ss_store.proofs.Ended.{owns_is}
 
 -- an entity with a reference, where it lies
-pub record Lives (g : Held) (c k : ℕ) (r : Row) : Type 0 where
+pub record Lives (g : StoreParts) (c k : ℕ) (r : Row) : Type 0 where
   pub index : ℕ
   pub number : k ≡ suc index
   pub row : slice_get g.rows.references.rows index ≡ Some r
@@ -43,7 +46,7 @@ pub record Lives (g : Held) (c k : ℕ) (r : Row) : Type 0 where
   pub was : slice_get g.rows.references.values index ≡ Some (Some value)
   pub class : r.class ≡ c
 
-pub lives : (g : Held) (v : StoreValue) (c k : ℕ) (shape : ClassShape) (r : Row) → At g v c shape
+pub lives : (g : StoreParts) (v : StoreValue) (c k : ℕ) (shape : ClassShape) (r : Row) → At g v c shape
     → (class_of v.tables c).permanent ≡ false → row_of g.rows c k ≡ Some r → Lives g c k r
 lives g v c k shape r a given e =
     let l = found g.rows c k r e in
@@ -61,7 +64,7 @@ lives g v c k shape r a given e =
 
 -- ---- what the calls require
 
-pub seats_below : (g : Held) (v : StoreValue) (c k : ℕ) (shape : ClassShape) (r : Row) (sets : List SetShape)
+pub seats_below : (g : StoreParts) (v : StoreValue) (c k : ℕ) (shape : ClassShape) (r : Row) (sets : List SetShape)
     → At g v c shape
     → row_of g.rows c k ≡ Some r → sets ≡ g.tables.sets → (p : SetShape) → IsSet sets p → p.member ≡ c
     → r.seat + p.slot < g.board.seats
@@ -70,7 +73,7 @@ seats_below g v c k shape r sets a e es p is class =
     seat_below g p k (r.seat + p.slot) a.store there
     (ap (option_map (λ (q : Row). q.seat + p.slot)) (ap (λ d. row_of g.rows d k) class ∙ e))
 
-pub heads_below : (g : Held) (v : StoreValue) (c k : ℕ) (shape : ClassShape) (r : Row) → At g v c shape
+pub heads_below : (g : StoreParts) (v : StoreValue) (c k : ℕ) (shape : ClassShape) (r : Row) → At g v c shape
     → row_of g.rows c k ≡ Some r → (j : ℕ) → j < shape.owned → r.head + j < length g.board.lists
 heads_below g v c k shape r a e j lt =
     let l = found g.rows c k r e in
@@ -79,7 +82,8 @@ heads_below g v c k shape r a e j lt =
     let below = get_below g.owners (r.head + j) _ ((a.store.each l.table l.index r l.row).heads j under) in
     let heads = a.store.heads in omega (arith, below, heads)
 
-pub index_below : (g : Held) (c k n : ℕ) (r : Row) → Lives g c k r → n ≡ k - 1 → n < length g.rows.references.values
+pub index_below : (g : StoreParts) (c k n : ℕ) (r : Row) → Lives g c k r → n ≡ k - 1 → n
+    < length g.rows.references.values
 index_below g c k n r l e =
     let below = get_below g.rows.references.values l.index _ l.was in let at = l.number in omega (arith, e, at, below)
 
@@ -93,34 +97,36 @@ pub end_fault : (v : StoreValue) (c k m : ℕ) (f : RunFault) → k ≡ m → Sa
     → IsOutcome (Err f) (without_entity v.tables v.state c m) v v
 end_fault v c k m f e s = rw (ap (without_entity v.tables v.state c) (sym e) ∙ s) (refl, refl)
 
-pub none_ends : (g : Held) (v : StoreValue) (c k : ℕ) → value_of g ≡ v → IsStore g → row_of g.rows c k ≡ None
+pub none_ends : (g : StoreParts) (v : StoreValue) (c k : ℕ) → value_of g ≡ v → IsStore g → row_of g.rows c k ≡ None
     → Says v c k (Err NoEntity)
 none_ends g v c k is s e = subst (λ (z : StoreValue). Says z c k (Err NoEntity)) is
     (let no : exists (state_of g) c k ≡ false = entity_is g c k s ∙ ap is_some e in rw no refl)
 
 -- what the first loop looks for
-abbrev pub stands : Held → ℕ → Row → SetShape → Bool
+abbrev pub stands : StoreParts → ℕ → Row → SetShape → Bool
 stands g c r p = (p.member == c) && is_some (head_of g.board.lists (r.seat + p.slot))
 
-is_member_is : (g : Held) (c k : ℕ) (r : Row) (b : Bool) (sets : List SetShape) → IsStore g → row_of g.rows c k ≡ Some r
+is_member_is : (g : StoreParts) (c k : ℕ) (r : Row) (b : Bool) (sets : List SetShape) → IsStore g → row_of g.rows c k
+    ≡ Some r
     → sets ≡ g.tables.sets → b ≡ list_any (stands g c r) sets → is_member g.tables.sets (state_of g) c k ≡ b
 is_member_is g c k r b sets s e es eb =
     sym (eb ∙ ap (list_any (stands g c r)) es ∙ members_are g c k r g.tables.sets s e (λ i p f. (i, f)))
 
-pub member_stays : (g : Held) (v : StoreValue) (c k : ℕ) (r : Row) (b : Bool) (sets : List SetShape) → value_of g ≡ v
+pub member_stays : (g : StoreParts) (v : StoreValue) (c k : ℕ) (r : Row) (b : Bool) (sets : List SetShape) → value_of g
+    ≡ v
     → IsStore g → row_of g.rows c k ≡ Some r → sets ≡ g.tables.sets → b ≡ list_any (stands g c r) sets → b ≡ true
     → Says v c k (Err EndedInUse)
 member_stays g v c k r b sets is s e es eb t = subst (λ (z : StoreValue). Says z c k (Err EndedInUse)) is
     (let there : exists (state_of g) c k ≡ true = entity_is g c k s ∙ ap is_some e in
     let in_use = is_member_is g c k r b sets s e es eb ∙ t in rw (there, in_use) refl)
 
-owns_by : (g : Held) (c k : ℕ) (r : Row) (shape : ClassShape) (b : Bool) → IsStore g → row_of g.rows c k ≡ Some r
+owns_by : (g : StoreParts) (c k : ℕ) (r : Row) (shape : ClassShape) (b : Bool) → IsStore g → row_of g.rows c k ≡ Some r
     → class_of g.tables c ≡ shape → b ≡ list_any is_filled (owned_from (list_at g.board.lists) r.head shape.owned)
     → owns_members (entity (state_of g) c k) ≡ b
 owns_by g c k r shape b s e es eb =
     sym (eb ∙ owns_is g c k shape.owned r s e (ap (λ (z : ClassShape). z.owned) (sym es)))
 
-pub owner_stays : (g : Held) (v : StoreValue) (c k : ℕ) (r : Row) (shape : ClassShape) (a b : Bool)
+pub owner_stays : (g : StoreParts) (v : StoreValue) (c k : ℕ) (r : Row) (shape : ClassShape) (a b : Bool)
     (sets : List SetShape)
     → At g v c shape → row_of g.rows c k ≡ Some r → sets ≡ g.tables.sets → a ≡ list_any (stands g c r) sets → a ≡ false
     → b ≡ list_any is_filled (owned_from (list_at g.board.lists) r.head shape.owned) → b ≡ true
@@ -134,27 +140,28 @@ owner_stays g v c k r shape a b sets at e es ea f eb t =
 -- ---- ended
 
 -- what the two loops found, and what is held then
-pub record Found_out (g : Held) (v : StoreValue) (c k : ℕ) (shape : ClassShape) (r : Row) : Type 0 where
+pub record Found_out (g : StoreParts) (v : StoreValue) (c k : ℕ) (shape : ClassShape) (r : Row) : Type 0 where
   pub at : At g v c shape
-  pub given : (class_of v.tables c).permanent ≡ false
+  pub not_permanent : (class_of v.tables c).permanent ≡ false
   pub row : row_of g.rows c k ≡ Some r
   pub out : is_member g.tables.sets (state_of g) c k ≡ false
   pub none : list_any is_filled (owned_from (list_at g.board.lists) r.head shape.owned) ≡ false
 
-pub found_out : (g : Held) (v : StoreValue) (c k : ℕ) (r : Row) (shape : ClassShape) (a b : Bool) (sets : List SetShape)
+pub found_out : (g : StoreParts) (v : StoreValue) (c k : ℕ) (r : Row) (shape : ClassShape) (a b : Bool)
+    (sets : List SetShape)
     → At g v c shape → (class_of v.tables c).permanent ≡ false → row_of g.rows c k ≡ Some r → sets ≡ g.tables.sets
     → a ≡ list_any (stands g c r) sets → a ≡ false
     → b ≡ list_any is_filled (owned_from (list_at g.board.lists) r.head shape.owned) → b ≡ false
     → Found_out g v c k shape r
 found_out g v c k r shape a b sets at given e es ea f eb none = record {
   at = at;
-  given = given;
+  not_permanent = given;
   row = e;
   out = is_member_is g c k r a sets at.store e es ea ∙ f;
   none = sym eb ∙ none;
 }
 
-ends : (g : Held) (v : StoreValue) (c k : ℕ) (shape : ClassShape) (r : Row) → Found_out g v c k shape r
+ends : (g : StoreParts) (v : StoreValue) (c k : ℕ) (shape : ClassShape) (r : Row) → Found_out g v c k shape r
     → (l : Lives g c k r)
     → Ends g l.index r
 ends g v c k shape r d l = record {
@@ -167,13 +174,14 @@ ends g v c k shape r d l = record {
 }
 
 -- what is held once the values were taken out
-put_is : (g : Held) (c k n : ℕ) (r : Row) (u : Option (List ℤ)) (es : EntityTable) → n ≡ k - 1 → (i : ℕ) → k ≡ suc i
+put_is : (g : StoreParts) (c k n : ℕ) (r : Row) (u : Option (List ℤ)) (es : EntityTable) → n ≡ k - 1 → (i : ℕ) → k
+    ≡ suc i
     → es ≡ with_table (with_values n u) g.rows None → record g { rows = es } ≡ put g i u
 put_is g c k n r u es e i number f =
     let at : n ≡ i = omega (arith, e, number) in
     λ j. record g { rows = (f ∙ ap (λ z. with_table (with_values z u) g.rows None) at) j }
 
-pub ended_pair : (g : Held) (v : StoreValue) (c k n : ℕ) (shape : ClassShape) (r : Row) (es : EntityTable)
+pub ended_pair : (g : StoreParts) (v : StoreValue) (c k n : ℕ) (shape : ClassShape) (r : Row) (es : EntityTable)
     → Found_out g v c k shape r → n ≡ k - 1 → es ≡ with_table (with_values n None) g.rows None
     → (ws : List HeadEntry) × (ms : List SeatEntry) × IsStore (record {
       tables = g.tables;
@@ -184,11 +192,11 @@ pub ended_pair : (g : Held) (v : StoreValue) (c k n : ℕ) (shape : ClassShape) 
       board = g.board;
     })
 ended_pair g v c k n shape r es d e f =
-    let l = lives g v c k shape r d.at d.given d.row in
+    let l = lives g v c k shape r d.at d.not_permanent d.row in
     let is = put_is g c k n r None es e l.index l.number f in
     (g.owners, g.members, subst IsStore (sym is) (ended_store g l.index r d.at.store (ends g v c k shape r d l)))
 
-leaves : (g : Held) (v : StoreValue) (c k n : ℕ) (shape : ClassShape) (r : Row) (values : Vec ℤ)
+leaves : (g : StoreParts) (v : StoreValue) (c k n : ℕ) (shape : ClassShape) (r : Row) (values : Vec ℤ)
     → Found_out g v c k shape r
     → (l : Lives g c k r) → l.value ≡ values.items
     → Leaves (change.Ended c k shape.owned values) (without_reference (state_of g) k) (value_of g)
@@ -205,24 +213,24 @@ leaves g v c k n shape r values d l ev =
     ∙ ap (λ z. (class_of g.tables z).owned) (sym l.class) in
     let now : state_of (put g l.index None) ≡ without_reference (state_of g) k =
     state ∙ (λ i. record (state_of g) { references = set refs (sym at i) None }) in
-    let mine : entity_with g.tables.classes (look g.board g.numbers) r l.value
+    let mine : entity_with g.tables.classes (numbers_under g.board g.numbers) r l.value
     ≡ entity_back c shape.owned values.items =
     is_back g r l.value back.empty ∙ (λ i. entity_back (l.class i) (sym owned i) (ev i)) in
     record {
       state = now;
       fits = record {
         is_class = d.at.below;
-        given = ap (λ (z : ClassShape). z.permanent) d.at.shaped
+        not_permanent = ap (λ (z : ClassShape). z.permanent) d.at.shaped
             ∙ ap (λ (z : ClassShape). z.permanent) (sym d.at.shaped)
-            ∙ ap (λ (z : StoreValue). (class_of z.tables c).permanent) d.at.is ∙ d.given;
+            ∙ ap (λ (z : StoreValue). (class_of z.tables c).permanent) d.at.is ∙ d.not_permanent;
         number = let e = l.number in omega (arith, e);
         gone = ap (λ (z : Store). slice_get z.references (k - 1)) now ∙ gone;
         row = ap (λ z. option_map (λ (q : Row). q.class) (slice_get g.rows.references.rows z)) at
             ∙ ap (option_map (λ (q : Row). q.class)) l.row ∙ ap Some l.class;
-        owned = ap (λ (z : ClassShape). z.owned) (sym d.at.shaped);
-        values = ap (length {A = ℤ}) (sym ev) ∙ d.at.store.valued None l.index r l.value l.row l.was
+        owned_sets = ap (λ (z : ClassShape). z.owned) (sym d.at.shaped);
+        values = ap (length {A = ℤ}) (sym ev) ∙ d.at.store.value_counts None l.index r l.value l.row l.was
             ∙ ap (λ z. (class_of g.tables z).attributes) l.class;
-        ranged = subst AreInRange ev (d.at.store.ranged None l.index l.value l.was);
+        values_in_range = subst AreInRange ev (d.at.store.values_in_range None l.index l.value l.was);
       };
       back = λ i. record {
         tables = g.tables;
@@ -233,7 +241,7 @@ leaves g v c k n shape r values d l ev =
                   ∙ set_same refs (k - 1) (Some (entity_back c shape.owned values.items)) (ap (slice_get refs) at ∙ was
                   ∙ ap (λ z. Some (Some z)) mine)) j;
             })) i;
-        kept = kept_of g;
+        kept = layout_of g;
       };
     }
 
@@ -241,7 +249,7 @@ ends_ok : (st : Store) (t : Tables) (c k : ℕ) → exists st c k ≡ true → i
     → owns_members (entity st c k) ≡ false → without_entity t st c k ≡ Ok (without_reference st k)
 ends_ok st t c k a b d = rw (a, b, d) refl
 
-pub ended_outcome : (g : Held) (v : StoreValue) (c k m n : ℕ) (shape : ClassShape) (r : Row) (es : EntityTable)
+pub ended_outcome : (g : StoreParts) (v : StoreValue) (c k m n : ℕ) (shape : ClassShape) (r : Row) (es : EntityTable)
     (values : Vec ℤ)
     → (d : Found_out g v c k shape r) → n ≡ k - 1 → es ≡ with_table (with_values n None) g.rows None
     → slice_get g.rows.references.values n ≡ Some (Some values.items) → k ≡ m
@@ -254,7 +262,7 @@ pub ended_outcome : (g : Held) (v : StoreValue) (c k m n : ℕ) (shape : ClassSh
       board = g.board;
     }))
 ended_outcome g v c k m n shape r es values d e f was em =
-    let l = lives g v c k shape r d.at d.given d.row in
+    let l = lives g v c k shape r d.at d.not_permanent d.row in
     let is = put_is g c k n r None es e l.index l.number f in
     let at : n ≡ l.index = let number = l.number in omega (arith, e, number) in
     let value : l.value ≡ values.items = some_eq
@@ -266,7 +274,7 @@ ended_outcome g v c k m n shape r es values d e f was em =
     let mine : IsOutcome (Ok (change.Ended c k shape.owned values)) (without_entity g.tables (state_of g) c k)
     (value_of g)
     (value_of (put g l.index None)) = rw ok all in
-    let here = subst (λ (z : Held). IsOutcome (Ok (change.Ended c k shape.owned values))
+    let here = subst (λ (z : StoreParts). IsOutcome (Ok (change.Ended c k shape.owned values))
     (without_entity g.tables (state_of g) c k) (value_of g) (value_of z)) (sym is) mine in
     subst (λ z. IsOutcome (Ok (change.Ended c k shape.owned values)) (without_entity v.tables v.state c z) v
     (value_of (record g { rows = es }))) em
@@ -282,7 +290,7 @@ taken_out f o q x e h = e ∙ ap (λ z. Some (option_map f z)) h
 -- ---- brought back
 
 -- a reference that has ended, where it lies
-pub record Lay (g : Held) (c k : ℕ) : Type 0 where
+pub record Lay (g : StoreParts) (c k : ℕ) : Type 0 where
   pub index : ℕ
   pub number : k ≡ suc index
   pub row : Row
@@ -295,11 +303,11 @@ reference_none : (cs : List ClassShape) (at : ℕ → List ℕ) (r : Row) (v : O
 reference_none cs at r None e = refl
 reference_none cs at r (Some v) e = cc
 
-lay_at : (g : Held) (c k i n : ℕ) (xs : List ℤ) → k ≡ suc i → FitsEnded (value_of g) c k n xs → Lay g c k
+lay_at : (g : StoreParts) (c k i n : ℕ) (xs : List ℤ) → k ≡ suc i → FitsEnded (value_of g) c k n xs → Lay g c k
 lay_at g c k i n xs e f =
     let at : k - 1 ≡ i = omega (arith, e) in
     let refs = (state_of g).references in
-    let z = zipped_some (reference_with g.tables.classes (look g.board g.numbers)) g.rows.references.rows
+    let z = zipped_some (reference_with g.tables.classes (numbers_under g.board g.numbers)) g.rows.references.rows
     g.rows.references.values i None (ap (slice_get refs) (sym at) ∙ f.gone) in
     record {
       index = i;
@@ -307,25 +315,27 @@ lay_at g c k i n xs e f =
       row = z.0;
       ended = record {
         row = z.2;
-        none = z.3 ∙ ap Some (reference_none g.tables.classes (look g.board g.numbers) z.0 z.1 z.4);
+        none = z.3 ∙ ap Some (reference_none g.tables.classes (numbers_under g.board g.numbers) z.0 z.1 z.4);
       };
       class = some_eq (ap (option_map (λ (q : Row). q.class)) (sym z.2)
           ∙ ap (λ j. option_map (λ (q : Row). q.class) (slice_get g.rows.references.rows j)) (sym at) ∙ f.row);
     }
 
-pub lay : (g : Held) (v : StoreValue) (c k n : ℕ) (xs : List ℤ) → value_of g ≡ v → IsStore g → FitsEnded v c k n xs
+pub lay : (g : StoreParts) (v : StoreValue) (c k n : ℕ) (xs : List ℤ) → value_of g ≡ v → IsStore g
+    → FitsEnded v c k n xs
     → Lay g c k
 lay g v c k n xs is s f =
     let here = subst (λ (z : StoreValue). FitsEnded z c k n xs) (sym is) f in
     let low = here.number in
     lay_at g c k (k - 1) n xs (omega (arith, low)) here
 
-pub lay_below : (g : Held) (c k n : ℕ) → Lay g c k → n ≡ k - 1 → n < length g.rows.references.values
+pub lay_below : (g : StoreParts) (c k n : ℕ) → Lay g c k → n ≡ k - 1 → n < length g.rows.references.values
 lay_below g c k n l e =
     let below = get_below g.rows.references.values l.index _ l.ended.none in
     let at = l.number in omega (arith, e, at, below)
 
-pub back_pair : (g : Held) (v : StoreValue) (c k n o : ℕ) (xs : List ℤ) (es : EntityTable) → value_of g ≡ v → IsStore g
+pub back_pair : (g : StoreParts) (v : StoreValue) (c k n o : ℕ) (xs : List ℤ) (es : EntityTable) → value_of g ≡ v
+    → IsStore g
     → FitsEnded v c k o xs → Lay g c k → n ≡ k - 1 → es ≡ with_table (with_values n (Some xs)) g.rows None
     → (ws : List HeadEntry) × (ms : List SeatEntry) × IsStore (record {
       tables = g.tables;
@@ -339,9 +349,10 @@ back_pair g v c k n o xs es is s f l e h =
     let here = subst (λ (z : StoreValue). FitsEnded z c k o xs) (sym is) f in
     let long = here.values ∙ ap (λ z. (class_of g.tables z).attributes) (sym l.class) in
     let same = put_is g c k n l.row (Some xs) es e l.index l.number h in
-    (g.owners, g.members, subst IsStore (sym same) (back_store g l.index l.row xs s l.ended long here.ranged))
+    (g.owners, g.members, subst IsStore (sym same) (back_store g l.index l.row xs s l.ended long here.values_in_range))
 
-pub back_value : (g : Held) (v : StoreValue) (c k n : ℕ) (xs : List ℤ) (es : EntityTable) → value_of g ≡ v → IsStore g
+pub back_value : (g : StoreParts) (v : StoreValue) (c k n : ℕ) (xs : List ℤ) (es : EntityTable) → value_of g ≡ v
+    → IsStore g
     → Lay g c k → n ≡ k - 1 → es ≡ with_table (with_values n (Some xs)) g.rows None
     → value_of (record {
       tables = g.tables;
@@ -358,7 +369,7 @@ pub back_value : (g : Held) (v : StoreValue) (c k n : ℕ) (xs : List ℤ) (es :
 back_value g v c k n xs es is s l e h =
     let same = put_is g c k n l.row (Some xs) es e l.index l.number h in
     let at : l.index ≡ k - 1 = let number = l.number in omega (arith, number) in
-    let mine : entity_with g.tables.classes (look g.board g.numbers) l.row xs
+    let mine : entity_with g.tables.classes (numbers_under g.board g.numbers) l.row xs
     ≡ entity_back c (class_of g.tables c).owned xs =
     is_back g l.row xs (ended_empty g l.index l.row s l.ended)
     ∙ (λ i. entity_back (l.class i) (class_of g.tables (l.class i)).owned xs) in
@@ -366,7 +377,7 @@ back_value g v c k n xs es is s l e h =
     ≡ with_back (state_of g) k (entity_back c (class_of g.tables c).owned xs) =
     put_state g l.index l.row (Some xs) l.ended.row
     ∙ (λ i. record (state_of g) { references = set (state_of g).references (at i) (Some (mine i)) }) in
-    ap value_of same ∙ (λ i. record { tables = g.tables; state = state i; kept = kept_of g })
+    ap value_of same ∙ (λ i. record { tables = g.tables; state = state i; kept = layout_of g })
     ∙ ap (λ (z : StoreValue). record {
       tables = z.tables;
       state = with_back z.state k (entity_back c (class_of z.tables c).owned xs);

@@ -18,8 +18,11 @@ use Rattle.ss_store.specs.Tables.{class_in, class_of}
 use Rattle.ss_store.specs.Rows.{RowTable, EntityTable, rows_in, row_of}
 use Rattle.ss_store.specs.Store.{Entity, Store, entity, exists, is_filed, is_member, is_filled, owns_members}
 use Rattle.ss_store.specs.Store.{AreInRange, entity_back}
-use Rattle.ss_store.specs.Held.{Held, HeadEntry, IsStore, IsRow, IsSet, Joins, owned_by, owner_number, head_at, head_by}
-use Rattle.ss_store.specs.Held.{seat_at, number_at, look, owned_from, entity_with, reference_with, zipped, state_of}
+use Rattle.ss_store.specs.Invariant.{IsStore, IsRow, Joins}
+use Rattle.ss_store.specs.Parts.{StoreParts, HeadEntry, owner_number, head_at, head_by}
+use Rattle.ss_store.specs.Tables.{IsSet, owned_by}
+use Rattle.ss_store.specs.Parts.{seat_at, number_at, numbers_under, owned_from, entity_with, reference_with}
+use Rattle.ss_store.specs.Parts.{zip_rows, state_of}
 use Rattle.ss_store.specs.Making.{with_table}
 use Rattle.ss_store.specs.Writing.{with_values}
 use Rattle.ss_store.proofs.Core.{some_eq, Found, found, map_some, head_entry, made_none}
@@ -30,24 +33,24 @@ use Rattle.ss_store.proofs.Taken.{not_member}
 use Rattle.ss_store.proofs.Written.{get_other}
 
 -- what is held with other values of a reference, or none
-abbrev pub put : Held → ℕ → Option (List ℤ) → Held
+abbrev pub put : StoreParts → ℕ → Option (List ℤ) → StoreParts
 put g i u = record g { rows = with_table (with_values i u) g.rows None }
 
 -- ---- entities found
 
-value_still : (g : Held) (i j : ℕ) (u y : Option (List ℤ)) (w : Option ℕ)
+value_still : (g : StoreParts) (i j : ℕ) (u y : Option (List ℤ)) (w : Option ℕ)
     → slice_get (rows_in g.rows w).values j ≡ Some y
     → (w ≡ None → j ≢ i) → slice_get (rows_in (put g i u).rows w).values j ≡ Some y
 value_still g i j u y None e far = get_other g.rows.references.values i j u (far refl) ∙ e
 value_still g i j u y (Some c) e far = e
 
-rows_still : (g : Held) (i : ℕ) (u : Option (List ℤ)) (w : Option ℕ)
+rows_still : (g : StoreParts) (i : ℕ) (u : Option (List ℤ)) (w : Option ℕ)
     → (rows_in (put g i u).rows w).rows ≡ (rows_in g.rows w).rows
 rows_still g i u None = refl
 rows_still g i u (Some c) = refl
 
 -- whoever is not the one that is put is found as before
-found_still : (g : Held) (i d x : ℕ) (u : Option (List ℤ)) (q : Row) → IsStore g → (l : Found g.rows d x q)
+found_still : (g : StoreParts) (i d x : ℕ) (u : Option (List ℤ)) (q : Row) → IsStore g → (l : Found g.rows d x q)
     → (l.table ≡ None → l.index ≢ i) → row_of (put g i u).rows d x ≡ Some q
 found_still g i d x u q s l far =
     let row : slice_get (rows_in (put g i u).rows l.table).rows l.index ≡ Some q =
@@ -61,7 +64,7 @@ found_still g i d x u q s l far =
     (refound (put g i u).rows d l.index q l.value l.table l.which row
     (value_still g i l.index u (Some l.value) l.table l.there far) l.class later)
 
-head_still : (g : Held) (i : ℕ) (u : Option (List ℤ)) → IsStore g → (o : Owner) (p : SetShape) (x h : ℕ)
+head_still : (g : StoreParts) (i : ℕ) (u : Option (List ℤ)) → IsStore g → (o : Owner) (p : SetShape) (x h : ℕ)
     → head_by o g.rows p x ≡ Some h
     → ((d : ℕ) (q : Row) (l : Found g.rows d x q) → o ≡ OwnedBy d → q.head + p.list ≡ h → l.table ≡ None → l.index ≢ i)
     → head_by o (put g i u).rows p x ≡ Some h
@@ -71,7 +74,7 @@ head_still g i u s (OwnedBy d) p x h e far =
     let l = found g.rows d x q.0 q.1 in
     ap (option_map (λ (r : Row). r.head + p.list)) (found_still g i d x u q.0 s l (far d q.0 l refl q.2)) ∙ ap Some q.2
 
-seat_still : (g : Held) (i : ℕ) (u : Option (List ℤ)) → IsStore g → (p : SetShape) (x t : ℕ)
+seat_still : (g : StoreParts) (i : ℕ) (u : Option (List ℤ)) → IsStore g → (p : SetShape) (x t : ℕ)
     → seat_at g.rows p x ≡ Some t
     → ((q : Row) (l : Found g.rows p.member x q) → l.table ≡ None → l.index ≢ i) → seat_at (put g i u).rows p x ≡ Some t
 seat_still g i u s p x t e far =
@@ -87,10 +90,10 @@ set_read (x ∷ xs) zero y z e = some_eq e
 set_read (x ∷ xs) (suc i) y z e = set_read xs i y z e
 
 -- the values that are put are as many as the class has attributes
-abbrev pub AreValues : Held → Row → Option (List ℤ) → Type 0
+abbrev pub AreValues : StoreParts → Row → Option (List ℤ) → Type 0
 AreValues g r u = (v : List ℤ) → u ≡ Some v → (length v ≡ (class_of g.tables r.class).attributes) × AreInRange v
 
-put_valued : (g : Held) (i : ℕ) (r : Row) (u : Option (List ℤ)) → IsStore g
+put_valued : (g : StoreParts) (i : ℕ) (r : Row) (u : Option (List ℤ)) → IsStore g
     → slice_get g.rows.references.rows i ≡ Some r
     → AreValues g r u → (w : Option ℕ) (j : ℕ) (q : Row) (v : List ℤ)
     → slice_get (rows_in (put g i u).rows w).rows j ≡ Some q
@@ -102,31 +105,32 @@ put_valued g i r u s er long None j q v eq ev = elim (is_or_not j i) [
       (ap (slice_get (set g.rows.references.values i u)) (sym is) ∙ ev) in
       let row : r ≡ q = some_eq (sym er ∙ ap (slice_get g.rows.references.rows) (sym is) ∙ eq) in
       (long v value).0 ∙ ap (λ (z : Row). (class_of g.tables z.class).attributes) row
-  | inr far ↦ s.valued None j q v eq (sym (get_other g.rows.references.values i j u far) ∙ ev)
+  | inr far ↦ s.value_counts None j q v eq (sym (get_other g.rows.references.values i j u far) ∙ ev)
 ]
-put_valued g i r u s er long (Some c) j q v eq ev = s.valued (Some c) j q v eq ev
+put_valued g i r u s er long (Some c) j q v eq ev = s.value_counts (Some c) j q v eq ev
 
-put_ranged : (g : Held) (i : ℕ) (r : Row) (u : Option (List ℤ)) → IsStore g → AreValues g r u → (w : Option ℕ) (j : ℕ)
+put_ranged : (g : StoreParts) (i : ℕ) (r : Row) (u : Option (List ℤ)) → IsStore g → AreValues g r u
+    → (w : Option ℕ) (j : ℕ)
     (v : List ℤ) → slice_get (rows_in (put g i u).rows w).values j ≡ Some (Some v) → AreInRange v
 put_ranged g i r u s are None j v e = elim (is_or_not j i) [
   | inl is ↦ (are v (set_read g.rows.references.values i u (Some v)
       (ap (slice_get (set g.rows.references.values i u)) (sym is) ∙ e))).1
-  | inr far ↦ s.ranged None j v (sym (get_other g.rows.references.values i j u far) ∙ e)
+  | inr far ↦ s.values_in_range None j v (sym (get_other g.rows.references.values i j u far) ∙ e)
 ]
-put_ranged g i r u s are (Some c) j v e = s.ranged (Some c) j v e
+put_ranged g i r u s are (Some c) j v e = s.values_in_range (Some c) j v e
 
-put_each : (g : Held) (i : ℕ) (u : Option (List ℤ)) → IsStore g → (w : Option ℕ) (j : ℕ) (q : Row)
+put_each : (g : StoreParts) (i : ℕ) (u : Option (List ℤ)) → IsStore g → (w : Option ℕ) (j : ℕ) (q : Row)
     → slice_get (rows_in (put g i u).rows w).rows j ≡ Some q → IsRow (put g i u) j q
 put_each g i u s None j q e = let d = s.each None j q e in record { class = d.class; heads = d.heads; seats = d.seats }
 put_each g i u s (Some c) j q e =
     let d = s.each (Some c) j q e in record { class = d.class; heads = d.heads; seats = d.seats }
 
-put_rows : (g : Held) (i : ℕ) (u : Option (List ℤ)) → IsStore g → (w : Option ℕ)
+put_rows : (g : StoreParts) (i : ℕ) (u : Option (List ℤ)) → IsStore g → (w : Option ℕ)
     → length (rows_in (put g i u).rows w).rows ≡ length (rows_in (put g i u).rows w).values
 put_rows g i u s None = s.rows None ∙ sym (length-set g.rows.references.values i u)
 put_rows g i u s (Some c) = s.rows (Some c)
 
-pub put_store : (g : Held) (i : ℕ) (r : Row) (u : Option (List ℤ)) → IsStore g
+pub put_store : (g : StoreParts) (i : ℕ) (r : Row) (u : Option (List ℤ)) → IsStore g
     → slice_get g.rows.references.rows i ≡ Some r → AreValues g r u
     → ((h t : ℕ) → has (list_at g.board.lists h) t ≡ true → Joins (put g i u) h t) → IsStore (put g i u)
 put_store g i r u s er long joins = record {
@@ -138,13 +142,13 @@ put_store g i r u s er long joins = record {
   classes = s.classes;
   rows = put_rows g i u s;
   each = put_each g i u s;
-  valued = put_valued g i r u s er long;
-  ranged = put_ranged g i r u s long;
+  value_counts = put_valued g i r u s er long;
+  values_in_range = put_ranged g i r u s long;
   made = λ c j q e. s.made c j q e;
   stays = λ c j e. s.stays c j e;
-  given = λ j q e. s.given j q e;
+  not_permanent = λ j q e. s.not_permanent j q e;
   system = s.system;
-  joined = joins;
+  are_members = joins;
   few_made = λ c. s.few_made c;
   few_references = s.few_references;
   used_heads = s.used_heads;
@@ -155,20 +159,21 @@ put_store g i r u s er long joins = record {
 
 zipped_set : {A : Type 0} (f : Row → Option (List ℤ) → A) (rs : List Row) (vs : List (Option (List ℤ))) (i : ℕ)
     (r : Row)
-    (u : Option (List ℤ)) → slice_get rs i ≡ Some r → zipped f rs (set vs i u) ≡ set (zipped f rs vs) i (f r u)
+    (u : Option (List ℤ)) → slice_get rs i ≡ Some r → zip_rows f rs (set vs i u) ≡ set (zip_rows f rs vs) i (f r u)
 zipped_set f [] vs i r u e = cc
 zipped_set f (q ∷ rs) [] i r u e = refl
-zipped_set f (q ∷ rs) (w ∷ vs) zero r u e = ap (λ (z : Row). f z u ∷ zipped f rs vs) (some_eq e)
+zipped_set f (q ∷ rs) (w ∷ vs) zero r u e = ap (λ (z : Row). f z u ∷ zip_rows f rs vs) (some_eq e)
 zipped_set f (q ∷ rs) (w ∷ vs) (suc i) r u e = ap (λ l. f q w ∷ l) (zipped_set f rs vs i r u e)
 
 -- the state has another reference
-pub put_state : (g : Held) (i : ℕ) (r : Row) (u : Option (List ℤ)) → slice_get g.rows.references.rows i ≡ Some r
+pub put_state : (g : StoreParts) (i : ℕ) (r : Row) (u : Option (List ℤ)) → slice_get g.rows.references.rows i ≡ Some r
     → state_of (put g i u) ≡ record (state_of g) {
-      references = set (state_of g).references i (reference_with g.tables.classes (look g.board g.numbers) r u);
+      references = set (state_of g).references i
+          (reference_with g.tables.classes (numbers_under g.board g.numbers) r u);
     }
 put_state g i r u e = λ n. record {
   made = (state_of g).made;
-  references = zipped_set (reference_with g.tables.classes (look g.board g.numbers))
+  references = zipped_set (reference_with g.tables.classes (numbers_under g.board g.numbers))
       g.rows.references.rows g.rows.references.values i r u e n;
   system = (state_of g).system;
 }
@@ -183,25 +188,26 @@ lists_empty at f (suc n) s =
     λ i. here i ∷ rest i
 
 -- an entity whose lists are empty
-pub is_back : (g : Held) (r : Row) (v : List ℤ)
+pub is_back : (g : StoreParts) (r : Row) (v : List ℤ)
     → ((k : ℕ) → k < (class_of g.tables r.class).owned → list_at g.board.lists (r.head + k) ≡ [])
-    → entity_with g.tables.classes (look g.board g.numbers) r v
+    → entity_with g.tables.classes (numbers_under g.board g.numbers) r v
     ≡ entity_back r.class (class_of g.tables r.class).owned v
 is_back g r v empty =
-    let none = lists_empty (look g.board g.numbers) r.head (class_of g.tables r.class).owned
+    let none = lists_empty (numbers_under g.board g.numbers) r.head (class_of g.tables r.class).owned
     (λ k lt. ap (map (number_at g.numbers)) (empty k lt)) in
     λ i. record { class = r.class; attributes = v; owned = none i }
 
 -- ---- ended
 
 -- a reference that may end: it is in no list, and owns no member
-pub record Ends (g : Held) (i : ℕ) (r : Row) : Type 0 where
+pub record Ends (g : StoreParts) (i : ℕ) (r : Row) : Type 0 where
   pub row : slice_get g.rows.references.rows i ≡ Some r
   pub free : is_member g.tables.sets (state_of g) r.class (suc i) ≡ false
   pub empty : (k : ℕ) → k < (class_of g.tables r.class).owned → list_at g.board.lists (r.head + k) ≡ []
 
 -- the row that is found there
-here_is : (g : Held) (i d x : ℕ) (r q : Row) → slice_get g.rows.references.rows i ≡ Some r → (l : Found g.rows d x q)
+here_is : (g : StoreParts) (i d x : ℕ) (r q : Row) → slice_get g.rows.references.rows i ≡ Some r
+    → (l : Found g.rows d x q)
     → l.table ≡ None → l.index ≡ i → (q ≡ r) × (x ≡ suc i) × (d ≡ r.class)
 here_is g i d x r q er l is at =
     let row : q ≡ r = some_eq (sym l.row ∙ ap (λ z. slice_get (rows_in g.rows z).rows l.index) is
@@ -209,7 +215,8 @@ here_is g i d x r q er l is at =
     (row, l.number ∙ ap suc at, sym l.class ∙ ap (λ (z : Row). z.class) row)
 
 -- no member of a list is it
-not_the_member : (g : Held) (i h t : ℕ) (r : Row) → IsStore g → Ends g i r → has (list_at g.board.lists h) t ≡ true
+not_the_member : (g : StoreParts) (i h t : ℕ) (r : Row) → IsStore g → Ends g i r → has (list_at g.board.lists h) t
+    ≡ true
     → (d : Joins g h t) (q : Row) (l : Found g.rows d.set.member d.member q) → l.table ≡ None → l.index ≢ i
 not_the_member g i h t r s k e d q l is at =
     let same = here_is g i d.set.member d.member r q k.row l is at in
@@ -220,7 +227,7 @@ not_the_member g i h t r s k e d q l is at =
     let bad : true ≡ false = sym there ∙ ap (is_filed d.set (state_of g)) same.1 ∙ out in cc
 
 -- nor its owner
-not_the_owner : (g : Held) (i h t : ℕ) (r : Row) → IsStore g → Ends g i r → has (list_at g.board.lists h) t ≡ true
+not_the_owner : (g : StoreParts) (i h t : ℕ) (r : Row) → IsStore g → Ends g i r → has (list_at g.board.lists h) t ≡ true
     → (d : Joins g h t) (c : ℕ) (q : Row) (l : Found g.rows c d.owner q) → d.set.owner ≡ OwnedBy c
     → q.head + d.set.list ≡ h → l.table ≡ None → l.index ≢ i
 not_the_owner g i h t r s k e d c q l eo eh is at =
@@ -232,9 +239,9 @@ not_the_owner g i h t r s k e d c q l eo eh is at =
     ap (list_at g.board.lists) (sym eh ∙ ap (λ (z : Row). z.head + d.set.list) same.0) ∙ k.empty d.set.list lt in
     let bad : false ≡ true = ap (λ l. has l t) (sym none) ∙ e in cc
 
-pub ended_store : (g : Held) (i : ℕ) (r : Row) → IsStore g → Ends g i r → IsStore (put g i None)
+pub ended_store : (g : StoreParts) (i : ℕ) (r : Row) → IsStore g → Ends g i r → IsStore (put g i None)
 ended_store g i r s k = put_store g i r None s k.row (λ v e. absurd (let bad : None ≡ Some v = e in cc)) (λ h t e.
-    let d = s.joined h t e in
+    let d = s.are_members h t e in
     record {
       set = d.set;
       owner = d.owner;
@@ -247,23 +254,24 @@ ended_store g i r s k = put_store g i r None s k.row (λ v e. absurd (let bad : 
 -- ---- brought back
 
 -- a reference that has ended
-pub record Ended (g : Held) (i : ℕ) (r : Row) : Type 0 where
+pub record Ended (g : StoreParts) (i : ℕ) (r : Row) : Type 0 where
   pub row : slice_get g.rows.references.rows i ≡ Some r
   pub none : slice_get g.rows.references.values i ≡ Some None
 
 -- whoever is found is not it
-not_ended : (g : Held) (i d x : ℕ) (r q : Row) → Ended g i r → (l : Found g.rows d x q) → l.table ≡ None → l.index ≢ i
+not_ended : (g : StoreParts) (i d x : ℕ) (r q : Row) → Ended g i r → (l : Found g.rows d x q) → l.table ≡ None
+    → l.index ≢ i
 not_ended g i d x r q k l is at =
     let bad : Some (Some l.value) ≡ Some None = sym l.there ∙ ap (λ z. slice_get (rows_in g.rows z).values l.index) is
     ∙ ap (slice_get g.rows.references.values) at ∙ k.none in cc
 
-pub back_store : (g : Held) (i : ℕ) (r : Row) (v : List ℤ) → IsStore g → Ended g i r
+pub back_store : (g : StoreParts) (i : ℕ) (r : Row) (v : List ℤ) → IsStore g → Ended g i r
     → length v ≡ (class_of g.tables r.class).attributes → AreInRange v → IsStore (put g i (Some v))
 back_store g i r v s k long ranged = put_store g i r (Some v) s k.row (λ y e. (
   ap (length {A = ℤ}) (sym (some_eq e)) ∙ long,
   subst AreInRange (some_eq e) ranged,
 )) (λ h t e.
-    let d = s.joined h t e in
+    let d = s.are_members h t e in
     record {
       set = d.set;
       owner = d.owner;
@@ -275,7 +283,7 @@ back_store g i r v s k long ranged = put_store g i r (Some v) s k.row (λ y e. (
     })
 
 -- no list is of it
-no_owner : (g : Held) (i h o : ℕ) (r : Row) (p : SetShape) (w : Owner) → IsStore g → Ended g i r
+no_owner : (g : StoreParts) (i h o : ℕ) (r : Row) (p : SetShape) (w : Owner) → IsStore g → Ended g i r
     → head_by w g.rows p o ≡ Some h → w ≡ OwnedBy r.class → owner_number w o ≡ suc i → ⊥
 no_owner g i h o r p System s k e f n = cc
 no_owner g i h o r p (OwnedBy d) s k e f n =
@@ -286,12 +294,13 @@ no_owner g i h o r p (OwnedBy d) s k e f n =
     elim l.which [
       | inl is ↦
           let yes = (s.made d l.index q.0 (ap (λ z. slice_get (rows_in g.rows z).rows l.index) (sym is) ∙ l.row)).1 in
-          let bad : true ≡ false = sym yes ∙ ap (λ z. (class_of g.tables z).permanent) class ∙ s.given i r k.row in cc
+          let bad : true
+          ≡ false = sym yes ∙ ap (λ z. (class_of g.tables z).permanent) class ∙ s.not_permanent i r k.row in cc
       | inr is ↦ not_ended g i d o r q.0 k l is at
     ]
 
 -- its lists are empty
-pub ended_empty : (g : Held) (i : ℕ) (r : Row) → IsStore g → Ended g i r
+pub ended_empty : (g : StoreParts) (i : ℕ) (r : Row) → IsStore g → Ended g i r
     → (k : ℕ) → k < (class_of g.tables r.class).owned → list_at g.board.lists (r.head + k) ≡ []
 ended_empty g i r s d k lt =
     (elim (list_at g.board.lists (r.head + k)) as (λ l. list_at g.board.lists (r.head + k) ≡ l → l ≡ []) [
@@ -299,7 +308,7 @@ ended_empty g i r s d k lt =
       | t ∷ l ↦ λ e. absurd (
           let f : has (list_at g.board.lists (r.head + k)) t ≡ true =
           ap (λ z. has z t) e ∙ (let a : (t == t) ≡ true = grind (arith, nat_tests) in rw a refl) in
-          let j = s.joined (r.head + k) t f in
+          let j = s.are_members (r.head + k) t f in
           let both = some_eq (sym (head_entry g j.set j.owner (r.head + k) s j.is_set j.head)
           ∙ (s.each None i r d.row).heads k lt) in
           no_owner g i (r.head + k) j.owner r j.set j.set.owner s d j.head
@@ -309,7 +318,7 @@ ended_empty g i r s d k lt =
 -- ---- what the call looks for
 
 -- whether it is a member, as its seats say
-pub members_are : (g : Held) (c k : ℕ) (r : Row) (sets : List SetShape) → IsStore g → row_of g.rows c k ≡ Some r
+pub members_are : (g : StoreParts) (c k : ℕ) (r : Row) (sets : List SetShape) → IsStore g → row_of g.rows c k ≡ Some r
     → ((i : ℕ) (p : SetShape) → slice_get sets i ≡ Some p → IsSet g.tables.sets p)
     → list_any (λ (p : SetShape). (p.member == c) && is_some (head_of g.board.lists (r.seat + p.slot))) sets
     ≡ is_member sets (state_of g) c k
@@ -333,19 +342,19 @@ filled_map f [] = refl
 filled_map f (x ∷ l) = refl
 
 filled_look : (b : Board) (ns : List ℕ) (h n : ℕ)
-    → list_any is_filled (owned_from (list_at b.lists) h n) ≡ list_any is_filled (owned_from (look b ns) h n)
+    → list_any is_filled (owned_from (list_at b.lists) h n) ≡ list_any is_filled (owned_from (numbers_under b ns) h n)
 filled_look b ns h zero = refl
 filled_look b ns h (suc n) =
     λ i. sym (filled_map (number_at ns) (list_at b.lists h)) i || filled_look b ns (suc h) n i
 
 -- whether it owns members, as its heads say
-pub owns_is : (g : Held) (c k n : ℕ) (r : Row) → IsStore g → row_of g.rows c k ≡ Some r
+pub owns_is : (g : StoreParts) (c k n : ℕ) (r : Row) → IsStore g → row_of g.rows c k ≡ Some r
     → n ≡ (class_of g.tables c).owned
     → list_any is_filled (owned_from (list_at g.board.lists) r.head n) ≡ owns_members (entity (state_of g) c k)
 owns_is g c k n r s e en =
     let l = found g.rows c k r e in
     filled_look g.board g.numbers r.head n
-    ∙ ap (λ z. list_any is_filled (owned_from (look g.board g.numbers) r.head z))
+    ∙ ap (λ z. list_any is_filled (owned_from (numbers_under g.board g.numbers) r.head z))
     (en ∙ ap (λ z. (class_of g.tables z).owned) (sym l.class))
     ∙ sym (ap owns_members (entity_some g c k r s l))
 

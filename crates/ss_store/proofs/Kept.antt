@@ -6,14 +6,17 @@ use Rattle.std.specs.Option.{option_map, ForSome}
 use Rattle.std.specs.List.{list_any}
 use Rattle.ss_words.specs.declared.fault.RunFault.TheVariants.{NoEntity}
 use Rattle.ss_links.specs.Board.{list_at, list_of, head_of}
-use Rattle.ss_links.specs.Seats.{has, seat_before, seat_behind}
+use Rattle.ss_links.specs.Seats.{has, prev_in, next_in}
 use Rattle.ss_links.proofs.BoardLaws.{head_of-found, head_of-list_at, times-free, list_of-free}
 use Rattle.ss_links.proofs.SeatLaws.{has-seat_before}
 use Rattle.ss_store.specs.declared.shape.SetShape.{SetShape}
 use Rattle.ss_store.specs.Tables.{set_of}
 use Rattle.ss_store.specs.Store.{lists_by, list_holding}
 use Rattle.ss_store.specs.Filing.{predecessor, successor, membership}
-use Rattle.ss_store.specs.Held.{Held, StoreValue, IsStore, IsSet, seat_at, number_at, look, state_of}
+use Rattle.ss_store.specs.Invariant.{IsStore}
+use Rattle.ss_store.specs.Parts.{StoreParts, seat_at, number_at, numbers_under, state_of}
+use Rattle.ss_store.specs.Tables.{IsSet}
+use Rattle.ss_store.specs.Value.{StoreValue}
 use Rattle.ss_store.proofs.Core.{some_eq, seat_number, owner_of_seat}
 use Rattle.ss_store.proofs.Agree.{member_is, is_filed_is, list_owner, stands_is, apart, seat_below}
 use Rattle.ss_store.proofs.Walked.{map-seat_before, map-seat_behind, has-seat_behind, in_list}
@@ -45,7 +48,7 @@ finds_none test (l ∷ ls) e =
     ]) refl e
 
 -- the list that holds a member is that in which its seat stands
-pub holding_is : (g : Held) (rule : SetShape) (t x : ℕ) → IsStore g → IsSet g.tables.sets rule
+pub holding_is : (g : StoreParts) (rule : SetShape) (t x : ℕ) → IsStore g → IsSet g.tables.sets rule
     → seat_at g.rows rule x ≡ Some t → list_holding rule (state_of g) x
     ≡ map (number_at g.numbers) (list_of g.board.lists t)
 holding_is g rule t x s is et =
@@ -63,12 +66,12 @@ holding_is g rule t x s is et =
           let there : has (list_at g.board.lists o.1) t ≡ true = sym (stands_is g rule o.0 o.1 t x s is o.2 et)
           ∙ ap (λ l. has l x) o.3 ∙ d.passes in
           let same : h ≡ o.1 = some_eq (sym e ∙ head_of-list_at g.board.lists o.1 t there (s.sound.once t)) in
-          ap (λ (z : Option (List ℕ)). unwrap_or z []) d.is ∙ sym o.3 ∙ ap (look g.board g.numbers) (sym same)
+          ap (λ (z : Option (List ℕ)). unwrap_or z []) d.is ∙ sym o.3 ∙ ap (numbers_under g.board g.numbers) (sym same)
           ∙ ap (map (number_at g.numbers)) (sym (head_of-found g.board.lists t h e).2)
     ]) refl
 
 -- seats of that list have numbers of their own
-holding_apart : (g : Held) (rule : SetShape) (t x : ℕ) → IsStore g → IsSet g.tables.sets rule
+holding_apart : (g : StoreParts) (rule : SetShape) (t x : ℕ) → IsStore g → IsSet g.tables.sets rule
     → seat_at g.rows rule x ≡ Some t → (u : ℕ) → has (list_of g.board.lists t) u ≡ true
     → number_at g.numbers u ≡ number_at g.numbers t → u ≡ t
 holding_apart g rule t x s is et u f e =
@@ -82,7 +85,7 @@ holding_apart g rule t x s is et u f e =
     ]) refl
 
 -- a seat of that list has a number
-holding_in : (g : Held) (rule : SetShape) (t x at : ℕ) → IsStore g → IsSet g.tables.sets rule
+holding_in : (g : StoreParts) (rule : SetShape) (t x at : ℕ) → IsStore g → IsSet g.tables.sets rule
     → seat_at g.rows rule x ≡ Some t → has (list_of g.board.lists t) at ≡ true → at < length g.numbers
 holding_in g rule t x at s is et f =
     (elim (head_of g.board.lists t) as (λ q. head_of g.board.lists t ≡ q → at < length g.numbers) [
@@ -96,61 +99,61 @@ holding_in g rule t x at s is et f =
 
 -- ---- calls
 
-pub kept_seat : (g : Held) (v : StoreValue) (set : ℕ) (rule : SetShape) (x t : ℕ) → Case g v set rule
+pub kept_seat : (g : StoreParts) (v : StoreValue) (set : ℕ) (rule : SetShape) (x t : ℕ) → Case g v set rule
     → seat_at g.rows rule x ≡ Some t → t < g.board.seats
 kept_seat g v set rule x t k e = seat_below g rule x t k.store k.is_set e
 
-pub predecessor_none : (g : Held) (v : StoreValue) (set : ℕ) (rule : SetShape) (x : ℕ) → Case g v set rule
+pub predecessor_none : (g : StoreParts) (v : StoreValue) (set : ℕ) (rule : SetShape) (x : ℕ) → Case g v set rule
     → seat_at g.rows rule x ≡ None → Err NoEntity ≡ predecessor (set_of v.tables set) v.state x
 predecessor_none g v set rule x k e = sym
     (over g v set rule (λ r s. predecessor r s x) (Err NoEntity) k
     (rw (member_is g rule x k.store ∙ ap is_some e) refl))
 
-pub predecessor_is : (g : Held) (v : StoreValue) (set : ℕ) (rule : SetShape) (x t : ℕ) (n b : Option ℕ)
-    → Case g v set rule → seat_at g.rows rule x ≡ Some t → n ≡ seat_before (list_of g.board.lists t) t
+pub predecessor_is : (g : StoreParts) (v : StoreValue) (set : ℕ) (rule : SetShape) (x t : ℕ) (n b : Option ℕ)
+    → Case g v set rule → seat_at g.rows rule x ≡ Some t → n ≡ prev_in (list_of g.board.lists t) t
     → b ≡ option_map (number_at g.numbers) n → Ok b ≡ predecessor (set_of v.tables set) v.state x
 predecessor_is g v set rule x t n b k e en eb =
-    let value : seat_before (list_holding rule (state_of g) x) x ≡ b =
-    (λ i. seat_before (holding_is g rule t x k.store k.is_set e i) (sym (seat_number g rule x t k.store k.is_set e) i))
+    let value : prev_in (list_holding rule (state_of g) x) x ≡ b =
+    (λ i. prev_in (holding_is g rule t x k.store k.is_set e i) (sym (seat_number g rule x t k.store k.is_set e) i))
     ∙ map-seat_before (number_at g.numbers) (list_of g.board.lists t) t (holding_apart g rule t x k.store k.is_set e)
     ∙ ap (option_map (number_at g.numbers)) (sym en) ∙ sym eb in
     sym (over g v set rule (λ r s. predecessor r s x) (Ok b) k
     (rw (member_is g rule x k.store ∙ ap is_some e) (ap Ok value)))
 
-pub predecessor_below : (g : Held) (v : StoreValue) (set : ℕ) (rule : SetShape) (x t : ℕ) (n : Option ℕ)
-    → Case g v set rule → seat_at g.rows rule x ≡ Some t → n ≡ seat_before (list_of g.board.lists t) t
+pub predecessor_below : (g : StoreParts) (v : StoreValue) (set : ℕ) (rule : SetShape) (x t : ℕ) (n : Option ℕ)
+    → Case g v set rule → seat_at g.rows rule x ≡ Some t → n ≡ prev_in (list_of g.board.lists t) t
     → ForSome n (λ at. at < length g.numbers)
 predecessor_below g v set rule x t n k e en at is =
     holding_in g rule t x at k.store k.is_set e (has-seat_before (list_of g.board.lists t) t at (sym en ∙ is))
 
-pub successor_none : (g : Held) (v : StoreValue) (set : ℕ) (rule : SetShape) (x : ℕ) → Case g v set rule
+pub successor_none : (g : StoreParts) (v : StoreValue) (set : ℕ) (rule : SetShape) (x : ℕ) → Case g v set rule
     → seat_at g.rows rule x ≡ None → Err NoEntity ≡ successor (set_of v.tables set) v.state x
 successor_none g v set rule x k e = sym (over g v set rule (λ r s. successor r s x) (Err NoEntity) k
     (rw (member_is g rule x k.store ∙ ap is_some e) refl))
 
-pub successor_is : (g : Held) (v : StoreValue) (set : ℕ) (rule : SetShape) (x t : ℕ) (n b : Option ℕ)
-    → Case g v set rule → seat_at g.rows rule x ≡ Some t → n ≡ seat_behind (list_of g.board.lists t) t
+pub successor_is : (g : StoreParts) (v : StoreValue) (set : ℕ) (rule : SetShape) (x t : ℕ) (n b : Option ℕ)
+    → Case g v set rule → seat_at g.rows rule x ≡ Some t → n ≡ next_in (list_of g.board.lists t) t
     → b ≡ option_map (number_at g.numbers) n → Ok b ≡ successor (set_of v.tables set) v.state x
 successor_is g v set rule x t n b k e en eb =
-    let value : seat_behind (list_holding rule (state_of g) x) x ≡ b =
-    (λ i. seat_behind (holding_is g rule t x k.store k.is_set e i) (sym (seat_number g rule x t k.store k.is_set e) i))
+    let value : next_in (list_holding rule (state_of g) x) x ≡ b =
+    (λ i. next_in (holding_is g rule t x k.store k.is_set e i) (sym (seat_number g rule x t k.store k.is_set e) i))
     ∙ map-seat_behind (number_at g.numbers) (list_of g.board.lists t) t (holding_apart g rule t x k.store k.is_set e)
     ∙ ap (option_map (number_at g.numbers)) (sym en) ∙ sym eb in
     sym (over g v set rule (λ r s. successor r s x) (Ok b) k
     (rw (member_is g rule x k.store ∙ ap is_some e) (ap Ok value)))
 
-pub successor_below : (g : Held) (v : StoreValue) (set : ℕ) (rule : SetShape) (x t : ℕ) (n : Option ℕ)
-    → Case g v set rule → seat_at g.rows rule x ≡ Some t → n ≡ seat_behind (list_of g.board.lists t) t
+pub successor_below : (g : StoreParts) (v : StoreValue) (set : ℕ) (rule : SetShape) (x t : ℕ) (n : Option ℕ)
+    → Case g v set rule → seat_at g.rows rule x ≡ Some t → n ≡ next_in (list_of g.board.lists t) t
     → ForSome n (λ at. at < length g.numbers)
 successor_below g v set rule x t n k e en at is =
     holding_in g rule t x at k.store k.is_set e (has-seat_behind (list_of g.board.lists t) t at (sym en ∙ is))
 
-pub membership_none : (g : Held) (v : StoreValue) (set : ℕ) (rule : SetShape) (x : ℕ) → Case g v set rule
+pub membership_none : (g : StoreParts) (v : StoreValue) (set : ℕ) (rule : SetShape) (x : ℕ) → Case g v set rule
     → seat_at g.rows rule x ≡ None → Err NoEntity ≡ membership (set_of v.tables set) v.state x
 membership_none g v set rule x k e = sym
     (over g v set rule (λ r s. membership r s x) (Err NoEntity) k (rw (member_is g rule x k.store ∙ ap is_some e) refl))
 
-pub membership_is : (g : Held) (v : StoreValue) (set : ℕ) (rule : SetShape) (x t : ℕ) (q : Option ℕ) (b : Bool)
+pub membership_is : (g : StoreParts) (v : StoreValue) (set : ℕ) (rule : SetShape) (x t : ℕ) (q : Option ℕ) (b : Bool)
     → Case g v set rule → seat_at g.rows rule x ≡ Some t → q ≡ head_of g.board.lists t → b ≡ is_some q
     → Ok b ≡ membership (set_of v.tables set) v.state x
 membership_is g v set rule x t q b k e eq eb =

@@ -8,8 +8,8 @@ use Rattle.ss_store.specs.declared.shape.ClassShape.{ClassShape}
 use Rattle.ss_store.specs.Lists.{change_at}
 use Rattle.ss_store.specs.Tables.{class_in}
 use Rattle.ss_store.specs.Rows.{RowTable, EntityTable, no_rows, rows_in}
-use Rattle.ss_store.specs.Held.{used_of, used_made, used_in}
-use Rattle.ss_store.specs.Making.{with_table, more}
+use Rattle.ss_store.specs.Invariant.{used_of, used_made, used_in}
+use Rattle.ss_store.specs.Making.{with_table, with_row}
 use Rattle.ss_store.proofs.Core.{some_eq}
 use Rattle.ss_store.proofs.Relist.{is_or_not}
 
@@ -165,12 +165,12 @@ used_more f cs [] r = omega arith
 used_more f cs (q ∷ rs) r = let d = used_more f cs rs r in omega (arith, d)
 
 used_change : (f : ClassShape → ℕ) (cs : List ClassShape) (ts : List RowTable) (c : ℕ) (r : Row) (v : List ℤ)
-    → c < length ts → used_made f cs (change_at (more r v) ts c) ≡ used_made f cs ts + f (class_in cs r.class)
+    → c < length ts → used_made f cs (change_at (with_row r v) ts c) ≡ used_made f cs ts + f (class_in cs r.class)
 used_change f cs [] c r v lt = absurd (omega (arith, lt))
 used_change f cs (t ∷ ts) zero r v lt = let d = used_more f cs t.rows r in omega (arith, d)
 used_change f cs (t ∷ ts) (suc c) r v lt = let d = used_change f cs ts c r v (omega (arith, lt)) in omega (arith, d)
 
 pub used_grown : (f : ClassShape → ℕ) (cs : List ClassShape) (es : EntityTable) (w : Option ℕ) (r : Row) (v : List ℤ)
-    → IsTable es w → used_in f cs (with_table (more r v) es w) ≡ used_in f cs es + f (class_in cs r.class)
+    → IsTable es w → used_in f cs (with_table (with_row r v) es w) ≡ used_in f cs es + f (class_in cs r.class)
 used_grown f cs es None r v is = let d = used_more f cs es.references.rows r in omega (arith, d)
 used_grown f cs es (Some c) r v is = let d = used_change f cs es.made c r v is in omega (arith, d)

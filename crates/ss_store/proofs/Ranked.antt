@@ -13,12 +13,15 @@ use Rattle.ss_store.specs.declared.rows.Row.{Row}
 use Rattle.ss_store.specs.declared.shape.SetShape.{SetShape}
 use Rattle.ss_program.specs.Keys.{by_keys, key_values}
 use Rattle.ss_store.specs.Lists.{placed_before}
-use Rattle.ss_store.specs.Rows.{RowTable, EntityTable, rows_in, row_if, living_in, row_of, values_if, values_in}
+use Rattle.ss_store.specs.Rows.{RowTable, EntityTable, rows_in, row_if, row_in, row_of, values_if, values_in}
 use Rattle.ss_store.specs.Rows.{values_of}
 use Rattle.ss_store.specs.Store.{Entity}
 use Rattle.ss_store.specs.Filing.{keys_now, ranks_behind}
-use Rattle.ss_store.specs.Held.{Held, IsStore, IsSet, head_at, seat_at, number_at, keys_in, seat_behind_in, rank_before}
-use Rattle.ss_store.specs.Held.{state_of}
+use Rattle.ss_store.specs.Finding.{keys_in, seat_behind_in, rank_before}
+use Rattle.ss_store.specs.Invariant.{IsStore}
+use Rattle.ss_store.specs.Parts.{StoreParts, head_at, seat_at, number_at}
+use Rattle.ss_store.specs.Tables.{IsSet}
+use Rattle.ss_store.specs.Parts.{state_of}
 use Rattle.ss_store.proofs.Core.{some_eq, map_some, Found, found, member_of}
 use Rattle.ss_store.proofs.Agree.{entity_some}
 
@@ -111,19 +114,19 @@ values_some es c k r l = subst (λ z. values_of es c z ≡ Some l.value) (sym l.
       ∙ l.row) (ap (λ z. slice_get (rows_in es z).values l.index) (sym is) ∙ l.there) l.class)
 ])
 
-none_of_both : (es : EntityTable) (c i : ℕ) (a b : Option Row) → living_in (rows_in es (Some c)) c i ≡ a
-    → living_in es.references c i ≡ b → option_or a b ≡ None → values_of es c (suc i) ≡ None
+none_of_both : (es : EntityTable) (c i : ℕ) (a b : Option Row) → row_in (rows_in es (Some c)) c i ≡ a
+    → row_in es.references c i ≡ b → option_or a b ≡ None → values_of es c (suc i) ≡ None
 none_of_both es c i None None ea eb e = rw (no_values c _ _ ea, no_values c _ _ eb) refl
 none_of_both es c i None (Some r) ea eb e = cc
 none_of_both es c i (Some r) b ea eb e = cc
 
 pub values_none : (es : EntityTable) (c k : ℕ) → row_of es c k ≡ None → values_of es c k ≡ None
 values_none es c zero e = refl
-values_none es c (suc i) e = none_of_both es c i (living_in (rows_in es (Some c)) c i) (living_in es.references c i)
+values_none es c (suc i) e = none_of_both es c i (row_in (rows_in es (Some c)) c i) (row_in es.references c i)
     refl refl e
 
 -- the keys of a member are those of the entity
-keys_are : (g : Held) (keys : List Key) (c k : ℕ) (r : Row) → IsStore g → row_of g.rows c k ≡ Some r
+keys_are : (g : StoreParts) (keys : List Key) (c k : ℕ) (r : Row) → IsStore g → row_of g.rows c k ≡ Some r
     → keys_in g.rows keys c k ≡ keys_now keys (state_of g) c k
 keys_are g keys c k r s e =
     let l = found g.rows c k r e in
@@ -132,7 +135,8 @@ keys_are g keys c k r s e =
     (entity_some g c k r s l))
 
 -- the seat before the first that ranks behind, by the attributes as they are now
-pub ranked_is : (g : Held) (rule : SetShape) (o x h t : ℕ) (keys : List Key) → IsStore g → IsSet g.tables.sets rule
+pub ranked_is : (g : StoreParts) (rule : SetShape) (o x h t : ℕ) (keys : List Key) → IsStore g
+    → IsSet g.tables.sets rule
     → head_at g.rows rule o ≡ Some h → seat_at g.rows rule x ≡ Some t
     → rank_before (seat_behind_in g.rows g.numbers keys rule.member x) None (list_at g.board.lists h)
     ≡ rank_before (λ u. ranks_behind keys (state_of g) rule.member x (number_at g.numbers u)) None

@@ -14,8 +14,10 @@ use Rattle.ss_store.specs.Lists.{change_at}
 use Rattle.ss_store.specs.Tables.{class_in, class_of}
 use Rattle.ss_store.specs.Rows.{RowTable, EntityTable, no_rows, rows_in, row_of}
 use Rattle.ss_store.specs.Store.{Entity, changed_reference, with_changed, with_owned, with_list_by, with_list}
-use Rattle.ss_store.specs.Held.{Held, HeadEntry, IsStore, IsSet, Joins, head_at, head_by, owned_by, number_at, look}
-use Rattle.ss_store.specs.Held.{owned_from, entity_with, reference_with, made_with, zipped, zipped_of, state_of}
+use Rattle.ss_store.specs.Invariant.{IsStore, Joins}
+use Rattle.ss_store.specs.Parts.{StoreParts, HeadEntry, head_at, head_by, number_at, numbers_under}
+use Rattle.ss_store.specs.Tables.{IsSet, owned_by}
+use Rattle.ss_store.specs.Parts.{owned_from, entity_with, reference_with, made_with, zip_rows, zip_table, state_of}
 use Rattle.ss_store.proofs.Core.{some_eq, Found, found, map_some, made_none}
 
 -- one head's list is another, and no other's
@@ -33,7 +35,7 @@ is_or_not j h =
       | false ↦ λ w. inr (λ e. grind (arith, nat_tests))
     ]) refl
 
-pub relisted_store : (g : Held) (new : Board) (h : ℕ) (m : List ℕ) → IsStore g → Relisted g.board new h m
+pub relisted_store : (g : StoreParts) (new : Board) (h : ℕ) (m : List ℕ) → IsStore g → Relisted g.board new h m
     → ((t : ℕ) → has m t ≡ true → Joins g h t) → IsStore (record g { board = new })
 relisted_store g new h m k r f = record {
   tables = k.tables;
@@ -44,13 +46,13 @@ relisted_store g new h m k r f = record {
   classes = k.classes;
   rows = k.rows;
   each = λ w i q e. let d = k.each w i q e in record { class = d.class; heads = d.heads; seats = d.seats };
-  valued = k.valued;
-  ranged = k.ranged;
+  value_counts = k.value_counts;
+  values_in_range = k.values_in_range;
   made = k.made;
   stays = k.stays;
-  given = k.given;
+  not_permanent = k.not_permanent;
   system = k.system;
-  joined = λ j t e. elim (is_or_not j h) [
+  are_members = λ j t e. elim (is_or_not j h) [
     | inl is ↦ let d = f t (ap (λ l. has l t) (sym r.here ∙ ap (list_at new.lists) (sym is)) ∙ e) in
         record {
           set = d.set;
@@ -60,7 +62,7 @@ relisted_store g new h m k r f = record {
           head = d.head ∙ ap Some (sym is);
           seat = d.seat;
         }
-    | inr far ↦ let d = k.joined j t (ap (λ l. has l t) (sym (r.others j far)) ∙ e) in
+    | inr far ↦ let d = k.are_members j t (ap (λ l. has l t) (sym (r.others j far)) ∙ e) in
         record { set = d.set; owner = d.owner; member = d.member; is_set = d.is_set; head = d.head; seat = d.seat }
   ];
   few_made = k.few_made;
@@ -73,7 +75,7 @@ relisted_store g new h m k r f = record {
 
 pub zipped_same : {A : Type 0} (f g : Row → Option (List ℤ) → A) (rs : List Row) (vs : List (Option (List ℤ)))
     → ((i : ℕ) (r : Row) (v : Option (List ℤ)) → slice_get rs i ≡ Some r → g r v ≡ f r v)
-    → zipped g rs vs ≡ zipped f rs vs
+    → zip_rows g rs vs ≡ zip_rows f rs vs
 zipped_same f g [] vs s = refl
 zipped_same f g (r ∷ rs) [] s = refl
 zipped_same f g (r ∷ rs) (v ∷ vs) s = λ i. s 0 r v refl i ∷ zipped_same f g rs vs (λ n q u. s (suc n) q u) i
@@ -81,7 +83,7 @@ zipped_same f g (r ∷ rs) (v ∷ vs) s = λ i. s 0 r v refl i ∷ zipped_same f
 zipped_one : {A : Type 0} (f g : Row → Option (List ℤ) → A) (ch : A → A) (rs : List Row) (vs : List (Option (List ℤ)))
     (n : ℕ) → ((r : Row) (v : Option (List ℤ)) → slice_get rs n ≡ Some r → g r v ≡ ch (f r v))
     → ((i : ℕ) (r : Row) (v : Option (List ℤ)) → i ≢ n → slice_get rs i ≡ Some r → g r v ≡ f r v)
-    → zipped g rs vs ≡ change_at ch (zipped f rs vs) n
+    → zip_rows g rs vs ≡ change_at ch (zip_rows f rs vs) n
 zipped_one f g ch [] vs n here s = refl
 zipped_one f g ch (r ∷ rs) [] n here s = refl
 zipped_one f g ch (r ∷ rs) (v ∷ vs) zero here s =
@@ -92,21 +94,21 @@ zipped_one f g ch (r ∷ rs) (v ∷ vs) (suc n) here s =
 
 pub zipped_get : {A : Type 0} (f : Row → Option (List ℤ) → A) (rs : List Row) (vs : List (Option (List ℤ))) (i : ℕ)
     (r : Row) (v : Option (List ℤ)) → slice_get rs i ≡ Some r → slice_get vs i ≡ Some v
-    → slice_get (zipped f rs vs) i ≡ Some (f r v)
+    → slice_get (zip_rows f rs vs) i ≡ Some (f r v)
 zipped_get f [] vs i r v e h = cc
 zipped_get f (q ∷ rs) [] i r v e h = cc
 zipped_get f (q ∷ rs) (u ∷ vs) zero r v e h = λ i. Some (f (some_eq e i) (some_eq h i))
 zipped_get f (q ∷ rs) (u ∷ vs) (suc i) r v e h = zipped_get f rs vs i r v e h
 
 pub zipped_none : {A : Type 0} (f : Row → Option (List ℤ) → A) (rs : List Row) (vs : List (Option (List ℤ))) (i : ℕ)
-    → slice_get rs i ≡ None → slice_get (zipped f rs vs) i ≡ None
+    → slice_get rs i ≡ None → slice_get (zip_rows f rs vs) i ≡ None
 zipped_none f [] vs i e = refl
 zipped_none f (q ∷ rs) [] i e = refl
 zipped_none f (q ∷ rs) (u ∷ vs) zero e = cc
 zipped_none f (q ∷ rs) (u ∷ vs) (suc i) e = zipped_none f rs vs i e
 
 pub zipped_short : {A : Type 0} (f : Row → Option (List ℤ) → A) (rs : List Row) (vs : List (Option (List ℤ))) (i : ℕ)
-    → slice_get vs i ≡ None → slice_get (zipped f rs vs) i ≡ None
+    → slice_get vs i ≡ None → slice_get (zip_rows f rs vs) i ≡ None
 zipped_short f [] vs i e = refl
 zipped_short f (q ∷ rs) [] i e = refl
 zipped_short f (q ∷ rs) (u ∷ vs) zero e = cc
@@ -114,7 +116,7 @@ zipped_short f (q ∷ rs) (u ∷ vs) (suc i) e = zipped_short f rs vs i e
 
 -- an item of rows and values taken together is of a row and a value
 pub zipped_some : {A : Type 0} (f : Row → Option (List ℤ) → A) (rs : List Row) (vs : List (Option (List ℤ))) (i : ℕ)
-    (a : A) → slice_get (zipped f rs vs) i ≡ Some a
+    (a : A) → slice_get (zip_rows f rs vs) i ≡ Some a
     → (r : Row) × (v : Option (List ℤ)) × (slice_get rs i ≡ Some r) × (slice_get vs i ≡ Some v) × (f r v ≡ a)
 zipped_some f [] vs i a e = cc
 zipped_some f (q ∷ rs) [] i a e = cc
@@ -218,7 +220,7 @@ made_one cs at new r None k l lt e s = entity_one cs at new r [] k l lt e s
 made_one cs at new r (Some v) k l lt e s = entity_one cs at new r v k l lt e s
 
 -- what a head of a row is of
-pub row_entry : (g : Held) (w : Option ℕ) (i : ℕ) (r : Row) (j : ℕ) → IsStore g
+pub row_entry : (g : StoreParts) (w : Option ℕ) (i : ℕ) (r : Row) (j : ℕ) → IsStore g
     → slice_get (rows_in g.rows w).rows i ≡ Some r → r.head ≤ j → j < r.head + (class_of g.tables r.class).owned
     → (k : ℕ) × (slice_get g.owners j ≡ Some (record { owner = OwnedBy r.class; list = k; number = suc i }))
 row_entry g w i r j s e a b =
@@ -245,45 +247,48 @@ reference_other change c (Some e) far = let other : (e.class == c) ≡ false =
     (let f = far e refl in grind (arith, nat_tests, f)) in rw other refl
 
 -- what the board says of heads, where one of them has another list
-record Change (g : Held) (new : Board) (r : Row) (k : ℕ) (l : List ℕ) : Type 0 where
+record Change (g : StoreParts) (new : Board) (r : Row) (k : ℕ) (l : List ℕ) : Type 0 where
   pub below : k < (class_of g.tables r.class).owned
-  pub here : look new g.numbers (r.head + k) ≡ l
-  pub others : (j : ℕ) → j ≢ r.head + k → look new g.numbers j ≡ look g.board g.numbers j
+  pub here : numbers_under new g.numbers (r.head + k) ≡ l
+  pub others : (j : ℕ) → j ≢ r.head + k → numbers_under new g.numbers j ≡ numbers_under g.board g.numbers j
 
 -- rows that aren't this one have no list that changed
-other_same : (g : Held) (new : Board) (c n k : ℕ) (r : Row) (l : List ℕ) (w : Option ℕ) (i : ℕ) (q : Row) → IsStore g
+other_same : (g : StoreParts) (new : Board) (c n k : ℕ) (r : Row) (l : List ℕ) (w : Option ℕ) (i : ℕ) (q : Row)
+    → IsStore g
     → Change g new r k l → slice_get g.owners (r.head + k)
     ≡ Some (record { owner = OwnedBy c; list = k; number = suc n })
     → slice_get (rows_in g.rows w).rows i ≡ Some q → (q.class ≡ c → i ≢ n)
-    → Same (look g.board g.numbers) (look new g.numbers) q.head (class_of g.tables q.class).owned
+    → Same (numbers_under g.board g.numbers) (numbers_under new g.numbers) q.head (class_of g.tables q.class).owned
 other_same g new c n k r l w i q s d entry e far j a b = d.others j (λ is.
     let both = some_eq (sym (row_entry g w i q j s e a b).1 ∙ ap (slice_get g.owners) is ∙ entry) in
     let same : suc i ≡ suc n = ap (λ (z : HeadEntry). z.number) both in
     far (class_eq (ap (λ (z : HeadEntry). z.owner) both)) (omega (arith, same)))
 
-system_same : (g : Held) (new : Board) (c n k : ℕ) (r : Row) (l : List ℕ) → IsStore g → Change g new r k l
+system_same : (g : StoreParts) (new : Board) (c n k : ℕ) (r : Row) (l : List ℕ) → IsStore g → Change g new r k l
     → slice_get g.owners (r.head + k) ≡ Some (record { owner = OwnedBy c; list = k; number = suc n })
-    → owned_from (look new g.numbers) 0 g.tables.system ≡ owned_from (look g.board g.numbers) 0 g.tables.system
-system_same g new c n k r l s d entry = owned_same (look g.board g.numbers) (look new g.numbers) 0 g.tables.system
+    → owned_from (numbers_under new g.numbers) 0 g.tables.system
+    ≡ owned_from (numbers_under g.board g.numbers) 0 g.tables.system
+system_same g new c n k r l s d entry = owned_same (numbers_under g.board g.numbers)
+    (numbers_under new g.numbers) 0 g.tables.system
     (λ j a b. d.others j (λ w.
     let both = some_eq (sym entry ∙ ap (slice_get g.owners) (sym w) ∙ s.system j (omega (arith, b))) in
     let bad : OwnedBy c ≡ System = ap (λ (z : HeadEntry). z.owner) both in cc))
 
 -- a list of a reference
-state_reference : (g : Held) (new : Board) (c n k : ℕ) (r : Row) (l : List ℕ) → IsStore g → Change g new r k l
+state_reference : (g : StoreParts) (new : Board) (c n k : ℕ) (r : Row) (l : List ℕ) → IsStore g → Change g new r k l
     → r.class ≡ c → slice_get g.rows.references.rows n ≡ Some r
     → state_of (record g { board = new }) ≡ with_changed (with_owned k l) (state_of g) c (suc n)
 state_reference g new c n k r l s d ec er =
-    let at = look g.board g.numbers in
-    let now = look new g.numbers in
+    let at = numbers_under g.board g.numbers in
+    let now = numbers_under new g.numbers in
     let cs = g.tables.classes in
     let entry : slice_get g.owners (r.head + k) ≡ Some (record { owner = OwnedBy c; list = k; number = suc n }) =
     (s.each None n r er).heads k d.below ∙ ap (λ z. Some (record { owner = OwnedBy z; list = k; number = suc n }))
     ec in
     let permanent : (class_of g.tables c).permanent ≡ false = ap (λ z. (class_of g.tables z).permanent) (sym ec)
-    ∙ s.given n r er in
-    let made : map (zipped_of (made_with cs now)) g.rows.made ≡ map (zipped_of (made_with cs at)) g.rows.made =
-    maps_same (zipped_of (made_with cs at)) (zipped_of (made_with cs now)) g.rows.made (λ b t et.
+    ∙ s.not_permanent n r er in
+    let made : map (zip_table (made_with cs now)) g.rows.made ≡ map (zip_table (made_with cs at)) g.rows.made =
+    maps_same (zip_table (made_with cs at)) (zip_table (made_with cs now)) g.rows.made (λ b t et.
     zipped_same (made_with cs at) (made_with cs now) t.rows t.values (λ i q v eq.
     let there : slice_get (rows_in g.rows (Some b)).rows i ≡ Some q =
     ap (λ (z : RowTable). slice_get z.rows i) (made_rows g.rows b t et) ∙ eq in
@@ -296,14 +301,14 @@ state_reference g new c n k r l s d ec er =
     change_same (λ row. change_at (with_owned k l) row n) (state_of g).made c (λ row e.
     change_same (with_owned k l) row n (λ x f.
     let is : slice_index_or (state_of g).made c [] ≡ row = index_of (state_of g).made c row [] e in
-    let this : zipped_of (made_with cs at) (rows_in g.rows (Some c)) ≡ row =
-    sym (index_map (zipped_of (made_with cs at)) g.rows.made c no_rows) ∙ is in
+    let this : zip_table (made_with cs at) (rows_in g.rows (Some c)) ≡ row =
+    sym (index_map (zip_table (made_with cs at)) g.rows.made c no_rows) ∙ is in
     let gone : slice_get row n ≡ None = ap (λ z. slice_get z n) (sym this)
     ∙ zipped_none (made_with cs at) (rows_in g.rows (Some c)).rows (rows_in g.rows (Some c)).values n
     (ap (λ z. slice_get (rows_in g.rows (Some z)).rows n) (sym ec) ∙ made_none g n n r s er) in
     absurd (let bad : None ≡ Some x = sym gone ∙ f in cc))) in
-    let references : zipped_of (reference_with cs now) g.rows.references
-    ≡ change_at (changed_reference (with_owned k l) c) (zipped_of (reference_with cs at) g.rows.references) n =
+    let references : zip_table (reference_with cs now) g.rows.references
+    ≡ change_at (changed_reference (with_owned k l) c) (zip_table (reference_with cs at) g.rows.references) n =
     zipped_one (reference_with cs at) (reference_with cs now) (changed_reference (with_owned k l) c)
     g.rows.references.rows g.rows.references.values n
     (λ q v eq. subst (λ (z : Row). reference_with cs now z v
@@ -317,20 +322,20 @@ state_reference g new c n k r l s d ec er =
     }
 
 -- a list of an entity of a permanent class
-state_made : (g : Held) (new : Board) (c n k : ℕ) (r : Row) (l : List ℕ) → IsStore g → Change g new r k l
+state_made : (g : StoreParts) (new : Board) (c n k : ℕ) (r : Row) (l : List ℕ) → IsStore g → Change g new r k l
     → slice_get (rows_in g.rows (Some c)).rows n ≡ Some r
     → state_of (record g { board = new }) ≡ with_changed (with_owned k l) (state_of g) c (suc n)
 state_made g new c n k r l s d er =
-    let at = look g.board g.numbers in
-    let now = look new g.numbers in
+    let at = numbers_under g.board g.numbers in
+    let now = numbers_under new g.numbers in
     let cs = g.tables.classes in
     let m = s.made c n r er in
     let entry : slice_get g.owners (r.head + k) ≡ Some (record { owner = OwnedBy c; list = k; number = suc n }) =
     (s.each (Some c) n r er).heads k d.below
     ∙ ap (λ z. Some (record { owner = OwnedBy z; list = k; number = suc n })) m.0 in
-    let made : map (zipped_of (made_with cs now)) g.rows.made
-    ≡ change_at (λ row. change_at (with_owned k l) row n) (map (zipped_of (made_with cs at)) g.rows.made) c =
-    maps_one (zipped_of (made_with cs at)) (zipped_of (made_with cs now)) (λ row. change_at (with_owned k l) row n)
+    let made : map (zip_table (made_with cs now)) g.rows.made
+    ≡ change_at (λ row. change_at (with_owned k l) row n) (map (zip_table (made_with cs at)) g.rows.made) c =
+    maps_one (zip_table (made_with cs at)) (zip_table (made_with cs now)) (λ row. change_at (with_owned k l) row n)
     g.rows.made c
     (λ t et. zipped_one (made_with cs at) (made_with cs now) (with_owned k l) t.rows t.values n
     (λ q v eq. subst (λ (z : Row). made_with cs now z v ≡ with_owned k l (made_with cs at z v))
@@ -344,27 +349,27 @@ state_made g new c n k r l s d er =
     ap (λ (z : RowTable). slice_get z.rows i) (made_rows g.rows b t et) ∙ eq in
     made_same cs at now q v (other_same g new c n k r l (Some b) i q s d entry there
     (λ same. absurd (far (sym (s.made b i q there).0 ∙ same)))))) in
-    let references : zipped_of (reference_with cs now) g.rows.references
-    ≡ zipped_of (reference_with cs at) g.rows.references =
+    let references : zip_table (reference_with cs now) g.rows.references
+    ≡ zip_table (reference_with cs at) g.rows.references =
     zipped_same (reference_with cs at) (reference_with cs now) g.rows.references.rows g.rows.references.values
     (λ i q v eq.
     reference_same cs at now q v (other_same g new c n k r l None i q s d entry eq (λ same.
     let yes : (class_of g.tables q.class).permanent ≡ true = ap (λ z. (class_of g.tables z).permanent) same ∙ m.1 in
-    absurd (let e = s.given i q eq in cc)))) in
+    absurd (let e = s.not_permanent i q eq in cc)))) in
     let none : change_at (changed_reference (with_owned k l) c) (state_of g).references n ≡ (state_of g).references =
     change_same (changed_reference (with_owned k l) c) (state_of g).references n (λ x f.
     reference_other (with_owned k l) c x (λ e ex same.
     let z = zipped_some (reference_with cs at) g.rows.references.rows g.rows.references.values n x f in
     let class : z.0.class ≡ c = reference_class cs at z.0 z.1 e (z.4 ∙ ex) ∙ same in
     let yes : (class_of g.tables z.0.class).permanent ≡ true = ap (λ y. (class_of g.tables y).permanent) class ∙ m.1 in
-    let bad = s.given n z.0 z.2 in cc)) in
+    let bad = s.not_permanent n z.0 z.2 in cc)) in
     λ i. record {
       made = made i;
       references = (references ∙ sym none) i;
       system = system_same g new c n k r l s d entry i;
     }
 
-state_owned : (g : Held) (new : Board) (c o k : ℕ) (r : Row) (l : List ℕ) → IsStore g → Change g new r k l
+state_owned : (g : StoreParts) (new : Board) (c o k : ℕ) (r : Row) (l : List ℕ) → IsStore g → Change g new r k l
     → (d : Found g.rows c o r) → state_of (record g { board = new }) ≡ with_changed (with_owned k l) (state_of g) c o
 state_owned g new c o k r l s ch d =
     subst (λ z. state_of (record g { board = new }) ≡ with_changed (with_owned k l) (state_of g) c z) (sym d.number)
@@ -375,13 +380,13 @@ state_owned g new c o k r l s ch d =
           (ap (λ z. slice_get (rows_in g.rows z).rows d.index) (sym is) ∙ d.row)
     ])
 
-state_by : (g : Held) (new : Board) (w : Owner) (p : SetShape) (o h : ℕ) (m l : List ℕ) → IsStore g
+state_by : (g : StoreParts) (new : Board) (w : Owner) (p : SetShape) (o h : ℕ) (m l : List ℕ) → IsStore g
     → p.list < owned_by w g.tables → head_by w g.rows p o ≡ Some h → Relisted g.board new h m
     → map (number_at g.numbers) m ≡ l
     → state_of (record g { board = new }) ≡ with_list_by w p.list (state_of g) o l
 state_by g new System p o h m l s lt e r v =
-    let at = look g.board g.numbers in
-    let now = look new g.numbers in
+    let at = numbers_under g.board g.numbers in
+    let now = numbers_under new g.numbers in
     let cs = g.tables.classes in
     let is : p.list ≡ h = some_eq e in
     let entry = s.system p.list lt in
@@ -394,7 +399,7 @@ state_by g new System p o h m l s lt e r v =
     let both = some_eq (sym (row_entry g w i q j s eq a b).1 ∙ ap (slice_get g.owners) f ∙ entry) in
     let bad : OwnedBy q.class ≡ System = ap (λ (y : HeadEntry). y.owner) both in cc) in
     λ i. record {
-      made = maps_same (zipped_of (made_with cs at)) (zipped_of (made_with cs now)) g.rows.made
+      made = maps_same (zip_table (made_with cs at)) (zip_table (made_with cs now)) g.rows.made
           (λ b t et. zipped_same (made_with cs at) (made_with cs now) t.rows t.values (λ n q u eq.
           made_same cs at now q u (same (Some b) n q
           (ap (λ (y : RowTable). slice_get y.rows n) (made_rows g.rows b t et) ∙ eq)))) i;
@@ -408,12 +413,12 @@ state_by g new (OwnedBy c) p o h m l s lt e r v =
     let d = found g.rows c o q.0 q.1 in
     state_owned g new c o p.list q.0 l s (record {
       below = subst (λ z. p.list < (class_of g.tables z).owned) (sym d.class) lt;
-      here = ap (look new g.numbers) q.2 ∙ ap (map (number_at g.numbers)) r.here ∙ v;
+      here = ap (numbers_under new g.numbers) q.2 ∙ ap (map (number_at g.numbers)) r.here ∙ v;
       others = λ j far. ap (map (number_at g.numbers)) (r.others j (λ w. far (w ∙ sym q.2)));
     }) d
 
 -- the state with one list changed
-pub relisted_state : (g : Held) (new : Board) (p : SetShape) (o h : ℕ) (m l : List ℕ) → IsStore g
+pub relisted_state : (g : StoreParts) (new : Board) (p : SetShape) (o h : ℕ) (m l : List ℕ) → IsStore g
     → IsSet g.tables.sets p → head_at g.rows p o ≡ Some h → Relisted g.board new h m → map (number_at g.numbers) m ≡ l
     → state_of (record g { board = new }) ≡ with_list p (state_of g) o l
 relisted_state g new p o h m l s is e r v = state_by g new p.owner p o h m l s (s.tables.lists p is) e r v

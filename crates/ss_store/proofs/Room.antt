@@ -9,7 +9,7 @@ use Rattle.ss_links.proofs.BoardLaws.{head_of-above, head_of-found, times-list_a
 use Rattle.ss_store.specs.declared.rows.Row.{Row}
 use Rattle.ss_store.specs.Lists.{change_at}
 use Rattle.ss_store.specs.Rows.{RowTable, EntityTable, rows_in}
-use Rattle.ss_store.specs.Making.{numbering_by, less, with_table, with_heads, with_places}
+use Rattle.ss_store.specs.Making.{numbering_by, without_last_row, with_table, with_heads, with_places}
 use Rattle.std.specs.Option.{option_map}
 use Rattle.ss_store.specs.Writing.{with_values}
 use Rattle.ss_store.proofs.Core.{some_eq}
@@ -125,12 +125,12 @@ map_take f (suc n) (x ∷ xs) = ap (λ l. f x ∷ l) (map_take f n xs)
 
 pub rows_cut : {A : Type 0} (f : A → Option (List ℤ)) (rs rs' : List Row) (vs vs' : List A) (n : ℕ) (now : RowTable)
     → record { rows = rs; values = map f vs } ≡ now → n ≡ length rs - 1 → rs' ≡ take n rs → vs' ≡ take n vs
-    → record { rows = rs'; values = map f vs' } ≡ less now
+    → record { rows = rs'; values = map f vs' } ≡ without_last_row now
 rows_cut f rs rs' vs vs' n now w e er ev =
     (λ i. record {
       rows = (er ∙ ap (λ z. take z rs) e) i;
       values = (ap (map f) (ev ∙ ap (λ z. take z vs) e) ∙ map_take f (length rs - 1) vs) i;
-    }) ∙ ap less w
+    }) ∙ ap without_last_row w
 
 -- ---- values taken out and put in
 

@@ -15,10 +15,14 @@ use Rattle.ss_store.specs.declared.shape.SetShape.{SetShape}
 use Rattle.ss_store.specs.Tables.{class_of}
 use Rattle.ss_store.specs.Rows.{RowTable, EntityTable, rows_in, row_of}
 use Rattle.ss_store.specs.Store.{Store, Entity, entity, exists, is_filed, is_member, is_filled, owns_members}
-use Rattle.ss_store.specs.Held.{Held, HeadEntry, SeatEntry, StoreValue, IsStore, IsSet, seat_at, number_at, look}
-use Rattle.ss_store.specs.Held.{owned_from, kept_of, state_of, value_of}
-use Rattle.ss_store.specs.Making.{numbering_by, numbering, less, with_table, grown, cut, kept_rows, one_less, CanShrink}
-use Rattle.ss_store.specs.Making.{FitsLast, Less}
+use Rattle.ss_store.specs.Invariant.{IsStore}
+use Rattle.ss_store.specs.Parts.{StoreParts, HeadEntry, SeatEntry, seat_at, number_at, numbers_under}
+use Rattle.ss_store.specs.Tables.{IsSet}
+use Rattle.ss_store.specs.Value.{StoreValue}
+use Rattle.ss_store.specs.Parts.{owned_from, layout_of, state_of, value_of}
+use Rattle.ss_store.specs.Making.{numbering_by, numbering, without_last_row, with_table, with_next_entity}
+use Rattle.ss_store.specs.Making.{without_last_entity, rows_of_numbering, one_less, CanShrink}
+use Rattle.ss_store.specs.Making.{FitsLast, TakesOff}
 use Rattle.ss_store.proofs.Core.{some_eq, Found, found, seat_entry}
 use Rattle.ss_store.proofs.Agree.{get_below, entity_some, entity_is, is_filed_is}
 use Rattle.ss_store.proofs.Grown.{Grows, list_past}
@@ -33,7 +37,7 @@ row_some None e = cc
 row_some (Some r) e = (r, refl)
 
 -- an entity of class c is in the numbering of class c
-pub its_table : (g : Held) (v : StoreValue) (c k : ℕ) (shape : ClassShape) (r : Row) → At g v c shape
+pub its_table : (g : StoreParts) (v : StoreValue) (c k : ℕ) (shape : ClassShape) (r : Row) → At g v c shape
     → (l : Found g.rows c k r) → l.table ≡ numbering_by shape.permanent c
 its_table g v c k shape r a l = elim l.which [
   | inl e ↦
@@ -43,7 +47,7 @@ its_table g v c k shape r a l = elim l.which [
   | inr e ↦
       let no : shape.permanent ≡ false = ap (λ (z : ClassShape). z.permanent) (sym a.shaped)
       ∙ ap (λ z. (class_of g.tables z).permanent) (sym l.class)
-      ∙ a.store.given l.index r (ap (λ z. slice_get (rows_in g.rows z).rows l.index) (sym e) ∙ l.row) in
+      ∙ a.store.not_permanent l.index r (ap (λ z. slice_get (rows_in g.rows z).rows l.index) (sym e) ∙ l.row) in
       e ∙ ap (λ b. numbering_by b c) (sym no)
 ]
 
@@ -66,19 +70,19 @@ map_empty f [] e = refl
 map_empty f (x ∷ l) e = cc
 
 -- the entity, the count behind it, and its values
-pub record Newest (g : Held) (w : Option ℕ) (c : ℕ) (shape : ClassShape) (h t : ℕ) : Type 0 where
+pub record Newest (g : StoreParts) (w : Option ℕ) (c : ℕ) (shape : ClassShape) (h t : ℕ) : Type 0 where
   pub before : ℕ
   pub values : List ℤ
   pub last : Last g w c shape before h t values
   pub free : is_member g.tables.sets (state_of g) c (suc before) ≡ false
 
-newest_at : (g : Held) (c : ℕ) (shape : ClassShape) (n h t : ℕ) → At g (value_of g) c shape
+newest_at : (g : StoreParts) (c : ℕ) (shape : ClassShape) (n h t : ℕ) → At g (value_of g) c shape
     → FitsLast c (suc n) h t (value_of g) → Newest g (numbering_by shape.permanent c) c shape h t
 newest_at g c shape n h t a f =
     let w = numbering_by shape.permanent c in
     let same : numbering (class_of g.tables c) c ≡ w = ap (λ (z : ClassShape). numbering z c) a.shaped in
-    let rows : kept_rows (kept_of g) (numbering (class_of g.tables c) c) ≡ (rows_in g.rows w).rows =
-    ap (kept_rows (kept_of g)) same ∙ kept_rows_are g w in
+    let rows : rows_of_numbering (layout_of g) (numbering (class_of g.tables c) c) ≡ (rows_in g.rows w).rows =
+    ap (rows_of_numbering (layout_of g)) same ∙ kept_rows_are g w in
     let there = row_some (row_of g.rows c (suc n)) (sym (entity_is g c (suc n) a.store) ∙ f.there) in
     let l = found g.rows c (suc n) there.0 there.1 in
     let table = its_table g (value_of g) c (suc n) shape there.0 a l in
@@ -102,15 +106,16 @@ newest_at g c shape n h t a f =
         heads = ap (λ (z : ClassShape). h + z.owned) (sym a.shaped) ∙ f.last_heads;
         seats = ap (λ (z : ClassShape). t + z.joined) (sym a.shaped) ∙ f.last_seats;
         empty = λ k lt. map_empty (number_at g.numbers) (list_at g.board.lists (h + k))
-            (unfilled (look g.board g.numbers) h (class_of g.tables c).owned
-            ((λ i. list_any is_filled (owned_from (look g.board g.numbers) (sym is i).head
+            (unfilled (numbers_under g.board g.numbers) h (class_of g.tables c).owned
+            ((λ i. list_any is_filled (owned_from (numbers_under g.board g.numbers) (sym is i).head
             (class_of g.tables (sym is i).class).owned))
             ∙ owned) k (subst (λ (z : ClassShape). k < z.owned) (sym a.shaped) lt));
       };
       free = f.free;
     }
 
-pub newest : (g : Held) (v : StoreValue) (c : ℕ) (shape : ClassShape) (k h t : ℕ) → At g v c shape → FitsLast c k h t v
+pub newest : (g : StoreParts) (v : StoreValue) (c : ℕ) (shape : ClassShape) (k h t : ℕ) → At g v c shape
+    → FitsLast c k h t v
     → Newest g (numbering_by shape.permanent c) c shape h t
 newest g v c shape zero h t a f = absurd (let e = f.there in cc)
 newest g v c shape (suc n) h t a f = newest_at g c shape n h t
@@ -141,7 +146,7 @@ not_member (q ∷ sets) st c k (suc i) p e f h =
     not_member sets st c k i p e f (or_false (q.member == c && is_filed q st k) (is_member sets st c k) h)
 
 -- a seat from these on is in no list
-seats_free : (g : Held) (w : Option ℕ) (c : ℕ) (shape : ClassShape) (n h t : ℕ) (v : List ℤ) → IsStore g
+seats_free : (g : StoreParts) (w : Option ℕ) (c : ℕ) (shape : ClassShape) (n h t : ℕ) (v : List ℤ) → IsStore g
     → Last g w c shape n h t v → is_member g.tables.sets (state_of g) c (suc n) ≡ false → (u : ℕ) → t ≤ u
     → head_of g.board.lists u ≡ None
 seats_free g w c shape n h t v s d free u le =
@@ -149,7 +154,7 @@ seats_free g w c shape n h t v s d free u le =
       | None ↦ λ e. refl
       | Some i ↦ λ e. absurd (
           let f = (head_of-found g.board.lists u i e).1 in
-          let j = s.joined i u f in
+          let j = s.are_members i u f in
           let entry = seat_entry g j.set j.member u s j.is_set j.seat in
           let below = get_below g.members u _ entry in
           let ms = s.seats in let ends = d.seats in
@@ -165,7 +170,8 @@ seats_free g w c shape n h t v s d free u le =
           let bad : true ≡ false = sym filed ∙ out in cc)
     ]) refl
 
-pub can_shrink : (g : Held) (w : Option ℕ) (c : ℕ) (shape : ClassShape) (h t : ℕ) → IsStore g → Newest g w c shape h t
+pub can_shrink : (g : StoreParts) (w : Option ℕ) (c : ℕ) (shape : ClassShape) (h t : ℕ) → IsStore g
+    → Newest g w c shape h t
     → CanShrink g.board h t
 can_shrink g w c shape h t s d = record {
   heads = let e = d.last.heads in omega (arith, e);
@@ -184,31 +190,32 @@ can_shrink g w c shape h t s d = record {
 
 -- ---- the call
 
-pub any_row : (g : Held) (w : Option ℕ) (c : ℕ) (shape : ClassShape) (h t : ℕ) → Newest g w c shape h t
+pub any_row : (g : StoreParts) (w : Option ℕ) (c : ℕ) (shape : ClassShape) (h t : ℕ) → Newest g w c shape h t
     → 0 < length (rows_in g.rows w).rows
 any_row g w c shape h t d = let e = d.last.last in omega (arith, e)
 
-pub last_row : (g : Held) (w : Option ℕ) (c : ℕ) (shape : ClassShape) (h t : ℕ) → Newest g w c shape h t
+pub last_row : (g : StoreParts) (w : Option ℕ) (c : ℕ) (shape : ClassShape) (h t : ℕ) → Newest g w c shape h t
     → slice_get (rows_in g.rows w).rows (length (rows_in g.rows w).rows - 1)
     ≡ Some (record { class = c; head = h; seat = t })
 last_row g w c shape h t d = let e = d.last.last in
     let at : length (rows_in g.rows w).rows - 1 ≡ d.before = omega (arith, e) in
     ap (slice_get (rows_in g.rows w).rows) at ∙ d.last.row
 
-pub shrinks : (g : Held) (w : Option ℕ) (c : ℕ) (shape : ClassShape) (h t : ℕ) → IsStore g → Newest g w c shape h t
+pub shrinks : (g : StoreParts) (w : Option ℕ) (c : ℕ) (shape : ClassShape) (h t : ℕ) → IsStore g
+    → Newest g w c shape h t
     → (r : Row) → slice_get (rows_in g.rows w).rows (length (rows_in g.rows w).rows - 1) ≡ Some r
     → CanShrink g.board r.head r.seat
 shrinks g w c shape h t s d r e = subst (λ (z : Row). CanShrink g.board z.head z.seat)
     (some_eq (sym (last_row g w c shape h t d) ∙ e)) (can_shrink g w c shape h t s d)
 
 -- what is held then
-pub record Takes (g : Held) (w : Option ℕ) (h t : ℕ) (es : EntityTable) (ns : List ℕ) (b : Board) : Type 0 where
-  pub rows : es ≡ with_table less g.rows w
+pub record Takes (g : StoreParts) (w : Option ℕ) (h t : ℕ) (es : EntityTable) (ns : List ℕ) (b : Board) : Type 0 where
+  pub rows : es ≡ with_table without_last_row g.rows w
   pub numbers : ns ≡ take t g.numbers
   pub board : b ≡ record { lists = take h g.board.lists; seats = t }
   pub sound : IsSound b
 
-abbrev pub taken : Held → ℕ → ℕ → EntityTable → List ℕ → Board → Held
+abbrev pub taken : StoreParts → ℕ → ℕ → EntityTable → List ℕ → Board → StoreParts
 taken g h t es ns b = record {
   tables = g.tables;
   rows = es;
@@ -218,8 +225,9 @@ taken g h t es ns b = record {
   board = b;
 }
 
-taken_is : (g : Held) (w : Option ℕ) (h t : ℕ) (es : EntityTable) (ns : List ℕ) (b : Board) → Takes g w h t es ns b
-    → taken g h t es ns b ≡ cut g w h t
+taken_is : (g : StoreParts) (w : Option ℕ) (h t : ℕ) (es : EntityTable) (ns : List ℕ) (b : Board)
+    → Takes g w h t es ns b
+    → taken g h t es ns b ≡ without_last_entity g w h t
 taken_is g w h t es ns b d = λ i. record {
   tables = g.tables;
   rows = d.rows i;
@@ -229,17 +237,19 @@ taken_is g w h t es ns b d = λ i. record {
   board = d.board i;
 }
 
-pub taken_store : (g : Held) (w : Option ℕ) (c : ℕ) (shape : ClassShape) (h t : ℕ) (es : EntityTable) (ns : List ℕ)
+pub taken_store : (g : StoreParts) (w : Option ℕ) (c : ℕ) (shape : ClassShape) (h t : ℕ) (es : EntityTable)
+    (ns : List ℕ)
     (b : Board) → IsStore g → Newest g w c shape h t → Takes g w h t es ns b → IsStore (taken g h t es ns b)
 taken_store g w c shape h t es ns b s n d =
     subst IsStore (sym (taken_is g w h t es ns b d))
     (cut_store g w c shape n.before h t n.values s n.last (subst IsSound d.board d.sound))
 
-pub taken_value : (g : Held) (v : StoreValue) (w : Option ℕ) (c : ℕ) (shape : ClassShape) (h t : ℕ) (es : EntityTable)
+pub taken_value : (g : StoreParts) (v : StoreValue) (w : Option ℕ) (c : ℕ) (shape : ClassShape) (h t : ℕ)
+    (es : EntityTable)
     (ns : List ℕ) (b : Board) → value_of g ≡ v → IsStore g → Newest g w c shape h t → Takes g w h t es ns b
     → value_of (taken g h t es ns b) ≡ one_less c h t v
 taken_value g v w c shape h t es ns b is s n d =
-    let rest = cut g w h t in
+    let rest = without_last_entity g w h t in
     let grows = cut_grows g w c shape n.before h t n.values s n.last in
     let store = cut_store g w c shape n.before h t n.values s n.last (subst IsSound d.board d.sound) in
     let whole = cut_grown g w c shape n.before h t n.values s n.last in
@@ -249,18 +259,18 @@ taken_value g v w c shape h t es ns b is s n d =
 
 -- ---- several
 
-pub less_more : (c n m : ℕ) (v rest : StoreValue) → n ≡ suc m → Less c n v rest
-    → (k h t : ℕ) × FitsLast c k h t v × Less c m (one_less c h t v) rest
+pub less_more : (c n m : ℕ) (v rest : StoreValue) → n ≡ suc m → TakesOff c n v rest
+    → (k h t : ℕ) × FitsLast c k h t v × TakesOff c m (one_less c h t v) rest
 less_more c zero m v rest e l = absurd (omega (arith, e))
 less_more c (suc n) m v rest e l = (
   l.0,
   l.1,
   l.2,
   l.3,
-  subst (λ z. Less c z (one_less c l.1 l.2 v) rest) (let d = e in omega (arith, d)) l.4,
+  subst (λ z. TakesOff c z (one_less c l.1 l.2 v) rest) (let d = e in omega (arith, d)) l.4,
 )
 
-pub taken_pair : (g : Held) (w : Option ℕ) (c : ℕ) (shape : ClassShape) (h t : ℕ) (es : EntityTable) (ns : List ℕ)
+pub taken_pair : (g : StoreParts) (w : Option ℕ) (c : ℕ) (shape : ClassShape) (h t : ℕ) (es : EntityTable) (ns : List ℕ)
     (b : Board) → IsStore g → Newest g w c shape h t → Takes g w h t es ns b
     → (ws : List HeadEntry) × (ms : List SeatEntry)
     × IsStore (record { tables = g.tables; rows = es; numbers = ns; owners = ws; members = ms; board = b })
@@ -268,8 +278,8 @@ taken_pair g w c shape h t es ns b s n d =
     (take h g.owners, take t g.members, taken_store g w c shape h t es ns b s n d)
 
 -- what the call ensures is of the last row
-pub takes : (g : Held) (w : Option ℕ) (c : ℕ) (shape : ClassShape) (h t : ℕ) (es : EntityTable) (ns : List ℕ)
-    (b : Board) → Newest g w c shape h t → es ≡ with_table less g.rows w
+pub takes : (g : StoreParts) (w : Option ℕ) (c : ℕ) (shape : ClassShape) (h t : ℕ) (es : EntityTable) (ns : List ℕ)
+    (b : Board) → Newest g w c shape h t → es ≡ with_table without_last_row g.rows w
     → ((r : Row) → slice_get (rows_in g.rows w).rows (length (rows_in g.rows w).rows - 1) ≡ Some r
     → ns ≡ take r.seat g.numbers)
     → ((r : Row) → slice_get (rows_in g.rows w).rows (length (rows_in g.rows w).rows - 1) ≡ Some r
@@ -282,15 +292,15 @@ takes g w c shape h t es ns b n e f k s = record {
   sound = s;
 }
 
-pub less_first : (c n : ℕ) (v rest : StoreValue) → Less c n v rest → Less c (n - 0) v rest
-less_first c n v rest l = let e : n - 0 ≡ n = omega arith in subst (λ z. Less c z v rest) (sym e) l
+pub less_first : (c n : ℕ) (v rest : StoreValue) → TakesOff c n v rest → TakesOff c (n - 0) v rest
+less_first c n v rest l = let e : n - 0 ≡ n = omega arith in subst (λ z. TakesOff c z v rest) (sym e) l
 
-pub less_next : (c n i : ℕ) (v rest : StoreValue) → i < n → Less c (n - i) v rest
-    → (k h t : ℕ) × FitsLast c k h t v × Less c (n - (i + 1)) (one_less c h t v) rest
+pub less_next : (c n i : ℕ) (v rest : StoreValue) → i < n → TakesOff c (n - i) v rest
+    → (k h t : ℕ) × FitsLast c k h t v × TakesOff c (n - (i + 1)) (one_less c h t v) rest
 less_next c n i v rest lt l = less_more c (n - i) (n - (i + 1)) v rest (omega (arith, lt)) l
 
-pub less_class : (c n i : ℕ) (v rest : StoreValue) → i < n → Less c (n - i) v rest → c < length v.tables.classes
+pub less_class : (c n i : ℕ) (v rest : StoreValue) → i < n → TakesOff c (n - i) v rest → c < length v.tables.classes
 less_class c n i v rest lt l = (less_next c n i v rest lt l).3.is_class
 
-pub less_last : (c n i : ℕ) (v rest : StoreValue) → n ≤ i → Less c (n - i) v rest → v ≡ rest
-less_last c n i v rest le l = let e : n - i ≡ 0 = omega (arith, le) in subst (λ z. Less c z v rest) e l
+pub less_last : (c n i : ℕ) (v rest : StoreValue) → n ≤ i → TakesOff c (n - i) v rest → v ≡ rest
+less_last c n i v rest le l = let e : n - i ≡ 0 = omega (arith, le) in subst (λ z. TakesOff c z v rest) e l

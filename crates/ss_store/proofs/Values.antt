@@ -6,7 +6,9 @@ use Rattle.ss_words.specs.declared.fault.RunFault.TheVariants.{NoEntity}
 use Rattle.ss_store.specs.declared.rows.Row.{Row}
 use Rattle.ss_store.specs.Rows.{row_of, values_of}
 use Rattle.ss_store.specs.Store.{attribute_in, attribute_of, exists}
-use Rattle.ss_store.specs.Held.{Held, StoreValue, IsStore, state_of, value_of}
+use Rattle.ss_store.specs.Invariant.{IsStore}
+use Rattle.ss_store.specs.Parts.{StoreParts, state_of, value_of}
+use Rattle.ss_store.specs.Value.{StoreValue}
 use Rattle.ss_store.proofs.Core.{found}
 use Rattle.ss_store.proofs.Agree.{entity_some, entity_none, entity_is}
 use Rattle.ss_store.proofs.Ranked.{values_some, values_none}
@@ -17,7 +19,7 @@ attribute_if a None = Err NoEntity
 attribute_if a (Some v) = Ok (slice_index_or v a (pos 0))
 
 -- what `values_of` finds is what the state says
-pub values_are : (g : Held) (c k a : ℕ) → IsStore g
+pub values_are : (g : StoreParts) (c k a : ℕ) → IsStore g
     → attribute_of (state_of g) c a k ≡ attribute_if a (values_of g.rows c k)
 values_are g c k a s =
     (elim (row_of g.rows c k) as (λ o. row_of g.rows c k ≡ o
@@ -27,17 +29,18 @@ values_are g c k a s =
           ∙ sym (ap (attribute_if a) (values_some g.rows c k r l))
     ]) refl
 
-pub get_some : (g : Held) (v : StoreValue) (c k a : ℕ) (q : Option (List ℤ)) (xs : List ℤ) → value_of g ≡ v → IsStore g
+pub get_some : (g : StoreParts) (v : StoreValue) (c k a : ℕ) (q : Option (List ℤ)) (xs : List ℤ) → value_of g ≡ v
+    → IsStore g
     → q ≡ values_of g.rows c k → q ≡ Some xs → Ok (slice_index_or xs a (pos 0)) ≡ attribute_of v.state c a k
 get_some g v c k a q xs w s e f = sym (ap (λ (z : StoreValue). attribute_of z.state c a k) (sym w)
     ∙ values_are g c k a s ∙ ap (attribute_if a) (sym e ∙ f))
 
-pub get_none : (g : Held) (v : StoreValue) (c k a : ℕ) (q : Option (List ℤ)) → value_of g ≡ v → IsStore g
+pub get_none : (g : StoreParts) (v : StoreValue) (c k a : ℕ) (q : Option (List ℤ)) → value_of g ≡ v → IsStore g
     → q ≡ values_of g.rows c k → q ≡ None → Err NoEntity ≡ attribute_of v.state c a k
 get_none g v c k a q w s e f = sym (ap (λ (z : StoreValue). attribute_of z.state c a k) (sym w) ∙ values_are g c k a s
     ∙ ap (attribute_if a) (sym e ∙ f))
 
-pub exists_is : (g : Held) (v : StoreValue) (c k : ℕ) (q : Option Row) (b : Bool) → value_of g ≡ v → IsStore g
+pub exists_is : (g : StoreParts) (v : StoreValue) (c k : ℕ) (q : Option Row) (b : Bool) → value_of g ≡ v → IsStore g
     → q ≡ row_of g.rows c k → b ≡ is_some q → b ≡ exists v.state c k
 exists_is g v c k q b w s e f = f ∙ ap is_some e ∙ sym (entity_is g c k s)
     ∙ ap (λ (z : StoreValue). exists z.state c k) w

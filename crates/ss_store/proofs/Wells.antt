@@ -20,9 +20,11 @@ use Rattle.ss_store.specs.Tables.{Tables, class_in, class_of}
 use Rattle.ss_store.specs.Rows.{rows_in, row_of}
 use Rattle.ss_store.specs.Store.{Entity, Store, of_class, made_of, entity, entities, exists, list_number, lists_by}
 use Rattle.ss_store.specs.Store.{is_filed}
-use Rattle.ss_store.specs.Held.{Held, HeadEntry, IsStore, IsSet, owned_by, owner_number, head_at, head_by, seat_at}
-use Rattle.ss_store.specs.Held.{number_at, look}
-use Rattle.ss_store.specs.Held.{owned_from, entity_with, reference_with, made_with, zipped, zipped_of, state_of}
+use Rattle.ss_store.specs.Invariant.{IsStore}
+use Rattle.ss_store.specs.Parts.{StoreParts, HeadEntry, owner_number, head_at, head_by, seat_at}
+use Rattle.ss_store.specs.Tables.{IsSet, owned_by}
+use Rattle.ss_store.specs.Parts.{number_at, numbers_under}
+use Rattle.ss_store.specs.Parts.{owned_from, entity_with, reference_with, made_with, zip_rows, zip_table, state_of}
 use Rattle.ss_store.specs.WellStore.{Each, IsEntity, IsReference, AreMembers, IsWellStore}
 use Rattle.ss_store.proofs.Core.{some_eq, head_entry, seat_number, member_of}
 use Rattle.ss_store.proofs.Relist.{zipped_get, zipped_some, reference_class}
@@ -45,22 +47,22 @@ owned_length at f (suc n) = ap suc (owned_length at (suc f) n)
 
 -- ---- entities
 
-entity_well : (g : Held) (w : Option ℕ) (i c : ℕ) (r : Row) (v : List ℤ) → IsStore g → r.class ≡ c
+entity_well : (g : StoreParts) (w : Option ℕ) (i c : ℕ) (r : Row) (v : List ℤ) → IsStore g → r.class ≡ c
     → slice_get (rows_in g.rows w).rows i ≡ Some r → slice_get (rows_in g.rows w).values i ≡ Some (Some v)
-    → IsEntity g.tables c (entity_with g.tables.classes (look g.board g.numbers) r v)
+    → IsEntity g.tables c (entity_with g.tables.classes (numbers_under g.board g.numbers) r v)
 entity_well g w i c r v s class er ev = record {
   class = class;
-  attributes = s.valued w i r v er ev ∙ ap (λ z. (class_of g.tables z).attributes) class;
-  values = s.ranged w i v ev;
-  owned = owned_length (look g.board g.numbers) r.head (class_in g.tables.classes r.class).owned
+  attributes = s.value_counts w i r v er ev ∙ ap (λ z. (class_of g.tables z).attributes) class;
+  values = s.values_in_range w i v ev;
+  owned = owned_length (numbers_under g.board g.numbers) r.head (class_in g.tables.classes r.class).owned
       ∙ ap (λ z. (class_of g.tables z).owned) class;
 }
 
-made_well : (g : Held) (c i : ℕ) (e : Entity) → IsStore g → slice_get (made_of (state_of g) c) i ≡ Some e
+made_well : (g : StoreParts) (c i : ℕ) (e : Entity) → IsStore g → slice_get (made_of (state_of g) c) i ≡ Some e
     → IsEntity g.tables c e
 made_well g c i e s f =
     let cs = g.tables.classes in
-    let at = look g.board g.numbers in
+    let at = numbers_under g.board g.numbers in
     let z = zipped_some (made_with cs at) (rows_in g.rows (Some c)).rows (rows_in g.rows (Some c)).values i e
     (ap (λ es. slice_get es i) (sym (made_is g c)) ∙ f) in
     let v = made_living g c i z.0 s z.2 in
@@ -68,27 +70,29 @@ made_well g c i e s f =
     subst (IsEntity g.tables c) (ap (made_with cs at z.0) (sym value) ∙ z.4)
     (entity_well g (Some c) i c z.0 v.0 s (s.made c i z.0 z.2).0 z.2 v.1)
 
-made_none : (g : Held) (c : ℕ) → IsStore g → (class_of g.tables c).permanent ≡ false → made_of (state_of g) c ≡ []
+made_none : (g : StoreParts) (c : ℕ) → IsStore g → (class_of g.tables c).permanent ≡ false → made_of (state_of g) c ≡ []
 made_none g c s given =
     (elim (made_of (state_of g) c) as (λ es. made_of (state_of g) c ≡ es → es ≡ []) [
       | [] ↦ λ e. refl
       | x ∷ es ↦ λ e. absurd (
-          let z = zipped_some (made_with g.tables.classes (look g.board g.numbers)) (rows_in g.rows (Some c)).rows
+          let z = zipped_some (made_with g.tables.classes (numbers_under g.board g.numbers))
+          (rows_in g.rows (Some c)).rows
           (rows_in g.rows (Some c)).values 0 x (ap (λ es. slice_get es 0) (sym (made_is g c) ∙ e)) in
           let bad : true ≡ false = sym (s.made c 0 z.0 z.2).1 ∙ given in cc)
     ]) refl
 
-made_few : (g : Held) (c : ℕ) → IsStore g → length (made_of (state_of g) c) ≡ length (rows_in g.rows (Some c)).rows
+made_few : (g : StoreParts) (c : ℕ) → IsStore g → length (made_of (state_of g) c)
+    ≡ length (rows_in g.rows (Some c)).rows
 made_few g c s = ap (length {A = Entity}) (made_is g c)
-    ∙ length_zipped (made_with g.tables.classes (look g.board g.numbers)) (rows_in g.rows (Some c)).rows
+    ∙ length_zipped (made_with g.tables.classes (numbers_under g.board g.numbers)) (rows_in g.rows (Some c)).rows
     (rows_in g.rows (Some c)).values (s.rows (Some c))
 
-reference_well : (g : Held) (i : ℕ) (r : Row) (v o : Option (List ℤ)) → IsStore g
+reference_well : (g : StoreParts) (i : ℕ) (r : Row) (v o : Option (List ℤ)) → IsStore g
     → slice_get g.rows.references.rows i ≡ Some r → slice_get g.rows.references.values i ≡ Some v → v ≡ o
-    → IsReference g.tables (reference_with g.tables.classes (look g.board g.numbers) r o)
+    → IsReference g.tables (reference_with g.tables.classes (numbers_under g.board g.numbers) r o)
 reference_well g i r v None s er ev is = tt
 reference_well g i r v (Some x) s er ev is =
-    ((s.each None i r er).class, s.given i r er, entity_well g None i r.class r x s refl er (ev ∙ ap Some is))
+    ((s.each None i r er).class, s.not_permanent i r er, entity_well g None i r.class r x s refl er (ev ∙ ap Some is))
 
 -- ---- members
 
@@ -108,19 +112,21 @@ has_one f (y ∷ l) k e =
     ]) refl e
 
 -- whoever is in a list of an owner is a member, and this is its seat
-pub record Stands (g : Held) (p : SetShape) (h k : ℕ) : Type 0 where
+pub record Stands (g : StoreParts) (p : SetShape) (h k : ℕ) : Type 0 where
   pub seat : ℕ
   pub stands : has (list_at g.board.lists h) seat ≡ true
   pub is : seat_at g.rows p k ≡ Some seat
 
-stands_at : (g : Held) (p : SetShape) (o h k : ℕ) → IsStore g → IsSet g.tables.sets p → head_at g.rows p o ≡ Some h
-    → has (look g.board g.numbers h) k ≡ true → Stands g p h k
+stands_at : (g : StoreParts) (p : SetShape) (o h k : ℕ) → IsStore g → IsSet g.tables.sets p → head_at g.rows p o
+    ≡ Some h
+    → has (numbers_under g.board g.numbers h) k ≡ true → Stands g p h k
 stands_at g p o h k s is e f =
     let d = has_one (number_at g.numbers) (list_at g.board.lists h) k f in
     let m = member_of g p o h d.0 s is e d.1 in
     record { seat = d.0; stands = d.1; is = ap (seat_at g.rows p) (sym d.2 ∙ m.is) ∙ m.seat }
 
-members_exist : (g : Held) (p : SetShape) (k : ℕ) → IsStore g → IsSet g.tables.sets p → is_filed p (state_of g) k ≡ true
+members_exist : (g : StoreParts) (p : SetShape) (k : ℕ) → IsStore g → IsSet g.tables.sets p → is_filed p (state_of g) k
+    ≡ true
     → exists (state_of g) p.member k ≡ true
 members_exist g p k s is e =
     let i = stands_index (lists_by p.owner p.list (state_of g)) k e in
@@ -151,26 +157,29 @@ times_map f (y ∷ l) t a =
     ]) refl
 
 -- in one list a number stands once
-list_once : (g : Held) (p : SetShape) (o h k : ℕ) → IsStore g → IsSet g.tables.sets p → head_at g.rows p o ≡ Some h
-    → times_in (look g.board g.numbers h) k ≤ 1
+list_once : (g : StoreParts) (p : SetShape) (o h k : ℕ) → IsStore g → IsSet g.tables.sets p → head_at g.rows p o
+    ≡ Some h
+    → times_in (numbers_under g.board g.numbers h) k ≤ 1
 list_once g p o h k s is e =
-    (elim (has (look g.board g.numbers h) k) as (λ b. has (look g.board g.numbers h) k ≡ b
-    → times_in (look g.board g.numbers h) k ≤ 1) [
+    (elim (has (numbers_under g.board g.numbers h) k) as (λ b. has (numbers_under g.board g.numbers h) k ≡ b
+    → times_in (numbers_under g.board g.numbers h) k ≤ 1) [
       | true ↦ λ w.
           let d = stands_at g p o h k s is e w in
           let number : number_at g.numbers d.seat ≡ k = seat_number g p k d.seat s is d.is in
           let same = times_map (number_at g.numbers) (list_at g.board.lists h) d.seat
           (apart g p o h d.seat k s is e d.is) in
-          let here : times_in (look g.board g.numbers h) k ≡ times_in (list_at g.board.lists h) d.seat =
-          ap (times_in (look g.board g.numbers h)) (sym number) ∙ same in
+          let here : times_in (numbers_under g.board g.numbers h) k ≡ times_in (list_at g.board.lists h) d.seat =
+          ap (times_in (numbers_under g.board g.numbers h)) (sym number) ∙ same in
           let few = times-list_at g.board.lists h d.seat in let once = s.sound.once d.seat in
           omega (arith, here, few, once)
-      | false ↦ λ w. let none = times_in-absent (look g.board g.numbers h) k w in omega (arith, none)
+      | false ↦ λ w. let none = times_in-absent (numbers_under g.board g.numbers h) k w in omega (arith, none)
     ]) refl
 
 -- and in one of them alone
-one_owner : (g : Held) (p : SetShape) (a b h j k : ℕ) → IsStore g → IsSet g.tables.sets p → head_at g.rows p a ≡ Some h
-    → head_at g.rows p b ≡ Some j → has (look g.board g.numbers h) k ≡ true → has (look g.board g.numbers j) k ≡ true
+one_owner : (g : StoreParts) (p : SetShape) (a b h j k : ℕ) → IsStore g → IsSet g.tables.sets p → head_at g.rows p a
+    ≡ Some h
+    → head_at g.rows p b ≡ Some j → has (numbers_under g.board g.numbers h) k ≡ true
+    → has (numbers_under g.board g.numbers j) k ≡ true
     → h ≡ j
 one_owner g p a b h j k s is eh ej fh fj =
     let d = stands_at g p a h k s is eh fh in
@@ -215,12 +224,13 @@ times_once (l ∷ ls) k a =
 -- ---- owners
 
 -- an owner that exists has a head, and its list is what the board says
-owner_head : (g : Held) (c k : ℕ) (e : Entity) (p : SetShape) → IsStore g → p.list < owned_by (OwnedBy c) g.tables
+owner_head : (g : StoreParts) (c k : ℕ) (e : Entity) (p : SetShape) → IsStore g → p.list < owned_by (OwnedBy c) g.tables
     → entity (state_of g) c k ≡ Some e
-    → (h : ℕ) × (head_by (OwnedBy c) g.rows p k ≡ Some h) × (look g.board g.numbers h ≡ list_number e.owned p.list)
+    → (h : ℕ) × (head_by (OwnedBy c) g.rows p k ≡ Some h)
+    × (numbers_under g.board g.numbers h ≡ list_number e.owned p.list)
 owner_head g c k e p s lt f =
     (elim (row_of g.rows c k) as (λ q. row_of g.rows c k ≡ q → (h : ℕ) × (head_by (OwnedBy c) g.rows p k ≡ Some h)
-    × (look g.board g.numbers h ≡ list_number e.owned p.list)) [
+    × (numbers_under g.board g.numbers h ≡ list_number e.owned p.list)) [
       | None ↦ λ w. absurd (let bad : None ≡ Some e = sym (entity_none g c k s w) ∙ f in cc)
       | Some r ↦ λ w.
           let there : head_by (OwnedBy c) g.rows p k ≡ Some (r.head + p.list) =
@@ -237,19 +247,19 @@ number_of_owner System c a b e f = cc
 number_of_owner (OwnedBy d) c a b e f = f
 
 -- a head is of one owner
-same_owner : (g : Held) (p : SetShape) (c a b h : ℕ) → IsStore g → IsSet g.tables.sets p → p.owner ≡ OwnedBy c
+same_owner : (g : StoreParts) (p : SetShape) (c a b h : ℕ) → IsStore g → IsSet g.tables.sets p → p.owner ≡ OwnedBy c
     → head_at g.rows p a ≡ Some h → head_at g.rows p b ≡ Some h → a ≡ b
 same_owner g p c a b h s is eo ea eb =
     let both = some_eq (sym (head_entry g p a h s is ea) ∙ head_entry g p b h s is eb) in
     number_of_owner p.owner c a b eo (ap (λ (z : HeadEntry). z.number) both)
 
 -- two owners with a member are one
-pub record Owns (g : Held) (p : SetShape) (c : ℕ) : Type 0 where
+pub record Owns (g : StoreParts) (p : SetShape) (c : ℕ) : Type 0 where
   pub store : IsStore g
   pub is_set : IsSet g.tables.sets p
   pub owner : p.owner ≡ OwnedBy c
 
-owner_once : (g : Held) (p : SetShape) (c a k : ℕ) (e : Entity) → Owns g p c → entity (state_of g) c a ≡ Some e
+owner_once : (g : StoreParts) (p : SetShape) (c a k : ℕ) (e : Entity) → Owns g p c → entity (state_of g) c a ≡ Some e
     → times_in (list_number e.owned p.list) k ≤ 1
 owner_once g p c a k e d f =
     let lt = subst (λ z. p.list < owned_by z g.tables) d.owner (d.store.tables.lists p d.is_set) in
@@ -257,7 +267,8 @@ owner_once g p c a k e d f =
     subst (λ l. times_in l k ≤ 1) h.2
     (list_once g p a h.0 k d.store d.is_set (ap (λ z. head_by z g.rows p a) d.owner ∙ h.1))
 
-owner_alone : (g : Held) (p : SetShape) (c a b k : ℕ) (e f : Entity) → Owns g p c → entity (state_of g) c a ≡ Some e
+owner_alone : (g : StoreParts) (p : SetShape) (c a b k : ℕ) (e f : Entity) → Owns g p c → entity (state_of g) c a
+    ≡ Some e
     → entity (state_of g) c b ≡ Some f → has (list_number e.owned p.list) k ≡ true
     → has (list_number f.owned p.list) k ≡ true → a ≡ b
 owner_alone g p c a b k e f d ea eb u v =
@@ -324,7 +335,7 @@ filter_none f [] s = refl
 filter_none f (x ∷ xs) s = rw (s 0 x refl) (filter_none f xs (λ i y e. s (suc i) y e))
 
 -- a permanent class has no references
-none_given : (g : Held) (c : ℕ) → IsStore g → (class_of g.tables c).permanent ≡ true
+none_given : (g : StoreParts) (c : ℕ) → IsStore g → (class_of g.tables c).permanent ≡ true
     → filter_map (of_class c) (state_of g).references ≡ []
 none_given g c s yes_made = filter_none (of_class c) (state_of g).references (λ i x e.
     (elim (of_class c x) as (λ o. of_class c x ≡ o → o ≡ None) [
@@ -332,11 +343,12 @@ none_given g c s yes_made = filter_none (of_class c) (state_of g).references (λ
       | Some d ↦ λ w. absurd (
           let q = class_some c x d w in
           let cs = g.tables.classes in
-          let z = zipped_some (reference_with cs (look g.board g.numbers)) g.rows.references.rows
+          let z = zipped_some (reference_with cs (numbers_under g.board g.numbers)) g.rows.references.rows
           g.rows.references.values i x e in
-          let class : z.0.class ≡ c = reference_class cs (look g.board g.numbers) z.0 z.1 d (z.4 ∙ q.0) ∙ q.1 in
+          let class : z.0.class
+          ≡ c = reference_class cs (numbers_under g.board g.numbers) z.0 z.1 d (z.4 ∙ q.0) ∙ q.1 in
           let bad : true ≡ false = sym yes_made ∙ ap (λ n. (class_of g.tables n).permanent) (sym class)
-          ∙ s.given i z.0 z.2 in cc)
+          ∙ s.not_permanent i z.0 z.2 in cc)
     ]) refl)
 
 -- ---- the members of a set
@@ -345,7 +357,7 @@ append_nil : {A : Type 0} (xs : List A) → xs ++ [] ≡ xs
 append_nil [] = refl
 append_nil (x ∷ xs) = ap (λ l. x ∷ l) (append_nil xs)
 
-made_once : (g : Held) (p : SetShape) (c k : ℕ) → Owns g p c
+made_once : (g : StoreParts) (p : SetShape) (c k : ℕ) → Owns g p c
     → times (map (λ (e : Entity). list_number e.owned p.list) (made_of (state_of g) c)) k ≤ 1
 made_once g p c k d =
     let es = made_of (state_of g) c in
@@ -363,7 +375,7 @@ made_once g p c k d =
           omega (arith, same);
     })
 
-given_once : (g : Held) (p : SetShape) (c k : ℕ) → Owns g p c → made_of (state_of g) c ≡ []
+given_once : (g : StoreParts) (p : SetShape) (c k : ℕ) → Owns g p c → made_of (state_of g) c ≡ []
     → times (map (λ (e : Entity). list_number e.owned p.list) (filter_map (of_class c) (state_of g).references)) k ≤ 1
 given_once g p c k d none =
     let rs = (state_of g).references in
@@ -376,12 +388,12 @@ given_once g p c k d none =
           omega (arith, same);
     })
 
-lists_once : (g : Held) (p : SetShape) (k : ℕ) (w : Owner) → IsStore g → IsSet g.tables.sets p → p.owner ≡ w
+lists_once : (g : StoreParts) (p : SetShape) (k : ℕ) (w : Owner) → IsStore g → IsSet g.tables.sets p → p.owner ≡ w
     → times (lists_by w p.list (state_of g)) k ≤ 1
 lists_once g p k System s is eo =
     let at : head_at g.rows p 0 ≡ Some p.list = ap (λ z. head_by z g.rows p 0) eo in
     let lt = subst (λ z. p.list < owned_by z g.tables) eo (s.tables.lists p is) in
-    let same : list_number (state_of g).system p.list ≡ look g.board g.numbers p.list =
+    let same : list_number (state_of g).system p.list ≡ numbers_under g.board g.numbers p.list =
     some_eq (list_look g System p 0 p.list s lt refl) in
     let once = subst (λ l. times_in l k ≤ 1) (sym same) (list_once g p 0 p.list k s is at) in omega (arith, once)
 lists_once g p k (OwnedBy c) s is eo =
@@ -402,12 +414,12 @@ lists_once g p k (OwnedBy c) s is eo =
 
 -- ---- the store
 
-pub is_well : (g : Held) → IsStore g → IsWellStore g.tables (state_of g)
+pub is_well : (g : StoreParts) → IsStore g → IsWellStore g.tables (state_of g)
 is_well g s =
     let cs = g.tables.classes in
-    let at = look g.board g.numbers in
+    let at = numbers_under g.board g.numbers in
     record {
-      classes = length_mapped (zipped_of (made_with cs at)) g.rows.made ∙ s.classes;
+      classes = length_mapped (zip_table (made_with cs at)) g.rows.made ∙ s.classes;
       made = λ c. each_from (IsEntity g.tables c) (made_of (state_of g) c) (λ i e f. made_well g c i e s f);
       permanent = λ c f. made_none g c s f;
       few_made = λ c. let few = s.few_made c in let same = made_few g c s in omega (arith, few, same);

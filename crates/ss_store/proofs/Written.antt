@@ -23,13 +23,17 @@ use Rattle.ss_store.specs.Lists.{change_at}
 use Rattle.ss_store.specs.Tables.{class_of}
 use Rattle.ss_store.specs.Rows.{RowTable, EntityTable, no_rows, rows_in, row_of}
 use Rattle.std.specs.Int.Signed.{mag}
-use Rattle.ss_store.specs.Store.{Entity, Store, in_range, AreInRange, made_of, exists, with_value, with_changed}
+use Rattle.ss_store.specs.Store.{Entity, Store, AreInRange, made_of, exists, with_value, with_changed}
+use Rattle.ss_words.specs.Ranges.{in_range}
 use Rattle.ss_store.specs.Store.{changed_reference}
 use Rattle.ss_store.specs.Store.{with_attribute}
 use Rattle.ss_store.specs.Change.{IsOutcome, Leaves, FitsSet, unapply_store}
-use Rattle.ss_store.specs.Held.{Held, HeadEntry, SeatEntry, StoreValue, IsStore, IsRow, Joins, used_of, used_made}
-use Rattle.ss_store.specs.Held.{used_in, head_at, head_by, seat_at, number_at, look, entity_with, reference_with}
-use Rattle.ss_store.specs.Held.{made_with, zipped, zipped_of, kept_of, state_of, state_at, value_of}
+use Rattle.ss_store.specs.Invariant.{IsStore, IsRow, Joins, used_of, used_made}
+use Rattle.ss_store.specs.Parts.{StoreParts, HeadEntry, SeatEntry}
+use Rattle.ss_store.specs.Value.{StoreValue}
+use Rattle.ss_store.specs.Invariant.{used_in}
+use Rattle.ss_store.specs.Parts.{head_at, head_by, seat_at, number_at, numbers_under, entity_with, reference_with}
+use Rattle.ss_store.specs.Parts.{made_with, zip_rows, zip_table, layout_of, state_of, state_at, value_of}
 use Rattle.ss_store.specs.Making.{numbering_by, with_table}
 use Rattle.ss_store.specs.Writing.{with_values}
 use Rattle.ss_store.proofs.Core.{some_eq, Found, found, map_some, made_none}
@@ -55,25 +59,25 @@ get_set (x ∷ xs) zero y z e = refl
 get_set (x ∷ xs) (suc i) y z e = get_set xs i y z e
 
 -- a value written in a row of a numbering
-pub record Writes (g : Held) (w : Option ℕ) (c i : ℕ) (r : Row) (before after : List ℤ) : Type 0 where
+pub record Writes (g : StoreParts) (w : Option ℕ) (c i : ℕ) (r : Row) (before after : List ℤ) : Type 0 where
   pub table : IsTable g.rows w
   pub row : slice_get (rows_in g.rows w).rows i ≡ Some r
   pub class : r.class ≡ c
   pub was : slice_get (rows_in g.rows w).values i ≡ Some (Some before)
   pub long : length after ≡ length before
-  pub ranged : AreInRange after
+  pub values_in_range : AreInRange after
 
-abbrev pub wrote : Held → Option ℕ → ℕ → List ℤ → Held
+abbrev pub wrote : StoreParts → Option ℕ → ℕ → List ℤ → StoreParts
 wrote g w i v = record g { rows = with_table (with_values i (Some v)) g.rows w }
 
-rows_same : (g : Held) (w : Option ℕ) (i : ℕ) (v : List ℤ) → IsTable g.rows w → (u : Option ℕ)
+rows_same : (g : StoreParts) (w : Option ℕ) (i : ℕ) (v : List ℤ) → IsTable g.rows w → (u : Option ℕ)
     → (rows_in (wrote g w i v).rows u).rows ≡ (rows_in g.rows u).rows
 rows_same g w i v t u = elim (table_case (with_values i (Some v)) g.rows w u t) [
   | inl a ↦ ap (λ (z : RowTable). z.rows) a.1
   | inr a ↦ ap (λ (z : RowTable). z.rows) a.1
 ]
 
-values_long : (g : Held) (w : Option ℕ) (i : ℕ) (v : List ℤ) → IsTable g.rows w → (u : Option ℕ)
+values_long : (g : StoreParts) (w : Option ℕ) (i : ℕ) (v : List ℤ) → IsTable g.rows w → (u : Option ℕ)
     → length (rows_in (wrote g w i v).rows u).values ≡ length (rows_in g.rows u).values
 values_long g w i v t u = elim (table_case (with_values i (Some v)) g.rows w u t) [
   | inl a ↦ ap (λ (z : RowTable). length z.values) a.1 ∙ length-set (rows_in g.rows u).values i (Some v)
@@ -81,7 +85,7 @@ values_long g w i v t u = elim (table_case (with_values i (Some v)) g.rows w u t
 ]
 
 -- a value there is the new one or an old one
-value_now : (g : Held) (w : Option ℕ) (c i : ℕ) (r : Row) (before v : List ℤ) → Writes g w c i r before v
+value_now : (g : StoreParts) (w : Option ℕ) (c i : ℕ) (r : Row) (before v : List ℤ) → Writes g w c i r before v
     → (u : Option ℕ) (j : ℕ) (x : Option (List ℤ)) → slice_get (rows_in (wrote g w i v).rows u).values j ≡ Some x
     → ((u ≡ w) × (j ≡ i) × (x ≡ Some v)) ⊎ (slice_get (rows_in g.rows u).values j ≡ Some x)
 value_now g w c i r before v k u j x e = elim (table_case (with_values i (Some v)) g.rows w u k.table) [
@@ -101,7 +105,8 @@ value_now g w c i r before v k u j x e = elim (table_case (with_values i (Some v
 ]
 
 -- and what has values has values still
-value_stays : (g : Held) (w : Option ℕ) (i : ℕ) (v : List ℤ) → IsTable g.rows w → (u : Option ℕ) (j : ℕ) (x : List ℤ)
+value_stays : (g : StoreParts) (w : Option ℕ) (i : ℕ) (v : List ℤ) → IsTable g.rows w
+    → (u : Option ℕ) (j : ℕ) (x : List ℤ)
     → slice_get (rows_in g.rows u).values j ≡ Some (Some x)
     → (y : List ℤ) × (slice_get (rows_in (wrote g w i v).rows u).values j ≡ Some (Some y))
 value_stays g w i v t u j x e = elim (table_case (with_values i (Some v)) g.rows w u t) [
@@ -122,7 +127,7 @@ value_stays g w i v t u j x e = elim (table_case (with_values i (Some v)) g.rows
   | inr a ↦ (x, ap (λ (z : RowTable). slice_get z.values j) a.1 ∙ e)
 ]
 
-row_of_stays : (g : Held) (w : Option ℕ) (i : ℕ) (v : List ℤ) → IsStore g → IsTable g.rows w → (d x : ℕ) (q : Row)
+row_of_stays : (g : StoreParts) (w : Option ℕ) (i : ℕ) (v : List ℤ) → IsStore g → IsTable g.rows w → (d x : ℕ) (q : Row)
     → row_of g.rows d x ≡ Some q → row_of (wrote g w i v).rows d x ≡ Some q
 row_of_stays g w i v s t d x q e =
     let l = found g.rows d x q e in
@@ -137,7 +142,7 @@ row_of_stays g w i v s t d x q e =
     ∙ ap (λ z. slice_get (rows_in g.rows (Some z)).rows l.index) (sym l.class)
     ∙ made_none g l.index l.index q s row))
 
-head_stays : (g : Held) (w : Option ℕ) (i : ℕ) (v : List ℤ) → IsStore g → IsTable g.rows w
+head_stays : (g : StoreParts) (w : Option ℕ) (i : ℕ) (v : List ℤ) → IsStore g → IsTable g.rows w
     → (o : Owner) (p : SetShape) (x h : ℕ) → head_by o g.rows p x ≡ Some h → head_by o (wrote g w i v).rows p x ≡ Some h
 head_stays g w i v s t System p x h e = e
 head_stays g w i v s t (OwnedBy d) p x h e =
@@ -155,7 +160,7 @@ used_stays : (f : ClassShape → ℕ) (cs : List ClassShape) (es : EntityTable) 
 used_stays f cs es None i v = refl
 used_stays f cs es (Some c) i v = ap (λ z. z + used_of f cs es.references.rows) (used_change f cs es.made c i v)
 
-pub wrote_store : (g : Held) (w : Option ℕ) (c i : ℕ) (r : Row) (before v : List ℤ) → IsStore g
+pub wrote_store : (g : StoreParts) (w : Option ℕ) (c i : ℕ) (r : Row) (before v : List ℤ) → IsStore g
     → Writes g w c i r before v → IsStore (wrote g w i v)
 wrote_store g w c i r before v s k = record {
   tables = s.tables;
@@ -167,29 +172,29 @@ wrote_store g w c i r before v s k = record {
   rows = λ u. ap (length {A = Row}) (rows_same g w i v k.table u) ∙ s.rows u ∙ sym (values_long g w i v k.table u);
   each = λ u j q e. let d = s.each u j q (ap (λ z. slice_get z j) (sym (rows_same g w i v k.table u)) ∙ e) in
       record { class = d.class; heads = d.heads; seats = d.seats };
-  valued = λ u j q x eq ex.
+  value_counts = λ u j q x eq ex.
       let there : slice_get (rows_in g.rows u).rows j ≡ Some q =
       ap (λ z. slice_get z j) (sym (rows_same g w i v k.table u)) ∙ eq in
       elim (value_now g w c i r before v k u j (Some x) ex) [
         | inl a ↦
             let was : slice_get (rows_in g.rows u).values j ≡ Some (Some before) =
             (λ n. slice_get (rows_in g.rows (a.0 n)).values (a.1 n)) ∙ k.was in
-            ap (length {A = ℤ}) (some_eq a.2) ∙ k.long ∙ s.valued u j q before there was
-        | inr a ↦ s.valued u j q x there a
+            ap (length {A = ℤ}) (some_eq a.2) ∙ k.long ∙ s.value_counts u j q before there was
+        | inr a ↦ s.value_counts u j q x there a
       ];
-  ranged = λ u j x e. elim (value_now g w c i r before v k u j (Some x) e) [
-    | inl a ↦ subst AreInRange (sym (some_eq a.2)) k.ranged
-    | inr a ↦ s.ranged u j x a
+  values_in_range = λ u j x e. elim (value_now g w c i r before v k u j (Some x) e) [
+    | inl a ↦ subst AreInRange (sym (some_eq a.2)) k.values_in_range
+    | inr a ↦ s.values_in_range u j x a
   ];
   made = λ d j q e. s.made d j q (ap (λ z. slice_get z j) (sym (rows_same g w i v k.table (Some d))) ∙ e);
   stays = λ d j e. elim (value_now g w c i r before v k (Some d) j None e) [
     | inl a ↦ let bad = a.2 in cc
     | inr a ↦ s.stays d j a
   ];
-  given = λ j q e. s.given j q (ap (λ z. slice_get z j) (sym (rows_same g w i v k.table None)) ∙ e);
+  not_permanent = λ j q e. s.not_permanent j q (ap (λ z. slice_get z j) (sym (rows_same g w i v k.table None)) ∙ e);
   system = s.system;
-  joined = λ h t e.
-      let d = s.joined h t e in
+  are_members = λ h t e.
+      let d = s.are_members h t e in
       let p = map_some (row_of g.rows d.set.member d.member) (λ (z : Row). z.seat + d.set.slot) t d.seat in
       record {
         set = d.set;
@@ -215,20 +220,20 @@ wrote_store g w c i r before v s k = record {
 
 zipped_put : {A : Type 0} (f : Row → Option (List ℤ) → A) (ch : A → A) (rs : List Row) (vs : List (Option (List ℤ)))
     (i : ℕ) (r : Row) (v u : Option (List ℤ)) → slice_get rs i ≡ Some r → slice_get vs i ≡ Some v → f r u ≡ ch (f r v)
-    → zipped f rs (set vs i u) ≡ change_at ch (zipped f rs vs) i
+    → zip_rows f rs (set vs i u) ≡ change_at ch (zip_rows f rs vs) i
 zipped_put f ch [] vs i r v u er ev s = cc
 zipped_put f ch (q ∷ rs) [] i r v u er ev s = refl
 zipped_put f ch (q ∷ rs) (z ∷ vs) zero r v u er ev s =
-    ap (λ y. y ∷ zipped f rs vs) (ap (λ y. f y u) (some_eq er) ∙ s
+    ap (λ y. y ∷ zip_rows f rs vs) (ap (λ y. f y u) (some_eq er) ∙ s
     ∙ (λ n. ch (f (sym (some_eq er) n) (sym (some_eq ev) n))))
 zipped_put f ch (q ∷ rs) (z ∷ vs) (suc i) r v u er ev s = ap (λ y. f q z ∷ y) (zipped_put f ch rs vs i r v u er ev s)
 
-pub wrote_state : (g : Held) (w : Option ℕ) (c i : ℕ) (r : Row) (before : List ℤ) (a : ℕ) (x : ℤ) → IsStore g
+pub wrote_state : (g : StoreParts) (w : Option ℕ) (c i : ℕ) (r : Row) (before : List ℤ) (a : ℕ) (x : ℤ) → IsStore g
     → ((w ≡ Some c) ⊎ (w ≡ None)) → Writes g w c i r before (set before a x)
     → state_of (wrote g w i (set before a x)) ≡ with_changed (with_value a x) (state_of g) c (suc i)
 wrote_state g None c i r before a x s which k =
     let cs = g.tables.classes in
-    let at = look g.board g.numbers in
+    let at = numbers_under g.board g.numbers in
     let ch : Entity → Entity = with_value a x in
     let same : (r.class == c) ≡ true = subst (λ z. (r.class == z) ≡ true) k.class (grind (arith, nat_tests)) in
     let here : reference_with cs at r (Some (set before a x))
@@ -236,8 +241,8 @@ wrote_state g None c i r before a x s which k =
     let none : change_at (λ row. change_at ch row i) (state_of g).made c ≡ (state_of g).made =
     change_same (λ row. change_at ch row i) (state_of g).made c (λ row e.
     change_same ch row i (λ y f.
-    let this : zipped_of (made_with cs at) (rows_in g.rows (Some c)) ≡ row =
-    sym (index_map (zipped_of (made_with cs at)) g.rows.made c no_rows) ∙ index_get (state_of g).made c [] row e in
+    let this : zip_table (made_with cs at) (rows_in g.rows (Some c)) ≡ row =
+    sym (index_map (zip_table (made_with cs at)) g.rows.made c no_rows) ∙ index_get (state_of g).made c [] row e in
     let gone : slice_get row i ≡ None = ap (λ z. slice_get z i) (sym this)
     ∙ zipped_none (made_with cs at) (rows_in g.rows (Some c)).rows (rows_in g.rows (Some c)).values i
     (ap (λ z. slice_get (rows_in g.rows (Some z)).rows i) (sym k.class) ∙ made_none g i i r s k.row) in
@@ -250,13 +255,13 @@ wrote_state g None c i r before a x s which k =
     }
 wrote_state g (Some d) c i r before a x s which k =
     let cs = g.tables.classes in
-    let at = look g.board g.numbers in
+    let at = numbers_under g.board g.numbers in
     let ch : Entity → Entity = with_value a x in
     let dc : d ≡ c = elim which [ inl e ↦ some_eq e | inr e ↦ absurd cc ] in
     let m = s.made d i r k.row in
-    let made : map (zipped_of (made_with cs at)) (change_at (with_values i (Some (set before a x))) g.rows.made d)
-    ≡ change_at (λ row. change_at ch row i) (map (zipped_of (made_with cs at)) g.rows.made) d =
-    map_change (zipped_of (made_with cs at)) (with_values i (Some (set before a x))) (λ row. change_at ch row i)
+    let made : map (zip_table (made_with cs at)) (change_at (with_values i (Some (set before a x))) g.rows.made d)
+    ≡ change_at (λ row. change_at ch row i) (map (zip_table (made_with cs at)) g.rows.made) d =
+    map_change (zip_table (made_with cs at)) (with_values i (Some (set before a x))) (λ row. change_at ch row i)
     g.rows.made d (λ t e.
     let is : rows_in g.rows (Some d) ≡ t = index_get g.rows.made d no_rows t e in
     zipped_put (made_with cs at) ch t.rows t.values i r (Some before) (Some (set before a x))
@@ -268,16 +273,16 @@ wrote_state g (Some d) c i r before a x s which k =
     let z = zipped_some (reference_with cs at) g.rows.references.rows g.rows.references.values i y f in
     let class : z.0.class ≡ d = reference_class cs at z.0 z.1 e (z.4 ∙ ey) ∙ same ∙ sym dc in
     let yes : (class_of g.tables z.0.class).permanent ≡ true = ap (λ q. (class_of g.tables q).permanent) class ∙ m.1 in
-    let bad = s.given i z.0 z.2 in cc)) in
+    let bad = s.not_permanent i z.0 z.2 in cc)) in
     λ n. record {
       made = (made ∙ ap (λ z. change_at (λ row. change_at ch row i) (state_of g).made z) dc) n;
       references = sym none n;
       system = (state_of g).system;
     }
 
-pub wrote_kept : (g : Held) (w : Option ℕ) (i : ℕ) (v : List ℤ) → kept_of (wrote g w i v) ≡ kept_of g
+pub wrote_kept : (g : StoreParts) (w : Option ℕ) (i : ℕ) (v : List ℤ) → layout_of (wrote g w i v) ≡ layout_of g
 wrote_kept g None i v = refl
-wrote_kept g (Some c) i v = ap (λ z. record (kept_of g) { made = z })
+wrote_kept g (Some c) i v = ap (λ z. record (layout_of g) { made = z })
     (map_change (λ (t : RowTable). t.rows) (with_values i (Some v)) (λ z. z) g.rows.made c (λ x e. refl)
     ∙ change_none (λ z. z) (map (λ (t : RowTable). t.rows) g.rows.made) c (λ x e. refl))
 
@@ -319,7 +324,7 @@ back_value : (before : List ℤ) (a : ℕ) (x : ℤ) → set (set before a x) a 
 back_value before a x = set_twice before a x (slice_index_or before a (pos 0)) ∙ set-get_or before a (pos 0)
 
 -- written back, the state is as before
-pub wrote_back : (g : Held) (w : Option ℕ) (c i : ℕ) (r : Row) (before : List ℤ) (a : ℕ) (x : ℤ) → IsStore g
+pub wrote_back : (g : StoreParts) (w : Option ℕ) (c i : ℕ) (r : Row) (before : List ℤ) (a : ℕ) (x : ℤ) → IsStore g
     → ((w ≡ Some c) ⊎ (w ≡ None)) → Writes g w c i r before (set before a x)
     → with_changed (with_value a (slice_index_or before a (pos 0))) (state_of (wrote g w i (set before a x))) c (suc i)
     ≡ state_of g
@@ -343,17 +348,17 @@ wrote_back g w c i r before a x s which k =
       class = k.class;
       was = was;
       long = length-set (set before a x) a old;
-      ranged = subst AreInRange (sym (back_value before a x)) (s.ranged w i before k.was);
+      values_in_range = subst AreInRange (sym (back_value before a x)) (s.values_in_range w i before k.was);
     } in
     sym (wrote_state g2 w c i r (set before a x) a old s2 which again)
-    ∙ (λ n. state_at g.tables (look g.board g.numbers)
+    ∙ (λ n. state_at g.tables (numbers_under g.board g.numbers)
     ((ap (λ z. with_table (with_values i (Some z)) g2.rows w) (back_value before a x)
     ∙ table_back g.rows w i (Some (set before a x)) (Some before) k.was) n))
 
 -- ---- the calls
 
 -- an entity that exists, where it lies
-pub record Lies (g : Held) (c k : ℕ) (shape : ClassShape) : Type 0 where
+pub record Lies (g : StoreParts) (c k : ℕ) (shape : ClassShape) : Type 0 where
   pub index : ℕ
   pub number : k ≡ suc index
   pub row : Row
@@ -364,7 +369,7 @@ pub record Lies (g : Held) (c k : ℕ) (shape : ClassShape) : Type 0 where
   pub was : slice_get (rows_in g.rows (numbering_by shape.permanent c)).values index ≡ Some (Some value)
   pub which : (numbering_by shape.permanent c ≡ Some c) ⊎ (numbering_by shape.permanent c ≡ None)
 
-pub lies : (g : Held) (v : StoreValue) (c k : ℕ) (shape : ClassShape) (r : Row) → At g v c shape
+pub lies : (g : StoreParts) (v : StoreValue) (c k : ℕ) (shape : ClassShape) (r : Row) → At g v c shape
     → row_of g.rows c k ≡ Some r → Lies g c k shape
 lies g v c k shape r a e =
     let l = found g.rows c k r e in
@@ -381,16 +386,17 @@ lies g v c k shape r a e =
     }
 
 -- an entity that exists has a row
-pub row_there : (g : Held) (v : StoreValue) (c k : ℕ) (shape : ClassShape) → At g v c shape → exists v.state c k ≡ true
+pub row_there : (g : StoreParts) (v : StoreValue) (c k : ℕ) (shape : ClassShape) → At g v c shape → exists v.state c k
+    ≡ true
     → (r : Row) × (row_of g.rows c k ≡ Some r)
 row_there g v c k shape a e = row_some (row_of g.rows c k) (sym (entity_is g c k a.store)
     ∙ ap (λ (z : StoreValue). exists z.state c k) a.is ∙ e)
 
 -- the index that the call writes at
-index_is : (g : Held) (c k : ℕ) (shape : ClassShape) (l : Lies g c k shape) → k - 1 ≡ l.index
+index_is : (g : StoreParts) (c k : ℕ) (shape : ClassShape) (l : Lies g c k shape) → k - 1 ≡ l.index
 index_is g c k shape l = let e = l.number in omega (arith, e)
 
-pub living_at : (g : Held) (c k n : ℕ) (shape : ClassShape) (l : Lies g c k shape) → n ≡ k - 1
+pub living_at : (g : StoreParts) (c k n : ℕ) (shape : ClassShape) (l : Lies g c k shape) → n ≡ k - 1
     → slice_get (rows_in g.rows (numbering_by shape.permanent c)).values n ≡ Some (Some l.value)
 living_at g c k n shape l e = ap (slice_get (rows_in g.rows (numbering_by shape.permanent c)).values) (e
     ∙ index_is g c k shape l) ∙ l.was
@@ -406,7 +412,8 @@ pub signed_range : (x : ℤ) → mag x < 2 ^ 63 → in_range x ≡ true
 signed_range (pos n) lt = grind (arith, nat_tests, lt)
 signed_range (negsuc n) lt = grind (arith, nat_tests, lt)
 
-writes : (g : Held) (c k a : ℕ) (x : ℤ) (shape : ClassShape) → IsStore g → in_range x ≡ true → (l : Lies g c k shape)
+writes : (g : StoreParts) (c k a : ℕ) (x : ℤ) (shape : ClassShape) → IsStore g → in_range x ≡ true
+    → (l : Lies g c k shape)
     → Writes g (numbering_by shape.permanent c) c l.index l.row l.value (set l.value a x)
 writes g c k a x shape s e l = record {
   table = l.table;
@@ -414,11 +421,12 @@ writes g c k a x shape s e l = record {
   class = l.class;
   was = l.was;
   long = length-set l.value a x;
-  ranged = set_ranged l.value a x (s.ranged (numbering_by shape.permanent c) l.index l.value l.was) e;
+  values_in_range = set_ranged l.value a x (s.values_in_range (numbering_by shape.permanent c) l.index l.value l.was) e;
 }
 
 -- what is held then
-wrote_is : (g : Held) (c k n a : ℕ) (x : ℤ) (shape : ClassShape) (es : EntityTable) (l : Lies g c k shape) → n ≡ k - 1
+wrote_is : (g : StoreParts) (c k n a : ℕ) (x : ℤ) (shape : ClassShape) (es : EntityTable) (l : Lies g c k shape) → n
+    ≡ k - 1
     → es ≡ with_table (with_values n (Some (set l.value a x))) g.rows (numbering_by shape.permanent c)
     → record g { rows = es } ≡ wrote g (numbering_by shape.permanent c) l.index (set l.value a x)
 wrote_is g c k n a x shape es l e f = λ i. record g {
@@ -427,7 +435,7 @@ wrote_is g c k n a x shape es l e f = λ i. record g {
       ∙ index_is g c k shape l)) i;
 }
 
-pub set_pair : (g : Held) (v : StoreValue) (c k n a : ℕ) (x : ℤ) (shape : ClassShape) (es : EntityTable)
+pub set_pair : (g : StoreParts) (v : StoreValue) (c k n a : ℕ) (x : ℤ) (shape : ClassShape) (es : EntityTable)
     → At g v c shape → in_range x ≡ true → (l : Lies g c k shape) → n ≡ k - 1
     → es ≡ with_table (with_values n (Some (set l.value a x))) g.rows (numbering_by shape.permanent c)
     → (ws : List HeadEntry) × (ms : List SeatEntry)
@@ -447,7 +455,7 @@ set_pair g v c k n a x shape es at ix l e f = (
       (writes g c k a x shape at.store ix l)),
 )
 
-pub set_value : (g : Held) (v : StoreValue) (c k n a : ℕ) (x : ℤ) (shape : ClassShape) (es : EntityTable)
+pub set_value : (g : StoreParts) (v : StoreValue) (c k n a : ℕ) (x : ℤ) (shape : ClassShape) (es : EntityTable)
     → value_of g ≡ v → IsStore g → At g v c shape → in_range x ≡ true → (l : Lies g c k shape) → n ≡ k - 1
     → es ≡ with_table (with_values n (Some (set l.value a x))) g.rows (numbering_by shape.permanent c)
     → value_of (record {
@@ -477,7 +485,8 @@ set_value g v c k n a x shape es is s at ix l e f =
       kept = z.kept;
     }) is
 
-set_leaves : (g : Held) (c k a : ℕ) (x old : ℤ) (shape : ClassShape) (r : Row) → IsStore g → c < length g.tables.classes
+set_leaves : (g : StoreParts) (c k a : ℕ) (x old : ℤ) (shape : ClassShape) (r : Row) → IsStore g → c
+    < length g.tables.classes
     → in_range x ≡ true → (l : Lies g c k shape) → row_of g.rows c k ≡ Some r → old ≡ slice_index_or l.value a (pos 0)
     → Leaves (AttributeSet c a k old) (with_changed (with_value a x) (state_of g) c k) (value_of g)
     (value_of (wrote g (numbering_by shape.permanent c) l.index (set l.value a x)))
@@ -501,7 +510,7 @@ set_leaves g c k a x old shape r s lt ix l er eo =
       };
     }
 
-pub set_outcome : (g : Held) (v : StoreValue) (c k n a : ℕ) (x old : ℤ) (shape : ClassShape) (r : Row)
+pub set_outcome : (g : StoreParts) (v : StoreValue) (c k n a : ℕ) (x old : ℤ) (shape : ClassShape) (r : Row)
     (es : EntityTable) → value_of g ≡ v → IsStore g → At g v c shape → in_range x ≡ true → (l : Lies g c k shape)
     → row_of g.rows c k ≡ Some r → n ≡ k - 1
     → es ≡ with_table (with_values n (Some (set l.value a x))) g.rows (numbering_by shape.permanent c)
@@ -519,7 +528,8 @@ set_outcome g v c k n a x old shape r es is s at ix l er en ee eo =
     let there : exists v.state c k ≡ true = ap (λ (z : StoreValue). exists z.state c k) (sym is) ∙ entity_is g c k s
     ∙ ap is_some er in
     let all = set_leaves g c k a x old shape r s at.below ix l er eo in
-    let here = subst (λ (z : Held). Leaves (AttributeSet c a k old) (with_changed (with_value a x) (state_of g) c k)
+    let here = subst
+    (λ (z : StoreParts). Leaves (AttributeSet c a k old) (with_changed (with_value a x) (state_of g) c k)
     (value_of g) (value_of z)) (sym (wrote_is g c k n a x shape es l en ee)) all in
     rw there (subst (λ (z : StoreValue). Leaves (AttributeSet c a k old) (with_changed (with_value a x) z.state c k) z
     (value_of (record {
@@ -531,7 +541,8 @@ set_outcome g v c k n a x old shape r es is s at ix l er en ee eo =
       board = g.board;
     }))) is here)
 
-pub set_none : (g : Held) (v : StoreValue) (c k a : ℕ) (x : ℤ) → value_of g ≡ v → IsStore g → row_of g.rows c k ≡ None
+pub set_none : (g : StoreParts) (v : StoreValue) (c k a : ℕ) (x : ℤ) → value_of g ≡ v → IsStore g → row_of g.rows c k
+    ≡ None
     → IsOutcome (Err NoEntity) (with_attribute v.state c a k x) v v
 set_none g v c k a x is s e =
     let there : exists v.state c k ≡ false = ap (λ (z : StoreValue). exists z.state c k) (sym is) ∙ entity_is g c k s
@@ -554,7 +565,7 @@ pub as_value : (es old : EntityTable) (w : Option ℕ) (n a : ℕ) (u : List ℤ
     → es ≡ with_table (with_values n (Some (set u a x))) old w
 as_value es old w n a u x y e f = e ∙ ap (λ (z : ℤ). with_table (with_values n (Some (set u a z))) old w) f
 
-pub set_outcome_to : (g : Held) (v : StoreValue) (c k m n a : ℕ) (x old : ℤ) (shape : ClassShape) (r : Row)
+pub set_outcome_to : (g : StoreParts) (v : StoreValue) (c k m n a : ℕ) (x old : ℤ) (shape : ClassShape) (r : Row)
     (es : EntityTable) → value_of g ≡ v → IsStore g → At g v c shape → in_range x ≡ true → (l : Lies g c k shape)
     → row_of g.rows c k ≡ Some r → n ≡ k - 1
     → es ≡ with_table (with_values n (Some (set l.value a x))) g.rows (numbering_by shape.permanent c)
@@ -572,7 +583,7 @@ set_outcome_to g v c k m n a x old shape r es is s at ix l er en ee eo em =
     set_to (Ok (AttributeSet c a k old)) v _ c k m a x em
     (set_outcome g v c k n a x old shape r es is s at ix l er en ee eo)
 
-pub set_none_to : (g : Held) (v : StoreValue) (c k m a : ℕ) (x : ℤ) → value_of g ≡ v → IsStore g
+pub set_none_to : (g : StoreParts) (v : StoreValue) (c k m a : ℕ) (x : ℤ) → value_of g ≡ v → IsStore g
     → row_of g.rows c k ≡ None → k ≡ m → IsOutcome (Err NoEntity) (with_attribute v.state c a m x) v v
 set_none_to g v c k m a x is s e em = set_to (Err NoEntity) v v c k m a x em (set_none g v c k a x is s e)
 

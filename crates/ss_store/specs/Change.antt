@@ -1,11 +1,11 @@
 -- What is noted of a change, and how it is taken back.
 use Rattle.std.specs.Prelude.{◌≡◌, ℕ, ℤ, ◌-◌, ◌<◌, true, false, List, [], length, slice_get, Option, Some, None}
-use Rattle.std.specs.Prelude.{option_map, unwrap_or, Result, Ok, Err}
+use Rattle.std.specs.Prelude.{option_map, unwrap_or, Result}
 use Rattle.std.specs.Option.{ForSome}
 use Rattle.ss_words.specs.declared.fault.RunFault.{RunFault}
 use Rattle.ss_words.specs.declared.fault.StepFault.{StepFault}
-use Rattle.ss_words.specs.declared.fault.StepFault.TheVariants.{Fault, Memory}
-use Rattle.ss_links.specs.Seats.{has, put_at, without}
+use Rattle.ss_words.specs.Outcomes.{AnswersAs, AnswersOrRefusesAs}
+use Rattle.ss_links.specs.Seats.{has, put_at, list_without}
 use Rattle.ss_program.specs.declared.kinds.Owner.{Owner}
 use Rattle.ss_store.specs.declared.change.StoreChange.{StoreChange}
 use Rattle.ss_store.specs.declared.change.StoreChange.TheVariants.{Filed, Removed, Created, ClassCreated, AttributeSet}
@@ -13,35 +13,31 @@ use Rattle.ss_store.specs.declared.change.StoreChange.TheVariants.{Ended}
 use Rattle.ss_store.specs.Tables.{class_of, set_of}
 use Rattle.ss_store.specs.declared.rows.Row.{Row}
 use Rattle.ss_store.specs.Store.{Store, last_reference, with_made, with_value, with_changed, list_by, with_list_by}
-use Rattle.ss_store.specs.Store.{is_owner, members_of, exists, is_filed, entity_back, with_back, AreInRange}
-use Rattle.ss_store.specs.Held.{Kept, StoreValue}
-use Rattle.ss_store.specs.Making.{kept_with, but_last, without_last, FitsLast, Less}
-
--- the list of a set for owner number o, by the set's owner and its number among that owner's sets
-abbrev pub list_in : Owner → ℕ → Store → ℕ → List ℕ
-list_in w n s o = unwrap_or (list_by w n s o) []
+use Rattle.ss_store.specs.Store.{is_owner, members_of, members_by, exists, is_filed, entity_back, with_back, AreInRange}
+use Rattle.ss_store.specs.Value.{Layout, StoreValue}
+use Rattle.ss_store.specs.Making.{layout_with, but_last, without_last, FitsLast, TakesOff}
 
 -- the state before a change
 abbrev pub unapply_state : StoreChange → Store → Store
-unapply_state (Filed set w n o k) s = with_list_by w n s o (without (list_in w n s o) k)
-unapply_state (Removed set w n o k before) s = with_list_by w n s o (put_at (list_in w n s o) before k)
+unapply_state (Filed set w n o k) s = with_list_by w n s o (list_without (members_by w n s o) k)
+unapply_state (Removed set w n o k before) s = with_list_by w n s o (put_at (members_by w n s o) before k)
 unapply_state (Created c k heads seats) s = without_last None s
 unapply_state (ClassCreated c n heads seats) s = with_made s c []
 unapply_state (AttributeSet c a k old) s = with_changed (with_value a old) s c k
 unapply_state (Ended c k owned values) s = with_back s k (entity_back c owned values.items)
 
 -- what is kept, before a change
-abbrev pub unapply_kept : StoreChange → Kept → Kept
-unapply_kept (Filed set w n o k) kept = kept
-unapply_kept (Removed set w n o k before) kept = kept
-unapply_kept (Created c k heads seats) kept = kept_with but_last kept None heads seats
-unapply_kept (ClassCreated c n heads seats) kept = kept_with (λ rows. []) kept (Some c) heads seats
-unapply_kept (AttributeSet c a k old) kept = kept
-unapply_kept (Ended c k owned values) kept = kept
+abbrev pub unapply_layout : StoreChange → Layout → Layout
+unapply_layout (Filed set w n o k) kept = kept
+unapply_layout (Removed set w n o k before) kept = kept
+unapply_layout (Created c k heads seats) kept = layout_with but_last kept None heads seats
+unapply_layout (ClassCreated c n heads seats) kept = layout_with (λ rows. []) kept (Some c) heads seats
+unapply_layout (AttributeSet c a k old) kept = kept
+unapply_layout (Ended c k owned values) kept = kept
 
 -- the store before a change
 abbrev pub unapply_store : StoreChange → StoreValue → StoreValue
-unapply_store c v = record v { state = unapply_state c v.state; kept = unapply_kept c v.kept }
+unapply_store c v = record v { state = unapply_state c v.state; kept = unapply_layout c v.kept }
 
 -- what was filed stands in the list
 pub record FitsFiled (v : StoreValue) (set : ℕ) (w : Owner) (n o k : ℕ) : Type 0 where
@@ -69,14 +65,14 @@ pub record FitsRemoved (v : StoreValue) (set : ℕ) (w : Owner) (n o k : ℕ) (b
   -- the member exists
   pub member : exists v.state (set_of v.tables set).member k ≡ true
   -- it is in no list of the set
-  pub out : is_filed (set_of v.tables set) v.state k ≡ false
+  pub in_no_list : is_filed (set_of v.tables set) v.state k ≡ false
   -- the one before it, if any, is in the list
   pub before : ForSome b (λ y. has (members_of (set_of v.tables set) v.state o) y ≡ true)
 
 -- the reference was given last
 pub record FitsCreated (v : StoreValue) (c k heads seats : ℕ) : Type 0 where
   -- the class is not permanent
-  pub given : (class_of v.tables c).permanent ≡ false
+  pub not_permanent : (class_of v.tables c).permanent ≡ false
   -- the reference is the last
   pub newest : FitsLast c k heads seats v
 
@@ -85,7 +81,7 @@ pub record FitsClassCreated (v : StoreValue) (c n heads seats : ℕ) : Type 0 wh
   -- the class is permanent
   pub permanent : (class_of v.tables c).permanent ≡ true
   -- its entities can be taken off
-  pub less : Less c n v (unapply_store (ClassCreated c n heads seats) v)
+  pub takes_off : TakesOff c n v (unapply_store (ClassCreated c n heads seats) v)
 
 -- the entity whose attribute was set exists
 pub record FitsSet (v : StoreValue) (c k : ℕ) : Type 0 where
@@ -99,7 +95,7 @@ pub record FitsEnded (v : StoreValue) (c k n : ℕ) (xs : List ℤ) : Type 0 whe
   -- there is such a class
   pub is_class : c < length v.tables.classes
   -- it is not permanent
-  pub given : (class_of v.tables c).permanent ≡ false
+  pub not_permanent : (class_of v.tables c).permanent ≡ false
   -- the reference is 1 or more
   pub number : 0 < k
   -- it has ended
@@ -107,11 +103,11 @@ pub record FitsEnded (v : StoreValue) (c k n : ℕ) (xs : List ℤ) : Type 0 whe
   -- its row is of the class
   pub row : option_map (λ (r : Row). r.class) (slice_get v.kept.references (k - 1)) ≡ Some c
   -- the class owns so many sets
-  pub owned : n ≡ (class_of v.tables c).owned
+  pub owned_sets : n ≡ (class_of v.tables c).owned
   -- a value for each attribute of the class
   pub values : length xs ≡ (class_of v.tables c).attributes
   -- which are in range
-  pub ranged : AreInRange xs
+  pub values_in_range : AreInRange xs
 
 -- a change that can be taken back
 abbrev pub FitsStore : StoreChange → StoreValue → Type 0
@@ -131,36 +127,19 @@ pub record Leaves (c : StoreChange) (s : Store) (old new : StoreValue) : Type 0 
   -- taken back, it gives the store before
   pub back : unapply_store c new ≡ old
 
--- a writing call that may fault; a fault leaves everything as before
+-- a writing call that may fault
 abbrev pub IsOutcome : Result StoreChange RunFault → Result Store RunFault → StoreValue → StoreValue → Type 0
-IsOutcome (Ok c) (Ok s) old new = Leaves c s old new
-IsOutcome (Err e) (Err f) old new = (e ≡ f) × (new ≡ old)
-IsOutcome (Ok c) (Err f) old new = ⊥
-IsOutcome (Err e) (Ok s) old new = ⊥
+IsOutcome = AnswersAs Leaves
 
--- one that gives a number too
+-- one that gives the member's number, too
 abbrev pub IsRemoval : Result (ℕ × StoreChange) RunFault → Result (ℕ × Store) RunFault → StoreValue → StoreValue
     → Type 0
-IsRemoval (Ok r) (Ok s) old new = (r.0 ≡ s.0) × Leaves r.1 s.1 old new
-IsRemoval (Err e) (Err f) old new = (e ≡ f) × (new ≡ old)
-IsRemoval (Ok r) (Err f) old new = ⊥
-IsRemoval (Err e) (Ok s) old new = ⊥
+IsRemoval = AnswersAs (λ given wanted old new. (given.0 ≡ wanted.0) × Leaves given.1 wanted.1 old new)
 
--- a refusal leaves everything as before; memory is refused only where there is no fault
-abbrev pub IsRefusal : StepFault → Result Store RunFault → StoreValue → StoreValue → Type 0
-IsRefusal (Fault e) (Err f) old new = (e ≡ f) × (new ≡ old)
-IsRefusal Memory (Ok s) old new = new ≡ old
-IsRefusal (Fault e) (Ok s) old new = ⊥
-IsRefusal Memory (Err f) old new = ⊥
-
--- an entity was made, which has the last reference, or not
+-- a call that makes an entity, and gives the last reference
 abbrev pub IsCreation : Result (ℕ × StoreChange) StepFault → Result Store RunFault → StoreValue → StoreValue → Type 0
-IsCreation (Ok r) (Ok s) old new = (r.0 ≡ last_reference s) × Leaves r.1 s old new
-IsCreation (Err e) s old new = IsRefusal e s old new
-IsCreation (Ok r) (Err f) old new = ⊥
+IsCreation = AnswersOrRefusesAs (λ given s old new. (given.0 ≡ last_reference s) × Leaves given.1 s old new)
 
--- the entities of a class were made, or not
+-- a call that makes the entities of a class
 abbrev pub IsMaking : Result StoreChange StepFault → Result Store RunFault → StoreValue → StoreValue → Type 0
-IsMaking (Ok c) (Ok s) old new = Leaves c s old new
-IsMaking (Err e) s old new = IsRefusal e s old new
-IsMaking (Ok c) (Err f) old new = ⊥
+IsMaking = AnswersOrRefusesAs Leaves

@@ -16,7 +16,7 @@ use Rattle.ss_store.specs.declared.shape.Which.TheVariants as which
 use Rattle.ss_store.specs.Tables.{Tables}
 use Rattle.ss_store.specs.Store.{Entity, Store, members_of, exists, with_attribute, with_new, last_reference}
 use Rattle.ss_store.specs.Store.{without_entity}
-use Rattle.ss_store.specs.Filing.{filed, removed}
+use Rattle.ss_store.specs.Filing.{after_filing, after_removing}
 
 -- a job with a size and an age
 abbrev pub job : ℤ → ℤ → Option Entity
@@ -45,7 +45,7 @@ list_after s (Err f) = Err f
 
 -- job k filed then, unless there was a fault
 abbrev pub then_filed : SetShape → ℕ → How → Result Store RunFault → Result Store RunFault
-then_filed s k how (Ok st) = filed s st 0 k how
+then_filed s k how (Ok st) = after_filing s st 0 k how
 then_filed s k how (Err f) = Err f
 
 -- the store that is left
@@ -55,13 +55,13 @@ store_of (Err f) = Err f
 
 -- a member removed then, unless there was a fault
 abbrev pub then_removed : SetShape → Which → Result Store RunFault → Result Store RunFault
-then_removed s w (Ok st) = store_of (removed s st 0 w)
+then_removed s w (Ok st) = store_of (after_removing s st 0 w)
 then_removed s w (Err f) = Err f
 
 -- 1, 2, 3 and 4 filed in turn by the discipline
 abbrev pub all_filed : SetShape → Result (List ℕ) RunFault
 all_filed s = list_after s
-    (then_filed s 4 ByRule (then_filed s 3 ByRule (then_filed s 2 ByRule (filed s (jobs []) 0 1 ByRule))))
+    (then_filed s 4 ByRule (then_filed s 3 ByRule (then_filed s 2 ByRule (after_filing s (jobs []) 0 1 ByRule))))
 
 -- FIFO files last
 abbrev pub FifoFilesLast : Type 0
@@ -85,10 +85,14 @@ RankedByPresentKeys =
 -- BEFORE and AFTER the first and the last
 abbrev pub FiledBesideEnds : Type 0
 FiledBesideEnds =
-    (list_after (set_by Fifo) (filed (set_by Fifo) (jobs (1 ∷ 2 ∷ [])) 0 3 (Before (pos 1))) ≡ Ok (3 ∷ 1 ∷ 2 ∷ []))
-    × (list_after (set_by Fifo) (filed (set_by Fifo) (jobs (1 ∷ 2 ∷ [])) 0 3 (After (pos 1))) ≡ Ok (1 ∷ 3 ∷ 2 ∷ []))
-    × (list_after (set_by Fifo) (filed (set_by Fifo) (jobs (1 ∷ 2 ∷ [])) 0 3 (Before (pos 2))) ≡ Ok (1 ∷ 3 ∷ 2 ∷ []))
-    × (list_after (set_by Fifo) (filed (set_by Fifo) (jobs (1 ∷ 2 ∷ [])) 0 3 (After (pos 2))) ≡ Ok (1 ∷ 2 ∷ 3 ∷ []))
+    (list_after (set_by Fifo) (after_filing (set_by Fifo) (jobs (1 ∷ 2 ∷ [])) 0 3 (Before (pos 1)))
+    ≡ Ok (3 ∷ 1 ∷ 2 ∷ []))
+    × (list_after (set_by Fifo) (after_filing (set_by Fifo) (jobs (1 ∷ 2 ∷ [])) 0 3 (After (pos 1)))
+    ≡ Ok (1 ∷ 3 ∷ 2 ∷ []))
+    × (list_after (set_by Fifo) (after_filing (set_by Fifo) (jobs (1 ∷ 2 ∷ [])) 0 3 (Before (pos 2)))
+    ≡ Ok (1 ∷ 3 ∷ 2 ∷ []))
+    × (list_after (set_by Fifo) (after_filing (set_by Fifo) (jobs (1 ∷ 2 ∷ [])) 0 3 (After (pos 2)))
+    ≡ Ok (1 ∷ 2 ∷ 3 ∷ []))
 
 -- the first, the last, the middle and the only member removed
 abbrev pub RemovedAnywhere : Type 0
@@ -102,9 +106,9 @@ RemovedAnywhere =
 -- the lowest fault that applies: F3 before F4, F4 before F5
 abbrev pub LowestFaultFirst : Type 0
 LowestFaultFirst =
-    (list_after (set_by Fifo) (filed (set_by Fifo) (jobs (1 ∷ [])) 0 1 (Before (pos 9))) ≡ Err NoEntity)
-    × (list_after (set_by Fifo) (filed (set_by Fifo) (jobs (1 ∷ [])) 0 1 (Before (pos 2))) ≡ Err AlreadyInSet)
-    × (list_after (set_by Fifo) (filed (set_by Fifo) (jobs (1 ∷ [])) 0 3 (Before (pos 2))) ≡ Err NotInList)
+    (list_after (set_by Fifo) (after_filing (set_by Fifo) (jobs (1 ∷ [])) 0 1 (Before (pos 9))) ≡ Err NoEntity)
+    × (list_after (set_by Fifo) (after_filing (set_by Fifo) (jobs (1 ∷ [])) 0 1 (Before (pos 2))) ≡ Err AlreadyInSet)
+    × (list_after (set_by Fifo) (after_filing (set_by Fifo) (jobs (1 ∷ [])) 0 3 (Before (pos 2))) ≡ Err NotInList)
     × (list_after (set_by Fifo) (then_removed (set_by Fifo) which.First (Ok (jobs []))) ≡ Err EmptySet)
 
 -- ---- ending
@@ -134,9 +138,9 @@ abbrev pub one_job : Store
 one_job = record { made = [] ∷ []; references = owning_job [] ∷ None ∷ []; system = [] ∷ [] }
 
 -- the reference that the next entity gets, or the fault
-abbrev pub next_of : Result Store RunFault → Result ℕ RunFault
-next_of (Ok st) = Ok (last_reference st)
-next_of (Err f) = Err f
+abbrev pub next_reference : Result Store RunFault → Result ℕ RunFault
+next_reference (Ok st) = Ok (last_reference st)
+next_reference (Err f) = Err f
 
 -- what was ended is gone; the next entity gets another reference
 abbrev pub EndedIsGone : Type 0
@@ -144,7 +148,7 @@ EndedIsGone =
     (without_entity job_tables free_jobs 0 2 ≡ Ok one_job)
     × (exists one_job 0 2 ≡ false)
     × (without_entity job_tables one_job 0 2 ≡ Err NoEntity)
-    × (next_of (with_new one_job 0 job_class) ≡ Ok 3)
+    × (next_reference (with_new one_job 0 job_class) ≡ Ok 3)
 
 -- F7 of a member, also of one that owns members; F8 of an owner
 abbrev pub EndedInNoUse : Type 0

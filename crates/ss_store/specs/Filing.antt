@@ -4,7 +4,7 @@ use Rattle.std.specs.Prelude.{option_map, Result, Ok, Err}
 use Rattle.std.specs.Ordering.{is_gt}
 use Rattle.ss_words.specs.declared.fault.RunFault.{RunFault}
 use Rattle.ss_words.specs.declared.fault.RunFault.TheVariants.{NoEntity, AlreadyInSet, NotInList, EmptySet, MemberLeft}
-use Rattle.ss_links.specs.Seats.{has, put_before, put_behind, without, first_of, last_of, seat_behind, seat_before}
+use Rattle.ss_links.specs.Seats.{has, put_before, put_behind, list_without, first_of, last_of, next_in, prev_in}
 use Rattle.ss_program.specs.declared.keys.Key.{Key}
 use Rattle.ss_program.specs.Keys.{by_keys, key_values}
 use Rattle.ss_program.specs.declared.kinds.Discipline.{Discipline}
@@ -55,8 +55,8 @@ names_member (After y) ks = has ks (number_of y)
 names_member _ ks = true
 
 -- FILE k in the list of o: F3; F4 where k is in a list of the set; F5 where the member named is not in this one
-abbrev pub filed : SetShape → Store → ℕ → ℕ → How → Result Store RunFault
-filed s st o k how =
+abbrev pub after_filing : SetShape → Store → ℕ → ℕ → How → Result Store RunFault
+after_filing s st o k how =
     unless NoEntity (is_owner s st o)
     (unless NoEntity (exists st s.member k)
     (unless NoEntity (names_entity s st how)
@@ -72,20 +72,21 @@ or_fault f None = Err f
 or_fault f (Some k) = Ok k
 
 -- the member of the list that REMOVE names
-abbrev pub named_in : SetShape → Store → List ℕ → Which → Result ℕ RunFault
-named_in s st ks which.First = or_fault EmptySet (first_of ks)
-named_in s st ks which.Last = or_fault EmptySet (last_of ks)
-named_in s st ks (which.Member x) =
+abbrev pub member_named : SetShape → Store → List ℕ → Which → Result ℕ RunFault
+member_named s st ks which.First = or_fault EmptySet (first_of ks)
+member_named s st ks which.Last = or_fault EmptySet (last_of ks)
+member_named s st ks (which.Member x) =
     unless NoEntity (exists st s.member (number_of x)) (unless NotInList (has ks (number_of x)) (Ok (number_of x)))
 
 -- the member, and the store with the list of o without it
-abbrev pub taken_out : SetShape → Store → ℕ → Result ℕ RunFault → Result (ℕ × Store) RunFault
-taken_out s st o (Ok k) = Ok (k, with_list s st o (without (members_of s st o) k))
-taken_out s st o (Err f) = Err f
+abbrev pub without_member : SetShape → Store → ℕ → Result ℕ RunFault → Result (ℕ × Store) RunFault
+without_member s st o (Ok k) = Ok (k, with_list s st o (list_without (members_of s st o) k))
+without_member s st o (Err f) = Err f
 
 -- REMOVE from the list of o: F3; F5 where the member named is not in it, F6 where it is empty
-abbrev pub removed : SetShape → Store → ℕ → Which → Result (ℕ × Store) RunFault
-removed s st o w = unless NoEntity (is_owner s st o) (taken_out s st o (named_in s st (members_of s st o) w))
+abbrev pub after_removing : SetShape → Store → ℕ → Which → Result (ℕ × Store) RunFault
+after_removing s st o w = unless NoEntity (is_owner s st o)
+    (without_member s st o (member_named s st (members_of s st o) w))
 
 -- ---- reading
 
@@ -99,12 +100,12 @@ abbrev pub count : SetShape → Store → ℕ → Result ℕ RunFault
 count s st o = unless NoEntity (is_owner s st o) (Ok (length (members_of s st o)))
 
 -- the first member of the list of o, or F3
-abbrev pub first_member : SetShape → Store → ℕ → Result (Option ℕ) RunFault
-first_member s st o = unless NoEntity (is_owner s st o) (Ok (first_of (members_of s st o)))
+abbrev pub walk_first : SetShape → Store → ℕ → Result (Option ℕ) RunFault
+walk_first s st o = unless NoEntity (is_owner s st o) (Ok (first_of (members_of s st o)))
 
 -- the last member of the list of o, or F3
-abbrev pub last_member : SetShape → Store → ℕ → Result (Option ℕ) RunFault
-last_member s st o = unless NoEntity (is_owner s st o) (Ok (last_of (members_of s st o)))
+abbrev pub walk_last : SetShape → Store → ℕ → Result (Option ℕ) RunFault
+walk_last s st o = unless NoEntity (is_owner s st o) (Ok (last_of (members_of s st o)))
 
 -- what is read at member k of the list of o: F3, F14 where k isn't in it
 abbrev pub at_member : {A : Type 0} → SetShape → Store → ℕ → ℕ → A → Result A RunFault
@@ -113,22 +114,22 @@ at_member s st o k a =
     (unless NoEntity (exists st s.member k) (unless MemberLeft (has (members_of s st o) k) (Ok a)))
 
 -- the member directly behind k in the list of o, or F3, F14
-abbrev pub next_member : SetShape → Store → ℕ → ℕ → Result (Option ℕ) RunFault
-next_member s st o k = at_member s st o k (seat_behind (members_of s st o) k)
+abbrev pub walk_next : SetShape → Store → ℕ → ℕ → Result (Option ℕ) RunFault
+walk_next s st o k = at_member s st o k (next_in (members_of s st o) k)
 
 -- the member directly before k in the list of o, or F3, F14
-abbrev pub previous_member : SetShape → Store → ℕ → ℕ → Result (Option ℕ) RunFault
-previous_member s st o k = at_member s st o k (seat_before (members_of s st o) k)
+abbrev pub walk_prev : SetShape → Store → ℕ → ℕ → Result (Option ℕ) RunFault
+walk_prev s st o k = at_member s st o k (prev_in (members_of s st o) k)
 
 -- ---- kept attributes of a member
 
 -- P.s: the member directly before k in the list that holds it, or F3
 abbrev pub predecessor : SetShape → Store → ℕ → Result (Option ℕ) RunFault
-predecessor s st k = unless NoEntity (exists st s.member k) (Ok (seat_before (list_holding s st k) k))
+predecessor s st k = unless NoEntity (exists st s.member k) (Ok (prev_in (list_holding s st k) k))
 
 -- S.s: the member directly behind k in the list that holds it, or F3
 abbrev pub successor : SetShape → Store → ℕ → Result (Option ℕ) RunFault
-successor s st k = unless NoEntity (exists st s.member k) (Ok (seat_behind (list_holding s st k) k))
+successor s st k = unless NoEntity (exists st s.member k) (Ok (next_in (list_holding s st k) k))
 
 -- M.s: whether k is in a list of the set, or F3
 abbrev pub membership : SetShape → Store → ℕ → Result Bool RunFault

@@ -3,7 +3,10 @@ pub mod Lists
 pub mod Store
 pub mod Filing
 pub mod Rows
-pub mod Held
+pub mod Value
+pub mod Parts
+pub mod Invariant
+pub mod Finding
 pub mod Making
 pub mod Writing
 pub mod Change

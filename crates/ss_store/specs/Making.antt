@@ -8,9 +8,12 @@ use Rattle.ss_store.specs.declared.shape.ClassShape.{ClassShape}
 use Rattle.ss_store.specs.Lists.{change_at}
 use Rattle.ss_store.specs.Tables.{class_of}
 use Rattle.ss_store.specs.Rows.{RowTable, EntityTable, rows_in}
-use Rattle.ss_store.specs.Store.{Entity, Store, entity, exists, fresh, class_limit, reference_limit, with_reference}
+use Rattle.ss_store.specs.Store.{Entity, Store, entity, exists, fresh, with_reference}
+use Rattle.ss_store.specs.declared.limits.TheConstants.{MOST_ENTITIES}
+use Rattle.ss_words.specs.declared.limits.TheConstants.{MOST_REFERENCES}
 use Rattle.ss_store.specs.Store.{is_member, owns_members}
-use Rattle.ss_store.specs.Held.{Held, HeadEntry, SeatEntry, Kept, StoreValue}
+use Rattle.ss_store.specs.Parts.{StoreParts, HeadEntry, SeatEntry}
+use Rattle.ss_store.specs.Value.{Layout, StoreValue}
 
 -- the numbering of the entities of class c: its own, or that of the references
 abbrev pub numbering_by : Bool → ℕ → Option ℕ
@@ -23,8 +26,8 @@ numbering shape c = numbering_by shape.permanent c
 -- ---- rows
 
 -- a numbering with one more row
-abbrev pub more : Row → List ℤ → RowTable → RowTable
-more r v t = record { rows = t.rows ++ r ∷ []; values = t.values ++ Some v ∷ [] }
+abbrev pub with_row : Row → List ℤ → RowTable → RowTable
+with_row r v t = record { rows = t.rows ++ r ∷ []; values = t.values ++ Some v ∷ [] }
 
 -- a numbering changed
 abbrev pub with_table : (RowTable → RowTable) → EntityTable → Option ℕ → EntityTable
@@ -32,8 +35,8 @@ with_table change es None = record es { references = change es.references }
 with_table change es (Some c) = record es { made = change_at change es.made c }
 
 -- a numbering without its last row
-abbrev pub less : RowTable → RowTable
-less t = record { rows = take (length t.rows - 1) t.rows; values = take (length t.rows - 1) t.values }
+abbrev pub without_last_row : RowTable → RowTable
+without_last_row t = record { rows = take (length t.rows - 1) t.rows; values = take (length t.rows - 1) t.values }
 
 -- what n heads of entity number k of class c are of, from its list number i on
 abbrev pub heads_for : ℕ → ℕ → ℕ → ℕ → List HeadEntry
@@ -58,17 +61,17 @@ abbrev pub with_places : ℕ → ℕ → Board → Board
 with_places heads seats b = with_seats seats (with_heads heads b)
 
 -- the number that the next entity of a numbering gets
-abbrev pub next_number : Held → Option ℕ → ℕ
+abbrev pub next_number : StoreParts → Option ℕ → ℕ
 next_number g w = suc (length (rows_in g.rows w).rows)
 
 -- its row
-abbrev pub next_row : Held → ℕ → Row
+abbrev pub next_row : StoreParts → ℕ → Row
 next_row g c = record { class = c; head = length g.board.lists; seat = g.board.seats }
 
 -- what is held once an entity of class c with these attributes is made
-abbrev pub grown : Held → Option ℕ → ℕ → ClassShape → List ℤ → Held
-grown g w c shape v = record g {
-  rows = with_table (more (next_row g c) v) g.rows w;
+abbrev pub with_next_entity : StoreParts → Option ℕ → ℕ → ClassShape → List ℤ → StoreParts
+with_next_entity g w c shape v = record g {
+  rows = with_table (with_row (next_row g c) v) g.rows w;
   numbers = g.numbers ++ replicate shape.joined (next_number g w);
   owners = g.owners ++ heads_for c (next_number g w) 0 shape.owned;
   members = g.members ++ seats_for c (next_number g w) 0 shape.joined;
@@ -76,9 +79,9 @@ grown g w c shape v = record g {
 }
 
 -- what is held without the last entity of a numbering, whose heads and seats are these and those behind them
-abbrev pub cut : Held → Option ℕ → ℕ → ℕ → Held
-cut g w head seat = record g {
-  rows = with_table less g.rows w;
+abbrev pub without_last_entity : StoreParts → Option ℕ → ℕ → ℕ → StoreParts
+without_last_entity g w head seat = record g {
+  rows = with_table without_last_row g.rows w;
   numbers = take seat g.numbers;
   owners = take head g.owners;
   members = take seat g.members;
@@ -100,7 +103,7 @@ pub record CanShrink (b : Board) (head seat : ℕ) : Type 0 where
 
 -- no more entities in a numbering than these
 abbrev pub numbering_limit : ClassShape → ℕ
-numbering_limit shape = if shape.permanent then class_limit else reference_limit
+numbering_limit shape = if shape.permanent then MOST_ENTITIES else MOST_REFERENCES
 
 -- the state with one more entity in a numbering
 abbrev pub with_entity : Option ℕ → Store → Entity → Store
@@ -112,21 +115,21 @@ abbrev pub with_more : Store → ℕ → ClassShape → Store
 with_more st c shape = with_entity (numbering shape c) st (fresh c shape)
 
 -- the rows of a numbering
-abbrev pub kept_rows : Kept → Option ℕ → List Row
-kept_rows k None = k.references
-kept_rows k (Some c) = slice_index_or k.made c []
+abbrev pub rows_of_numbering : Layout → Option ℕ → List Row
+rows_of_numbering k None = k.references
+rows_of_numbering k (Some c) = slice_index_or k.made c []
 
 -- what is kept, with the rows of a numbering changed, and so many heads and seats
-abbrev pub kept_with : (List Row → List Row) → Kept → Option ℕ → ℕ → ℕ → Kept
-kept_with change k None heads seats = record k { references = change k.references; heads = heads; seats = seats }
-kept_with change k (Some c) heads seats =
+abbrev pub layout_with : (List Row → List Row) → Layout → Option ℕ → ℕ → ℕ → Layout
+layout_with change k None heads seats = record k { references = change k.references; heads = heads; seats = seats }
+layout_with change k (Some c) heads seats =
     record k { made = change_at change k.made c; heads = heads; seats = seats }
 
 -- the store with one more entity of class c
 abbrev pub one_more : ℕ → StoreValue → StoreValue
 one_more c v = record v {
   state = with_more v.state c (class_of v.tables c);
-  kept = kept_with (λ rs. rs ++ record { class = c; head = v.kept.heads; seat = v.kept.seats } ∷ [])
+  kept = layout_with (λ rs. rs ++ record { class = c; head = v.kept.heads; seat = v.kept.seats } ∷ [])
       v.kept (numbering (class_of v.tables c) c)
       (v.kept.heads + (class_of v.tables c).owned) (v.kept.seats + (class_of v.tables c).joined);
 }
@@ -144,7 +147,7 @@ without_last (Some c) st = record st { made = change_at but_last st.made c }
 abbrev pub one_less : ℕ → ℕ → ℕ → StoreValue → StoreValue
 one_less c heads seats v = record v {
   state = without_last (numbering (class_of v.tables c) c) v.state;
-  kept = kept_with but_last v.kept (numbering (class_of v.tables c) c) heads seats;
+  kept = layout_with but_last v.kept (numbering (class_of v.tables c) c) heads seats;
 }
 
 -- entity number k is the last of the numbering of class c, its heads and seats are the board's last, from these on, it
@@ -153,9 +156,9 @@ pub record FitsLast (c k heads seats : ℕ) (v : StoreValue) : Type 0 where
   -- there is such a class
   pub is_class : c < length v.tables.classes
   -- it is the last
-  pub last : length (kept_rows v.kept (numbering (class_of v.tables c) c)) ≡ k
+  pub last : length (rows_of_numbering v.kept (numbering (class_of v.tables c) c)) ≡ k
   -- its row has these heads and seats
-  pub row : slice_get (kept_rows v.kept (numbering (class_of v.tables c) c)) (k - 1)
+  pub row : slice_get (rows_of_numbering v.kept (numbering (class_of v.tables c) c)) (k - 1)
       ≡ Some (record { class = c; head = heads; seat = seats })
   -- its heads are the last
   pub last_heads : heads + (class_of v.tables c).owned ≡ v.kept.heads
@@ -170,22 +173,24 @@ pub record FitsLast (c k heads seats : ℕ) (v : StoreValue) : Type 0 where
 
 -- there may be one more entity of class c
 abbrev pub HasRoom : ℕ → StoreValue → Type 0
-HasRoom c v = length (kept_rows v.kept (numbering (class_of v.tables c) c)) < numbering_limit (class_of v.tables c)
+HasRoom c v = length (rows_of_numbering v.kept (numbering (class_of v.tables c) c))
+    < numbering_limit (class_of v.tables c)
 
 -- an entity of class c was made, and can be taken off again
 pub record Makes (c : ℕ) (old new : StoreValue) : Type 0 where
   -- the store with it
   pub is : new ≡ one_more c old
   -- it is the last
-  pub fits : FitsLast c (suc (length (kept_rows old.kept (numbering (class_of old.tables c) c))))
+  pub fits : FitsLast c (suc (length (rows_of_numbering old.kept (numbering (class_of old.tables c) c))))
       old.kept.heads old.kept.seats new
   -- without it, the store is as before
   pub back : one_less c old.kept.heads old.kept.seats new ≡ old
 
 -- so many entities of class c can be taken off, last first, and this store is what is left
-abbrev pub Less : ℕ → ℕ → StoreValue → StoreValue → Type 0
-Less c zero v rest = v ≡ rest
-Less c (suc n) v rest = (k heads seats : ℕ) × FitsLast c k heads seats v × Less c n (one_less c heads seats v) rest
+abbrev pub TakesOff : ℕ → ℕ → StoreValue → StoreValue → Type 0
+TakesOff c zero v rest = v ≡ rest
+TakesOff c (suc n) v rest = (k heads seats : ℕ) × FitsLast c k heads seats v
+    × TakesOff c n (one_less c heads seats v) rest
 
 -- so many entities of permanent class c were made, and can be taken off again
 pub record MakesAll (c n : ℕ) (old new : StoreValue) : Type 0 where
@@ -202,8 +207,8 @@ pub record MakesAll (c n : ℕ) (old new : StoreValue) : Type 0 where
   -- how many seats there are then
   pub seats : ℕ
   -- the rows are kept
-  pub kept : new.kept ≡ kept_with (λ rs. rs ++ rows) old.kept (Some c) heads seats
+  pub kept : new.kept ≡ layout_with (λ rs. rs ++ rows) old.kept (Some c) heads seats
   -- as many rows as entities
   pub count : length rows ≡ n
   -- they can be taken off, last first
-  pub less : Less c n new old
+  pub takes_off : TakesOff c n new old

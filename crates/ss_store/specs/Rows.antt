@@ -35,13 +35,13 @@ row_if c (Some r) None = None
 row_if c None v = None
 
 -- row number i of a numbering, if it is of class c and has not ended
-abbrev pub living_in : RowTable → ℕ → ℕ → Option Row
-living_in t c i = row_if c (slice_get t.rows i) (slice_get t.values i)
+abbrev pub row_in : RowTable → ℕ → ℕ → Option Row
+row_in t c i = row_if c (slice_get t.rows i) (slice_get t.values i)
 
 -- the row of entity number k of class c
 abbrev pub row_of : EntityTable → ℕ → ℕ → Option Row
 row_of es c zero = None
-row_of es c (suc i) = option_or (living_in (rows_in es (Some c)) c i) (living_in es.references c i)
+row_of es c (suc i) = option_or (row_in (rows_in es (Some c)) c i) (row_in es.references c i)
 
 -- the values of the attributes of an entity of class c that has not ended
 abbrev pub values_if : ℕ → Option Row → Option (Option (List ℤ)) → Option (List ℤ)

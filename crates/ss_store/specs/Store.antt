@@ -1,5 +1,5 @@
 -- What the store holds: entities and the lists of their sets. How they are made, changed and ended.
-use Rattle.std.specs.Prelude.{◌≡◌, ◌^◌, ℕ, zero, suc, ◌-◌, ◌==◌, Bool, true, false, ◌&&◌, not, nat_lt, nat_le}
+use Rattle.std.specs.Prelude.{◌≡◌, ℕ, zero, suc, ◌-◌, ◌==◌, Bool, true, false, ◌&&◌, not, nat_lt, nat_le}
 use Rattle.std.specs.Prelude.{if◌then◌else◌, ℤ}
 use Rattle.std.specs.Prelude.{pos, negsuc, List, [], ◌∷◌, ◌++◌, length, map, replicate, filter_map, find, slice_get}
 use Rattle.std.specs.Prelude.{slice_set, slice_index_or, Option, Some, None, is_some, option_map, option_and_then}
@@ -9,9 +9,12 @@ use Rattle.std.specs.List.{list_any}
 use Rattle.ss_words.specs.declared.fault.RunFault.{RunFault}
 use Rattle.ss_words.specs.declared.fault.RunFault.TheVariants.{NoEntity, EndedInUse, EndedOwner, AlreadyCreated}
 use Rattle.ss_words.specs.declared.fault.RunFault.TheVariants.{CountOutOfRange, TooManyReferences}
+use Rattle.ss_words.specs.declared.limits.TheConstants.{MOST_REFERENCES}
+use Rattle.ss_words.specs.Ranges.{in_range}
 use Rattle.ss_links.specs.Seats.{has}
 use Rattle.ss_program.specs.declared.kinds.Owner.{Owner}
 use Rattle.ss_program.specs.declared.kinds.Owner.TheVariants.{System, OwnedBy}
+use Rattle.ss_store.specs.declared.limits.TheConstants.{MOST_ENTITIES}
 use Rattle.ss_store.specs.declared.shape.ClassShape.{ClassShape}
 use Rattle.ss_store.specs.declared.shape.SetShape.{SetShape}
 use Rattle.ss_store.specs.Lists.{change_at}
@@ -77,12 +80,7 @@ exists st c k = is_some (entity st c k)
 
 -- ---- attributes
 
--- a value of 64 bits with a sign
-abbrev pub in_range : ℤ → Bool
-in_range (pos n) = nat_lt n (2 ^ 63)
-in_range (negsuc n) = nat_lt n (2 ^ 63)
-
--- all values are such
+-- all values are in range
 abbrev pub AreInRange : List ℤ → Type 0
 AreInRange [] = Unit {0}
 AreInRange (x ∷ xs) = (in_range x ≡ true) × AreInRange xs
@@ -112,9 +110,13 @@ lists_by (OwnedBy c) n st = map (λ e. list_number e.owned n) (entities st c)
 abbrev pub is_owner : SetShape → Store → ℕ → Bool
 is_owner s st k = is_some (list_by s.owner s.list st k)
 
+-- the members of a set's list for owner number k, none where that does not exist
+abbrev pub members_by : Owner → ℕ → Store → ℕ → List ℕ
+members_by w n st k = unwrap_or (list_by w n st k) []
+
 -- the members of the list of this set for owner number k
 abbrev pub members_of : SetShape → Store → ℕ → List ℕ
-members_of s st k = unwrap_or (list_by s.owner s.list st k) []
+members_of s st k = members_by s.owner s.list st k
 
 -- whether k is in one of these lists
 abbrev pub stands_in : List (List ℕ) → ℕ → Bool
@@ -174,10 +176,6 @@ fresh c shape = record { class = c; attributes = replicate shape.attributes (pos
 abbrev pub empty_store : Tables → Store
 empty_store t = record { made = replicate (length t.classes) []; references = []; system = replicate t.system [] }
 
--- no more references than these
-abbrev pub reference_limit : ℕ
-reference_limit = 1000000
-
 -- the store with one more reference
 abbrev pub with_reference : Store → Entity → Store
 with_reference st e = record st { references = st.references ++ Some e ∷ [] }
@@ -185,7 +183,7 @@ with_reference st e = record st { references = st.references ++ Some e ∷ [] }
 -- the store with one more entity of class c, which has the last reference; F20 where there are too many
 abbrev pub with_new : Store → ℕ → ClassShape → Result Store RunFault
 with_new st c shape =
-    unless TooManyReferences (nat_lt (length st.references) reference_limit) (Ok (with_reference st (fresh c shape)))
+    unless TooManyReferences (nat_lt (length st.references) MOST_REFERENCES) (Ok (with_reference st (fresh c shape)))
 
 -- the reference that was given last
 abbrev pub last_reference : Store → ℕ
@@ -195,15 +193,11 @@ last_reference st = length st.references
 abbrev pub with_made : Store → ℕ → List Entity → Store
 with_made st c es = record st { made = slice_set st.made c es }
 
--- no more entities of a permanent class than these
-abbrev pub class_limit : ℕ
-class_limit = 10000
-
 -- the store with n entities of permanent class c; F12 where it was made, F13 where n isn't 1 to 10,000
 abbrev pub with_class : Store → ℕ → ClassShape → ℤ → Result Store RunFault
 with_class st c shape n =
     unless AlreadyCreated (length (made_of st c) == 0)
-    (unless CountOutOfRange (nat_lt 0 (number_of n) && nat_le (number_of n) class_limit)
+    (unless CountOutOfRange (nat_lt 0 (number_of n) && nat_le (number_of n) MOST_ENTITIES)
     (Ok (with_made st c (replicate (number_of n) (fresh c shape)))))
 
 -- ---- ending

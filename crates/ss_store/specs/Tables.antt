@@ -1,9 +1,11 @@
 -- What a store needs of a program: its classes and its sets, in order of declaration.
-use Rattle.std.specs.Prelude.{ℕ, ◌==◌, Bool, true, false, List, length, take, map, count_by, slice_get, unwrap_or}
+use Rattle.std.specs.Prelude.{◌≡◌, ◌<◌, ◌≤◌, ℕ, ◌==◌, Bool, true, false, List, length, take, map, count_by, slice_get}
+use Rattle.std.specs.Prelude.{unwrap_or, Some}
 use Rattle.std.specs.List.{range_with_len}
 use Rattle.ss_program.specs.declared.kinds.ClassKind.{ClassKind}
 use Rattle.ss_program.specs.declared.kinds.ClassKind.TheVariants.{Permanent}
 use Rattle.ss_program.specs.declared.kinds.Discipline.TheVariants.{Fifo}
+use Rattle.ss_program.specs.declared.kinds.Owner.{Owner}
 use Rattle.ss_program.specs.declared.kinds.Owner.TheVariants.{System, OwnedBy}
 use Rattle.ss_program.specs.Program as program
 use Rattle.ss_program.specs.Program.{SetTable, ProgramTable, owned_among, list_number}
@@ -74,3 +76,37 @@ tables_of p = record {
   sets = map (set_shape p) (range_with_len 0 (length p.sets));
   system = owned_among System p.sets;
 }
+
+-- ---- tables that a store can stand on
+
+-- a set of the program
+abbrev pub IsSet : List SetShape → SetShape → Type 0
+IsSet sets s = (i : ℕ) × (slice_get sets i ≡ Some s)
+
+-- how many sets an owner has
+abbrev pub owned_by : Owner → Tables → ℕ
+owned_by System t = t.system
+owned_by (OwnedBy c) t = (class_of t c).owned
+
+-- no more classes than these, nor sets
+abbrev pub table_limit : ℕ
+table_limit = 64
+
+-- each set has a number of its own among those of its owner and among those of its members
+pub record AreTables (t : Tables) : Type 0 where
+  -- a set's list is one of its owner's
+  pub lists : (s : SetShape) → IsSet t.sets s → s.list < owned_by s.owner t
+  -- a set's slot is one of its members'
+  pub slots : (s : SetShape) → IsSet t.sets s → s.slot < (class_of t s.member).joined
+  -- two sets of one owner have two lists
+  pub one_list : (a b : SetShape) → IsSet t.sets a → IsSet t.sets b → a.owner ≡ b.owner → a.list ≡ b.list → a ≡ b
+  -- two sets of one class of members have two slots
+  pub one_slot : (a b : SetShape) → IsSet t.sets a → IsSet t.sets b → a.member ≡ b.member → a.slot ≡ b.slot → a ≡ b
+  -- the classes are few
+  pub few_classes : length t.classes ≤ table_limit
+  -- a class owns few sets
+  pub few_owned : (c : ℕ) → (class_of t c).owned ≤ table_limit
+  -- a class may be in few sets
+  pub few_joined : (c : ℕ) → (class_of t c).joined ≤ table_limit
+  -- the system owns few sets
+  pub few_system : t.system ≤ table_limit

@@ -3,9 +3,10 @@ use Rattle.std.specs.Prelude.{◌≡◌, ◌<◌, ◌≤◌, ℕ, true, false, L
 use Rattle.ss_links.specs.Board.{times}
 use Rattle.ss_store.specs.declared.shape.SetShape.{SetShape}
 use Rattle.ss_store.specs.Tables.{Tables, class_of}
-use Rattle.ss_store.specs.Held.{IsSet}
-use Rattle.ss_store.specs.Store.{Entity, Store, AreInRange, made_of, exists, lists_by, is_filed, class_limit}
-use Rattle.ss_store.specs.Store.{reference_limit}
+use Rattle.ss_store.specs.Tables.{IsSet}
+use Rattle.ss_store.specs.Store.{Entity, Store, AreInRange, made_of, exists, lists_by, is_filed}
+use Rattle.ss_store.specs.declared.limits.TheConstants.{MOST_ENTITIES}
+use Rattle.ss_words.specs.declared.limits.TheConstants.{MOST_REFERENCES}
 
 -- each item of a list is one of which this is said
 abbrev pub Each : {A : Type 0} → (A → Type 0) → List A → Type 0
@@ -45,11 +46,11 @@ pub record IsWellStore (t : Tables) (st : Store) : Type 0 where
   -- none is made of a class that is not permanent
   pub permanent : (c : ℕ) → (class_of t c).permanent ≡ false → made_of st c ≡ []
   -- of each no more than 10,000
-  pub few_made : (c : ℕ) → length (made_of st c) ≤ class_limit
+  pub few_made : (c : ℕ) → length (made_of st c) ≤ MOST_ENTITIES
   -- what the references stand for
   pub references : Each (IsReference t) st.references
   -- no more than 1,000,000 were given
-  pub few_references : length st.references ≤ reference_limit
+  pub few_references : length st.references ≤ MOST_REFERENCES
   -- the system has a list for each of its sets
   pub system : length st.system ≡ t.system
   -- the members of each set

@@ -4,7 +4,8 @@ ghost use Rattle.std.specs.Prelude.{IfOk, OnErr, None, Some, true, pos};
 ghost use Rattle.ss_links.specs.Board.{IsSound, list_at, head_of};
 ghost use Rattle.ss_store.specs.declared.rows.Row.{Row as ARow};
 ghost use Rattle.ss_store.specs.Rows.{rows_in};
-ghost use Rattle.ss_store.specs.Making.{with_heads, with_seats, with_places, with_table, more, less, numbering_by};
+ghost use Rattle.ss_store.specs.Making.{with_heads, with_seats, with_places, with_table, with_row, without_last_row};
+ghost use Rattle.ss_store.specs.Making.{numbering_by};
 ghost use Rattle.ss_store.specs.Making.{CanShrink};
 
 use crate::rows::{Entities, Row};
@@ -17,7 +18,10 @@ pub(crate) fn take_heads<S: SetBoard>(board: &mut S, left: u32)
     requires there { left ≤ length (S.board board.old).lists }
     requires empty { (h : ℕ) → left ≤ h → list_at (S.board board.old).lists h ≡ [] }
     ensures board { S.board board.new
-        ≡ record { lists = take left (S.board board.old).lists; seats = (S.board board.old).seats } }
+        ≡ record {
+          lists = take left (S.board board.old).lists;
+          seats = (S.board board.old).seats;
+        } }
     ensures sound { IsSound (S.board board.new) }
 {
     while board.heads() > left {
@@ -79,7 +83,8 @@ pub(crate) fn add_places<S: SetBoard>(
 ) -> Result<(), AllocError>
     requires heads { length (S.board board.old).lists + heads < 2 ^ 32 }
     requires seats { (S.board board.old).seats + seats < 2 ^ 32 }
-    ensures ok { IfOk result (λ _. S.board board.new ≡ with_places heads seats (S.board board.old)) }
+    ensures ok { IfOk result
+        (λ _. S.board board.new ≡ with_places heads seats (S.board board.old)) }
     ensures err { OnErr result (S.board board.new ≡ S.board board.old) }
     ensures sound { IsSound (S.board board.new) }
 {
@@ -101,7 +106,8 @@ pub(crate) fn zeros(alloc: Global, count: usize) -> Result<Vec<i64>, AllocError>
 
 /// Adds the number of a member, once for each of its seats, or not at all where memory is refused.
 pub(crate) fn add_numbers(numbers: &mut Vec<u32>, number: u32, count: u32) -> Result<(), AllocError>
-    ensures ok { IfOk result (λ _. numbers.new.items ≡ numbers.old.items ++ replicate count number) }
+    ensures ok { IfOk result
+        (λ _. numbers.new.items ≡ numbers.old.items ++ replicate count number) }
     ensures err { OnErr result (numbers.new.items ≡ numbers.old.items) }
 {
     numbers.try_reserve(count as usize)?;
@@ -122,18 +128,24 @@ pub(crate) fn grow<S: SetBoard>(
     class: usize,
 ) -> Result<Row, AllocError>
     requires class { shape.permanent ≡ true → class < length entities.old.made }
-    requires few { length (rows_in entities.old (numbering_by shape.permanent class)).rows + 1 < 2 ^ 32 }
+    requires few { length (rows_in entities.old (numbering_by shape.permanent class)).rows + 1
+        < 2 ^ 32 }
     requires heads { length (S.board board.old).lists + shape.owned < 2 ^ 32 }
     requires seats { (S.board board.old).seats + shape.joined < 2 ^ 32 }
     requires numbers { length numbers.old.items ≡ (S.board board.old).seats }
     requires sound { IsSound (S.board board.old) }
     ensures row { IfOk result (λ row. row
-        ≡ record { class = class; head = length (S.board board.old).lists; seat = (S.board board.old).seats }) }
+        ≡ record {
+          class = class;
+          head = length (S.board board.old).lists;
+          seat = (S.board board.old).seats;
+        }) }
     ensures rows { IfOk result (λ row. entities.new
-        ≡ with_table (more row (replicate shape.attributes (pos 0)))
+        ≡ with_table (with_row row (replicate shape.attributes (pos 0)))
         entities.old (numbering_by shape.permanent class)) }
     ensures numbers { IfOk result (λ _. numbers.new.items ≡ numbers.old.items
-        ++ replicate shape.joined (length (rows_in entities.old (numbering_by shape.permanent class)).rows + 1)) }
+        ++ replicate shape.joined
+        (length (rows_in entities.old (numbering_by shape.permanent class)).rows + 1)) }
     ensures board { IfOk result (λ _. S.board board.new
         ≡ with_places shape.owned shape.joined (S.board board.old)) }
     ensures err_rows { OnErr result (entities.new ≡ entities.old) }
@@ -170,16 +182,21 @@ pub(crate) fn shrink<S: SetBoard>(
 )
     requires class { permanent ≡ true → class < length entities.old.made }
     requires any { 0 < length (rows_in entities.old (numbering_by permanent class)).rows }
-    requires last { (row : ARow) → slice_get (rows_in entities.old (numbering_by permanent class)).rows
+    requires last { (row : ARow)
+        → slice_get (rows_in entities.old (numbering_by permanent class)).rows
         (length (rows_in entities.old (numbering_by permanent class)).rows - 1) ≡ Some row →
         CanShrink (S.board board.old) row.head row.seat }
-    ensures rows { entities.new ≡ with_table less entities.old (numbering_by permanent class) }
-    ensures numbers { (row : ARow) → slice_get (rows_in entities.old (numbering_by permanent class)).rows
+    ensures rows { entities.new
+        ≡ with_table without_last_row entities.old (numbering_by permanent class) }
+    ensures numbers { (row : ARow)
+        → slice_get (rows_in entities.old (numbering_by permanent class)).rows
         (length (rows_in entities.old (numbering_by permanent class)).rows - 1) ≡ Some row →
         numbers.new.items ≡ take row.seat numbers.old.items }
-    ensures board { (row : ARow) → slice_get (rows_in entities.old (numbering_by permanent class)).rows
+    ensures board { (row : ARow)
+        → slice_get (rows_in entities.old (numbering_by permanent class)).rows
         (length (rows_in entities.old (numbering_by permanent class)).rows - 1) ≡ Some row →
-        S.board board.new ≡ record { lists = take row.head (S.board board.old).lists; seats = row.seat } }
+        S.board board.new
+        ≡ record { lists = take row.head (S.board board.old).lists; seats = row.seat } }
     ensures sound { IsSound (S.board board.new) }
 {
     let row = entities.pop(permanent, class);

@@ -5,6 +5,7 @@ mod change;
 mod ending;
 mod growing;
 pub mod laws;
+pub mod limits;
 mod making;
 mod places;
 mod ranking;

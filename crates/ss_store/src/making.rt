@@ -1,29 +1,28 @@
 //! Entities made, and what takes them off again.
 ghost use Rattle.std.specs.Prelude.{◌≡◌, ◌<◌, ◌≤◌, IfOk, OnErr, length, true, false, ℕ};
 ghost use Rattle.ss_store.specs.Tables.{class_of};
+ghost use Rattle.ss_store.specs.declared.limits.TheConstants.{MOST_ENTITIES};
 ghost use Rattle.ss_store.specs.Store.{made_of, with_new, with_class};
-ghost use Rattle.ss_store.specs.Making.{numbering, kept_rows, HasRoom, Makes, MakesAll, FitsLast, Less, one_less};
-ghost use Rattle.ss_store.specs.Held.{StoreValue};
+ghost use Rattle.ss_store.specs.Making.{numbering, rows_of_numbering, HasRoom, Makes, MakesAll, FitsLast, TakesOff};
+ghost use Rattle.ss_store.specs.Making.{one_less};
+ghost use Rattle.ss_store.specs.Value.{StoreValue};
 ghost use Rattle.ss_store.specs.Change.{IsCreation, IsMaking};
 
 use crate::change::StoreChange;
 use crate::growing::{grow, shrink};
+use crate::limits::MOST_ENTITIES;
 use crate::store::Store;
 use ss_links::SetBoard;
+use ss_words::limits::MOST_REFERENCES;
 use ss_words::{RunFault, StepFault};
 use std::alloc::AllocError;
-
-/// The most references that a run gives.
-const REFERENCE_LIMIT: usize = 1_000_000;
-
-/// The most entities of a permanent class.
-const CLASS_LIMIT: i64 = 10_000;
 
 impl<S: SetBoard> Store<S> {
     /// How many entities were made in the numbering of a class.
     fn count_made(&self, class: usize) -> usize
         requires { class < length self.now.tables.classes }
-        ensures kept { result ≡ length (kept_rows self.now.kept (numbering (class_of self.now.tables class) class)) }
+        ensures kept { result
+            ≡ length (rows_of_numbering self.now.kept (numbering (class_of self.now.tables class) class)) }
         ensures given { (class_of self.now.tables class).permanent ≡ false
             → result ≡ length self.now.state.references }
         ensures made { (class_of self.now.tables class).permanent ≡ true
@@ -90,8 +89,8 @@ impl<S: SetBoard> Store<S> {
 
     /// Takes so many entities of a class off, last first.
     pub(crate) fn take_entities(&mut self, class: usize, count: usize)
-        requires { (rest : StoreValue) × Less class count self.old rest }
-        ensures { (rest : StoreValue) → Less class count self.old rest → self.new ≡ rest }
+        requires { (rest : StoreValue) × TakesOff class count self.old rest }
+        ensures { (rest : StoreValue) → TakesOff class count self.old rest → self.new ≡ rest }
     {
         for _ in 0..count {
             self.take_entity(class);
@@ -102,8 +101,9 @@ impl<S: SetBoard> Store<S> {
     fn add_entities(&mut self, class: usize, count: usize) -> Result<(), AllocError>
         requires class { class < length self.old.tables.classes }
         requires kind { (class_of self.old.tables class).permanent ≡ true }
-        requires none { length (kept_rows self.old.kept (numbering (class_of self.old.tables class) class)) ≡ 0 }
-        requires few { count ≤ 10000 }
+        requires none { length (rows_of_numbering self.old.kept
+            (numbering (class_of self.old.tables class) class)) ≡ 0 }
+        requires few { count ≤ MOST_ENTITIES }
         ensures ok { IfOk result (λ _. MakesAll class count self.old self.new) }
         ensures err { OnErr result (self.new ≡ self.old) }
     {
@@ -123,10 +123,11 @@ impl<S: SetBoard> Store<S> {
     pub fn create(&mut self, class: usize) -> Result<(u32, StoreChange), StepFault>
         requires class { class < length self.old.tables.classes }
         requires kind { (class_of self.old.tables class).permanent ≡ false }
-        ensures { IsCreation result (with_new self.old.state class (class_of self.old.tables class)) self.old self.new }
+        ensures { IsCreation result
+            (with_new self.old.state class (class_of self.old.tables class)) self.old self.new }
     {
         let count = self.count_made(class);
-        if count >= REFERENCE_LIMIT {
+        if count >= MOST_REFERENCES {
             return Err(StepFault::Fault(RunFault::TooManyReferences));
         }
         let heads = self.count_heads();
@@ -162,7 +163,7 @@ impl<S: SetBoard> Store<S> {
         if self.count_made(class) > 0 {
             return Err(StepFault::Fault(RunFault::AlreadyCreated));
         }
-        if n < 1 || n > CLASS_LIMIT {
+        if n < 1 || n > MOST_ENTITIES as i64 {
             return Err(StepFault::Fault(RunFault::CountOutOfRange));
         }
         let count = n as usize;

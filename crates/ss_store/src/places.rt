@@ -3,9 +3,10 @@ ghost use Rattle.std.specs.Prelude.{◌≡◌, ◌<◌, ◌^◌, length, IfOk, N
 ghost use Rattle.std.specs.Option.{ForNone, ForSome};
 ghost use Rattle.ss_store.specs.Store as pure;
 ghost use Rattle.ss_store.specs.Rows as table;
-ghost use Rattle.ss_store.specs.Held as held;
-ghost use Rattle.ss_store.specs.Held.{head_at, seat_at, standing_by, seat_for, number_at, is_at, spot_by, place_by};
-ghost use Rattle.ss_store.specs.Held.{SpotBelow};
+ghost use Rattle.ss_store.specs.Finding as finding;
+ghost use Rattle.ss_store.specs.Finding.{seat_in_list, seat_to_remove, is_at, spot_by, place_by};
+ghost use Rattle.ss_store.specs.Parts.{head_at, seat_at, number_at};
+ghost use Rattle.ss_store.specs.Finding.{SpotBelow};
 ghost use Rattle.ss_links.specs.Board.{head_of, IsSound};
 
 use crate::ranking::ranked_place;
@@ -15,16 +16,26 @@ use ss_links::SetBoard;
 use ss_program::{Discipline, Owner};
 use ss_words::RunFault;
 
+/// Tells its caller what a board says of itself where its heads and seats are counted.
+pub(crate) fn known<S: SetBoard>(board: &S)
+    ensures heads { length (S.board board.now).lists < 2 ^ 32 }
+    ensures seats { (S.board board.now).seats < 2 ^ 32 }
+    ensures sound { IsSound (S.board board.now) }
+{
+    board.heads();
+    board.seats();
+}
+
 /// The number of the entity that a value names, 0 where it is below 1 and names none.
-pub(crate) fn named(value: i64) -> usize
+pub(crate) fn number_of_value(value: i64) -> usize
     ensures { result ≡ pure.number_of value }
 {
     if value < 1 { 0 } else { value as usize }
 }
 
 /// The row of the entity with this index, if it is of this class and has not ended.
-fn living(rows: &Rows, class: usize, index: usize) -> Option<Row>
-    ensures { result ≡ table.living_in rows.now class index }
+fn row_in(rows: &Rows, class: usize, index: usize) -> Option<Row>
+    ensures { result ≡ table.row_in rows.now class index }
 {
     let row = *rows.rows.get(index)?;
     match rows.values.get(index)? {
@@ -43,10 +54,10 @@ pub(crate) fn row_of(entities: &Entities, class: usize, number: usize) -> Option
     let index = number - 1;
     let made = match entities.made.get(class) {
         None => None,
-        Some(rows) => living(rows, class, index),
+        Some(rows) => row_in(rows, class, index),
     };
     match made {
-        None => living(&entities.references, class, index),
+        None => row_in(&entities.references, class, index),
         Some(row) => Some(row),
     }
 }
@@ -95,11 +106,11 @@ pub(crate) fn spot_of(entities: &Entities, set: &SetShape, how: How) -> Result<S
         How::ByRule => Ok(Spot::ByRule),
         How::First => Ok(Spot::First),
         How::Last => Ok(Spot::Last),
-        How::Before(y) => match seat_of(entities, set, named(y)) {
+        How::Before(y) => match seat_of(entities, set, number_of_value(y)) {
             None => Err(RunFault::NoEntity),
             Some(at) => Ok(Spot::Before(at)),
         },
-        How::After(y) => match seat_of(entities, set, named(y)) {
+        How::After(y) => match seat_of(entities, set, number_of_value(y)) {
             None => Err(RunFault::NoEntity),
             Some(at) => Ok(Spot::After(at)),
         },
@@ -132,7 +143,8 @@ pub(crate) fn place_for<S: SetBoard>(
     requires spot { SpotBelow spot (S.board board.now).seats }
     requires numbers { length numbers.now ≡ (S.board board.now).seats }
     requires sound { IsSound (S.board board.now) }
-    ensures { result ≡ place_by entities.now numbers.now (S.board board.now).lists set.now head member spot }
+    ensures { result
+        ≡ place_by entities.now numbers.now (S.board board.now).lists set.now head member spot }
 {
     match spot {
         Spot::First => Ok(None),
@@ -162,16 +174,18 @@ pub(crate) fn place_for<S: SetBoard>(
 }
 
 /// The seat of a member in the list of a head.
-pub(crate) fn standing<S: SetBoard>(
+pub(crate) fn seat_in_list<S: SetBoard>(
     entities: &Entities,
     board: &S,
     set: &SetShape,
     head: u32,
     member: usize,
 ) -> Result<u32, RunFault>
-    requires seats { (y t : ℕ) → seat_at entities.now set.now y ≡ Some t → t < (S.board board.now).seats }
+    requires seats { (y t : ℕ) → seat_at entities.now set.now y ≡ Some t
+        → t < (S.board board.now).seats }
     requires small { (S.board board.now).seats < 2 ^ 32 }
-    ensures value { result ≡ standing_by (S.board board.now).lists head (seat_at entities.now set.now member) }
+    ensures value { result
+        ≡ seat_in_list (S.board board.now).lists head (seat_at entities.now set.now member) }
     ensures within { IfOk result (λ at. at < (S.board board.now).seats) }
 {
     match seat_of(entities, set, member) {
@@ -190,7 +204,7 @@ pub(crate) fn standing<S: SetBoard>(
 }
 
 /// The seat of the member that is to be removed from the list of a head.
-pub(crate) fn seat_named<S: SetBoard>(
+pub(crate) fn seat_to_remove<S: SetBoard>(
     entities: &Entities,
     board: &S,
     set: &SetShape,
@@ -198,9 +212,10 @@ pub(crate) fn seat_named<S: SetBoard>(
     which: Which,
 ) -> Result<u32, RunFault>
     requires head { head < length (S.board board.now).lists }
-    requires seats { (y t : ℕ) → seat_at entities.now set.now y ≡ Some t → t < (S.board board.now).seats }
+    requires seats { (y t : ℕ) → seat_at entities.now set.now y ≡ Some t
+        → t < (S.board board.now).seats }
     requires small { (S.board board.now).seats < 2 ^ 32 }
-    ensures { result ≡ seat_for entities.now (S.board board.now).lists set.now head which }
+    ensures { result ≡ seat_to_remove entities.now (S.board board.now).lists set.now head which }
 {
     match which {
         Which::First => match board.first(head) {
@@ -211,12 +226,12 @@ pub(crate) fn seat_named<S: SetBoard>(
             None => Err(RunFault::EmptySet),
             Some(seat) => Ok(seat),
         },
-        Which::Member(x) => standing(entities, board, set, head, named(x)),
+        Which::Member(x) => seat_in_list(entities, board, set, head, number_of_value(x)),
     }
 }
 
 /// The number of the member whose seat it is.
-pub(crate) fn number_of(numbers: &[u32], seat: u32) -> u32
+pub(crate) fn member_at_seat(numbers: &[u32], seat: u32) -> u32
     requires { seat < length numbers.now }
     ensures { result ≡ number_at numbers.now seat }
 {
@@ -224,13 +239,13 @@ pub(crate) fn number_of(numbers: &[u32], seat: u32) -> u32
 }
 
 /// The number of the member whose seat it is, or none.
-pub(crate) fn number_if(numbers: &[u32], seat: Option<u32>) -> Option<u32>
+pub(crate) fn member_if(numbers: &[u32], seat: Option<u32>) -> Option<u32>
     requires { ForSome seat (λ at. at < length numbers.now) }
     ensures { result ≡ option_map (number_at numbers.now) seat }
 {
     match seat {
         None => None,
-        Some(at) => Some(number_of(numbers, at)),
+        Some(at) => Some(member_at_seat(numbers, at)),
     }
 }
 
@@ -256,9 +271,10 @@ pub(crate) fn seat_in<S: SetBoard>(
     member: usize,
 ) -> Result<Option<u32>, RunFault>
     requires heads { (h : ℕ) → head_at entities.now set.now owner ≡ Some h → h < 2 ^ 32 }
-    requires seats { (y t : ℕ) → seat_at entities.now set.now y ≡ Some t → t < (S.board board.now).seats }
+    requires seats { (y t : ℕ) → seat_at entities.now set.now y ≡ Some t
+        → t < (S.board board.now).seats }
     requires small { (S.board board.now).seats < 2 ^ 32 }
-    ensures { result ≡ held.seat_in entities.now (S.board board.now).lists set.now owner member }
+    ensures { result ≡ finding.seat_in entities.now (S.board board.now).lists set.now owner member }
 {
     let head = match head_of(entities, set, owner) {
         None => return Err(RunFault::NoEntity),

@@ -3,12 +3,13 @@ ghost use Rattle.std.specs.Prelude.{◌≡◌, ◌<◌, length, None, IsSome, un
 ghost use Rattle.std.specs.Ordering.{is_gt};
 ghost use Rattle.std.specs.Option.{ForSome};
 ghost use Rattle.ss_links.specs.Board.{list_at, list_of, head_of, IsSound};
-ghost use Rattle.ss_links.specs.Seats.{seat_behind};
+ghost use Rattle.ss_links.specs.Seats.{next_in};
 ghost use Rattle.ss_program.specs.Keys.{by_keys, key_values};
 ghost use Rattle.ss_store.specs.Rows as table;
-ghost use Rattle.ss_store.specs.Held.{keys_in, number_at, rank_before, seat_behind_in};
+ghost use Rattle.ss_store.specs.Finding.{keys_in, rank_before, seat_behind_in};
+ghost use Rattle.ss_store.specs.Parts.{number_at};
 
-use crate::places::number_of;
+use crate::places::member_at_seat;
 use crate::rows::{Entities, Rows};
 use ss_links::SetBoard;
 use ss_program::{Key, Keys, Rank};
@@ -62,7 +63,8 @@ pub(crate) fn value_at(values: &[i64], attribute: usize) -> i64
 /// Whether an entity with these values ranks strictly behind one with those: by the first key that
 /// tells them apart.
 fn ranks_behind(keys: &[Key], theirs: &[i64], ours: &[i64]) -> bool
-    ensures { result ≡ is_gt (by_keys keys.now (key_values keys.now theirs.now) (key_values keys.now ours.now)) }
+    ensures { result
+        ≡ is_gt (by_keys keys.now (key_values keys.now theirs.now) (key_values keys.now ours.now)) }
 {
     for key in keys {
         let their = value_at(theirs, key.attribute);
@@ -88,9 +90,10 @@ fn seat_behind(
 ) -> bool
     requires { seat < length numbers.now }
     ensures { result ≡ is_gt (by_keys keys.now
-        (keys_in entities.now keys.now class (number_at numbers.now seat)) (key_values keys.now ours.now)) }
+        (keys_in entities.now keys.now class (number_at numbers.now seat))
+        (key_values keys.now ours.now)) }
 {
-    let number = number_of(numbers, seat) as usize;
+    let number = member_at_seat(numbers, seat) as usize;
     match values_of(entities, class, number) {
         None => ranks_behind(keys, &[], ours),
         Some(theirs) => ranks_behind(keys, theirs, ours),
@@ -113,7 +116,8 @@ fn place_among<S: SetBoard>(
     requires sound { IsSound (S.board board.now) }
     ensures { result ≡ rank_before
         (λ t. is_gt (by_keys keys.now
-        (keys_in entities.now keys.now class (number_at numbers.now t)) (key_values keys.now ours.now)))
+        (keys_in entities.now keys.now class (number_at numbers.now t))
+        (key_values keys.now ours.now)))
         None (list_at (S.board board.now).lists head) }
 {
     let mut before = None;
@@ -142,7 +146,8 @@ pub(crate) fn ranked_place<S: SetBoard>(
     requires head { head < length (S.board board.now).lists }
     requires numbers { length numbers.now ≡ (S.board board.now).seats }
     requires sound { IsSound (S.board board.now) }
-    ensures { result ≡ rank_before (seat_behind_in entities.now numbers.now keys.now class member) None
+    ensures { result
+        ≡ rank_before (seat_behind_in entities.now numbers.now keys.now class member) None
         (list_at (S.board board.now).lists head) }
 {
     match values_of(entities, class, member) {

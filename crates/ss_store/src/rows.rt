@@ -2,7 +2,7 @@ ghost use Rattle.std.specs.Prelude.{◌≡◌, ◌<◌, ◌-◌, IfOk, OnErr, No
 ghost use Rattle.ss_store.specs.Rows.{no_rows, rows_in};
 ghost use Rattle.std.specs.Prelude.{ℤ, List, pos, slice_index_or, slice_set};
 ghost use Rattle.std.specs.Option.{option_map};
-ghost use Rattle.ss_store.specs.Making.{more, less, with_table, numbering_by};
+ghost use Rattle.ss_store.specs.Making.{with_row, without_last_row, with_table, numbering_by};
 ghost use Rattle.ss_store.specs.Writing.{with_values};
 
 use std::alloc::{AllocError, Global};
@@ -67,7 +67,7 @@ impl Rows {
 impl Rows {
     /// Adds a row with the values of its attributes.
     fn push(&mut self, row: Row, values: Vec<i64>) -> Result<(), AllocError>
-        ensures ok { IfOk result (λ _. self.new ≡ more row values.items self.old) }
+        ensures ok { IfOk result (λ _. self.new ≡ with_row row values.items self.old) }
         ensures err { OnErr result (self.new ≡ self.old) }
     {
         self.rows.try_reserve(1)?;
@@ -80,7 +80,7 @@ impl Rows {
     fn pop(&mut self) -> Row
         requires any { 0 < length self.old.rows }
         ensures row { slice_get self.old.rows (length self.old.rows - 1) ≡ Some result }
-        ensures rows { self.new ≡ less self.old }
+        ensures rows { self.new ≡ without_last_row self.old }
     {
         let last = self.rows.len() - 1;
         let row = self.rows[last];
@@ -121,7 +121,8 @@ fn class_rows(alloc: Global, classes: usize) -> Result<Vec<Rows>, AllocError>
 impl Entities {
     /// No entities of so many classes.
     pub(crate) fn new(alloc: Global, classes: usize) -> Result<Self, AllocError>
-        ensures { IfOk result (λ none. none ≡ record { made = replicate classes no_rows; references = no_rows }) }
+        ensures { IfOk result
+            (λ none. none ≡ record { made = replicate classes no_rows; references = no_rows }) }
     {
         let made = class_rows(alloc, classes)?;
         Ok(Entities {
@@ -153,7 +154,7 @@ impl Entities {
     ) -> Result<(), AllocError>
         requires { permanent ≡ true → row.class < length self.old.made }
         ensures ok { IfOk result (λ _. self.new
-            ≡ with_table (more row values.items) self.old (numbering_by permanent row.class)) }
+            ≡ with_table (with_row row values.items) self.old (numbering_by permanent row.class)) }
         ensures err { OnErr result (self.new ≡ self.old) }
     {
         if permanent {
@@ -170,7 +171,8 @@ impl Entities {
         requires any { 0 < length (rows_in self.old (numbering_by permanent class)).rows }
         ensures row { slice_get (rows_in self.old (numbering_by permanent class)).rows
             (length (rows_in self.old (numbering_by permanent class)).rows - 1) ≡ Some result }
-        ensures rows { self.new ≡ with_table less self.old (numbering_by permanent class) }
+        ensures rows { self.new
+            ≡ with_table without_last_row self.old (numbering_by permanent class) }
     {
         if permanent {
             let rows = &mut self.made[class];
@@ -191,7 +193,8 @@ impl Entities {
         requires index { index < length (rows_in self.old (numbering_by permanent class)).values }
         ensures value { slice_get (rows_in self.old (numbering_by permanent class)).values index
             ≡ Some (option_map (λ v. v.items) result) }
-        ensures rows { self.new ≡ with_table (with_values index None) self.old (numbering_by permanent class) }
+        ensures rows { self.new
+            ≡ with_table (with_values index None) self.old (numbering_by permanent class) }
     {
         if permanent {
             let rows = &mut self.made[class];
@@ -212,7 +215,8 @@ impl Entities {
         requires there { permanent ≡ true → class < length self.old.made }
         requires index { index < length (rows_in self.old (numbering_by permanent class)).values }
         ensures { self.new
-            ≡ with_table (with_values index (Some values.items)) self.old (numbering_by permanent class) }
+            ≡ with_table (with_values index (Some values.items)) self.old
+            (numbering_by permanent class) }
     {
         if permanent {
             let rows = &mut self.made[class];

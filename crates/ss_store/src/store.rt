@@ -1,18 +1,19 @@
 ghost use Rattle.std.specs.Prelude.{◌≡◌, ◌<◌, IfOk, length};
 ghost use Rattle.ss_links.specs.Board.{empty_board};
 ghost use Rattle.ss_store.specs.Tables.{set_of, tables_of};
-ghost use Rattle.ss_store.specs.Held.{AreTables, empty_value};
+ghost use Rattle.ss_store.specs.Tables.{AreTables};
+ghost use Rattle.ss_store.specs.Value.{empty_value};
 ghost use Rattle.ss_store.specs.WellStore.{IsWellStore};
 ghost use Rattle.ss_store.specs.Store as pure;
-ghost use Rattle.ss_store.specs.Filing.{filed, removed, is_in, count, first_member, last_member, next_member};
-ghost use Rattle.ss_store.specs.Filing.{previous_member, predecessor, successor, membership};
+ghost use Rattle.ss_store.specs.Filing.{after_filing, after_removing, is_in, count, walk_first, walk_last, walk_next};
+ghost use Rattle.ss_store.specs.Filing.{walk_prev, predecessor, successor, membership};
 ghost use Rattle.ss_store.specs.Change.{FitsStore, unapply_store, IsOutcome, IsRemoval};
 
 use crate::change::StoreChange;
 use crate::growing::add_heads;
 use crate::places::{
-    head_of, named, number_if, number_of, place_for, row_of, seat_if, seat_in, seat_named, seat_of,
-    spot_of, standing,
+    head_of, known, member_at_seat, member_if, number_of_value, place_for, row_of, seat_if,
+    seat_in, seat_of, seat_to_remove, spot_of,
 };
 use crate::ranking::{value_at, values_of};
 use crate::rows::Entities;
@@ -27,8 +28,8 @@ use std::marker::Model;
 
 /// Entities with their attributes, and the lists of the sets that they own, over a set board.
 ///
-/// A value names the entity of a class with that number; one below 1 names none. No call here wants
-/// memory, and one that faults changes nothing.
+/// A value names the entity of a class with that number; one below 1 names none. Memory is wanted by
+/// `new`, `with_tables`, `create` and `create_all` alone; a call that is refused changes nothing.
 #[derive(Drop)]
 pub struct Store<S: SetBoard> {
     pub(crate) alloc: Global,
@@ -42,7 +43,9 @@ pub struct Store<S: SetBoard> {
 
 impl<S: SetBoard> Model for Store<S> {
     ghost use Rattle.std.specs.Prelude.{List, []};
-    ghost use Rattle.ss_store.specs.Held.{HeadEntry, SeatEntry, Held, StoreValue, value_of, IsStore};
+    ghost use Rattle.ss_store.specs.Invariant.{IsStore};
+    ghost use Rattle.ss_store.specs.Parts.{HeadEntry, SeatEntry, StoreParts, value_of};
+    ghost use Rattle.ss_store.specs.Value.{StoreValue};
 
     ghost Value = { StoreValue };
 
@@ -87,10 +90,12 @@ impl<S: SetBoard> Store<S> {
         system: u32,
         board: S,
     ) -> Result<Self, AllocError>
-        requires tables { AreTables (record { classes = classes.items; sets = sets.items; system = system }) }
+        requires tables { AreTables
+            (record { classes = classes.items; sets = sets.items; system = system }) }
         requires board { S.board board ≡ empty_board }
         ensures { IfOk result (λ store. store
-            ≡ empty_value (record { classes = classes.items; sets = sets.items; system = system })) }
+            ≡ empty_value
+            (record { classes = classes.items; sets = sets.items; system = system })) }
     {
         let entities = Entities::new(alloc, classes.len())?;
         let mut board = board;
@@ -116,19 +121,19 @@ impl<S: SetBoard> Store<S> {
         &mut self,
         set: usize,
         owner: i64,
-        x: i64,
+        member: i64,
         how: How,
     ) -> Result<StoreChange, RunFault>
         requires { set < length self.old.tables.sets }
         ensures { IsOutcome result
-            (filed (set_of self.old.tables set) self.old.state (pure.number_of owner) (pure.number_of x) how)
+            (after_filing (set_of self.old.tables set) self.old.state (pure.number_of owner)
+            (pure.number_of member) how)
             self.old self.new }
     {
         let shape = &self.sets[set];
-        let number = named(owner);
-        let member = named(x);
-        let _heads = self.board.heads();
-        let _seats = self.board.seats();
+        let number = number_of_value(owner);
+        let member = number_of_value(member);
+        known(&self.board);
         let head = match head_of(&self.entities, shape, number) {
             None => return Err(RunFault::NoEntity),
             Some(head) => head,
@@ -179,24 +184,24 @@ impl<S: SetBoard> Store<S> {
     ) -> Result<(u32, StoreChange), RunFault>
         requires { set < length self.old.tables.sets }
         ensures { IsRemoval result
-            (removed (set_of self.old.tables set) self.old.state (pure.number_of owner) which)
+            (after_removing (set_of self.old.tables set) self.old.state
+            (pure.number_of owner) which)
             self.old self.new }
     {
         let shape = &self.sets[set];
-        let number = named(owner);
-        let _heads = self.board.heads();
-        let _seats = self.board.seats();
+        let number = number_of_value(owner);
+        known(&self.board);
         let head = match head_of(&self.entities, shape, number) {
             None => return Err(RunFault::NoEntity),
             Some(head) => head,
         };
-        let seat = match seat_named(&self.entities, &self.board, shape, head, which) {
+        let seat = match seat_to_remove(&self.entities, &self.board, shape, head, which) {
             Err(fault) => return Err(fault),
             Ok(seat) => seat,
         };
         let place = self.board.unlink(seat);
-        let member = number_of(&self.numbers, seat);
-        let before = number_if(&self.numbers, place.before);
+        let member = member_at_seat(&self.numbers, seat);
+        let before = member_if(&self.numbers, place.before);
         Ok((
             member,
             StoreChange::Removed {
@@ -221,17 +226,18 @@ impl<S: SetBoard> Store<S> {
     }
 
     /// Whether there is an entity of this class with this number.
-    pub fn exists(&self, class: usize, x: i64) -> bool
-        ensures { result ≡ pure.exists self.now.state class (pure.number_of x) }
+    pub fn exists(&self, class: usize, entity: i64) -> bool
+        ensures { result ≡ pure.exists self.now.state class (pure.number_of entity) }
     {
-        row_of(&self.entities, class, named(x)).is_some()
+        row_of(&self.entities, class, number_of_value(entity)).is_some()
     }
 
     /// The value of an attribute, by its number in the class; F3 where the entity does not exist.
-    pub fn get(&self, class: usize, attribute: usize, x: i64) -> Result<i64, RunFault>
-        ensures { result ≡ pure.attribute_of self.now.state class attribute (pure.number_of x) }
+    pub fn get(&self, class: usize, attribute: usize, entity: i64) -> Result<i64, RunFault>
+        ensures { result
+            ≡ pure.attribute_of self.now.state class attribute (pure.number_of entity) }
     {
-        match values_of(&self.entities, class, named(x)) {
+        match values_of(&self.entities, class, number_of_value(entity)) {
             None => Err(RunFault::NoEntity),
             Some(values) => Ok(value_at(values, attribute)),
         }
@@ -241,11 +247,12 @@ impl<S: SetBoard> Store<S> {
     /// exist.
     pub fn count(&self, set: usize, owner: i64) -> Result<u32, RunFault>
         requires { set < length self.now.tables.sets }
-        ensures { result ≡ count (set_of self.now.tables set) self.now.state (pure.number_of owner) }
+        ensures { result
+            ≡ count (set_of self.now.tables set) self.now.state (pure.number_of owner) }
     {
         let shape = &self.sets[set];
-        let _heads = self.board.heads();
-        match head_of(&self.entities, shape, named(owner)) {
+        known(&self.board);
+        match head_of(&self.entities, shape, number_of_value(owner)) {
             None => Err(RunFault::NoEntity),
             Some(head) => Ok(self.board.len(head)),
         }
@@ -255,15 +262,16 @@ impl<S: SetBoard> Store<S> {
     /// exist.
     pub fn walk_first(&self, set: usize, owner: i64) -> Result<Option<u32>, RunFault>
         requires { set < length self.now.tables.sets }
-        ensures { result ≡ first_member (set_of self.now.tables set) self.now.state (pure.number_of owner) }
+        ensures { result
+            ≡ walk_first (set_of self.now.tables set) self.now.state (pure.number_of owner) }
     {
         let shape = &self.sets[set];
-        let _heads = self.board.heads();
-        match head_of(&self.entities, shape, named(owner)) {
+        known(&self.board);
+        match head_of(&self.entities, shape, number_of_value(owner)) {
             None => Err(RunFault::NoEntity),
             Some(head) => {
                 let first = self.board.first(head);
-                Ok(number_if(&self.numbers, first))
+                Ok(member_if(&self.numbers, first))
             }
         }
     }
@@ -272,29 +280,36 @@ impl<S: SetBoard> Store<S> {
     /// exist.
     pub fn walk_last(&self, set: usize, owner: i64) -> Result<Option<u32>, RunFault>
         requires { set < length self.now.tables.sets }
-        ensures { result ≡ last_member (set_of self.now.tables set) self.now.state (pure.number_of owner) }
+        ensures { result
+            ≡ walk_last (set_of self.now.tables set) self.now.state (pure.number_of owner) }
     {
         let shape = &self.sets[set];
-        let _heads = self.board.heads();
-        match head_of(&self.entities, shape, named(owner)) {
+        known(&self.board);
+        match head_of(&self.entities, shape, number_of_value(owner)) {
             None => Err(RunFault::NoEntity),
             Some(head) => {
                 let last = self.board.last(head);
-                Ok(number_if(&self.numbers, last))
+                Ok(member_if(&self.numbers, last))
             }
         }
     }
 
     /// Whether a member is in the list of a set for this owner; F3 where the owner or the member
     /// does not exist.
-    pub fn is_in(&self, set: usize, owner: i64, x: i64) -> Result<bool, RunFault>
+    pub fn is_in(&self, set: usize, owner: i64, member: i64) -> Result<bool, RunFault>
         requires { set < length self.now.tables.sets }
-        ensures { result ≡ is_in (set_of self.now.tables set) self.now.state (pure.number_of owner) (pure.number_of x) }
+        ensures { result ≡ is_in (set_of self.now.tables set) self.now.state (pure.number_of owner)
+            (pure.number_of member) }
     {
         let shape = &self.sets[set];
-        let _heads = self.board.heads();
-        let _seats = self.board.seats();
-        match seat_in(&self.entities, &self.board, shape, named(owner), named(x)) {
+        known(&self.board);
+        match seat_in(
+            &self.entities,
+            &self.board,
+            shape,
+            number_of_value(owner),
+            number_of_value(member),
+        ) {
             Err(fault) => Err(fault),
             Ok(None) => Ok(false),
             Ok(Some(_)) => Ok(true),
@@ -306,20 +321,26 @@ impl<S: SetBoard> Store<S> {
     ///
     /// Faults: F3 where the owner or the member does not exist; F14 where the member is not in the
     /// list.
-    pub fn walk_next(&self, set: usize, owner: i64, x: i64) -> Result<Option<u32>, RunFault>
+    pub fn walk_next(&self, set: usize, owner: i64, member: i64) -> Result<Option<u32>, RunFault>
         requires { set < length self.now.tables.sets }
         ensures { result
-            ≡ next_member (set_of self.now.tables set) self.now.state (pure.number_of owner) (pure.number_of x) }
+            ≡ walk_next (set_of self.now.tables set) self.now.state (pure.number_of owner)
+            (pure.number_of member) }
     {
         let shape = &self.sets[set];
-        let _heads = self.board.heads();
-        let _seats = self.board.seats();
-        match seat_in(&self.entities, &self.board, shape, named(owner), named(x)) {
+        known(&self.board);
+        match seat_in(
+            &self.entities,
+            &self.board,
+            shape,
+            number_of_value(owner),
+            number_of_value(member),
+        ) {
             Err(fault) => Err(fault),
             Ok(None) => Err(RunFault::MemberLeft),
             Ok(Some(seat)) => {
                 let next = self.board.next(seat);
-                Ok(number_if(&self.numbers, next))
+                Ok(member_if(&self.numbers, next))
             }
         }
     }
@@ -329,20 +350,26 @@ impl<S: SetBoard> Store<S> {
     ///
     /// Faults: F3 where the owner or the member does not exist; F14 where the member is not in the
     /// list.
-    pub fn walk_prev(&self, set: usize, owner: i64, x: i64) -> Result<Option<u32>, RunFault>
+    pub fn walk_prev(&self, set: usize, owner: i64, member: i64) -> Result<Option<u32>, RunFault>
         requires { set < length self.now.tables.sets }
         ensures { result
-            ≡ previous_member (set_of self.now.tables set) self.now.state (pure.number_of owner) (pure.number_of x) }
+            ≡ walk_prev (set_of self.now.tables set) self.now.state (pure.number_of owner)
+            (pure.number_of member) }
     {
         let shape = &self.sets[set];
-        let _heads = self.board.heads();
-        let _seats = self.board.seats();
-        match seat_in(&self.entities, &self.board, shape, named(owner), named(x)) {
+        known(&self.board);
+        match seat_in(
+            &self.entities,
+            &self.board,
+            shape,
+            number_of_value(owner),
+            number_of_value(member),
+        ) {
             Err(fault) => Err(fault),
             Ok(None) => Err(RunFault::MemberLeft),
             Ok(Some(seat)) => {
                 let before = self.board.prev(seat);
-                Ok(number_if(&self.numbers, before))
+                Ok(member_if(&self.numbers, before))
             }
         }
     }
@@ -351,46 +378,49 @@ impl<S: SetBoard> Store<S> {
 impl<S: SetBoard> Store<S> {
     /// `P.s`: the member directly before one in the list that holds it, or none where it is the
     /// first or in no list; F3 where it does not exist.
-    pub fn predecessor(&self, set: usize, x: i64) -> Result<Option<u32>, RunFault>
+    pub fn predecessor(&self, set: usize, member: i64) -> Result<Option<u32>, RunFault>
         requires { set < length self.now.tables.sets }
-        ensures { result ≡ predecessor (set_of self.now.tables set) self.now.state (pure.number_of x) }
+        ensures { result
+            ≡ predecessor (set_of self.now.tables set) self.now.state (pure.number_of member) }
     {
         let shape = &self.sets[set];
-        let _seats = self.board.seats();
-        match seat_of(&self.entities, shape, named(x)) {
+        known(&self.board);
+        match seat_of(&self.entities, shape, number_of_value(member)) {
             None => Err(RunFault::NoEntity),
             Some(seat) => {
                 let before = self.board.prev(seat);
-                Ok(number_if(&self.numbers, before))
+                Ok(member_if(&self.numbers, before))
             }
         }
     }
 
     /// `S.s`: the member directly behind one in the list that holds it, or none where it is the
     /// last or in no list; F3 where it does not exist.
-    pub fn successor(&self, set: usize, x: i64) -> Result<Option<u32>, RunFault>
+    pub fn successor(&self, set: usize, member: i64) -> Result<Option<u32>, RunFault>
         requires { set < length self.now.tables.sets }
-        ensures { result ≡ successor (set_of self.now.tables set) self.now.state (pure.number_of x) }
+        ensures { result
+            ≡ successor (set_of self.now.tables set) self.now.state (pure.number_of member) }
     {
         let shape = &self.sets[set];
-        let _seats = self.board.seats();
-        match seat_of(&self.entities, shape, named(x)) {
+        known(&self.board);
+        match seat_of(&self.entities, shape, number_of_value(member)) {
             None => Err(RunFault::NoEntity),
             Some(seat) => {
                 let next = self.board.next(seat);
-                Ok(number_if(&self.numbers, next))
+                Ok(member_if(&self.numbers, next))
             }
         }
     }
 
     /// `M.s`: whether an entity is in a list of the set; F3 where it does not exist.
-    pub fn membership(&self, set: usize, x: i64) -> Result<bool, RunFault>
+    pub fn membership(&self, set: usize, member: i64) -> Result<bool, RunFault>
         requires { set < length self.now.tables.sets }
-        ensures { result ≡ membership (set_of self.now.tables set) self.now.state (pure.number_of x) }
+        ensures { result
+            ≡ membership (set_of self.now.tables set) self.now.state (pure.number_of member) }
     {
         let shape = &self.sets[set];
-        let _seats = self.board.seats();
-        match seat_of(&self.entities, shape, named(x)) {
+        known(&self.board);
+        match seat_of(&self.entities, shape, number_of_value(member)) {
             None => Err(RunFault::NoEntity),
             Some(seat) => Ok(self.board.place(seat).is_some()),
         }
@@ -413,7 +443,7 @@ impl<S: SetBoard> Undo for Store<S> {
                 number: _,
                 member,
             } => {
-                let _seats = self.board.seats();
+                known(&self.board);
                 let shape = &self.sets[set];
                 let seat = seat_of(&self.entities, shape, member).unwrap();
                 let _place = self.board.unlink(seat);
@@ -426,8 +456,7 @@ impl<S: SetBoard> Undo for Store<S> {
                 member,
                 before,
             } => {
-                let _heads = self.board.heads();
-                let _seats = self.board.seats();
+                known(&self.board);
                 let shape = &self.sets[set];
                 let before = seat_if(&self.entities, shape, before);
                 let head = head_of(&self.entities, shape, number).unwrap();

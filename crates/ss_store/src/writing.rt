@@ -7,7 +7,7 @@ ghost use Rattle.ss_store.specs.Store as pure;
 ghost use Rattle.ss_store.specs.Change.{IsOutcome};
 
 use crate::change::StoreChange;
-use crate::places::{named, row_of};
+use crate::places::{number_of_value, row_of};
 use crate::ranking::value_at;
 use crate::rows::Entities;
 use crate::store::Store;
@@ -26,12 +26,15 @@ pub(crate) fn replace(
 ) -> i64
     requires there { permanent ≡ true → class < length entities.old.made }
     requires living { (v : List ℤ)
-        × (slice_get (rows_in entities.old (numbering_by permanent class)).values index ≡ Some (Some v)) }
+        × (slice_get (rows_in entities.old (numbering_by permanent class)).values index
+        ≡ Some (Some v)) }
     ensures value { (v : List ℤ)
-        → slice_get (rows_in entities.old (numbering_by permanent class)).values index ≡ Some (Some v)
+        → slice_get (rows_in entities.old (numbering_by permanent class)).values index
+        ≡ Some (Some v)
         → result ≡ slice_index_or v attribute (pos 0) }
     ensures rows { (v : List ℤ)
-        → slice_get (rows_in entities.old (numbering_by permanent class)).values index ≡ Some (Some v)
+        → slice_get (rows_in entities.old (numbering_by permanent class)).values index
+        ≡ Some (Some v)
         → entities.new ≡ with_table (with_values index (Some (slice_set v attribute value)))
         entities.old (numbering_by permanent class) }
 {
@@ -51,15 +54,16 @@ impl<S: SetBoard> Store<S> {
         &mut self,
         class: usize,
         attribute: usize,
-        x: i64,
+        entity: i64,
         value: i64,
     ) -> Result<StoreChange, RunFault>
         requires { class < length self.old.tables.classes }
         ensures { IsOutcome result
-            (pure.with_attribute self.old.state class attribute (pure.number_of x) value) self.old self.new }
+            (pure.with_attribute self.old.state class attribute (pure.number_of entity) value)
+            self.old self.new }
     {
         let shape = self.classes[class];
-        let number = named(x);
+        let number = number_of_value(entity);
         match row_of(&self.entities, class, number) {
             None => return Err(RunFault::NoEntity),
             Some(_) => {}

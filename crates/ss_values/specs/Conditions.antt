@@ -37,9 +37,9 @@ true_and true r = r
 true_and false r = Ok false
 
 -- IS leaves a truth, IS NOT turns it
-abbrev pub affirmed : Copula → Bool → Bool
-affirmed Is b = b
-affirmed IsNot b = not b
+abbrev pub truth_by : Copula → Bool → Bool
+truth_by Is b = b
+truth_by IsNot b = not b
 
 -- the value that names the owner of a list
 abbrev pub owner_value : Readings → SetRef → Result ℤ RunFault
@@ -78,6 +78,6 @@ abbrev mutual
   -- a relation
   pub relation_holds : Readings → Relation → Result Bool RunFault
   relation_holds v (compared e c f) = value_of v e >>= λ x. value_of v f >>= λ y. Ok (comparison_holds c x y)
-  relation_holds v (is_empty r is) = is_empty_list v r >>= λ b. Ok (affirmed is b)
-  relation_holds v (is_in e is r) = is_in_list v e r >>= λ b. Ok (affirmed is b)
+  relation_holds v (is_empty r is) = is_empty_list v r >>= λ b. Ok (truth_by is b)
+  relation_holds v (is_in e is r) = is_in_list v e r >>= λ b. Ok (truth_by is b)
   relation_holds v (nested c) = holds v c

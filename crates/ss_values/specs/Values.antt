@@ -1,6 +1,6 @@
 -- The value of an expression: integers without limit, from the left; the first fault decides.
-use Rattle.std.specs.Prelude.{◌≡◌, ℕ, ℤ, pos, negsuc, neg_ℤ, ◌+ℤ◌, ◌-ℤ◌, ◌*ℤ◌, ◌^◌, int_div, int_rem, unsigned_abs}
-use Rattle.std.specs.Prelude.{nat_eq, nat_lt, Bool, if◌then◌else◌, List, [], ◌∷◌, Option, Some, None, Result, Ok, Err}
+use Rattle.std.specs.Prelude.{◌≡◌, ℕ, ℤ, pos, neg_ℤ, ◌+ℤ◌, ◌-ℤ◌, ◌*ℤ◌, int_div, int_rem, unsigned_abs}
+use Rattle.std.specs.Prelude.{nat_eq, Bool, if◌then◌else◌, List, [], ◌∷◌, Option, Some, None, Result, Ok, Err}
 use Rattle.std.specs.Prelude.{unwrap_or, slice_index_or}
 use Rattle.std.specs.Int.{int_min, int_max}
 use Rattle.ss_words.specs.declared.fault.RunFault.{RunFault}
@@ -23,10 +23,11 @@ use Rattle.ss_program.specs.ProgramExpr.{Expr, expr, Sums, no_sums, sum, Term, t
 use Rattle.ss_program.specs.ProgramExpr.{Factor, digits, variable, absolute, greatest, least, quotient, remainder}
 use Rattle.ss_program.specs.ProgramExpr.{attribute, owner_kept, member_kept, within, Subscript, implied, of_system, at}
 use Rattle.ss_program.specs.ProgramExpr.{Exprs, no_exprs, exprs}
+use Rattle.ss_words.specs.Ranges.{in_range}
 use Rattle.ss_values.specs.Faults.{◌>>=◌, ◌>>◌, refuse_if}
 use Rattle.ss_store.specs.Tables.{Tables, set_of}
 use Rattle.ss_store.specs.Store.{Store, number_of, attribute_of}
-use Rattle.ss_store.specs.Filing.{first_member, last_member, count, predecessor, successor, membership}
+use Rattle.ss_store.specs.Filing.{walk_first, walk_last, count, predecessor, successor, membership}
 
 -- what values are read from: the tables of classes and sets, the entities and their lists, the global variables, the
 -- locals of the last frame, and the clock
@@ -43,11 +44,6 @@ pub record Readings : Type 0 where
   pub clock : ℤ
 
 -- ---- numbers
-
--- from -(2^63) to 2^63 - 1
-abbrev pub in_range : ℤ → Bool
-in_range (pos n) = nat_lt n (2 ^ 63)
-in_range (negsuc n) = nat_lt n (2 ^ 63)
 
 -- a result, or F1 where it is out of range
 abbrev pub result_in_range : ℤ → Result ℤ RunFault
@@ -79,12 +75,12 @@ remainder_value x y = non_zero y >> Ok (int_rem x y)
 -- ---- what is read
 
 -- a number of entities, or the number of one, as a value
-abbrev pub counted : ℕ → Result ℤ RunFault
-counted n = result_in_range (pos n)
+abbrev pub number_value : ℕ → Result ℤ RunFault
+number_value n = result_in_range (pos n)
 
 -- the number of a member as a value, 0 where there is none
 abbrev pub number_or_none : Option ℕ → Result ℤ RunFault
-number_or_none k = counted (unwrap_or k 0)
+number_or_none k = number_value (unwrap_or k 0)
 
 -- 1 or 0
 abbrev pub one_if : Bool → Result ℤ RunFault
@@ -92,9 +88,9 @@ one_if b = Ok (if b then pos 1 else pos 0)
 
 -- F.s, L.s and N.s of the owner that a value names
 abbrev pub owner_kept_value : Readings → OwnerKept → ℕ → ℤ → Result ℤ RunFault
-owner_kept_value v First s x = first_member (set_of v.tables s) v.store (number_of x) >>= number_or_none
-owner_kept_value v Last s x = last_member (set_of v.tables s) v.store (number_of x) >>= number_or_none
-owner_kept_value v Count s x = count (set_of v.tables s) v.store (number_of x) >>= counted
+owner_kept_value v First s x = walk_first (set_of v.tables s) v.store (number_of x) >>= number_or_none
+owner_kept_value v Last s x = walk_last (set_of v.tables s) v.store (number_of x) >>= number_or_none
+owner_kept_value v Count s x = count (set_of v.tables s) v.store (number_of x) >>= number_value
 
 -- P.s, S.s and M.s of the member that a value names
 abbrev pub member_kept_value : Readings → MemberKept → ℕ → ℤ → Result ℤ RunFault

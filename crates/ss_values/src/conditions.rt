@@ -25,7 +25,7 @@ fn compare(comparison: Comparison, x: i64, y: i64) -> bool
 }
 
 fn affirm(copula: Copula, truth: bool) -> bool
-    ensures { result ≡ conditions.affirmed copula truth }
+    ensures { result ≡ conditions.truth_by copula truth }
 {
     match copula {
         Copula::Is => truth,
@@ -79,7 +79,8 @@ fn any_holds<S: SetBoard>(view: &View<'_, S>, c: &Disjunction) -> Result<bool, R
 #[cycle(holds)]
 fn all_hold<S: SetBoard>(view: &View<'_, S>, c: &Conjunction) -> Result<bool, RunFault>
     requires { InView view.now IsSoundConjunction (conjunction_of c.now) }
-    ensures { result ≡ conditions.conjunction_holds (view_readings view.now) (conjunction_of c.now) }
+    ensures { result
+        ≡ conditions.conjunction_holds (view_readings view.now) (conjunction_of c.now) }
 {
     let mut truth = relation_holds(view, &c.first)?;
     for further in &c.more {

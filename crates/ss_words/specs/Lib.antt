@@ -1,4 +1,6 @@
 pub mod Faults
+pub mod Outcomes
+pub mod Ranges
 pub mod Words
 pub mod Plain
 pub mod Reading

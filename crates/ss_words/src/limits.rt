@@ -1,5 +1,5 @@
-//! The limits of a text (docs/LANGUAGE.md, "Words" and "Limits"). The definitions read these names
-//! too.
+//! The limits of a text and of a run (docs/LANGUAGE.md, "Words" and "Limits"). The definitions read
+//! these names too.
 
 /// A run of letters, digits and stops has at most so many bytes; a longer one is L3.
 pub const LONGEST_RUN: usize = 80;
@@ -32,3 +32,8 @@ pub const MOST_PHRASES: u32 = 16;
 pub const MOST_IFS: u32 = 64;
 /// At most so many parentheses are open at once.
 pub const MOST_PARENTHESES: u32 = 50;
+
+// Limits of a run.
+
+/// A run gives at most so many references, and so has at most so many event notices; a further one is F20.
+pub const MOST_REFERENCES: usize = 1_000_000;

@@ -2,7 +2,7 @@ use Rattle.std.proofs.Common.{◌≡◌, false}
 use Rattle.std.specs.List.{list_any}
 use Rattle.ss_links.specs.Board.{list_at}
 use Rattle.ss_store.specs.Store.{is_filled}
-use Rattle.ss_store.specs.Held.{owned_from}
+use Rattle.ss_store.specs.Parts.{owned_from}
 use Rattle.ss_store.proofs.ending.has_members.Given as goal
 
 -- those that were passed are empty

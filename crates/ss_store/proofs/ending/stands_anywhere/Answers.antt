@@ -6,7 +6,7 @@ pub overflow_add-seat : goal.overflow_add-seat
 overflow_add-seat g c =
     let there = get_read c.args.sets.now c.loop-set.set-index c.set-item.result (omega arith) c.set-item.is in
     let below = c.requires c.set-item.result (c.loop-set.set-index, there) c.if-set-class.true in
-    let few = c.seats-seats.ensures.count in let small = c.seats-seats.type_inv in omega (arith, below, few, small)
+    let small = c.known.ensures.seats in omega (arith, below, small)
 
 pub place-requires : goal.place-requires
 place-requires g c =

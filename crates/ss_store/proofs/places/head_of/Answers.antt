@@ -2,7 +2,7 @@ use Rattle.std.proofs.Common.{ap, sym, ◌∙◌, ◌+◌, arith}
 use Rattle.std.specs.Option.{option_map}
 use Rattle.ss_program.specs.declared.kinds.Owner.{Owner}
 use Rattle.ss_store.specs.declared.rows.Row.{Row}
-use Rattle.ss_store.specs.Held.{head_by}
+use Rattle.ss_store.specs.Parts.{head_by}
 use Rattle.ss_store.proofs.places.head_of.Goals as goal
 
 pub overflow_add-result : goal.overflow_add-result

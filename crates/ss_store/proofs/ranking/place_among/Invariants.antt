@@ -2,7 +2,8 @@ use Rattle.std.proofs.Common.{length}
 use Rattle.std.specs.Ordering.{is_gt}
 use Rattle.ss_links.specs.Board.{list_at}
 use Rattle.ss_program.specs.Keys.{by_keys, key_values}
-use Rattle.ss_store.specs.Held.{keys_in, number_at}
+use Rattle.ss_store.specs.Finding.{keys_in}
+use Rattle.ss_store.specs.Parts.{number_at}
 use Rattle.ss_store.proofs.Among.{Among, rest_from}
 use Rattle.ss_store.proofs.ranking.place_among.Given as goal
 

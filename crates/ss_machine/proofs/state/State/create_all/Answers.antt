@@ -4,7 +4,7 @@ use Rattle.ss_words.specs.declared.fault.RunFault.{RunFault}
 use Rattle.ss_words.specs.declared.fault.StepFault.{StepFault}
 use Rattle.ss_store.specs.declared.change.StoreChange.{StoreChange}
 use Rattle.ss_store.specs.Store.{Store}
-use Rattle.ss_store.specs.Held.{StoreValue}
+use Rattle.ss_store.specs.Value.{StoreValue}
 use Rattle.ss_store.specs.Change.{IsMaking}
 use Rattle.ss_machine.specs.declared.change.Change.{Change}
 use Rattle.ss_machine.specs.declared.change.Change.TheVariants as change

@@ -1,5 +1,5 @@
 use Rattle.std.proofs.Common.{subst}
-use Rattle.ss_store.specs.Held.{StoreValue}
+use Rattle.ss_store.specs.Value.{StoreValue}
 use Rattle.ss_store.specs.WellStore.{IsWellStore}
 use Rattle.ss_store.proofs.Wells.{is_well}
 use Rattle.ss_store.proofs.store.Store.known.Goals as goal

@@ -7,18 +7,20 @@ use Rattle.ss_store.proofs.Written.{signed_range, lies, living_at, as_value, set
 use Rattle.ss_store.proofs.store.Store.set.Goals as goal
 
 pub returns-in-None : goal.returns-in-None
-returns-in-None g c = set_none_to _ _ c.args.class c.named-number.result _ c.args.attribute c.args.value c.self.view_is
-    c.self.invariant.2 (sym c.row_of.ensures ∙ c.in-None.is) (let fits : FitsSigned w64 c.args.x = search rules in
-    c.named-number.ensures ∙ ap number_of (to_z-of_z w64 _ fits))
+returns-in-None g c = set_none_to _ _ c.args.class c.number_of_value-number.result _ c.args.attribute c.args.value
+    c.self.view_is
+    c.self.invariant.2 (sym c.row_of.ensures ∙ c.in-None.is) (let fits : FitsSigned w64 c.args.entity = search rules in
+    c.number_of_value-number.ensures ∙ ap number_of (to_z-of_z w64 _ fits))
 
 pub replace-old-requires-clause-living : goal.replace-old-requires-clause-living
 replace-old-requires-clause-living g c =
     let k = at_of _ _ c.args.class c.index-shape.result.now c.self.view_is c.self.invariant.2 c.requires
     c.index-shape.ensures in
-    let l = lies _ _ c.args.class c.named-number.result c.index-shape.result.now _ k (sym c.row_of.ensures
+    let l = lies _ _ c.args.class c.number_of_value-number.result c.index-shape.result.now _ k (sym c.row_of.ensures
     ∙ c.in-Some.is) in (
       l.value,
-      living_at _ c.args.class c.named-number.result (c.named-number.result - 1) c.index-shape.result.now l
+      living_at _ c.args.class c.number_of_value-number.result
+          (c.number_of_value-number.result - 1) c.index-shape.result.now l
           refl,
     )
 
@@ -26,13 +28,15 @@ pub invariant_of-self : goal.invariant_of-self
 invariant_of-self g c =
     let k = at_of _ _ c.args.class c.index-shape.result.now c.self.view_is c.self.invariant.2 c.requires
     c.index-shape.ensures in
-    let l = lies _ _ c.args.class c.named-number.result c.index-shape.result.now _ k (sym c.row_of.ensures
+    let l = lies _ _ c.args.class c.number_of_value-number.result c.index-shape.result.now _ k (sym c.row_of.ensures
     ∙ c.in-Some.is) in
-    set_pair _ _ c.args.class c.named-number.result (c.named-number.result - 1) c.args.attribute c.args.value
+    set_pair _ _ c.args.class c.number_of_value-number.result
+    (c.number_of_value-number.result - 1) c.args.attribute c.args.value
     c.index-shape.result.now _ k (signed_range c.args.value c.ranges.value.sfits) l refl
     (as_value _ c.self.inside.entities (numbering_by c.index-shape.result.now.permanent c.args.class)
-    (c.named-number.result - 1) c.args.attribute l.value c.args.value _
-    (c.replace-old.ensures.rows l.value (living_at _ c.args.class c.named-number.result (c.named-number.result - 1)
+    (c.number_of_value-number.result - 1) c.args.attribute l.value c.args.value _
+    (c.replace-old.ensures.rows l.value
+    (living_at _ c.args.class c.number_of_value-number.result (c.number_of_value-number.result - 1)
     c.index-shape.result.now l refl)) (let fits : FitsSigned w64 c.args.value = search rules in
     to_z-of_z w64 _ fits))
 
@@ -41,15 +45,19 @@ returns g c =
     let k = at_of _ _ c.args.class c.index-shape.result.now c.self.view_is c.self.invariant.2 c.requires
     c.index-shape.ensures in
     let er = sym c.row_of.ensures ∙ c.in-Some.is in
-    let l = lies _ _ c.args.class c.named-number.result c.index-shape.result.now _ k er in
-    let there = living_at _ c.args.class c.named-number.result (c.named-number.result - 1) c.index-shape.result.now l
+    let l = lies _ _ c.args.class c.number_of_value-number.result c.index-shape.result.now _ k er in
+    let there = living_at _ c.args.class c.number_of_value-number.result
+    (c.number_of_value-number.result - 1) c.index-shape.result.now l
     refl in
     let in_range : FitsSigned w64 c.replace-old.result = search rules in
-    set_outcome_to _ _ c.args.class c.named-number.result _ (c.named-number.result - 1) c.args.attribute c.args.value _
+    set_outcome_to _ _ c.args.class c.number_of_value-number.result _
+    (c.number_of_value-number.result - 1) c.args.attribute c.args.value _
     c.index-shape.result.now _ _ c.self.view_is c.self.invariant.2 k (signed_range c.args.value c.ranges.value.sfits) l
     er refl
     (as_value _ c.self.inside.entities (numbering_by c.index-shape.result.now.permanent c.args.class)
-    (c.named-number.result - 1) c.args.attribute l.value c.args.value _ (c.replace-old.ensures.rows l.value there)
+    (c.number_of_value-number.result - 1) c.args.attribute l.value c.args.value _
+    (c.replace-old.ensures.rows l.value there)
     (let fits : FitsSigned w64 c.args.value = search rules in to_z-of_z w64 _ fits))
     (to_z-of_z w64 _ in_range ∙ c.replace-old.ensures.value l.value there)
-    (let fits : FitsSigned w64 c.args.x = search rules in c.named-number.ensures ∙ ap number_of (to_z-of_z w64 _ fits))
+    (let fits : FitsSigned w64 c.args.entity = search rules in
+    c.number_of_value-number.ensures ∙ ap number_of (to_z-of_z w64 _ fits))

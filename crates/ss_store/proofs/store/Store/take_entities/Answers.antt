@@ -1,6 +1,6 @@
 use Rattle.std.proofs.Common.{◌≡◌, suc, ◌+◌, ◌-◌, arith, subst, sym}
-use Rattle.ss_store.specs.Held.{StoreValue}
-use Rattle.ss_store.specs.Making.{Less}
+use Rattle.ss_store.specs.Value.{StoreValue}
+use Rattle.ss_store.specs.Making.{TakesOff}
 use Rattle.ss_store.proofs.Taken.{less_first, less_class, less_next, less_last}
 use Rattle.ss_store.proofs.store.Store.take_entities.Goals as goal
 
@@ -19,7 +19,7 @@ take_entity-requires-clause-fits g c =
 pub loop-preserved : goal.loop-preserved
 loop-preserved g c = λ rest l.
     let d = less_next c.args.class c.args.count c.loop.counter _ rest c.loop-test.true (c.loop.invariant rest l) in
-    subst (λ z. Less c.args.class (c.args.count - (c.loop.counter + 1)) z rest)
+    subst (λ z. TakesOff c.args.class (c.args.count - (c.loop.counter + 1)) z rest)
     (sym (c.take_entity.ensures d.0 d.1 d.2 d.3)) d.4
 
 pub returns : goal.returns

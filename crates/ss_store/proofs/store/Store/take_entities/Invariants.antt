@@ -1,9 +1,9 @@
 use Rattle.std.proofs.Common.{◌-◌}
-use Rattle.ss_store.specs.Held.{StoreValue}
-use Rattle.ss_store.specs.Making.{Less}
+use Rattle.ss_store.specs.Value.{StoreValue}
+use Rattle.ss_store.specs.Making.{TakesOff}
 use Rattle.ss_store.proofs.store.Store.take_entities.Given as goal
 
 -- what is left at the end is what is left of those that are still to be taken off
 abbrev pub invariant-loop : goal.invariant-loop
-invariant-loop g l = (rest : StoreValue) → Less l.class l.count l.fn.self rest
-    → Less l.class (l.count - l.counter) l.self rest
+invariant-loop g l = (rest : StoreValue) → TakesOff l.class l.count l.fn.self rest
+    → TakesOff l.class (l.count - l.counter) l.self rest

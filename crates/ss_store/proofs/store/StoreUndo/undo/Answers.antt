@@ -1,5 +1,5 @@
 use Rattle.std.proofs.lemmas.Int.{to_z-of_z}
-use Rattle.std.proofs.Common.{rules, w64, FitsSigned, ap, sym, subst, ◌∙◌}
+use Rattle.std.proofs.Common.{rules, w64, FitsSigned, ap, sym, subst, ◌∙◌, refl}
 use Rattle.ss_store.specs.declared.change.StoreChange.{StoreChange}
 use Rattle.ss_store.specs.Change.{FitsFiled, FitsRemoved, FitsCreated, FitsClassCreated, FitsSet, FitsEnded, FitsStore}
 use Rattle.ss_store.specs.Change.{unapply_store}
@@ -16,8 +16,8 @@ pub seat_of-requires : goal.seat_of-requires
 seat_of-requires g c = let f : FitsFiled c.args.self.now c.in-Filed.set c.in-Filed.owner c.in-Filed.list
     c.in-Filed.number c.in-Filed.member = subst (λ (z : StoreChange). FitsStore z c.args.self.now) c.in-Filed.is
     c.requires in let k = case_of _ _ c.in-Filed.set c.index-shape.result.now c.self.view_is c.self.invariant.2 f.is_set
-    c.index-shape.ensures in seat_small _ _ c.in-Filed.set c.index-shape.result.now c.seats-seats.result k
-    c.seats-seats.ensures.count c.seats-seats.type_inv c.in-Filed.member
+    c.index-shape.ensures in seat_small _ _ c.in-Filed.set c.index-shape.result.now _ k
+    refl c.known.ensures.seats c.in-Filed.member
 
 pub unwrap-seat-requires : goal.unwrap-seat-requires
 unwrap-seat-requires g c = let f : FitsFiled c.args.self.now c.in-Filed.set c.in-Filed.owner c.in-Filed.list
@@ -75,8 +75,8 @@ seat_if-before-requires g c = let f : FitsRemoved c.args.self.now c.in-Removed.s
     subst (λ (z : StoreChange). FitsStore z c.args.self.now) c.in-Removed.is c.requires in
     let k = case_of _ _ c.in-Removed.set c.index-shape-in-Removed.result.now c.self-in-Removed.view_is
     c.self-in-Removed.invariant.2 f.is_set c.index-shape-in-Removed.ensures in
-    seat_small _ _ c.in-Removed.set c.index-shape-in-Removed.result.now c.seats-seats-in-Removed.result k
-    c.seats-seats-in-Removed.ensures.count c.seats-seats-in-Removed.type_inv
+    seat_small _ _ c.in-Removed.set c.index-shape-in-Removed.result.now _ k
+    refl c.known-in-Removed.ensures.seats
 
 pub head_of-requires : goal.head_of-requires
 head_of-requires g c = let f : FitsRemoved c.args.self.now c.in-Removed.set c.in-Removed.owner c.in-Removed.list
@@ -84,8 +84,8 @@ head_of-requires g c = let f : FitsRemoved c.args.self.now c.in-Removed.set c.in
     subst (λ (z : StoreChange). FitsStore z c.args.self.now) c.in-Removed.is c.requires in
     let k = case_of _ _ c.in-Removed.set c.index-shape-in-Removed.result.now c.self-in-Removed.view_is
     c.self-in-Removed.invariant.2 f.is_set c.index-shape-in-Removed.ensures in
-    head_small _ _ c.in-Removed.set c.index-shape-in-Removed.result.now c.in-Removed.number c.heads-heads.result k
-    c.heads-heads.ensures.count c.heads-heads.type_inv
+    head_small _ _ c.in-Removed.set c.index-shape-in-Removed.result.now c.in-Removed.number _ k
+    refl c.known-in-Removed.ensures.heads
 
 pub unwrap-head-requires : goal.unwrap-head-requires
 unwrap-head-requires g c = let f : FitsRemoved c.args.self.now c.in-Removed.set c.in-Removed.owner c.in-Removed.list
@@ -102,8 +102,8 @@ seat_of-requires-in-Removed g c = let f : FitsRemoved c.args.self.now c.in-Remov
     subst (λ (z : StoreChange). FitsStore z c.args.self.now) c.in-Removed.is c.requires in
     let k = case_of _ _ c.in-Removed.set c.index-shape-in-Removed.result.now c.self-in-Removed.view_is
     c.self-in-Removed.invariant.2 f.is_set c.index-shape-in-Removed.ensures in
-    seat_small _ _ c.in-Removed.set c.index-shape-in-Removed.result.now c.seats-seats-in-Removed.result k
-    c.seats-seats-in-Removed.ensures.count c.seats-seats-in-Removed.type_inv c.in-Removed.member
+    seat_small _ _ c.in-Removed.set c.index-shape-in-Removed.result.now _ k
+    refl c.known-in-Removed.ensures.seats c.in-Removed.member
 
 pub unwrap-seat-requires-in-Removed : goal.unwrap-seat-requires-in-Removed
 unwrap-seat-requires-in-Removed g c = let f : FitsRemoved c.args.self.now c.in-Removed.set c.in-Removed.owner
@@ -182,13 +182,13 @@ returns-in-Created g c = let f : FitsCreated c.args.self.now c.in-Created.class 
 pub take_entities-requires : goal.take_entities-requires
 take_entities-requires g c = let f : FitsClassCreated c.args.self.now c.in-ClassCreated.class c.in-ClassCreated.count
     c.in-ClassCreated.heads c.in-ClassCreated.seats =
-    subst (λ (z : StoreChange). FitsStore z c.args.self.now) c.in-ClassCreated.is c.requires in (_, f.less)
+    subst (λ (z : StoreChange). FitsStore z c.args.self.now) c.in-ClassCreated.is c.requires in (_, f.takes_off)
 
 pub returns-in-ClassCreated : goal.returns-in-ClassCreated
 returns-in-ClassCreated g c = let f : FitsClassCreated c.args.self.now c.in-ClassCreated.class c.in-ClassCreated.count
     c.in-ClassCreated.heads c.in-ClassCreated.seats =
     subst (λ (z : StoreChange). FitsStore z c.args.self.now) c.in-ClassCreated.is c.requires in
-    c.take_entities.ensures _ f.less ∙ ap (λ (z : StoreChange). unapply_store z c.args.self.now)
+    c.take_entities.ensures _ f.takes_off ∙ ap (λ (z : StoreChange). unapply_store z c.args.self.now)
     (sym c.in-ClassCreated.is)
 
 pub reset-requires-clause-class : goal.reset-requires-clause-class
@@ -214,7 +214,7 @@ pub bring_back-requires : goal.bring_back-requires
 bring_back-requires g c =
     let f : FitsEnded c.args.self.now c.in-Ended.class c.in-Ended.number c.in-Ended.owned c.in-Ended.values.items =
     subst (λ (z : StoreChange). FitsStore z c.args.self.now) c.in-Ended.is c.requires in
-    subst (λ n. FitsEnded c.args.self.now c.in-Ended.class c.in-Ended.number n c.in-Ended.values.items) f.owned f
+    subst (λ n. FitsEnded c.args.self.now c.in-Ended.class c.in-Ended.number n c.in-Ended.values.items) f.owned_sets f
 
 pub returns-in-Ended : goal.returns-in-Ended
 returns-in-Ended g c =
@@ -224,5 +224,5 @@ returns-in-Ended g c =
     ∙ ap (λ n. record c.args.self.now {
       state = with_back c.args.self.now.state c.in-Ended.number
           (entity_back c.in-Ended.class n c.in-Ended.values.items);
-    }) (sym f.owned)
+    }) (sym f.owned_sets)
     ∙ ap (λ (z : StoreChange). unapply_store z c.args.self.now) (sym c.in-Ended.is)
