@@ -3,7 +3,7 @@ ghost use Rattle.std.specs.Prelude.{◌≡◌, ◌≤◌, [], length, map, IfOk}
 ghost use Rattle.ss_journal.specs.Undoing.{FitsSteps};
 ghost use Rattle.ss_events.specs.Changes.{Fits, unapply};
 ghost use Rattle.ss_events.specs.State.{AreRanked};
-ghost use Rattle.ss_events.specs.Rows.{rule_of};
+ghost use Rattle.ss_events.specs.Views.{rule_of};
 ghost use Rattle.ss_links.specs.Board.{empty_board};
 
 use crate::compare::same;

@@ -2,9 +2,9 @@
 use Rattle.std.specs.Prelude.{◌≡◌, ℕ, ◌≤◌, List, [], ◌∷◌, slice_range}
 
 -- the pieces from `start` on, each up to its end
-abbrev pub cut : ℕ → List ℕ → List ℕ → List (List ℕ)
-cut start [] bytes = []
-cut start (end ∷ ends) bytes = slice_range bytes start end ∷ cut end ends bytes
+abbrev pub pieces_by_ends : ℕ → List ℕ → List ℕ → List (List ℕ)
+pieces_by_ends start [] bytes = []
+pieces_by_ends start (end ∷ ends) bytes = slice_range bytes start end ∷ pieces_by_ends end ends bytes
 
 -- no piece ends before it starts, and the last one ends where the bytes do
 abbrev pub AreEnds : ℕ → List ℕ → ℕ → Type 0

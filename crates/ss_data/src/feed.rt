@@ -2,6 +2,7 @@ use crate::entry::{PieceKind, is_mark, kind_of, writes_name};
 use crate::number::parse_number;
 use crate::pieces::Pieces;
 use ss_words::RunFault;
+use ss_words::characters::{BLANK, CARRIAGE_RETURN, LINE_FEED, TAB};
 use std::alloc::{AllocError, Global};
 use std::marker::Model;
 
@@ -27,7 +28,8 @@ impl Model for Feed {
 }
 
 impl Feed {
-    ghost use Rattle.std.specs.Prelude.{◌≡◌, ◌≢◌, ◌+◌, ◌<◌, ◌≤◌, true, length, map, Ok, Err, IfOk, OnOk, OnErr, MatchOption};
+    ghost use Rattle.std.specs.Prelude.{◌≡◌, ◌≢◌, ◌+◌, ◌<◌, ◌≤◌, true, length, map, Ok, Err, IfOk, OnOk, OnErr};
+    ghost use Rattle.std.specs.Prelude.{MatchOption};
     ghost use Rattle.ss_data.specs.Items.{data_at_start, item, next_value, with_taken};
     ghost use Rattle.ss_data.specs.Entries.{next_kind, next_writes, place_behind_mark};
 
@@ -154,7 +156,7 @@ fn cut_pieces(alloc: Global, text: &[u8]) -> Result<Pieces, AllocError>
 fn is_separator(byte: &u8) -> bool
     ensures { result ≡ is_separator byte.now }
 {
-    matches!(*byte, b' ' | b'\t' | b'\r' | b'\n')
+    matches!(*byte, BLANK | TAB | CARRIAGE_RETURN | LINE_FEED)
 }
 
 /// The place behind the next mark, from a place on.

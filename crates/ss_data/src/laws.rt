@@ -62,8 +62,10 @@ fn a_name_has_at_most_80_bytes()
 
 fn an_entry_ends_behind_its_mark()
     ensures first { place_behind_mark (data_at_start (codes "a 5 ** * b *")) ≡ Some 4 }
-    ensures second { place_behind_mark (with_taken (data_at_start (codes "a 5 ** * b *")) 4) ≡ Some 6 }
-    ensures at_the_mark { place_behind_mark (with_taken (data_at_start (codes "a 5 ** * b *")) 3) ≡ Some 4 }
+    ensures second { place_behind_mark (with_taken (data_at_start (codes "a 5 ** * b *")) 4)
+        ≡ Some 6 }
+    ensures at_the_mark { place_behind_mark (with_taken (data_at_start (codes "a 5 ** * b *")) 3)
+        ≡ Some 4 }
 {}
 
 fn no_entry_ends_where_no_mark_is_left()

@@ -10,11 +10,11 @@ pub(crate) struct Pieces {
 
 impl Model for Pieces {
     ghost use Rattle.std.specs.Prelude.{ℕ, List, length};
-    ghost use Rattle.ss_data.specs.Packed.{cut, AreEnds};
+    ghost use Rattle.ss_data.specs.Packed.{pieces_by_ends, AreEnds};
 
     ghost Value = { List (List ℕ) };
 
-    ghost view = { λ p. cut 0 p.ends.items p.bytes.items };
+    ghost view = { λ p. pieces_by_ends 0 p.ends.items p.bytes.items };
 
     ghost invariant = { λ p. AreEnds 0 p.ends.items (length p.bytes.items) };
 }

@@ -13,7 +13,8 @@ use Rattle.ss_events.specs.Agenda.{Pending, Agenda, pending_at, by_time, least_o
 use Rattle.ss_events.specs.declared.agenda.Slot.{Slot}
 use Rattle.ss_events.specs.Slots.{slot_of}
 use Rattle.ss_events.specs.State.{Each}
-use Rattle.ss_events.specs.WellAgenda.{IsRising, IsWellNotice, IsWellAgenda}
+use Rattle.ss_events.specs.WellAgenda.{IsRising, IsWellAgenda}
+use Rattle.ss_events.specs.State.{IsWellNotice}
 use Rattle.ss_events.proofs.OrderLaws.{Each-without, Each-map}
 use Rattle.ss_events.proofs.EventLaws.{event-below}
 use Rattle.ss_store.proofs.Core.{some_eq}

@@ -7,21 +7,20 @@ use Rattle.ss_links.specs.Seats.{has, put_at}
 use Rattle.ss_links.specs.Seats.{list_without as without_seat}
 use Rattle.ss_links.proofs.SeatLaws.{has-last_of}
 use Rattle.ss_links.proofs.BoardLaws.{head_of-list_at}
-use Rattle.ss_events.specs.Agenda.{Pending, without_notice, of_class}
-use Rattle.ss_events.specs.Weights.{before}
+use Rattle.ss_events.specs.Agenda.{Pending, is_before, without_notice, of_class}
 use Rattle.ss_events.specs.Agenda.{pending_at, with_notice}
 use Rattle.ss_events.specs.State.{AgendaState, seat_in, seats_of, order, board_of, Each, NoneNoted, NoneFiled, AreFiled}
 use Rattle.ss_events.proofs.OrderLaws.{AreNoted, AreNoted-without, AreFiled-without, placed, sorted, Each-sorted}
 use Rattle.ss_events.proofs.OrderLaws.{Each-of_class, Each-without, Each-with, sorted-with, without-sorted}
 use Rattle.ss_events.proofs.OrderLaws.{of_class-placed, of_class-placed_other, of_class-without, IsSorted}
 use Rattle.ss_events.proofs.OrderLaws.{IsSorted-sorted}
-use Rattle.ss_events.proofs.WeightLaws.{IsOrder-before}
 use Rattle.ss_events.specs.State.{AreRanked}
 use Rattle.ss_events.specs.Agenda.{least}
 use Rattle.ss_events.specs.Places.{first}
 use Rattle.ss_events.proofs.OrderLaws.{first-sorted}
-use Rattle.ss_events.proofs.Agreement.{IsKeyed, in_order-sorted, least-first}
-use Rattle.ss_events.specs.Places.{passed, rank_place}
+use Rattle.ss_events.proofs.BeforeLaws.{IsKeyed, IsOrder-is_before}
+use Rattle.ss_events.proofs.InOrder.{in_order-sorted, least-first}
+use Rattle.ss_events.specs.Places.{notices_passed, rank_place}
 use Rattle.ss_events.specs.Changes.{with_pending, with_notices}
 use Rattle.ss_events.proofs.StateLaws.{seat_in-below, AreSeated, AreNoted-sorted, AreNoted-of_class, seats_of-placed}
 use Rattle.ss_events.proofs.StateLaws.{seats_of-without, seats_of-more, has-seats_of_none, has-seats_of_some}
@@ -45,22 +44,26 @@ pub record IsTold (s : AgendaState) : Type 0 where
 abbrev pub class_seats : AgendaState → ℕ → List ℕ
 class_seats s c = seats_of s.notices (of_class c (order s))
 
-pub order-sorted : (s : AgendaState) → IsTold s → order s ≡ sorted (before s.rules) s.agenda.pending
+pub order-sorted : (s : AgendaState) → IsTold s → order s ≡ sorted (is_before s.rules) s.agenda.pending
 order-sorted s t = in_order-sorted s.rules s.agenda t.ranked t.keyed t.filed t.noted
 
 pub least-sorted : (s : AgendaState) → IsTold s → least s.rules s.agenda.pending ≡ first (order s)
 least-sorted s t = least-first s.rules s.agenda.pending t.ranked t.keyed t.filed ∙
-    (sym (first-sorted (before s.rules) s.agenda.pending t.noted) ∙ ap first (sym (order-sorted s t)))
+    (sym (first-sorted (is_before s.rules) s.agenda.pending t.noted) ∙ ap first (sym (order-sorted s t)))
 
 pub Each-order : (P : Pending → Type 0) (s : AgendaState) → IsTold s → Each P s.agenda.pending → Each P (order s)
-Each-order P s t h = rw (order-sorted s t) (Each-sorted P (before s.rules) s.agenda.pending h)
+Each-order P s t h = rw (order-sorted s t) (Each-sorted P (is_before s.rules) s.agenda.pending h)
 
-pub IsSorted-order : (s : AgendaState) → IsTold s → IsSorted (before s.rules) (order s)
-IsSorted-order s t = rw (order-sorted s t) (IsSorted-sorted (before s.rules) (IsOrder-before s.rules)
-    s.agenda.pending t.filed)
+pub IsSorted-order : (s : AgendaState) → IsTold s → IsSorted (is_before s.rules) (order s)
+IsSorted-order s t = rw (order-sorted s t) (IsSorted-sorted (IsKeyed s.rules) (is_before s.rules) (IsOrder-is_before
+    s.rules t.ranked) s.agenda.pending t.keyed t.filed)
+
+-- each has a key for each of its class's
+pub AreKeyed-order : (s : AgendaState) → IsTold s → Each (IsKeyed s.rules) (order s)
+AreKeyed-order s t = Each-order (IsKeyed s.rules) s t t.keyed
 
 pub AreNoted-order : (s : AgendaState) → IsTold s → AreNoted (order s)
-AreNoted-order s t = rw (order-sorted s t) (AreNoted-sorted (before s.rules) s.agenda.pending t.noted)
+AreNoted-order s t = rw (order-sorted s t) (AreNoted-sorted (is_before s.rules) s.agenda.pending t.noted)
 
 AreNoted-with : (e : Pending) (es : List Pending) → NoneNoted e.notice es → AreNoted es → AreNoted (with_notice e es)
 AreNoted-with e [] n h = (tt, tt)
@@ -109,15 +112,18 @@ IsTold-without s n t = record {
 
 -- the order with one notice more, and with one less
 pub order-with : (s : AgendaState) (e : Pending) → IsTold s → IsNew s e →
-    order (with_pending s (with_notice e s.agenda.pending)) ≡ placed (before s.rules) e (order s)
+    order (with_pending s (with_notice e s.agenda.pending)) ≡ placed (is_before s.rules) e (order s)
 order-with s e t n = order-sorted (with_pending s (with_notice e s.agenda.pending)) (IsTold-with s e t n) ∙
-    (sorted-with (before s.rules) (IsOrder-before s.rules) e s.agenda.pending n.filing ∙
-    ap (placed (before s.rules) e) (sym (order-sorted s t)))
+    (sorted-with (IsKeyed s.rules) (is_before s.rules) (IsOrder-is_before s.rules t.ranked) e s.agenda.pending n.keyed
+    t.keyed n.filing ∙
+    ap (placed (is_before s.rules) e) (sym (order-sorted s t)))
 
 pub order-without : (s : AgendaState) (n : ℕ) → IsTold s →
     order (with_pending s (without_notice n s.agenda.pending)) ≡ without_notice n (order s)
 order-without s n t = order-sorted (with_pending s (without_notice n s.agenda.pending)) (IsTold-without s n t) ∙
-    (without-sorted (before s.rules) (IsOrder-before s.rules) n s.agenda.pending t.filed ∙
+    (without-sorted (IsKeyed s.rules) (is_before s.rules)
+    (IsOrder-is_before s.rules t.ranked) n s.agenda.pending t.keyed
+    t.filed ∙
     ap (without_notice n) (sym (order-sorted s t)))
 
 pub relinked-with : (s : AgendaState) (e : Pending) → IsTold s → IsNew s e →
@@ -128,13 +134,14 @@ relinked-with s e t n =
     let here = list_at-by (class_seats s) s.rules e.class n.keyed.0 in
     let same : eqb e.class e.class ≡ true = grind (arith, nat_tests) in
     let own : put_at (class_seats s e.class) (rank_place s e).before (seat_in s.notices e.notice) ≡ class_seats new
-    e.class = seats_of-placed s.notices (before s.rules) e (of_class e.class (order s)) (Each-of_class (λ f. has
+    e.class = seats_of-placed s.notices (is_before s.rules) e (of_class e.class (order s)) (Each-of_class (λ f. has
     s.notices f.notice ≡ true) e.class (order s) (Each-order (λ f. has s.notices f.notice ≡ true) s t t.seated))
     (AreNoted-of_class e.class (order s) (AreNoted-order s t)) ∙
-    ap (seats_of s.notices) (sym (of_class-placed (before s.rules) (IsOrder-before s.rules) e.class e (order s)
-    (IsSorted-order s t) same) ∙ ap (of_class e.class) (sym (order-with s e t n))) in
+    ap (seats_of s.notices) (sym (of_class-placed (IsKeyed s.rules) (is_before s.rules) (IsOrder-is_before s.rules
+    t.ranked) e.class e (order s) n.keyed (AreKeyed-order s t) (IsSorted-order s t) same) ∙
+    ap (of_class e.class) (sym (order-with s e t n))) in
     let lists = lists_by-set (class_seats s) (class_seats new) s.rules e.class n.keyed.0 (λ d a. ap
-    (seats_of s.notices) (sym (of_class-placed_other (before s.rules) d e (order s) a) ∙
+    (seats_of s.notices) (sym (of_class-placed_other (is_before s.rules) d e (order s) a) ∙
     ap (of_class d) (sym (order-with s e t n)))) in
     rw (here, own) (ap (λ (ls : List (List ℕ)). board_with ls (length s.notices)) lists)
 
@@ -227,7 +234,7 @@ pub pending_in-class : (s : AgendaState) (n : ℕ) (e : Pending) → IsTold s �
     pending_at (of_class e.class (order s)) n ≡ Some e
 pending_in-class s n e t h =
     let same : eqb e.class e.class ≡ true = grind (arith, nat_tests) in
-    let there : pending_at (order s) n ≡ Some e = rw (order-sorted s t) (pending_at-sorted (before s.rules)
+    let there : pending_at (order s) n ≡ Some e = rw (order-sorted s t) (pending_at-sorted (is_before s.rules)
     s.agenda.pending n t.noted ∙ h) in
     pending_at-of_class e.class n e (order s) same there
 
@@ -251,7 +258,7 @@ CanRelink-rank s e t n = record {
     (event-at s.rules e.class n.keyed.0).0,
     length-lists_by (class_seats s) s.rules,
   );
-  is_there = λ at k. rw (list_at-by (class_seats s) s.rules e.class n.keyed.0) (has-passed s.notices (before
-      s.rules) e (of_class e.class (order s)) at (has-last_of (seats_of s.notices (passed (before s.rules) e
+  is_there = λ at k. rw (list_at-by (class_seats s) s.rules e.class n.keyed.0) (has-passed s.notices (is_before
+      s.rules) e (of_class e.class (order s)) at (has-last_of (seats_of s.notices (notices_passed (is_before s.rules) e
       (of_class e.class (order s)))) at k));
 }

@@ -5,8 +5,8 @@ use Rattle.std.proofs.Math.ListN.{set}
 use Rattle.std.proofs.lemmas.Bool.Decides.{nat_tests}
 use Rattle.std.proofs.lemmas.List.{length-map, get_or-map}
 use Rattle.ss_links.specs.Board.{list_at}
-use Rattle.ss_events.specs.declared.pending_notice.ClassRule.{ClassRule}
-use Rattle.ss_events.specs.Rows.{rule_of}
+use Rattle.ss_events.specs.declared.rule.ClassRule.{ClassRule}
+use Rattle.ss_events.specs.Views.{rule_of}
 use Rattle.ss_events.specs.Rules.{Rule, rule_at, is_event_class, events_from, event_classes, event_number}
 
 -- an event class is a class

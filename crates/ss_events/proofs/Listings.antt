@@ -8,24 +8,26 @@ use Rattle.std.proofs.lemmas.Bool.Decides.{nat_tests}
 use Rattle.ss_links.specs.Board.{Board, list_of}
 use Rattle.ss_links.specs.Seats.{times_in, first_of, next_in}
 use Rattle.ss_links.proofs.SeatLaws.{times_in-present}
+use Rattle.ss_words.specs.declared.limits.TheConstants.{MOST_CLASSES, MOST_REFERENCES}
 use Rattle.ss_events.specs.declared.pending_notice.PendingNotice.{PendingNotice}
 use Rattle.ss_events.specs.declared.pending_notice.Row.{Row}
 use Rattle.ss_events.specs.declared.listing.Listing.{Listing}
-use Rattle.ss_events.specs.Agenda.{Pending, pending_at, least, of_class}
-use Rattle.ss_events.specs.Weights.{before}
+use Rattle.ss_events.specs.Agenda.{Pending, pending_at, is_before, least, of_class}
 use Rattle.ss_events.specs.State.{AgendaState, Each, IsPending, seat_in, seats_of, order}
 use Rattle.ss_events.specs.Places.{first, earlier, notice_on, pending_on, IsTaken, IsTakenIfSome}
 use Rattle.ss_events.specs.Listings.{seat_of_class, left_of, IsListing}
-use Rattle.ss_events.specs.Rows.{notice_of, and_others, notices_from, IsAgenda}
+use Rattle.ss_events.specs.Views.{notice_of}
+use Rattle.ss_events.specs.Rows.{and_others, notices_from, IsAgenda}
 use Rattle.ss_events.proofs.OrderLaws.{IsSorted, Each-map, Each-of_class, length-sorted}
 use Rattle.std.specs.Option.{option_map, IsSome}
 use Rattle.ss_events.proofs.RowLaws.{pending_at-each}
-use Rattle.ss_events.proofs.WeightLaws.{IsOrder-before}
+use Rattle.ss_events.proofs.BeforeLaws.{IsKeyed, IsOrder-is_before}
 use Rattle.ss_events.proofs.WalkLaws.{of_classes_below, first-earlier, of_classes_below-all, of_classes_below-none}
 use Rattle.ss_events.specs.Rules.{Rule, is_event_class}
 use Rattle.ss_events.proofs.EventLaws.{event-below}
-use Rattle.ss_events.proofs.BoardOf.{class_seats, Each-order, order-sorted, IsSorted-order, least-sorted}
-use Rattle.ss_events.proofs.Standing.{stands, taken-stands, told, sound_board, has-get_or, Each-class}
+use Rattle.ss_events.proofs.BoardOf.{class_seats, Each-order, order-sorted, least-sorted}
+use Rattle.ss_events.proofs.BoardOf.{AreKeyed-order, IsSorted-order}
+use Rattle.ss_events.proofs.Stands.{stands, taken-stands, told, sound_board, has-get_or, Each-class}
 
 -- the notices of an order that are left behind so many
 Each-drop : (P : Pending → Type 0) (n : ℕ) (es : List Pending) → Each P es → Each P (drop n es)
@@ -83,7 +85,7 @@ first-none s es = record { first = sym (ap first (of_classes_below-none es)); ta
 event-each : (rows : List Row) (s : AgendaState) (b : Board) → IsAgenda rows s b →
     Each (λ e. is_event_class s.rules e.class ≡ true) s.agenda.pending
 event-each rows s b k = Each-map (IsPending s.rules s.notices s.agenda.next_filing) (λ e. is_event_class s.rules
-    e.class ≡ true) (λ e p. p.class) s.agenda.pending k.pending
+    e.class ≡ true) (λ e p. p.well.class) s.agenda.pending k.pending
 
 -- what the first seat of a class is
 pub record IsFirstOf (s : AgendaState) (es : List Pending) (c : ℕ) (at : Option ℕ) : Type 0 where
@@ -123,15 +125,18 @@ first-of_class rows s b l c at k i m h = rw (h ∙ i.seats c m) (go (of_class c 
 -- a class more
 pub first-more : (rows : List Row) (s : AgendaState) (b : Board) (l : Listing) (c : ℕ) (at own new : Option ℕ) →
     IsAgenda rows s b → IsFirst s (left_of s l) c at → IsFirstOf s (left_of s l) c own →
-    pending_on s new ≡ earlier (before s.rules) (pending_on s at) (pending_on s own) → IsTakenIfSome s new →
+    pending_on s new ≡ earlier (is_before s.rules) (pending_on s at) (pending_on s own) → IsTakenIfSome s new →
     IsFirst s (left_of s l) (c + 1) new
 first-more rows s b l c at own new k f o e t =
     let es = left_of s l in
-    let sorted = IsSorted-drop (before s.rules) l.listed (order s) (IsSorted-order s (told rows s b k)) in
+    let t' = told rows s b k in
+    let sorted = IsSorted-drop (is_before s.rules) l.listed (order s) (IsSorted-order s t') in
+    let keyed = Each-drop (IsKeyed s.rules) l.listed (order s) (AreKeyed-order s t') in
     record {
-      first = e ∙ (ap (λ (p : Option Pending). earlier (before s.rules) p (pending_on s own)) f.first ∙
-          (ap (earlier (before s.rules) (first (of_classes_below c es))) o.first ∙
-          sym (first-earlier (before s.rules) (IsOrder-before s.rules) c es sorted)));
+      first = e ∙ (ap (λ (p : Option Pending). earlier (is_before s.rules) p (pending_on s own)) f.first ∙
+          (ap (earlier (is_before s.rules) (first (of_classes_below c es))) o.first ∙
+          sym (first-earlier (IsKeyed s.rules) (is_before s.rules) (IsOrder-is_before s.rules t'.ranked) c es keyed
+          sorted)));
       taken = t;
     }
 
@@ -143,7 +148,7 @@ first-all rows s b l c at k h f =
     let t = told rows s b k in
     let below = Each-drop (λ e. e.class < length s.rules) l.listed (order s) (Each-order (λ e. e.class < length
     s.rules) s t (Each-map (IsPending s.rules s.notices s.agenda.next_filing) (λ e. e.class < length s.rules) (λ
-    e p. event-below s.rules e.class p.class) s.agenda.pending k.pending)) in
+    e p. event-below s.rules e.class p.well.class) s.agenda.pending k.pending)) in
     let all : of_classes_below c (left_of s l) ≡ left_of s l = rw h (of_classes_below-all (length s.rules) (left_of s
     l) below) in
     f.first ∙ (ap first all ∙ first-drop (order s) l.listed)
@@ -177,22 +182,23 @@ seat_in-index (m ∷ ms) (suc i) d o h =
 -- how many notices there may be
 length-notices_from : (n : ℕ) (rs : List Row) → length (notices_from n rs) ≤ length rs
 length-notices_from n [] = omega arith
-length-notices_from n (r ∷ rs) = let rest = length-notices_from (n + 1) rs in elim (r.entry)
+length-notices_from n (r ∷ rs) = let rest = length-notices_from (n + 1) rs in elim (r.pending)
     as (λ o. length (and_others n o (notices_from (n + 1) rs)) ≤ suc (length rs)) [
       | None ↦ omega (arith, rest)
       | Some x ↦ omega (arith, rest)
     ]
 
 pub few-listed : (rows : List Row) (s : AgendaState) (b : Board) (i : ℕ) (e : Pending) → IsAgenda rows s b →
-    slice_get (order s) i ≡ Some e → i < 1000000
+    slice_get (order s) i ≡ Some e → i < MOST_REFERENCES
 few-listed rows s b i e k h =
     let long : length (order s) ≡ length s.agenda.pending = ap (λ (es : List Pending). length es) (order-sorted s
-    (told rows s b k)) ∙ length-sorted (before s.rules) s.agenda.pending in
+    (told rows s b k)) ∙ length-sorted (is_before s.rules) s.agenda.pending in
     let rows_long : length s.agenda.pending ≤ length rows = rw k.read (length-notices_from 1 rows) in
     omega (arith, below-at (order s) i e h, long, rows_long, k.few)
 
 -- a listing goes on behind the notice that it lists
-pub listing-on : (rows : List Row) (s : AgendaState) (b : Board) (l : Listing) (x : ℕ) (y : PendingNotice) (at : Option ℕ)
+pub listing-on : (rows : List Row) (s : AgendaState) (b : Board) (l : Listing) (x : ℕ) (y : PendingNotice)
+    (at : Option ℕ)
     (seats : List (Option ℕ)) (n : ℕ) → IsAgenda rows s b → IsListing s l → x < length s.notices →
     pending_at s.agenda.pending (notice_on s x) ≡ Some (notice_of (notice_on s x) y) →
     slice_get (order s) l.listed ≡ Some (notice_of (notice_on s x) y) → at ≡ next_in (list_of b.lists x) x →
@@ -233,7 +239,7 @@ listing-on rows s b l x y at seats n k i m p q h c z u =
     })
 
 -- a listing begins at the first of each class
-pub listing-begins : (s : AgendaState) (seats : List (Option ℕ)) → length seats ≡ 64 → ((c : ℕ) →
+pub listing-begins : (s : AgendaState) (seats : List (Option ℕ)) → length seats ≡ MOST_CLASSES → ((c : ℕ) →
     c < length s.rules → get_or seats c None ≡ first_of (class_seats s c)) →
     IsListing s (record { seats = seats; listed = 0 })
 listing-begins s seats a h = record { all = a; seats = h }

@@ -4,7 +4,6 @@ use Rattle.std.proofs.Common.{None, refl, sym, ap, ◌∙◌, arith, suc, zero}
 use Rattle.std.proofs.lemmas.Bool.Decides.{nat_tests}
 use Rattle.ss_events.specs.Agenda.{Pending, with_notice, without_notice, of_class}
 use Rattle.ss_events.specs.Places.{first}
-use Rattle.ss_events.specs.Agenda.{Pending, with_notice, without_notice, of_class}
 use Rattle.ss_events.specs.State.{Each, NoneNoted, NoneFiled, AreFiled}
 
 -- the first of a notice and perhaps another
@@ -31,11 +30,11 @@ taken_in_turn lt (suc n) es = then_others (least_by lt es) (λ e. taken_in_turn 
 abbrev pub in_turn : (Pending → Pending → Bool) → List Pending → List Pending
 in_turn lt es = taken_in_turn lt (length es) es
 
--- a strict order that tells apart any two notices with different filing numbers
-pub record IsOrder (lt : Pending → Pending → Bool) : Type 0 where
-  pub asymmetric : (e f : Pending) → lt e f ≡ true → lt f e ≡ false
-  pub transitive : (e f g : Pending) → lt e f ≡ true → lt f g ≡ true → lt e g ≡ true
-  pub total : (e f : Pending) → eqb e.filing f.filing ≡ false → lt e f ≡ false → lt f e ≡ true
+-- a strict order of the notices of which P holds, that tells apart any two with different filing numbers
+pub record IsOrder (P : Pending → Type 0) (lt : Pending → Pending → Bool) : Type 0 where
+  pub asymmetric : (e f : Pending) → P e → P f → lt e f ≡ true → lt f e ≡ false
+  pub transitive : (e f g : Pending) → P e → P f → P g → lt e f ≡ true → lt f g ≡ true → lt e g ≡ true
+  pub total : (e f : Pending) → P e → P f → eqb e.filing f.filing ≡ false → lt e f ≡ false → lt f e ≡ true
 
 -- a notice put where it belongs
 abbrev pub placed : (Pending → Pending → Bool) → Pending → List Pending → List Pending
@@ -199,10 +198,13 @@ first-sorted lt es h = rw (sorted-least lt es h) (elim (least_by lt es)
     ])
 
 -- what comes behind a notice comes behind all before it
-pub behind-trans : (lt : Pending → Pending → Bool) → IsOrder lt → (e f : Pending) (es : List Pending) →
-    lt e f ≡ true → AreBehind lt f es → AreBehind lt e es
-behind-trans lt o e f [] h k = tt
-behind-trans lt o e f (g ∷ gs) h k = (o.transitive e f g h k.0, behind-trans lt o e f gs h k.1)
+pub behind-trans : (P : Pending → Type 0) (lt : Pending → Pending → Bool) → IsOrder P lt →
+    (e f : Pending) (es : List Pending) → P e → P f → Each P es → lt e f ≡ true → AreBehind lt f es → AreBehind lt e es
+behind-trans P lt o e f [] p q r h k = tt
+behind-trans P lt o e f (g ∷ gs) p q r h k = (
+  o.transitive e f g p q r.0 h k.0,
+  behind-trans P lt o e f gs p q r.1 h k.1,
+)
 
 -- what comes before all others is put first
 pub placed-first : (lt : Pending → Pending → Bool) (e : Pending) (es : List Pending) → AreBehind lt e es →
@@ -211,57 +213,65 @@ placed-first lt e [] h = refl
 placed-first lt e (f ∷ fs) h = rw h.0 refl
 
 -- two notices may be put where they belong in either order
-placed-cons : (lt : Pending → Pending → Bool) → IsOrder lt → (e f g : Pending) (gs : List Pending) →
-    eqb e.filing f.filing ≡ false → placed lt e (placed lt f gs) ≡ placed lt f (placed lt e gs) →
+placed-cons : (P : Pending → Type 0) (lt : Pending → Pending → Bool) → IsOrder P lt →
+    (e f g : Pending) (gs : List Pending) → P e → P f → P g → eqb e.filing f.filing ≡ false →
+    placed lt e (placed lt f gs) ≡ placed lt f (placed lt e gs) →
     placed lt e (placed lt f (g ∷ gs)) ≡ placed lt f (placed lt e (g ∷ gs))
-placed-cons lt o e f g gs h ih = grind (
+placed-cons P lt o e f g gs p q r h ih = grind (
   arith,
   ih,
-  o.asymmetric e f,
-  o.total e f h,
-  o.transitive e f g,
-  o.transitive f e g,
-  o.asymmetric f e,
+  o.asymmetric e f p q,
+  o.total e f p q h,
+  o.transitive e f g p q r,
+  o.transitive f e g q p r,
+  o.asymmetric f e q p,
 )
 
-pub placed-placed : (lt : Pending → Pending → Bool) → IsOrder lt → (e f : Pending) (es : List Pending) →
-    eqb e.filing f.filing ≡ false → placed lt e (placed lt f es) ≡ placed lt f (placed lt e es)
-placed-placed lt o e f [] h = elim (lt e f)
+pub placed-placed : (P : Pending → Type 0) (lt : Pending → Pending → Bool) → IsOrder P lt →
+    (e f : Pending) (es : List Pending) → P e → P f → Each P es → eqb e.filing f.filing ≡ false →
+    placed lt e (placed lt f es) ≡ placed lt f (placed lt e es)
+placed-placed P lt o e f [] p q r h = elim (lt e f)
     as (λ t. lt e f ≡ t → cond t (e ∷ f ∷ []) (f ∷ e ∷ []) ≡ cond (lt f e) (f ∷ e ∷ []) (e ∷ f ∷ [])) [
-      | true ↦ λ t. rw (o.asymmetric e f t) refl
-      | false ↦ λ t. rw (o.total e f h t) refl
+      | true ↦ λ t. rw (o.asymmetric e f p q t) refl
+      | false ↦ λ t. rw (o.total e f p q h t) refl
     ] refl
-placed-placed lt o e f (g ∷ gs) h = placed-cons lt o e f g gs h (placed-placed lt o e f gs h)
+placed-placed P lt o e f (g ∷ gs) p q r h =
+    placed-cons P lt o e f g gs p q r.0 h (placed-placed P lt o e f gs p q r.1 h)
 
 -- one notice more, wherever it stands by its number, is put where it belongs
-pub sorted-with : (lt : Pending → Pending → Bool) → IsOrder lt → (e : Pending) (es : List Pending) →
-    NoneFiled e.filing es → sorted lt (with_notice e es) ≡ placed lt e (sorted lt es)
-sorted-with lt o e [] h = refl
-sorted-with lt o e (f ∷ fs) h =
+pub sorted-with : (P : Pending → Type 0) (lt : Pending → Pending → Bool) → IsOrder P lt →
+    (e : Pending) (es : List Pending) → P e → Each P es → NoneFiled e.filing es →
+    sorted lt (with_notice e es) ≡ placed lt e (sorted lt es)
+sorted-with P lt o e [] p q h = refl
+sorted-with P lt o e (f ∷ fs) p q h =
     let apart : eqb f.filing e.filing ≡ false = h.0 in
-    let rest = sorted-with lt o e fs h.1 in
+    let rest = sorted-with P lt o e fs p q.1 h.1 in
     elim (ltb e.notice f.notice)
     as (λ t. sorted lt (cond t (e ∷ f ∷ fs) (f ∷ with_notice e fs)) ≡ placed lt e (placed lt f (sorted lt fs))) [
       | true ↦ refl
-      | false ↦ ap (placed lt f) rest ∙ placed-placed lt o f e (sorted lt fs) apart
+      | false ↦ ap (placed lt f) rest ∙
+          placed-placed P lt o f e (sorted lt fs) q.0 p (Each-sorted P lt fs q.1) apart
     ]
 
 -- what is put where it belongs leaves the list sorted
-pub IsSorted-placed : (lt : Pending → Pending → Bool) → IsOrder lt → (e : Pending) (es : List Pending) →
-    NoneFiled e.filing es → IsSorted lt es → IsSorted lt (placed lt e es)
-IsSorted-placed lt o e [] n s = (tt, tt)
-IsSorted-placed lt o e (f ∷ fs) n s = elim (lt e f)
+pub IsSorted-placed : (P : Pending → Type 0) (lt : Pending → Pending → Bool) → IsOrder P lt →
+    (e : Pending) (es : List Pending) → P e → Each P es → NoneFiled e.filing es → IsSorted lt es →
+    IsSorted lt (placed lt e es)
+IsSorted-placed P lt o e [] p q n s = (tt, tt)
+IsSorted-placed P lt o e (f ∷ fs) p q n s = elim (lt e f)
     as (λ t. lt e f ≡ t → IsSorted lt (cond t (e ∷ f ∷ fs) (f ∷ placed lt e fs))) [
-      | true ↦ λ t. ((t, behind-trans lt o e f fs t s.0), s)
-      | false ↦ λ t. let apart : eqb e.filing f.filing ≡ false = grind (arith, nat_tests, n.0) in
-          (Each-placed (λ g. lt f g ≡ true) lt e fs (o.total e f apart t) s.0, IsSorted-placed lt o e fs n.1 s.1)
+      | true ↦ λ t. ((t, behind-trans P lt o e f fs p q.0 q.1 t s.0), s)
+      | false ↦ λ t.
+          let apart : eqb e.filing f.filing ≡ false = grind (arith, nat_tests, n.0) in
+          let before : lt f e ≡ true = o.total e f p q.0 apart t in
+          (Each-placed (λ g. lt f g ≡ true) lt e fs before s.0, IsSorted-placed P lt o e fs p q.1 n.1 s.1)
     ] refl
 
-pub IsSorted-sorted : (lt : Pending → Pending → Bool) → IsOrder lt → (es : List Pending) → AreFiled es →
-    IsSorted lt (sorted lt es)
-IsSorted-sorted lt o [] h = tt
-IsSorted-sorted lt o (e ∷ es) h = IsSorted-placed lt o e (sorted lt es) (Each-sorted (λ f. eqb f.filing e.filing ≡
-    false) lt es h.0) (IsSorted-sorted lt o es h.1)
+pub IsSorted-sorted : (P : Pending → Type 0) (lt : Pending → Pending → Bool) → IsOrder P lt → (es : List Pending) →
+    Each P es → AreFiled es → IsSorted lt (sorted lt es)
+IsSorted-sorted P lt o [] q h = tt
+IsSorted-sorted P lt o (e ∷ es) q h = IsSorted-placed P lt o e (sorted lt es) q.0 (Each-sorted P lt es q.1)
+    (Each-sorted (λ f. eqb f.filing e.filing ≡ false) lt es h.0) (IsSorted-sorted P lt o es q.1 h.1)
 
 pub IsSorted-of_class : (lt : Pending → Pending → Bool) (c : ℕ) (es : List Pending) → IsSorted lt es →
     IsSorted lt (of_class c es)
@@ -282,16 +292,16 @@ without-placed_same lt n e (f ∷ fs) h = elim (lt e f)
       | false ↦ ap (λ (l : List Pending). cond (eqb f.notice n) l (f ∷ l)) (without-placed_same lt n e fs h)
     ]
 
-pub without-placed_other : (lt : Pending → Pending → Bool) → IsOrder lt →
-    (n : ℕ) (e : Pending) (es : List Pending) → IsSorted lt es → eqb e.notice n ≡ false →
+pub without-placed_other : (P : Pending → Type 0) (lt : Pending → Pending → Bool) → IsOrder P lt →
+    (n : ℕ) (e : Pending) (es : List Pending) → P e → Each P es → IsSorted lt es → eqb e.notice n ≡ false →
     without_notice n (placed lt e es) ≡ placed lt e (without_notice n es)
-without-placed_other lt o n e [] s h = rw h refl
-without-placed_other lt o n e (f ∷ fs) s h = elim (lt e f)
+without-placed_other P lt o n e [] p q s h = rw h refl
+without-placed_other P lt o n e (f ∷ fs) p q s h = elim (lt e f)
     as (λ t. lt e f ≡ t → without_notice n (cond t (e ∷ f ∷ fs) (f ∷ placed lt e fs)) ≡ placed lt e (without_notice n
     (f ∷ fs))) [
       | true ↦ λ t. rw h (sym (placed-first lt e (without_notice n (f ∷ fs)) (Each-without (λ g. lt e g ≡ true) n (f ∷
-          fs) (t, behind-trans lt o e f fs t s.0))))
-      | false ↦ λ t. let rest = without-placed_other lt o n e fs s.1 h in elim (eqb f.notice n)
+          fs) (t, behind-trans P lt o e f fs p q.0 q.1 t s.0))))
+      | false ↦ λ t. let rest = without-placed_other P lt o n e fs p q.1 s.1 h in elim (eqb f.notice n)
           as (λ u. cond u (without_notice n (placed lt e fs)) (f ∷ without_notice n (placed lt e fs)) ≡ placed lt e
           (cond
           u (without_notice n fs) (f ∷ without_notice n fs))) [
@@ -300,17 +310,19 @@ without-placed_other lt o n e (f ∷ fs) s h = elim (lt e f)
           ]
     ] refl
 
-pub without-sorted : (lt : Pending → Pending → Bool) → IsOrder lt → (n : ℕ) (es : List Pending) → AreFiled es →
+pub without-sorted : (P : Pending → Type 0) (lt : Pending → Pending → Bool) → IsOrder P lt →
+    (n : ℕ) (es : List Pending) → Each P es → AreFiled es →
     sorted lt (without_notice n es) ≡ without_notice n (sorted lt es)
-without-sorted lt o n [] h = refl
-without-sorted lt o n (e ∷ es) h =
-    let rest = without-sorted lt o n es h.1 in
-    let s = IsSorted-sorted lt o es h.1 in
+without-sorted P lt o n [] q h = refl
+without-sorted P lt o n (e ∷ es) q h =
+    let rest = without-sorted P lt o n es q.1 h.1 in
+    let s = IsSorted-sorted P lt o es q.1 h.1 in
+    let each = Each-sorted P lt es q.1 in
     elim (eqb e.notice n)
     as (λ t. eqb e.notice n ≡ t → sorted lt (cond t (without_notice n es) (e ∷ without_notice n es)) ≡
     without_notice n (placed lt e (sorted lt es))) [
       | true ↦ λ t. rest ∙ sym (without-placed_same lt n e (sorted lt es) t)
-      | false ↦ λ t. ap (placed lt e) rest ∙ sym (without-placed_other lt o n e (sorted lt es) s t)
+      | false ↦ λ t. ap (placed lt e) rest ∙ sym (without-placed_other P lt o n e (sorted lt es) q.0 each s t)
     ] refl
 
 -- those of one class, as a notice is put where it belongs
@@ -323,16 +335,17 @@ of_class-placed_other lt c e (f ∷ fs) h = elim (lt e f)
       | false ↦ ap (λ (l : List Pending). cond (eqb f.class c) (f ∷ l) l) (of_class-placed_other lt c e fs h)
     ]
 
-pub of_class-placed : (lt : Pending → Pending → Bool) → IsOrder lt → (c : ℕ) (e : Pending) (es : List Pending) →
-    IsSorted lt es → eqb e.class c ≡ true → of_class c (placed lt e es) ≡ placed lt e (of_class c es)
-of_class-placed lt o c e [] s h = rw h refl
-of_class-placed lt o c e (f ∷ fs) s h = elim (lt e f)
+pub of_class-placed : (P : Pending → Type 0) (lt : Pending → Pending → Bool) → IsOrder P lt →
+    (c : ℕ) (e : Pending) (es : List Pending) → P e → Each P es → IsSorted lt es → eqb e.class c ≡ true →
+    of_class c (placed lt e es) ≡ placed lt e (of_class c es)
+of_class-placed P lt o c e [] p q s h = rw h refl
+of_class-placed P lt o c e (f ∷ fs) p q s h = elim (lt e f)
     as (λ t. lt e f ≡ t → of_class c (cond t (e ∷ f ∷ fs) (f ∷ placed lt e fs)) ≡ placed lt e (of_class c (f ∷ fs))) [
       | true ↦ λ t. rw h (sym (placed-first lt e (of_class c (f ∷ fs)) (Each-of_class (λ g. lt e g ≡ true) c (f ∷ fs) (
         t,
-        behind-trans lt o e f fs t s.0,
+        behind-trans P lt o e f fs p q.0 q.1 t s.0,
       ))))
-      | false ↦ λ t. let rest = of_class-placed lt o c e fs s.1 h in elim (eqb f.class c)
+      | false ↦ λ t. let rest = of_class-placed P lt o c e fs p q.1 s.1 h in elim (eqb f.class c)
           as (λ u. cond u (f ∷ of_class c (placed lt e fs)) (of_class c (placed lt e fs)) ≡ placed lt e (cond u (f ∷
           of_class c fs) (of_class c fs))) [
             | true ↦ rw (t, rest) refl

@@ -7,20 +7,21 @@ use Rattle.ss_links.specs.Board.{Board, list_of}
 use Rattle.ss_links.specs.Seats.{has, last_of, prev_in}
 use Rattle.ss_events.specs.declared.pending_notice.PendingNotice.{PendingNotice}
 use Rattle.ss_events.specs.declared.pending_notice.Row.{Row}
-use Rattle.ss_events.specs.Agenda.{Pending, pending_at, of_class, without_notice}
-use Rattle.ss_events.specs.Weights.{before}
+use Rattle.ss_events.specs.Agenda.{Pending, pending_at, is_before, of_class, without_notice}
 use Rattle.ss_events.specs.State.{AgendaState, Each, seat_in, seats_of, order, board_of}
-use Rattle.ss_events.specs.Places.{passed, last, predecessor_of, rank_place, notice_on}
-use Rattle.ss_events.specs.Rows.{notice_of, row_at, IsAgenda}
+use Rattle.ss_events.specs.Places.{notices_passed, last, predecessor_of, rank_place, notice_on}
+use Rattle.ss_events.specs.Views.{notice_of}
+use Rattle.ss_events.specs.Rows.{row_at, IsAgenda}
 use Rattle.ss_events.specs.Changes.{with_pending}
 use Rattle.ss_events.proofs.OrderLaws.{IsOrder, IsSorted, AreNoted, Each-of_class, without-absent, of_class-without}
 use Rattle.ss_events.proofs.OrderLaws.{IsSorted-of_class}
-use Rattle.ss_events.proofs.WeightLaws.{IsOrder-before}
+use Rattle.ss_events.proofs.BeforeLaws.{IsKeyed, IsOrder-is_before}
 use Rattle.ss_events.proofs.WalkLaws.{passed-none}
 use Rattle.ss_events.proofs.StateLaws.{AreSeated, AreNoted-of_class, seat_in-below, seat_in-notice}
-use Rattle.ss_events.proofs.BoardOf.{AreNoted-order, Each-order, IsSorted-order, order-without, pending_in-class}
-use Rattle.ss_events.proofs.Standing.{stands, each-between, told, sound_board}
-use Rattle.ss_events.proofs.Keeping.{has-row, seat-is, passed-number, pending-seat}
+use Rattle.ss_events.proofs.BoardOf.{AreNoted-order, AreKeyed-order, Each-order, IsSorted-order, order-without}
+use Rattle.ss_events.proofs.BoardOf.{pending_in-class}
+use Rattle.ss_events.proofs.Stands.{stands, each-between, told, sound_board}
+use Rattle.ss_events.proofs.PutAndTakeOut.{has-row, seat-is, passed-number, pending-seat}
 
 -- a pending notice stands between two parts
 record IsBetween (es : List Pending) (e : Pending) : Type 0 where
@@ -51,12 +52,14 @@ without-between (f ∷ fs) b e h =
     rw other (ap (λ (l : List Pending). f ∷ l) (without-between fs b e h.1))
 
 -- it belongs behind those that stood before it
-passed-between : (lt : Pending → Pending → Bool) → IsOrder lt → (e : Pending) (a b : List Pending) →
-    IsSorted lt (a ++ e ∷ b) → passed lt e (a ++ b) ≡ a
-passed-between lt o e [] b s = passed-none lt e b s.0
-passed-between lt o e (f ∷ fs) b s =
+passed-between : (P : Pending → Type 0) (lt : Pending → Pending → Bool) → IsOrder P lt →
+    (e : Pending) (a b : List Pending) → Each P (a ++ e ∷ b) → IsSorted lt (a ++ e ∷ b) → notices_passed lt e (a ++ b)
+    ≡ a
+passed-between P lt o e [] b p s = passed-none lt e b s.0
+passed-between P lt o e (f ∷ fs) b p s =
     let first = each-between (λ g. lt f g ≡ true) fs b e s.0 in
-    rw (o.asymmetric f e first) (ap (λ (l : List Pending). f ∷ l) (passed-between lt o e fs b s.1))
+    let own = each-between P fs b e p.1 in
+    rw (o.asymmetric f e p.0 own first) (ap (λ (l : List Pending). f ∷ l) (passed-between P lt o e fs b p.1 s.1))
 
 -- the last seat is that of the last notice
 last-seat : (ns : List ℕ) (es : List Pending) →
@@ -79,9 +82,9 @@ Each-last P (e ∷ es) f h k = elim (last es)
     ] refl k
 
 Each-passed : (P : Pending → Type 0) (lt : Pending → Pending → Bool) (e : Pending) (es : List Pending) →
-    Each P es → Each P (passed lt e es)
+    Each P es → Each P (notices_passed lt e es)
 Each-passed P lt e [] h = tt
-Each-passed P lt e (f ∷ fs) h = elim (lt e f) as (λ t. Each P (cond t [] (f ∷ passed lt e fs))) [
+Each-passed P lt e (f ∷ fs) h = elim (lt e f) as (λ t. Each P (cond t [] (f ∷ notices_passed lt e fs))) [
   | true ↦ tt
   | false ↦ (h.0, Each-passed P lt e fs h.1)
 ]
@@ -113,7 +116,8 @@ pub record IsPredecessor (s : AgendaState) (n : ℕ) (x : PendingNotice) (at : O
   pub notice : option_map (notice_on s) at ≡ predecessor_of (with_pending s (without_notice n s.agenda.pending))
       (notice_of n x)
 
-pub predecessor-taken : (rows : List Row) (s : AgendaState) (b : Board) (n : ℕ) (x : PendingNotice) (seat : ℕ) (at : Option
+pub predecessor-taken : (rows : List Row) (s : AgendaState) (b : Board) (n : ℕ) (x : PendingNotice) (seat : ℕ)
+    (at : Option
     ℕ) → IsAgenda rows s b → pending_at s.agenda.pending n ≡ Some (notice_of n x) → seat ≡ seat_in s.notices n →
     at ≡ prev_in (list_of b.lists seat) seat → IsPredecessor s n x at
 predecessor-taken rows s b n x seat at k h i p =
@@ -124,14 +128,17 @@ predecessor-taken rows s b n x seat at k h i p =
     let st = stands s x.class r.front e r.rear t (sound_board rows s b k) c r.whole in
     let here : at ≡ last_of (seats_of s.notices r.front) = p ∙ (ap (λ (d : Board). prev_in (list_of d.lists seat)
     seat) k.board ∙ (ap (λ (y : ℕ). prev_in (list_of (board_of s).lists y) y) i ∙ st.prev)) in
-    let sorted = rw r.whole at (IsSorted-of_class (before s.rules) x.class (order s) (IsSorted-order s t)) in
+    let sorted = rw r.whole at (IsSorted-of_class (is_before s.rules) x.class (order s) (IsSorted-order s t)) in
+    let keyed = rw r.whole at (Each-of_class (IsKeyed s.rules) x.class (order s) (AreKeyed-order s t)) in
     let noted = rw r.whole at (AreNoted-of_class x.class (order s) (AreNoted-order s t)) in
     let rest : of_class x.class (order (with_pending s (without_notice n s.agenda.pending))) ≡ r.front ++ r.rear = ap
     (of_class x.class) (order-without s n t) ∙ (of_class-without x.class n (order s) ∙
     (ap (without_notice n) r.whole ∙ without-between r.front r.rear e noted)) in
-    let passes : passed (before s.rules) e (of_class x.class (order (with_pending s (without_notice n
-    s.agenda.pending)))) ≡ r.front = ap (passed (before s.rules) e) rest ∙
-    passed-between (before s.rules) (IsOrder-before s.rules) e r.front r.rear sorted in
+    let passes : notices_passed (is_before s.rules) e (of_class x.class (order (with_pending s (without_notice n
+    s.agenda.pending)))) ≡ r.front = ap (notices_passed (is_before s.rules) e) rest ∙
+    passed-between (IsKeyed s.rules) (is_before s.rules)
+    (IsOrder-is_before s.rules t.ranked) e r.front r.rear keyed sorted
+    in
     let seated = front-each (λ f. has s.notices f.notice ≡ true) r.front (e ∷ r.rear) (rw r.whole at (Each-of_class
     (λ f. has s.notices f.notice ≡ true) x.class (order s) (Each-order (λ f. has s.notices f.notice ≡ true) s t
     t.seated))) in
@@ -162,10 +169,10 @@ pub predecessor-row : (rows : List Row) (s : AgendaState) (b : Board) (x : Pendi
 predecessor-row rows s b x n k h = go (last es) refl h
   where
     es : List Pending
-    es = passed (before s.rules) (notice_of 0 x) (of_class x.class (order s))
+    es = notices_passed (is_before s.rules) (notice_of 0 x) (of_class x.class (order s))
 
     seated : AreSeated s.notices es
-    seated = let t = told rows s b k in Each-passed (λ f. has s.notices f.notice ≡ true) (before s.rules) (notice_of
+    seated = let t = told rows s b k in Each-passed (λ f. has s.notices f.notice ≡ true) (is_before s.rules) (notice_of
         0 x) (of_class x.class (order s)) (Each-of_class (λ f. has s.notices f.notice ≡ true) x.class (order s)
         (Each-order (λ f. has s.notices f.notice ≡ true) s t t.seated))
 
@@ -187,7 +194,7 @@ pub predecessor-none : (s : AgendaState) (x : PendingNotice) → None ≡ predec
 predecessor-none s x h = go (last es) refl h
   where
     es : List Pending
-    es = passed (before s.rules) (notice_of 0 x) (of_class x.class (order s))
+    es = notices_passed (is_before s.rules) (notice_of 0 x) (of_class x.class (order s))
 
     go : (o : Option Pending) → last es ≡ o → None ≡ option_map (λ f. f.notice) o →
         last_of (seats_of s.notices es) ≡ None

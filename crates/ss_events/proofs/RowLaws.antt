@@ -9,7 +9,8 @@ use Rattle.ss_events.specs.declared.pending_notice.Row.{Row}
 use Rattle.ss_events.specs.Agenda.{Pending, without_notice}
 use Rattle.ss_events.specs.Agenda.{pending_at, with_notice}
 use Rattle.ss_events.specs.State.{Each, NoneNoted}
-use Rattle.ss_events.specs.Rows.{notice_of, and_others, notices_from, row_at}
+use Rattle.ss_events.specs.Views.{notice_of}
+use Rattle.ss_events.specs.Rows.{and_others, notices_from, row_at}
 use Rattle.ss_events.proofs.OrderLaws.{AreNoted, Each-map, without-absent}
 
 -- numbers go up
@@ -22,7 +23,7 @@ from-above n [] = tt
 from-above n (r ∷ rs) =
     let rest = Each-map (λ e. n + 1 ≤ e.notice) (λ e. n ≤ e.notice) (λ e h. omega arith) (notices_from (n + 1) rs)
     (from-above (n + 1) rs) in
-    elim (r.entry) as (λ o. Each (λ e. n ≤ e.notice) (and_others n o (notices_from (n + 1) rs))) [
+    elim (r.pending) as (λ o. Each (λ e. n ≤ e.notice) (and_others n o (notices_from (n + 1) rs))) [
       | None ↦ rest
       | Some x ↦ (omega arith, rest)
     ]
@@ -33,7 +34,7 @@ Ascend-from n (r ∷ rs) =
     let rest = Ascend-from (n + 1) rs in
     let above = Each-map (λ e. n + 1 ≤ e.notice) (λ e. n < e.notice) (λ e h. omega arith) (notices_from (n + 1) rs)
     (from-above (n + 1) rs) in
-    elim (r.entry) as (λ o. Ascend (and_others n o (notices_from (n + 1) rs))) [
+    elim (r.pending) as (λ o. Ascend (and_others n o (notices_from (n + 1) rs))) [
       | None ↦ rest
       | Some x ↦ (above, rest)
     ]
@@ -74,14 +75,14 @@ pending_at-each P (f ∷ fs) n e h k = elim (eqb f.notice n)
 
 -- the notice with a row's number
 pub pending_at-from : (b : ℕ) (rs : List Row) (i : ℕ) →
-    pending_at (notices_from b rs) (b + i) ≡ option_map (notice_of (b + i)) (row_at rs i).entry
+    pending_at (notices_from b rs) (b + i) ≡ option_map (notice_of (b + i)) (row_at rs i).pending
 pending_at-from b [] i = refl
 pending_at-from b (r ∷ rs) zero =
     let rest = pending_at-none b (notices_from (b + 1) rs) (Each-map (λ e. b + 1 ≤ e.notice) (λ f. eqb f.notice b ≡
     false) (λ f k. grind (arith, nat_tests, k)) (notices_from (b + 1) rs) (from-above (b + 1) rs)) in
     let here : b + 0 ≡ b = omega arith in
     let same : eqb b b ≡ true = grind (arith, nat_tests) in
-    rw here (elim (r.entry)
+    rw here (elim (r.pending)
     as (λ o. pending_at (and_others b o (notices_from (b + 1) rs)) b ≡ option_map (notice_of b) o) [
       | None ↦ rest
       | Some x ↦ rw same refl
@@ -90,9 +91,9 @@ pending_at-from b (r ∷ rs) (suc i) =
     let more : b + suc i ≡ b + 1 + i = omega arith in
     let rest = pending_at-from (b + 1) rs i in
     let other : eqb b (b + 1 + i) ≡ false = grind (arith, nat_tests) in
-    rw more (elim (r.entry)
+    rw more (elim (r.pending)
     as (λ o. pending_at (and_others b o (notices_from (b + 1) rs)) (b + 1 + i) ≡ option_map (notice_of (b + 1 +
-    i)) (row_at rs i).entry) [
+    i)) (row_at rs i).pending) [
       | None ↦ rest
       | Some x ↦ rw other rest
     ])
@@ -103,8 +104,9 @@ with-first e [] n = refl
 with-first e (f ∷ fs) n = let first : ltb e.notice f.notice ≡ true = grind (arith, nat_tests, n.0) in rw first refl
 
 -- a row's entry is put in
-pub from-with : (b : ℕ) (rs : List Row) (i : ℕ) (r : Row) (x : PendingNotice) → i < length rs → (row_at rs i).entry ≡ None →
-    r.entry ≡ Some x → notices_from b (set rs i r) ≡ with_notice (notice_of (b + i) x) (notices_from b rs)
+pub from-with : (b : ℕ) (rs : List Row) (i : ℕ) (r : Row) (x : PendingNotice) → i < length rs → (row_at rs i).pending
+    ≡ None →
+    r.pending ≡ Some x → notices_from b (set rs i r) ≡ with_notice (notice_of (b + i) x) (notices_from b rs)
 from-with b [] i r x l h k = absurd (omega arith)
 from-with b (q ∷ qs) zero r x l h k =
     let here : b + 0 ≡ b = omega arith in
@@ -114,7 +116,7 @@ from-with b (q ∷ qs) (suc i) r x l h k =
     let more : b + suc i ≡ b + 1 + i = omega arith in
     let rest = from-with (b + 1) qs i r x (omega arith) h k in
     let after : ltb (b + 1 + i) b ≡ false = grind (arith, nat_tests) in
-    rw more (elim (q.entry)
+    rw more (elim (q.pending)
     as (λ o. and_others b o (notices_from (b + 1) (set qs i r)) ≡ with_notice (notice_of (b + 1 + i) x)
     (and_others b o (notices_from (b + 1) qs))) [
       | None ↦ rest
@@ -122,7 +124,7 @@ from-with b (q ∷ qs) (suc i) r x l h k =
     ])
 
 -- a row's entry is taken out
-pub from-without : (b : ℕ) (rs : List Row) (i : ℕ) (r : Row) → i < length rs → r.entry ≡ None →
+pub from-without : (b : ℕ) (rs : List Row) (i : ℕ) (r : Row) → i < length rs → r.pending ≡ None →
     notices_from b (set rs i r) ≡ without_notice (b + i) (notices_from b rs)
 from-without b [] i r l h = absurd (omega arith)
 from-without b (q ∷ qs) zero r l h =
@@ -131,7 +133,7 @@ from-without b (q ∷ qs) zero r l h =
     let none : NoneNoted b (notices_from (b + 1) qs) = Each-map (λ e. b + 1 ≤ e.notice) (λ f. eqb f.notice b ≡ false)
     (λ f k. grind (arith, nat_tests, k)) (notices_from (b + 1) qs) (from-above (b + 1) qs) in
     let rest = without-absent b (notices_from (b + 1) qs) none in
-    rw (here, h) (elim (q.entry)
+    rw (here, h) (elim (q.pending)
     as (λ o. notices_from (b + 1) qs ≡ without_notice b (and_others b o (notices_from (b + 1) qs))) [
       | None ↦ sym rest
       | Some y ↦ rw same (sym rest)
@@ -140,7 +142,7 @@ from-without b (q ∷ qs) (suc i) r l h =
     let more : b + suc i ≡ b + 1 + i = omega arith in
     let rest = from-without (b + 1) qs i r (omega arith) h in
     let other : eqb b (b + 1 + i) ≡ false = grind (arith, nat_tests) in
-    rw more (elim (q.entry)
+    rw more (elim (q.pending)
     as (λ o. and_others b o (notices_from (b + 1) (set qs i r)) ≡ without_notice (b + 1 + i) (and_others b o
     (notices_from (b + 1) qs))) [
       | None ↦ rest
@@ -148,16 +150,16 @@ from-without b (q ∷ qs) (suc i) r l h =
     ])
 
 -- a row whose entry stays
-pub from-same : (b : ℕ) (rs : List Row) (i : ℕ) (r : Row) → r.entry ≡ (row_at rs i).entry →
+pub from-same : (b : ℕ) (rs : List Row) (i : ℕ) (r : Row) → r.pending ≡ (row_at rs i).pending →
     notices_from b (set rs i r) ≡ notices_from b rs
 from-same b [] i r h = refl
 from-same b (q ∷ qs) zero r h = rw h refl
-from-same b (q ∷ qs) (suc i) r h = ap (and_others b q.entry) (from-same (b + 1) qs i r h)
+from-same b (q ∷ qs) (suc i) r h = ap (and_others b q.pending) (from-same (b + 1) qs i r h)
 
 -- a row more, without an entry
-pub from-more : (b : ℕ) (rs : List Row) (r : Row) → r.entry ≡ None → notices_from b (rs ++ r ∷ []) ≡ notices_from b rs
+pub from-more : (b : ℕ) (rs : List Row) (r : Row) → r.pending ≡ None → notices_from b (rs ++ r ∷ []) ≡ notices_from b rs
 from-more b [] r h = rw h refl
-from-more b (q ∷ qs) r h = ap (and_others b q.entry) (from-more (b + 1) qs r h)
+from-more b (q ∷ qs) r h = ap (and_others b q.pending) (from-more (b + 1) qs r h)
 
 -- a notice taken out and put in again, or put in and taken out
 pub with-without : (es : List Pending) (n : ℕ) (e : Pending) → Ascend es → pending_at es n ≡ Some e →
@@ -191,9 +193,9 @@ without-with n e (f ∷ fs) h k =
 
 -- the notice with a number, read off its row
 pub pending_row : (rs : List Row) (n : ℕ) → 0 < n →
-    pending_at (notices_from 1 rs) n ≡ option_map (notice_of n) (row_at rs (n - 1)).entry
+    pending_at (notices_from 1 rs) n ≡ option_map (notice_of n) (row_at rs (n - 1)).pending
 pending_row rs n h = let same : 1 + (n - 1) ≡ n = omega arith in rw same at (pending_at-from 1 rs (n - 1))
 
 pub pending_of_row : (rs qs : List Row) (n : ℕ) (o : Option PendingNotice) (es : List Pending) → 0 < n →
-    notices_from 1 rs ≡ es → qs ≡ rs → o ≡ (row_at qs (n - 1)).entry → pending_at es n ≡ option_map (notice_of n) o
+    notices_from 1 rs ≡ es → qs ≡ rs → o ≡ (row_at qs (n - 1)).pending → pending_at es n ≡ option_map (notice_of n) o
 pending_of_row rs qs n o es h e f g = let row = pending_row rs n h in rw (← e, g, f) row

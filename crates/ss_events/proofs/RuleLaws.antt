@@ -7,9 +7,9 @@ use Rattle.std.proofs.lemmas.Bool.Decides.{nat_tests}
 use Rattle.std.proofs.lemmas.List.{length-map}
 use Rattle.std.proofs.lemmas.List.FromFn.{length-map-range_with_len, get_or-map-range_with_len, map-range_with_len_more}
 use Rattle.ss_program.specs.Program.{ProgramTable, priority_of}
-use Rattle.ss_events.specs.declared.pending_notice.ClassRule.{ClassRule}
+use Rattle.ss_events.specs.declared.rule.ClassRule.{ClassRule}
 use Rattle.ss_events.specs.Rules.{Rule, rule_at, program_rule, rules_of}
-use Rattle.ss_events.specs.Rows.{rule_of}
+use Rattle.ss_events.specs.Views.{rule_of}
 use Rattle.ss_events.specs.State.{AreRanked}
 
 -- a class that stands in the list stands where it is found

@@ -9,7 +9,7 @@ use Rattle.ss_events.specs.Agenda.{Pending, without_notice, of_class}
 use Rattle.ss_events.specs.Agenda.{pending_at}
 use Rattle.ss_events.specs.State.{seat_in, seats_of, Each, NoneNoted}
 use Rattle.ss_events.proofs.OrderLaws.{AreNoted, placed, sorted, Each-placed, Each-sorted, Each-of_class}
-use Rattle.ss_events.specs.Places.{passed}
+use Rattle.ss_events.specs.Places.{notices_passed}
 
 -- the seat of a notice that has one
 pub seat_in-below : (ns : List ℕ) (n : ℕ) → has ns n ≡ true → seat_in ns n < length ns
@@ -113,33 +113,34 @@ put_at-rest y ys rs s (Some at) n h k = let there = h at refl in elim (eqb y at)
     ] refl
 
 pub has-passed : (ns : List ℕ) (lt : Pending → Pending → Bool) (e : Pending) (es : List Pending) (x : ℕ) →
-    has (seats_of ns (passed lt e es)) x ≡ true → has (seats_of ns es) x ≡ true
+    has (seats_of ns (notices_passed lt e es)) x ≡ true → has (seats_of ns es) x ≡ true
 has-passed ns lt e [] x h = absurd (cc)
 has-passed ns lt e (f ∷ fs) x h = let rest = has-passed ns lt e fs x in elim (lt e f)
-    as (λ t. has (seats_of ns (cond t [] (f ∷ passed lt e fs))) x ≡ true →
+    as (λ t. has (seats_of ns (cond t [] (f ∷ notices_passed lt e fs))) x ≡ true →
     (eqb (seat_in ns f.notice) x || has (seats_of ns fs) x) ≡ true) [
       | true ↦ λ k. absurd (cc)
       | false ↦ elim (eqb (seat_in ns f.notice) x)
-          as (λ u. (u || has (seats_of ns (passed lt e fs)) x) ≡ true → (u || has (seats_of ns fs) x) ≡ true) [
+          as (λ u. (u || has (seats_of ns (notices_passed lt e fs)) x) ≡ true → (u || has (seats_of ns fs) x) ≡ true) [
             | true ↦ λ k. refl
             | false ↦ rest
           ]
     ] h
 
 pub seats_of-placed : (ns : List ℕ) (lt : Pending → Pending → Bool) (e : Pending) (es : List Pending) →
-    AreSeated ns es → AreNoted es → put_at (seats_of ns es) (last_of (seats_of ns (passed lt e es))) (seat_in ns
+    AreSeated ns es → AreNoted es → put_at (seats_of ns es) (last_of (seats_of ns (notices_passed lt e es))) (seat_in ns
     e.notice) ≡ seats_of ns (placed lt e es)
 seats_of-placed ns lt e [] a h = refl
 seats_of-placed ns lt e (f ∷ fs) a h =
     let rest = seats_of-placed ns lt e fs a.1 h.1 in
     let apart = has-seats_of_none ns f.notice fs a.0 a.1 h.0 in
     elim (lt e f)
-    as (λ t. put_at (seats_of ns (f ∷ fs)) (last_of (seats_of ns (cond t [] (f ∷ passed lt e fs)))) (seat_in ns
+    as (λ t. put_at (seats_of ns (f ∷ fs)) (last_of (seats_of ns (cond t [] (f ∷ notices_passed lt e fs)))) (seat_in ns
     e.notice) ≡ seats_of ns (cond t (e ∷ f ∷ fs) (f ∷ placed lt e fs))) [
       | true ↦ refl
       | false ↦ put_at-rest (seat_in ns f.notice) (seats_of ns fs) (seats_of ns (placed lt e fs)) (seat_in ns
-          e.notice) (last_of (seats_of ns (passed lt e fs))) apart (λ at k. has-passed ns lt e fs at (has-last_of
-          (seats_of ns (passed lt e fs)) at k)) rest
+          e.notice) (last_of (seats_of ns (notices_passed lt e fs))) apart
+          (λ at k. has-passed ns lt e fs at (has-last_of
+          (seats_of ns (notices_passed lt e fs)) at k)) rest
     ]
 
 -- numbers of what is put where it belongs

@@ -7,8 +7,6 @@ use Rattle.ss_words.specs.declared.fault.StepFault.TheVariants.{Fault, Memory}
 use Rattle.ss_events.specs.declared.agenda.AgendaChange.{AgendaChange}
 use Rattle.ss_events.specs.State.{AgendaState}
 use Rattle.ss_events.specs.Changes.{Fits, unapply, Went, IsScheduled, IsCancelled}
-use Rattle.ss_events.specs.Agenda.{Pending}
-use Rattle.std.specs.Prelude.{Option, Some, None}
 
 -- a scheduling that takes effect goes on, and one that is refused leaves the agenda as it was
 pub scheduled-went : (c : AgendaChange) (r : Result (Unit {0}) RunFault) (s old new : AgendaState) →
@@ -24,15 +22,15 @@ refused-same Memory (Ok u) s old new h = h
 refused-same Memory (Err k) s old new h = absurd h
 
 -- the same of a cancelling
-pub cancelled-went : (c : AgendaChange) (o : Option Pending) (s old new : AgendaState) →
-    IsCancelled (Ok c) o s old new → Went c s old new
-cancelled-went c (Some e) s old new h = h
-cancelled-went c None s old new h = absurd h
+pub cancelled-went : (c : AgendaChange) (r : Result (Unit {0}) RunFault) (s old new : AgendaState) →
+    IsCancelled (Ok c) r s old new → Went c s old new
+cancelled-went c (Ok u) s old new h = h
+cancelled-went c (Err f) s old new h = absurd h
 
-pub cancel-same : (f : RunFault) (o : Option Pending) (s old new : AgendaState) → IsCancelled (Err f) o s old new →
-    new ≡ old
-cancel-same f (Some e) s old new h = absurd h
-cancel-same f None s old new h = h.1
+pub cancel-same : (f : RunFault) (r : Result (Unit {0}) RunFault) (s old new : AgendaState) →
+    IsCancelled (Err f) r s old new → new ≡ old
+cancel-same f (Ok u) s old new h = absurd h
+cancel-same f (Err k) s old new h = h.1
 
 -- a change that is a step of its own fits before the steps that did
 pub step-fits : (c : AgendaChange) (s old new : AgendaState) (steps : List (List AgendaChange)) → Went c s old new →

@@ -7,19 +7,18 @@ use Rattle.ss_links.specs.Board.{list_at, list_of, IsSound}
 use Rattle.ss_links.specs.Seats.{has, last_of, prev_in}
 use Rattle.ss_links.proofs.BoardLaws.{once-list_at}
 use Rattle.ss_events.specs.declared.pending_notice.PendingNotice.{PendingNotice}
-use Rattle.ss_events.specs.Agenda.{Pending, of_class}
-use Rattle.ss_events.specs.Weights.{before}
+use Rattle.ss_events.specs.Agenda.{Pending, is_before, of_class}
 use Rattle.ss_events.specs.Agenda.{pending_at}
 use Rattle.ss_events.specs.State.{AgendaState, seat_in, seats_of, order, board_of}
-use Rattle.ss_events.specs.Places.{passed, rank_place, notice_on, IsTaken}
-use Rattle.ss_events.specs.Rows.{notice_of}
-use Rattle.ss_events.proofs.OrderLaws.{AreBehind, IsSorted-of_class}
-use Rattle.ss_events.proofs.WeightLaws.{IsOrder-before}
+use Rattle.ss_events.specs.Places.{notices_passed, rank_place, notice_on, IsTaken}
+use Rattle.ss_events.specs.Views.{notice_of}
+use Rattle.ss_events.proofs.OrderLaws.{AreBehind, Each-of_class, IsSorted-of_class}
+use Rattle.ss_events.proofs.BeforeLaws.{IsKeyed, IsOrder-is_before}
 use Rattle.ss_events.proofs.WalkLaws.{Stops, passed-stops}
 use Rattle.ss_events.specs.Rules.{is_event_class, event_number}
 use Rattle.ss_events.proofs.EventLaws.{list_at-by}
-use Rattle.ss_events.proofs.BoardOf.{IsTold, class_seats, IsSorted-order}
-use Rattle.ss_events.proofs.Standing.{Stands, stands, taken-stands, seats_of-append, once-between}
+use Rattle.ss_events.proofs.BoardOf.{IsTold, class_seats, AreKeyed-order, IsSorted-order}
+use Rattle.ss_events.proofs.Stands.{Stands, stands, taken-stands, seats_of-append, once-between}
 
 -- a walk from the back: the seat where it is, with what is in front and what is behind
 pub record IsWalk (s : AgendaState) (e : Pending) (at : Option ℕ) : Type 0 where
@@ -27,7 +26,7 @@ pub record IsWalk (s : AgendaState) (e : Pending) (at : Option ℕ) : Type 0 whe
   pub rear : List Pending
   pub whole : of_class e.class (order s) ≡ front ++ rear
   pub here : at ≡ last_of (seats_of s.notices front)
-  pub behind : AreBehind (before s.rules) e rear
+  pub behind : AreBehind (is_before s.rules) e rear
 
 -- how many seats are left to a walk
 abbrev pub seats_left : List ℕ → Option ℕ → ℕ
@@ -111,7 +110,8 @@ walk-taken s e x w t sound k = let r = walk-stands s e x w t sound k in
     rw r.seat at (taken-stands s e.class r.others r.last w.rear r.stands)
 
 -- the notice on which a walk stands, as its entry says
-pub walk-entry : (s : AgendaState) (e : Pending) (x : ℕ) (y : PendingNotice) (w : IsWalk s e (Some x)) (r : WalkStands s e x
+pub walk-entry : (s : AgendaState) (e : Pending) (x : ℕ) (y : PendingNotice) (w : IsWalk s e (Some x))
+    (r : WalkStands s e x
     w) → pending_at s.agenda.pending (notice_on s x) ≡ Some (notice_of (notice_on s x) y) →
     r.last ≡ notice_of r.last.notice y
 walk-entry s e x y w r h =
@@ -123,11 +123,11 @@ walk-entry s e x y w r h =
 abbrev pub walk-on : (s : AgendaState) (e : Pending) (x : ℕ) (y : PendingNotice) (at : Option ℕ) → IsWalk s e (Some x) →
     IsTold s → IsSound (board_of s) → is_event_class s.rules e.class ≡ true →
     pending_at s.agenda.pending (notice_on s x) ≡ Some (notice_of (notice_on s x) y) →
-    before s.rules e (notice_of 0 y) ≡ true → at ≡ prev_in (list_of (board_of s).lists x) x → IsWalk s e at
+    is_before s.rules e (notice_of 0 y) ≡ true → at ≡ prev_in (list_of (board_of s).lists x) x → IsWalk s e at
 walk-on s e x y at w t sound k h b p =
     let r = walk-stands s e x w t sound k in
     let is = walk-entry s e x y w r h in
-    let first : before s.rules e r.last ≡ true = rw is b in
+    let first : is_before s.rules e r.last ≡ true = rw is b in
     record {
       front = r.others;
       rear = r.last ∷ w.rear;
@@ -138,30 +138,37 @@ walk-on s e x y at w t sound k h b p =
 
 -- the walk ends where the notice belongs
 pub walk-ends : (s : AgendaState) (e : Pending) (x : ℕ) (y : PendingNotice) → IsWalk s e (Some x) → IsTold s →
-    IsSound (board_of s) → is_event_class s.rules e.class ≡ true → pending_at s.agenda.pending (notice_on s x) ≡ Some
-    (notice_of
-    (notice_on s x) y) → before s.rules e (notice_of 0 y) ≡ false → (rank_place s e).before ≡ Some x
-walk-ends s e x y w t sound k h b =
+    IsSound (board_of s) → IsKeyed s.rules e → pending_at s.agenda.pending (notice_on s x) ≡ Some (notice_of
+    (notice_on s x) y) → is_before s.rules e (notice_of 0 y) ≡ false → (rank_place s e).before ≡ Some x
+walk-ends s e x y w t sound own h b =
+    let k = own.0 in
     let r = walk-stands s e x w t sound k in
     let is = walk-entry s e x y w r h in
-    let stop : before s.rules e r.last ≡ false = rw is b in
-    let sorted = rw w.whole at (IsSorted-of_class (before s.rules) e.class (order s) (IsSorted-order s t)) in
-    let ends = passed-stops (before s.rules) (IsOrder-before s.rules) e w.front w.rear sorted (rw r.whole
-    (stops-append e r.last r.others (before s.rules) stop)) w.behind in
-    ap (λ (l : List Pending). last_of (seats_of s.notices l)) (ap (passed (before s.rules) e) w.whole ∙ ends) ∙
+    let stop : is_before s.rules e r.last ≡ false = rw is b in
+    let sorted = rw w.whole at (IsSorted-of_class (is_before s.rules) e.class (order s) (IsSorted-order s t)) in
+    let keyed = rw w.whole at (Each-of_class (IsKeyed s.rules) e.class (order s) (AreKeyed-order s t)) in
+    let ends = passed-stops (IsKeyed s.rules) (is_before s.rules)
+    (IsOrder-is_before s.rules t.ranked) e w.front w.rear own
+    keyed sorted (rw r.whole (stops-append e r.last r.others (is_before s.rules) stop)) w.behind in
+    ap (λ (l : List Pending). last_of (seats_of s.notices l)) (ap (notices_passed (is_before s.rules) e) w.whole ∙ ends)
+    ∙
     sym w.here
 
-pub walk-ends_first : (s : AgendaState) (e : Pending) → IsWalk s e None → IsTold s → (rank_place s e).before ≡ None
-walk-ends_first s e w t =
+pub walk-ends_first : (s : AgendaState) (e : Pending) → IsWalk s e None → IsTold s → IsKeyed s.rules e →
+    (rank_place s e).before ≡ None
+walk-ends_first s e w t own =
     let none : (l : List Pending) → None ≡ last_of (seats_of s.notices l) → l ≡ [] = elim [
       | [] ↦ λ h. refl
       | f ∷ fs ↦ λ h. absurd (cc)
     ] in
     let front = none w.front w.here in
-    let sorted = rw w.whole at (IsSorted-of_class (before s.rules) e.class (order s) (IsSorted-order s t)) in
-    let ends = passed-stops (before s.rules) (IsOrder-before s.rules) e w.front w.rear sorted (rw front tt) w.behind
-    in
-    ap (λ (l : List Pending). last_of (seats_of s.notices l)) (ap (passed (before s.rules) e) w.whole ∙ ends) ∙
+    let sorted = rw w.whole at (IsSorted-of_class (is_before s.rules) e.class (order s) (IsSorted-order s t)) in
+    let keyed = rw w.whole at (Each-of_class (IsKeyed s.rules) e.class (order s) (AreKeyed-order s t)) in
+    let ends = passed-stops (IsKeyed s.rules) (is_before s.rules)
+    (IsOrder-is_before s.rules t.ranked) e w.front w.rear own
+    keyed sorted (rw front tt) w.behind in
+    ap (λ (l : List Pending). last_of (seats_of s.notices l)) (ap (notices_passed (is_before s.rules) e) w.whole ∙ ends)
+    ∙
     sym w.here
 
 -- the seats left to a walk are those in front
@@ -201,7 +208,7 @@ walk-left s e at w sound k = elim at
 pub walk-less : (s : AgendaState) (e : Pending) (x : ℕ) (y : PendingNotice) (at : Option ℕ) → IsWalk s e (Some x) →
     IsTold s → IsSound (board_of s) → is_event_class s.rules e.class ≡ true →
     pending_at s.agenda.pending (notice_on s x) ≡ Some (notice_of (notice_on s x) y) →
-    before s.rules e (notice_of 0 y) ≡ true → at ≡ prev_in (list_of (board_of s).lists x) x →
+    is_before s.rules e (notice_of 0 y) ≡ true → at ≡ prev_in (list_of (board_of s).lists x) x →
     seats_left (list_at (board_of s).lists (event_number s.rules e.class)) at < seats_left (list_at (board_of s).lists
     (event_number s.rules e.class)) (Some x)
 walk-less s e x y at w t sound k h b p =

@@ -5,7 +5,7 @@ use Rattle.std.proofs.lemmas.Bool.Decides.{nat_tests}
 use Rattle.ss_events.specs.Agenda.{Pending, of_class}
 use Rattle.ss_events.proofs.OrderLaws.{IsOrder, AreBehind, IsSorted, Each-of_class}
 use Rattle.ss_events.specs.State.{Each}
-use Rattle.ss_events.specs.Places.{first, passed, earlier}
+use Rattle.ss_events.specs.Places.{first, notices_passed, earlier}
 
 -- those of the classes below a number
 abbrev pub of_classes_below : ℕ → List Pending → List Pending
@@ -20,10 +20,10 @@ Each-below P c (f ∷ fs) h = elim (ltb f.class c)
       | false ↦ Each-below P c fs h.1
     ]
 
-earlier-left : (lt : Pending → Pending → Bool) → IsOrder lt → (e : Pending) (es : List Pending) →
-    AreBehind lt e es → earlier lt (Some e) (first es) ≡ Some e
-earlier-left lt o e [] h = refl
-earlier-left lt o e (f ∷ fs) h = rw (o.asymmetric e f h.0) refl
+earlier-left : (P : Pending → Type 0) (lt : Pending → Pending → Bool) → IsOrder P lt →
+    (e : Pending) (es : List Pending) → P e → Each P es → AreBehind lt e es → earlier lt (Some e) (first es) ≡ Some e
+earlier-left P lt o e [] p q h = refl
+earlier-left P lt o e (f ∷ fs) p q h = rw (o.asymmetric e f p q.0 h.0) refl
 
 earlier-right : (lt : Pending → Pending → Bool) (e : Pending) (es : List Pending) → AreBehind lt e es →
     earlier lt (first es) (Some e) ≡ Some e
@@ -31,12 +31,14 @@ earlier-right lt e [] h = refl
 earlier-right lt e (f ∷ fs) h = rw h.0 refl
 
 -- of two kinds of sorted notices the first is the first of the first of each
-pub first-earlier : (lt : Pending → Pending → Bool) → IsOrder lt → (c : ℕ) (es : List Pending) → IsSorted lt es →
+pub first-earlier : (P : Pending → Type 0) (lt : Pending → Pending → Bool) → IsOrder P lt →
+    (c : ℕ) (es : List Pending) → Each P es → IsSorted lt es →
     first (of_classes_below (c + 1) es) ≡ earlier lt (first (of_classes_below c es)) (first (of_class c es))
-first-earlier lt o c [] s = refl
-first-earlier lt o c (e ∷ es) s =
-    let rest = first-earlier lt o c es s.1 in
-    let left = earlier-left lt o e (of_class c es) (Each-of_class (λ f. lt e f ≡ true) c es s.0) in
+first-earlier P lt o c [] p s = refl
+first-earlier P lt o c (e ∷ es) p s =
+    let rest = first-earlier P lt o c es p.1 s.1 in
+    let left = earlier-left P lt o e (of_class c es) p.0 (Each-of_class P c es p.1) (Each-of_class (λ f. lt e f ≡
+    true) c es s.0) in
     let right = earlier-right lt e (of_classes_below c es) (Each-below (λ f. lt e f ≡ true) c es s.0) in
     elim (ltb e.class c)
     as (λ t. ltb e.class c ≡ t → first (of_classes_below (c + 1) (e ∷ es)) ≡ earlier lt (first (cond t (e ∷
@@ -63,7 +65,7 @@ of_classes_below-none (e ∷ es) = let above : ltb e.class 0 ≡ false = grind (
     rw above (of_classes_below-none es)
 
 pub passed-none : (lt : Pending → Pending → Bool) (e : Pending) (es : List Pending) → AreBehind lt e es →
-    passed lt e es ≡ []
+    notices_passed lt e es ≡ []
 passed-none lt e [] h = refl
 passed-none lt e (f ∷ fs) h = rw h.0 refl
 
@@ -73,12 +75,15 @@ Stops lt e [] = Unit {0}
 Stops lt e (f ∷ []) = lt e f ≡ false
 Stops lt e (f ∷ g ∷ gs) = Stops lt e (g ∷ gs)
 
-first-stops : (lt : Pending → Pending → Bool) → IsOrder lt → (e f : Pending) (front rear : List Pending) →
-    IsSorted lt (f ∷ front ++ rear) → Stops lt e (f ∷ front) → lt e f ≡ false
-first-stops lt o e f [] rear s h = h
-first-stops lt o e f (g ∷ gs) rear s h = let later = first-stops lt o e g gs rear s.1 h in elim (lt e f)
+first-stops : (P : Pending → Type 0) (lt : Pending → Pending → Bool) → IsOrder P lt →
+    (e f : Pending) (front rear : List Pending) → P e → Each P (f ∷ front ++ rear) → IsSorted lt (f ∷ front ++ rear) →
+    Stops lt e (f ∷ front) → lt e f ≡ false
+first-stops P lt o e f [] rear p q s h = h
+first-stops P lt o e f (g ∷ gs) rear p q s h =
+    let later = first-stops P lt o e g gs rear p q.1 s.1 h in
+    elim (lt e f)
     as (λ t. lt e f ≡ t → t ≡ false) [
-      | true ↦ λ t. let wrong = o.transitive e f g t s.0.0 in absurd (cc)
+      | true ↦ λ t. let wrong = o.transitive e f g p q.0 q.1.0 t s.0.0 in absurd (cc)
       | false ↦ λ t. refl
     ] refl
 
@@ -87,8 +92,9 @@ stops-rest : (lt : Pending → Pending → Bool) (e f : Pending) (front : List P
 stops-rest lt e f [] h = tt
 stops-rest lt e f (g ∷ gs) h = h
 
-pub passed-stops : (lt : Pending → Pending → Bool) → IsOrder lt → (e : Pending) (front rear : List Pending) →
-    IsSorted lt (front ++ rear) → Stops lt e front → AreBehind lt e rear → passed lt e (front ++ rear) ≡ front
-passed-stops lt o e [] rear s h b = passed-none lt e rear b
-passed-stops lt o e (f ∷ fs) rear s h b = rw (first-stops lt o e f fs rear s h) (ap (λ (l : List Pending). f ∷ l)
-    (passed-stops lt o e fs rear s.1 (stops-rest lt e f fs h) b))
+pub passed-stops : (P : Pending → Type 0) (lt : Pending → Pending → Bool) → IsOrder P lt →
+    (e : Pending) (front rear : List Pending) → P e → Each P (front ++ rear) → IsSorted lt (front ++ rear) →
+    Stops lt e front → AreBehind lt e rear → notices_passed lt e (front ++ rear) ≡ front
+passed-stops P lt o e [] rear p q s h b = passed-none lt e rear b
+passed-stops P lt o e (f ∷ fs) rear p q s h b = rw (first-stops P lt o e f fs rear p q s h) (ap (λ (l : List Pending).
+    f ∷ l) (passed-stops P lt o e fs rear p q.1 s.1 (stops-rest lt e f fs h) b))

@@ -1,11 +1,13 @@
 -- The pending notices, and which of them is the next.
-use Rattle.std.specs.Prelude.{ℕ, zero, suc, ◌+◌, ◌^◌, ◌==◌, nat_lt, Bool, if◌then◌else◌, ℤ, pos, negsuc, int_lt, List}
+use Rattle.std.specs.Prelude.{ℕ, zero, suc, ◌+◌, ◌==◌, nat_lt, Bool, if◌then◌else◌, ℤ, int_lt, List}
 use Rattle.std.specs.Prelude.{[], ◌∷◌}
 use Rattle.std.specs.Prelude.{length, fold, Option, Some, None, is_some, Result, Ok, Err}
 use Rattle.std.specs.Ordering.{is_lt, ordering_then, nat_cmp, int_cmp}
 use Rattle.std.specs.declared.cmp.Ordering.{Ordering}
 use Rattle.ss_words.specs.declared.fault.RunFault.{RunFault}
-use Rattle.ss_words.specs.declared.fault.RunFault.TheVariants.{TimeBeforeClock, AlreadyScheduled, TooManyReferences}
+use Rattle.ss_words.specs.declared.fault.RunFault.TheVariants.{TimeBeforeClock, AlreadyScheduled, NotScheduled}
+use Rattle.ss_words.specs.declared.fault.RunFault.TheVariants.{TooManyReferences}
+use Rattle.ss_events.specs.declared.limits.TheConstants.{MOST_SCHEDULINGS}
 use Rattle.ss_events.specs.Rules.{Rule, rule_at}
 use Rattle.ss_program.specs.Keys.{by_keys}
 
@@ -30,11 +32,6 @@ pub record Agenda : Type 0 where
   -- what the next scheduling gets
   pub next_filing : ℕ
 
--- whether a number is one of 64 bits with a sign
-abbrev pub in_range : ℤ → Bool
-in_range (pos n) = nat_lt n (2 ^ 63)
-in_range (negsuc n) = nat_lt n (2 ^ 63)
-
 -- nothing pending
 abbrev pub empty_agenda : Agenda
 empty_agenda = record { pending = []; next_filing = 1 }
@@ -55,9 +52,13 @@ by_time rules m n =
     (ordering_then (nat_cmp (rule_at rules m.class).priority (rule_at rules n.class).priority)
     (ordering_then (by_keys (rule_at rules m.class).ties m.keys n.keys) (nat_cmp m.filing n.filing)))
 
+-- whether one notice comes before another
+abbrev pub is_before : List Rule → Pending → Pending → Bool
+is_before rules m n = is_lt (by_time rules m n)
+
 -- the least of a notice and others
 abbrev pub least_of : List Rule → Pending → List Pending → Pending
-least_of rules n ms = fold (λ l m. if is_lt (by_time rules m l) then m else l) n ms
+least_of rules n ms = fold (λ l m. if is_before rules m l then m else l) n ms
 
 -- the least pending notice, which is the next
 abbrev pub least : List Rule → List Pending → Option Pending
@@ -86,18 +87,18 @@ abbrev pub of_class : ℕ → List Pending → List Pending
 of_class c [] = []
 of_class c (m ∷ ms) = if m.class == c then m ∷ of_class c ms else of_class c ms
 
--- no scheduling has a filing number past this one
-abbrev pub filing_limit : ℕ
-filing_limit = 2 ^ 40
-
--- whether notice k can be scheduled at a time: F9 before the clock, F10 where it is pending, F20 past the last filing
--- number
+-- whether notice k can be scheduled at a time: F9 before the clock, F10 where it is pending, F20 where there were as
+-- many schedulings as there may be
 abbrev pub may_schedule : Agenda → ℕ → ℤ → ℤ → Result (Unit {0}) RunFault
 may_schedule a k time clock =
     if int_lt time clock then Err TimeBeforeClock
     else if is_pending a k then Err AlreadyScheduled
-    else if nat_lt filing_limit a.next_filing then Err TooManyReferences
+    else if nat_lt MOST_SCHEDULINGS a.next_filing then Err TooManyReferences
     else Ok tt
+
+-- whether notice k can be cancelled: F11 where it is not pending
+abbrev pub may_cancel : Agenda → ℕ → Result (Unit {0}) RunFault
+may_cancel a k = if is_pending a k then Ok tt else Err NotScheduled
 
 -- notices with one more, in order of their references
 abbrev pub with_notice : Pending → List Pending → List Pending
@@ -105,11 +106,11 @@ with_notice n [] = n ∷ []
 with_notice n (m ∷ ms) = if nat_lt n.notice m.notice then n ∷ m ∷ ms else m ∷ with_notice n ms
 
 -- notice k scheduled with the next filing number
-abbrev pub scheduled : Agenda → ℕ → ℤ → ℕ → List ℤ → Agenda
-scheduled a k time class keys =
+abbrev pub agenda_after_scheduling : Agenda → ℕ → ℤ → ℕ → List ℤ → Agenda
+agenda_after_scheduling a k time class keys =
     let n : Pending = record { notice = k; time = time; class = class; keys = keys; filing = a.next_filing } in
     record { pending = with_notice n a.pending; next_filing = a.next_filing + 1 }
 
 -- notice k taken off
-abbrev pub taken_off : Agenda → ℕ → Agenda
-taken_off a k = record a { pending = without_notice k a.pending }
+abbrev pub agenda_after_taking : Agenda → ℕ → Agenda
+agenda_after_taking a k = record a { pending = without_notice k a.pending }

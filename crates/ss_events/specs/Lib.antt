@@ -1,9 +1,9 @@
 pub mod Rules
 pub mod Agenda
 pub mod State
-pub mod Weights
 pub mod Places
 pub mod Listings
+pub mod Views
 pub mod Rows
 pub mod Slots
 pub mod Changes

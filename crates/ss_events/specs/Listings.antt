@@ -1,5 +1,6 @@
 -- Where a listing of the pending notices stands.
 use Rattle.std.specs.Prelude.{◌≡◌, ℕ, ◌<◌, List, drop, length, slice_index_or, Option, None}
+use Rattle.ss_words.specs.declared.limits.TheConstants.{MOST_CLASSES}
 use Rattle.ss_links.specs.Seats.{first_of}
 use Rattle.ss_events.specs.declared.listing.Listing.{Listing}
 use Rattle.ss_events.specs.Agenda.{Pending, of_class}
@@ -16,7 +17,7 @@ left_of s l = drop l.listed (order s)
 -- a listing of the agenda: it keeps for each class the seat of the first notice that it has not listed yet
 pub record IsListing (s : AgendaState) (l : Listing) : Type 0 where
   -- there is a place for each class that may be
-  pub all : length l.seats ≡ 64
+  pub all : length l.seats ≡ MOST_CLASSES
   -- the place of a class is the seat that is listed next of it
   pub seats : (c : ℕ) → c < length s.rules →
       seat_of_class l c ≡ first_of (seats_of s.notices (of_class c (left_of s l)))

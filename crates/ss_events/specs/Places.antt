@@ -4,21 +4,20 @@ use Rattle.std.specs.Prelude.{unwrap_or}
 use Rattle.std.specs.Option.{IsSome, option_map}
 use Rattle.ss_links.specs.Seats.{last_of}
 use Rattle.ss_links.specs.declared.board.Place.{Place}
-use Rattle.ss_events.specs.Agenda.{Pending, pending_at, of_class}
+use Rattle.ss_events.specs.Agenda.{Pending, pending_at, is_before, of_class}
 use Rattle.ss_events.specs.Rules.{event_number}
-use Rattle.ss_events.specs.Weights.{before}
 use Rattle.ss_events.specs.State.{AgendaState, seats_of, order}
 
 -- those that a notice doesn't come before, up to the first that it comes before
-abbrev pub passed : (Pending → Pending → Bool) → Pending → List Pending → List Pending
-passed lt e [] = []
-passed lt e (f ∷ fs) = if lt e f then [] else f ∷ passed lt e fs
+abbrev pub notices_passed : (Pending → Pending → Bool) → Pending → List Pending → List Pending
+notices_passed lt e [] = []
+notices_passed lt e (f ∷ fs) = if lt e f then [] else f ∷ notices_passed lt e fs
 
 -- where a notice belongs: in its class's list, behind those that it doesn't come before
 abbrev pub rank_place : AgendaState → Pending → Place
 rank_place s e = record {
   head = event_number s.rules e.class;
-  before = last_of (seats_of s.notices (passed (before s.rules) e (of_class e.class (order s))));
+  before = last_of (seats_of s.notices (notices_passed (is_before s.rules) e (of_class e.class (order s))));
 }
 
 -- the last of a list
@@ -28,7 +27,8 @@ last (e ∷ es) = Some (unwrap_or (last es) e)
 
 -- the notice of its class directly behind which a notice belongs, or none where it belongs in front of all
 abbrev pub predecessor_of : AgendaState → Pending → Option ℕ
-predecessor_of s e = option_map (λ f. f.notice) (last (passed (before s.rules) e (of_class e.class (order s))))
+predecessor_of s e = option_map (λ f. f.notice)
+    (last (notices_passed (is_before s.rules) e (of_class e.class (order s))))
 
 -- the notice of a seat
 abbrev pub notice_on : AgendaState → ℕ → ℕ

@@ -1,23 +1,19 @@
--- The agenda's state, read off the rows that it keeps, one for each number of a notice.
+-- The agenda's state, read off the rows that it keeps, one for each number of a notice. Private: cited by the view, the
+-- invariant and private functions alone.
 use Rattle.std.specs.Prelude.{◌≡◌, ℕ, ◌+◌, ◌<◌, ◌≤◌, true, List, [], ◌∷◌, ◌++◌, replicate, length, map}
 use Rattle.std.specs.Prelude.{slice_index_or, Option, Some, None}
 use Rattle.ss_links.specs.Board.{Board, IsSound}
 use Rattle.ss_links.specs.Seats.{has, times_in}
-use Rattle.ss_events.specs.declared.pending_notice.ClassRule.{ClassRule}
+use Rattle.ss_events.specs.declared.rule.ClassRule.{ClassRule}
 use Rattle.ss_events.specs.declared.pending_notice.PendingNotice.{PendingNotice}
 use Rattle.ss_events.specs.declared.pending_notice.Row.{Row}
+use Rattle.ss_events.specs.Views.{rule_of, notice_of}
 use Rattle.ss_events.specs.Rules.{Rule, rule_at, is_event_class}
 use Rattle.ss_events.specs.State.{AreRanked}
-use Rattle.ss_events.specs.Agenda.{Pending, filing_limit}
+use Rattle.ss_words.specs.declared.limits.TheConstants.{MOST_CLASSES, MOST_REFERENCES}
+use Rattle.ss_events.specs.declared.limits.TheConstants.{MOST_SCHEDULINGS}
+use Rattle.ss_events.specs.Agenda.{Pending}
 use Rattle.ss_events.specs.State.{AgendaState, seat_at, board_of, Each, AreFiled, IsPending}
-
--- a class's rule
-abbrev pub rule_of : ClassRule → Rule
-rule_of k = record { for_events = k.for_events; priority = k.priority; ties = k.ties.items }
-
--- the pending notice of an entry
-abbrev pub notice_of : ℕ → PendingNotice → Pending
-notice_of n x = record { notice = n; time = x.time; class = x.class; keys = x.keys.items; filing = x.filing }
 
 -- perhaps a notice, and others
 abbrev pub and_others : ℕ → Option PendingNotice → List Pending → List Pending
@@ -27,11 +23,11 @@ and_others n (Some x) es = notice_of n x ∷ es
 -- the pending notices of rows, the first of which has this number
 abbrev pub notices_from : ℕ → List Row → List Pending
 notices_from n [] = []
-notices_from n (r ∷ rs) = and_others n r.entry (notices_from (n + 1) rs)
+notices_from n (r ∷ rs) = and_others n r.pending (notices_from (n + 1) rs)
 
 -- a row without a seat and without an entry
 abbrev pub empty_row : Row
-empty_row = record { seat = None; entry = None }
+empty_row = record { seat = None; pending = None }
 
 -- the row of a number
 abbrev pub row_at : List Row → ℕ → Row
@@ -60,7 +56,7 @@ pub record IsAgenda (rows : List Row) (s : AgendaState) (b : Board) : Type 0 whe
   -- no notice has two seats
   pub once : (n : ℕ) → times_in s.notices n ≤ 1
   -- there are at most as many rows as references
-  pub few : length rows ≤ 1000000
+  pub few : length rows ≤ MOST_REFERENCES
   -- what is kept of each pending notice fits its class
   pub pending : Each (IsPending s.rules s.notices s.agenda.next_filing) s.agenda.pending
   -- no two have one filing number
@@ -68,11 +64,11 @@ pub record IsAgenda (rows : List Row) (s : AgendaState) (b : Board) : Type 0 whe
   -- filing numbers begin with 1
   pub next : 0 < s.agenda.next_filing
   -- and end with the limit
-  pub filing : s.agenda.next_filing ≤ filing_limit + 1
+  pub filing : s.agenda.next_filing ≤ MOST_SCHEDULINGS + 1
   -- no two classes have one place in the order of priority
   pub ranked : AreRanked s.rules
-  -- there are at most 64 classes
-  pub classes : length s.rules ≤ 64
+  -- there are at most as many classes as a program has
+  pub classes : length s.rules ≤ MOST_CLASSES
 
 -- an entry's class is an event class, and it has a key for each of the class's
 abbrev pub IsEntry : List Rule → PendingNotice → Type 0

@@ -4,7 +4,8 @@ use Rattle.std.specs.Prelude.{Some, None}
 use Rattle.ss_links.specs.Board.{Board}
 use Rattle.ss_links.specs.Seats.{has}
 use Rattle.ss_events.specs.Rules.{Rule, rule_at, is_event_class, event_classes}
-use Rattle.ss_events.specs.Agenda.{Pending, Agenda, empty_agenda, in_order, of_class, in_range}
+use Rattle.ss_words.specs.Ranges.{in_range}
+use Rattle.ss_events.specs.Agenda.{Pending, Agenda, empty_agenda, in_order, of_class}
 
 -- the classes' rules, the pending notices with the next filing number, and the notice of each seat
 pub record AgendaState : Type 0 where
@@ -61,21 +62,25 @@ abbrev pub AreFiled : List Pending → Type 0
 AreFiled [] = Unit {0}
 AreFiled (e ∷ es) = NoneFiled e.filing es × AreFiled es
 
--- a notice's class is an event class, its time a number of 64 bits, it has a key for each of the class's, a seat, and a
--- filing number from 1 below the next
-pub record IsPending (rules : List Rule) (notices : List ℕ) (next_filing : ℕ) (e : Pending) : Type 0 where
+-- a notice of an event class, with a time of 64 bits, as many keys as its class has, and a filing number that was given
+pub record IsWellNotice (rules : List Rule) (next_filing : ℕ) (e : Pending) : Type 0 where
   -- its class is an event class
   pub class : is_event_class rules e.class ≡ true
   -- its time is a number of 64 bits
   pub time : in_range e.time ≡ true
   -- it has a key for each of the class's
   pub keys : length e.keys ≡ length (rule_at rules e.class).ties
-  -- it has a seat
-  pub seat : has notices e.notice ≡ true
   -- filing numbers begin with 1
   pub first : 0 < e.filing
   -- its filing number was given
   pub filing : e.filing < next_filing
+
+-- such a notice that has a seat
+pub record IsPending (rules : List Rule) (notices : List ℕ) (next_filing : ℕ) (e : Pending) : Type 0 where
+  -- it is well-formed
+  pub well : IsWellNotice rules next_filing e
+  -- it has a seat
+  pub seat : has notices e.notice ≡ true
 
 -- no two classes have one place in the order of priority
 abbrev pub AreRanked : List Rule → Type 0

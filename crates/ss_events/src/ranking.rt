@@ -1,22 +1,26 @@
-ghost use Rattle.std.specs.Prelude.{◌≡◌, ◌-◌, ◌<◌, ◌≤◌, ◌++◌, IfOk, ℤ, List, length, map, slice_index, unwrap_or};
+ghost use Rattle.std.specs.Prelude.{◌≡◌, ◌-◌, ◌<◌, ◌≤◌, IfOk, length, map, slice_index, unwrap_or};
+ghost use Rattle.std.specs.Ordering.{is_lt, ordering_then};
+ghost use Rattle.std.specs.declared.cmp.Ordering.{Ordering};
 ghost use Rattle.std.specs.Option.{option_map, ForSome};
-ghost use Rattle.ss_events.specs.Rules.{rule_at};
 ghost use Rattle.ss_events.specs.State.{AreRanked};
-ghost use Rattle.ss_events.specs.Weights.{before, less, compared};
-ghost use Rattle.ss_events.specs.Rows.{rule_of, notice_of, row_at, IsEntry, IsGrown};
+ghost use Rattle.ss_events.specs.Agenda.{is_before};
+ghost use Rattle.ss_program.specs.Keys.{by_keys};
+ghost use Rattle.ss_events.specs.Views.{rule_of, notice_of};
+ghost use Rattle.ss_events.specs.Rows.{row_at, IsEntry, IsGrown};
 
-use crate::pending_notice::{ClassRule, PendingNotice, Row};
+use crate::pending_notice::{PendingNotice, Row};
+use crate::rule::ClassRule;
 use ss_program::{Key, Rank};
 use std::alloc::AllocError;
 
 /// The entry of a notice, if it is pending.
 pub(crate) fn entry_of(rows: &[Row], notice: u32) -> Option<&PendingNotice>
     requires { 0 < notice }
-    ensures { option_map (λ entry. entry.now) result ≡ (row_at rows.now (notice - 1)).entry }
+    ensures { option_map (λ entry. entry.now) result ≡ (row_at rows.now (notice - 1)).pending }
 {
     match rows.get(notice as usize - 1) {
         None => None,
-        Some(row) => row.entry.as_ref(),
+        Some(row) => row.pending.as_ref(),
     }
 }
 
@@ -39,7 +43,7 @@ pub(crate) fn grow(rows: &mut Vec<Row>, count: usize) -> Result<(), AllocError>
     while rows.len() < count {
         rows.push(Row {
             seat: None,
-            entry: None,
+            pending: None,
         })?;
     }
     Ok(())
@@ -49,8 +53,8 @@ pub(crate) fn grow(rows: &mut Vec<Row>, count: usize) -> Result<(), AllocError>
 fn keys_decide(ties: &[Key], a: &[i64], b: &[i64]) -> Option<bool>
     requires a { length a.now ≡ length ties.now }
     requires b { length b.now ≡ length ties.now }
-    ensures { (u v : List ℤ) →
-        less (compared ties.now a.now ++ u) (compared ties.now b.now ++ v) ≡ unwrap_or result (less u v) }
+    ensures { (then : Ordering) →
+        is_lt (ordering_then (by_keys ties.now a.now b.now) then) ≡ unwrap_or result (is_lt then) }
 {
     for i in 0..ties.len() {
         let (x, y) = match ties[i].rank {
@@ -72,7 +76,7 @@ pub(crate) fn is_before(rules: &[ClassRule], a: &PendingNotice, b: &PendingNotic
     requires a { IsEntry (map rule_of rules.now) a.now }
     requires b { IsEntry (map rule_of rules.now) b.now }
     requires ranked { AreRanked (map rule_of rules.now) }
-    ensures { result ≡ before (map rule_of rules.now) (notice_of 0 a.now) (notice_of 0 b.now) }
+    ensures { result ≡ is_before (map rule_of rules.now) (notice_of 0 a.now) (notice_of 0 b.now) }
 {
     if a.time != b.time {
         return a.time < b.time;

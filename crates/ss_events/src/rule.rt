@@ -1,11 +1,22 @@
 ghost use Rattle.std.specs.Prelude.{◌≡◌, ◌<◌, ◌≤◌, ◌==◌, IfOk, length, map, position};
+ghost use Rattle.ss_words.specs.declared.limits.TheConstants.{MOST_CLASSES};
 ghost use Rattle.ss_program.specs.Program.{priority_of};
 ghost use Rattle.ss_events.specs.Rules.{program_rule, rules_of, event_number};
-ghost use Rattle.ss_events.specs.Rows.{rule_of};
+ghost use Rattle.ss_events.specs.Views.{rule_of};
 
-use crate::pending_notice::ClassRule;
 use ss_program::{ClassKind, Key, Program};
 use std::alloc::{AllocError, Global};
+
+/// What the order of notices asks of a class.
+#[derive(Drop)]
+pub struct ClassRule {
+    /// Whether notices may be of it: it is an event class.
+    pub for_events: bool,
+    /// Its place in the order of priority, which no other class has.
+    pub priority: usize,
+    /// The keys of its BREAK ties.
+    pub ties: Vec<Key>,
+}
 
 /// What the order of notices asks of a program's classes, class by class.
 pub(crate) fn class_rules(alloc: Global, program: &Program) -> Result<Vec<ClassRule>, AllocError>
@@ -76,7 +87,7 @@ fn class_priority(program: &Program, class: usize) -> usize
 /// The number of a class among the event classes: how many are declared before it.
 pub(crate) fn event_number(rules: &[ClassRule], class: usize) -> u32
     requires class { class ≤ length rules.now }
-    requires few { length rules.now ≤ 64 }
+    requires few { length rules.now ≤ MOST_CLASSES }
     ensures { result ≡ event_number (map rule_of rules.now) class }
 {
     let mut number = 0;

@@ -6,7 +6,7 @@ use Rattle.std.specs.List.{range_with_len}
 use Rattle.std.proofs.lemmas.List.{length_push, drop-append-le, drop_all, map-append}
 use Rattle.std.proofs.lemmas.List.FromFn.{map-range_with_len_more}
 use Rattle.ss_journal.specs.Log.{Log, newest}
-use Rattle.ss_journal.specs.Undoing.{unapply_all, FitsAll, FitsSteps, past, Kept, GoesOn}
+use Rattle.ss_journal.specs.Undoing.{unapply_all, FitsAll, FitsSteps, past, StepsLeadBack, WorkKeepsOrigin}
 
 -- two lists of changes, one after the other
 pub unapply_all-append : {S C : Type 0} (unapply : C → S → S) (xs ys : List C) (s : S) →
@@ -55,41 +55,44 @@ pub past-reopen : {S C : Type 0} (unapply : C → S → S) (s s' : S) (steps ear
 past-reopen unapply s s' steps earlier step is back = rw (is, back) refl
 
 -- what is kept fits
-pub FitsSteps-Kept : {S T C : Type 0} (fits : C → S → Type 0) (unapply : C → S → S) (shown : S → T) (state_at : ℕ → T)
+pub FitsSteps-StepsLeadBack : {S T C : Type 0} (fits : C → S → Type 0) (unapply : C → S → S) (shown : S → T)
+    (state_at : ℕ → T)
     (steps : List (List C)) (s : S) →
-    Kept fits unapply shown state_at steps s → FitsSteps fits unapply steps s
-FitsSteps-Kept fits unapply shown state_at [] s kept = tt
-FitsSteps-Kept fits unapply shown state_at (step ∷ earlier) s kept =
-    (kept.0, FitsSteps-Kept fits unapply shown state_at earlier (unapply_all unapply step s) kept.2)
+    StepsLeadBack fits unapply shown state_at steps s → FitsSteps fits unapply steps s
+FitsSteps-StepsLeadBack fits unapply shown state_at [] s kept = tt
+FitsSteps-StepsLeadBack fits unapply shown state_at (step ∷ earlier) s kept =
+    (kept.0, FitsSteps-StepsLeadBack fits unapply shown state_at earlier (unapply_all unapply step s) kept.2)
 
 -- the past of what is kept shows what the numbers from 0 on do
-pub past-Kept : {S T C : Type 0} (fits : C → S → Type 0) (unapply : C → S → S) (shown : S → T) (state_at : ℕ → T)
+pub past-StepsLeadBack : {S T C : Type 0} (fits : C → S → Type 0) (unapply : C → S → S) (shown : S → T)
+    (state_at : ℕ → T)
     (steps : List (List C)) (s : S) →
-    Kept fits unapply shown state_at steps s
+    StepsLeadBack fits unapply shown state_at steps s
     → map shown (past unapply s steps) ≡ map state_at (range_with_len 0 (length steps))
-past-Kept fits unapply shown state_at [] s kept = refl
-past-Kept fits unapply shown state_at (step ∷ earlier) s kept =
+past-StepsLeadBack fits unapply shown state_at [] s kept = refl
+past-StepsLeadBack fits unapply shown state_at (step ∷ earlier) s kept =
     let n = length earlier in
     let before = unapply_all unapply step s in
     let first : map shown (past unapply before earlier) ≡ map state_at (range_with_len 0 n) =
-    past-Kept fits unapply shown state_at earlier before kept.2 in
+    past-StepsLeadBack fits unapply shown state_at earlier before kept.2 in
     let more : map state_at (range_with_len 0 (n + 1)) ≡ map state_at (range_with_len 0 n) ++ state_at n ∷ [] =
     map-range_with_len_more state_at 0 n n (omega arith) in
     rw (map-append shown (past unapply before earlier) (before ∷ []), first, kept.1) (rw add-one at (sym more))
 
 -- a step that fits and leads back to the last state is kept
-pub Kept-close : {S T C : Type 0} (fits : C → S → Type 0) (unapply : C → S → S) (shown : S → T) (state_at : ℕ → T)
+pub StepsLeadBack-close : {S T C : Type 0} (fits : C → S → Type 0) (unapply : C → S → S) (shown : S → T)
+    (state_at : ℕ → T)
     (s s' : S) (step : List C) (earlier : List (List C)) →
-    Kept fits unapply shown state_at earlier s → shown s ≡ state_at (length earlier) →
+    StepsLeadBack fits unapply shown state_at earlier s → shown s ≡ state_at (length earlier) →
     FitsAll fits unapply step s' → unapply_all unapply step s' ≡ s
-    → Kept fits unapply shown state_at (step ∷ earlier) s'
-Kept-close fits unapply shown state_at s s' step earlier kept here fit back =
-    (fit, ap shown back ∙ here, subst (Kept fits unapply shown state_at earlier) (sym back) kept)
+    → StepsLeadBack fits unapply shown state_at (step ∷ earlier) s'
+StepsLeadBack-close fits unapply shown state_at s s' step earlier kept here fit back =
+    (fit, ap shown back ∙ here, subst (StepsLeadBack fits unapply shown state_at earlier) (sym back) kept)
 
 -- work that does nothing
-pub GoesOn-none : {S C : Type 0} (fits : C → S → Type 0) (unapply : C → S → S) (s : S) (j : Log C)
-    → GoesOn fits unapply 0 s j s j
-GoesOn-none fits unapply s j = record {
+pub WorkKeepsOrigin-none : {S C : Type 0} (fits : C → S → Type 0) (unapply : C → S → S) (s : S) (j : Log C)
+    → WorkKeepsOrigin fits unapply 0 s j s j
+WorkKeepsOrigin-none fits unapply s j = record {
   origin = refl;
   fitting = λ fit. fit;
   steps = refl;
@@ -99,10 +102,10 @@ GoesOn-none fits unapply s j = record {
 }
 
 -- work that makes room alone
-pub GoesOn-reserve : {S C : Type 0} (fits : C → S → Type 0) (unapply : C → S → S) (s : S) (j j' : Log C) →
+pub WorkKeepsOrigin-reserve : {S C : Type 0} (fits : C → S → Type 0) (unapply : C → S → S) (s : S) (j j' : Log C) →
     j'.steps ≡ j.steps → j'.current ≡ j.current → j.notes ≤ j'.notes → j.closes ≤ j'.closes
-    → GoesOn fits unapply 0 s j s j'
-GoesOn-reserve fits unapply s j j' steps current notes closes = record {
+    → WorkKeepsOrigin fits unapply 0 s j s j'
+WorkKeepsOrigin-reserve fits unapply s j j' steps current notes closes = record {
   origin = ap (λ (cs : List _). unapply_all unapply cs s) current;
   fitting = λ fit. subst (λ (cs : List _). FitsAll fits unapply cs s) (sym current) fit;
   steps = steps;
@@ -112,11 +115,12 @@ GoesOn-reserve fits unapply s j j' steps current notes closes = record {
 }
 
 -- one noted change, which fits and leads back to the state before
-pub GoesOn-note : {S C : Type 0} (fits : C → S → Type 0) (unapply : C → S → S) (c : C) (s s' : S) (j j' : Log C) →
+pub WorkKeepsOrigin-note : {S C : Type 0} (fits : C → S → Type 0) (unapply : C → S → S) (c : C) (s s' : S)
+    (j j' : Log C) →
     fits c s' → unapply c s' ≡ s →
     j'.steps ≡ j.steps → j'.current ≡ c ∷ j.current → j'.notes + 1 ≡ j.notes → j'.closes ≡ j.closes
-    → GoesOn fits unapply 1 s j s' j'
-GoesOn-note fits unapply c s s' j j' fit back steps current notes closes = record {
+    → WorkKeepsOrigin fits unapply 1 s j s' j'
+WorkKeepsOrigin-note fits unapply c s s' j j' fit back steps current notes closes = record {
   origin = ap (λ (cs : List _). unapply_all unapply cs s') current ∙ ap (unapply_all unapply j.current) back;
   fitting =
       λ before. subst (λ (cs : List _). FitsAll fits unapply cs s') (sym current)
@@ -128,10 +132,11 @@ GoesOn-note fits unapply c s s' j j' fit back steps current notes closes = recor
 }
 
 -- one piece of work after another
-pub GoesOn-both : {S C : Type 0} (fits : C → S → Type 0) (unapply : C → S → S) (n m : ℕ) (s s' s'' : S)
+pub WorkKeepsOrigin-both : {S C : Type 0} (fits : C → S → Type 0) (unapply : C → S → S) (n m : ℕ) (s s' s'' : S)
     (j j' j'' : Log C) →
-    GoesOn fits unapply n s j s' j' → GoesOn fits unapply m s' j' s'' j'' → GoesOn fits unapply (n + m) s j s'' j''
-GoesOn-both fits unapply n m s s' s'' j j' j'' first second = record {
+    WorkKeepsOrigin fits unapply n s j s' j' → WorkKeepsOrigin fits unapply m s' j' s'' j''
+    → WorkKeepsOrigin fits unapply (n + m) s j s'' j''
+WorkKeepsOrigin-both fits unapply n m s s' s'' j j' j'' first second = record {
   origin = second.origin ∙ first.origin;
   fitting = λ fit. second.fitting (first.fitting fit);
   steps = second.steps ∙ first.steps;
@@ -141,9 +146,10 @@ GoesOn-both fits unapply n m s s' s'' j j' j'' first second = record {
 }
 
 -- at most n is at most m, where n is not above m
-pub GoesOn-more : {S C : Type 0} (fits : C → S → Type 0) (unapply : C → S → S) (n m : ℕ) (s s' : S) (j j' : Log C) →
-    n ≤ m → GoesOn fits unapply n s j s' j' → GoesOn fits unapply m s j s' j'
-GoesOn-more fits unapply n m s s' j j' below work = record {
+pub WorkKeepsOrigin-more : {S C : Type 0} (fits : C → S → Type 0) (unapply : C → S → S) (n m : ℕ) (s s' : S)
+    (j j' : Log C) →
+    n ≤ m → WorkKeepsOrigin fits unapply n s j s' j' → WorkKeepsOrigin fits unapply m s j s' j'
+WorkKeepsOrigin-more fits unapply n m s s' j j' below work = record {
   origin = work.origin;
   fitting = work.fitting;
   steps = work.steps;
@@ -153,34 +159,42 @@ GoesOn-more fits unapply n m s s' j j' below work = record {
 }
 
 -- work that began with an empty open step can be taken back to its beginning
-pub GoesOn-origin : {S C : Type 0} (fits : C → S → Type 0) (unapply : C → S → S) (n : ℕ) (s s' : S) (j j' : Log C) →
-    j.current ≡ [] → GoesOn fits unapply n s j s' j' → unapply_all unapply j'.current s' ≡ s
-GoesOn-origin fits unapply n s s' j j' none work = work.origin ∙ ap (λ (cs : List _). unapply_all unapply cs s) none
+pub WorkKeepsOrigin-origin : {S C : Type 0} (fits : C → S → Type 0) (unapply : C → S → S) (n : ℕ) (s s' : S)
+    (j j' : Log C) →
+    j.current ≡ [] → WorkKeepsOrigin fits unapply n s j s' j' → unapply_all unapply j'.current s' ≡ s
+WorkKeepsOrigin-origin fits unapply n s s' j j' none work = work.origin
+    ∙ ap (λ (cs : List _). unapply_all unapply cs s) none
 
 -- and all that it noted fits
-pub GoesOn-fitting : {S C : Type 0} (fits : C → S → Type 0) (unapply : C → S → S) (n : ℕ) (s s' : S) (j j' : Log C) →
-    j.current ≡ [] → GoesOn fits unapply n s j s' j' → FitsAll fits unapply j'.current s'
-GoesOn-fitting fits unapply n s s' j j' none work =
+pub WorkKeepsOrigin-fitting : {S C : Type 0} (fits : C → S → Type 0) (unapply : C → S → S) (n : ℕ) (s s' : S)
+    (j j' : Log C) →
+    j.current ≡ [] → WorkKeepsOrigin fits unapply n s j s' j' → FitsAll fits unapply j'.current s'
+WorkKeepsOrigin-fitting fits unapply n s s' j j' none work =
     work.fitting (subst (λ (cs : List _). FitsAll fits unapply cs s) (sym none) tt)
 
 -- such work, closed, puts the state before it at the end of the past
-pub past-GoesOn : {S C : Type 0} (fits : C → S → Type 0) (unapply : C → S → S) (n : ℕ) (s s' : S) (j j' : Log C) →
-    j.current ≡ [] → GoesOn fits unapply n s j s' j'
+pub past-WorkKeepsOrigin : {S C : Type 0} (fits : C → S → Type 0) (unapply : C → S → S) (n : ℕ) (s s' : S)
+    (j j' : Log C) →
+    j.current ≡ [] → WorkKeepsOrigin fits unapply n s j s' j'
     → past unapply s' (j'.current ∷ j'.steps) ≡ past unapply s j.steps ++ s ∷ []
-past-GoesOn fits unapply n s s' j j' none work =
-    past-close unapply s s' j'.current j'.steps (GoesOn-origin fits unapply n s s' j j' none work)
+past-WorkKeepsOrigin fits unapply n s s' j j' none work =
+    past-close unapply s s' j'.current j'.steps (WorkKeepsOrigin-origin fits unapply n s s' j j' none work)
     ∙ ap (λ (steps : List (List _)). past unapply s steps ++ s ∷ []) work.steps
 
 -- and is kept, where the state before it was the last one
-pub Kept-GoesOn : {S T C : Type 0} (fits : C → S → Type 0) (unapply : C → S → S) (shown : S → T) (state_at : ℕ → T)
+pub StepsLeadBack-WorkKeepsOrigin : {S T C : Type 0} (fits : C → S → Type 0) (unapply : C → S → S) (shown : S → T)
+    (state_at : ℕ → T)
     (n : ℕ) (s s' : S) (j j' : Log C) →
-    Kept fits unapply shown state_at j.steps s → shown s ≡ state_at (length j.steps) →
-    j.current ≡ [] → GoesOn fits unapply n s j s' j' → Kept fits unapply shown state_at (j'.current ∷ j'.steps) s'
-Kept-GoesOn fits unapply shown state_at n s s' j j' kept here none work =
-    let closed : Kept fits unapply shown state_at (j'.current ∷ j.steps) s' =
-    Kept-close fits unapply shown state_at s s' j'.current j.steps kept here
-    (GoesOn-fitting fits unapply n s s' j j' none work) (GoesOn-origin fits unapply n s s' j j' none work) in
-    subst (λ (steps : List (List _)). Kept fits unapply shown state_at (j'.current ∷ steps) s') (sym work.steps) closed
+    StepsLeadBack fits unapply shown state_at j.steps s → shown s ≡ state_at (length j.steps) →
+    j.current ≡ [] → WorkKeepsOrigin fits unapply n s j s' j'
+    → StepsLeadBack fits unapply shown state_at (j'.current ∷ j'.steps) s'
+StepsLeadBack-WorkKeepsOrigin fits unapply shown state_at n s s' j j' kept here none work =
+    let closed : StepsLeadBack fits unapply shown state_at (j'.current ∷ j.steps) s' =
+    StepsLeadBack-close fits unapply shown state_at s s' j'.current j.steps kept here
+    (WorkKeepsOrigin-fitting fits unapply n s s' j j' none work)
+    (WorkKeepsOrigin-origin fits unapply n s s' j j' none work) in
+    subst (λ (steps : List (List _)). StepsLeadBack fits unapply shown state_at (j'.current ∷ steps) s')
+    (sym work.steps) closed
 
 -- the newest steps of those that fit
 pub FitsSteps-newest : {S C : Type 0} (fits : C → S → Type 0) (unapply : C → S → S) (n : ℕ) (steps : List (List C))
@@ -206,16 +220,17 @@ past-newest unapply (suc n) s (step ∷ earlier) =
     ∙ ap (λ k. drop k (states ++ before ∷ [])) forgotten
 
 -- the newest steps of those that are kept, with the states counted from the earliest that is left
-pub Kept-newest : {S T C : Type 0} (fits : C → S → Type 0) (unapply : C → S → S) (shown : S → T) (state_at : ℕ → T)
+pub StepsLeadBack-newest : {S T C : Type 0} (fits : C → S → Type 0) (unapply : C → S → S) (shown : S → T)
+    (state_at : ℕ → T)
     (n low : ℕ) (steps : List (List C)) (s : S) →
-    low ≡ length steps - n → Kept fits unapply shown state_at steps s
-    → Kept fits unapply shown (λ i. state_at (low + i)) (newest n steps) s
-Kept-newest fits unapply shown state_at zero low steps s is kept = tt
-Kept-newest fits unapply shown state_at (suc n) low [] s is kept = tt
-Kept-newest fits unapply shown state_at (suc n) low (step ∷ earlier) s is kept =
+    low ≡ length steps - n → StepsLeadBack fits unapply shown state_at steps s
+    → StepsLeadBack fits unapply shown (λ i. state_at (low + i)) (newest n steps) s
+StepsLeadBack-newest fits unapply shown state_at zero low steps s is kept = tt
+StepsLeadBack-newest fits unapply shown state_at (suc n) low [] s is kept = tt
+StepsLeadBack-newest fits unapply shown state_at (suc n) low (step ∷ earlier) s is kept =
     let forgotten : low ≡ length earlier - n = omega (arith, is) in
     let place : length earlier ≡ low + length (take n earlier) = omega (arith, forgotten, length-take n earlier) in (
       kept.0,
       kept.1 ∙ ap state_at place,
-      Kept-newest fits unapply shown state_at n low earlier (unapply_all unapply step s) forgotten kept.2,
+      StepsLeadBack-newest fits unapply shown state_at n low earlier (unapply_all unapply step s) forgotten kept.2,
     )

@@ -25,17 +25,18 @@ past unapply s [] = []
 past unapply s (step ∷ earlier) = past unapply (unapply_all unapply step s) earlier ++ unapply_all unapply step s ∷ []
 
 -- each step fits, and leads back to a state that shows what that number does, counted from 0 before the earliest step
-abbrev pub Kept : {S T C : Type 0} → (C → S → Type 0) → (C → S → S) → (S → T) → (ℕ → T) → List (List C) → S → Type 0
-Kept fits unapply shown state_at [] s = Unit {0}
-Kept fits unapply shown state_at (step ∷ earlier) s =
+abbrev pub StepsLeadBack : {S T C : Type 0} → (C → S → Type 0) → (C → S → S) → (S → T) → (ℕ → T) → List (List C) → S
+    → Type 0
+StepsLeadBack fits unapply shown state_at [] s = Unit {0}
+StepsLeadBack fits unapply shown state_at (step ∷ earlier) s =
     FitsAll fits unapply step s
     × (shown (unapply_all unapply step s) ≡ state_at (length earlier))
-    × Kept fits unapply shown state_at earlier (unapply_all unapply step s)
+    × StepsLeadBack fits unapply shown state_at earlier (unapply_all unapply step s)
 
 -- a piece of work on a state and its journal, which notes at most n changes: these fit, and lead back to the state
 -- before
-pub record GoesOn {S C : Type 0} (fits : C → S → Type 0) (unapply : C → S → S) (n : ℕ) (s : S) (j : Log C) (s' : S)
-    (j' : Log C) : Type 0 where
+pub record WorkKeepsOrigin {S C : Type 0} (fits : C → S → Type 0) (unapply : C → S → S) (n : ℕ) (s : S) (j : Log C)
+    (s' : S) (j' : Log C) : Type 0 where
   -- undone, it leads to the same state as before
   pub origin : unapply_all unapply j'.current s' ≡ unapply_all unapply j.current s
   -- if what was open fitted, it still does

@@ -37,7 +37,8 @@ impl<C> Model for Journal<C> {
     } };
 
     ghost invariant = { λ a.
-        (a.unclosed + sum a.sizes.sizes ≡ deque_len a.changes) × (deque_len a.changes ≤ a.sizes.most) };
+        (a.unclosed + sum a.sizes.sizes ≡ deque_len a.changes)
+        × (deque_len a.changes ≤ a.sizes.most) };
 }
 
 impl<C> Journal<C> {
@@ -162,8 +163,10 @@ impl<C: Drop> Journal<C> {
         requires { self.old.current ≡ [] }
         ensures steps { self.new.steps ≡ newest n self.old.steps }
         ensures current { self.new.current ≡ [] }
-        ensures notes { self.new.notes + change_count self.new.steps ≡ self.old.notes + change_count self.old.steps }
-        ensures closes { self.new.closes + length self.new.steps ≡ self.old.closes + length self.old.steps }
+        ensures notes { self.new.notes + change_count self.new.steps
+            ≡ self.old.notes + change_count self.old.steps }
+        ensures closes { self.new.closes + length self.new.steps
+            ≡ self.old.closes + length self.old.steps }
     {
         let forgotten = self.steps().saturating_sub(n);
         let changes = self.sizes.forget(forgotten);

@@ -1,4 +1,5 @@
-ghost use Rattle.std.specs.Prelude.{◌≡◌, ◌+◌, ◌-◌, ◌^◌, ◌<◌, ◌≤◌, ◌∷◌, ◌++◌, [], length, sum, take, IsOk, OnOk, MatchOption};
+ghost use Rattle.std.specs.Prelude.{◌≡◌, ◌+◌, ◌-◌, ◌^◌, ◌<◌, ◌≤◌, ◌∷◌, ◌++◌, [], length, sum, take, IsOk, OnOk};
+ghost use Rattle.std.specs.Prelude.{MatchOption};
 
 use std::alloc::{AllocError, Global};
 use std::collections::VecDeque;

@@ -1,7 +1,7 @@
 -- what several pieces of a step leave in the journal
 use Rattle.std.proofs.Common.{◌≡◌, ℕ, ◌+◌, ◌≤◌, List, [], ◌∷◌, length, arith, refl, ap, sym, subst, ◌∙◌}
 use Rattle.ss_journal.specs.Log.{Log}
-use Rattle.ss_journal.specs.Undoing.{unapply_all, FitsAll, GoesOn}
+use Rattle.ss_journal.specs.Undoing.{unapply_all, FitsAll, WorkKeepsOrigin}
 use Rattle.ss_machine.specs.declared.change.Change.{Change}
 use Rattle.ss_machine.specs.Change.{Fits, unapply}
 use Rattle.ss_machine.specs.Held.{Held}
@@ -29,7 +29,7 @@ notes_within m n a b f h = record {
 }
 
 -- nothing was done, and nothing noted
-pub notes_none : (n : ℕ) (h k : Held) (j : Log Change) → k ≡ h → GoesOn Fits unapply n h j k j
+pub notes_none : (n : ℕ) (h k : Held) (j : Log Change) → k ≡ h → WorkKeepsOrigin Fits unapply n h j k j
 notes_none n h k j e = record {
   origin = ap (λ (x : Held). unapply_all unapply j.current x) e;
   fitting = λ f. subst (λ (x : Held). FitsAll Fits unapply j.current x) (sym e) f;
@@ -41,7 +41,7 @@ notes_none n h k j e = record {
 
 -- one change was noted
 pub noted_one : (c : Change) (h k : Held) (i j : Log Change) → Fits c k → unapply c k ≡ h → j.steps ≡ i.steps →
-    j.current ≡ c ∷ i.current → i.notes ≤ j.notes + 1 → j.closes ≡ i.closes → GoesOn Fits unapply 1 h i k j
+    j.current ≡ c ∷ i.current → i.notes ≤ j.notes + 1 → j.closes ≡ i.closes → WorkKeepsOrigin Fits unapply 1 h i k j
 noted_one c h k i j fit back steps current notes closes = record {
   origin = ap (λ (cs : List Change). unapply_all unapply cs k) current ∙ ap (unapply_all unapply i.current) back;
   fitting =
@@ -68,8 +68,8 @@ noted_anew n a b c held steps current notes closes f = record {
 }
 
 -- one change more was noted
-pub noted_more : (n : ℕ) (h k l : Held) (i j m : Log Change) → GoesOn Fits unapply n h i k j →
-    GoesOn Fits unapply 1 k j l m → GoesOn Fits unapply (n + 1) h i l m
+pub noted_more : (n : ℕ) (h k l : Held) (i j m : Log Change) → WorkKeepsOrigin Fits unapply n h i k j →
+    WorkKeepsOrigin Fits unapply 1 k j l m → WorkKeepsOrigin Fits unapply (n + 1) h i l m
 noted_more n h k l i j m f g = record {
   origin = g.origin ∙ f.origin;
   fitting = λ x. g.fitting (f.fitting x);

@@ -25,7 +25,7 @@ use Rattle.ss_store.specs.declared.shape.Which.TheVariants as which
 use Rattle.ss_store.specs.Tables.{Tables, tables_of, class_of, set_of}
 use Rattle.ss_store.specs.Store.{Store, number_of, last_reference, with_attribute, with_new, with_class}
 use Rattle.ss_store.specs.Filing.{after_filing, after_removing}
-use Rattle.ss_events.specs.Agenda.{Agenda, may_schedule, scheduled}
+use Rattle.ss_events.specs.Agenda.{Agenda, may_schedule, agenda_after_scheduling}
 use Rattle.ss_values.specs.Faults.{◌>>=◌, ◌>>◌, refuse_if}
 use Rattle.ss_values.specs.Values.{value_of, subscript_value, assigned_value, number_value}
 use Rattle.ss_machine.specs.declared.statistics.Statistics.{Statistics}
@@ -151,7 +151,7 @@ scheduling_rest p s c k time xs =
     after_got (LeavesRest s) (LeavesRest s) (state_with_attributes s c k 0 xs) _ (attributes_rest s c k 0 xs) (λ r h.
     then_got s r _ h (after_value r (attributes_now r.store c k (tie_attributes p c)) (state_with_notice r c k time)
     (λ keys.
-    after_test r (may_schedule r.agenda k time r.clock) _ (agenda_rest r (scheduled r.agenda k time c keys)))))
+    after_test r (may_schedule r.agenda k time r.clock) _ (agenda_rest r (agenda_after_scheduling r.agenda k time c keys)))))
 
 new_rest : (p : ProgramTable) (s : State) (c : ℕ) (target : Target) (time : ℤ) (xs : List ℤ) →
     Got (LeavesRest s) (state_after_new p s c target time xs)

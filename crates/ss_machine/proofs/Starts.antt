@@ -11,7 +11,7 @@ use Rattle.ss_words.specs.declared.fault.RunFault.{RunFault}
 use Rattle.ss_words.specs.declared.fault.StepFault.{StepFault}
 use Rattle.ss_words.specs.declared.fault.StepFault.TheVariants.{Fault, Memory}
 use Rattle.ss_journal.specs.Log.{Log}
-use Rattle.ss_journal.specs.Undoing.{GoesOn, FitsAll, unapply_all}
+use Rattle.ss_journal.specs.Undoing.{WorkKeepsOrigin, FitsAll, unapply_all}
 use Rattle.ss_program.specs.declared.kinds.ClassKind.{ClassKind}
 use Rattle.ss_program.specs.declared.kinds.ClassKind.TheVariants.{Permanent, Temporary, Event}
 use Rattle.ss_program.specs.declared.timing.Notice.{Notice}
@@ -126,9 +126,9 @@ arguments_count v n es l x xs e =
 -- ---- what was noted
 
 -- the same in other words
-pub noted_same : (m n : ℕ) (h k l : Held) (i j : Log Change) → l ≡ k → m ≤ n → GoesOn Fits unapply m h i k j →
-    GoesOn Fits unapply n h i l j
-noted_same m n h k l i j e f g = subst (λ (x : Held). GoesOn Fits unapply n h i x j) (sym e) (record {
+pub noted_same : (m n : ℕ) (h k l : Held) (i j : Log Change) → l ≡ k → m ≤ n → WorkKeepsOrigin Fits unapply m h i k j →
+    WorkKeepsOrigin Fits unapply n h i l j
+noted_same m n h k l i j e f g = subst (λ (x : Held). WorkKeepsOrigin Fits unapply n h i x j) (sym e) (record {
   origin = g.origin;
   fitting = g.fitting;
   steps = g.steps;

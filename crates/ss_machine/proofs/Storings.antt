@@ -16,7 +16,7 @@ use Rattle.ss_store.specs.Tables.{Tables, set_of}
 use Rattle.ss_store.specs.Filing.{after_filing, after_removing}
 use Rattle.ss_events.specs.declared.agenda.AgendaChange.{AgendaChange}
 use Rattle.ss_events.specs.declared.agenda.AgendaChange.TheVariants.{Scheduled, TakenOff}
-use Rattle.ss_events.specs.Agenda.{Agenda, may_schedule, scheduled}
+use Rattle.ss_events.specs.Agenda.{Agenda, may_schedule, agenda_after_scheduling}
 use Rattle.ss_events.specs.State.{AgendaState}
 use Rattle.ss_events.specs.Changes as notices
 use Rattle.ss_events.specs.Changes.{Went, IsScheduled, after_scheduling}
@@ -219,9 +219,9 @@ scheduling_both r class k time keys h v o = by r (may_schedule h.state.agenda k 
   where
     by : (r : Result AgendaChange StepFault) (q : Result (Unit {0}) RunFault) →
         IsScheduled r q (after_scheduling (agenda_of h) k time class keys) (agenda_of h) v →
-        IsScheduling (noticed r) (q >> Ok (state_with_agenda h.state (scheduled h.state.agenda k time class keys))) h
+        IsScheduling (noticed r) (q >> Ok (state_with_agenda h.state (agenda_after_scheduling h.state.agenda k time class keys))) h
         (with_agenda h v)
-    by (Ok change) (Ok x) o = leaves_agenda change (scheduled h.state.agenda k time class keys) h v _ o refl
+    by (Ok change) (Ok x) o = leaves_agenda change (agenda_after_scheduling h.state.agenda k time class keys) h v _ o refl
     by (Ok change) (Err f) o = o
     by (Err (Fault e)) (Ok x) o = o
     by (Err (Fault e)) (Err f) o = (o.0, ap (λ (w : AgendaState). with_agenda h w) o.1)

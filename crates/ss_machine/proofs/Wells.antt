@@ -19,7 +19,7 @@ use Rattle.std.proofs.lemmas.List.Quantifiers.{position-Some}
 use Rattle.std.proofs.lemmas.Option.{unwrap_or-slice_get}
 use Rattle.std.proofs.lemmas.Bool.{and_parts}
 use Rattle.ss_report.specs.Pictures.{picture_text}
-use Rattle.ss_report.specs.Reports.{report_limit}
+use Rattle.ss_report.specs.declared.limits.TheConstants.{LONGEST_REPORT}
 use Rattle.ss_journal.specs.Log.{Log}
 use Rattle.ss_program.specs.declared.variable.Variable.{Variable as AVariable}
 use Rattle.ss_program.specs.declared.target.SetRef.{SetRef}
@@ -88,7 +88,8 @@ use Rattle.ss_store.specs.Tables.{Tables, tables_of, class_of, set_of}
 use Rattle.ss_store.specs.Store.{Store, number_of, exists, attribute_of, last_reference, with_attribute, with_new, with_class, without_entity}
 use Rattle.ss_store.specs.Filing.{after_filing, after_removing}
 use Rattle.ss_events.specs.Rules.{rules_of}
-use Rattle.ss_events.specs.Agenda.{Pending, Agenda, is_pending, pending_at, least, filing_limit, may_schedule, scheduled, taken_off, without_notice}
+use Rattle.ss_events.specs.declared.limits.TheConstants.{MOST_SCHEDULINGS}
+use Rattle.ss_events.specs.Agenda.{Pending, Agenda, is_pending, pending_at, least, may_schedule, agenda_after_scheduling, agenda_after_taking, without_notice}
 use Rattle.ss_machine.specs.Held.{Held}
 use Rattle.ss_values.specs.Faults.{◌>>=◌, ◌>>◌, refuse_if}
 use Rattle.ss_values.specs.Values.{Readings, variable_value, value_of, values_of, subscript_value, assigned_value, number_value}
@@ -412,15 +413,15 @@ went_well p s (Err e) n h g k w = marked_well p s (Faulted e) w
 
 -- a report that something was longer_report to is within the limit
 abbrev IsShort : List ℕ → Type 0
-IsShort bytes = length bytes ≤ report_limit
+IsShort bytes = length bytes ≤ LONGEST_REPORT
 
-appended_by : (report text : List ℕ) (b : Bool) → nat_le (length report + length text) report_limit ≡ b →
+appended_by : (report text : List ℕ) (b : Bool) → nat_le (length report + length text) LONGEST_REPORT ≡ b →
     Got IsShort (if b then Ok (report ++ text) else Err ReportFull)
 appended_by report text true h = omega (arith, leb-true _ _ h, length-append report text)
 appended_by report text false h = tt
 
 appended_short : (report text : List ℕ) → Got IsShort (longer_report report text)
-appended_short report text = appended_by report text (nat_le (length report + length text) report_limit) refl
+appended_short report text = appended_by report text (nat_le (length report + length text) LONGEST_REPORT) refl
 
 report_well : (p : ProgramTable) (s : State) (report : List ℕ) → IsShort report → IsInBounds p s →
     IsInBounds p (record s { report = report })
@@ -984,12 +985,12 @@ not_late a k time clock = chosen (int_lt time clock) refl
     last false e f = (e, f)
 
     second : (c : Bool) → is_pending a k ≡ c → int_lt time clock ≡ false → Got (MayBe a k time clock)
-        (if c then Err AlreadyScheduled else if nat_lt filing_limit a.next_filing then Err TooManyReferences else Ok tt)
+        (if c then Err AlreadyScheduled else if nat_lt MOST_SCHEDULINGS a.next_filing then Err TooManyReferences else Ok tt)
     second true f e = tt
-    second false f e = last (nat_lt filing_limit a.next_filing) e f
+    second false f e = last (nat_lt MOST_SCHEDULINGS a.next_filing) e f
 
     chosen : (b : Bool) → int_lt time clock ≡ b → Got (MayBe a k time clock)
-        (if b then Err TimeBeforeClock else if is_pending a k then Err AlreadyScheduled else if nat_lt filing_limit
+        (if b then Err TimeBeforeClock else if is_pending a k then Err AlreadyScheduled else if nat_lt MOST_SCHEDULINGS
         a.next_filing then Err TooManyReferences else Ok tt)
     chosen true e = tt
     chosen false e = second (is_pending a k) refl e
@@ -1006,7 +1007,7 @@ noticed_well : (p : ProgramTable) (s : State) (c k : ℕ) (time : ℤ) (keys : L
 noticed_well p s c k time keys e t h w =
     after_passed (IsInBounds p) (MayBe s.agenda k time s.clock tt) (may_schedule s.agenda k time s.clock) _
     (not_late s.agenda k time s.clock) (λ l.
-    agenda_well p s (scheduled s.agenda k time c keys)
+    agenda_well p s (agenda_after_scheduling s.agenda k time c keys)
     (due_more p s.clock s.store _ s.agenda.pending (record { event = e; exists = w.1; time = t; due = l.0; keys = h })
     w.0.due)
     (entry_more p _ s.agenda.pending s.frame.section s.below s.entry l.1 w.0.entry) w.0)
@@ -1101,7 +1102,7 @@ without_part : (p : ProgramTable) (s : State) (k : ℕ) → IsInBounds p s → G
 without_part p s k w = chosen (waits_for k s.entry) (not (is_pending s.agenda k)) refl
   where
     chosen : (b c : Bool) → waits_for k s.entry ≡ b →
-        Got (IsPart p s) (refuse_if (b || c) NotScheduled >> Ok (taken_off s.agenda k))
+        Got (IsPart p s) (refuse_if (b || c) NotScheduled >> Ok (agenda_after_taking s.agenda k))
     chosen true c e = tt
     chosen false true e = tt
     chosen false false e = (

@@ -1,7 +1,7 @@
 -- What a machine stands for, and its steps forward and back.
 use Rattle.std.specs.Prelude.{◌≡◌, ◌≢◌, ℕ, ◌+◌, ◌-◌, ◌<◌, ◌≤◌, ◌⊎◌, List, [], ◌∷◌, ◌++◌, length, map, drop, Bool, true, false, Option, Some, None}
 use Rattle.ss_journal.specs.Log.{Log, newest}
-use Rattle.ss_journal.specs.Undoing.{past, Kept}
+use Rattle.ss_journal.specs.Undoing.{past, StepsLeadBack}
 use Rattle.ss_program.specs.Program.{ProgramTable, spot_at}
 use Rattle.ss_program.specs.ProgramSound.{IsSound}
 use Rattle.ss_program.specs.declared.place.Place.{Place}
@@ -191,7 +191,7 @@ pub record HasForgotten (n : ℕ) (old new : Moment) : Type 0 where
 
 -- changes that fit and lead back through the states of a run, the first of them to its state number a
 abbrev pub LeadsBack : Input → ℕ → List (List Change) → Held → Type 0
-LeadsBack i a steps h = Kept Fits unapply (λ g. g.state) (λ k. run i (a + k)) steps h
+LeadsBack i a steps h = StepsLeadBack Fits unapply (λ g. g.state) (λ k. run i (a + k)) steps h
 
 -- what every machine keeps
 pub record Stands (i : Input) (forgotten : ℕ) (h : Held) (j : Log Change) : Type 0 where

@@ -5,7 +5,7 @@ use Rattle.std.specs.List.{range_with_len}
 use Rattle.ss_words.specs.declared.fault.RunFault.{RunFault}
 use Rattle.ss_words.specs.declared.fault.RunFault.TheVariants.{NoEntity, EndedInUse, TimeBeforeClock, NotScheduled, NotExternal, OutsideEntry, CountOutOfRange, ReportFull, TooManyFrames}
 use Rattle.ss_report.specs.Pictures.{picture_text}
-use Rattle.ss_report.specs.Reports.{report_limit}
+use Rattle.ss_report.specs.declared.limits.TheConstants.{LONGEST_REPORT}
 use Rattle.ss_program.specs.declared.target.SetRef.{SetRef}
 use Rattle.ss_program.specs.declared.target.Target.{Target}
 use Rattle.ss_program.specs.declared.target.Target.TheVariants.{Variable, Attribute}
@@ -69,7 +69,7 @@ use Rattle.ss_store.specs.Tables.{Tables, tables_of, class_of, set_of}
 use Rattle.ss_store.specs.Store.{Store, number_of, exists, attribute_of, last_reference, with_attribute, with_new, with_class, without_entity}
 use Rattle.ss_store.specs.Filing.{after_filing, after_removing}
 use Rattle.ss_events.specs.Rules.{rules_of}
-use Rattle.ss_events.specs.Agenda.{Pending, Agenda, is_pending, least, may_schedule, scheduled, taken_off}
+use Rattle.ss_events.specs.Agenda.{Pending, Agenda, is_pending, least, may_schedule, agenda_after_scheduling, agenda_after_taking}
 use Rattle.ss_machine.specs.declared.entry.Entry.{Entry}
 use Rattle.ss_machine.specs.declared.entry.Entry.TheVariants.{Absent, Waiting, Running}
 use Rattle.ss_machine.specs.declared.status.Status.TheVariants.{Stopped, Finished, Faulted}
@@ -134,7 +134,7 @@ step_assign t s next a = state_after_result s (state_after_assign t s a) (state_
 -- the report with a text behind it, or F19 where it would be too long
 abbrev pub longer_report : List ℕ → List ℕ → Result (List ℕ) RunFault
 longer_report report text =
-    if nat_le (length report + length text) report_limit then Ok (report ++ text) else Err ReportFull
+    if nat_le (length report + length text) LONGEST_REPORT then Ok (report ++ text) else Err ReportFull
 
 -- the state after a PRINT, which gets its values and appends its picture with them
 abbrev pub state_after_print : Tables → State → ℕ → List Expr → List (List ℕ) → State
@@ -518,7 +518,7 @@ state_with_agenda s a = record s { agenda = a }
 -- the state in which notice k of class c is pending at a time with these keys: F9, F10, F20
 abbrev pub state_with_notice : State → ℕ → ℕ → ℤ → List ℤ → Result State RunFault
 state_with_notice s c k time keys =
-    may_schedule s.agenda k time s.clock >> Ok (state_with_agenda s (scheduled s.agenda k time c keys))
+    may_schedule s.agenda k time s.clock >> Ok (state_with_agenda s (agenda_after_scheduling s.agenda k time c keys))
 
 -- the state in which notice k of class c has these first attributes, and is pending with its keys as they are then
 abbrev pub state_after_scheduling : ProgramTable → State → ℕ → ℕ → ℤ → List ℤ → Result State RunFault
@@ -549,7 +549,7 @@ state_after_schedule p s x =
 -- the agenda without notice k; F11 where it is not pending, or waits for its entry
 abbrev pub agenda_without : State → ℕ → Result Agenda RunFault
 agenda_without s k =
-    refuse_if (waits_for k s.entry || not (is_pending s.agenda k)) NotScheduled >> Ok (taken_off s.agenda k)
+    refuse_if (waits_for k s.entry || not (is_pending s.agenda k)) NotScheduled >> Ok (agenda_after_taking s.agenda k)
 
 -- the state after CANCEL of the notice that a value names
 abbrev pub state_after_cancel : Tables → State → ℕ → Expr → Result State RunFault
@@ -572,7 +572,7 @@ abbrev pub state_at_time : State → ℕ → ℤ → Store → State
 state_at_time s k time st = record s {
   clock = time;
   store = st;
-  agenda = taken_off s.agenda k;
+  agenda = agenda_after_taking s.agenda k;
   entry = entry_at_start k s.entry;
 }
 

@@ -1,6 +1,6 @@
 -- A well-formed state.
 use Rattle.std.specs.Prelude.{◌≡◌, ℕ, ℤ, ◌<◌, ◌≤◌, List, [], ◌∷◌, length, slice_get, true, false, int_lt, is_some, Option, Some, None}
-use Rattle.ss_report.specs.Reports.{report_limit}
+use Rattle.ss_report.specs.declared.limits.TheConstants.{LONGEST_REPORT}
 use Rattle.ss_program.specs.declared.kinds.SectionKind.{SectionKind}
 use Rattle.ss_program.specs.declared.kinds.SectionKind.TheVariants.{Main, Routine, Event}
 use Rattle.ss_program.specs.declared.place.Place.{Place}
@@ -192,7 +192,7 @@ pub record IsInBounds (p : ProgramTable) (s : State) : Type 0 where
   -- no more items are taken than there are
   pub taken : s.feed.taken ≤ length s.feed.items
   -- the report is within its limit
-  pub report : length s.report ≤ report_limit
+  pub report : length s.report ≤ LONGEST_REPORT
   -- all pending notices are due
   pub due : AreDue p s.clock s.store s.agenda.pending
   -- the entry of an external event is well-formed

@@ -6,7 +6,7 @@ ghost use Rattle.ss_store.specs.Tables.{class_of, set_of};
 ghost use Rattle.ss_store.specs.Store as entities;
 ghost use Rattle.ss_store.specs.Store.{number_of};
 ghost use Rattle.ss_store.specs.Filing.{after_filing, after_removing};
-ghost use Rattle.ss_events.specs.Agenda.{is_pending, least, taken_off};
+ghost use Rattle.ss_events.specs.Agenda.{is_pending, least, agenda_after_taking};
 ghost use Rattle.ss_events.specs.Rules.{rule_at, is_event_class};
 ghost use Rattle.ss_events.specs.Slots.{slot_of};
 ghost use Rattle.std.specs.Option.{option_map};
@@ -704,7 +704,7 @@ impl<S: SetBoard> State<S> {
         requires number { 0 < notice }
         requires pending { is_pending self.old.state.agenda notice ≡ true }
         ensures { LeavesState result
-            (state_with_agenda self.old.state (taken_off self.old.state.agenda notice)) self.old self.new }
+            (state_with_agenda self.old.state (agenda_after_taking self.old.state.agenda notice)) self.old self.new }
     {
         Change::Agenda(self.agenda.take(notice))
     }

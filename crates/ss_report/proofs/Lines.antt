@@ -2,11 +2,12 @@
 use Rattle.std.proofs.Common.{◌≡◌, ◌==◌, ℕ, suc, ◌+◌, ◌<◌, Bool, true, false, List, [], ◌∷◌, ◌++◌, length, map, take}
 use Rattle.std.proofs.Common.{drop, replicate, refl, sym, ap, ◌∙◌, append_assoc, arith, rules}
 use Rattle.std.specs.List.{position_or_len, prefix_len}
+use Rattle.ss_words.specs.declared.characters.TheConstants.{ASTERISK}
 use Rattle.ss_report.specs.Pictures.{Part, field, byte, line_end, with_asterisk, line_parts, picture_parts}
 use Rattle.ss_report.specs.Pieces.{before_first_line, lines_with_parts}
 
 abbrev pub is_asterisk : ℕ → Bool
-is_asterisk b = b == 42
+is_asterisk b = b == ASTERISK
 
 one-add : (n : ℕ) → 1 + n ≡ suc n
 one-add n = omega arith
@@ -94,17 +95,17 @@ before_first_line-twice cs bs [] = refl
 before_first_line-twice cs bs (l ∷ ls) = ap (λ (x : List ℕ). x ∷ ls) (sym (append_assoc cs bs l))
 
 lines_with_parts-with_asterisk : (ps rest : List Part)
-    → lines_with_parts (with_asterisk ps ++ rest) ≡ before_first_line (42 ∷ []) (lines_with_parts (ps ++ rest))
+    → lines_with_parts (with_asterisk ps ++ rest) ≡ before_first_line (ASTERISK ∷ []) (lines_with_parts (ps ++ rest))
 lines_with_parts-with_asterisk [] rest = refl
 lines_with_parts-with_asterisk (field n ∷ ps) rest =
-    rw one-add (sym (before_first_line-twice (42 ∷ []) (replicate n 42) (lines_with_parts (ps ++ rest))))
+    rw one-add (sym (before_first_line-twice (ASTERISK ∷ []) (replicate n ASTERISK) (lines_with_parts (ps ++ rest))))
 lines_with_parts-with_asterisk (byte b ∷ ps) rest = refl
 lines_with_parts-with_asterisk (line_end ∷ ps) rest = refl
 
 abbrev IsReadBack : List ℕ → List Part → Type 0
 IsReadBack l rest = lines_with_parts (line_parts l ++ line_end ∷ rest) ≡ l ∷ lines_with_parts rest
 
-IsReadBack-cons : (b : ℕ) (bs : List ℕ) (rest : List Part) (t : Bool) → is_asterisk b ≡ t → (t ≡ true → 42 ≡ b)
+IsReadBack-cons : (b : ℕ) (bs : List ℕ) (rest : List Part) (t : Bool) → is_asterisk b ≡ t → (t ≡ true → ASTERISK ≡ b)
     → IsReadBack bs rest → IsReadBack (b ∷ bs) rest
 IsReadBack-cons b bs rest true e star ih =
     rw e (lines_with_parts-with_asterisk (line_parts bs) (line_end ∷ rest)

@@ -6,6 +6,7 @@ use Rattle.std.proofs.lemmas.List.{drop_more, take_more}
 use Rattle.std.proofs.lemmas.List.Concat.{flat_map-append}
 use Rattle.std.proofs.lemmas.List.Sums.{sum_by-append, sum_by-cons}
 use Rattle.std.specs.List.{count_by, list_any}
+use Rattle.ss_words.specs.declared.characters.TheConstants.{LINE_FEED}
 use Rattle.ss_report.specs.Pictures.{Part, field, byte, line_end, is_field, field_text, parts_text, has_decimal}
 use Rattle.ss_report.specs.Pieces.{is_field_piece, part_len, parts_len, parts_of, piece_parts}
 use Rattle.ss_report.specs.declared.piece.Piece.{Piece}
@@ -90,7 +91,7 @@ parts_text-first width [] h = absurd (omega arith)
 parts_text-first width (v ∷ vs) h = append-nil _
 
 pub written-line_end : (old new all : List ℕ) (left rest : List Part) (vs : List ℤ) → left ≡ line_end ∷ rest
-    → new ≡ old ++ 10 ∷ [] → old ++ parts_text left vs ≡ all → new ++ parts_text rest vs ≡ all
+    → new ≡ old ++ LINE_FEED ∷ [] → old ++ parts_text left vs ≡ all → new ++ parts_text rest vs ≡ all
 written-line_end old new all left rest vs e n h = rw (n, append_assoc) (rw e at h)
 
 -- that, and that a value read is itself

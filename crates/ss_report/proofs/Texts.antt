@@ -5,14 +5,15 @@ use Rattle.std.proofs.lemmas.List.Sums.{sum_by-cons}
 use Rattle.std.specs.List.{count_by}
 use Rattle.std.specs.Fmt.{signed_decimal}
 use lib.ListN.{length-replicate}
+use Rattle.ss_words.specs.declared.characters.TheConstants.{ASTERISK, BLANK}
 use Rattle.ss_report.specs.Pictures.{Part, field, byte, line_end, is_field, field_text, parts_text}
 use Rattle.ss_report.specs.Pieces.{part_len, parts_len}
 
 length_padded : (n : ℕ) (text : List ℕ) (t : Bool) → leb (length text) n ≡ t → (t ≡ true → length text ≤ n)
-    → length (cond t (replicate (n - length text) 32 ++ text) (replicate n 42)) ≡ n
+    → length (cond t (replicate (n - length text) BLANK ++ text) (replicate n ASTERISK)) ≡ n
 length_padded n text true e le =
     let h : length text ≤ n = le refl in simp (length-append, length-replicate) (omega arith)
-length_padded n text false e le = length-replicate {A = ℕ} n 42
+length_padded n text false e le = length-replicate {A = ℕ} n ASTERISK
 
 pub length-field_text : (n : ℕ) (v : ℤ) → length (field_text n v) ≡ n
 length-field_text n v =
@@ -25,8 +26,8 @@ parts_len-cons p ps = sum_by-cons part_len p ps
 pub length-parts_text : (ps : List Part) (vs : List ℤ) → length (parts_text ps vs) ≡ parts_len ps
 length-parts_text [] vs = refl
 length-parts_text (field n ∷ ps) [] =
-    length-append (replicate n 42) (parts_text ps [])
-    ∙ omega (arith, length-replicate {A = ℕ} n 42, length-parts_text ps [], parts_len-cons (field n) ps)
+    length-append (replicate n ASTERISK) (parts_text ps [])
+    ∙ omega (arith, length-replicate {A = ℕ} n ASTERISK, length-parts_text ps [], parts_len-cons (field n) ps)
 length-parts_text (field n ∷ ps) (v ∷ vs) =
     length-append (field_text n v) (parts_text ps vs)
     ∙ omega (arith, length-field_text n v, length-parts_text ps vs, parts_len-cons (field n) ps)

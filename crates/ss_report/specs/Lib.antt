@@ -1,3 +1,2 @@
 pub mod Pictures
 pub mod Pieces
-pub mod Reports

@@ -1,6 +1,7 @@
 -- The lines that the pieces of a compiled picture stand for.
 use Rattle.std.specs.Prelude.{ℕ, Bool, true, false, List, [], ◌∷◌, ◌++◌, map, replicate, sum_by}
 use Rattle.std.specs.List.{flat_map}
+use Rattle.ss_words.specs.declared.characters.TheConstants.{ASTERISK}
 use Rattle.ss_report.specs.Pictures.{Part, field, byte, line_end}
 use Rattle.ss_report.specs.declared.piece.Piece.{Piece}
 use Rattle.ss_report.specs.declared.piece.Piece.TheVariants as p
@@ -29,7 +30,7 @@ before_first_line bs (l ∷ ls) = (bs ++ l) ∷ ls
 -- the lines with these parts
 abbrev pub lines_with_parts : List Part → List (List ℕ)
 lines_with_parts [] = []
-lines_with_parts (field n ∷ ps) = before_first_line (replicate n 42) (lines_with_parts ps)
+lines_with_parts (field n ∷ ps) = before_first_line (replicate n ASTERISK) (lines_with_parts ps)
 lines_with_parts (byte b ∷ ps) = before_first_line (b ∷ []) (lines_with_parts ps)
 lines_with_parts (line_end ∷ ps) = [] ∷ lines_with_parts ps
 

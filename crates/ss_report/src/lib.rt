@@ -3,6 +3,7 @@
 #![tactic(auto)]
 
 mod append;
+pub mod limits;
 mod picture;
 mod piece;
 mod report;

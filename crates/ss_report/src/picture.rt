@@ -60,7 +60,8 @@ impl Model for Picture {
 
     ghost view = { λ a. lines_with_parts (parts_of a.pieces.items) };
 
-    ghost invariant = { λ a. (picture_parts (lines_with_parts (parts_of a.pieces.items)) ≡ parts_of a.pieces.items)
+    ghost invariant = { λ a.
+        (picture_parts (lines_with_parts (parts_of a.pieces.items)) ≡ parts_of a.pieces.items)
         × (a.fields ≡ count_by is_field (parts_of a.pieces.items))
         × (a.text_len ≡ min (parts_len (parts_of a.pieces.items)) (2 ^ 64 - 1)) };
 }
@@ -107,7 +108,8 @@ impl Picture {
     /// Appends the text with these values, for which there is room.
     pub(crate) fn write(&self, bytes: &mut Vec<u8>, values: &[i64])
         requires values { length values.now ≡ field_count self.now }
-        requires room { vec_len bytes.old + length (picture_text self.now []) ≤ vec_capacity bytes.old }
+        requires room { vec_len bytes.old + length (picture_text self.now [])
+            ≤ vec_capacity bytes.old }
         ensures { bytes.new.items ≡ bytes.old.items ++ picture_text self.now values.now }
     {
         write_pieces(bytes, &self.pieces, values);

@@ -1,12 +1,14 @@
 ghost use Rattle.std.specs.Prelude.{◌≡◌, ◌==◌, ◌+◌, ◌-◌, ◌^◌, ◌<◌, ◌≤◌, ◌++◌, ◌∷◌, [], drop, length, map, min};
 ghost use Rattle.std.specs.Prelude.{count_by, IfOk, OnOk, vec_len, vec_capacity};
 ghost use Rattle.std.specs.List.{position_or_len, prefix_len};
+ghost use Rattle.ss_words.specs.declared.characters.TheConstants.{ASTERISK};
 ghost use Rattle.ss_report.specs.Pictures.{line_end, field, field_text, parts_text, is_field, line_parts};
 ghost use Rattle.ss_report.specs.Pictures.{picture_parts};
 ghost use Rattle.ss_report.specs.Pieces.{is_field_piece, parts_len, parts_of, piece_parts};
 
 use crate::append::{append, append_times};
 use itoa::Buffer;
+use ss_words::characters::{ASTERISK, BLANK, LINE_FEED};
 use std::alloc::{AllocError, Global};
 
 /// What a picture consists of, in order.
@@ -65,18 +67,18 @@ fn first_piece(alloc: Global, line: &[u8]) -> Result<(Piece, &[u8]), AllocError>
 
 /// How many asterisks the line begins with.
 fn leading_asterisks(line: &[u8]) -> usize
-    ensures value { result ≡ prefix_len (λ b. b == 42) line.now }
+    ensures value { result ≡ prefix_len (λ b. b == ASTERISK) line.now }
     ensures within { result ≤ length line.now }
 {
-    line.iter().take_while(|b| **b == b'*').count()
+    line.iter().take_while(|b| **b == ASTERISK).count()
 }
 
 /// How many other bytes the line begins with.
 fn leading_others(line: &[u8]) -> usize
-    ensures value { result ≡ position_or_len (λ b. b == 42) line.now }
+    ensures value { result ≡ position_or_len (λ b. b == ASTERISK) line.now }
     ensures within { result ≤ length line.now }
 {
-    line.iter().take_while(|b| **b != b'*').count()
+    line.iter().take_while(|b| **b != ASTERISK).count()
 }
 
 /// How many fields there are.
@@ -122,7 +124,7 @@ pub(crate) fn write_pieces(bytes: &mut Vec<u8>, pieces: &[Piece], values: &[i64]
         match piece {
             Piece::Text(text) => append(bytes, text),
             Piece::Field(width) => values = append_first(bytes, *width, values),
-            Piece::LineEnd => bytes.push_reserved(b'\n'),
+            Piece::LineEnd => bytes.push_reserved(LINE_FEED),
         }
     }
 }
@@ -153,9 +155,9 @@ fn append_value(bytes: &mut Vec<u8>, width: usize, value: i64)
     let mut buffer = Buffer::new();
     let text = buffer.format(value).as_bytes();
     if text.len() <= width {
-        append_times(bytes, b' ', width - text.len());
+        append_times(bytes, BLANK, width - text.len());
         append(bytes, text);
     } else {
-        append_times(bytes, b'*', width);
+        append_times(bytes, ASTERISK, width);
     }
 }

@@ -233,7 +233,7 @@ file_left g v new set rule o x h t p how sp k e f w free q is sound =
     (with_list rule (state_of g) o (filed_in rule (state_of g) how x (members_of rule (state_of g) o))) z
     (value_of (record g { board = new }))) k.is
     (left_filed g new set rule o x h t _ _ p d (subst (λ (z : Tables). set < length z.sets) (sym tables) k.below)
-    (ap (λ z. set_of z set) tables ∙ k.at) l.filed))
+    (ap (λ z. set_of z set) tables ∙ k.at) l.list_is))
 
 -- the same of the numbers that values name
 pub file_to : (r : Result StoreChange RunFault) (v w : StoreValue) (set o x y z : ℕ) (how : How) → o ≡ y → x ≡ z

@@ -233,7 +233,7 @@ standing_err g rule o h y (Some t) e s is eh eq f =
 pub record Placed (g : StoreParts) (rule : SetShape) (o x h t : ℕ) (p : Option ℕ) (how : How) : Type 0 where
   pub named : names_entity rule (state_of g) how ≡ true
   pub there : names_member how (members_of rule (state_of g) o) ≡ true
-  pub after_filing : filed_in rule (state_of g) how x (members_of rule (state_of g) o)
+  pub list_is : filed_in rule (state_of g) how x (members_of rule (state_of g) o)
       ≡ map (number_at g.numbers) (put_at (list_at g.board.lists h) p t)
   pub before : ForSome p (λ at. has (list_at g.board.lists h) at ≡ true)
 
@@ -387,7 +387,7 @@ pub placed : (g : StoreParts) (rule : SetShape) (o x h t : ℕ) (p : Option ℕ)
 placed g rule o x h t p First sp d es e =
     let is : None ≡ p = place_eq (ap (place_by g.rows g.numbers g.board.lists rule h x) (spot_eq es) ∙ e) in
     subst (λ q. Placed g rule o x h t q First) is
-    (record { named = refl; there = refl; after_filing = placed_first g rule o x h t d; before = λ z v. cc })
+    (record { named = refl; there = refl; list_is = placed_first g rule o x h t d; before = λ z v. cc })
 placed g rule o x h t p Last sp d es e =
     let is : last_of (list_at g.board.lists h) ≡ p =
     place_eq (ap (place_by g.rows g.numbers g.board.lists rule h x) (spot_eq es) ∙ e) in
@@ -395,7 +395,7 @@ placed g rule o x h t p Last sp d es e =
     (record {
       named = refl;
       there = refl;
-      after_filing = placed_last g rule o x h t d;
+      list_is = placed_last g rule o x h t d;
       before = last_before (list_at g.board.lists h);
     })
 placed g rule o x h t p ByRule sp d es e =
@@ -405,19 +405,19 @@ placed g rule o x h t p ByRule sp d es e =
     (record {
       named = refl;
       there = refl;
-      after_filing = placed_rule g rule o x h t rule.discipline d;
+      list_is = placed_rule g rule o x h t rule.discipline d;
       before = rule_before g rule.member x (list_at g.board.lists h) rule.discipline;
     })
 placed g rule o x h t p (Before y) sp d es e =
     let b = before_spot (seat_at g.rows rule (number_of y)) sp es in
     let k = placed_before_y g rule o x h t b.0 (number_of y) p d b.1
     (ap (place_by g.rows g.numbers g.board.lists rule h x) b.2 ∙ e) in
-    record { named = spotted g rule (Before y) sp d.store es; there = k.0; after_filing = k.1; before = k.2 }
+    record { named = spotted g rule (Before y) sp d.store es; there = k.0; list_is = k.1; before = k.2 }
 placed g rule o x h t p (After y) sp d es e =
     let b = after_spot (seat_at g.rows rule (number_of y)) sp es in
     let k = placed_after_y g rule o x h t b.0 (number_of y) p d b.1
     (ap (place_by g.rows g.numbers g.board.lists rule h x) b.2 ∙ e) in
-    record { named = spotted g rule (After y) sp d.store es; there = k.0; after_filing = k.1; before = k.2 }
+    record { named = spotted g rule (After y) sp d.store es; there = k.0; list_is = k.1; before = k.2 }
 
 -- the member named is in another list, or in none
 pub unplaced : (g : StoreParts) (rule : SetShape) (o x h t : ℕ) (e : RunFault) (how : How) (sp : Spot)

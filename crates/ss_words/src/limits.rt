@@ -35,5 +35,6 @@ pub const MOST_PARENTHESES: u32 = 50;
 
 // Limits of a run.
 
-/// A run gives at most so many references, and so has at most so many event notices; a further one is F20.
+/// A run gives at most so many references, and so has at most so many event notices; a further one is
+/// F20.
 pub const MOST_REFERENCES: usize = 1_000_000;

@@ -1,29 +1,62 @@
-use Rattle.std.proofs.Common.{◌≡◌, ℕ, ◌<◌, ℤ, pos, ◌++◌, Bool, ltb, List, [], ◌∷◌, length, map, get_or}
-use Rattle.std.proofs.Common.{Option, unwrap_or, w64, SFits, to_z, of_z, sym, ap, ◌∙◌, arith, rules}
+use Rattle.std.proofs.Common.{◌≡◌, ℕ, ◌<◌, ℤ, Bool, true, false, cond, eqb, ltb, List, length, map, get_or}
+use Rattle.std.proofs.Common.{Option, unwrap_or, w64, SFits, to_z, of_z, refl, sym, ap, ◌∙◌, arith, rules}
 use Rattle.std.specs.Prelude.{int_lt}
+use Rattle.std.specs.Ordering.{is_lt, ordering_then, nat_cmp, int_cmp}
+use Rattle.std.specs.declared.cmp.Ordering.{Ordering}
+use Rattle.std.specs.declared.cmp.Ordering.TheVariants.{Less, Equal, Greater}
 use Rattle.std.proofs.lemmas.Bool.Decides.{nat_tests}
+use Rattle.std.proofs.lemmas.Cmp.{tied_itself, nat_cmp_total, int_cmp_total}
 use Rattle.std.proofs.lemmas.Int.{ints, to_z-of_z}
 use Rattle.std.proofs.lemmas.List.{length-map, get_or-map}
 use Rattle.ss_program.specs.declared.keys.Key.{Key}
-use Rattle.ss_events.specs.declared.pending_notice.ClassRule.{ClassRule}
+use Rattle.ss_program.specs.Keys.{by_keys}
+use Rattle.ss_events.specs.declared.rule.ClassRule.{ClassRule}
 use Rattle.ss_events.specs.declared.pending_notice.PendingNotice.{PendingNotice}
+use Rattle.ss_events.specs.Agenda.{is_before}
 use Rattle.ss_events.specs.Rules.{Rule, rule_at}
-use Rattle.ss_events.specs.Rows.{rule_of, notice_of, IsEntry}
+use Rattle.ss_events.specs.Views.{rule_of, notice_of}
+use Rattle.ss_events.specs.Rows.{IsEntry}
 use Rattle.ss_events.specs.State.{AreRanked}
-use Rattle.ss_events.specs.Weights.{before, less, compared}
 use Rattle.ss_events.proofs.EventLaws.{event-below}
 use Rattle.ss_events.proofs.ranking.is_before.Goals as goal
 
--- the first numbers decide where they are different
-less-apart : (x y : ℤ) (xs ys : List ℤ) → (x ≡ y → ⊥) → int_lt x y ≡ less (x ∷ xs) (y ∷ ys)
-less-apart x y xs ys h = grind (arith, ints)
+-- two numbers decide where they are different, and what follows them where they are the same
+int-apart : (x y : ℤ) (o : Ordering) → (x ≡ y → ⊥) → int_lt x y ≡ is_lt (ordering_then (int_cmp x y) o)
+int-apart x y o n = elim (int_lt x y)
+    as (λ t. int_lt x y ≡ t → t ≡ is_lt (ordering_then (cond t Less (cond (int_lt y x) Greater Equal)) o)) [
+      | true ↦ λ t. refl
+      | false ↦ λ t. elim (int_lt y x)
+          as (λ u. int_lt y x ≡ u → false ≡ is_lt (ordering_then (cond u Greater Equal) o)) [
+            | true ↦ λ u. refl
+            | false ↦ λ u. absurd (n (grind (arith, ints, t, u)))
+          ] refl
+    ] refl
 
--- and those behind them where they are the same
-less-same : (x y : ℤ) (xs ys : List ℤ) → x ≡ y → less xs ys ≡ less (x ∷ xs) (y ∷ ys)
-less-same x y xs ys e = grind (arith, ints)
+nat-apart : (p q : ℕ) (o : Ordering) → (p ≡ q → ⊥) → ltb p q ≡ is_lt (ordering_then (nat_cmp p q) o)
+nat-apart p q o n = elim (ltb p q)
+    as (λ t. t ≡ is_lt (ordering_then (cond t Less (cond (eqb p q) Equal Greater)) o)) [
+      | true ↦ refl
+      | false ↦ elim (eqb p q)
+          as (λ u. eqb p q ≡ u → false ≡ is_lt (ordering_then (cond u Equal Greater) o)) [
+            | true ↦ λ u. absurd (n (grind (arith, nat_tests, u)))
+            | false ↦ λ u. refl
+          ] refl
+    ]
 
-less-single : (x y : ℕ) → ltb x y ≡ less (pos x ∷ []) (pos y ∷ [])
-less-single x y = grind (arith, nat_tests)
+nat-last : (p q : ℕ) → ltb p q ≡ is_lt (nat_cmp p q)
+nat-last p q = elim (ltb p q) as (λ t. t ≡ is_lt (cond t Less (cond (eqb p q) Equal Greater))) [
+  | true ↦ refl
+  | false ↦ elim (eqb p q) as (λ u. false ≡ is_lt (cond u Equal Greater)) [
+    | true ↦ refl
+    | false ↦ refl
+  ]
+]
+
+int-same : (x y : ℤ) (o : Ordering) → x ≡ y → is_lt o ≡ is_lt (ordering_then (int_cmp x y) o)
+int-same x y o e = ap (λ r. is_lt (ordering_then r o)) (sym (ap (λ z. int_cmp z y) e ∙ tied_itself int_cmp_total y))
+
+nat-same : (p q : ℕ) (o : Ordering) → p ≡ q → is_lt o ≡ is_lt (ordering_then (nat_cmp p q) o)
+nat-same p q o e = ap (λ r. is_lt (ordering_then r o)) (sym (ap (λ z. nat_cmp z q) e ∙ tied_itself nat_cmp_total q))
 
 class-below : (rules : List ClassRule) (x : PendingNotice) → IsEntry (map rule_of rules) x → x.class < length rules
 class-below rules x h = omega (arith, event-below (map rule_of rules) x.class h.0, length-map rules rule_of)
@@ -32,57 +65,49 @@ rule-at : (rules : List ClassRule) (p : ClassRule) (x : PendingNotice) → IsEnt
     rule_of (get_or rules x.class p) ≡ rule_at (map rule_of rules) x.class
 rule-at rules p x h = sym (get_or-map rule_of rules x.class p _ (class-below rules x h))
 
-by-time : (rules : List Rule) (a b : PendingNotice) → (a.time ≡ b.time → ⊥) →
-    int_lt a.time b.time ≡ before rules (notice_of 0 a) (notice_of 0 b)
-by-time rules a b h = less-apart a.time b.time
-    (pos (rule_at rules a.class).priority
-    ∷ (compared (rule_at rules a.class).ties a.keys.items ++ pos a.filing ∷ []))
-    (pos (rule_at rules b.class).priority
-    ∷ (compared (rule_at rules b.class).ties b.keys.items ++ pos b.filing ∷ [])) h
+-- what decides behind the times, and behind the classes
+abbrev by_keys_then : List Rule → PendingNotice → PendingNotice → Ordering
+by_keys_then rules a b =
+    ordering_then (by_keys (rule_at rules a.class).ties a.keys.items b.keys.items) (nat_cmp a.filing b.filing)
+
+abbrev by_class_then : List Rule → PendingNotice → PendingNotice → Ordering
+by_class_then rules a b =
+    ordering_then (nat_cmp (rule_at rules a.class).priority (rule_at rules b.class).priority) (by_keys_then rules a b)
 
 by-class : (rules : List ClassRule) (a b : PendingNotice) (p q : ClassRule) → IsEntry (map rule_of rules) a →
     IsEntry (map rule_of rules) b → AreRanked (map rule_of rules) → a.time ≡ b.time → (a.class ≡ b.class → ⊥) →
     ltb (get_or rules a.class p).priority (get_or rules b.class q).priority
-    ≡ before (map rule_of rules) (notice_of 0 a) (notice_of 0 b)
+    ≡ is_before (map rule_of rules) (notice_of 0 a) (notice_of 0 b)
 by-class rules a b p q h k ranked same apart =
     let rs = map rule_of rules in
     let m : ℕ = (rule_at rs a.class).priority in
     let n : ℕ = (rule_at rs b.class).priority in
     let e : (get_or rules a.class p).priority ≡ m = ap (λ (r : Rule). r.priority) (rule-at rules p a h) in
     let f : (get_or rules b.class q).priority ≡ n = ap (λ (r : Rule). r.priority) (rule-at rules q b k) in
-    let xs = compared (rule_at rs a.class).ties a.keys.items ++ pos a.filing ∷ [] in
-    let ys = compared (rule_at rs b.class).ties b.keys.items ++ pos b.filing ∷ [] in
-    let different : pos m ≡ pos n → ⊥ = λ i. let j : m ≡ n = cc in
-    apart (ranked a.class b.class (event-below rs a.class h.0) (event-below rs b.class k.0) j) in
+    let different : m ≡ n → ⊥ = λ i.
+    apart (ranked a.class b.class (event-below rs a.class h.0) (event-below rs b.class k.0) i) in
     ap (λ (i : ℕ). ltb i (get_or rules b.class q).priority) e
     ∙ (ap (λ (i : ℕ). ltb m i) f
-    ∙ (less-apart (pos m) (pos n) xs ys different ∙ less-same a.time b.time (pos m ∷ xs) (pos n ∷ ys) same))
+    ∙ (nat-apart m n (by_keys_then rs a b) different ∙ int-same a.time b.time (by_class_then rs a b) same))
 
-by-keys : (rules : List ClassRule) (a b : PendingNotice) (p : ClassRule) (ties : List Key) (x y : List ℤ) (r : Option Bool) →
+by-keys : (rules : List ClassRule) (a b : PendingNotice) (p : ClassRule) (ties : List Key) (x y : List ℤ)
+    (r : Option Bool) →
     IsEntry (map rule_of rules) a → a.time ≡ b.time → a.class ≡ b.class → ties ≡ (get_or rules a.class p).ties.items →
     x ≡ a.keys.items → y ≡ b.keys.items →
-    ((u v : List ℤ) → less (compared ties x ++ u) (compared ties y ++ v) ≡ unwrap_or r (less u v)) →
-    unwrap_or r (ltb a.filing b.filing) ≡ before (map rule_of rules) (notice_of 0 a) (notice_of 0 b)
+    ((o : Ordering) → is_lt (ordering_then (by_keys ties x y) o) ≡ unwrap_or r (is_lt o)) →
+    unwrap_or r (ltb a.filing b.filing) ≡ is_before (map rule_of rules) (notice_of 0 a) (notice_of 0 b)
 by-keys rules a b p ties x y r h same class t k l decided =
     let rs = map rule_of rules in
     let own : ties ≡ (rule_at rs a.class).ties = t ∙ ap (λ (q : Rule). q.ties) (rule-at rules p a h) in
-    let other : ties ≡ (rule_at rs b.class).ties = own ∙ ap (λ (c : ℕ). (rule_at rs c).ties) class in
-    let m : ℤ = pos (rule_at rs a.class).priority in
-    let n : ℤ = pos (rule_at rs b.class).priority in
-    let even : m ≡ n = ap (λ (c : ℕ). pos (rule_at rs c).priority) class in
-    let u : List ℤ = pos a.filing ∷ [] in
-    let v : List ℤ = pos b.filing ∷ [] in
-    let xs : List ℤ = compared (rule_at rs a.class).ties a.keys.items ++ u in
-    let ys : List ℤ = compared (rule_at rs b.class).ties b.keys.items ++ v in
-    let e : compared ties x ++ u ≡ xs = ap (λ (z : List ℤ). compared ties z ++ u) k
-    ∙ ap (λ (ts : List Key). compared ts a.keys.items ++ u) own in
-    let f : compared ties y ++ v ≡ ys = ap (λ (z : List ℤ). compared ties z ++ v) l
-    ∙ ap (λ (ts : List Key). compared ts b.keys.items ++ v) other in
-    ap (λ (z : Bool). unwrap_or r z) (less-single a.filing b.filing)
-    ∙ (sym (decided u v)
-    ∙ (ap (λ (z : List ℤ). less z (compared ties y ++ v)) e
-    ∙ (ap (λ (z : List ℤ). less xs z) f
-    ∙ (less-same m n xs ys even ∙ less-same a.time b.time (m ∷ xs) (n ∷ ys) same))))
+    let even : (rule_at rs a.class).priority ≡ (rule_at rs b.class).priority = ap (λ (c : ℕ). (rule_at rs c).priority)
+    class in
+    let last : Ordering = nat_cmp a.filing b.filing in
+    let keys : by_keys ties x y ≡ by_keys (rule_at rs a.class).ties a.keys.items b.keys.items = rw (own, k, l) refl in
+    ap (λ (z : Bool). unwrap_or r z) (nat-last a.filing b.filing)
+    ∙ (sym (decided last)
+    ∙ (ap (λ (o : Ordering). is_lt (ordering_then o last)) keys
+    ∙ (nat-same (rule_at rs a.class).priority (rule_at rs b.class).priority (by_keys_then rs a b) even
+    ∙ int-same a.time b.time (by_class_then rs a b) same)))
 
 same-time : (x y : ℤ) → SFits w64 x → SFits w64 y → of_z w64 x ≡ of_z w64 y → x ≡ y
 same-time x y f g e = sym (to_z-of_z w64 x f) ∙ (ap (to_z w64) e ∙ to_z-of_z w64 y g)
@@ -95,7 +120,8 @@ returns-then-a-b c =
     let y : to_z w64 (of_z w64 c.args.b.now.time) ≡ c.args.b.now.time = to_z-of_z w64 _ b in
     ap (λ (z : ℤ). int_lt z (to_z w64 (of_z w64 c.args.b.now.time))) x
     ∙ (ap (λ (z : ℤ). int_lt c.args.a.now.time z) y
-    ∙ by-time (map rule_of c.args.rules.now) c.args.a.now c.args.b.now (λ e. c.if-a-b.true (ap (of_z w64) e)))
+    ∙ int-apart c.args.a.now.time c.args.b.now.time (by_class_then (map rule_of c.args.rules.now) c.args.a.now
+    c.args.b.now) (λ e. c.if-a-b.true (ap (of_z w64) e)))
 
 pub bounds-rules-a : goal.bounds-rules-a
 bounds-rules-a c = class-below c.args.rules.now c.args.a.now c.requires.a

@@ -1,7 +1,7 @@
-use Rattle.std.proofs.Common.{◌≡◌, ℤ, List, ◌++◌, drop}
-use Rattle.ss_events.specs.Weights.{less, compared}
+use Rattle.std.proofs.Common.{◌≡◌, drop}
+use Rattle.ss_program.specs.Keys.{by_keys}
 use Rattle.ss_events.proofs.ranking.keys_decide.Given as goal
 
+-- the keys that are left tell them apart as all do
 abbrev pub invariant-loop-i : goal.invariant-loop-i
-invariant-loop-i l = (u v : List ℤ) → less (compared l.ties l.a ++ u) (compared l.ties l.b ++ v) ≡ less (compared
-    (drop l.i l.ties) (drop l.i l.a) ++ u) (compared (drop l.i l.ties) (drop l.i l.b) ++ v)
+invariant-loop-i l = by_keys l.ties l.a l.b ≡ by_keys (drop l.i l.ties) (drop l.i l.a) (drop l.i l.b)

@@ -1,6 +1,6 @@
 use Rattle.std.proofs.Common.{ℕ, ◌+◌, ◌<◌, ◌∙◌, ap, arith, sym, map, length}
-use Rattle.ss_events.specs.declared.pending_notice.ClassRule.{ClassRule}
-use Rattle.ss_events.specs.Rows.{rule_of}
+use Rattle.ss_events.specs.declared.rule.ClassRule.{ClassRule}
+use Rattle.ss_events.specs.Views.{rule_of}
 use Rattle.ss_events.proofs.EventLaws.{number-few, number-none, number-event, number-other}
 use Rattle.ss_events.proofs.rule.event_number.Goals.{then-rules-other, else-rules-other}
 use Rattle.ss_events.proofs.rule.event_number.Goals as goal

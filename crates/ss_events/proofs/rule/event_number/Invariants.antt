@@ -1,6 +1,6 @@
 use Rattle.std.proofs.Common.{◌≡◌, map}
 use Rattle.ss_events.specs.Rules.{event_number}
-use Rattle.ss_events.specs.Rows.{rule_of}
+use Rattle.ss_events.specs.Views.{rule_of}
 use Rattle.ss_events.proofs.rule.event_number.Given as goal
 
 abbrev pub invariant-loop-other : goal.invariant-loop-other

@@ -1,7 +1,7 @@
 use Rattle.std.proofs.Common.{ap, ◌∙◌, map}
 use Rattle.ss_events.specs.State.{AgendaState}
-use Rattle.ss_events.specs.Rows.{rule_of}
-use Rattle.ss_events.proofs.Standing.{kept, entry-pending}
+use Rattle.ss_events.specs.Views.{rule_of}
+use Rattle.ss_events.proofs.Stands.{kept, entry-pending}
 use Rattle.ss_events.proofs.agenda.Agenda.earlier.Goals as goal
 
 pub is_before-requires-clause-a : goal.is_before-requires-clause-a

@@ -3,7 +3,7 @@ use Rattle.std.specs.Option.{IsSome}
 use Rattle.ss_events.specs.Agenda.{pending_at}
 use Rattle.ss_events.specs.State.{AgendaState}
 use Rattle.ss_events.proofs.RowLaws.{pending_of_row}
-use Rattle.ss_events.proofs.Standing.{kept, notice_on-above, on-index, is-some-map}
+use Rattle.ss_events.proofs.Stands.{kept, notice_on-above, on-index, is-some-map}
 use Rattle.ss_events.proofs.agenda.Agenda.entry_on.Goals as goal
 
 pub entry_of-requires : goal.entry_of-requires

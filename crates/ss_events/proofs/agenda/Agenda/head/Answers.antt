@@ -2,9 +2,9 @@ use Rattle.std.proofs.Common.{ap, ◌∙◌, arith, map, length, List}
 use Rattle.std.proofs.lemmas.List.{length-map}
 use Rattle.ss_events.specs.Rules.{Rule, event_number}
 use Rattle.ss_events.specs.State.{AgendaState}
-use Rattle.ss_events.specs.Rows.{rule_of}
+use Rattle.ss_events.specs.Views.{rule_of}
 use Rattle.ss_events.proofs.EventLaws.{event-below, event-at}
-use Rattle.ss_events.proofs.Standing.{kept}
+use Rattle.ss_events.proofs.Stands.{kept}
 use Rattle.ss_events.proofs.agenda.Agenda.head.Goals as goal
 
 pub event_number-requires-clause-class : goal.event_number-requires-clause-class

@@ -1,8 +1,8 @@
 use Rattle.std.proofs.Common.{sym, ap, ◌∙◌, arith, subst, map}
 use Rattle.ss_events.specs.State.{AgendaState}
-use Rattle.ss_events.specs.Rows.{notice_of, rule_of}
+use Rattle.ss_events.specs.Views.{notice_of, rule_of}
 use Rattle.ss_events.proofs.EventLaws.{event-at}
-use Rattle.ss_events.proofs.Standing.{kept, entry-pending, length-lists}
+use Rattle.ss_events.proofs.Stands.{kept, entry-pending, length-lists}
 use Rattle.ss_events.proofs.FirstLaws.{StandsFirst, stands-first, first-of_none, first-of_some}
 use Rattle.ss_events.proofs.agenda.Agenda.is_first.Goals as goal
 

@@ -1,4 +1,4 @@
-use Rattle.ss_events.proofs.Standing.{kept}
+use Rattle.ss_events.proofs.Stands.{kept}
 use Rattle.ss_events.proofs.WellLaws.{well-kept}
 use Rattle.ss_events.proofs.agenda.Agenda.known.Goals as goal
 

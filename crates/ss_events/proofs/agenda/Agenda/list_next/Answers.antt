@@ -1,6 +1,6 @@
 use Rattle.std.proofs.Common.{◌∙◌, sym, arith, refl}
 use Rattle.ss_events.proofs.EventLaws.{event-below}
-use Rattle.ss_events.proofs.Standing.{kept, entry-pending}
+use Rattle.ss_events.proofs.Stands.{kept, entry-pending}
 use Rattle.ss_events.proofs.Listings.{few-listed, listing-on}
 use Rattle.ss_events.proofs.agenda.Agenda.list_next.Goals as goal
 

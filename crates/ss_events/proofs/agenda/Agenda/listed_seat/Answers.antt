@@ -1,8 +1,8 @@
 use Rattle.std.proofs.Common.{◌≡◌, ◌<◌, ap, arith, length, refl}
 use Rattle.std.proofs.lemmas.List.{length-map}
 use Rattle.ss_events.specs.State.{AgendaState}
-use Rattle.ss_events.specs.Rows.{rule_of}
-use Rattle.ss_events.proofs.Standing.{kept}
+use Rattle.ss_events.specs.Views.{rule_of}
+use Rattle.ss_events.proofs.Stands.{kept}
 use Rattle.ss_events.proofs.Listings.{first-none, first-of_class, first-more, first-all}
 use Rattle.ss_events.proofs.agenda.Agenda.listed_seat.Goals as goal
 

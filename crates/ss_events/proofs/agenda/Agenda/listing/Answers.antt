@@ -1,8 +1,9 @@
 use Rattle.std.proofs.Common.{◌≡◌, ℕ, ◌+◌, ◌<◌, ◌∙◌, ap, arith, length, refl, sym}
 use Rattle.std.proofs.Math.ListN.{length-set}
 use Rattle.std.proofs.lemmas.List.{length-map}
+use Rattle.ss_words.specs.declared.limits.TheConstants.{MOST_CLASSES}
 use Rattle.ss_events.specs.State.{AgendaState}
-use Rattle.ss_events.specs.Rows.{rule_of}
+use Rattle.ss_events.specs.Views.{rule_of}
 use Rattle.ss_events.proofs.EventLaws.{number-none, number-few, number-event, number-other, event-kept, event-at}
 use Rattle.ss_events.proofs.EventLaws.{list_at-by}
 use Rattle.ss_links.specs.Board.{Board, list_at}
@@ -10,12 +11,13 @@ use Rattle.ss_links.specs.Seats.{first_of}
 use Rattle.ss_events.specs.State.{board_of}
 use Rattle.ss_events.proofs.agenda.Agenda.listing.Goals.{then-index, else-index}
 use Rattle.ss_events.proofs.BoardOf.{class_seats}
-use Rattle.ss_events.proofs.Standing.{kept, length-lists}
+use Rattle.ss_events.proofs.Stands.{kept, length-lists}
 use Rattle.ss_events.proofs.Listings.{seats-more, seats-behind, seats-same, none-at, listing-begins, least-at}
 use Rattle.ss_events.proofs.agenda.Agenda.listing.Goals as goal
 
 pub loop-class-init : goal.loop-class-init
-loop-class-init g c = (refl, sym (number-none c.args.self.now.rules), λ d l. absurd (omega arith), λ d l. none-at 64 d)
+loop-class-init g c =
+    (refl, sym (number-none c.args.self.now.rules), λ d l. absurd (omega arith), λ d l. none-at MOST_CLASSES d)
 
 pub first-requires : goal.first-requires
 first-requires g c =

@@ -1,7 +1,7 @@
 use Rattle.std.proofs.Common.{ℕ, Option, arith, sym, ◌∙◌, ap}
 use Rattle.ss_links.specs.declared.board.Place.{Place}
-use Rattle.ss_events.proofs.Standing.{kept}
-use Rattle.ss_events.proofs.Keeping.{row-is}
+use Rattle.ss_events.proofs.Stands.{kept}
+use Rattle.ss_events.proofs.PutAndTakeOut.{row-is}
 use Rattle.ss_events.specs.declared.pending_notice.Row.{Row}
 use Rattle.ss_events.specs.Rules.{event_number}
 use Rattle.ss_events.proofs.Predecessors.{predecessor-row, predecessor-none}

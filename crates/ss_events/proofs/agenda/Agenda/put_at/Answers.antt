@@ -2,9 +2,9 @@ use Rattle.std.proofs.Common.{◌≡◌, sym, subst, Some, refl}
 use Rattle.ss_events.specs.Agenda.{with_notice}
 use Rattle.ss_events.specs.State.{AgendaState}
 use Rattle.ss_events.specs.Places.{rank_place}
-use Rattle.ss_events.specs.Rows.{notice_of}
+use Rattle.ss_events.specs.Views.{notice_of}
 use Rattle.ss_events.specs.Changes.{CanPend}
-use Rattle.ss_events.proofs.Keeping.{put_in-relink, put_in-closed, put_in-read, view-with}
+use Rattle.ss_events.proofs.PutAndTakeOut.{put_in-relink, put_in-closed, put_in-read, view-with}
 use Rattle.ss_events.proofs.agenda.Agenda.put_at.Goals as goal
 
 pub relink-requires : goal.relink-requires
@@ -33,5 +33,5 @@ returns g c =
     view-with _ _ _ (with_notice (notice_of c.args.notice c.args.entry)) c.self.view_is (put_in-read _ _ _ _
     c.args.entry (record {
       seat = c.index_mut-row.result.now.seat;
-      entry = Some c.args.entry;
+      pending = Some c.args.entry;
     }) c.self.invariant p refl)

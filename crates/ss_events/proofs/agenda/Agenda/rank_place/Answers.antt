@@ -5,8 +5,8 @@ use Rattle.ss_events.specs.Agenda.{Pending}
 use Rattle.std.proofs.Common.{List}
 use Rattle.ss_events.specs.State.{seats_of, AgendaState}
 use Rattle.ss_events.specs.Rules.{event_number}
-use Rattle.ss_events.specs.Rows.{notice_of, rule_of}
-use Rattle.ss_events.proofs.Standing.{kept, told, sound_board, entry-pending, length-lists}
+use Rattle.ss_events.specs.Views.{notice_of, rule_of}
+use Rattle.ss_events.proofs.Stands.{kept, told, sound_board, entry-pending, length-lists}
 use Rattle.ss_events.proofs.Walk.{IsWalk, walk-begins, walk-taken, walk-on, walk-less, walk-ends, walk-ends_first}
 use Rattle.ss_events.proofs.agenda.Agenda.rank_place.Goals as goal
 
@@ -67,7 +67,7 @@ returns-then-not-is_before g c =
     let last = sym (rw rules at (sym c.if-not-is_before.true ∙ c.is_before.ensures)) in
     rw c.head-head.ensures.value (ap (place_at (event_number c.args.self.now.rules c.args.entry.now.class)) (sym
     (walk-ends _ _ c.in-Some.seat c.entry_on.result.now walk (told _ _ _ k)
-    (sound_board _ _ _ k) c.requires.0 c.entry_on.ensures last)))
+    (sound_board _ _ _ k) c.requires c.entry_on.ensures last)))
 
 pub returns-in_default : goal.returns-in_default
 returns-in_default g c =
@@ -76,7 +76,7 @@ returns-in_default g c =
     in
     rw c.head-head.ensures.value (ap (place_at (event_number c.args.self.now.rules c.args.entry.now.class))
     (c.in_default.is
-    ∙ sym (walk-ends_first _ _ walk (told _ _ _ k))))
+    ∙ sym (walk-ends_first _ _ walk (told _ _ _ k) c.requires)))
 
 pub returns-then-is_first : goal.returns-then-is_first
 returns-then-is_first g c =

@@ -1,7 +1,7 @@
 use Rattle.ss_links.specs.Board.{list_at}
 use Rattle.ss_events.specs.State.{board_of}
 use Rattle.ss_events.specs.Rules.{event_number}
-use Rattle.ss_events.specs.Rows.{notice_of}
+use Rattle.ss_events.specs.Views.{notice_of}
 use Rattle.ss_events.proofs.Walk.{IsWalk, seats_left}
 use Rattle.ss_events.proofs.agenda.Agenda.rank_place.Given as goal
 

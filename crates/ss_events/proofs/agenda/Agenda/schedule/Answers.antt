@@ -1,9 +1,10 @@
 use Rattle.std.proofs.Common.{true, ◌≤◌, ◌≡◌, ap, ◌∙◌, w64, to_z, of_z, length, ℕ, ℤ, List, subst}
-use Rattle.ss_events.specs.Agenda.{in_range, filing_limit}
+use Rattle.ss_words.specs.Ranges.{in_range}
+use Rattle.ss_events.specs.declared.limits.TheConstants.{MOST_SCHEDULINGS}
 use Rattle.ss_events.specs.State.{AgendaState}
 use Rattle.std.proofs.lemmas.Int.{to_z-of_z}
-use Rattle.ss_events.proofs.Standing.{kept}
-use Rattle.ss_events.proofs.Going.{stepped-can, stepped-went, no-slot, fits-range}
+use Rattle.ss_events.proofs.Stands.{kept}
+use Rattle.ss_events.proofs.Schedule.{stepped-can, stepped-went, no-slot, fits-range}
 use Rattle.ss_events.proofs.agenda.Agenda.schedule.Goals as goal
 
 pub put_in-requires : goal.put_in-requires
@@ -39,8 +40,8 @@ returns g c =
     let range : in_range (to_z w64 (of_z w64 c.args.time)) ≡ true =
     ap in_range time ∙ fits-range c.args.time c.ranges.time in
     let free = ap (λ (s : AgendaState). s.agenda.next_filing) c.self.view_is in
-    let small : c.args.self.now.agenda.next_filing ≤ filing_limit =
-    subst (λ (n : ℕ). n ≤ filing_limit) free c.if-self-gt-FILING_LIMIT.false in
+    let small : c.args.self.now.agenda.next_filing ≤ MOST_SCHEDULINGS =
+    subst (λ (n : ℕ). n ≤ MOST_SCHEDULINGS) free c.if-self-gt-MOST_SCHEDULINGS.false in
     let clock : to_z w64 (of_z w64 c.args.clock) ≡ c.args.clock = to_z-of_z w64 c.args.clock c.ranges.clock in
     let late = rw (time, clock) at c.if-time-clock.false in
     stepped-went _ c.args.self.now c.give_seat.new.self c.file-filing.new.self c.put_in.new.self _ c.args.notice

@@ -1,12 +1,12 @@
 use Rattle.std.proofs.Common.{sym, ap, ◌∙◌, arith, subst, refl}
 use Rattle.std.specs.Option.{IsSome, option_map}
-use Rattle.ss_events.specs.Rows.{notice_of}
+use Rattle.ss_events.specs.Views.{notice_of}
 use Rattle.ss_events.specs.Agenda.{without_notice}
 use Rattle.ss_events.specs.Agenda.{pending_at}
 use Rattle.ss_events.specs.State.{AgendaState}
-use Rattle.ss_events.proofs.Standing.{is-some-map}
-use Rattle.ss_events.proofs.Keeping.{pending-row, read-seat, taken-linked, taken-entry, take_out-closed}
-use Rattle.ss_events.proofs.Keeping.{take_out-read, view-with, seat-read}
+use Rattle.ss_events.proofs.Stands.{is-some-map}
+use Rattle.ss_events.proofs.PutAndTakeOut.{pending-row, read-seat, taken-linked, taken-entry, take_out-closed}
+use Rattle.ss_events.proofs.PutAndTakeOut.{take_out-read, view-with, seat-read}
 use Rattle.ss_events.proofs.Predecessors.{predecessor-taken, predecessor-read}
 use Rattle.ss_events.proofs.agenda.Agenda.take_out.Goals as goal
 
@@ -72,7 +72,7 @@ returns-clause-state g c =
     view-with _ _ _ (without_notice c.args.notice) c.self.view_is (take_out-read _ _ _ _ (record {
       seat =
           c.index_mut.result.now.seat;
-      entry = c.take.new.self;
+      pending = c.take.new.self;
     }) c.self.invariant (pending-row _ _ _ _
     c.self.invariant p).seat c.take.ensures.after)
 
@@ -97,7 +97,7 @@ returns-clause-predecessor g c =
     let seat = seat-read _ _ _ _ _ _ c.self.invariant r.seat c.index.ensures c.unwrap-seat.ensures in
     let read = take_out-read _ _ _ _ (record {
       seat = c.index_mut.result.now.seat;
-      entry = c.take.new.self;
+      pending = c.take.new.self;
     }) c.self.invariant r.seat c.take.ensures.after in
     let told = rw c.deref.ensures.value at c.notice_if-predecessor.ensures in
     told ∙ predecessor-read _ _ c.unwrap-entry.result _ _ (predecessor-taken _ _ _ c.args.notice

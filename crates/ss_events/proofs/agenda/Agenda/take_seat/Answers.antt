@@ -1,7 +1,7 @@
 use Rattle.std.proofs.Common.{◌≡◌, sym, ap, ◌∙◌, arith, subst, ℕ, ◌-◌, length, take}
 use Rattle.ss_events.specs.State.{AgendaState, NoneNoted}
 use Rattle.ss_events.specs.Changes.{IsLastSeat}
-use Rattle.ss_events.proofs.Seating.{unseated-free, last-row, unseat-closed, unseat-view}
+use Rattle.ss_events.proofs.GiveSeat.{unseated-free, last-row, unseat-closed, unseat-view}
 use Rattle.ss_events.proofs.agenda.Agenda.take_seat.Goals as goal
 
 pub take_last_seat-requires-clause-free : goal.take_last_seat-requires-clause-free

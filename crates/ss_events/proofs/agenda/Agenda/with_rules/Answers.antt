@@ -2,10 +2,10 @@ use Rattle.std.proofs.Common.{◌≡◌, ap, ◌∙◌, arith, length, map, ◌<
 use Rattle.std.proofs.lemmas.List.{length-map}
 use Rattle.ss_links.specs.Board.{with_head}
 use Rattle.ss_events.specs.Rules.{event_number}
-use Rattle.ss_events.specs.Rows.{rule_of}
+use Rattle.ss_events.specs.Views.{rule_of}
 use Rattle.ss_events.proofs.EventLaws.{number-few, number-event, number-other, number-all}
 use Rattle.ss_events.proofs.agenda.Agenda.with_rules.Goals.{then-index+in_ok-try_add_head, else-index}
-use Rattle.ss_events.proofs.Begins.{empty_heads, heads-more, heads-fit, begins-on}
+use Rattle.ss_events.proofs.WithRules.{empty_heads, heads-more, heads-fit, begins-on}
 use Rattle.ss_events.proofs.agenda.Agenda.with_rules.Goals as goal
 
 pub try_add_head-requires : goal.try_add_head-requires

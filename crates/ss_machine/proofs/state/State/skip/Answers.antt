@@ -6,7 +6,7 @@ use Rattle.std.proofs.lemmas.List.{length-replicate}
 use Rattle.ss_words.specs.declared.fault.RunFault.TheVariants.{ReportFull}
 use Rattle.ss_words.specs.declared.fault.StepFault.{StepFault}
 use Rattle.ss_words.specs.declared.fault.StepFault.TheVariants.{Fault}
-use Rattle.ss_report.specs.Reports.{report_limit}
+use Rattle.ss_report.specs.declared.limits.TheConstants.{LONGEST_REPORT}
 use Rattle.ss_machine.specs.Held.{Held}
 use Rattle.ss_machine.specs.Step.{longer_report}
 use Rattle.ss_machine.proofs.state.State.skip.Goals as goal
@@ -17,15 +17,15 @@ feeds n = replicate n 10
 
 -- those that were appended had room
 appended : (old new : List ℕ) (n : ℕ) (r : Result (Unit {0}) StepFault) (x : Unit {0}) → r ≡ Ok x →
-    (report_limit < length old + n → r ≡ Err (Fault ReportFull)) → new ≡ old ++ feeds n →
+    (LONGEST_REPORT < length old + n → r ≡ Err (Fault ReportFull)) → new ≡ old ++ feeds n →
     longer_report old (feeds n) ≡ Ok new
-appended old new n r x ok full e = by (nat_le (length old + length (feeds n)) report_limit) refl
+appended old new n r x ok full e = by (nat_le (length old + length (feeds n)) LONGEST_REPORT) refl
   where
-    by : (b : Bool) → nat_le (length old + length (feeds n)) report_limit ≡ b →
+    by : (b : Bool) → nat_le (length old + length (feeds n)) LONGEST_REPORT ≡ b →
         (if b then Ok (old ++ feeds n) else Err ReportFull) ≡ Ok new
     by true h = ap Ok (sym e)
     by false h =
-        let many : report_limit < length old + n = grind (arith, nat_tests, h, length-replicate {A = ℕ} n 10) in
+        let many : LONGEST_REPORT < length old + n = grind (arith, nat_tests, h, length-replicate {A = ℕ} n 10) in
         let none : r ≡ Err (Fault ReportFull) = full many in
         absurd (cc)
 

@@ -16,11 +16,12 @@ use Rattle.ss_events.specs.declared.pending_notice.Row.{Row}
 use Rattle.ss_events.specs.Rules.{is_event_class, event_classes, event_number}
 use Rattle.ss_events.proofs.EventLaws.{list_at-by, length-lists_by}
 use Rattle.ss_events.specs.declared.pending_notice.PendingNotice.{PendingNotice}
-use Rattle.ss_events.specs.Rows.{IsAgenda, IsEntry, notice_of}
+use Rattle.ss_events.specs.Views.{notice_of}
+use Rattle.ss_events.specs.Rows.{IsAgenda, IsEntry}
 use Rattle.ss_events.proofs.RowLaws.{AreNoted-from, pending_at-each}
 use Rattle.ss_events.proofs.OrderLaws.{AreNoted, Each-of_class, Each-map}
 use Rattle.ss_events.proofs.StateLaws.{seat_in-below, seat_in-notice}
-use Rattle.ss_events.proofs.Agreement.{IsKeyed}
+use Rattle.ss_events.proofs.BeforeLaws.{IsKeyed}
 use Rattle.ss_events.proofs.BoardOf.{IsTold, class_seats, Each-order, linked-seat}
 
 -- each notice is the one with its number
@@ -119,8 +120,8 @@ told rows s b k = record {
   seated = Each-map (IsPending s.rules s.notices s.agenda.next_filing) (λ e. has s.notices e.notice ≡ true) (λ e p.
       p.seat) s.agenda.pending k.pending;
   keyed = Each-map (IsPending s.rules s.notices s.agenda.next_filing) (IsKeyed s.rules) (λ e p. (
-    p.class,
-    p.keys,
+    p.well.class,
+    p.well.keys,
   )) s.agenda.pending k.pending;
   ranked = k.ranked;
 }
@@ -147,7 +148,7 @@ notice_on-above rows s b x k h = (k.seated (notice_on s x) (has-get_or s.notices
 pub entry-pending : (rows : List Row) (s : AgendaState) (b : Board) (n : ℕ) (y : PendingNotice) → IsAgenda rows s b →
     pending_at s.agenda.pending n ≡ Some (notice_of n y) → IsEntry s.rules y
 entry-pending rows s b n y k h = let p = (pending_at-each (IsPending s.rules s.notices s.agenda.next_filing)
-    s.agenda.pending n (notice_of n y) k.pending h).0 in (p.class, p.keys)
+    s.agenda.pending n (notice_of n y) k.pending h).0 in (p.well.class, p.well.keys)
 
 pub length-lists : (rows : List Row) (s : AgendaState) (b : Board) → IsAgenda rows s b →
     length b.lists ≡ length (event_classes s.rules)

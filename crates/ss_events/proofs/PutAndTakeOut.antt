@@ -10,20 +10,20 @@ use Rattle.ss_links.specs.Seats.{has, last_of}
 use Rattle.ss_links.specs.declared.board.Place.{Place}
 use Rattle.ss_events.specs.declared.pending_notice.PendingNotice.{PendingNotice}
 use Rattle.ss_events.specs.declared.pending_notice.Row.{Row}
-use Rattle.ss_events.specs.Agenda.{Pending, of_class, without_notice}
+use Rattle.ss_events.specs.Agenda.{Pending, is_before, of_class, without_notice}
 use Rattle.ss_events.specs.Rules.{is_event_class, event_number}
-use Rattle.ss_events.specs.Weights.{before}
 use Rattle.ss_events.specs.Agenda.{pending_at, with_notice}
 use Rattle.ss_events.specs.State.{AgendaState, seat_in, seats_of, order, NoneNoted, IsPending}
-use Rattle.ss_events.specs.Places.{passed, rank_place}
-use Rattle.ss_events.specs.Rows.{notice_of, notices_from, row_at, IsAgenda}
+use Rattle.ss_events.specs.Places.{notices_passed, rank_place}
+use Rattle.ss_events.specs.Views.{notice_of}
+use Rattle.ss_events.specs.Rows.{notices_from, row_at, IsAgenda}
 use Rattle.ss_events.specs.Changes.{with_pending, CanPend}
 use Rattle.ss_events.proofs.OrderLaws.{Each-with, Each-without}
 use Rattle.ss_events.proofs.RowLaws.{pending_row, pending_at-none, pending_at-each, from-with, from-without}
 use Rattle.ss_events.proofs.StateLaws.{seat_in-below}
 use Rattle.ss_events.proofs.BoardOf.{IsTold-with, IsTold-without, IsNew, relinked-with, unlinked-without, linked-seat}
 use Rattle.ss_events.proofs.BoardOf.{CanRelink-rank}
-use Rattle.ss_events.proofs.Standing.{told, sound_board}
+use Rattle.ss_events.proofs.Stands.{told, sound_board}
 
 -- what may become pending is new
 pub new-notice : (s : AgendaState) (e : Pending) → CanPend s e → IsNew s e
@@ -32,8 +32,8 @@ new-notice s e p = record {
   filing = p.filing;
   seat = p.kept.seat;
   keyed = (
-    p.kept.class,
-    p.kept.keys,
+    p.kept.well.class,
+    p.kept.well.keys,
   );
 }
 
@@ -54,7 +54,7 @@ pub pending-seat : (rows : List Row) (s : AgendaState) (b : Board) (n : ℕ) (e 
     pending_at s.agenda.pending n ≡ Some e → (has s.notices n ≡ true) × (is_event_class s.rules e.class ≡ true)
 pending-seat rows s b n e k h =
     let p = pending_at-each (IsPending s.rules s.notices s.agenda.next_filing) s.agenda.pending n e k.pending h in
-    (rw p.1 at p.0.seat, p.0.class)
+    (rw p.1 at p.0.seat, p.0.well.class)
 
 -- an entry that is read off a row
 none-map : (n : ℕ) (o : Option PendingNotice) → option_map (notice_of n) o ≡ None → o ≡ None
@@ -62,8 +62,8 @@ none-map n None h = refl
 none-map n (Some x) h = absurd (cc)
 
 pub row-none : (rows : List Row) (s : AgendaState) (b : Board) (n : ℕ) → IsAgenda rows s b → 0 < n →
-    NoneNoted n s.agenda.pending → (row_at rows (n - 1)).entry ≡ None
-row-none rows s b n k a h = none-map n (row_at rows (n - 1)).entry (sym (pending_row rows n a) ∙
+    NoneNoted n s.agenda.pending → (row_at rows (n - 1)).pending ≡ None
+row-none rows s b n k a h = none-map n (row_at rows (n - 1)).pending (sym (pending_row rows n a) ∙
     (ap (λ (es : List Pending). pending_at es n) (sym k.read) ∙ pending_at-none n s.agenda.pending h))
 
 -- a row in which only the entry changes
@@ -73,15 +73,15 @@ row-seat_set rows j i r l h = elim (eqb i j)
     as (λ t. eqb i j ≡ t → (row_at (set rows j r) i).seat ≡ (row_at rows i).seat) [
       | true ↦ λ t. let same : i ≡ j = grind (arith, nat_tests, t) in rw (
         same,
-        get_or-set_same rows j r (record { seat = None; entry = None }) l,
+        get_or-set_same rows j r (record { seat = None; pending = None }) l,
       ) h
       | false ↦ λ t. let apart : ¬ (i ≡ j) = λ e. absurd (grind (arith, nat_tests, t, e)) in
-          ap (λ (q : Row). q.seat) (get_or-set_other rows j i r (record { seat = None; entry = None }) apart)
+          ap (λ (q : Row). q.seat) (get_or-set_other rows j i r (record { seat = None; pending = None }) apart)
     ] refl
 
 -- a notice is put in
 pub put_in-read : (rows : List Row) (s : AgendaState) (b : Board) (n : ℕ) (x : PendingNotice) (r : Row) →
-    IsAgenda rows s b → CanPend s (notice_of n x) → r.entry ≡ Some x →
+    IsAgenda rows s b → CanPend s (notice_of n x) → r.pending ≡ Some x →
     with_notice (notice_of n x) s.agenda.pending ≡ notices_from 1 (set rows (n - 1) r)
 put_in-read rows s b n x r k p h =
     let above = (k.seated n p.kept.seat).0 in
@@ -90,7 +90,7 @@ put_in-read rows s b n x r k p h =
     k above p.notice) h)))
 
 pub put_in-kept : (rows : List Row) (s : AgendaState) (b c : Board) (n : ℕ) (x : PendingNotice) (r : Row) →
-    IsAgenda rows s b → CanPend s (notice_of n x) → r.entry ≡ Some x → r.seat ≡ (row_at rows (n - 1)).seat →
+    IsAgenda rows s b → CanPend s (notice_of n x) → r.pending ≡ Some x → r.seat ≡ (row_at rows (n - 1)).seat →
     c ≡ after_relink b (seat_in s.notices n) (rank_place s (notice_of n x)) → IsSound c →
     IsAgenda (set rows (n - 1) r) (with_pending s (with_notice (notice_of n x) s.agenda.pending)) c
 put_in-kept rows s b c n x r k p h seat e sound = record {
@@ -115,14 +115,14 @@ put_in-kept rows s b c n x r k p h seat e sound = record {
 
 -- a notice is taken out
 pub take_out-read : (rows : List Row) (s : AgendaState) (b : Board) (n : ℕ) (r : Row) → IsAgenda rows s b →
-    has s.notices n ≡ true → r.entry ≡ None → without_notice n s.agenda.pending ≡ notices_from 1 (set rows (n - 1) r)
+    has s.notices n ≡ true → r.pending ≡ None → without_notice n s.agenda.pending ≡ notices_from 1 (set rows (n - 1) r)
 take_out-read rows s b n r k a h =
     let above = (k.seated n a).0 in
     let same : 1 + (n - 1) ≡ n = omega (arith, above) in
     rw k.read (sym (rw same at (from-without 1 rows (n - 1) r (has-row rows s b n k a) h)))
 
 pub take_out-kept : (rows : List Row) (s : AgendaState) (b c : Board) (n : ℕ) (r : Row) → IsAgenda rows s b →
-    has s.notices n ≡ true → r.entry ≡ None → r.seat ≡ (row_at rows (n - 1)).seat →
+    has s.notices n ≡ true → r.pending ≡ None → r.seat ≡ (row_at rows (n - 1)).seat →
     c ≡ after_unlink b (seat_in s.notices n) → IsSound c →
     IsAgenda (set rows (n - 1) r) (with_pending s (without_notice n s.agenda.pending)) c
 take_out-kept rows s b c n r k a h seat e sound = record {
@@ -146,9 +146,9 @@ take_out-kept rows s b c n r k a h seat e sound = record {
 
 -- where a notice belongs doesn't depend on its number
 pub passed-number : (s : AgendaState) (m n : ℕ) (x : PendingNotice) (es : List Pending) →
-    passed (before s.rules) (notice_of m x) es ≡ passed (before s.rules) (notice_of n x) es
+    notices_passed (is_before s.rules) (notice_of m x) es ≡ notices_passed (is_before s.rules) (notice_of n x) es
 passed-number s m n x [] = refl
-passed-number s m n x (f ∷ fs) = ap (λ (l : List Pending). cond (before s.rules (notice_of n x) f) [] (f ∷ l))
+passed-number s m n x (f ∷ fs) = ap (λ (l : List Pending). cond (is_before s.rules (notice_of n x) f) [] (f ∷ l))
     (passed-number s m n x fs)
 
 abbrev place_with : AgendaState → PendingNotice → List Pending → Place
@@ -181,7 +181,8 @@ pub seat-read : (rows : List Row) (s : AgendaState) (b : Board) (n x : ℕ) (q :
 seat-read rows s b n x q k h e f = some-same x (seat_in s.notices n) q.seat f (read-seat rows s b n q k h e)
 
 -- the seat and the place that are found are those of the notice
-pub put_in-relink : (rows : List Row) (s : AgendaState) (b : Board) (n : ℕ) (x : PendingNotice) (q : Row) (seat : ℕ) (place :
+pub put_in-relink : (rows : List Row) (s : AgendaState) (b : Board) (n : ℕ) (x : PendingNotice) (q : Row) (seat : ℕ)
+    (place :
     Place) → IsAgenda rows s b → CanPend s (notice_of n x) → q ≡ get_or rows (n - 1) q → q.seat ≡ Some seat →
     place ≡ rank_place s (notice_of 0 x) → CanRelink b seat place
 put_in-relink rows s b n x q seat place k p e f g = rw (
@@ -196,13 +197,13 @@ pub put_in-closed : (rows : List Row) (s : AgendaState) (b c : Board) (n : ℕ) 
     q.seat ≡ Some seat → place ≡ rank_place s (notice_of 0 x) → c ≡ after_relink b seat place → IsSound c →
     r ≡ get_or rows (n - 1) r → IsAgenda (set rows (n - 1) (record {
       seat = r.seat;
-      entry = Some x;
+      pending = Some x;
     })) (with_pending s (notices_from 1 (set rows (n - 1) (record {
       seat = r.seat;
-      entry = Some x;
+      pending = Some x;
     })))) c
 put_in-closed rows s b c n x q r seat place k p e f g h sound i =
-    let row : Row = record { seat = r.seat; entry = Some x } in
+    let row : Row = record { seat = r.seat; pending = Some x } in
     let own : r.seat ≡ (row_at rows (n - 1)).seat = ap (λ (t : Row). t.seat) (sym (row-is rows (n - 1) r (has-row
     rows s b n k p.kept.seat) i)) in
     let board : c ≡ after_relink b (seat_in s.notices n) (rank_place s (notice_of n x)) = h ∙
@@ -249,20 +250,20 @@ taken-linked rows s b n seat q k h e f =
 
 pub taken-entry : (rows : List Row) (s : AgendaState) (b : Board) (n : ℕ) (r : Row) → IsAgenda rows s b → 0 < n →
     IsSome (pending_at s.agenda.pending n) → r ≡ get_or rows (n - 1) r →
-    pending_at s.agenda.pending n ≡ option_map (notice_of n) r.entry
+    pending_at s.agenda.pending n ≡ option_map (notice_of n) r.pending
 taken-entry rows s b n r k a h i = ap (λ (es : List Pending). pending_at es n) k.read ∙ (pending_row rows n a ∙
-    ap (λ (q : Row). option_map (notice_of n) q.entry) (row-is rows (n - 1) r (pending-row rows s b n k h).row i))
+    ap (λ (q : Row). option_map (notice_of n) q.pending) (row-is rows (n - 1) r (pending-row rows s b n k h).row i))
 
 pub take_out-closed : (rows : List Row) (s : AgendaState) (b c : Board) (n : ℕ) (q r : Row) (seat : ℕ) (o : Option
     PendingNotice) → IsAgenda rows s b → IsSome (pending_at s.agenda.pending n) → q ≡ get_or rows (n - 1) q →
     q.seat ≡ Some seat → c ≡ after_unlink b seat → IsSound c → r ≡ get_or rows (n - 1) r → o ≡ None →
     IsAgenda (set rows (n - 1) (record {
       seat = r.seat;
-      entry = o;
-    })) (with_pending s (notices_from 1 (set rows (n - 1) (record { seat = r.seat; entry = o })))) c
+      pending = o;
+    })) (with_pending s (notices_from 1 (set rows (n - 1) (record { seat = r.seat; pending = o })))) c
 take_out-closed rows s b c n q r seat o k a e f h sound i z =
     let p = pending-row rows s b n k a in
-    let row : Row = record { seat = r.seat; entry = o } in
+    let row : Row = record { seat = r.seat; pending = o } in
     let own : r.seat ≡ (row_at rows (n - 1)).seat = ap (λ (t : Row). t.seat) (sym (row-is rows (n - 1) r p.row i)) in
     let board : c ≡ after_unlink b (seat_in s.notices n) = h ∙ rw (seat-read rows s b n seat q k p.seat e f) refl in
     let new = take_out-kept rows s b c n row k p.seat z own board sound in

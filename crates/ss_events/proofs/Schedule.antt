@@ -5,7 +5,9 @@ use Rattle.std.proofs.Common.{◌∷◌, length, take, Option, Some, None, Ok, r
 use Rattle.std.proofs.lemmas.Bool.Decides.{nat_tests}
 use Rattle.std.specs.Option.{is_some, option_map}
 use Rattle.std.specs.Prelude.{int_lt}
-use Rattle.ss_events.specs.Agenda.{in_range, filing_limit, may_schedule}
+use Rattle.ss_words.specs.Ranges.{in_range}
+use Rattle.ss_events.specs.declared.limits.TheConstants.{MOST_SCHEDULINGS}
+use Rattle.ss_events.specs.Agenda.{may_schedule}
 use Rattle.ss_links.specs.Board.{Board}
 use Rattle.ss_links.specs.Seats.{has}
 use Rattle.ss_links.proofs.SeatLaws.{has-append}
@@ -19,12 +21,14 @@ use Rattle.ss_events.specs.Slots.{slot_of}
 use Rattle.ss_events.specs.Agenda.{pending_at, with_notice}
 use Rattle.ss_events.specs.State.{AgendaState, Each, NoneNoted, NoneFiled, AreFiled, IsPending}
 use Rattle.ss_events.specs.Places.{predecessor_of}
-use Rattle.ss_events.specs.Rows.{notice_of, IsAgenda}
-use Rattle.ss_events.specs.Changes.{with_pending, with_notices, with_filing, seated, CanPend, IsLastSeat, IsNewest}
+use Rattle.ss_events.specs.Views.{notice_of}
+use Rattle.ss_events.specs.Rows.{IsAgenda}
+use Rattle.ss_events.specs.Changes.{with_pending, with_notices, with_filing, with_seat_for, CanPend, IsLastSeat}
+use Rattle.ss_events.specs.Changes.{IsNewest}
 use Rattle.ss_events.specs.Changes.{Went, after_scheduling, IsScheduled}
 use Rattle.ss_events.proofs.OrderLaws.{Each-map, Each-without}
 use Rattle.ss_events.proofs.RowLaws.{Ascend, Ascend-from, pending_at-each, without-with, with-without}
-use Rattle.ss_events.proofs.Seating.{take-last}
+use Rattle.ss_events.proofs.GiveSeat.{take-last}
 
 pub NoneNoted-without : (n : ℕ) (es : List Pending) → NoneNoted n (without_notice n es)
 NoneNoted-without n [] = tt
@@ -89,10 +93,11 @@ none-noted n (e ∷ es) h = elim (eqb e.notice n)
 
 pub none-filed : (rs : List Rule) (ns : List ℕ) (k : ℕ) (es : List Pending) → Each (IsPending rs ns k) es →
     NoneFiled k es
-none-filed rs ns k es h = Each-map (IsPending rs ns k) (λ e. eqb e.filing k ≡ false) (λ e p. let below = p.filing in
+none-filed rs ns k es h = Each-map (IsPending rs ns k) (λ e. eqb e.filing k ≡ false)
+    (λ e p. let below = p.well.filing in
     grind (arith, nat_tests, below)) es h
 
-pub has-seated : (ns : List ℕ) (n : ℕ) → has (seated ns n) n ≡ true
+pub has-seated : (ns : List ℕ) (n : ℕ) → has (with_seat_for ns n) n ≡ true
 has-seated ns n = elim (has ns n) as (λ t. has ns n ≡ t → has (cond t ns (ns ++ n ∷ [])) n ≡ true) [
   | true ↦ λ t. t
   | false ↦ λ t. has-append ns (n ∷ []) n ∙ rw t (grind (arith, nat_tests))
@@ -102,22 +107,25 @@ has-seated ns n = elim (has ns n) as (λ t. has ns n ≡ t → has (cond t ns (n
 pub can-pend : (rows : List Row) (s : AgendaState) (b : Board) (n : ℕ) (x : PendingNotice) → IsAgenda rows s b →
     NoneNoted n s.agenda.pending → is_event_class s.rules x.class ≡ true →
     in_range x.time ≡ true → length x.keys.items ≡ length (rule_at s.rules x.class).ties →
-    x.filing ≡ s.agenda.next_filing → CanPend (with_filing (with_notices s (seated s.notices n)) (s.agenda.next_filing
+    x.filing ≡ s.agenda.next_filing
+    → CanPend (with_filing (with_notices s (with_seat_for s.notices n)) (s.agenda.next_filing
     + 1)) (notice_of n x)
 can-pend rows s b n x k h c t l f = record {
   notice = h;
   filing = rw f (none-filed s.rules s.notices s.agenda.next_filing s.agenda.pending k.pending);
   kept = record {
-    class = c;
-    time = t;
-    keys = l;
+    well = record {
+      class = c;
+      time = t;
+      keys = l;
+      filing = omega arith;
+      first = omega (
+        arith,
+        f,
+        k.next,
+      );
+    };
     seat = has-seated s.notices n;
-    filing = omega arith;
-    first = omega (
-      arith,
-      f,
-      k.next,
-    );
   };
 }
 
@@ -137,7 +145,7 @@ scheduling s e = record s {
     pending = with_notice e s.agenda.pending;
     next_filing = s.agenda.next_filing + 1;
   };
-  notices = seated s.notices e.notice;
+  notices = with_seat_for s.notices e.notice;
 }
 
 -- a notice is scheduled
@@ -150,14 +158,15 @@ went-scheduled rows s new b e made k above h f m n =
     s.agenda.pending h same in
     let count : s.agenda.next_filing + 1 - 1 ≡ s.agenda.next_filing = omega arith in
     let others : Each (λ g. g.filing < e.filing) s.agenda.pending = Each-map (IsPending s.rules s.notices
-    s.agenda.next_filing) (λ g. g.filing < e.filing) (λ g p. let below = p.filing in
+    s.agenda.next_filing) (λ g. g.filing < e.filing) (λ g p. let below = p.well.filing in
     omega arith) s.agenda.pending k.pending in
     let last : made ≡ true → IsLastSeat (scheduling s e) e.notice = λ t. record {
       others = s.notices;
       last = let none : has s.notices e.notice ≡ false = no (has s.notices e.notice) (sym m ∙ t) in
           rw none refl;
     } in
-    let seats : cond made (take (length (seated s.notices e.notice) - 1) (seated s.notices e.notice)) (seated
+    let seats : cond made (take (length (with_seat_for s.notices e.notice) - 1) (with_seat_for s.notices e.notice))
+    (with_seat_for
     s.notices e.notice) ≡ s.notices = elim (has s.notices e.notice)
     as (λ t. made ≡ not t → cond made (take (length (cond t s.notices (s.notices ++ e.notice ∷ [])) - 1) (cond t
     s.notices (s.notices ++ e.notice ∷ []))) (cond t s.notices (s.notices ++ e.notice ∷ [])) ≡ s.notices) [
@@ -190,7 +199,7 @@ is_some-map f (Some a) t h = h
 
 -- the steps of a scheduling
 pub record IsStepped (s s1 s2 : AgendaState) (n : ℕ) (x : PendingNotice) : Type 0 where
-  pub first : s1 ≡ with_notices s (seated s.notices n)
+  pub first : s1 ≡ with_notices s (with_seat_for s.notices n)
   pub second : s2 ≡ with_filing s1 (s1.agenda.next_filing + 1)
   pub filing : x.filing ≡ s1.agenda.next_filing
   pub idle : is_some (pending_at s.agenda.pending n) ≡ false
@@ -203,10 +212,11 @@ pub stepped-filing : (s s1 s2 : AgendaState) (n : ℕ) (x : PendingNotice) → I
 stepped-filing s s1 s2 n x p = p.filing ∙ ap (λ (t : AgendaState). t.agenda.next_filing) p.first
 
 pub stepped-state : (s s1 s2 : AgendaState) (n : ℕ) (x : PendingNotice) → IsStepped s s1 s2 n x →
-    s2 ≡ with_filing (with_notices s (seated s.notices n)) (s.agenda.next_filing + 1)
+    s2 ≡ with_filing (with_notices s (with_seat_for s.notices n)) (s.agenda.next_filing + 1)
 stepped-state s s1 s2 n x p = rw (p.second, p.first) refl
 
-pub stepped-can : (rows : List Row) (s s1 s2 : AgendaState) (b : Board) (n : ℕ) (x : PendingNotice) → IsAgenda rows s b →
+pub stepped-can : (rows : List Row) (s s1 s2 : AgendaState) (b : Board) (n : ℕ) (x : PendingNotice) → IsAgenda rows s b
+    →
     IsStepped s s1 s2 n x → CanPend s2 (notice_of n x)
 stepped-can rows s s1 s2 b n x k p = rw (stepped-state s s1 s2 n x p) (can-pend rows s b n x k (none-noted n
     s.agenda.pending p.idle) p.class p.time p.keys (stepped-filing s s1 s2 n x p))
@@ -215,18 +225,18 @@ abbrev pending_of : ℕ → ℤ → ℕ → List ℤ → ℕ → Pending
 pending_of n t c ks f = record { notice = n; time = t; class = c; keys = ks; filing = f }
 
 abbrev record_with : AgendaState → ℕ → Pending → AgendaState
-record_with s n v = with_pending (with_filing (with_notices s (seated s.notices n)) (s.agenda.next_filing + 1))
+record_with s n v = with_pending (with_filing (with_notices s (with_seat_for s.notices n)) (s.agenda.next_filing + 1))
     (with_notice v s.agenda.pending)
 
 pub stepped-went : (rows : List Row) (s s1 s2 new : AgendaState) (b : Board) (n : ℕ) (time clock : ℤ) (keys : List ℤ)
     (x : PendingNotice) (made : Bool) → IsAgenda rows s b → IsStepped s s1 s2 n x → 0 < n → int_lt time clock ≡ false →
-    s.agenda.next_filing ≤ filing_limit → x.time ≡ time → x.keys.items ≡ keys → made ≡ not (has s.notices n) →
+    s.agenda.next_filing ≤ MOST_SCHEDULINGS → x.time ≡ time → x.keys.items ≡ keys → made ≡ not (has s.notices n) →
     new ≡ with_pending s2 (with_notice (notice_of n x) s2.agenda.pending) →
     IsScheduled (Ok (Scheduled n made)) (may_schedule s.agenda n time clock) (after_scheduling s n time x.class keys)
     s new
 stepped-went rows s s1 s2 new b n time clock keys x made k p above h1 h2 t l m e =
     let filing = stepped-filing s s1 s2 n x p in
-    let free : ltb filing_limit s.agenda.next_filing ≡ false = grind (arith, nat_tests, h2) in
+    let free : ltb MOST_SCHEDULINGS s.agenda.next_filing ≡ false = grind (arith, nat_tests, h2) in
     let q : Pending = record {
       notice = n;
       time = time;

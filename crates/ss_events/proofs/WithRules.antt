@@ -5,6 +5,7 @@ use Rattle.std.specs.List.{range_with_len}
 use Rattle.std.proofs.lemmas.List.FromFn.{map-range_with_len_more, length-map-range_with_len}
 use Rattle.ss_links.specs.Board.{Board, times, with_head, list_at}
 use Rattle.ss_links.specs.Seats.{has}
+use Rattle.ss_words.specs.declared.limits.TheConstants.{MOST_CLASSES}
 use Rattle.ss_events.specs.Agenda.{Pending, of_class}
 use Rattle.ss_events.specs.Rules.{Rule, event_classes}
 use Rattle.ss_events.specs.State.{AreRanked}
@@ -16,7 +17,7 @@ use Rattle.ss_events.proofs.OrderLaws.{Each-of_class}
 use Rattle.ss_events.proofs.EventLaws.{list_at-head}
 use Rattle.ss_events.proofs.StateLaws.{AreSeated, seat_in-notice}
 use Rattle.ss_events.proofs.BoardOf.{class_seats, Each-order}
-use Rattle.ss_events.proofs.Standing.{told}
+use Rattle.ss_events.proofs.Stands.{told}
 
 -- so many heads with empty lists
 abbrev pub empty_heads : ℕ → Board
@@ -38,7 +39,7 @@ empty-each a [] = refl
 empty-each a (c ∷ cs) = ap (λ (ls : List (List ℕ)). [] ∷ ls) (empty-each (a + 1) cs)
 
 pub begins : (rules : List Rule) (n : ℕ) (b : Board) → n ≡ length (event_classes rules) → AreRanked rules → length
-    rules ≤ 64 →
+    rules ≤ MOST_CLASSES →
     b ≡ empty_heads n → IsAgenda [] (no_notices rules) b
 begins rules n b h r few e = record {
   read = refl;
@@ -77,7 +78,7 @@ heads-fit b n e = rw e (length-map-range_with_len (λ c. []) 0 n)
 
 -- the agenda without notices, on its vectors
 pub begins-on : (rows : List Row) (rules : List Rule) (ns : List ℕ) (n : ℕ) (b : Board) → rows ≡ [] → ns ≡ [] →
-    n ≡ length (event_classes rules) → AreRanked rules → length rules ≤ 64 → b ≡ empty_heads n →
+    n ≡ length (event_classes rules) → AreRanked rules → length rules ≤ MOST_CLASSES → b ≡ empty_heads n →
     IsAgenda rows (record {
       rules = rules;
       agenda = record { pending = notices_from 1 rows; next_filing = 1 };

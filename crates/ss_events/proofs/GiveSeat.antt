@@ -10,18 +10,19 @@ use Rattle.std.specs.Result.{OnErr}
 use Rattle.ss_links.specs.Board.{Board, head_of, IsSound, with_seat, without_last_seat}
 use Rattle.ss_links.specs.Seats.{has, times_in}
 use Rattle.ss_links.proofs.SeatLaws.{has-append, times_in-append, times_in-absent, times_in-present, length-le_count}
+use Rattle.ss_words.specs.declared.limits.TheConstants.{MOST_REFERENCES}
 use Rattle.ss_events.specs.declared.pending_notice.Row.{Row}
 use Rattle.ss_events.specs.Agenda.{Pending}
 use Rattle.ss_events.specs.Rules.{Rule}
 use Rattle.ss_events.specs.State.{AgendaState, seat_in, seat_at, board_of, Each, NoneNoted, IsPending}
 use Rattle.ss_events.specs.Rows.{notices_from, and_others, row_at, empty_row, IsGrown, IsAgenda}
-use Rattle.ss_events.specs.Changes.{with_pending, with_notices, seated, IsLastSeat}
+use Rattle.ss_events.specs.Changes.{with_pending, with_notices, with_seat_for, IsLastSeat}
 use Rattle.ss_events.proofs.OrderLaws.{Each-map}
 use Rattle.ss_events.proofs.RowLaws.{from-same}
 use Rattle.ss_events.proofs.StateLaws.{seat_in-more, seat_in-new}
 use Rattle.ss_events.proofs.BoardOf.{IsTold, with_seat-more, free-seat}
-use Rattle.ss_events.proofs.Standing.{told}
-use Rattle.ss_events.proofs.Keeping.{row-is}
+use Rattle.ss_events.proofs.Stands.{told}
+use Rattle.ss_events.proofs.PutAndTakeOut.{row-is}
 
 -- empty rows say nothing
 from-none : (b k : ℕ) → notices_from b (replicate k empty_row) ≡ []
@@ -30,7 +31,7 @@ from-none b (suc k) = from-none (b + 1) k
 
 from-empty : (b k : ℕ) (rs : List Row) → notices_from b (rs ++ replicate k empty_row) ≡ notices_from b rs
 from-empty b k [] = from-none b k
-from-empty b k (r ∷ rs) = ap (and_others b r.entry) (from-empty (b + 1) k rs)
+from-empty b k (r ∷ rs) = ap (and_others b r.pending) (from-empty (b + 1) k rs)
 
 row_at-none : (k i : ℕ) → row_at (replicate k empty_row) i ≡ empty_row
 row_at-none zero i = refl
@@ -68,7 +69,7 @@ seat_at-none : (ns : List ℕ) (n : ℕ) → has ns n ≡ false → seat_at ns n
 seat_at-none ns n h = rw h refl
 
 pub grown-kept : (old new : List Row) (s : AgendaState) (b : Board) (count : ℕ) → IsAgenda old s b →
-    IsGrown old new count → count ≤ 1000000 → IsAgenda new s b
+    IsGrown old new count → count ≤ MOST_REFERENCES → IsAgenda new s b
 grown-kept old new s b count k g small =
     let long = ap length g.whole ∙ length-append old (replicate g.more empty_row) in
     record {
@@ -79,7 +80,7 @@ grown-kept old new s b count k g small =
           row_at-empty g.more i old) ∙ seat i;
       seated = λ n h. let r = k.seated n h in (r.0, omega (arith, r.1, long));
       once = k.once;
-      few = g.few 1000000 small k.few;
+      few = g.few MOST_REFERENCES small k.few;
       pending = k.pending;
       filed = k.filed;
       filing = k.filing;
@@ -107,7 +108,7 @@ grown-kept old new s b count k g small =
 
 -- the same, read off the rows
 pub grown-closed : (old new : List Row) (s : AgendaState) (b : Board) (count : ℕ) → IsAgenda old s b →
-    IsGrown old new count → count ≤ 1000000 → IsAgenda new (with_pending s (notices_from 1 new)) b
+    IsGrown old new count → count ≤ MOST_REFERENCES → IsAgenda new (with_pending s (notices_from 1 new)) b
 grown-closed old new s b count k g small = let n = grown-kept old new s b count k g small in
     let read : s.agenda.pending ≡ notices_from 1 new = n.read in rw (← read) n
 
@@ -186,14 +187,14 @@ pub seat-closed : (rows : List Row) (s : AgendaState) (b c : Board) (n x : ℕ) 
     has s.notices n ≡ false → 0 < n → n ≤ length rows → c ≡ with_seat b → IsSound c → x ≡ b.seats →
     r ≡ get_or rows (n - 1) r → IsAgenda (set rows (n - 1) (record {
       seat = Some x;
-      entry = r.entry;
+      pending = r.pending;
     })) (with_pending (with_notices s (s.notices ++ n ∷ [])) (notices_from 1 (set rows (n - 1)
-    (record { seat = Some x; entry = r.entry })))) c
+    (record { seat = Some x; pending = r.pending })))) c
 seat-closed rows s b c n x r k h a l e sound f i =
-    let row : Row = record { seat = Some x; entry = r.entry } in
+    let row : Row = record { seat = Some x; pending = r.pending } in
     let within : n - 1 < length rows = omega arith in
     let read : s.agenda.pending ≡ notices_from 1 (set rows (n - 1) row) = k.read ∙
-    sym (from-same 1 rows (n - 1) row (ap (λ (q : Row). q.entry) (sym (row-is rows (n - 1) r within i)))) in
+    sym (from-same 1 rows (n - 1) row (ap (λ (q : Row). q.pending) (sym (row-is rows (n - 1) r within i)))) in
     let count : x ≡ length s.notices = f ∙ ap (λ (d : Board). d.seats) k.board in
     let kept : IsAgenda (set rows (n - 1) row) (with_notices s (s.notices ++ n ∷ [])) c = record {
       read = read;
@@ -232,12 +233,8 @@ seat-closed rows s b c n x r k h a l e sound f i =
       few = omega (arith, k.few, length-set rows (n - 1) row);
       pending = Each-map (IsPending s.rules s.notices s.agenda.next_filing) (IsPending s.rules (s.notices ++ n ∷ [])
           s.agenda.next_filing) (λ p q. record {
-            class = q.class;
-            time = q.time;
-            keys = q.keys;
+            well = q.well;
             seat = has-more s.notices n p.notice q.seat;
-            filing = q.filing;
-            first = q.first;
           }) s.agenda.pending k.pending;
       filed = k.filed;
       filing = k.filing;
@@ -249,17 +246,18 @@ seat-closed rows s b c n x r k h a l e sound f i =
 
 pub seat-view : (rows : List Row) (s t : AgendaState) (b : Board) (n : ℕ) (row r : Row) → s ≡ t →
     IsAgenda rows s b → 0 < n → n ≤ length rows → has s.notices n ≡ false → r ≡ get_or rows (n - 1) r →
-    row.entry ≡ r.entry → with_pending (with_notices s (s.notices ++ n ∷ [])) (notices_from 1 (set rows (n - 1) row))
-    ≡ with_notices t (seated t.notices n)
+    row.pending ≡ r.pending
+    → with_pending (with_notices s (s.notices ++ n ∷ [])) (notices_from 1 (set rows (n - 1) row))
+    ≡ with_notices t (with_seat_for t.notices n)
 seat-view rows s t b n row r e k a l h i j =
     let within : n - 1 < length rows = omega arith in
     let read : notices_from 1 (set rows (n - 1) row) ≡ s.agenda.pending = from-same 1 rows (n - 1) row (j ∙
-    ap (λ (q : Row). q.entry) (sym (row-is rows (n - 1) r within i))) ∙ sym k.read in
+    ap (λ (q : Row). q.pending) (sym (row-is rows (n - 1) r within i))) ∙ sym k.read in
     rw (← e, h, read) refl
 
 -- the same where the seats and the board were left as they were
 pub grown-closed_same : (old new : List Row) (s : AgendaState) (b c : Board) (count : ℕ) (ms : List ℕ) →
-    IsAgenda old s b → IsGrown old new count → count ≤ 1000000 → ms ≡ s.notices → c ≡ b →
+    IsAgenda old s b → IsGrown old new count → count ≤ MOST_REFERENCES → ms ≡ s.notices → c ≡ b →
     IsAgenda new (with_pending (with_notices s ms) (notices_from 1 new)) c
 grown-closed_same old new s b c count ms k g small e f = rw (e, f) (grown-closed old new s b count k g small)
 
@@ -278,7 +276,7 @@ pub row-has : (rows : List Row) (s : AgendaState) (b : Board) (n : ℕ) (q : Row
 row-has rows s b n q t k a l h e = sym (has-some s.notices n) ∙ (ap is_some (sym (row-seat rows s b n q k a l h)) ∙ e)
 
 pub seated-same : (s t : AgendaState) (n : ℕ) → s ≡ t → has s.notices n ≡ true →
-    s ≡ with_notices t (seated t.notices n)
+    s ≡ with_notices t (with_seat_for t.notices n)
 seated-same s t n e h = rw (← e, h) refl
 
 -- a seat is made, with the list of notices as it is after
@@ -287,10 +285,10 @@ pub seat-closed_at : (rows : List Row) (s : AgendaState) (b c : Board) (n x : �
     c ≡ with_seat b → IsSound c → x ≡ b.seats → r ≡ get_or rows (n - 1) r →
     IsAgenda (set rows (n - 1) (record {
       seat = Some x;
-      entry = r.entry;
+      pending = r.pending;
     })) (with_pending (with_notices s ms) (notices_from 1 (set rows (n - 1) (record {
       seat = Some x;
-      entry = r.entry;
+      pending = r.pending;
     })))) c
 seat-closed_at rows s b c n x r ms w k h a l e sound f i = rw w (seat-closed rows s b c n x r k h a l e sound f i)
 
@@ -299,11 +297,11 @@ pub seat-view_at : (rows : List Row) (s t : AgendaState) (b : Board) (n x : ℕ)
     r ≡ get_or rows (n - 1) r → with_pending (with_notices s ms) (notices_from 1 (set rows (n - 1) (record {
       seat =
           Some x;
-      entry = r.entry;
-    }))) ≡ with_notices t (seated t.notices n)
+      pending = r.pending;
+    }))) ≡ with_notices t (with_seat_for t.notices n)
 seat-view_at rows s t b n x r ms w e k a l h i = rw w (seat-view rows s t b n (record {
   seat = Some x;
-  entry = r.entry;
+  pending = r.pending;
 }) r e k a l h i refl)
 
 -- the last seat is taken off
@@ -312,12 +310,8 @@ each-less : (rs : List Rule) (ms ns : List ℕ) (n k : ℕ) (es : List Pending) 
 each-less rs ms ns n k [] e h p = tt
 each-less rs ms ns n k (f ∷ fs) e h p = let apart : eqb n f.notice ≡ false = grind (arith, nat_tests, h.0) in (
   record {
-    class = p.0.class;
-    time = p.0.time;
-    keys = p.0.keys;
+    well = p.0.well;
     seat = has-less ms n f.notice apart (rw e at p.0.seat);
-    filing = p.0.filing;
-    first = p.0.first;
   },
   each-less rs ms ns n k fs e h.1 p.1,
 )
@@ -365,16 +359,16 @@ last-row rows s b n k l =
 pub unseat-closed : (rows : List Row) (s : AgendaState) (b c : Board) (n : ℕ) (r : Row) (ms : List ℕ) →
     ms ≡ take (length s.notices - 1) s.notices → IsAgenda rows s b → IsLastSeat s n → NoneNoted n s.agenda.pending →
     c ≡ without_last_seat b → IsSound c → r ≡ get_or rows (n - 1) r →
-    IsAgenda (set rows (n - 1) (record { seat = None; entry = r.entry })) (with_pending (with_notices s ms)
-    (notices_from 1 (set rows (n - 1) (record { seat = None; entry = r.entry })))) c
+    IsAgenda (set rows (n - 1) (record { seat = None; pending = r.pending })) (with_pending (with_notices s ms)
+    (notices_from 1 (set rows (n - 1) (record { seat = None; pending = r.pending })))) c
 unseat-closed rows s b c n r ms w k l h e sound i =
-    let row : Row = record { seat = None; entry = r.entry } in
+    let row : Row = record { seat = None; pending = r.pending } in
     let is : ms ≡ l.others = w ∙ taken-list s n l in
     let own = last-row rows s b n k l in
     let within : n - 1 < length rows = omega arith in
     let absent = last-absent l.others n (rw l.last at (k.once n)) in
     let read : s.agenda.pending ≡ notices_from 1 (set rows (n - 1) row) = k.read ∙
-    sym (from-same 1 rows (n - 1) row (ap (λ (q : Row). q.entry) (sym (row-is rows (n - 1) r within i)))) in
+    sym (from-same 1 rows (n - 1) row (ap (λ (q : Row). q.pending) (sym (row-is rows (n - 1) r within i)))) in
     let less = each-less s.rules l.others s.notices n s.agenda.next_filing s.agenda.pending l.last h k.pending in
     let t = told rows s b k in
     let new : IsTold (with_notices s l.others) = record {
@@ -426,12 +420,12 @@ pub unseat-view : (rows : List Row) (s t : AgendaState) (b : Board) (n : ℕ) (r
     r ≡ get_or rows (n - 1) r → with_pending (with_notices s ms) (notices_from 1 (set rows (n - 1) (record {
       seat =
           None;
-      entry = r.entry;
+      pending = r.pending;
     }))) ≡ with_notices t (take (length t.notices - 1) t.notices)
 unseat-view rows s t b n r ms w e k l i =
     let own = last-row rows s b n k l in
     let within : n - 1 < length rows = omega arith in
-    let row : Row = record { seat = None; entry = r.entry } in
+    let row : Row = record { seat = None; pending = r.pending } in
     let read : notices_from 1 (set rows (n - 1) row) ≡ s.agenda.pending = from-same 1 rows (n - 1) row (ap (λ (q :
-    Row). q.entry) (sym (row-is rows (n - 1) r within i))) ∙ sym k.read in
+    Row). q.pending) (sym (row-is rows (n - 1) r within i))) ∙ sym k.read in
     rw (w, read, ← e) refl

@@ -1,0 +1,14 @@
+-- What is seen of the values that the calls take and give.
+use Rattle.std.specs.Prelude.{ℕ}
+use Rattle.ss_events.specs.declared.pending_notice.PendingNotice.{PendingNotice}
+use Rattle.ss_events.specs.declared.rule.ClassRule.{ClassRule}
+use Rattle.ss_events.specs.Agenda.{Pending}
+use Rattle.ss_events.specs.Rules.{Rule}
+
+-- a class's rule
+abbrev pub rule_of : ClassRule → Rule
+rule_of k = record { for_events = k.for_events; priority = k.priority; ties = k.ties.items }
+
+-- the pending notice with this reference of which this is kept
+abbrev pub notice_of : ℕ → PendingNotice → Pending
+notice_of n x = record { notice = n; time = x.time; class = x.class; keys = x.keys.items; filing = x.filing }

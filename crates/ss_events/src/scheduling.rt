@@ -1,0 +1,281 @@
+//! Notices made pending and taken off.
+ghost use Rattle.std.specs.Prelude.{◌≡◌, [], ◌+◌, ◌-◌, ◌<◌, ◌≤◌, not, length, take, Some, IfOk, OnErr, true};
+ghost use Rattle.std.specs.Option.{IsSome};
+ghost use Rattle.ss_words.specs.declared.limits.TheConstants.{MOST_REFERENCES};
+ghost use Rattle.ss_events.specs.declared.limits.TheConstants.{MOST_SCHEDULINGS};
+ghost use Rattle.ss_links.specs.Seats.{has};
+ghost use Rattle.ss_events.specs.Rules.{rule_at, is_event_class, event_number};
+ghost use Rattle.ss_events.specs.Agenda.{pending_at, is_before, of_class, may_schedule, may_cancel};
+ghost use Rattle.ss_events.specs.Agenda.{with_notice, without_notice};
+ghost use Rattle.ss_events.specs.State.{NoneNoted, Each, order};
+ghost use Rattle.ss_events.specs.Changes.{with_pending, with_notices, with_filing, with_seat_for, CanPend};
+ghost use Rattle.ss_events.specs.Changes.{IsLastSeat, Went, after_taking, after_scheduling, IsScheduled};
+ghost use Rattle.ss_events.specs.Changes.{IsCancelled, Fits, unapply};
+ghost use Rattle.ss_events.specs.Places.{notices_passed, rank_place, predecessor_of};
+ghost use Rattle.ss_events.specs.Views.{notice_of};
+ghost use Rattle.ss_events.specs.Rows.{IsEntry};
+
+use crate::agenda::{Agenda, AgendaChange};
+use crate::limits::MOST_SCHEDULINGS;
+use crate::pending_notice::PendingNotice;
+use crate::ranking::{grow, is_before, notice_if};
+use ss_journal::Undo;
+use ss_links::{Place, SetBoard};
+use ss_words::{RunFault, StepFault};
+use std::alloc::AllocError;
+
+impl<S: SetBoard> Agenda<S> {
+    /// Whether a notice with this entry comes before all those of its class, whose head is given.
+    fn is_first(&self, entry: &PendingNotice, head: u32) -> bool
+        requires entry { IsEntry self.now.rules entry.now }
+        requires head { head ≡ event_number self.now.rules entry.now.class }
+        ensures { result ≡ true →
+            notices_passed (is_before self.now.rules) (notice_of 0 entry.now)
+            (of_class entry.now.class (order self.now)) ≡ [] }
+    {
+        let board = &self.board;
+        let first = board.first(head);
+        match first {
+            None => true,
+            Some(seat) => is_before(&self.rules, entry, self.entry_on(seat)),
+        }
+    }
+
+    /// Where a notice with this entry belongs on the board: in front of all those of its class, or
+    /// looked for from their end.
+    fn rank_place(&self, entry: &PendingNotice) -> Place
+        requires { IsEntry self.now.rules entry.now }
+        ensures { result ≡ rank_place self.now (notice_of 0 entry.now) }
+    {
+        let board = &self.board;
+        let head = self.head(entry.class);
+        if self.is_first(entry, head) {
+            return Place { head, before: None };
+        }
+        let mut before = board.last(head);
+        while let Some(seat) = before {
+            if !is_before(&self.rules, entry, self.entry_on(seat)) {
+                break;
+            }
+            before = board.prev(seat);
+        }
+        Place { head, before }
+    }
+
+    /// The place directly behind a notice of the entry's class, or in front of all of them.
+    fn place_behind(&self, entry: &PendingNotice, predecessor: Option<u32>) -> Place
+        requires entry { IsEntry self.now.rules entry.now }
+        requires predecessor { predecessor ≡ predecessor_of self.now (notice_of 0 entry.now) }
+        ensures { result ≡ rank_place self.now (notice_of 0 entry.now) }
+    {
+        let rows = &self.rows;
+        let head = self.head(entry.class);
+        match predecessor {
+            None => Place { head, before: None },
+            Some(notice) => Place {
+                head,
+                before: rows[notice as usize - 1].seat,
+            },
+        }
+    }
+
+    /// Makes a notice pending, with its seat at the place where it belongs.
+    fn put_at(&mut self, notice: u32, entry: PendingNotice, place: Place)
+        requires can { CanPend self.old (notice_of notice entry) }
+        requires place { place ≡ rank_place self.old (notice_of 0 entry) }
+        ensures { self.new
+            ≡ with_pending self.old (with_notice (notice_of notice entry) self.old.agenda.pending) }
+    {
+        let row = &mut self.rows[notice as usize - 1];
+        let seat = row.seat.unwrap();
+        row.pending = Some(entry);
+        self.board.relink(seat, place);
+    }
+
+    /// Makes a notice pending, at a place that is looked for.
+    fn put_in(&mut self, notice: u32, entry: PendingNotice)
+        requires { CanPend self.old (notice_of notice entry) }
+        ensures { self.new
+            ≡ with_pending self.old (with_notice (notice_of notice entry) self.old.agenda.pending) }
+    {
+        let place = self.rank_place(&entry);
+        self.put_at(notice, entry, place);
+    }
+
+    /// Makes a notice pending again, directly behind the notice that stood before it.
+    fn put_back(&mut self, notice: u32, entry: PendingNotice, predecessor: Option<u32>)
+        requires can { CanPend self.old (notice_of notice entry) }
+        requires predecessor { predecessor ≡ predecessor_of self.old (notice_of notice entry) }
+        ensures { self.new
+            ≡ with_pending self.old (with_notice (notice_of notice entry) self.old.agenda.pending) }
+    {
+        let place = self.place_behind(&entry, predecessor);
+        self.put_at(notice, entry, place);
+    }
+
+    /// Takes a pending notice out, and gives what was kept of it and the notice before it.
+    fn take_out(&mut self, notice: u32) -> (PendingNotice, Option<u32>)
+        requires number { 0 < notice }
+        requires pending { IsSome (pending_at self.old.agenda.pending notice) }
+        ensures entry { pending_at self.old.agenda.pending notice
+            ≡ Some (notice_of notice result.0) }
+        ensures state { self.new
+            ≡ with_pending self.old (without_notice notice self.old.agenda.pending) }
+        ensures predecessor { result.1 ≡ predecessor_of self.new (notice_of notice result.0) }
+    {
+        let index = notice as usize - 1;
+        let seat = self.rows[index].seat.unwrap();
+        let entry = self.rows[index].pending.take().unwrap();
+        let place = self.board.unlink(seat);
+        let predecessor = notice_if(&self.notices, place.before);
+        (entry, predecessor)
+    }
+
+    /// Makes a seat for a notice, unless it has one, and tells whether it did.
+    fn give_seat(&mut self, notice: u32) -> Result<bool, AllocError>
+        requires number { 0 < notice }
+        requires small { notice ≤ MOST_REFERENCES }
+        ensures ok { IfOk result (λ made. (made ≡ not (has self.old.notices notice))
+            × (self.new ≡ with_notices self.old (with_seat_for self.old.notices notice))) }
+        ensures err { OnErr result (self.new ≡ self.old) }
+    {
+        grow(&mut self.rows, notice as usize)?;
+        let index = notice as usize - 1;
+        if self.rows[index].seat.is_some() {
+            return Ok(false);
+        }
+        self.notices.reserve(1)?;
+        let seat = self.board.try_add_seat()?;
+        self.notices.push(notice).unwrap();
+        self.rows[index].seat = Some(seat);
+        Ok(true)
+    }
+
+    /// Takes the last seat off, which is this notice's.
+    fn take_seat(&mut self, notice: u32)
+        requires last { IsLastSeat self.old notice }
+        requires idle { NoneNoted notice self.old.agenda.pending }
+        ensures { self.new
+            ≡ with_notices self.old (take (length self.old.notices - 1) self.old.notices) }
+    {
+        self.board.take_last_seat();
+        self.notices.truncate(self.notices.len() - 1);
+        self.rows[notice as usize - 1].seat = None;
+    }
+
+    /// Takes the next filing number.
+    fn file(&mut self) -> u64
+        requires { self.old.agenda.next_filing ≤ MOST_SCHEDULINGS }
+        ensures number { result ≡ self.old.agenda.next_filing }
+        ensures state { self.new ≡ with_filing self.old (self.old.agenda.next_filing + 1) }
+    {
+        let filing = self.next_filing;
+        self.next_filing = filing + 1;
+        filing
+    }
+
+    /// Gives the last filing number back.
+    fn unfile(&mut self)
+        requires any { 1 < self.old.agenda.next_filing }
+        requires free { Each
+            (λ e. e.filing + 1 < self.old.agenda.next_filing) self.old.agenda.pending }
+        ensures { self.new ≡ with_filing self.old (self.old.agenda.next_filing - 1) }
+    {
+        self.next_filing -= 1;
+    }
+
+    /// Makes a notice pending at a time, with its class's keys as they are now.
+    ///
+    /// A time before the clock (F9), a notice that is pending already (F10), and want of filing
+    /// numbers (F20) are refused, the first of these first (docs/LANGUAGE.md, "Run faults"), and
+    /// then want of memory. A refusal leaves all as it was.
+    pub fn schedule(
+        &mut self,
+        notice: u32,
+        class: usize,
+        time: i64,
+        clock: i64,
+        keys: &[i64],
+    ) -> Result<AgendaChange, StepFault>
+        requires number { 0 < notice }
+        requires small { notice ≤ MOST_REFERENCES }
+        requires class { is_event_class self.old.rules class ≡ true }
+        requires keys { length keys.now ≡ length (rule_at self.old.rules class).ties }
+        ensures { IsScheduled result (may_schedule self.old.agenda notice time clock)
+            (after_scheduling self.old notice time class keys.now) self.old self.new }
+    {
+        if time < clock {
+            return Err(StepFault::Fault(RunFault::TimeBeforeClock));
+        }
+        if self.slot(notice).is_some() {
+            return Err(StepFault::Fault(RunFault::AlreadyScheduled));
+        }
+        if self.next_filing > MOST_SCHEDULINGS {
+            return Err(StepFault::Fault(RunFault::TooManyReferences));
+        }
+        let keys = keys.to_vec(self.alloc)?;
+        let seated = self.give_seat(notice)?;
+        let filing = self.file();
+        let entry = PendingNotice {
+            time,
+            class,
+            keys,
+            filing,
+        };
+        self.put_in(notice, entry);
+        Ok(AgendaChange::Scheduled { notice, seated })
+    }
+
+    /// Takes a pending notice off.
+    pub fn take(&mut self, notice: u32) -> AgendaChange
+        requires number { 0 < notice }
+        requires pending { IsSome (pending_at self.old.agenda.pending notice) }
+        ensures { Went result (after_taking self.old notice) self.old self.new }
+    {
+        // What is kept is known where a field is read.
+        let _board = &self.board;
+        let (entry, predecessor) = self.take_out(notice);
+        AgendaChange::TakenOff {
+            notice,
+            entry,
+            predecessor,
+        }
+    }
+
+    /// Takes a notice off, where it is pending; where it isn't (F11), all is left as it was.
+    pub fn cancel(&mut self, notice: u32) -> Result<AgendaChange, RunFault>
+        requires { 0 < notice }
+        ensures { IsCancelled result (may_cancel self.old.agenda notice)
+            (after_taking self.old notice) self.old self.new }
+    {
+        if self.slot(notice).is_none() {
+            return Err(RunFault::NotScheduled);
+        }
+        Ok(self.take(notice))
+    }
+}
+
+impl<S: SetBoard> Undo for Agenda<S> {
+    type Change = AgendaChange;
+
+    ghost fits = { Fits };
+
+    ghost unapply = { unapply };
+
+    fn undo(&mut self, change: AgendaChange) {
+        match change {
+            AgendaChange::Scheduled { notice, seated } => {
+                let _taken = self.take_out(notice);
+                self.unfile();
+                if seated {
+                    self.take_seat(notice);
+                }
+            }
+            AgendaChange::TakenOff {
+                notice,
+                entry,
+                predecessor,
+            } => self.put_back(notice, entry, predecessor),
+        }
+    }
+}
