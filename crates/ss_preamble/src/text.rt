@@ -26,9 +26,9 @@ use std::alloc::Global;
 /// # Errors
 ///
 /// - P1 at the word with which no preamble goes on; P2 at the last word, where the text ends before
-///   the preamble's END; P3 at the name that passes a limit (64 classes, 32 attributes of a class,
-///   256 variables, 64 sets, 8 keys of a ranking). Where several of them hold, the earliest word
-///   counts, then the lowest number (docs/LANGUAGE.md, "Refusals of the grammar").
+///   the preamble's END; P3 at the name that passes a limit of [`ss_words::limits`]: on classes,
+///   attributes of a class, variables, sets or keys of a ranking. Where several of them hold, the
+///   earliest word counts, then the lowest number (docs/LANGUAGE.md, "Refusals of the grammar").
 /// - `Memory` where memory was refused.
 #[tactic(auto, using(crate::proofs::Indexes::indexes_below))]
 pub fn preamble(alloc: Global, words: &Words) -> Result<(Decls, usize), TextFault>

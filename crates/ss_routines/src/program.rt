@@ -152,10 +152,10 @@ fn read(alloc: Global, text: &[PlainWord<'_>]) -> Result<Sections, TextFault>
 /// # Errors
 ///
 /// - P1 at the word with which no program goes on, P2 at the last word where the text ends and no
-///   program ends there, P3 at the word that passes a limit (50 parentheses, 64 IFs and 16 FOR
-///   phrases open at once, 32 parameters of a section, 256 sections); where several of them hold,
-///   the earliest word counts, then the lowest number (docs/LANGUAGE.md, "Refusals of the
-///   grammar").
+///   program ends there, P3 at the word that passes a limit of [`ss_words::limits`]: on the
+///   parentheses, IFs and FOR phrases open at once, a section's parameters or the sections; where
+///   several of them hold, the earliest word counts, then the lowest number (docs/LANGUAGE.md,
+///   "Refusals of the grammar").
 /// - `Memory` where memory was refused.
 pub fn sections(alloc: Global, words: &Words, from: usize) -> Result<Sections, TextFault>
     // The words spell one program within the limits, and these are its sections.

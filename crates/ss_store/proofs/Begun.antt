@@ -1,6 +1,6 @@
 -- A store of a program, with nothing made.
 use Rattle.std.proofs.lemmas.Bool.Decides.{nat_tests}
-use Rattle.std.proofs.Common.{◌≡◌, ◌≢◌, ◌⊎◌, inl, inr, ℕ, ℤ, zero, suc, ◌+◌, ◌<◌, ◌≤◌, ◌==◌, List, [], ◌∷◌, ◌++◌}
+use Rattle.std.proofs.Common.{◌≡◌, ℕ, ℤ, zero, suc, ◌+◌, ◌<◌, ◌≤◌, ◌==◌, List, [], ◌∷◌}
 use Rattle.std.proofs.Common.{length, map, take, replicate, refl, ap, sym, subst, ◌∙◌, arith, slice_get, slice_index_or}
 use Rattle.std.proofs.Common.{Option, Some, None, Bool, true, false, cond, nat_lt}
 use Rattle.std.specs.Prelude.{count_by, unwrap_or}
@@ -9,9 +9,9 @@ use Rattle.std.proofs.Math.Seq.{take-length}
 use Rattle.std.proofs.lemmas.List.Elements.{All-get_or}
 use Rattle.std.proofs.lemmas.List.Recursion.{is_count_by}
 use Rattle.std.proofs.lemmas.Option.{slice_get_past, slice_get_within, get_or_from_slice_get}
-use Rattle.std.proofs.lemmas.List.FromFn.{length-map-range_with_len, length-range_with_len}
+use Rattle.std.proofs.lemmas.List.FromFn.{length-map-range_with_len}
 use Rattle.std.proofs.lemmas.List.Sums.{count_by-le-length}
-use Rattle.ss_links.specs.Board.{Board, IsSound, empty_board, list_at}
+use Rattle.ss_links.specs.Board.{Board, IsSound, empty_board}
 use Rattle.ss_links.specs.Seats.{has}
 use Rattle.ss_program.specs.declared.kinds.Owner.{Owner}
 use Rattle.ss_program.specs.declared.kinds.Owner.TheVariants.{System, OwnedBy}
@@ -25,12 +25,11 @@ use Rattle.ss_store.specs.declared.shape.ClassShape.{ClassShape}
 use Rattle.ss_store.specs.declared.shape.SetShape.{SetShape}
 use Rattle.ss_store.specs.Tables.{Tables, class_of, class_shape, set_shape, joined_among, tables_of}
 use Rattle.ss_store.specs.Rows.{RowTable, EntityTable, no_rows, rows_in}
-use Rattle.ss_store.specs.Invariant.{IsStore, used_of}
+use Rattle.ss_store.specs.Invariant.{IsStore}
 use Rattle.ss_store.specs.Parts.{StoreParts, HeadEntry, SeatEntry}
-use Rattle.ss_store.specs.Tables.{AreTables, IsSet, owned_by}
-use Rattle.ss_store.specs.Value.{StoreValue}
+use Rattle.ss_store.specs.Tables.{AreTables, owned_by}
 use Rattle.ss_store.specs.Invariant.{used_made}
-use Rattle.ss_store.specs.Parts.{number_at, numbers_under, owned_from, made_with, zip_table, state_of, value_of}
+use Rattle.ss_store.specs.Parts.{number_at, numbers_under, owned_from, made_with, zip_table, value_of}
 use Rattle.ss_store.specs.Value.{empty_value}
 use Rattle.ss_store.specs.Making.{with_heads}
 use Rattle.ss_store.proofs.Core.{some_eq}

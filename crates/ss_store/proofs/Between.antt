@@ -1,5 +1,5 @@
 -- Where FILE puts a member, and which lists stay.
-use Rattle.std.proofs.Common.{◌≡◌, ◌≢◌, ◌⊎◌, inl, inr, ℕ, zero, suc, ◌==◌, ◌||◌, List, [], ◌∷◌, ◌++◌, refl, ap, sym}
+use Rattle.std.proofs.Common.{◌≡◌, ◌≢◌, inl, inr, ℕ, zero, suc, ◌==◌, ◌||◌, List, [], ◌∷◌, ◌++◌, refl, ap, sym}
 use Rattle.std.proofs.Common.{subst}
 use Rattle.std.proofs.Common.{◌∙◌, slice_get, slice_set, slice_index_or, Option, Some, None, Bool, true, false, cond}
 use Rattle.std.proofs.Common.{eqb→eq, T}
@@ -8,19 +8,14 @@ use Rattle.std.specs.Option.{option_map, option_or}
 use Rattle.ss_links.specs.Seats.{has, first_of, last_of, put_before, put_behind}
 use Rattle.ss_program.specs.declared.kinds.Discipline.{Discipline}
 use Rattle.ss_program.specs.declared.kinds.Discipline.TheVariants.{Fifo, Lifo, Ranked}
-use Rattle.ss_program.specs.declared.kinds.Owner.{Owner}
 use Rattle.ss_program.specs.declared.kinds.Owner.TheVariants.{System, OwnedBy}
-use Rattle.ss_store.specs.declared.shape.SetShape.{SetShape}
-use Rattle.ss_store.specs.declared.shape.How.{How}
 use Rattle.ss_store.specs.declared.shape.How.TheVariants.{ByRule, First, Last, Before, After}
 use Rattle.ss_store.specs.Lists.{change_at, placed_before}
-use Rattle.ss_store.specs.Store.{Entity, Store, number_of, of_class, made_of, entity, list_number, list_by}
-use Rattle.ss_store.specs.Store.{with_list_by}
-use Rattle.ss_store.specs.Store.{changed_reference, with_changed, with_owned}
-use Rattle.ss_store.specs.Filing.{ranks_behind, filed_by, filed_in, names_member}
-use Rattle.ss_store.specs.Places.{NonePasses, FirstPasses, IsRulePlace, IsPlace, IsBetween, FiledBetween, IsOther}
+use Rattle.ss_store.specs.Store.{Entity, Store, number_of, of_class, made_of, list_number}
+use Rattle.ss_store.specs.Store.{changed_reference, with_owned}
+use Rattle.ss_store.specs.Filing.{ranks_behind, filed_by}
+use Rattle.ss_store.specs.Places.{NonePasses, FirstPasses, IsRulePlace, FiledBetween}
 use Rattle.ss_store.specs.Places.{OtherListsStay}
-use Rattle.ss_store.proofs.Core.{some_eq}
 use Rattle.ss_store.proofs.Relist.{is_or_not}
 use Rattle.ss_store.proofs.More.{index_other}
 

@@ -1,10 +1,9 @@
 -- The entities of a class made one after another.
 use Rattle.std.proofs.lemmas.Bool.Decides.{nat_tests}
-use Rattle.std.proofs.Common.{◌≡◌, ℕ, ℤ, zero, suc, ◌+◌, ◌-◌, ◌<◌, ◌≤◌, ◌==◌, ◌&&◌, List, [], ◌∷◌, ◌++◌, length}
-use Rattle.std.proofs.Common.{replicate, refl, ap, sym, subst, ◌∙◌, arith, slice_get, slice_set, slice_index_or, Option}
+use Rattle.std.proofs.Common.{◌≡◌, ℕ, ℤ, zero, suc, ◌+◌, ◌<◌, ◌≤◌, ◌==◌, ◌&&◌, List, [], ◌∷◌, ◌++◌, length}
+use Rattle.std.proofs.Common.{replicate, refl, ap, sym, subst, ◌∙◌, arith, slice_set, slice_index_or}
 use Rattle.std.proofs.Common.{Some, None, Bool, true, false, cond, nat_lt, nat_le}
-use Rattle.std.specs.Prelude.{Result, Ok, Err}
-use Rattle.ss_words.specs.declared.fault.RunFault.{RunFault}
+use Rattle.std.specs.Prelude.{Ok, Err}
 use Rattle.ss_words.specs.declared.fault.RunFault.TheVariants.{AlreadyCreated, CountOutOfRange, TooManyReferences}
 use Rattle.ss_words.specs.declared.fault.StepFault.TheVariants.{Fault, Memory}
 use Rattle.ss_store.specs.declared.rows.Row.{Row}
@@ -12,16 +11,15 @@ use Rattle.ss_store.specs.declared.shape.ClassShape.{ClassShape}
 use Rattle.ss_store.specs.declared.change.StoreChange.TheVariants.{Created, ClassCreated}
 use Rattle.ss_store.specs.Lists.{change_at}
 use Rattle.ss_store.specs.Tables.{Tables, class_of}
-use Rattle.ss_store.specs.Store.{Entity, Store, made_of, number_of, fresh, with_reference, with_made, with_new}
+use Rattle.ss_store.specs.Store.{Store, made_of, number_of, fresh, with_reference, with_made, with_new}
 use Rattle.ss_store.specs.Store.{with_class}
 use Rattle.ss_store.specs.declared.limits.TheConstants.{MOST_ENTITIES}
 use Rattle.ss_words.specs.declared.limits.TheConstants.{MOST_REFERENCES}
 use Rattle.ss_store.specs.Change.{FitsCreated, Leaves, IsCreation, IsMaking, unapply_store}
-use Rattle.ss_store.specs.Value.{Layout, StoreValue}
+use Rattle.ss_store.specs.Value.{StoreValue}
 use Rattle.ss_store.specs.Making.{numbering_by, numbering, with_entity, rows_of_numbering, layout_with, but_last}
 use Rattle.ss_store.specs.Making.{without_last}
-use Rattle.ss_store.specs.Making.{one_more, one_less, FitsLast, HasRoom, Makes, MakesAll, TakesOff}
-use Rattle.ss_store.proofs.Core.{some_eq}
+use Rattle.ss_store.specs.Making.{one_less, FitsLast, HasRoom, Makes, MakesAll, TakesOff}
 use Rattle.ss_store.proofs.More.{length_more, change_change, change_none, index_get}
 
 assoc : {A : Type 0} (xs ys zs : List A) → (xs ++ ys) ++ zs ≡ xs ++ (ys ++ zs)

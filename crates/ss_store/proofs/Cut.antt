@@ -1,13 +1,13 @@
 -- The last entity taken off: what is held was the rest, grown by it.
 use Rattle.std.proofs.lemmas.Bool.Decides.{nat_tests}
-use Rattle.std.proofs.Common.{◌≡◌, ◌≢◌, ◌⊎◌, inl, inr, ℕ, ℤ, zero, suc, ◌+◌, ◌-◌, ◌<◌, ◌≤◌, ◌==◌, List, [], ◌∷◌, ◌++◌}
-use Rattle.std.proofs.Common.{length, map, take, replicate, refl, ap, sym, subst, ◌∙◌, arith, slice_get, slice_index_or}
+use Rattle.std.proofs.Common.{◌≡◌, ◌⊎◌, inl, inr, ℕ, ℤ, zero, suc, ◌+◌, ◌-◌, ◌<◌, ◌≤◌, List, [], ◌∷◌, ◌++◌}
+use Rattle.std.proofs.Common.{length, map, take, replicate, refl, ap, sym, subst, ◌∙◌, arith, slice_get}
 use Rattle.std.proofs.Common.{Option, Some, None, true, false, length-append}
 use Rattle.std.proofs.Math.Seq.{take-append_seam}
 use Rattle.std.proofs.lemmas.List.{length-take-le}
 use Rattle.std.specs.Option.{option_map}
-use Rattle.ss_links.specs.Board.{Board, IsSound, list_at}
-use Rattle.ss_links.specs.Seats.{has, times_in}
+use Rattle.ss_links.specs.Board.{IsSound, list_at}
+use Rattle.ss_links.specs.Seats.{has}
 use Rattle.ss_links.proofs.BoardLaws.{times-list_at}
 use Rattle.ss_links.proofs.SeatLaws.{times_in-present}
 use Rattle.ss_program.specs.declared.kinds.Owner.{Owner}
@@ -15,20 +15,17 @@ use Rattle.ss_program.specs.declared.kinds.Owner.TheVariants.{System, OwnedBy}
 use Rattle.ss_store.specs.declared.rows.Row.{Row}
 use Rattle.ss_store.specs.declared.shape.ClassShape.{ClassShape}
 use Rattle.ss_store.specs.declared.shape.SetShape.{SetShape}
-use Rattle.ss_store.specs.Lists.{change_at}
 use Rattle.ss_store.specs.Tables.{class_of}
 use Rattle.ss_store.specs.Rows.{RowTable, EntityTable, no_rows, rows_in, row_of}
-use Rattle.ss_store.specs.declared.limits.TheConstants.{MOST_ENTITIES}
-use Rattle.ss_words.specs.declared.limits.TheConstants.{MOST_REFERENCES}
-use Rattle.ss_store.specs.Invariant.{IsStore, IsRow, Joins}
-use Rattle.ss_store.specs.Parts.{StoreParts, HeadEntry, SeatEntry, head_at, head_by, seat_at, number_at}
+use Rattle.ss_store.specs.Invariant.{IsStore, IsRow}
+use Rattle.ss_store.specs.Parts.{StoreParts, SeatEntry, head_by, seat_at}
 use Rattle.ss_store.specs.Making.{with_row, without_last_row, with_table, heads_for, seats_for, next_number, next_row}
 use Rattle.ss_store.specs.Making.{with_next_entity, without_last_entity}
-use Rattle.ss_store.proofs.Core.{some_eq, Found, found, map_some, made_none}
+use Rattle.ss_store.proofs.Core.{found, map_some, made_none}
 use Rattle.ss_store.proofs.Agree.{get_below, length_mapped}
-use Rattle.ss_store.proofs.More.{right, split_get, length_more, same_fronts, tail_is, length_rep, change_change}
+use Rattle.ss_store.proofs.More.{split_get, length_more, same_fronts, tail_is, length_rep, change_change}
 use Rattle.ss_store.proofs.More.{change_none, index_get, IsTable, table_case, table_here, table_made, used_grown}
-use Rattle.ss_store.proofs.Grown.{Grows, IsNew, length_heads, length_seats, get_heads, get_seats, heads_of_one}
+use Rattle.ss_store.proofs.Grown.{Grows, length_heads, length_seats, get_heads, get_seats, heads_of_one}
 use Rattle.ss_store.proofs.Grown.{seats_of_one, seat_numbers, map_both, list_more, list_past, row_kept, value_kept}
 use Rattle.ss_store.proofs.Grown.{row_was, value_was, refound}
 

@@ -1,38 +1,37 @@
 -- What ending an entity answers, and bringing it back.
-use Rattle.std.proofs.Common.{◌≡◌, ◌≢◌, ◌⊎◌, inl, inr, ℕ, ℤ, zero, suc, ◌+◌, ◌-◌, ◌<◌, ◌==◌, ◌&&◌, List, [], length}
-use Rattle.std.proofs.Common.{refl, ap, sym, subst, ◌∙◌, arith, slice_get, slice_set, slice_index_or, Option, Some}
+use Rattle.std.proofs.Common.{◌≡◌, ℕ, ℤ, suc, ◌+◌, ◌-◌, ◌<◌, ◌==◌, ◌&&◌, List, length}
+use Rattle.std.proofs.Common.{refl, ap, sym, subst, ◌∙◌, arith, slice_get, Option, Some}
 use Rattle.std.proofs.Common.{None}
 use Rattle.std.proofs.Common.{Bool, true, false, set}
 use Rattle.std.specs.Global.{Vec}
-use Rattle.std.specs.Prelude.{is_some, Result, Ok, Err, unwrap_or}
+use Rattle.std.specs.Prelude.{is_some, Result, Ok, Err}
 use Rattle.std.specs.Option.{option_map}
 use Rattle.std.specs.List.{list_any}
 use Rattle.ss_words.specs.declared.fault.RunFault.{RunFault}
 use Rattle.ss_words.specs.declared.fault.RunFault.TheVariants.{NoEntity, EndedInUse, EndedOwner}
 use Rattle.ss_links.specs.Board.{list_at, head_of}
-use Rattle.ss_store.specs.declared.change.StoreChange.{StoreChange}
 use Rattle.ss_store.specs.declared.change.StoreChange.TheVariants as change
 use Rattle.ss_store.specs.declared.rows.Row.{Row}
 use Rattle.ss_store.specs.declared.shape.SetShape.{SetShape}
 use Rattle.ss_store.specs.declared.shape.ClassShape.{ClassShape}
 use Rattle.ss_store.specs.Tables.{Tables, class_of}
 use Rattle.ss_store.specs.Rows.{EntityTable, rows_in, row_of}
-use Rattle.ss_store.specs.Store.{Store, Entity, entity, exists, is_member, is_filled, owns_members, without_reference}
+use Rattle.ss_store.specs.Store.{Store, entity, exists, is_member, is_filled, owns_members, without_reference}
 use Rattle.ss_store.specs.Store.{AreInRange, without_entity, with_back, entity_back}
 use Rattle.ss_store.specs.Invariant.{IsStore}
-use Rattle.ss_store.specs.Parts.{StoreParts, HeadEntry, SeatEntry, seat_at, numbers_under, owned_from}
+use Rattle.ss_store.specs.Parts.{StoreParts, HeadEntry, SeatEntry, numbers_under, owned_from}
 use Rattle.ss_store.specs.Tables.{IsSet}
 use Rattle.ss_store.specs.Value.{StoreValue}
 use Rattle.ss_store.specs.Parts.{entity_with, reference_with, state_of, layout_of, value_of}
 use Rattle.ss_store.specs.Making.{numbering_by, with_table}
 use Rattle.ss_store.specs.Writing.{with_values}
-use Rattle.ss_store.specs.Change.{FitsEnded, IsOutcome, Leaves, unapply_store}
-use Rattle.ss_store.proofs.Core.{some_eq, Found, found}
+use Rattle.ss_store.specs.Change.{FitsEnded, IsOutcome, Leaves}
+use Rattle.ss_store.proofs.Core.{some_eq, found}
 use Rattle.ss_store.proofs.Relist.{zipped_some}
 use Rattle.ss_store.proofs.Agree.{get_below, entity_is, reference_get, seat_below}
 use Rattle.ss_store.proofs.Made.{At}
-use Rattle.ss_store.proofs.Taken.{its_table, row_some, unfilled}
-use Rattle.ss_store.proofs.Written.{get_set, set_twice, set_same, set_to}
+use Rattle.ss_store.proofs.Taken.{its_table, unfilled}
+use Rattle.ss_store.proofs.Written.{get_set, set_twice, set_same}
 use Rattle.ss_store.proofs.Ended.{put, put_state, is_back, Ends, ended_store, Ended, back_store, ended_empty}
 use Rattle.ss_store.proofs.Ended.{members_are}
 use Rattle.ss_store.proofs.Ended.{owns_is}

@@ -1,6 +1,6 @@
 -- A reference ended, and brought back: what is held is a store still, and the state has another reference.
 use Rattle.std.proofs.lemmas.Bool.Decides.{nat_tests}
-use Rattle.std.proofs.Common.{◌≡◌, ◌≢◌, ◌⊎◌, inl, inr, ℕ, ℤ, zero, suc, ◌+◌, ◌-◌, ◌<◌, ◌≤◌, ◌==◌, ◌||◌, ◌&&◌}
+use Rattle.std.proofs.Common.{◌≡◌, ◌≢◌, inl, inr, ℕ, ℤ, zero, suc, ◌+◌, ◌<◌, ◌==◌, ◌||◌, ◌&&◌}
 use Rattle.std.proofs.Common.{List, [], ◌∷◌, length, map, replicate, refl, ap, sym, subst, ◌∙◌, arith, slice_get}
 use Rattle.std.proofs.Common.{Option, Some, None, Bool, true, false, set, length-set, eqb→eq, T}
 use Rattle.std.specs.Prelude.{is_some}
@@ -13,13 +13,12 @@ use Rattle.ss_program.specs.declared.kinds.Owner.{Owner}
 use Rattle.ss_program.specs.declared.kinds.Owner.TheVariants.{System, OwnedBy}
 use Rattle.ss_store.specs.declared.rows.Row.{Row}
 use Rattle.ss_store.specs.declared.shape.SetShape.{SetShape}
-use Rattle.ss_store.specs.declared.shape.ClassShape.{ClassShape}
-use Rattle.ss_store.specs.Tables.{class_in, class_of}
-use Rattle.ss_store.specs.Rows.{RowTable, EntityTable, rows_in, row_of}
-use Rattle.ss_store.specs.Store.{Entity, Store, entity, exists, is_filed, is_member, is_filled, owns_members}
+use Rattle.ss_store.specs.Tables.{class_of}
+use Rattle.ss_store.specs.Rows.{rows_in, row_of}
+use Rattle.ss_store.specs.Store.{entity, is_filed, is_member, is_filled, owns_members}
 use Rattle.ss_store.specs.Store.{AreInRange, entity_back}
 use Rattle.ss_store.specs.Invariant.{IsStore, IsRow, Joins}
-use Rattle.ss_store.specs.Parts.{StoreParts, HeadEntry, owner_number, head_at, head_by}
+use Rattle.ss_store.specs.Parts.{StoreParts, HeadEntry, owner_number, head_by}
 use Rattle.ss_store.specs.Tables.{IsSet, owned_by}
 use Rattle.ss_store.specs.Parts.{seat_at, number_at, numbers_under, owned_from, entity_with, reference_with}
 use Rattle.ss_store.specs.Parts.{zip_rows, state_of}

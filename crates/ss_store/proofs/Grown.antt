@@ -1,35 +1,28 @@
 -- An entity made: what is held is a store still, and the state has one entity more.
 use Rattle.std.proofs.lemmas.Bool.Decides.{nat_tests}
-use Rattle.std.proofs.Common.{◌≡◌, ◌≢◌, ◌⊎◌, inl, inr, ℕ, ℤ, pos, zero, suc, ◌+◌, ◌<◌, ◌≤◌, ◌==◌, List, [], ◌∷◌, ◌++◌}
-use Rattle.std.proofs.Common.{length, map, replicate, refl, ap, sym, subst, ◌∙◌, arith, slice_get, slice_index_or}
+use Rattle.std.proofs.Common.{◌≡◌, ◌⊎◌, inl, inr, ℕ, ℤ, zero, suc, ◌+◌, ◌<◌, ◌≤◌, ◌==◌, List, [], ◌∷◌, ◌++◌}
+use Rattle.std.proofs.Common.{length, map, replicate, refl, ap, sym, subst, ◌∙◌, arith, slice_get}
 use Rattle.std.proofs.Common.{Option, Some, None, true, false, cond, length-append}
 use Rattle.std.specs.Option.{option_map, option_or}
-use Rattle.ss_links.specs.Board.{Board, IsSound, list_at, head_of}
+use Rattle.ss_links.specs.Board.{IsSound, list_at}
 use Rattle.ss_links.specs.Seats.{has}
-use Rattle.ss_links.proofs.BoardLaws.{head_of-list_at, times-list_at}
 use Rattle.ss_program.specs.declared.kinds.Owner.{Owner}
 use Rattle.ss_program.specs.declared.kinds.Owner.TheVariants.{System, OwnedBy}
 use Rattle.ss_store.specs.declared.rows.Row.{Row}
 use Rattle.ss_store.specs.declared.shape.ClassShape.{ClassShape}
 use Rattle.ss_store.specs.declared.shape.SetShape.{SetShape}
-use Rattle.ss_store.specs.Lists.{change_at}
 use Rattle.ss_store.specs.Tables.{class_of}
-use Rattle.ss_store.specs.Rows.{RowTable, EntityTable, no_rows, rows_in, row_if, row_in, row_of}
-use Rattle.ss_store.specs.Store.{Entity, Store, AreInRange}
+use Rattle.ss_store.specs.Rows.{RowTable, EntityTable, rows_in, row_in, row_of}
+use Rattle.ss_store.specs.Store.{AreInRange}
 use Rattle.ss_store.specs.declared.limits.TheConstants.{MOST_ENTITIES}
 use Rattle.ss_words.specs.declared.limits.TheConstants.{MOST_REFERENCES}
-use Rattle.ss_store.specs.Invariant.{IsStore, IsRow, Joins}
-use Rattle.ss_store.specs.Parts.{StoreParts, HeadEntry, SeatEntry, head_at, head_by, seat_at}
-use Rattle.ss_store.specs.Tables.{IsSet}
-use Rattle.ss_store.specs.Parts.{number_at, numbers_under, owned_from, reference_with, made_with, zip_rows}
-use Rattle.ss_store.specs.Parts.{zip_table, state_of}
-use Rattle.ss_store.specs.Parts.{state_at}
-use Rattle.ss_store.specs.Making.{with_row, with_table, heads_for, seats_for, next_number, next_row, with_next_entity}
-use Rattle.ss_store.proofs.Core.{some_eq, Found, found, map_some, seat_entry, made_none, index_some}
-use Rattle.ss_store.proofs.Agree.{get_below, length_mapped}
-use Rattle.ss_store.proofs.Boards.{map-append}
-use Rattle.ss_store.proofs.More.{left, right, split_get, more_get, length_more, same_fronts, length_rep, length_change}
-use Rattle.ss_store.proofs.More.{map_change, IsTable, table_case, table_here, table_made, used_grown, index_get}
+use Rattle.ss_store.specs.Invariant.{IsStore, IsRow}
+use Rattle.ss_store.specs.Parts.{StoreParts, HeadEntry, SeatEntry, head_by, seat_at}
+use Rattle.ss_store.specs.Making.{with_row, heads_for, seats_for, next_number, next_row, with_next_entity}
+use Rattle.ss_store.proofs.Core.{some_eq, found, map_some, made_none}
+use Rattle.ss_store.proofs.Agree.{get_below}
+use Rattle.ss_store.proofs.More.{left, right, more_get, length_more, length_rep}
+use Rattle.ss_store.proofs.More.{IsTable, table_case, table_made, used_grown}
 
 -- an entity of class c with these attributes, in its numbering
 pub record Grows (g : StoreParts) (w : Option ℕ) (c : ℕ) (shape : ClassShape) (v : List ℤ) : Type 0 where

@@ -1,26 +1,24 @@
 -- The state once an entity is made, and once it is taken off again.
 use Rattle.std.proofs.lemmas.Bool.Decides.{nat_tests}
-use Rattle.std.proofs.Common.{◌≡◌, ◌⊎◌, inl, inr, ℕ, ℤ, pos, zero, suc, ◌+◌, ◌-◌, ◌<◌, ◌≤◌, List, [], ◌∷◌, ◌++◌, length}
-use Rattle.std.proofs.Common.{map, take, replicate, refl, ap, sym, subst, ◌∙◌, arith, slice_get, slice_index_or, Option}
-use Rattle.std.proofs.Common.{Some, None, true, false, cond, length-append}
+use Rattle.std.proofs.Common.{◌≡◌, inl, inr, ℕ, ℤ, pos, zero, suc, ◌+◌, ◌-◌, ◌<◌, ◌≤◌, List, [], ◌∷◌, ◌++◌, length}
+use Rattle.std.proofs.Common.{map, take, replicate, refl, ap, sym, subst, ◌∙◌, arith, Option}
+use Rattle.std.proofs.Common.{Some, None, true, cond, length-append}
 use Rattle.std.proofs.Math.Seq.{take-append_seam}
 use Rattle.ss_links.specs.Board.{list_at}
 use Rattle.ss_links.specs.Seats.{has}
 use Rattle.ss_store.specs.declared.rows.Row.{Row}
 use Rattle.ss_store.specs.declared.shape.ClassShape.{ClassShape}
-use Rattle.ss_store.specs.Lists.{change_at}
 use Rattle.ss_store.specs.Tables.{Tables, class_of}
 use Rattle.ss_store.specs.Rows.{RowTable, EntityTable, no_rows, rows_in}
 use Rattle.ss_store.specs.Store.{Entity, Store, fresh}
 use Rattle.ss_store.specs.Invariant.{IsStore}
 use Rattle.ss_store.specs.Parts.{StoreParts, number_at, numbers_under, owned_from, entity_with}
-use Rattle.ss_store.specs.Value.{Layout, StoreValue}
+use Rattle.ss_store.specs.Value.{Layout}
 use Rattle.ss_store.specs.Parts.{reference_with, made_with, zip_rows, zip_table, state_of, state_at, layout_of}
 use Rattle.ss_store.specs.Parts.{value_of}
-use Rattle.ss_store.specs.Making.{numbering, with_row, with_table, next_row, with_next_entity, with_entity, with_more}
+use Rattle.ss_store.specs.Making.{numbering, with_row, with_table, next_row, with_next_entity, with_entity}
 use Rattle.ss_store.specs.Making.{rows_of_numbering}
 use Rattle.ss_store.specs.Making.{layout_with, one_more, but_last, without_last, one_less}
-use Rattle.ss_store.proofs.Core.{seat_entry}
 use Rattle.ss_store.proofs.Agree.{seat_below, numbers_length}
 use Rattle.ss_store.proofs.Relist.{index_map}
 use Rattle.ss_store.proofs.More.{length_more, length_rep, change_change, change_none, map_change, index_get}

@@ -1,6 +1,6 @@
 -- What making an entity answers.
 use Rattle.std.proofs.lemmas.Bool.Decides.{nat_tests}
-use Rattle.std.proofs.Common.{◌≡◌, ◌≢◌, ◌⊎◌, inl, inr, ℕ, ℤ, pos, zero, suc, ◌+◌, ◌-◌, ◌*◌, ◌<◌, ◌≤◌, ◌==◌, ◌||◌, ◌&&◌}
+use Rattle.std.proofs.Common.{◌≡◌, ◌⊎◌, inl, inr, ℕ, ℤ, pos, zero, suc, ◌+◌, ◌-◌, ◌*◌, ◌<◌, ◌≤◌, ◌==◌, ◌||◌, ◌&&◌}
 use Rattle.std.proofs.Common.{◌^◌, List, [], ◌∷◌, ◌++◌, length, map, replicate, refl, ap, sym, subst, ◌∙◌, arith}
 use Rattle.std.proofs.Common.{slice_get, slice_index_or, Option, Some, None, Bool, true, false, cond, eqb→eq, T}
 use Rattle.std.proofs.Common.{length-append}
@@ -14,7 +14,7 @@ use Rattle.ss_links.proofs.SeatLaws.{times_in-present}
 use Rattle.ss_store.specs.declared.rows.Row.{Row}
 use Rattle.ss_store.specs.declared.shape.ClassShape.{ClassShape}
 use Rattle.ss_store.specs.declared.shape.SetShape.{SetShape}
-use Rattle.ss_store.specs.Tables.{Tables, class_in, class_of}
+use Rattle.ss_store.specs.Tables.{class_in, class_of}
 use Rattle.ss_store.specs.Rows.{RowTable, EntityTable, rows_in, row_of}
 use Rattle.ss_store.specs.Store.{AreInRange, Store, Entity, entity, made_of, exists, is_filed, is_member, is_filled}
 use Rattle.ss_store.specs.Store.{owns_members}
@@ -22,19 +22,18 @@ use Rattle.ss_store.specs.declared.limits.TheConstants.{MOST_ENTITIES}
 use Rattle.ss_words.specs.declared.limits.TheConstants.{MOST_REFERENCES}
 use Rattle.ss_store.specs.Invariant.{IsStore, used_of, used_made}
 use Rattle.ss_store.specs.Parts.{StoreParts, HeadEntry, SeatEntry}
-use Rattle.ss_store.specs.Tables.{IsSet, table_limit}
 use Rattle.ss_store.specs.Value.{StoreValue}
 use Rattle.ss_store.specs.Invariant.{used_in}
 use Rattle.ss_store.specs.Parts.{seat_at, number_at, numbers_under, owned_from, reference_with, made_with, zip_rows}
 use Rattle.ss_store.specs.Parts.{layout_of, state_of, value_of}
 use Rattle.ss_store.specs.Making.{numbering_by, numbering, numbering_limit, with_row, with_table, heads_for, seats_for}
-use Rattle.ss_store.specs.Making.{with_places, next_row, with_next_entity, rows_of_numbering, one_more, one_less}
+use Rattle.ss_store.specs.Making.{with_places, next_row, with_next_entity, rows_of_numbering}
 use Rattle.ss_store.specs.Making.{FitsLast, HasRoom, Makes}
-use Rattle.ss_store.proofs.Core.{some_eq, Found, found}
-use Rattle.ss_store.proofs.Agree.{made_is, get_read, get_below, entity_some, entity_is, is_filed_is, numbers_length}
+use Rattle.ss_store.proofs.Core.{found}
+use Rattle.ss_store.proofs.Agree.{made_is, get_read, entity_some, entity_is, is_filed_is}
 use Rattle.ss_store.proofs.More.{right, length_more, length_rep, index_get, IsTable, table_here}
-use Rattle.ss_store.proofs.Grown.{Grows, row_kept, value_kept, refound, list_more, list_past, grown_store}
-use Rattle.ss_store.proofs.GrownState.{look_more, kept_rows_are, numbering_is, grown_kept, grown_value, less_value}
+use Rattle.ss_store.proofs.Grown.{Grows, refound, list_more, list_past, grown_store}
+use Rattle.ss_store.proofs.GrownState.{look_more, kept_rows_are, numbering_is, grown_value, less_value}
 
 -- a call on a class of a store
 pub record At (g : StoreParts) (v : StoreValue) (c : ℕ) (shape : ClassShape) : Type 0 where

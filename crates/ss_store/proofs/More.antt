@@ -1,5 +1,5 @@
 -- Lists with something behind them, and numberings changed.
-use Rattle.std.proofs.Common.{◌≡◌, ◌≢◌, ◌⊎◌, inl, inr, ℕ, ℤ, zero, suc, ◌+◌, ◌-◌, ◌<◌, ◌≤◌, List, [], ◌∷◌, ◌++◌, length}
+use Rattle.std.proofs.Common.{◌≡◌, ◌≢◌, ◌⊎◌, inl, inr, ℕ, ℤ, zero, suc, ◌+◌, ◌<◌, List, [], ◌∷◌, ◌++◌, length}
 use Rattle.std.proofs.Common.{map, take, replicate, refl, ap, sym, subst, ◌∙◌, arith, slice_get, slice_index_or, Option}
 use Rattle.std.proofs.Common.{Some, None, length-append}
 use Rattle.std.proofs.Math.Seq.{take-append_seam}

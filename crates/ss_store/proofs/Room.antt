@@ -1,5 +1,5 @@
 -- Heads, seats and rows made and taken off.
-use Rattle.std.proofs.Common.{◌≡◌, ℕ, ℤ, zero, suc, ◌+◌, ◌-◌, ◌<◌, ◌≤◌, List, [], ◌∷◌, ◌++◌, length, map, take}
+use Rattle.std.proofs.Common.{◌≡◌, ℕ, ℤ, zero, suc, ◌-◌, ◌<◌, ◌≤◌, List, [], ◌∷◌, ◌++◌, length, map, take}
 use Rattle.std.proofs.Common.{replicate, refl, ap, sym, subst, ◌∙◌, arith, slice_get, slice_set, slice_index_or, Option}
 use Rattle.std.proofs.Common.{Some, None, Bool, true, false, length-set, length-append}
 use Rattle.std.proofs.Math.Seq.{take-append_seam}

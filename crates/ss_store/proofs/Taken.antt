@@ -1,31 +1,28 @@
 -- What taking the last entity off answers.
 use Rattle.std.proofs.lemmas.Bool.Decides.{nat_tests}
-use Rattle.std.proofs.Common.{◌≡◌, ◌≢◌, ◌⊎◌, inl, inr, ℕ, ℤ, zero, suc, ◌+◌, ◌-◌, ◌<◌, ◌≤◌, ◌==◌, ◌||◌, ◌&&◌, List, []}
+use Rattle.std.proofs.Common.{◌≡◌, inl, inr, ℕ, ℤ, zero, suc, ◌+◌, ◌-◌, ◌<◌, ◌≤◌, ◌==◌, ◌||◌, ◌&&◌, List, []}
 use Rattle.std.proofs.Common.{◌∷◌, length, map, take, refl, ap, sym, subst, ◌∙◌, arith, slice_get, Option, Some, None}
-use Rattle.std.proofs.Common.{Bool, true, false, cond, nat_lt}
+use Rattle.std.proofs.Common.{Bool, true, false, nat_lt}
 use Rattle.std.specs.Prelude.{is_some}
-use Rattle.std.specs.Option.{option_map}
 use Rattle.std.specs.List.{list_any}
 use Rattle.ss_links.specs.Board.{Board, IsSound, list_at, head_of}
-use Rattle.ss_links.specs.Seats.{has}
-use Rattle.ss_links.proofs.BoardLaws.{head_of-found, head_of-free}
+use Rattle.ss_links.proofs.BoardLaws.{head_of-found}
 use Rattle.ss_store.specs.declared.rows.Row.{Row}
 use Rattle.ss_store.specs.declared.shape.ClassShape.{ClassShape}
 use Rattle.ss_store.specs.declared.shape.SetShape.{SetShape}
 use Rattle.ss_store.specs.Tables.{class_of}
-use Rattle.ss_store.specs.Rows.{RowTable, EntityTable, rows_in, row_of}
-use Rattle.ss_store.specs.Store.{Store, Entity, entity, exists, is_filed, is_member, is_filled, owns_members}
+use Rattle.ss_store.specs.Rows.{EntityTable, rows_in, row_of}
+use Rattle.ss_store.specs.Store.{Store, is_filed, is_member, is_filled, owns_members}
 use Rattle.ss_store.specs.Invariant.{IsStore}
-use Rattle.ss_store.specs.Parts.{StoreParts, HeadEntry, SeatEntry, seat_at, number_at, numbers_under}
-use Rattle.ss_store.specs.Tables.{IsSet}
+use Rattle.ss_store.specs.Parts.{StoreParts, HeadEntry, SeatEntry, number_at, numbers_under}
 use Rattle.ss_store.specs.Value.{StoreValue}
 use Rattle.ss_store.specs.Parts.{owned_from, layout_of, state_of, value_of}
-use Rattle.ss_store.specs.Making.{numbering_by, numbering, without_last_row, with_table, with_next_entity}
+use Rattle.ss_store.specs.Making.{numbering_by, numbering, without_last_row, with_table}
 use Rattle.ss_store.specs.Making.{without_last_entity, rows_of_numbering, one_less, CanShrink}
 use Rattle.ss_store.specs.Making.{FitsLast, TakesOff}
 use Rattle.ss_store.proofs.Core.{some_eq, Found, found, seat_entry}
 use Rattle.ss_store.proofs.Agree.{get_below, entity_some, entity_is, is_filed_is}
-use Rattle.ss_store.proofs.Grown.{Grows, list_past}
+use Rattle.ss_store.proofs.Grown.{list_past}
 use Rattle.ss_store.proofs.GrownState.{kept_rows_are, less_value}
 use Rattle.ss_store.proofs.Cut.{Last, cut_heads, cut_grown, cut_grows, cut_store}
 use Rattle.ss_store.proofs.Made.{At, table_there, which_numbering}

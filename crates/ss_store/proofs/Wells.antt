@@ -1,36 +1,35 @@
 -- What is held is a well-formed store.
 use Rattle.std.proofs.lemmas.Bool.Decides.{nat_tests}
-use Rattle.std.proofs.Common.{◌≡◌, ◌≢◌, ◌⊎◌, inl, inr, ℕ, ℤ, zero, suc, ◌+◌, ◌<◌, ◌≤◌, ◌==◌, ◌||◌, List, [], ◌∷◌, ◌++◌}
-use Rattle.std.proofs.Common.{length, map, refl, ap, sym, subst, ◌∙◌, arith, slice_get, Option, Some, None, Bool, true}
+use Rattle.std.proofs.Common.{◌≡◌, ℕ, ℤ, zero, suc, ◌+◌, ◌<◌, ◌≤◌, ◌==◌, ◌||◌, List, [], ◌∷◌, ◌++◌}
+use Rattle.std.proofs.Common.{length, map, refl, ap, sym, subst, ◌∙◌, arith, slice_get, Option, Some, None, true}
 use Rattle.std.proofs.Common.{false}
 use Rattle.std.proofs.Common.{cond, eqb→eq, T}
 use Rattle.std.specs.Prelude.{filter_map, is_some}
 use Rattle.std.specs.Option.{option_map}
 use Rattle.std.specs.List.{cons_option}
-use Rattle.ss_links.specs.Board.{Board, list_at, head_of, times}
+use Rattle.ss_links.specs.Board.{list_at, head_of, times}
 use Rattle.ss_links.specs.Seats.{has, times_in}
 use Rattle.ss_links.proofs.SeatLaws.{times_in-absent}
 use Rattle.ss_links.proofs.BoardLaws.{head_of-list_at, times-list_at}
 use Rattle.ss_program.specs.declared.kinds.Owner.{Owner}
 use Rattle.ss_program.specs.declared.kinds.Owner.TheVariants.{System, OwnedBy}
 use Rattle.ss_store.specs.declared.rows.Row.{Row}
-use Rattle.ss_store.specs.declared.shape.ClassShape.{ClassShape}
 use Rattle.ss_store.specs.declared.shape.SetShape.{SetShape}
-use Rattle.ss_store.specs.Tables.{Tables, class_in, class_of}
+use Rattle.ss_store.specs.Tables.{class_in, class_of}
 use Rattle.ss_store.specs.Rows.{rows_in, row_of}
-use Rattle.ss_store.specs.Store.{Entity, Store, of_class, made_of, entity, entities, exists, list_number, lists_by}
+use Rattle.ss_store.specs.Store.{Entity, of_class, made_of, entity, entities, exists, list_number, lists_by}
 use Rattle.ss_store.specs.Store.{is_filed}
 use Rattle.ss_store.specs.Invariant.{IsStore}
 use Rattle.ss_store.specs.Parts.{StoreParts, HeadEntry, owner_number, head_at, head_by, seat_at}
 use Rattle.ss_store.specs.Tables.{IsSet, owned_by}
 use Rattle.ss_store.specs.Parts.{number_at, numbers_under}
-use Rattle.ss_store.specs.Parts.{owned_from, entity_with, reference_with, made_with, zip_rows, zip_table, state_of}
-use Rattle.ss_store.specs.WellStore.{Each, IsEntity, IsReference, AreMembers, IsWellStore}
+use Rattle.ss_store.specs.Parts.{owned_from, entity_with, reference_with, made_with, zip_table, state_of}
+use Rattle.ss_store.specs.WellStore.{Each, IsEntity, IsReference, IsWellStore}
 use Rattle.ss_store.proofs.Core.{some_eq, head_entry, seat_number, member_of}
-use Rattle.ss_store.proofs.Relist.{zipped_get, zipped_some, reference_class}
+use Rattle.ss_store.proofs.Relist.{zipped_some, reference_class}
 use Rattle.ss_store.proofs.Boards.{Apart}
 use Rattle.ss_store.proofs.Agree.{made_is, made_living, list_owner, stands_index, apart, member_is, length_mapped}
-use Rattle.ss_store.proofs.Agree.{entity_by, get_append, get_map, map_get, class_some, list_look, entity_some}
+use Rattle.ss_store.proofs.Agree.{get_map, class_some, list_look}
 use Rattle.ss_store.proofs.Agree.{entity_none}
 use Rattle.ss_store.proofs.Made.{length_zipped}
 

@@ -1,18 +1,16 @@
 -- Values written: what is held is a store still, and the state has the entity changed.
 use Rattle.std.proofs.lemmas.Bool.Decides.{nat_tests}
-use Rattle.std.proofs.Common.{negsuc, ◌^◌, ◌≡◌, ◌≢◌, ◌⊎◌, inl, inr, ℕ, ℤ, pos, zero, suc, ◌+◌, ◌-◌, ◌<◌, ◌≤◌, ◌==◌}
+use Rattle.std.proofs.Common.{negsuc, ◌^◌, ◌≡◌, ◌≢◌, ◌⊎◌, inl, inr, ℕ, ℤ, pos, zero, suc, ◌+◌, ◌-◌, ◌<◌, ◌==◌}
 use Rattle.std.proofs.Common.{List, []}
 use Rattle.std.proofs.Common.{◌∷◌}
-use Rattle.std.proofs.Common.{length, map, refl, ap, sym, subst, ◌∙◌, arith, slice_get, slice_set, slice_index_or}
-use Rattle.std.proofs.Common.{Option, Some, None, Bool, true, false, cond, set, length-set}
+use Rattle.std.proofs.Common.{length, map, refl, ap, sym, subst, ◌∙◌, arith, slice_get, slice_index_or}
+use Rattle.std.proofs.Common.{Option, Some, None, true, false, set, length-set}
 use Rattle.std.proofs.lemmas.List.{set-get_or}
 use Rattle.std.specs.Prelude.{is_some, Result, Ok, Err}
-use Rattle.std.specs.Option.{option_map, option_or}
+use Rattle.std.specs.Option.{option_map}
 use Rattle.ss_words.specs.declared.fault.RunFault.{RunFault}
 use Rattle.ss_words.specs.declared.fault.RunFault.TheVariants.{NoEntity}
 use Rattle.ss_store.specs.declared.change.StoreChange.{StoreChange}
-use Rattle.ss_links.specs.Board.{list_at}
-use Rattle.ss_links.specs.Seats.{has}
 use Rattle.ss_program.specs.declared.kinds.Owner.{Owner}
 use Rattle.ss_program.specs.declared.kinds.Owner.TheVariants.{System, OwnedBy}
 use Rattle.ss_store.specs.declared.rows.Row.{Row}
@@ -23,25 +21,25 @@ use Rattle.ss_store.specs.Lists.{change_at}
 use Rattle.ss_store.specs.Tables.{class_of}
 use Rattle.ss_store.specs.Rows.{RowTable, EntityTable, no_rows, rows_in, row_of}
 use Rattle.std.specs.Int.Signed.{mag}
-use Rattle.ss_store.specs.Store.{Entity, Store, AreInRange, made_of, exists, with_value, with_changed}
+use Rattle.ss_store.specs.Store.{Entity, Store, AreInRange, exists, with_value, with_changed}
 use Rattle.ss_words.specs.Ranges.{in_range}
 use Rattle.ss_store.specs.Store.{changed_reference}
 use Rattle.ss_store.specs.Store.{with_attribute}
-use Rattle.ss_store.specs.Change.{IsOutcome, Leaves, FitsSet, unapply_store}
-use Rattle.ss_store.specs.Invariant.{IsStore, IsRow, Joins, used_of, used_made}
+use Rattle.ss_store.specs.Change.{IsOutcome, Leaves, unapply_store}
+use Rattle.ss_store.specs.Invariant.{IsStore, used_of, used_made}
 use Rattle.ss_store.specs.Parts.{StoreParts, HeadEntry, SeatEntry}
 use Rattle.ss_store.specs.Value.{StoreValue}
 use Rattle.ss_store.specs.Invariant.{used_in}
-use Rattle.ss_store.specs.Parts.{head_at, head_by, seat_at, number_at, numbers_under, entity_with, reference_with}
+use Rattle.ss_store.specs.Parts.{head_by, numbers_under, reference_with}
 use Rattle.ss_store.specs.Parts.{made_with, zip_rows, zip_table, layout_of, state_of, state_at, value_of}
 use Rattle.ss_store.specs.Making.{numbering_by, with_table}
 use Rattle.ss_store.specs.Writing.{with_values}
-use Rattle.ss_store.proofs.Core.{some_eq, Found, found, map_some, made_none}
+use Rattle.ss_store.proofs.Core.{some_eq, found, map_some, made_none}
 use Rattle.ss_store.proofs.Relist.{is_or_not, zipped_some, reference_class, reference_other, index_map, change_same}
 use Rattle.ss_store.proofs.Relist.{zipped_none}
-use Rattle.ss_store.proofs.Agree.{get_below, entity_is}
+use Rattle.ss_store.proofs.Agree.{entity_is}
 use Rattle.ss_store.proofs.More.{change_change, change_none, map_change, index_get, IsTable, table_case, table_here}
-use Rattle.ss_store.proofs.More.{table_made, table_same}
+use Rattle.ss_store.proofs.More.{table_made}
 use Rattle.ss_store.proofs.Grown.{refound}
 use Rattle.ss_store.proofs.Made.{At, table_there, which_numbering}
 use Rattle.ss_store.proofs.Taken.{its_table, row_some}

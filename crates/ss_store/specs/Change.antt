@@ -1,6 +1,6 @@
 -- What is noted of a change, and how it is taken back.
 use Rattle.std.specs.Prelude.{◌≡◌, ℕ, ℤ, ◌-◌, ◌<◌, true, false, List, [], length, slice_get, Option, Some, None}
-use Rattle.std.specs.Prelude.{option_map, unwrap_or, Result}
+use Rattle.std.specs.Prelude.{option_map, Result}
 use Rattle.std.specs.Option.{ForSome}
 use Rattle.ss_words.specs.declared.fault.RunFault.{RunFault}
 use Rattle.ss_words.specs.declared.fault.StepFault.{StepFault}
@@ -12,7 +12,7 @@ use Rattle.ss_store.specs.declared.change.StoreChange.TheVariants.{Filed, Remove
 use Rattle.ss_store.specs.declared.change.StoreChange.TheVariants.{Ended}
 use Rattle.ss_store.specs.Tables.{class_of, set_of}
 use Rattle.ss_store.specs.declared.rows.Row.{Row}
-use Rattle.ss_store.specs.Store.{Store, last_reference, with_made, with_value, with_changed, list_by, with_list_by}
+use Rattle.ss_store.specs.Store.{Store, last_reference, with_made, with_value, with_changed, with_list_by}
 use Rattle.ss_store.specs.Store.{is_owner, members_of, members_by, exists, is_filed, entity_back, with_back, AreInRange}
 use Rattle.ss_store.specs.Value.{Layout, StoreValue}
 use Rattle.ss_store.specs.Making.{layout_with, but_last, without_last, FitsLast, TakesOff}

@@ -1,5 +1,5 @@
 -- An entity more, and the last one less: what a making adds, and its undoing takes off.
-use Rattle.std.specs.Prelude.{◌≡◌, ℕ, ℤ, pos, zero, suc, ◌-◌, ◌+◌, ◌<◌, ◌≤◌, Bool, true, false, if◌then◌else◌, List, []}
+use Rattle.std.specs.Prelude.{◌≡◌, ℕ, ℤ, zero, suc, ◌-◌, ◌+◌, ◌<◌, ◌≤◌, Bool, true, false, if◌then◌else◌, List, []}
 use Rattle.std.specs.Prelude.{◌∷◌, ◌++◌, length, take, replicate, slice_get, slice_index_or, Option, Some, None}
 use Rattle.ss_links.specs.Board.{Board, list_at, head_of}
 use Rattle.ss_program.specs.declared.kinds.Owner.TheVariants.{OwnedBy}

@@ -1,7 +1,6 @@
 -- The values of an entity's attributes written, taken out and put back. Cited by private functions of the store alone.
 use Rattle.std.specs.Prelude.{ℕ, ℤ, List, slice_set, Option}
-use Rattle.ss_store.specs.Rows.{RowTable, EntityTable}
-use Rattle.ss_store.specs.Making.{with_table}
+use Rattle.ss_store.specs.Rows.{RowTable}
 
 -- a numbering with other values in row number i, or with none
 abbrev pub with_values : ℕ → Option (List ℤ) → RowTable → RowTable

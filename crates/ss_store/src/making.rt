@@ -22,7 +22,8 @@ impl<S: SetBoard> Store<S> {
     fn count_made(&self, class: usize) -> usize
         requires { class < length self.now.tables.classes }
         ensures kept { result
-            ≡ length (rows_of_numbering self.now.kept (numbering (class_of self.now.tables class) class)) }
+            ≡ length (rows_of_numbering self.now.kept
+            (numbering (class_of self.now.tables class) class)) }
         ensures given { (class_of self.now.tables class).permanent ≡ false
             → result ≡ length self.now.state.references }
         ensures made { (class_of self.now.tables class).permanent ≡ true

@@ -28,8 +28,8 @@ use std::marker::Model;
 
 /// Entities with their attributes, and the lists of the sets that they own, over a set board.
 ///
-/// A value names the entity of a class with that number; one below 1 names none. Memory is wanted by
-/// `new`, `with_tables`, `create` and `create_all` alone; a call that is refused changes nothing.
+/// A value names the entity of a class with that number; one below 1 names none. Memory is wanted
+/// by `new`, `with_tables`, `create` and `create_all` alone. A call that is refused changes nothing.
 #[derive(Drop)]
 pub struct Store<S: SetBoard> {
     pub(crate) alloc: Global,

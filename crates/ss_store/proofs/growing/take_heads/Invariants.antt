@@ -1,5 +1,4 @@
 use Rattle.std.proofs.Common.{◌≡◌, ◌≤◌, ◌-◌, length, take}
-use Rattle.ss_links.specs.Board.{Board}
 use Rattle.ss_store.proofs.growing.take_heads.Given as goal
 
 -- heads are taken off the end

@@ -1,5 +1,4 @@
 use Rattle.std.proofs.Common.{◌≡◌, ◌≤◌, ◌-◌}
-use Rattle.ss_links.specs.Board.{Board}
 use Rattle.ss_store.proofs.growing.take_seats.Given as goal
 
 -- seats are taken off the end

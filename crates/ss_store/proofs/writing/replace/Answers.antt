@@ -1,5 +1,5 @@
 use Rattle.std.proofs.lemmas.Int.{to_z-of_z}
-use Rattle.std.proofs.Common.{rules, w64, FitsSigned, ◌≡◌, ap, sym, ◌∙◌, None, arith, slice_set, length, ◌≤◌, List, ℤ}
+use Rattle.std.proofs.Common.{rules, w64, FitsSigned, ap, ◌∙◌, None, arith, slice_set, List, ℤ}
 use Rattle.ss_store.specs.Writing.{with_values}
 use Rattle.ss_store.specs.Making.{numbering_by}
 use Rattle.ss_store.proofs.Room.{made_still, index_still, put_over, same_values, set_past}

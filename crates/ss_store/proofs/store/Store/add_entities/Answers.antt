@@ -1,5 +1,4 @@
-use Rattle.std.proofs.Common.{◌≡◌, suc, ◌+◌, arith, subst, sym}
-use Rattle.ss_store.specs.Making.{MakesAll}
+use Rattle.std.proofs.Common.{arith}
 use Rattle.ss_store.proofs.Chained.{makes_none, makes_next, room_for, same_class}
 use Rattle.ss_store.proofs.store.Store.add_entities.Goals as goal
 

@@ -1,4 +1,4 @@
-use Rattle.std.proofs.Common.{rules, arith, sym, ◌∙◌}
+use Rattle.std.proofs.Common.{rules, arith}
 use Rattle.ss_store.proofs.Chained.{all_made, none_made}
 use Rattle.ss_store.proofs.store.Store.create_all.Goals as goal
 

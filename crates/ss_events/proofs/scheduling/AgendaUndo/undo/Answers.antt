@@ -2,7 +2,7 @@ use Rattle.std.proofs.Common.{subst}
 use Rattle.ss_events.specs.declared.agenda.AgendaChange.{AgendaChange}
 use Rattle.ss_events.specs.Changes.{Fits}
 use Rattle.ss_events.proofs.Schedule.{NoneNoted-without, newest-free}
-use Rattle.ss_events.proofs.agenda.AgendaUndo.undo.Goals as goal
+use Rattle.ss_events.proofs.scheduling.AgendaUndo.undo.Goals as goal
 
 pub take_seat-requires-clause-idle : goal.take_seat-requires-clause-idle
 take_seat-requires-clause-idle g c = rw (
