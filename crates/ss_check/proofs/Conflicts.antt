@@ -1,8 +1,7 @@
 -- Conflicts among declarations.
 use Rattle.std.proofs.Common.{◌≡◌, ◌||◌, Bool, List, [], ◌∷◌, ◌++◌, sym, ap, ◌∙◌, append_assoc}
-use Rattle.ss_check.specs.declared.declared.fact.Fact.{Fact}
-use Rattle.ss_check.specs.declared.declared.name_kind.NameKind.{NameKind}
-use Rattle.ss_check.specs.Facts.{fact_of}
+use Rattle.ss_check.specs.Facts.{Fact, fact_of}
+use Rattle.ss_check.specs.NameKind.{NameKind}
 use Rattle.ss_check.specs.NameKinds.{conflicts, one_conflicts}
 use Rattle.ss_check.proofs.FactTables.{append_none, or_none, or_assoc}
 

@@ -1,5 +1,6 @@
 -- What a table of facts finds, and what it is after one more fact.
-use Rattle.std.proofs.Common.{◌≡◌, ◌≤◌, ◌+◌, suc, ◌||◌, ℕ, Bool, true, false, not, cond, List, [], ◌∷◌, ◌++◌, length, Option, Some, None, refl, sym, ap, ◌∙◌, nat_lt, ◌==◌, arith, subst, append_assoc}
+use Rattle.std.proofs.Common.{◌≡◌, ◌≤◌, ◌+◌, suc, ◌||◌, ℕ, Bool, true, false, not, cond, List, [], ◌∷◌, ◌++◌, length}
+use Rattle.std.proofs.Common.{Option, Some, None, refl, sym, ap, ◌∙◌, nat_lt, ◌==◌, arith, subst, append_assoc}
 use Rattle.std.specs.Prelude.{bytes_eq, option_map, position, is_some, slice_get}
 use Rattle.std.specs.List.{find, position_or_len}
 use Rattle.std.specs.Option.{option_or}
@@ -14,11 +15,10 @@ use Rattle.std.proofs.lemmas.List.Folds.{position_or_len_push}
 use Rattle.std.proofs.lemmas.Option.{slice_get_past}
 use Rattle.std.proofs.lemmas.Slice.Eq.{bytes_eq-Decides}
 use Rattle.ss_words.specs.Lists.{Name}
-use Rattle.ss_program.specs.Indexed.{IsIndex, entry_of}
-use Rattle.ss_program.proofs.Indexed.{index_at, index_more, none_is}
+use Rattle.ss_program.specs.NameIndex.{IsIndex, entry_of}
+use Rattle.ss_program.proofs.NameIndex.{index_at, index_more, none_is}
 use Rattle.ss_program.proofs.Mains.{found_first, found_none, position_or_len-le}
-use Rattle.ss_check.specs.declared.declared.fact.Fact.{Fact}
-use Rattle.ss_check.specs.Facts.{fact_of, is_among, names_of, repeats}
+use Rattle.ss_check.specs.Facts.{Fact, fact_of, is_among, names_of, repeats}
 
 -- ---- lists
 

@@ -1,21 +1,27 @@
 -- The rules of items and heads, by tables to which they are added.
-use Rattle.std.proofs.Common.{◌≡◌, ◌||◌, ◌&&◌, Bool, true, false, not, List, [], ◌∷◌, ◌++◌, refl, sym, ap, ◌∙◌, append_assoc, None}
+use Rattle.std.proofs.Common.{◌≡◌, ◌||◌, ◌&&◌, Bool, true, false, not, List, [], ◌∷◌, ◌++◌, refl, sym, ap, ◌∙◌}
+use Rattle.std.proofs.Common.{append_assoc, None}
 use Rattle.std.specs.List.{list_any}
 use Rattle.std.proofs.lemmas.List.{map-append}
 use Rattle.ss_words.specs.Lists.{Name}
 use Rattle.ss_routines.specs.Tree.{Head, MainHead, RoutineHead, EventHead}
 use Rattle.ss_routines.specs.Places.{Section}
 use Rattle.ss_check.specs.declared.fault.CheckRule.{CheckRule}
-use Rattle.ss_check.specs.declared.fault.CheckRule.TheVariants.{DeclaredTwice, WrongClass, WrongOwner, WrongMember, WrongKey, WrongCount, WrongEvent, WrongMain, WrongPriority}
-use Rattle.ss_check.specs.declared.declared.fact.Fact.{Fact}
-use Rattle.ss_check.specs.declared.declared.name_kind.NameKind.{NameKind}
-use Rattle.ss_check.specs.declared.declared.tables.Tables.{Tables}
-use Rattle.ss_check.specs.Adding.{IsOnce, with_entry, with_head}
-use Rattle.ss_check.specs.Declarations.{Entry, class_of, declarations, disciplined_sets, events_in, external_in, is_declared, is_main, joined, members_in, owners_in, parameters, priority_in, routine_facts, sets_in, tied_events}
-use Rattle.ss_check.specs.Facts.{fact_of, is_among, is_one_outside, names_of, repeats}
-use Rattle.ss_check.specs.ItemRules.{declares_twice, has_too_many, has_wrong_keys, has_wrong_member, has_wrong_owner, has_wrong_priority, head_declares_twice, head_rule, is_second_main, item_rule, joins_system, lacks_class, lacks_section, names_wrong_class, new_sets}
+use Rattle.ss_check.specs.declared.fault.CheckRule.TheVariants.{DeclaredTwice, WrongClass, WrongOwner, WrongMember}
+use Rattle.ss_check.specs.declared.fault.CheckRule.TheVariants.{WrongKey, WrongCount, WrongEvent, WrongMain}
+use Rattle.ss_check.specs.declared.fault.CheckRule.TheVariants.{WrongPriority}
+use Rattle.ss_check.specs.Facts.{Fact, fact_of, is_among, is_one_outside, names_of, repeats}
+use Rattle.ss_check.specs.NameKind.{NameKind}
+use Rattle.ss_check.specs.Declarations.{Declared}
+use Rattle.ss_check.specs.Increments.{IsOnce, with_item, with_head}
+use Rattle.ss_check.specs.Declarations.{HeadedItem, class_of_item, declarations, disciplined_sets, events_in}
+use Rattle.ss_check.specs.Declarations.{external_in, is_declared, is_main, sets_joined, members_in, owners_in}
+use Rattle.ss_check.specs.Declarations.{parameters, priority_in, routine_facts, sets_in, tied_events}
+use Rattle.ss_check.specs.ItemRules.{declares_twice, has_too_many, has_wrong_keys, has_wrong_member, has_wrong_owner}
+use Rattle.ss_check.specs.ItemRules.{has_wrong_priority, head_declares_twice, head_rule, is_second_main, item_rule}
+use Rattle.ss_check.specs.ItemRules.{joins_system, lacks_class, lacks_section, names_wrong_class, new_sets}
 use Rattle.ss_check.specs.NameKinds.{conflicts, names_set, one_conflicts}
-use Rattle.ss_check.specs.Statements.{broken, lowest}
+use Rattle.ss_check.specs.Statements.{rule_where, lowest}
 use Rattle.ss_check.proofs.FactTables.{append_none, or_assoc}
 use Rattle.ss_check.proofs.Tests.{any_filter}
 
@@ -57,13 +63,13 @@ names_behind fs gs h =
 -- ---- which rules
 
 -- no rule is the lowest: the last one is not broken, and none before it
-none_last : (rs : List CheckRule) (r : CheckRule) (b : Bool) → lowest (rs ++ broken r b) ≡ None →
+none_last : (rs : List CheckRule) (r : CheckRule) (b : Bool) → lowest (rs ++ rule_where r b) ≡ None →
     (lowest rs ≡ None) × (b ≡ false)
 none_last [] r true h = cc
 none_last [] r false h = (refl, refl)
 none_last (q ∷ rs) r b h = cc
 
-none_alone : (r : CheckRule) (b : Bool) → lowest (broken r b) ≡ None → b ≡ false
+none_alone : (r : CheckRule) (b : Bool) → lowest (rule_where r b) ≡ None → b ≡ false
 none_alone r true h = cc
 none_alone r false h = refl
 
@@ -75,11 +81,11 @@ neither false b h = (refl, h)
 -- ---- items
 
 -- C1, by the tables with the item
-twice_is : (d b : Tables) (x : Entry) → IsOnce b →
-    (one_conflicts [] (with_entry b x).kinds || repeats [] (with_entry b x).disciplines || repeats []
-    (with_entry b x).ties || repeats [] (with_entry b x).external)
+twice_is : (d b : Declared) (x : HeadedItem) → IsOnce b →
+    (one_conflicts [] (with_item b x).kinds || repeats [] (with_item b x).disciplines || repeats []
+    (with_item b x).ties || repeats [] (with_item b x).external)
     ≡ declares_twice d b x
-unfolding with_entry
+unfolding with_item
 twice_is d b x o =
     rw (
       conflicts_behind b.kinds (declarations x) o.kinds,
@@ -90,24 +96,24 @@ twice_is d b x o =
     refl
 
 -- the lowest rule, by tables with the item
-pub item_rule_is : (d b t : Tables) (x : Entry) (declared class ownerless memberless keys section order : Bool) →
-    IsOnce b → t ≡ with_entry b x →
+pub item_rule_is : (d b t : Declared) (x : HeadedItem) (declared class ownerless memberless keys section order : Bool) →
+    IsOnce b → t ≡ with_item b x →
     declared ≡ (one_conflicts [] t.kinds || repeats [] t.disciplines || repeats [] t.ties || repeats [] t.external) →
-    class ≡ names_wrong_class d d x.heading x.item →
+    class ≡ names_wrong_class d x.heading x.item →
     ownerless ≡ list_any (λ s. not (names_set (fact_of b.kinds s)) && not (is_among s (names_of d.owners)))
     (sets_in x.item) →
     memberless ≡ list_any (λ s. not (names_set (fact_of b.kinds s)) && not (is_among s (names_of d.members)))
     (sets_in x.item) →
-    keys ≡ has_wrong_keys d d x.item →
+    keys ≡ has_wrong_keys d x.item →
     section ≡ lacks_section d b x.item →
-    order ≡ has_wrong_priority d d b.priority (priority_in x.item) →
-    lowest (broken DeclaredTwice declared ++ broken WrongClass class
-    ++ broken WrongOwner (ownerless || repeats [] (names_of t.owners))
-    ++ broken WrongMember (memberless || repeats [] (names_of t.members) || joins_system (class_of x.item)
-    (joined x.item))
-    ++ broken WrongKey keys ++ broken WrongEvent section ++ broken WrongPriority order)
+    order ≡ has_wrong_priority d b.priority (priority_in x.item) →
+    lowest (rule_where DeclaredTwice declared ++ rule_where WrongClass class
+    ++ rule_where WrongOwner (ownerless || repeats [] (names_of t.owners))
+    ++ rule_where WrongMember (memberless || repeats [] (names_of t.members) || joins_system (class_of_item x.item)
+    (sets_joined x.item))
+    ++ rule_where WrongKey keys ++ rule_where WrongEvent section ++ rule_where WrongPriority order)
     ≡ item_rule d b x
-unfolding item_rule with_entry
+unfolding item_rule with_item
 item_rule_is d b t x declared class ownerless memberless keys section order o e e1 e2 e3 e4 e5 e6 e7 =
     let fresh = any_filter (λ n. not (is_among n (names_of d.owners))) (λ s. not (names_set (fact_of b.kinds s)))
     (sets_in x.item) in
@@ -129,27 +135,27 @@ item_rule_is d b t x declared class ownerless memberless keys section order o e 
     refl
 
 -- behind an item that breaks no rule nothing is said twice
-pub once_behind_item : (d b : Tables) (x : Entry) → IsOnce b → item_rule d b x ≡ None → IsOnce (with_entry b x)
-unfolding item_rule with_entry
+pub once_behind_item : (d b : Declared) (x : HeadedItem) → IsOnce b → item_rule d b x ≡ None → IsOnce (with_item b x)
+unfolding item_rule with_item
 once_behind_item d b x o h =
-    let c12 = none_last (broken DeclaredTwice (declares_twice d b x) ++ broken WrongClass
-    (names_wrong_class d b x.heading x.item) ++ broken WrongOwner (has_wrong_owner d b x) ++ broken WrongMember
-    (has_wrong_member d b x) ++ broken WrongKey (has_wrong_keys d b x.item) ++ broken WrongEvent
-    (lacks_section d b x.item)) WrongPriority (has_wrong_priority d b b.priority (priority_in x.item)) h in
-    let c8 = none_last (broken DeclaredTwice (declares_twice d b x) ++ broken WrongClass
-    (names_wrong_class d b x.heading x.item) ++ broken WrongOwner (has_wrong_owner d b x) ++ broken WrongMember
-    (has_wrong_member d b x) ++ broken WrongKey (has_wrong_keys d b x.item)) WrongEvent
+    let c12 = none_last (rule_where DeclaredTwice (declares_twice d b x) ++ rule_where WrongClass
+    (names_wrong_class d x.heading x.item) ++ rule_where WrongOwner (has_wrong_owner d b x) ++ rule_where WrongMember
+    (has_wrong_member d b x) ++ rule_where WrongKey (has_wrong_keys d x.item) ++ rule_where WrongEvent
+    (lacks_section d b x.item)) WrongPriority (has_wrong_priority d b.priority (priority_in x.item)) h in
+    let c8 = none_last (rule_where DeclaredTwice (declares_twice d b x) ++ rule_where WrongClass
+    (names_wrong_class d x.heading x.item) ++ rule_where WrongOwner (has_wrong_owner d b x) ++ rule_where WrongMember
+    (has_wrong_member d b x) ++ rule_where WrongKey (has_wrong_keys d x.item)) WrongEvent
     (lacks_section d b x.item) c12.0 in
-    let c6 = none_last (broken DeclaredTwice (declares_twice d b x) ++ broken WrongClass
-    (names_wrong_class d b x.heading x.item) ++ broken WrongOwner (has_wrong_owner d b x) ++ broken WrongMember
-    (has_wrong_member d b x)) WrongKey (has_wrong_keys d b x.item) c8.0 in
-    let c5 = none_last (broken DeclaredTwice (declares_twice d b x) ++ broken WrongClass
-    (names_wrong_class d b x.heading x.item) ++ broken WrongOwner (has_wrong_owner d b x)) WrongMember
+    let c6 = none_last (rule_where DeclaredTwice (declares_twice d b x) ++ rule_where WrongClass
+    (names_wrong_class d x.heading x.item) ++ rule_where WrongOwner (has_wrong_owner d b x) ++ rule_where WrongMember
+    (has_wrong_member d b x)) WrongKey (has_wrong_keys d x.item) c8.0 in
+    let c5 = none_last (rule_where DeclaredTwice (declares_twice d b x) ++ rule_where WrongClass
+    (names_wrong_class d x.heading x.item) ++ rule_where WrongOwner (has_wrong_owner d b x)) WrongMember
     (has_wrong_member d b x) c6.0 in
-    let c4 = none_last (broken DeclaredTwice (declares_twice d b x) ++ broken WrongClass
-    (names_wrong_class d b x.heading x.item)) WrongOwner (has_wrong_owner d b x) c5.0 in
-    let c2 = none_last (broken DeclaredTwice (declares_twice d b x)) WrongClass
-    (names_wrong_class d b x.heading x.item) c4.0 in
+    let c4 = none_last (rule_where DeclaredTwice (declares_twice d b x) ++ rule_where WrongClass
+    (names_wrong_class d x.heading x.item)) WrongOwner (has_wrong_owner d b x) c5.0 in
+    let c2 = none_last (rule_where DeclaredTwice (declares_twice d b x)) WrongClass
+    (names_wrong_class d x.heading x.item) c4.0 in
     let c1 = none_alone DeclaredTwice (declares_twice d b x) c2.0 in
     let e = neither (one_conflicts b.kinds (declarations x) || repeats b.disciplines
     (disciplined_sets x.item) || repeats b.ties (tied_events x.item))
@@ -160,7 +166,7 @@ once_behind_item d b x o h =
     let w = neither (is_one_outside (names_of d.owners) (new_sets d b x.item))
     (repeats (names_of b.owners) (names_of (owners_in x.item))) c4.1 in
     let m = neither (is_one_outside (names_of d.members) (new_sets d b x.item) || repeats (names_of b.members)
-    (names_of (members_in x.item))) (joins_system (class_of x.item) (joined x.item)) c5.1 in
+    (names_of (members_in x.item))) (joins_system (class_of_item x.item) (sets_joined x.item)) c5.1 in
     let n = neither (is_one_outside (names_of d.members) (new_sets d b x.item))
     (repeats (names_of b.members) (names_of (members_in x.item))) m.0 in
     record {
@@ -176,7 +182,7 @@ once_behind_item d b x o h =
 -- ---- heads
 
 -- C1 without the parameters, by the tables with the head
-head_twice_is : (b : Tables) (h : Head) → IsOnce b →
+head_twice_is : (b : Declared) (h : Head) → IsOnce b →
     (one_conflicts [] (with_head b h).kinds || repeats [] (with_head b h).events)
     ≡ (one_conflicts b.kinds (routine_facts h) || repeats b.events (events_in h))
 unfolding with_head
@@ -187,23 +193,24 @@ head_twice_is b (EventHead n given saving) o =
     rw (o.kinds, repeats_behind b.events (n ∷ []) o.events) refl
 
 -- the lowest rule, by tables with the head
-pub head_rule_is : (d b t : Tables) (s : Section) (declared parameter name many class second : Bool) → IsOnce b →
+pub head_rule_is : (d b t : Declared) (s : Section) (declared parameter name many class second : Bool) → IsOnce b →
     t ≡ with_head b s.head →
     declared ≡ (one_conflicts [] t.kinds || repeats [] t.events) →
     parameter ≡ repeats [] (parameters s.head) →
     name ≡ list_any (is_declared d) (parameters s.head) →
-    many ≡ has_too_many d d s.head →
-    class ≡ lacks_class d d s.head →
+    many ≡ has_too_many d s.head →
+    class ≡ lacks_class d s.head →
     second ≡ (is_main s.head && b.has_main) →
-    lowest (broken DeclaredTwice
-    (declared || parameter || name) ++ broken WrongCount many ++ broken WrongEvent class ++ broken WrongMain second)
+    lowest (rule_where DeclaredTwice
+    (declared || parameter || name) ++ rule_where WrongCount many ++ rule_where WrongEvent class ++ rule_where WrongMain
+    second)
     ≡ head_rule d b s
 unfolding head_rule
 head_rule_is d b t s declared parameter name many class second o e e1 e2 e3 e4 e5 e6 =
     rw (e1, e2, e3, e4, e5, e6, e, head_twice_is b s.head o)
     refl
 
-once : (b : Tables) (h : Head) → IsOnce b → one_conflicts b.kinds (routine_facts h) ≡ false →
+once : (b : Declared) (h : Head) → IsOnce b → one_conflicts b.kinds (routine_facts h) ≡ false →
     repeats b.events (events_in h) ≡ false → IsOnce (with_head b h)
 unfolding with_head
 once b MainHead o c e = record {
@@ -237,16 +244,16 @@ once b (EventHead n given saving) o c e =
     }
 
 -- behind a head that breaks no rule nothing is said twice
-pub once_behind_head : (d b : Tables) (s : Section) → IsOnce b → head_rule d b s ≡ None → IsOnce (with_head b s.head)
+pub once_behind_head : (d b : Declared) (s : Section) → IsOnce b → head_rule d b s ≡ None → IsOnce (with_head b s.head)
 unfolding head_rule
 once_behind_head d b s o h =
-    let c11 = none_last (broken DeclaredTwice (head_declares_twice d b s.head) ++ broken WrongCount
-    (has_too_many d b s.head) ++ broken WrongEvent (lacks_class d b s.head)) WrongMain
+    let c11 = none_last (rule_where DeclaredTwice (head_declares_twice d b s.head) ++ rule_where WrongCount
+    (has_too_many d s.head) ++ rule_where WrongEvent (lacks_class d s.head)) WrongMain
     (is_second_main d b s.head) h in
-    let c8 = none_last (broken DeclaredTwice (head_declares_twice d b s.head) ++ broken WrongCount
-    (has_too_many d b s.head)) WrongEvent (lacks_class d b s.head) c11.0 in
-    let c7 = none_last (broken DeclaredTwice (head_declares_twice d b s.head)) WrongCount
-    (has_too_many d b s.head) c8.0 in
+    let c8 = none_last (rule_where DeclaredTwice (head_declares_twice d b s.head) ++ rule_where WrongCount
+    (has_too_many d s.head)) WrongEvent (lacks_class d s.head) c11.0 in
+    let c7 = none_last (rule_where DeclaredTwice (head_declares_twice d b s.head)) WrongCount
+    (has_too_many d s.head) c8.0 in
     let c1 = none_alone DeclaredTwice (head_declares_twice d b s.head) c7.0 in
     let n = neither (one_conflicts b.kinds (routine_facts s.head) || repeats b.events
     (events_in s.head) || repeats [] (parameters s.head)) (list_any (is_declared d) (parameters s.head)) c1 in

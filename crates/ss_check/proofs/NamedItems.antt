@@ -1,5 +1,6 @@
 -- The tables of a program without a breach, each number looked up, say what the items write.
-use Rattle.std.proofs.Common.{◌≡◌, ◌⊎◌, ℕ, Bool, true, false, not, List, [], ◌∷◌, ◌++◌, refl, sym, ap, ◌∙◌, subst, arith, Option, Some, None}
+use Rattle.std.proofs.Common.{◌≡◌, ◌⊎◌, ℕ, Bool, true, false, not, List, [], ◌∷◌, ◌++◌, refl, sym, ap, ◌∙◌, subst}
+use Rattle.std.proofs.Common.{arith, Option, Some, None}
 use Rattle.std.specs.Prelude.{map, codes, slice_get, option_map, unwrap_or}
 use Rattle.std.specs.List.{flat_map, list_any}
 use mathlib.Core.Logic.{inl, inr}
@@ -11,35 +12,46 @@ use Rattle.ss_preamble.specs.declared.item.Heading.{Heading}
 use Rattle.ss_preamble.specs.declared.item.Heading.TheVariants.{PermanentEntities, TemporaryEntities, EventNotices}
 use Rattle.ss_words.specs.declared.terms.Rank.{Rank}
 use Rattle.ss_words.specs.declared.terms.Rank.TheVariants.{High}
-use Rattle.ss_preamble.specs.Tree.{Key as WrittenKey, SetDiscipline, Fifo, Lifo, Ranked, PriorityOrder, BreakTies, ExternalEvents, Item, Normally, Headed, OfEvery, OfSystem, Defines, Orders, ItemAt}
+use Rattle.ss_preamble.specs.Tree.{Key as WrittenKey, SetDiscipline, Fifo, Lifo, Ranked, PriorityOrder, BreakTies}
+use Rattle.ss_preamble.specs.Tree.{ExternalEvents, Item, Normally, Headed, OfEvery, OfSystem, Defines, Orders, ItemAt}
 use Rattle.ss_preamble.specs.Limits.{class_names}
 use Rattle.ss_routines.specs.Tree.{Head, MainHead, RoutineHead, EventHead}
 use Rattle.ss_routines.specs.Places.{Section}
 use Rattle.ss_program.specs.declared.kinds.ClassKind.{ClassKind}
 use Rattle.ss_program.specs.EventTable.{EventTable}
-use Rattle.ss_program.specs.Program.{ClassTable, SetTable, SectionTable, ProgramTable, class_of, section_of, event_of_kind, is_event_section}
-use Rattle.ss_check.specs.declared.declared.fact.Fact.{Fact}
-use Rattle.ss_check.specs.declared.declared.name_kind.NameKind.{NameKind}
-use Rattle.ss_check.specs.declared.declared.name_kind.NameKind.TheVariants as k
-use Rattle.ss_check.specs.declared.declared.tables.Tables.{Tables}
-use Rattle.ss_check.specs.Facts.{is_among, each_once, fact, fact_of}
+use Rattle.ss_program.specs.Program.{ClassTable, SetTable, SectionTable, ProgramTable, class_of, section_of}
+use Rattle.ss_program.specs.Program.{event_of_kind, is_event_section}
+use Rattle.ss_check.specs.Facts.{Fact, is_among, each_once, fact, fact_of}
+use Rattle.ss_check.specs.NameKind.{NameKind}
+use Rattle.ss_check.specs.NameKind as k
+use Rattle.ss_check.specs.Declarations.{Declared}
 use Rattle.ss_check.specs.NameKinds.{is_class, names_event}
-use Rattle.ss_check.specs.Declarations.{Entry, entries, heads, tables, classes_in, events_in, disciplines_in, ties_in, external_in, tables_of, kind_of, is_event_class}
+use Rattle.ss_check.specs.Declarations.{HeadedItem, headed_items, heads, declared_by_program, classes_in, events_in}
+use Rattle.ss_check.specs.Declarations.{disciplines_in, ties_in, external_in, declared_by, kind_of, is_event_class}
 use Rattle.ss_check.specs.ItemRules.{names_wrong_class, is_wrong_key, has_wrong_key}
-use Rattle.ss_check.specs.ResolvedNames.{Names, names, number, names_where, attributes_of, attribute_names, owner_of, member_class}
-use Rattle.ss_check.specs.Resolved.{Rankings, rankings, resolved_key, resolved_discipline, resolved_owner, event_table, class_kind, class_table, set_table, section_name, resolved_section, resolved_with}
+use Rattle.ss_check.specs.ResolvedNames.{Names, names, number, names_where, attributes_of, attribute_names, owner_of}
+use Rattle.ss_check.specs.ResolvedNames.{member_class}
+use Rattle.ss_check.specs.Resolved.{Rankings, rankings, resolved_key, resolved_discipline, resolved_owner, event_table}
+use Rattle.ss_check.specs.Resolved.{class_kind, class_table, set_table, section_name, resolved_section, resolved_with}
 use Rattle.ss_check.specs.NamedTree.{several, name_at}
-use Rattle.ss_check.specs.NamedItems.{named_heading, named_key, named_discipline, named_owner, said_of, headings_in, Written, written, IsSaid, IsKindOf, IsClassOf, IsSetOf, IsOfItems, TablesGiveTheItems}
-use Rattle.ss_check.proofs.SoundLists.{In, all_from, same_again, none_in, among_in, number_there, image_at, once_from, fact_in, fact_there, flat_in, in_flat, where_from}
-use Rattle.ss_check.proofs.SoundDeclared.{HasClass}
-use Rattle.ss_check.proofs.SoundItems.{item_at, sets_have_owners, right_ranks, right_ties, events_have_sections, priority_kept}
+use Rattle.ss_check.specs.NamedItems.{named_heading, named_key, named_discipline, named_owner, said_of, headings_in}
+use Rattle.ss_check.specs.NamedItems.{Written, items_written, IsSaid, IsKindOf, IsClassOf, IsSetOf, IsOfItems}
+use Rattle.ss_check.specs.NamedItems.{TablesGiveTheItems}
+use Rattle.ss_check.proofs.SoundLists.{In, all_from, same_again, none_in, among_in, number_there, image_at, once_from}
+use Rattle.ss_check.proofs.SoundLists.{fact_in, fact_there, flat_in, in_flat, where_from}
+use Rattle.ss_check.proofs.SoundCompanions.{HasClass}
+use Rattle.ss_check.proofs.SoundItems.{item_at, sets_have_owners, right_ranks, right_ties, events_have_sections}
+use Rattle.ss_check.proofs.SoundItems.{priority_kept}
 use Rattle.ss_check.proofs.SoundNumbers.{event_found}
-use Rattle.ss_check.proofs.SoundScoped.{L, closed_kind, global_in, class_in, class_global, set_of_item, set_declared, is_attribute, owner_class, member_there, member_is_class, event_class, attributes_are}
-use Rattle.ss_check.proofs.SoundUnbroken.{AreItemsKept, kept}
+use Rattle.ss_check.proofs.SoundNames.{L, closed_kind, global_in, class_in, class_global, set_of_item, set_declared}
+use Rattle.ss_check.proofs.SoundNames.{is_attribute, owner_class, member_there, member_is_class, event_class}
+use Rattle.ss_check.proofs.SoundNames.{attributes_are}
+use Rattle.ss_check.proofs.SoundStatements.{AreItemsKept, kept}
 use Rattle.ss_check.proofs.NamedKinds.{number_finds}
 use Rattle.ss_check.proofs.NamedUses.{two}
-use Rattle.ss_check.proofs.NamedItemsNames.{entries_say, class_names_are, set_names_are, globals_are, attributes_are_written}
-use Rattle.ss_check.proofs.NamedItemsOnce.{some_list, said_in, one_owner, one_member, one_discipline, one_break}
+use Rattle.ss_check.proofs.NamedItemsNames.{entries_say, class_names_are, set_names_are, globals_are}
+use Rattle.ss_check.proofs.NamedItemsNames.{attributes_are_written}
+use Rattle.ss_check.proofs.NamedItemsFacts.{some_list, said_in, one_owner, one_member, one_discipline, one_break}
 use Rattle.ss_check.proofs.NamedItemsHeadings.{class_kept, heading_declared, heading_there}
 
 -- ---- names and keys
@@ -68,7 +80,7 @@ no_event = record { section = 0; ties = []; external = false }
 abbrev IsEventOr : Option NameKind → EventTable → Type 0
 IsEventOr o t = (o ≡ Some event) ⊎ ((names_event o ≡ false) × (t ≡ no_event))
 
-event_or : (d : Tables) (v : Names) (r : Rankings) (n : Name) (o : Option NameKind) →
+event_or : (d : Declared) (v : Names) (r : Rankings) (n : Name) (o : Option NameKind) →
     IsEventOr o (event_of_kind (class_kind d v r n o))
 event_or d v r n None = inr (refl, refl)
 event_or d v r n (Some k.Variable) = inr (refl, refl)
@@ -85,7 +97,7 @@ event_or d v r n (Some k.Clock) = inr (refl, refl)
 event_or d v r n (Some k.Set) = inr (refl, refl)
 event_or d v r n (Some k.Routine) = inr (refl, refl)
 
-heading_again : (d : Tables) (v : Names) (r : Rankings) (n : Name) (g : Heading) →
+heading_again : (d : Declared) (v : Names) (r : Rankings) (n : Name) (g : Heading) →
     named_heading (class_kind d v r n (Some (k.Class (Some g)))) ≡ g
 heading_again d v r n PermanentEntities = refl
 heading_again d v r n TemporaryEntities = refl
@@ -101,8 +113,8 @@ class_item (Defines z) n x = absurd x
 class_item (Orders r) n x = absurd x
 
 -- what BREAK and EXTERNAL name is an event class
-tied_event : (d b : Tables) (h : Option Heading) (i : Item) (n : Name) (keys : List WrittenKey) →
-    names_wrong_class d b h i ≡ false → In (fact n keys) (ties_in i) → is_event_class d n ≡ true
+tied_event : (d b : Declared) (h : Option Heading) (i : Item) (n : Name) (keys : List WrittenKey) →
+    names_wrong_class d h i ≡ false → In (fact n keys) (ties_in i) → is_event_class d n ≡ true
 tied_event d b h Normally n keys e x = absurd x
 tied_event d b h (Headed g ns) n keys e x = absurd x
 tied_event d b h (OfEvery c cs) n keys e x = absurd x
@@ -114,7 +126,7 @@ tied_event d b h (Orders (BreakTies c ks)) n keys e (inl y) =
 tied_event d b h (Orders (BreakTies c ks)) n keys e (inr y) = absurd y
 tied_event d b h (Orders (ExternalEvents ns)) n keys e x = absurd x
 
-external_event : (d b : Tables) (h : Option Heading) (i : Item) (n : Name) → names_wrong_class d b h i ≡ false →
+external_event : (d b : Declared) (h : Option Heading) (i : Item) (n : Name) → names_wrong_class d h i ≡ false →
     In n (external_in i) → is_event_class d n ≡ true
 external_event d b h Normally n e x = absurd x
 external_event d b h (Headed g ns) n e x = absurd x
@@ -134,19 +146,19 @@ event_name n (EventHead m ps saving) (inr x) = absurd x
 
 -- ---- the program; xs: its items under their headings
 
-module _ (xs : List Entry) (qs : List Section) where
+module _ (xs : List HeadedItem) (qs : List Section) where
   abbrev hs : List Head
   hs = heads qs
 
-  abbrev D : Tables
-  D = tables_of xs hs
+  abbrev D : Declared
+  D = declared_by xs hs
 
   abbrev V : Names
   V = names D hs
 
   -- what the items write
   abbrev W : Written
-  W = written xs
+  W = items_written xs
 
   abbrev R : Rankings
   R = record { disciplines = W.disciplines; ties = W.ties }
@@ -192,13 +204,13 @@ module _ (xs : List Entry) (qs : List Section) where
         as_class k.Set x t = absurd (false≢true t)
         as_class k.Routine x t = absurd (false≢true t)
 
-    named_somewhere : (n : Name) → In n V.classes → In n (flat_map (λ (x : Entry). classes_in x.item) xs)
+    named_somewhere : (n : Name) → In n V.classes → In n (flat_map (λ (x : HeadedItem). classes_in x.item) xs)
     named_somewhere n i =
         let named = once_from n (names_where is_class D.kinds) i in
-        let f = flat_in (λ (x : Entry). class_names x.item) n xs
+        let f = flat_in (λ (x : HeadedItem). class_names x.item) n xs
         (subst (λ (ns : List Name). In n ns) (class_names_are xs hs) named) in
         let x = f.one in
-        in_flat (λ (y : Entry). classes_in y.item) x n xs f.there (class_item x.item n f.has)
+        in_flat (λ (y : HeadedItem). classes_in y.item) x n xs f.there (class_item x.item n f.has)
 
     -- ---- kinds
 
@@ -251,7 +263,7 @@ module _ (xs : List Entry) (qs : List Section) where
 
     heading_is : (n : Name) (w : Option Heading) → In w (said_of W.headings n) → w ≡ Some (named_heading (kind n))
     heading_is n w i =
-        let f = flat_in (λ (x : Entry). headings_in x.heading x.item) (fact n w) xs (said_in W.headings n w i) in
+        let f = flat_in (λ (x : HeadedItem). headings_in x.heading x.item) (fact n w) xs (said_in W.headings n w i) in
         let x = f.one in
         let kept = item_at D [] xs x h f.there in
         let item = kept.1 in
@@ -263,23 +275,23 @@ module _ (xs : List Entry) (qs : List Section) where
 
     -- ---- keys
 
-    keys_are : (t : Tables) (b : Name) (keys : List WrittenKey) → In b V.classes →
-        list_any (is_wrong_key D t b) keys ≡ false → looked_up b keys ≡ keys
+    keys_are : (t : Declared) (b : Name) (keys : List WrittenKey) → In b V.classes →
+        list_any (is_wrong_key D b) keys ≡ false → looked_up b keys ≡ keys
     keys_are t b keys i e =
         ap (λ (ns : List Name). map (named_key (attributes b)) (map (resolved_key ns) keys))
         (attributes_are xs hs h R b i)
         ∙ keys_again (attributes b) keys
-        (λ q x. is_attribute xs hs h b q.name (kind_of D q.name) refl (none_in (is_wrong_key D t b) q keys e x))
+        (λ q x. is_attribute xs hs h b q.name (kind_of D q.name) refl (none_in (is_wrong_key D b) q keys e x))
 
     -- what the item keeps to that breaks ties
     record IsBreak (n : Name) (keys : List WrittenKey) : Type 0 where
-      before : Tables
-      right : list_any (is_wrong_key D before n) keys ≡ false
+      before : Declared
+      right : list_any (is_wrong_key D n) keys ≡ false
       event : is_event_class D n ≡ true
 
     break_is : (n : Name) (keys : List WrittenKey) → fact_of W.ties n ≡ Some keys → IsBreak n keys
     break_is n keys e =
-        let f = flat_in (λ (x : Entry). ties_in x.item) (fact n keys) xs (fact_in W.ties n keys e) in
+        let f = flat_in (λ (x : HeadedItem). ties_in x.item) (fact n keys) xs (fact_in W.ties n keys e) in
         let x = f.one in
         let kept = item_at D [] xs x h f.there in
         let b = kept.0 in
@@ -317,7 +329,7 @@ module _ (xs : List Entry) (qs : List Section) where
     no_external : (n : Name) (b : Bool) → names_event (kind_of D n) ≡ false → is_among n D.external ≡ b → false ≡ b
     no_external n false e t = refl
     no_external n true e t =
-        let f = flat_in (λ (x : Entry). external_in x.item) n xs (among_in n D.external t) in
+        let f = flat_in (λ (x : HeadedItem). external_in x.item) n xs (among_in n D.external t) in
         let x = f.one in
         let kept = item_at D [] xs x h f.there in
         let item = kept.1 in
@@ -351,14 +363,15 @@ module _ (xs : List Entry) (qs : List Section) where
     discipline_is n b (Some Fifo) e m i = refl
     discipline_is n b (Some Lifo) e m i = refl
     discipline_is n b (Some (Ranked ks)) e m i =
-        let written = fact n (Ranked ks) in
-        let f = flat_in (λ (x : Entry). disciplines_in x.item) written xs (fact_in W.disciplines n (Ranked ks) e) in
+        let items_written = fact n (Ranked ks) in
+        let f = flat_in (λ (x : HeadedItem). disciplines_in x.item) items_written xs
+        (fact_in W.disciplines n (Ranked ks) e) in
         let x = f.one in
         let kept = item_at D [] xs x h f.there in
         let t = kept.0 in
         let item = kept.1 in
         let right = right_ranks D t x.item n (Ranked ks) item.keys f.has in
-        let keys = subst (λ (c : Option Name). has_wrong_key D t c (all_of ks) ≡ false) m right in
+        let keys = subst (λ (c : Option Name). has_wrong_key D c (all_of ks) ≡ false) m right in
         ap (λ (zs : List WrittenKey). Ranked (several (record { rank = High; name = [] }) zs))
         (keys_are t b (all_of ks) i keys)
 
@@ -422,7 +435,10 @@ module _ (xs : List Entry) (qs : List Section) where
 
 -- what items rank, with their headings or without
 rankings_are : (is : List ItemAt) →
-    rankings is ≡ record { disciplines = (written (entries is)).disciplines; ties = (written (entries is)).ties }
+    rankings is ≡ record {
+      disciplines = (items_written (headed_items is)).disciplines;
+      ties = (items_written (headed_items is)).ties;
+    }
 rankings_are is =
     two (λ (a : List (Fact SetDiscipline)) (b : List (Fact (List WrittenKey))). record { disciplines = a; ties = b })
     (sym (entries_say disciplines_in None is)) (sym (entries_say ties_in None is))
@@ -430,8 +446,8 @@ rankings_are is =
 -- the tables give the items
 pub tables_again : TablesGiveTheItems
 tables_again decls qs b =
-    let xs = entries decls.items in
-    let d = tables decls.items qs in
+    let xs = headed_items decls.items in
+    let d = declared_by_program decls.items qs in
     let k = kept decls qs b in
-    subst (λ (r : Rankings). IsOfItems (resolved_with d (names d (heads qs)) r qs) (written xs))
+    subst (λ (r : Rankings). IsOfItems (resolved_with d (names d (heads qs)) r qs) (items_written xs))
     (sym (rankings_are decls.items)) (items_again xs qs k.items)

@@ -1,5 +1,6 @@
 -- A class stands under one kind of heading wherever items name it.
-use Rattle.std.proofs.Common.{◌≡◌, ◌⊎◌, Bool, true, false, not, cond, List, [], ◌∷◌, ◌++◌, refl, sym, ap, ◌∙◌, subst, Option, Some, None, append_assoc}
+use Rattle.std.proofs.Common.{◌≡◌, ◌⊎◌, Bool, true, false, not, cond, List, [], ◌∷◌, ◌++◌, refl, sym, ap, ◌∙◌, subst}
+use Rattle.std.proofs.Common.{Option, Some, None, append_assoc}
 use Rattle.std.specs.Prelude.{option_map}
 use Rattle.std.specs.List.{flat_map, find, list_any}
 use Rattle.std.specs.Option.{option_or}
@@ -12,21 +13,22 @@ use Rattle.ss_preamble.specs.declared.item.Heading.{Heading}
 use Rattle.ss_preamble.specs.declared.item.Heading.TheVariants.{PermanentEntities, TemporaryEntities, EventNotices}
 use Rattle.ss_preamble.specs.Tree.{Item, Normally, Headed, OfEvery, OfSystem, Defines, Orders}
 use Rattle.ss_routines.specs.Tree.{Head}
-use Rattle.ss_check.specs.declared.declared.fact.Fact.{Fact}
-use Rattle.ss_check.specs.declared.declared.name_kind.NameKind.{NameKind}
-use Rattle.ss_check.specs.declared.declared.name_kind.NameKind.TheVariants as k
-use Rattle.ss_check.specs.declared.declared.tables.Tables.{Tables}
-use Rattle.ss_check.specs.Facts.{fact, fact_of}
-use Rattle.ss_check.specs.NameKinds.{language_facts, class_facts, is_class, is_same_heading, may_repeat, conflicts, one_conflicts}
-use Rattle.ss_check.specs.Declarations.{Entry, class_of, clauses_of, included, clause_facts, item_facts, declarations, routine_facts, tables_of, kind_of}
+use Rattle.ss_check.specs.Facts.{Fact, fact, fact_of}
+use Rattle.ss_check.specs.NameKind.{NameKind}
+use Rattle.ss_check.specs.NameKind as k
+use Rattle.ss_check.specs.Declarations.{Declared}
+use Rattle.ss_check.specs.NameKinds.{language_facts, class_facts, is_class, is_same_heading, may_repeat, conflicts}
+use Rattle.ss_check.specs.NameKinds.{one_conflicts}
+use Rattle.ss_check.specs.Declarations.{HeadedItem, class_of_item, clauses_of, included_names, clause_facts, item_facts}
+use Rattle.ss_check.specs.Declarations.{declarations, routine_facts, declared_by, kind_of}
 use Rattle.ss_check.specs.ItemRules.{names_wrong_class}
 use Rattle.ss_check.specs.NamedItems.{headings_in}
 use Rattle.ss_check.proofs.SoundLists.{In, same_name, in_left, in_right, in_split, in_any, in_flat, map_in}
-use Rattle.ss_check.proofs.SoundDeclared.{Facts, declared}
+use Rattle.ss_check.proofs.SoundCompanions.{Facts, declared}
 use Rattle.ss_check.proofs.SoundItems.{flat_more}
-use Rattle.ss_check.proofs.SoundUnbroken.{AreItemsKept}
+use Rattle.ss_check.proofs.SoundStatements.{AreItemsKept}
 use Rattle.ss_check.proofs.NamedUses.{two}
-use Rattle.ss_check.proofs.NamedItemsOnce.{of_name}
+use Rattle.ss_check.proofs.NamedItemsFacts.{of_name}
 
 -- ---- the first fact of a name, behind others
 
@@ -117,23 +119,23 @@ same_kept (f ∷ fs) before h m =
     subst AreSame (append_assoc before (f ∷ []) fs) (same_kept fs (before ++ f ∷ []) p.1 (one_same before f p.0 m))
 
 -- what the language and these items declare
-abbrev kinds : List Entry → Facts
+abbrev kinds : List HeadedItem → Facts
 kinds xs = language_facts ++ declared xs
 
-kinds_more : (before : List Entry) (x : Entry) → kinds (before ++ x ∷ []) ≡ kinds before ++ declarations x
+kinds_more : (before : List HeadedItem) (x : HeadedItem) → kinds (before ++ x ∷ []) ≡ kinds before ++ declarations x
 kinds_more before x =
     ap (λ (fs : Facts). language_facts ++ fs) (flat_more declarations before x)
     ∙ sym (append_assoc language_facts (declared before) (declarations x))
 
-items_same : (d : Tables) (before xs : List Entry) → AreItemsKept d before xs → AreSame (kinds before) →
+items_same : (d : Declared) (before xs : List HeadedItem) → AreItemsKept d before xs → AreSame (kinds before) →
     AreSame (kinds (before ++ xs))
-items_same d before [] h m = subst (λ (ys : List Entry). AreSame (kinds ys)) (sym (append-nil before)) m
+items_same d before [] h m = subst (λ (ys : List HeadedItem). AreSame (kinds ys)) (sym (append-nil before)) m
 items_same d before (x ∷ xs) h m =
     let i = h.0 in
     let once : one_conflicts (kinds before) (declarations x) ≡ false =
     subst (λ (fs : Facts). one_conflicts fs (declarations x) ≡ false) (append-nil (kinds before)) i.once in
     let one = subst AreSame (sym (kinds_more before x)) (same_kept (declarations x) (kinds before) once m) in
-    subst (λ (ys : List Entry). AreSame (kinds ys)) (append_assoc before (x ∷ []) xs)
+    subst (λ (ys : List HeadedItem). AreSame (kinds ys)) (append_assoc before (x ∷ []) xs)
     (items_same d (before ++ x ∷ []) xs h.1 one)
 
 abbrev names_a_class : Fact NameKind → Bool
@@ -146,14 +148,15 @@ language_same n h i =
     in_any names_a_class (fact n (k.Class h)) (kinds []) i refl in cc
 
 -- each class has the kind that any item declares
-pub class_kept : (xs : List Entry) (hs : List Head) → AreItemsKept (tables_of xs hs) [] xs → (x : Entry) → In x xs →
+pub class_kept : (xs : List HeadedItem) (hs : List Head) → AreItemsKept (declared_by xs hs) [] xs → (x : HeadedItem) →
+    In x xs →
     (n : Name) (h : Option Heading) → In (fact n (k.Class h)) (declarations x) →
-    kind_of (tables_of xs hs) n ≡ Some (k.Class h)
+    kind_of (declared_by xs hs) n ≡ Some (k.Class h)
 class_kept xs hs kept x i n h j =
     let class = fact n (k.Class h) in
     let there = in_right class language_facts (declared xs) (in_flat declarations x class xs i j) in
     fact_stays (kinds xs) (flat_map routine_facts hs) n (k.Class h)
-    (items_same (tables_of xs hs) [] xs kept language_same n h there)
+    (items_same (declared_by xs hs) [] xs kept language_same n h there)
 
 -- ---- headings
 
@@ -169,13 +172,13 @@ first_class c h rest n w e =
 -- a class that an item names is declared under its heading
 pub heading_declared : (h : Option Heading) (i : Item) (n : Name) (w : Option Heading) →
     In (fact n w) (headings_in h i) →
-    In (fact n (k.Class w)) (item_facts h i ++ flat_map (clause_facts (class_of i)) (clauses_of i))
+    In (fact n (k.Class w)) (item_facts h i ++ flat_map (clause_facts (class_of_item i)) (clauses_of i))
 heading_declared h Normally n w x = absurd x
 heading_declared h (Headed g ns) n w x =
-    let p = map_in (λ (c : Name). fact c (Some g)) (fact n w) (included ns) x in
+    let p = map_in (λ (c : Name). fact c (Some g)) (fact n w) (included_names ns) x in
     let e = parts (fact n w) (fact p.one (Some g)) p.is in
-    in_left (fact n (k.Class w)) (flat_map (class_facts (Some g)) (included ns)) []
-    (in_flat (class_facts (Some g)) p.one (fact n (k.Class w)) (included ns) p.there
+    in_left (fact n (k.Class w)) (flat_map (class_facts (Some g)) (included_names ns)) []
+    (in_flat (class_facts (Some g)) p.one (fact n (k.Class w)) (included_names ns) p.there
     (inl (two (λ (m : Name) (v : Option Heading). fact m (k.Class v)) e.0 e.1)))
 heading_declared h (OfEvery c cs) n w (inl e) = first_class c h (flat_map (clause_facts (Some c)) (all_of cs)) n w e
 heading_declared h (OfEvery c cs) n w (inr x) = absurd x
@@ -184,11 +187,11 @@ heading_declared h (Defines z) n w x = absurd x
 heading_declared h (Orders r) n w x = absurd x
 
 -- and there is one
-pub heading_there : (d b : Tables) (h : Option Heading) (i : Item) (n : Name) (w : Option Heading) →
-    names_wrong_class d b h i ≡ false → In (fact n w) (headings_in h i) → (g : Heading) × (w ≡ Some g)
+pub heading_there : (d b : Declared) (h : Option Heading) (i : Item) (n : Name) (w : Option Heading) →
+    names_wrong_class d h i ≡ false → In (fact n w) (headings_in h i) → (g : Heading) × (w ≡ Some g)
 heading_there d b h Normally n w e x = absurd x
 heading_there d b h (Headed g ns) n w e x =
-    let p = map_in (λ (c : Name). fact c (Some g)) (fact n w) (included ns) x in
+    let p = map_in (λ (c : Name). fact c (Some g)) (fact n w) (included_names ns) x in
     (g, (parts (fact n w) (fact p.one (Some g)) p.is).1)
 heading_there d b None (OfEvery c cs) n w e x = cc
 heading_there d b (Some g) (OfEvery c cs) n w e (inl y) = (g, (parts (fact n w) (fact c (Some g)) y).1)

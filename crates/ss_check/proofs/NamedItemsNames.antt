@@ -7,19 +7,21 @@ use Rattle.std.proofs.lemmas.List.Elements.{filter-append}
 use Rattle.ss_words.specs.Lists.{Name, Several, all_of}
 use Rattle.ss_preamble.specs.declared.item.Heading.{Heading}
 use Rattle.ss_preamble.specs.declared.item.Heading.TheVariants.{PermanentEntities, TemporaryEntities, EventNotices}
-use Rattle.ss_preamble.specs.Tree.{Clause, Has, Owns, BelongsTo, Variables, Sets, Item, Normally, Headed, OfEvery, OfSystem, Defines, Orders, ItemAt}
+use Rattle.ss_preamble.specs.Tree.{Clause, Has, Owns, BelongsTo, Variables, Sets, Item, Normally, Headed, OfEvery}
+use Rattle.ss_preamble.specs.Tree.{OfSystem, Defines, Orders, ItemAt}
 use Rattle.ss_preamble.specs.Limits.{clause_has, class_names}
 use Rattle.ss_routines.specs.Tree.{Head, MainHead, RoutineHead, EventHead}
-use Rattle.ss_check.specs.declared.declared.fact.Fact.{Fact}
-use Rattle.ss_check.specs.declared.declared.name_kind.NameKind.{NameKind}
-use Rattle.ss_check.specs.declared.declared.name_kind.NameKind.TheVariants as k
-use Rattle.ss_check.specs.Facts.{fact}
+use Rattle.ss_check.specs.Facts.{Fact, fact}
+use Rattle.ss_check.specs.NameKind.{NameKind}
+use Rattle.ss_check.specs.NameKind as k
 use Rattle.ss_check.specs.NameKinds.{language_facts, class_facts, set_facts, is_class, is_global, is_attribute_of}
-use Rattle.ss_check.specs.Declarations.{Entry, heading_at, entries_under, class_of, clauses_of, included, clause_facts, item_facts, declarations, sets_of, sets_in, routine_facts}
+use Rattle.ss_check.specs.Declarations.{HeadedItem, heading_at, headed_items_under, class_of_item, clauses_of}
+use Rattle.ss_check.specs.Declarations.{included_names, clause_facts, item_facts, declarations, sets_of, sets_in}
+use Rattle.ss_check.specs.Declarations.{routine_facts}
 use Rattle.ss_check.specs.ResolvedNames.{names_where, is_set}
 use Rattle.ss_check.specs.NamedItems.{said_of, has_in, class_variables, globals_in}
 use Rattle.ss_check.proofs.NamedUses.{two}
-use Rattle.ss_check.proofs.SoundDeclared.{Facts, all_kinds}
+use Rattle.ss_check.proofs.SoundCompanions.{Facts, all_kinds}
 
 -- ---- lists of pieces
 
@@ -61,7 +63,7 @@ where_flat false f zs = flat_none (λ z. []) zs (λ z. refl)
 
 -- what items say, with their headings or without
 pub entries_say : {A : Type 0} (f : Item → List A) (h : Option Heading) (is : List ItemAt) →
-    flat_map (λ (x : Entry). f x.item) (entries_under h is) ≡ flat_map (λ (i : ItemAt). f i.item) is
+    flat_map (λ (x : HeadedItem). f x.item) (headed_items_under h is) ≡ flat_map (λ (i : ItemAt). f i.item) is
 entries_say f h [] = refl
 entries_say {A = A} f h (i ∷ is) = ap (λ (ys : List A). f i.item ++ ys) (entries_say f (heading_at h i.item) is)
 
@@ -141,7 +143,7 @@ module _ (test : NameKind → Bool) (T : IsTaken test) where
 
   abbrev item_taken : Option Heading → Item → List Name
   item_taken h Normally = []
-  item_taken h (Headed g ns) = flat_map (T.class (Some g)) (included ns)
+  item_taken h (Headed g ns) = flat_map (T.class (Some g)) (included_names ns)
   item_taken h (OfEvery c cs) = T.class h c ++ flat_map (clause_taken (Some c)) (all_of cs)
   item_taken h (OfSystem cs) = flat_map (clause_taken None) (all_of cs)
   item_taken h (Defines (Variables ns)) = flat_map T.variable (all_of ns)
@@ -164,11 +166,11 @@ module _ (test : NameKind → Bool) (T : IsTaken test) where
   clauses_are o cs = taken_flat (clause_facts o) (clause_taken o) cs (clause_is o)
 
   item_is : (h : Option Heading) (i : Item) →
-      taken (item_facts h i ++ flat_map (clause_facts (class_of i)) (clauses_of i)) ≡ item_taken h i
+      taken (item_facts h i ++ flat_map (clause_facts (class_of_item i)) (clauses_of i)) ≡ item_taken h i
   item_is h Normally = refl
   item_is h (Headed g ns) =
-      ap taken (append-nil (flat_map (class_facts (Some g)) (included ns)))
-      ∙ taken_flat (class_facts (Some g)) (T.class (Some g)) (included ns) (T.classes (Some g))
+      ap taken (append-nil (flat_map (class_facts (Some g)) (included_names ns)))
+      ∙ taken_flat (class_facts (Some g)) (T.class (Some g)) (included_names ns) (T.classes (Some g))
   item_is h (OfEvery c cs) =
       let clauses = all_of cs in
       taken_parts (class_facts h c) (flat_map (clause_facts (Some c)) clauses) (T.class h c)
@@ -187,9 +189,10 @@ module _ (test : NameKind → Bool) (T : IsTaken test) where
 
   -- what is taken of all that a program declares, where g is what is taken of an item
   kinds_are : (g : Option Heading → Item → List Name) → ((h : Option Heading) (i : Item) → item_taken h i ≡ g h i) →
-      (xs : List Entry) (hs : List Head) → taken (all_kinds xs hs) ≡ flat_map (λ (x : Entry). g x.heading x.item) xs
+      (xs : List HeadedItem) (hs : List Head) → taken (all_kinds xs hs)
+      ≡ flat_map (λ (x : HeadedItem). g x.heading x.item) xs
   kinds_are g e xs hs =
-      let said = flat_map (λ (x : Entry). g x.heading x.item) xs in
+      let said = flat_map (λ (x : HeadedItem). g x.heading x.item) xs in
       let of_items = taken_flat declarations (λ x. g x.heading x.item) xs
       (λ x. item_is x.heading x.item ∙ e x.heading x.item) in
       let of_heads = taken_flat routine_facts (λ h. []) hs head_is ∙ flat_none (λ (h : Head). []) hs (λ h. refl) in
@@ -239,8 +242,8 @@ classes_of h (Defines (Variables ns)) = none ns
 classes_of h (Defines (Sets ns kind)) = none ns
 classes_of h (Orders r) = refl
 
-pub class_names_are : (xs : List Entry) (hs : List Head) →
-    names_where is_class (all_kinds xs hs) ≡ flat_map (λ (x : Entry). class_names x.item) xs
+pub class_names_are : (xs : List HeadedItem) (hs : List Head) →
+    names_where is_class (all_kinds xs hs) ≡ flat_map (λ (x : HeadedItem). class_names x.item) xs
 class_names_are xs hs = kinds_are is_class class_taken (λ h i. class_names i) classes_of xs hs
 
 -- ---- sets
@@ -275,7 +278,7 @@ clause_sets (Some c) (BelongsTo ns) = each ns
 
 item_sets : (h : Option Heading) (i : Item) → item_taken is_set set_taken h i ≡ sets_in i
 item_sets h Normally = refl
-item_sets h (Headed g ns) = flat_none (λ c. []) (included ns) (λ c. refl)
+item_sets h (Headed g ns) = flat_none (λ c. []) (included_names ns) (λ c. refl)
 item_sets h (OfEvery c cs) =
     flat_same (clause_taken is_set set_taken (Some c)) sets_of (all_of cs) (clause_sets (Some c))
 item_sets h (OfSystem cs) = flat_same (clause_taken is_set set_taken None) sets_of (all_of cs) (clause_sets None)
@@ -283,8 +286,8 @@ item_sets h (Defines (Variables ns)) = none ns
 item_sets h (Defines (Sets ns kind)) = each ns ∙ sym (append-nil (all_of ns))
 item_sets h (Orders r) = refl
 
-pub set_names_are : (xs : List Entry) (hs : List Head) →
-    names_where is_set (all_kinds xs hs) ≡ flat_map (λ (x : Entry). sets_in x.item) xs
+pub set_names_are : (xs : List HeadedItem) (hs : List Head) →
+    names_where is_set (all_kinds xs hs) ≡ flat_map (λ (x : HeadedItem). sets_in x.item) xs
 set_names_are xs hs = kinds_are is_set set_taken (λ h i. sets_in i) item_sets xs hs
 
 -- ---- global variables
@@ -332,8 +335,8 @@ item_globals h (Defines (Variables ns)) = each ns
 item_globals h (Defines (Sets ns kind)) = none ns
 item_globals h (Orders r) = refl
 
-pub globals_are : (xs : List Entry) (hs : List Head) →
-    names_where is_global (all_kinds xs hs) ≡ flat_map (λ (x : Entry). globals_in x.heading x.item) xs
+pub globals_are : (xs : List HeadedItem) (hs : List Head) →
+    names_where is_global (all_kinds xs hs) ≡ flat_map (λ (x : HeadedItem). globals_in x.heading x.item) xs
 globals_are xs hs = kinds_are is_global global_taken globals_in item_globals xs hs
 
 -- ---- attributes of a class
@@ -385,7 +388,7 @@ module _ (c : Name) where
 
   item_attributes : (h : Option Heading) (i : Item) → item_taken of_c attribute_taken h i ≡ said_of (has_in i) c
   item_attributes h Normally = refl
-  item_attributes h (Headed g ns) = flat_none (λ b. []) (included ns) (λ b. refl)
+  item_attributes h (Headed g ns) = flat_none (λ b. []) (included_names ns) (λ b. refl)
   item_attributes h (OfEvery b cs) =
       let q = bytes_eq c b in
       flat_same (clause_taken of_c attribute_taken (Some b)) (λ z. where_true q (clause_has z)) (all_of cs)
@@ -398,8 +401,8 @@ module _ (c : Name) where
   item_attributes h (Defines (Sets ns kind)) = none ns
   item_attributes h (Orders r) = refl
 
-  pub attributes_are_written : (xs : List Entry) (hs : List Head) →
-      names_where of_c (all_kinds xs hs) ≡ said_of (flat_map (λ (x : Entry). has_in x.item) xs) c
+  pub attributes_are_written : (xs : List HeadedItem) (hs : List Head) →
+      names_where of_c (all_kinds xs hs) ≡ said_of (flat_map (λ (x : HeadedItem). has_in x.item) xs) c
   attributes_are_written xs hs =
       kinds_are of_c attribute_taken (λ h i. said_of (has_in i) c) item_attributes xs hs
-      ∙ sym (said_flat c (λ (x : Entry). has_in x.item) xs)
+      ∙ sym (said_flat c (λ (x : HeadedItem). has_in x.item) xs)

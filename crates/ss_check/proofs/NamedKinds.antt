@@ -1,5 +1,6 @@
 -- What a name is called by what it is declared as, and names found by their numbers.
-use Rattle.std.proofs.Common.{◌≡◌, ◌⊎◌, ◌<◌, ℕ, suc, ◌+◌, Bool, true, false, not, cond, List, [], ◌∷◌, ◌++◌, length, refl, sym, ap, ◌∙◌, subst, arith, Option, Some, None}
+use Rattle.std.proofs.Common.{◌≡◌, ◌⊎◌, ◌<◌, ℕ, suc, ◌+◌, Bool, true, false, not, cond, List, [], ◌∷◌, ◌++◌, length}
+use Rattle.std.proofs.Common.{refl, sym, ap, ◌∙◌, subst, arith, Option, Some, None}
 use Rattle.std.specs.Prelude.{map, codes, bytes_eq, slice_get}
 use Rattle.std.specs.List.{flat_map, position_or_len}
 use mathlib.Core.Logic.{inl, inr}
@@ -7,26 +8,27 @@ use Rattle.std.proofs.lemmas.Slice.Eq.{bytes_eq-Decides}
 use Rattle.ss_words.specs.Lists.{Name, all_of}
 use Rattle.ss_preamble.specs.declared.item.Heading.{Heading}
 use Rattle.ss_preamble.specs.declared.item.Heading.TheVariants.{PermanentEntities, TemporaryEntities, EventNotices}
-use Rattle.ss_preamble.specs.Tree.{Clause, Has, Owns, BelongsTo, Variables, Sets, Item, Normally, Headed, OfEvery, OfSystem, Defines, Orders}
+use Rattle.ss_preamble.specs.Tree.{Clause, Has, Owns, BelongsTo, Variables, Sets, Item, Normally, Headed, OfEvery}
+use Rattle.ss_preamble.specs.Tree.{OfSystem, Defines, Orders}
 use Rattle.ss_routines.specs.Tree.{Head, MainHead, RoutineHead, EventHead}
-use Rattle.ss_check.specs.declared.declared.fact.Fact.{Fact}
-use Rattle.ss_check.specs.declared.declared.function.Function.{Function}
-use Rattle.ss_check.specs.declared.declared.function.Function.TheVariants.{Absolute, Greatest, Least, Quotient, Remainder}
+use Rattle.ss_check.specs.Facts.{Fact, fact}
+use Rattle.ss_check.specs.LanguageFunction.{LanguageFunction}
+use Rattle.ss_check.specs.LanguageFunction.{Absolute, Greatest, Least, Quotient, Remainder}
 use Rattle.ss_words.specs.declared.terms.OwnerKept.TheVariants.{First, Last, Count}
 use Rattle.ss_words.specs.declared.terms.MemberKept.TheVariants.{Predecessor, Successor, Membership}
-use Rattle.ss_check.specs.declared.declared.name_kind.NameKind.{NameKind}
-use Rattle.ss_check.specs.declared.declared.name_kind.NameKind.TheVariants as k
-use Rattle.ss_check.specs.Facts.{fact}
+use Rattle.ss_check.specs.NameKind.{NameKind}
+use Rattle.ss_check.specs.NameKind as k
 use Rattle.ss_check.specs.NameKinds.{language_facts, class_facts, set_facts}
-use Rattle.ss_check.specs.Declarations.{Entry, class_of, clauses_of, included, clause_facts, item_facts, declarations, routine_facts}
+use Rattle.ss_check.specs.Declarations.{HeadedItem, class_of_item, clauses_of, included_names, clause_facts, item_facts}
+use Rattle.ss_check.specs.Declarations.{declarations, routine_facts}
 use Rattle.ss_check.specs.NamedTree.{owner_kept_name, member_kept_name}
 use Rattle.ss_check.specs.ResolvedNames.{number}
 use Rattle.ss_check.proofs.SoundLists.{In, in_split, map_in, flat_in}
-use Rattle.ss_check.proofs.SoundDeclared.{Facts, all_kinds}
+use Rattle.ss_check.proofs.SoundCompanions.{Facts, all_kinds}
 
 -- ---- names that the language gives
 
-abbrev pub function_name : Function → Name
+abbrev pub function_name : LanguageFunction → Name
 function_name Absolute = codes "ABS.F"
 function_name Greatest = codes "MAX.F"
 function_name Least = codes "MIN.F"
@@ -93,11 +95,11 @@ called_clause o (Owns ns) = called_flat set_facts (all_of ns) called_set
 called_clause o (BelongsTo ns) = called_flat set_facts (all_of ns) called_set
 
 called_item : (h : Option Heading) (i : Item) →
-    AreCalled (item_facts h i ++ flat_map (clause_facts (class_of i)) (clauses_of i))
+    AreCalled (item_facts h i ++ flat_map (clause_facts (class_of_item i)) (clauses_of i))
 called_item h Normally = λ f x. absurd x
 called_item h (Headed g ns) =
-    called_both (flat_map (class_facts (Some g)) (included ns)) []
-    (called_flat (class_facts (Some g)) (included ns) (called_class (Some g))) called_none
+    called_both (flat_map (class_facts (Some g)) (included_names ns)) []
+    (called_flat (class_facts (Some g)) (included_names ns) (called_class (Some g))) called_none
 called_item h (OfEvery c cs) =
     called_both (class_facts h c) (flat_map (clause_facts (Some c)) (all_of cs)) (called_class h c)
     (called_flat (clause_facts (Some c)) (all_of cs) (called_clause (Some c)))
@@ -108,7 +110,7 @@ called_item h (Defines (Sets ns kind)) =
     called_both (flat_map set_facts (all_of ns)) [] (called_flat set_facts (all_of ns) called_set) called_none
 called_item h (Orders r) = λ f x. absurd x
 
-called_entry : (x : Entry) → AreCalled (declarations x)
+called_entry : (x : HeadedItem) → AreCalled (declarations x)
 called_entry x = called_item x.heading x.item
 
 called_language : AreCalled language_facts
@@ -127,7 +129,7 @@ called_head (RoutineHead n given yielded) f (inl e) = is f n k.Routine e tt
 called_head (RoutineHead n given yielded) f (inr x) = absurd x
 
 -- each declared name is called as the language has it
-pub all_called : (xs : List Entry) (hs : List Head) (f : Fact NameKind) → In f (all_kinds xs hs) →
+pub all_called : (xs : List HeadedItem) (hs : List Head) (f : Fact NameKind) → In f (all_kinds xs hs) →
     IsCalled f.name f.what
 all_called xs hs =
     called_both (language_facts ++ flat_map declarations xs) (flat_map routine_facts hs)

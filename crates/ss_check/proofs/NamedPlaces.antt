@@ -11,27 +11,53 @@ use Rattle.ss_words.specs.declared.terms.Direction.{Direction}
 use Rattle.ss_words.specs.declared.terms.QualifierWord.{QualifierWord}
 use Rattle.ss_words.specs.declared.terms.Statistic.{Statistic}
 use Rattle.ss_words.specs.declared.terms.Statistic.TheVariants as statistics
-use Rattle.ss_routines.specs.Expr.{Expr, expr, Sums, no_sums, sum, Term, term, Products, no_products, product, Factor, digits, named, applied, within, Exprs, no_exprs, exprs}
-use Rattle.ss_routines.specs.Condition.{Reference, Condition, condition, Alternatives, no_alternatives, alternative, Conjunction, conjunction, Additions, no_additions, addition, Relation, compared, is_empty, is_in, nested}
-use Rattle.ss_routines.specs.Simple.{Assign, Let, Add, Subtract, Making, Create, CreateEvery, Destroy, FilePlace, ByDiscipline, AtEnd, Before, After, Filing, File, FileAt, RemoveEnd, Remove, Listing, Unwritten, BehindGiven, InParentheses, Call, Return, Stop, ValuesFirst, CalledFirst, When, At, Now, In, Timing, Schedule, Cancel, StartSimulation, Read, Print, Skip, Simple, Assigns, Makes, Files, Transfers, Times, Exchanges}
+use Rattle.ss_routines.specs.Expr.{Expr, expr, Sums, no_sums, sum, Term, term, Products, no_products, product, Factor}
+use Rattle.ss_routines.specs.Expr.{digits, named, applied, within, Exprs, no_exprs, exprs}
+use Rattle.ss_routines.specs.Condition.{Reference, Condition, condition, Alternatives, no_alternatives, alternative}
+use Rattle.ss_routines.specs.Condition.{Conjunction, conjunction, Additions, no_additions, addition, Relation, compared}
+use Rattle.ss_routines.specs.Condition.{is_empty, is_in, nested}
+use Rattle.ss_routines.specs.Simple.{Assign, Let, Add, Subtract, Making, Create, CreateEvery, Destroy, FilePlace}
+use Rattle.ss_routines.specs.Simple.{ByDiscipline, AtEnd, Before, After, Filing, File, FileAt, RemoveEnd, Remove}
+use Rattle.ss_routines.specs.Simple.{Listing, Unwritten, BehindGiven, InParentheses, Call, Return, Stop, ValuesFirst}
+use Rattle.ss_routines.specs.Simple.{CalledFirst, When, At, Now, In, Timing, Schedule, Cancel, StartSimulation, Read}
+use Rattle.ss_routines.specs.Simple.{Print, Skip, Simple, Assigns, Makes, Files, Transfers, Times, Exchanges}
 use Rattle.ss_routines.specs.Simple as s
 use Rattle.ss_routines.specs.Loops as l
 use Rattle.ss_routines.specs.Tree.{listing_names}
 use Rattle.ss_routines.specs.Places as w
 use Rattle.ss_program.specs.Program.{ProgramTable, class_of}
-use Rattle.ss_check.specs.declared.declared.class_need.ClassNeed.{ClassNeed}
-use Rattle.ss_check.specs.declared.declared.class_need.ClassNeed.TheVariants.{Permanent, Ending, Event}
-use Rattle.ss_check.specs.declared.declared.name_kind.NameKind.{NameKind}
-use Rattle.ss_check.specs.declared.declared.name_kind.NameKind.TheVariants as k
-use Rattle.ss_check.specs.declared.declared.tables.Tables.{Tables}
+use Rattle.ss_check.specs.ClassNeed.{ClassNeed}
+use Rattle.ss_check.specs.ClassNeed.{Permanent, Ending, Event}
+use Rattle.ss_check.specs.NameKind.{NameKind}
+use Rattle.ss_check.specs.NameKind as k
+use Rattle.ss_check.specs.Declarations.{Declared}
 use Rattle.ss_check.specs.NameKinds.{names_set, names_routine, serves}
 use Rattle.ss_check.specs.Declarations.{kind_of}
-use Rattle.ss_check.specs.Uses.{Use, LoopVariable, OfClass, uses_expr, uses_sums, uses_term, uses_products, uses_factor, uses_exprs, uses_option, uses_target, uses_set, uses_value, uses_called_target, uses_called_value, uses_condition, uses_alternatives, uses_conjunction, uses_additions, uses_relation, uses_assign, uses_making, uses_file_place, uses_filing, uses_called, uses_details, uses_when, uses_timing, uses_simple, uses_start, uses_range, uses_branch, uses_loop, uses}
+use Rattle.ss_check.specs.Uses.{Use, LoopVariable, OfClass, uses_expr, uses_sums, uses_term, uses_products, uses_factor}
+use Rattle.ss_check.specs.Uses.{uses_exprs, uses_option, uses_target, uses_set, uses_value, uses_called_target}
+use Rattle.ss_check.specs.Uses.{uses_called_value, uses_condition, uses_alternatives, uses_conjunction, uses_additions}
+use Rattle.ss_check.specs.Uses.{uses_relation, uses_assign, uses_making, uses_file_place, uses_filing, uses_called}
+use Rattle.ss_check.specs.Uses.{uses_details, uses_when, uses_timing, uses_simple, uses_start, uses_range, uses_branch}
+use Rattle.ss_check.specs.Uses.{uses_loop, uses}
 use Rattle.ss_check.specs.ResolvedNames.{Names, number, owner_of, resolved_variable}
-use Rattle.ss_check.specs.Resolved.{resolved_expr, resolved_sums, resolved_term, resolved_products, resolved_factor, resolved_exprs, resolved_option, resolved_value, resolved_target, resolved_set, called_target, called_value, resolved_condition, resolved_alternatives, resolved_conjunction, resolved_additions, resolved_relation, resolved_assign, resolved_making, resolved_position, resolved_filing, resolved_notice, resolved_when, resolved_timing, resolved_simple, resolved_begin, resolved_range, resolved_qualifier, resolved_branch, resolved_telling, resolved_loop, resolved_place}
-use Rattle.ss_check.specs.NamedTree.{several, given, reference_of, named_variable, named_expr, named_sums, named_term, named_products, named_factor, named_exprs, named_value, named_target, named_set, named_called_target, named_called_value, named_condition, named_alternatives, named_conjunction, named_additions, named_relation, named_assign, named_making, named_position, named_filing, named_article, named_notice, named_when, named_timing, named_begin, named_range, named_qualifier, named_branch, named_telling, named_loop, named_place, behind_given, plain_place}
+use Rattle.ss_check.specs.Resolved.{resolved_expr, resolved_sums, resolved_term, resolved_products, resolved_factor}
+use Rattle.ss_check.specs.Resolved.{resolved_exprs, resolved_option, resolved_value, resolved_target, resolved_set}
+use Rattle.ss_check.specs.Resolved.{called_target, called_value, resolved_condition, resolved_alternatives}
+use Rattle.ss_check.specs.Resolved.{resolved_conjunction, resolved_additions, resolved_relation, resolved_assign}
+use Rattle.ss_check.specs.Resolved.{resolved_making, resolved_position, resolved_filing, resolved_notice, resolved_when}
+use Rattle.ss_check.specs.Resolved.{resolved_timing, resolved_simple, resolved_begin, resolved_range}
+use Rattle.ss_check.specs.Resolved.{resolved_qualifier, resolved_branch, resolved_telling, resolved_loop}
+use Rattle.ss_check.specs.Resolved.{resolved_place}
+use Rattle.ss_check.specs.NamedTree.{several, listing_of, reference_of, named_variable, named_expr, named_sums}
+use Rattle.ss_check.specs.NamedTree.{named_term, named_products, named_factor, named_exprs, named_value, named_target}
+use Rattle.ss_check.specs.NamedTree.{named_set, named_called_target, named_called_value, named_condition}
+use Rattle.ss_check.specs.NamedTree.{named_alternatives, named_conjunction, named_additions, named_relation}
+use Rattle.ss_check.specs.NamedTree.{named_assign, named_making, named_position, named_filing, named_article}
+use Rattle.ss_check.specs.NamedTree.{named_notice, named_when, named_timing, named_begin, named_range, named_qualifier}
+use Rattle.ss_check.specs.NamedTree.{named_branch, named_telling, named_loop, named_place, behind_given, plain_place}
 use Rattle.ss_check.proofs.SoundUses.{IsGood, AreGood, good_parts}
-use Rattle.ss_check.proofs.NamedUses.{two, three, IsListed, variable_is, owner_is, value_is, applied_is, target_is, target_at_is}
+use Rattle.ss_check.proofs.NamedUses.{two, three, IsListed, variable_is, owner_is, value_is, applied_is, target_is}
+use Rattle.ss_check.proofs.NamedUses.{target_at_is}
 
 -- ---- words that stay what they are
 
@@ -110,7 +136,7 @@ maps_back f g h P [] one parts all = refl
 maps_back {X = X} f g h P (x ∷ xs) one parts all =
     let q = parts x xs all in two (λ (y : X) (ys : List X). y ∷ ys) (one x q.0) (maps_back f g h P xs one parts q.1)
 
-module _ (d : Tables) (v : Names) (locals : List Name) (p : ProgramTable) (S : IsListed d v locals p) where
+module _ (d : Declared) (v : Names) (locals : List Name) (p : ProgramTable) (S : IsListed d v locals p) where
   parts : (xs ys : List Use) → AreGood d locals (xs ++ ys) → AreGood d locals xs × AreGood d locals ys
   parts = good_parts d locals
 
@@ -297,10 +323,10 @@ module _ (d : Tables) (v : Names) (locals : List Name) (p : ProgramTable) (S : I
   filing_is (Remove e r) h = let q = parts (uses_expr e) (uses_set r) h in two Remove (expr_is e q.0) (set_is r q.1)
 
   given_is : (es : Listing Expr) → AreGood d locals (flat_map uses_expr (listing_names es)) →
-      given (map (named_expr p locals) (map (resolved_expr d v locals) (listing_names es))) ≡ behind_given es
+      listing_of (map (named_expr p locals) (map (resolved_expr d v locals) (listing_names es))) ≡ behind_given es
   given_is Unwritten h = refl
-  given_is (BehindGiven es) h = ap given (exprs_are (all_of es) h)
-  given_is (InParentheses es) h = ap given (exprs_are (all_of es) h)
+  given_is (BehindGiven es) h = ap listing_of (exprs_are (all_of es) h)
+  given_is (InParentheses es) h = ap listing_of (exprs_are (all_of es) h)
 
   article_is : (a : Article) (n : Name) (r : Option Reference) →
       named_article p locals (resolved_notice d v locals a n r) ≡ a

@@ -1,5 +1,6 @@
 -- A program without a breach, each number looked up in its table, is its text again.
-use Rattle.std.proofs.Common.{◌≡◌, Bool, true, false, cond, List, [], ◌∷◌, ◌++◌, length, refl, sym, ap, ◌∙◌, arith, Option, Some, append_assoc}
+use Rattle.std.proofs.Common.{◌≡◌, Bool, true, false, cond, List, [], ◌∷◌, ◌++◌, length, refl, sym, ap, ◌∙◌, arith}
+use Rattle.std.proofs.Common.{Option, Some, append_assoc}
 use Rattle.std.specs.Prelude.{ℕ, map, take, drop, slice_get, option_map, unwrap_or}
 use Rattle.std.specs.List.{flat_map, fold}
 use mathlib.Core.Logic.{inl, inr}
@@ -16,21 +17,26 @@ use Rattle.ss_program.specs.declared.kinds.ClassKind.TheVariants.{Temporary}
 use Rattle.ss_program.specs.declared.kinds.Discipline.TheVariants.{Fifo}
 use Rattle.ss_program.specs.declared.kinds.Owner.TheVariants.{System}
 use Rattle.ss_program.specs.Program.{ClassTable, SetTable, SectionTable, ProgramTable, class_of, set_of, section_of}
-use Rattle.ss_check.specs.declared.declared.name_kind.NameKind.TheVariants as k
-use Rattle.ss_check.specs.declared.declared.tables.Tables.{Tables}
+use Rattle.ss_check.specs.NameKind as k
+use Rattle.ss_check.specs.Declarations.{Declared}
 use Rattle.ss_check.specs.Facts.{is_among, repeats, each_once, fact}
 use Rattle.ss_check.specs.NameKinds.{is_attribute_of}
 use Rattle.ss_check.specs.Declarations as declared
-use Rattle.ss_check.specs.Declarations.{Entry, entries, heads, tables, given_of, yielded_of, parameters, kind_of}
-use Rattle.ss_check.specs.ResolvedNames.{Names, names, number, attribute_names, attributes_of, variables_used, undeclared, locals_of, routine_number}
-use Rattle.ss_check.specs.Resolved.{Rankings, rankings, class_table, set_table, section_name, section_kind, says_saving, resolved_spot, resolved_section, resolved_with}
-use Rattle.ss_check.specs.NamedTree.{given, behind_given, owner_kept_name, member_kept_name, name_at, named_attribute, named_spot, named_head, named_section, named_sections, plain_spot, plain_head, plain_section, TablesGiveTheText}
+use Rattle.ss_check.specs.Declarations.{HeadedItem, headed_items, heads, declared_by_program, given_of, yielded_of}
+use Rattle.ss_check.specs.Declarations.{parameters, kind_of}
+use Rattle.ss_check.specs.ResolvedNames.{Names, names, number, attribute_names, attributes_of, variables_used}
+use Rattle.ss_check.specs.ResolvedNames.{undeclared_name, locals_of, routine_number}
+use Rattle.ss_check.specs.Resolved.{Rankings, rankings, class_table, set_table, section_name, section_kind, says_saving}
+use Rattle.ss_check.specs.Resolved.{resolved_spot, resolved_section, resolved_with}
+use Rattle.ss_check.specs.NamedTree.{listing_of, behind_given, owner_kept_name, member_kept_name, name_at}
+use Rattle.ss_check.specs.NamedTree.{named_attribute, named_spot, named_head, named_section, named_sections, plain_spot}
+use Rattle.ss_check.specs.NamedTree.{plain_head, plain_section, TablesGiveTheText}
 use Rattle.ss_check.proofs.SoundLists.{In, same_name, number_there, image_at, where_has}
-use Rattle.ss_check.proofs.SoundDeclared.{HasClass, routine_names}
-use Rattle.ss_check.proofs.SoundKnown.{good_place}
+use Rattle.ss_check.proofs.SoundCompanions.{HasClass, routine_names}
+use Rattle.ss_check.proofs.SoundPlaceUses.{good_place}
 use Rattle.ss_check.proofs.SoundNumbers.{routine_found, section_at}
-use Rattle.ss_check.proofs.SoundScoped.{kind_in, closed_kind, global_in, class_in, set_in, attributes_are}
-use Rattle.ss_check.proofs.SoundUnbroken.{AreItemsKept, AreSectionsKept, ArePlacesKept, kept}
+use Rattle.ss_check.proofs.SoundNames.{kind_in, closed_kind, global_in, class_in, set_in, attributes_are}
+use Rattle.ss_check.proofs.SoundStatements.{AreItemsKept, AreSectionsKept, ArePlacesKept, kept}
 use Rattle.ss_check.proofs.NamedKinds.{all_called, number_finds}
 use Rattle.ss_check.proofs.NamedPlaces.{place_is}
 use Rattle.ss_check.proofs.NamedUses.{two, IsListed}
@@ -81,7 +87,7 @@ module _ (xs ys names : List Name) (h : IsLonger (xs ++ ys) names) where
       ap (λ (zs : List Name). take (length ys) (drop (length xs) zs)) split
       ∙ ap (take (length ys)) (drop-append_seam xs (ys ++ h.more)) ∙ take-append_seam ys h.more
 
-given_listed : (ps : Listing Name) → given (listing_names ps) ≡ behind_given ps
+given_listed : (ps : Listing Name) → listing_of (listing_names ps) ≡ behind_given ps
 given_listed Unwritten = refl
 given_listed (BehindGiven ns) = refl
 given_listed (InParentheses ns) = refl
@@ -91,10 +97,11 @@ head_by : (hd : Head) (names : List Name) → IsLonger (given_of hd ++ yielded_o
     (take (length (yielded_of hd)) (drop (length (given_of hd)) names)) (says_saving hd) ≡ plain_head hd
 head_by MainHead names h = refl
 head_by (RoutineHead n ps ys) names h =
-    two (RoutineHead n) (ap given (first_part (listing_names ps) ys names h) ∙ given_listed ps)
+    two (RoutineHead n) (ap listing_of (first_part (listing_names ps) ys names h) ∙ given_listed ps)
     (second_part (listing_names ps) ys names h)
 head_by (EventHead n ps saving) names h =
-    ap (λ (zs : Listing Name). EventHead n zs saving) (ap given (first_part (listing_names ps) [] names h) ∙ given_listed ps)
+    ap (λ (zs : Listing Name). EventHead n zs saving)
+    (ap listing_of (first_part (listing_names ps) [] names h) ∙ given_listed ps)
 
 -- the name of a routine
 routine_is : (n : Name) (hd : Head) → In n (routine_names hd) → section_name hd ≡ n
@@ -105,16 +112,16 @@ routine_is n (RoutineHead m ps ys) (inr x) = absurd x
 
 -- ---- the program
 
-module _ (is : List ItemAt) (qs : List Section) (h : AreItemsKept (tables is qs) [] (entries is))
-    (s : AreSectionsKept (tables is qs) (entries is) [] qs) where
-  abbrev xs : List Entry
-  xs = entries is
+module _ (is : List ItemAt) (qs : List Section) (h : AreItemsKept (declared_by_program is qs) [] (headed_items is))
+    (s : AreSectionsKept (declared_by_program is qs) (headed_items is) [] qs) where
+  abbrev xs : List HeadedItem
+  xs = headed_items is
 
   abbrev hs : List Head
   hs = heads qs
 
-  abbrev D : Tables
-  D = tables is qs
+  abbrev D : Declared
+  D = declared_by_program is qs
 
   abbrev V : Names
   V = names D hs
@@ -204,7 +211,7 @@ module _ (is : List ItemAt) (qs : List Section) (h : AreItemsKept (tables is qs)
         let head = kept.1 in
         two (λ (z : Head) (zs : List w.Spot). record { line = q.line; head = z; locals = []; places = zs })
         (head_by q.head locals
-        (first_names (parameters q.head) (flat_map (undeclared D) (variables_used q)) head.apart))
+        (first_names (parameters q.head) (flat_map (undeclared_name D) (variables_used q)) head.apart))
         (spots_are q.places (λ x m. m) kept.2)
 
   sections_are : (ss : List Section) → ((q : Section) → In q ss → In q qs) →

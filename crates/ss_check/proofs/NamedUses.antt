@@ -1,5 +1,6 @@
 -- The tables of a program without a breach give back the name that a use has.
-use Rattle.std.proofs.Common.{◌≡◌, ◌<◌, ◌+◌, ◌==◌, true, false, not, ◌&&◌, Bool, List, [], length, refl, sym, ap, ◌∙◌, arith, Option, Some, None}
+use Rattle.std.proofs.Common.{◌≡◌, ◌<◌, ◌+◌, ◌==◌, true, false, not, ◌&&◌, Bool, List, [], length, refl, sym, ap, ◌∙◌}
+use Rattle.std.proofs.Common.{arith, Option, Some, None}
 use Rattle.std.specs.Prelude.{codes, unwrap_or}
 use Rattle.std.proofs.lemmas.Bool.{true≢false, false≢true, not-false, eqb-true}
 use Rattle.ss_words.specs.Lists.{Name}
@@ -7,20 +8,23 @@ use Rattle.ss_routines.specs.Expr.{Expr, Exprs, no_exprs, exprs, named, applied}
 use Rattle.ss_routines.specs.Condition.{Reference}
 use Rattle.ss_program.specs.Program.{ProgramTable, class_of, set_of, section_of}
 use Rattle.ss_program.specs.ProgramExpr as x
-use Rattle.ss_check.specs.declared.declared.function.Function.{Function}
-use Rattle.ss_check.specs.declared.declared.function.Function.TheVariants.{Absolute, Greatest, Least, Quotient, Remainder}
+use Rattle.ss_check.specs.LanguageFunction.{LanguageFunction}
+use Rattle.ss_check.specs.LanguageFunction.{Absolute, Greatest, Least, Quotient, Remainder}
 use Rattle.ss_words.specs.declared.terms.OwnerKept.{OwnerKept}
 use Rattle.ss_words.specs.declared.terms.MemberKept.{MemberKept}
-use Rattle.ss_check.specs.declared.declared.name_kind.NameKind.{NameKind}
-use Rattle.ss_check.specs.declared.declared.name_kind.NameKind.TheVariants as k
-use Rattle.ss_check.specs.declared.declared.tables.Tables.{Tables}
+use Rattle.ss_check.specs.NameKind.{NameKind}
+use Rattle.ss_check.specs.NameKind as k
+use Rattle.ss_check.specs.Declarations.{Declared}
 use Rattle.ss_check.specs.NameKinds.{is_global, names_function, names_variable, names_fixed}
 use Rattle.ss_check.specs.Declarations.{kind_of, is_of_system}
-use Rattle.ss_check.specs.PlaceRules.{is_valueless, takes, is_bare, has_wrong_arguments}
+use Rattle.ss_check.specs.PlaceRules.{is_valueless, takes, takes_no_parentheses, has_wrong_arguments}
 use Rattle.ss_check.specs.Uses.{count}
-use Rattle.ss_check.specs.ResolvedNames.{Names, number, attribute_names, variable_of, subscript_of_owner, owner_of, routine_number, factor_of, function_factor, applied_factor, target_of}
+use Rattle.ss_check.specs.ResolvedNames.{Names, number, attribute_names, variable_of, subscript_of_owner, owner_of}
+use Rattle.ss_check.specs.ResolvedNames.{routine_number, factor_of, function_factor, applied_factor, target_of}
 use Rattle.ss_check.specs.Resolved.{resolved_expr, resolved_exprs, resolved_option}
-use Rattle.ss_check.specs.NamedTree.{owner_kept_name, member_kept_name, name_at, named_variable, named_attribute, named_expr, named_exprs, named_factor, named_applied, named_subscript, named_target}
+use Rattle.ss_check.specs.NamedTree.{owner_kept_name, member_kept_name, name_at, named_variable, named_attribute}
+use Rattle.ss_check.specs.NamedTree.{named_expr, named_exprs, named_factor, named_applied, named_subscript}
+use Rattle.ss_check.specs.NamedTree.{named_target}
 use Rattle.ss_check.proofs.NamedKinds.{function_name, number_finds}
 
 -- ---- equal parts make an equal whole
@@ -46,7 +50,7 @@ second_of false b g h = absurd (false≢true g)
 
 -- ---- what the tables have, as the places of a section name it
 
-pub record IsListed (d : Tables) (v : Names) (locals : List Name) (p : ProgramTable) : Type 0 where
+pub record IsListed (d : Declared) (v : Names) (locals : List Name) (p : ProgramTable) : Type 0 where
   pub global : (n : Name) (j : NameKind) → kind_of d n ≡ Some j → is_global j ≡ true →
       name_at p.globals (number n v.globals) ≡ n
   pub attribute : (n c : Name) → kind_of d n ≡ Some (k.Attribute c) →
@@ -59,11 +63,11 @@ pub record IsListed (d : Tables) (v : Names) (locals : List Name) (p : ProgramTa
   pub class : (n : Name) (g : Option Rattle.ss_preamble.specs.declared.item.Heading.Heading) →
       kind_of d n ≡ Some (k.Class g) →
       (class_of p (number n v.classes)).name ≡ n
-  pub function : (n : Name) (f : Function) → kind_of d n ≡ Some (k.Function f) → function_name f ≡ n
+  pub function : (n : Name) (f : LanguageFunction) → kind_of d n ≡ Some (k.Function f) → function_name f ≡ n
   pub clock : (n : Name) → kind_of d n ≡ Some k.Clock → codes "TIME.V" ≡ n
   pub routine : (n : Name) → kind_of d n ≡ Some k.Routine → (section_of p (routine_number d v locals n)).name ≡ n
 
-module _ (d : Tables) (v : Names) (locals : List Name) (p : ProgramTable) (S : IsListed d v locals p) where
+module _ (d : Declared) (v : Names) (locals : List Name) (p : ProgramTable) (S : IsListed d v locals p) where
   local_is : (n : Name) → number n locals < length locals → name_at locals (number n locals) ≡ n
   local_is n h = ap (λ (o : Option Name). unwrap_or o []) (number_finds n locals h)
 
@@ -125,7 +129,7 @@ module _ (d : Tables) (v : Names) (locals : List Name) (p : ProgramTable) (S : I
   abbrev pub AreTold : Exprs → Type 0
   AreTold bs = named_exprs p locals (resolved_exprs d v locals bs) ≡ bs
 
-  function_is : (n : Name) (f : Function) (a : Expr) (bs : Exprs) → function_name f ≡ n →
+  function_is : (n : Name) (f : LanguageFunction) (a : Expr) (bs : Exprs) → function_name f ≡ n →
       not (takes f (1 + count bs)) ≡ false →
       IsTold a → AreTold bs →
       named_factor p locals (function_factor d v locals f (resolved_expr d v locals a) (resolved_exprs d v locals bs))
@@ -143,7 +147,8 @@ module _ (d : Tables) (v : Names) (locals : List Name) (p : ProgramTable) (S : I
       let m = 1 + (1 + (1 + count cs)) in absurd (let z = eqb-true m 2 (not-false (m == 2) h) in omega (arith, z))
 
   -- a name as a value with arguments
-  pub applied_is : (n : Name) (j : Option NameKind) (a : Expr) (bs : Exprs) → kind_of d n ≡ j → is_bare d j ≡ false →
+  pub applied_is : (n : Name) (j : Option NameKind) (a : Expr) (bs : Exprs) → kind_of d n ≡ j → takes_no_parentheses d j
+      ≡ false →
       has_wrong_arguments d j (1 + count bs) ≡ false → IsTold a → AreTold bs →
       named_factor p locals (applied_factor d v locals j n (resolved_expr d v locals a) (resolved_exprs d v locals bs))
       ≡ applied n a bs
@@ -183,7 +188,7 @@ module _ (d : Tables) (v : Names) (locals : List Name) (p : ProgramTable) (S : I
   target_is n (Some k.Set) e a b h = absurd (true≢false a)
   target_is n (Some k.Routine) e a b h = absurd (true≢false a)
 
-  pub target_at_is : (n : Name) (j : Option NameKind) (a : Expr) → kind_of d n ≡ j → is_bare d j ≡ false →
+  pub target_at_is : (n : Name) (j : Option NameKind) (a : Expr) → kind_of d n ≡ j → takes_no_parentheses d j ≡ false →
       names_fixed j ≡ false →
       IsTold a → named_target p locals (target_of d v locals j n (Some (resolved_expr d v locals a)))
       ≡ reference n (Some a)

@@ -1,5 +1,6 @@
 -- No place of a program without a breach prints by a wrong picture.
-use Rattle.std.proofs.Common.{◌≡◌, ℕ, Bool, true, false, ◌||◌, List, [], ◌∷◌, ◌++◌, refl, sym, ap, ◌∙◌, Option, Some, None}
+use Rattle.std.proofs.Common.{◌≡◌, ℕ, Bool, true, false, ◌||◌, List, [], ◌∷◌, ◌++◌, refl, sym, ap, ◌∙◌, Option, Some}
+use Rattle.std.proofs.Common.{None}
 use Rattle.std.specs.Prelude.{map, option_map}
 use Rattle.std.specs.List.{list_any}
 use Rattle.std.specs.Option.{option_or}
@@ -8,12 +9,13 @@ use Rattle.ss_routines.specs.Tree.{Head}
 use Rattle.ss_routines.specs.Places.{Section, Spot}
 use Rattle.ss_check.specs.declared.fault.CheckRule.{CheckRule}
 use Rattle.ss_check.specs.declared.fault.CheckRule.TheVariants.{WrongPicture}
-use Rattle.ss_check.specs.declared.declared.tables.Tables.{Tables}
+use Rattle.ss_check.specs.Declarations.{Declared}
 use Rattle.ss_check.specs.Breach.{breach, end_statement, item_statements, section_statements, sections_statements}
-use Rattle.ss_check.specs.Declarations.{Entry, entries, is_main, tables, tables_of}
+use Rattle.ss_check.specs.Declarations.{HeadedItem, headed_items, is_main, declared_by_program, declared_by}
 use Rattle.ss_check.specs.ItemRules.{head_statement, local_statement}
-use Rattle.ss_check.specs.PlaceRules.{has_wrong_picture, is_find, place_statement, place_statements, standing_breaks, use_breaks, uses_from}
-use Rattle.ss_check.specs.Statements.{Statement, breach_of, broken, first_breach, lowest}
+use Rattle.ss_check.specs.PlaceRules.{has_wrong_picture, is_find, place_statement, place_statements, standing_breaks}
+use Rattle.ss_check.specs.PlaceRules.{use_breaks, uses_from}
+use Rattle.ss_check.specs.Statements.{Statement, breach_of, rule_where, first_breach, lowest}
 use Rattle.ss_check.proofs.Statements.{first_breach-append}
 
 -- ---- parts without a breach
@@ -46,27 +48,28 @@ nil_rest : {A : Type 0} (xs ys : List A) → xs ++ ys ≡ [] → ys ≡ []
 nil_rest [] ys h = h
 nil_rest (x ∷ xs) ys h = cc
 
-not_broken : (r : CheckRule) (b : Bool) → broken r b ≡ [] → b ≡ false
+not_broken : (r : CheckRule) (b : Bool) → rule_where r b ≡ [] → b ≡ false
 not_broken r true h = cc
 not_broken r false h = refl
 
 -- ---- places, sections, programs
 
-place_picture : (d : Tables) (m f : Bool) (p : Spot) (ps : List Spot) →
+place_picture : (d : Declared) (m f : Bool) (p : Spot) (ps : List Spot) →
     breach_of (place_statement d m f (uses_from p.place ps) p) ≡ None → has_wrong_picture p.place ≡ false
 place_picture d m f p ps h =
     let us = use_breaks d (uses_from p.place ps) in
     let b = has_wrong_picture p.place in
-    let all : (us ++ broken WrongPicture b) ++ standing_breaks m f p.place ≡ [] =
-    none_broken ((us ++ broken WrongPicture b) ++ standing_breaks m f p.place) p.line h in
+    let all : (us ++ rule_where WrongPicture b) ++ standing_breaks m f p.place ≡ [] =
+    none_broken ((us ++ rule_where WrongPicture b) ++ standing_breaks m f p.place) p.line h in
     not_broken WrongPicture b
-    (nil_rest us (broken WrongPicture b) (nil_first (us ++ broken WrongPicture b) (standing_breaks m f p.place) all))
+    (nil_rest us (rule_where WrongPicture b)
+    (nil_first (us ++ rule_where WrongPicture b) (standing_breaks m f p.place) all))
 
 both_false : (a b : Bool) → a ≡ false → b ≡ false → (a || b) ≡ false
 both_false false b h k = k
 both_false true b h k = cc
 
-pub places_pictures : (d : Tables) (m f : Bool) (ps : List Spot) →
+pub places_pictures : (d : Declared) (m f : Bool) (ps : List Spot) →
     first_breach (place_statements d m f ps) ≡ None → list_any (λ s. has_wrong_picture s.place) ps ≡ false
 places_pictures d m f [] h = refl
 places_pictures d m f (p ∷ ps) h =
@@ -76,7 +79,7 @@ places_pictures d m f (p ∷ ps) h =
     (place_picture d m f p ps (none_first here behind h))
     (places_pictures d m (is_find p.place) ps (none_rest here behind h))
 
-section_pictures : (d b : Tables) (q : Section) → first_breach (section_statements d b q) ≡ None →
+section_pictures : (d b : Declared) (q : Section) → first_breach (section_statements d b q) ≡ None →
     list_any (λ s. has_wrong_picture s.place) q.places ≡ false
 section_pictures d b q h =
     let ls = map (local_statement d) q.locals in
@@ -84,24 +87,24 @@ section_pictures d b q h =
     places_pictures d (is_main q.head) false q.places
     (rest_none ls ps (none_rest (breach_of (head_statement d b q)) (first_breach (ls ++ ps)) h))
 
-sections_pictures : (d : Tables) (xs : List Entry) (before : List Head) (qs : List Section) →
+sections_pictures : (d : Declared) (xs : List HeadedItem) (before : List Head) (qs : List Section) →
     first_breach (sections_statements d xs before qs) ≡ None →
     list_any (λ q. list_any (λ s. has_wrong_picture s.place) q.places) qs ≡ false
 sections_pictures d xs before [] h = refl
 sections_pictures d xs before (q ∷ qs) h =
-    let here = section_statements d (tables_of xs before) q in
+    let here = section_statements d (declared_by xs before) q in
     let behind = sections_statements d xs (before ++ q.head ∷ []) qs in
     both_false (list_any (λ s. has_wrong_picture s.place) q.places)
     (list_any (λ r. list_any (λ s. has_wrong_picture s.place) r.places) qs)
-    (section_pictures d (tables_of xs before) q (first_none here behind h))
+    (section_pictures d (declared_by xs before) q (first_none here behind h))
     (sections_pictures d xs (before ++ q.head ∷ []) qs (rest_none here behind h))
 
 -- so in a program without a breach
 pub pictures_right : (p : Decls) (qs : List Section) → breach p qs ≡ None →
     list_any (λ q. list_any (λ s. has_wrong_picture s.place) q.places) qs ≡ false
 pictures_right p qs h =
-    let d = tables p.items qs in
-    let xs = entries p.items in
+    let d = declared_by_program p.items qs in
+    let xs = headed_items p.items in
     let is = item_statements d [] xs in
     let ks = sections_statements d xs [] qs in
     sections_pictures d xs [] qs

@@ -5,15 +5,15 @@ use Rattle.ss_words.specs.Lists.{Name}
 use Rattle.ss_preamble.specs.Tree.{Decls}
 use Rattle.ss_routines.specs.Places.{Section}
 use Rattle.ss_program.specs.Program.{ClassTable, ProgramTable, SectionTable, SetTable}
-use Rattle.ss_check.specs.declared.declared.tables.Tables.{Tables}
-use Rattle.ss_check.specs.Declarations.{heads, tables}
+use Rattle.ss_check.specs.Declarations.{Declared}
+use Rattle.ss_check.specs.Declarations.{heads, declared_by_program}
 use Rattle.ss_check.specs.Resolved.{Rankings, class_table, rankings, resolved, resolved_section, set_table}
 use Rattle.ss_check.specs.ResolvedNames.{Names, names, number}
 
 -- d: what the tree says; v: its tables; r: its rankings
-pub program_is : (p : Decls) (qs : List Section) (d : Tables) (v : Names) (r : Rankings) (globals : List Name)
+pub program_is : (p : Decls) (qs : List Section) (d : Declared) (v : Names) (r : Rankings) (globals : List Name)
     (classes : List ClassTable) (sets : List SetTable) (priority : List ℕ) (sections : List SectionTable) →
-    d ≡ tables p.items qs → v ≡ names d (heads qs) → r ≡ rankings p.items → globals ≡ v.globals →
+    d ≡ declared_by_program p.items qs → v ≡ names d (heads qs) → r ≡ rankings p.items → globals ≡ v.globals →
     classes ≡ map (class_table d v r) v.classes → sets ≡ map (set_table d v r) v.sets →
     priority ≡ map (λ c. number c v.classes) d.priority → sections ≡ map (resolved_section d v) qs →
     ◌≡◌ {A = ProgramTable} (record {

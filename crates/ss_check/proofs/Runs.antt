@@ -1,10 +1,12 @@
 -- How many fields the lines of a picture have, by their runs of asterisks.
-use Rattle.std.proofs.Common.{◌≡◌, ◌+◌, ◌<◌, ◌≤◌, ℕ, Bool, true, false, not, cond, ◌&&◌, ◌==◌, List, [], ◌∷◌, ◌++◌, length, get_or, drop, refl, sym, ap, ◌∙◌, arith}
+use Rattle.std.proofs.Common.{◌≡◌, ◌+◌, ◌<◌, ◌≤◌, ℕ, Bool, true, false, not, cond, ◌&&◌, ◌==◌, List, [], ◌∷◌, ◌++◌}
+use Rattle.std.proofs.Common.{length, get_or, drop, refl, sym, ap, ◌∙◌, arith}
 use Rattle.std.specs.Prelude.{count_by, map}
 use Rattle.std.proofs.lemmas.List.{drop_all, drop_more}
 use Rattle.std.proofs.lemmas.List.Sums.{sum_by-append, sum_by-cons}
 use Rattle.std.specs.Global.{Vec}
-use Rattle.ss_report.specs.Pictures.{Part, byte, field, field_count, is_field, line_end, line_parts, picture_parts, with_asterisk}
+use Rattle.ss_report.specs.Pictures.{Part, byte, field, field_count, is_field, line_end, line_parts, picture_parts}
+use Rattle.ss_report.specs.Pictures.{with_asterisk}
 
 -- how many fields parts have
 abbrev fields : List Part → ℕ

@@ -9,7 +9,7 @@ use Rattle.ss_routines.specs.Tree.{Tree, spell_section}
 use Rattle.ss_routines.specs.Written.{written_from}
 use Rattle.ss_program.specs.ProgramSound.{IsSound}
 use Rattle.ss_check.specs.Breach.{breach}
-use Rattle.ss_check.specs.Declarations.{entries, heads, tables}
+use Rattle.ss_check.specs.Declarations.{headed_items, heads, declared_by_program}
 use Rattle.ss_check.specs.Readable.{AreFew, AreOfTree}
 use Rattle.ss_check.specs.Resolved.{rankings, class_table, set_table, resolved_section, resolved}
 use Rattle.ss_check.specs.ResolvedNames.{names}
@@ -18,7 +18,7 @@ use Rattle.ss_check.proofs.SoundLimits.{few_classes, few_sets, few_globals}
 use Rattle.ss_check.proofs.SoundSections.{one_main, sound_sections, linked_sections}
 use Rattle.ss_check.proofs.SoundTables.{sound_names, sound_tables}
 use Rattle.ss_check.proofs.SoundTrees.{of_tree}
-use Rattle.ss_check.proofs.SoundUnbroken.{kept}
+use Rattle.ss_check.proofs.SoundStatements.{kept}
 
 as_many : (lines : List ℕ) (k : ℕ) (ts : Tree) → length (written_from lines k ts) ≡ length ts
 as_many lines k [] = refl
@@ -30,14 +30,14 @@ pub sound_resolved : (decls : Decls) (qs : List Section) → preamble.IsWithin (
 sound_resolved decls qs w t f b =
     let k = kept decls qs b in
     let is = decls.items in
-    let D = tables is qs in
+    let D = declared_by_program is qs in
     let V = names D (heads qs) in
     let within = t.2 in
     let e = t.3 in
     let tree = λ (q : Section) (i : In q qs). of_tree t.1 0 t.0 q within.phrases within.parameters
     (subst (λ (ss : List Section). In q ss) e i) in
     record {
-      main = one_main D V (entries is) qs k.sections k.main;
+      main = one_main D V (headed_items is) qs k.sections k.main;
       sections = sound_sections is qs k.items w k.sections qs (λ q i. i) tree f;
       few =
           let a = length-map qs (resolved_section D V) in

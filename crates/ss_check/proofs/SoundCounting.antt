@@ -1,5 +1,6 @@
 -- Counting over the places of a tree passes over whole statements, forwards and backwards.
-use Rattle.std.proofs.Common.{◌≡◌, ◌≤◌, ℕ, ◌+◌, ◌-◌, ◌==◌, ◌&&◌, Bool, true, false, List, [], ◌∷◌, ◌++◌, length, refl, ap, ◌∙◌, arith, append_assoc, length-append}
+use Rattle.std.proofs.Common.{◌≡◌, ◌≤◌, ℕ, ◌+◌, ◌-◌, ◌==◌, ◌&&◌, Bool, true, false, List, [], ◌∷◌, ◌++◌, length, refl}
+use Rattle.std.proofs.Common.{ap, ◌∙◌, arith, append_assoc, length-append}
 use Rattle.std.specs.Prelude.{if◌then◌else◌}
 use Rattle.std.proofs.lemmas.Bool.{ne_eqb}
 use Rattle.ss_program.specs.declared.branch.Question.{Question}
@@ -9,9 +10,13 @@ use Rattle.ss_program.specs.declared.place.Place.{Place}
 use Rattle.ss_program.specs.declared.place.Place.TheVariants.{Branch, Looping}
 use Rattle.ss_program.specs.declared.place.Spot.{Spot}
 use Rattle.ss_program.specs.ProgramExpr.{Expr}
-use Rattle.ss_program.specs.Match.{distance, is_if, is_else, is_always, is_branch_end, is_do, is_loop, is_bare}
+use Rattle.ss_program.specs.Match.{distance, is_if, is_else, is_always, is_branch_end, is_do, is_loop}
+use Rattle.ss_program.specs.Match.{controls_next_place}
 use Rattle.ss_program.specs.Nesting.{is_phrase}
-use Rattle.ss_check.proofs.SoundShapes.{is_simple, if_at, else_at, always_at, Head, for_at, loop_at, find_at, gather_at, tell_at, Block, no_statements, statement, Statement, alone, loop, One, simple, branch, Otherwise, no_else, else_with, Controlled, further, repeated, single, find, compute, flat_block, flat_statement, flat_one, flat_otherwise, flat_loop}
+use Rattle.ss_check.proofs.SoundShapes.{is_simple, if_at, else_at, always_at, Head, for_at, loop_at, find_at, gather_at}
+use Rattle.ss_check.proofs.SoundShapes.{tell_at, Block, no_statements, statement, Statement, alone, loop, One, simple}
+use Rattle.ss_check.proofs.SoundShapes.{branch, Otherwise, no_else, else_with, Controlled, further, repeated, single}
+use Rattle.ss_check.proofs.SoundShapes.{find, compute, flat_block, flat_statement, flat_one, flat_otherwise, flat_loop}
 use Rattle.ss_check.proofs.SoundZipper.{unwind, unwind_both}
 
 -- ---- what is said of lists of places, from which depth up
@@ -191,7 +196,7 @@ quiet_loop (Branch b) h = cc
 quiet_loop (Looping l) h = cc
 quiet_loop x h = refl
 
-pub quiet_bare : IsQuiet is_bare
+pub quiet_bare : IsQuiet controls_next_place
 quiet_bare (Branch b) h = cc
 quiet_bare (Looping l) h = cc
 quiet_bare x h = refl

@@ -1,5 +1,6 @@
 -- What the items of a program without a breach keep to, taken together.
-use Rattle.std.proofs.Common.{◌≡◌, ◌⊎◌, Bool, true, false, not, ◌&&◌, cond, List, [], ◌∷◌, ◌++◌, refl, sym, ap, ◌∙◌, subst, Option, Some, None, append_assoc}
+use Rattle.std.proofs.Common.{◌≡◌, ◌⊎◌, Bool, true, false, not, ◌&&◌, cond, List, [], ◌∷◌, ◌++◌, refl, sym, ap, ◌∙◌}
+use Rattle.std.proofs.Common.{subst, Option, Some, None, append_assoc}
 use Rattle.std.specs.Prelude.{map}
 use Rattle.std.specs.List.{flat_map, filter, list_any}
 use mathlib.Core.Logic.{inl, inr}
@@ -11,18 +12,20 @@ use Rattle.std.proofs.lemmas.Option.{none-some}
 use Rattle.ss_words.specs.Lists.{Name}
 use Rattle.ss_preamble.specs.Tree.{Key, SetDiscipline, Item}
 use Rattle.ss_routines.specs.Tree.{Head, MainHead, RoutineHead, EventHead}
-use Rattle.ss_check.specs.declared.declared.fact.Fact.{Fact}
-use Rattle.ss_check.specs.declared.declared.name_kind.NameKind.{NameKind}
-use Rattle.ss_check.specs.declared.declared.name_kind.NameKind.TheVariants as k
-use Rattle.ss_check.specs.declared.declared.tables.Tables.{Tables}
-use Rattle.ss_check.specs.Facts.{is_among, repeats, is_one_outside, fact, fact_of, names_of}
+use Rattle.ss_check.specs.Facts.{Fact, is_among, repeats, is_one_outside, fact, fact_of, names_of}
+use Rattle.ss_check.specs.NameKind.{NameKind}
+use Rattle.ss_check.specs.NameKind as k
+use Rattle.ss_check.specs.Declarations.{Declared}
 use Rattle.ss_check.specs.NameKinds.{language_facts, conflicts, one_conflicts, is_attribute_of, names_set}
-use Rattle.ss_check.specs.Declarations.{Entry, declarations, disciplines_in, ties_in, sets_in, classes_in, priority_in, routine_facts, tables_of, kind_of, is_event_class}
-use Rattle.ss_check.specs.ItemRules.{new_sets, has_wrong_key, has_wrong_rank, has_wrong_keys, has_wrong_priority, is_without_section}
+use Rattle.ss_check.specs.Declarations.{HeadedItem, declarations, disciplines_in, ties_in, sets_in, classes_in}
+use Rattle.ss_check.specs.Declarations.{priority_in, routine_facts, declared_by, kind_of, is_event_class}
+use Rattle.ss_check.specs.ItemRules.{new_sets, has_wrong_key, has_wrong_rank, has_wrong_keys, has_wrong_priority}
+use Rattle.ss_check.specs.ItemRules.{is_without_section}
 use Rattle.ss_check.specs.ResolvedNames.{names_where}
-use Rattle.ss_check.proofs.SoundLists.{In, in_split, in_any, none_in, in_filter, in_among, among_in, fact_in, fact_there, where_from, AreApart, in_map}
-use Rattle.ss_check.proofs.SoundDeclared.{Facts, closed_entry, declared}
-use Rattle.ss_check.proofs.SoundUnbroken.{IsItemKept, AreItemsKept}
+use Rattle.ss_check.proofs.SoundLists.{In, in_split, in_any, none_in, in_filter, in_among, among_in, fact_in}
+use Rattle.ss_check.proofs.SoundLists.{fact_there, where_from, AreApart, in_map}
+use Rattle.ss_check.proofs.SoundCompanions.{Facts, closed_entry, declared}
+use Rattle.ss_check.proofs.SoundStatements.{IsItemKept, AreItemsKept}
 
 pub nothing_more : {X : Type 0} (xs : List X) → xs ++ [] ≡ xs
 nothing_more [] = refl
@@ -38,11 +41,11 @@ in_more : {X Y : Type 0} (f : X → List Y) (y : Y) (xs : List X) (x : X) → In
 in_more f y xs x h = in_split y (flat_map f xs) (f x) (subst (λ zs. In y zs) (flat_more f xs x) h)
 
 -- each item is kept
-pub item_at : (d : Tables) (before xs : List Entry) (x : Entry) → AreItemsKept d before xs → In x xs →
-    (b : Tables) × IsItemKept d b x
+pub item_at : (d : Declared) (before xs : List HeadedItem) (x : HeadedItem) → AreItemsKept d before xs → In x xs →
+    (b : Declared) × IsItemKept d b x
 item_at d before [] x h i = absurd i
 item_at d before (y ∷ ys) x h (inl e) =
-    (tables_of before [], subst (λ (z : Entry). IsItemKept d (tables_of before []) z) (sym e) h.0)
+    (declared_by before [], subst (λ (z : HeadedItem). IsItemKept d (declared_by before []) z) (sym e) h.0)
 item_at d before (y ∷ ys) x h (inr i) = item_at d (before ++ y ∷ []) ys x h.1 i
 
 -- ---- sets have owners and members
@@ -70,7 +73,7 @@ not_of_language s h =
     absurd (false≢true t)
 
 -- nothing but items declares sets
-set_of_items : (xs : List Entry) (s : Name) → In (fact s k.Set) (tables_of xs []).kinds →
+set_of_items : (xs : List HeadedItem) (s : Name) → In (fact s k.Set) (declared_by xs []).kinds →
     In (fact s k.Set) (declared xs)
 set_of_items xs s h = last (in_split (fact s k.Set) (language_facts ++ declared xs) [] h)
   where
@@ -83,27 +86,27 @@ set_of_items xs s h = last (in_split (fact s k.Set) (language_facts ++ declared 
     last (inr b) = absurd b
 
 -- each set is among these names
-abbrev AreSetsAmong : List Name → List Entry → Type 0
+abbrev AreSetsAmong : List Name → List HeadedItem → Type 0
 AreSetsAmong ns xs = (s : Name) → In (fact s k.Set) (declared xs) → is_among s ns ≡ true
 
 -- and so is each set where an item first names it
-abbrev AreNewAmong : Tables → List Name → List Entry → List Entry → Type 0
+abbrev AreNewAmong : Declared → List Name → List HeadedItem → List HeadedItem → Type 0
 AreNewAmong d ns before [] = Unit {0}
 AreNewAmong d ns before (x ∷ xs) =
-    (is_one_outside ns (new_sets d (tables_of before []) x.item) ≡ false) × AreNewAmong d ns (before ++ x ∷ []) xs
+    (is_one_outside ns (new_sets d (declared_by before []) x.item) ≡ false) × AreNewAmong d ns (before ++ x ∷ []) xs
 
-module _ (d : Tables) (ns : List Name) where
-  new_set : (before : List Entry) (x : Entry) (s : Name) → AreSetsAmong ns before →
-      is_one_outside ns (new_sets d (tables_of before []) x.item) ≡ false → In s (sets_in x.item) → (b : Bool) →
-      names_set (kind_of (tables_of before []) s) ≡ b → is_among s ns ≡ true
+module _ (d : Declared) (ns : List Name) where
+  new_set : (before : List HeadedItem) (x : HeadedItem) (s : Name) → AreSetsAmong ns before →
+      is_one_outside ns (new_sets d (declared_by before []) x.item) ≡ false → In s (sets_in x.item) → (b : Bool) →
+      names_set (kind_of (declared_by before []) s) ≡ b → is_among s ns ≡ true
   new_set before x s m h i true e =
       m s (set_of_items before s
-      (fact_in (tables_of before []).kinds s k.Set (set_by s (kind_of (tables_of before []) s) e)))
+      (fact_in (declared_by before []).kinds s k.Set (set_by s (kind_of (declared_by before []) s) e)))
   new_set before x s m h i false e =
-      let new = in_filter (λ n. not (names_set (kind_of (tables_of before []) n))) s (sets_in x.item) i (ap not e) in
-      not-false (is_among s ns) (none_in (λ n. not (is_among n ns)) s (new_sets d (tables_of before []) x.item) h new)
+      let new = in_filter (λ n. not (names_set (kind_of (declared_by before []) n))) s (sets_in x.item) i (ap not e) in
+      not-false (is_among s ns) (none_in (λ n. not (is_among n ns)) s (new_sets d (declared_by before []) x.item) h new)
 
-  sets_among : (before xs : List Entry) → AreNewAmong d ns before xs → AreSetsAmong ns before →
+  sets_among : (before xs : List HeadedItem) → AreNewAmong d ns before xs → AreSetsAmong ns before →
       AreSetsAmong ns (before ++ xs)
   sets_among before [] h m = subst (AreSetsAmong ns) (sym (nothing_more before)) m
   sets_among before (x ∷ xs) h m =
@@ -116,24 +119,24 @@ module _ (d : Tables) (ns : List Name) where
           by (inl a) = m s a
           by (inr b) =
               let named = closed_entry x (fact s k.Set) b in
-              new_set before x s m h.0 named (names_set (kind_of (tables_of before []) s)) refl
+              new_set before x s m h.0 named (names_set (kind_of (declared_by before []) s)) refl
 
-owners_new : (d : Tables) (before xs : List Entry) → AreItemsKept d before xs →
+owners_new : (d : Declared) (before xs : List HeadedItem) → AreItemsKept d before xs →
     AreNewAmong d (names_of d.owners) before xs
 owners_new d before [] h = tt
 owners_new d before (x ∷ xs) h = let i = h.0 in (i.owner, owners_new d (before ++ x ∷ []) xs h.1)
 
-members_new : (d : Tables) (before xs : List Entry) → AreItemsKept d before xs →
+members_new : (d : Declared) (before xs : List HeadedItem) → AreItemsKept d before xs →
     AreNewAmong d (names_of d.members) before xs
 members_new d before [] h = tt
 members_new d before (x ∷ xs) h = let i = h.0 in (i.member, members_new d (before ++ x ∷ []) xs h.1)
 
 -- each set that is declared has an owner, and members
-pub sets_have_owners : (d : Tables) (xs : List Entry) → AreItemsKept d [] xs → (s : Name) →
+pub sets_have_owners : (d : Declared) (xs : List HeadedItem) → AreItemsKept d [] xs → (s : Name) →
     In (fact s k.Set) (declared xs) → is_among s (names_of d.owners) ≡ true
 sets_have_owners d xs h = sets_among d (names_of d.owners) [] xs (owners_new d [] xs h) (λ s i. absurd i)
 
-pub sets_have_members : (d : Tables) (xs : List Entry) → AreItemsKept d [] xs → (s : Name) →
+pub sets_have_members : (d : Declared) (xs : List HeadedItem) → AreItemsKept d [] xs → (s : Name) →
     In (fact s k.Set) (declared xs) →
     is_among s (names_of d.members) ≡ true
 sets_have_members d xs h = sets_among d (names_of d.members) [] xs (members_new d [] xs h) (λ s i. absurd i)
@@ -141,27 +144,27 @@ sets_have_members d xs h = sets_among d (names_of d.members) [] xs (members_new 
 -- ---- keys
 
 -- the keys that rank a set, and those that break ties, are attributes
-pub right_ranks : (d b : Tables) (i : Item) (n : Name) (kind : SetDiscipline) → has_wrong_keys d b i ≡ false →
-    In (fact n kind) (disciplines_in i) → has_wrong_rank d b (fact_of d.members n) kind ≡ false
+pub right_ranks : (d b : Declared) (i : Item) (n : Name) (kind : SetDiscipline) → has_wrong_keys d i ≡ false →
+    In (fact n kind) (disciplines_in i) → has_wrong_rank d (fact_of d.members n) kind ≡ false
 right_ranks d b i n kind h x =
-    let ranks = list_any (λ s. has_wrong_rank d b (fact_of d.members s.name) s.what) (disciplines_in i) in
-    let ties = list_any (λ s. has_wrong_key d b (Some s.name) s.what) (ties_in i) in
-    none_in (λ s. has_wrong_rank d b (fact_of d.members s.name) s.what) (fact n kind) (disciplines_in i)
+    let ranks = list_any (λ s. has_wrong_rank d (fact_of d.members s.name) s.what) (disciplines_in i) in
+    let ties = list_any (λ s. has_wrong_key d (Some s.name) s.what) (ties_in i) in
+    none_in (λ s. has_wrong_rank d (fact_of d.members s.name) s.what) (fact n kind) (disciplines_in i)
     (or_parts ranks ties h).0 x
 
-pub right_ties : (d b : Tables) (i : Item) (n : Name) (keys : List Key) → has_wrong_keys d b i ≡ false →
-    In (fact n keys) (ties_in i) → has_wrong_key d b (Some n) keys ≡ false
+pub right_ties : (d b : Declared) (i : Item) (n : Name) (keys : List Key) → has_wrong_keys d i ≡ false →
+    In (fact n keys) (ties_in i) → has_wrong_key d (Some n) keys ≡ false
 right_ties d b i n keys h x =
-    let ranks = list_any (λ s. has_wrong_rank d b (fact_of d.members s.name) s.what) (disciplines_in i) in
-    let ties = list_any (λ s. has_wrong_key d b (Some s.name) s.what) (ties_in i) in
-    none_in (λ s. has_wrong_key d b (Some s.name) s.what) (fact n keys) (ties_in i) (or_parts ranks ties h).1 x
+    let ranks = list_any (λ s. has_wrong_rank d (fact_of d.members s.name) s.what) (disciplines_in i) in
+    let ties = list_any (λ s. has_wrong_key d (Some s.name) s.what) (ties_in i) in
+    none_in (λ s. has_wrong_key d (Some s.name) s.what) (fact n keys) (ties_in i) (or_parts ranks ties h).1 x
 
 -- ---- event classes have sections
 
-abbrev named_classes : List Entry → List Name
+abbrev named_classes : List HeadedItem → List Name
 named_classes xs = flat_map (λ x. classes_in x.item) xs
 
-abbrev HaveSections : Tables → List Entry → Type 0
+abbrev HaveSections : Declared → List HeadedItem → Type 0
 HaveSections d xs = (c : Name) → In c (named_classes xs) → is_event_class d c ≡ true → is_among c d.events ≡ true
 
 section_by : (a e s : Bool) → (not a && (e && not s)) ≡ false → (a ≡ true → s ≡ true) → e ≡ true → s ≡ true
@@ -170,7 +173,7 @@ section_by false true true h f g = refl
 section_by false true false h f g = absurd (true≢false h)
 section_by false false s h f g = absurd (false≢true g)
 
-sections_kept : (d : Tables) (before xs : List Entry) → AreItemsKept d before xs → HaveSections d before →
+sections_kept : (d : Declared) (before xs : List HeadedItem) → AreItemsKept d before xs → HaveSections d before →
     HaveSections d (before ++ xs)
 sections_kept d before [] h m = subst (HaveSections d) (sym (nothing_more before)) m
 sections_kept d before (x ∷ xs) h m =
@@ -183,23 +186,24 @@ sections_kept d before (x ∷ xs) h m =
         by (inl a) = m c a e
         by (inr b) =
             section_by (is_among c (named_classes before)) (is_event_class d c) (is_among c d.events)
-            (none_in (λ c. not (is_among c (named_classes before)) && is_without_section d (tables_of before []) c) c
+            (none_in (λ c. not (is_among c (named_classes before)) && is_without_section d c) c
             (classes_in x.item) h.0.event b)
             (λ t. m c (among_in c (named_classes before) t) e) e
 
 -- each event class that is named has a section
-pub events_have_sections : (d : Tables) (xs : List Entry) → AreItemsKept d [] xs → (c : Name) →
+pub events_have_sections : (d : Declared) (xs : List HeadedItem) → AreItemsKept d [] xs → (c : Name) →
     In c (named_classes xs) →
     is_event_class d c ≡ true → is_among c d.events ≡ true
 events_have_sections d xs h = sections_kept d [] xs h (λ c i e. absurd i)
 
 -- ---- priority
 
-pub record IsPriority (d : Tables) (ns : List Name) : Type 0 where
+pub record IsPriority (d : Declared) (ns : List Name) : Type 0 where
   pub once : repeats [] ns ≡ false
   pub events : list_any (λ c. not (is_event_class d c)) ns ≡ false
 
-one_priority : (d b : Tables) (before ns : List Name) → has_wrong_priority d b before ns ≡ false → IsPriority d before →
+one_priority : (d b : Declared) (before ns : List Name) → has_wrong_priority d before ns ≡ false →
+    IsPriority d before →
     IsPriority d (before ++ ns)
 one_priority d b before [] h p = rw (nothing_more before) p
 one_priority d b (c ∷ cs) (n ∷ ns) h p = absurd (true≢false h)
@@ -207,22 +211,23 @@ one_priority d b [] (n ∷ ns) h p =
     let q = or_parts (repeats [] (n ∷ ns)) (list_any (λ c. not (is_event_class d c)) (n ∷ ns)) h in
     record { once = q.0; events = q.1 }
 
-abbrev priorities : List Entry → List Name
+abbrev priorities : List HeadedItem → List Name
 priorities xs = flat_map (λ x. priority_in x.item) xs
 
-priorities_kept : (d : Tables) (before xs : List Entry) → AreItemsKept d before xs → IsPriority d (priorities before) →
+priorities_kept : (d : Declared) (before xs : List HeadedItem) → AreItemsKept d before xs →
+    IsPriority d (priorities before) →
     IsPriority d (priorities (before ++ xs))
 priorities_kept d before [] h p = rw (nothing_more before) p
 priorities_kept d before (x ∷ xs) h p =
     let e : priorities (before ++ x ∷ []) ≡ priorities before ++ priority_in x.item =
     flat_more (λ y. priority_in y.item) before x in
     let a = h.0 in
-    subst (λ (ys : List Entry). IsPriority d (priorities ys)) (append_assoc before (x ∷ []) xs)
+    subst (λ (ys : List HeadedItem). IsPriority d (priorities ys)) (append_assoc before (x ∷ []) xs)
     (priorities_kept d (before ++ x ∷ []) xs h.1
     (subst (IsPriority d) (sym e)
-    (one_priority d (tables_of before []) (priorities before) (priority_in x.item) a.priority p)))
+    (one_priority d (declared_by before []) (priorities before) (priority_in x.item) a.priority p)))
 
-pub priority_kept : (d : Tables) (xs : List Entry) → AreItemsKept d [] xs → IsPriority d (priorities xs)
+pub priority_kept : (d : Declared) (xs : List HeadedItem) → AreItemsKept d [] xs → IsPriority d (priorities xs)
 priority_kept d xs h = priorities_kept d [] xs h (record { once = refl; events = refl })
 
 -- ---- attributes
@@ -303,7 +308,7 @@ module _ (c : Name) where
       subst (λ (gs : Facts). AreApart (attributes gs)) (append_assoc before (f ∷ []) fs)
       (attributes_kept fs (before ++ f ∷ []) p.1 (one_attribute before f p.0 a))
 
-  items_apart : (d : Tables) (before xs : List Entry) → AreItemsKept d before xs →
+  items_apart : (d : Declared) (before xs : List HeadedItem) → AreItemsKept d before xs →
       AreApart (attributes (language_facts ++ declared before)) →
       AreApart (attributes (language_facts ++ declared (before ++ xs)))
   items_apart d before [] h a = rw (nothing_more before) a
@@ -314,7 +319,7 @@ module _ (c : Name) where
       subst (λ (gs : Facts). one_conflicts gs (declarations x) ≡ false)
       (nothing_more (language_facts ++ declared before)) i.once in
       let one = attributes_kept (declarations x) (language_facts ++ declared before) once a in
-      subst (λ (ys : List Entry). AreApart (attributes (language_facts ++ declared ys)))
+      subst (λ (ys : List HeadedItem). AreApart (attributes (language_facts ++ declared ys)))
       (append_assoc before (x ∷ []) xs)
       (items_apart d (before ++ x ∷ []) xs h.1
       (subst (λ (gs : Facts). AreApart (attributes gs))
@@ -329,8 +334,8 @@ module _ (c : Name) where
   routines_none (RoutineHead n given yielded ∷ hs) = routines_none hs
 
   -- the attributes of a class have names of their own
-  pub attributes_apart : (d : Tables) (xs : List Entry) (hs : List Head) → AreItemsKept d [] xs →
-      AreApart (attributes (tables_of xs hs).kinds)
+  pub attributes_apart : (d : Declared) (xs : List HeadedItem) (hs : List Head) → AreItemsKept d [] xs →
+      AreApart (attributes (declared_by xs hs).kinds)
   attributes_apart d xs hs h =
       rw (
         attributes_both (language_facts ++ declared xs) (flat_map routine_facts hs),

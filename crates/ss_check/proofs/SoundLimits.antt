@@ -1,5 +1,6 @@
 -- How many classes, sets, attributes, keys and names a program within the limits has.
-use Rattle.std.proofs.Common.{◌≡◌, ◌≤◌, ℕ, suc, ◌+◌, Bool, true, false, cond, List, [], ◌∷◌, ◌++◌, length, refl, sym, ap, ◌∙◌, subst, arith, Option, Some, None, length-append}
+use Rattle.std.proofs.Common.{◌≡◌, ◌≤◌, ℕ, suc, ◌+◌, Bool, true, false, cond, List, [], ◌∷◌, ◌++◌, length, refl, sym}
+use Rattle.std.proofs.Common.{ap, ◌∙◌, subst, arith, Option, Some, None, length-append}
 use Rattle.std.specs.Prelude.{map, codes, bytes_eq, count_by, if◌then◌else◌}
 use Rattle.std.specs.List.{All, flat_map, filter, sum_by}
 use mathlib.Core.Logic.{inl, inr}
@@ -10,22 +11,27 @@ use Rattle.std.proofs.lemmas.List.Elements.{All-head, All-tail}
 use Rattle.ss_words.specs.Lists.{Name, all_of}
 use Rattle.ss_preamble.specs.declared.item.Heading.{Heading}
 use Rattle.ss_preamble.specs.declared.item.Heading.TheVariants.{PermanentEntities, TemporaryEntities, EventNotices}
-use Rattle.ss_preamble.specs.Tree.{Clause, Has, Owns, BelongsTo, Variables, Sets, Item, Normally, Headed, OfEvery, OfSystem, Defines, Orders, ItemAt}
+use Rattle.ss_preamble.specs.Tree.{Clause, Has, Owns, BelongsTo, Variables, Sets, Item, Normally, Headed, OfEvery}
+use Rattle.ss_preamble.specs.Tree.{OfSystem, Defines, Orders, ItemAt}
 use Rattle.ss_preamble.specs.Limits as limits
-use Rattle.ss_preamble.specs.Limits.{clause_has, clause_sets, class_names, set_names, variable_count, key_count, IsWithin}
+use Rattle.ss_preamble.specs.Limits.{clause_has, clause_sets, class_names, set_names, variable_count, key_count}
+use Rattle.ss_preamble.specs.Limits.{IsWithin}
 use Rattle.ss_routines.specs.Tree.{Head}
-use Rattle.ss_check.specs.declared.declared.fact.Fact.{Fact}
-use Rattle.ss_check.specs.declared.declared.name_kind.NameKind.{NameKind}
-use Rattle.ss_check.specs.declared.declared.name_kind.NameKind.TheVariants as k
-use Rattle.ss_check.specs.Facts.{fact}
-use Rattle.ss_check.specs.NameKinds.{language_facts, class_facts, set_facts, is_attribute_of, is_class, is_global, names_set}
-use Rattle.ss_check.specs.Declarations.{Entry, entries, entries_under, heading_at, class_of, clauses_of, clause_facts, item_facts, declarations, attribute_classes, attributes_in, sets_of, sets_in, routine_facts, tables_of, attribute_count}
+use Rattle.ss_check.specs.Facts.{Fact, fact}
+use Rattle.ss_check.specs.NameKind.{NameKind}
+use Rattle.ss_check.specs.NameKind as k
+use Rattle.ss_check.specs.NameKinds.{language_facts, class_facts, set_facts, is_attribute_of, is_class, is_global}
+use Rattle.ss_check.specs.NameKinds.{names_set}
+use Rattle.ss_check.specs.Declarations.{HeadedItem, headed_items, headed_items_under, heading_at, class_of_item}
+use Rattle.ss_check.specs.Declarations.{clauses_of, clause_facts, item_facts, declarations, attribute_classes}
+use Rattle.ss_check.specs.Declarations.{attributes_in, sets_of, sets_in, routine_facts, declared_by, attribute_count}
 use Rattle.ss_check.specs.ResolvedNames.{names_where, is_set, attributes_of}
-use Rattle.ss_check.proofs.SoundLists.{In, in_left, in_right, in_map, in_flat, flat_in, once_has, once_from, once_apart, as_many_at_least, where_from}
-use Rattle.ss_check.proofs.SoundDeclared.{Facts, IsClosed, all_closed, all_kinds, names_all, declared, variables_in}
+use Rattle.ss_check.proofs.SoundLists.{In, in_left, in_right, in_map, in_flat, flat_in, once_has, once_from, once_apart}
+use Rattle.ss_check.proofs.SoundLists.{as_many_at_least, where_from}
+use Rattle.ss_check.proofs.SoundCompanions.{Facts, IsClosed, all_closed, all_kinds, names_all, declared, variables_in}
 use Rattle.ss_check.proofs.SoundItems.{nothing_more, attributes_both, routines_none}
-use Rattle.ss_check.proofs.SoundUnbroken.{AreItemsKept}
-use Rattle.ss_check.proofs.SoundScoped.{d, v, class_in}
+use Rattle.ss_check.proofs.SoundStatements.{AreItemsKept}
+use Rattle.ss_check.proofs.SoundNames.{d, v, class_in}
 
 -- ---- attributes
 
@@ -148,7 +154,7 @@ module _ (c : Name) where
       (system_clauses zs)
 
   abbrev facts_of : Option Heading → Item → Facts
-  facts_of h i = item_facts h i ++ flat_map (clause_facts (class_of i)) (clauses_of i)
+  facts_of h i = item_facts h i ++ flat_map (clause_facts (class_of_item i)) (clauses_of i)
 
   -- the attributes that an item declares are those that the limits count
   many_item : (h : Option Heading) (i : Item) → length (attributes (facts_of h i)) ≡ limits.attribute_count c i
@@ -179,31 +185,31 @@ module _ (c : Name) where
   counted_item (Orders r) = refl
 
   -- of entries
-  abbrev total : List Entry → ℕ
+  abbrev total : List HeadedItem → ℕ
   total xs = sum_by (λ x. limits.attribute_count c x.item) xs
 
-  many_entries : (xs : List Entry) → length (attributes (declared xs)) ≡ total xs
+  many_entries : (xs : List HeadedItem) → length (attributes (declared xs)) ≡ total xs
   many_entries [] = refl
   many_entries (x ∷ xs) =
       rw (
         attributes_both c (declarations x) (declared xs),
         length-append (attributes (declarations x)) (attributes (declared xs)),
-        sum_by-cons (λ (y : Entry). limits.attribute_count c y.item) x xs,
+        sum_by-cons (λ (y : HeadedItem). limits.attribute_count c y.item) x xs,
         many_item x.heading x.item,
         many_entries xs,
       ) refl
 
-  counted_entries : (xs : List Entry) → count_by (bytes_eq c) (flat_map (λ x. attributes_in x.item) xs) ≡ total xs
+  counted_entries : (xs : List HeadedItem) → count_by (bytes_eq c) (flat_map (λ x. attributes_in x.item) xs) ≡ total xs
   counted_entries [] = refl
   counted_entries (x ∷ xs) =
       rw (
         sum_by-append (λ (m : Name). cond (bytes_eq c m) 1 0) (attributes_in x.item)
             (flat_map (λ y. attributes_in y.item) xs),
-        sum_by-cons (λ (y : Entry). limits.attribute_count c y.item) x xs,
+        sum_by-cons (λ (y : HeadedItem). limits.attribute_count c y.item) x xs,
       )
       (let a = counted_item x.item in let b = counted_entries xs in omega (arith, a, b))
 
-  all_attributes : (xs : List Entry) (hs : List Head) → length (attributes_of (tables_of xs hs) c) ≡ total xs
+  all_attributes : (xs : List HeadedItem) (hs : List Head) → length (attributes_of (declared_by xs hs) c) ≡ total xs
   all_attributes xs hs =
       rw (
         attributes_both c (language_facts ++ declared xs) (flat_map routine_facts hs),
@@ -213,36 +219,36 @@ module _ (c : Name) where
       (many_entries xs)
 
   -- the checker counts the attributes of a class
-  pub attributes_counted : (xs : List Entry) (hs : List Head) →
-      attribute_count (tables_of xs hs) c ≡ length (attributes_of (tables_of xs hs) c)
+  pub attributes_counted : (xs : List HeadedItem) (hs : List Head) →
+      attribute_count (declared_by xs hs) c ≡ length (attributes_of (declared_by xs hs) c)
   attributes_counted xs hs = counted_entries xs ∙ sym (all_attributes xs hs)
 
   total_items : (g : Option Heading) (is : List ItemAt) →
-      total (entries_under g is) ≡ sum_by (limits.attribute_count c) (map (λ i. i.item) is)
+      total (headed_items_under g is) ≡ sum_by (limits.attribute_count c) (map (λ i. i.item) is)
   total_items g [] = refl
   total_items g (i ∷ is) =
-      sum_by-cons (λ (y : Entry). limits.attribute_count c y.item)
+      sum_by-cons (λ (y : HeadedItem). limits.attribute_count c y.item)
       (record { line = i.line; heading = heading_at g i.item; item = i.item })
-      (entries_under (heading_at g i.item) is)
+      (headed_items_under (heading_at g i.item) is)
       ∙ (let a = total_items (heading_at g i.item) is in
       let b = sum_by-cons (limits.attribute_count c) i.item (map (λ (j : ItemAt). j.item) is) in omega (arith, a, b))
 
   pub few_attributes : (is : List ItemAt) (hs : List Head) → IsWithin (map (λ i. i.item) is) →
-      length (attributes_of (tables_of (entries is) hs) c) ≤ 32
+      length (attributes_of (declared_by (headed_items is) hs) c) ≤ 32
   few_attributes is hs h =
-      let a = all_attributes (entries is) hs in let b = total_items None is in let l = h.attributes c in
+      let a = all_attributes (headed_items is) hs in let b = total_items None is in let l = h.attributes c in
       omega (arith, a, b, l)
 
 -- ---- items and entries
 
 flat_entries : {X : Type 0} (f : Item → List X) (g : Option Heading) (is : List ItemAt) →
-    flat_map (λ x. f x.item) (entries_under g is) ≡ flat_map f (map (λ i. i.item) is)
+    flat_map (λ x. f x.item) (headed_items_under g is) ≡ flat_map f (map (λ i. i.item) is)
 flat_entries f g [] = refl
 flat_entries f g (i ∷ is) = ap (λ zs. f i.item ++ zs) (flat_entries f (heading_at g i.item) is)
 
 -- each item of a preamble stands in an entry
 pub entry_of : (g : Option Heading) (is : List ItemAt) (i : ItemAt) → In i is →
-    (x : Entry) × In x (entries_under g is) × (x.item ≡ i.item)
+    (x : HeadedItem) × In x (headed_items_under g is) × (x.item ≡ i.item)
 entry_of g [] i h = absurd h
 entry_of g (j ∷ js) i (inl e) = (
   record { line = j.line; heading = heading_at g j.item; item = j.item },
@@ -296,35 +302,36 @@ all_variables (i ∷ is) =
     ∙ (let a = variables_counted i in let b = all_variables is in let e =
     sum_by-cons variable_count i is in omega (arith, a, b, e))
 
-module _ (is : List ItemAt) (hs : List Head) (h : AreItemsKept (tables_of (entries is) hs) [] (entries is))
+module _ (is : List ItemAt) (hs : List Head) (h : AreItemsKept (declared_by (headed_items is) hs) [] (headed_items is))
     (w : IsWithin (map (λ i. i.item) is)) where
   abbrev items : List Item
   items = map (λ i. i.item) is
 
   -- what a class's declaration names
-  pub class_named : (c : Name) (g : Option Heading) → In (fact c (k.Class g)) (all_kinds (entries is) hs) →
+  pub class_named : (c : Name) (g : Option Heading) → In (fact c (k.Class g)) (all_kinds (headed_items is) hs) →
       In c (flat_map class_names items)
   class_named c g i =
       subst (λ (ns : List Name). In c ns) (flat_entries class_names None is)
-      (by g (all_closed (entries is) hs (fact c (k.Class g)) i))
+      (by g (all_closed (headed_items is) hs (fact c (k.Class g)) i))
     where
-      by : (g : Option Heading) → IsClosed (all_kinds (entries is) hs) (names_all (entries is) hs) c (k.Class g) →
-          In c (flat_map (λ x. class_names x.item) (entries is))
+      by : (g : Option Heading) →
+          IsClosed (all_kinds (headed_items is) hs) (names_all (headed_items is) hs) c (k.Class g) →
+          In c (flat_map (λ x. class_names x.item) (headed_items is))
       by None x = x
       by (Some PermanentEntities) x = x.0
       by (Some TemporaryEntities) x = x
       by (Some EventNotices) x = x
 
   abbrev classes : List Name
-  classes = (v (entries is) hs h).classes
+  classes = (v (headed_items is) hs h).classes
 
   abbrev sets : List Name
-  sets = (v (entries is) hs h).sets
+  sets = (v (headed_items is) hs h).sets
 
   abbrev globals : List Name
-  globals = (v (entries is) hs h).globals
+  globals = (v (headed_items is) hs h).globals
 
-  class_kind_of : (c : Name) (j : NameKind) → is_class j ≡ true → In (fact c j) (all_kinds (entries is) hs) →
+  class_kind_of : (c : Name) (j : NameKind) → is_class j ≡ true → In (fact c j) (all_kinds (headed_items is) hs) →
       In c (flat_map class_names items)
   class_kind_of c (k.Class g) t i = class_named c g i
   class_kind_of c k.Variable t i = absurd (false≢true t)
@@ -339,20 +346,21 @@ module _ (is : List ItemAt) (hs : List Head) (h : AreItemsKept (tables_of (entri
 
   pub few_classes : length classes ≤ 64
   few_classes =
-      let kinds = (d (entries is) hs h).kinds in
+      let kinds = (d (headed_items is) hs h).kinds in
       let l = as_many_at_least classes (limits.distinct (flat_map class_names items))
       (once_apart (names_where is_class kinds))
       (λ c i. let p = where_from is_class c kinds (once_from c (names_where is_class kinds) i) in
       once_has c (flat_map class_names items) (class_kind_of c p.what p.passes p.there)) in
       let m = w.classes in omega (arith, l, m)
 
-  set_kind_of : (s : Name) (j : NameKind) → names_set (Some j) ≡ true → In (fact s j) (all_kinds (entries is) hs) →
+  set_kind_of : (s : Name) (j : NameKind) → names_set (Some j) ≡ true → In (fact s j) (all_kinds (headed_items is) hs) →
       In s (flat_map set_names items)
   set_kind_of s k.Set t i =
-      let p = flat_in (λ (x : Entry). sets_in x.item) s (entries is) (all_closed (entries is) hs (fact s k.Set) i) in
+      let p = flat_in (λ (x : HeadedItem). sets_in x.item) s (headed_items is)
+      (all_closed (headed_items is) hs (fact s k.Set) i) in
       let x = p.one in
       subst (λ (ns : List Name). In s ns) (flat_entries set_names None is)
-      (in_flat (λ (y : Entry). set_names y.item) x s (entries is) p.there (set_item x.item s p.has))
+      (in_flat (λ (y : HeadedItem). set_names y.item) x s (headed_items is) p.there (set_item x.item s p.has))
   set_kind_of s (k.Class g) t i = absurd (false≢true t)
   set_kind_of s k.Variable t i = absurd (false≢true t)
   set_kind_of s k.ClassCount t i = absurd (false≢true t)
@@ -365,7 +373,7 @@ module _ (is : List ItemAt) (hs : List Head) (h : AreItemsKept (tables_of (entri
 
   pub few_sets : length sets ≤ 64
   few_sets =
-      let kinds = (d (entries is) hs h).kinds in
+      let kinds = (d (headed_items is) hs h).kinds in
       let l = as_many_at_least sets (limits.distinct (flat_map set_names items)) (once_apart (names_where is_set kinds))
       (λ s i. let p = where_from is_set s kinds (once_from s (names_where is_set kinds) i) in
       once_has s (flat_map set_names items) (set_kind_of s p.what p.passes p.there)) in
@@ -375,22 +383,22 @@ module _ (is : List ItemAt) (hs : List Head) (h : AreItemsKept (tables_of (entri
   abbrev bound : List Name
   bound = classes ++ (map (λ c. codes "N." ++ c) classes ++ flat_map variables_in items)
 
-  global_kind_of : (n : Name) (j : NameKind) → is_global j ≡ true → In (fact n j) (all_kinds (entries is) hs) →
+  global_kind_of : (n : Name) (j : NameKind) → is_global j ≡ true → In (fact n j) (all_kinds (headed_items is) hs) →
       In n bound
   global_kind_of n (k.Class g) t i =
       in_left n classes (map (λ c. codes "N." ++ c) classes ++ flat_map variables_in items)
-      (class_in (entries is) hs h n (g, i))
+      (class_in (headed_items is) hs h n (g, i))
   global_kind_of n k.ClassCount t i =
-      let p = all_closed (entries is) hs (fact n k.ClassCount) i in
+      let p = all_closed (headed_items is) hs (fact n k.ClassCount) i in
       in_right n classes (map (λ c. codes "N." ++ c) classes ++ flat_map variables_in items)
       (in_left n (map (λ c. codes "N." ++ c) classes) (flat_map variables_in items)
       (subst (λ (m : Name). In m (map (λ c. codes "N." ++ c) classes)) (sym p.named)
-      (in_map (λ c. codes "N." ++ c) p.class classes (class_in (entries is) hs h p.class p.there))))
+      (in_map (λ c. codes "N." ++ c) p.class classes (class_in (headed_items is) hs h p.class p.there))))
   global_kind_of n k.Variable t i =
       in_right n classes (map (λ c. codes "N." ++ c) classes ++ flat_map variables_in items)
       (in_right n (map (λ c. codes "N." ++ c) classes) (flat_map variables_in items)
       (subst (λ (ns : List Name). In n ns) (flat_entries variables_in None is)
-      (all_closed (entries is) hs (fact n k.Variable) i)))
+      (all_closed (headed_items is) hs (fact n k.Variable) i)))
   global_kind_of n (k.Attribute b) t i = absurd (false≢true t)
   global_kind_of n (k.OwnerKept q r) t i = absurd (false≢true t)
   global_kind_of n (k.MemberKept q r) t i = absurd (false≢true t)
@@ -401,7 +409,7 @@ module _ (is : List ItemAt) (hs : List Head) (h : AreItemsKept (tables_of (entri
 
   pub few_globals : length globals ≤ 384
   few_globals =
-      let kinds = (d (entries is) hs h).kinds in
+      let kinds = (d (headed_items is) hs h).kinds in
       let l = as_many_at_least globals bound (once_apart (names_where is_global kinds))
       (λ n i. let p =
       where_from is_global n kinds (once_from n (names_where is_global kinds) i) in

@@ -1,5 +1,6 @@
 -- Members of lists, names in tables and facts of names.
-use Rattle.std.proofs.Common.{◌≡◌, ◌⊎◌, ◌<◌, ◌≤◌, ℕ, suc, ◌+◌, Bool, true, false, not, ◌||◌, cond, List, [], ◌∷◌, ◌++◌, length, refl, sym, ap, ◌∙◌, arith, subst, Some}
+use Rattle.std.proofs.Common.{◌≡◌, ◌⊎◌, ◌<◌, ◌≤◌, ℕ, suc, ◌+◌, Bool, true, false, not, ◌||◌, cond, List, [], ◌∷◌, ◌++◌}
+use Rattle.std.proofs.Common.{length, refl, sym, ap, ◌∙◌, arith, subst, Some}
 use Rattle.std.specs.Prelude.{map, bytes_eq, slice_get, option_map}
 use Rattle.std.specs.List.{All, IsDistinct, list_any, filter, find, flat_map, fold, position_or_len}
 use mathlib.Core.Logic.{inl, inr}
@@ -10,8 +11,7 @@ use Rattle.std.proofs.lemmas.Map.Keys.{IsDistinct-push}
 use Rattle.std.proofs.lemmas.Map.Made.{length-le_from_is_member}
 use Rattle.std.proofs.lemmas.Slice.Eq.{bytes_eq-Decides}
 use Rattle.ss_words.specs.Lists.{Name}
-use Rattle.ss_check.specs.declared.declared.fact.Fact.{Fact}
-use Rattle.ss_check.specs.Facts.{is_among, repeats, each_once, fact, fact_of, names_of}
+use Rattle.ss_check.specs.Facts.{Fact, is_among, repeats, each_once, fact, fact_of, names_of}
 use Rattle.ss_check.specs.ResolvedNames.{number, names_where}
 
 -- ---- members

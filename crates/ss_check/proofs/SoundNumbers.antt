@@ -1,5 +1,6 @@
 -- The sections of routines and event classes are found by their numbers.
-use Rattle.std.proofs.Common.{◌≡◌, ◌⊎◌, ℕ, zero, suc, ◌+◌, Bool, true, false, cond, List, [], ◌∷◌, ◌++◌, length, refl, sym, ap, ◌∙◌, subst, arith, Some}
+use Rattle.std.proofs.Common.{◌≡◌, ◌⊎◌, ℕ, zero, suc, ◌+◌, Bool, true, false, cond, List, [], ◌∷◌, ◌++◌, length, refl}
+use Rattle.std.proofs.Common.{sym, ap, ◌∙◌, subst, arith, Some}
 use Rattle.std.specs.Prelude.{map, bytes_eq, option_map, slice_get}
 use Rattle.std.specs.List.{flat_map, find}
 use mathlib.Core.Logic.{inl, inr}
@@ -8,17 +9,17 @@ use Rattle.ss_words.specs.Lists.{Name}
 use Rattle.ss_routines.specs.Tree.{Head, MainHead, RoutineHead, EventHead}
 use Rattle.ss_routines.specs.Places.{Section}
 use Rattle.ss_program.specs.Program.{is_routine_kind, is_event_kind}
-use Rattle.ss_check.specs.declared.declared.fact.Fact.{Fact}
-use Rattle.ss_check.specs.declared.declared.name_kind.NameKind.{NameKind}
-use Rattle.ss_check.specs.declared.declared.tables.Counts.{Counts}
-use Rattle.ss_check.specs.declared.declared.tables.Tables.{Tables}
-use Rattle.ss_check.specs.Facts.{fact, fact_of}
-use Rattle.ss_check.specs.Declarations.{Entry, heads, events_in, routine_facts, routine_counts, counts_of, yielded_of, is_main, tables_of}
-use Rattle.ss_check.specs.ResolvedNames.{numbered}
+use Rattle.ss_check.specs.Facts.{Fact, fact, fact_of}
+use Rattle.ss_check.specs.NameKind.{NameKind}
+use Rattle.ss_check.specs.Declarations.{Counts}
+use Rattle.ss_check.specs.Declarations.{Declared}
+use Rattle.ss_check.specs.Declarations.{HeadedItem, heads, events_in, routine_facts, routine_counts, counts_of}
+use Rattle.ss_check.specs.Declarations.{yielded_of, is_main, declared_by}
+use Rattle.ss_check.specs.ResolvedNames.{section_numbers}
 use Rattle.ss_check.specs.Resolved.{section_kind}
 use Rattle.ss_check.proofs.SoundLists.{In}
-use Rattle.ss_check.proofs.SoundDeclared.{routine_names}
-use Rattle.ss_check.proofs.SoundUnbroken.{IsHeadKept, ArePlacesKept, AreSectionsKept}
+use Rattle.ss_check.proofs.SoundCompanions.{routine_names}
+use Rattle.ss_check.proofs.SoundStatements.{IsHeadKept, ArePlacesKept, AreSectionsKept}
 
 -- a name's number in a table is that of a section, of which P holds
 pub record IsFound (table : List (Fact ℕ)) (i : ℕ) (n : Name) (qs : List Section) (P : Head → Type 0) : Type 0 where
@@ -86,20 +87,21 @@ pub record IsEventHead (n : Name) (h : Head) : Type 0 where
   pub yielded : length (yielded_of h) ≡ 0
 
 pub event_found : (qs : List Section) (i : ℕ) (n : Name) → In n (flat_map events_in (heads qs)) →
-    IsFound (numbered i (map events_in (heads qs)) (λ m. m)) i n qs (IsEventHead n)
+    IsFound (section_numbers i (map events_in (heads qs)) (λ m. m)) i n qs (IsEventHead n)
 event_found [] i n h = absurd h
 event_found (q ∷ qs) i n h = by q.head refl h (λ k. event_found qs (i + 1) n k)
   where
     by : (hd : Head) → q.head ≡ hd → In n (events_in hd ++ flat_map events_in (heads qs)) →
         (In n (flat_map events_in (heads qs)) →
-        IsFound (numbered (i + 1) (map events_in (heads qs)) (λ m. m)) (i + 1) n qs (IsEventHead n)) →
-        IsFound (map (λ m. fact m i) (events_in hd) ++ numbered (i + 1) (map events_in (heads qs)) (λ m. m)) i n
+        IsFound (section_numbers (i + 1) (map events_in (heads qs)) (λ m. m)) (i + 1) n qs (IsEventHead n)) →
+        IsFound (map (λ m. fact m i) (events_in hd) ++ section_numbers (i + 1) (map events_in (heads qs)) (λ m. m)) i n
         (q ∷ qs) (IsEventHead n)
-    by MainHead e k rec = one_on (numbered (i + 1) (map events_in (heads qs)) (λ m. m)) i n q qs (IsEventHead n) (rec k)
+    by MainHead e k rec =
+        one_on (section_numbers (i + 1) (map events_in (heads qs)) (λ m. m)) i n q qs (IsEventHead n) (rec k)
     by (RoutineHead m given yielded) e k rec =
-        one_on (numbered (i + 1) (map events_in (heads qs)) (λ m. m)) i n q qs (IsEventHead n) (rec k)
+        one_on (section_numbers (i + 1) (map events_in (heads qs)) (λ m. m)) i n q qs (IsEventHead n) (rec k)
     by (EventHead m given saving) e k rec =
-        first_or m i (numbered (i + 1) (map events_in (heads qs)) (λ m. m)) n q qs (IsEventHead n)
+        first_or m i (section_numbers (i + 1) (map events_in (heads qs)) (λ m. m)) n q qs (IsEventHead n)
         (λ s. subst (IsEventHead n) (sym e) (record { names = inl s; kind = refl; yielded = refl })) (inr tt)
         (λ a. rec (other k a))
       where
@@ -140,28 +142,28 @@ routine_first m c counts n e =
     ((bytes_eq-Decides n m).1 e)
 
 pub routine_found : (qs : List Section) (i : ℕ) (n : Name) → In n (flat_map routine_names (heads qs)) →
-    IsFound (numbered i (map routine_facts (heads qs)) (λ f. f.name)) i n qs
+    IsFound (section_numbers i (map routine_facts (heads qs)) (λ f. f.name)) i n qs
     (IsRoutineHead (flat_map routine_counts (heads qs)) n)
 routine_found [] i n h = absurd h
 routine_found (q ∷ qs) i n h = by q.head refl h (λ k. routine_found qs (i + 1) n k)
   where
     by : (hd : Head) → q.head ≡ hd → In n (routine_names hd ++ flat_map routine_names (heads qs)) →
         (In n (flat_map routine_names (heads qs)) →
-        IsFound (numbered (i + 1) (map routine_facts (heads qs)) (λ f. f.name)) (i + 1) n qs
+        IsFound (section_numbers (i + 1) (map routine_facts (heads qs)) (λ f. f.name)) (i + 1) n qs
         (IsRoutineHead (flat_map routine_counts (heads qs)) n)) →
         IsFound (map (λ (f : Fact NameKind). fact f.name i) (routine_facts hd)
-        ++ numbered (i + 1) (map routine_facts (heads qs)) (λ f. f.name)) i n (q ∷ qs)
+        ++ section_numbers (i + 1) (map routine_facts (heads qs)) (λ f. f.name)) i n (q ∷ qs)
         (IsRoutineHead (routine_counts hd ++ flat_map routine_counts (heads qs)) n)
     by MainHead e k rec =
-        one_on (numbered (i + 1) (map routine_facts (heads qs)) (λ f. f.name)) i n q qs
+        one_on (section_numbers (i + 1) (map routine_facts (heads qs)) (λ f. f.name)) i n q qs
         (IsRoutineHead (flat_map routine_counts (heads qs)) n) (rec k)
     by (EventHead m given saving) e k rec =
-        one_on (numbered (i + 1) (map routine_facts (heads qs)) (λ f. f.name)) i n q qs
+        one_on (section_numbers (i + 1) (map routine_facts (heads qs)) (λ f. f.name)) i n q qs
         (IsRoutineHead (flat_map routine_counts (heads qs)) n) (rec k)
     by (RoutineHead m given yielded) e k rec =
         let c = counts_of (RoutineHead m given yielded) in
         let cs = flat_map routine_counts (heads qs) in
-        first_or m i (numbered (i + 1) (map routine_facts (heads qs)) (λ f. f.name)) n q qs
+        first_or m i (section_numbers (i + 1) (map routine_facts (heads qs)) (λ f. f.name)) n q qs
         (IsRoutineHead (fact m c ∷ cs) n)
         (λ s. subst (IsRoutineHead (fact m c ∷ cs) n) (sym e)
         (record { names = inl s; kind = refl; says = routine_first m c cs n s })) (inr tt)
@@ -190,13 +192,13 @@ slice_in (y ∷ ys) zero x h = inl (taken y x h)
 slice_in (y ∷ ys) (suc k) x h = inr (slice_in ys k x h)
 
 -- each section is kept
-pub section_at : (d : Tables) (xs : List Entry) (before : List Head) (ss : List Section) (q : Section) →
+pub section_at : (d : Declared) (xs : List HeadedItem) (before : List Head) (ss : List Section) (q : Section) →
     AreSectionsKept d xs before ss → In q ss →
-    (b : Tables) × IsHeadKept d b q.head × ArePlacesKept d (is_main q.head) q.places
+    (b : Declared) × IsHeadKept d b q.head × ArePlacesKept d (is_main q.head) q.places
 section_at d xs before [] q h i = absurd i
 section_at d xs before (s ∷ ss) q h (inl e) = (
-  tables_of xs before,
-  subst (λ (z : Section). IsHeadKept d (tables_of xs before) z.head) (sym e) h.0,
+  declared_by xs before,
+  subst (λ (z : Section). IsHeadKept d (declared_by xs before) z.head) (sym e) h.0,
   subst (λ (z : Section). ArePlacesKept d (is_main z.head) z.places) (sym e) h.1,
 )
 section_at d xs before (s ∷ ss) q h (inr i) = section_at d xs (before ++ s.head ∷ []) ss q h.2 i

@@ -1,5 +1,6 @@
 -- The places of a section without a breach name what is in its tables.
-use Rattle.std.proofs.Common.{◌≡◌, ℕ, true, false, not, ◌||◌, ◌==◌, List, [], ◌∷◌, ◌++◌, length, refl, ◌∙◌, Option, Some, None}
+use Rattle.std.proofs.Common.{◌≡◌, ℕ, true, false, not, ◌||◌, ◌==◌, List, [], ◌∷◌, ◌++◌, length, refl, ◌∙◌, Option}
+use Rattle.std.proofs.Common.{Some, None}
 use Rattle.std.specs.Prelude.{map}
 use Rattle.std.specs.List.{flat_map}
 use Rattle.std.proofs.lemmas.Bool.{false≢true, or_parts, not-false, eqb-true}
@@ -8,27 +9,54 @@ use Rattle.ss_words.specs.Lists.{Name, all_of}
 use Rattle.ss_report.specs.Pictures.{field_count, has_decimal_field}
 use Rattle.ss_routines.specs.declared.tree.simple.Article.{Article}
 use Rattle.ss_routines.specs.declared.tree.simple.Article.TheVariants.{A, The}
-use Rattle.ss_routines.specs.Expr.{Expr, expr, Sums, no_sums, sum, Term, term, Products, no_products, product, Factor, digits, named, applied, within, Exprs, no_exprs, exprs}
-use Rattle.ss_routines.specs.Condition.{Reference, Condition, condition, Alternatives, no_alternatives, alternative, Conjunction, conjunction, Additions, no_additions, addition, Relation, compared, is_empty, is_in, nested}
-use Rattle.ss_routines.specs.Simple.{Assign, Let, Add, Subtract, Making, Create, CreateEvery, Destroy, FilePlace, ByDiscipline, AtEnd, Before, After, Filing, File, FileAt, RemoveEnd, Remove, Call, Return, Stop, ValuesFirst, CalledFirst, When, At, Now, In, Timing, Schedule, Cancel, StartSimulation, Read, Print, Skip, Simple, Assigns, Makes, Files, Transfers, Times, Exchanges}
+use Rattle.ss_routines.specs.Expr.{Expr, expr, Sums, no_sums, sum, Term, term, Products, no_products, product, Factor}
+use Rattle.ss_routines.specs.Expr.{digits, named, applied, within, Exprs, no_exprs, exprs}
+use Rattle.ss_routines.specs.Condition.{Reference, Condition, condition, Alternatives, no_alternatives, alternative}
+use Rattle.ss_routines.specs.Condition.{Conjunction, conjunction, Additions, no_additions, addition, Relation, compared}
+use Rattle.ss_routines.specs.Condition.{is_empty, is_in, nested}
+use Rattle.ss_routines.specs.Simple.{Assign, Let, Add, Subtract, Making, Create, CreateEvery, Destroy, FilePlace}
+use Rattle.ss_routines.specs.Simple.{ByDiscipline, AtEnd, Before, After, Filing, File, FileAt, RemoveEnd, Remove, Call}
+use Rattle.ss_routines.specs.Simple.{Return, Stop, ValuesFirst, CalledFirst, When, At, Now, In, Timing, Schedule}
+use Rattle.ss_routines.specs.Simple.{Cancel, StartSimulation, Read, Print, Skip, Simple, Assigns, Makes, Files}
+use Rattle.ss_routines.specs.Simple.{Transfers, Times, Exchanges}
 use Rattle.ss_routines.specs.Loops as l
 use Rattle.ss_routines.specs.Tree.{listing_names}
 use Rattle.ss_routines.specs.Places as w
-use Rattle.ss_program.specs.ProgramSound.{Scope, IsSoundExpr, IsSoundSums, IsSoundTerm, IsSoundProducts, IsSoundFactor, AreSoundArguments, AreSoundExprs, IsSoundOption, IsTarget, AreTargets, IsSoundSetRef, IsSoundAssign, IsSoundMaking, IsSoundPosition, IsSoundFiling, IsSoundNotice, IsSoundWhen, IsSoundTiming, IsSoundCondition, AreSoundConjunctions, IsSoundConjunction, AreSoundRelations, IsSoundRelation, IsSoundBranch, AreSoundQualifiers, IsSoundBegin, IsSoundPhrase, AreSoundTellings, IsSoundLooping, IsSoundPlace}
-use Rattle.ss_check.specs.declared.declared.class_need.ClassNeed.{ClassNeed}
-use Rattle.ss_check.specs.declared.declared.class_need.ClassNeed.TheVariants.{Permanent, Ending, Event}
-use Rattle.ss_check.specs.declared.declared.name_kind.NameKind.{NameKind}
-use Rattle.ss_check.specs.declared.declared.name_kind.NameKind.TheVariants as k
-use Rattle.ss_check.specs.declared.declared.tables.Tables.{Tables}
+use Rattle.ss_program.specs.ProgramSound.{Scope, IsSoundExpr, IsSoundSums, IsSoundTerm, IsSoundProducts, IsSoundFactor}
+use Rattle.ss_program.specs.ProgramSound.{AreSoundArguments, AreSoundExprs, IsSoundOption, IsTarget, AreTargets}
+use Rattle.ss_program.specs.ProgramSound.{IsSoundSetRef, IsSoundAssign, IsSoundMaking, IsSoundPosition, IsSoundFiling}
+use Rattle.ss_program.specs.ProgramSound.{IsSoundNotice, IsSoundWhen, IsSoundTiming, IsSoundCondition}
+use Rattle.ss_program.specs.ProgramSound.{AreSoundConjunctions, IsSoundConjunction, AreSoundRelations, IsSoundRelation}
+use Rattle.ss_program.specs.ProgramSound.{IsSoundBranch, AreSoundQualifiers, IsSoundBegin, IsSoundPhrase}
+use Rattle.ss_program.specs.ProgramSound.{AreSoundTellings, IsSoundLooping, IsSoundPlace}
+use Rattle.ss_check.specs.ClassNeed.{ClassNeed}
+use Rattle.ss_check.specs.ClassNeed.{Permanent, Ending, Event}
+use Rattle.ss_check.specs.NameKind.{NameKind}
+use Rattle.ss_check.specs.NameKind as k
+use Rattle.ss_check.specs.Declarations.{Declared}
 use Rattle.ss_check.specs.NameKinds.{names_set, names_event, names_ending, serves}
 use Rattle.ss_check.specs.Declarations.{kind_of}
 use Rattle.ss_check.specs.PlaceRules.{has_wrong_picture}
-use Rattle.ss_check.specs.Uses.{Use, LoopVariable, OfClass, uses_expr, uses_sums, uses_term, uses_products, uses_factor, uses_exprs, uses_option, uses_target, uses_set, uses_value, uses_called_target, uses_called_value, uses_condition, uses_alternatives, uses_conjunction, uses_additions, uses_relation, uses_assign, uses_making, uses_file_place, uses_filing, uses_called, uses_details, uses_when, uses_timing, uses_simple, uses_start, uses_range, uses_branch, uses_loop, uses}
+use Rattle.ss_check.specs.Uses.{Use, LoopVariable, OfClass, uses_expr, uses_sums, uses_term, uses_products, uses_factor}
+use Rattle.ss_check.specs.Uses.{uses_exprs, uses_option, uses_target, uses_set, uses_value, uses_called_target}
+use Rattle.ss_check.specs.Uses.{uses_called_value, uses_condition, uses_alternatives, uses_conjunction, uses_additions}
+use Rattle.ss_check.specs.Uses.{uses_relation, uses_assign, uses_making, uses_file_place, uses_filing, uses_called}
+use Rattle.ss_check.specs.Uses.{uses_details, uses_when, uses_timing, uses_simple, uses_start, uses_range, uses_branch}
+use Rattle.ss_check.specs.Uses.{uses_loop, uses}
 use Rattle.ss_check.specs.ResolvedNames.{Names, number}
-use Rattle.ss_check.specs.Resolved.{resolved_expr, resolved_sums, resolved_term, resolved_products, resolved_factor, resolved_exprs, resolved_option, resolved_value, resolved_target, resolved_set, called_target, called_value, resolved_condition, resolved_alternatives, resolved_conjunction, resolved_additions, resolved_relation, resolved_assign, resolved_making, resolved_position, resolved_filing, resolved_notice, resolved_when, resolved_timing, resolved_simple, resolved_begin, resolved_range, resolved_qualifier, resolved_branch, resolved_telling, resolved_loop, resolved_place}
-use Rattle.ss_check.proofs.SoundUses.{Scoped, IsGood, AreGood, good_parts, sound_owner, sound_named, sound_applied, sound_bare_target, sound_target_at, sound_loop_variable, sound_class_variable, sound_permanent_variable}
+use Rattle.ss_check.specs.Resolved.{resolved_expr, resolved_sums, resolved_term, resolved_products, resolved_factor}
+use Rattle.ss_check.specs.Resolved.{resolved_exprs, resolved_option, resolved_value, resolved_target, resolved_set}
+use Rattle.ss_check.specs.Resolved.{called_target, called_value, resolved_condition, resolved_alternatives}
+use Rattle.ss_check.specs.Resolved.{resolved_conjunction, resolved_additions, resolved_relation, resolved_assign}
+use Rattle.ss_check.specs.Resolved.{resolved_making, resolved_position, resolved_filing, resolved_notice, resolved_when}
+use Rattle.ss_check.specs.Resolved.{resolved_timing, resolved_simple, resolved_begin, resolved_range}
+use Rattle.ss_check.specs.Resolved.{resolved_qualifier, resolved_branch, resolved_telling, resolved_loop}
+use Rattle.ss_check.specs.Resolved.{resolved_place}
+use Rattle.ss_check.proofs.SoundUses.{Scoped, IsGood, AreGood, good_parts, sound_owner, sound_named, sound_applied}
+use Rattle.ss_check.proofs.SoundUses.{sound_bare_target, sound_target_at, sound_loop_variable, sound_class_variable}
+use Rattle.ss_check.proofs.SoundUses.{sound_permanent_variable}
 
-module _ (d : Tables) (v : Names) (locals : List Name) (sc : Scope) (S : Scoped d v locals sc) where
+module _ (d : Declared) (v : Names) (locals : List Name) (sc : Scope) (S : Scoped d v locals sc) where
   parts : (xs ys : List Use) → AreGood d locals (xs ++ ys) → AreGood d locals xs × AreGood d locals ys
   parts = good_parts d locals
 

@@ -1,5 +1,6 @@
 -- The sections of a program without a breach are sound, and their places go on where the program has a place.
-use Rattle.std.proofs.Common.{◌≡◌, ◌≤◌, ◌<◌, ℕ, ◌+◌, ◌^◌, ◌==◌, Bool, true, false, not, ◌||◌, ◌&&◌, cond, List, [], ◌∷◌, ◌++◌, length, refl, sym, ap, ◌∙◌, subst, arith, Option, Some, None, length-append}
+use Rattle.std.proofs.Common.{◌≡◌, ◌≤◌, ◌<◌, ℕ, ◌+◌, ◌^◌, ◌==◌, Bool, true, false, not, ◌||◌, ◌&&◌, cond, List, [], ◌∷◌}
+use Rattle.std.proofs.Common.{◌++◌, length, refl, sym, ap, ◌∙◌, subst, arith, Option, Some, None, length-append}
 use Rattle.std.specs.Prelude.{map, count_by, unwrap_or, option_map, slice_get, nat_lt}
 use Rattle.std.specs.List.{All, flat_map, list_any}
 use mathlib.Core.Logic.{inl, inr}
@@ -13,7 +14,9 @@ use Rattle.ss_preamble.specs.Tree.{ItemAt}
 use Rattle.ss_preamble.specs.Limits.{IsWithin}
 use Rattle.ss_routines.specs.declared.tree.simple.Article.{Article}
 use Rattle.ss_routines.specs.Condition.{Reference}
-use Rattle.ss_routines.specs.Simple.{Details, ValuesFirst, CalledFirst, Call, Return, Stop, Schedule, Cancel, StartSimulation, Read, Print, Skip, Simple, Assigns, Makes, Files, Transfers, Times, Exchanges}
+use Rattle.ss_routines.specs.Simple.{Details, ValuesFirst, CalledFirst, Call, Return, Stop, Schedule, Cancel}
+use Rattle.ss_routines.specs.Simple.{StartSimulation, Read, Print, Skip, Simple, Assigns, Makes, Files, Transfers}
+use Rattle.ss_routines.specs.Simple.{Times, Exchanges}
 use Rattle.ss_routines.specs.Simple as written
 use Rattle.ss_routines.specs.Tree.{Head, MainHead, RoutineHead, EventHead, listing_names, parameters_head}
 use Rattle.ss_routines.specs.Places.{Section}
@@ -28,25 +31,29 @@ use Rattle.ss_program.specs.declared.ways.Ways.{Ways}
 use Rattle.ss_program.specs.Match.{ways_of}
 use Rattle.ss_program.specs.Nesting.{AreNestedPlaces}
 use Rattle.ss_program.specs.Program.{ClassTable, SectionTable, ProgramTable, is_main, is_event}
-use Rattle.ss_program.specs.ProgramSound.{AreSoundPlaces, IsCalledBy, LeadsOn, AreLinkedPlaces, AreLinkedSections, IsEventClass, IsTimed, AreTimed, scope_of, IsSoundSection, AreSoundSections}
-use Rattle.ss_check.specs.declared.declared.class_need.ClassNeed.TheVariants.{Event}
-use Rattle.ss_check.specs.declared.declared.name_kind.NameKind.{NameKind}
-use Rattle.ss_check.specs.declared.declared.name_kind.NameKind.TheVariants as k
-use Rattle.ss_check.specs.declared.declared.tables.Counts.{Counts}
-use Rattle.ss_check.specs.declared.declared.tables.Tables.{Tables}
+use Rattle.ss_program.specs.ProgramSound.{AreSoundPlaces, IsCalledBy, LeadsOn, AreLinkedPlaces, AreLinkedSections}
+use Rattle.ss_program.specs.ProgramSound.{IsEventClass, IsTimed, AreTimed, scope_of, IsSoundSection, AreSoundSections}
+use Rattle.ss_check.specs.ClassNeed.{Event}
+use Rattle.ss_check.specs.NameKind.{NameKind}
+use Rattle.ss_check.specs.NameKind as k
+use Rattle.ss_check.specs.Declarations.{Counts}
+use Rattle.ss_check.specs.Declarations.{Declared}
 use Rattle.ss_check.specs.Facts.{fact_of}
 use Rattle.ss_check.specs.NameKinds.{names_event, names_routine}
 use Rattle.ss_check.specs.Declarations as declared
-use Rattle.ss_check.specs.Declarations.{Entry, entries, heads, given_of, yielded_of, parameters, kind_of, is_declared, tables, attribute_count}
+use Rattle.ss_check.specs.Declarations.{HeadedItem, headed_items, heads, given_of, yielded_of, parameters, kind_of}
+use Rattle.ss_check.specs.Declarations.{is_declared, declared_by_program, attribute_count}
 use Rattle.ss_check.specs.PlaceRules.{is_wrong_class, is_wrong_count, has_other_counts, is_wrong_call}
 use Rattle.ss_check.specs.Uses.{Use, Notice, OfClass, values_of, uses_details, uses_when, uses_called_value}
-use Rattle.ss_check.specs.ResolvedNames.{Names, names, number, variable_used, variables_used, undeclared, locals_of}
-use Rattle.ss_check.specs.Resolved.{Rankings, rankings, resolved_expr, resolved_target, resolved_place, resolved_spot, resolved_section, resolved_with}
+use Rattle.ss_check.specs.ResolvedNames.{Names, names, number, variable_used, variables_used, undeclared_name}
+use Rattle.ss_check.specs.ResolvedNames.{locals_of}
+use Rattle.ss_check.specs.Resolved.{Rankings, rankings, resolved_expr, resolved_target, resolved_place, resolved_spot}
+use Rattle.ss_check.specs.Resolved.{resolved_section, resolved_with}
 use Rattle.ss_check.proofs.SoundLists.{In, in_left, once_has, once_apart, as_many_at_least, apart_from}
-use Rattle.ss_check.proofs.SoundUnbroken.{AreItemsKept, AreSectionsKept, IsPlaceKept, ArePlacesKept}
-use Rattle.ss_check.proofs.SoundKnown.{good_place}
+use Rattle.ss_check.proofs.SoundStatements.{AreItemsKept, AreSectionsKept, IsPlaceKept, ArePlacesKept}
+use Rattle.ss_check.proofs.SoundPlaceUses.{good_place}
 use Rattle.ss_check.proofs.SoundPlaces.{sound_place}
-use Rattle.ss_check.proofs.SoundScoped.{closed_kind, class_in, event_class, scoped}
+use Rattle.ss_check.proofs.SoundNames.{closed_kind, class_in, event_class, scoped}
 use Rattle.ss_check.proofs.SoundLimits.{attributes_counted}
 use Rattle.ss_check.proofs.SoundNumbers.{routine_found, section_at}
 use Rattle.ss_check.proofs.SoundTables.{class_is, class_place}
@@ -92,7 +99,7 @@ given_and_yielded MainHead = refl
 given_and_yielded (RoutineHead n given yielded) = refl
 given_and_yielded (EventHead n given saving) = omega arith
 
-main_is : (d : Tables) (v : Names) (q : Section) → is_main (resolved_section d v q) ≡ declared.is_main q.head
+main_is : (d : Declared) (v : Names) (q : Section) → is_main (resolved_section d v q) ≡ declared.is_main q.head
 main_is d v q = by q.head
   where
     by : (h : Head) →
@@ -117,7 +124,7 @@ or_same false true c h = refl
 or_same false false true h = refl
 or_same false false false h = absurd (false≢true h)
 
-mains : (d : Tables) (v : Names) (xs : List Entry) (before : List Head) (ss : List Section) →
+mains : (d : Declared) (v : Names) (xs : List HeadedItem) (before : List Head) (ss : List Section) →
     AreSectionsKept d xs before ss →
     (list_any declared.is_main before || list_any (λ s. declared.is_main s.head) ss) ≡ true →
     count_by is_main (map (resolved_section d v) ss) + cond (list_any declared.is_main before) 1 0 ≡ 1
@@ -146,24 +153,24 @@ mains d v xs before (s ∷ ss) k h =
     (one_more (list_any declared.is_main before) (declared.is_main s.head)
     (count_by is_main (map (resolved_section d v) ss)) head.main rest')
 
-pub one_main : (d : Tables) (v : Names) (xs : List Entry) (ss : List Section) → AreSectionsKept d xs [] ss →
+pub one_main : (d : Declared) (v : Names) (xs : List HeadedItem) (ss : List Section) → AreSectionsKept d xs [] ss →
     not (list_any (λ s. declared.is_main s.head) ss) ≡ false → count_by is_main (map (resolved_section d v) ss) ≡ 1
 one_main d v xs ss k h =
     let e = mains d v xs [] ss k (not-false (list_any (λ s. declared.is_main s.head) ss) h) in omega (arith, e)
 
 -- ---- the program
 
-module _ (is : List ItemAt) (qs : List Section) (h : AreItemsKept (tables is qs) [] (entries is))
+module _ (is : List ItemAt) (qs : List Section) (h : AreItemsKept (declared_by_program is qs) [] (headed_items is))
     (within : IsWithin (map (λ i. i.item) is))
-    (s : AreSectionsKept (tables is qs) (entries is) [] qs) where
-  abbrev xs : List Entry
-  xs = entries is
+    (s : AreSectionsKept (declared_by_program is qs) (headed_items is) [] qs) where
+  abbrev xs : List HeadedItem
+  xs = headed_items is
 
   abbrev hs : List Head
   hs = heads qs
 
-  abbrev D : Tables
-  D = tables is qs
+  abbrev D : Declared
+  D = declared_by_program is qs
 
   abbrev V : Names
   V = names D hs
@@ -364,10 +371,10 @@ module _ (is : List ItemAt) (qs : List Section) (h : AreItemsKept (tables is qs)
         let both = length-append (given_of q.head) (yielded_of q.head) in
         let limit = tree.few_parameters in
         let enough = as_many_at_least (parameters q.head) locals (apart_from (parameters q.head) head.apart)
-        (λ n j. once_has n (parameters q.head ++ flat_map (undeclared D) (variables_used q))
-        (in_left n (parameters q.head) (flat_map (undeclared D) (variables_used q)) j)) in
+        (λ n j. once_has n (parameters q.head ++ flat_map (undeclared_name D) (variables_used q))
+        (in_left n (parameters q.head) (flat_map (undeclared_name D) (variables_used q)) j)) in
         record {
-          distinct = once_apart (parameters q.head ++ flat_map (undeclared D) (variables_used q));
+          distinct = once_apart (parameters q.head ++ flat_map (undeclared_name D) (variables_used q));
           parameters = omega (arith, both, enough);
           few_parameters = omega (arith, params, limit);
           places = sound_spots q.places (λ x m. m) kept.2;

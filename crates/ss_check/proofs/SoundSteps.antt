@@ -1,5 +1,6 @@
 -- Where the places of a tree go on, and which loops are open there.
-use Rattle.std.proofs.Common.{◌≡◌, ◌≤◌, ◌<◌, ℕ, suc, ◌+◌, ◌-◌, Bool, true, false, List, [], ◌∷◌, ◌++◌, length, drop, refl, sym, ap, ◌∙◌, arith, append_assoc, length-append}
+use Rattle.std.proofs.Common.{◌≡◌, ◌≤◌, ◌<◌, ℕ, suc, ◌+◌, ◌-◌, Bool, true, false, List, [], ◌∷◌, ◌++◌, length, drop}
+use Rattle.std.proofs.Common.{refl, sym, ap, ◌∙◌, arith, append_assoc, length-append}
 use Rattle.std.specs.Prelude.{if◌then◌else◌, max}
 use Rattle.std.proofs.lemmas.Bool.{true≢false, false≢true}
 use Rattle.ss_program.specs.declared.branch.Question.{Question}
@@ -12,14 +13,22 @@ use Rattle.ss_program.specs.declared.place.Spot.{Spot}
 use Rattle.ss_program.specs.declared.looping.Telling.{Telling}
 use Rattle.ss_program.specs.ProgramExpr.{Expr}
 use Rattle.ss_program.specs.declared.ways.Ways.{Ways}
-use Rattle.ss_program.specs.Match.{is_else, is_bare, bare_phrases, branch_end, if_of, phrase_of, chain_before, behind_body, next_place, behind_always, behind_false, behind_loop, next_of, ways_of}
+use Rattle.ss_program.specs.Match.{is_else, controls_next_place, bare_phrases, branch_end, if_of, phrase_of}
+use Rattle.ss_program.specs.Match.{chain_before, behind_body, next_place, behind_always, behind_false, behind_loop}
+use Rattle.ss_program.specs.Match.{next_of, ways_of}
 use Rattle.ss_program.specs.Nesting.{phrases_before, phrases_around, is_nested}
 use Rattle.ss_program.specs.ProgramSound.{GoesOn, is_end, loop_limit}
-use Rattle.ss_check.proofs.SoundShapes.{is_simple, if_at, else_at, always_at, Head, for_at, loop_at, find_at, gather_at, tell_at, Block, no_statements, statement, Statement, alone, loop, One, simple, branch, Otherwise, no_else, else_with, Controlled, further, repeated, single, find, compute, flat_block, flat_statement, flat_one, flat_otherwise, flat_loop}
-use Rattle.ss_check.proofs.SoundZipper.{unwind, unwind_both, At, onward, past, same_after, is_here, is_there, front_is, taken}
+use Rattle.ss_check.proofs.SoundShapes.{is_simple, if_at, else_at, always_at, Head, for_at, loop_at, find_at, gather_at}
+use Rattle.ss_check.proofs.SoundShapes.{tell_at, Block, no_statements, statement, Statement, alone, loop, One, simple}
+use Rattle.ss_check.proofs.SoundShapes.{branch, Otherwise, no_else, else_with, Controlled, further, repeated, single}
+use Rattle.ss_check.proofs.SoundShapes.{find, compute, flat_block, flat_statement, flat_one, flat_otherwise, flat_loop}
+use Rattle.ss_check.proofs.SoundZipper.{unwind, unwind_both, At, onward, past, same_after, is_here, is_there, front_is}
+use Rattle.ss_check.proofs.SoundZipper.{taken}
 use Rattle.ss_check.proofs.SoundCounting.{quiet_bare}
-use Rattle.ss_check.proofs.SoundFound.{body, behind_is, branch_end_is, start_of_if, start_of_do}
-use Rattle.ss_check.proofs.SoundAround.{Open, shut_one, shut_phrase, block_shut, statement_shut, one_shut, otherwise_shut, loop_shut, body_fits, open_past, open_into, around_is, Goes, goes_there, goes_back, goes_same, goes_at}
+use Rattle.ss_check.proofs.SoundMatches.{body, behind_is, branch_end_is, start_of_if, start_of_do}
+use Rattle.ss_check.proofs.SoundNesting.{Open, shut_one, shut_phrase, block_shut, statement_shut, one_shut}
+use Rattle.ss_check.proofs.SoundNesting.{otherwise_shut, loop_shut, body_fits, open_past, open_into, around_is, Goes}
+use Rattle.ss_check.proofs.SoundNesting.{goes_there, goes_back, goes_same, goes_at}
 
 -- ---- what holds of a place
 
@@ -76,19 +85,22 @@ abbrev mutual
 
 -- ---- the last place of a statement is no bare phrase
 
-one_ends : (o : One) (b : List Spot) → front_is is_bare (unwind (flat_one o) b) ≡ false
+one_ends : (o : One) (b : List Spot) → front_is controls_next_place (unwind (flat_one o) b) ≡ false
 one_ends (simple s e) b = quiet_bare s.place e
 one_ends (branch l q B o m) b =
-    ap (front_is is_bare) (unwind_both (flat_block B ++ flat_otherwise o) (always_at m ∷ []) (if_at l q ∷ b))
+    ap (front_is controls_next_place)
+    (unwind_both (flat_block B ++ flat_otherwise o) (always_at m ∷ []) (if_at l q ∷ b))
 
-loop_ends : (c : Controlled) (f : Head) (b : List Spot) → front_is is_bare (unwind (flat_loop f c) b) ≡ false
+loop_ends : (c : Controlled) (f : Head) (b : List Spot) → front_is controls_next_place (unwind (flat_loop f c) b)
+    ≡ false
 loop_ends (further g c) f b = loop_ends c g (for_at f false ∷ b)
-loop_ends (repeated B l) f b = ap (front_is is_bare) (unwind_both (flat_block B) (loop_at l ∷ []) (for_at f true ∷ b))
+loop_ends (repeated B l) f b =
+    ap (front_is controls_next_place) (unwind_both (flat_block B) (loop_at l ∷ []) (for_at f true ∷ b))
 loop_ends (single o) f b = one_ends o (for_at f false ∷ b)
 loop_ends (find l) f b = refl
 loop_ends (compute l e m ts) f b = refl
 
-statement_ends : (t : Statement) (b : List Spot) → front_is is_bare (unwind (flat_statement t) b) ≡ false
+statement_ends : (t : Statement) (b : List Spot) → front_is controls_next_place (unwind (flat_statement t) b) ≡ false
 statement_ends (alone o) b = one_ends o b
 statement_ends (loop f c) b = loop_ends c f b
 
@@ -192,20 +204,21 @@ module _ (ps : List Spot) where
 
   -- ---- what the place before says
 
-  next_is : (i : ℕ) (b a : List Spot) → At ps i b a → next_place ps i ≡ (if front_is is_bare b then i - 1 else i + 1)
-  next_is i b a h = rw (is_there is_bare ps i b a h) refl
+  next_is : (i : ℕ) (b a : List Spot) → At ps i b a → next_place ps i
+      ≡ (if front_is controls_next_place b then i - 1 else i + 1)
+  next_is i b a h = rw (is_there controls_next_place ps i b a h) refl
 
   behind_loop_is : (i n : ℕ) (b a : List Spot) → At ps i b a → behind_body ps i ≡ n →
-      behind_loop ps i ≡ (if front_is is_bare b then i - 1 else n)
-  behind_loop_is i n b a h e = rw (is_there is_bare ps i b a h) (chosen (front_is is_bare b))
+      behind_loop ps i ≡ (if front_is controls_next_place b then i - 1 else n)
+  behind_loop_is i n b a h e = rw (is_there controls_next_place ps i b a h) (chosen (front_is controls_next_place b))
     where
       chosen : (c : Bool) → (if c then i - 1 else behind_body ps i) ≡ (if c then i - 1 else n)
       chosen true = refl
       chosen false = e
 
   behind_always_is : (i k : ℕ) (b a : List Spot) → At ps i b a → if_of ps k ≡ i →
-      behind_always ps k ≡ (if front_is is_bare b then i - 1 else k + 1)
-  behind_always_is i k b a h e = rw e (rw (is_there is_bare ps i b a h) refl)
+      behind_always ps k ≡ (if front_is controls_next_place b then i - 1 else k + 1)
+  behind_always_is i k b a h e = rw e (rw (is_there controls_next_place ps i b a h) refl)
 
   false_is : (i j : ℕ) (b : List Spot) (x : Spot) (a : List Spot) → branch_end ps i ≡ j → At ps j b (x ∷ a) →
       behind_false ps i ≡ (if is_else x.place then j + 1 else j)
@@ -221,7 +234,7 @@ module _ (ps : List Spot) where
   same_if true k l n e = refl
   same_if false k l n e = e
 
-  bare_none : (b : List Spot) → front_is is_bare b ≡ false → bare_phrases b ≡ 0
+  bare_none : (b : List Spot) → front_is controls_next_place b ≡ false → bare_phrases b ≡ 0
   bare_none [] e = refl
   bare_none (x ∷ b) e = rw e refl
 
@@ -283,7 +296,7 @@ module _ (ps : List Spot) where
 
   enters : (f : Head) (has_do : Bool) (i m n k : ℕ) (js : List ℕ) (b a : List Spot) → At ps i b (for_at f has_do ∷ a) →
       behind_body ps i ≡ n →
-      Open ps i m js → i + 1 < n → n ≤ m → n ≤ length ps → k ≡ (if front_is is_bare b then i - 1 else n) →
+      Open ps i m js → i + 1 < n → n ≤ m → n ≤ length ps → k ≡ (if front_is controls_next_place b then i - 1 else n) →
       Goes ps js k →
       Entry i n js f has_do
   enters f has_do i m n k js b a h e op l u v w g =
@@ -305,7 +318,7 @@ module _ (ps : List Spot) where
     outside : drop before js ≡ outer
     few : before + more ≤ loop_limit
 
-  chain_none : (b : List Spot) (js : List ℕ) (more : ℕ) → front_is is_bare b ≡ false → more ≤ loop_limit →
+  chain_none : (b : List Spot) (js : List ℕ) (more : ℕ) → front_is controls_next_place b ≡ false → more ≤ loop_limit →
       Chain b js js more
   chain_none b js more e l = record { before = 0; count = bare_none b e; outside = refl; few = omega (arith, l) }
 
@@ -331,7 +344,7 @@ module _ (ps : List Spot) where
 
   mutual
     block_steps : (B : Block) (i m : ℕ) (js : List ℕ) (b r : List Spot) → At ps i b (flat_block B ++ r) →
-        front_is is_bare b ≡ false →
+        front_is controls_next_place b ≡ false →
         Open ps i m js → i + length (flat_block B) < m → m ≤ length ps → phrases_block B ≤ loop_limit →
         AreSteps ps i (flat_block B)
     block_steps no_statements i m js b r h n o l s p = tt
@@ -347,7 +360,7 @@ module _ (ps : List Spot) where
         (open_past ps i j m js (omega arith) o shut) (omega (arith, l, w)) s (omega (arith, p)))
 
     statement_steps : (t : Statement) (i m : ℕ) (js : List ℕ) (b r : List Spot) → At ps i b (flat_statement t ++ r) →
-        front_is is_bare b ≡ false →
+        front_is controls_next_place b ≡ false →
         Open ps i m js → i + length (flat_statement t) < m → m ≤ length ps → phrases_statement t ≤ loop_limit →
         AreSteps ps i (flat_statement t)
     statement_steps (alone o) i m js b r h n op l s p =
@@ -355,7 +368,7 @@ module _ (ps : List Spot) where
         let behind = open_past ps i z m js (omega arith) op (one_shut ps o i b r h) in
         one_steps o i m z js b r h op (omega (arith, l)) s
         (goes_there ps z js (omega (arith, l, s)) (around_is ps z m js behind l))
-        (not_bare (front_is is_bare b) (i - 1) z z n refl) p
+        (not_bare (front_is controls_next_place b) (i - 1) z z n refl) p
     statement_steps (loop f c) i m js b r h n op l s p =
         let z = i + length (flat_loop f c) in
         let fits = body_fits c f in
@@ -365,12 +378,12 @@ module _ (ps : List Spot) where
         let around : phrases_around ps k ≡ js = shut ∙ op k (omega arith) (omega (arith, l, fits)) in
         loop_steps c f i m m k js js b r h (chain_none b js (suc (phrases_controlled c)) n p) op
         (omega (arith, l, fits))
-        (λ v x y. op v (omega (arith, x)) y) l s (not_bare (front_is is_bare b) (i - 1) k k n refl)
+        (λ v x y. op v (omega (arith, x)) y) l s (not_bare (front_is controls_next_place b) (i - 1) k k n refl)
         (goes_there ps k js (omega (arith, l, s, fits)) around)
 
     one_steps : (o : One) (i m k : ℕ) (js : List ℕ) (b r : List Spot) → At ps i b (flat_one o ++ r) → Open ps i m js →
         i + length (flat_one o) ≤ m → m ≤ length ps → Goes ps js k →
-        k ≡ (if front_is is_bare b then i - 1 else i + length (flat_one o)) →
+        k ≡ (if front_is controls_next_place b then i - 1 else i + length (flat_one o)) →
         phrases_one o ≤ loop_limit → AreSteps ps i (flat_one o)
     one_steps (simple x e) i m k js b r h op l s g a p =
         (simple_step i k js x.place e (around_is ps i m js op (omega (arith, l))) (next_is i b (x ∷ r) h ∙ sym a) g, tt)
@@ -413,7 +426,7 @@ module _ (ps : List Spot) where
               (moved ps z (i + 1 + length (xs ++ ys)) (always_at w ∷ []) (sym same_z) (
                 always_step z k js (around_is ps z m js open3 (omega (arith, l, c, d)))
                     (behind_always_is i z b _ here (ap (if_of ps) (sym same_z) ∙ if_is)
-                    ∙ same_if (front_is is_bare b) (i - 1) _ _ (omega (arith, c, d)) ∙ sym a) g,
+                    ∙ same_if (front_is controls_next_place b) (i - 1) _ _ (omega (arith, c, d)) ∙ sym a) g,
                 tt,
               )),
         )
@@ -441,7 +454,8 @@ module _ (ps : List Spot) where
         At ps i b (flat_loop f c ++ r) →
         Chain b js outer (suc (phrases_controlled c)) →
         Open ps i m js → i + 1 + body c ≤ m → ((n : ℕ) → i + 1 + body c ≤ n → n < m0 → phrases_before ps n i ≡ outer) →
-        i + length (flat_loop f c) < m0 → m0 ≤ length ps → k ≡ (if front_is is_bare b then i - 1 else i + 1 + body c) →
+        i + length (flat_loop f c) < m0 → m0 ≤ length ps → k
+        ≡ (if front_is controls_next_place b then i - 1 else i + 1 + body c) →
         Goes ps js k →
         AreSteps ps i (flat_loop f c)
     loop_steps (further g c) f i m m0 k js outer b r h ch op l out z s a go =

@@ -1,5 +1,6 @@
 -- The tables of names, classes and sets of a program without a breach are sound.
-use Rattle.std.proofs.Common.{◌≡◌, ◌≤◌, ◌<◌, ℕ, ◌==◌, Bool, true, false, not, List, [], ◌∷◌, ◌++◌, length, refl, sym, ap, ◌∙◌, subst, arith, Option, Some, None}
+use Rattle.std.proofs.Common.{◌≡◌, ◌≤◌, ◌<◌, ℕ, ◌==◌, Bool, true, false, not, List, [], ◌∷◌, ◌++◌, length, refl, sym}
+use Rattle.std.proofs.Common.{ap, ◌∙◌, subst, arith, Option, Some, None}
 use Rattle.std.specs.Prelude.{map, codes, bytes_eq, slice_get, unwrap_or, option_map}
 use Rattle.std.specs.List.{All, IsDistinct, AllByRecursion, flat_map, list_any, list_all}
 use mathlib.Core.Logic.{inl, inr}
@@ -9,29 +10,42 @@ use Rattle.std.proofs.lemmas.List.Elements.{All-nil, All-map}
 use Rattle.std.proofs.lemmas.Option.{slice_get-map, slice_get_within}
 use Rattle.ss_words.specs.Lists.{Name, Several, all_of}
 use Rattle.ss_preamble.specs.declared.item.Heading.TheVariants.{PermanentEntities, TemporaryEntities, EventNotices}
-use Rattle.ss_preamble.specs.Tree.{Key as WrittenKey, SetDiscipline, Fifo, Lifo, Ranked, Variables, Sets, PriorityOrder, BreakTies, ExternalEvents, Item, Normally, Headed, OfEvery, OfSystem, Defines, Orders, ItemAt}
+use Rattle.ss_preamble.specs.Tree.{Key as WrittenKey, SetDiscipline, Fifo, Lifo, Ranked, Variables, Sets, PriorityOrder}
+use Rattle.ss_preamble.specs.Tree.{BreakTies, ExternalEvents, Item, Normally, Headed, OfEvery, OfSystem, Defines}
+use Rattle.ss_preamble.specs.Tree.{Orders, ItemAt}
 use Rattle.ss_preamble.specs.Limits.{key_count, class_names, IsWithin}
 use Rattle.ss_routines.specs.Tree.{Head}
 use Rattle.ss_routines.specs.Places.{Section}
 use Rattle.ss_program.specs.declared.keys.Key.{Key}
-use Rattle.ss_program.specs.Program.{ClassTable, SetTable, SectionTable, ProgramTable, class_of, section_of, is_event, is_event_section}
-use Rattle.ss_program.specs.ProgramSound.{HaveDistinctAttributes, HasSoundNames, AreSoundKeys, IsSoundEvent, IsSoundKind, IsSoundClass, IsSoundOwner, IsSoundDiscipline, IsSoundSet, IsSoundPriority, HasSoundTables}
-use Rattle.ss_check.specs.declared.declared.fact.Fact.{Fact}
-use Rattle.ss_check.specs.declared.declared.name_kind.NameKind.{NameKind}
-use Rattle.ss_check.specs.declared.declared.name_kind.NameKind.TheVariants as k
-use Rattle.ss_check.specs.declared.declared.tables.Tables.{Tables}
-use Rattle.ss_check.specs.Facts.{fact, fact_of}
+use Rattle.ss_program.specs.Program.{ClassTable, SetTable, SectionTable, ProgramTable, class_of, section_of, is_event}
+use Rattle.ss_program.specs.Program.{is_event_section}
+use Rattle.ss_program.specs.ProgramSound.{HaveDistinctAttributes, HasSoundNames, AreSoundKeys, IsSoundEvent}
+use Rattle.ss_program.specs.ProgramSound.{IsSoundKind, IsSoundClass, IsSoundOwner, IsSoundDiscipline, IsSoundSet}
+use Rattle.ss_program.specs.ProgramSound.{IsSoundPriority, HasSoundTables}
+use Rattle.ss_check.specs.Facts.{Fact, fact, fact_of}
+use Rattle.ss_check.specs.NameKind.{NameKind}
+use Rattle.ss_check.specs.NameKind as k
+use Rattle.ss_check.specs.Declarations.{Declared}
 use Rattle.ss_check.specs.NameKinds.{is_class, is_global, names_event}
-use Rattle.ss_check.specs.Declarations.{Entry, entries, heads, classes_in, disciplines_in, ties_in, events_in, given_of, kind_of, tables, attribute_count, is_event_class}
+use Rattle.ss_check.specs.Declarations.{HeadedItem, headed_items, heads, classes_in, disciplines_in, ties_in, events_in}
+use Rattle.ss_check.specs.Declarations.{given_of, kind_of, declared_by_program, attribute_count, is_event_class}
 use Rattle.ss_check.specs.ItemRules.{is_wrong_key, has_wrong_key, has_wrong_keys, has_fewer}
-use Rattle.ss_check.specs.ResolvedNames.{Names, names, number, names_where, is_set, attribute_names, attributes_of, member_class, owner_of}
-use Rattle.ss_check.specs.Resolved.{Rankings, rankings, resolved_key, resolved_discipline, resolved_owner, event_table, class_kind, class_table, set_table, resolved_section, resolved_with}
-use Rattle.ss_check.proofs.SoundLists.{In, all_from, same_again, none_in, in_among, among_in, number_there, image_at, once_from, once_apart, fact_in, flat_in, in_flat, where_from, AreApart, apart_from}
-use Rattle.ss_check.proofs.SoundDeclared.{HasClass}
-use Rattle.ss_check.proofs.SoundUnbroken.{AreItemsKept, AreSectionsKept}
-use Rattle.ss_check.proofs.SoundItems.{item_at, right_ranks, right_ties, events_have_sections, priority_kept, attributes_apart}
-use Rattle.ss_check.proofs.SoundScoped.{L, class_is_global, kind_in, closed_kind, global_in, class_in, set_declared, is_attribute, owner_class, member_there, member_is_class, event_class, attributes_are}
-use Rattle.ss_check.proofs.SoundLimits.{attributes_counted, few_attributes, entry_of, few_keys, class_named, few_classes, few_sets}
+use Rattle.ss_check.specs.ResolvedNames.{Names, names, number, names_where, is_set, attribute_names, attributes_of}
+use Rattle.ss_check.specs.ResolvedNames.{member_class, owner_of}
+use Rattle.ss_check.specs.Resolved.{Rankings, rankings, resolved_key, resolved_discipline, resolved_owner, event_table}
+use Rattle.ss_check.specs.Resolved.{class_kind, class_table, set_table, resolved_section, resolved_with}
+use Rattle.ss_check.proofs.SoundLists.{In, all_from, same_again, none_in, in_among, among_in, number_there, image_at}
+use Rattle.ss_check.proofs.SoundLists.{once_from, once_apart, fact_in, flat_in, in_flat, where_from, AreApart}
+use Rattle.ss_check.proofs.SoundLists.{apart_from}
+use Rattle.ss_check.proofs.SoundCompanions.{HasClass}
+use Rattle.ss_check.proofs.SoundStatements.{AreItemsKept, AreSectionsKept}
+use Rattle.ss_check.proofs.SoundItems.{item_at, right_ranks, right_ties, events_have_sections, priority_kept}
+use Rattle.ss_check.proofs.SoundItems.{attributes_apart}
+use Rattle.ss_check.proofs.SoundNames.{L, class_is_global, kind_in, closed_kind, global_in, class_in, set_declared}
+use Rattle.ss_check.proofs.SoundNames.{is_attribute, owner_class, member_there, member_is_class, event_class}
+use Rattle.ss_check.proofs.SoundNames.{attributes_are}
+use Rattle.ss_check.proofs.SoundLimits.{attributes_counted, few_attributes, entry_of, few_keys, class_named}
+use Rattle.ss_check.proofs.SoundLimits.{few_classes, few_sets}
 use Rattle.ss_check.proofs.SoundNumbers.{event_found, section_at, slice_in}
 
 -- ---- lists
@@ -69,17 +83,17 @@ numbers_apart (m ∷ ms) ns h a =
 
 -- ---- the program
 
-module _ (is : List ItemAt) (qs : List Section) (h : AreItemsKept (tables is qs) [] (entries is))
+module _ (is : List ItemAt) (qs : List Section) (h : AreItemsKept (declared_by_program is qs) [] (headed_items is))
     (w : IsWithin (map (λ i. i.item) is))
-    (s : AreSectionsKept (tables is qs) (entries is) [] qs) where
-  abbrev xs : List Entry
-  xs = entries is
+    (s : AreSectionsKept (declared_by_program is qs) (headed_items is) [] qs) where
+  abbrev xs : List HeadedItem
+  xs = headed_items is
 
   abbrev hs : List Head
   hs = heads qs
 
-  abbrev D : Tables
-  D = tables is qs
+  abbrev D : Declared
+  D = declared_by_program is qs
 
   abbrev V : Names
   V = names D hs
@@ -122,18 +136,18 @@ module _ (is : List ItemAt) (qs : List Section) (h : AreItemsKept (tables is qs)
 
   -- ---- keys
 
-  keys_there : (b : Tables) (c : Name) (keys : List WrittenKey) → In c V.classes →
-      list_any (is_wrong_key D b c) keys ≡ false →
+  keys_there : (b : Declared) (c : Name) (keys : List WrittenKey) → In c V.classes →
+      list_any (is_wrong_key D c) keys ≡ false →
       All (λ (q : Key). q.attribute < length (attributes_of D c)) (map (resolved_key (attribute_names V c)) keys)
   keys_there b c keys i t =
       All-map (λ (q : Key). q.attribute < length (attributes_of D c)) (resolved_key (attribute_names V c)) keys
       (all_from (λ (q : WrittenKey). number q.name (attribute_names V c) < length (attributes_of D c)) keys (λ q x.
-      let right = none_in (is_wrong_key D b c) q keys t x in
+      let right = none_in (is_wrong_key D c) q keys t x in
       rw (attributes_are xs hs h R c i)
       (number_there q.name (attributes_of D c) (is_attribute xs hs h c q.name (kind_of D q.name) refl right))))
 
-  sound_keys : (b : Tables) (c : Name) (keys : List WrittenKey) → In c V.classes →
-      list_any (is_wrong_key D b c) keys ≡ false → length keys ≤ 8 →
+  sound_keys : (b : Declared) (c : Name) (keys : List WrittenKey) → In c V.classes →
+      list_any (is_wrong_key D c) keys ≡ false → length keys ≤ 8 →
       AreSoundKeys (length (attributes_of D c)) (map (resolved_key (attribute_names V c)) keys)
   sound_keys b c keys i t l = record {
     attributes = keys_there b c keys i t;
@@ -168,7 +182,7 @@ module _ (is : List ItemAt) (qs : List Section) (h : AreItemsKept (tables is qs)
       let kept = item_at D [] xs x.0 h x.1 in
       let b = kept.0 in
       let y = kept.1 in
-      let wrong : has_wrong_keys D b z.item ≡ false = subst (λ (j : Item). has_wrong_keys D b j ≡ false) x.2 y.keys in
+      let wrong : has_wrong_keys D z.item ≡ false = subst (λ (j : Item). has_wrong_keys D j ≡ false) x.2 y.keys in
       let count = ties_counted z.item c keys f.has in
       let few = few_keys is z w f.there in
       sound_keys b c keys i (right_ties D b z.item c keys wrong f.has) (omega (arith, count, few))
@@ -201,11 +215,11 @@ module _ (is : List ItemAt) (qs : List Section) (h : AreItemsKept (tables is qs)
       let kept = item_at D [] xs x.0 h x.1 in
       let b = kept.0 in
       let y = kept.1 in
-      let wrong : has_wrong_keys D b z.item ≡ false = subst (λ (j : Item). has_wrong_keys D b j ≡ false) x.2 y.keys in
-      let rank : has_wrong_key D b (fact_of D.members n) (all_of ks) ≡ false =
+      let wrong : has_wrong_keys D z.item ≡ false = subst (λ (j : Item). has_wrong_keys D j ≡ false) x.2 y.keys in
+      let rank : has_wrong_key D (fact_of D.members n) (all_of ks) ≡ false =
       right_ranks D b z.item n (Ranked ks) wrong f.has in
-      let keys : has_wrong_key D b (Some c) (all_of ks) ≡ false =
-      subst (λ (q : Option Name). has_wrong_key D b q (all_of ks) ≡ false) m rank in
+      let keys : has_wrong_key D (Some c) (all_of ks) ≡ false =
+      subst (λ (q : Option Name). has_wrong_key D q (all_of ks) ≡ false) m rank in
       let count = discipline_counted z.item n ks f.has in
       let few = few_keys is z w f.there in
       sound_keys b c (all_of ks) i keys (omega (arith, count, few))
@@ -224,7 +238,7 @@ module _ (is : List ItemAt) (qs : List Section) (h : AreItemsKept (tables is qs)
       let q = flat_in class_names n (map (λ (z : ItemAt). z.item) is) (class_named is hs h w n i.0 i.1) in
       let r = Rattle.ss_check.proofs.SoundLists.map_in (λ (z : ItemAt). z.item) q.one is q.there in
       let x = entry_of None is r.one r.there in
-      in_flat (λ (y : Entry). classes_in y.item) x.0 n xs x.1
+      in_flat (λ (y : HeadedItem). classes_in y.item) x.0 n xs x.1
       (subst (λ (j : Item). In n (classes_in j)) (r.is ∙ sym x.2) (class_item q.one q.has))
     where
       class_item : (j : Item) → In n (class_names j) → In n (classes_in j)
@@ -254,8 +268,8 @@ module _ (is : List ItemAt) (qs : List Section) (h : AreItemsKept (tables is qs)
       let same = section_is (event_table D V R n).section (resolved_section D V q) there in
       let kept = section_at D xs [] qs q s (slice_in qs f.place q f.there) in
       let head = kept.1 in
-      let less : has_fewer D kept.0 (given_of q.head) n ≡ false =
-      none_in (has_fewer D kept.0 (given_of q.head)) n (events_in q.head) head.given holds.names in
+      let less : has_fewer D (given_of q.head) n ≡ false =
+      none_in (has_fewer D (given_of q.head)) n (events_in q.head) head.given holds.names in
       record {
         section = slice_get_within p.sections (event_table D V R n).section (resolved_section D V q) there;
         kind = ap is_event_section same ∙ holds.kind;

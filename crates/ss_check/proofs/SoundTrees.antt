@@ -1,15 +1,18 @@
 -- The places of a section are those of a tree, whatever their names stand for.
-use Rattle.std.proofs.Common.{◌≡◌, ◌≤◌, ℕ, suc, ◌+◌, true, false, List, [], ◌∷◌, ◌++◌, length, refl, sym, ap, ◌∙◌, subst, arith}
+use Rattle.std.proofs.Common.{◌≡◌, ◌≤◌, ℕ, suc, ◌+◌, true, false, List, [], ◌∷◌, ◌++◌, length, refl, sym, ap, ◌∙◌}
+use Rattle.std.proofs.Common.{subst, arith}
 use Rattle.std.specs.Prelude.{map}
 use Rattle.std.specs.List.{flat_map}
 use mathlib.Core.Logic.{inl, inr}
 use Rattle.std.proofs.lemmas.List.{map-append}
 use Rattle.ss_words.specs.Lists.{Name, all_of}
 use Rattle.ss_words.specs.Noting.{line}
-use Rattle.ss_routines.specs.Simple.{Simple, Assigns, Makes, Files, Transfers, Times, Exchanges, Call, Return, Stop, Read, Print, Skip}
+use Rattle.ss_routines.specs.Simple.{Simple, Assigns, Makes, Files, Transfers, Times, Exchanges, Call, Return, Stop}
+use Rattle.ss_routines.specs.Simple.{Read, Print, Skip}
 use Rattle.ss_routines.specs.Loops.{Phrase, spell_phrase, spell_question}
 use Rattle.ss_routines.specs.Tree as t
-use Rattle.ss_routines.specs.Tree.{spell_block, spell_statement, spell_otherwise, spell_head, spell_define, spell_section, Tree, parameters_head, parameters, phrases}
+use Rattle.ss_routines.specs.Tree.{spell_block, spell_statement, spell_otherwise, spell_head, spell_define}
+use Rattle.ss_routines.specs.Tree.{spell_section, Tree, parameters_head, parameters, phrases}
 use Rattle.ss_routines.specs.Places.{Section, EndOfSection}
 use Rattle.ss_routines.specs.Places as w
 use Rattle.ss_routines.specs.Written as written
@@ -18,15 +21,20 @@ use Rattle.ss_program.specs.declared.place.Place.{Place}
 use Rattle.ss_program.specs.declared.place.Place.TheVariants.{Control}
 use Rattle.ss_program.specs.declared.place.Spot.{Spot}
 use Rattle.ss_program.specs.ProgramSound.{is_end, IsEnded}
-use Rattle.ss_check.specs.declared.declared.tables.Tables.{Tables}
+use Rattle.ss_check.specs.Declarations.{Declared}
 use Rattle.ss_check.specs.ResolvedNames.{Names}
-use Rattle.ss_check.specs.Resolved.{resolved_expr, resolved_range, resolved_qualifier, resolved_question, resolved_telling, resolved_simple, resolved_spot}
+use Rattle.ss_check.specs.Resolved.{resolved_expr, resolved_range, resolved_qualifier, resolved_question}
+use Rattle.ss_check.specs.Resolved.{resolved_telling, resolved_simple, resolved_spot}
 use Rattle.ss_check.proofs.SoundLists.{In}
-use Rattle.ss_check.proofs.SoundShapes.{is_simple, Head, for_at, Block, no_statements, statement, Statement, alone, loop, One, simple, branch, Otherwise, no_else, else_with, Controlled, further, repeated, single, find, compute, flat_block, flat_statement, flat_one, flat_otherwise, flat_loop}
+use Rattle.ss_check.proofs.SoundShapes.{is_simple, Head, for_at, Block, no_statements, statement, Statement, alone}
+use Rattle.ss_check.proofs.SoundShapes.{loop, One, simple, branch, Otherwise, no_else, else_with, Controlled, further}
+use Rattle.ss_check.proofs.SoundShapes.{repeated, single, find, compute, flat_block, flat_statement, flat_one}
+use Rattle.ss_check.proofs.SoundShapes.{flat_otherwise, flat_loop}
 use Rattle.ss_check.proofs.SoundCounting.{Joins, Counts, block_passes}
-use Rattle.ss_check.proofs.SoundSteps.{phrases_block, phrases_statement, phrases_one, phrases_otherwise, phrases_controlled, AreSteps, section_steps}
+use Rattle.ss_check.proofs.SoundSteps.{phrases_block, phrases_statement, phrases_one, phrases_otherwise}
+use Rattle.ss_check.proofs.SoundSteps.{phrases_controlled, AreSteps, section_steps}
 
-module _ (d : Tables) (v : Names) (locals : List Name) (lines : List ℕ) where
+module _ (d : Declared) (v : Names) (locals : List Name) (lines : List ℕ) where
   -- ---- trees whose names are numbers
 
   abbrev head_at : ℕ → Phrase → Head
@@ -229,7 +237,7 @@ of_tree lines k (s ∷ ts) q a b (inl e) = subst IsOfTree (sym e) (record {
 of_tree lines k (s ∷ ts) q a b (inr i) =
     of_tree lines (k + length (spell_section s)) ts q (omega (arith, a)) (omega (arith, b)) i
 
-module _ (d : Tables) (v : Names) (locals : List Name) (q : Section) (h : IsOfTree q) where
+module _ (d : Declared) (v : Names) (locals : List Name) (q : Section) (h : IsOfTree q) where
   abbrev pub places : List Spot
   places = map (resolved_spot d v locals) q.places
 

@@ -5,25 +5,30 @@ use Rattle.std.specs.List.{list_any}
 use Rattle.std.proofs.lemmas.Bool.{true≢false, false≢true, or_parts}
 use Rattle.ss_words.specs.Lists.{Name}
 use Rattle.ss_program.specs.ProgramExpr.{Expr, Exprs, no_exprs, exprs}
-use Rattle.ss_program.specs.ProgramSound.{Scope, IsClass, IsSettable, IsSoundExpr, IsSoundFactor, IsSoundSubscript, AreSoundArguments, IsSoundOption, IsTarget}
-use Rattle.ss_check.specs.declared.declared.function.Function.{Function}
-use Rattle.ss_check.specs.declared.declared.function.Function.TheVariants.{Absolute, Greatest, Least, Quotient, Remainder}
+use Rattle.ss_program.specs.ProgramSound.{Scope, IsClass, IsSettable, IsSoundExpr, IsSoundFactor, IsSoundSubscript}
+use Rattle.ss_program.specs.ProgramSound.{AreSoundArguments, IsSoundOption, IsTarget}
+use Rattle.ss_check.specs.LanguageFunction.{LanguageFunction}
+use Rattle.ss_check.specs.LanguageFunction.{Absolute, Greatest, Least, Quotient, Remainder}
 use Rattle.ss_words.specs.declared.terms.OwnerKept.{OwnerKept}
 use Rattle.ss_words.specs.declared.terms.MemberKept.{MemberKept}
-use Rattle.ss_check.specs.declared.declared.name_kind.NameKind.{NameKind}
-use Rattle.ss_check.specs.declared.declared.name_kind.NameKind.TheVariants as k
-use Rattle.ss_check.specs.declared.declared.tables.Tables.{Tables}
-use Rattle.ss_check.specs.NameKinds.{is_global, names_function, names_variable, names_fixed, names_permanent, names_ending}
+use Rattle.ss_check.specs.NameKind.{NameKind}
+use Rattle.ss_check.specs.NameKind as k
+use Rattle.ss_check.specs.Declarations.{Declared}
+use Rattle.ss_check.specs.NameKinds.{is_global, names_function, names_variable, names_fixed, names_permanent}
+use Rattle.ss_check.specs.NameKinds.{names_ending}
 use Rattle.ss_check.specs.Declarations.{kind_of}
-use Rattle.ss_check.specs.PlaceRules.{is_valueless, is_wrong_class, is_bare, is_misused, is_wrong_count, is_fixed}
-use Rattle.ss_check.specs.ResolvedNames.{Names, number, variable_used, variable_of, class_subscript, subscript_of_owner, owner_of, member_class, owner_subscript, factor_of, function_factor, applied_factor, target_of}
+use Rattle.ss_check.specs.PlaceRules.{is_valueless, is_wrong_class, takes_no_parentheses, is_misused, is_wrong_count}
+use Rattle.ss_check.specs.PlaceRules.{is_fixed}
+use Rattle.ss_check.specs.ResolvedNames.{Names, number, variable_used, variable_of, class_subscript, subscript_of_owner}
+use Rattle.ss_check.specs.ResolvedNames.{owner_of, member_class, owner_subscript, factor_of, function_factor}
+use Rattle.ss_check.specs.ResolvedNames.{applied_factor, target_of}
 use Rattle.ss_check.specs.Uses.{Use}
 use Rattle.ss_check.proofs.SoundLists.{In}
 use mathlib.Core.Logic.{inl, inr}
 
 -- ---- what the tables have, as the places of a section may name it
 
-pub record Scoped (d : Tables) (v : Names) (locals : List Name) (sc : Scope) : Type 0 where
+pub record Scoped (d : Declared) (v : Names) (locals : List Name) (sc : Scope) : Type 0 where
   pub global : (n : Name) (j : NameKind) → kind_of d n ≡ Some j → is_global j ≡ true → number n v.globals < sc.globals
   pub attribute : (n c : Name) → kind_of d n ≡ Some (k.Attribute c) → IsClass sc (number c v.classes)
   pub attribute_variable : (n c : Name) → kind_of d n ≡ Some (k.Attribute c) → number c v.globals < sc.globals
@@ -43,7 +48,7 @@ pub record Scoped (d : Tables) (v : Names) (locals : List Name) (sc : Scope) : T
 
 -- ---- uses that break no rule
 
-module _ (d : Tables) (locals : List Name) where
+module _ (d : Declared) (locals : List Name) where
   -- a name that is not declared is a local variable
   abbrev pub IsKnown : Name → Type 0
   IsKnown n = kind_of d n ≡ None → number n locals < length locals
@@ -82,7 +87,7 @@ module _ (d : Tables) (locals : List Name) where
 
 -- ---- what a name stands for
 
-module _ (d : Tables) (v : Names) (locals : List Name) (sc : Scope) (S : Scoped d v locals sc) where
+module _ (d : Declared) (v : Names) (locals : List Name) (sc : Scope) (S : Scoped d v locals sc) where
   local_there : (n : Name) → number n locals < length locals → number n locals < sc.locals
   local_there n h = rw S.locals_are h
 
@@ -118,7 +123,7 @@ module _ (d : Tables) (v : Names) (locals : List Name) (sc : Scope) (S : Scoped 
   sound_named n (Some k.Set) e a b h = absurd (true≢false a)
   sound_named n (Some k.Routine) e a b h = absurd (true≢false a)
 
-  sound_function : (f : Function) (x : Expr) (xs : Exprs) → IsSoundExpr sc x → AreSoundArguments sc xs →
+  sound_function : (f : LanguageFunction) (x : Expr) (xs : Exprs) → IsSoundExpr sc x → AreSoundArguments sc xs →
       IsSoundFactor sc (function_factor d v locals f x xs)
   sound_function Absolute x xs a b = a
   sound_function Greatest x xs a b = (a, b)
@@ -129,7 +134,8 @@ module _ (d : Tables) (v : Names) (locals : List Name) (sc : Scope) (S : Scoped 
   sound_function Remainder x (exprs y ys) a b = (a, b.0)
 
   -- a name as a value with arguments
-  pub sound_applied : (n : Name) (j : Option NameKind) (x : Expr) (xs : Exprs) → kind_of d n ≡ j → is_bare d j ≡ false →
+  pub sound_applied : (n : Name) (j : Option NameKind) (x : Expr) (xs : Exprs) → kind_of d n ≡ j →
+      takes_no_parentheses d j ≡ false →
       IsSoundExpr sc x →
       AreSoundArguments sc xs → IsSoundFactor sc (applied_factor d v locals j n x xs)
   sound_applied n None x xs e a y ys = absurd (true≢false a)
@@ -160,7 +166,8 @@ module _ (d : Tables) (v : Names) (locals : List Name) (sc : Scope) (S : Scoped 
   sound_bare_target n (Some k.Set) e a b h = absurd (true≢false a)
   sound_bare_target n (Some k.Routine) e a b h = absurd (true≢false a)
 
-  pub sound_target_at : (n : Name) (j : Option NameKind) (x : Expr) → kind_of d n ≡ j → is_bare d j ≡ false →
+  pub sound_target_at : (n : Name) (j : Option NameKind) (x : Expr) → kind_of d n ≡ j → takes_no_parentheses d j
+      ≡ false →
       names_fixed j ≡ false →
       IsSoundExpr sc x → IsTarget sc (target_of d v locals j n (Some x))
   sound_target_at n None x e a b y = absurd (true≢false a)

@@ -1,5 +1,6 @@
 -- The first breach of statements one behind the other.
-use Rattle.std.proofs.Common.{◌≡◌, ℕ, Bool, true, false, not, List, [], ◌∷◌, ◌++◌, refl, sym, ap, subst, ◌∙◌, Option, Some, None}
+use Rattle.std.proofs.Common.{◌≡◌, ℕ, Bool, true, false, not, List, [], ◌∷◌, ◌++◌, refl, sym, ap, subst, ◌∙◌, Option}
+use Rattle.std.proofs.Common.{Some, None}
 use Rattle.std.specs.Prelude.{map, option_map, unwrap_or, Result, Ok, Err, IfOk, IfErr, OnOk}
 use Rattle.std.specs.List.{list_any}
 use Rattle.std.specs.Option.{option_or}
@@ -10,14 +11,16 @@ use Rattle.ss_check.specs.declared.fault.CheckRule.{CheckRule}
 use Rattle.ss_check.specs.declared.fault.CheckRule.TheVariants.{WrongMain}
 use Rattle.ss_check.specs.declared.fault.CheckFault.{CheckFault}
 use Rattle.ss_check.specs.declared.fault.CheckFault.TheVariants.{Broken, Memory}
-use Rattle.ss_check.specs.declared.declared.tables.Tables.{Tables}
-use Rattle.ss_check.specs.Adding.{items_breach, locals_breach, places_breach, section_breach, sections_breach, with_entries, with_head}
-use Rattle.ss_check.specs.Breach.{breach, end_statement, item_statements, last_end, section_statements, sections_statements}
-use Rattle.ss_check.specs.Declarations.{Entry, entries, is_main, tables, tables_of}
+use Rattle.ss_check.specs.Declarations.{Declared}
+use Rattle.ss_check.specs.Increments.{items_breach, locals_breach, places_breach, section_breach, sections_breach}
+use Rattle.ss_check.specs.Increments.{with_items, with_head}
+use Rattle.ss_check.specs.Breach.{breach, end_statement, item_statements, last_end, section_statements}
+use Rattle.ss_check.specs.Breach.{sections_statements}
+use Rattle.ss_check.specs.Declarations.{HeadedItem, headed_items, is_main, declared_by_program, declared_by}
 use Rattle.ss_check.specs.ItemRules.{head_rule, head_statement, item_statement, local_statement}
 use Rattle.ss_check.specs.PlaceRules.{place_statements}
-use Rattle.ss_check.specs.Statements.{IsBreach, Statement, breach_of, broken, first_breach}
-use Rattle.ss_check.proofs.Filling.{entries_more, entry_more, head_more}
+use Rattle.ss_check.specs.Statements.{IsBreach, Statement, breach_of, rule_where, first_breach}
+use Rattle.ss_check.proofs.DeclaredPrefixes.{entries_more, entry_more, head_more}
 use Rattle.ss_check.proofs.Tests.{any_map}
 
 option_or-assoc : {T : Type 0} (a b c : Option T) → option_or (option_or a b) c ≡ option_or a (option_or b c)
@@ -33,45 +36,45 @@ first_breach-append (x ∷ xs) ys =
     ∙ sym (option_or-assoc (breach_of x) (first_breach xs) (first_breach ys))
 
 -- items behind others
-items_bridge : (d : Tables) (before xs : List Entry) →
-    items_breach d (tables_of before []) xs ≡ first_breach (item_statements d before xs)
+items_bridge : (d : Declared) (before xs : List HeadedItem) →
+    items_breach d (declared_by before []) xs ≡ first_breach (item_statements d before xs)
 unfolding items_breach
 items_bridge d before [] = refl
 items_bridge d before (x ∷ xs) =
-    ap (option_or (breach_of (item_statement d (tables_of before []) x)))
-    (ap (λ (t : Tables). items_breach d t xs) (sym (entry_more before x)) ∙ items_bridge d (before ++ x ∷ []) xs)
+    ap (option_or (breach_of (item_statement d (declared_by before []) x)))
+    (ap (λ (t : Declared). items_breach d t xs) (sym (entry_more before x)) ∙ items_bridge d (before ++ x ∷ []) xs)
 
 -- a section behind items and other heads
-section_bridge : (d b : Tables) (s : Section) → section_breach d b s ≡ first_breach (section_statements d b s)
+section_bridge : (d b : Declared) (s : Section) → section_breach d b s ≡ first_breach (section_statements d b s)
 unfolding section_breach locals_breach places_breach
 section_bridge d b s =
     ap (option_or (breach_of (head_statement d b s)))
     (sym (first_breach-append (map (local_statement d) s.locals) (place_statements d (is_main s.head) false s.places)))
 
 -- sections behind items and other heads
-sections_bridge : (d : Tables) (xs : List Entry) (before : List Head) (ss : List Section) →
-    sections_breach d (tables_of xs before) ss ≡ first_breach (sections_statements d xs before ss)
+sections_bridge : (d : Declared) (xs : List HeadedItem) (before : List Head) (ss : List Section) →
+    sections_breach d (declared_by xs before) ss ≡ first_breach (sections_statements d xs before ss)
 unfolding sections_breach
 sections_bridge d xs before [] = refl
 sections_bridge d xs before (s ∷ ss) =
-    ap (λ (b : Option (CheckRule × ℕ)). option_or b (sections_breach d (with_head (tables_of xs before) s.head) ss))
-    (section_bridge d (tables_of xs before) s)
-    ∙ ap (option_or (first_breach (section_statements d (tables_of xs before) s)))
-    (ap (λ (t : Tables). sections_breach d t ss) (sym (head_more xs before s.head))
+    ap (λ (b : Option (CheckRule × ℕ)). option_or b (sections_breach d (with_head (declared_by xs before) s.head) ss))
+    (section_bridge d (declared_by xs before) s)
+    ∙ ap (option_or (first_breach (section_statements d (declared_by xs before) s)))
+    (ap (λ (t : Declared). sections_breach d t ss) (sym (head_more xs before s.head))
     ∙ sections_bridge d xs (before ++ s.head ∷ []) ss)
     ∙ sym
-    (first_breach-append (section_statements d (tables_of xs before) s)
+    (first_breach-append (section_statements d (declared_by xs before) s)
     (sections_statements d xs (before ++ s.head ∷ []) ss))
 
 -- the first breach of a program: of its items, else of its sections, else of its last END
 pub breach_is : (p : Decls) (ss : List Section) →
-    option_or (items_breach (tables p.items ss) (tables_of [] []) (entries p.items))
-    (option_or (sections_breach (tables p.items ss) (tables_of (entries p.items) []) ss)
+    option_or (items_breach (declared_by_program p.items ss) (declared_by [] []) (headed_items p.items))
+    (option_or (sections_breach (declared_by_program p.items ss) (declared_by (headed_items p.items) []) ss)
     (first_breach (end_statement p.end ss ∷ [])))
     ≡ breach p ss
 breach_is p ss =
-    let d = tables p.items ss in
-    let xs = entries p.items in
+    let d = declared_by_program p.items ss in
+    let xs = headed_items p.items in
     let is = item_statements d [] xs in
     let ks = sections_statements d xs [] ss in
     rw (items_bridge d [] xs, sections_bridge d xs [] ss)
@@ -101,7 +104,7 @@ none_both (Some x) b e h = cc
 -- ---- a section
 
 -- its head breaks a rule
-pub section_head : (d b : Tables) (s : Section) (r : CheckRule) → head_rule d b s ≡ Some r →
+pub section_head : (d b : Declared) (s : Section) (r : CheckRule) → head_rule d b s ≡ Some r →
     section_breach d b s ≡ Some (r, s.line)
 unfolding section_breach head_rule
 section_head d b s r h =
@@ -109,7 +112,7 @@ section_head d b s r h =
     (option_or (locals_breach d s.locals) (places_breach d (is_main s.head) false s.places))) h
 
 -- its head breaks none
-pub section_behind : (d b : Tables) (s : Section) → head_rule d b s ≡ None →
+pub section_behind : (d b : Declared) (s : Section) → head_rule d b s ≡ None →
     section_breach d b s ≡ option_or (locals_breach d s.locals) (places_breach d (is_main s.head) false s.places)
 unfolding section_breach head_rule
 section_behind d b s h =
@@ -117,7 +120,7 @@ section_behind d b s h =
     (option_or (locals_breach d s.locals) (places_breach d (is_main s.head) false s.places))) h
 
 -- a fault of its local DEFINEs
-pub section_locals : (f : CheckFault) (d b : Tables) (s : Section) → head_rule d b s ≡ None →
+pub section_locals : (f : CheckFault) (d b : Declared) (s : Section) → head_rule d b s ≡ None →
     IsBreach f (locals_breach d s.locals) →
     IsBreach f (section_breach d b s)
 section_locals f d b s h k =
@@ -125,7 +128,7 @@ section_locals f d b s h k =
     (fault_first f (locals_breach d s.locals) (places_breach d (is_main s.head) false s.places) k)
 
 -- a fault of its places
-pub section_err : (f : CheckFault) (d b : Tables) (s : Section) → head_rule d b s ≡ None →
+pub section_err : (f : CheckFault) (d b : Declared) (s : Section) → head_rule d b s ≡ None →
     locals_breach d s.locals ≡ None →
     IsBreach f (places_breach d (is_main s.head) false s.places) → IsBreach f (section_breach d b s)
 section_err f d b s h e k =
@@ -133,7 +136,7 @@ section_err f d b s h e k =
     (fault_rest f (locals_breach d s.locals) (places_breach d (is_main s.head) false s.places) e k)
 
 -- no breach
-pub section_sound : (d b : Tables) (s : Section) → head_rule d b s ≡ None → locals_breach d s.locals ≡ None →
+pub section_sound : (d b : Declared) (s : Section) → head_rule d b s ≡ None → locals_breach d s.locals ≡ None →
     places_breach d (is_main s.head) false s.places ≡ None → section_breach d b s ≡ None
 section_sound d b s h e k =
     section_behind d b s h ∙ none_both (locals_breach d s.locals) (places_breach d (is_main s.head) false s.places) e k
@@ -141,64 +144,64 @@ section_sound d b s h e k =
 -- ---- a program
 
 -- the tables that a program's parts are looked at with
-pub record AreTables (p : Decls) (ss : List Section) (whole start middle : Tables) : Type 0 where
+pub record AreTables (p : Decls) (ss : List Section) (whole start middle : Declared) : Type 0 where
   -- what the whole program says
-  pub all : whole ≡ tables p.items ss
+  pub all : whole ≡ declared_by_program p.items ss
   -- what is said before all
-  pub none : start ≡ tables_of [] []
+  pub none : start ≡ declared_by [] []
   -- what the items say
-  pub items : middle ≡ with_entries start (entries p.items)
+  pub items : middle ≡ with_items start (headed_items p.items)
 
-parts : (p : Decls) (ss : List Section) (whole start middle : Tables) → AreTables p ss whole start middle →
-    option_or (items_breach whole start (entries p.items))
+parts : (p : Decls) (ss : List Section) (whole start middle : Declared) → AreTables p ss whole start middle →
+    option_or (items_breach whole start (headed_items p.items))
     (option_or (sections_breach whole middle ss) (first_breach (end_statement p.end ss ∷ [])))
     ≡ breach p ss
 parts p ss whole start middle t =
-    rw (t.items, t.none, t.all, entries_more [] (entries p.items)) (breach_is p ss)
+    rw (t.items, t.none, t.all, entries_more [] (headed_items p.items)) (breach_is p ss)
 
 -- a fault of the items
-pub fault_items : (f : CheckFault) (p : Decls) (ss : List Section) (whole start middle : Tables) →
+pub fault_items : (f : CheckFault) (p : Decls) (ss : List Section) (whole start middle : Declared) →
     AreTables p ss whole start middle →
-    IsBreach f (items_breach whole start (entries p.items)) → IsBreach f (breach p ss)
+    IsBreach f (items_breach whole start (headed_items p.items)) → IsBreach f (breach p ss)
 fault_items f p ss whole start middle t h =
     subst (IsBreach f) (parts p ss whole start middle t) (fault_first f _ _ h)
 
 -- a fault of the sections, where the items have none
-pub fault_sections : (f : CheckFault) (p : Decls) (ss : List Section) (whole start middle : Tables) →
+pub fault_sections : (f : CheckFault) (p : Decls) (ss : List Section) (whole start middle : Declared) →
     AreTables p ss whole start middle →
-    items_breach whole start (entries p.items) ≡ None → IsBreach f (sections_breach whole middle ss) →
+    items_breach whole start (headed_items p.items) ≡ None → IsBreach f (sections_breach whole middle ss) →
     IsBreach f (breach p ss)
 fault_sections f p ss whole start middle t e h =
     subst (IsBreach f) (parts p ss whole start middle t) (fault_rest f _ _ e (fault_first f _ _ h))
 
 -- what is left at the last END, where neither has one
-at_end : (p : Decls) (ss : List Section) (whole start middle : Tables) → AreTables p ss whole start middle →
-    items_breach whole start (entries p.items) ≡ None → sections_breach whole middle ss ≡ None →
+at_end : (p : Decls) (ss : List Section) (whole start middle : Declared) → AreTables p ss whole start middle →
+    items_breach whole start (headed_items p.items) ≡ None → sections_breach whole middle ss ≡ None →
     breach p ss ≡ first_breach
-    (record { line = last_end (unwrap_or p.end 1) ss; breaks = broken WrongMain (not whole.has_main) } ∷ [])
+    (record { line = last_end (unwrap_or p.end 1) ss; breaks = rule_where WrongMain (not whole.has_main) } ∷ [])
 at_end p ss whole start middle t e h =
-    let m : whole.has_main ≡ list_any (λ s. is_main s.head) ss = ap (λ (d : Tables). d.has_main) t.all
+    let m : whole.has_main ≡ list_any (λ s. is_main s.head) ss = ap (λ (d : Declared). d.has_main) t.all
     ∙ any_map is_main (λ s. s.head) ss in
     sym (parts p ss whole start middle t) ∙ rw (e, h, m) refl
 
 -- no MAIN
-pub fault_end : (p : Decls) (ss : List Section) (whole start middle : Tables) → AreTables p ss whole start middle →
-    items_breach whole start (entries p.items) ≡ None → sections_breach whole middle ss ≡ None →
+pub fault_end : (p : Decls) (ss : List Section) (whole start middle : Declared) → AreTables p ss whole start middle →
+    items_breach whole start (headed_items p.items) ≡ None → sections_breach whole middle ss ≡ None →
     whole.has_main ≡ false →
     IsBreach (Broken WrongMain (last_end (unwrap_or p.end 1) ss)) (breach p ss)
 fault_end p ss whole start middle t e h m =
     at_end p ss whole start middle t e h
     ∙ ap (λ (b : Bool). first_breach
-    (record { line = last_end (unwrap_or p.end 1) ss; breaks = broken WrongMain (not b) } ∷ [])) m
+    (record { line = last_end (unwrap_or p.end 1) ss; breaks = rule_where WrongMain (not b) } ∷ [])) m
 
 -- no breach
-pub sound_all : (p : Decls) (ss : List Section) (whole start middle : Tables) → AreTables p ss whole start middle →
-    items_breach whole start (entries p.items) ≡ None → sections_breach whole middle ss ≡ None →
+pub sound_all : (p : Decls) (ss : List Section) (whole start middle : Declared) → AreTables p ss whole start middle →
+    items_breach whole start (headed_items p.items) ≡ None → sections_breach whole middle ss ≡ None →
     whole.has_main ≡ true → breach p ss ≡ None
 sound_all p ss whole start middle t e h m =
     at_end p ss whole start middle t e h
     ∙ ap (λ (b : Bool). first_breach
-    (record { line = last_end (unwrap_or p.end 1) ss; breaks = broken WrongMain (not b) } ∷ [])) m
+    (record { line = last_end (unwrap_or p.end 1) ss; breaks = rule_where WrongMain (not b) } ∷ [])) m
 
 -- ---- results
 

@@ -1,14 +1,12 @@
--- The turns of the loops that fill tables of names, and what tables of references find.
-use Rattle.std.proofs.Common.{◌≡◌, ℕ, ◌+◌, ◌<◌, ◌≤◌, Bool, true, false, cond, List, [], ◌∷◌, ◌++◌, length, get_or, drop, refl, sym, ap, ◌∙◌, Some, append_assoc}
+-- The turns of the loops that fill tables, and what tables of references find.
+use Rattle.std.proofs.Common.{◌≡◌, ℕ, ◌+◌, ◌<◌, ◌≤◌, Bool, true, false, cond, List, [], ◌∷◌, ◌++◌, length, get_or, drop}
+use Rattle.std.proofs.Common.{refl, sym, ap, ◌∙◌, Some, append_assoc}
 use Rattle.std.specs.Prelude.{map, option_map, bytes_eq}
-use Rattle.std.specs.List.{find, fold}
+use Rattle.std.specs.List.{find}
 use Rattle.std.proofs.lemmas.List.{drop_all, drop_more, map-append}
 use Rattle.ss_words.specs.Lists.{Name}
-use Rattle.ss_program.specs.Indexed.{with_name}
-use Rattle.ss_check.specs.declared.declared.fact.Fact.{Fact}
-use Rattle.ss_check.specs.Facts.{fact, fact_of}
+use Rattle.ss_check.specs.Facts.{Fact, fact, fact_of, names_of}
 use Rattle.ss_check.specs.FactsView.{facts_view}
-use Rattle.ss_check.specs.ResolvedNames.{names_where}
 use Rattle.ss_check.proofs.FactTables.{append_none}
 
 -- what is left of a list at an element
@@ -74,33 +72,6 @@ pub added_end : {X A : Type 0} (F : List X → List A) (done : List A) (xs : Lis
 added_end F done xs i whole none l h =
     sym (append_none done) ∙ ap (λ ys. done ++ ys) (sym none ∙ ap F (sym (drop_all i xs l))) ∙ h
 
--- ---- names of facts that pass a test
-
--- the first passes, or it does not
-where_some : {A : Type 0} (p : A → Bool) (f : Fact A) (fs : List (Fact A)) → p f.what ≡ true →
-    names_where p (f ∷ fs) ≡ f.name ∷ names_where p fs
-where_some p f fs e = rw e refl
-
-where_none : {A : Type 0} (p : A → Bool) (f : Fact A) (fs : List (Fact A)) → p f.what ≡ false →
-    names_where p (f ∷ fs) ≡ names_where p fs
-where_none p f fs e = rw e refl
-
--- the table with the next name, which passes
-pub each_taken : {A : Type 0} (p : A → Bool) (t : List Name) (fs : List (Fact A)) (i : ℕ) (f : Fact A)
-    (whole : List Name) → i < length fs → f ≡ get_or fs i f → fold with_name t (names_where p (drop i fs)) ≡ whole →
-    p f.what ≡ true → fold with_name (with_name t f.name) (names_where p (drop (i + 1) fs)) ≡ whole
-each_taken p t fs i f whole l e k h =
-    ap (λ (ns : List Name). fold with_name t ns)
-    (sym (where_some p f (drop (i + 1) fs) h) ∙ ap (names_where p) (sym (left_at fs i f l e))) ∙ k
-
--- and where it does not pass
-pub each_passed : {A : Type 0} (p : A → Bool) (t : List Name) (fs : List (Fact A)) (i : ℕ) (f : Fact A)
-    (whole : List Name) → i < length fs → f ≡ get_or fs i f → fold with_name t (names_where p (drop i fs)) ≡ whole →
-    p f.what ≡ false → fold with_name t (names_where p (drop (i + 1) fs)) ≡ whole
-each_passed p t fs i f whole l e k h =
-    ap (λ (ns : List Name). fold with_name t ns)
-    (sym (where_none p f (drop (i + 1) fs) h) ∙ ap (names_where p) (sym (left_at fs i f l e))) ∙ k
-
 -- ---- facts seen by what they say
 
 -- the facts of one more
@@ -108,6 +79,11 @@ pub facts_view_push : {X A : Type 0} (g : X → A) (fs : List (Fact X)) (f : Fac
     facts_view g (fs ++ f ∷ []) ≡ facts_view g fs ++ fact f.name (g f.what) ∷ []
 facts_view_push g [] f = refl
 facts_view_push g (h ∷ hs) f = ap (λ ys. fact h.name (g h.what) ∷ ys) (facts_view_push g hs f)
+
+-- the names
+pub names_of_view : {X A : Type 0} (g : X → A) (fs : List (Fact X)) → names_of (facts_view g fs) ≡ names_of fs
+names_of_view g [] = refl
+names_of_view g (f ∷ fs) = ap (λ (ns : List Name). f.name ∷ ns) (names_of_view g fs)
 
 -- what is found of a name
 pub fact_of_view : {X A : Type 0} (g : X → A) (fs : List (Fact X)) (n : Name) →

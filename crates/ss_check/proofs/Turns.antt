@@ -1,5 +1,6 @@
 -- The turns of the loops over items, sections, local DEFINEs and places.
-use Rattle.std.proofs.Common.{◌≡◌, ℕ, ◌+◌, ◌-◌, ◌<◌, ◌≤◌, Bool, List, [], ◌∷◌, length, get_or, drop, refl, sym, ap, subst, ◌∙◌, Option, Some, None, arith, sub-one}
+use Rattle.std.proofs.Common.{◌≡◌, ℕ, ◌+◌, ◌-◌, ◌<◌, ◌≤◌, Bool, List, [], ◌∷◌, length, get_or, drop, refl, sym, ap}
+use Rattle.std.proofs.Common.{subst, ◌∙◌, Option, Some, None, arith, sub-one}
 use Rattle.std.specs.Prelude.{map, option_map}
 use Rattle.std.specs.Option.{option_or}
 use Rattle.std.specs.List.{slice_get}
@@ -15,10 +16,11 @@ use Rattle.ss_routines.specs.Places.{Spot}
 use Rattle.ss_routines.specs.View.{local_view, place_view, section_view, spot_view, spots}
 use Rattle.ss_check.specs.declared.fault.CheckRule.{CheckRule}
 use Rattle.ss_check.specs.declared.fault.CheckFault.{CheckFault}
-use Rattle.ss_check.specs.declared.declared.tables.Tables.{Tables}
-use Rattle.ss_check.specs.Adding.{entry_at, items_breach, locals_breach, places_breach, section_breach, sections_breach, with_entries, with_entry, with_head, with_sections}
+use Rattle.ss_check.specs.Declarations.{Declared}
+use Rattle.ss_check.specs.Increments.{headed_item, items_breach, locals_breach, places_breach, section_breach}
+use Rattle.ss_check.specs.Increments.{sections_breach, with_items, with_item, with_head, with_sections}
 use Rattle.ss_check.specs.Breach.{last_line}
-use Rattle.ss_check.specs.Declarations.{entries_under, heading_at}
+use Rattle.ss_check.specs.Declarations.{headed_items_under, heading_at}
 use Rattle.ss_check.specs.ItemRules.{item_rule, local_rule}
 use Rattle.ss_check.specs.PlaceRules.{is_find, place_rule}
 use Rattle.ss_check.specs.Statements.{IsBreach}
@@ -44,85 +46,90 @@ passed (Some k) l rest whole h e = cc
 -- ---- items
 
 -- the tables with the next item
-pub filled_turn : (t : Tables) (h : Option Heading) (xs : List CodeItemAt) (i : ℕ) (x : CodeItemAt) (whole : Tables) →
-    i < length xs → x ≡ get_or xs i x → with_entries t (entries_under h (items_view (drop i xs))) ≡ whole →
-    with_entries (with_entry t (entry_at (heading_at h (item_view x.item)) (item_at_view x)))
-    (entries_under (heading_at h (item_view x.item)) (items_view (drop (i + 1) xs))) ≡ whole
-unfolding with_entries
+pub filled_turn : (t : Declared) (h : Option Heading) (xs : List CodeItemAt) (i : ℕ) (x : CodeItemAt)
+    (whole : Declared) →
+    i < length xs → x ≡ get_or xs i x → with_items t (headed_items_under h (items_view (drop i xs))) ≡ whole →
+    with_items (with_item t (headed_item (heading_at h (item_view x.item)) (item_at_view x)))
+    (headed_items_under (heading_at h (item_view x.item)) (items_view (drop (i + 1) xs))) ≡ whole
+unfolding with_items
 filled_turn t h xs i x whole l e k =
-    ap (λ (ys : List CodeItemAt). with_entries t (entries_under h (items_view ys))) (sym (left_at xs i x l e)) ∙ k
+    ap (λ (ys : List CodeItemAt). with_items t (headed_items_under h (items_view ys))) (sym (left_at xs i x l e)) ∙ k
 
 -- its lowest rule, else the breach of what stands behind it
-pub item_turn : (d t : Tables) (h : Option Heading) (xs : List CodeItemAt) (i : ℕ) (x : CodeItemAt)
+pub item_turn : (d t : Declared) (h : Option Heading) (xs : List CodeItemAt) (i : ℕ) (x : CodeItemAt)
     (whole : Option (CheckRule × ℕ)) →
-    i < length xs → x ≡ get_or xs i x → items_breach d t (entries_under h (items_view (drop i xs))) ≡ whole →
+    i < length xs → x ≡ get_or xs i x → items_breach d t (headed_items_under h (items_view (drop i xs))) ≡ whole →
     option_or (option_map (λ k. (k, x.line))
-    (item_rule d t (entry_at (heading_at h (item_view x.item)) (item_at_view x))))
-    (items_breach d (with_entry t (entry_at (heading_at h (item_view x.item)) (item_at_view x)))
-    (entries_under (heading_at h (item_view x.item)) (items_view (drop (i + 1) xs)))) ≡ whole
+    (item_rule d t (headed_item (heading_at h (item_view x.item)) (item_at_view x))))
+    (items_breach d (with_item t (headed_item (heading_at h (item_view x.item)) (item_at_view x)))
+    (headed_items_under (heading_at h (item_view x.item)) (items_view (drop (i + 1) xs)))) ≡ whole
 unfolding items_breach item_rule
 item_turn d t h xs i x whole l e k =
-    ap (λ (ys : List CodeItemAt). items_breach d t (entries_under h (items_view ys))) (sym (left_at xs i x l e)) ∙ k
+    ap (λ (ys : List CodeItemAt). items_breach d t (headed_items_under h (items_view ys))) (sym (left_at xs i x l e))
+    ∙ k
 
 -- it breaks a rule; h: the heading over it
-pub item_told : (d t : Tables) (g h : Option Heading) (xs : List CodeItemAt) (i : ℕ) (x : CodeItemAt)
+pub item_told : (d t : Declared) (g h : Option Heading) (xs : List CodeItemAt) (i : ℕ) (x : CodeItemAt)
     (whole : Option (CheckRule × ℕ)) (r : CheckRule) →
-    i < length xs → x ≡ get_or xs i x → items_breach d t (entries_under g (items_view (drop i xs))) ≡ whole →
-    h ≡ heading_at g (item_view x.item) → item_rule d t (entry_at h (item_at_view x)) ≡ Some r →
+    i < length xs → x ≡ get_or xs i x → items_breach d t (headed_items_under g (items_view (drop i xs))) ≡ whole →
+    h ≡ heading_at g (item_view x.item) → item_rule d t (headed_item h (item_at_view x)) ≡ Some r →
     whole ≡ Some (r, x.line)
 item_told d t g h xs i x whole r l e k q n =
     let v = heading_at g (item_view x.item) in
-    told (item_rule d t (entry_at v (item_at_view x))) x.line
-    (items_breach d (with_entry t (entry_at v (item_at_view x))) (entries_under v (items_view (drop (i + 1) xs))))
+    told (item_rule d t (headed_item v (item_at_view x))) x.line
+    (items_breach d (with_item t (headed_item v (item_at_view x)))
+    (headed_items_under v (items_view (drop (i + 1) xs))))
     whole r (item_turn d t g xs i x whole l e k)
-    (ap (λ (w : Option Heading). item_rule d t (entry_at w (item_at_view x))) (sym q) ∙ n)
+    (ap (λ (w : Option Heading). item_rule d t (headed_item w (item_at_view x))) (sym q) ∙ n)
 
 -- it breaks none
-pub item_passed : (d t : Tables) (g h : Option Heading) (xs : List CodeItemAt) (i : ℕ) (x : CodeItemAt)
+pub item_passed : (d t : Declared) (g h : Option Heading) (xs : List CodeItemAt) (i : ℕ) (x : CodeItemAt)
     (whole : Option (CheckRule × ℕ)) →
-    i < length xs → x ≡ get_or xs i x → items_breach d t (entries_under g (items_view (drop i xs))) ≡ whole →
-    h ≡ heading_at g (item_view x.item) → item_rule d t (entry_at h (item_at_view x)) ≡ None →
-    items_breach d (with_entry t (entry_at h (item_at_view x))) (entries_under h (items_view (drop (i + 1) xs))) ≡ whole
+    i < length xs → x ≡ get_or xs i x → items_breach d t (headed_items_under g (items_view (drop i xs))) ≡ whole →
+    h ≡ heading_at g (item_view x.item) → item_rule d t (headed_item h (item_at_view x)) ≡ None →
+    items_breach d (with_item t (headed_item h (item_at_view x))) (headed_items_under h (items_view (drop (i + 1) xs)))
+    ≡ whole
 item_passed d t g h xs i x whole l e k q n =
     let v = heading_at g (item_view x.item) in
     rw q
-    (passed (item_rule d t (entry_at v (item_at_view x))) x.line
-    (items_breach d (with_entry t (entry_at v (item_at_view x))) (entries_under v (items_view (drop (i + 1) xs))))
+    (passed (item_rule d t (headed_item v (item_at_view x))) x.line
+    (items_breach d (with_item t (headed_item v (item_at_view x)))
+    (headed_items_under v (items_view (drop (i + 1) xs))))
     whole (item_turn d t g xs i x whole l e k)
-    (ap (λ (w : Option Heading). item_rule d t (entry_at w (item_at_view x))) (sym q) ∙ n))
+    (ap (λ (w : Option Heading). item_rule d t (headed_item w (item_at_view x))) (sym q) ∙ n))
 
 -- at the end the tables are filled
-pub filled_end : (t : Tables) (h : Option Heading) (xs : List CodeItemAt) (i : ℕ) (whole : Tables) →
-    length xs ≤ i → with_entries t (entries_under h (items_view (drop i xs))) ≡ whole → t ≡ whole
-unfolding with_entries
+pub filled_end : (t : Declared) (h : Option Heading) (xs : List CodeItemAt) (i : ℕ) (whole : Declared) →
+    length xs ≤ i → with_items t (headed_items_under h (items_view (drop i xs))) ≡ whole → t ≡ whole
+unfolding with_items
 filled_end t h xs i whole l k =
-    ap (λ (ys : List CodeItemAt). with_entries t (entries_under h (items_view ys))) (sym (drop_all i xs l)) ∙ k
+    ap (λ (ys : List CodeItemAt). with_items t (headed_items_under h (items_view ys))) (sym (drop_all i xs l)) ∙ k
 
 -- and no item is left that could break a rule
-pub items_end : (d t : Tables) (h : Option Heading) (xs : List CodeItemAt) (i : ℕ) (whole : Option (CheckRule × ℕ)) →
-    length xs ≤ i → items_breach d t (entries_under h (items_view (drop i xs))) ≡ whole → whole ≡ None
+pub items_end : (d t : Declared) (h : Option Heading) (xs : List CodeItemAt) (i : ℕ) (whole : Option (CheckRule × ℕ)) →
+    length xs ≤ i → items_breach d t (headed_items_under h (items_view (drop i xs))) ≡ whole → whole ≡ None
 unfolding items_breach
 items_end d t h xs i whole l k =
-    sym k ∙ ap (λ (ys : List CodeItemAt). items_breach d t (entries_under h (items_view ys))) (drop_all i xs l)
+    sym k ∙ ap (λ (ys : List CodeItemAt). items_breach d t (headed_items_under h (items_view ys))) (drop_all i xs l)
 
 -- ---- sections
 
 -- at the end the tables are filled
-pub headed_end : (t : Tables) (xs : List CodeSection) (i : ℕ) (whole : Tables) →
+pub headed_end : (t : Declared) (xs : List CodeSection) (i : ℕ) (whole : Declared) →
     length xs ≤ i → with_sections t (map section_view (drop i xs)) ≡ whole → t ≡ whole
 unfolding with_sections
 headed_end t xs i whole l k = ap (λ (ys : List CodeSection). with_sections t (map section_view ys))
     (sym (drop_all i xs l)) ∙ k
 
 -- and no section is left
-pub sections_end : (d t : Tables) (xs : List CodeSection) (i : ℕ) (whole : Option (CheckRule × ℕ)) →
+pub sections_end : (d t : Declared) (xs : List CodeSection) (i : ℕ) (whole : Option (CheckRule × ℕ)) →
     length xs ≤ i → sections_breach d t (map section_view (drop i xs)) ≡ whole → whole ≡ None
 unfolding sections_breach
 sections_end d t xs i whole l k =
     sym k ∙ ap (λ (ys : List CodeSection). sections_breach d t (map section_view ys)) (drop_all i xs l)
 
 -- the tables with the next head
-pub headed_turn : (t : Tables) (xs : List CodeSection) (i : ℕ) (x : CodeSection) (whole : Tables) →
+pub headed_turn : (t : Declared) (xs : List CodeSection) (i : ℕ) (x : CodeSection) (whole : Declared) →
     i < length xs → x ≡ get_or xs i x → with_sections t (map section_view (drop i xs)) ≡ whole →
     with_sections (with_head t (section_view x).head) (map section_view (drop (i + 1) xs)) ≡ whole
 unfolding with_sections
@@ -130,7 +137,7 @@ headed_turn t xs i x whole l e k =
     ap (λ (ys : List CodeSection). with_sections t (map section_view ys)) (sym (left_at xs i x l e)) ∙ k
 
 -- the breach of the next section, else of those behind it
-pub section_turn : (d t : Tables) (xs : List CodeSection) (i : ℕ) (x : CodeSection) (whole : Option (CheckRule × ℕ)) →
+pub section_turn : (d t : Declared) (xs : List CodeSection) (i : ℕ) (x : CodeSection) (whole : Option (CheckRule × ℕ)) →
     i < length xs → x ≡ get_or xs i x → sections_breach d t (map section_view (drop i xs)) ≡ whole →
     option_or (section_breach d t (section_view x))
     (sections_breach d (with_head t (section_view x).head) (map section_view (drop (i + 1) xs))) ≡ whole
@@ -139,7 +146,7 @@ section_turn d t xs i x whole l e k =
     ap (λ (ys : List CodeSection). sections_breach d t (map section_view ys)) (sym (left_at xs i x l e)) ∙ k
 
 -- a fault of it is one of all
-pub section_told : (f : CheckFault) (d t : Tables) (xs : List CodeSection) (i : ℕ) (x : CodeSection)
+pub section_told : (f : CheckFault) (d t : Declared) (xs : List CodeSection) (i : ℕ) (x : CodeSection)
     (whole : Option (CheckRule × ℕ)) →
     i < length xs → x ≡ get_or xs i x → sections_breach d t (map section_view (drop i xs)) ≡ whole →
     IsBreach f (section_breach d t (section_view x)) →
@@ -150,7 +157,8 @@ section_told f d t xs i x whole l e k h =
     (sections_breach d (with_head t (section_view x).head) (map section_view (drop (i + 1) xs))) h)
 
 -- it has no breach
-pub section_passed : (d t : Tables) (xs : List CodeSection) (i : ℕ) (x : CodeSection) (whole : Option (CheckRule × ℕ)) →
+pub section_passed : (d t : Declared) (xs : List CodeSection) (i : ℕ) (x : CodeSection)
+    (whole : Option (CheckRule × ℕ)) →
     i < length xs → x ≡ get_or xs i x → sections_breach d t (map section_view (drop i xs)) ≡ whole →
     section_breach d t (section_view x) ≡ None →
     sections_breach d (with_head t (section_view x).head) (map section_view (drop (i + 1) xs)) ≡ whole
@@ -162,7 +170,8 @@ section_passed d t xs i x whole l e k h =
 -- ---- local DEFINEs
 
 -- the rule of the next one, else the breach of those behind it
-pub local_turn : (d : Tables) (xs : List CodeLocalNames) (i : ℕ) (x : CodeLocalNames) (whole : Option (CheckRule × ℕ)) →
+pub local_turn : (d : Declared) (xs : List CodeLocalNames) (i : ℕ) (x : CodeLocalNames)
+    (whole : Option (CheckRule × ℕ)) →
     i < length xs → x ≡ get_or xs i x → locals_breach d (map local_view (drop i xs)) ≡ whole →
     option_or (option_map (λ k. (k, x.line)) (local_rule d (local_view x)))
     (locals_breach d (map local_view (drop (i + 1) xs))) ≡ whole
@@ -171,7 +180,7 @@ local_turn d xs i x whole l e k =
     ap (λ (ys : List CodeLocalNames). locals_breach d (map local_view ys)) (sym (left_at xs i x l e)) ∙ k
 
 -- it breaks a rule
-pub local_told : (d : Tables) (xs : List CodeLocalNames) (i : ℕ) (x : CodeLocalNames)
+pub local_told : (d : Declared) (xs : List CodeLocalNames) (i : ℕ) (x : CodeLocalNames)
     (whole : Option (CheckRule × ℕ)) (r : CheckRule) →
     i < length xs → x ≡ get_or xs i x → locals_breach d (map local_view (drop i xs)) ≡ whole →
     local_rule d (local_view x) ≡ Some r →
@@ -181,7 +190,7 @@ local_told d xs i x whole r l e k n =
     (local_turn d xs i x whole l e k) n
 
 -- it breaks none
-pub local_passed : (d : Tables) (xs : List CodeLocalNames) (i : ℕ) (x : CodeLocalNames)
+pub local_passed : (d : Declared) (xs : List CodeLocalNames) (i : ℕ) (x : CodeLocalNames)
     (whole : Option (CheckRule × ℕ)) →
     i < length xs → x ≡ get_or xs i x → locals_breach d (map local_view (drop i xs)) ≡ whole →
     local_rule d (local_view x) ≡ None →
@@ -191,7 +200,7 @@ local_passed d xs i x whole l e k n =
     (local_turn d xs i x whole l e k) n
 
 -- at the end none is left
-pub locals_end : (d : Tables) (xs : List CodeLocalNames) (i : ℕ) (whole : Option (CheckRule × ℕ)) →
+pub locals_end : (d : Declared) (xs : List CodeLocalNames) (i : ℕ) (whole : Option (CheckRule × ℕ)) →
     length xs ≤ i → locals_breach d (map local_view (drop i xs)) ≡ whole → whole ≡ None
 unfolding locals_breach
 locals_end d xs i whole l k = sym k ∙ ap (λ (ys : List CodeLocalNames). locals_breach d (map local_view ys))
@@ -200,14 +209,14 @@ locals_end d xs i whole l k = sym k ∙ ap (λ (ys : List CodeLocalNames). local
 -- ---- places
 
 -- the lowest rule of the first place, else the breach of those behind it
-pub place_turn : (d : Tables) (m f : Bool) (p : Spot) (ps : List Spot) →
+pub place_turn : (d : Declared) (m f : Bool) (p : Spot) (ps : List Spot) →
     places_breach d m f (p ∷ ps)
     ≡ option_or (option_map (λ k. (k, p.line)) (place_rule d m f p ps)) (places_breach d m (is_find p.place) ps)
 unfolding places_breach place_rule
 place_turn d m f p ps = refl
 
 -- it breaks a rule
-pub place_told : (d : Tables) (m f : Bool) (rest : List CodeSpot) (x : CodeSpot) (xs : List CodeSpot)
+pub place_told : (d : Declared) (m f : Bool) (rest : List CodeSpot) (x : CodeSpot) (xs : List CodeSpot)
     (whole : Option (CheckRule × ℕ)) (r : CheckRule) →
     rest ≡ x ∷ xs → places_breach d m f (spots rest) ≡ whole → place_rule d m f (spot_view x) (spots xs) ≡ Some r →
     whole ≡ Some (r, x.line)
@@ -218,7 +227,7 @@ place_told d m f rest x xs whole r e k n =
     ∙ (ap (λ (ys : List CodeSpot). places_breach d m f (spots ys)) (sym e) ∙ k)) n
 
 -- it breaks none
-pub place_passed : (d : Tables) (m f : Bool) (rest : List CodeSpot) (x : CodeSpot) (xs : List CodeSpot)
+pub place_passed : (d : Declared) (m f : Bool) (rest : List CodeSpot) (x : CodeSpot) (xs : List CodeSpot)
     (whole : Option (CheckRule × ℕ)) →
     rest ≡ x ∷ xs → places_breach d m f (spots rest) ≡ whole → place_rule d m f (spot_view x) (spots xs) ≡ None →
     places_breach d m (is_find (place_view x.place)) (spots xs) ≡ whole
@@ -229,7 +238,7 @@ place_passed d m f rest x xs whole e k n =
     ∙ (ap (λ (ys : List CodeSpot). places_breach d m f (spots ys)) (sym e) ∙ k)) n
 
 -- at the end none is left
-pub places_end : (d : Tables) (m f : Bool) (rest : List CodeSpot) (whole : Option (CheckRule × ℕ)) →
+pub places_end : (d : Declared) (m f : Bool) (rest : List CodeSpot) (whole : Option (CheckRule × ℕ)) →
     length rest ≡ 0 → places_breach d m f (spots rest) ≡ whole → whole ≡ None
 unfolding places_breach
 places_end d m f rest whole e k = sym k

@@ -6,30 +6,30 @@ use Rattle.ss_routines.specs.Tree.{Head}
 use Rattle.ss_routines.specs.Places.{Spot, Section}
 use Rattle.ss_check.specs.declared.fault.CheckRule.{CheckRule}
 use Rattle.ss_check.specs.declared.fault.CheckRule.TheVariants.{WrongMain}
-use Rattle.ss_check.specs.declared.declared.tables.Tables.{Tables}
-use Rattle.ss_check.specs.Declarations.{Entry, entries, is_main, tables_of, tables}
-use Rattle.ss_check.specs.Statements.{Statement, broken, first_breach}
+use Rattle.ss_check.specs.Declarations.{Declared}
+use Rattle.ss_check.specs.Declarations.{HeadedItem, headed_items, is_main, declared_by, declared_by_program}
+use Rattle.ss_check.specs.Statements.{Statement, rule_where, first_breach}
 use Rattle.ss_check.specs.ItemRules.{item_statement, head_statement, local_statement}
 use Rattle.ss_check.specs.PlaceRules.{place_statements}
 
 -- ---- the statements that can break a rule; d: what the whole program says
 
 -- items behind others
-abbrev pub item_statements : Tables → List Entry → List Entry → List Statement
+abbrev pub item_statements : Declared → List HeadedItem → List HeadedItem → List Statement
 item_statements d before [] = []
 item_statements d before (x ∷ xs) =
-    item_statement d (tables_of before []) x ∷ item_statements d (before ++ x ∷ []) xs
+    item_statement d (declared_by before []) x ∷ item_statements d (before ++ x ∷ []) xs
 
 -- a section; b: what the items and the heads before it say
-abbrev pub section_statements : Tables → Tables → Section → List Statement
+abbrev pub section_statements : Declared → Declared → Section → List Statement
 section_statements d b s =
     head_statement d b s ∷ (map (local_statement d) s.locals ++ place_statements d (is_main s.head) false s.places)
 
 -- sections behind items and other heads
-abbrev pub sections_statements : Tables → List Entry → List Head → List Section → List Statement
+abbrev pub sections_statements : Declared → List HeadedItem → List Head → List Section → List Statement
 sections_statements d xs before [] = []
 sections_statements d xs before (s ∷ ss) =
-    section_statements d (tables_of xs before) s ++ sections_statements d xs (before ++ s.head ∷ []) ss
+    section_statements d (declared_by xs before) s ++ sections_statements d xs (before ++ s.head ∷ []) ss
 
 -- the line of the last place, or l where there is none
 abbrev pub last_line : ℕ → List Spot → ℕ
@@ -45,17 +45,17 @@ last_end l (s ∷ ss) = last_end (last_line l s.places) ss
 abbrev pub end_statement : Option ℕ → List Section → Statement
 end_statement end ss = record {
   line = last_end (unwrap_or end 1) ss;
-  breaks = broken WrongMain (not (list_any (λ s. is_main s.head) ss));
+  breaks = rule_where WrongMain (not (list_any (λ s. is_main s.head) ss));
 }
 
 -- items under their headings, and sections
-abbrev pub statements_with : Tables → List Entry → Option ℕ → List Section → List Statement
+abbrev pub statements_with : Declared → List HeadedItem → Option ℕ → List Section → List Statement
 statements_with d xs end ss =
     item_statements d [] xs ++ sections_statements d xs [] ss ++ end_statement end ss ∷ []
 
 -- all of a program, in the order of the text
 abbrev pub statements : Decls → List Section → List Statement
-statements decls ss = statements_with (tables decls.items ss) (entries decls.items) decls.end ss
+statements decls ss = statements_with (declared_by_program decls.items ss) (headed_items decls.items) decls.end ss
 
 -- the first breach of a program, if there is one
 abbrev pub breach : Decls → List Section → Option (CheckRule × ℕ)

@@ -1,23 +1,59 @@
 -- What the items of a preamble and the heads of sections declare, in the order in which they are written.
-use Rattle.std.specs.Prelude.{ℕ, Bool, true, false, List, [], ◌∷◌, ◌++◌, length, map, count_by, bytes_eq, Option, Some, None}
+use Rattle.std.specs.Prelude.{ℕ, Bool, true, false, List, [], ◌∷◌, ◌++◌, length, map, count_by, bytes_eq, Option, Some}
+use Rattle.std.specs.Prelude.{None}
 use Rattle.std.specs.List.{flat_map, list_any}
 use Rattle.ss_words.specs.Lists.{Name, Several, all_of}
 use Rattle.ss_preamble.specs.declared.item.Heading.{Heading}
-use Rattle.ss_preamble.specs.Tree.{Key, Clause, Has, Owns, BelongsTo, SetDiscipline, Definition, Variables, Sets, EventRule, PriorityOrder, BreakTies, ExternalEvents, Item, Headed, OfEvery, OfSystem, Defines, Orders, ItemAt}
+use Rattle.ss_preamble.specs.Tree.{Key, Clause, Has, Owns, BelongsTo, SetDiscipline, Definition, Variables, Sets}
+use Rattle.ss_preamble.specs.Tree.{EventRule, PriorityOrder, BreakTies, ExternalEvents, Item, Headed, OfEvery, OfSystem}
+use Rattle.ss_preamble.specs.Tree.{Defines, Orders, ItemAt}
 use Rattle.ss_routines.specs.Tree.{Head, MainHead, RoutineHead, EventHead, listing_names}
 use Rattle.ss_routines.specs.Places.{Section}
-use Rattle.ss_check.specs.declared.declared.name_kind.NameKind.{NameKind}
-use Rattle.ss_check.specs.declared.declared.name_kind.NameKind.TheVariants as k
-use Rattle.ss_check.specs.declared.declared.fact.Fact.{Fact}
-use Rattle.ss_check.specs.declared.declared.tables.Counts.{Counts}
-use Rattle.ss_check.specs.declared.declared.tables.Tables.{Tables}
-use Rattle.ss_check.specs.Facts.{is_among, fact, fact_of, names_of}
+use Rattle.ss_check.specs.NameKind.{NameKind}
+use Rattle.ss_check.specs.NameKind as kinds
+use Rattle.ss_check.specs.Facts.{Fact, is_among, fact, fact_of, names_of}
 use Rattle.ss_check.specs.NameKinds.{language_facts, class_facts, set_facts, names_event}
+
+-- ---- what a text declares
+
+-- how many parameters a routine has
+pub record Counts : Type 0 where
+  -- how many are given
+  pub given : ℕ
+  -- how many are yielded
+  pub yielded : ℕ
+
+-- what items and the heads of sections say of names, each list in the order of the text
+pub record Declared : Type 0 where
+  -- what names are declared as
+  pub kinds : List (Fact NameKind)
+  -- the class of each attribute
+  pub attributes : List Name
+  -- the owner of each set: a class, or none for the system
+  pub owners : List (Fact (Option Name))
+  -- the class of each set's members
+  pub members : List (Fact Name)
+  -- the sets whose discipline is given
+  pub disciplines : List Name
+  -- the event classes whose ties are broken
+  pub ties : List Name
+  -- the external classes
+  pub external : List Name
+  -- the classes that PRIORITY names
+  pub priority : List Name
+  -- all names that are named as classes
+  pub classes : List Name
+  -- the event classes that have a section
+  pub events : List Name
+  -- the routines, with the counts of their parameters
+  pub routines : List (Fact Counts)
+  -- whether there is a MAIN
+  pub has_main : Bool
 
 -- ---- items under their headings
 
 -- an item, and where it stands
-pub record Entry : Type 0 where
+pub record HeadedItem : Type 0 where
   -- its line
   pub line : ℕ
   -- the heading over it, if there is one
@@ -31,19 +67,19 @@ heading_at h (Headed g names) = Some g
 heading_at h _ = h
 
 -- items behind others under a heading, each under its own
-abbrev pub entries_under : Option Heading → List ItemAt → List Entry
-entries_under h [] = []
-entries_under h (i ∷ is) =
-    record { line = i.line; heading = heading_at h i.item; item = i.item } ∷ entries_under (heading_at h i.item) is
+abbrev pub headed_items_under : Option Heading → List ItemAt → List HeadedItem
+headed_items_under h [] = []
+headed_items_under h (i ∷ is) =
+    record { line = i.line; heading = heading_at h i.item; item = i.item } ∷ headed_items_under (heading_at h i.item) is
 
 -- the items of a preamble
-abbrev pub entries : List ItemAt → List Entry
-entries is = entries_under None is
+abbrev pub headed_items : List ItemAt → List HeadedItem
+headed_items is = headed_items_under None is
 
 -- the class whose the clauses of an item are, none for the system
-abbrev pub class_of : Item → Option Name
-class_of (OfEvery c clauses) = Some c
-class_of _ = None
+abbrev pub class_of_item : Item → Option Name
+class_of_item (OfEvery c clauses) = Some c
+class_of_item _ = None
 
 -- the clauses of an item
 abbrev pub clauses_of : Item → List Clause
@@ -52,34 +88,34 @@ clauses_of (OfSystem clauses) = all_of clauses
 clauses_of _ = []
 
 -- the names behind INCLUDE, or none
-abbrev pub included : Option (Several Name) → List Name
-included None = []
-included (Some names) = all_of names
+abbrev pub included_names : Option (Several Name) → List Name
+included_names None = []
+included_names (Some names) = all_of names
 
 -- ---- what an item declares
 
 -- what a clause declares for a class or the system
 abbrev pub clause_facts : Option Name → Clause → List (Fact NameKind)
-clause_facts (Some c) (Has names) = map (λ n. fact n (k.Attribute c)) (all_of names)
-clause_facts None (Has names) = map (λ n. fact n k.Variable) (all_of names)
+clause_facts (Some c) (Has names) = map (λ n. fact n (kinds.Attribute c)) (all_of names)
+clause_facts None (Has names) = map (λ n. fact n kinds.Variable) (all_of names)
 clause_facts o (Owns names) = flat_map set_facts (all_of names)
 clause_facts o (BelongsTo names) = flat_map set_facts (all_of names)
 
 -- what a DEFINE declares
 abbrev pub definition_facts : Definition → List (Fact NameKind)
-definition_facts (Variables names) = map (λ n. fact n k.Variable) (all_of names)
+definition_facts (Variables names) = map (λ n. fact n kinds.Variable) (all_of names)
 definition_facts (Sets names kind) = flat_map set_facts (all_of names)
 
 -- what an item under a heading declares besides its clauses
 abbrev pub item_facts : Option Heading → Item → List (Fact NameKind)
-item_facts h (Headed g names) = flat_map (class_facts (Some g)) (included names)
+item_facts h (Headed g names) = flat_map (class_facts (Some g)) (included_names names)
 item_facts h (OfEvery c clauses) = class_facts h c
 item_facts h (Defines d) = definition_facts d
 item_facts h _ = []
 
 -- all that an item declares
-abbrev pub declarations : Entry → List (Fact NameKind)
-declarations x = item_facts x.heading x.item ++ flat_map (clause_facts (class_of x.item)) (clauses_of x.item)
+abbrev pub declarations : HeadedItem → List (Fact NameKind)
+declarations x = item_facts x.heading x.item ++ flat_map (clause_facts (class_of_item x.item)) (clauses_of x.item)
 
 -- a class, once for each attribute that a clause declares
 abbrev pub attribute_classes : Name → Clause → List Name
@@ -108,11 +144,11 @@ joined_in _ = []
 
 -- the owner of each set that an item says is owned: a class, or none for the system
 abbrev pub owners_in : Item → List (Fact (Option Name))
-owners_in i = map (λ s. fact s (class_of i)) (flat_map owned_in (clauses_of i))
+owners_in i = map (λ s. fact s (class_of_item i)) (flat_map owned_in (clauses_of i))
 
 -- the sets of which an item says who belongs to them
-abbrev pub joined : Item → List Name
-joined i = flat_map joined_in (clauses_of i)
+abbrev pub sets_joined : Item → List Name
+sets_joined i = flat_map joined_in (clauses_of i)
 
 -- the class of their members; the system is none
 abbrev pub members_for : Option Name → List Name → List (Fact Name)
@@ -121,7 +157,7 @@ members_for None sets = []
 
 -- the class of the members of each set of which an item says who belongs to it
 abbrev pub members_in : Item → List (Fact Name)
-members_in i = members_for (class_of i) (joined i)
+members_in i = members_for (class_of_item i) (sets_joined i)
 
 -- the disciplines that an item gives
 abbrev pub disciplines_in : Item → List (Fact SetDiscipline)
@@ -171,7 +207,7 @@ classes_ordered (ExternalEvents names) = all_of names
 
 -- the classes that an item names as classes
 abbrev pub classes_in : Item → List Name
-classes_in (Headed h names) = included names
+classes_in (Headed h names) = included_names names
 classes_in (OfEvery c clauses) = c ∷ []
 classes_in (Orders r) = classes_ordered r
 classes_in _ = []
@@ -200,7 +236,7 @@ is_main _ = false
 
 -- the routine that a head declares
 abbrev pub routine_facts : Head → List (Fact NameKind)
-routine_facts (RoutineHead n given yielded) = fact n k.Routine ∷ []
+routine_facts (RoutineHead n given yielded) = fact n kinds.Routine ∷ []
 routine_facts _ = []
 
 -- the counts of its parameters
@@ -223,8 +259,8 @@ events_in _ = []
 -- of their members; the sets whose discipline is given and the event classes whose ties are broken; the external
 -- classes, those that PRIORITY names and all that are named as classes; the event classes that have a section, the
 -- routines with the counts of their parameters, and whether there is a MAIN
-abbrev pub tables_of : List Entry → List Head → Tables
-tables_of xs hs = record {
+abbrev pub declared_by : List HeadedItem → List Head → Declared
+declared_by xs hs = record {
   kinds = language_facts ++ flat_map declarations xs ++ flat_map routine_facts hs;
   attributes = flat_map (λ x. attributes_in x.item) xs;
   owners = flat_map (λ x. owners_in x.item) xs;
@@ -244,15 +280,15 @@ abbrev pub heads : List Section → List Head
 heads ss = map (λ s. s.head) ss
 
 -- what a whole program says
-abbrev pub tables : List ItemAt → List Section → Tables
-tables is ss = tables_of (entries is) (heads ss)
+abbrev pub declared_by_program : List ItemAt → List Section → Declared
+declared_by_program is ss = declared_by (headed_items is) (heads ss)
 
 -- what a name is declared as; a local variable is not declared
-abbrev pub kind_of : Tables → Name → Option NameKind
+abbrev pub kind_of : Declared → Name → Option NameKind
 kind_of d n = fact_of d.kinds n
 
 -- whether a name is declared
-abbrev pub is_declared : Tables → Name → Bool
+abbrev pub is_declared : Declared → Name → Bool
 is_declared d n = is_among n (names_of d.kinds)
 
 -- whether the owner of a set, if one is said, is the system
@@ -261,13 +297,13 @@ is_system (Some None) = true
 is_system _ = false
 
 -- whether the system owns a set
-abbrev pub is_of_system : Tables → Name → Bool
+abbrev pub is_of_system : Declared → Name → Bool
 is_of_system d s = is_system (fact_of d.owners s)
 
 -- how many attributes a class has
-abbrev pub attribute_count : Tables → Name → ℕ
+abbrev pub attribute_count : Declared → Name → ℕ
 attribute_count d c = count_by (bytes_eq c) d.attributes
 
 -- whether a name is an event class
-abbrev pub is_event_class : Tables → Name → Bool
+abbrev pub is_event_class : Declared → Name → Bool
 is_event_class d c = names_event (kind_of d c)

@@ -3,17 +3,24 @@ use Rattle.std.specs.Prelude.{◌≡◌, ℕ, ◌+◌, true, false, List, [], �
 use Rattle.ss_words.specs.Lists.{Name, Several}
 use Rattle.ss_preamble.specs.declared.item.Heading.TheVariants.{PermanentEntities, TemporaryEntities, EventNotices}
 use Rattle.ss_words.specs.declared.terms.Rank.TheVariants.{High}
-use Rattle.ss_preamble.specs.Tree.{Key, Clause, Has, Owns, BelongsTo, Fifo, Lifo, Ranked, Variables, Sets, PriorityOrder, BreakTies, ExternalEvents, Item, Headed, OfEvery, OfSystem, Defines, Orders, ItemAt, Decls}
+use Rattle.ss_preamble.specs.Tree.{Key, Clause, Has, Owns, BelongsTo, Fifo, Lifo, Ranked, Variables, Sets}
+use Rattle.ss_preamble.specs.Tree.{PriorityOrder, BreakTies, ExternalEvents, Item, Headed, OfEvery, OfSystem, Defines}
+use Rattle.ss_preamble.specs.Tree.{Orders, ItemAt, Decls}
 use Rattle.ss_words.specs.declared.terms.Direction.TheVariants.{Onward}
 use Rattle.ss_words.specs.declared.terms.Statistic.TheVariants.{Sum}
 use Rattle.ss_routines.specs.Expr.{Expr, expr, no_sums, term, no_products, Factor, digits, named, applied, no_exprs}
 use Rattle.ss_routines.specs.Condition.{Reference}
-use Rattle.ss_routines.specs.Simple.{Let, Create, ByDiscipline, File, Listing, Unwritten, BehindGiven, Call, StartSimulation, Print, Assigns, Makes, Files, Transfers, Times, Exchanges}
+use Rattle.ss_routines.specs.Simple.{Let, Create, ByDiscipline, File, Listing, Unwritten, BehindGiven, Call}
+use Rattle.ss_routines.specs.Simple.{StartSimulation, Print, Assigns, Makes, Files, Transfers, Times, Exchanges}
 use Rattle.ss_routines.specs.Loops.{Range, Counting, Each, Found, NoneFound}
 use Rattle.ss_routines.specs.Tree.{Head, MainHead, RoutineHead, EventHead}
-use Rattle.ss_routines.specs.Places.{If, Always, For, Find, Gather, Compute, Place, Simply, Branches, Loops, EndOfSection, Spot, Section}
+use Rattle.ss_routines.specs.Places.{If, Always, For, Find, Gather, Compute, Place, Simply, Branches, Loops}
+use Rattle.ss_routines.specs.Places.{EndOfSection, Spot, Section}
 use Rattle.ss_check.specs.declared.fault.CheckRule.{CheckRule}
-use Rattle.ss_check.specs.declared.fault.CheckRule.TheVariants.{DeclaredTwice, WrongClass, WrongUse, WrongOwner, WrongMember, WrongKey, WrongCount, WrongEvent, FixedTarget, WrongPicture, WrongMain, WrongPriority, StartOutsideMain, WithoutFind}
+use Rattle.ss_check.specs.declared.fault.CheckRule.TheVariants.{DeclaredTwice, WrongClass, WrongUse, WrongOwner}
+use Rattle.ss_check.specs.declared.fault.CheckRule.TheVariants.{WrongMember, WrongKey, WrongCount, WrongEvent}
+use Rattle.ss_check.specs.declared.fault.CheckRule.TheVariants.{FixedTarget, WrongPicture, WrongMain, WrongPriority}
+use Rattle.ss_check.specs.declared.fault.CheckRule.TheVariants.{StartOutsideMain, WithoutFind}
 use Rattle.ss_check.specs.Breach.{breach}
 
 -- ---- names

@@ -1,8 +1,8 @@
 -- Names in lists, and tables of facts on names.
-use Rattle.std.specs.Prelude.{Bool, false, not, ◌||◌, if◌then◌else◌, List, [], ◌∷◌, ◌++◌, map, bytes_eq, Option, option_map}
+use Rattle.std.specs.Prelude.{Bool, false, not, ◌||◌, if◌then◌else◌, List, [], ◌∷◌, ◌++◌, map, bytes_eq, Option}
+use Rattle.std.specs.Prelude.{option_map}
 use Rattle.std.specs.List.{list_any, find, fold}
 use Rattle.ss_words.specs.Lists.{Name}
-use Rattle.ss_check.specs.declared.declared.fact.Fact.{Fact}
 
 -- ---- names
 
@@ -24,6 +24,13 @@ abbrev pub each_once : List Name → List Name
 each_once names = fold (λ table n. if is_among n table then table else table ++ n ∷ []) [] names
 
 -- ---- tables
+
+-- a name, and what holds of it
+pub record Fact (A : Type 0) : Type 0 where
+  -- the name
+  pub name : Name
+  -- what holds of it
+  pub what : A
 
 -- this holds of a name
 abbrev pub fact : {A : Type 0} → Name → A → Fact A

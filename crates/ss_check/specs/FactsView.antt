@@ -1,7 +1,6 @@
--- Facts seen by what they say.
+-- Private: facts seen by what they say.
 use Rattle.std.specs.Prelude.{List, map}
-use Rattle.ss_check.specs.declared.declared.fact.Fact.{Fact}
-use Rattle.ss_check.specs.Facts.{fact}
+use Rattle.ss_check.specs.Facts.{Fact, fact}
 
 -- facts, what they say seen by f
 abbrev pub facts_view : {X A : Type 0} → (X → A) → List (Fact X) → List (Fact A)

@@ -2,16 +2,21 @@
 use Rattle.std.specs.Prelude.{◌≡◌, ℕ, false, List, [], ◌∷◌, ◌++◌, Option, Some, None}
 use Rattle.ss_words.specs.Lists.{Name}
 use Rattle.ss_preamble.specs.declared.item.Heading.TheVariants.{PermanentEntities}
-use Rattle.ss_preamble.specs.Tree.{Has, Owns, BelongsTo, Ranked, Sets, BreakTies, ExternalEvents, PriorityOrder, Item, Headed, OfEvery, Defines, Orders}
+use Rattle.ss_preamble.specs.Tree.{Has, Owns, BelongsTo, Ranked, Sets, BreakTies, ExternalEvents, PriorityOrder, Item}
+use Rattle.ss_preamble.specs.Tree.{Headed, OfEvery, Defines, Orders}
 use Rattle.ss_routines.specs.declared.tree.simple.Article.TheVariants.{A}
 use Rattle.ss_routines.specs.Expr.{Expr, named}
 use Rattle.ss_routines.specs.Simple.{Unwritten, BehindGiven, Call, CalledFirst, Now, Schedule, Transfers, Times}
 use Rattle.ss_routines.specs.Tree.{Head, MainHead, RoutineHead, EventHead}
 use Rattle.ss_routines.specs.Places.{Place, Simply, EndOfSection, Section}
 use Rattle.ss_check.specs.declared.fault.CheckRule.{CheckRule}
-use Rattle.ss_check.specs.declared.fault.CheckRule.TheVariants.{DeclaredTwice, WrongClass, WrongUse, WrongKey, WrongCount, WrongEvent, WrongPriority, StartOutsideMain}
+use Rattle.ss_check.specs.declared.fault.CheckRule.TheVariants.{DeclaredTwice, WrongClass, WrongUse, WrongKey}
+use Rattle.ss_check.specs.declared.fault.CheckRule.TheVariants.{WrongCount, WrongEvent, WrongPriority, StartOutsideMain}
 use Rattle.ss_check.specs.Breach.{breach}
-use Rattle.ss_check.specs.Examples.{alone, applied_to_one, breach_behind_main, breach_in_main, class_t, define, event_e, events_e, every, high, kept_f, let_be, let_x, name_a, name_d, name_w, name_x, name_y, number, one, places_from, plain, preamble, routine, routine_r, section_at, set_s, start, system_set, temporary, temporary_t, time_v, two}
+use Rattle.ss_check.specs.Examples.{alone, applied_to_one, breach_behind_main, breach_in_main, class_t, define, event_e}
+use Rattle.ss_check.specs.Examples.{events_e, every, high, kept_f, let_be, let_x, name_a, name_d, name_w, name_x}
+use Rattle.ss_check.specs.Examples.{name_y, number, one, places_from, plain, preamble, routine, routine_r, section_at}
+use Rattle.ss_check.specs.Examples.{set_s, start, system_set, temporary, temporary_t, time_v, two}
 
 -- ---- parts of programs
 

@@ -1,36 +1,34 @@
 -- The rules that items of the preamble, heads of sections and local DEFINEs break.
-use Rattle.std.specs.Prelude.{Bool, true, false, not, ◌||◌, ◌&&◌, nat_lt, List, [], ◌∷◌, ◌++◌, length, Option, Some, None, is_none, option_map, unwrap_or}
+use Rattle.std.specs.Prelude.{Bool, true, false, not, ◌||◌, ◌&&◌, nat_lt, List, [], ◌∷◌, ◌++◌, length, Option, Some}
+use Rattle.std.specs.Prelude.{None, is_none, option_map, unwrap_or}
 use Rattle.std.specs.List.{list_any, filter}
 use Rattle.ss_words.specs.Lists.{Name, all_of}
 use Rattle.ss_preamble.specs.declared.item.Heading.{Heading}
-use Rattle.ss_preamble.specs.Tree.{Key, SetDiscipline, Ranked, EventRule, BreakTies, ExternalEvents, Item, OfEvery, Orders}
+use Rattle.ss_preamble.specs.Tree.{Key, SetDiscipline, Ranked, EventRule, BreakTies, ExternalEvents, Item, OfEvery}
+use Rattle.ss_preamble.specs.Tree.{Orders}
 use Rattle.ss_routines.specs.Tree.{Head}
 use Rattle.ss_routines.specs.Places.{LocalNames, Section}
 use Rattle.ss_check.specs.declared.fault.CheckRule.{CheckRule}
-use Rattle.ss_check.specs.declared.fault.CheckRule.TheVariants.{DeclaredTwice, WrongClass, WrongOwner, WrongMember, WrongKey, WrongCount, WrongEvent, WrongMain, WrongPriority}
-use Rattle.ss_check.specs.declared.declared.tables.Tables.{Tables}
+use Rattle.ss_check.specs.declared.fault.CheckRule.TheVariants.{DeclaredTwice, WrongClass, WrongOwner, WrongMember}
+use Rattle.ss_check.specs.declared.fault.CheckRule.TheVariants.{WrongKey, WrongCount, WrongEvent, WrongMain}
+use Rattle.ss_check.specs.declared.fault.CheckRule.TheVariants.{WrongPriority}
+use Rattle.ss_check.specs.Declarations.{Declared}
 use Rattle.ss_check.specs.Facts.{is_among, repeats, is_one_outside, fact_of, names_of}
 use Rattle.ss_check.specs.NameKinds.{one_conflicts, is_attribute_of, names_set}
-use Rattle.ss_check.specs.Declarations.{Entry, class_of, declarations, owners_in, joined, members_in, disciplined_sets, disciplines_in, sets_in, tied_events, ties_in, external_in, priority_in, classes_in, given_of, parameters, is_main, routine_facts, events_in, kind_of, is_declared, attribute_count, is_event_class}
-use Rattle.ss_check.specs.Statements.{Statement, broken, lowest}
+use Rattle.ss_check.specs.Declarations.{HeadedItem, class_of_item, declarations, owners_in, sets_joined, members_in}
+use Rattle.ss_check.specs.Declarations.{disciplined_sets, disciplines_in, sets_in, tied_events, ties_in, external_in}
+use Rattle.ss_check.specs.Declarations.{priority_in, classes_in, given_of, parameters, is_main, routine_facts}
+use Rattle.ss_check.specs.Declarations.{events_in, kind_of, is_declared, attribute_count, is_event_class}
+use Rattle.ss_check.specs.Statements.{Statement, rule_where, lowest}
 
 -- BELONGS without a class
 abbrev pub joins_system : Option Name → List Name → Bool
 joins_system None (s ∷ ss) = true
 joins_system _ _ = false
 
--- d: what the whole program says; b: what the items and heads before say
-module _ (d b : Tables) where
-  -- ---- items
+-- ---- what the whole program decides; d: what it declares
 
-  -- C1: a name that is declared before, a second discipline, a second BREAK, an external class a second time
-  abbrev pub declares_twice : Entry → Bool
-  declares_twice x =
-      one_conflicts b.kinds (declarations x) ||
-      repeats b.disciplines (disciplined_sets x.item) ||
-      repeats b.ties (tied_events x.item) ||
-      repeats b.external (external_in x.item)
-
+module _ (d : Declared) where
   -- whether BREAK or EXTERNAL is of what is no event class
   abbrev pub orders_wrong_class : EventRule → Bool
   orders_wrong_class (BreakTies c keys) = not (is_event_class d c)
@@ -42,22 +40,6 @@ module _ (d b : Tables) where
   names_wrong_class h (OfEvery c clauses) = is_none h
   names_wrong_class h (Orders r) = orders_wrong_class r
   names_wrong_class h _ = false
-
-  -- the sets that an item names first
-  abbrev pub new_sets : Item → List Name
-  new_sets i = filter (λ s. not (names_set (kind_of b s))) (sets_in i)
-
-  -- C4: a set, here named first, with no OWNS; a second OWNS
-  abbrev pub has_wrong_owner : Entry → Bool
-  has_wrong_owner x =
-      is_one_outside (names_of d.owners) (new_sets x.item) || repeats (names_of b.owners) (names_of (owners_in x.item))
-
-  -- C5: a set, here named first, with no BELONGS of a class; a second one; a BELONGS of SYSTEM
-  abbrev pub has_wrong_member : Entry → Bool
-  has_wrong_member x =
-      is_one_outside (names_of d.members) (new_sets x.item) ||
-      repeats (names_of b.members) (names_of (members_in x.item)) ||
-      joins_system (class_of x.item) (joined x.item)
 
   -- whether a key is no attribute of a class
   abbrev pub is_wrong_key : Name → Key → Bool
@@ -83,43 +65,11 @@ module _ (d b : Tables) where
   abbrev pub is_without_section : Name → Bool
   is_without_section c = is_event_class d c && not (is_among c d.events)
 
-  -- C8: such a class, here named first
-  abbrev pub lacks_section : Item → Bool
-  lacks_section i = list_any (λ c. not (is_among c b.classes) && is_without_section c) (classes_in i)
-
-  -- C12: a second PRIORITY; a name in it that stands twice or is no event class
+  -- C12: a second PRIORITY, behind one that names `before`; a name in it that stands twice or is no event class
   abbrev pub has_wrong_priority : List Name → List Name → Bool
   has_wrong_priority before [] = false
   has_wrong_priority (c ∷ cs) names = true
   has_wrong_priority [] names = repeats [] names || list_any (λ c. not (is_event_class d c)) names
-
-  -- an item with the rules that it breaks
-  abbrev pub item_statement : Entry → Statement
-  item_statement x = record {
-    line = x.line;
-    breaks =
-        broken DeclaredTwice (declares_twice x) ++
-        broken WrongClass (names_wrong_class x.heading x.item) ++
-        broken WrongOwner (has_wrong_owner x) ++
-        broken WrongMember (has_wrong_member x) ++
-        broken WrongKey (has_wrong_keys x.item) ++
-        broken WrongEvent (lacks_section x.item) ++
-        broken WrongPriority (has_wrong_priority b.priority (priority_in x.item));
-  }
-
-  -- the lowest rule that an item breaks
-  unfoldable pub item_rule : Entry → Option CheckRule
-  item_rule x = lowest (item_statement x).breaks
-
-  -- ---- heads
-
-  -- C1: a routine declared before, a second section of an event class, a parameter that is declared or given twice
-  abbrev pub head_declares_twice : Head → Bool
-  head_declares_twice h =
-      one_conflicts b.kinds (routine_facts h) ||
-      repeats b.events (events_in h) ||
-      repeats [] (parameters h) ||
-      list_any (is_declared d) (parameters h)
 
   -- whether an event class has less attributes than these names
   abbrev pub has_fewer : List Name → Name → Bool
@@ -133,6 +83,63 @@ module _ (d b : Tables) where
   abbrev pub lacks_class : Head → Bool
   lacks_class h = list_any (λ c. not (is_event_class d c)) (events_in h)
 
+-- ---- items and heads behind others; d: what the whole program declares; b: what the items and heads before do
+
+module _ (d b : Declared) where
+  -- C1: a name that is declared before, a second discipline, a second BREAK, an external class a second time
+  abbrev pub declares_twice : HeadedItem → Bool
+  declares_twice x =
+      one_conflicts b.kinds (declarations x) ||
+      repeats b.disciplines (disciplined_sets x.item) ||
+      repeats b.ties (tied_events x.item) ||
+      repeats b.external (external_in x.item)
+
+  -- the sets that an item names first
+  abbrev pub new_sets : Item → List Name
+  new_sets i = filter (λ s. not (names_set (kind_of b s))) (sets_in i)
+
+  -- C4: a set, here named first, with no OWNS; a second OWNS
+  abbrev pub has_wrong_owner : HeadedItem → Bool
+  has_wrong_owner x =
+      is_one_outside (names_of d.owners) (new_sets x.item) || repeats (names_of b.owners) (names_of (owners_in x.item))
+
+  -- C5: a set, here named first, with no BELONGS of a class; a second one; a BELONGS of SYSTEM
+  abbrev pub has_wrong_member : HeadedItem → Bool
+  has_wrong_member x =
+      is_one_outside (names_of d.members) (new_sets x.item) ||
+      repeats (names_of b.members) (names_of (members_in x.item)) ||
+      joins_system (class_of_item x.item) (sets_joined x.item)
+
+  -- C8: an event class without its section, here named first
+  abbrev pub lacks_section : Item → Bool
+  lacks_section i = list_any (λ c. not (is_among c b.classes) && is_without_section d c) (classes_in i)
+
+  -- an item with the rules that it breaks
+  abbrev pub item_statement : HeadedItem → Statement
+  item_statement x = record {
+    line = x.line;
+    breaks =
+        rule_where DeclaredTwice (declares_twice x) ++
+        rule_where WrongClass (names_wrong_class d x.heading x.item) ++
+        rule_where WrongOwner (has_wrong_owner x) ++
+        rule_where WrongMember (has_wrong_member x) ++
+        rule_where WrongKey (has_wrong_keys d x.item) ++
+        rule_where WrongEvent (lacks_section x.item) ++
+        rule_where WrongPriority (has_wrong_priority d b.priority (priority_in x.item));
+  }
+
+  -- the lowest rule that an item breaks
+  unfoldable pub item_rule : HeadedItem → Option CheckRule
+  item_rule x = lowest (item_statement x).breaks
+
+  -- C1: a routine declared before, a second section of an event class, a parameter that is declared or given twice
+  abbrev pub head_declares_twice : Head → Bool
+  head_declares_twice h =
+      one_conflicts b.kinds (routine_facts h) ||
+      repeats b.events (events_in h) ||
+      repeats [] (parameters h) ||
+      list_any (is_declared d) (parameters h)
+
   -- C11: a second MAIN
   abbrev pub is_second_main : Head → Bool
   is_second_main h = is_main h && b.has_main
@@ -142,10 +149,10 @@ module _ (d b : Tables) where
   head_statement s = record {
     line = s.line;
     breaks =
-        broken DeclaredTwice (head_declares_twice s.head) ++
-        broken WrongCount (has_too_many s.head) ++
-        broken WrongEvent (lacks_class s.head) ++
-        broken WrongMain (is_second_main s.head);
+        rule_where DeclaredTwice (head_declares_twice s.head) ++
+        rule_where WrongCount (has_too_many d s.head) ++
+        rule_where WrongEvent (lacks_class d s.head) ++
+        rule_where WrongMain (is_second_main s.head);
   }
 
   -- the lowest rule that the head of a section breaks
@@ -153,10 +160,10 @@ module _ (d b : Tables) where
   head_rule s = lowest (head_statement s).breaks
 
 -- a local DEFINE with the rules that it breaks; C1: a name that is declared
-abbrev pub local_statement : Tables → LocalNames → Statement
+abbrev pub local_statement : Declared → LocalNames → Statement
 local_statement d l =
-    record { line = l.line; breaks = broken DeclaredTwice (list_any (is_declared d) (all_of l.names)) }
+    record { line = l.line; breaks = rule_where DeclaredTwice (list_any (is_declared d) (all_of l.names)) }
 
 -- the lowest rule that a local DEFINE breaks
-unfoldable pub local_rule : Tables → LocalNames → Option CheckRule
+unfoldable pub local_rule : Declared → LocalNames → Option CheckRule
 local_rule d l = lowest (local_statement d l).breaks

@@ -1,5 +1,9 @@
 pub mod CheckRules
 pub mod Facts
+pub mod LanguageFunction
+pub mod NameKind
+pub mod ClassNeed
+pub mod KindView
 pub mod NameKinds
 pub mod Declarations
 pub mod Uses
@@ -9,8 +13,8 @@ pub mod PlaceRules
 pub mod Breach
 pub mod Examples
 pub mod UseView
-pub mod Counted
-pub mod Adding
+pub mod CountMap
+pub mod Increments
 pub mod Sorts
 pub mod ResolvedNames
 pub mod Resolved

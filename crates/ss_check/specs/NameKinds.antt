@@ -3,48 +3,47 @@ use Rattle.std.specs.Prelude.{Bool, true, false, not, ◌||◌, List, [], ◌∷
 use Rattle.ss_words.specs.Lists.{Name}
 use Rattle.ss_preamble.specs.declared.item.Heading.{Heading}
 use Rattle.ss_preamble.specs.declared.item.Heading.TheVariants.{PermanentEntities, TemporaryEntities, EventNotices}
-use Rattle.ss_check.specs.declared.declared.function.Function.TheVariants.{Absolute, Greatest, Least, Quotient, Remainder}
+use Rattle.ss_check.specs.LanguageFunction.{Absolute, Greatest, Least, Quotient, Remainder}
 use Rattle.ss_words.specs.declared.terms.OwnerKept.TheVariants.{First, Last, Count}
 use Rattle.ss_words.specs.declared.terms.MemberKept.TheVariants.{Predecessor, Successor, Membership}
-use Rattle.ss_check.specs.declared.declared.class_need.ClassNeed.{ClassNeed}
-use Rattle.ss_check.specs.declared.declared.class_need.ClassNeed.TheVariants.{Permanent, Ending, Event}
-use Rattle.ss_check.specs.declared.declared.name_kind.NameKind.{NameKind}
-use Rattle.ss_check.specs.declared.declared.name_kind.NameKind.TheVariants as k
-use Rattle.ss_check.specs.declared.declared.fact.Fact.{Fact}
-use Rattle.ss_check.specs.Facts.{fact, fact_of}
+use Rattle.ss_check.specs.ClassNeed.{ClassNeed}
+use Rattle.ss_check.specs.ClassNeed.{Permanent, Ending, Event}
+use Rattle.ss_check.specs.NameKind.{NameKind}
+use Rattle.ss_check.specs.NameKind as kinds
+use Rattle.ss_check.specs.Facts.{Fact, fact, fact_of}
 
 -- ---- declarations
 
 -- what the language declares before all
 abbrev pub language_facts : List (Fact NameKind)
 language_facts =
-    fact (codes "ABS.F") (k.Function Absolute) ∷
-    fact (codes "MAX.F") (k.Function Greatest) ∷
-    fact (codes "MIN.F") (k.Function Least) ∷
-    fact (codes "DIV.F") (k.Function Quotient) ∷
-    fact (codes "MOD.F") (k.Function Remainder) ∷
-    fact (codes "TIME.V") k.Clock ∷
+    fact (codes "ABS.F") (kinds.Function Absolute) ∷
+    fact (codes "MAX.F") (kinds.Function Greatest) ∷
+    fact (codes "MIN.F") (kinds.Function Least) ∷
+    fact (codes "DIV.F") (kinds.Function Quotient) ∷
+    fact (codes "MOD.F") (kinds.Function Remainder) ∷
+    fact (codes "TIME.V") kinds.Clock ∷
     []
 
 -- N.c, where class c stands under the heading of permanent ones
 abbrev pub count_facts : Option Heading → Name → List (Fact NameKind)
-count_facts (Some PermanentEntities) c = fact (codes "N." ++ c) k.ClassCount ∷ []
+count_facts (Some PermanentEntities) c = fact (codes "N." ++ c) kinds.ClassCount ∷ []
 count_facts h c = []
 
 -- a class, and its N.c
 abbrev pub class_facts : Option Heading → Name → List (Fact NameKind)
-class_facts h c = fact c (k.Class h) ∷ count_facts h c
+class_facts h c = fact c (kinds.Class h) ∷ count_facts h c
 
 -- a set and its kept attributes
 abbrev pub set_facts : Name → List (Fact NameKind)
 set_facts s =
-    fact s k.Set ∷
-    fact (codes "F." ++ s) (k.OwnerKept First s) ∷
-    fact (codes "L." ++ s) (k.OwnerKept Last s) ∷
-    fact (codes "N." ++ s) (k.OwnerKept Count s) ∷
-    fact (codes "P." ++ s) (k.MemberKept Predecessor s) ∷
-    fact (codes "S." ++ s) (k.MemberKept Successor s) ∷
-    fact (codes "M." ++ s) (k.MemberKept Membership s) ∷
+    fact s kinds.Set ∷
+    fact (codes "F." ++ s) (kinds.OwnerKept First s) ∷
+    fact (codes "L." ++ s) (kinds.OwnerKept Last s) ∷
+    fact (codes "N." ++ s) (kinds.OwnerKept Count s) ∷
+    fact (codes "P." ++ s) (kinds.MemberKept Predecessor s) ∷
+    fact (codes "S." ++ s) (kinds.MemberKept Successor s) ∷
+    fact (codes "M." ++ s) (kinds.MemberKept Membership s) ∷
     []
 
 -- ---- declared twice
@@ -57,13 +56,14 @@ is_same_heading (Some TemporaryEntities) (Some TemporaryEntities) = true
 is_same_heading (Some EventNotices) (Some EventNotices) = true
 is_same_heading _ _ = false
 
--- whether a name may be declared twice: a class under one kind of heading, a set; N.c and kept attributes with them
+-- whether a name may be declared twice: a class under one kind of heading, a set; N.c and kept attributes too (two
+-- kept attributes of one name are the same one of one set, for the name tells both)
 abbrev pub may_repeat : NameKind → NameKind → Bool
-may_repeat (k.Class g) (k.Class h) = is_same_heading g h
-may_repeat k.Set k.Set = true
-may_repeat k.ClassCount k.ClassCount = true
-may_repeat (k.OwnerKept a s) (k.OwnerKept b t) = true
-may_repeat (k.MemberKept a s) (k.MemberKept b t) = true
+may_repeat (kinds.Class g) (kinds.Class h) = is_same_heading g h
+may_repeat kinds.Set kinds.Set = true
+may_repeat kinds.ClassCount kinds.ClassCount = true
+may_repeat (kinds.OwnerKept a s) (kinds.OwnerKept b t) = true
+may_repeat (kinds.MemberKept a s) (kinds.MemberKept b t) = true
 may_repeat _ _ = false
 
 -- whether what a name is, if it is declared, keeps it from being declared as this
@@ -80,33 +80,33 @@ one_conflicts before (f ∷ fs) = conflicts (fact_of before f.name) f.what || on
 
 -- a class
 abbrev pub is_class : NameKind → Bool
-is_class (k.Class h) = true
+is_class (kinds.Class h) = true
 is_class _ = false
 
 -- a variable, N.c, or a class, which has its own variable
 abbrev pub is_global : NameKind → Bool
-is_global k.Variable = true
-is_global k.ClassCount = true
+is_global kinds.Variable = true
+is_global kinds.ClassCount = true
 is_global j = is_class j
 
 -- an attribute of a class
 abbrev pub is_attribute_of : Name → NameKind → Bool
-is_attribute_of c (k.Attribute b) = bytes_eq c b
+is_attribute_of c (kinds.Attribute b) = bytes_eq c b
 is_attribute_of c _ = false
 
 -- the name of a set
 abbrev pub names_set : Option NameKind → Bool
-names_set (Some k.Set) = true
+names_set (Some kinds.Set) = true
 names_set _ = false
 
 -- the name of a routine
 abbrev pub names_routine : Option NameKind → Bool
-names_routine (Some k.Routine) = true
+names_routine (Some kinds.Routine) = true
 names_routine _ = false
 
 -- the name of a function
 abbrev pub names_function : Option NameKind → Bool
-names_function (Some (k.Function f)) = true
+names_function (Some (kinds.Function f)) = true
 names_function _ = false
 
 -- the name of a variable
@@ -116,24 +116,24 @@ names_variable (Some j) = is_global j
 
 -- what has a value and is never assigned: a kept attribute, TIME.V, a function
 abbrev pub names_fixed : Option NameKind → Bool
-names_fixed (Some (k.OwnerKept a s)) = true
-names_fixed (Some (k.MemberKept a s)) = true
-names_fixed (Some k.Clock) = true
+names_fixed (Some (kinds.OwnerKept a s)) = true
+names_fixed (Some (kinds.MemberKept a s)) = true
+names_fixed (Some kinds.Clock) = true
 names_fixed j = names_function j
 
 -- the name of a permanent class
 abbrev pub names_permanent : Option NameKind → Bool
-names_permanent (Some (k.Class (Some PermanentEntities))) = true
+names_permanent (Some (kinds.Class (Some PermanentEntities))) = true
 names_permanent _ = false
 
 -- the name of an event class
 abbrev pub names_event : Option NameKind → Bool
-names_event (Some (k.Class (Some EventNotices))) = true
+names_event (Some (kinds.Class (Some EventNotices))) = true
 names_event _ = false
 
 -- the name of a temporary class or an event class
 abbrev pub names_ending : Option NameKind → Bool
-names_ending (Some (k.Class (Some TemporaryEntities))) = true
+names_ending (Some (kinds.Class (Some TemporaryEntities))) = true
 names_ending j = names_event j
 
 -- whether a name is a class of the kind needed

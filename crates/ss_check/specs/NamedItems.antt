@@ -5,7 +5,8 @@ use Rattle.ss_words.specs.Lists.{Name, all_of}
 use Rattle.ss_preamble.specs.declared.item.Heading.{Heading}
 use Rattle.ss_preamble.specs.declared.item.Heading.TheVariants.{PermanentEntities, TemporaryEntities, EventNotices}
 use Rattle.ss_words.specs.declared.terms.Rank.TheVariants as ranks
-use Rattle.ss_preamble.specs.Tree.{Key as WrittenKey, SetDiscipline, Fifo, Lifo, Ranked, Variables, Item, Headed, OfEvery, OfSystem, Defines, Decls}
+use Rattle.ss_preamble.specs.Tree.{Key as WrittenKey, SetDiscipline, Fifo, Lifo, Ranked, Variables, Item, Headed}
+use Rattle.ss_preamble.specs.Tree.{OfEvery, OfSystem, Defines, Decls}
 use Rattle.ss_preamble.specs.Limits.{clause_has, class_names}
 use Rattle.ss_routines.specs.Places.{Section}
 use Rattle.ss_program.specs.declared.keys.Key.{Key}
@@ -15,10 +16,11 @@ use Rattle.ss_program.specs.declared.kinds.Discipline.{Discipline}
 use Rattle.ss_program.specs.declared.kinds.Discipline.TheVariants as discipline
 use Rattle.ss_program.specs.declared.kinds.Owner.{Owner}
 use Rattle.ss_program.specs.declared.kinds.Owner.TheVariants.{System, OwnedBy}
-use Rattle.ss_program.specs.Program.{ClassTable, SetTable, ProgramTable, class_of, section_of, event_of_kind, is_event_section}
-use Rattle.ss_check.specs.declared.declared.fact.Fact.{Fact}
-use Rattle.ss_check.specs.Facts.{is_among, each_once, fact}
-use Rattle.ss_check.specs.Declarations.{Entry, entries, included, owners_in, members_in, disciplines_in, ties_in, sets_in, external_in, priority_in}
+use Rattle.ss_program.specs.Program.{ClassTable, SetTable, ProgramTable, class_of, section_of, event_of_kind}
+use Rattle.ss_program.specs.Program.{is_event_section}
+use Rattle.ss_check.specs.Facts.{Fact, is_among, each_once, fact}
+use Rattle.ss_check.specs.Declarations.{HeadedItem, headed_items, included_names, owners_in, members_in, disciplines_in}
+use Rattle.ss_check.specs.Declarations.{ties_in, sets_in, external_in, priority_in}
 use Rattle.ss_check.specs.Breach.{breach}
 use Rattle.ss_check.specs.Resolved.{resolved}
 use Rattle.ss_check.specs.NamedTree.{several, name_at}
@@ -55,7 +57,7 @@ said_of facts n = map (λ f. f.what) (filter (λ f. bytes_eq n f.name) facts)
 
 -- each class that an item names, with the heading over it
 abbrev pub headings_in : Option Heading → Item → List (Fact (Option Heading))
-headings_in h (Headed g names) = map (λ c. fact c (Some g)) (included names)
+headings_in h (Headed g names) = map (λ c. fact c (Some g)) (included_names names)
 headings_in h (OfEvery c clauses) = fact c h ∷ []
 headings_in h _ = []
 
@@ -71,7 +73,7 @@ class_variables h c = c ∷ []
 
 -- the global variables of an item: of its classes, of the system, and of a DEFINE
 abbrev pub globals_in : Option Heading → Item → List Name
-globals_in h (Headed g names) = flat_map (class_variables (Some g)) (included names)
+globals_in h (Headed g names) = flat_map (class_variables (Some g)) (included_names names)
 globals_in h (OfEvery c clauses) = class_variables h c
 globals_in h (OfSystem clauses) = flat_map clause_has (all_of clauses)
 globals_in h (Defines (Variables names)) = all_of names
@@ -103,8 +105,8 @@ pub record Written : Type 0 where
   pub disciplines : List (Fact SetDiscipline)
 
 -- the same of items under their headings
-abbrev pub written : List Entry → Written
-written xs = record {
+abbrev pub items_written : List HeadedItem → Written
+items_written xs = record {
   variables = each_once (flat_map (λ x. globals_in x.heading x.item) xs);
   classes = each_once (flat_map (λ x. class_names x.item) xs);
   sets = each_once (flat_map (λ x. sets_in x.item) xs);
@@ -176,4 +178,4 @@ pub record IsOfItems (p : ProgramTable) (w : Written) : Type 0 where
 abbrev pub TablesGiveTheItems : Type 0
 TablesGiveTheItems =
     (decls : Decls) (qs : List Section) → breach decls qs ≡ None →
-    IsOfItems (resolved decls qs) (written (entries decls.items))
+    IsOfItems (resolved decls qs) (items_written (headed_items decls.items))

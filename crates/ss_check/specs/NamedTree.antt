@@ -1,17 +1,18 @@
 -- The text that a program stands for: each number replaced by the name that its table has there.
-use Rattle.std.specs.Prelude.{◌≡◌, ℕ, Bool, true, false, List, [], ◌∷◌, ◌++◌, map, take, drop, codes, slice_get, Option, Some, None, option_map, unwrap_or}
+use Rattle.std.specs.Prelude.{◌≡◌, ℕ, Bool, true, false, List, [], ◌∷◌, ◌++◌, map, take, drop, codes, slice_get, Option}
+use Rattle.std.specs.Prelude.{Some, None, option_map, unwrap_or}
 use Rattle.ss_words.specs.Lists.{Name, Several}
 use Rattle.ss_preamble.specs.Tree.{Decls}
 use Rattle.ss_routines.specs.declared.tree.simple.Article.{Article}
 use Rattle.ss_routines.specs.declared.tree.simple.Article.TheVariants.{A, The}
 use Rattle.ss_words.specs.declared.terms.Statistic.TheVariants as statistics
-use Rattle.ss_routines.specs.Expr as e
-use Rattle.ss_routines.specs.Condition as c
+use Rattle.ss_routines.specs.Expr as text
+use Rattle.ss_routines.specs.Condition as text_condition
 use Rattle.ss_routines.specs.Condition.{Reference}
-use Rattle.ss_routines.specs.Simple as s
-use Rattle.ss_routines.specs.Loops as l
+use Rattle.ss_routines.specs.Simple as simple
+use Rattle.ss_routines.specs.Loops as loops
 use Rattle.ss_routines.specs.Tree.{Head, MainHead, RoutineHead, EventHead}
-use Rattle.ss_routines.specs.Places as w
+use Rattle.ss_routines.specs.Places as spots
 use Rattle.ss_program.specs.declared.filing.Position.{Position}
 use Rattle.ss_program.specs.declared.filing.Position.TheVariants as position
 use Rattle.ss_program.specs.declared.filing.Filing.{Filing}
@@ -61,8 +62,8 @@ use Rattle.ss_words.specs.declared.terms.OwnerKept.TheVariants as owner
 use Rattle.ss_words.specs.declared.terms.MemberKept.{MemberKept}
 use Rattle.ss_words.specs.declared.terms.MemberKept.TheVariants as member
 use Rattle.ss_program.specs.Program.{class_of, set_of, section_of, SectionTable, ProgramTable}
-use Rattle.ss_program.specs.ProgramExpr as x
-use Rattle.ss_program.specs.ProgramCondition as y
+use Rattle.ss_program.specs.ProgramExpr as tree
+use Rattle.ss_program.specs.ProgramCondition as tree_condition
 use Rattle.ss_check.specs.Breach.{breach}
 use Rattle.ss_check.specs.Resolved.{resolved}
 
@@ -74,9 +75,9 @@ several none [] = record { first = none; others = [] }
 several none (a ∷ rest) = record { first = a; others = rest }
 
 -- a list of arguments or parameters, behind GIVEN
-abbrev pub given : {A : Type 0} → List A → s.Listing A
-given [] = s.Unwritten
-given (a ∷ rest) = s.BehindGiven (record { first = a; others = rest })
+abbrev pub listing_of : {A : Type 0} → List A → simple.Listing A
+listing_of [] = simple.Unwritten
+listing_of (a ∷ rest) = simple.BehindGiven (record { first = a; others = rest })
 
 -- ---- names of the language
 
@@ -97,10 +98,11 @@ abbrev pub name_at : List Name → ℕ → Name
 name_at table i = unwrap_or (slice_get table i) []
 
 -- the reference that an expression of one name is
-abbrev pub reference_of : e.Expr → Reference
-reference_of (e.expr None (e.term (e.applied n a e.no_exprs) e.no_products) e.no_sums) =
+abbrev pub reference_of : text.Expr → Reference
+reference_of (text.expr None (text.term (text.applied n a text.no_exprs) text.no_products) text.no_sums) =
     record { name = n; subscript = Some a }
-reference_of (e.expr None (e.term (e.named n) e.no_products) e.no_sums) = record { name = n; subscript = None }
+reference_of (text.expr None (text.term (text.named n) text.no_products) text.no_sums) =
+    record { name = n; subscript = None }
 reference_of _ = record { name = []; subscript = None }
 
 -- p: the program; locals: the names of a section's local variables
@@ -119,58 +121,60 @@ module _ (p : ProgramTable) (locals : List Name) where
 
   abbrev mutual
     -- an expression, with names for numbers
-    pub named_expr : x.Expr → e.Expr
-    named_expr (x.expr sign t ts) = e.expr sign (named_term t) (named_sums ts)
+    pub named_expr : tree.Expr → text.Expr
+    named_expr (tree.expr sign t ts) = text.expr sign (named_term t) (named_sums ts)
 
     -- its further terms
-    pub named_sums : x.Sums → e.Sums
-    named_sums x.no_sums = e.no_sums
-    named_sums (x.sum sign t ts) = e.sum sign (named_term t) (named_sums ts)
+    pub named_sums : tree.Sums → text.Sums
+    named_sums tree.no_sums = text.no_sums
+    named_sums (tree.sum sign t ts) = text.sum sign (named_term t) (named_sums ts)
 
     -- a product
-    pub named_term : x.Term → e.Term
-    named_term (x.term f fs) = e.term (named_factor f) (named_products fs)
+    pub named_term : tree.Term → text.Term
+    named_term (tree.term f fs) = text.term (named_factor f) (named_products fs)
 
     -- its further factors
-    pub named_products : x.Products → e.Products
-    named_products x.no_products = e.no_products
-    named_products (x.product f fs) = e.product (named_factor f) (named_products fs)
+    pub named_products : tree.Products → text.Products
+    named_products tree.no_products = text.no_products
+    named_products (tree.product f fs) = text.product (named_factor f) (named_products fs)
 
     -- a number, a variable, a function, an attribute, or an expression in parentheses
-    pub named_factor : x.Factor → e.Factor
-    named_factor (x.digits n) = e.digits n
-    named_factor (x.variable u) = e.named (named_variable u)
-    named_factor (x.absolute a) = e.applied (codes "ABS.F") (named_expr a) e.no_exprs
-    named_factor (x.greatest a bs) = e.applied (codes "MAX.F") (named_expr a) (named_exprs bs)
-    named_factor (x.least a bs) = e.applied (codes "MIN.F") (named_expr a) (named_exprs bs)
-    named_factor (x.quotient a b) = e.applied (codes "DIV.F") (named_expr a) (e.exprs (named_expr b) e.no_exprs)
-    named_factor (x.remainder a b) = e.applied (codes "MOD.F") (named_expr a) (e.exprs (named_expr b) e.no_exprs)
-    named_factor (x.attribute c a i) = named_applied (named_attribute c a) i
-    named_factor (x.owner_kept kept t i) = named_applied (owner_kept_name kept (set_of p t).name) i
-    named_factor (x.member_kept kept t i) = named_applied (member_kept_name kept (set_of p t).name) i
-    named_factor (x.within a) = e.within (named_expr a)
+    pub named_factor : tree.Factor → text.Factor
+    named_factor (tree.digits n) = text.digits n
+    named_factor (tree.variable u) = text.named (named_variable u)
+    named_factor (tree.absolute a) = text.applied (codes "ABS.F") (named_expr a) text.no_exprs
+    named_factor (tree.greatest a bs) = text.applied (codes "MAX.F") (named_expr a) (named_exprs bs)
+    named_factor (tree.least a bs) = text.applied (codes "MIN.F") (named_expr a) (named_exprs bs)
+    named_factor (tree.quotient a b) =
+        text.applied (codes "DIV.F") (named_expr a) (text.exprs (named_expr b) text.no_exprs)
+    named_factor (tree.remainder a b) =
+        text.applied (codes "MOD.F") (named_expr a) (text.exprs (named_expr b) text.no_exprs)
+    named_factor (tree.attribute c a i) = named_applied (named_attribute c a) i
+    named_factor (tree.owner_kept kept t i) = named_applied (owner_kept_name kept (set_of p t).name) i
+    named_factor (tree.member_kept kept t i) = named_applied (member_kept_name kept (set_of p t).name) i
+    named_factor (tree.within a) = text.within (named_expr a)
 
     -- a name with its subscript, if one is written
-    pub named_applied : Name → x.Subscript → e.Factor
-    named_applied n (x.implied v) = e.named n
-    named_applied n x.of_system = e.named n
-    named_applied n (x.at a) = e.applied n (named_expr a) e.no_exprs
+    pub named_applied : Name → tree.Subscript → text.Factor
+    named_applied n (tree.implied v) = text.named n
+    named_applied n tree.of_system = text.named n
+    named_applied n (tree.at a) = text.applied n (named_expr a) text.no_exprs
 
     -- the arguments behind the first
-    pub named_exprs : x.Exprs → e.Exprs
-    named_exprs x.no_exprs = e.no_exprs
-    named_exprs (x.exprs a bs) = e.exprs (named_expr a) (named_exprs bs)
+    pub named_exprs : tree.Exprs → text.Exprs
+    named_exprs tree.no_exprs = text.no_exprs
+    named_exprs (tree.exprs a bs) = text.exprs (named_expr a) (named_exprs bs)
 
   -- ---- references
 
   -- a subscript, if one is written
-  abbrev pub named_subscript : x.Subscript → Option e.Expr
-  named_subscript (x.implied v) = None
-  named_subscript x.of_system = None
-  named_subscript (x.at a) = Some (named_expr a)
+  abbrev pub named_subscript : tree.Subscript → Option text.Expr
+  named_subscript (tree.implied v) = None
+  named_subscript tree.of_system = None
+  named_subscript (tree.at a) = Some (named_expr a)
 
   -- as a value
-  abbrev pub named_value : x.Expr → Reference
+  abbrev pub named_value : tree.Expr → Reference
   named_value a = reference_of (named_expr a)
 
   -- as a target
@@ -188,7 +192,7 @@ module _ (p : ProgramTable) (locals : List Name) where
   named_called_target true t = Some (named_target t)
 
   -- the same of a value
-  abbrev pub named_called_value : Bool → x.Expr → Option Reference
+  abbrev pub named_called_value : Bool → tree.Expr → Option Reference
   named_called_value false a = None
   named_called_value true a = Some (named_value a)
 
@@ -200,61 +204,63 @@ module _ (p : ProgramTable) (locals : List Name) where
 
   abbrev mutual
     -- a condition
-    pub named_condition : y.Condition → c.Condition
-    named_condition (y.any a bs) = c.condition (named_conjunction a) (named_alternatives bs)
+    pub named_condition : tree_condition.Condition → text_condition.Condition
+    named_condition (tree_condition.any a bs) = text_condition.condition (named_conjunction a) (named_alternatives bs)
 
     -- what OR joins to it
-    pub named_alternatives : y.Conjunctions → c.Alternatives
-    named_alternatives y.no_conjunctions = c.no_alternatives
-    named_alternatives (y.or_else a bs) = c.alternative (named_conjunction a) (named_alternatives bs)
+    pub named_alternatives : tree_condition.Conjunctions → text_condition.Alternatives
+    named_alternatives tree_condition.no_conjunctions = text_condition.no_alternatives
+    named_alternatives (tree_condition.or_else a bs) =
+        text_condition.alternative (named_conjunction a) (named_alternatives bs)
 
     -- relations that AND joins
-    pub named_conjunction : y.Conjunction → c.Conjunction
-    named_conjunction (y.all r rs) = c.conjunction (named_relation r) (named_additions rs)
+    pub named_conjunction : tree_condition.Conjunction → text_condition.Conjunction
+    named_conjunction (tree_condition.all r rs) = text_condition.conjunction (named_relation r) (named_additions rs)
 
     -- the relations behind the first
-    pub named_additions : y.Relations → c.Additions
-    named_additions y.no_relations = c.no_additions
-    named_additions (y.and_also r rs) = c.addition (named_relation r) (named_additions rs)
+    pub named_additions : tree_condition.Relations → text_condition.Additions
+    named_additions tree_condition.no_relations = text_condition.no_additions
+    named_additions (tree_condition.and_also r rs) = text_condition.addition (named_relation r) (named_additions rs)
 
     -- a comparison, IS EMPTY, IS IN, or a condition in parentheses
-    pub named_relation : y.Relation → c.Relation
-    named_relation (y.compared a how b) = c.compared (named_expr a) how (named_expr b)
-    named_relation (y.is_empty r is) = c.is_empty (named_set r) is
-    named_relation (y.is_in a is r) = c.is_in (named_expr a) is (named_set r)
-    named_relation (y.nested a) = c.nested (named_condition a)
+    pub named_relation : tree_condition.Relation → text_condition.Relation
+    named_relation (tree_condition.compared a how b) = text_condition.compared (named_expr a) how (named_expr b)
+    named_relation (tree_condition.is_empty r is) = text_condition.is_empty (named_set r) is
+    named_relation (tree_condition.is_in a is r) = text_condition.is_in (named_expr a) is (named_set r)
+    named_relation (tree_condition.nested a) = text_condition.nested (named_condition a)
 
   -- ---- statements that hold no other
 
   -- LET, ADD and SUBTRACT
-  abbrev pub named_assign : Assign → s.Assign
-  named_assign (assign.Let written t a) = s.Let written (named_target t) (named_expr a)
-  named_assign (assign.Add a t) = s.Add (named_expr a) (named_target t)
-  named_assign (assign.Subtract a t) = s.Subtract (named_expr a) (named_target t)
+  abbrev pub named_assign : Assign → simple.Assign
+  named_assign (assign.Let written t a) = simple.Let written (named_target t) (named_expr a)
+  named_assign (assign.Add a t) = simple.Add (named_expr a) (named_target t)
+  named_assign (assign.Subtract a t) = simple.Subtract (named_expr a) (named_target t)
 
   -- CREATE, CREATE EVERY and DESTROY
-  abbrev pub named_making : Making → s.Making
-  named_making (making.Create k called t) = s.Create (class_of p k).name (named_called_target called t)
-  named_making (making.CreateEvery k n count) = s.CreateEvery (class_of p k).name (option_map named_expr n)
-  named_making (making.Destroy k called a) = s.Destroy (class_of p k).name (named_called_value called a)
+  abbrev pub named_making : Making → simple.Making
+  named_making (making.Create k called t) = simple.Create (class_of p k).name (named_called_target called t)
+  named_making (making.CreateEvery k n count) = simple.CreateEvery (class_of p k).name (option_map named_expr n)
+  named_making (making.Destroy k called a) = simple.Destroy (class_of p k).name (named_called_value called a)
 
   -- where FILE puts a member
-  abbrev pub named_position : Position → s.FilePlace
-  named_position position.ByRule = s.ByDiscipline
-  named_position (position.AtEnd z) = s.AtEnd z
-  named_position (position.Before a) = s.Before (named_expr a)
-  named_position (position.After a) = s.After (named_expr a)
+  abbrev pub named_position : Position → simple.FilePlace
+  named_position position.ByRule = simple.ByDiscipline
+  named_position (position.AtEnd z) = simple.AtEnd z
+  named_position (position.Before a) = simple.Before (named_expr a)
+  named_position (position.After a) = simple.After (named_expr a)
 
   -- FILE and REMOVE
-  abbrev pub named_filing : Filing → s.Filing
-  named_filing (filing.File a how r) = s.File (named_expr a) (named_position how) (named_set r)
-  named_filing (filing.FileAt z a r) = s.FileAt z (named_expr a) (named_set r)
-  named_filing (filing.RemoveAt z t r) = s.RemoveEnd z (named_target t) (named_set r)
-  named_filing (filing.Remove a r) = s.Remove (named_expr a) (named_set r)
+  abbrev pub named_filing : Filing → simple.Filing
+  named_filing (filing.File a how r) = simple.File (named_expr a) (named_position how) (named_set r)
+  named_filing (filing.FileAt z a r) = simple.FileAt z (named_expr a) (named_set r)
+  named_filing (filing.RemoveAt z t r) = simple.RemoveEnd z (named_target t) (named_set r)
+  named_filing (filing.Remove a r) = simple.Remove (named_expr a) (named_set r)
 
   -- CALL, its arguments behind GIVEN
-  abbrev pub named_call : Call → s.Transfer
-  named_call k = s.Call (section_of p k.section).name (given (map named_expr k.given)) (map named_target k.targets)
+  abbrev pub named_call : Call → simple.Transfer
+  named_call k =
+      simple.Call (section_of p k.section).name (listing_of (map named_expr k.given)) (map named_target k.targets)
 
   -- A or THE
   abbrev pub named_article : Notice → Article
@@ -267,37 +273,37 @@ module _ (p : ProgramTable) (locals : List Name) where
   named_notice (notice.Known called a) = named_called_value called a
 
   -- the values and the reference of a SCHEDULE
-  abbrev pub named_details : Listing → Option Reference → List e.Expr → s.Details
+  abbrev pub named_details : Listing → Option Reference → List text.Expr → simple.Details
   named_details listing.InParentheses r values =
-      s.ValuesFirst (several (e.expr None (e.term (e.digits 0) e.no_products) e.no_sums) values) r
-  named_details listing.Given r values = s.CalledFirst r values
+      simple.ValuesFirst (several (text.expr None (text.term (text.digits 0) text.no_products) text.no_sums) values) r
+  named_details listing.Given r values = simple.CalledFirst r values
 
   -- when a notice is due
-  abbrev pub named_when : When → s.When
-  named_when (when.At a) = s.At (named_expr a)
-  named_when when.Now = s.Now
-  named_when (when.In a) = s.In (named_expr a)
+  abbrev pub named_when : When → simple.When
+  named_when (when.At a) = simple.At (named_expr a)
+  named_when when.Now = simple.Now
+  named_when (when.In a) = simple.In (named_expr a)
 
   -- SCHEDULE, CANCEL and START SIMULATION
-  abbrev pub named_timing : Timing → s.Timing
+  abbrev pub named_timing : Timing → simple.Timing
   named_timing (timing.Schedule t) =
-      s.Schedule (named_article t.notice) (class_of p t.class).name
+      simple.Schedule (named_article t.notice) (class_of p t.class).name
       (named_details t.listing (named_notice t.notice) (map named_expr t.arguments)) (named_when t.when)
-  named_timing (timing.Cancel k called a) = s.Cancel (class_of p k).name (named_called_value called a)
-  named_timing timing.Start = s.StartSimulation
+  named_timing (timing.Cancel k called a) = simple.Cancel (class_of p k).name (named_called_value called a)
+  named_timing timing.Start = simple.StartSimulation
 
   -- PRINT and SKIP
-  abbrev pub named_output : Output → s.Exchange
-  named_output (output.Print n values picture) = s.Print n (map named_expr values) picture
-  named_output (output.Skip a) = s.Skip (named_expr a)
+  abbrev pub named_output : Output → simple.Exchange
+  named_output (output.Print n values picture) = simple.Print n (map named_expr values) picture
+  named_output (output.Skip a) = simple.Skip (named_expr a)
 
   -- ---- FOR phrases
 
   -- where a walk through a list begins
-  abbrev pub named_begin : Begin → l.WalkStart
-  named_begin begin.AtTheEnd = l.AtEnd
-  named_begin (begin.From a) = l.From (named_expr a)
-  named_begin (begin.After a) = l.After (named_expr a)
+  abbrev pub named_begin : Begin → loops.WalkStart
+  named_begin begin.AtTheEnd = loops.AtEnd
+  named_begin (begin.From a) = loops.From (named_expr a)
+  named_begin (begin.After a) = loops.After (named_expr a)
 
   -- the variable of FOR EACH behind CALLED, if it is written
   abbrev pub named_loop_variable : Bool → Variable → Option Name
@@ -305,70 +311,70 @@ module _ (p : ProgramTable) (locals : List Name) where
   named_loop_variable true u = Some (named_variable u)
 
   -- what a FOR phrase goes through
-  abbrev pub named_range : Phrase → l.Range
+  abbrev pub named_range : Phrase → loops.Range
   named_range (phrase.Counting way u a b step) =
-      l.Counting way (named_variable u) (named_expr a) (named_expr b) (option_map named_expr step)
-  named_range (phrase.Each k called u count) = l.Each (class_of p k).name (named_loop_variable called u)
+      loops.Counting way (named_variable u) (named_expr a) (named_expr b) (option_map named_expr step)
+  named_range (phrase.Each k called u count) = loops.Each (class_of p k).name (named_loop_variable called u)
   named_range (phrase.Walking way u r start) =
-      l.Walking way (named_variable u) (named_set r) (named_begin start)
+      loops.Walking way (named_variable u) (named_set r) (named_begin start)
 
   -- a qualifier with its condition
-  abbrev pub named_qualifier : Qualifier → l.Qualifier
+  abbrev pub named_qualifier : Qualifier → loops.Qualifier
   named_qualifier q = record { word = q.word; condition = named_condition q.condition }
 
   -- a FOR phrase
-  abbrev pub named_phrase : ForPhrase → l.Phrase
+  abbrev pub named_phrase : ForPhrase → loops.Phrase
   named_phrase f = record { range = named_range f.phrase; qualifiers = map named_qualifier f.qualifiers }
 
   -- ---- places
 
   -- what an IF asks
-  abbrev pub named_question : Question → l.Question
-  named_question (question.Whether a) = l.Holds (named_condition a)
-  named_question question.WasFound = l.Found
-  named_question question.WasNone = l.NoneFound
+  abbrev pub named_question : Question → loops.Question
+  named_question (question.Whether a) = loops.Holds (named_condition a)
+  named_question question.WasFound = loops.Found
+  named_question question.WasNone = loops.NoneFound
 
   -- IF, ELSE and ALWAYS
-  abbrev pub named_branch : Branch → w.Branch
-  named_branch (branch.If q) = w.If (named_question q)
-  named_branch branch.Else = w.Else
-  named_branch branch.Always = w.Always
+  abbrev pub named_branch : Branch → spots.Branch
+  named_branch (branch.If q) = spots.If (named_question q)
+  named_branch branch.Else = spots.Else
+  named_branch branch.Always = spots.Always
 
   -- a target of COMPUTE and its statistic
-  abbrev pub named_telling : Telling → l.Computed
+  abbrev pub named_telling : Telling → loops.Computed
   named_telling t = record { target = named_target t.target; statistic = t.statistic }
 
   -- a FOR phrase, LOOP, FIND, and the two places of COMPUTE
-  abbrev pub named_loop : Looping → w.Loop
-  named_loop (looping.For f) = w.For (named_phrase f) f.has_do
-  named_loop looping.Loop = w.Next
-  named_loop looping.Find = w.Find
-  named_loop (looping.Gather a) = w.Gather (named_expr a)
+  abbrev pub named_loop : Looping → spots.Loop
+  named_loop (looping.For f) = spots.For (named_phrase f) f.has_do
+  named_loop looping.Loop = spots.Next
+  named_loop looping.Find = spots.Find
+  named_loop (looping.Gather a) = spots.Gather (named_expr a)
   named_loop (looping.Tell ts) =
-      w.Compute (several (record { target = record { name = []; subscript = None }; statistic = statistics.Number })
+      spots.Compute (several (record { target = record { name = []; subscript = None }; statistic = statistics.Number })
       (map named_telling ts))
 
   -- what ends a section or the run
-  abbrev pub named_control : Control → w.Place
-  named_control control.Stop = w.Simply (s.Transfers s.Stop)
-  named_control control.Return = w.Simply (s.Transfers s.Return)
-  named_control control.End = w.EndOfSection
+  abbrev pub named_control : Control → spots.Place
+  named_control control.Stop = spots.Simply (simple.Transfers simple.Stop)
+  named_control control.Return = spots.Simply (simple.Transfers simple.Return)
+  named_control control.End = spots.EndOfSection
 
   -- a place, by its kind
-  abbrev pub named_place : Place → w.Place
-  named_place (place.Assign a) = w.Simply (s.Assigns (named_assign a))
-  named_place (place.Making a) = w.Simply (s.Makes (named_making a))
-  named_place (place.Filing a) = w.Simply (s.Files (named_filing a))
-  named_place (place.Output a) = w.Simply (s.Exchanges (named_output a))
+  abbrev pub named_place : Place → spots.Place
+  named_place (place.Assign a) = spots.Simply (simple.Assigns (named_assign a))
+  named_place (place.Making a) = spots.Simply (simple.Makes (named_making a))
+  named_place (place.Filing a) = spots.Simply (simple.Files (named_filing a))
+  named_place (place.Output a) = spots.Simply (simple.Exchanges (named_output a))
   named_place (place.Control a) = named_control a
-  named_place (place.Branch b) = w.Branches (named_branch b)
-  named_place (place.Looping b) = w.Loops (named_loop b)
-  named_place (place.Call k) = w.Simply (s.Transfers (named_call k))
-  named_place (place.Timing t) = w.Simply (s.Times (named_timing t))
-  named_place (place.Read ts) = w.Simply (s.Exchanges (s.Read (named_targets ts)))
+  named_place (place.Branch b) = spots.Branches (named_branch b)
+  named_place (place.Looping b) = spots.Loops (named_loop b)
+  named_place (place.Call k) = spots.Simply (simple.Transfers (named_call k))
+  named_place (place.Timing t) = spots.Simply (simple.Times (named_timing t))
+  named_place (place.Read ts) = spots.Simply (simple.Exchanges (simple.Read (named_targets ts)))
 
   -- a place on its line
-  abbrev pub named_spot : Spot → w.Spot
+  abbrev pub named_spot : Spot → spots.Spot
   named_spot q = record { line = q.line; place = named_place q.place }
 
 -- ---- sections
@@ -376,11 +382,11 @@ module _ (p : ProgramTable) (locals : List Name) where
 -- a head, by the kind of the section: its name, the names of the given and of the yielded parameters, and SAVING
 abbrev pub named_head : SectionKind → Name → List Name → List Name → Bool → Head
 named_head sections.Main n ps ys saving = MainHead
-named_head sections.Routine n ps ys saving = RoutineHead n (given ps) ys
-named_head sections.Event n ps ys saving = EventHead n (given ps) saving
+named_head sections.Routine n ps ys saving = RoutineHead n (listing_of ps) ys
+named_head sections.Event n ps ys saving = EventHead n (listing_of ps) saving
 
 -- a section of a program; its parameters are the first of its locals
-abbrev pub named_section : ProgramTable → SectionTable → w.Section
+abbrev pub named_section : ProgramTable → SectionTable → spots.Section
 named_section p q = record {
   line = q.line;
   head = named_head q.kind q.name (take q.given q.locals) (take q.yielded (drop q.given q.locals)) q.saving;
@@ -389,28 +395,28 @@ named_section p q = record {
 }
 
 -- the sections of a program
-abbrev pub named_sections : ProgramTable → List w.Section
+abbrev pub named_sections : ProgramTable → List spots.Section
 named_sections p = map (named_section p) p.sections
 
 -- ---- what a program does not keep of its text
 
 -- a list of arguments or parameters as written behind GIVEN
-abbrev pub behind_given : {A : Type 0} → s.Listing A → s.Listing A
-behind_given (s.InParentheses rest) = s.BehindGiven rest
+abbrev pub behind_given : {A : Type 0} → simple.Listing A → simple.Listing A
+behind_given (simple.InParentheses rest) = simple.BehindGiven rest
 behind_given a = a
 
 -- a CALL with its arguments behind GIVEN
-abbrev pub plain_transfer : s.Transfer → s.Transfer
-plain_transfer (s.Call n values targets) = s.Call n (behind_given values) targets
+abbrev pub plain_transfer : simple.Transfer → simple.Transfer
+plain_transfer (simple.Call n values targets) = simple.Call n (behind_given values) targets
 plain_transfer a = a
 
 -- a place, with the arguments of a CALL behind GIVEN
-abbrev pub plain_place : w.Place → w.Place
-plain_place (w.Simply (s.Transfers a)) = w.Simply (s.Transfers (plain_transfer a))
+abbrev pub plain_place : spots.Place → spots.Place
+plain_place (spots.Simply (simple.Transfers a)) = spots.Simply (simple.Transfers (plain_transfer a))
 plain_place a = a
 
 -- the same on its line
-abbrev pub plain_spot : w.Spot → w.Spot
+abbrev pub plain_spot : spots.Spot → spots.Spot
 plain_spot q = record { line = q.line; place = plain_place q.place }
 
 -- a head, with its parameters behind GIVEN
@@ -420,7 +426,7 @@ plain_head (RoutineHead n ps ys) = RoutineHead n (behind_given ps) ys
 plain_head (EventHead n ps saving) = EventHead n (behind_given ps) saving
 
 -- a section without its local DEFINEs, and with parameters and arguments behind GIVEN
-abbrev pub plain_section : w.Section → w.Section
+abbrev pub plain_section : spots.Section → spots.Section
 plain_section q = record {
   line = q.line;
   head = plain_head q.head;
@@ -433,5 +439,5 @@ plain_section q = record {
 -- a program without a breach, each number looked up in its table, is its text again, but for what it does not keep
 abbrev pub TablesGiveTheText : Type 0
 TablesGiveTheText =
-    (decls : Decls) (qs : List w.Section) → breach decls qs ≡ None →
+    (decls : Decls) (qs : List spots.Section) → breach decls qs ≡ None →
     named_sections (resolved decls qs) ≡ map plain_section qs

@@ -1,30 +1,32 @@
 -- The rules that the places of a section break.
-use Rattle.std.specs.Prelude.{ℕ, Bool, true, false, not, ◌||◌, ◌&&◌, ◌==◌, nat_lt, nat_le, List, [], ◌∷◌, ◌++◌, length, Option, Some, None}
+use Rattle.std.specs.Prelude.{ℕ, Bool, true, false, not, ◌||◌, ◌&&◌, ◌==◌, nat_lt, nat_le, List, [], ◌∷◌, ◌++◌, length}
+use Rattle.std.specs.Prelude.{Option, Some, None}
 use Rattle.std.specs.List.{list_any}
 use Rattle.ss_report.specs.Pictures.{field_count, has_decimal_field}
 use Rattle.ss_routines.specs.Simple.{Times, StartSimulation, Exchanges, Print}
 use Rattle.ss_routines.specs.Loops.{Found, NoneFound}
 use Rattle.ss_routines.specs.Places.{If, Find, Gather, Place, Simply, Branches, Loops, Spot}
 use Rattle.ss_check.specs.declared.fault.CheckRule.{CheckRule}
-use Rattle.ss_check.specs.declared.fault.CheckRule.TheVariants.{WrongClass, WrongUse, WrongCount, FixedTarget, WrongPicture, StartOutsideMain, WithoutFind}
-use Rattle.ss_check.specs.declared.declared.function.Function.{Function}
-use Rattle.ss_check.specs.declared.declared.function.Function.TheVariants.{Absolute, Greatest, Least, Quotient, Remainder}
-use Rattle.ss_check.specs.declared.declared.name_kind.NameKind.{NameKind}
-use Rattle.ss_check.specs.declared.declared.name_kind.NameKind.TheVariants as k
-use Rattle.ss_check.specs.declared.declared.tables.Counts.{Counts}
-use Rattle.ss_check.specs.declared.declared.tables.Tables.{Tables}
+use Rattle.ss_check.specs.declared.fault.CheckRule.TheVariants.{WrongClass, WrongUse, WrongCount, FixedTarget}
+use Rattle.ss_check.specs.declared.fault.CheckRule.TheVariants.{WrongPicture, StartOutsideMain, WithoutFind}
+use Rattle.ss_check.specs.LanguageFunction.{LanguageFunction}
+use Rattle.ss_check.specs.LanguageFunction.{Absolute, Greatest, Least, Quotient, Remainder}
+use Rattle.ss_check.specs.NameKind.{NameKind}
+use Rattle.ss_check.specs.NameKind as kinds
+use Rattle.ss_check.specs.Declarations.{Counts}
+use Rattle.ss_check.specs.Declarations.{Declared}
 use Rattle.ss_check.specs.Facts.{fact_of}
 use Rattle.ss_check.specs.NameKinds.{names_set, names_routine, names_function, names_variable, names_fixed, serves}
 use Rattle.ss_check.specs.Declarations.{kind_of, is_of_system, attribute_count}
 use Rattle.ss_check.specs.Uses.{Use, Value, Target, InSet, LoopVariable, OfClass, Notice, Routine, uses}
-use Rattle.ss_check.specs.Statements.{Statement, broken, lowest}
+use Rattle.ss_check.specs.Statements.{Statement, rule_where, lowest}
 
 -- no value: a set or a routine
 abbrev pub is_valueless : Option NameKind → Bool
 is_valueless j = names_set j || names_routine j
 
 -- whether a function takes so many arguments
-abbrev pub takes : Function → ℕ → Bool
+abbrev pub takes : LanguageFunction → ℕ → Bool
 takes Absolute n = n == 1
 takes Greatest n = nat_le 2 n
 takes Least n = nat_le 2 n
@@ -41,7 +43,7 @@ is_wrong_call values targets None = false
 is_wrong_call values targets (Some c) = has_other_counts values targets c
 
 -- d: what the whole program says
-module _ (d : Tables) where
+module _ (d : Declared) where
   -- ---- names
 
   -- C2: a class that isn't of the kind needed
@@ -51,29 +53,29 @@ module _ (d : Tables) where
 
   -- an attribute, or a kept attribute whose owner is not the system
   abbrev pub takes_subscript : Option NameKind → Bool
-  takes_subscript (Some (k.Attribute c)) = true
-  takes_subscript (Some (k.OwnerKept a s)) = not (is_of_system d s)
-  takes_subscript (Some (k.MemberKept a s)) = true
+  takes_subscript (Some (kinds.Attribute c)) = true
+  takes_subscript (Some (kinds.OwnerKept a s)) = not (is_of_system d s)
+  takes_subscript (Some (kinds.MemberKept a s)) = true
   takes_subscript _ = false
 
   -- what takes no parentheses
-  abbrev pub is_bare : Option NameKind → Bool
-  is_bare j = not (names_function j || takes_subscript j)
+  abbrev pub takes_no_parentheses : Option NameKind → Bool
+  takes_no_parentheses j = not (names_function j || takes_subscript j)
 
   -- C3: a set or a routine as a value or target; a subscript of what takes none, as of a set of the system; no set
   -- where one is needed; CALL of no routine
   abbrev pub is_misused : Use → Bool
   is_misused (Value n None) = is_valueless (kind_of d n)
-  is_misused (Value n (Some c)) = is_bare (kind_of d n)
+  is_misused (Value n (Some c)) = takes_no_parentheses (kind_of d n)
   is_misused (Target n false) = is_valueless (kind_of d n)
-  is_misused (Target n true) = is_bare (kind_of d n)
+  is_misused (Target n true) = takes_no_parentheses (kind_of d n)
   is_misused (InSet n subscripted) = not (names_set (kind_of d n)) || (subscripted && is_of_system d n)
   is_misused (Routine n values targets) = not (names_routine (kind_of d n))
   is_misused _ = false
 
   -- whether a function takes another count of arguments, or what takes a subscript has more than one
   abbrev pub has_wrong_arguments : Option NameKind → ℕ → Bool
-  has_wrong_arguments (Some (k.Function f)) n = not (takes f n)
+  has_wrong_arguments (Some (kinds.Function f)) n = not (takes f n)
   has_wrong_arguments j n = takes_subscript j && not (n == 1)
 
   -- C7: a function without its arguments; another count of arguments, values or targets; more values than attributes
@@ -120,34 +122,36 @@ uses_from (Loops (Gather e)) (q ∷ qs) = uses (Loops (Gather e)) ++ uses q.plac
 uses_from p qs = uses p
 
 -- the rules on names that uses break
-abbrev pub use_breaks : Tables → List Use → List CheckRule
+abbrev pub use_breaks : Declared → List Use → List CheckRule
 use_breaks d us =
-    broken WrongClass (list_any (is_wrong_class d) us) ++
-    broken WrongUse (list_any (is_misused d) us) ++
-    broken WrongCount (list_any (is_wrong_count d) us) ++
-    broken FixedTarget (list_any (is_fixed d) us)
+    rule_where WrongClass (list_any (is_wrong_class d) us) ++
+    rule_where WrongUse (list_any (is_misused d) us) ++
+    rule_where WrongCount (list_any (is_wrong_count d) us) ++
+    rule_where FixedTarget (list_any (is_fixed d) us)
 
 -- the rules on what stands around a place. C13: START SIMULATION outside MAIN; C14: IF FOUND or IF NONE not directly
 -- behind a FIND
 abbrev pub standing_breaks : Bool → Bool → Place → List CheckRule
 standing_breaks in_main behind_find p =
-    broken StartOutsideMain (is_start p && not in_main) ++ broken WithoutFind (asks_find p && not behind_find)
+    rule_where StartOutsideMain (is_start p && not in_main) ++ rule_where WithoutFind (asks_find p && not behind_find)
 
 -- a place, with what it uses, and the rules that it breaks
-abbrev pub place_statement : Tables → Bool → Bool → List Use → Spot → Statement
+abbrev pub place_statement : Declared → Bool → Bool → List Use → Spot → Statement
 place_statement d in_main behind_find us p = record {
   line = p.line;
   breaks =
-      use_breaks d us ++ broken WrongPicture (has_wrong_picture p.place) ++ standing_breaks in_main behind_find p.place;
+      use_breaks d us ++
+      rule_where WrongPicture (has_wrong_picture p.place) ++
+      standing_breaks in_main behind_find p.place;
 }
 
 -- the lowest rule that a place breaks, with others behind it
-unfoldable pub place_rule : Tables → Bool → Bool → Spot → List Spot → Option CheckRule
+unfoldable pub place_rule : Declared → Bool → Bool → Spot → List Spot → Option CheckRule
 place_rule d in_main behind_find p ps =
     lowest (place_statement d in_main behind_find (uses_from p.place ps) p).breaks
 
 -- the places of a section, with whether it is MAIN, and whether a FIND stands directly before
-abbrev pub place_statements : Tables → Bool → Bool → List Spot → List Statement
+abbrev pub place_statements : Declared → Bool → Bool → List Spot → List Statement
 place_statements d in_main behind_find [] = []
 place_statements d in_main behind_find (p ∷ ps) =
     place_statement d in_main behind_find (uses_from p.place ps) p ∷ place_statements d in_main (is_find p.place) ps

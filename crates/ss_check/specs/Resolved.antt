@@ -1,17 +1,18 @@
 -- The program that a tree without a breach stands for: each name replaced by its number in its table.
-use Rattle.std.specs.Prelude.{Bool, false, List, [], length, map, codes, Option, Some, None, option_map, is_some, unwrap_or}
+use Rattle.std.specs.Prelude.{Bool, false, List, [], length, map, codes, Option, Some, None, option_map, is_some}
+use Rattle.std.specs.Prelude.{unwrap_or}
 use Rattle.std.specs.List.{flat_map}
 use Rattle.ss_words.specs.Lists.{Name, all_of}
 use Rattle.ss_preamble.specs.declared.item.Heading.TheVariants.{PermanentEntities, EventNotices}
 use Rattle.ss_preamble.specs.Tree.{Key as WrittenKey, SetDiscipline, Fifo, Lifo, Ranked, ItemAt, Decls}
 use Rattle.ss_routines.specs.declared.tree.simple.Article.{Article}
 use Rattle.ss_routines.specs.declared.tree.simple.Article.TheVariants.{A, The}
-use Rattle.ss_routines.specs.Expr as e
-use Rattle.ss_routines.specs.Condition as c
-use Rattle.ss_routines.specs.Simple as s
-use Rattle.ss_routines.specs.Loops as l
+use Rattle.ss_routines.specs.Expr as text
+use Rattle.ss_routines.specs.Condition as text_condition
+use Rattle.ss_routines.specs.Simple as simple
+use Rattle.ss_routines.specs.Loops as loops
 use Rattle.ss_routines.specs.Tree.{Head, MainHead, RoutineHead, EventHead, listing_names}
-use Rattle.ss_routines.specs.Places as w
+use Rattle.ss_routines.specs.Places as spots
 use Rattle.ss_program.specs.declared.filing.Position.{Position}
 use Rattle.ss_program.specs.declared.filing.Position.TheVariants as position
 use Rattle.ss_program.specs.declared.filing.Filing.{Filing}
@@ -61,174 +62,183 @@ use Rattle.ss_program.specs.declared.kinds.SectionKind.{SectionKind}
 use Rattle.ss_program.specs.declared.kinds.SectionKind.TheVariants as sections
 use Rattle.ss_program.specs.EventTable.{EventTable}
 use Rattle.ss_program.specs.Program.{ClassTable, SetTable, SectionTable, ProgramTable}
-use Rattle.ss_program.specs.ProgramExpr as x
-use Rattle.ss_program.specs.ProgramCondition as y
-use Rattle.ss_check.specs.declared.declared.fact.Fact.{Fact}
-use Rattle.ss_check.specs.declared.declared.name_kind.NameKind.{NameKind}
-use Rattle.ss_check.specs.declared.declared.name_kind.NameKind.TheVariants as k
-use Rattle.ss_check.specs.declared.declared.tables.Tables.{Tables}
-use Rattle.ss_check.specs.Facts.{is_among, fact_of}
-use Rattle.ss_check.specs.Declarations.{given_of, yielded_of, heads, tables, kind_of, disciplines_in, ties_in}
-use Rattle.ss_check.specs.ResolvedNames.{Names, names, number, attribute_names, attributes_of, locals_of, class_number, set_number, class_variable, count_variable, routine_number, event_section, resolved_variable, owner_of, member_class, owner_subscript, factor_of, applied_factor, value_factor, target_of}
+use Rattle.ss_program.specs.ProgramExpr as tree
+use Rattle.ss_program.specs.ProgramCondition as tree_condition
+use Rattle.ss_check.specs.Facts.{Fact, is_among, fact_of}
+use Rattle.ss_check.specs.NameKind.{NameKind}
+use Rattle.ss_check.specs.NameKind as kinds
+use Rattle.ss_check.specs.Declarations.{Declared}
+use Rattle.ss_check.specs.Declarations.{given_of, yielded_of, heads, declared_by_program, kind_of, disciplines_in}
+use Rattle.ss_check.specs.Declarations.{ties_in}
+use Rattle.ss_check.specs.ResolvedNames.{Names, names, number, attribute_names, attributes_of, locals_of, class_number}
+use Rattle.ss_check.specs.ResolvedNames.{set_number, class_variable, count_variable, routine_number, event_section}
+use Rattle.ss_check.specs.ResolvedNames.{resolved_variable, owner_of, member_class, owner_subscript, factor_of}
+use Rattle.ss_check.specs.ResolvedNames.{applied_factor, value_factor, target_of}
 
 -- a factor alone as an expression
-abbrev pub alone : x.Factor → x.Expr
-alone f = x.expr None (x.term f x.no_products) x.no_sums
+abbrev pub alone : tree.Factor → tree.Expr
+alone f = tree.expr None (tree.term f tree.no_products) tree.no_sums
 
 -- d: what the whole program says; v: its tables; locals: those of the section
-module _ (d : Tables) (v : Names) (locals : List Name) where
+module _ (d : Declared) (v : Names) (locals : List Name) where
   -- ---- expressions
 
   abbrev mutual
     -- an expression, each name by what it stands for
-    pub resolved_expr : e.Expr → x.Expr
-    resolved_expr (e.expr l t ts) = x.expr l (resolved_term t) (resolved_sums ts)
+    pub resolved_expr : text.Expr → tree.Expr
+    resolved_expr (text.expr l t ts) = tree.expr l (resolved_term t) (resolved_sums ts)
 
     -- its further terms
-    pub resolved_sums : e.Sums → x.Sums
-    resolved_sums e.no_sums = x.no_sums
-    resolved_sums (e.sum l t ts) = x.sum l (resolved_term t) (resolved_sums ts)
+    pub resolved_sums : text.Sums → tree.Sums
+    resolved_sums text.no_sums = tree.no_sums
+    resolved_sums (text.sum l t ts) = tree.sum l (resolved_term t) (resolved_sums ts)
 
     -- a product
-    pub resolved_term : e.Term → x.Term
-    resolved_term (e.term f fs) = x.term (resolved_factor f) (resolved_products fs)
+    pub resolved_term : text.Term → tree.Term
+    resolved_term (text.term f fs) = tree.term (resolved_factor f) (resolved_products fs)
 
     -- its further factors
-    pub resolved_products : e.Products → x.Products
-    resolved_products e.no_products = x.no_products
-    resolved_products (e.product f fs) = x.product (resolved_factor f) (resolved_products fs)
+    pub resolved_products : text.Products → tree.Products
+    resolved_products text.no_products = tree.no_products
+    resolved_products (text.product f fs) = tree.product (resolved_factor f) (resolved_products fs)
 
     -- a number, a name, a name with arguments, or an expression in parentheses
-    pub resolved_factor : e.Factor → x.Factor
-    resolved_factor (e.digits n) = x.digits n
-    resolved_factor (e.named n) = factor_of d v locals (kind_of d n) n None
-    resolved_factor (e.applied n a bs) = applied_factor d v locals (kind_of d n) n (resolved_expr a) (resolved_exprs bs)
-    resolved_factor (e.within a) = x.within (resolved_expr a)
+    pub resolved_factor : text.Factor → tree.Factor
+    resolved_factor (text.digits n) = tree.digits n
+    resolved_factor (text.named n) = factor_of d v locals (kind_of d n) n None
+    resolved_factor (text.applied n a bs) =
+        applied_factor d v locals (kind_of d n) n (resolved_expr a) (resolved_exprs bs)
+    resolved_factor (text.within a) = tree.within (resolved_expr a)
 
     -- the arguments behind the first
-    pub resolved_exprs : e.Exprs → x.Exprs
-    resolved_exprs e.no_exprs = x.no_exprs
-    resolved_exprs (e.exprs a bs) = x.exprs (resolved_expr a) (resolved_exprs bs)
+    pub resolved_exprs : text.Exprs → tree.Exprs
+    resolved_exprs text.no_exprs = tree.no_exprs
+    resolved_exprs (text.exprs a bs) = tree.exprs (resolved_expr a) (resolved_exprs bs)
 
   -- an expression that may be left out
-  abbrev pub resolved_option : Option e.Expr → Option x.Expr
+  abbrev pub resolved_option : Option text.Expr → Option tree.Expr
   resolved_option a = option_map resolved_expr a
 
   -- ---- references
 
   -- as a value
-  abbrev pub resolved_value : c.Reference → x.Expr
+  abbrev pub resolved_value : text_condition.Reference → tree.Expr
   resolved_value r = alone (value_factor d v locals (kind_of d r.name) r.name (resolved_option r.subscript))
 
   -- as a target
-  abbrev pub resolved_target : c.Reference → Target
+  abbrev pub resolved_target : text_condition.Reference → Target
   resolved_target r = target_of d v locals (kind_of d r.name) r.name (resolved_option r.subscript)
 
   -- as a set
-  abbrev pub resolved_set : c.Reference → SetRef
+  abbrev pub resolved_set : text_condition.Reference → SetRef
   resolved_set r = record {
     set = set_number d v locals r.name;
     owner = owner_subscript d v locals r.name (resolved_option r.subscript);
   }
 
   -- behind CALLED, else the variable of the class's name: as a target, and as a value
-  abbrev pub called_target : Name → Option c.Reference → Target
+  abbrev pub called_target : Name → Option text_condition.Reference → Target
   called_target n None = target.Variable (Global (class_variable d v locals n))
   called_target n (Some r) = resolved_target r
 
   -- the same as a value
-  abbrev pub called_value : Name → Option c.Reference → x.Expr
-  called_value n None = alone (x.variable (Global (class_variable d v locals n)))
+  abbrev pub called_value : Name → Option text_condition.Reference → tree.Expr
+  called_value n None = alone (tree.variable (Global (class_variable d v locals n)))
   called_value n (Some r) = resolved_value r
 
   -- ---- conditions
 
   abbrev mutual
     -- a condition
-    pub resolved_condition : c.Condition → y.Condition
-    resolved_condition (c.condition a bs) = y.any (resolved_conjunction a) (resolved_alternatives bs)
+    pub resolved_condition : text_condition.Condition → tree_condition.Condition
+    resolved_condition (text_condition.condition a bs) =
+        tree_condition.any (resolved_conjunction a) (resolved_alternatives bs)
 
     -- what OR joins to it
-    pub resolved_alternatives : c.Alternatives → y.Conjunctions
-    resolved_alternatives c.no_alternatives = y.no_conjunctions
-    resolved_alternatives (c.alternative a bs) = y.or_else (resolved_conjunction a) (resolved_alternatives bs)
+    pub resolved_alternatives : text_condition.Alternatives → tree_condition.Conjunctions
+    resolved_alternatives text_condition.no_alternatives = tree_condition.no_conjunctions
+    resolved_alternatives (text_condition.alternative a bs) =
+        tree_condition.or_else (resolved_conjunction a) (resolved_alternatives bs)
 
     -- relations that AND joins
-    pub resolved_conjunction : c.Conjunction → y.Conjunction
-    resolved_conjunction (c.conjunction r rs) = y.all (resolved_relation r) (resolved_additions rs)
+    pub resolved_conjunction : text_condition.Conjunction → tree_condition.Conjunction
+    resolved_conjunction (text_condition.conjunction r rs) =
+        tree_condition.all (resolved_relation r) (resolved_additions rs)
 
     -- the relations behind the first
-    pub resolved_additions : c.Additions → y.Relations
-    resolved_additions c.no_additions = y.no_relations
-    resolved_additions (c.addition r rs) = y.and_also (resolved_relation r) (resolved_additions rs)
+    pub resolved_additions : text_condition.Additions → tree_condition.Relations
+    resolved_additions text_condition.no_additions = tree_condition.no_relations
+    resolved_additions (text_condition.addition r rs) =
+        tree_condition.and_also (resolved_relation r) (resolved_additions rs)
 
     -- a comparison, IS EMPTY, IS IN, or a condition in parentheses
-    pub resolved_relation : c.Relation → y.Relation
-    resolved_relation (c.compared a how b) = y.compared (resolved_expr a) how (resolved_expr b)
-    resolved_relation (c.is_empty r is) = y.is_empty (resolved_set r) is
-    resolved_relation (c.is_in a is r) = y.is_in (resolved_expr a) is (resolved_set r)
-    resolved_relation (c.nested a) = y.nested (resolved_condition a)
+    pub resolved_relation : text_condition.Relation → tree_condition.Relation
+    resolved_relation (text_condition.compared a how b) =
+        tree_condition.compared (resolved_expr a) how (resolved_expr b)
+    resolved_relation (text_condition.is_empty r is) = tree_condition.is_empty (resolved_set r) is
+    resolved_relation (text_condition.is_in a is r) = tree_condition.is_in (resolved_expr a) is (resolved_set r)
+    resolved_relation (text_condition.nested a) = tree_condition.nested (resolved_condition a)
 
   -- ---- statements that hold no other
 
   -- LET, ADD and SUBTRACT
-  abbrev pub resolved_assign : s.Assign → Assign
-  resolved_assign (s.Let written r a) = assign.Let written (resolved_target r) (resolved_expr a)
-  resolved_assign (s.Add a r) = assign.Add (resolved_expr a) (resolved_target r)
-  resolved_assign (s.Subtract a r) = assign.Subtract (resolved_expr a) (resolved_target r)
+  abbrev pub resolved_assign : simple.Assign → Assign
+  resolved_assign (simple.Let written r a) = assign.Let written (resolved_target r) (resolved_expr a)
+  resolved_assign (simple.Add a r) = assign.Add (resolved_expr a) (resolved_target r)
+  resolved_assign (simple.Subtract a r) = assign.Subtract (resolved_expr a) (resolved_target r)
 
   -- CREATE, CREATE EVERY and DESTROY
-  abbrev pub resolved_making : s.Making → Making
-  resolved_making (s.Create n r) = making.Create (class_number d v locals n) (is_some r) (called_target n r)
-  resolved_making (s.CreateEvery n a) =
+  abbrev pub resolved_making : simple.Making → Making
+  resolved_making (simple.Create n r) = making.Create (class_number d v locals n) (is_some r) (called_target n r)
+  resolved_making (simple.CreateEvery n a) =
       making.CreateEvery (class_number d v locals n) (resolved_option a) (count_variable d v locals n)
-  resolved_making (s.Destroy n r) = making.Destroy (class_number d v locals n) (is_some r) (called_value n r)
+  resolved_making (simple.Destroy n r) = making.Destroy (class_number d v locals n) (is_some r) (called_value n r)
 
   -- where FILE puts a member
-  abbrev pub resolved_position : s.FilePlace → Position
-  resolved_position s.ByDiscipline = position.ByRule
-  resolved_position (s.AtEnd end) = position.AtEnd end
-  resolved_position (s.Before a) = position.Before (resolved_expr a)
-  resolved_position (s.After a) = position.After (resolved_expr a)
+  abbrev pub resolved_position : simple.FilePlace → Position
+  resolved_position simple.ByDiscipline = position.ByRule
+  resolved_position (simple.AtEnd end) = position.AtEnd end
+  resolved_position (simple.Before a) = position.Before (resolved_expr a)
+  resolved_position (simple.After a) = position.After (resolved_expr a)
 
   -- FILE and REMOVE
-  abbrev pub resolved_filing : s.Filing → Filing
-  resolved_filing (s.File a how r) = filing.File (resolved_expr a) (resolved_position how) (resolved_set r)
-  resolved_filing (s.FileAt end a r) = filing.FileAt end (resolved_expr a) (resolved_set r)
-  resolved_filing (s.RemoveEnd end q r) = filing.RemoveAt end (resolved_target q) (resolved_set r)
-  resolved_filing (s.Remove a r) = filing.Remove (resolved_expr a) (resolved_set r)
+  abbrev pub resolved_filing : simple.Filing → Filing
+  resolved_filing (simple.File a how r) = filing.File (resolved_expr a) (resolved_position how) (resolved_set r)
+  resolved_filing (simple.FileAt end a r) = filing.FileAt end (resolved_expr a) (resolved_set r)
+  resolved_filing (simple.RemoveEnd end q r) = filing.RemoveAt end (resolved_target q) (resolved_set r)
+  resolved_filing (simple.Remove a r) = filing.Remove (resolved_expr a) (resolved_set r)
 
   -- CALL, RETURN and STOP
-  abbrev pub resolved_transfer : s.Transfer → Place
-  resolved_transfer (s.Call n bs rs) = place.Call (record {
+  abbrev pub resolved_transfer : simple.Transfer → Place
+  resolved_transfer (simple.Call n bs rs) = place.Call (record {
     section = routine_number d v locals n;
     given = map resolved_expr (listing_names bs);
     targets = map resolved_target rs;
   })
-  resolved_transfer s.Return = place.Control control.Return
-  resolved_transfer s.Stop = place.Control control.Stop
+  resolved_transfer simple.Return = place.Control control.Return
+  resolved_transfer simple.Stop = place.Control control.Stop
 
   -- the notice that SCHEDULE A makes, or that SCHEDULE THE names
-  abbrev pub resolved_notice : Article → Name → Option c.Reference → Notice
+  abbrev pub resolved_notice : Article → Name → Option text_condition.Reference → Notice
   resolved_notice A n r = notice.New (is_some r) (called_target n r)
   resolved_notice The n r = notice.Known (is_some r) (called_value n r)
 
   -- when a notice is due
-  abbrev pub resolved_when : s.When → When
-  resolved_when (s.At a) = when.At (resolved_expr a)
-  resolved_when s.Now = when.Now
-  resolved_when (s.In a) = when.In (resolved_expr a)
+  abbrev pub resolved_when : simple.When → When
+  resolved_when (simple.At a) = when.At (resolved_expr a)
+  resolved_when simple.Now = when.Now
+  resolved_when (simple.In a) = when.In (resolved_expr a)
 
   -- SCHEDULE, with its values before CALLED or behind GIVEN
-  abbrev pub resolved_schedule : Article → Name → s.Details → s.When → Timing
-  resolved_schedule article n (s.ValuesFirst bs r) at = timing.Schedule (record {
+  abbrev pub resolved_schedule : Article → Name → simple.Details → simple.When → Timing
+  resolved_schedule article n (simple.ValuesFirst bs r) at = timing.Schedule (record {
     class = class_number d v locals n;
     notice = resolved_notice article n r;
     listing = listing.InParentheses;
     arguments = map resolved_expr (all_of bs);
     when = resolved_when at;
   })
-  resolved_schedule article n (s.CalledFirst r bs) at = timing.Schedule (record {
+  resolved_schedule article n (simple.CalledFirst r bs) at = timing.Schedule (record {
     class = class_number d v locals n;
     notice = resolved_notice article n r;
     listing = listing.Given;
@@ -237,33 +247,33 @@ module _ (d : Tables) (v : Names) (locals : List Name) where
   })
 
   -- SCHEDULE, CANCEL and START SIMULATION
-  abbrev pub resolved_timing : s.Timing → Timing
-  resolved_timing (s.Schedule article n details at) = resolved_schedule article n details at
-  resolved_timing (s.Cancel n r) = timing.Cancel (class_number d v locals n) (is_some r) (called_value n r)
-  resolved_timing s.StartSimulation = timing.Start
+  abbrev pub resolved_timing : simple.Timing → Timing
+  resolved_timing (simple.Schedule article n details at) = resolved_schedule article n details at
+  resolved_timing (simple.Cancel n r) = timing.Cancel (class_number d v locals n) (is_some r) (called_value n r)
+  resolved_timing simple.StartSimulation = timing.Start
 
   -- READ, PRINT and SKIP
-  abbrev pub resolved_exchange : s.Exchange → Place
-  resolved_exchange (s.Read rs) = place.Read (map resolved_target (all_of rs))
-  resolved_exchange (s.Print n bs picture) = place.Output (output.Print n (map resolved_expr bs) picture)
-  resolved_exchange (s.Skip a) = place.Output (output.Skip (resolved_expr a))
+  abbrev pub resolved_exchange : simple.Exchange → Place
+  resolved_exchange (simple.Read rs) = place.Read (map resolved_target (all_of rs))
+  resolved_exchange (simple.Print n bs picture) = place.Output (output.Print n (map resolved_expr bs) picture)
+  resolved_exchange (simple.Skip a) = place.Output (output.Skip (resolved_expr a))
 
   -- a statement that holds no other
-  abbrev pub resolved_simple : s.Simple → Place
-  resolved_simple (s.Assigns a) = place.Assign (resolved_assign a)
-  resolved_simple (s.Makes a) = place.Making (resolved_making a)
-  resolved_simple (s.Files a) = place.Filing (resolved_filing a)
-  resolved_simple (s.Transfers a) = resolved_transfer a
-  resolved_simple (s.Times a) = place.Timing (resolved_timing a)
-  resolved_simple (s.Exchanges a) = resolved_exchange a
+  abbrev pub resolved_simple : simple.Simple → Place
+  resolved_simple (simple.Assigns a) = place.Assign (resolved_assign a)
+  resolved_simple (simple.Makes a) = place.Making (resolved_making a)
+  resolved_simple (simple.Files a) = place.Filing (resolved_filing a)
+  resolved_simple (simple.Transfers a) = resolved_transfer a
+  resolved_simple (simple.Times a) = place.Timing (resolved_timing a)
+  resolved_simple (simple.Exchanges a) = resolved_exchange a
 
   -- ---- FOR phrases
 
   -- where a walk through a list begins
-  abbrev pub resolved_begin : l.WalkStart → Begin
-  resolved_begin l.AtEnd = begin.AtTheEnd
-  resolved_begin (l.From a) = begin.From (resolved_expr a)
-  resolved_begin (l.After a) = begin.After (resolved_expr a)
+  abbrev pub resolved_begin : loops.WalkStart → Begin
+  resolved_begin loops.AtEnd = begin.AtTheEnd
+  resolved_begin (loops.From a) = begin.From (resolved_expr a)
+  resolved_begin (loops.After a) = begin.After (resolved_expr a)
 
   -- the variable behind CALLED, else that of the class's name
   abbrev pub loop_variable : Name → Option Name → Variable
@@ -271,21 +281,21 @@ module _ (d : Tables) (v : Names) (locals : List Name) where
   loop_variable n (Some called) = resolved_variable d v locals called
 
   -- what a FOR phrase goes through
-  abbrev pub resolved_range : l.Range → Phrase
-  resolved_range (l.Counting way n a b step) =
+  abbrev pub resolved_range : loops.Range → Phrase
+  resolved_range (loops.Counting way n a b step) =
       phrase.Counting way (resolved_variable d v locals n) (resolved_expr a) (resolved_expr b)
       (resolved_option step)
-  resolved_range (l.Each n called) =
+  resolved_range (loops.Each n called) =
       phrase.Each (class_number d v locals n) (is_some called) (loop_variable n called) (count_variable d v locals n)
-  resolved_range (l.Walking way n r start) =
+  resolved_range (loops.Walking way n r start) =
       phrase.Walking way (resolved_variable d v locals n) (resolved_set r) (resolved_begin start)
 
   -- a qualifier with its condition
-  abbrev pub resolved_qualifier : l.Qualifier → Qualifier
+  abbrev pub resolved_qualifier : loops.Qualifier → Qualifier
   resolved_qualifier q = record { word = q.word; condition = resolved_condition q.condition }
 
   -- with whether DO stands behind it
-  abbrev pub resolved_phrase : l.Phrase → Bool → ForPhrase
+  abbrev pub resolved_phrase : loops.Phrase → Bool → ForPhrase
   resolved_phrase f has_do = record {
     phrase = resolved_range f.range;
     qualifiers = map resolved_qualifier f.qualifiers;
@@ -295,38 +305,38 @@ module _ (d : Tables) (v : Names) (locals : List Name) where
   -- ---- places
 
   -- what an IF asks
-  abbrev pub resolved_question : l.Question → Question
-  resolved_question (l.Holds a) = question.Whether (resolved_condition a)
-  resolved_question l.Found = question.WasFound
-  resolved_question l.NoneFound = question.WasNone
+  abbrev pub resolved_question : loops.Question → Question
+  resolved_question (loops.Holds a) = question.Whether (resolved_condition a)
+  resolved_question loops.Found = question.WasFound
+  resolved_question loops.NoneFound = question.WasNone
 
   -- IF, ELSE and ALWAYS
-  abbrev pub resolved_branch : w.Branch → Branch
-  resolved_branch (w.If q) = branch.If (resolved_question q)
-  resolved_branch w.Else = branch.Else
-  resolved_branch w.Always = branch.Always
+  abbrev pub resolved_branch : spots.Branch → Branch
+  resolved_branch (spots.If q) = branch.If (resolved_question q)
+  resolved_branch spots.Else = branch.Else
+  resolved_branch spots.Always = branch.Always
 
   -- a target of COMPUTE and its statistic
-  abbrev pub resolved_telling : l.Computed → Telling
+  abbrev pub resolved_telling : loops.Computed → Telling
   resolved_telling t = record { target = resolved_target t.target; statistic = t.statistic }
 
   -- a FOR phrase, LOOP, FIND, and the two places of COMPUTE
-  abbrev pub resolved_loop : w.Loop → Looping
-  resolved_loop (w.For f has_do) = looping.For (resolved_phrase f has_do)
-  resolved_loop w.Next = looping.Loop
-  resolved_loop w.Find = looping.Find
-  resolved_loop (w.Gather a) = looping.Gather (resolved_expr a)
-  resolved_loop (w.Compute ts) = looping.Tell (map resolved_telling (all_of ts))
+  abbrev pub resolved_loop : spots.Loop → Looping
+  resolved_loop (spots.For f has_do) = looping.For (resolved_phrase f has_do)
+  resolved_loop spots.Next = looping.Loop
+  resolved_loop spots.Find = looping.Find
+  resolved_loop (spots.Gather a) = looping.Gather (resolved_expr a)
+  resolved_loop (spots.Compute ts) = looping.Tell (map resolved_telling (all_of ts))
 
   -- a place, by its kind
-  abbrev pub resolved_place : w.Place → Place
-  resolved_place (w.Simply a) = resolved_simple a
-  resolved_place (w.Branches b) = place.Branch (resolved_branch b)
-  resolved_place (w.Loops b) = place.Looping (resolved_loop b)
-  resolved_place w.EndOfSection = place.Control control.End
+  abbrev pub resolved_place : spots.Place → Place
+  resolved_place (spots.Simply a) = resolved_simple a
+  resolved_place (spots.Branches b) = place.Branch (resolved_branch b)
+  resolved_place (spots.Loops b) = place.Looping (resolved_loop b)
+  resolved_place spots.EndOfSection = place.Control control.End
 
   -- a place on its line
-  abbrev pub resolved_spot : w.Spot → Spot
+  abbrev pub resolved_spot : spots.Spot → Spot
   resolved_spot q = record { line = q.line; place = resolved_place q.place }
 
 -- ---- classes and sets
@@ -362,7 +372,7 @@ resolved_owner classes None = System
 resolved_owner classes (Some n) = OwnedBy (number n classes)
 
 -- d: what the whole program says; v: its tables; r: its rankings
-module _ (d : Tables) (v : Names) (r : Rankings) where
+module _ (d : Declared) (v : Names) (r : Rankings) where
   -- what an event class has besides: its section, the keys that break its ties, and whether it is external
   abbrev pub event_table : Name → EventTable
   event_table n = record {
@@ -373,8 +383,8 @@ module _ (d : Tables) (v : Names) (r : Rankings) where
 
   -- the kind of a class, by what its name is declared as
   abbrev pub class_kind : Name → Option NameKind → ClassKind
-  class_kind n (Some (k.Class (Some PermanentEntities))) = class_kinds.Permanent (count_variable d v [] n)
-  class_kind n (Some (k.Class (Some EventNotices))) = class_kinds.Event (event_table n)
+  class_kind n (Some (kinds.Class (Some PermanentEntities))) = class_kinds.Permanent (count_variable d v [] n)
+  class_kind n (Some (kinds.Class (Some EventNotices))) = class_kinds.Event (event_table n)
   class_kind n _ = class_kinds.Temporary
 
   -- a class
@@ -415,7 +425,7 @@ says_saving (EventHead n given saving) = saving
 says_saving _ = false
 
 -- a section with these locals
-abbrev pub section_with : Tables → Names → List Name → w.Section → SectionTable
+abbrev pub section_with : Declared → Names → List Name → spots.Section → SectionTable
 section_with d v locals q = record {
   name = section_name q.head;
   kind = section_kind q.head;
@@ -428,13 +438,13 @@ section_with d v locals q = record {
 }
 
 -- a section of a program
-abbrev pub resolved_section : Tables → Names → w.Section → SectionTable
+abbrev pub resolved_section : Declared → Names → spots.Section → SectionTable
 resolved_section d v q = section_with d v (locals_of d q) q
 
 -- ---- the program
 
 -- with what the whole program says, its tables and its rankings
-abbrev pub resolved_with : Tables → Names → Rankings → List w.Section → ProgramTable
+abbrev pub resolved_with : Declared → Names → Rankings → List spots.Section → ProgramTable
 resolved_with d v r qs = record {
   globals = v.globals;
   classes = map (class_table d v r) v.classes;
@@ -444,6 +454,7 @@ resolved_with d v r qs = record {
 }
 
 -- a program of these items and sections
-abbrev pub resolved : Decls → List w.Section → ProgramTable
+abbrev pub resolved : Decls → List spots.Section → ProgramTable
 resolved decls qs =
-    resolved_with (tables decls.items qs) (names (tables decls.items qs) (heads qs)) (rankings decls.items) qs
+    resolved_with (declared_by_program decls.items qs) (names (declared_by_program decls.items qs) (heads qs))
+    (rankings decls.items) qs

@@ -1,5 +1,6 @@
 -- The tables of a program's names, and what a name stands for: its number in its table.
-use Rattle.std.specs.Prelude.{ℕ, ◌+◌, Bool, false, if◌then◌else◌, List, [], ◌∷◌, ◌++◌, map, codes, bytes_eq, slice_index_or, Option, Some, None, unwrap_or}
+use Rattle.std.specs.Prelude.{ℕ, ◌+◌, Bool, false, if◌then◌else◌, List, [], ◌∷◌, ◌++◌, map, codes, bytes_eq}
+use Rattle.std.specs.Prelude.{slice_index_or, Option, Some, None, unwrap_or}
 use Rattle.std.specs.List.{filter, flat_map, position_or_len}
 use Rattle.ss_words.specs.Lists.{Name}
 use Rattle.ss_routines.specs.Tree.{Head}
@@ -10,14 +11,15 @@ use Rattle.ss_program.specs.declared.variable.Variable.{Variable}
 use Rattle.ss_program.specs.declared.variable.Variable.TheVariants.{Global, Local, Clock}
 use Rattle.ss_program.specs.declared.target.Target.{Target}
 use Rattle.ss_program.specs.declared.target.Target.TheVariants as target
-use Rattle.ss_program.specs.ProgramExpr.{Expr, Exprs, no_exprs, exprs, Factor, variable, absolute, greatest, least, quotient, remainder, attribute, owner_kept, member_kept, Subscript, implied, of_system, at, within}
-use Rattle.ss_check.specs.declared.declared.fact.Fact.{Fact}
-use Rattle.ss_check.specs.declared.declared.function.Function.{Function}
-use Rattle.ss_check.specs.declared.declared.function.Function.TheVariants.{Absolute, Greatest, Least, Quotient, Remainder}
-use Rattle.ss_check.specs.declared.declared.name_kind.NameKind.{NameKind}
-use Rattle.ss_check.specs.declared.declared.name_kind.NameKind.TheVariants as k
-use Rattle.ss_check.specs.declared.declared.tables.Tables.{Tables}
-use Rattle.ss_check.specs.Facts.{each_once, fact, fact_of, names_of}
+use Rattle.ss_program.specs.ProgramExpr.{Expr, Exprs, no_exprs, exprs, Factor, variable, absolute, greatest, least}
+use Rattle.ss_program.specs.ProgramExpr.{quotient, remainder, attribute, owner_kept, member_kept, Subscript, implied}
+use Rattle.ss_program.specs.ProgramExpr.{of_system, at, within}
+use Rattle.ss_check.specs.Facts.{Fact, each_once, fact, fact_of, names_of}
+use Rattle.ss_check.specs.LanguageFunction.{LanguageFunction}
+use Rattle.ss_check.specs.LanguageFunction.{Absolute, Greatest, Least, Quotient, Remainder}
+use Rattle.ss_check.specs.NameKind.{NameKind}
+use Rattle.ss_check.specs.NameKind as kinds
+use Rattle.ss_check.specs.Declarations.{Declared}
 use Rattle.ss_check.specs.NameKinds.{is_attribute_of, is_class, is_global, names_set}
 use Rattle.ss_check.specs.Declarations.{is_declared, kind_of, parameters, routine_facts, events_in}
 use Rattle.ss_check.specs.Uses.{Use, Value, Target as AsTarget, LoopVariable, uses}
@@ -50,7 +52,7 @@ abbrev pub each_of : {A : Type 0} → (A → Bool) → List (Fact A) → List Na
 each_of test table = each_once (names_where test table)
 
 -- the names of some kind, in order of declaration
-abbrev pub of_kind : (NameKind → Bool) → Tables → List Name
+abbrev pub of_kind : (NameKind → Bool) → Declared → List Name
 of_kind test d = each_of test d.kinds
 
 -- a set
@@ -58,7 +60,7 @@ abbrev pub is_set : NameKind → Bool
 is_set j = names_set (Some j)
 
 -- the attributes of a class, in order of declaration
-abbrev pub attributes_of : Tables → Name → List Name
+abbrev pub attributes_of : Declared → Name → List Name
 attributes_of d c = names_where (is_attribute_of c) d.kinds
 
 -- the names of the attributes of a class, by the tables
@@ -66,19 +68,19 @@ abbrev pub attribute_names : Names → Name → List Name
 attribute_names v c = slice_index_or v.attributes (number c v.classes) []
 
 -- the names of facts of so many sections, each with the section's number
-abbrev pub numbered : {A : Type 0} → ℕ → List (List A) → (A → Name) → List (Fact ℕ)
-numbered i [] name = []
-numbered i (fs ∷ rest) name = map (λ f. fact (name f) i) fs ++ numbered (i + 1) rest name
+abbrev pub section_numbers : {A : Type 0} → ℕ → List (List A) → (A → Name) → List (Fact ℕ)
+section_numbers i [] name = []
+section_numbers i (fs ∷ rest) name = map (λ f. fact (name f) i) fs ++ section_numbers (i + 1) rest name
 
 -- the tables of a whole program
-abbrev pub names : Tables → List Head → Names
+abbrev pub names : Declared → List Head → Names
 names d heads = record {
   globals = of_kind is_global d;
   classes = of_kind is_class d;
   attributes = map (attributes_of d) (of_kind is_class d);
   sets = of_kind is_set d;
-  routines = numbered 0 (map routine_facts heads) (λ f. f.name);
-  events = numbered 0 (map events_in heads) (λ n. n);
+  routines = section_numbers 0 (map routine_facts heads) (λ f. f.name);
+  events = section_numbers 0 (map events_in heads) (λ n. n);
 }
 
 -- ---- the local variables of a section
@@ -91,16 +93,16 @@ variable_used (LoopVariable n) = n ∷ []
 variable_used _ = []
 
 -- a name that is not declared
-abbrev pub undeclared : Tables → Name → List Name
-undeclared d n = if is_declared d n then [] else n ∷ []
+abbrev pub undeclared_name : Declared → Name → List Name
+undeclared_name d n = if is_declared d n then [] else n ∷ []
 
 -- the names that the places of a section take for variables
 abbrev pub variables_used : Section → List Name
 variables_used s = flat_map (λ x. flat_map variable_used (uses x.place)) s.places
 
 -- its parameters, then the other names that are not declared, in the order of the places
-abbrev pub locals_of : Tables → Section → List Name
-locals_of d s = each_once (parameters s.head ++ flat_map (undeclared d) (variables_used s))
+abbrev pub locals_of : Declared → Section → List Name
+locals_of d s = each_once (parameters s.head ++ flat_map (undeclared_name d) (variables_used s))
 
 -- ---- what a name stands for
 
@@ -110,7 +112,7 @@ system_subscript None = of_system
 system_subscript (Some e) = at e
 
 -- d: what the whole program says; v: its tables; locals: those of the section
-module _ (d : Tables) (v : Names) (locals : List Name) where
+module _ (d : Declared) (v : Names) (locals : List Name) where
   -- the number of a class
   abbrev pub class_number : Name → ℕ
   class_number c = number c v.classes
@@ -142,7 +144,7 @@ module _ (d : Tables) (v : Names) (locals : List Name) where
   -- a variable: a name that is not declared is a local one
   abbrev pub variable_of : Option NameKind → Name → Variable
   variable_of None n = Local (number n locals)
-  variable_of (Some k.Clock) n = Clock
+  variable_of (Some kinds.Clock) n = Clock
   variable_of (Some j) n = Global (number n v.globals)
 
   -- a variable, by what its name is declared as
@@ -181,9 +183,9 @@ module _ (d : Tables) (v : Names) (locals : List Name) where
 
   -- a name with a subscript or none, by what it is declared as
   abbrev pub factor_of : Option NameKind → Name → Option Expr → Factor
-  factor_of (Some (k.Attribute c)) n e = attribute (class_number c) (attribute_number c n) (class_subscript c e)
-  factor_of (Some (k.OwnerKept a s)) n e = owner_kept a (set_number s) (owner_subscript s e)
-  factor_of (Some (k.MemberKept a s)) n e = member_kept a (set_number s) (member_subscript s e)
+  factor_of (Some (kinds.Attribute c)) n e = attribute (class_number c) (attribute_number c n) (class_subscript c e)
+  factor_of (Some (kinds.OwnerKept a s)) n e = owner_kept a (set_number s) (owner_subscript s e)
+  factor_of (Some (kinds.MemberKept a s)) n e = member_kept a (set_number s) (member_subscript s e)
   factor_of j n e = variable (variable_of j n)
 
   -- DIV.F and MOD.F of two arguments; no program without a breach has another number of them
@@ -192,7 +194,7 @@ module _ (d : Tables) (v : Names) (locals : List Name) where
   factor_of_two f x (exprs y ys) = f x y
 
   -- a function of its arguments
-  abbrev pub function_factor : Function → Expr → Exprs → Factor
+  abbrev pub function_factor : LanguageFunction → Expr → Exprs → Factor
   function_factor Absolute x xs = absolute x
   function_factor Greatest x xs = greatest x xs
   function_factor Least x xs = least x xs
@@ -201,7 +203,7 @@ module _ (d : Tables) (v : Names) (locals : List Name) where
 
   -- a name with arguments: a function of them, or what takes the first as its subscript
   abbrev pub applied_factor : Option NameKind → Name → Expr → Exprs → Factor
-  applied_factor (Some (k.Function f)) n x xs = function_factor f x xs
+  applied_factor (Some (kinds.Function f)) n x xs = function_factor f x xs
   applied_factor j n x xs = factor_of j n (Some x)
 
   -- a name with a subscript or none, as a value
@@ -211,5 +213,6 @@ module _ (d : Tables) (v : Names) (locals : List Name) where
 
   -- as a target
   abbrev pub target_of : Option NameKind → Name → Option Expr → Target
-  target_of (Some (k.Attribute c)) n e = target.Attribute (class_number c) (attribute_number c n) (class_subscript c e)
+  target_of (Some (kinds.Attribute c)) n e =
+      target.Attribute (class_number c) (attribute_number c n) (class_subscript c e)
   target_of j n e = target.Variable (variable_of j n)

@@ -1,10 +1,10 @@
--- What the names of a section are resolved in.
+-- Private: what the names of a section are resolved in.
 use Rattle.std.specs.Prelude.{List}
 use Rattle.ss_words.specs.Lists.{Name}
 use Rattle.ss_check.specs.declared.resolved.scope.Scope.{Scope}
-use Rattle.ss_check.specs.declared.declared.tables.Tables.{Tables}
+use Rattle.ss_check.specs.Declarations.{Declared}
 use Rattle.ss_check.specs.ResolvedNames.{Names}
 
 -- what a definition gives in a scope
-abbrev pub in_scope : {A : Type 0} → Scope → (Tables → Names → List Name → A) → A
+abbrev pub in_scope : {A : Type 0} → Scope → (Declared → Names → List Name → A) → A
 in_scope s f = f s.whole.now s.names.now s.locals.now

@@ -1,6 +1,6 @@
--- The sorts of names that have a table.
+-- Private: the sorts of names that have a table.
 use Rattle.std.specs.Prelude.{Bool}
-use Rattle.ss_check.specs.declared.declared.name_kind.NameKind.{NameKind}
+use Rattle.ss_check.specs.NameKind.{NameKind}
 use Rattle.ss_check.specs.declared.declared.name_tables.Sort.{Sort}
 use Rattle.ss_check.specs.declared.declared.name_tables.Sort.TheVariants as sort
 use Rattle.ss_check.specs.NameKinds.{is_class, is_global}

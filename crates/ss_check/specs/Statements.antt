@@ -13,8 +13,8 @@ pub record Statement : Type 0 where
   pub breaks : List CheckRule
 
 -- a rule, where it is broken
-abbrev pub broken : CheckRule → Bool → List CheckRule
-broken r b = if b then r ∷ [] else []
+abbrev pub rule_where : CheckRule → Bool → List CheckRule
+rule_where r b = if b then r ∷ [] else []
 
 -- the lowest of the rules that a statement breaks
 abbrev pub lowest : List CheckRule → Option CheckRule

@@ -3,7 +3,8 @@ use Rattle.std.specs.Prelude.{◌≡◌, true, false, List, [], ◌∷◌, codes
 use Rattle.ss_words.specs.Lists.{Name}
 use Rattle.ss_preamble.specs.declared.item.Heading.TheVariants.{PermanentEntities, TemporaryEntities, EventNotices}
 use Rattle.ss_words.specs.declared.terms.Rank.TheVariants as ranks
-use Rattle.ss_preamble.specs.Tree.{Has, Owns, BelongsTo, Ranked, Sets, PriorityOrder, BreakTies, ExternalEvents, Item, Headed, OfEvery, Defines, Orders}
+use Rattle.ss_preamble.specs.Tree.{Has, Owns, BelongsTo, Ranked, Sets, PriorityOrder, BreakTies, ExternalEvents, Item}
+use Rattle.ss_preamble.specs.Tree.{Headed, OfEvery, Defines, Orders}
 use Rattle.ss_routines.specs.Simple.{Unwritten}
 use Rattle.ss_routines.specs.Tree.{MainHead, EventHead}
 use Rattle.ss_routines.specs.Places.{Section}

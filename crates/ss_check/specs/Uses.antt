@@ -3,15 +3,22 @@ use Rattle.std.specs.Prelude.{ℕ, ◌+◌, Bool, List, [], ◌∷◌, ◌++◌,
 use Rattle.std.specs.List.{flat_map}
 use Rattle.ss_words.specs.Lists.{Name, all_of}
 use Rattle.ss_routines.specs.declared.tree.simple.Article.{Article}
-use Rattle.ss_routines.specs.declared.tree.simple.Article.TheVariants as a
-use Rattle.ss_routines.specs.Expr.{Expr, expr, Sums, no_sums, sum, Term, term, Products, no_products, product, Factor, digits, named, applied, within, Exprs, no_exprs, exprs}
-use Rattle.ss_routines.specs.Condition.{Reference, Condition, condition, Alternatives, no_alternatives, alternative, Conjunction, conjunction, Additions, no_additions, addition, Relation, compared, is_empty, is_in, nested}
-use Rattle.ss_routines.specs.Simple.{Assign, Let, Add, Subtract, Making, Create, CreateEvery, Destroy, FilePlace, Before, After, Filing, File, FileAt, RemoveEnd, Remove, Transfer, Call, Details, ValuesFirst, CalledFirst, When, At, In, Timing, Schedule, Cancel, StartSimulation, Exchange, Read, Print, Skip, Simple, Assigns, Makes, Files, Transfers, Times, Exchanges}
-use Rattle.ss_routines.specs.Loops as l
+use Rattle.ss_routines.specs.declared.tree.simple.Article.TheVariants as article
+use Rattle.ss_routines.specs.Expr.{Expr, expr, Sums, no_sums, sum, Term, term, Products, no_products, product, Factor}
+use Rattle.ss_routines.specs.Expr.{digits, named, applied, within, Exprs, no_exprs, exprs}
+use Rattle.ss_routines.specs.Condition.{Reference, Condition, condition, Alternatives, no_alternatives, alternative}
+use Rattle.ss_routines.specs.Condition.{Conjunction, conjunction, Additions, no_additions, addition, Relation, compared}
+use Rattle.ss_routines.specs.Condition.{is_empty, is_in, nested}
+use Rattle.ss_routines.specs.Simple.{Assign, Let, Add, Subtract, Making, Create, CreateEvery, Destroy, FilePlace}
+use Rattle.ss_routines.specs.Simple.{Before, After, Filing, File, FileAt, RemoveEnd, Remove, Transfer, Call, Details}
+use Rattle.ss_routines.specs.Simple.{ValuesFirst, CalledFirst, When, At, In, Timing, Schedule, Cancel, StartSimulation}
+use Rattle.ss_routines.specs.Simple.{Exchange, Read, Print, Skip, Simple, Assigns, Makes, Files, Transfers, Times}
+use Rattle.ss_routines.specs.Simple.{Exchanges}
+use Rattle.ss_routines.specs.Loops as loops
 use Rattle.ss_routines.specs.Tree.{listing_names}
 use Rattle.ss_routines.specs.Places.{Branch, If, Loop, For, Gather, Compute, Place, Simply, Branches, Loops}
-use Rattle.ss_check.specs.declared.declared.class_need.ClassNeed.{ClassNeed}
-use Rattle.ss_check.specs.declared.declared.class_need.ClassNeed.TheVariants.{Permanent, Ending, Event}
+use Rattle.ss_check.specs.ClassNeed.{ClassNeed}
+use Rattle.ss_check.specs.ClassNeed.{Permanent, Ending, Event}
 
 -- a value, with how many arguments, if there are parentheses; a target, and a set, with whether there is a subscript; a
 -- loop's variable; a class of the kind needed; an event class with so many values; a routine with so many values and
@@ -158,8 +165,8 @@ uses_transfer _ = []
 
 -- what is CALLED: a target behind A, a value behind THE
 abbrev pub uses_called : Article → Option Reference → List Use
-uses_called a.A v = uses_called_target v
-uses_called a.The v = uses_called_value v
+uses_called article.A v = uses_called_target v
+uses_called article.The v = uses_called_value v
 
 -- the values of a notice
 abbrev pub values_of : Details → List Expr
@@ -202,9 +209,9 @@ uses_simple (Exchanges x) = uses_exchange x
 -- ---- FOR phrases
 
 -- FROM or AFTER a member
-abbrev pub uses_start : l.WalkStart → List Use
-uses_start (l.From e) = uses_expr e
-uses_start (l.After e) = uses_expr e
+abbrev pub uses_start : loops.WalkStart → List Use
+uses_start (loops.From e) = uses_expr e
+uses_start (loops.After e) = uses_expr e
 uses_start _ = []
 
 -- the loop variable behind CALLED
@@ -213,20 +220,20 @@ uses_loop_variable None = []
 uses_loop_variable (Some v) = LoopVariable v ∷ []
 
 -- what a phrase goes through
-abbrev pub uses_range : l.Range → List Use
-uses_range (l.Counting way v x y z) = LoopVariable v ∷ (uses_expr x ++ uses_expr y ++ uses_option z)
-uses_range (l.Each c v) = OfClass Permanent c ∷ uses_loop_variable v
-uses_range (l.Walking way v s start) = LoopVariable v ∷ (uses_set s ++ uses_start start)
+abbrev pub uses_range : loops.Range → List Use
+uses_range (loops.Counting way v x y z) = LoopVariable v ∷ (uses_expr x ++ uses_expr y ++ uses_option z)
+uses_range (loops.Each c v) = OfClass Permanent c ∷ uses_loop_variable v
+uses_range (loops.Walking way v s start) = LoopVariable v ∷ (uses_set s ++ uses_start start)
 
 -- a phrase with its qualifiers
-abbrev pub uses_phrase : l.Phrase → List Use
+abbrev pub uses_phrase : loops.Phrase → List Use
 uses_phrase f = uses_range f.range ++ flat_map (λ q. uses_condition q.condition) f.qualifiers
 
 -- ---- places
 
 -- what an IF asks
-abbrev pub uses_question : l.Question → List Use
-uses_question (l.Holds c) = uses_condition c
+abbrev pub uses_question : loops.Question → List Use
+uses_question (loops.Holds c) = uses_condition c
 uses_question _ = []
 
 -- IF

@@ -1,9 +1,19 @@
 //! Laws on the definitions. Each function does nothing, and its contract says the law.
-ghost use Rattle.ss_check.specs.FurtherExamples.{SectionsAreDeclaredOnce, OrdersAreGivenOnce, LocalsHaveNamesOfTheirOwn, OrdersNameEvents, ValuesAreNoRoutines, KeysAreOfTheirClass, NoticesHaveAttributesForValues, YieldedAreCounted, FirstNamingIsRefused, AttributesMayChange, EventsStartNoSimulation};
+ghost use Rattle.ss_check.specs.FurtherExamples.{SectionsAreDeclaredOnce, OrdersAreGivenOnce};
+ghost use Rattle.ss_check.specs.FurtherExamples.{LocalsHaveNamesOfTheirOwn, OrdersNameEvents, ValuesAreNoRoutines};
+ghost use Rattle.ss_check.specs.FurtherExamples.{KeysAreOfTheirClass, NoticesHaveAttributesForValues};
+ghost use Rattle.ss_check.specs.FurtherExamples.{YieldedAreCounted, FirstNamingIsRefused, AttributesMayChange};
+ghost use Rattle.ss_check.specs.FurtherExamples.{EventsStartNoSimulation};
 ghost use Rattle.ss_check.specs.NamedTree.{TablesGiveTheText};
 ghost use Rattle.ss_check.specs.NamedItems.{TablesGiveTheItems};
 ghost use Rattle.ss_check.specs.TableExample.{PreambleHasTables};
-ghost use Rattle.ss_check.specs.Examples.{VariablesAreDeclaredOnce, ClassesHaveOneKind, SetsAreDeclaredOnce, RoutinesAreDeclaredOnce, ClassesAreNamedUnderHeadings, StatementsNeedClasses, NamesAreUsedAsDeclared, SetsHaveOneOwner, SetsHaveOneMemberClass, KeysAreAttributes, CountsAgree, EventsHaveAttributesForParameters, EventsHaveSections, TargetsMayChange, FieldsHaveValues, ThereIsOneMain, PriorityNamesEventsOnce, SimulationStartsInMain, FoundIsAskedBehindFind, EarlierStatementCounts, LowerRuleCounts};
+ghost use Rattle.ss_check.specs.Examples.{VariablesAreDeclaredOnce, ClassesHaveOneKind, SetsAreDeclaredOnce};
+ghost use Rattle.ss_check.specs.Examples.{RoutinesAreDeclaredOnce, ClassesAreNamedUnderHeadings, StatementsNeedClasses};
+ghost use Rattle.ss_check.specs.Examples.{NamesAreUsedAsDeclared, SetsHaveOneOwner, SetsHaveOneMemberClass};
+ghost use Rattle.ss_check.specs.Examples.{KeysAreAttributes, CountsAgree, EventsHaveAttributesForParameters};
+ghost use Rattle.ss_check.specs.Examples.{EventsHaveSections, TargetsMayChange, FieldsHaveValues, ThereIsOneMain};
+ghost use Rattle.ss_check.specs.Examples.{PriorityNamesEventsOnce, SimulationStartsInMain, FoundIsAskedBehindFind};
+ghost use Rattle.ss_check.specs.Examples.{EarlierStatementCounts, LowerRuleCounts};
 
 /// A variable is declared once, and TIME.V is declared before all.
 pub fn variables_are_declared_once()

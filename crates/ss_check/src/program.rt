@@ -7,6 +7,7 @@ ghost use Rattle.ss_routines.specs.View as view;
 ghost use Rattle.ss_program.specs.ProgramSound.{IsSound};
 ghost use Rattle.ss_check.specs.Breach as rules;
 ghost use Rattle.ss_check.specs.Declarations as declared;
+ghost use Rattle.ss_check.specs.Declarations.{declared_by_program};
 ghost use Rattle.ss_check.specs.PlaceRules.{has_wrong_picture};
 ghost use Rattle.ss_check.specs.Resolved as resolved;
 ghost use Rattle.ss_check.specs.ResolvedNames.{names as names_of, number};
@@ -36,7 +37,8 @@ pub fn check(alloc: Global, decls: Decls, sections: Sections) -> Result<Program,
     ensures sound { IfOk result (λ _. rules.breach (preamble.decls_view decls) sections ≡ None) }
     ensures ok { IfOk result
         (λ program. program ≡ resolved.resolved (preamble.decls_view decls) sections) }
-    ensures err { IfErr result (λ f. IsBreach f (rules.breach (preamble.decls_view decls) sections)) }
+    ensures err { IfErr result
+        (λ f. IsBreach f (rules.breach (preamble.decls_view decls) sections)) }
 {
     let sections = sections.into_list();
     match check_rules(alloc, &decls, &sections) {
@@ -62,13 +64,15 @@ fn resolve_program(
     sections: Vec<Section>,
 ) -> Result<Program, AllocError>
     requires whole { whole.now
-        ≡ declared.tables (preamble.decls_view decls.now).items (map view.section_view sections.items) }
+        ≡ declared_by_program (preamble.decls_view decls.now).items
+        (map view.section_view sections.items) }
     requires pictures { list_any (λ q. list_any (λ s. has_wrong_picture s.place) q.places)
         (map view.section_view sections.items) ≡ false }
     requires sound { IsSound (resolved.resolved (preamble.decls_view decls.now)
         (map view.section_view sections.items)) }
     ensures { IfOk result (λ program. program
-        ≡ resolved.resolved (preamble.decls_view decls.now) (map view.section_view sections.items)) }
+        ≡ resolved.resolved (preamble.decls_view decls.now)
+        (map view.section_view sections.items)) }
 {
     match NameTables::new(alloc, whole, &sections) {
         Ok(names) => resolve_named(alloc, whole, decls, names, sections),
@@ -89,7 +93,8 @@ fn resolve_named(
     sections: Vec<Section>,
 ) -> Result<Program, AllocError>
     requires whole { whole.now
-        ≡ declared.tables (preamble.decls_view decls.now).items (map view.section_view sections.items) }
+        ≡ declared_by_program (preamble.decls_view decls.now).items
+        (map view.section_view sections.items) }
     requires names { names
         ≡ names_of whole.now (declared.heads (map view.section_view sections.items)) }
     requires pictures { list_any (λ q. list_any (λ s. has_wrong_picture s.place) q.places)
@@ -97,7 +102,8 @@ fn resolve_named(
     requires sound { IsSound (resolved.resolved (preamble.decls_view decls.now)
         (map view.section_view sections.items)) }
     ensures { IfOk result (λ program. program
-        ≡ resolved.resolved (preamble.decls_view decls.now) (map view.section_view sections.items)) }
+        ≡ resolved.resolved (preamble.decls_view decls.now)
+        (map view.section_view sections.items)) }
 {
     match classes_and_sets(alloc, whole, decls, &names) {
         Ok(made) => match resolve_sections(alloc, whole, &names, sections) {
@@ -134,9 +140,11 @@ fn classes_and_sets(
     decls: &Decls,
     names: &NameTables,
 ) -> Result<ClassesAndSets, AllocError>
-    ensures classes { IfOk result (λ made. made.classes.items ≡ map (resolved.class_table whole.now names.now
+    ensures classes { IfOk result
+        (λ made. made.classes.items ≡ map (resolved.class_table whole.now names.now
         (resolved.rankings (preamble.decls_view decls.now).items)) names.now.classes) }
-    ensures sets { IfOk result (λ made. made.sets.items ≡ map (resolved.set_table whole.now names.now
+    ensures sets { IfOk result
+        (λ made. made.sets.items ≡ map (resolved.set_table whole.now names.now
         (resolved.rankings (preamble.decls_view decls.now).items)) names.now.sets) }
     ensures priority { IfOk result (λ made. made.priority.items
         ≡ map (λ c. number c names.now.classes) whole.now.priority) }
@@ -157,7 +165,8 @@ fn ranked_classes_and_sets(
     ensures classes { IfOk result (λ made. made.classes.items
         ≡ map (resolved.class_table whole.now names.now rankings.now) names.now.classes) }
     ensures sets { IfOk result
-        (λ made. made.sets.items ≡ map (resolved.set_table whole.now names.now rankings.now) names.now.sets) }
+        (λ made. made.sets.items
+        ≡ map (resolved.set_table whole.now names.now rankings.now) names.now.sets) }
     ensures priority { IfOk result (λ made. made.priority.items
         ≡ map (λ c. number c names.now.classes) whole.now.priority) }
 {
@@ -183,7 +192,8 @@ fn sets_and_priority(
     rankings: &Rankings<'_>,
 ) -> Result<(Vec<Set>, Vec<usize>), AllocError>
     ensures sets { IfOk result
-        (λ x. x.0.items ≡ map (resolved.set_table whole.now names.now rankings.now) names.now.sets) }
+        (λ x. x.0.items
+        ≡ map (resolved.set_table whole.now names.now rankings.now) names.now.sets) }
     ensures priority { IfOk result
         (λ x. x.1.items ≡ map (λ c. number c names.now.classes) whole.now.priority) }
 {
@@ -208,7 +218,8 @@ fn resolve_sections(
     requires { list_any (λ q. list_any (λ s. has_wrong_picture s.place) q.places)
         (map view.section_view sections.items) ≡ false }
     ensures { IfOk result (λ list. list.items
-        ≡ map (resolved.resolved_section whole.now names.now) (map view.section_view sections.items)) }
+        ≡ map (resolved.resolved_section whole.now names.now)
+        (map view.section_view sections.items)) }
 {
     let mut list = Vec::with_capacity(alloc, sections.len())?;
     for section in sections {

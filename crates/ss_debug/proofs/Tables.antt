@@ -9,7 +9,7 @@ use Rattle.std.specs.Option.{option_and_then}
 use borrow.Author.Tests.{ltb-true}
 use Rattle.ss_program.specs.Names.{is_clock}
 use Rattle.ss_program.specs.declared.find.Named.{Named}
-use Rattle.ss_program.specs.Found.{numbers_of, is_any}
+use Rattle.ss_program.specs.NameMeaning.{numbers_of, is_any}
 use Rattle.ss_program.specs.Program.{ProgramTable}
 use Rattle.ss_store.specs.Tables.{Tables, set_shape, tables_of}
 use Rattle.ss_store.proofs.Core.{some_eq}

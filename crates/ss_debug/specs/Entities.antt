@@ -8,7 +8,7 @@ use Rattle.ss_words.specs.declared.fault.RunFault.{RunFault}
 use Rattle.ss_program.specs.declared.kinds.Owner.{Owner}
 use Rattle.ss_program.specs.declared.kinds.Owner.TheVariants.{System, OwnedBy}
 use Rattle.ss_program.specs.Program.{ProgramTable, class_of, set_of, is_same_owner}
-use Rattle.ss_program.specs.Found.{named}
+use Rattle.ss_program.specs.NameMeaning.{meaning_of}
 use Rattle.ss_store.specs.declared.shape.SetShape.{SetShape}
 use Rattle.ss_store.specs.Tables as tables
 use Rattle.ss_store.specs.Tables.{tables_of}
@@ -19,11 +19,11 @@ use Rattle.ss_machine.specs.Run.{Input, run}
 
 -- the class of this name
 abbrev pub class_named : ProgramTable → List ℕ → Option ℕ
-class_named p name = option_and_then (λ n. n.class) (named p name)
+class_named p name = option_and_then (λ n. n.class) (meaning_of p name)
 
 -- the set of this name
 abbrev pub set_named : ProgramTable → List ℕ → Option ℕ
-set_named p name = option_and_then (λ n. n.set) (named p name)
+set_named p name = option_and_then (λ n. n.set) (meaning_of p name)
 
 -- set number s, as the store has it
 abbrev pub shape_of : ProgramTable → ℕ → SetShape

@@ -3,7 +3,7 @@ use Rattle.std.proofs.Common.{◌≡◌, ℕ, ℤ, neg_ℤ, true, false, cond, e
 use Rattle.std.proofs.Common.{◌∙◌, arith}
 use Rattle.std.proofs.lemmas.Bool.Decides.{nat_tests}
 use Rattle.std.proofs.lemmas.Cmp.{nat_cmp_total, int_cmp_total, lists_total, on_total, then_total}
-use Rattle.std.proofs.lemmas.Cmp.{ranked as numbers_ranked}
+use Rattle.std.proofs.lemmas.Cmp.{order_by_rank as numbers_ranked}
 use Rattle.std.proofs.lemmas.Int.{ints}
 use Rattle.std.specs.Cmp.{IsTotalOrder}
 use Rattle.std.specs.Cmp.Lexicographic.{slice_cmp}
@@ -13,7 +13,7 @@ use Rattle.std.specs.declared.cmp.Ordering.TheVariants.{Less, Equal, Greater}
 use Rattle.ss_words.specs.declared.terms.Rank.{Rank}
 use Rattle.ss_words.specs.declared.terms.Rank.TheVariants.{High, Low}
 use Rattle.ss_program.specs.declared.keys.Key.{Key}
-use Rattle.ss_program.specs.Keys.{ranked, by_keys}
+use Rattle.ss_program.specs.Keys.{order_by_rank, by_keys}
 use Rattle.ss_events.specs.Rules.{Rule, rule_at, is_event_class}
 use Rattle.ss_events.specs.State.{AreRanked}
 use Rattle.ss_events.specs.Agenda.{Pending, by_time, is_before}
@@ -49,7 +49,7 @@ IsTotalOrder-by_weights rules =
     (then_total (on_total (λ e. weights (rule_at rules e.class).ties e.keys) (lists_total int_cmp_total))
     (on_total (λ e. e.filing) nat_cmp_total)))
 
-ranked-weight : (r : Rank) (x y : ℤ) → ranked r x y ≡ int_cmp (weight r x) (weight r y)
+ranked-weight : (r : Rank) (x y : ℤ) → order_by_rank r x y ≡ int_cmp (weight r x) (weight r y)
 ranked-weight High x y = grind (arith, ints)
 ranked-weight Low x y = refl
 

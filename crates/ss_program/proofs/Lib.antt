@@ -1,4 +1,4 @@
 pub mod Mains
-pub mod WaysKept
+pub mod WaysLength
 pub mod Backward
-pub mod Indexed
+pub mod NameIndex

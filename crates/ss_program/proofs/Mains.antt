@@ -1,5 +1,6 @@
 -- The one MAIN is there, and is what a search finds.
-use Rattle.std.proofs.Common.{◌≡◌, ℕ, suc, ◌+◌, ◌<◌, ◌≤◌, List, [], ◌∷◌, length, Bool, true, false, not, arith, refl, sym, ◌∙◌, Some, None, nat_lt}
+use Rattle.std.proofs.Common.{◌≡◌, ℕ, suc, ◌+◌, ◌<◌, ◌≤◌, List, [], ◌∷◌, length, Bool, true, false, not, arith, refl}
+use Rattle.std.proofs.Common.{sym, ◌∙◌, Some, None, nat_lt}
 use Rattle.std.proofs.lemmas.Bool.{ltb-false}
 use Rattle.std.specs.Prelude.{count_by, position, cond}
 use Rattle.std.specs.List.{position_or_len}

@@ -8,13 +8,13 @@ use Rattle.ss_words.specs.declared.terms.Rank.{Rank}
 use Rattle.ss_words.specs.declared.terms.Rank.TheVariants.{High, Low}
 
 -- which of two values comes first: by HIGH the greater, by LOW the less
-abbrev pub ranked : Rank → ℤ → ℤ → Ordering
-ranked High x y = int_cmp y x
-ranked Low x y = int_cmp x y
+abbrev pub order_by_rank : Rank → ℤ → ℤ → Ordering
+order_by_rank High x y = int_cmp y x
+order_by_rank Low x y = int_cmp x y
 
 -- which of two rows of key values comes first: by the first key that tells them apart
 abbrev pub by_keys : List Key → List ℤ → List ℤ → Ordering
-by_keys (k ∷ ks) (x ∷ xs) (y ∷ ys) = ordering_then (ranked k.rank x y) (by_keys ks xs ys)
+by_keys (k ∷ ks) (x ∷ xs) (y ∷ ys) = ordering_then (order_by_rank k.rank x y) (by_keys ks xs ys)
 by_keys _ _ _ = Equal
 
 -- the values of keys among the values of attributes

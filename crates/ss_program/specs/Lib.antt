@@ -3,11 +3,11 @@ pub mod ProgramExprCode
 pub mod Program
 pub mod ProgramSound
 pub mod Names
-pub mod Found
+pub mod NameMeaning
 pub mod Examples
 pub mod Keys
 pub mod EventTable
-pub mod Indexed
+pub mod NameIndex
 pub mod ProgramCondition
 pub mod ProgramConditionCode
 pub mod Match

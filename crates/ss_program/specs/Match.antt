@@ -1,5 +1,6 @@
 -- Which places belong together, found by counting what opens and closes, and where each place goes on.
-use Rattle.std.specs.Prelude.{ℕ, ◌+◌, ◌-◌, ◌==◌, Bool, true, false, ◌&&◌, ◌||◌, if◌then◌else◌, List, [], ◌∷◌, take, drop, reverse, slice_get, Option, Some, None}
+use Rattle.std.specs.Prelude.{ℕ, ◌+◌, ◌-◌, ◌==◌, Bool, true, false, ◌&&◌, ◌||◌, if◌then◌else◌, List, [], ◌∷◌, take}
+use Rattle.std.specs.Prelude.{drop, reverse, slice_get, Option, Some, None}
 use Rattle.ss_program.specs.declared.branch.Branch.TheVariants.{If, Else, Always}
 use Rattle.ss_program.specs.declared.looping.ForPhrase.{ForPhrase}
 use Rattle.ss_program.specs.declared.looping.Looping.TheVariants.{For, Loop, Find, Gather}
@@ -42,9 +43,9 @@ is_do (Looping (For f)) = f.has_do
 is_do _ = false
 
 -- a phrase that controls what stands directly behind it: a further phrase, one statement, FIND or COMPUTE
-abbrev pub is_bare : Place → Bool
-is_bare (Looping (For f)) = if f.has_do then false else true
-is_bare _ = false
+abbrev pub controls_next_place : Place → Bool
+controls_next_place (Looping (For f)) = if f.has_do then false else true
+controls_next_place _ = false
 
 -- ---- counting
 
@@ -61,7 +62,7 @@ distance wanted up down depth (x ∷ xs) =
 -- how many bare phrases stand at the head
 abbrev pub bare_phrases : List Spot → ℕ
 bare_phrases [] = 0
-bare_phrases (x ∷ xs) = if is_bare x.place then 1 + bare_phrases xs else 0
+bare_phrases (x ∷ xs) = if controls_next_place x.place then 1 + bare_phrases xs else 0
 
 -- whether a place that stands there passes a test
 abbrev pub passes : (Place → Bool) → Option Spot → Bool
@@ -102,8 +103,8 @@ module _ (places : List Spot) where
   chain_before i = bare_phrases (reverse (take i places))
 
   -- what the chain of the phrase at i controls: the first place from i on that is no bare phrase
-  abbrev pub controlled : ℕ → ℕ
-  controlled i = i + bare_phrases (drop i places)
+  abbrev pub controlled_place : ℕ → ℕ
+  controlled_place i = i + bare_phrases (drop i places)
 
   -- the last place of what begins at i: an IF goes up to its ALWAYS, a phrase before DO up to its LOOP
   abbrev pub last_place : ℕ → ℕ
@@ -113,15 +114,15 @@ module _ (places : List Spot) where
 
   -- the place behind the body of the phrase at i; for COMPUTE the place that tells the statistics
   abbrev pub behind_body : ℕ → ℕ
-  behind_body i = last_place (controlled i) + 1
+  behind_body i = last_place (controlled_place i) + 1
 
   -- where the statement at i goes on: to the phrase that controls it alone, else to the next place
   abbrev pub next_place : ℕ → ℕ
-  next_place i = if is_before is_bare i then i - 1 else i + 1
+  next_place i = if is_before controls_next_place i then i - 1 else i + 1
 
   -- where the ALWAYS at i goes on: as the statement that it ends with its IF
   abbrev pub behind_always : ℕ → ℕ
-  behind_always i = if is_before is_bare (if_of i) then if_of i - 1 else i + 1
+  behind_always i = if is_before controls_next_place (if_of i) then if_of i - 1 else i + 1
 
   -- where a false IF goes: behind its ELSE, or to its ALWAYS
   abbrev pub behind_false : ℕ → ℕ
@@ -130,7 +131,7 @@ module _ (places : List Spot) where
   -- where the loop of the phrase at i goes on when it closes: to the phrase directly before it in its chain, else
   -- behind its body
   abbrev pub behind_loop : ℕ → ℕ
-  behind_loop i = if is_before is_bare i then i - 1 else behind_body i
+  behind_loop i = if is_before controls_next_place i then i - 1 else behind_body i
 
   -- ---- where a place goes on
 
@@ -168,7 +169,8 @@ module _ (places : List Spot) where
 
   -- what the phrase at i sets back at its entry
   abbrev pub phrase_resets : ℕ → Resets
-  phrase_resets i = if is_before is_bare i then resets.Nothing else resets_by (slice_get places (controlled i))
+  phrase_resets i =
+      if is_before controls_next_place i then resets.Nothing else resets_by (slice_get places (controlled_place i))
 
   -- the same of any place
   abbrev pub resets_of : ℕ → Place → Resets

@@ -1,5 +1,6 @@
 -- Which FOR phrases stand around a place, and where a place leads with the loops of those that are open there.
-use Rattle.std.specs.Prelude.{◌≡◌, ℕ, zero, suc, ◌+◌, ◌&&◌, ◌||◌, nat_lt, bytes_eq, Bool, true, false, if◌then◌else◌, List, [], ◌∷◌, drop}
+use Rattle.std.specs.Prelude.{◌≡◌, ℕ, zero, suc, ◌+◌, ◌&&◌, ◌||◌, nat_lt, bytes_eq, Bool, true, false, if◌then◌else◌}
+use Rattle.std.specs.Prelude.{List, [], ◌∷◌, drop}
 use Rattle.ss_program.specs.declared.branch.Branch.TheVariants.{If}
 use Rattle.ss_program.specs.declared.looping.Looping.TheVariants.{For, Find}
 use Rattle.ss_program.specs.declared.place.Place.{Place}
@@ -12,6 +13,10 @@ use Rattle.ss_program.specs.Match.{is_at, behind_body, ways_of}
 abbrev pub is_phrase : Place → Bool
 is_phrase (Looping (For f)) = true
 is_phrase _ = false
+
+-- whether two lists name the same places in one order
+abbrev pub are_same_places : List ℕ → List ℕ → Bool
+are_same_places js ks = bytes_eq js ks
 
 module _ (places : List Spot) where
   -- a phrase at j, before place i, is around it where its body ends behind i
@@ -29,7 +34,9 @@ module _ (places : List Spot) where
 
   -- the loops of these phrases may be open at place n: those around it, with or without that of place n itself
   abbrev pub may_be_open : List ℕ → ℕ → Bool
-  may_be_open js n = bytes_eq js (phrases_around n) || (is_at places is_phrase n && bytes_eq js (n ∷ phrases_around n))
+  may_be_open js n =
+      are_same_places js (phrases_around n)
+      || (is_at places is_phrase n && are_same_places js (n ∷ phrases_around n))
 
   -- place i with these ways leads to places at which the loops may be open that it leaves open: a phrase its own, FIND
   -- those around it but the ones that it closes, and any other place those around it

@@ -6,25 +6,25 @@ use Rattle.ss_program.specs.declared.ways.Pairing.TheVariants.{BranchEnd, EndOfI
 use Rattle.ss_program.specs.Match.{is_if, is_always, is_branch_end, is_loop, is_do}
 
 -- what is looked for
-abbrev pub wanted : Pairing → Place → Bool
-wanted BranchEnd = is_branch_end
-wanted EndOfIf = is_always
-wanted StartOfIf = is_if
-wanted EndOfDo = is_loop
-wanted StartOfDo = is_do
+abbrev pub is_wanted : Pairing → Place → Bool
+is_wanted BranchEnd = is_branch_end
+is_wanted EndOfIf = is_always
+is_wanted StartOfIf = is_if
+is_wanted EndOfDo = is_loop
+is_wanted StartOfDo = is_do
 
 -- what goes deeper
-abbrev pub up : Pairing → Place → Bool
-up BranchEnd = is_if
-up EndOfIf = is_if
-up StartOfIf = is_always
-up EndOfDo = is_do
-up StartOfDo = is_loop
+abbrev pub goes_deeper : Pairing → Place → Bool
+goes_deeper BranchEnd = is_if
+goes_deeper EndOfIf = is_if
+goes_deeper StartOfIf = is_always
+goes_deeper EndOfDo = is_do
+goes_deeper StartOfDo = is_loop
 
 -- what comes back up
-abbrev pub down : Pairing → Place → Bool
-down BranchEnd = is_always
-down EndOfIf = is_always
-down StartOfIf = is_if
-down EndOfDo = is_loop
-down StartOfDo = is_do
+abbrev pub comes_back : Pairing → Place → Bool
+comes_back BranchEnd = is_always
+comes_back EndOfIf = is_always
+comes_back StartOfIf = is_if
+comes_back EndOfDo = is_loop
+comes_back StartOfDo = is_do

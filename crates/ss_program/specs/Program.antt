@@ -1,6 +1,7 @@
 -- The checked program: its tables in order of declaration, and the places of each section. A row is named by its
 -- number, from 0.
-use Rattle.std.specs.Prelude.{ℕ, ◌+◌, ◌==◌, List, [], length, take, count_by, slice_get, position, Option, Some, None, unwrap_or, Bool, true, false}
+use Rattle.std.specs.Prelude.{ℕ, ◌+◌, ◌==◌, List, [], length, take, count_by, slice_get, position, Option, Some, None}
+use Rattle.std.specs.Prelude.{unwrap_or, Bool, true, false}
 use Rattle.std.specs.List.{list_any, position_or_len}
 use Rattle.ss_program.specs.EventTable.{EventTable}
 use Rattle.ss_program.specs.declared.kinds.ClassKind.{ClassKind}

@@ -8,9 +8,12 @@ use Rattle.ss_words.specs.declared.terms.Copula.{Copula}
 use Rattle.ss_words.specs.declared.terms.Copula.TheVariants.{Is, IsNot}
 use Rattle.ss_program.specs.declared.target.SetRef.{SetRef}
 use Rattle.ss_words.specs.declared.terms.Comparison.TheVariants.{Equal, Unequal, Less, Greater, AtMost, AtLeast}
-use Rattle.ss_program.specs.ProgramExpr.{Expr, expr, Sums, no_sums, Term, term, no_products, Factor, digits, attribute, of_system}
+use Rattle.ss_program.specs.ProgramExpr.{Expr, expr, Sums, no_sums, Term, term, no_products, Factor, digits, attribute}
+use Rattle.ss_program.specs.ProgramExpr.{of_system}
 use Rattle.ss_program.specs.ProgramExprCode.{expr_code, ten_more}
-use Rattle.ss_program.specs.ProgramCondition.{Condition, any, Conjunctions, no_conjunctions, or_else, Conjunction, all, Relations, no_relations, and_also, Relation, compared, is_empty, is_in, nested}
+use Rattle.ss_program.specs.ProgramCondition.{Condition, any, Conjunctions, no_conjunctions, or_else, Conjunction, all}
+use Rattle.ss_program.specs.ProgramCondition.{Relations, no_relations, and_also, Relation, compared, is_empty, is_in}
+use Rattle.ss_program.specs.ProgramCondition.{nested}
 
 -- a number, and the values of a comparison
 abbrev pub Token : Type 0
@@ -202,18 +205,18 @@ mutual
   relation_again (is_in e is r) k = in_again e is r (parts k)
 
 -- a condition as its tokens
-abbrev pub written : Condition → List Token
-written c = condition_tokens c []
+abbrev pub tokens_of : Condition → List Token
+tokens_of c = condition_tokens c []
 
 -- and read back from them
 abbrev pub read_back : List Token → Condition
 read_back ws = first_condition (parts ws)
 
 -- a condition comes back from its tokens
-pub read_written : (c : Condition) → read_back (written c) ≡ c
+pub read_written : (c : Condition) → read_back (tokens_of c) ≡ c
 read_written c = ap first_condition (condition_again c [])
 
 -- how a condition is stored
 abbrev pub condition_code : Coded Condition
 condition_code =
-    code_by (List Token) (coded_list (coded× coded_ℕ (coded× expr_code expr_code))) written read_back read_written
+    code_by (List Token) (coded_list (coded× coded_ℕ (coded× expr_code expr_code))) tokens_of read_back read_written

@@ -7,7 +7,8 @@ use Rattle.ss_program.specs.declared.sum.Term.{Term as CodeTerm, fold-Term}
 use Rattle.ss_program.specs.declared.sum.SignedTerm.{SignedTerm as CodeSigned, fold-SignedTerm}
 use Rattle.ss_program.specs.declared.sum.Arguments.{Arguments as CodeArguments, fold-Arguments}
 use Rattle.ss_program.specs.declared.sum.Factor.{Factor as CodeFactor, fold-Factor}
-use Rattle.ss_program.specs.declared.sum.Factor.TheOpen.{Arguments-F, Factor-F, SignedTerm-F, Subscript-F, Subscripted-F, Sum-F, Term-F}
+use Rattle.ss_program.specs.declared.sum.Factor.TheOpen.{Arguments-F, Factor-F, SignedTerm-F, Subscript-F}
+use Rattle.ss_program.specs.declared.sum.Factor.TheOpen.{Subscripted-F, Sum-F, Term-F}
 use Rattle.ss_program.specs.declared.sum.Subscript.{Subscript as CodeSubscript, fold-Subscript}
 use Rattle.ss_program.specs.declared.sum.Subscripted.{Subscripted as CodeSubscripted, fold-Subscripted}
 use Rattle.ss_words.specs.declared.terms.OwnerKept.{OwnerKept}

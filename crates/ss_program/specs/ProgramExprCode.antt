@@ -11,7 +11,10 @@ use Rattle.ss_words.specs.declared.terms.OwnerKept.{OwnerKept}
 use Rattle.ss_words.specs.declared.terms.OwnerKept.TheVariants.{First, Last, Count}
 use Rattle.ss_words.specs.declared.terms.MemberKept.{MemberKept}
 use Rattle.ss_words.specs.declared.terms.MemberKept.TheVariants.{Predecessor, Successor, Membership}
-use Rattle.ss_program.specs.ProgramExpr.{Expr, expr, Sums, no_sums, sum, Term, term, Products, no_products, product, Factor, digits, variable, absolute, greatest, least, quotient, remainder, attribute, owner_kept, member_kept, within, Subscript, implied, of_system, at, Exprs, no_exprs, exprs}
+use Rattle.ss_program.specs.ProgramExpr.{Expr, expr, Sums, no_sums, sum, Term, term, Products, no_products, product}
+use Rattle.ss_program.specs.ProgramExpr.{Factor, digits, variable, absolute, greatest, least, quotient, remainder}
+use Rattle.ss_program.specs.ProgramExpr.{attribute, owner_kept, member_kept, within, Subscript, implied, of_system, at}
+use Rattle.ss_program.specs.ProgramExpr.{Exprs, no_exprs, exprs}
 
 -- a part of a tree
 pub data Part : Type 0 where
@@ -328,20 +331,20 @@ mutual
       ap argument_read (expr_again e (exprs_tokens es k) ∙ ap (λ st. an_expr e ∷ st) (exprs_again es k))
 
 -- an expression as its tokens
-abbrev pub written : Expr → List (ℕ × ℕ)
-written e = expr_tokens e []
+abbrev pub tokens_of : Expr → List (ℕ × ℕ)
+tokens_of e = expr_tokens e []
 
 -- and read back from them
 abbrev pub read_back : List (ℕ × ℕ) → Expr
 read_back ws = first_expr (parts ws)
 
 -- an expression comes back from its tokens
-pub read_written : (e : Expr) → read_back (written e) ≡ e
+pub read_written : (e : Expr) → read_back (tokens_of e) ≡ e
 read_written e = ap first_expr (expr_again e [])
 
 -- how an expression is stored
 abbrev pub expr_code : Coded Expr
-expr_code = code_by (List (ℕ × ℕ)) (coded_list (coded× coded_ℕ coded_ℕ)) written read_back read_written
+expr_code = code_by (List (ℕ × ℕ)) (coded_list (coded× coded_ℕ coded_ℕ)) tokens_of read_back read_written
 
 -- a subscript as its tokens
 abbrev pub subscript_written : Subscript → List (ℕ × ℕ)

@@ -1,5 +1,6 @@
 -- What is sound about every checked program.
-use Rattle.std.specs.Prelude.{◌≡◌, ℕ, ◌<◌, ◌≤◌, ◌+◌, ◌^◌, ◌==◌, List, [], ◌∷◌, length, map, count_by, bytes_eq, slice_get, Option, Some, None, Bool, true, false}
+use Rattle.std.specs.Prelude.{◌≡◌, ℕ, ◌<◌, ◌≤◌, ◌+◌, ◌^◌, ◌==◌, List, [], ◌∷◌, length, map, count_by, bytes_eq}
+use Rattle.std.specs.Prelude.{slice_get, Option, Some, None, Bool, true, false}
 use Rattle.std.specs.List.{All, IsDistinct, list_all, list_any}
 use Rattle.ss_report.specs.Pictures.{field_count, has_decimal_field}
 use Rattle.ss_program.specs.declared.variable.Variable.{Variable as AVariable}
@@ -10,7 +11,8 @@ use Rattle.ss_program.specs.declared.place.Output.{Output as AnOutput}
 use Rattle.ss_program.specs.declared.place.Output.TheVariants.{Print, Skip}
 use Rattle.ss_program.specs.declared.place.Control.TheVariants.{Stop, Return, End}
 use Rattle.ss_program.specs.declared.place.Place.{Place}
-use Rattle.ss_program.specs.declared.place.Place.TheVariants.{Assign, Making, Filing, Output, Control, Branch, Looping, Call, Timing, Read}
+use Rattle.ss_program.specs.declared.place.Place.TheVariants.{Assign, Making, Filing, Output, Control, Branch, Looping}
+use Rattle.ss_program.specs.declared.place.Place.TheVariants.{Call, Timing, Read}
 use Rattle.ss_program.specs.declared.branch.Question.{Question}
 use Rattle.ss_program.specs.declared.branch.Question.TheVariants.{Whether, WasFound, WasNone}
 use Rattle.ss_program.specs.declared.branch.Branch.{Branch as ABranch}
@@ -41,11 +43,16 @@ use Rattle.ss_program.specs.declared.looping.Looping.{Looping as ALooping}
 use Rattle.ss_program.specs.declared.looping.Looping.TheVariants.{For, Loop, Find, Gather, Tell}
 use Rattle.ss_program.specs.declared.call.Call.{Call as ACall}
 use Rattle.ss_program.specs.declared.ways.Ways.{Ways}
-use Rattle.ss_program.specs.ProgramCondition.{Condition, any, Conjunctions, no_conjunctions, or_else, Conjunction, all, Relations, no_relations, and_also, Relation, compared, is_empty, is_in, nested}
+use Rattle.ss_program.specs.ProgramCondition.{Condition, any, Conjunctions, no_conjunctions, or_else, Conjunction, all}
+use Rattle.ss_program.specs.ProgramCondition.{Relations, no_relations, and_also, Relation, compared, is_empty, is_in}
+use Rattle.ss_program.specs.ProgramCondition.{nested}
 use Rattle.ss_program.specs.Match.{ways_of}
 use Rattle.ss_program.specs.Nesting.{AreNestedPlaces}
 use Rattle.ss_program.specs.declared.place.Spot.{Spot}
-use Rattle.ss_program.specs.ProgramExpr.{Expr, expr, Sums, no_sums, sum, Term, term, Products, no_products, product, Factor, digits, variable, absolute, greatest, least, quotient, remainder, attribute, owner_kept, member_kept, within, Subscript, implied, of_system, at, Exprs, no_exprs, exprs}
+use Rattle.ss_program.specs.ProgramExpr.{Expr, expr, Sums, no_sums, sum, Term, term, Products, no_products, product}
+use Rattle.ss_program.specs.ProgramExpr.{Factor, digits, variable, absolute, greatest, least, quotient, remainder}
+use Rattle.ss_program.specs.ProgramExpr.{attribute, owner_kept, member_kept, within, Subscript, implied, of_system, at}
+use Rattle.ss_program.specs.ProgramExpr.{Exprs, no_exprs, exprs}
 use Rattle.ss_program.specs.declared.keys.Key.{Key}
 use Rattle.ss_program.specs.declared.kinds.ClassKind.{ClassKind}
 use Rattle.ss_program.specs.declared.kinds.ClassKind.TheVariants.{Permanent, Temporary, Event}
@@ -54,7 +61,8 @@ use Rattle.ss_program.specs.declared.kinds.Discipline.TheVariants.{Fifo, Lifo, R
 use Rattle.ss_program.specs.declared.kinds.Owner.{Owner}
 use Rattle.ss_program.specs.declared.kinds.Owner.TheVariants.{System, OwnedBy}
 use Rattle.ss_program.specs.EventTable.{EventTable}
-use Rattle.ss_program.specs.Program.{ClassTable, SetTable, SectionTable, ProgramTable, is_main, is_routine, class_of, is_permanent, is_event, is_event_section, section_of}
+use Rattle.ss_program.specs.Program.{ClassTable, SetTable, SectionTable, ProgramTable, is_main, is_routine, class_of}
+use Rattle.ss_program.specs.Program.{is_permanent, is_event, is_event_section, section_of}
 
 -- what a place may name
 pub record Scope : Type 0 where

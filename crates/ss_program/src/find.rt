@@ -1,7 +1,7 @@
 ghost use Rattle.std.specs.Prelude.{◌≡◌, ◌<◌, ◌^◌, length, position, bytes_eq, slice_get, is_some, IfSome};
 ghost use Rattle.std.specs.Option.{ForSome};
 ghost use Rattle.ss_program.specs.Program.{locals_of};
-ghost use Rattle.ss_program.specs.Found.{is_any, named, numbers_of};
+ghost use Rattle.ss_program.specs.NameMeaning.{is_any, meaning_of, numbers_of};
 
 use crate::name::Name;
 use crate::names::is_clock;
@@ -29,7 +29,7 @@ impl Program {
     /// What this name, in upper case, is. `None` where it is no global variable, no class and no
     /// set; so for TIME.V.
     pub fn find(&self, name: &[u8]) -> Option<Named>
-        ensures { result ≡ named self.now name.now }
+        ensures { result ≡ meaning_of self.now name.now }
     {
         if is_clock(name) {
             return None;
@@ -56,7 +56,8 @@ impl Program {
     /// with this number. `None` where it is none of them.
     pub fn local(&self, section: usize, name: &[u8]) -> Option<usize>
         requires { section < length self.now.sections }
-        ensures { result ≡ position (bytes_eq name.now) (locals_of (slice_get self.now.sections section)) }
+        ensures { result ≡ position (bytes_eq name.now)
+            (locals_of (slice_get self.now.sections section)) }
     {
         variable_number(&self.sections[section].locals, name)
     }

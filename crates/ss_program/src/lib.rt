@@ -1,5 +1,5 @@
-//! The program: tables of distinct names, and sections as lists of places in which each name is its
-//! number in a table.
+//! The checked program: tables of distinct names, and sections as lists of places in which each name
+//! is its number in a table, with where each place goes on. `Program` keeps what makes it sound.
 #![tactic(auto)]
 
 mod boxed;

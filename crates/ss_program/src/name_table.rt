@@ -1,5 +1,5 @@
 ghost use Rattle.std.specs.Prelude.{◌≡◌, ◌<◌, [], bytes_eq, length, position, IfOk, IfSome, OnErr, OnOk};
-ghost use Rattle.ss_program.specs.Indexed.{with_name};
+ghost use Rattle.ss_program.specs.NameIndex.{with_name};
 
 use crate::name::Name;
 use std::alloc::{AllocError, Global};
@@ -17,7 +17,7 @@ pub struct NameTable {
 
 impl Model for NameTable {
     ghost use Rattle.std.specs.Prelude.{List, ℕ};
-    ghost use Rattle.ss_program.specs.Indexed.{IsIndex};
+    ghost use Rattle.ss_program.specs.NameIndex.{IsIndex};
 
     ghost Value = { List (List ℕ) };
 

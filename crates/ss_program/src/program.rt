@@ -144,7 +144,8 @@ impl Program {
     pub fn ways(&self, section: usize, place: usize) -> Ways
         requires section { section < length self.now.sections }
         requires place { place < length (places_of (slice_get self.now.sections section)) }
-        ensures { slice_get (section_ways (places_of (slice_get self.now.sections section))) place ≡ Some result }
+        ensures { slice_get (section_ways (places_of (slice_get self.now.sections section))) place
+            ≡ Some result }
     {
         self.sections[section].ways(place)
     }

@@ -95,7 +95,7 @@ impl Section {
     }
 
     /// Where the place with this number goes on.
-    #[tactic(auto, using(crate::proofs::WaysKept::ways_length))]
+    #[tactic(auto, using(crate::proofs::WaysLength::ways_length))]
     pub fn ways(&self, place: usize) -> Ways
         requires { place < length self.now.places }
         ensures { slice_get (section_ways self.now.places) place ≡ Some result }

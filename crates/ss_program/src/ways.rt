@@ -1,6 +1,6 @@
 ghost use Rattle.std.specs.Prelude.{◌≡◌, ◌+◌, ◌^◌, ◌<◌, ◌≤◌, length, drop, reverse, IfOk};
 ghost use Rattle.ss_program.specs.Match as places;
-ghost use Rattle.ss_program.specs.Pairings.{wanted, up, down};
+ghost use Rattle.ss_program.specs.Pairings.{is_wanted, goes_deeper, comes_back};
 
 use crate::branch::Branch;
 use crate::looping::Looping;
@@ -47,7 +47,7 @@ pub(crate) enum Pairing {
 
 impl Pairing {
     fn wants(self, place: &Place) -> bool
-        ensures { result ≡ wanted self place.now }
+        ensures { result ≡ is_wanted self place.now }
     {
         match self {
             Pairing::BranchEnd => is_else(place) || is_always(place),
@@ -59,7 +59,7 @@ impl Pairing {
     }
 
     fn goes_deeper(self, place: &Place) -> bool
-        ensures { result ≡ up self place.now }
+        ensures { result ≡ goes_deeper self place.now }
     {
         match self {
             Pairing::BranchEnd | Pairing::EndOfIf => is_if(place),
@@ -70,7 +70,7 @@ impl Pairing {
     }
 
     fn comes_back(self, place: &Place) -> bool
-        ensures { result ≡ down self place.now }
+        ensures { result ≡ comes_back self place.now }
     {
         match self {
             Pairing::BranchEnd | Pairing::EndOfIf => is_always(place),
@@ -82,7 +82,8 @@ impl Pairing {
 
     fn depth_behind(self, depth: usize, place: &Place) -> usize
         requires { depth < 2 ^ 63 }
-        ensures { result ≡ places.depth_behind (up self) (down self) depth place.now }
+        ensures { result ≡ places.depth_behind (goes_deeper self)
+            (comes_back self) depth place.now }
     {
         if self.goes_deeper(place) {
             return depth + 1;
@@ -127,8 +128,8 @@ fn is_do(place: &Place) -> bool
     }
 }
 
-fn is_bare(place: &Place) -> bool
-    ensures { result ≡ places.is_bare place.now }
+fn controls_next_place(place: &Place) -> bool
+    ensures { result ≡ places.controls_next_place place.now }
 {
     match place {
         Place::Looping(Looping::For(phrase)) => !phrase.value().has_do,
@@ -139,7 +140,9 @@ fn is_bare(place: &Place) -> bool
 /// How many of these places stand before the first one that is wanted.
 fn distance_onward(pairing: Pairing, spots: &[Spot]) -> usize
     requires few { length spots.now < 2 ^ 63 }
-    ensures distance { result ≡ places.distance (wanted pairing) (up pairing) (down pairing) 0 spots.now }
+    ensures distance { result
+        ≡ places.distance (is_wanted pairing) (goes_deeper pairing)
+        (comes_back pairing) 0 spots.now }
     ensures within { result ≤ length spots.now }
 {
     let mut depth = 0;
@@ -158,7 +161,9 @@ fn distance_onward(pairing: Pairing, spots: &[Spot]) -> usize
 #[tactic(auto, using(crate::proofs::Backward::last_first))]
 fn distance_backward(pairing: Pairing, spots: &[Spot]) -> usize
     requires few { length spots.now < 2 ^ 63 }
-    ensures { result ≡ places.distance (wanted pairing) (up pairing) (down pairing) 0 (reverse spots.now) }
+    ensures { result
+        ≡ places.distance (is_wanted pairing) (goes_deeper pairing) (comes_back pairing) 0
+        (reverse spots.now) }
 {
     let mut depth = 0;
     let mut count = 0;
@@ -182,7 +187,7 @@ fn phrases_onward(spots: &[Spot]) -> usize
 {
     let mut count = 0;
     for spot in spots {
-        if !is_bare(&spot.place) {
+        if !controls_next_place(&spot.place) {
             return count;
         }
         count += 1;
@@ -199,7 +204,7 @@ fn phrases_backward(spots: &[Spot]) -> usize
     let mut count = 0;
     let mut rest = spots;
     while let [before @ .., spot] = rest {
-        if !is_bare(&spot.place) {
+        if !controls_next_place(&spot.place) {
             return count;
         }
         count += 1;
@@ -211,7 +216,8 @@ fn phrases_backward(spots: &[Spot]) -> usize
 fn later(pairing: Pairing, spots: &[Spot], i: usize) -> usize
     requires there { i < length spots.now }
     requires few { length spots.now < 2 ^ 63 }
-    ensures later { result ≡ places.later spots.now (wanted pairing) (up pairing) (down pairing) i }
+    ensures later { result
+        ≡ places.later spots.now (is_wanted pairing) (goes_deeper pairing) (comes_back pairing) i }
     ensures within { result ≤ length spots.now }
 {
     i + 1 + distance_onward(pairing, &spots[i + 1..])
@@ -220,7 +226,9 @@ fn later(pairing: Pairing, spots: &[Spot], i: usize) -> usize
 fn earlier(pairing: Pairing, spots: &[Spot], i: usize) -> usize
     requires there { i < length spots.now }
     requires few { length spots.now < 2 ^ 63 }
-    ensures earlier { result ≡ places.earlier spots.now (wanted pairing) (up pairing) (down pairing) i }
+    ensures earlier { result
+        ≡ places.earlier spots.now (is_wanted pairing) (goes_deeper pairing)
+        (comes_back pairing) i }
     ensures within { result ≤ i }
 {
     let distance = distance_backward(pairing, &spots[..i]);
@@ -229,13 +237,13 @@ fn earlier(pairing: Pairing, spots: &[Spot], i: usize) -> usize
 
 /// Whether a phrase without DO stands directly before place i.
 fn is_controlled(spots: &[Spot], i: usize) -> bool
-    ensures { result ≡ places.is_before spots.now places.is_bare i }
+    ensures { result ≡ places.is_before spots.now places.controls_next_place i }
 {
     if i == 0 {
         return false;
     }
     match spots.get(i - 1) {
-        Some(spot) => is_bare(&spot.place),
+        Some(spot) => controls_next_place(&spot.place),
         None => false,
     }
 }
@@ -295,10 +303,10 @@ fn last_place(spots: &[Spot], i: usize) -> usize
 }
 
 /// The place that the chain of the phrase at i controls.
-fn controlled(spots: &[Spot], i: usize) -> usize
+fn controlled_place(spots: &[Spot], i: usize) -> usize
     requires there { i < length spots.now }
     requires few { length spots.now < 2 ^ 63 }
-    ensures controlled { result ≡ places.controlled spots.now i }
+    ensures controlled { result ≡ places.controlled_place spots.now i }
     ensures within { result ≤ length spots.now }
 {
     i + phrases_onward(&spots[i..])
@@ -312,7 +320,7 @@ fn behind_loop(spots: &[Spot], i: usize) -> usize
     if is_controlled(spots, i) {
         i.saturating_sub(1)
     } else {
-        last_place(spots, controlled(spots, i)) + 1
+        last_place(spots, controlled_place(spots, i)) + 1
     }
 }
 
@@ -324,7 +332,7 @@ fn phrase_resets(spots: &[Spot], i: usize) -> Resets
     if is_controlled(spots, i) {
         return Resets::Nothing;
     }
-    match spots.get(controlled(spots, i)) {
+    match spots.get(controlled_place(spots, i)) {
         Some(spot) => match &spot.place {
             Place::Looping(Looping::Find) => Resets::Found,
             Place::Looping(Looping::Gather(_)) => Resets::Statistics,

@@ -1,8 +1,17 @@
 use ss_program::Name;
+use std::marker::Model;
 
 /// A name, and what holds of it.
 #[derive(Drop)]
 pub struct Fact<T> {
     pub name: Name,
     pub what: T,
+}
+
+impl<T> Model for Fact<T> {
+    ghost use Rattle.ss_check.specs.Facts.{Fact as NameFact};
+
+    ghost Value = { NameFact T };
+
+    ghost view = { λ a. record { name = a.name; what = a.what } };
 }

@@ -1,4 +1,5 @@
-ghost use Rattle.std.specs.Prelude.{◌≡◌, ◌<◌, ◌==◌, true, false, [], ◌∷◌, ◌++◌, bytes_eq, length, option_map, slice_get, Some, OnErr, OnOk};
+ghost use Rattle.std.specs.Prelude.{◌≡◌, ◌<◌, ◌==◌, true, false, [], ◌∷◌, ◌++◌, bytes_eq, length, option_map};
+ghost use Rattle.std.specs.Prelude.{slice_get, Some, OnErr, OnOk};
 ghost use Rattle.std.specs.List.{position_or_len};
 ghost use Rattle.ss_check.specs.Facts.{fact, fact_of, is_among, names_of, repeats};
 
@@ -20,8 +21,8 @@ pub struct FactTable<T> {
 
 impl<T> Model for FactTable<T> {
     ghost use Rattle.std.specs.Prelude.{List, [], ◌≡◌};
-    ghost use Rattle.ss_check.specs.declared.declared.fact.Fact.{Fact as NameFact};
-    ghost use Rattle.ss_program.specs.Indexed.{IsIndex};
+    ghost use Rattle.ss_check.specs.Facts.{Fact as NameFact};
+    ghost use Rattle.ss_program.specs.NameIndex.{IsIndex};
     ghost use Rattle.ss_check.specs.Facts.{names_of, repeats};
 
     ghost Value = { List (NameFact T) };

@@ -61,7 +61,8 @@ pub(crate) fn add_classes(list: &mut NameList, item: &Item) -> Result<(), AllocE
 
 /// Adds the sets whose discipline an item gives.
 pub(crate) fn add_disciplines(list: &mut NameList, item: &Item) -> Result<(), AllocError>
-    ensures { OnOk result (list.new ≡ list.old ++ declared.disciplined_sets (view.item_view item.now)) }
+    ensures { OnOk result
+        (list.new ≡ list.old ++ declared.disciplined_sets (view.item_view item.now)) }
 {
     match item {
         Item::Defines(Definition::Sets { names, .. }) => add_names(list, names),

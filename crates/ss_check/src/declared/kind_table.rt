@@ -1,5 +1,7 @@
 ghost use Rattle.std.specs.Prelude.{◌≡◌, [], ◌∷◌, ◌++◌, option_map, OnErr, OnOk};
 ghost use Rattle.ss_check.specs.Facts.{fact, fact_of, is_among, names_of};
+ghost use Rattle.ss_check.specs.FactsView.{facts_view};
+ghost use Rattle.ss_check.specs.KindView.{kind_view};
 ghost use Rattle.ss_check.specs.NameKinds.{one_conflicts};
 
 use crate::declared::fact::Fact;
@@ -17,15 +19,17 @@ pub struct KindTable {
 
 impl Model for KindTable {
     ghost use Rattle.std.specs.Prelude.{List, [], ◌≡◌};
-    ghost use Rattle.ss_check.specs.declared.declared.fact.Fact.{Fact};
-    ghost use Rattle.ss_check.specs.declared.declared.name_kind.NameKind.{NameKind as Declared};
+    ghost use Rattle.ss_check.specs.Facts.{Fact};
+    ghost use Rattle.ss_check.specs.FactsView.{facts_view};
+    ghost use Rattle.ss_check.specs.KindView.{kind_view};
+    ghost use Rattle.ss_check.specs.NameKind.{NameKind as Kind};
     ghost use Rattle.ss_check.specs.NameKinds.{one_conflicts};
 
-    ghost Value = { List (Fact Declared) };
+    ghost Value = { List (Fact Kind) };
 
-    ghost view = { λ a. a.table };
+    ghost view = { λ a. facts_view kind_view a.table };
 
-    ghost invariant = { λ a. a.has_conflict ≡ one_conflicts [] a.table };
+    ghost invariant = { λ a. a.has_conflict ≡ one_conflicts [] (facts_view kind_view a.table) };
 }
 
 impl KindTable {
@@ -40,20 +44,22 @@ impl KindTable {
     }
 
     /// What a name is declared as, if it is.
+    #[tactic(auto, using(crate::proofs::TableTurns::fact_of_view))]
     pub fn get(&self, name: &[u8]) -> Option<&NameKind>
-        ensures { option_map (λ kind. kind.now) result ≡ fact_of self.now name.now }
+        ensures { option_map (λ kind. kind_view kind.now) result ≡ fact_of self.now name.now }
     {
         self.table.get(name)
     }
 
     /// The declarations, in order.
     pub fn as_slice(&self) -> &[Fact<NameKind>]
-        ensures { result.now ≡ self.now }
+        ensures { facts_view kind_view result.now ≡ self.now }
     {
         self.table.as_slice()
     }
 
     /// Whether a name is declared.
+    #[tactic(auto, using(crate::proofs::TableTurns::names_of_view))]
     pub fn has(&self, name: &[u8]) -> bool
         ensures { result ≡ is_among name.now (names_of self.now) }
     {
@@ -68,12 +74,12 @@ impl KindTable {
     }
 
     /// Declares a name as this too. Where memory is refused the table is as before.
-    #[tactic(auto, using(crate::proofs::Conflicts::conflicts_push))]
+    #[tactic(auto, using(crate::proofs::Conflicts::conflicts_push, crate::proofs::TableTurns::facts_view_push))]
     pub fn add(&mut self, name: &[u8], kind: NameKind) -> Result<(), AllocError>
-        ensures ok { OnOk result (self.new ≡ self.old ++ fact name.now kind ∷ []) }
+        ensures ok { OnOk result (self.new ≡ self.old ++ fact name.now (kind_view kind) ∷ []) }
         ensures err { OnErr result (self.new ≡ self.old) }
     {
-        let conflict = conflicts(self.table.get(name), &kind);
+        let conflict = conflicts(self.get(name), &kind);
         self.table.add(name, kind)?;
         self.has_conflict |= conflict;
         Ok(())

@@ -16,7 +16,7 @@ pub struct NameCounts {
 
 impl Model for NameCounts {
     ghost use Rattle.std.specs.Prelude.{List, ℕ};
-    ghost use Rattle.ss_check.specs.Counted.{AreCounts};
+    ghost use Rattle.ss_check.specs.CountMap.{AreCounts};
 
     ghost Value = { List (List ℕ) };
 

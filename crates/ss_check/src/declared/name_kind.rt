@@ -1,4 +1,5 @@
 ghost use Rattle.std.specs.Prelude.{◌≡◌, option_map};
+ghost use Rattle.ss_check.specs.KindView.{kind_view, need_view};
 ghost use Rattle.ss_check.specs.NameKinds as kinds;
 
 use crate::declared::class_need::ClassNeed;
@@ -33,7 +34,7 @@ pub enum NameKind {
 
 /// Whether a name may be declared as both, one behind the other.
 pub(crate) fn may_repeat(first: &NameKind, second: &NameKind) -> bool
-    ensures { result ≡ kinds.may_repeat first.now second.now }
+    ensures { result ≡ kinds.may_repeat (kind_view first.now) (kind_view second.now) }
 {
     match (first, second) {
         (NameKind::Class(one), NameKind::Class(other)) => one == other,
@@ -47,7 +48,8 @@ pub(crate) fn may_repeat(first: &NameKind, second: &NameKind) -> bool
 
 /// Whether what a name is, if it is declared, keeps it from being declared as this.
 pub(crate) fn conflicts(first: Option<&NameKind>, second: &NameKind) -> bool
-    ensures { result ≡ kinds.conflicts (option_map (λ k. k.now) first.entry) second.now }
+    ensures { result ≡ kinds.conflicts (option_map (λ k. kind_view k.now) first.entry)
+        (kind_view second.now) }
 {
     match first {
         Some(first) => !may_repeat(first, second),
@@ -57,28 +59,28 @@ pub(crate) fn conflicts(first: Option<&NameKind>, second: &NameKind) -> bool
 
 /// Whether it is the name of a set.
 pub(crate) fn names_set(kind: Option<&NameKind>) -> bool
-    ensures { result ≡ kinds.names_set (option_map (λ k. k.now) kind.entry) }
+    ensures { result ≡ kinds.names_set (option_map (λ k. kind_view k.now) kind.entry) }
 {
     matches!(kind, Some(NameKind::Set))
 }
 
 /// Whether it is the name of a routine.
 pub(crate) fn names_routine(kind: Option<&NameKind>) -> bool
-    ensures { result ≡ kinds.names_routine (option_map (λ k. k.now) kind.entry) }
+    ensures { result ≡ kinds.names_routine (option_map (λ k. kind_view k.now) kind.entry) }
 {
     matches!(kind, Some(NameKind::Routine))
 }
 
 /// Whether it is the name of a function.
 pub(crate) fn names_function(kind: Option<&NameKind>) -> bool
-    ensures { result ≡ kinds.names_function (option_map (λ k. k.now) kind.entry) }
+    ensures { result ≡ kinds.names_function (option_map (λ k. kind_view k.now) kind.entry) }
 {
     matches!(kind, Some(NameKind::Function(_)))
 }
 
 /// Whether it is the name of a variable; a name that is not declared is.
 pub(crate) fn names_variable(kind: Option<&NameKind>) -> bool
-    ensures { result ≡ kinds.names_variable (option_map (λ k. k.now) kind.entry) }
+    ensures { result ≡ kinds.names_variable (option_map (λ k. kind_view k.now) kind.entry) }
 {
     matches!(
         kind,
@@ -88,7 +90,7 @@ pub(crate) fn names_variable(kind: Option<&NameKind>) -> bool
 
 /// Whether it is the name of what has a value and is never assigned.
 pub(crate) fn names_fixed(kind: Option<&NameKind>) -> bool
-    ensures { result ≡ kinds.names_fixed (option_map (λ k. k.now) kind.entry) }
+    ensures { result ≡ kinds.names_fixed (option_map (λ k. kind_view k.now) kind.entry) }
 {
     matches!(
         kind,
@@ -103,7 +105,8 @@ pub(crate) fn names_fixed(kind: Option<&NameKind>) -> bool
 
 /// Whether it is the name of a class of the kind needed.
 pub(crate) fn serves(need: ClassNeed, kind: Option<&NameKind>) -> bool
-    ensures { result ≡ kinds.serves need (option_map (λ k. k.now) kind.entry) }
+    ensures { result ≡ kinds.serves (need_view need)
+        (option_map (λ k. kind_view k.now) kind.entry) }
 {
     let Some(NameKind::Class(Some(heading))) = kind else {
         return false;

@@ -2,6 +2,8 @@ ghost use Rattle.std.specs.Prelude.{◌≡◌, ◌++◌, [], bytes_eq, codes, ma
 ghost use Rattle.ss_routines.specs.View.{section_view};
 ghost use Rattle.ss_check.specs.Declarations.{events_in, heads, routine_facts};
 ghost use Rattle.ss_check.specs.Facts.{fact_of};
+ghost use Rattle.ss_check.specs.FactsView.{facts_view};
+ghost use Rattle.ss_check.specs.KindView.{kind_view};
 ghost use Rattle.ss_check.specs.NameKinds as rules;
 ghost use Rattle.ss_check.specs.ResolvedNames as resolved;
 ghost use Rattle.ss_check.specs.Sorts.{belongs};
@@ -57,7 +59,7 @@ enum Sort {
 impl Sort {
     /// Whether names declared as this are of the sort.
     fn has(self, kind: &NameKind) -> bool
-        ensures { result ≡ belongs self kind.now }
+        ensures { result ≡ belongs self (kind_view kind.now) }
     {
         match kind {
             NameKind::Class(_) => matches!(self, Sort::GlobalVariable | Sort::Class),
@@ -95,7 +97,8 @@ impl NameTables {
 
     /// The number of the global variable `N.class`, or how many there are where it is none.
     pub fn count(&self, alloc: Global, class: &[u8]) -> Result<usize, AllocError>
-        ensures { IfOk result (λ n. n ≡ resolved.number (codes "N." ++ class.now) self.now.globals) }
+        ensures { IfOk result
+            (λ n. n ≡ resolved.number (codes "N." ++ class.now) self.now.globals) }
     {
         let name = prefixed(alloc, b"N.", class)?;
         Ok(self.global(&name))
@@ -195,7 +198,8 @@ fn names_of_sort(
     sort: Sort,
     kinds: &[Fact<NameKind>],
 ) -> Result<NameTable, AllocError>
-    ensures { IfOk result (λ table. table ≡ resolved.each_of (belongs sort) kinds.now) }
+    ensures { IfOk result
+        (λ table. table ≡ resolved.each_of (belongs sort) (facts_view kind_view kinds.now)) }
 {
     let mut table = NameTable::new(alloc);
     for fact in kinds {
@@ -213,7 +217,8 @@ fn attributes_of_classes(
     classes: &[Name],
 ) -> Result<Vec<Vec<Name>>, AllocError>
     ensures { IfOk result (λ tables. map (λ t. t.items) tables.items
-        ≡ map (λ c. resolved.names_where (rules.is_attribute_of c) kinds.now) classes.now) }
+        ≡ map (λ c. resolved.names_where (rules.is_attribute_of c) (facts_view kind_view kinds.now))
+        classes.now) }
 {
     let mut tables = Vec::with_capacity(alloc, classes.len())?;
     for class in classes {
@@ -229,7 +234,7 @@ pub(crate) fn attributes_of(
     class: &[u8],
 ) -> Result<Vec<Name>, AllocError>
     ensures { IfOk result (λ names. names.items
-        ≡ resolved.names_where (rules.is_attribute_of class.now) kinds.now) }
+        ≡ resolved.names_where (rules.is_attribute_of class.now) (facts_view kind_view kinds.now)) }
 {
     let mut names = Vec::new(alloc);
     for fact in kinds {
@@ -242,7 +247,7 @@ pub(crate) fn attributes_of(
 
 /// Whether it is an attribute of this class.
 fn is_attribute_of(class: &[u8], kind: &NameKind) -> bool
-    ensures { result ≡ rules.is_attribute_of class.now kind.now }
+    ensures { result ≡ rules.is_attribute_of class.now (kind_view kind.now) }
 {
     match kind {
         NameKind::Attribute(owner) => class == owner.bytes.as_slice(),
@@ -253,7 +258,8 @@ fn is_attribute_of(class: &[u8], kind: &NameKind) -> bool
 /// The routines, each with the number of its section.
 fn routine_sections(alloc: Global, sections: &[Section]) -> Result<FactTable<usize>, AllocError>
     ensures { IfOk result (λ table. table
-        ≡ resolved.numbered 0 (map routine_facts (heads (map section_view sections.now))) (λ f. f.name)) }
+        ≡ resolved.section_numbers 0 (map routine_facts (heads (map section_view sections.now)))
+        (λ f. f.name)) }
 {
     let mut table = FactTable::new(alloc);
     for (number, section) in sections.iter().enumerate() {
@@ -267,7 +273,8 @@ fn routine_sections(alloc: Global, sections: &[Section]) -> Result<FactTable<usi
 /// The event classes that have a section, each with its number.
 fn event_sections(alloc: Global, sections: &[Section]) -> Result<FactTable<usize>, AllocError>
     ensures { IfOk result (λ table. table
-        ≡ resolved.numbered 0 (map events_in (heads (map section_view sections.now))) (λ n. n)) }
+        ≡ resolved.section_numbers 0 (map events_in (heads (map section_view sections.now)))
+        (λ n. n)) }
 {
     let mut table = FactTable::new(alloc);
     for (number, section) in sections.iter().enumerate() {

@@ -31,7 +31,8 @@ fn add_owned(
     clause: &Clause,
 ) -> Result<(), AllocError>
     ensures { OnOk result (owners.new ≡ owners.old
-        ++ map (λ s. fact s (option_map (λ c. c.now) class.entry)) (declared.owned_in (view.clause_view clause.now))) }
+        ++ map (λ s. fact s (option_map (λ c. c.now) class.entry))
+        (declared.owned_in (view.clause_view clause.now))) }
 {
     let Clause::Owns(sets) = clause else {
         return Ok(());
@@ -50,7 +51,8 @@ fn add_all_owned(
     class: Option<&[u8]>,
     clauses: &Several<Clause>,
 ) -> Result<(), AllocError>
-    ensures { OnOk result (owners.new ≡ owners.old ++ map (λ s. fact s (option_map (λ c. c.now) class.entry))
+    ensures { OnOk result
+        (owners.new ≡ owners.old ++ map (λ s. fact s (option_map (λ c. c.now) class.entry))
         (flat_map declared.owned_in (all_of (several_view view.clause_view clauses.now)))) }
 {
     add_owned(alloc, owners, class, &clauses.first)?;
@@ -66,7 +68,8 @@ pub(crate) fn add_owners(
     owners: &mut FactTable<Option<Name>>,
     item: &Item,
 ) -> Result<(), AllocError>
-    ensures { OnOk result (owners.new ≡ owners.old ++ declared.owners_in (view.item_view item.now)) }
+    ensures { OnOk result
+        (owners.new ≡ owners.old ++ declared.owners_in (view.item_view item.now)) }
 {
     match item {
         Item::OfEvery { class, clauses } => add_all_owned(
@@ -123,7 +126,8 @@ pub(crate) fn add_members(
     members: &mut FactTable<Name>,
     item: &Item,
 ) -> Result<(), AllocError>
-    ensures { OnOk result (members.new ≡ members.old ++ declared.members_in (view.item_view item.now)) }
+    ensures { OnOk result
+        (members.new ≡ members.old ++ declared.members_in (view.item_view item.now)) }
 {
     match item {
         Item::OfEvery { class, clauses } => add_all_joined(alloc, members, class.bytes(), clauses),
@@ -157,7 +161,8 @@ fn add_all_attributes(
     clauses: &Several<Clause>,
 ) -> Result<(), AllocError>
     ensures { OnOk result (attributes.new ≡ attributes.old
-        ++ flat_map (declared.attribute_classes class.now) (all_of (several_view view.clause_view clauses.now))) }
+        ++ flat_map (declared.attribute_classes class.now)
+        (all_of (several_view view.clause_view clauses.now))) }
 {
     add_owned_attributes(attributes, class, &clauses.first)?;
     for clause in &clauses.others {
@@ -168,7 +173,8 @@ fn add_all_attributes(
 
 /// Adds the class of each attribute that an item declares.
 pub(crate) fn add_attributes(attributes: &mut NameCounts, item: &Item) -> Result<(), AllocError>
-    ensures { OnOk result (attributes.new ≡ attributes.old ++ declared.attributes_in (view.item_view item.now)) }
+    ensures { OnOk result
+        (attributes.new ≡ attributes.old ++ declared.attributes_in (view.item_view item.now)) }
 {
     match item {
         Item::OfEvery { class, clauses } => add_all_attributes(attributes, class.bytes(), clauses),

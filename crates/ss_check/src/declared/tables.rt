@@ -2,8 +2,8 @@ ghost use Rattle.std.specs.Prelude.{◌≡◌, ◌++◌, [], length, IfOk, OnOk}
 ghost use Rattle.ss_preamble.specs.View as items;
 ghost use Rattle.ss_routines.specs.Tree.{listing_names};
 ghost use Rattle.ss_routines.specs.View as heads;
-ghost use Rattle.ss_check.specs.Adding.{entry_at, with_entry, with_head};
-ghost use Rattle.ss_check.specs.Declarations.{tables_of};
+ghost use Rattle.ss_check.specs.Increments.{headed_item, with_item, with_head};
+ghost use Rattle.ss_check.specs.Declarations.{declared_by};
 ghost use Rattle.ss_check.specs.NameKinds.{language_facts};
 
 use crate::declared::fact_table::FactTable;
@@ -21,12 +21,21 @@ use ss_preamble::{Heading, ItemAt};
 use ss_program::Name;
 use ss_routines::{Listing, Section, SectionKind};
 use std::alloc::{AllocError, Global};
+use std::marker::Model;
 
 /// How many given and how many yielded parameters a routine has.
-#[derive(Clone, Copy, PartialEq, Eq)]
+#[derive(Drop)]
 pub struct Counts {
     pub given: usize,
     pub yielded: usize,
+}
+
+impl Model for Counts {
+    ghost use Rattle.ss_check.specs.Declarations.{Counts as ParameterCounts};
+
+    ghost Value = { ParameterCounts };
+
+    ghost view = { λ a. record { given = a.given; yielded = a.yielded } };
 }
 
 /// What items and heads say of names (docs/LANGUAGE.md, "Rules of the checker").
@@ -56,10 +65,31 @@ pub struct Tables {
     pub has_main: bool,
 }
 
+impl Model for Tables {
+    ghost use Rattle.ss_check.specs.Declarations.{Declared};
+
+    ghost Value = { Declared };
+
+    ghost view = { λ a. record {
+      kinds = a.kinds;
+      attributes = a.attributes;
+      owners = a.owners;
+      members = a.members;
+      disciplines = a.disciplines;
+      ties = a.ties;
+      external = a.external;
+      priority = a.priority;
+      classes = a.classes;
+      events = a.events;
+      routines = a.routines;
+      has_main = a.has_main;
+    } };
+}
+
 impl Tables {
     /// What no item and no head says: what the language declares before all.
     pub fn new(alloc: Global) -> Result<Self, AllocError>
-        ensures { IfOk result (λ tables. tables ≡ tables_of [] []) }
+        ensures { IfOk result (λ tables. tables ≡ declared_by [] []) }
     {
         Ok(Tables {
             kinds: language_kinds(alloc)?,
@@ -78,14 +108,15 @@ impl Tables {
     }
 
     /// Adds what an item says, under this heading.
-    #[tactic(auto, unfolding(crate::specs::Adding::with_entry))]
+    #[tactic(auto, unfolding(crate::specs::Increments::with_item))]
     pub fn add_item(
         &mut self,
         alloc: Global,
         heading: Option<Heading>,
         one: &ItemAt,
     ) -> Result<(), AllocError>
-        ensures { OnOk result (self.new ≡ with_entry self.old (entry_at heading (items.item_at_view one.now))) }
+        ensures { OnOk result
+            (self.new ≡ with_item self.old (headed_item heading (items.item_at_view one.now))) }
     {
         let item = &one.item;
         add_declarations(alloc, &mut self.kinds, heading, item)?;
@@ -100,9 +131,10 @@ impl Tables {
     }
 
     /// Adds what the head of a section says.
-    #[tactic(auto, unfolding(crate::specs::Adding::with_head))]
+    #[tactic(auto, unfolding(crate::specs::Increments::with_head))]
     pub fn add_head(&mut self, section: &Section) -> Result<(), AllocError>
-        ensures { OnOk result (self.new ≡ with_head self.old (heads.section_view section.now).head) }
+        ensures { OnOk result
+            (self.new ≡ with_head self.old (heads.section_view section.now).head) }
     {
         match &section.kind {
             SectionKind::Main => {

@@ -80,7 +80,8 @@ fn class_kind(
     class: &[u8],
 ) -> Result<ClassKind, AllocError>
     ensures { IfOk result (λ kind. kind
-        ≡ resolved.class_kind tables.now names.now rankings.now class.now (kind_of tables.now class.now)) }
+        ≡ resolved.class_kind tables.now names.now rankings.now class.now
+        (kind_of tables.now class.now)) }
 {
     match tables.kinds.get(class) {
         Some(NameKind::Class(Some(Heading::PermanentEntities))) => {

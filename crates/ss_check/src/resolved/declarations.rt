@@ -2,7 +2,7 @@ ghost use Rattle.std.specs.Prelude.{◌≡◌, [], ◌∷◌, ◌++◌, map, opt
 ghost use Rattle.std.specs.List.{flat_map};
 ghost use Rattle.ss_words.specs.Lists.{all_of, several_view};
 ghost use Rattle.ss_preamble.specs.View as view;
-ghost use Rattle.ss_check.specs.declared.declared.name_kind.NameKind.TheVariants as kind;
+ghost use Rattle.ss_check.specs.NameKind as kind;
 ghost use Rattle.ss_check.specs.Declarations as declared;
 ghost use Rattle.ss_check.specs.Facts.{fact};
 ghost use Rattle.ss_check.specs.NameKinds.{class_facts, set_facts};
@@ -84,7 +84,8 @@ fn add_member_kept(
     set: &[u8],
 ) -> Result<(), AllocError>
     ensures { OnOk result
-        (kinds.new ≡ kinds.old ++ fact (prefix.now ++ set.now) (kind.MemberKept kept set.now) ∷ []) }
+        (kinds.new ≡ kinds.old
+        ++ fact (prefix.now ++ set.now) (kind.MemberKept kept set.now) ∷ []) }
 {
     let name = prefixed(alloc, prefix, set)?;
     let set = copied(alloc, set)?;
@@ -111,7 +112,8 @@ fn add_classes(
     classes: &Names,
 ) -> Result<(), AllocError>
     ensures { OnOk result (kinds.new
-        ≡ kinds.old ++ flat_map (class_facts (Some heading)) (all_of (several_view (λ n. n) classes.now))) }
+        ≡ kinds.old
+        ++ flat_map (class_facts (Some heading)) (all_of (several_view (λ n. n) classes.now))) }
 {
     add_class(alloc, kinds, Some(heading), classes.first.bytes())?;
     for class in &classes.others {
@@ -140,7 +142,9 @@ fn add_attributes(
     names: &Names,
 ) -> Result<(), AllocError>
     ensures { OnOk result (kinds.new
-        ≡ kinds.old ++ map (λ n. fact n (kind.Attribute class.now)) (all_of (several_view (λ n. n) names.now))) }
+        ≡ kinds.old
+        ++ map (λ n. fact n (kind.Attribute class.now))
+        (all_of (several_view (λ n. n) names.now))) }
 {
     kinds.add(
         names.first.bytes(),
@@ -160,7 +164,9 @@ fn add_clause(
     clause: &Clause,
 ) -> Result<(), AllocError>
     ensures { OnOk result (kinds.new
-        ≡ kinds.old ++ declared.clause_facts (option_map (λ c. c.now) class.entry) (view.clause_view clause.now)) }
+        ≡ kinds.old
+        ++ declared.clause_facts (option_map (λ c. c.now) class.entry)
+        (view.clause_view clause.now)) }
 {
     match clause {
         Clause::Has(names) => match class {

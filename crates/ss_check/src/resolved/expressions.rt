@@ -6,6 +6,7 @@ ghost use Rattle.ss_routines.specs.View.{application_view, expr_view, term_view,
 ghost use Rattle.ss_program.specs.ProgramExpr.{expr_of, term_of, factor_of, arguments_of};
 ghost use Rattle.ss_program.specs.ProgramExpr.{subscript_of, subscripted_of};
 ghost use Rattle.ss_program.specs.ProgramExpr as tree;
+ghost use Rattle.ss_check.specs.KindView.{function_view, kind_view};
 ghost use Rattle.ss_check.specs.Resolved as resolved;
 ghost use Rattle.ss_check.specs.ResolvedNames as names;
 ghost use Rattle.ss_check.specs.Scope.{in_scope};
@@ -69,7 +70,8 @@ pub(crate) fn resolve_subscript(
     subscript: &Option<Box<ss_routines::Expr>>,
 ) -> Result<Option<Box<Sum>>, AllocError>
     ensures { IfOk result (λ s. option_map (λ e. expr_of e.value) s
-        ≡ in_scope scope.entry resolved.resolved_option (option_view (λ b. expr_view b.value) subscript.now)) }
+        ≡ in_scope scope.entry resolved.resolved_option
+        (option_view (λ b. expr_view b.value) subscript.now)) }
 {
     match subscript {
         None => Ok(None),
@@ -87,7 +89,8 @@ fn add_values(
     es: &[ss_routines::Expr],
 ) -> Result<(), AllocError>
     ensures { OnOk result (list.new.items
-        ≡ list.old.items ++ map (in_scope scope.entry resolved.resolved_expr) (map expr_view es.now)) }
+        ≡ list.old.items
+        ++ map (in_scope scope.entry resolved.resolved_expr) (map expr_view es.now)) }
 {
     for e in es {
         list.push(resolve_expr(scope, e)?)?;
@@ -114,7 +117,8 @@ pub(crate) fn resolve_several(
     es: &Several<ss_routines::Expr>,
 ) -> Result<Values, AllocError>
     ensures { IfOk result (λ xs. xs
-        ≡ map (in_scope scope.entry resolved.resolved_expr) (all_of (several_view expr_view es.now))) }
+        ≡ map (in_scope scope.entry resolved.resolved_expr)
+        (all_of (several_view expr_view es.now))) }
 {
     let mut list = Vec::with_capacity(scope.alloc, 1 + es.others.len())?;
     list.push(resolve_expr(scope, &es.first)?)?;
@@ -128,7 +132,8 @@ pub(crate) fn resolve_listed(
     es: &Listing<ss_routines::Expr>,
 ) -> Result<Values, AllocError>
     ensures { IfOk result (λ xs. xs
-        ≡ map (in_scope scope.entry resolved.resolved_expr) (listing_names (listing_view expr_view es.now))) }
+        ≡ map (in_scope scope.entry resolved.resolved_expr)
+        (listing_names (listing_view expr_view es.now))) }
 {
     match es {
         Listing::Unwritten => Ok(Values {
@@ -194,7 +199,8 @@ fn resolve_factor(scope: Scope<'_>, f: &ss_routines::Factor) -> Result<Factor, A
 #[cycle(resolve)]
 fn resolve_application(scope: Scope<'_>, a: &ss_routines::Application) -> Result<Factor, AllocError>
     ensures { IfOk result
-        (λ x. factor_of x ≡ in_scope scope.entry resolved.resolved_factor (application_view a.now)) }
+        (λ x. factor_of x
+        ≡ in_scope scope.entry resolved.resolved_factor (application_view a.now)) }
 {
     let mut more = Vec::with_capacity(scope.alloc, a.others.len())?;
     for other in &a.others {
@@ -225,7 +231,7 @@ pub(crate) fn plain_factor(
     subscript: Option<Box<Sum>>,
 ) -> Result<Factor, AllocError>
     ensures { IfOk result (λ f. factor_of f
-        ≡ in_scope scope.entry names.factor_of (option_map (λ k. k.now) kind.entry)
+        ≡ in_scope scope.entry names.factor_of (option_map (λ k. kind_view k.now) kind.entry)
         name.now (option_map (λ e. expr_of e.value) subscript)) }
 {
     match kind {
@@ -266,7 +272,8 @@ pub(crate) fn applied_factor(
     arguments: Arguments,
 ) -> Result<Factor, AllocError>
     ensures { IfOk result
-        (λ f. factor_of f ≡ in_scope scope.entry names.applied_factor (option_map (λ k. k.now) kind.entry)
+        (λ f. factor_of f
+        ≡ in_scope scope.entry names.applied_factor (option_map (λ k. kind_view k.now) kind.entry)
         name.now (arguments_of arguments).0 (arguments_of arguments).1) }
 {
     match kind {
@@ -282,7 +289,7 @@ fn function_factor(
     arguments: Arguments,
 ) -> Result<Factor, AllocError>
     ensures { IfOk result
-        (λ f. factor_of f ≡ in_scope scope.entry names.function_factor function
+        (λ f. factor_of f ≡ in_scope scope.entry names.function_factor (function_view function)
         (arguments_of arguments).0 (arguments_of arguments).1) }
 {
     match function {
@@ -306,7 +313,8 @@ fn quotient_factor(scope: Scope<'_>, arguments: Arguments) -> Result<Factor, All
 }
 
 fn remainder_factor(scope: Scope<'_>, arguments: Arguments) -> Result<Factor, AllocError>
-    ensures { IfOk result (λ f. factor_of f ≡ in_scope scope.entry names.factor_of_two tree.remainder
+    ensures { IfOk result
+        (λ f. factor_of f ≡ in_scope scope.entry names.factor_of_two tree.remainder
         (arguments_of arguments).0 (arguments_of arguments).1) }
 {
     let Arguments { first, more } = arguments;

@@ -102,7 +102,8 @@ fn resolve_qualifier(
     qualifier: &ss_routines::Qualifier,
 ) -> Result<Qualifier, AllocError>
     ensures { IfOk result
-        (λ x. x ≡ in_scope scope.entry resolved.resolved_qualifier (view.qualifier_view qualifier.now)) }
+        (λ x. x ≡ in_scope scope.entry resolved.resolved_qualifier
+        (view.qualifier_view qualifier.now)) }
 {
     Ok(Qualifier {
         word: qualifier.word,
@@ -127,7 +128,8 @@ fn resolve_qualifiers(
 
 fn resolve_telling(scope: Scope<'_>, computed: &Computed) -> Result<Telling, AllocError>
     ensures { IfOk result
-        (λ x. x ≡ in_scope scope.entry resolved.resolved_telling (view.computed_view computed.now)) }
+        (λ x. x ≡ in_scope scope.entry resolved.resolved_telling
+        (view.computed_view computed.now)) }
 {
     Ok(Telling {
         target: resolve_target(scope, &computed.target)?,
@@ -155,7 +157,8 @@ fn resolve_phrase(
     has_do: bool,
 ) -> Result<ForPhrase, AllocError>
     ensures { IfOk result
-        (λ x. x ≡ in_scope scope.entry resolved.resolved_phrase (view.phrase_view phrase.now) has_do) }
+        (λ x. x ≡ in_scope scope.entry resolved.resolved_phrase
+        (view.phrase_view phrase.now) has_do) }
 {
     let qualifiers = resolve_qualifiers(scope, &phrase.qualifiers)?;
     Ok(ForPhrase {

@@ -18,7 +18,8 @@ fn resolve_question(
     question: &ss_routines::Question,
 ) -> Result<Question, AllocError>
     ensures { IfOk result
-        (λ x. x ≡ in_scope scope.entry resolved.resolved_question (view.question_view question.now)) }
+        (λ x. x ≡ in_scope scope.entry resolved.resolved_question
+        (view.question_view question.now)) }
 {
     match question {
         ss_routines::Question::Holds(c) => Ok(Question::Whether(resolve_condition(scope, c)?)),
@@ -61,7 +62,8 @@ pub(crate) fn resolve_places(
 ) -> Result<Vec<Spot>, AllocError>
     requires { list_any (λ s. has_wrong_picture s.place) (view.spots places.items) ≡ false }
     ensures { IfOk result
-        (λ xs. xs.items ≡ map (in_scope scope.entry resolved.resolved_spot) (view.spots places.items)) }
+        (λ xs. xs.items
+        ≡ map (in_scope scope.entry resolved.resolved_spot) (view.spots places.items)) }
 {
     let mut list = Vec::with_capacity(scope.alloc, places.len())?;
     for spot in places {
@@ -79,7 +81,8 @@ fn push_place(
 ) -> Result<(), AllocError>
     requires { has_wrong_picture (view.spot_view spot).place ≡ false }
     ensures { OnOk result (list.new.items
-        ≡ list.old.items ++ in_scope scope.entry resolved.resolved_spot (view.spot_view spot) ∷ []) }
+        ≡ list.old.items
+        ++ in_scope scope.entry resolved.resolved_spot (view.spot_view spot) ∷ []) }
 {
     let line = spot.line;
     let place = resolve_place(scope, &spot.place);

@@ -49,7 +49,7 @@ impl<'a> Rankings<'a> {
     }
 
     /// The discipline of a set, if one is given.
-    #[tactic(auto, using(crate::proofs::Named::fact_of_view))]
+    #[tactic(auto, using(crate::proofs::TableTurns::fact_of_view))]
     pub(crate) fn discipline(&self, set: &[u8]) -> Option<&'a SetDiscipline>
         ensures { option_map (λ k. view.set_discipline_view k.now) result
             ≡ fact_of self.now.disciplines set.now }
@@ -58,7 +58,7 @@ impl<'a> Rankings<'a> {
     }
 
     /// The keys that break the ties of an event class, if some are given.
-    #[tactic(auto, using(crate::proofs::Named::fact_of_view))]
+    #[tactic(auto, using(crate::proofs::TableTurns::fact_of_view))]
     pub(crate) fn ties(&self, event: &[u8]) -> Option<&'a Several<Key>>
         ensures { option_map (λ keys. all_of (several_view view.key_view keys.now)) result
             ≡ fact_of self.now.ties event.now }
@@ -83,14 +83,15 @@ fn add_disciplines<'a>(
 }
 
 /// Adds this as the discipline of sets.
-#[tactic(auto, using(crate::proofs::Named::facts_view_push))]
+#[tactic(auto, using(crate::proofs::TableTurns::facts_view_push))]
 fn add_kinds<'a>(
     disciplines: &mut FactTable<&'a SetDiscipline>,
     sets: &Names,
     kind: &'a SetDiscipline,
 ) -> Result<(), AllocError>
     ensures { OnOk result (facts_view (λ k. view.set_discipline_view k.now) disciplines.new
-        ≡ facts_view (λ k. view.set_discipline_view k.now) disciplines.old ++ map (λ s. fact s (view.set_discipline_view kind.now))
+        ≡ facts_view (λ k. view.set_discipline_view k.now) disciplines.old
+        ++ map (λ s. fact s (view.set_discipline_view kind.now))
         (all_of (several_view (λ n. n) sets.now))) }
 {
     disciplines.add(sets.first.bytes(), kind)?;
@@ -101,9 +102,10 @@ fn add_kinds<'a>(
 }
 
 /// Adds the keys of an event class's ties that an item gives.
-#[tactic(auto, using(crate::proofs::Named::facts_view_push))]
+#[tactic(auto, using(crate::proofs::TableTurns::facts_view_push))]
 fn add_ties<'a>(ties: &mut FactTable<&'a Several<Key>>, item: &'a Item) -> Result<(), AllocError>
-    ensures { OnOk result (facts_view (λ keys. all_of (several_view view.key_view keys.now)) ties.new
+    ensures { OnOk result
+        (facts_view (λ keys. all_of (several_view view.key_view keys.now)) ties.new
         ≡ facts_view (λ keys. all_of (several_view view.key_view keys.now)) ties.old
         ++ declared.ties_in (view.item_view item.now)) }
 {

@@ -3,6 +3,7 @@ ghost use Rattle.ss_words.specs.Lists.{all_of, several_view};
 ghost use Rattle.ss_words.specs.Reading.{option_view};
 ghost use Rattle.ss_routines.specs.View.{expr_view, reference_view};
 ghost use Rattle.ss_program.specs.ProgramExpr.{expr_of, factor_of, subscript_of};
+ghost use Rattle.ss_check.specs.KindView.{kind_view};
 ghost use Rattle.ss_check.specs.Resolved as resolved;
 ghost use Rattle.ss_check.specs.ResolvedNames as names;
 ghost use Rattle.ss_check.specs.Scope.{in_scope};
@@ -41,7 +42,8 @@ fn value_factor(
     subscript: Option<Box<Sum>>,
 ) -> Result<Factor, AllocError>
     ensures { IfOk result
-        (λ f. factor_of f ≡ in_scope scope.entry names.value_factor (option_map (λ k. k.now) kind.entry)
+        (λ f. factor_of f
+        ≡ in_scope scope.entry names.value_factor (option_map (λ k. kind_view k.now) kind.entry)
         name.now (option_map (λ e. expr_of e.value) subscript)) }
 {
     let Some(first) = subscript else {
@@ -79,7 +81,8 @@ fn target_of(
     subscript: Option<Box<Sum>>,
 ) -> Result<Target, AllocError>
     ensures { IfOk result
-        (λ x. x ≡ in_scope scope.entry names.target_of (option_map (λ k. k.now) kind.entry)
+        (λ x. x ≡ in_scope scope.entry names.target_of
+        (option_map (λ k. kind_view k.now) kind.entry)
         name.now (option_map (λ e. expr_of e.value) subscript)) }
 {
     match kind {
@@ -109,7 +112,8 @@ pub(crate) fn resolve_target(scope: Scope<'_>, r: &Reference) -> Result<Target, 
 /// Puts targets at the end of a list.
 fn add_targets(scope: Scope<'_>, list: &mut Vec<Target>, rs: &[Reference]) -> Result<(), AllocError>
     ensures { OnOk result (list.new.items
-        ≡ list.old.items ++ map (in_scope scope.entry resolved.resolved_target) (map reference_view rs.now)) }
+        ≡ list.old.items
+        ++ map (in_scope scope.entry resolved.resolved_target) (map reference_view rs.now)) }
 {
     for r in rs {
         list.push(resolve_target(scope, r)?)?;
@@ -120,7 +124,8 @@ fn add_targets(scope: Scope<'_>, list: &mut Vec<Target>, rs: &[Reference]) -> Re
 /// The targets of a list, in order.
 pub(crate) fn resolve_targets(scope: Scope<'_>, rs: &[Reference]) -> Result<Targets, AllocError>
     ensures { IfOk result
-        (λ xs. xs ≡ map (in_scope scope.entry resolved.resolved_target) (map reference_view rs.now)) }
+        (λ xs. xs
+        ≡ map (in_scope scope.entry resolved.resolved_target) (map reference_view rs.now)) }
 {
     let mut list = Vec::with_capacity(scope.alloc, rs.len())?;
     add_targets(scope, &mut list, rs)?;

@@ -2,6 +2,7 @@ ghost use Rattle.std.specs.Prelude.{◌≡◌, option_map};
 ghost use Rattle.ss_program.specs.ProgramExpr.{expr_of, subscript_of};
 ghost use Rattle.ss_program.specs.declared.variable.Variable.TheVariants as variable;
 ghost use Rattle.ss_check.specs.Declarations.{kind_of};
+ghost use Rattle.ss_check.specs.KindView.{kind_view};
 ghost use Rattle.ss_check.specs.ResolvedNames as resolved;
 ghost use Rattle.ss_check.specs.Scope.{in_scope};
 
@@ -25,15 +26,17 @@ pub(crate) struct Scope<'a> {
 
 /// What a name is declared as, if it is.
 pub(crate) fn kind<'a>(scope: Scope<'a>, name: &[u8]) -> Option<&'a NameKind>
-    ensures { option_map (λ k. k.now) result ≡ kind_of scope.entry.whole.now name.now }
+    ensures { option_map (λ k. kind_view k.now) result ≡ kind_of scope.entry.whole.now name.now }
 {
-    scope.whole.kinds.get(name)
+    let whole = scope.whole;
+    whole.kinds.get(name)
 }
 
 /// The variable that a name of this kind stands for.
 pub(crate) fn variable_of(scope: Scope<'_>, kind: Option<&NameKind>, name: &[u8]) -> Variable
     ensures { result
-        ≡ in_scope scope.entry resolved.variable_of (option_map (λ k. k.now) kind.entry) name.now }
+        ≡ in_scope scope.entry resolved.variable_of
+        (option_map (λ k. kind_view k.now) kind.entry) name.now }
 {
     match kind {
         None => Variable::Local(number(scope.locals, name)),
@@ -80,7 +83,8 @@ pub(crate) fn owner_subscript(
     ensures { subscript_of result ≡ in_scope scope.entry resolved.owner_subscript set.now
         (option_map (λ e. expr_of e.value) subscript) }
 {
-    match scope.whole.owners.get(set) {
+    let whole = scope.whole;
+    match whole.owners.get(set) {
         Some(Some(class)) => class_subscript(scope, &class.bytes, subscript),
         Some(None) | None => system_subscript(subscript),
     }
@@ -106,7 +110,8 @@ pub(crate) fn member_subscript(
     ensures { subscript_of result ≡ in_scope scope.entry resolved.member_subscript set.now
         (option_map (λ e. expr_of e.value) subscript) }
 {
-    match scope.whole.members.get(set) {
+    let whole = scope.whole;
+    match whole.members.get(set) {
         Some(class) => class_subscript(scope, &class.bytes, subscript),
         None => class_subscript(scope, b"", subscript),
     }

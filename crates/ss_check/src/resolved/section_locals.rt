@@ -2,7 +2,7 @@ ghost use Rattle.std.specs.Prelude.{◌≡◌, map, IfOk, OnOk};
 ghost use Rattle.std.specs.List.{flat_map, fold};
 ghost use Rattle.ss_routines.specs.Tree.{listing_names};
 ghost use Rattle.ss_routines.specs.View as view;
-ghost use Rattle.ss_program.specs.Indexed.{with_name};
+ghost use Rattle.ss_program.specs.NameIndex.{with_name};
 ghost use Rattle.ss_check.specs.Declarations.{parameters};
 ghost use Rattle.ss_check.specs.ResolvedNames as resolved;
 ghost use Rattle.ss_check.specs.UseView.{use_view};
@@ -81,7 +81,8 @@ fn add_variables(
     locals: &mut NameTable,
     place: &Place,
 ) -> Result<(), AllocError>
-    ensures { OnOk result (locals.new ≡ fold with_name locals.old (flat_map (resolved.undeclared whole.now)
+    ensures { OnOk result
+        (locals.new ≡ fold with_name locals.old (flat_map (resolved.undeclared_name whole.now)
         (flat_map resolved.variable_used (uses_of.uses (view.place_view place.now))))) }
 {
     let mut uses = UseList::new(alloc);
@@ -91,7 +92,8 @@ fn add_variables(
 
 /// Adds the names that these take for variables and that are not declared.
 fn add_used(whole: &Tables, locals: &mut NameTable, uses: &[Use<'_>]) -> Result<(), AllocError>
-    ensures { OnOk result (locals.new ≡ fold with_name locals.old (flat_map (resolved.undeclared whole.now)
+    ensures { OnOk result
+        (locals.new ≡ fold with_name locals.old (flat_map (resolved.undeclared_name whole.now)
         (flat_map resolved.variable_used (map use_view uses.now)))) }
 {
     for one in uses {
@@ -102,7 +104,8 @@ fn add_used(whole: &Tables, locals: &mut NameTable, uses: &[Use<'_>]) -> Result<
 
 /// Adds the name that this takes for a variable, if it does and it is not declared.
 fn add_variable(whole: &Tables, locals: &mut NameTable, one: &Use<'_>) -> Result<(), AllocError>
-    ensures { OnOk result (locals.new ≡ fold with_name locals.old (flat_map (resolved.undeclared whole.now)
+    ensures { OnOk result
+        (locals.new ≡ fold with_name locals.old (flat_map (resolved.undeclared_name whole.now)
         (resolved.variable_used (use_view one.now)))) }
 {
     match one {
@@ -122,7 +125,7 @@ fn add_variable(whole: &Tables, locals: &mut NameTable, one: &Use<'_>) -> Result
 /// Adds a name that is not declared.
 fn add_undeclared(whole: &Tables, locals: &mut NameTable, name: &[u8]) -> Result<(), AllocError>
     ensures { OnOk result
-        (locals.new ≡ fold with_name locals.old (resolved.undeclared whole.now name.now)) }
+        (locals.new ≡ fold with_name locals.old (resolved.undeclared_name whole.now name.now)) }
 {
     if whole.kinds.has(name) {
         return Ok(());

@@ -22,7 +22,8 @@ pub(crate) fn resolve_section(
     names: &NameTables,
     section: ss_routines::Section,
 ) -> Result<Section, AllocError>
-    requires { list_any (λ s. has_wrong_picture s.place) (view.section_view section).places ≡ false }
+    requires { list_any (λ s. has_wrong_picture s.place) (view.section_view section).places
+        ≡ false }
     ensures { IfOk result
         (λ s. s ≡ resolved.resolved_section whole.now names.now (view.section_view section)) }
 {
@@ -88,7 +89,8 @@ fn with_places(
       yielded = begun.head.yielded;
       saving = begun.head.saving;
       locals = begun.locals;
-      places = map (resolved.resolved_spot whole.now names.now begun.locals) (view.spots places.items);
+      places = map (resolved.resolved_spot whole.now names.now begun.locals)
+          (view.spots places.items);
     }) }
 {
     let scope = Scope {

@@ -104,7 +104,8 @@ fn discipline(
 /// Whose a set's lists are.
 fn owner(tables: &Tables, names: &NameTables, set: &[u8]) -> Owner
     ensures { result
-        ≡ resolved.resolved_owner names.now.classes (unwrap_or (fact_of tables.now.owners set.now) None) }
+        ≡ resolved.resolved_owner names.now.classes
+        (unwrap_or (fact_of tables.now.owners set.now) None) }
 {
     match tables.owners.get(set) {
         Some(Some(class)) => Owner::OwnedBy(names.class(&class.bytes)),

@@ -85,7 +85,8 @@ fn target_and_value(
     value: &ss_routines::Expr,
 ) -> Result<(Target, Expr), AllocError>
     ensures target { IfOk result
-        (λ x. x.0 ≡ in_scope scope.entry resolved.resolved_target (view.reference_view target.now)) }
+        (λ x. x.0
+        ≡ in_scope scope.entry resolved.resolved_target (view.reference_view target.now)) }
     ensures value { IfOk result
         (λ x. x.1 ≡ in_scope scope.entry resolved.resolved_expr (view.expr_view value.now)) }
 {
@@ -127,7 +128,8 @@ fn resolve_making(scope: Scope<'_>, making: &ss_routines::Making) -> Result<Maki
 
 fn resolve_position(scope: Scope<'_>, place: &FilePlace) -> Result<Position, AllocError>
     ensures { IfOk result
-        (λ x. x ≡ in_scope scope.entry resolved.resolved_position (view.file_place_view place.now)) }
+        (λ x. x ≡ in_scope scope.entry resolved.resolved_position
+        (view.file_place_view place.now)) }
 {
     match place {
         FilePlace::ByDiscipline => Ok(Position::ByRule),
@@ -181,7 +183,8 @@ fn target_and_set(
     set: &Reference,
 ) -> Result<(Target, SetRef), AllocError>
     ensures target { IfOk result
-        (λ x. x.0 ≡ in_scope scope.entry resolved.resolved_target (view.reference_view target.now)) }
+        (λ x. x.0
+        ≡ in_scope scope.entry resolved.resolved_target (view.reference_view target.now)) }
     ensures set { IfOk result
         (λ x. x.1 ≡ in_scope scope.entry resolved.resolved_set (view.reference_view set.now)) }
 {
@@ -197,7 +200,8 @@ fn target_and_set(
 
 fn resolve_transfer(scope: Scope<'_>, transfer: &Transfer) -> Result<Place, AllocError>
     ensures { IfOk result
-        (λ x. x ≡ in_scope scope.entry resolved.resolved_transfer (view.transfer_view transfer.now)) }
+        (λ x. x ≡ in_scope scope.entry resolved.resolved_transfer
+        (view.transfer_view transfer.now)) }
 {
     match transfer {
         Transfer::Call {
@@ -259,7 +263,8 @@ fn resolve_schedule(
     details: &Details,
     when: &ss_routines::When,
 ) -> Result<Timing, AllocError>
-    ensures { IfOk result (λ x. x ≡ in_scope scope.entry resolved.resolved_schedule article event.now
+    ensures { IfOk result
+        (λ x. x ≡ in_scope scope.entry resolved.resolved_schedule article event.now
         (view.details_view details.now) (view.when_view when.now)) }
 {
     let (listing, called, arguments) = match details {
@@ -298,7 +303,8 @@ fn notice_and_time(
     called: &Option<Reference>,
     when: &ss_routines::When,
 ) -> Result<(Notice, When), AllocError>
-    ensures notice { IfOk result (λ x. x.0 ≡ in_scope scope.entry resolved.resolved_notice article event.now
+    ensures notice { IfOk result
+        (λ x. x.0 ≡ in_scope scope.entry resolved.resolved_notice article event.now
         (option_view view.reference_view called.now)) }
     ensures when { IfOk result
         (λ x. x.1 ≡ in_scope scope.entry resolved.resolved_when (view.when_view when.now)) }
@@ -359,10 +365,12 @@ fn resolve_picture(alloc: Global, lines: &[Vec<u8>]) -> Result<Picture, AllocErr
 }
 
 fn resolve_exchange(scope: Scope<'_>, exchange: &Exchange) -> Result<Place, AllocError>
-    requires { has_wrong_picture (written.Simply (simple.Exchanges (view.exchange_view exchange.now)))
+    requires { has_wrong_picture
+        (written.Simply (simple.Exchanges (view.exchange_view exchange.now)))
         ≡ false }
     ensures { IfOk result
-        (λ x. x ≡ in_scope scope.entry resolved.resolved_exchange (view.exchange_view exchange.now)) }
+        (λ x. x ≡ in_scope scope.entry resolved.resolved_exchange
+        (view.exchange_view exchange.now)) }
 {
     match exchange {
         Exchange::Read(targets) => Ok(Place::Read(resolve_several_targets(scope, targets)?)),

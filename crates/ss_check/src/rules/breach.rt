@@ -1,10 +1,11 @@
 ghost use Rattle.std.specs.Prelude.{◌≡◌, false, [], map, None, IfErr, IfOk, OnOk};
 ghost use Rattle.ss_preamble.specs.View as preamble;
 ghost use Rattle.ss_routines.specs.View as view;
-ghost use Rattle.ss_check.specs.Adding as later;
-ghost use Rattle.ss_check.specs.Adding.{IsOnce};
+ghost use Rattle.ss_check.specs.Increments as later;
+ghost use Rattle.ss_check.specs.Increments.{IsOnce};
 ghost use Rattle.ss_check.specs.Breach as rules;
 ghost use Rattle.ss_check.specs.Declarations as declared;
+ghost use Rattle.ss_check.specs.Declarations.{declared_by, declared_by_program};
 ghost use Rattle.ss_check.specs.Statements.{IsBreach};
 
 use crate::declared::tables::Tables;
@@ -22,9 +23,11 @@ use std::alloc::{AllocError, Global};
 /// that it breaks; `Memory` that a growth was refused.
 pub fn check_rules(alloc: Global, decls: &Decls, sections: &[Section]) -> Result<Tables, CheckFault>
     ensures sound { IfOk result
-        (λ _. rules.breach (preamble.decls_view decls.now) (map view.section_view sections.now) ≡ None) }
+        (λ _. rules.breach (preamble.decls_view decls.now) (map view.section_view sections.now)
+        ≡ None) }
     ensures ok { IfOk result (λ tables. tables
-        ≡ declared.tables (preamble.decls_view decls.now).items (map view.section_view sections.now)) }
+        ≡ declared_by_program (preamble.decls_view decls.now).items
+        (map view.section_view sections.now)) }
     ensures err { IfErr result (λ f. IsBreach f
         (rules.breach (preamble.decls_view decls.now) (map view.section_view sections.now))) }
 {
@@ -46,9 +49,11 @@ fn check_whole(
     sections: &[Section],
 ) -> Result<(), CheckFault>
     requires { whole.now
-        ≡ declared.tables (preamble.decls_view decls.now).items (map view.section_view sections.now) }
+        ≡ declared_by_program (preamble.decls_view decls.now).items
+        (map view.section_view sections.now) }
     ensures sound { IfOk result
-        (λ _. rules.breach (preamble.decls_view decls.now) (map view.section_view sections.now) ≡ None) }
+        (λ _. rules.breach (preamble.decls_view decls.now) (map view.section_view sections.now)
+        ≡ None) }
     ensures err { IfErr result (λ f. IsBreach f
         (rules.breach (preamble.decls_view decls.now) (map view.section_view sections.now))) }
 {
@@ -68,10 +73,12 @@ fn check_statements(
     sections: &[Section],
 ) -> Result<(), CheckFault>
     requires whole { whole.now
-        ≡ declared.tables (preamble.decls_view decls.now).items (map view.section_view sections.now) }
-    requires start { before.old ≡ declared.tables_of [] [] }
+        ≡ declared_by_program (preamble.decls_view decls.now).items
+        (map view.section_view sections.now) }
+    requires start { before.old ≡ declared_by [] [] }
     ensures sound { IfOk result
-        (λ _. rules.breach (preamble.decls_view decls.now) (map view.section_view sections.now) ≡ None) }
+        (λ _. rules.breach (preamble.decls_view decls.now) (map view.section_view sections.now)
+        ≡ None) }
     ensures err { IfErr result (λ f. IsBreach f
         (rules.breach (preamble.decls_view decls.now) (map view.section_view sections.now))) }
 {
@@ -91,7 +98,8 @@ const FIRST_LINE: usize = 1;
 /// What items and the heads of sections say.
 fn tables(alloc: Global, items: &[ItemAt], sections: &[Section]) -> Result<Tables, AllocError>
     ensures { IfOk result (λ tables. tables
-        ≡ declared.tables (preamble.items_view items.now) (map view.section_view sections.now)) }
+        ≡ declared_by_program (preamble.items_view items.now)
+        (map view.section_view sections.now)) }
 {
     let mut tables = Tables::new(alloc)?;
     match add_all(alloc, &mut tables, items, sections) {
@@ -111,7 +119,7 @@ fn add_all(
     sections: &[Section],
 ) -> Result<(), AllocError>
     ensures { OnOk result (tables.new ≡ later.with_sections
-        (later.with_entries tables.old (declared.entries (preamble.items_view items.now)))
+        (later.with_items tables.old (declared.headed_items (preamble.items_view items.now)))
         (map view.section_view sections.now)) }
 {
     add_items(alloc, tables, items)?;
@@ -121,7 +129,7 @@ fn add_all(
 /// Adds what items say, each under the heading over it.
 fn add_items(alloc: Global, tables: &mut Tables, items: &[ItemAt]) -> Result<(), AllocError>
     ensures { OnOk result (tables.new
-        ≡ later.with_entries tables.old (declared.entries (preamble.items_view items.now))) }
+        ≡ later.with_items tables.old (declared.headed_items (preamble.items_view items.now))) }
 {
     let mut heading = None;
     for one in items {
@@ -162,12 +170,12 @@ fn check_items(
 ) -> Result<(), CheckFault>
     requires { IsOnce before.old }
     ensures sound { IfOk result (λ _. later.items_breach whole.now before.old
-        (declared.entries (preamble.items_view items.now)) ≡ None) }
+        (declared.headed_items (preamble.items_view items.now)) ≡ None) }
     ensures once { OnOk result (IsOnce before.new) }
     ensures tables { OnOk result (before.new
-        ≡ later.with_entries before.old (declared.entries (preamble.items_view items.now))) }
+        ≡ later.with_items before.old (declared.headed_items (preamble.items_view items.now))) }
     ensures err { IfErr result (λ f. IsBreach f (later.items_breach whole.now before.old
-        (declared.entries (preamble.items_view items.now)))) }
+        (declared.headed_items (preamble.items_view items.now)))) }
 {
     let mut heading = None;
     for one in items {
@@ -227,7 +235,8 @@ fn check_section(
 
 /// Looks at each local DEFINE, and tells the first breach.
 fn check_locals(whole: &Tables, locals: &[LocalNames]) -> Result<(), CheckFault>
-    ensures sound { IfOk result (λ _. later.locals_breach whole.now (map view.local_view locals.now) ≡ None) }
+    ensures sound { IfOk result
+        (λ _. later.locals_breach whole.now (map view.local_view locals.now) ≡ None) }
     ensures err { IfErr result
         (λ f. IsBreach f (later.locals_breach whole.now (map view.local_view locals.now))) }
 {

@@ -4,12 +4,12 @@ ghost use Rattle.ss_check.specs.declared.fault.CheckRule.TheVariants as check;
 ghost use Rattle.ss_words.specs.Lists.{all_of, several_view};
 ghost use Rattle.ss_routines.specs.Tree.{listing_names};
 ghost use Rattle.ss_routines.specs.View as view;
-ghost use Rattle.ss_check.specs.Adding.{IsOnce, with_head};
+ghost use Rattle.ss_check.specs.Increments.{IsOnce, with_head};
 ghost use Rattle.ss_check.specs.Declarations as declared;
 ghost use Rattle.ss_check.specs.Facts.{repeats};
 ghost use Rattle.ss_check.specs.ItemRules as rules;
 ghost use Rattle.ss_check.specs.NameKinds.{one_conflicts};
-ghost use Rattle.ss_check.specs.Statements.{broken, lowest};
+ghost use Rattle.ss_check.specs.Statements.{rule_where, lowest};
 
 use crate::declared::item_names::add_names;
 use crate::declared::name_list::NameList;
@@ -36,10 +36,10 @@ struct HeadBreaks {
 impl HeadBreaks {
     /// The lowest of these rules.
     fn lowest(&self) -> Option<CheckRule>
-        ensures { result ≡ lowest (broken check.DeclaredTwice self.now.declares_twice
-            ++ broken check.WrongCount self.now.has_too_many
-            ++ broken check.WrongEvent self.now.lacks_class
-            ++ broken check.WrongMain self.now.is_second_main) }
+        ensures { result ≡ lowest (rule_where check.DeclaredTwice self.now.declares_twice
+            ++ rule_where check.WrongCount self.now.has_too_many
+            ++ rule_where check.WrongEvent self.now.lacks_class
+            ++ rule_where check.WrongMain self.now.is_second_main) }
     {
         if self.declares_twice {
             Some(CheckRule::DeclaredTwice)
@@ -64,8 +64,10 @@ pub(crate) fn head_rule(
     section: &Section,
 ) -> Result<Option<CheckRule>, AllocError>
     requires { IsOnce before.old }
-    ensures rule { IfOk result (λ r. r ≡ rules.head_rule whole.now before.old (view.section_view section.now)) }
-    ensures tables { OnOk result (before.new ≡ with_head before.old (view.section_view section.now).head) }
+    ensures rule { IfOk result
+        (λ r. r ≡ rules.head_rule whole.now before.old (view.section_view section.now)) }
+    ensures tables { OnOk result
+        (before.new ≡ with_head before.old (view.section_view section.now).head) }
 {
     let is_second_main = is_main(section) & before.has_main;
     let repeats_parameter = repeats_parameter(alloc, section)?;
@@ -196,7 +198,7 @@ pub(crate) fn local_rule(whole: &Tables, local: &LocalNames) -> Option<CheckRule
 
 /// Whether it is the section of an event class that has less attributes than it has parameters.
 fn has_too_many(whole: &Tables, section: &Section) -> bool
-    ensures { result ≡ rules.has_too_many whole.now whole.now (view.section_view section.now).head }
+    ensures { result ≡ rules.has_too_many whole.now (view.section_view section.now).head }
 {
     match &section.kind {
         SectionKind::Event { given, .. } => {
@@ -209,7 +211,7 @@ fn has_too_many(whole: &Tables, section: &Section) -> bool
 
 /// Whether it is the section of what is no event class.
 fn lacks_class(whole: &Tables, section: &Section) -> bool
-    ensures { result ≡ rules.lacks_class whole.now whole.now (view.section_view section.now).head }
+    ensures { result ≡ rules.lacks_class whole.now (view.section_view section.now).head }
 {
     matches!(section.kind, SectionKind::Event { .. })
         && !is_event_class(whole, section.name.bytes())

@@ -3,13 +3,13 @@ ghost use Rattle.std.specs.List.{list_any};
 ghost use Rattle.ss_check.specs.declared.fault.CheckRule.TheVariants as check;
 ghost use Rattle.ss_words.specs.Lists.{all_of, several_view};
 ghost use Rattle.ss_preamble.specs.View as view;
-ghost use Rattle.ss_check.specs.Adding.{IsOnce, entry_at, with_entry};
+ghost use Rattle.ss_check.specs.Increments.{IsOnce, headed_item, with_item};
 ghost use Rattle.ss_check.specs.Declarations as declared;
 ghost use Rattle.ss_check.specs.Facts.{fact_of, is_among, names_of, repeats};
 ghost use Rattle.ss_check.specs.Declarations.{is_belongs_to};
 ghost use Rattle.ss_check.specs.ItemRules as rules;
 ghost use Rattle.ss_check.specs.NameKinds.{names_set, one_conflicts};
-ghost use Rattle.ss_check.specs.Statements.{broken, lowest};
+ghost use Rattle.ss_check.specs.Statements.{rule_where, lowest};
 
 use crate::declared::class_need::ClassNeed;
 use crate::declared::fact_table::FactTable;
@@ -47,13 +47,13 @@ struct ItemBreaks {
 impl ItemBreaks {
     /// The lowest of these rules.
     fn lowest(&self) -> Option<CheckRule>
-        ensures { result ≡ lowest (broken check.DeclaredTwice self.now.declares_twice
-            ++ broken check.WrongClass self.now.names_wrong_class
-            ++ broken check.WrongOwner self.now.has_wrong_owner
-            ++ broken check.WrongMember self.now.has_wrong_member
-            ++ broken check.WrongKey self.now.has_wrong_keys
-            ++ broken check.WrongEvent self.now.lacks_section
-            ++ broken check.WrongPriority self.now.has_wrong_priority) }
+        ensures { result ≡ lowest (rule_where check.DeclaredTwice self.now.declares_twice
+            ++ rule_where check.WrongClass self.now.names_wrong_class
+            ++ rule_where check.WrongOwner self.now.has_wrong_owner
+            ++ rule_where check.WrongMember self.now.has_wrong_member
+            ++ rule_where check.WrongKey self.now.has_wrong_keys
+            ++ rule_where check.WrongEvent self.now.lacks_section
+            ++ rule_where check.WrongPriority self.now.has_wrong_priority) }
     {
         if self.declares_twice {
             Some(CheckRule::DeclaredTwice)
@@ -86,9 +86,10 @@ pub(crate) fn item_rule(
 ) -> Result<Option<CheckRule>, AllocError>
     requires { IsOnce before.old }
     ensures rule { IfOk result
-        (λ r. r ≡ rules.item_rule whole.now before.old (entry_at heading (view.item_at_view one.now))) }
+        (λ r. r ≡ rules.item_rule whole.now before.old
+        (headed_item heading (view.item_at_view one.now))) }
     ensures tables { OnOk result
-        (before.new ≡ with_entry before.old (entry_at heading (view.item_at_view one.now))) }
+        (before.new ≡ with_item before.old (headed_item heading (view.item_at_view one.now))) }
 {
     let item = &one.item;
     let is_ownerless = names_new_without(&whole.owners, &before.kinds, item);
@@ -126,7 +127,7 @@ fn says_twice(tables: &Tables) -> bool
 
 /// Whether an item is EVERY under no heading, or BREAK or EXTERNAL of what is no event class.
 fn names_wrong_class(whole: &Tables, heading: Option<Heading>, item: &Item) -> bool
-    ensures { result ≡ rules.names_wrong_class whole.now whole.now heading (view.item_view item.now) }
+    ensures { result ≡ rules.names_wrong_class whole.now heading (view.item_view item.now) }
 {
     match item {
         Item::OfEvery { .. } => heading.is_none(),
@@ -165,7 +166,8 @@ fn any_no_event(whole: &Tables, names: &[Name]) -> bool
 /// Whether an item is the first to name a set of which there is no fact.
 #[tactic(auto, using(crate::proofs::Tests::any_append, crate::proofs::Tests::any_end, crate::proofs::Tests::any_parts))]
 fn names_new_without<T: Drop>(facts: &FactTable<T>, kinds: &KindTable, item: &Item) -> bool
-    ensures { result ≡ list_any (λ s. not (names_set (fact_of kinds.now s)) && not (is_among s (names_of facts.now)))
+    ensures { result ≡ list_any
+        (λ s. not (names_set (fact_of kinds.now s)) && not (is_among s (names_of facts.now)))
         (declared.sets_in (view.item_view item.now)) }
 {
     match item {
@@ -194,7 +196,8 @@ fn any_clause_names_new<T: Drop>(
 
 /// Whether a clause names a set that is not declared and of which there is no fact.
 fn clause_names_new<T: Drop>(facts: &FactTable<T>, kinds: &KindTable, clause: &Clause) -> bool
-    ensures { result ≡ list_any (λ s. not (names_set (fact_of kinds.now s)) && not (is_among s (names_of facts.now)))
+    ensures { result ≡ list_any
+        (λ s. not (names_set (fact_of kinds.now s)) && not (is_among s (names_of facts.now)))
         (declared.sets_of (view.clause_view clause.now)) }
 {
     match clause {
@@ -206,7 +209,8 @@ fn clause_names_new<T: Drop>(facts: &FactTable<T>, kinds: &KindTable, clause: &C
 /// Whether one of these names is not declared as a set, and there is no fact of it.
 #[tactic(auto, using(crate::proofs::Tests::any_map))]
 fn any_new_without<T: Drop>(facts: &FactTable<T>, kinds: &KindTable, sets: &Names) -> bool
-    ensures { result ≡ list_any (λ s. not (names_set (fact_of kinds.now s)) && not (is_among s (names_of facts.now)))
+    ensures { result ≡ list_any
+        (λ s. not (names_set (fact_of kinds.now s)) && not (is_among s (names_of facts.now)))
         (all_of (several_view (λ n. n) sets.now)) }
 {
     is_new_without(facts, kinds, sets.first.bytes())
@@ -215,7 +219,8 @@ fn any_new_without<T: Drop>(facts: &FactTable<T>, kinds: &KindTable, sets: &Name
 
 fn any_other_without<T: Drop>(facts: &FactTable<T>, kinds: &KindTable, sets: &[Name]) -> bool
     ensures { result ≡ list_any
-        (λ s. not (names_set (fact_of kinds.now s)) && not (is_among s (names_of facts.now))) sets.now }
+        (λ s. not (names_set (fact_of kinds.now s)) && not (is_among s (names_of facts.now)))
+        sets.now }
 {
     sets.iter()
         .any(|set| is_new_without(facts, kinds, set.bytes()))
@@ -223,7 +228,8 @@ fn any_other_without<T: Drop>(facts: &FactTable<T>, kinds: &KindTable, sets: &[N
 
 fn is_new_without<T: Drop>(facts: &FactTable<T>, kinds: &KindTable, set: &[u8]) -> bool
     ensures { result
-        ≡ (not (names_set (fact_of kinds.now set.now)) && not (is_among set.now (names_of facts.now))) }
+        ≡ (not (names_set (fact_of kinds.now set.now))
+        && not (is_among set.now (names_of facts.now))) }
 {
     !names_set(kinds.get(set)) && !facts.has(set)
 }
@@ -231,8 +237,8 @@ fn is_new_without<T: Drop>(facts: &FactTable<T>, kinds: &KindTable, set: &[u8]) 
 /// Whether an item is SYSTEM with a BELONGS.
 #[tactic(auto, using(crate::proofs::Tests::joins_first))]
 fn joins_system(item: &Item) -> bool
-    ensures { result ≡ rules.joins_system (declared.class_of (view.item_view item.now))
-        (declared.joined (view.item_view item.now)) }
+    ensures { result ≡ rules.joins_system (declared.class_of_item (view.item_view item.now))
+        (declared.sets_joined (view.item_view item.now)) }
 {
     let Item::OfSystem(clauses) = item else {
         return false;
@@ -258,7 +264,7 @@ fn is_belongs(clause: &Clause) -> bool
 /// event class by what is none of it.
 #[tactic(auto, using(crate::proofs::Tests::any_map))]
 fn has_wrong_keys(whole: &Tables, item: &Item) -> bool
-    ensures { result ≡ rules.has_wrong_keys whole.now whole.now (view.item_view item.now) }
+    ensures { result ≡ rules.has_wrong_keys whole.now (view.item_view item.now) }
 {
     match item {
         Item::Defines(Definition::Sets { names, kind }) => any_wrong_rank(whole, names, kind),
@@ -274,14 +280,14 @@ fn has_wrong_keys(whole: &Tables, item: &Item) -> bool
 /// Whether one of these sets is ranked by what is no attribute of its members.
 #[tactic(auto, using(crate::proofs::Tests::any_map))]
 fn any_wrong_rank(whole: &Tables, sets: &Names, kind: &SetDiscipline) -> bool
-    ensures { result ≡ list_any (λ s. rules.has_wrong_rank whole.now whole.now (fact_of whole.now.members s)
+    ensures { result ≡ list_any (λ s. rules.has_wrong_rank whole.now (fact_of whole.now.members s)
         (view.set_discipline_view kind.now)) (all_of (several_view (λ n. n) sets.now)) }
 {
     is_wrong_rank(whole, sets.first.bytes(), kind) || any_other_rank(whole, &sets.others, kind)
 }
 
 fn any_other_rank(whole: &Tables, sets: &[Name], kind: &SetDiscipline) -> bool
-    ensures { result ≡ list_any (λ s. rules.has_wrong_rank whole.now whole.now (fact_of whole.now.members s)
+    ensures { result ≡ list_any (λ s. rules.has_wrong_rank whole.now (fact_of whole.now.members s)
         (view.set_discipline_view kind.now)) sets.now }
 {
     sets.iter()
@@ -290,7 +296,7 @@ fn any_other_rank(whole: &Tables, sets: &[Name], kind: &SetDiscipline) -> bool
 
 /// Whether a set is ranked by what is no attribute of its members, or has none and is ranked.
 fn is_wrong_rank(whole: &Tables, set: &[u8], kind: &SetDiscipline) -> bool
-    ensures { result ≡ rules.has_wrong_rank whole.now whole.now (fact_of whole.now.members set.now)
+    ensures { result ≡ rules.has_wrong_rank whole.now (fact_of whole.now.members set.now)
         (view.set_discipline_view kind.now) }
 {
     match kind {
@@ -305,20 +311,21 @@ fn is_wrong_rank(whole: &Tables, set: &[u8], kind: &SetDiscipline) -> bool
 /// Whether one of these keys is no attribute of a class.
 #[tactic(auto, using(crate::proofs::Tests::any_map))]
 fn any_wrong_key(whole: &Tables, class: &[u8], keys: &Several<Key>) -> bool
-    ensures { result ≡ rules.has_wrong_key whole.now whole.now (Some class.now)
+    ensures { result ≡ rules.has_wrong_key whole.now (Some class.now)
         (all_of (several_view view.key_view keys.now)) }
 {
     is_wrong_key(whole, class, &keys.first) || any_other_key(whole, class, &keys.others)
 }
 
 fn any_other_key(whole: &Tables, class: &[u8], keys: &[Key]) -> bool
-    ensures { result ≡ list_any (λ k. rules.is_wrong_key whole.now whole.now class.now (view.key_view k)) keys.now }
+    ensures { result ≡ list_any
+        (λ k. rules.is_wrong_key whole.now class.now (view.key_view k)) keys.now }
 {
     keys.iter().any(|key| is_wrong_key(whole, class, key))
 }
 
 fn is_wrong_key(whole: &Tables, class: &[u8], key: &Key) -> bool
-    ensures { result ≡ rules.is_wrong_key whole.now whole.now class.now (view.key_view key.now) }
+    ensures { result ≡ rules.is_wrong_key whole.now class.now (view.key_view key.now) }
 {
     match whole.kinds.get(key.name.bytes()) {
         Some(NameKind::Attribute(of)) => class != of.bytes.as_slice(),
@@ -331,7 +338,8 @@ fn is_wrong_key(whole: &Tables, class: &[u8], key: &Key) -> bool
 /// Whether an item names an event class without a section that is not among `classes`, those named
 /// before.
 fn lacks_section(whole: &Tables, classes: &NameList, item: &Item) -> bool
-    ensures { result ≡ list_any (λ c. not (is_among c classes.now) && rules.is_without_section whole.now whole.now c)
+    ensures { result ≡ list_any
+        (λ c. not (is_among c classes.now) && rules.is_without_section whole.now c)
         (declared.classes_in (view.item_view item.now)) }
 {
     match item {
@@ -350,7 +358,8 @@ fn lacks_section(whole: &Tables, classes: &NameList, item: &Item) -> bool
 
 /// Whether an item on events names such a class.
 fn order_lacks_section(whole: &Tables, classes: &NameList, order: &EventRule) -> bool
-    ensures { result ≡ list_any (λ c. not (is_among c classes.now) && rules.is_without_section whole.now whole.now c)
+    ensures { result ≡ list_any
+        (λ c. not (is_among c classes.now) && rules.is_without_section whole.now c)
         (declared.classes_ordered (view.event_rule_view order.now)) }
 {
     match order {
@@ -363,7 +372,8 @@ fn order_lacks_section(whole: &Tables, classes: &NameList, order: &EventRule) ->
 /// Whether one of these is an event class without a section, and not among `classes`.
 #[tactic(auto, using(crate::proofs::Tests::any_map))]
 fn any_lacks_section(whole: &Tables, classes: &NameList, names: &Names) -> bool
-    ensures { result ≡ list_any (λ c. not (is_among c classes.now) && rules.is_without_section whole.now whole.now c)
+    ensures { result ≡ list_any
+        (λ c. not (is_among c classes.now) && rules.is_without_section whole.now c)
         (all_of (several_view (λ n. n) names.now)) }
 {
     is_new_without_section(whole, classes, names.first.bytes())
@@ -372,14 +382,14 @@ fn any_lacks_section(whole: &Tables, classes: &NameList, names: &Names) -> bool
 
 fn any_other_section(whole: &Tables, classes: &NameList, names: &[Name]) -> bool
     ensures { result ≡ list_any
-        (λ n. not (is_among n classes.now) && rules.is_without_section whole.now whole.now n) names.now }
+        (λ n. not (is_among n classes.now) && rules.is_without_section whole.now n) names.now }
 {
     names.iter().any(|name| is_new_without_section(whole, classes, name.bytes()))
 }
 
 fn is_new_without_section(whole: &Tables, classes: &NameList, name: &[u8]) -> bool
     ensures { result
-        ≡ (not (is_among name.now classes.now) && rules.is_without_section whole.now whole.now name.now) }
+        ≡ (not (is_among name.now classes.now) && rules.is_without_section whole.now name.now) }
 {
     !classes.has(name) && is_event_class(whole, name) && !whole.events.has(name)
 }
@@ -394,7 +404,7 @@ fn has_wrong_priority(
     before: &NameList,
     item: &Item,
 ) -> Result<bool, AllocError>
-    ensures { IfOk result (λ r. r ≡ rules.has_wrong_priority whole.now whole.now before.now
+    ensures { IfOk result (λ r. r ≡ rules.has_wrong_priority whole.now before.now
         (declared.priority_in (view.item_view item.now))) }
 {
     let Item::Orders(EventRule::PriorityOrder(names)) = item else {

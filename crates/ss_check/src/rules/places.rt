@@ -44,7 +44,8 @@ fn add_statement<'a>(
     behind: &'a [Spot],
 ) -> Result<(), AllocError>
     ensures { OnOk result
-        (uses.new ≡ uses.old ++ rules.uses_from (view.place_view place.now) (view.spots behind.now)) }
+        (uses.new ≡ uses.old
+        ++ rules.uses_from (view.place_view place.now) (view.spots behind.now)) }
 {
     add_place(uses, place)?;
     match (place, behind.first()) {
@@ -92,7 +93,8 @@ fn has_wrong_picture(place: &Place) -> bool
 /// The rule on what stands around a place that it breaks, in MAIN or not, and directly behind a
 /// FIND or not.
 pub(crate) fn standing_rule(in_main: bool, behind_find: bool, place: &Place) -> Option<CheckRule>
-    ensures { result ≡ lowest (rules.standing_breaks in_main behind_find (view.place_view place.now)) }
+    ensures { result ≡ lowest
+        (rules.standing_breaks in_main behind_find (view.place_view place.now)) }
 {
     if is_start(place) && !in_main {
         Some(CheckRule::StartOutsideMain)

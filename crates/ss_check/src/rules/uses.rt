@@ -1,6 +1,7 @@
 ghost use Rattle.std.specs.Prelude.{◌≡◌, option_map};
 ghost use Rattle.std.specs.List.{list_any};
 ghost use Rattle.ss_check.specs.Declarations as declarations;
+ghost use Rattle.ss_check.specs.KindView.{function_view, kind_view};
 ghost use Rattle.ss_check.specs.PlaceRules as rules;
 ghost use Rattle.ss_check.specs.UseView.{use_view};
 
@@ -53,7 +54,7 @@ fn is_misused(whole: &Tables, one: &Use<'_>) -> bool
         | Use::Target {
             name,
             subscripted: true,
-        } => is_bare(whole, whole.kinds.get(name)),
+        } => takes_no_parentheses(whole, whole.kinds.get(name)),
         Use::InSet { name, subscripted } => {
             !names_set(whole.kinds.get(name)) || (*subscripted && is_of_system(whole, name))
         }
@@ -64,21 +65,23 @@ fn is_misused(whole: &Tables, one: &Use<'_>) -> bool
 
 /// Whether it is the name of what has no value.
 fn is_valueless(kind: Option<&NameKind>) -> bool
-    ensures { result ≡ rules.is_valueless (option_map (λ k. k.now) kind.entry) }
+    ensures { result ≡ rules.is_valueless (option_map (λ k. kind_view k.now) kind.entry) }
 {
     names_set(kind) || names_routine(kind)
 }
 
 /// Whether it is the name of what takes no parentheses.
-fn is_bare(whole: &Tables, kind: Option<&NameKind>) -> bool
-    ensures { result ≡ rules.is_bare whole.now (option_map (λ k. k.now) kind.entry) }
+fn takes_no_parentheses(whole: &Tables, kind: Option<&NameKind>) -> bool
+    ensures { result ≡ rules.takes_no_parentheses whole.now
+        (option_map (λ k. kind_view k.now) kind.entry) }
 {
     !(names_function(kind) || takes_subscript(whole, kind))
 }
 
 /// Whether it is the name of an attribute, or of a kept attribute whose owner is not the system.
 fn takes_subscript(whole: &Tables, kind: Option<&NameKind>) -> bool
-    ensures { result ≡ rules.takes_subscript whole.now (option_map (λ k. k.now) kind.entry) }
+    ensures { result ≡ rules.takes_subscript whole.now
+        (option_map (λ k. kind_view k.now) kind.entry) }
 {
     match kind {
         Some(NameKind::Attribute(_) | NameKind::MemberKept { .. }) => true,
@@ -96,7 +99,7 @@ fn is_of_system(whole: &Tables, set: &[u8]) -> bool
 
 /// Whether a function takes so many arguments.
 fn takes(function: Function, arguments: usize) -> bool
-    ensures { result ≡ rules.takes function arguments }
+    ensures { result ≡ rules.takes (function_view function) arguments }
 {
     match function {
         Function::Absolute => arguments == 1,
@@ -108,7 +111,8 @@ fn takes(function: Function, arguments: usize) -> bool
 /// Whether a function takes another count of arguments, or what takes a subscript has more than
 /// one.
 fn has_wrong_arguments(whole: &Tables, kind: Option<&NameKind>, arguments: usize) -> bool
-    ensures { result ≡ rules.has_wrong_arguments whole.now (option_map (λ k. k.now) kind.entry) arguments }
+    ensures { result ≡ rules.has_wrong_arguments whole.now
+        (option_map (λ k. kind_view k.now) kind.entry) arguments }
 {
     match kind {
         Some(NameKind::Function(function)) => !takes(*function, arguments),

@@ -21,7 +21,8 @@ pub(crate) fn add_condition<'a>(uses: &mut UseList<'a>, c: &'a Condition) -> Res
 
 #[cycle(uses)]
 fn add_conjunction<'a>(uses: &mut UseList<'a>, c: &'a Conjunction) -> Result<(), AllocError>
-    ensures { OnOk result (uses.new ≡ uses.old ++ uses_of.uses_conjunction (conjunction_view c.now)) }
+    ensures { OnOk result
+        (uses.new ≡ uses.old ++ uses_of.uses_conjunction (conjunction_view c.now)) }
 {
     add_relation(uses, &c.first)?;
     for further in &c.more {

@@ -72,7 +72,8 @@ fn argument_count(others: &[Expr]) -> usize
 
 /// Adds the uses of expressions.
 pub(crate) fn add_exprs<'a>(uses: &mut UseList<'a>, es: &'a [Expr]) -> Result<(), AllocError>
-    ensures { OnOk result (uses.new ≡ uses.old ++ flat_map uses_of.uses_expr (map expr_view es.now)) }
+    ensures { OnOk result
+        (uses.new ≡ uses.old ++ flat_map uses_of.uses_expr (map expr_view es.now)) }
 {
     for e in es {
         add_expr(uses, e)?;
@@ -82,7 +83,8 @@ pub(crate) fn add_exprs<'a>(uses: &mut UseList<'a>, es: &'a [Expr]) -> Result<()
 
 /// Adds the uses of an expression, if there is one.
 pub(crate) fn add_option<'a>(uses: &mut UseList<'a>, e: &'a Option<Expr>) -> Result<(), AllocError>
-    ensures { OnOk result (uses.new ≡ uses.old ++ uses_of.uses_option (option_view expr_view e.now)) }
+    ensures { OnOk result
+        (uses.new ≡ uses.old ++ uses_of.uses_option (option_view expr_view e.now)) }
 {
     match e {
         Some(e) => add_expr(uses, e),
@@ -96,7 +98,8 @@ fn add_subscript<'a>(
     subscript: &'a Option<Box<Expr>>,
 ) -> Result<(), AllocError>
     ensures { OnOk result
-        (uses.new ≡ uses.old ++ uses_of.uses_option (option_view (λ b. expr_view b.value) subscript.now)) }
+        (uses.new ≡ uses.old
+        ++ uses_of.uses_option (option_view (λ b. expr_view b.value) subscript.now)) }
 {
     match subscript {
         Some(e) => add_expr(uses, e),
@@ -117,7 +120,8 @@ pub(crate) fn add_target<'a>(uses: &mut UseList<'a>, v: &'a Reference) -> Result
 
 /// Adds the uses of targets.
 pub(crate) fn add_targets<'a>(uses: &mut UseList<'a>, vs: &'a [Reference]) -> Result<(), AllocError>
-    ensures { OnOk result (uses.new ≡ uses.old ++ flat_map uses_of.uses_target (map reference_view vs.now)) }
+    ensures { OnOk result
+        (uses.new ≡ uses.old ++ flat_map uses_of.uses_target (map reference_view vs.now)) }
 {
     for v in vs {
         add_target(uses, v)?;
@@ -139,7 +143,8 @@ pub(crate) fn add_set<'a>(uses: &mut UseList<'a>, v: &'a Reference) -> Result<()
 /// Adds the uses of a reference whose value is read.
 fn add_value<'a>(uses: &mut UseList<'a>, v: &'a Reference) -> Result<(), AllocError>
     ensures { OnOk result
-        (uses.new ≡ uses.old ++ uses_of.uses_value (reference_view v.now).name (reference_view v.now).subscript) }
+        (uses.new ≡ uses.old
+        ++ uses_of.uses_value (reference_view v.now).name (reference_view v.now).subscript) }
 {
     let arguments = if v.subscript.is_some() { Some(1) } else { None };
     uses.add(Use::Value {

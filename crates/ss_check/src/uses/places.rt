@@ -26,7 +26,8 @@ pub(crate) fn add_place<'a>(uses: &mut UseList<'a>, place: &'a Place) -> Result<
 }
 
 fn add_branch<'a>(uses: &mut UseList<'a>, branch: &'a Branch) -> Result<(), AllocError>
-    ensures { OnOk result (uses.new ≡ uses.old ++ uses_of.uses_branch (view.branch_view branch.now)) }
+    ensures { OnOk result
+        (uses.new ≡ uses.old ++ uses_of.uses_branch (view.branch_view branch.now)) }
 {
     match branch {
         Branch::If(Question::Holds(condition)) => add_condition(uses, condition),
@@ -50,7 +51,8 @@ fn add_loop<'a>(uses: &mut UseList<'a>, turn: &'a Loop) -> Result<(), AllocError
 
 fn add_computed<'a>(uses: &mut UseList<'a>, targets: &'a [Computed]) -> Result<(), AllocError>
     ensures { OnOk result
-        (uses.new ≡ uses.old ++ flat_map (λ t. uses_of.uses_target t.target) (map view.computed_view targets.now)) }
+        (uses.new ≡ uses.old
+        ++ flat_map (λ t. uses_of.uses_target t.target) (map view.computed_view targets.now)) }
 {
     for computed in targets {
         add_target(uses, &computed.target)?;
@@ -59,7 +61,8 @@ fn add_computed<'a>(uses: &mut UseList<'a>, targets: &'a [Computed]) -> Result<(
 }
 
 fn add_phrase<'a>(uses: &mut UseList<'a>, phrase: &'a Phrase) -> Result<(), AllocError>
-    ensures { OnOk result (uses.new ≡ uses.old ++ uses_of.uses_phrase (view.phrase_view phrase.now)) }
+    ensures { OnOk result
+        (uses.new ≡ uses.old ++ uses_of.uses_phrase (view.phrase_view phrase.now)) }
 {
     add_range(uses, &phrase.range)?;
     add_qualifiers(uses, &phrase.qualifiers)
@@ -67,7 +70,8 @@ fn add_phrase<'a>(uses: &mut UseList<'a>, phrase: &'a Phrase) -> Result<(), Allo
 
 fn add_qualifiers<'a>(uses: &mut UseList<'a>, all: &'a [Qualifier]) -> Result<(), AllocError>
     ensures { OnOk result
-        (uses.new ≡ uses.old ++ flat_map (λ q. uses_of.uses_condition q.condition) (map view.qualifier_view all.now)) }
+        (uses.new ≡ uses.old
+        ++ flat_map (λ q. uses_of.uses_condition q.condition) (map view.qualifier_view all.now)) }
 {
     for qualifier in all {
         add_condition(uses, &qualifier.condition)?;
@@ -122,7 +126,8 @@ fn add_loop_variable<'a>(
 }
 
 fn add_start<'a>(uses: &mut UseList<'a>, start: &'a WalkStart) -> Result<(), AllocError>
-    ensures { OnOk result (uses.new ≡ uses.old ++ uses_of.uses_start (view.walk_start_view start.now)) }
+    ensures { OnOk result
+        (uses.new ≡ uses.old ++ uses_of.uses_start (view.walk_start_view start.now)) }
 {
     match start {
         WalkStart::AtEnd => Ok(()),

@@ -5,6 +5,7 @@ ghost use Rattle.ss_words.specs.Reading.{option_view};
 ghost use Rattle.ss_routines.specs.Tree.{listing_names};
 ghost use Rattle.ss_routines.specs.View as view;
 ghost use Rattle.ss_routines.specs.View.{expr_view, reference_view, listing_view};
+ghost use Rattle.ss_check.specs.KindView.{need_view};
 ghost use Rattle.ss_check.specs.Uses as uses_of;
 
 use crate::declared::class_need::ClassNeed;
@@ -22,7 +23,8 @@ use std::alloc::AllocError;
 
 /// Adds the uses of a simple statement.
 pub(crate) fn add_simple<'a>(uses: &mut UseList<'a>, simple: &'a Simple) -> Result<(), AllocError>
-    ensures { OnOk result (uses.new ≡ uses.old ++ uses_of.uses_simple (view.simple_view simple.now)) }
+    ensures { OnOk result
+        (uses.new ≡ uses.old ++ uses_of.uses_simple (view.simple_view simple.now)) }
 {
     match simple {
         Simple::Assign(assign) => add_assign(uses, assign),
@@ -35,7 +37,8 @@ pub(crate) fn add_simple<'a>(uses: &mut UseList<'a>, simple: &'a Simple) -> Resu
 }
 
 fn add_assign<'a>(uses: &mut UseList<'a>, assign: &'a Assign) -> Result<(), AllocError>
-    ensures { OnOk result (uses.new ≡ uses.old ++ uses_of.uses_assign (view.assign_view assign.now)) }
+    ensures { OnOk result
+        (uses.new ≡ uses.old ++ uses_of.uses_assign (view.assign_view assign.now)) }
 {
     match assign {
         Assign::Let { target, value, .. } => {
@@ -50,7 +53,8 @@ fn add_assign<'a>(uses: &mut UseList<'a>, assign: &'a Assign) -> Result<(), Allo
 }
 
 fn add_making<'a>(uses: &mut UseList<'a>, making: &'a Making) -> Result<(), AllocError>
-    ensures { OnOk result (uses.new ≡ uses.old ++ uses_of.uses_making (view.making_view making.now)) }
+    ensures { OnOk result
+        (uses.new ≡ uses.old ++ uses_of.uses_making (view.making_view making.now)) }
 {
     match making {
         Making::Create { class, target } => {
@@ -74,13 +78,14 @@ pub(crate) fn add_class<'a>(
     need: ClassNeed,
     class: &'a [u8],
 ) -> Result<(), AllocError>
-    ensures { OnOk result (uses.new ≡ uses.old ++ uses_of.OfClass need class.now ∷ []) }
+    ensures { OnOk result (uses.new ≡ uses.old ++ uses_of.OfClass (need_view need) class.now ∷ []) }
 {
     uses.add(Use::OfClass { need, name: class })
 }
 
 fn add_file_place<'a>(uses: &mut UseList<'a>, place: &'a FilePlace) -> Result<(), AllocError>
-    ensures { OnOk result (uses.new ≡ uses.old ++ uses_of.uses_file_place (view.file_place_view place.now)) }
+    ensures { OnOk result
+        (uses.new ≡ uses.old ++ uses_of.uses_file_place (view.file_place_view place.now)) }
 {
     match place {
         FilePlace::ByDiscipline | FilePlace::AtEnd(_) => Ok(()),
@@ -89,7 +94,8 @@ fn add_file_place<'a>(uses: &mut UseList<'a>, place: &'a FilePlace) -> Result<()
 }
 
 fn add_filing<'a>(uses: &mut UseList<'a>, filing: &'a Filing) -> Result<(), AllocError>
-    ensures { OnOk result (uses.new ≡ uses.old ++ uses_of.uses_filing (view.filing_view filing.now)) }
+    ensures { OnOk result
+        (uses.new ≡ uses.old ++ uses_of.uses_filing (view.filing_view filing.now)) }
 {
     match filing {
         Filing::File { member, place, set } => {
@@ -120,7 +126,8 @@ fn value_count(values: &Listing<Expr>) -> usize
 
 fn add_several<'a>(uses: &mut UseList<'a>, values: &'a Several<Expr>) -> Result<(), AllocError>
     ensures { OnOk result
-        (uses.new ≡ uses.old ++ flat_map uses_of.uses_expr (all_of (several_view expr_view values.now))) }
+        (uses.new ≡ uses.old
+        ++ flat_map uses_of.uses_expr (all_of (several_view expr_view values.now))) }
 {
     add_expr(uses, &values.first)?;
     add_exprs(uses, &values.others)
@@ -128,7 +135,8 @@ fn add_several<'a>(uses: &mut UseList<'a>, values: &'a Several<Expr>) -> Result<
 
 fn add_listed<'a>(uses: &mut UseList<'a>, values: &'a Listing<Expr>) -> Result<(), AllocError>
     ensures { OnOk result
-        (uses.new ≡ uses.old ++ flat_map uses_of.uses_expr (listing_names (listing_view expr_view values.now))) }
+        (uses.new ≡ uses.old
+        ++ flat_map uses_of.uses_expr (listing_names (listing_view expr_view values.now))) }
 {
     match values {
         Listing::Unwritten => Ok(()),
@@ -137,7 +145,8 @@ fn add_listed<'a>(uses: &mut UseList<'a>, values: &'a Listing<Expr>) -> Result<(
 }
 
 fn add_transfer<'a>(uses: &mut UseList<'a>, transfer: &'a Transfer) -> Result<(), AllocError>
-    ensures { OnOk result (uses.new ≡ uses.old ++ uses_of.uses_transfer (view.transfer_view transfer.now)) }
+    ensures { OnOk result
+        (uses.new ≡ uses.old ++ uses_of.uses_transfer (view.transfer_view transfer.now)) }
 {
     match transfer {
         Transfer::Call {
@@ -163,7 +172,8 @@ fn add_called<'a>(
     called: &'a Option<Reference>,
 ) -> Result<(), AllocError>
     ensures { OnOk result
-        (uses.new ≡ uses.old ++ uses_of.uses_called article (option_view reference_view called.now)) }
+        (uses.new ≡ uses.old
+        ++ uses_of.uses_called article (option_view reference_view called.now)) }
 {
     match article {
         Article::A => add_called_target(uses, called),
@@ -212,7 +222,8 @@ fn add_when<'a>(uses: &mut UseList<'a>, when: &'a When) -> Result<(), AllocError
 }
 
 fn add_timing<'a>(uses: &mut UseList<'a>, timing: &'a Timing) -> Result<(), AllocError>
-    ensures { OnOk result (uses.new ≡ uses.old ++ uses_of.uses_timing (view.timing_view timing.now)) }
+    ensures { OnOk result
+        (uses.new ≡ uses.old ++ uses_of.uses_timing (view.timing_view timing.now)) }
 {
     match timing {
         Timing::Schedule {
@@ -238,7 +249,8 @@ fn add_timing<'a>(uses: &mut UseList<'a>, timing: &'a Timing) -> Result<(), Allo
 }
 
 fn add_exchange<'a>(uses: &mut UseList<'a>, exchange: &'a Exchange) -> Result<(), AllocError>
-    ensures { OnOk result (uses.new ≡ uses.old ++ uses_of.uses_exchange (view.exchange_view exchange.now)) }
+    ensures { OnOk result
+        (uses.new ≡ uses.old ++ uses_of.uses_exchange (view.exchange_view exchange.now)) }
 {
     match exchange {
         Exchange::Read(targets) => {

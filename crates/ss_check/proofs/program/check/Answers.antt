@@ -6,7 +6,7 @@ use Rattle.ss_check.specs.Readable.{AreOfTree}
 use Rattle.ss_check.specs.Resolved.{resolved}
 use Rattle.ss_check.proofs.Pictures.{pictures_right}
 use Rattle.ss_check.proofs.Sound.{sound_resolved}
-use Rattle.ss_check.proofs.SoundFew.{few_sections}
+use Rattle.ss_check.proofs.SoundSizes.{few_sections}
 use Rattle.ss_check.proofs.program.check.Goals as goal
 
 pub resolve_program-program-requires : goal.resolve_program-program-requires

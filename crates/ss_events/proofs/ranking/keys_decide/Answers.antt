@@ -7,7 +7,7 @@ use Rattle.std.specs.declared.cmp.Ordering.TheVariants.{Less, Equal, Greater}
 use Rattle.std.proofs.lemmas.Int.{to_z-of_z}
 use Rattle.std.proofs.lemmas.List.{at_drop_more, at_drop_all}
 use Rattle.ss_program.specs.declared.keys.Key.{Key}
-use Rattle.ss_program.specs.Keys.{ranked, by_keys}
+use Rattle.ss_program.specs.Keys.{order_by_rank, by_keys}
 use Rattle.ss_words.specs.declared.terms.Rank.{Rank}
 use Rattle.ss_words.specs.declared.terms.Rank.TheVariants.{High, Low}
 use Rattle.ss_events.proofs.ranking.keys_decide.Goals as goal
@@ -24,7 +24,7 @@ pair x y = (x, y)
 
 -- two numbers are two keys, the one that is to be less for the first to come first in front
 abbrev AreOf : Rank → ℤ → ℤ → ℤ × ℤ → Type 0
-AreOf rank p q x = ranked rank p q ≡ int_cmp (to_z w64 (of_z w64 x.0)) (to_z w64 (of_z w64 x.1))
+AreOf rank p q x = order_by_rank rank p q ≡ int_cmp (to_z w64 (of_z w64 x.0)) (to_z w64 (of_z w64 x.1))
 
 kept : (p : ℤ) → SFits w64 p → to_z w64 (of_z w64 (to_z w64 (of_z w64 p))) ≡ p
 kept p f = ap (λ z. to_z w64 (of_z w64 z)) (to_z-of_z w64 p f) ∙ to_z-of_z w64 p f
@@ -52,7 +52,7 @@ behind ties a b i = by_keys (drop (i + 1) ties) (drop (i + 1) a) (drop (i + 1) b
 -- the keys that are left, the first in front
 keys-at : (ties : List Key) (a b : List ℤ) (i : ℕ) (o : Ordering) → i < length ties → length a ≡ length ties →
     length b ≡ length ties → by_keys ties a b ≡ by_keys (drop i ties) (drop i a) (drop i b) →
-    ranked (tie ties i).rank (key a i) (key b i) ≡ o → by_keys ties a b ≡ ordering_then o (behind ties a b i)
+    order_by_rank (tie ties i).rank (key a i) (key b i) ≡ o → by_keys ties a b ≡ ordering_then o (behind ties a b i)
 keys-at ties a b i o h la lb left e =
     let ks = tie ties i ∷ drop (i + 1) ties in
     let xs = key a i ∷ drop (i + 1) a in

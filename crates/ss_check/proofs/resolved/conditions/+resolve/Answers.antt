@@ -11,7 +11,7 @@ use Rattle.ss_program.specs.ProgramCondition as checked
 use Rattle.ss_check.specs.Resolved.{resolved_conjunction, resolved_relation, resolved_alternatives}
 use Rattle.ss_check.specs.Resolved.{resolved_additions}
 use Rattle.ss_check.specs.Scope.{in_scope}
-use Rattle.ss_check.proofs.Resolving.{alternatives_map, additions_map, shown_all, shown_put}
+use Rattle.ss_check.proofs.TreeParts.{alternatives_map, additions_map, shown_all, shown_put}
 use Rattle.ss_check.proofs.resolved.conditions.+resolve.Goals as goal
 
 pub resolve_disjunction-loop-further-preserved : goal.resolve_disjunction-loop-further-preserved

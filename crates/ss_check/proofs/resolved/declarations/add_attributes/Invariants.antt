@@ -1,7 +1,7 @@
 use Rattle.std.proofs.Common.{◌≡◌, ◌++◌, drop}
 use Rattle.std.specs.Prelude.{map}
 use Rattle.ss_words.specs.Lists.{all_of, several_view}
-use Rattle.ss_check.specs.declared.declared.name_kind.NameKind.TheVariants.{Attribute}
+use Rattle.ss_check.specs.NameKind.{Attribute}
 use Rattle.ss_check.specs.Facts.{fact}
 use Rattle.ss_check.proofs.resolved.declarations.add_attributes.Given as goal
 

@@ -1,7 +1,7 @@
 use Rattle.std.proofs.Common.{◌≡◌, ◌++◌, drop}
 use Rattle.std.specs.Prelude.{map}
 use Rattle.ss_words.specs.Lists.{all_of, several_view}
-use Rattle.ss_check.specs.declared.declared.name_kind.NameKind.TheVariants.{Variable}
+use Rattle.ss_check.specs.NameKind.{Variable}
 use Rattle.ss_check.specs.Facts.{fact}
 use Rattle.ss_check.proofs.resolved.declarations.add_variables.Given as goal
 

@@ -14,8 +14,9 @@ use Rattle.ss_routines.specs.View as written
 use Rattle.ss_program.specs.ProgramExpr as checked
 use Rattle.ss_check.specs.Resolved.{resolved_expr, resolved_exprs, resolved_factor, resolved_products, resolved_sums}
 use Rattle.ss_check.specs.Declarations.{kind_of}
+use Rattle.ss_check.specs.KindView.{kind_view}
 use Rattle.ss_check.specs.Scope.{in_scope}
-use Rattle.ss_check.proofs.Resolving.{along, shown_all, shown_put, resolved_signed, exprs_map, products_map, sums_map}
+use Rattle.ss_check.proofs.TreeParts.{along, shown_all, shown_put, resolved_signed, exprs_map, products_map, sums_map}
 use Rattle.ss_check.proofs.resolved.expressions.+resolve.Goals as goal
 
 pub resolve_term-loop-further-preserved : goal.resolve_term-loop-further-preserved
@@ -115,7 +116,7 @@ resolve_application-returns t c =
     written.application_step written.expr_step written.term_step) refl in
     let first : checked.expr_of c.in_ok-first-2.first.value
     ≡ in_scope s resolved_expr (written.expr_view a.first.value) = search rules in
-    let kind : option_map (λ k. k.now) c.kind.result ≡ kind_of s.whole.now a.name = search rules in
+    let kind : option_map (λ k. kind_view k.now) c.kind.result ≡ kind_of s.whole.now a.name = search rules in
     let name : c.bytes-name.result.now ≡ a.name = search rules in
     let all : map checked.expr_of c.loop-other.more.items
     ≡ map (λ e. in_scope s resolved_expr (written.expr_view e)) a.others.items

@@ -4,7 +4,7 @@ use Rattle.ss_routines.specs.View.{expr_view, factor_view, added_view}
 use Rattle.ss_program.specs.ProgramExpr.{expr_of, factor_of, signed_of}
 use Rattle.ss_check.specs.Resolved.{resolved_expr, resolved_factor}
 use Rattle.ss_check.specs.Scope.{in_scope}
-use Rattle.ss_check.proofs.Resolving.{resolved_signed}
+use Rattle.ss_check.proofs.TreeParts.{resolved_signed}
 use Rattle.ss_check.proofs.resolved.expressions.+resolve.Given as goal
 
 abbrev pub decreases-resolve_sum : goal.decreases-resolve_sum

@@ -1,6 +1,6 @@
 use Rattle.std.proofs.Common.{◌≡◌, drop}
 use Rattle.std.specs.List.{fold}
-use Rattle.ss_program.specs.Indexed.{with_name}
+use Rattle.ss_program.specs.NameIndex.{with_name}
 use Rattle.ss_check.proofs.resolved.section_locals.add_names.Given as goal
 
 -- the names that are left bring the table to the whole one

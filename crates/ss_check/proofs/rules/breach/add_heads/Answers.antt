@@ -1,6 +1,6 @@
 use Rattle.std.specs.Prelude.{map}
 use Rattle.ss_routines.specs.View.{section_view}
-use Rattle.ss_check.specs.Adding.{with_sections}
+use Rattle.ss_check.specs.Increments.{with_sections}
 use Rattle.ss_check.proofs.Turns.{headed_end, headed_turn}
 use Rattle.ss_check.proofs.rules.breach.add_heads.Goals as goal
 

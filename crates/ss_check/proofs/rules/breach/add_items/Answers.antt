@@ -1,6 +1,6 @@
 use Rattle.ss_preamble.specs.View.{items_view}
-use Rattle.ss_check.specs.Adding.{with_entries}
-use Rattle.ss_check.specs.Declarations.{entries}
+use Rattle.ss_check.specs.Increments.{with_items}
+use Rattle.ss_check.specs.Declarations.{headed_items}
 use Rattle.ss_check.proofs.Turns.{filled_end, filled_turn}
 use Rattle.ss_check.proofs.rules.breach.add_items.Goals as goal
 
@@ -8,10 +8,11 @@ pub loop-one-preserved : goal.loop-one-preserved
 loop-one-preserved c =
     rw (c.in_ok-add_item.ensures, c.heading_at-heading.ensures)
     (filled_turn c.loop-one.tables c.loop-one.heading c.args.items.now c.loop-one.one-index c.one-item.result
-    (with_entries c.args.tables.now (entries (items_view c.args.items.now))) c.loop-one-test.true c.one-item.is
+    (with_items c.args.tables.now (headed_items (items_view c.args.items.now))) c.loop-one-test.true c.one-item.is
     c.loop-one.invariant)
 
 pub returns : goal.returns
 returns c =
     filled_end c.loop-one.tables c.loop-one.heading c.args.items.now c.loop-one.one-index
-    (with_entries c.args.tables.now (entries (items_view c.args.items.now))) c.loop-one-test.false c.loop-one.invariant
+    (with_items c.args.tables.now (headed_items (items_view c.args.items.now))) c.loop-one-test.false
+    c.loop-one.invariant

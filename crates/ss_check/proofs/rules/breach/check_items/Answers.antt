@@ -1,7 +1,7 @@
 use Rattle.std.proofs.Common.{sym, ◌∙◌}
 use Rattle.ss_preamble.specs.View.{item_at_view, items_view}
-use Rattle.ss_check.specs.Adding.{entry_at, items_breach, with_entries}
-use Rattle.ss_check.specs.Declarations.{entries}
+use Rattle.ss_check.specs.Increments.{headed_item, items_breach, with_items}
+use Rattle.ss_check.specs.Declarations.{headed_items}
 use Rattle.ss_check.proofs.ItemRules.{once_behind_item}
 use Rattle.ss_check.proofs.Turns.{filled_end, filled_turn, item_passed, item_told, items_end}
 use Rattle.ss_check.proofs.rules.breach.check_items.Goals as goal
@@ -11,7 +11,7 @@ returns-in-Some-clause-err c =
     item_told c.args.whole.now c.loop-one.before c.loop-one.heading c.heading_at-heading.result c.args.items.now
     c.loop-one.one-index
     c.one-item.result (items_breach c.args.whole.now c.args.before.now
-    (entries (items_view c.args.items.now))) c.in-Some.rule
+    (headed_items (items_view c.args.items.now))) c.in-Some.rule
     c.loop-one-test.true c.one-item.is c.loop-one.invariant.sound c.heading_at-heading.ensures
     (sym c.in_ok-rule.ensures.rule ∙ c.in-Some.is)
 
@@ -21,28 +21,28 @@ loop-one-preserved c =
     record {
       once = rw c.in_ok-rule.ensures.tables
           (once_behind_item c.args.whole.now c.loop-one.before
-          (entry_at c.heading_at-heading.result (item_at_view c.one-item.result))
+          (headed_item c.heading_at-heading.result (item_at_view c.one-item.result))
           c.loop-one.invariant.once none);
       sound = rw c.in_ok-rule.ensures.tables
           (item_passed c.args.whole.now c.loop-one.before c.loop-one.heading c.heading_at-heading.result
           c.args.items.now
           c.loop-one.one-index c.one-item.result
-          (items_breach c.args.whole.now c.args.before.now (entries (items_view c.args.items.now)))
+          (items_breach c.args.whole.now c.args.before.now (headed_items (items_view c.args.items.now)))
           c.loop-one-test.true c.one-item.is c.loop-one.invariant.sound c.heading_at-heading.ensures none);
       tables = rw (c.in_ok-rule.ensures.tables, c.heading_at-heading.ensures)
           (filled_turn c.loop-one.before c.loop-one.heading c.args.items.now c.loop-one.one-index c.one-item.result
-          (with_entries c.args.before.now (entries (items_view c.args.items.now))) c.loop-one-test.true c.one-item.is
+          (with_items c.args.before.now (headed_items (items_view c.args.items.now))) c.loop-one-test.true c.one-item.is
           c.loop-one.invariant.tables);
     }
 
 pub returns-clause-sound : goal.returns-clause-sound
 returns-clause-sound c =
     items_end c.args.whole.now c.loop-one.before c.loop-one.heading c.args.items.now c.loop-one.one-index
-    (items_breach c.args.whole.now c.args.before.now (entries (items_view c.args.items.now))) c.loop-one-test.false
+    (items_breach c.args.whole.now c.args.before.now (headed_items (items_view c.args.items.now))) c.loop-one-test.false
     c.loop-one.invariant.sound
 
 pub returns-clause-tables : goal.returns-clause-tables
 returns-clause-tables c =
     filled_end c.loop-one.before c.loop-one.heading c.args.items.now c.loop-one.one-index
-    (with_entries c.args.before.now
-    (entries (items_view c.args.items.now))) c.loop-one-test.false c.loop-one.invariant.tables
+    (with_items c.args.before.now
+    (headed_items (items_view c.args.items.now))) c.loop-one-test.false c.loop-one.invariant.tables

@@ -1,7 +1,7 @@
 use Rattle.std.proofs.Common.{sym, ◌∙◌}
 use Rattle.std.specs.Prelude.{map}
 use Rattle.ss_routines.specs.View.{local_view}
-use Rattle.ss_check.specs.Adding.{locals_breach}
+use Rattle.ss_check.specs.Increments.{locals_breach}
 use Rattle.ss_check.proofs.Turns.{local_passed, local_told, locals_end}
 use Rattle.ss_check.proofs.rules.breach.check_locals.Goals as goal
 

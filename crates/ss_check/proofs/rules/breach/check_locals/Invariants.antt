@@ -1,7 +1,7 @@
 use Rattle.std.proofs.Common.{◌≡◌, drop}
 use Rattle.std.specs.Prelude.{map}
 use Rattle.ss_routines.specs.View.{local_view}
-use Rattle.ss_check.specs.Adding.{locals_breach}
+use Rattle.ss_check.specs.Increments.{locals_breach}
 use Rattle.ss_check.proofs.rules.breach.check_locals.Given as goal
 
 -- the local DEFINEs so far break no rule

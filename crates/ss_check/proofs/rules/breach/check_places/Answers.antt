@@ -1,6 +1,6 @@
 use Rattle.std.proofs.Common.{false, sym, ◌∙◌}
 use Rattle.ss_routines.specs.View.{spots}
-use Rattle.ss_check.specs.Adding.{places_breach}
+use Rattle.ss_check.specs.Increments.{places_breach}
 use Rattle.ss_check.proofs.Turns.{place_passed, place_told, places_end}
 use Rattle.ss_check.proofs.rules.breach.check_places.Goals as goal
 

@@ -1,11 +1,12 @@
 use Rattle.std.proofs.Common.{◌≡◌, false, sym, ◌∙◌, None}
 use Rattle.std.proofs.lemmas.Result.{err_from_is_err_and}
 use Rattle.ss_routines.specs.View.{section_view}
-use Rattle.ss_check.specs.Adding.{IsOnce, places_breach, section_breach}
+use Rattle.ss_check.specs.Increments.{IsOnce, places_breach, section_breach}
 use Rattle.ss_check.specs.Declarations.{is_main}
 use Rattle.ss_check.specs.Statements.{IsBreach}
 use Rattle.ss_check.proofs.ItemRules.{once_behind_head}
-use Rattle.ss_check.proofs.Statements.{err_more, ok_anyway, ok_more, section_err, section_head, section_locals, section_sound}
+use Rattle.ss_check.proofs.Statements.{err_more, ok_anyway, ok_more, section_err, section_head, section_locals}
+use Rattle.ss_check.proofs.Statements.{section_sound}
 use Rattle.ss_check.proofs.rules.breach.check_section.Goals as goal
 
 pub returns-in-Some-clause-err : goal.returns-in-Some-clause-err

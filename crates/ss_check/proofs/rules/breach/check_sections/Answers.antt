@@ -1,7 +1,7 @@
 use Rattle.std.specs.Prelude.{map}
 use Rattle.std.proofs.lemmas.Result.{err_from_is_err_and}
 use Rattle.ss_routines.specs.View.{section_view}
-use Rattle.ss_check.specs.Adding.{sections_breach}
+use Rattle.ss_check.specs.Increments.{sections_breach}
 use Rattle.ss_check.proofs.Turns.{section_passed, section_told, sections_end}
 use Rattle.ss_check.proofs.rules.breach.check_sections.Goals as goal
 

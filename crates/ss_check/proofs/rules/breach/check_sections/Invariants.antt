@@ -1,7 +1,7 @@
 use Rattle.std.proofs.Common.{◌≡◌, drop}
 use Rattle.std.specs.Prelude.{map}
 use Rattle.ss_routines.specs.View.{section_view}
-use Rattle.ss_check.specs.Adding.{IsOnce, sections_breach}
+use Rattle.ss_check.specs.Increments.{IsOnce, sections_breach}
 use Rattle.ss_check.proofs.rules.breach.check_sections.Given as goal
 
 -- the sections so far break no rule

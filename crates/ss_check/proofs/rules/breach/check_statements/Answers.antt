@@ -3,8 +3,8 @@ use Rattle.std.specs.Prelude.{map}
 use Rattle.std.proofs.lemmas.Result.{err_from_is_err_and}
 use Rattle.ss_preamble.specs.View.{decls_view}
 use Rattle.ss_routines.specs.View.{section_view}
-use Rattle.ss_check.specs.Adding.{with_entries}
-use Rattle.ss_check.specs.Declarations.{entries}
+use Rattle.ss_check.specs.Increments.{with_items}
+use Rattle.ss_check.specs.Declarations.{headed_items}
 use Rattle.ss_check.proofs.Statements.{AreTables, fault_end, fault_items, fault_sections, sound_all}
 use Rattle.ss_check.proofs.rules.breach.check_statements.Goals as goal
 
@@ -12,7 +12,7 @@ pub returns-in_err-check_items-clause-err : goal.returns-in_err-check_items-clau
 returns-in_err-check_items-clause-err c =
     let p = decls_view c.args.decls.now in
     let ss = map section_view c.args.sections.now in
-    let middle = with_entries c.args.before.now (entries p.items) in
+    let middle = with_items c.args.before.now (headed_items p.items) in
     let t : AreTables p ss c.args.whole.now c.args.before.now middle =
     record { all = c.requires.whole; none = c.requires.start; items = refl } in
     let q = err_from_is_err_and c.from_residual.result c.from_residual.ensures.1 in

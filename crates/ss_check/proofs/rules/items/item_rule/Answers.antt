@@ -1,6 +1,6 @@
 use Rattle.std.proofs.Common.{◌∙◌}
 use Rattle.ss_preamble.specs.View.{item_at_view}
-use Rattle.ss_check.specs.Adding.{entry_at}
+use Rattle.ss_check.specs.Increments.{headed_item}
 use Rattle.ss_check.proofs.ItemRules.{item_rule_is}
 use Rattle.ss_check.proofs.rules.items.item_rule.Goals as goal
 
@@ -9,7 +9,7 @@ returns-clause-rule c =
     c.lowest.ensures
     ∙ rw (c.has_repeat.ensures, c.has_repeat-2.ensures, c.joins_system.ensures)
     (item_rule_is c.args.whole.now c.args.before.now c.add_item.new.self
-    (entry_at c.args.heading (item_at_view c.args.one.now))
+    (headed_item c.args.heading (item_at_view c.args.one.now))
     c.says_twice.result c.names_wrong_class.result c.names_new_without-is_ownerless.result
     c.names_new_without-is_memberless.result
     c.has_wrong_keys.result c.lacks_section-lacks_section.result c.in_ok-has_wrong_priority.has_wrong_priority

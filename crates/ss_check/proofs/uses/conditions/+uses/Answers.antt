@@ -3,7 +3,8 @@ use Rattle.std.specs.Prelude.{map}
 use Rattle.ss_routines.specs.declared.tree.condition.Relation.TheFolds.{fold_out-Condition, fold_out-Conjunction}
 use Rattle.ss_routines.specs.Condition.{Relation, Condition, Conjunction}
 use Rattle.ss_routines.specs.Condition.{alternatives_of, additions_of}
-use Rattle.ss_routines.specs.View.{condition_view, conjunction_view, relation_view, relation_step, condition_step, conjunction_step}
+use Rattle.ss_routines.specs.View.{condition_view, conjunction_view, relation_view, relation_step, condition_step}
+use Rattle.ss_routines.specs.View.{conjunction_step}
 use Rattle.ss_check.specs.Uses.{uses_condition, uses_alternatives, uses_conjunction, uses_additions, uses_relation}
 use Rattle.ss_check.proofs.TableTurns.{added_end, added_turn}
 use Rattle.ss_check.proofs.uses.conditions.+uses.Goals as goal

@@ -3,7 +3,8 @@ use Rattle.std.specs.Prelude.{map}
 use Rattle.ss_words.specs.declared.terms.TermSign.{TermSign}
 use Rattle.ss_routines.specs.declared.tree.expr.Factor.TheFolds.{fold_out-Added, fold_out-Expr, fold_out-Term}
 use Rattle.ss_routines.specs.Expr.{Expr, Factor, Term, sums_of, products_of, exprs_of}
-use Rattle.ss_routines.specs.View.{application_view, expr_view, term_view, factor_view, added_view, factor_step, added_step, application_step, expr_step, term_step}
+use Rattle.ss_routines.specs.View.{application_view, expr_view, term_view, factor_view, added_view, factor_step}
+use Rattle.ss_routines.specs.View.{added_step, application_step, expr_step, term_step}
 use Rattle.ss_check.specs.Uses.{uses_expr, uses_sums, uses_term, uses_products, uses_factor, uses_exprs}
 use Rattle.ss_check.proofs.TableTurns.{added_end, added_turn}
 use Rattle.ss_check.proofs.uses.expressions.+uses.Goals as goal

@@ -3,7 +3,7 @@ use Rattle.std.specs.Prelude.{bytes_eq, position, is_some}
 use Rattle.std.specs.BTreeMap.{UpdatesBy}
 use Rattle.std.specs.Cmp.Lexicographic.{slice_cmp}
 use Rattle.std.specs.Ordering.{nat_cmp}
-use Rattle.ss_program.proofs.Indexed.{index_same, index_more, none_is, with_name-there, with_name-none}
+use Rattle.ss_program.proofs.NameIndex.{index_same, index_more, none_is, with_name-there, with_name-none}
 use Rattle.ss_program.proofs.name_table.NameTable.add.Goals as goal
 
 pub returns-then-is_some-clause-ok : goal.returns-then-is_some-clause-ok

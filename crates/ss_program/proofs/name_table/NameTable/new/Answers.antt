@@ -1,4 +1,4 @@
-use Rattle.ss_program.proofs.Indexed.{index_none}
+use Rattle.ss_program.proofs.NameIndex.{index_none}
 use Rattle.ss_program.proofs.name_table.NameTable.new.Goals as goal
 
 pub invariant_of-result : goal.invariant_of-result

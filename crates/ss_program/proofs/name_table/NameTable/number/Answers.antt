@@ -1,6 +1,6 @@
 use Rattle.std.proofs.Common.{◌∙◌, ap, List, ℕ}
 use Rattle.std.specs.Prelude.{bytes_eq, position}
-use Rattle.ss_program.proofs.Indexed.{index_at, place_within}
+use Rattle.ss_program.proofs.NameIndex.{index_at, place_within}
 use Rattle.ss_program.proofs.name_table.NameTable.number.Goals as goal
 
 pub returns-clause-value : goal.returns-clause-value

@@ -1,5 +1,5 @@
 use Rattle.std.proofs.Common.{◌≡◌, ap, arith, false, length}
-use Rattle.ss_program.proofs.Indexed.{index_same}
+use Rattle.ss_program.proofs.NameIndex.{index_same}
 use Rattle.ss_check.specs.Facts.{is_among, names_of}
 use Rattle.ss_check.proofs.FactTables.{index_first, repeats_first}
 use Rattle.ss_check.proofs.declared.fact_table.FactTable.add_first.Goals as goal

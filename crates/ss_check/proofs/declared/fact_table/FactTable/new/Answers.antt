@@ -1,5 +1,5 @@
 use Rattle.std.proofs.Common.{refl}
-use Rattle.ss_program.proofs.Indexed.{index_none}
+use Rattle.ss_program.proofs.NameIndex.{index_none}
 use Rattle.ss_check.proofs.declared.fact_table.FactTable.new.Goals as goal
 
 pub invariant_of-result : goal.invariant_of-result

@@ -1,5 +1,5 @@
 use Rattle.std.proofs.Common.{sym}
-use Rattle.ss_check.proofs.Counting.{counts_some, counts_zero}
+use Rattle.ss_check.proofs.CountMaps.{counts_some, counts_zero}
 use Rattle.ss_check.proofs.declared.name_counts.NameCounts.count.Goals as goal
 
 pub returns-in-Some : goal.returns-in-Some

@@ -1,4 +1,4 @@
-use Rattle.ss_check.proofs.Counting.{counts_none}
+use Rattle.ss_check.proofs.CountMaps.{counts_none}
 use Rattle.ss_check.proofs.declared.name_counts.NameCounts.new.Goals as goal
 
 pub invariant_of-result : goal.invariant_of-result

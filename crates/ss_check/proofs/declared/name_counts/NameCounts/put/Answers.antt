@@ -1,6 +1,6 @@
 use Rattle.std.proofs.Common.{◌≡◌}
 use Rattle.std.specs.Prelude.{bytes_eq, count_by}
-use Rattle.ss_check.proofs.Counting.{counts_more, counts_same}
+use Rattle.ss_check.proofs.CountMaps.{counts_more, counts_same}
 use Rattle.ss_check.proofs.declared.name_counts.NameCounts.put.Goals as goal
 
 pub invariant_of-self-in_err-insert : goal.invariant_of-self-in_err-insert

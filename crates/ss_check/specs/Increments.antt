@@ -1,0 +1,100 @@
+-- The tables of a program with more items or heads, and the first breach of what stands behind others.
+use Rattle.std.specs.Prelude.{◌≡◌, ℕ, Bool, true, false, List, [], ◌∷◌, ◌++◌, map, Option, None}
+use Rattle.std.specs.Option.{option_or}
+use Rattle.ss_preamble.specs.declared.item.Heading.{Heading}
+use Rattle.ss_preamble.specs.Tree.{ItemAt}
+use Rattle.ss_routines.specs.Tree.{Head, MainHead, RoutineHead, EventHead}
+use Rattle.ss_routines.specs.Places.{LocalNames, Spot, Section}
+use Rattle.ss_check.specs.declared.fault.CheckRule.{CheckRule}
+use Rattle.ss_check.specs.NameKind.{Routine}
+use Rattle.ss_check.specs.Declarations.{Declared}
+use Rattle.ss_check.specs.Declarations.{HeadedItem, attributes_in, classes_in, counts_of, declarations}
+use Rattle.ss_check.specs.Declarations.{disciplined_sets, external_in, is_main, members_in, owners_in, priority_in}
+use Rattle.ss_check.specs.Declarations.{tied_events}
+use Rattle.ss_check.specs.Facts.{fact, names_of, repeats}
+use Rattle.ss_check.specs.ItemRules.{item_statement, head_statement, local_statement}
+use Rattle.ss_check.specs.NameKinds.{one_conflicts}
+use Rattle.ss_check.specs.PlaceRules.{place_statements}
+use Rattle.ss_check.specs.Statements.{breach_of, first_breach}
+
+-- an item under a heading
+abbrev pub headed_item : Option Heading → ItemAt → HeadedItem
+headed_item h i = record { line = i.line; heading = h; item = i.item }
+
+-- ---- tables
+
+-- with one more item
+unfoldable pub with_item : Declared → HeadedItem → Declared
+with_item t x = record t {
+  kinds = t.kinds ++ declarations x;
+  attributes = t.attributes ++ attributes_in x.item;
+  owners = t.owners ++ owners_in x.item;
+  members = t.members ++ members_in x.item;
+  disciplines = t.disciplines ++ disciplined_sets x.item;
+  ties = t.ties ++ tied_events x.item;
+  external = t.external ++ external_in x.item;
+  priority = t.priority ++ priority_in x.item;
+  classes = t.classes ++ classes_in x.item;
+}
+
+-- with one more head
+unfoldable pub with_head : Declared → Head → Declared
+with_head t MainHead = record t { has_main = true }
+with_head t (RoutineHead n given yielded) = record t {
+  kinds = t.kinds ++ fact n Routine ∷ [];
+  routines = t.routines ++ fact n (counts_of (RoutineHead n given yielded)) ∷ [];
+}
+with_head t (EventHead n given saving) = record t { events = t.events ++ n ∷ [] }
+
+-- with items behind one another
+unfoldable pub with_items : Declared → List HeadedItem → Declared
+with_items t [] = t
+with_items t (x ∷ xs) = with_items (with_item t x) xs
+
+-- with the heads of sections behind one another
+unfoldable pub with_sections : Declared → List Section → Declared
+with_sections t [] = t
+with_sections t (s ∷ ss) = with_sections (with_head t s.head) ss
+
+-- tables that say nothing twice which may be said once
+pub record IsOnce (t : Declared) : Type 0 where
+  -- no declaration conflicts with an earlier one of its name
+  pub kinds : one_conflicts [] t.kinds ≡ false
+  -- no set has two owners
+  pub owners : repeats [] (names_of t.owners) ≡ false
+  -- nor two classes of members
+  pub members : repeats [] (names_of t.members) ≡ false
+  -- nor two disciplines
+  pub disciplines : repeats [] t.disciplines ≡ false
+  -- no event class has its ties broken twice
+  pub ties : repeats [] t.ties ≡ false
+  -- none is named twice as external
+  pub external : repeats [] t.external ≡ false
+  -- none has two sections
+  pub events : repeats [] t.events ≡ false
+
+-- ---- breaches; d: what the whole program says; b: what stands before says
+
+-- the first breach of items
+unfoldable pub items_breach : Declared → Declared → List HeadedItem → Option (CheckRule × ℕ)
+items_breach d b [] = None
+items_breach d b (x ∷ xs) = option_or (breach_of (item_statement d b x)) (items_breach d (with_item b x) xs)
+
+-- the first breach of local DEFINEs
+unfoldable pub locals_breach : Declared → List LocalNames → Option (CheckRule × ℕ)
+locals_breach d ls = first_breach (map (local_statement d) ls)
+
+-- the first breach of places, in MAIN or not, directly behind a FIND or not
+unfoldable pub places_breach : Declared → Bool → Bool → List Spot → Option (CheckRule × ℕ)
+places_breach d in_main behind_find ps = first_breach (place_statements d in_main behind_find ps)
+
+-- the first breach of a section
+unfoldable pub section_breach : Declared → Declared → Section → Option (CheckRule × ℕ)
+section_breach d b s =
+    option_or (breach_of (head_statement d b s))
+    (option_or (locals_breach d s.locals) (places_breach d (is_main s.head) false s.places))
+
+-- the first breach of sections
+unfoldable pub sections_breach : Declared → Declared → List Section → Option (CheckRule × ℕ)
+sections_breach d b [] = None
+sections_breach d b (s ∷ ss) = option_or (section_breach d b s) (sections_breach d (with_head b s.head) ss)
