@@ -1,7 +1,7 @@
 -- What is left where old steps are forgotten.
 use Rattle.std.proofs.Common.{◌≡◌, ℕ, ◌-◌, min, length, ap, arith, ◌∙◌}
 use Rattle.std.proofs.lemmas.List.{length-take}
-use Rattle.ss_machine.specs.Moment.{Moment, position, kept, HasForgotten}
+use Rattle.ss_machine.specs.Moment.{Moment, position, steps_kept, HasForgotten}
 use Rattle.ss_debug.specs.Move.{back_by}
 
 -- the earliest kept position is that to which so many steps back lead
@@ -13,5 +13,5 @@ earliest_after n old new h =
     omega (arith, left, same)
 
 -- and the steps from there on are counted
-pub kept_after : (n : ℕ) (m : Moment) → position m - back_by m.forgotten (position m) n ≡ min n (kept m)
+pub kept_after : (n : ℕ) (m : Moment) → position m - back_by m.forgotten (position m) n ≡ min n (steps_kept m)
 kept_after n m = omega arith

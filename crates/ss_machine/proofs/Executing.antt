@@ -1,5 +1,6 @@
 -- what the statements on entities come to, by what the store said
-use Rattle.std.proofs.Common.{◌≡◌, ℕ, ℤ, pos, List, [], Bool, true, false, Option, Result, Ok, Err, OnOk, IfErr, refl, ap, sym, ◌∙◌}
+use Rattle.std.proofs.Common.{◌≡◌, ℕ, ℤ, pos, List, [], Bool, true, false, Option, Result, Ok, Err, OnOk, IfErr, refl}
+use Rattle.std.proofs.Common.{ap, sym, ◌∙◌}
 use Rattle.std.specs.Prelude.{not, int_lt, if◌then◌else◌}
 use Rattle.ss_words.specs.declared.fault.RunFault.{RunFault}
 use Rattle.ss_words.specs.declared.fault.RunFault.TheVariants.{NoEntity}
@@ -13,7 +14,8 @@ use Rattle.ss_program.specs.declared.timing.Schedule.{Schedule}
 use Rattle.ss_program.specs.ProgramExpr.{Expr, Subscript}
 use Rattle.ss_program.specs.Program.{ProgramTable}
 use Rattle.ss_store.specs.Tables.{Tables, tables_of, class_of}
-use Rattle.ss_store.specs.Store.{Store, number_of, exists, last_reference, with_new, with_class, with_attribute, without_entity}
+use Rattle.ss_store.specs.Store.{Store, number_of, exists, last_reference, with_new, with_class, with_attribute}
+use Rattle.ss_store.specs.Store.{without_entity}
 use Rattle.ss_events.specs.Agenda.{Agenda, is_pending}
 use Rattle.ss_values.specs.Faults.{◌>>◌, refuse_if}
 use Rattle.ss_values.specs.Values.{value_of, subscript_value, number_value, FaultIs}
@@ -21,7 +23,12 @@ use Rattle.ss_machine.specs.State.{State}
 use Rattle.ss_machine.specs.Held.{Held}
 use Rattle.ss_machine.specs.Readings.{readings}
 use Rattle.ss_machine.specs.declared.status.Status.TheVariants.{Faulted}
-use Rattle.ss_machine.specs.Step.{state_after_result, state_at_place, state_with_store, state_after_assignment, number_asked, state_after_making, existing, state_after_destroy, state_with_value, state_after_scheduling, state_after_new, state_after_arrival, attributes_now, state_with_attributes, state_with_notice, tie_attributes, state_after_create, state_with_agenda, agenda_without, state_after_cancel, arguments_asked, time_asked, state_after_notice, state_after_schedule}
+use Rattle.ss_machine.specs.Step.{state_after_result, state_at_place, state_with_store, state_after_assignment}
+use Rattle.ss_machine.specs.Step.{number_asked, state_after_making, entity_named, state_after_destroy, state_with_value}
+use Rattle.ss_machine.specs.Step.{state_after_scheduling, state_after_new, state_after_arrival, attributes_now}
+use Rattle.ss_machine.specs.Step.{state_with_attributes, state_with_notice, tie_attributes, state_after_create}
+use Rattle.ss_machine.specs.Step.{state_with_agenda, agenda_without, state_after_cancel, arguments_asked, time_asked}
+use Rattle.ss_machine.specs.Step.{state_after_notice, state_after_schedule}
 use Rattle.ss_machine.specs.declared.change.Change.{Change}
 use Rattle.ss_machine.specs.declared.entry.Entry.TheVariants.{Waiting}
 use Rattle.ss_machine.specs.Storing.{LeavesStore, IsRefused, IsCreating, IsMakingAll, IsScheduling, IsCancelling}
@@ -61,7 +68,7 @@ create_every_ends t s u new class count number n st a b d e = rw (a, b, e, d) re
 
 -- ---- DESTROY
 
-pub existing_is : (st : Store) (class k : ℕ) (x : ℤ) → existing st class x ≡ Ok k → k ≡ number_of x
+pub existing_is : (st : Store) (class k : ℕ) (x : ℤ) → entity_named st class x ≡ Ok k → k ≡ number_of x
 existing_is st class k x h = chosen (not (exists st class (number_of x))) h
   where
     chosen : (b : Bool) → (refuse_if b NoEntity >> Ok (number_of x)) ≡ Ok k → k ≡ number_of x
@@ -69,7 +76,7 @@ existing_is st class k x h = chosen (not (exists st class (number_of x))) h
     chosen false e = cc
 
 pub destroy_fails : (t : Tables) (s : State) (class k : ℕ) (e : Expr) (x : ℤ) (f : RunFault) →
-    value_of (readings t s) e ≡ Ok x → existing s.store class x ≡ Ok k → is_pending s.agenda k ≡ false →
+    value_of (readings t s) e ≡ Ok x → entity_named s.store class x ≡ Ok k → is_pending s.agenda k ≡ false →
     without_entity t s.store class (number_of x) ≡ Err f →
     state_after_destroy t s class e ≡ Err f
 destroy_fails t s class k e x f a b d w =
@@ -77,7 +84,7 @@ destroy_fails t s class k e x f a b d w =
     rw (a, b, d, n, w) refl
 
 pub destroy_ends : (t : Tables) (s new : State) (class k : ℕ) (e : Expr) (x : ℤ) (st : Store) →
-    value_of (readings t s) e ≡ Ok x → existing s.store class x ≡ Ok k → is_pending s.agenda k ≡ false →
+    value_of (readings t s) e ≡ Ok x → entity_named s.store class x ≡ Ok k → is_pending s.agenda k ≡ false →
     without_entity t s.store class (number_of x) ≡ Ok st → new ≡ state_with_store s st →
     state_after_destroy t s class e ≡ Ok new
 destroy_ends t s new class k e x st a b d w z =
@@ -241,12 +248,12 @@ cancelling_is change (Ok a) h k o = (a, refl, o.state)
 cancelling_is change (Err f) h k o = absurd o
 
 pub cancel_fails : (t : Tables) (s : State) (class k : ℕ) (e : Expr) (x : ℤ) (f : RunFault) →
-    value_of (readings t s) e ≡ Ok x → existing s.store class x ≡ Ok k → agenda_without s k ≡ Err f →
+    value_of (readings t s) e ≡ Ok x → entity_named s.store class x ≡ Ok k → agenda_without s k ≡ Err f →
     state_after_cancel t s class e ≡ Err f
 cancel_fails t s class k e x f a b d = rw (a, b, d) refl
 
 pub cancel_ends : (t : Tables) (s new : State) (class k : ℕ) (e : Expr) (x : ℤ) (made : Agenda) →
-    value_of (readings t s) e ≡ Ok x → existing s.store class x ≡ Ok k → agenda_without s k ≡ Ok made →
+    value_of (readings t s) e ≡ Ok x → entity_named s.store class x ≡ Ok k → agenda_without s k ≡ Ok made →
     new ≡ state_with_agenda s made →
     state_after_cancel t s class e ≡ Ok new
 cancel_ends t s new class k e x made a b d n = rw (a, b, d, n) refl

@@ -1,5 +1,6 @@
 -- no step changes the items of the data
-use Rattle.std.proofs.Common.{◌≡◌, ℕ, ℤ, zero, suc, ◌+◌, Bool, true, false, List, [], ◌∷◌, Option, Some, None, Result, Ok, Err, refl, ap, ◌∙◌}
+use Rattle.std.proofs.Common.{◌≡◌, ℕ, ℤ, zero, suc, ◌+◌, Bool, true, false, List, [], ◌∷◌, Option, Some, None, Result}
+use Rattle.std.proofs.Common.{Ok, Err, refl, ap, ◌∙◌}
 use Rattle.std.specs.Prelude.{pos, int_lt, length, slice_index_or, if◌then◌else◌}
 use Rattle.std.specs.List.{range_with_len}
 use Rattle.ss_words.specs.declared.fault.RunFault.{RunFault}
@@ -8,7 +9,8 @@ use Rattle.ss_program.specs.declared.variable.Variable.TheVariants.{Global, Loca
 use Rattle.ss_program.specs.declared.place.Output.TheVariants.{Print, Skip}
 use Rattle.ss_program.specs.declared.place.Control.TheVariants.{Stop, Return, End}
 use Rattle.ss_program.specs.declared.place.Place.{Place}
-use Rattle.ss_program.specs.declared.place.Place.TheVariants.{Assign, Making, Filing, Output, Control, Branch, Looping, Call, Timing, Read}
+use Rattle.ss_program.specs.declared.place.Place.TheVariants.{Assign, Making, Filing, Output, Control, Branch, Looping}
+use Rattle.ss_program.specs.declared.place.Place.TheVariants.{Call, Timing, Read}
 use Rattle.ss_program.specs.declared.place.Spot.{Spot}
 use Rattle.ss_program.specs.declared.branch.Branch.TheVariants.{If, Else, Always}
 use Rattle.ss_program.specs.declared.looping.ForPhrase.{ForPhrase}
@@ -21,10 +23,6 @@ use Rattle.ss_program.specs.declared.ways.Ways.{Ways}
 use Rattle.ss_program.specs.declared.kinds.SectionKind.{SectionKind}
 use Rattle.ss_program.specs.declared.kinds.SectionKind.TheVariants as kinds
 use Rattle.ss_program.specs.Program.{ProgramTable, has_external, section_of, spot_at}
-use Rattle.ss_machine.specs.declared.statistics.Statistics.{Statistics}
-use Rattle.ss_machine.specs.declared.loops.OpenLoop.{OpenLoop}
-use Rattle.ss_machine.specs.declared.verdict.Verdict.{Verdict}
-use Rattle.ss_machine.specs.declared.verdict.Verdict.TheVariants.{Runs, Passes, Closes}
 use Rattle.ss_words.specs.declared.fault.RunFault.TheVariants.{OutsideEntry, TimeBeforeClock}
 use Rattle.ss_data.specs.Items.{DataRead}
 use Rattle.ss_data.specs.Entries.{place_behind_mark}
@@ -37,11 +35,19 @@ use Rattle.ss_events.specs.Rules.{rules_of}
 use Rattle.ss_events.specs.Agenda.{Pending, least}
 use Rattle.ss_values.specs.Values.{number_value}
 use Rattle.ss_machine.specs.State.{State, FrameState, is_ready, is_waiting}
-use Rattle.ss_machine.specs.Loops.{innermost, loop_of_phrase, loop_variable, loops_with_candidate, next_candidate, verdict_of}
-use Rattle.ss_machine.specs.Step.{state_after_result, state_with_store, state_behind_mark, state_without_entry, state_after_scheduling, state_after_arrival, arrival_asked, state_after_load, loads, state_after_event, state_after_phrase, state_after_reset, state_after_return, state_after_section, candidate_tried, state_after_turn, state_after_verdict, state_behind_call, state_behind_place, state_with_candidate, state_with_loops, state_with_taken, state_with_values, attributes_now, event_section, store_at_start, state_after_start, step_simulation, step, step_at, step_by, values_taken, ways_here}
+use Rattle.ss_machine.specs.Loops.{OpenLoop, Verdict, Runs, Passes, Closes, innermost, loop_of_phrase, loop_variable}
+use Rattle.ss_machine.specs.Loops.{loops_with_candidate, next_candidate, verdict_of}
+use Rattle.ss_machine.specs.Step.{state_after_result, state_with_store, state_behind_mark, state_without_entry}
+use Rattle.ss_machine.specs.Step.{state_after_scheduling, state_after_arrival, arrival_asked, state_after_load, loads}
+use Rattle.ss_machine.specs.Step.{state_after_event, state_after_phrase, state_after_reset, state_after_return}
+use Rattle.ss_machine.specs.Step.{state_after_section, candidate_tried, state_after_turn, state_after_verdict}
+use Rattle.ss_machine.specs.Step.{state_behind_call, state_behind_place, state_with_candidate, state_with_loops}
+use Rattle.ss_machine.specs.Step.{state_with_taken, state_with_values, attributes_now, event_section, store_at_start}
+use Rattle.ss_machine.specs.Step.{state_after_start, step_simulation, step, step_at, step_by, values_taken, ways_here}
 use Rattle.ss_machine.specs.Readings.{readings}
 use Rattle.ss_machine.proofs.Ranges.{Got, after_got, anything}
-use Rattle.ss_machine.proofs.Rests.{LeavesRest, assigned_rest, assign_rest, making_rest, filing_rest, telling_rest, values_rest, scheduling_rest, schedule_rest, cancel_rest}
+use Rattle.ss_machine.proofs.Rests.{LeavesRest, assigned_rest, assign_rest, making_rest, filing_rest, telling_rest}
+use Rattle.ss_machine.proofs.Rests.{values_rest, scheduling_rest, schedule_rest, cancel_rest}
 use Rattle.ss_machine.specs.Run.{Input, run}
 use Rattle.ss_machine.specs.Laws.{StepsKeepItems}
 

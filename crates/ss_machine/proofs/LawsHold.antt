@@ -1,13 +1,15 @@
 -- the laws on the definitions
 use Rattle.std.proofs.Common.{◌≡◌, ◌≤◌, ◌+◌, ◌*◌, length, Option, Some, None, arith, refl}
 use Rattle.ss_program.specs.declared.place.Place.{Place}
-use Rattle.ss_program.specs.declared.place.Place.TheVariants.{Assign, Making, Filing, Output, Control, Branch, Looping, Call, Timing, Read}
+use Rattle.ss_program.specs.declared.place.Place.TheVariants.{Assign, Making, Filing, Output, Control, Branch, Looping}
+use Rattle.ss_program.specs.declared.place.Place.TheVariants.{Call, Timing, Read}
 use Rattle.ss_program.specs.declared.looping.Looping.TheVariants.{For, Loop, Find, Gather, Tell}
 use Rattle.ss_program.specs.declared.place.Spot.{Spot}
 use Rattle.ss_program.specs.declared.ways.Ways.{Ways}
 use Rattle.ss_program.specs.declared.timing.Timing.TheVariants.{Schedule, Cancel, Start}
 use Rattle.ss_program.specs.Program.{ProgramTable, section_of, spot_at}
 use Rattle.ss_program.specs.ProgramSound.{IsSound, IsTimed, loop_limit}
+use Rattle.ss_machine.specs.declared.limits.TheConstants.{MOST_STEP_CHANGES}
 use Rattle.ss_machine.specs.State.{State}
 use Rattle.ss_machine.specs.Run.{input_with}
 use Rattle.ss_machine.specs.Step.{ways_here}
@@ -27,7 +29,8 @@ states_well p text sound =
     }
 
 few_at : (p : ProgramTable) (s : State) (w : Ways) (x : Place) → IsSound p →
-    IsTimed p (section_of p s.frame.section) x → w.chain ≤ loop_limit → most_changes p s w x ≤ 64 + 2 * targets_at p s x
+    IsTimed p (section_of p s.frame.section) x → w.chain ≤ loop_limit →
+    most_changes p s w x ≤ MOST_STEP_CHANGES + 2 * targets_at p s x
 few_at p s w (Assign a) sound timed h = omega arith
 few_at p s w (Making m) sound timed h = omega arith
 few_at p s w (Filing f) sound timed h = omega arith
@@ -47,7 +50,7 @@ few_at p s w (Timing Start) sound timed h = omega arith
 few_at p s w (Read ts) sound timed h = omega arith
 
 few_by : (p : ProgramTable) (s : State) (o : Option Spot) → IsSound p → spot_at p s.frame.section s.frame.place ≡ o →
-    most_changes_by p s o ≤ 64 + 2 * targets_by p s o
+    most_changes_by p s o ≤ MOST_STEP_CHANGES + 2 * targets_by p s o
 few_by p s None sound e = omega arith
 few_by p s (Some spot) sound e =
     few_at p s (ways_here p s spot.place) spot.place sound (spot_timed p s.frame.section s.frame.place spot sound e)

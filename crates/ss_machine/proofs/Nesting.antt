@@ -1,5 +1,6 @@
 -- a step keeps the open loops of each frame those of the phrases around its place
-use Rattle.std.proofs.Common.{◌≡◌, ◌≢◌, ◌≤◌, ◌+◌, ℕ, ℤ, zero, suc, List, [], ◌∷◌, drop, Bool, true, false, nat_eq, Option, Some, None, Result, Ok, Err, refl, sym, ap, subst, ◌∙◌, arith}
+use Rattle.std.proofs.Common.{◌≡◌, ◌≢◌, ◌≤◌, ◌+◌, ℕ, ℤ, zero, suc, List, [], ◌∷◌, drop, Bool, true, false, nat_eq}
+use Rattle.std.proofs.Common.{Option, Some, None, Result, Ok, Err, refl, sym, ap, subst, ◌∙◌, arith}
 use Rattle.std.proofs.Math.Logic.{◌⊎◌, inl, inr}
 use Rattle.std.proofs.lemmas.Bool.{eqb-true, eq-eqb, or_cases, and_parts}
 use Rattle.std.proofs.lemmas.Slice.Eq.{bytes_eq-Decides}
@@ -19,7 +20,8 @@ use Rattle.ss_program.specs.declared.looping.Looping.TheVariants.{For, Loop, Fin
 use Rattle.ss_program.specs.declared.place.Output.TheVariants.{Print, Skip}
 use Rattle.ss_program.specs.declared.place.Control.TheVariants.{Stop, Return, End}
 use Rattle.ss_program.specs.declared.place.Place.{Place}
-use Rattle.ss_program.specs.declared.place.Place.TheVariants.{Assign, Making, Filing, Output, Control, Branch, Looping, Call, Timing, Read}
+use Rattle.ss_program.specs.declared.place.Place.TheVariants.{Assign, Making, Filing, Output, Control, Branch, Looping}
+use Rattle.ss_program.specs.declared.place.Place.TheVariants.{Call, Timing, Read}
 use Rattle.ss_program.specs.declared.place.Spot.{Spot}
 use Rattle.ss_program.specs.declared.timing.Timing.TheVariants.{Schedule, Cancel, Start}
 use Rattle.ss_program.specs.declared.ways.Resets.{Resets}
@@ -31,24 +33,29 @@ use Rattle.ss_program.specs.Match.{is_at, passes}
 use Rattle.ss_program.specs.Nesting.{is_phrase, is_around, phrases_before, phrases_around, may_be_open, is_nested}
 use Rattle.ss_program.specs.Program.{ProgramTable, has_external, places_of, section_of, spot_at}
 use Rattle.ss_program.specs.ProgramSound.{IsSound}
-use Rattle.ss_machine.specs.declared.statistics.Statistics.{Statistics}
-use Rattle.ss_machine.specs.declared.loops.OpenLoop.{OpenLoop}
-use Rattle.ss_machine.specs.declared.loops.Walk.TheVariants.{Numbers}
-use Rattle.ss_machine.specs.declared.verdict.Verdict.{Verdict}
-use Rattle.ss_machine.specs.declared.verdict.Verdict.TheVariants.{Runs, Passes, Closes}
 use Rattle.std.specs.List.{range_with_len}
 use Rattle.ss_words.specs.declared.fault.RunFault.TheVariants.{OutsideEntry, TimeBeforeClock}
 use Rattle.ss_store.specs.Tables.{Tables, tables_of, class_of}
 use Rattle.ss_store.specs.Store.{Store, last_reference, with_new}
 use Rattle.ss_events.specs.Rules.{rules_of}
 use Rattle.ss_events.specs.Agenda.{Pending, least}
-use Rattle.ss_machine.proofs.Rests.{LeavesRest, assigned_rest, assign_rest, making_rest, filing_rest, telling_rest, values_rest, scheduling_rest, schedule_rest, cancel_rest}
-use Rattle.ss_machine.specs.State.{State, FrameState, new_frame, is_waiting}
+use Rattle.ss_machine.proofs.Rests.{LeavesRest, assigned_rest, assign_rest, making_rest, filing_rest, telling_rest}
+use Rattle.ss_machine.proofs.Rests.{values_rest, scheduling_rest, schedule_rest, cancel_rest}
+use Rattle.ss_machine.specs.State.{State, FrameState, Statistics, new_frame, is_waiting}
 use Rattle.ss_values.specs.Faults.{◌>>=◌, ◌>>◌, refuse_if}
 use Rattle.ss_values.specs.Values.{Readings, variable_value, value_of, values_of, subscript_value, number_value}
 use Rattle.ss_machine.specs.Readings.{readings}
-use Rattle.ss_machine.specs.Loops.{innermost, loop_of_phrase, loops_with_candidate, next_candidate, candidate_within, candidate_at_begin, loop_variable, number_loop, loop_at_entry, step_value, verdict_of}
-use Rattle.ss_machine.specs.Step.{state_after_result, state_at_place, state_with_loops, state_with_taken, state_with_statistics, state_after_reset, state_after_closing, state_with_candidate, candidate_tried, state_after_verdict, state_after_turn, state_after_phrase, state_with_values, values_taken, room_for_frame, state_behind_call, state_behind_place, state_after_return, state_after_event, state_after_section, ways_here, step, step_by, step_at, attributes_now, event_section, store_at_start, state_after_start, step_simulation, state_with_store, state_after_scheduling, arrival_asked, state_after_load, loads}
+use Rattle.ss_machine.specs.Loops.{OpenLoop, Numbers, Verdict, Runs, Passes, Closes, innermost, loop_of_phrase}
+use Rattle.ss_machine.specs.Loops.{loops_with_candidate, next_candidate, candidate_within, candidate_at_begin}
+use Rattle.ss_machine.specs.Loops.{loop_variable, number_loop, loop_at_entry, step_value, verdict_of}
+use Rattle.ss_machine.specs.Step.{state_after_result, state_at_place, state_with_loops, state_with_taken}
+use Rattle.ss_machine.specs.Step.{state_with_statistics, state_after_reset, state_after_closing, state_with_candidate}
+use Rattle.ss_machine.specs.Step.{candidate_tried, state_after_verdict, state_after_turn, state_after_phrase}
+use Rattle.ss_machine.specs.Step.{state_with_values, values_taken, room_for_frame, state_behind_call}
+use Rattle.ss_machine.specs.Step.{state_behind_place, state_after_return, state_after_event, state_after_section}
+use Rattle.ss_machine.specs.Step.{ways_here, step, step_by, step_at, attributes_now, event_section, store_at_start}
+use Rattle.ss_machine.specs.Step.{state_after_start, step_simulation, state_with_store, state_after_scheduling}
+use Rattle.ss_machine.specs.Step.{arrival_asked, state_after_load, loads}
 use Rattle.ss_machine.specs.Well.{phrases_of, HasItsLoops, HaveTheirLoops}
 use Rattle.ss_machine.proofs.Ranges.{Got, after_got, anything}
 use Rattle.ss_machine.proofs.Sounds.{spot_nested}

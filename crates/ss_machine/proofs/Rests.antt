@@ -2,16 +2,16 @@
 use Rattle.std.proofs.Common.{◌≡◌, ℕ, ℤ, ◌+◌, List, [], ◌∷◌, Option, Some, None, Result, Ok, Err, refl, ◌∙◌}
 use Rattle.std.specs.Prelude.{pos, length, slice_index_or, int_lt}
 use Rattle.ss_words.specs.declared.fault.RunFault.{RunFault}
-use Rattle.ss_program.specs.declared.variable.Variable.{Variable as AVariable}
+use Rattle.ss_program.specs.declared.variable.Variable.{Variable}
 use Rattle.ss_program.specs.declared.variable.Variable.TheVariants.{Global, Local, Clock}
 use Rattle.ss_program.specs.declared.target.SetRef.{SetRef}
 use Rattle.ss_program.specs.declared.target.Target.{Target}
-use Rattle.ss_program.specs.declared.target.Target.TheVariants.{Variable, Attribute}
-use Rattle.ss_program.specs.declared.place.Assign.{Assign as AnAssign}
-use Rattle.ss_program.specs.declared.making.Making.{Making as AMaking}
+use Rattle.ss_program.specs.declared.target.Target.TheVariants as targets
+use Rattle.ss_program.specs.declared.place.Assign.{Assign}
+use Rattle.ss_program.specs.declared.making.Making.{Making}
 use Rattle.ss_program.specs.declared.making.Making.TheVariants.{Create, CreateEvery, Destroy}
 use Rattle.ss_words.specs.declared.terms.SetEnd.{SetEnd}
-use Rattle.ss_program.specs.declared.filing.Filing.{Filing as AFiling}
+use Rattle.ss_program.specs.declared.filing.Filing.{Filing}
 use Rattle.ss_program.specs.declared.filing.Filing.TheVariants.{File, FileAt, RemoveAt, Remove}
 use Rattle.ss_program.specs.declared.looping.Telling.{Telling}
 use Rattle.ss_program.specs.declared.timing.Notice.{Notice}
@@ -28,10 +28,17 @@ use Rattle.ss_store.specs.Filing.{after_filing, after_removing}
 use Rattle.ss_events.specs.Agenda.{Agenda, may_schedule, agenda_after_scheduling}
 use Rattle.ss_values.specs.Faults.{◌>>=◌, ◌>>◌, refuse_if}
 use Rattle.ss_values.specs.Values.{value_of, subscript_value, assigned_value, number_value}
-use Rattle.ss_machine.specs.declared.statistics.Statistics.{Statistics}
-use Rattle.ss_machine.specs.State.{State}
+use Rattle.ss_machine.specs.State.{State, Statistics}
 use Rattle.ss_machine.specs.Readings.{readings}
-use Rattle.ss_machine.specs.Step.{state_after_assignment, state_with_store, state_with_value, target_of, state_after_assign, state_with_values, statistic_value, state_after_telling, state_after_create, number_asked, state_after_create_every, state_after_destroy, state_after_making, which_at, how_at, how_asked, state_after_file, state_after_remove_end, state_after_remove, state_after_filing, existing, store_without, arguments_asked, time_asked, attributes_now, tie_attributes, state_with_attributes, state_with_agenda, state_with_notice, state_after_scheduling, state_after_new, state_after_notice, state_after_schedule, agenda_without, state_after_cancel}
+use Rattle.ss_machine.specs.Step.{state_after_assignment, state_with_store, state_with_value, target_of}
+use Rattle.ss_machine.specs.Step.{state_after_assign, state_with_values, statistic_value, state_after_telling}
+use Rattle.ss_machine.specs.Step.{state_after_create, number_asked, state_after_create_every, state_after_destroy}
+use Rattle.ss_machine.specs.Step.{state_after_making, which_at, how_at, how_asked, state_after_file}
+use Rattle.ss_machine.specs.Step.{state_after_remove_end, state_after_remove, state_after_filing, entity_named}
+use Rattle.ss_machine.specs.Step.{store_without, arguments_asked, time_asked, attributes_now, tie_attributes}
+use Rattle.ss_machine.specs.Step.{state_with_attributes, state_with_agenda, state_with_notice, state_after_scheduling}
+use Rattle.ss_machine.specs.Step.{state_after_new, state_after_notice, state_after_schedule, agenda_without}
+use Rattle.ss_machine.specs.Step.{state_after_cancel}
 use Rattle.ss_machine.proofs.Ranges.{Got, after_got, anything}
 
 -- the section, the place and the open loops of the last frame, the frames below it, and what is read of the data
@@ -67,18 +74,18 @@ after_value s r f h = after_got (λ _. Unit {0}) (LeavesRest s) r f (anything r)
 store_rest : (s : State) (st : Store) → LeavesRest s (state_with_store s st)
 store_rest s st = record { section = refl; place = refl; loops = refl; below = refl; feed = refl }
 
-pub assigned_rest : (s : State) (v : AVariable) (x : ℤ) → LeavesRest s (state_after_assignment s v x)
+pub assigned_rest : (s : State) (v : Variable) (x : ℤ) → LeavesRest s (state_after_assignment s v x)
 assigned_rest s (Global i) x = record { section = refl; place = refl; loops = refl; below = refl; feed = refl }
 assigned_rest s (Local i) x = record { section = refl; place = refl; loops = refl; below = refl; feed = refl }
 assigned_rest s Clock x = same_rest s
 
 pub value_rest : (t : Tables) (s : State) (x : Target) (z : ℤ) → Got (LeavesRest s) (state_with_value t s x z)
-value_rest t s (Variable v) z = assigned_rest s v z
-value_rest t s (Attribute c a i) z =
+value_rest t s (targets.Variable v) z = assigned_rest s v z
+value_rest t s (targets.Attribute c a i) z =
     after_value s (subscript_value (readings t s) i) _ (λ x. after_value s (with_attribute s.store c a (number_of x) z)
     _ (λ st. store_rest s st))
 
-pub assign_rest : (t : Tables) (s : State) (a : AnAssign) → Got (LeavesRest s) (state_after_assign t s a)
+pub assign_rest : (t : Tables) (s : State) (a : Assign) → Got (LeavesRest s) (state_after_assign t s a)
 assign_rest t s a = after_value s (assigned_value (readings t s) a) _ (λ x. value_rest t s (target_of a) x)
 
 pub values_rest : (t : Tables) (vs : List ℤ) (s : State) (k : ℕ) (xs : List Target) →
@@ -97,7 +104,7 @@ telling_rest t g s (x ∷ xs) =
     (value_rest t s x.target (statistic_value g x.statistic))
     (λ r h. then_got s r _ h (telling_rest t g r xs))
 
-pub making_rest : (t : Tables) (s : State) (m : AMaking) → Got (LeavesRest s) (state_after_making t s m)
+pub making_rest : (t : Tables) (s : State) (m : Making) → Got (LeavesRest s) (state_after_making t s m)
 making_rest t s (Create c is_called target) =
     after_value s (with_new s.store c (class_of t c)) _ (λ st. after_value s (number_value (last_reference st)) _
     (λ x. then_got s (state_with_store s st) _ (store_rest s st) (value_rest t (state_with_store s st) target x)))
@@ -106,14 +113,15 @@ making_rest t s (CreateEvery c e count) =
     (λ st. rest_then s (state_with_store s st) _ (store_rest s st)
     (assigned_rest (state_with_store s st) (Global count) n)))
 making_rest t s (Destroy c is_called e) =
-    after_value s (value_of (readings t s) e >>= existing s.store c >>= store_without t s c) _ (λ st. store_rest s st)
+    after_value s (value_of (readings t s) e >>= entity_named s.store c >>= store_without t s c) _
+    (λ st. store_rest s st)
 
 file_rest : (t : Tables) (s : State) (r : SetRef) (x : ℤ) (h : How) → Got (LeavesRest s) (state_after_file t s r x h)
 file_rest t s r x h =
     after_value s (subscript_value (readings t s) r.owner) _
     (λ o. after_value s (after_filing (set_of t r.set) s.store (number_of o) (number_of x) h) _ (λ st. store_rest s st))
 
-pub filing_rest : (t : Tables) (s : State) (f : AFiling) → Got (LeavesRest s) (state_after_filing t s f)
+pub filing_rest : (t : Tables) (s : State) (f : Filing) → Got (LeavesRest s) (state_after_filing t s f)
 filing_rest t s (File e position r) =
     after_value s (value_of (readings t s) e) _ (λ x. after_value s (how_asked (readings t s) position) _
     (λ h. file_rest t s r x h))
@@ -169,7 +177,7 @@ notice_rest : (p : ProgramTable) (s : State) (c : ℕ) (n : Notice) (x time : �
     Got (LeavesRest s) (state_after_notice p s c n x time xs)
 notice_rest p s c (New is_called target) x time xs = new_rest p s c target time xs
 notice_rest p s c (Known is_called e) x time xs =
-    after_value s (existing s.store c x) _ (λ k. scheduling_rest p s c k time xs)
+    after_value s (entity_named s.store c x) _ (λ k. scheduling_rest p s c k time xs)
 
 pub schedule_rest : (p : ProgramTable) (s : State) (x : Schedule) → Got (LeavesRest s) (state_after_schedule p s x)
 schedule_rest p s x =
@@ -179,4 +187,4 @@ schedule_rest p s x =
 
 pub cancel_rest : (t : Tables) (s : State) (c : ℕ) (e : Expr) → Got (LeavesRest s) (state_after_cancel t s c e)
 cancel_rest t s c e =
-    after_value s (value_of (readings t s) e >>= existing s.store c >>= agenda_without s) _ (λ a. agenda_rest s a)
+    after_value s (value_of (readings t s) e >>= entity_named s.store c >>= agenda_without s) _ (λ a. agenda_rest s a)

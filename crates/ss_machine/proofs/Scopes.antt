@@ -1,5 +1,6 @@
 -- what places may name, by the tables of the store and by the program
-use Rattle.std.proofs.Common.{◌≡◌, ℕ, zero, suc, ◌+◌, ◌<◌, List, [], ◌∷◌, length, Bool, true, false, Option, Some, None, ℤ, length-set, Result, Ok, arith, refl, ap, sym, subst, ◌∙◌}
+use Rattle.std.proofs.Common.{◌≡◌, ℕ, zero, suc, ◌+◌, ◌<◌, List, [], ◌∷◌, length, Bool, true, false, Option, Some, None}
+use Rattle.std.proofs.Common.{ℤ, length-set, Result, Ok, arith, refl, ap, sym, subst, ◌∙◌}
 use Rattle.std.specs.Prelude.{map, slice_get, unwrap_or}
 use Rattle.std.specs.List.{range_with_len}
 use Rattle.std.proofs.lemmas.List.{length-map}
@@ -15,10 +16,10 @@ use Rattle.ss_store.specs.declared.shape.SetShape.{SetShape}
 use Rattle.ss_store.specs.Tables.{Tables, tables_of, class_shape, set_shape, class_in}
 use Rattle.ss_store.specs.Tables as shapes
 use Rattle.ss_words.specs.declared.fault.RunFault.{RunFault}
-use Rattle.ss_program.specs.declared.variable.Variable.{Variable as AVariable}
+use Rattle.ss_program.specs.declared.variable.Variable.{Variable}
 use Rattle.ss_program.specs.declared.variable.Variable.TheVariants.{Global, Local, Clock}
 use Rattle.ss_program.specs.declared.target.Target.{Target}
-use Rattle.ss_program.specs.declared.target.Target.TheVariants.{Variable, Attribute}
+use Rattle.ss_program.specs.declared.target.Target.TheVariants as targets
 use Rattle.ss_store.specs.Store.{Store, number_of, with_attribute}
 use Rattle.ss_values.specs.Values.{subscript_value}
 use Rattle.ss_machine.specs.Step.{state_after_assignment, state_with_value}
@@ -124,7 +125,7 @@ kind_is (s ∷ ss) (suc c) b e = kind_is ss c b e
 
 -- ---- an assignment leaves the scope
 
-pub assigned_scope : (t : Tables) (s : State) (v : AVariable) (x : ℤ) →
+pub assigned_scope : (t : Tables) (s : State) (v : Variable) (x : ℤ) →
     scope_of (readings t (state_after_assignment s v x)) ≡ scope_of (readings t s)
 assigned_scope t s (Global i) x = scopes _ _ _ _ _ _ _ _ (length-set s.variables i x) refl refl refl
 assigned_scope t s (Local i) x = scopes _ _ _ _ _ _ _ _ refl (length-set s.frame.locals i x) refl refl
@@ -135,8 +136,8 @@ abbrev HasScope : Tables → State → State → Type 0
 HasScope t s r = scope_of (readings t r) ≡ scope_of (readings t s)
 
 value_scope_got : (t : Tables) (s : State) (x : Target) (z : ℤ) → Got (HasScope t s) (state_with_value t s x z)
-value_scope_got t s (Variable v) z = assigned_scope t s v z
-value_scope_got t s (Attribute c a i) z =
+value_scope_got t s (targets.Variable v) z = assigned_scope t s v z
+value_scope_got t s (targets.Attribute c a i) z =
     after_got (λ (_ : ℤ). Unit {0}) (HasScope t s) (subscript_value (readings t s) i) _ (anything _) (λ x _.
     after_got (λ (_ : Store). Unit {0}) (HasScope t s) (with_attribute s.store c a (number_of x) z) _ (anything _)
     (λ st _. refl))

@@ -1,20 +1,26 @@
 -- what is sound about each place of a program
-use Rattle.std.proofs.Common.{◌≡◌, ℕ, zero, suc, ◌+◌, ◌<◌, ◌≤◌, List, [], ◌∷◌, length, true, false, Option, Some, None, arith, refl, ap, sym, subst, ◌∙◌}
+use Rattle.std.proofs.Common.{◌≡◌, ℕ, zero, suc, ◌+◌, ◌<◌, ◌≤◌, List, [], ◌∷◌, length, true, false, Option, Some, None}
+use Rattle.std.proofs.Common.{arith, refl, ap, sym, subst, ◌∙◌}
 use Rattle.std.specs.Prelude.{map, slice_get, unwrap_or}
 use Rattle.std.proofs.lemmas.Option.{unwrap_or-slice_get}
 use Rattle.ss_program.specs.declared.place.Spot.{Spot}
 use Rattle.ss_program.specs.declared.place.Place.{Place}
-use Rattle.ss_program.specs.declared.place.Place.TheVariants.{Assign, Making, Filing, Output, Control, Branch, Looping, Call, Timing, Read}
+use Rattle.ss_program.specs.declared.place.Place.TheVariants as places
 use Rattle.ss_program.specs.declared.looping.Looping.TheVariants.{For, Loop, Find, Gather, Tell}
-use Rattle.ss_program.specs.declared.call.Call.{Call as ACall}
+use Rattle.ss_program.specs.declared.call.Call.{Call}
 use Rattle.ss_program.specs.declared.ways.Ways.{Ways}
 use Rattle.ss_program.specs.declared.kinds.SectionKind.TheVariants.{Main}
 use Rattle.ss_program.specs.declared.kinds.ClassKind.{ClassKind}
 use Rattle.ss_program.specs.declared.kinds.ClassKind.TheVariants.{Permanent, Temporary, Event}
 use Rattle.ss_program.specs.Match.{ways_of, ways_from, section_ways}
 use Rattle.ss_program.specs.Nesting.{is_nested, AreNestedPlaces}
-use Rattle.ss_program.specs.Program.{ClassTable, SectionTable, ProgramTable, class_of, event_of, event_of_kind, is_event, places_of, locals_of, section_of, spot_at, is_permanent}
-use Rattle.ss_program.specs.ProgramSound.{Scope, IsSound, IsSoundSection, AreSoundSections, IsSoundPlace, AreSoundPlaces, IsEnded, LeadsOn, IsCalledBy, IsLinkedPlace, AreLinkedPlaces, AreLinkedSections, IsTimed, AreTimed, IsEventClass, IsSoundClass, IsSoundEvent, IsSoundKind, HasSoundTables, loop_limit, parameter_limit, attribute_limit}
+use Rattle.ss_program.specs.Program.{ClassTable, SectionTable, ProgramTable, class_of, event_of, event_of_kind}
+use Rattle.ss_program.specs.Program.{is_event, places_of, locals_of, section_of, spot_at, is_permanent}
+use Rattle.ss_program.specs.ProgramSound.{Scope, IsSound, IsSoundSection, AreSoundSections, IsSoundPlace}
+use Rattle.ss_program.specs.ProgramSound.{AreSoundPlaces, IsEnded, LeadsOn, IsCalledBy, IsLinkedPlace, AreLinkedPlaces}
+use Rattle.ss_program.specs.ProgramSound.{AreLinkedSections, IsTimed, AreTimed, IsEventClass, IsSoundClass}
+use Rattle.ss_program.specs.ProgramSound.{IsSoundEvent, IsSoundKind, HasSoundTables, loop_limit, parameter_limit}
+use Rattle.ss_program.specs.ProgramSound.{attribute_limit}
 use Rattle.ss_machine.specs.Moment.{call_targets}
 
 -- what stands at a place of a list that is long enough
@@ -108,20 +114,20 @@ spot_linked p i j spot h e = spot_linked_of p i j spot (slice_get p.sections i) 
 -- FIND closes few loops
 pub chain_few : (ss : List SectionTable) (ps : List Spot) (n i : ℕ) (x : Place) → LeadsOn ss n (ways_of ps i x) x →
     (ways_of ps i x).chain ≤ loop_limit
-chain_few ss ps n i (Assign a) h = omega arith
-chain_few ss ps n i (Making m) h = omega arith
-chain_few ss ps n i (Filing f) h = omega arith
-chain_few ss ps n i (Output o) h = omega arith
-chain_few ss ps n i (Control c) h = omega arith
-chain_few ss ps n i (Branch b) h = omega arith
-chain_few ss ps n i (Looping (For f)) h = omega arith
-chain_few ss ps n i (Looping Loop) h = omega arith
-chain_few ss ps n i (Looping Find) h = h
-chain_few ss ps n i (Looping (Gather e)) h = omega arith
-chain_few ss ps n i (Looping (Tell ts)) h = omega arith
-chain_few ss ps n i (Call c) h = omega arith
-chain_few ss ps n i (Timing x) h = omega arith
-chain_few ss ps n i (Read ts) h = omega arith
+chain_few ss ps n i (places.Assign a) h = omega arith
+chain_few ss ps n i (places.Making m) h = omega arith
+chain_few ss ps n i (places.Filing f) h = omega arith
+chain_few ss ps n i (places.Output o) h = omega arith
+chain_few ss ps n i (places.Control c) h = omega arith
+chain_few ss ps n i (places.Branch b) h = omega arith
+chain_few ss ps n i (places.Looping (For f)) h = omega arith
+chain_few ss ps n i (places.Looping Loop) h = omega arith
+chain_few ss ps n i (places.Looping Find) h = h
+chain_few ss ps n i (places.Looping (Gather e)) h = omega arith
+chain_few ss ps n i (places.Looping (Tell ts)) h = omega arith
+chain_few ss ps n i (places.Call c) h = omega arith
+chain_few ss ps n i (places.Timing x) h = omega arith
+chain_few ss ps n i (places.Read ts) h = omega arith
 
 ways_at : (ps xs : List Spot) (k i : ℕ) (s : Spot) (w : Ways) → slice_get (ways_from ps k xs) i ≡ Some w →
     slice_get xs i ≡ Some s →
@@ -143,16 +149,16 @@ ways_found ps i s w e f =
     let z : 0 + i ≡ i = omega arith in
     subst (λ (n : ℕ). w ≡ ways_of ps n s.place) z (ways_at ps ps 0 i s w e f)
 
-called_there_by : (ss : List SectionTable) (c : ACall) (o : Option SectionTable) → slice_get ss c.section ≡ o →
+called_there_by : (ss : List SectionTable) (c : Call) (o : Option SectionTable) → slice_get ss c.section ≡ o →
     IsCalledBy c o → c.section < length ss
 called_there_by ss c None e h = absurd h
 called_there_by ss c (Some t) e h = within ss c.section t e
 
 -- a CALL is of a section that is there
-pub called_there : (ss : List SectionTable) (c : ACall) → IsCalledBy c (slice_get ss c.section) → c.section < length ss
+pub called_there : (ss : List SectionTable) (c : Call) → IsCalledBy c (slice_get ss c.section) → c.section < length ss
 called_there ss c h = called_there_by ss c (slice_get ss c.section) refl h
 
-called_few_by : (p : ProgramTable) (c : ACall) (o : Option SectionTable) → IsSound p →
+called_few_by : (p : ProgramTable) (c : Call) (o : Option SectionTable) → IsSound p →
     slice_get p.sections c.section ≡ o → IsCalledBy c o →
     length c.given ≤ length (locals_of o)
 called_few_by p c None sound e h = absurd h
@@ -160,7 +166,7 @@ called_few_by p c (Some t) sound e h =
     omega (arith, h.1, (section_sound _ p.sections c.section t sound.sections e).parameters)
 
 -- and its values have room in the locals of that section
-pub called_few : (p : ProgramTable) (c : ACall) → IsSound p → IsCalledBy c (slice_get p.sections c.section) →
+pub called_few : (p : ProgramTable) (c : Call) → IsSound p → IsCalledBy c (slice_get p.sections c.section) →
     length c.given ≤ length (locals_of (slice_get p.sections c.section))
 called_few p c sound h = called_few_by p c (slice_get p.sections c.section) sound refl h
 
@@ -173,7 +179,7 @@ pub few_parameters : (p : ProgramTable) (i : ℕ) (t : SectionTable) → IsSound
     t.given ≤ parameter_limit
 few_parameters p i t h e = omega (arith, (section_sound _ p.sections i t h.sections e).few_parameters)
 
-few_yielded_by : (p : ProgramTable) (c : ACall) (o : Option SectionTable) → IsSound p →
+few_yielded_by : (p : ProgramTable) (c : Call) (o : Option SectionTable) → IsSound p →
     slice_get p.sections c.section ≡ o → IsCalledBy c o →
     length c.targets ≤ parameter_limit
 few_yielded_by p c None sound e h = absurd h
@@ -182,16 +188,16 @@ few_yielded_by p c (Some t) sound e h =
 
 few_targets_of : (p : ProgramTable) (n : ℕ) (w : Ways) (x : Place) → IsSound p → LeadsOn p.sections n w x →
     call_targets x ≤ parameter_limit
-few_targets_of p n w (Assign a) sound h = omega arith
-few_targets_of p n w (Making m) sound h = omega arith
-few_targets_of p n w (Filing f) sound h = omega arith
-few_targets_of p n w (Output o) sound h = omega arith
-few_targets_of p n w (Control c) sound h = omega arith
-few_targets_of p n w (Branch b) sound h = omega arith
-few_targets_of p n w (Looping l) sound h = omega arith
-few_targets_of p n w (Timing x) sound h = omega arith
-few_targets_of p n w (Read ts) sound h = omega arith
-few_targets_of p n w (Call c) sound h = few_yielded_by p c (slice_get p.sections c.section) sound refl h
+few_targets_of p n w (places.Assign a) sound h = omega arith
+few_targets_of p n w (places.Making m) sound h = omega arith
+few_targets_of p n w (places.Filing f) sound h = omega arith
+few_targets_of p n w (places.Output o) sound h = omega arith
+few_targets_of p n w (places.Control c) sound h = omega arith
+few_targets_of p n w (places.Branch b) sound h = omega arith
+few_targets_of p n w (places.Looping l) sound h = omega arith
+few_targets_of p n w (places.Timing x) sound h = omega arith
+few_targets_of p n w (places.Read ts) sound h = omega arith
+few_targets_of p n w (places.Call c) sound h = few_yielded_by p c (slice_get p.sections c.section) sound refl h
 
 -- a CALL has few targets
 pub few_targets : (p : ProgramTable) (i j : ℕ) (spot : Spot) → IsSound p → spot_at p i j ≡ Some spot →

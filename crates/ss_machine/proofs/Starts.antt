@@ -1,5 +1,6 @@
 -- what is known where notices are scheduled and events start
-use Rattle.std.proofs.Common.{◌≡◌, ◌<◌, ◌≤◌, ◌+◌, ◌^◌, ℕ, ℤ, zero, suc, pos, List, [], ◌∷◌, length, Bool, true, false, Option, Some, None, Result, Ok, Err, arith, refl, sym, ap, subst, ◌∙◌}
+use Rattle.std.proofs.Common.{◌≡◌, ◌<◌, ◌≤◌, ◌+◌, ◌^◌, ℕ, ℤ, zero, suc, pos, List, [], ◌∷◌, length, Bool, true, false}
+use Rattle.std.proofs.Common.{Option, Some, None, Result, Ok, Err, arith, refl, sym, ap, subst, ◌∙◌}
 use Rattle.std.specs.Prelude.{map, unwrap_or, is_some, ◌==◌, if◌then◌else◌}
 use Rattle.std.specs.Option.{option_map}
 use Rattle.std.specs.List.{range_with_len}
@@ -33,11 +34,13 @@ use Rattle.ss_events.specs.declared.agenda.Slot.{Slot}
 use Rattle.ss_events.proofs.RuleLaws.{rule_at-program}
 use Rattle.ss_values.specs.Faults.{◌>>=◌}
 use Rattle.ss_values.specs.Values.{Readings, values_of, number_value, FaultIs}
-use Rattle.ss_machine.specs.declared.change.Change.{Change}
+use Rattle.ss_machine.specs.Change.{Change}
 use Rattle.ss_machine.specs.State.{State, FrameState, new_frame}
 use Rattle.ss_machine.specs.Held.{Held}
 use Rattle.ss_machine.specs.Change.{Fits, unapply}
-use Rattle.ss_machine.specs.Step.{notice_named, arguments_asked, attributes_now, event_section, store_at_start, state_at_time, state_with_store, state_after_assignment, state_with_frame, state_after_start, external_class}
+use Rattle.ss_machine.specs.Step.{notice_named, arguments_asked, attributes_now, event_section, store_at_start}
+use Rattle.ss_machine.specs.Step.{state_at_time, state_with_store, state_after_assignment, state_with_frame}
+use Rattle.ss_machine.specs.Step.{state_after_start, external_class}
 use Rattle.ss_program.specs.declared.variable.Variable.TheVariants.{Global}
 use Rattle.ss_machine.specs.Storing.{IsScheduling}
 use Rattle.ss_machine.specs.Well.{IsInBounds, IsDue}

@@ -1,11 +1,15 @@
 -- the attributes of entities are in range
-use Rattle.std.proofs.Common.{◌≡◌, ◌≢◌, ◌<◌, ◌≤◌, ℕ, ℤ, zero, suc, ◌-◌, arith, refl, ap, ◌∙◌, length-append, List, [], ◌∷◌, ◌++◌, Bool, true, false, Option, Some, None, Result, Ok, Err}
-use Rattle.std.specs.Prelude.{length, replicate, slice_get, slice_set, slice_index_or, not, ◌==◌, ◌&&◌, nat_lt, nat_le, if◌then◌else◌, option_and_then, is_some}
+use Rattle.std.proofs.Common.{◌≡◌, ◌≢◌, ◌<◌, ◌≤◌, ℕ, ℤ, zero, suc, ◌-◌, arith, refl, ap, ◌∙◌, length-append, List, []}
+use Rattle.std.proofs.Common.{◌∷◌, ◌++◌, Bool, true, false, Option, Some, None, Result, Ok, Err}
+use Rattle.std.specs.Prelude.{length, replicate, slice_get, slice_set, slice_index_or, not, ◌==◌, ◌&&◌, nat_lt, nat_le}
+use Rattle.std.specs.Prelude.{if◌then◌else◌, option_and_then, is_some}
 use Rattle.std.proofs.lemmas.Bool.{eq-eqb, eqb-true}
 use borrow.Author.Tests.{ltb-true}
 use Rattle.std.specs.Option.{option_or}
 use Rattle.ss_words.specs.declared.fault.RunFault.{RunFault}
-use Rattle.ss_words.specs.declared.fault.RunFault.TheVariants.{NoEntity, EndedInUse, EndedOwner, AlreadyCreated, CountOutOfRange, TooManyReferences, AlreadyInSet, NotInList}
+use Rattle.ss_words.specs.declared.fault.RunFault.TheVariants.{NoEntity, EndedInUse, EndedOwner, AlreadyCreated}
+use Rattle.ss_words.specs.declared.fault.RunFault.TheVariants.{CountOutOfRange, TooManyReferences, AlreadyInSet}
+use Rattle.ss_words.specs.declared.fault.RunFault.TheVariants.{NotInList}
 use Rattle.ss_links.specs.Seats.{list_without}
 use Rattle.ss_program.specs.declared.kinds.Owner.{Owner}
 use Rattle.ss_program.specs.declared.kinds.Owner.TheVariants.{System, OwnedBy}
@@ -15,11 +19,16 @@ use Rattle.ss_store.specs.declared.shape.How.{How}
 use Rattle.ss_store.specs.declared.shape.Which.{Which}
 use Rattle.ss_store.specs.Lists.{change_at}
 use Rattle.ss_store.specs.Tables.{Tables}
-use Rattle.ss_store.specs.Store.{Entity, Store, number_of, unless, of_class, made_of, entity, exists, attribute_in, attribute_of, is_owner, members_of, is_filed, changed_reference, with_changed, with_value, with_attribute, with_owned, with_list_by, with_list, fresh, empty_store, last_reference, with_reference, with_new, with_made, with_class, is_member, owns_members, without_reference, without_entity}
+use Rattle.ss_store.specs.Store.{Entity, Store, number_of, unless, of_class, made_of, entity, exists, attribute_in}
+use Rattle.ss_store.specs.Store.{attribute_of, is_owner, members_of, is_filed, changed_reference, with_changed}
+use Rattle.ss_store.specs.Store.{with_value, with_attribute, with_owned, with_list_by, with_list, fresh, empty_store}
+use Rattle.ss_store.specs.Store.{last_reference, with_reference, with_new, with_made}
 use Rattle.ss_store.specs.declared.limits.TheConstants.{MOST_ENTITIES}
 use Rattle.ss_words.specs.declared.limits.TheConstants.{MOST_REFERENCES}
+use Rattle.ss_store.specs.Store.{with_class, is_member, owns_members, without_reference, without_entity}
 use Rattle.ss_store.specs.Filing.{after_filing, filed_in, names_entity, names_member, member_named, without_member, after_removing}
-use Rattle.ss_machine.specs.Well.{AreInRange, AreEntitiesInRange, AreClassesInRange, IsNoneOrEntityInRange, AreReferencesInRange, IsStoreInRange}
+use Rattle.ss_machine.specs.Well.{AreInRange, AreEntitiesInRange, AreClassesInRange, IsNoneOrEntityInRange}
+use Rattle.ss_machine.specs.Well.{AreReferencesInRange, IsStoreInRange}
 use Rattle.ss_machine.proofs.Ranges.{Got, IsIn, index_in, set_in, zeros_in}
 
 -- ---- the start

@@ -1,5 +1,6 @@
 -- What a change of the store leaves of what is held.
-use Rattle.std.proofs.Common.{◌≡◌, ◌<◌, ◌^◌, ℕ, ℤ, pos, List, Bool, true, false, Result, Ok, Err, IfErr, OnOk, arith, refl, ap, sym, ◌∙◌}
+use Rattle.std.proofs.Common.{◌≡◌, ◌<◌, ◌^◌, ℕ, ℤ, pos, List, Bool, true, false, Result, Ok, Err, IfErr, OnOk, arith}
+use Rattle.std.proofs.Common.{refl, ap, sym, ◌∙◌}
 use Rattle.std.specs.Prelude.{nat_lt, if◌then◌else◌}
 use Rattle.std.proofs.lemmas.Bool.{lt-ltb}
 use Rattle.ss_words.specs.declared.fault.RunFault.TheVariants.{OutOfRange}
@@ -24,7 +25,9 @@ use Rattle.ss_values.specs.Faults.{◌>>◌}
 use Rattle.ss_values.specs.Values.{subscript_value, number_value, FaultIs}
 use Rattle.ss_machine.specs.State.{State}
 use Rattle.ss_machine.specs.Readings.{readings}
-use Rattle.ss_machine.specs.Step.{state_after_result, state_at_place, state_with_store, state_with_agenda, state_with_notice, state_with_value, which_at, state_after_file, state_after_remove, state_after_remove_end}
+use Rattle.ss_machine.specs.Step.{state_after_result, state_at_place, state_with_store, state_with_agenda}
+use Rattle.ss_machine.specs.Step.{state_with_notice, state_with_value, which_at, state_after_file, state_after_remove}
+use Rattle.ss_machine.specs.Step.{state_after_remove_end}
 use Rattle.ss_store.specs.Store.{Store, number_of}
 use Rattle.ss_store.specs.Value.{StoreValue}
 use Rattle.ss_store.specs.Change.{Leaves, IsOutcome, IsRemoval, IsCreation, IsMaking, unapply_store}
@@ -32,7 +35,8 @@ use Rattle.ss_words.specs.Outcomes.{RefusesAs}
 use Rattle.ss_machine.specs.declared.change.Change.{Change}
 use Rattle.ss_machine.specs.declared.change.Change.TheVariants as c
 use Rattle.ss_machine.specs.Held.{Held, store_of, with_store, agenda_of, with_agenda}
-use Rattle.ss_machine.specs.Storing.{LeavesStore, IsStoring, IsRemoving, IsRefused, IsCreating, IsMakingAll, LeavesState, IsScheduling, IsMarked}
+use Rattle.ss_machine.specs.Storing.{LeavesStore, IsStoring, IsRemoving, IsRefused, IsCreating, IsMakingAll}
+use Rattle.ss_machine.specs.Storing.{LeavesState, IsScheduling, IsMarked}
 
 pub leaves_store : (change : StoreChange) (st : Store) (h : Held) (v : StoreValue) → Leaves change st (store_of h) v →
     LeavesStore (c.Store change) st h (with_store h v)

@@ -1,5 +1,6 @@
 -- the values of targets are taken one by one
-use Rattle.std.proofs.Common.{◌≡◌, ◌<◌, ◌+◌, ℕ, ℤ, Bool, List, [], ◌∷◌, ◌++◌, length, drop, Result, Ok, Err, arith, refl, ap, sym}
+use Rattle.std.proofs.Common.{◌≡◌, ◌<◌, ◌+◌, ℕ, ℤ, Bool, List, [], ◌∷◌, ◌++◌, length, drop, Result, Ok, Err, arith}
+use Rattle.std.proofs.Common.{refl, ap, sym}
 use Rattle.std.specs.Prelude.{slice_get}
 use Rattle.std.proofs.lemmas.List.{append_assoc, length-drop}
 use Rattle.ss_words.specs.declared.fault.RunFault.{RunFault}

@@ -9,12 +9,18 @@ use Rattle.ss_words.specs.declared.terms.MemberKept.{MemberKept}
 use Rattle.ss_words.specs.declared.terms.MemberKept.TheVariants.{Predecessor, Successor, Membership}
 use Rattle.ss_program.specs.declared.place.Assign.{Assign}
 use Rattle.ss_program.specs.declared.place.Assign.TheVariants.{Let, Add, Subtract}
-use Rattle.ss_program.specs.ProgramExpr.{Expr, expr, Sums, no_sums, sum, Term, term, Products, no_products, product, Factor, digits, variable, absolute, greatest, least, quotient, remainder, attribute, owner_kept, member_kept, within, Exprs, no_exprs, exprs}
+use Rattle.ss_program.specs.ProgramExpr.{Expr, expr, Sums, no_sums, sum, Term, term, Products, no_products, product}
+use Rattle.ss_program.specs.ProgramExpr.{Factor, digits, variable, absolute, greatest, least, quotient, remainder}
+use Rattle.ss_program.specs.ProgramExpr.{attribute, owner_kept, member_kept, within, Exprs, no_exprs, exprs}
 use Rattle.ss_store.specs.Tables.{set_of}
 use Rattle.ss_store.specs.Store.{number_of}
 use Rattle.ss_store.specs.Filing.{walk_first, walk_last, count, predecessor, successor, membership}
-use Rattle.ss_values.specs.Values.{Readings, result_in_range, with_sign, sum_or_difference, value_of, sums_value, term_value, products_value, factor_value, subscript_value, greatest_value, least_value, target_value, assigned_value, number_value, number_or_none, one_if, owner_kept_value, member_kept_value}
-use Rattle.ss_machine.proofs.Ranges.{Got, after_got, anything, IsIn, AreIn, variable_in, ranged_in, sign_in, joined_in, max_in, min_in, quotient_in, remainder_in}
+use Rattle.ss_values.specs.Values.{Readings, result_in_range, with_sign, sum_or_difference, value_of, sums_value}
+use Rattle.ss_values.specs.Values.{term_value, products_value, factor_value, subscript_value, greatest_value}
+use Rattle.ss_values.specs.Values.{least_value, target_value, assigned_value, number_value, number_or_none, one_if}
+use Rattle.ss_values.specs.Values.{owner_kept_value, member_kept_value}
+use Rattle.ss_machine.proofs.Ranges.{Got, after_got, anything, IsIn, AreIn, variable_in, ranged_in, sign_in, joined_in}
+use Rattle.ss_machine.proofs.Ranges.{max_in, min_in, quotient_in, remainder_in}
 use Rattle.ss_machine.proofs.Stores.{attribute_value_in}
 
 -- the number of a member, or 0

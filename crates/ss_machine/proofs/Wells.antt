@@ -1,13 +1,20 @@
 -- every state of the run is well-formed
-use Rattle.std.proofs.Common.{◌≡◌, ℕ, ℤ, zero, suc, get_or, ◌+◌, ◌<◌, ◌≤◌, List, ◌++◌, length, length-set, length-append, Bool, true, false, nat_le, Option, Some, None, Result, Ok, Err, arith, refl, ap, sym, subst, ◌∙◌}
-use Rattle.std.specs.Prelude.{slice_get, is_some, position, option_map, ◌&&◌, ◌||◌, slice_index_or, int_lt, int_le, nat_eq, nat_lt, pos, [], ◌∷◌, drop, replicate, unwrap_or, cond, not, ◌-◌, ◌+ℤ◌, ◌-ℤ◌, if◌then◌else◌}
+use Rattle.std.proofs.Common.{◌≡◌, ℕ, ℤ, zero, suc, get_or, ◌+◌, ◌<◌, ◌≤◌, List, ◌++◌, length, length-set}
+use Rattle.std.proofs.Common.{length-append, Bool, true, false, nat_le, Option, Some, None, Result, Ok, Err, arith}
+use Rattle.std.proofs.Common.{refl, ap, sym, subst, ◌∙◌}
+use Rattle.std.specs.Prelude.{slice_get, is_some, position, option_map, ◌&&◌, ◌||◌, slice_index_or, int_lt, int_le}
+use Rattle.std.specs.Prelude.{nat_eq, nat_lt, pos, [], ◌∷◌, drop, replicate, unwrap_or, cond, not, ◌-◌, ◌+ℤ◌, ◌-ℤ◌}
+use Rattle.std.specs.Prelude.{if◌then◌else◌}
 use Rattle.std.specs.Int.{int_min, int_max}
 use Rattle.std.specs.List.{position_or_len, range_with_len}
 use Rattle.std.proofs.lemmas.List.FromFn.{length-range_with_len}
 use Rattle.std.proofs.lemmas.List.{length-replicate, length-drop}
 use borrow.Author.Tests.{leb-true, ltb-true}
+use Rattle.ss_words.specs.declared.characters.TheConstants.{LINE_FEED}
 use Rattle.ss_words.specs.declared.fault.RunFault.{RunFault}
-use Rattle.ss_words.specs.declared.fault.RunFault.TheVariants.{ReportFull, StepBelowOne, TooManyFrames, NotInList, NoEntity, EndedInUse, TimeBeforeClock, AlreadyScheduled, NotScheduled, TooManyReferences, OutsideEntry}
+use Rattle.ss_words.specs.declared.fault.RunFault.TheVariants.{ReportFull, StepBelowOne, TooManyFrames, NotInList}
+use Rattle.ss_words.specs.declared.fault.RunFault.TheVariants.{NoEntity, EndedInUse, TimeBeforeClock, AlreadyScheduled}
+use Rattle.ss_words.specs.declared.fault.RunFault.TheVariants.{NotScheduled, TooManyReferences, OutsideEntry}
 use Rattle.ss_program.specs.declared.kinds.ClassKind.{ClassKind}
 use Rattle.ss_program.specs.declared.kinds.ClassKind.TheVariants.{Permanent, Temporary, Event as OfEvent}
 use Rattle.ss_data.specs.Items.{Item, value_or_fault}
@@ -21,24 +28,24 @@ use Rattle.std.proofs.lemmas.Bool.{and_parts}
 use Rattle.ss_report.specs.Pictures.{picture_text}
 use Rattle.ss_report.specs.declared.limits.TheConstants.{LONGEST_REPORT}
 use Rattle.ss_journal.specs.Log.{Log}
-use Rattle.ss_program.specs.declared.variable.Variable.{Variable as AVariable}
+use Rattle.ss_program.specs.declared.variable.Variable.{Variable}
 use Rattle.ss_program.specs.declared.target.SetRef.{SetRef}
 use Rattle.ss_program.specs.declared.target.Target.{Target}
-use Rattle.ss_program.specs.declared.target.Target.TheVariants.{Variable, Attribute}
-use Rattle.ss_program.specs.declared.making.Making.{Making as AMaking}
+use Rattle.ss_program.specs.declared.target.Target.TheVariants as targets
+use Rattle.ss_program.specs.declared.making.Making.{Making}
 use Rattle.ss_program.specs.declared.making.Making.TheVariants.{Create, CreateEvery, Destroy}
-use Rattle.ss_program.specs.declared.filing.Filing.{Filing as AFiling}
+use Rattle.ss_program.specs.declared.filing.Filing.{Filing}
 use Rattle.ss_program.specs.declared.filing.Filing.TheVariants.{File, FileAt, RemoveAt, Remove}
 use Rattle.ss_program.specs.declared.looping.Begin.{Begin}
 use Rattle.ss_program.specs.declared.looping.Begin.TheVariants.{AtTheEnd, From, After}
 use Rattle.ss_program.specs.declared.variable.Variable.TheVariants.{Global, Local, Clock}
-use Rattle.ss_program.specs.declared.place.Assign.{Assign as AnAssign}
+use Rattle.ss_program.specs.declared.place.Assign.{Assign}
 use Rattle.ss_program.specs.declared.place.Output.TheVariants.{Print, Skip}
 use Rattle.ss_program.specs.declared.place.Control.TheVariants.{Stop, Return, End}
 use Rattle.ss_program.specs.declared.place.Place.{Place}
-use Rattle.ss_program.specs.declared.place.Place.TheVariants.{Assign, Making, Filing, Output, Control, Branch, Looping, Call, Timing, Read}
+use Rattle.ss_program.specs.declared.place.Place.TheVariants as places
 use Rattle.ss_program.specs.declared.place.Spot.{Spot}
-use Rattle.ss_program.specs.declared.branch.Branch.{Branch as ABranch}
+use Rattle.ss_program.specs.declared.branch.Branch.{Branch}
 use Rattle.ss_program.specs.declared.branch.Branch.TheVariants.{If, Else, Always}
 use Rattle.ss_words.specs.declared.terms.Direction.{Direction}
 use Rattle.ss_words.specs.declared.terms.Direction.TheVariants.{Onward, Backward}
@@ -48,17 +55,17 @@ use Rattle.ss_program.specs.declared.looping.ForPhrase.{ForPhrase}
 use Rattle.ss_program.specs.declared.looping.Telling.{Telling}
 use Rattle.ss_words.specs.declared.terms.Statistic.{Statistic}
 use Rattle.ss_words.specs.declared.terms.Statistic.TheVariants.{Number, Sum, Maximum, Minimum}
-use Rattle.ss_program.specs.declared.looping.Looping.{Looping as ALooping}
+use Rattle.ss_program.specs.declared.looping.Looping.{Looping}
 use Rattle.ss_program.specs.declared.looping.Looping.TheVariants.{For, Loop, Find, Gather, Tell}
-use Rattle.ss_program.specs.declared.call.Call.{Call as ACall}
+use Rattle.ss_program.specs.declared.call.Call.{Call}
 use Rattle.ss_program.specs.declared.timing.Notice.{Notice}
 use Rattle.ss_program.specs.declared.timing.Notice.TheVariants.{New, Known}
 use Rattle.ss_program.specs.declared.timing.Listing.{Listing}
 use Rattle.ss_program.specs.declared.timing.Listing.TheVariants.{InParentheses, Given}
 use Rattle.ss_program.specs.declared.timing.When.{When}
 use Rattle.ss_program.specs.declared.timing.When.TheVariants.{At, Now, In}
-use Rattle.ss_program.specs.declared.timing.Schedule.{Schedule as ASchedule}
-use Rattle.ss_program.specs.declared.timing.Timing.TheVariants.{Schedule, Cancel, Start}
+use Rattle.ss_program.specs.declared.timing.Schedule.{Schedule}
+use Rattle.ss_program.specs.declared.timing.Timing.TheVariants as timings
 use Rattle.ss_program.specs.declared.ways.Resets.{Resets}
 use Rattle.ss_program.specs.declared.ways.Resets.TheVariants as resets
 use Rattle.ss_program.specs.declared.ways.Ways.{Ways}
@@ -66,49 +73,80 @@ use Rattle.ss_program.specs.declared.kinds.SectionKind.{SectionKind}
 use Rattle.ss_program.specs.declared.kinds.SectionKind.TheVariants.{Main, Routine, Event}
 use Rattle.ss_program.specs.ProgramExpr.{Expr}
 use Rattle.ss_program.specs.Program as program
-use Rattle.ss_program.specs.Program.{ClassTable, SectionTable, ProgramTable, event_of, event_of_kind, has_external, is_main, is_main_kind, is_event, is_event_kind, is_routine_kind, main_number, section_of, places_of, locals_of, spot_at}
-use Rattle.ss_program.specs.ProgramSound.{Scope, IsSoundPhrase, IsSoundLooping, IsSoundPlace, IsSound, is_end, GoesOn, IsCalledBy, IsLinkedPlace, IsTimed}
+use Rattle.ss_program.specs.Program.{ClassTable, SectionTable, ProgramTable, event_of, event_of_kind, has_external}
+use Rattle.ss_program.specs.Program.{is_main, is_main_kind, is_event, is_event_kind, is_routine_kind, main_number}
+use Rattle.ss_program.specs.Program.{section_of, places_of, locals_of, spot_at}
+use Rattle.ss_program.specs.ProgramSound.{Scope, IsSoundPhrase, IsSoundLooping, IsSoundPlace, IsSound, is_end, GoesOn}
+use Rattle.ss_program.specs.ProgramSound.{IsCalledBy, IsLinkedPlace, IsTimed}
 use Rattle.ss_program.proofs.Mains.{one_main}
-use Rattle.ss_machine.specs.declared.change.Change.{Change}
+use Rattle.ss_machine.specs.Change.{Change}
 use Rattle.ss_machine.specs.declared.status.Status.{Status}
 use Rattle.ss_machine.specs.declared.status.Status.TheVariants.{Stopped, Finished, Faulted}
-use Rattle.ss_machine.specs.declared.statistics.Statistics.{Statistics}
-use Rattle.ss_machine.specs.declared.loops.OpenLoop.{OpenLoop}
-use Rattle.ss_machine.specs.declared.loops.Walk.{Walk}
-use Rattle.ss_machine.specs.declared.loops.Walk.TheVariants.{Numbers, Members}
-use Rattle.ss_machine.specs.declared.verdict.Verdict.{Verdict}
-use Rattle.ss_machine.specs.declared.verdict.Verdict.TheVariants.{Runs, Passes, Closes}
-use Rattle.ss_machine.specs.State.{State, FrameState, is_ready, no_statistics, most_below, new_frame, is_waiting, waits_for}
+use Rattle.ss_machine.specs.declared.limits.TheConstants.{MOST_BELOW}
+use Rattle.ss_machine.specs.State.{State, FrameState, Statistics, is_ready, no_statistics, new_frame, is_waiting}
+use Rattle.ss_machine.specs.State.{waits_for}
 use Rattle.ss_store.specs.declared.shape.ClassShape.{ClassShape}
 use Rattle.ss_store.specs.declared.shape.SetShape.{SetShape}
 use Rattle.ss_store.specs.declared.shape.How.{How}
 use Rattle.ss_store.specs.declared.shape.Which.{Which}
 use Rattle.ss_store.specs.declared.shape.Which.TheVariants as which
 use Rattle.ss_store.specs.Tables.{Tables, tables_of, class_of, set_of}
-use Rattle.ss_store.specs.Store.{Store, number_of, exists, attribute_of, last_reference, with_attribute, with_new, with_class, without_entity}
+use Rattle.ss_store.specs.Store.{Store, number_of, exists, attribute_of, last_reference, with_attribute, with_new}
+use Rattle.ss_store.specs.Store.{with_class, without_entity}
 use Rattle.ss_store.specs.Filing.{after_filing, after_removing}
 use Rattle.ss_events.specs.Rules.{rules_of}
 use Rattle.ss_events.specs.declared.limits.TheConstants.{MOST_SCHEDULINGS}
-use Rattle.ss_events.specs.Agenda.{Pending, Agenda, is_pending, pending_at, least, may_schedule, agenda_after_scheduling, agenda_after_taking, without_notice}
+use Rattle.ss_events.specs.Agenda.{Pending, Agenda, is_pending, pending_at, least, may_schedule}
+use Rattle.ss_events.specs.Agenda.{agenda_after_scheduling, agenda_after_taking, without_notice}
 use Rattle.ss_machine.specs.Held.{Held}
 use Rattle.ss_values.specs.Faults.{◌>>=◌, ◌>>◌, refuse_if}
-use Rattle.ss_values.specs.Values.{Readings, variable_value, value_of, values_of, subscript_value, assigned_value, number_value}
+use Rattle.ss_values.specs.Values.{Readings, variable_value, value_of, values_of, subscript_value}
 use Rattle.ss_words.specs.Ranges.{in_range}
+use Rattle.ss_values.specs.Values.{assigned_value, number_value}
 use Rattle.ss_machine.specs.Readings.{readings}
-use Rattle.ss_machine.specs.Loops.{innermost, loop_of_phrase, loops_with_candidate, candidate_within, number_behind, next_number, end_member, member_behind, as_candidate, unless_left, IsSoundWalk, AreSoundWalks, next_candidate, step_value, number_loop, member_named, candidate_at_begin, loop_at_entry, loop_variable, verdict_of}
-use Rattle.ss_machine.specs.Step.{state_after_result, state_at_place, state_after_assignment, state_with_store, state_with_value, target_of, state_after_assign, state_with_taken, values_taken, state_with_values, state_after_read, step_read, number_asked, state_after_making, how_at, which_at, how_asked, state_after_file, state_after_filing, lines_asked, longer_report, question_answer, ways_here, state_with_loops, state_with_found, state_with_statistics, state_after_reset, state_after_closing, state_with_candidate, candidate_tried, state_after_verdict, state_after_turn, state_after_phrase, statistics_with, statistic_value, state_after_telling, room_for_frame, step_call, state_behind_call, state_behind_place, state_after_return, state_after_event, state_after_section, existing, store_without, notice_named, arguments_asked, time_asked, attributes_now, tie_attributes, state_with_attributes, state_with_agenda, state_with_notice, state_after_scheduling, state_after_new, state_after_notice, state_after_schedule, agenda_without, state_after_cancel, event_section, store_at_start, state_after_start, step_simulation, state_behind_mark, state_without_entry, external_class, class_named, arrival_asked, state_after_arrival, state_after_load, loads, step_looping, step_branch, step, step_by, step_at}
+use Rattle.ss_machine.specs.Loops.{OpenLoop, Walk, Numbers, Members, Verdict, Runs, Passes, Closes, innermost}
+use Rattle.ss_machine.specs.Loops.{loop_of_phrase, loops_with_candidate, candidate_within, number_behind, next_number}
+use Rattle.ss_machine.specs.Loops.{end_member, member_behind, as_candidate, unless_left, IsSoundWalk, AreSoundWalks}
+use Rattle.ss_machine.specs.Loops.{next_candidate, step_value, number_loop, member_named, candidate_at_begin}
+use Rattle.ss_machine.specs.Loops.{loop_at_entry, loop_variable, verdict_of}
+use Rattle.ss_machine.specs.Step.{state_after_result, state_at_place, state_after_assignment, state_with_store}
+use Rattle.ss_machine.specs.Step.{state_with_value, target_of, state_after_assign, state_with_taken, values_taken}
+use Rattle.ss_machine.specs.Step.{state_with_values, state_after_read, step_read, number_asked, state_after_making}
+use Rattle.ss_machine.specs.Step.{how_at, which_at, how_asked, state_after_file, state_after_filing, lines_asked}
+use Rattle.ss_machine.specs.Step.{longer_report, question_answer, ways_here, state_with_loops, state_with_found}
+use Rattle.ss_machine.specs.Step.{state_with_statistics, state_after_reset, state_after_closing, state_with_candidate}
+use Rattle.ss_machine.specs.Step.{candidate_tried, state_after_verdict, state_after_turn, state_after_phrase}
+use Rattle.ss_machine.specs.Step.{statistics_with, statistic_value, state_after_telling, room_for_frame, step_call}
+use Rattle.ss_machine.specs.Step.{state_behind_call, state_behind_place, state_after_return, state_after_event}
+use Rattle.ss_machine.specs.Step.{state_after_section, entity_named, store_without, notice_named, arguments_asked}
+use Rattle.ss_machine.specs.Step.{time_asked, attributes_now, tie_attributes, state_with_attributes, state_with_agenda}
+use Rattle.ss_machine.specs.Step.{state_with_notice, state_after_scheduling, state_after_new, state_after_notice}
+use Rattle.ss_machine.specs.Step.{state_after_schedule, agenda_without, state_after_cancel, event_section}
+use Rattle.ss_machine.specs.Step.{store_at_start, state_after_start, step_simulation, state_behind_mark}
+use Rattle.ss_machine.specs.Step.{state_without_entry, external_class, class_named, arrival_asked, state_after_arrival}
+use Rattle.ss_machine.specs.Step.{state_after_load, loads, step_looping, step_branch, step, step_by, step_at}
 use Rattle.ss_machine.specs.Run.{Input, run}
-use Rattle.ss_machine.specs.Well.{IsInBounds, IsWell, IsWellFrame, AreWellFrames, AreInRange, AreItemsInRange, AreLoopsInRange, IsNoneOrInRange, AreStatisticsInRange, IsStoreInRange, Calls, CallsAt, Starts, StartsAt, StandsOn, IsStack, IsDue, AreDue, AreOfClass, IsWellEntry}
-use Rattle.ss_machine.specs.Moment.{Stands}
-use Rattle.ss_machine.proofs.Sounds.{there, section_sound, scope_at, spot_sound, spot_linked, ended_some, called_there, called_few, spot_timed, event_there, given_few}
-use Rattle.ss_machine.proofs.Ranges.{Got, after_got, unless_refused, anything, IsIn, AreIn, index_in, set_in, zeros_in, ranged_in, either_in, max_in, min_in, variable_in}
+use Rattle.ss_machine.specs.Well.{IsInBounds, IsWell, IsWellFrame, AreWellFrames, AreInRange, AreItemsInRange}
+use Rattle.ss_machine.specs.Well.{AreLoopsInRange, IsNoneOrInRange, AreStatisticsInRange, IsStoreInRange, Calls}
+use Rattle.ss_machine.specs.Well.{CallsAt, Starts, StartsAt, StandsOn, IsStack, IsDue, AreDue, AreOfClass, IsWellEntry}
+use Rattle.ss_machine.specs.Stands.{Stands}
+use Rattle.ss_machine.proofs.Sounds.{there, section_sound, scope_at, spot_sound, spot_linked, ended_some, called_there}
+use Rattle.ss_machine.proofs.Sounds.{called_few, spot_timed, event_there, given_few}
+use Rattle.ss_machine.proofs.Ranges.{Got, after_got, unless_refused, anything, IsIn, AreIn, index_in, set_in, zeros_in}
+use Rattle.ss_machine.proofs.Ranges.{ranged_in, either_in, max_in, min_in, variable_in}
 use Rattle.ss_machine.proofs.ValuesIn.{value_in, assigned_value_in}
-use Rattle.ss_machine.proofs.Rests.{LeavesRest, assigned_rest, assign_rest, values_rest, telling_rest, making_rest, filing_rest, schedule_rest, cancel_rest}
+use Rattle.ss_machine.proofs.Rests.{LeavesRest, assigned_rest, assign_rest, values_rest, telling_rest, making_rest}
+use Rattle.ss_machine.proofs.Rests.{filing_rest, schedule_rest, cancel_rest}
 use Rattle.ss_machine.proofs.Evaluated.{values_counted}
 use Rattle.ss_machine.proofs.Items.{IsThere, item_there, AreThere, taken_there}
-use Rattle.ss_machine.proofs.Stores.{empty_in, set_attribute_in, LeavesInRange, LeavesThere, Stays, StaysBut, IsLast, attribute_value_in, attribute_stays, filed_well, filed_stays, removed_well, removed_stays, new_in, new_stays, new_last, made_in, class_stays, without_in, ended_stays}
-use Rattle.ss_machine.proofs.Dues.{due_stays, due_but, due_more, due_less, due_later, others_of, others_left, left_not_before, least_not_before, least_due, least_each}
-use Rattle.ss_machine.proofs.Entries.{IsIdle, entry_more, entry_less, entry_pushed, entry_popped, entry_idle, entry_started, pending_new, class_more, class_none, class_each}
+use Rattle.ss_machine.proofs.Stores.{empty_in, set_attribute_in, LeavesInRange, LeavesThere, Stays, StaysBut, IsLast}
+use Rattle.ss_machine.proofs.Stores.{attribute_value_in, attribute_stays, filed_well, filed_stays, removed_well}
+use Rattle.ss_machine.proofs.Stores.{removed_stays, new_in, new_stays, new_last, made_in, class_stays, without_in}
+use Rattle.ss_machine.proofs.Stores.{ended_stays}
+use Rattle.ss_machine.proofs.Dues.{due_stays, due_but, due_more, due_less, due_later, others_of, others_left}
+use Rattle.ss_machine.proofs.Dues.{left_not_before, least_not_before, least_due, least_each}
+use Rattle.ss_machine.proofs.Entries.{IsIdle, entry_more, entry_less, entry_pushed, entry_popped, entry_idle}
+use Rattle.ss_machine.proofs.Entries.{entry_started, pending_new, class_more, class_none, class_each}
 use Rattle.ss_machine.proofs.Nesting.{nested_step}
 
 both_got : {A : Type 0} (P Q : A → Type 0) (r : Result A RunFault) → Got P r → Got Q r → Got (λ x. P x × Q x) r
@@ -217,7 +255,7 @@ statistics_well p s g h w =
       statistics = h;
     }) w
 
-assigned_well : (p : ProgramTable) (s : State) (v : AVariable) (x : ℤ) → IsIn x → IsInBounds p s →
+assigned_well : (p : ProgramTable) (s : State) (v : Variable) (x : ℤ) → IsIn x → IsInBounds p s →
     IsInBounds p (state_after_assignment s v x)
 assigned_well p s (Global i) x h w = record {
   variables = length-set s.variables i x ∙ w.variables;
@@ -285,15 +323,15 @@ rest_place p s t n h k = subst (λ (i : ℕ). n < length (places_of (slice_get p
 
 value_well : (t : Tables) (p : ProgramTable) (s : State) (x : Target) (z : ℤ) → IsIn z → IsInBounds p s →
     Got (IsInBounds p) (state_with_value t s x z)
-value_well t p s (Variable v) z h w = assigned_well p s v z h w
-value_well t p s (Attribute c a i) z h w =
+value_well t p s (targets.Variable v) z h w = assigned_well p s v z h w
+value_well t p s (targets.Attribute c a i) z h w =
     after_got (λ (_ : ℤ). Unit {0}) (IsInBounds p) (subscript_value (readings t s) i) _ (anything _) (λ x _.
     after_got (IsNext s.store) (IsInBounds p) (with_attribute s.store c a (number_of x) z) _
     (next_store s.store _ (set_attribute_in s.store c a (number_of x) z h w.store)
     (attribute_stays s.store c a (number_of x) z))
     (λ st k. store_well p s st k w))
 
-assign_well : (t : Tables) (p : ProgramTable) (s : State) (a : AnAssign) → IsInBounds p s →
+assign_well : (t : Tables) (p : ProgramTable) (s : State) (a : Assign) → IsInBounds p s →
     Got (IsInBounds p) (state_after_assign t s a)
 assign_well t p s a w =
     after_got IsIn (IsInBounds p) (assigned_value (readings t s) a) _
@@ -351,7 +389,7 @@ rid_well p s st h w =
       entry = w.entry;
     }
 
-making_well : (t : Tables) (p : ProgramTable) (s : State) (m : AMaking) → IsInBounds p s →
+making_well : (t : Tables) (p : ProgramTable) (s : State) (m : Making) → IsInBounds p s →
     Got (IsInBounds p) (state_after_making t s m)
 making_well t p s (Create c is_called target) w =
     after_got (IsNext s.store) (IsInBounds p) (with_new s.store c (class_of t c)) _
@@ -365,8 +403,9 @@ making_well t p s (CreateEvery c e count) w =
     (next_store s.store _ (made_in s.store c (class_of t c) n w.store) (class_stays s.store c (class_of t c) n))
     (λ st k. assigned_well p (state_with_store s st) (Global count) n h (store_well p s st k w)))
 making_well t p s (Destroy c is_called e) w =
-    after_got (IsRid p s) (IsInBounds p) (value_of (readings t s) e >>= existing s.store c >>= store_without t s c) _
-    (after_got (λ (_ : ℕ). Unit {0}) (IsRid p s) (value_of (readings t s) e >>= existing s.store c)
+    after_got (IsRid p s) (IsInBounds p)
+    (value_of (readings t s) e >>= entity_named s.store c >>= store_without t s c) _
+    (after_got (λ (_ : ℕ). Unit {0}) (IsRid p s) (value_of (readings t s) e >>= entity_named s.store c)
     (store_without t s c) (anything _)
     (λ k _. ended_well t p s c k w)) (λ st h. rid_well p s st h w)
 
@@ -383,7 +422,7 @@ next_removed : (st : Store) (shape : SetShape) (o : ℕ) (w : Which) → IsStore
 next_removed st shape o w h =
     both_got LeavesInRange (LeavesThere st) _ (removed_well shape st o w h) (removed_stays shape st o w)
 
-filing_well : (t : Tables) (p : ProgramTable) (s : State) (f : AFiling) → IsInBounds p s →
+filing_well : (t : Tables) (p : ProgramTable) (s : State) (f : Filing) → IsInBounds p s →
     Got (IsInBounds p) (state_after_filing t s f)
 filing_well t p s (File e position r) w =
     after_got (λ (_ : ℤ). Unit {0}) (IsInBounds p) (value_of (readings t s) e) _ (anything _) (λ x _.
@@ -690,13 +729,13 @@ append_in (x ∷ xs) ys h k = (h.0, append_in xs ys h.1 k)
 
 -- values for a new frame: in range, as many as are given, and room for the frame
 abbrev IsGiven : List FrameState → ℕ → List ℤ → Type 0
-IsGiven below n xs = AreInRange xs × (length xs ≡ n) × (length below < most_below)
+IsGiven below n xs = AreInRange xs × (length xs ≡ n) × (length below < MOST_BELOW)
 
 few_in : (below : List FrameState) (n : ℕ) (xs : List ℤ) → AreInRange xs → length xs ≡ n →
     Got (IsGiven below n) (room_for_frame below xs)
-few_in below n xs h e = chosen (nat_lt (length below) most_below) refl
+few_in below n xs h e = chosen (nat_lt (length below) MOST_BELOW) refl
   where
-    chosen : (b : Bool) → nat_lt (length below) most_below ≡ b →
+    chosen : (b : Bool) → nat_lt (length below) MOST_BELOW ≡ b →
         Got (IsGiven below n) (if b then Ok xs else Err TooManyFrames)
     chosen true f = (h, e, ltb-true _ _ f)
     chosen false f = tt
@@ -733,7 +772,7 @@ routine_stands p Main section f e h = cc
 routine_stands p Routine section f e h = h
 routine_stands p Event section f e h = cc
 
-called_routine_by : (c : ACall) (o : Option SectionTable) → IsCalledBy c o →
+called_routine_by : (c : Call) (o : Option SectionTable) → IsCalledBy c o →
     is_routine_kind (unwrap_or o (record {
       name = [];
       kind = Main;
@@ -747,13 +786,13 @@ called_routine_by : (c : ACall) (o : Option SectionTable) → IsCalledBy c o →
 called_routine_by c None h = absurd h
 called_routine_by c (Some t) h = h.0
 
-called_routine : (p : ProgramTable) (c : ACall) → IsCalledBy c (slice_get p.sections c.section) →
+called_routine : (p : ProgramTable) (c : Call) → IsCalledBy c (slice_get p.sections c.section) →
     is_routine_kind (section_of p c.section).kind ≡ true
 called_routine p c h = called_routine_by c (slice_get p.sections c.section) h
 
-call_well : (p : ProgramTable) (s : State) (spot : Spot) (c : ACall) → IsSound p →
+call_well : (p : ProgramTable) (s : State) (spot : Spot) (c : Call) → IsSound p →
     spot_at p s.frame.section s.frame.place ≡ Some spot →
-    spot.place ≡ Call c → IsCalledBy c (slice_get p.sections c.section) → IsInBounds p s →
+    spot.place ≡ places.Call c → IsCalledBy c (slice_get p.sections c.section) → IsInBounds p s →
     IsInBounds p (step_call p s c)
 call_well p s spot c sound at is called w =
     let stands : CallsAt c.section (spot_at p s.frame.section s.frame.place) =
@@ -790,19 +829,19 @@ call_well p s spot c sound at is called w =
 behind_call_well : (t : Tables) (p : ProgramTable) (vs : List ℤ) (k next : ℕ) (s : State) (x : Place) → AreInRange vs →
     GoesOn (length (places_of (slice_get p.sections s.frame.section))) (is_end x) next → IsInBounds p s →
     Got (IsInBounds p) (state_behind_call t vs k next s x)
-behind_call_well t p vs k next s (Assign a) h g w = w
-behind_call_well t p vs k next s (Making m) h g w = w
-behind_call_well t p vs k next s (Filing f) h g w = w
-behind_call_well t p vs k next s (Output o) h g w = w
-behind_call_well t p vs k next s (Control c) h g w = w
-behind_call_well t p vs k next s (Branch b) h g w = w
-behind_call_well t p vs k next s (Looping l) h g w = w
-behind_call_well t p vs k next s (Call c) h g w =
+behind_call_well t p vs k next s (places.Assign a) h g w = w
+behind_call_well t p vs k next s (places.Making m) h g w = w
+behind_call_well t p vs k next s (places.Filing f) h g w = w
+behind_call_well t p vs k next s (places.Output o) h g w = w
+behind_call_well t p vs k next s (places.Control c) h g w = w
+behind_call_well t p vs k next s (places.Branch b) h g w = w
+behind_call_well t p vs k next s (places.Looping l) h g w = w
+behind_call_well t p vs k next s (places.Call c) h g w =
     after_got (λ r. LeavesRest s r × IsInBounds p r) (IsInBounds p) (state_with_values t vs s k c.targets) _
     (both_got (LeavesRest s) (IsInBounds p) _ (values_rest t vs s k c.targets) (values_well t p vs s k c.targets h w))
     (λ r b. state_at_place_well p r next (rest_place p s r next b.0 g) b.1)
-behind_call_well t p vs k next s (Timing x) h g w = w
-behind_call_well t p vs k next s (Read ts) h g w = w
+behind_call_well t p vs k next s (places.Timing x) h g w = w
+behind_call_well t p vs k next s (places.Read ts) h g w = w
 
 behind_place_well : (p : ProgramTable) (vs : List ℤ) (k : ℕ) (s : State) (o : Option Spot) → IsSound p → AreInRange vs →
     spot_at p s.frame.section s.frame.place ≡ o → IsInBounds p s → Got (IsInBounds p) (state_behind_place p vs k s o)
@@ -819,7 +858,7 @@ dropped_well p s f fs e x w =
     let b : AreWellFrames p (f ∷ fs) = subst (λ (gs : List FrameState). AreWellFrames p gs) e w.below in
     let m : IsStack p s.frame.section (f ∷ fs) =
     subst (λ (gs : List FrameState). IsStack p s.frame.section gs) e w.stack in
-    let l : length (f ∷ fs) ≤ most_below = subst (λ (gs : List FrameState). length gs ≤ most_below) e w.few in
+    let l : length (f ∷ fs) ≤ MOST_BELOW = subst (λ (gs : List FrameState). length gs ≤ MOST_BELOW) e w.few in
     record {
       variables = w.variables;
       values = w.values;
@@ -1048,7 +1087,7 @@ new_well p s c target time xs e t h w =
     (ranged_in (pos (last_reference st)))
     (λ x i. value_well (tables_of p) p r target x i g)))
 
-existing_there : (st : Store) (c : ℕ) (x : ℤ) → Got (λ (k : ℕ). exists st c k ≡ true) (existing st c x)
+existing_there : (st : Store) (c : ℕ) (x : ℤ) → Got (λ (k : ℕ). exists st c k ≡ true) (entity_named st c x)
 existing_there st c x = chosen (exists st c (number_of x)) refl
   where
     chosen : (b : Bool) → exists st c (number_of x) ≡ b →
@@ -1061,7 +1100,7 @@ notice_well : (p : ProgramTable) (s : State) (c : ℕ) (n : Notice) (x time : �
     AreInRange xs → IsInBounds p s → Got (IsInBounds p) (state_after_notice p s c n x time xs)
 notice_well p s c (New is_called target) x time xs e t h w = new_well p s c target time xs e t h w
 notice_well p s c (Known is_called y) x time xs e t h w =
-    after_got (λ (k : ℕ). exists s.store c k ≡ true) (IsInBounds p) (existing s.store c x) _
+    after_got (λ (k : ℕ). exists s.store c k ≡ true) (IsInBounds p) (entity_named s.store c x) _
     (existing_there s.store c x)
     (λ k i. scheduling_well p s c k time xs e t h (w, i))
 
@@ -1084,7 +1123,7 @@ time_in v Now h = h.clock
 time_in v (In e) h =
     after_got (λ (_ : ℤ). Unit {0}) IsIn (value_of v e) _ (anything _) (λ n _. ranged_in (v.clock +ℤ n))
 
-schedule_well : (p : ProgramTable) (s : State) (x : ASchedule) → is_event (program.class_of p x.class).kind ≡ true →
+schedule_well : (p : ProgramTable) (s : State) (x : Schedule) → is_event (program.class_of p x.class).kind ≡ true →
     IsInBounds p s →
     Got (IsInBounds p) (state_after_schedule p s x)
 schedule_well p s x e w =
@@ -1114,8 +1153,9 @@ without_part p s k w = chosen (waits_for k s.entry) (not (is_pending s.agenda k)
 cancel_well : (t : Tables) (p : ProgramTable) (s : State) (c : ℕ) (e : Expr) → IsInBounds p s →
     Got (IsInBounds p) (state_after_cancel t s c e)
 cancel_well t p s c e w =
-    after_got (IsPart p s) (IsInBounds p) (value_of (readings t s) e >>= existing s.store c >>= agenda_without s) _
-    (after_got (λ (_ : ℕ). Unit {0}) (IsPart p s) (value_of (readings t s) e >>= existing s.store c) (agenda_without s)
+    after_got (IsPart p s) (IsInBounds p) (value_of (readings t s) e >>= entity_named s.store c >>= agenda_without s) _
+    (after_got (λ (_ : ℕ). Unit {0}) (IsPart p s) (value_of (readings t s) e >>= entity_named s.store c)
+    (agenda_without s)
     (anything _)
     (λ k _. without_part p s k w)) (λ a h. agenda_well p s a h.0 h.1 w)
 
@@ -1310,7 +1350,8 @@ started_well p s next false sound m at k w =
 abbrev LeadsHere : ProgramTable → State → Ways → Place → Type 0
 LeadsHere p s y x = IsLinkedPlace p.sections (length (places_of (slice_get p.sections s.frame.section))) y x
 
-branch_well : (p : ProgramTable) (s : State) (y : Ways) (b : ABranch) → LeadsHere p s y (Branch b) → IsInBounds p s →
+branch_well : (p : ProgramTable) (s : State) (y : Ways) (b : Branch) → LeadsHere p s y (places.Branch b) →
+    IsInBounds p s →
     IsInBounds p (step_branch (tables_of p) s y b)
 branch_well p s y (If q) l w =
     settled_well (λ (_ : Bool). Unit {0}) p s (question_answer (tables_of p) s q) _ w (anything _)
@@ -1322,9 +1363,9 @@ branch_well p s y (If q) l w =
 branch_well p s y Else l w = state_at_place_well p s y.next l.next w
 branch_well p s y Always l w = state_at_place_well p s y.next l.next w
 
-looping_well : (p : ProgramTable) (s : State) (y : Ways) (sc : Scope) (x : ALooping) → IsSoundLooping sc x →
+looping_well : (p : ProgramTable) (s : State) (y : Ways) (sc : Scope) (x : Looping) → IsSoundLooping sc x →
     sc.sets ≡ length p.sets →
-    LeadsHere p s y (Looping x) → IsInBounds p s → IsInBounds p (step_looping (tables_of p) s y x)
+    LeadsHere p s y (places.Looping x) → IsInBounds p s → IsInBounds p (step_looping (tables_of p) s y x)
 looping_well p s y sc (For f) sound e l w =
     phrase_well (tables_of p) p s y f sc (loop_of_phrase s.frame.place (innermost s.frame.loops)) sound.0 e
     (loop_in s.frame.place s.frame.loops w.frame.loops) l.next l.leads w
@@ -1391,42 +1432,45 @@ timed_here p s spot x sound at is =
 well_at : (p : ProgramTable) (s : State) (spot : Spot) (y : Ways) (x : Place) → IsSound p →
     spot_at p s.frame.section s.frame.place ≡ Some spot →
     spot.place ≡ x → LeadsHere p s y x → IsInBounds p s → IsInBounds p (step_at p s y x)
-well_at p s spot y (Assign a) sound at is l w =
+well_at p s spot y (places.Assign a) sound at is l w =
     went_well p s _ y.next (assign_rest (tables_of p) s a) (assign_well (tables_of p) p s a w) l.next w
-well_at p s spot y (Making m) sound at is l w =
+well_at p s spot y (places.Making m) sound at is l w =
     went_well p s _ y.next (making_rest (tables_of p) s m) (making_well (tables_of p) p s m w) l.next w
-well_at p s spot y (Filing f) sound at is l w =
+well_at p s spot y (places.Filing f) sound at is l w =
     went_well p s _ y.next (filing_rest (tables_of p) s f) (filing_well (tables_of p) p s f w) l.next w
-well_at p s spot y (Output (Print count values picture)) sound at is l w =
+well_at p s spot y (places.Output (Print count values picture)) sound at is l w =
     settled_well IsShort p s _ _ w
     (after_got (λ (_ : List ℤ). Unit {0}) IsShort (values_of (readings (tables_of p) s) values) _ (anything _)
     (λ xs _. appended_short s.report (picture_text picture xs)))
     (λ report h. state_at_place_well p (record s { report = report }) y.next l.next (report_well p s report h w))
-well_at p s spot y (Output (Skip e)) sound at is l w =
+well_at p s spot y (places.Output (Skip e)) sound at is l w =
     settled_well IsShort p s _ _ w
     (after_got (λ (_ : ℕ). Unit {0}) IsShort (lines_asked (readings (tables_of p) s) e) _ (anything _)
-    (λ n _. appended_short s.report (replicate n 10)))
+    (λ n _. appended_short s.report (replicate n LINE_FEED)))
     (λ report h. state_at_place_well p (record s { report = report }) y.next l.next (report_well p s report h w))
-well_at p s spot y (Control Stop) sound at is l w = marked_well p s Stopped w
-well_at p s spot y (Control Return) sound at is l w = section_well p s (section_of p s.frame.section).kind sound refl w
-well_at p s spot y (Control End) sound at is l w = section_well p s (section_of p s.frame.section).kind sound refl w
-well_at p s spot y (Branch b) sound at is l w = branch_well p s y b l w
-well_at p s spot y (Looping x) sound at is l w =
+well_at p s spot y (places.Control Stop) sound at is l w = marked_well p s Stopped w
+well_at p s spot y (places.Control Return) sound at is l w =
+    section_well p s (section_of p s.frame.section).kind sound refl w
+well_at p s spot y (places.Control End) sound at is l w =
+    section_well p s (section_of p s.frame.section).kind sound refl w
+well_at p s spot y (places.Branch b) sound at is l w = branch_well p s y b l w
+well_at p s spot y (places.Looping x) sound at is l w =
     looping_well p s y (scope_at p s.frame.section) x
     (subst (λ (z : Place). IsSoundPlace (scope_at p s.frame.section) z) is
     (spot_sound p s.frame.section s.frame.place spot sound at)) refl l w
-well_at p s spot y (Call c) sound at is l w = call_well p s spot c sound at is l.leads w
-well_at p s spot y (Timing (Schedule x)) sound at is l w =
-    let t : IsTimed p (section_of p s.frame.section) (Timing (Schedule x)) = timed_here p s spot _ sound at is in
+well_at p s spot y (places.Call c) sound at is l w = call_well p s spot c sound at is l.leads w
+well_at p s spot y (places.Timing (timings.Schedule x)) sound at is l w =
+    let t : IsTimed p (section_of p s.frame.section) (places.Timing (timings.Schedule x)) =
+    timed_here p s spot _ sound at is in
     went_well p s _ y.next (schedule_rest p s x) (schedule_well p s x t.event w) l.next w
-well_at p s spot y (Timing (Cancel c is_called e)) sound at is l w =
+well_at p s spot y (places.Timing (timings.Cancel c is_called e)) sound at is l w =
     went_well p s _ y.next (cancel_rest (tables_of p) s c e) (cancel_well (tables_of p) p s c e w) l.next w
-well_at p s spot y (Timing Start) sound at is l w =
+well_at p s spot y (places.Timing timings.Start) sound at is l w =
     let t : is_main (section_of p s.frame.section) ≡ true = timed_here p s spot _ sound at is in
     let starts : StartsAt (spot_at p s.frame.section s.frame.place) =
     rw at (subst (λ (x : Place). Starts x) (sym is) tt) in
     started_well p s y.next (loads p s) sound t starts l.next w
-well_at p s spot y (Read ts) sound at is l w =
+well_at p s spot y (places.Read ts) sound at is l w =
     went_read p s y.next ts l.next w
 
 well_by : (p : ProgramTable) (s : State) (o : Option Spot) → IsSound p → IsInBounds p s →

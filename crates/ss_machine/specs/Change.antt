@@ -1,13 +1,39 @@
 -- What is noted of a change, and how it is taken back.
-use Rattle.std.specs.Prelude.{◌<◌, ◌≤◌, List, [], ◌∷◌, length, take, drop, slice_set}
-use Rattle.ss_machine.specs.declared.change.Change.{Change}
-use Rattle.ss_machine.specs.declared.change.Change.TheVariants.{Variable, Local, Place, Clock, Store, Agenda, Taken, Report, Status, LoopOpened, LoopMoved, LoopClosed, FrameOpened, FrameDropped, Found, Statistics, Entry}
+use Rattle.std.specs.Prelude.{ℕ, ℤ, Bool, Option, ◌<◌, ◌≤◌, List, [], ◌∷◌, length, take, drop, slice_set}
+use Rattle.ss_machine.specs.declared.entry.Entry as entries
+use Rattle.ss_machine.specs.declared.status.Status as statuses
 use Rattle.ss_data.specs.Items.{with_taken}
+use Rattle.ss_store.specs.declared.change.StoreChange.{StoreChange}
 use Rattle.ss_store.specs.Change.{unapply_store, FitsStore}
+use Rattle.ss_events.specs.declared.agenda.AgendaChange.{AgendaChange}
 use Rattle.ss_events.specs.Changes as notices
 use Rattle.ss_machine.specs.Held.{Held, store_of, agenda_of, with_state, with_store, with_agenda}
-use Rattle.ss_machine.specs.Loops.{loops_with_candidate}
-use Rattle.ss_machine.specs.State.{State, FrameState, most_below}
+use Rattle.ss_machine.specs.Loops.{OpenLoop, loops_with_candidate}
+use Rattle.ss_machine.specs.declared.limits.TheConstants.{MOST_BELOW}
+use Rattle.ss_machine.specs.State.{State, FrameState}
+use Rattle.ss_machine.specs.State as states
+
+-- what is noted of a change, enough to take it back: what a global variable or a local of the last frame held, by its
+-- number; the place where the last frame stood; the old clock; what takes back a change of the store or of the event
+-- list; how many items were taken; the old length of the report; the old entry; the old status; that a loop was opened;
+-- the old candidate of the innermost loop; the loop that was closed; that a frame was opened; the frame that was
+-- dropped; what FIND answered; what COMPUTE had gathered
+pub data Change : Type 0 where
+  Variable Local : ℕ → ℤ → Change
+  Place : ℕ → Change
+  Clock : ℤ → Change
+  Store : StoreChange → Change
+  Agenda : AgendaChange → Change
+  Taken Report : ℕ → Change
+  Entry : entries.Entry → Change
+  Status : statuses.Status → Change
+  LoopOpened : Change
+  LoopMoved : Option ℤ → Change
+  LoopClosed : OpenLoop → Change
+  FrameOpened : Change
+  FrameDropped : FrameState → Change
+  Found : Bool → Change
+  Statistics : states.Statistics → Change
 
 -- the state in which the nearest frame below is the last one
 abbrev pub state_of_caller : List FrameState → State → State
@@ -57,6 +83,6 @@ Fits LoopOpened h = 0 < length h.state.frame.loops
 Fits (LoopMoved old) h = 0 < length h.state.frame.loops
 Fits (LoopClosed closed) h = Unit {0}
 Fits FrameOpened h = 0 < length h.state.below
-Fits (FrameDropped dropped) h = length h.state.below < most_below
+Fits (FrameDropped dropped) h = length h.state.below < MOST_BELOW
 Fits (Found old) h = Unit {0}
 Fits (Statistics old) h = Unit {0}

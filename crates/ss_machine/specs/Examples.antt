@@ -1,5 +1,6 @@
 -- Small programs, and what their runs come to.
-use Rattle.std.specs.Prelude.{ℕ, zero, suc, ◌-◌, pos, List, [], ◌∷◌, ◌++◌, map, replicate, codes, Bool, true, false, Some, None}
+use Rattle.std.specs.Prelude.{ℕ, zero, suc, ◌-◌, pos, List, [], ◌∷◌, ◌++◌, map, replicate, codes, Bool, true, false}
+use Rattle.std.specs.Prelude.{Some, None}
 use Rattle.ss_words.specs.declared.terms.TermSign.TheVariants.{Plus, Minus}
 use Rattle.ss_program.specs.declared.target.Target.TheVariants.{Variable as ToVariable, Attribute}
 use Rattle.ss_program.specs.declared.target.SetRef.{SetRef}
@@ -30,7 +31,8 @@ use Rattle.ss_program.specs.declared.place.Assign.TheVariants.{Let, Add}
 use Rattle.ss_program.specs.declared.place.Output.TheVariants.{Skip}
 use Rattle.ss_program.specs.declared.place.Control.TheVariants.{Return, End}
 use Rattle.ss_program.specs.declared.place.Place.{Place}
-use Rattle.ss_program.specs.declared.place.Place.TheVariants.{Assign, Making, Filing, Output, Control, Branch, Looping, Call, Timing, Read}
+use Rattle.ss_program.specs.declared.place.Place.TheVariants.{Assign, Making, Filing, Output, Control, Branch, Looping}
+use Rattle.ss_program.specs.declared.place.Place.TheVariants.{Call, Timing, Read}
 use Rattle.ss_program.specs.declared.timing.Notice.TheVariants.{New, Known}
 use Rattle.ss_program.specs.declared.timing.Listing.TheVariants.{Given}
 use Rattle.ss_program.specs.declared.timing.When.{When}
@@ -38,14 +40,14 @@ use Rattle.ss_program.specs.declared.timing.When.TheVariants.{At, Now, In}
 use Rattle.ss_program.specs.declared.timing.Timing.TheVariants.{Schedule, Cancel, Start}
 use Rattle.ss_program.specs.declared.place.Spot.{Spot}
 use Rattle.ss_program.specs.declared.kinds.SectionKind.TheVariants.{Main, Routine, Event}
-use Rattle.ss_program.specs.ProgramExpr.{Expr, expr, no_sums, sum, term, no_products, product, Factor, digits, variable, attribute, implied, of_system}
+use Rattle.ss_program.specs.ProgramExpr.{Expr, expr, no_sums, sum, term, no_products, product, Factor, digits, variable}
+use Rattle.ss_program.specs.ProgramExpr.{attribute, implied, of_system}
 use Rattle.ss_program.specs.ProgramCondition.{Condition, any, no_conjunctions, all, no_relations, compared}
 use Rattle.ss_program.specs.Program.{ProgramTable, SectionTable}
 use Rattle.ss_machine.specs.State.{State}
 use Rattle.ss_values.specs.Values.{Readings}
 use Rattle.ss_journal.specs.Log.{newest}
-use Rattle.ss_machine.specs.declared.change.Change.{Change}
-use Rattle.ss_machine.specs.declared.change.Change.TheVariants.{Local as WasLocal, Place as WasPlace}
+use Rattle.ss_machine.specs.Change.{Change, Local as WasLocal, Place as WasPlace}
 use Rattle.ss_machine.specs.Held.{Beside}
 use Rattle.ss_machine.specs.Moment.{Moment}
 use Rattle.ss_machine.specs.Run.{Input, input_with, run}
@@ -102,8 +104,8 @@ abbrev pub add_to : Variable → Expr → Place
 add_to x e = Assign (Add e (ToVariable x))
 
 -- END
-abbrev pub ending : Place
-ending = Control End
+abbrev pub end_place : Place
+end_place = Control End
 
 -- FOR local number i = a TO b, which controls what stands behind it
 abbrev pub for_bare : ℕ → Expr → Expr → List Qualifier → Place
@@ -158,13 +160,13 @@ main_run text n xs k = run (input_with (program_of 0 (main_of n xs ∷ [])) text
 
 -- the numbers from 1 to 9 that pass these qualifiers, added to local 1
 abbrev pub sum_of_passed : List Qualifier → List Place
-sum_of_passed qs = for_bare 0 (number 1) (number 9) qs ∷ add_to (Local 1) (local 0) ∷ ending ∷ []
+sum_of_passed qs = for_bare 0 (number 1) (number 9) qs ∷ add_to (Local 1) (local 0) ∷ end_place ∷ []
 
 -- the first of the numbers from 1 to 5 that passes a qualifier goes to local 1; 100 where there is none
 abbrev pub first_of_five : Qualifier → List Place
 first_of_five q =
     for_bare 0 (number 1) (number 5) (q ∷ []) ∷ Looping Find ∷ Branch (If WasFound) ∷ let_be (Local 1) (local 0)
-    ∷ Branch Else ∷ let_be (Local 1) (number 100) ∷ Branch Always ∷ ending ∷ []
+    ∷ Branch Else ∷ let_be (Local 1) (number 100) ∷ Branch Always ∷ end_place ∷ []
 
 -- the statistics of the numbers from a to b go to locals 1 to 4
 abbrev pub statistics_of : Expr → Expr → List Place
@@ -174,14 +176,15 @@ statistics_of a b =
     ∷ record { target = ToVariable (Local 2); statistic = Sum }
     ∷ record { target = ToVariable (Local 3); statistic = Maximum }
     ∷ record { target = ToVariable (Local 4); statistic = Minimum } ∷ []))
-    ∷ ending ∷ []
+    ∷ end_place ∷ []
 
 -- a routine yields one more than it is given; MAIN calls it with 4
 abbrev pub one_more : ProgramTable
 one_more =
     program_of 0 (
-    main_of 1 (Call (record { section = 1; given = number 4 ∷ []; targets = ToVariable (Local 0) ∷ [] }) ∷ ending ∷ [])
-    ∷ routine_of 1 1 2 (let_be (Local 1) (local 0) ∷ add_to (Local 1) (number 1) ∷ Control Return ∷ ending ∷ [])
+    main_of 1 (Call (record { section = 1; given = number 4 ∷ []; targets = ToVariable (Local 0) ∷ [] }) ∷ end_place
+    ∷ [])
+    ∷ routine_of 1 1 2 (let_be (Local 1) (local 0) ∷ add_to (Local 1) (number 1) ∷ Control Return ∷ end_place ∷ [])
     ∷ []
     )
 
@@ -189,24 +192,24 @@ one_more =
 abbrev pub endless_calls : ProgramTable
 endless_calls =
     let again : Place = Call (record { section = 1; given = []; targets = [] }) in
-    program_of 0 (main_of 0 (again ∷ ending ∷ []) ∷ routine_of 0 0 0 (again ∷ ending ∷ []) ∷ [])
+    program_of 0 (main_of 0 (again ∷ end_place ∷ []) ∷ routine_of 0 0 0 (again ∷ end_place ∷ []) ∷ [])
 
 -- READ of two locals
 abbrev pub read_two : List Place
-read_two = Read (ToVariable (Local 0) ∷ ToVariable (Local 1) ∷ []) ∷ ending ∷ []
+read_two = Read (ToVariable (Local 0) ∷ ToVariable (Local 1) ∷ []) ∷ end_place ∷ []
 
 -- two entities, each of which adds its number to global variable 2
 abbrev pub each_of_two : ProgramTable
 each_of_two =
     program_of 3 (
-    main_of 0 (let_be (Global 1) (number 2) ∷ for_each 0 1 ∷ add_to (Global 2) (alone (variable (Global 0))) ∷ ending
+    main_of 0 (let_be (Global 1) (number 2) ∷ for_each 0 1 ∷ add_to (Global 2) (alone (variable (Global 0))) ∷ end_place
     ∷ [])
     ∷ []
     )
 
 -- SKIP of so many lines
 abbrev pub skip_of : Expr → List Place
-skip_of e = Output (Skip e) ∷ ending ∷ []
+skip_of e = Output (Skip e) ∷ end_place ∷ []
 
 -- ---- entities and sets
 
@@ -249,17 +252,17 @@ note_value =
 -- three entities of the values 3, 1 and 2 are filed, and their list is walked
 abbrev pub three_jobs : Discipline → Direction → ProgramTable
 three_jobs d way =
-    jobs_with d (job_of 3 ++ (job_of 1 ++ (job_of 2 ++ (for_every_job way ∷ note_value ∷ ending ∷ []))))
+    jobs_with d (job_of 3 ++ (job_of 1 ++ (job_of 2 ++ (for_every_job way ∷ note_value ∷ end_place ∷ []))))
 
 -- two entities are filed, and the loop removes the last member at its first turn
 abbrev pub next_is_removed : ProgramTable
 next_is_removed =
     jobs_with Fifo (job_of 1 ++ (job_of 2 ++ (for_every_job Onward
-    ∷ Filing (RemoveAt ends.Last (ToVariable (Local 1)) queue) ∷ ending ∷ [])))
+    ∷ Filing (RemoveAt ends.Last (ToVariable (Local 1)) queue) ∷ end_place ∷ [])))
 
 -- an entity is ended though it is filed
 abbrev pub filed_is_ended : ProgramTable
-filed_is_ended = jobs_with Fifo (job_of 1 ++ (Making (Destroy 0 false job) ∷ ending ∷ []))
+filed_is_ended = jobs_with Fifo (job_of 1 ++ (Making (Destroy 0 false job) ∷ end_place ∷ []))
 
 -- the least value first
 abbrev pub by_least : Discipline
@@ -333,8 +336,8 @@ abbrev pub cancel_tick : Place
 cancel_tick = Timing (Cancel 0 false job)
 
 -- START SIMULATION
-abbrev pub starting : Place
-starting = Timing Start
+abbrev pub start_place : Place
+start_place = Timing Start
 
 -- the event's value written behind the digits of global 1
 abbrev pub note_tick : Place
@@ -349,27 +352,29 @@ by_value = record { rank = Low; attribute = 0 } ∷ []
 -- two notices at one time, of the values 2 and 1
 abbrev pub two_ticks : List Key → ProgramTable
 two_ticks ties =
-    ticks_with ties false (tick_of 2 Now ∷ tick_of 1 Now ∷ starting ∷ ending ∷ []) (note_tick ∷ ending ∷ [])
+    ticks_with ties false (tick_of 2 Now ∷ tick_of 1 Now ∷ start_place ∷ end_place ∷ []) (note_tick ∷ end_place ∷ [])
 
 -- the first of two notices gets another value behind its scheduling
 abbrev pub tick_changed : ProgramTable
 tick_changed =
     ticks_with by_value false (tick_of 1 Now ∷ Assign (Let false (Attribute 0 0 (implied 0)) (number 9))
-    ∷ tick_of 2 Now ∷ starting ∷ ending ∷ []) (note_tick ∷ ending ∷ [])
+    ∷ tick_of 2 Now ∷ start_place ∷ end_place ∷ []) (note_tick ∷ end_place ∷ [])
 
 -- an event schedules another one in five days
 abbrev pub tick_every_five : ProgramTable
 tick_every_five =
-    ticks_with [] false (tick_of 7 (At (number 3)) ∷ starting ∷ ending ∷ []) (tick_of 7 (In (number 5)) ∷ ending ∷ [])
+    ticks_with [] false (tick_of 7 (At (number 3)) ∷ start_place ∷ end_place ∷ [])
+    (tick_of 7 (In (number 5)) ∷ end_place ∷ [])
 
 -- an event schedules its own notice, which is saved
 abbrev pub tick_saved : ProgramTable
 tick_saved =
-    ticks_with [] true (tick_of 7 (At (number 3)) ∷ starting ∷ ending ∷ []) (tick_again (In (number 5)) ∷ ending ∷ [])
+    ticks_with [] true (tick_of 7 (At (number 3)) ∷ start_place ∷ end_place ∷ [])
+    (tick_again (In (number 5)) ∷ end_place ∷ [])
 
 -- MAIN's places behind a notice due at 3
 abbrev pub behind_tick : List Place → ProgramTable
-behind_tick xs = ticks_with [] false (tick_of 7 (At (number 3)) ∷ (xs ++ ending ∷ [])) (ending ∷ [])
+behind_tick xs = ticks_with [] false (tick_of 7 (At (number 3)) ∷ (xs ++ end_place ∷ [])) (end_place ∷ [])
 
 -- ---- external events
 
@@ -400,11 +405,11 @@ arrivals_with xs ys = record {
 -- each entry's event reads one value, which it writes behind the digits of global 1
 abbrev pub values_of_arrivals : ProgramTable
 values_of_arrivals =
-    arrivals_with (starting ∷ ending ∷ []) (Read (ToVariable (Local 0) ∷ []) ∷ note_tick ∷ ending ∷ [])
+    arrivals_with (start_place ∷ end_place ∷ []) (Read (ToVariable (Local 0) ∷ []) ∷ note_tick ∷ end_place ∷ [])
 
 -- an event that the model scheduled does this while an entry waits
 abbrev pub while_waiting : Place → ProgramTable
-while_waiting x = arrivals_with (tick_of 7 Now ∷ starting ∷ ending ∷ []) (x ∷ ending ∷ [])
+while_waiting x = arrivals_with (tick_of 7 Now ∷ start_place ∷ end_place ∷ []) (x ∷ end_place ∷ [])
 
 -- CANCEL of notice number n
 abbrev pub cancel_number : ℕ → Place
@@ -420,12 +425,12 @@ read_one = Read (ToVariable (Local 0) ∷ [])
 abbrev pub counting_up : Input
 counting_up =
     input_with (program_of 0 (main_of 1 (let_be (Local 0) (number 1) ∷ let_be (Local 0) (number 2)
-    ∷ let_be (Local 0) (number 3) ∷ ending ∷ []) ∷ [])) []
+    ∷ let_be (Local 0) (number 3) ∷ end_place ∷ []) ∷ [])) []
 
 -- the changes of its first k steps, the newest first: in state number k X is k
-abbrev pub counted : ℕ → List (List Change)
-counted zero = []
-counted (suc k) = (WasPlace k ∷ WasLocal 0 (pos k) ∷ []) ∷ counted k
+abbrev pub steps_counting_up : ℕ → List (List Change)
+steps_counting_up zero = []
+steps_counting_up (suc k) = (WasPlace k ∷ WasLocal 0 (pos k) ∷ []) ∷ steps_counting_up k
 
 -- a machine on that run at position p, of whose steps the oldest a are forgotten
 abbrev pub counting_at : Beside → ℕ → ℕ → Moment
@@ -434,5 +439,5 @@ counting_at beside a p = record {
   state = run counting_up p;
   beside = beside;
   forgotten = a;
-  steps = newest (p - a) (counted p);
+  steps = newest (p - a) (steps_counting_up p);
 }

@@ -1,4 +1,6 @@
--- Private: what is held of a run.
+-- What is held of a run: its state, and beside it what serves undoing alone. A reader of a public clause may skip what
+-- stands beside: `known` of a machine makes `past_of` the states of its run from the earliest kept one to the last one
+-- before this, whatever that is.
 use Rattle.std.specs.Prelude.{ℕ, List}
 use Rattle.ss_store.specs.Tables.{Tables}
 use Rattle.ss_store.specs.Value.{Layout, StoreValue}
@@ -23,6 +25,8 @@ pub record Held : Type 0 where
   pub state : State
   -- what stands beside it
   pub beside : Beside
+
+-- ---- private: the parts of what is held
 
 -- what is held of the store
 abbrev pub store_of : Held → StoreValue

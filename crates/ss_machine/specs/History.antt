@@ -1,5 +1,6 @@
 -- Private: how changes are read from numbers, and from what is kept beside these.
-use Rattle.std.specs.Prelude.{◌≡◌, ℕ, ℤ, pos, negsuc, ◌-◌, ◌/◌, ◌%◌, ◌^◌, ◌≤◌, ◌+◌, ◌==◌, not, min, zero, suc, Bool, List, [], ◌∷◌, ◌++◌, drop, slice_index, MatchOption, Option, Some, None, if◌then◌else◌}
+use Rattle.std.specs.Prelude.{◌≡◌, ℕ, ℤ, pos, negsuc, ◌-◌, ◌/◌, ◌%◌, ◌^◌, ◌≤◌, ◌+◌, ◌==◌, not, min, zero, suc, Bool}
+use Rattle.std.specs.Prelude.{List, [], ◌∷◌, ◌++◌, drop, slice_index, MatchOption, Option, Some, None, if◌then◌else◌}
 use Rattle.std.specs.declared.vec.Vec.{Vec}
 use Rattle.std.specs.Global.{Global}
 use Rattle.ss_journal.specs.Log.{Log}
@@ -10,39 +11,41 @@ use Rattle.ss_store.specs.declared.change.StoreChange.TheVariants as stores
 use Rattle.ss_events.specs.declared.agenda.AgendaChange.TheVariants as notices
 use Rattle.ss_machine.specs.declared.entry.Entry.{Entry}
 use Rattle.ss_machine.specs.declared.entry.Entry.TheVariants as entry
-use Rattle.ss_events.specs.declared.pending_notice.PendingNotice.{Entry as Notice}
+use Rattle.ss_events.specs.declared.pending_notice.PendingNotice.{PendingNotice}
 use Rattle.ss_machine.specs.declared.tape.Tape.{Tape}
-use Rattle.ss_machine.specs.declared.change.Change.{Change}
-use Rattle.ss_machine.specs.declared.change.Change.TheVariants as changes
-use Rattle.ss_machine.specs.declared.tape.Kept.{Kept}
-use Rattle.ss_machine.specs.declared.tape.Kept.TheVariants as kept
-use Rattle.ss_machine.specs.declared.kind.Kind.{Kind}
-use Rattle.ss_machine.specs.declared.kind.Kind.TheVariants as kinds
-use Rattle.ss_machine.specs.declared.kind.ValueKind.{ValueKind}
-use Rattle.ss_machine.specs.declared.kind.ValueKind.TheVariants as values
-use Rattle.ss_machine.specs.declared.kind.ControlKind.{ControlKind}
-use Rattle.ss_machine.specs.declared.kind.ControlKind.TheVariants as controls
-use Rattle.ss_machine.specs.declared.kind.LoopKind.{LoopKind}
-use Rattle.ss_machine.specs.declared.kind.LoopKind.TheVariants as loops
-use Rattle.ss_machine.specs.declared.kind.EntityKind.{EntityKind}
-use Rattle.ss_machine.specs.declared.kind.EntityKind.TheVariants as entities
-use Rattle.ss_machine.specs.declared.kind.SetKind.{SetKind}
-use Rattle.ss_machine.specs.declared.kind.SetKind.TheVariants as sets
-use Rattle.ss_machine.specs.declared.kind.TimeKind.{TimeKind}
-use Rattle.ss_machine.specs.declared.kind.TimeKind.TheVariants as times
-use Rattle.ss_machine.specs.declared.kind.EntryKind.{EntryKind}
-use Rattle.ss_machine.specs.declared.kind.EntryKind.TheVariants as entries
-use Rattle.ss_machine.specs.declared.kind.TextKind.{TextKind}
-use Rattle.ss_machine.specs.declared.kind.TextKind.TheVariants as texts
+use Rattle.ss_machine.specs.Change.{Change}
+use Rattle.ss_machine.specs.Change as changes
+use Rattle.ss_machine.specs.declared.change.Change.{Change as CodeChange}
+use Rattle.ss_machine.specs.ChangeView.{as_change}
+use Rattle.ss_machine.specs.declared.tape.Owned.{Owned}
+use Rattle.ss_machine.specs.declared.tape.Owned.TheVariants as owned
+use Rattle.ss_machine.specs.declared.kind.ChangeKind.{ChangeKind}
+use Rattle.ss_machine.specs.declared.kind.ChangeKind.TheVariants as kinds
+use Rattle.ss_machine.specs.declared.kind.ValueChangeKind.{ValueChangeKind}
+use Rattle.ss_machine.specs.declared.kind.ValueChangeKind.TheVariants as values
+use Rattle.ss_machine.specs.declared.kind.ControlChangeKind.{ControlChangeKind}
+use Rattle.ss_machine.specs.declared.kind.ControlChangeKind.TheVariants as controls
+use Rattle.ss_machine.specs.declared.kind.LoopChangeKind.{LoopChangeKind}
+use Rattle.ss_machine.specs.declared.kind.LoopChangeKind.TheVariants as loops
+use Rattle.ss_machine.specs.declared.kind.EntityChangeKind.{EntityChangeKind}
+use Rattle.ss_machine.specs.declared.kind.EntityChangeKind.TheVariants as entities
+use Rattle.ss_machine.specs.declared.kind.SetChangeKind.{SetChangeKind}
+use Rattle.ss_machine.specs.declared.kind.SetChangeKind.TheVariants as sets
+use Rattle.ss_machine.specs.declared.kind.TimeChangeKind.{TimeChangeKind}
+use Rattle.ss_machine.specs.declared.kind.TimeChangeKind.TheVariants as times
+use Rattle.ss_machine.specs.declared.kind.EntryChangeKind.{EntryChangeKind}
+use Rattle.ss_machine.specs.declared.kind.EntryChangeKind.TheVariants as entries
+use Rattle.ss_machine.specs.declared.kind.TextChangeKind.{TextChangeKind}
+use Rattle.ss_machine.specs.declared.kind.TextChangeKind.TheVariants as texts
 use Rattle.ss_machine.specs.Kinds.{kind_of}
 
 -- the numbers 0, 1, 2, 3, 4 stand for 0, -1, 1, -2, 2
-abbrev pub unfolded : ℕ → ℤ
-unfolded n = if n % 2 == 0 then pos (n / 2) else negsuc (n / 2)
+abbrev pub signed_number : ℕ → ℤ
+signed_number n = if n % 2 == 0 then pos (n / 2) else negsuc (n / 2)
 
 -- the number, or the greatest one of 32 bits where it is greater
-abbrev pub narrowed : ℕ → ℕ
-narrowed n = min n (2 ^ 32 - 1)
+abbrev pub narrow_number : ℕ → ℕ
+narrow_number n = min n (2 ^ 32 - 1)
 
 -- any number but 0 stands for true
 abbrev pub is_set : ℕ → Bool
@@ -75,134 +78,135 @@ pub record IsTaken (k : ℕ) (old new : Log ℕ) : Type 0 where
 -- ---- the changes of each sort, from the numbers behind the kind, and from what is kept
 
 -- of variables, FIND and COMPUTE
-abbrev pub value_change : ValueKind → List ℕ → Change
-value_change values.Variable ns = changes.Variable (at 0 ns) (unfolded (at 1 ns))
-value_change values.Local ns = changes.Local (at 0 ns) (unfolded (at 1 ns))
+abbrev pub value_change : ValueChangeKind → List ℕ → Change
+value_change values.Variable ns = changes.Variable (at 0 ns) (signed_number (at 1 ns))
+value_change values.Local ns = changes.Local (at 0 ns) (signed_number (at 1 ns))
 value_change values.Found ns = changes.Found (is_set (at 0 ns))
 value_change values.Statistics ns =
     changes.Statistics (record {
-      number = unfolded (at 0 ns);
-      sum = unfolded (at 1 ns);
-      greatest = unfolded (at 2 ns);
-      least = unfolded (at 3 ns);
+      number = signed_number (at 0 ns);
+      sum = signed_number (at 1 ns);
+      greatest = signed_number (at 2 ns);
+      least = signed_number (at 3 ns);
     })
 
 -- how many numbers tell such a change, beside that of its kind
-abbrev pub value_numbers : ValueKind → ℕ
+abbrev pub value_numbers : ValueChangeKind → ℕ
 value_numbers values.Variable = 2
 value_numbers values.Local = 2
 value_numbers values.Found = 1
 value_numbers values.Statistics = 4
 
 -- of entries
-abbrev pub entry_of : EntryKind → List ℕ → Entry
+abbrev pub entry_of : EntryChangeKind → List ℕ → Entry
 entry_of entries.Absent ns = entry.Absent
-entry_of entries.Waiting ns = entry.Waiting (at 0 ns) (narrowed (at 1 ns))
-entry_of entries.Running ns = entry.Running (at 0 ns) (narrowed (at 1 ns))
+entry_of entries.Waiting ns = entry.Waiting (at 0 ns) (narrow_number (at 1 ns))
+entry_of entries.Running ns = entry.Running (at 0 ns) (narrow_number (at 1 ns))
 
 -- how many numbers tell such an entry
-abbrev pub entry_numbers : EntryKind → ℕ
+abbrev pub entry_numbers : EntryChangeKind → ℕ
 entry_numbers entries.Absent = 0
 entry_numbers entries.Waiting = 2
 entry_numbers entries.Running = 2
 
 -- of sets
-abbrev pub set_change : SetKind → List ℕ → StoreChange
+abbrev pub set_change : SetChangeKind → List ℕ → StoreChange
 set_change sets.Filed ns =
-    stores.Filed (at 0 ns) (owner_of (at 1 ns) (at 2 ns)) (narrowed (at 3 ns)) (at 4 ns) (at 5 ns)
+    stores.Filed (at 0 ns) (owner_of (at 1 ns) (at 2 ns)) (narrow_number (at 3 ns)) (at 4 ns) (at 5 ns)
 set_change sets.FirstRemoved ns =
-    stores.Removed (at 0 ns) (owner_of (at 1 ns) (at 2 ns)) (narrowed (at 3 ns)) (at 4 ns) (at 5 ns) None
+    stores.Removed (at 0 ns) (owner_of (at 1 ns) (at 2 ns)) (narrow_number (at 3 ns)) (at 4 ns) (at 5 ns) None
 set_change sets.Removed ns =
-    stores.Removed (at 0 ns) (owner_of (at 1 ns) (at 2 ns)) (narrowed (at 3 ns)) (at 4 ns) (at 5 ns)
-    (Some (narrowed (at 6 ns)))
+    stores.Removed (at 0 ns) (owner_of (at 1 ns) (at 2 ns)) (narrow_number (at 3 ns)) (at 4 ns) (at 5 ns)
+    (Some (narrow_number (at 6 ns)))
 
 -- how many numbers tell such a change
-abbrev pub set_numbers : SetKind → ℕ
+abbrev pub set_numbers : SetChangeKind → ℕ
 set_numbers sets.Filed = 6
 set_numbers sets.FirstRemoved = 6
 set_numbers sets.Removed = 7
 
 -- of data and report
-abbrev pub text_change : TextKind → List ℕ → Change
+abbrev pub text_change : TextChangeKind → List ℕ → Change
 text_change texts.Taken ns = changes.Taken (at 0 ns)
 text_change texts.Report ns = changes.Report (at 0 ns)
 
 -- of where the run stands
-abbrev pub control_change : ControlKind → List ℕ → List Kept → Change
+abbrev pub control_change : ControlChangeKind → List ℕ → List Owned → Change
 control_change controls.Place ns os = changes.Place (at 0 ns)
-control_change controls.FrameDropped ns (kept.Frame frame ∷ os) = changes.FrameDropped frame
-control_change controls.Status ns (kept.Status status ∷ os) = changes.Status status
+control_change controls.FrameDropped ns (owned.Frame frame ∷ os) = changes.FrameDropped frame
+control_change controls.Status ns (owned.Status status ∷ os) = changes.Status status
 control_change other ns os = changes.FrameOpened
 
 -- how many numbers tell such a change
-abbrev pub control_numbers : ControlKind → ℕ
+abbrev pub control_numbers : ControlChangeKind → ℕ
 control_numbers controls.Place = 1
 control_numbers other = 0
 
 -- and how much of it is kept as it is
-abbrev pub control_kept : ControlKind → ℕ
+abbrev pub control_kept : ControlChangeKind → ℕ
 control_kept controls.FrameDropped = 1
 control_kept controls.Status = 1
 control_kept other = 0
 
 -- of open loops
-abbrev pub loop_change : LoopKind → List ℕ → List Kept → Change
-loop_change loops.Moved ns os = changes.LoopMoved (Some (unfolded (at 0 ns)))
+abbrev pub loop_change : LoopChangeKind → List ℕ → List Owned → Change
+loop_change loops.Moved ns os = changes.LoopMoved (Some (signed_number (at 0 ns)))
 loop_change loops.MovedFromNone ns os = changes.LoopMoved None
-loop_change loops.Closed ns (kept.Loop closed ∷ os) = changes.LoopClosed closed
+loop_change loops.Closed ns (owned.Loop closed ∷ os) = changes.LoopClosed closed
 loop_change other ns os = changes.LoopOpened
 
 -- how many numbers tell such a change
-abbrev pub loop_numbers : LoopKind → ℕ
+abbrev pub loop_numbers : LoopChangeKind → ℕ
 loop_numbers loops.Moved = 1
 loop_numbers other = 0
 
 -- and how much of it is kept as it is
-abbrev pub loop_kept : LoopKind → ℕ
+abbrev pub loop_kept : LoopChangeKind → ℕ
 loop_kept loops.Closed = 1
 loop_kept other = 0
 
 -- of entities
-abbrev pub entity_change : EntityKind → List ℕ → List Kept → StoreChange
-entity_change entities.Created ns os = stores.Created (at 0 ns) (at 1 ns) (narrowed (at 2 ns)) (narrowed (at 3 ns))
+abbrev pub entity_change : EntityChangeKind → List ℕ → List Owned → StoreChange
+entity_change entities.Created ns os =
+    stores.Created (at 0 ns) (at 1 ns) (narrow_number (at 2 ns)) (narrow_number (at 3 ns))
 entity_change entities.ClassCreated ns os =
-    stores.ClassCreated (at 0 ns) (at 1 ns) (narrowed (at 2 ns)) (narrowed (at 3 ns))
-entity_change entities.Ended ns (kept.Values values ∷ os) =
-    stores.Ended (at 0 ns) (at 1 ns) (narrowed (at 2 ns)) values
-entity_change other ns os = stores.AttributeSet (at 0 ns) (at 1 ns) (at 2 ns) (unfolded (at 3 ns))
+    stores.ClassCreated (at 0 ns) (at 1 ns) (narrow_number (at 2 ns)) (narrow_number (at 3 ns))
+entity_change entities.Ended ns (owned.Values values ∷ os) =
+    stores.Ended (at 0 ns) (at 1 ns) (narrow_number (at 2 ns)) values
+entity_change other ns os = stores.AttributeSet (at 0 ns) (at 1 ns) (at 2 ns) (signed_number (at 3 ns))
 
 -- how many numbers tell such a change
-abbrev pub entity_numbers : EntityKind → ℕ
+abbrev pub entity_numbers : EntityChangeKind → ℕ
 entity_numbers entities.Ended = 3
 entity_numbers other = 4
 
 -- and how much of it is kept as it is
-abbrev pub entity_kept : EntityKind → ℕ
+abbrev pub entity_kept : EntityChangeKind → ℕ
 entity_kept entities.Ended = 1
 entity_kept other = 0
 
 -- of a notice that was taken off
-abbrev pub notice_of : List ℕ → Vec ℤ Global → Notice
-notice_of ns keys = record { time = unfolded (at 1 ns); class = at 2 ns; keys = keys; filing = at 3 ns }
+abbrev pub notice_of : List ℕ → Vec ℤ Global → PendingNotice
+notice_of ns keys = record { time = signed_number (at 1 ns); class = at 2 ns; keys = keys; filing = at 3 ns }
 
 -- of the clock and the event list
-abbrev pub time_change : TimeKind → List ℕ → List Kept → Change
-time_change times.Scheduled ns os = changes.Agenda (notices.Scheduled (narrowed (at 0 ns)) (is_set (at 1 ns)))
-time_change times.FirstTakenOff ns (kept.Values keys ∷ os) =
-    changes.Agenda (notices.TakenOff (narrowed (at 0 ns)) (notice_of ns keys) None)
-time_change times.TakenOff ns (kept.Values keys ∷ os) =
-    changes.Agenda (notices.TakenOff (narrowed (at 0 ns)) (notice_of ns keys) (Some (narrowed (at 4 ns))))
-time_change other ns os = changes.Clock (unfolded (at 0 ns))
+abbrev pub time_change : TimeChangeKind → List ℕ → List Owned → Change
+time_change times.Scheduled ns os = changes.Agenda (notices.Scheduled (narrow_number (at 0 ns)) (is_set (at 1 ns)))
+time_change times.FirstTakenOff ns (owned.Values keys ∷ os) =
+    changes.Agenda (notices.TakenOff (narrow_number (at 0 ns)) (notice_of ns keys) None)
+time_change times.TakenOff ns (owned.Values keys ∷ os) =
+    changes.Agenda (notices.TakenOff (narrow_number (at 0 ns)) (notice_of ns keys) (Some (narrow_number (at 4 ns))))
+time_change other ns os = changes.Clock (signed_number (at 0 ns))
 
 -- how many numbers tell such a change
-abbrev pub time_numbers : TimeKind → ℕ
+abbrev pub time_numbers : TimeChangeKind → ℕ
 time_numbers times.Clock = 1
 time_numbers times.Scheduled = 2
 time_numbers times.FirstTakenOff = 4
 time_numbers times.TakenOff = 5
 
 -- and how much of it is kept as it is
-abbrev pub time_kept : TimeKind → ℕ
+abbrev pub time_kept : TimeChangeKind → ℕ
 time_kept times.FirstTakenOff = 1
 time_kept times.TakenOff = 1
 time_kept other = 0
@@ -210,7 +214,7 @@ time_kept other = 0
 -- ---- the changes of all sorts
 
 -- the change of a kind
-abbrev pub change_of : Kind → List ℕ → List Kept → Change
+abbrev pub change_of : ChangeKind → List ℕ → List Owned → Change
 change_of (kinds.Value kind) ns os = value_change kind ns
 change_of (kinds.Control kind) ns os = control_change kind ns os
 change_of (kinds.Loop kind) ns os = loop_change kind ns os
@@ -221,7 +225,7 @@ change_of (kinds.Entry kind) ns os = changes.Entry (entry_of kind ns)
 change_of (kinds.Text kind) ns os = text_change kind ns
 
 -- how many numbers stand behind a kind
-abbrev pub number_count : Kind → ℕ
+abbrev pub number_count : ChangeKind → ℕ
 number_count (kinds.Value kind) = value_numbers kind
 number_count (kinds.Control kind) = control_numbers kind
 number_count (kinds.Loop kind) = loop_numbers kind
@@ -232,7 +236,7 @@ number_count (kinds.Entry kind) = entry_numbers kind
 number_count (kinds.Text kind) = 1
 
 -- and how many of those that are kept
-abbrev pub kept_count : Kind → ℕ
+abbrev pub kept_count : ChangeKind → ℕ
 kept_count (kinds.Control kind) = control_kept kind
 kept_count (kinds.Loop kind) = loop_kept kind
 kept_count (kinds.Entity kind) = entity_kept kind
@@ -240,40 +244,40 @@ kept_count (kinds.Time kind) = time_kept kind
 kept_count other = 0
 
 -- the changes of a step, from its numbers and what is kept of it; the first k numbers are of a change before
-abbrev pub changes_behind : ℕ → List ℕ → List Kept → List Change
+abbrev pub changes_behind : ℕ → List ℕ → List Owned → List Change
 changes_behind zero (n ∷ ns) os =
     change_of (kind_of n) ns os ∷ changes_behind (number_count (kind_of n)) ns (behind (kept_count (kind_of n)) os)
 changes_behind (suc k) (n ∷ ns) os = changes_behind k ns os
 changes_behind k [] os = []
 
 -- the changes of a step
-abbrev pub changes_of : List ℕ → List Kept → List Change
+abbrev pub changes_of : List ℕ → List Owned → List Change
 changes_of ns os = changes_behind 0 ns os
 
 -- ---- what is kept is what the kinds say
 
 -- the first one kept is a frame
-abbrev pub IsFrame : List Kept → Type 0
-IsFrame (kept.Frame frame ∷ os) = Unit {0}
+abbrev pub IsFrame : List Owned → Type 0
+IsFrame (owned.Frame frame ∷ os) = Unit {0}
 IsFrame other = ⊥
 
 -- the first one kept is a status
-abbrev pub IsStatus : List Kept → Type 0
-IsStatus (kept.Status status ∷ os) = Unit {0}
+abbrev pub IsStatus : List Owned → Type 0
+IsStatus (owned.Status status ∷ os) = Unit {0}
 IsStatus other = ⊥
 
 -- the first one kept is a loop
-abbrev pub IsLoop : List Kept → Type 0
-IsLoop (kept.Loop closed ∷ os) = Unit {0}
+abbrev pub IsLoop : List Owned → Type 0
+IsLoop (owned.Loop closed ∷ os) = Unit {0}
 IsLoop other = ⊥
 
 -- the first one kept is values
-abbrev pub AreValues : List Kept → Type 0
-AreValues (kept.Values values ∷ os) = Unit {0}
+abbrev pub AreValues : List Owned → Type 0
+AreValues (owned.Values values ∷ os) = Unit {0}
 AreValues other = ⊥
 
 -- the first one kept is what the kind wants
-abbrev pub HasKept : Kind → List Kept → Type 0
+abbrev pub HasKept : ChangeKind → List Owned → Type 0
 HasKept (kinds.Control controls.FrameDropped) os = IsFrame os
 HasKept (kinds.Control controls.Status) os = IsStatus os
 HasKept (kinds.Loop loops.Closed) os = IsLoop os
@@ -283,7 +287,7 @@ HasKept (kinds.Time times.TakenOff) os = AreValues os
 HasKept other os = Unit {0}
 
 -- it is so of each change, and nothing else is kept
-abbrev pub IsWritten : ℕ → List ℕ → List Kept → Type 0
+abbrev pub IsWritten : ℕ → List ℕ → List Owned → Type 0
 IsWritten zero (n ∷ ns) os =
     HasKept (kind_of n) os × IsWritten (number_count (kind_of n)) ns (behind (kept_count (kind_of n)) os)
 IsWritten (suc k) (n ∷ ns) os = IsWritten k ns os
@@ -310,7 +314,7 @@ pub record IsNoted (change : Change) (old new : Tape) : Type 0 where
   pub kept : old.kept.notes ≤ new.kept.notes + 1
 
 -- a change of a kind was taken off, and nothing else changed but the room
-pub record IsRead (kind : Kind) (change : Change) (old new : Tape) : Type 0 where
+pub record IsRead (kind : ChangeKind) (change : Change) (old new : Tape) : Type 0 where
   -- the change is what these tell
   pub value : change ≡ change_of kind old.numbers.current old.kept.current
   -- its numbers are taken off
@@ -331,12 +335,13 @@ pub record IsRead (kind : Kind) (change : Change) (old new : Tape) : Type 0 wher
   pub kept : old.kept.notes ≤ new.kept.notes
 
 -- the newest change was taken off, if there is one, and nothing else changed but the room
-pub record IsPopped (change : Option Change) (old new : Tape) : Type 0 where
+pub record IsPopped (change : Option CodeChange) (old new : Tape) : Type 0 where
   -- the newest change is taken off, if there is one
   pub current : MatchOption change
       ((changes_of old.numbers.current old.kept.current ≡ [])
       × (changes_of new.numbers.current new.kept.current ≡ []))
-      (λ c. changes_of old.numbers.current old.kept.current ≡ c ∷ changes_of new.numbers.current new.kept.current)
+      (λ c. changes_of old.numbers.current old.kept.current
+      ≡ as_change c ∷ changes_of new.numbers.current new.kept.current)
   -- the open step is of whole changes, if it was
   pub written : IsWritten 0 new.numbers.current new.kept.current
   -- the closed steps stay
@@ -353,15 +358,15 @@ pub record IsPopped (change : Option Change) (old new : Tape) : Type 0 where
   pub kept : old.kept.notes ≤ new.kept.notes
 
 -- a notice was taken off: its time, class and filing number, and its keys from what is kept
-pub record IsNoticeRead (notice : Notice) (old new : Tape) : Type 0 where
+pub record IsNoticeRead (notice : PendingNotice) (old new : Tape) : Type 0 where
   -- its time is the first number
-  pub time : notice.time ≡ unfolded (at 0 old.numbers.current)
+  pub time : notice.time ≡ signed_number (at 0 old.numbers.current)
   -- its class the second
   pub class : notice.class ≡ at 1 old.numbers.current
   -- its filing number the third
   pub filing : notice.filing ≡ at 2 old.numbers.current
   -- its keys are kept
-  pub keys : old.kept.current ≡ kept.Values notice.keys ∷ new.kept.current
+  pub keys : old.kept.current ≡ owned.Values notice.keys ∷ new.kept.current
   -- three numbers are taken
   pub numbers : IsTaken 3 old.numbers new.numbers
   -- and what is kept of them
@@ -372,7 +377,7 @@ pub record IsNoticeRead (notice : Notice) (old new : Tape) : Type 0 where
   pub kept : old.kept.notes ≤ new.kept.notes
 
 -- numbers were put in front of others, and before them that of a kind
-pub record IsHeaded (kind : Kind) (fields others all : List ℕ) : Type 0 where
+pub record IsHeaded (kind : ChangeKind) (fields others all : List ℕ) : Type 0 where
   -- the number of the kind
   pub number : ℕ
   -- it tells the kind
@@ -383,12 +388,12 @@ pub record IsHeaded (kind : Kind) (fields others all : List ℕ) : Type 0 where
 -- ---- steps
 
 -- the changes of each step
-abbrev pub steps_of : List (List ℕ) → List (List Kept) → List (List Change)
+abbrev pub steps_of : List (List ℕ) → List (List Owned) → List (List Change)
 steps_of (numbers ∷ steps) (kept ∷ rest) = changes_of numbers kept ∷ steps_of steps rest
 steps_of steps rest = []
 
 -- each step is written
-abbrev pub AreWritten : List (List ℕ) → List (List Kept) → Type 0
+abbrev pub AreWritten : List (List ℕ) → List (List Owned) → Type 0
 AreWritten [] [] = Unit {0}
 AreWritten (numbers ∷ steps) (kept ∷ rest) = IsWritten 0 numbers kept × AreWritten steps rest
 AreWritten [] (kept ∷ rest) = ⊥

@@ -2,6 +2,7 @@
 use Rattle.std.specs.Prelude.{◌≡◌, ℕ, List, ◌+◌, ◌*◌, ◌≤◌}
 use Rattle.ss_program.specs.Program.{ProgramTable}
 use Rattle.ss_program.specs.ProgramSound.{IsSound}
+use Rattle.ss_machine.specs.declared.limits.TheConstants.{MOST_STEP_CHANGES}
 use Rattle.ss_machine.specs.State.{State}
 use Rattle.ss_machine.specs.Step.{step}
 use Rattle.ss_machine.specs.Run.{Input, input_with, start, run}
@@ -28,4 +29,4 @@ StepsKeepItems = (p : ProgramTable) (s : State) → (step p s).feed.items ≡ s.
 
 -- no step notes more than 64 changes and two for each target of its statement
 abbrev pub StepsNoteFew : Type 0
-StepsNoteFew = (p : ProgramTable) (s : State) → IsSound p → change_bound p s ≤ 64 + 2 * target_count p s
+StepsNoteFew = (p : ProgramTable) (s : State) → IsSound p → change_bound p s ≤ MOST_STEP_CHANGES + 2 * target_count p s

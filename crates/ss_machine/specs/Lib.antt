@@ -1,5 +1,6 @@
 pub mod State
 pub mod Loops
+pub mod View
 pub mod Nodes
 pub mod Dropping
 pub mod Held
@@ -7,8 +8,10 @@ pub mod Readings
 pub mod Step
 pub mod Run
 pub mod Change
+pub mod ChangeView
 pub mod Well
 pub mod Moment
+pub mod Stands
 pub mod Laws
 pub mod Examples
 pub mod Seen

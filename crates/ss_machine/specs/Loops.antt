@@ -1,5 +1,6 @@
 -- The open loops of a frame, their candidates, and what the qualifiers of a FOR phrase say.
-use Rattle.std.specs.Prelude.{ℕ, ◌<◌, ℤ, pos, ◌+ℤ◌, ◌-ℤ◌, int_lt, int_le, nat_eq, Bool, not, if◌then◌else◌, List, [], ◌∷◌, Option, Some, None, Result, Ok, Err}
+use Rattle.std.specs.Prelude.{ℕ, ◌<◌, ℤ, pos, ◌+ℤ◌, ◌-ℤ◌, int_lt, int_le, nat_eq, Bool, not, if◌then◌else◌, List, []}
+use Rattle.std.specs.Prelude.{◌∷◌, Option, Some, None, Result, Ok, Err}
 use Rattle.ss_words.specs.declared.fault.RunFault.{RunFault}
 use Rattle.ss_words.specs.declared.fault.RunFault.TheVariants.{StepBelowOne, NotInList, MemberLeft}
 use Rattle.ss_program.specs.declared.variable.Variable.{Variable}
@@ -17,17 +18,27 @@ use Rattle.ss_program.specs.ProgramExpr.{Expr}
 use Rattle.ss_store.specs.Tables.{set_of}
 use Rattle.ss_store.specs.Store.{number_of}
 use Rattle.ss_store.specs.Filing.{walk_first, walk_last, walk_next, walk_prev, is_in}
-use Rattle.ss_machine.specs.declared.loops.OpenLoop.{OpenLoop}
-use Rattle.ss_machine.specs.declared.loops.Walk.{Walk}
-use Rattle.ss_machine.specs.declared.loops.Walk.TheVariants.{Numbers, Members}
-use Rattle.ss_machine.specs.declared.verdict.Verdict.{Verdict}
-use Rattle.ss_machine.specs.declared.verdict.Verdict.TheVariants.{Runs, Passes, Closes}
 use Rattle.ss_values.specs.Faults.{◌>>=◌, ◌>>◌, refuse_if}
 use Rattle.ss_values.specs.Values.{Readings, variable_value, value_of, subscript_value, number_value}
 use Rattle.ss_words.specs.Ranges.{in_range}
 use Rattle.ss_values.specs.Conditions.{holds}
 
 -- ---- open loops
+
+-- what an open loop goes through: numbers in a direction up to the last one, each a step further than the one before;
+-- or the members of the list of a set, by its number, for the owner that a value names
+pub data Walk : Type 0 where
+  Numbers : Direction → ℤ → ℤ → Walk
+  Members : Direction → ℕ → ℤ → Walk
+
+-- an open loop
+pub record OpenLoop : Type 0 where
+  -- the place of its FOR phrase
+  pub phrase : ℕ
+  -- the candidate that comes next, if one is left
+  pub candidate : Option ℤ
+  -- what it goes through
+  pub walk : Walk
 
 -- the innermost one
 abbrev pub innermost : List OpenLoop → Option OpenLoop
@@ -143,6 +154,10 @@ loop_variable (Each class is_called x count) = x
 loop_variable (Walking d x r begin) = x
 
 -- ---- qualifiers
+
+-- what qualifiers say of a candidate: the next place follows, the candidate is passed over, the loop closes
+pub data Verdict : Type 0 where
+  Runs Passes Closes : Verdict
 
 -- a false WITH or a true UNLESS passes the candidate over; a false WHILE or a true UNTIL closes the loop; else the rest
 -- decides

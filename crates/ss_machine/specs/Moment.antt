@@ -1,30 +1,26 @@
 -- What a machine stands for, and its steps forward and back.
-use Rattle.std.specs.Prelude.{◌≡◌, ◌≢◌, ℕ, ◌+◌, ◌-◌, ◌<◌, ◌≤◌, ◌⊎◌, List, [], ◌∷◌, ◌++◌, length, map, drop, Bool, true, false, Option, Some, None}
-use Rattle.ss_journal.specs.Log.{Log, newest}
-use Rattle.ss_journal.specs.Undoing.{past, StepsLeadBack}
+use Rattle.std.specs.Prelude.{◌≡◌, ◌≢◌, ℕ, ◌+◌, ◌-◌, ◌<◌, ◌≤◌, ◌⊎◌, List, [], ◌∷◌, ◌++◌, length, map, drop, Bool, true}
+use Rattle.std.specs.Prelude.{false, Option, Some, None}
+use Rattle.ss_journal.specs.Log.{newest}
+use Rattle.ss_journal.specs.Undoing.{past}
 use Rattle.ss_program.specs.Program.{ProgramTable, spot_at}
-use Rattle.ss_program.specs.ProgramSound.{IsSound}
 use Rattle.ss_program.specs.declared.place.Place.{Place}
-use Rattle.ss_program.specs.declared.place.Place.TheVariants.{Assign, Making, Filing, Output, Control, Branch, Looping, Call, Timing, Read}
-use Rattle.ss_program.specs.declared.looping.Looping.{Looping as ALooping}
+use Rattle.ss_program.specs.declared.place.Place.TheVariants as places
+use Rattle.ss_program.specs.declared.looping.Looping.{Looping}
 use Rattle.ss_program.specs.declared.looping.Looping.TheVariants.{For, Loop, Find, Gather, Tell}
-use Rattle.ss_program.specs.declared.timing.Timing.{Timing as ATiming}
+use Rattle.ss_program.specs.declared.timing.Timing.{Timing}
 use Rattle.ss_program.specs.declared.timing.Timing.TheVariants.{Schedule, Cancel, Start}
 use Rattle.ss_program.specs.declared.ways.Ways.{Ways}
 use Rattle.ss_program.specs.declared.place.Spot.{Spot}
-use Rattle.ss_store.specs.Tables.{tables_of}
-use Rattle.ss_events.specs.Rules.{rules_of}
-use Rattle.ss_machine.specs.declared.change.Change.{Change}
 use Rattle.ss_machine.specs.declared.limits.TheConstants.{LAST_POSITION}
 use Rattle.ss_machine.specs.declared.status.Status.TheVariants.{Ready}
 use Rattle.ss_machine.specs.declared.stepped.Stepped.{Stepped}
 use Rattle.ss_machine.specs.declared.stepped.Stepped.TheVariants.{Moved, AtEnd}
 use Rattle.ss_machine.specs.State.{State, FrameState}
 use Rattle.ss_machine.specs.Held.{Beside, Held}
-use Rattle.ss_machine.specs.Well.{AreItemsInRange}
-use Rattle.ss_machine.specs.Change.{unapply, Fits}
+use Rattle.ss_machine.specs.Change.{Change, unapply}
 use Rattle.ss_machine.specs.Step.{step, ways_here}
-use Rattle.ss_machine.specs.Run.{Input, run}
+use Rattle.ss_machine.specs.Run.{Input}
 
 -- what a machine stands for: a state of a run, and the way back from it
 pub record Moment : Type 0 where
@@ -44,12 +40,12 @@ abbrev pub held_of : Moment → Held
 held_of m = record { state = m.state; beside = m.beside }
 
 -- how many steps are kept
-abbrev pub kept : Moment → ℕ
-kept m = length m.steps
+abbrev pub steps_kept : Moment → ℕ
+steps_kept m = length m.steps
 
 -- the number of the state in the run: the steps that are forgotten count
 abbrev pub position : Moment → ℕ
-position m = m.forgotten + kept m
+position m = m.forgotten + steps_kept m
 
 -- the states before this one to which the kept steps lead back, the earliest first
 abbrev pub past_of : Moment → List State
@@ -57,7 +53,7 @@ past_of m = map (λ h. h.state) (past unapply (held_of m) m.steps)
 
 -- how many targets a CALL has
 abbrev pub call_targets : Place → ℕ
-call_targets (Call c) = length c.targets
+call_targets (places.Call c) = length c.targets
 call_targets other = 0
 
 -- the same of the place that stands there, if one does
@@ -76,7 +72,7 @@ yield_count p (f ∷ fs) = call_targets_by (spot_at p f.section f.place)
 
 -- the most changes that LOOP, FIND, COMPUTE and a FOR phrase note, with these ways: FIND one for each loop that it
 -- closes
-abbrev pub most_looping_changes : Ways → ALooping → ℕ
+abbrev pub most_looping_changes : Ways → Looping → ℕ
 most_looping_changes w (For f) = 4
 most_looping_changes w Loop = 1
 most_looping_changes w Find = 2 + w.chain
@@ -85,23 +81,23 @@ most_looping_changes w (Tell ts) = 1 + length ts
 
 -- the most changes that SCHEDULE, CANCEL and START SIMULATION note: SCHEDULE one for each argument, which are at most
 -- 32
-abbrev pub most_timing_changes : ATiming → ℕ
+abbrev pub most_timing_changes : Timing → ℕ
 most_timing_changes (Schedule s) = 4 + length s.arguments
 most_timing_changes (Cancel c is_called e) = 2
 most_timing_changes Start = 6
 
 -- the most changes that the step of a place notes, with these ways: RETURN and END one for each value that comes back
 abbrev pub most_changes : ProgramTable → State → Ways → Place → ℕ
-most_changes p s w (Assign a) = 2
-most_changes p s w (Making m) = 3
-most_changes p s w (Filing f) = 3
-most_changes p s w (Output o) = 2
-most_changes p s w (Control c) = 3 + yield_count p s.below
-most_changes p s w (Branch b) = 1
-most_changes p s w (Looping l) = most_looping_changes w l
-most_changes p s w (Call c) = 1
-most_changes p s w (Timing x) = most_timing_changes x
-most_changes p s w (Read ts) = 2 + length ts
+most_changes p s w (places.Assign a) = 2
+most_changes p s w (places.Making m) = 3
+most_changes p s w (places.Filing f) = 3
+most_changes p s w (places.Output o) = 2
+most_changes p s w (places.Control c) = 3 + yield_count p s.below
+most_changes p s w (places.Branch b) = 1
+most_changes p s w (places.Looping l) = most_looping_changes w l
+most_changes p s w (places.Call c) = 1
+most_changes p s w (places.Timing x) = most_timing_changes x
+most_changes p s w (places.Read ts) = 2 + length ts
 
 -- the same of the place that stands there, if one does
 abbrev pub most_changes_by : ProgramTable → State → Option Spot → ℕ
@@ -114,13 +110,13 @@ change_bound p s = most_changes_by p s (spot_at p s.frame.section s.frame.place)
 
 -- how many targets the statement at a place has; those of the CALL to which RETURN and END go back are theirs
 abbrev pub targets_at : ProgramTable → State → Place → ℕ
-targets_at p s (Assign a) = 1
-targets_at p s (Making m) = 1
-targets_at p s (Filing f) = 1
-targets_at p s (Control c) = yield_count p s.below
-targets_at p s (Looping (Tell ts)) = length ts
-targets_at p s (Call c) = length c.targets
-targets_at p s (Read ts) = length ts
+targets_at p s (places.Assign a) = 1
+targets_at p s (places.Making m) = 1
+targets_at p s (places.Filing f) = 1
+targets_at p s (places.Control c) = yield_count p s.below
+targets_at p s (places.Looping (Tell ts)) = length ts
+targets_at p s (places.Call c) = length c.targets
+targets_at p s (places.Read ts) = length ts
 targets_at p s other = 0
 
 -- the same of the place that stands there, if one does
@@ -185,29 +181,6 @@ pub record HasForgotten (n : ℕ) (old new : Moment) : Type 0 where
   -- and its number
   pub position : position new ≡ position old
   -- of the past the last n states are left, or all where there are fewer
-  pub past : past_of new ≡ drop (kept old - n) (past_of old)
+  pub past : past_of new ≡ drop (steps_kept old - n) (past_of old)
   -- the newest n steps are kept
   pub steps : new.steps ≡ newest n old.steps
-
--- changes that fit and lead back through the states of a run, the first of them to its state number a
-abbrev pub LeadsBack : Input → ℕ → List (List Change) → Held → Type 0
-LeadsBack i a steps h = StepsLeadBack Fits unapply (λ g. g.state) (λ k. run i (a + k)) steps h
-
--- what every machine keeps
-pub record Stands (i : Input) (forgotten : ℕ) (h : Held) (j : Log Change) : Type 0 where
-  -- the program is sound
-  pub sound : IsSound i.program
-  -- the numbers of its data are in range
-  pub items : AreItemsInRange i.items
-  -- no step is open
-  pub closed : j.current ≡ []
-  -- the state is the run's with the machine's position
-  pub here : h.state ≡ run i (forgotten + length j.steps)
-  -- which is not past the last one
-  pub within : forgotten + length j.steps ≤ LAST_POSITION
-  -- beside the state stand the tables of the program's classes and sets
-  pub tables : h.beside.tables ≡ tables_of i.program
-  -- and the order of its notices
-  pub rules : h.beside.rules ≡ rules_of i.program
-  -- the kept changes fit, and lead back through the states of the run
-  pub kept : LeadsBack i forgotten j.steps h

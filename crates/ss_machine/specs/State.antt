@@ -1,5 +1,6 @@
 -- The state of a run.
-use Rattle.std.specs.Prelude.{ℕ, ℤ, pos, ◌-◌, ◌==◌, if◌then◌else◌, Bool, true, false, List, [], ◌++◌, length, replicate, slice_get}
+use Rattle.std.specs.Prelude.{ℕ, ℤ, pos, ◌-◌, ◌==◌, if◌then◌else◌, Bool, true, false, List, [], ◌++◌, length, replicate}
+use Rattle.std.specs.Prelude.{slice_get}
 use Rattle.ss_program.specs.Program.{ProgramTable, locals_of}
 use Rattle.ss_data.specs.Items.{DataRead}
 use Rattle.ss_store.specs.Store.{Store}
@@ -8,8 +9,18 @@ use Rattle.ss_machine.specs.declared.entry.Entry.{Entry}
 use Rattle.ss_machine.specs.declared.entry.Entry.TheVariants.{Absent, Waiting, Running}
 use Rattle.ss_machine.specs.declared.status.Status.{Status}
 use Rattle.ss_machine.specs.declared.status.Status.TheVariants.{Ready, Stopped, Finished, Faulted}
-use Rattle.ss_machine.specs.declared.statistics.Statistics.{Statistics}
-use Rattle.ss_machine.specs.declared.loops.OpenLoop.{OpenLoop}
+use Rattle.ss_machine.specs.Loops.{OpenLoop}
+
+-- what COMPUTE has gathered; all 0 over no case
+pub record Statistics : Type 0 where
+  -- how many values there were
+  pub number : ℤ
+  -- their sum
+  pub sum : ℤ
+  -- the greatest of them
+  pub greatest : ℤ
+  -- the least of them
+  pub least : ℤ
 
 -- a frame: a section that has begun and not ended
 pub record FrameState : Type 0 where
@@ -48,10 +59,6 @@ pub record State : Type 0 where
   pub status : Status
   -- the entry of an external event
   pub entry : Entry
-
--- the most frames below the last one
-abbrev pub most_below : ℕ
-most_below = 199
 
 -- the statistics over no case
 abbrev pub no_statistics : Statistics

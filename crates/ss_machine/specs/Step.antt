@@ -1,60 +1,66 @@
 -- One step of the language, by the kind of place: values first, from the left; a fault changes the status alone.
-use Rattle.std.specs.Prelude.{ℕ, ℤ, pos, ◌+◌, ◌+ℤ◌, ◌-ℤ◌, int_lt, unsigned_abs, ◌&&◌, ◌||◌, nat_le, nat_lt, Bool, true, false, not, if◌then◌else◌, List, [], ◌∷◌, ◌++◌, length, map, position, replicate, drop, Option, Some, None, Result, Ok, Err, slice_get, slice_set, slice_index_or}
+use Rattle.std.specs.Prelude.{ℕ, ℤ, pos, ◌+◌, ◌+ℤ◌, ◌-ℤ◌, int_lt, unsigned_abs, ◌&&◌, ◌||◌, nat_le, nat_lt, Bool, true}
+use Rattle.std.specs.Prelude.{false, not, if◌then◌else◌, List, [], ◌∷◌, ◌++◌, length, map, position, replicate, drop}
+use Rattle.std.specs.Prelude.{Option, Some, None, Result, Ok, Err, slice_get, slice_set, slice_index_or}
 use Rattle.std.specs.Int.{int_min, int_max}
 use Rattle.std.specs.List.{range_with_len}
+use Rattle.ss_words.specs.declared.characters.TheConstants.{LINE_FEED}
 use Rattle.ss_words.specs.declared.fault.RunFault.{RunFault}
-use Rattle.ss_words.specs.declared.fault.RunFault.TheVariants.{NoEntity, EndedInUse, TimeBeforeClock, NotScheduled, NotExternal, OutsideEntry, CountOutOfRange, ReportFull, TooManyFrames}
+use Rattle.ss_words.specs.declared.fault.RunFault.TheVariants.{NoEntity, EndedInUse, TimeBeforeClock, NotScheduled}
+use Rattle.ss_words.specs.declared.fault.RunFault.TheVariants.{NotExternal, OutsideEntry, CountOutOfRange, ReportFull}
+use Rattle.ss_words.specs.declared.fault.RunFault.TheVariants.{TooManyFrames}
 use Rattle.ss_report.specs.Pictures.{picture_text}
 use Rattle.ss_report.specs.declared.limits.TheConstants.{LONGEST_REPORT}
 use Rattle.ss_program.specs.declared.target.SetRef.{SetRef}
 use Rattle.ss_program.specs.declared.target.Target.{Target}
-use Rattle.ss_program.specs.declared.target.Target.TheVariants.{Variable, Attribute}
-use Rattle.ss_program.specs.declared.making.Making.{Making as AMaking}
+use Rattle.ss_program.specs.declared.target.Target.TheVariants as targets
+use Rattle.ss_program.specs.declared.making.Making.{Making}
 use Rattle.ss_program.specs.declared.making.Making.TheVariants.{Create, CreateEvery, Destroy}
 use Rattle.ss_words.specs.declared.terms.SetEnd.{SetEnd}
 use Rattle.ss_words.specs.declared.terms.SetEnd.TheVariants as ends
 use Rattle.ss_program.specs.declared.filing.Position.{Position}
 use Rattle.ss_program.specs.declared.filing.Position.TheVariants.{ByRule, AtEnd, Before, After}
-use Rattle.ss_program.specs.declared.filing.Filing.{Filing as AFiling}
+use Rattle.ss_program.specs.declared.filing.Filing.{Filing}
 use Rattle.ss_program.specs.declared.filing.Filing.TheVariants.{File, FileAt, RemoveAt, Remove}
-use Rattle.ss_program.specs.declared.variable.Variable.{Variable as AVariable}
+use Rattle.ss_program.specs.declared.variable.Variable.{Variable}
 use Rattle.ss_program.specs.declared.variable.Variable.TheVariants.{Global, Local, Clock}
-use Rattle.ss_program.specs.declared.place.Assign.{Assign as AnAssign}
+use Rattle.ss_program.specs.declared.place.Assign.{Assign}
 use Rattle.ss_program.specs.declared.place.Assign.TheVariants.{Let, Add, Subtract}
-use Rattle.ss_program.specs.declared.place.Output.{Output as AnOutput}
+use Rattle.ss_program.specs.declared.place.Output.{Output}
 use Rattle.ss_program.specs.declared.place.Output.TheVariants.{Print, Skip}
-use Rattle.ss_program.specs.declared.place.Control.{Control as AControl}
+use Rattle.ss_program.specs.declared.place.Control.{Control}
 use Rattle.ss_program.specs.declared.place.Control.TheVariants.{Stop, Return, End}
 use Rattle.ss_program.specs.declared.branch.Question.{Question}
 use Rattle.ss_program.specs.declared.branch.Question.TheVariants.{Whether, WasFound, WasNone}
-use Rattle.ss_program.specs.declared.branch.Branch.{Branch as ABranch}
+use Rattle.ss_program.specs.declared.branch.Branch.{Branch}
 use Rattle.ss_program.specs.declared.branch.Branch.TheVariants.{If, Else, Always}
 use Rattle.ss_program.specs.declared.looping.ForPhrase.{ForPhrase}
 use Rattle.ss_words.specs.declared.terms.Statistic.{Statistic}
 use Rattle.ss_words.specs.declared.terms.Statistic.TheVariants.{Number, Sum, Maximum, Minimum}
 use Rattle.ss_program.specs.declared.looping.Telling.{Telling}
-use Rattle.ss_program.specs.declared.looping.Looping.{Looping as ALooping}
+use Rattle.ss_program.specs.declared.looping.Looping.{Looping}
 use Rattle.ss_program.specs.declared.looping.Looping.TheVariants.{For, Loop, Find, Gather, Tell}
-use Rattle.ss_program.specs.declared.call.Call.{Call as ACall}
+use Rattle.ss_program.specs.declared.call.Call.{Call}
 use Rattle.ss_program.specs.declared.timing.Notice.{Notice}
 use Rattle.ss_program.specs.declared.timing.Notice.TheVariants.{New, Known}
 use Rattle.ss_program.specs.declared.timing.Listing.{Listing}
 use Rattle.ss_program.specs.declared.timing.Listing.TheVariants.{InParentheses, Given}
 use Rattle.ss_program.specs.declared.timing.When.{When}
 use Rattle.ss_program.specs.declared.timing.When.TheVariants.{At, Now, In}
-use Rattle.ss_program.specs.declared.timing.Schedule.{Schedule as ASchedule}
-use Rattle.ss_program.specs.declared.timing.Timing.{Timing as ATiming}
-use Rattle.ss_program.specs.declared.timing.Timing.TheVariants.{Schedule, Cancel, Start}
+use Rattle.ss_program.specs.declared.timing.Schedule.{Schedule}
+use Rattle.ss_program.specs.declared.timing.Timing.{Timing}
+use Rattle.ss_program.specs.declared.timing.Timing.TheVariants as timings
 use Rattle.ss_program.specs.declared.ways.Resets.{Resets}
 use Rattle.ss_program.specs.declared.ways.Resets.TheVariants as resets
 use Rattle.ss_program.specs.declared.ways.Ways.{Ways}
 use Rattle.ss_program.specs.declared.kinds.SectionKind.{SectionKind}
 use Rattle.ss_program.specs.declared.kinds.SectionKind.TheVariants as kinds
 use Rattle.ss_program.specs.declared.place.Place.{Place}
-use Rattle.ss_program.specs.declared.place.Place.TheVariants.{Assign, Making, Filing, Output, Control, Branch, Looping, Call, Timing, Read}
+use Rattle.ss_program.specs.declared.place.Place.TheVariants as places
 use Rattle.ss_program.specs.declared.place.Spot.{Spot}
 use Rattle.ss_program.specs.Program as program
-use Rattle.ss_program.specs.Program.{ProgramTable, places_of, section_of, event_of, event_of_kind, has_external, spot_at}
+use Rattle.ss_program.specs.Program.{ProgramTable, places_of, section_of, event_of, event_of_kind, has_external}
+use Rattle.ss_program.specs.Program.{spot_at}
 use Rattle.ss_program.specs.ProgramExpr.{Expr}
 use Rattle.ss_program.specs.Match.{ways_of}
 use Rattle.ss_data.specs.Items.{Item, with_taken, value_or_fault}
@@ -66,23 +72,24 @@ use Rattle.ss_store.specs.declared.shape.How.TheVariants as how
 use Rattle.ss_store.specs.declared.shape.Which.{Which}
 use Rattle.ss_store.specs.declared.shape.Which.TheVariants as which
 use Rattle.ss_store.specs.Tables.{Tables, tables_of, class_of, set_of}
-use Rattle.ss_store.specs.Store.{Store, number_of, exists, attribute_of, last_reference, with_attribute, with_new, with_class, without_entity}
+use Rattle.ss_store.specs.Store.{Store, number_of, exists, attribute_of, last_reference, with_attribute, with_new}
+use Rattle.ss_store.specs.Store.{with_class, without_entity}
 use Rattle.ss_store.specs.Filing.{after_filing, after_removing}
 use Rattle.ss_events.specs.Rules.{rules_of}
 use Rattle.ss_events.specs.Agenda.{Pending, Agenda, is_pending, least, may_schedule, agenda_after_scheduling, agenda_after_taking}
 use Rattle.ss_machine.specs.declared.entry.Entry.{Entry}
 use Rattle.ss_machine.specs.declared.entry.Entry.TheVariants.{Absent, Waiting, Running}
 use Rattle.ss_machine.specs.declared.status.Status.TheVariants.{Stopped, Finished, Faulted}
-use Rattle.ss_machine.specs.declared.statistics.Statistics.{Statistics}
-use Rattle.ss_machine.specs.declared.loops.OpenLoop.{OpenLoop}
-use Rattle.ss_machine.specs.declared.verdict.Verdict.{Verdict}
-use Rattle.ss_machine.specs.declared.verdict.Verdict.TheVariants.{Runs, Passes, Closes}
-use Rattle.ss_machine.specs.State.{State, FrameState, most_below, no_statistics, new_frame, is_absent, is_waiting, waits_for, entry_at_start}
+use Rattle.ss_machine.specs.declared.limits.TheConstants.{MOST_BELOW, MOST_SKIPPED_LINES}
+use Rattle.ss_machine.specs.State.{State, FrameState, Statistics, no_statistics, new_frame, is_absent, is_waiting}
+use Rattle.ss_machine.specs.State.{waits_for, entry_at_start}
 use Rattle.ss_values.specs.Faults.{◌>>=◌, ◌>>◌, refuse_if}
-use Rattle.ss_values.specs.Values.{Readings, result_in_range, variable_value, value_of, values_of, subscript_value, assigned_value, number_value}
+use Rattle.ss_values.specs.Values.{Readings, result_in_range, variable_value, value_of, values_of, subscript_value}
+use Rattle.ss_values.specs.Values.{assigned_value, number_value}
 use Rattle.ss_machine.specs.Readings.{readings}
 use Rattle.ss_values.specs.Conditions.{holds}
-use Rattle.ss_machine.specs.Loops.{innermost, loops_with_candidate, loop_of_phrase, next_candidate, loop_at_entry, loop_variable, verdict_of}
+use Rattle.ss_machine.specs.Loops.{OpenLoop, Verdict, Runs, Passes, Closes, innermost, loops_with_candidate}
+use Rattle.ss_machine.specs.Loops.{loop_of_phrase, next_candidate, loop_at_entry, loop_variable, verdict_of}
 
 -- the state that follows from what was got; a fault changes the status alone
 abbrev pub state_after_result : {A : Type 0} → State → Result A RunFault → (A → State) → State
@@ -94,10 +101,11 @@ abbrev pub state_at_place : ℕ → State → State
 state_at_place place s = record s { frame = record s.frame { place = place } }
 
 -- the state in which a variable has a new value
-abbrev pub state_after_assignment : State → AVariable → ℤ → State
+abbrev pub state_after_assignment : State → Variable → ℤ → State
 state_after_assignment s (Global i) x = record s { variables = slice_set s.variables i x }
 state_after_assignment s (Local i) x =
     record s { frame = record s.frame { locals = slice_set s.frame.locals i x } }
+-- never met: no statement assigns to the clock
 state_after_assignment s Clock x = s
 
 -- where the place of the last frame goes on, counted in its section
@@ -110,25 +118,25 @@ state_with_store s st = record s { store = st }
 
 -- the state in which a target has a new value; F3 where the attribute's entity does not exist
 abbrev pub state_with_value : Tables → State → Target → ℤ → Result State RunFault
-state_with_value t s (Variable x) z = Ok (state_after_assignment s x z)
-state_with_value t s (Attribute c a i) z =
+state_with_value t s (targets.Variable x) z = Ok (state_after_assignment s x z)
+state_with_value t s (targets.Attribute c a i) z =
     subscript_value (readings t s) i >>= λ x.
     with_attribute s.store c a (number_of x) z >>= λ st. Ok (state_with_store s st)
 
 -- ---- assignments and PRINT; `next` is the place where each goes on
 
 -- where LET, ADD and SUBTRACT assign
-abbrev pub target_of : AnAssign → Target
+abbrev pub target_of : Assign → Target
 target_of (Let written target value) = target
 target_of (Add value target) = target
 target_of (Subtract value target) = target
 
 -- the state in which they have assigned it
-abbrev pub state_after_assign : Tables → State → AnAssign → Result State RunFault
+abbrev pub state_after_assign : Tables → State → Assign → Result State RunFault
 state_after_assign t s a = assigned_value (readings t s) a >>= state_with_value t s (target_of a)
 
 -- one step of an assignment
-abbrev pub step_assign : Tables → State → ℕ → AnAssign → State
+abbrev pub step_assign : Tables → State → ℕ → Assign → State
 step_assign t s next a = state_after_result s (state_after_assign t s a) (state_at_place next)
 
 -- the report with a text behind it, or F19 where it would be too long
@@ -142,14 +150,10 @@ state_after_print t s next values picture =
     state_after_result s (values_of (readings t s) values >>= λ xs. longer_report s.report (picture_text picture xs))
     (λ report. state_at_place next (record s { report = report }))
 
--- the most lines that one SKIP appends
-abbrev pub skip_limit : ℕ
-skip_limit = 1000
-
 -- how many lines a value asks for, or F13
 abbrev pub line_count : ℤ → Result ℕ RunFault
 line_count n =
-    refuse_if (int_lt n (pos 0) || int_lt (pos skip_limit) n) CountOutOfRange >> Ok (unsigned_abs n)
+    refuse_if (int_lt n (pos 0) || int_lt MOST_SKIPPED_LINES n) CountOutOfRange >> Ok (unsigned_abs n)
 
 -- how many lines the value of an expression asks for
 abbrev pub lines_asked : Readings → Expr → Result ℕ RunFault
@@ -158,11 +162,11 @@ lines_asked v e = value_of v e >>= line_count
 -- the state after a SKIP, which appends as many line feeds
 abbrev pub state_after_skip : State → ℕ → Result ℕ RunFault → State
 state_after_skip s next count =
-    state_after_result s (count >>= λ n. longer_report s.report (replicate n 10))
+    state_after_result s (count >>= λ n. longer_report s.report (replicate n LINE_FEED))
     (λ report. state_at_place next (record s { report = report }))
 
 -- one step of what appends to the report
-abbrev pub step_output : Tables → State → ℕ → AnOutput → State
+abbrev pub step_output : Tables → State → ℕ → Output → State
 step_output t s next (Print count values picture) = state_after_print t s next values picture
 step_output t s next (Skip e) = state_after_skip s next (lines_asked (readings t s) e)
 
@@ -223,8 +227,8 @@ state_after_create_every t s c count n =
     with_class s.store c (class_of t c) n >>= λ st. Ok (state_after_assignment (state_with_store s st) (Global count) n)
 
 -- the number of the entity of class c that a value names, or F3
-abbrev pub existing : Store → ℕ → ℤ → Result ℕ RunFault
-existing st c x = refuse_if (not (exists st c (number_of x))) NoEntity >> Ok (number_of x)
+abbrev pub entity_named : Store → ℕ → ℤ → Result ℕ RunFault
+entity_named st c x = refuse_if (not (exists st c (number_of x))) NoEntity >> Ok (number_of x)
 
 -- the store without entity number k of class c; F7 where it is a pending notice, too
 abbrev pub store_without : Tables → State → ℕ → ℕ → Result Store RunFault
@@ -233,17 +237,17 @@ store_without t s c k = refuse_if (is_pending s.agenda k) EndedInUse >> without_
 -- the state after DESTROY of the entity that a value names
 abbrev pub state_after_destroy : Tables → State → ℕ → Expr → Result State RunFault
 state_after_destroy t s c e =
-    value_of (readings t s) e >>= existing s.store c >>= store_without t s c >>= λ st. Ok (state_with_store s st)
+    value_of (readings t s) e >>= entity_named s.store c >>= store_without t s c >>= λ st. Ok (state_with_store s st)
 
 -- what a statement makes of the state that makes or ends entities
-abbrev pub state_after_making : Tables → State → AMaking → Result State RunFault
+abbrev pub state_after_making : Tables → State → Making → Result State RunFault
 state_after_making t s (Create c is_called target) = state_after_create t s c target
 state_after_making t s (CreateEvery c e count) =
     number_asked (readings t s) e count >>= state_after_create_every t s c count
 state_after_making t s (Destroy c is_called e) = state_after_destroy t s c e
 
 -- one step of it
-abbrev pub step_making : Tables → State → ℕ → AMaking → State
+abbrev pub step_making : Tables → State → ℕ → Making → State
 step_making t s next m = state_after_result s (state_after_making t s m) (state_at_place next)
 
 -- an end of a list, as FILE names it
@@ -283,7 +287,7 @@ state_after_remove t s r x =
     >>= λ o. after_removing (set_of t r.set) s.store (number_of o) (which.Member x) >>= λ k. Ok (state_with_store s k.1)
 
 -- what a statement makes of the state that files or removes: its values from the left, then the deed
-abbrev pub state_after_filing : Tables → State → AFiling → Result State RunFault
+abbrev pub state_after_filing : Tables → State → Filing → Result State RunFault
 state_after_filing t s (File e position r) =
     value_of (readings t s) e >>= λ x. how_asked (readings t s) position >>= λ h. state_after_file t s r x h
 state_after_filing t s (FileAt end e r) = value_of (readings t s) e >>= λ x. state_after_file t s r x (how_at end)
@@ -291,7 +295,7 @@ state_after_filing t s (RemoveAt end target r) = state_after_remove_end t s r en
 state_after_filing t s (Remove e r) = value_of (readings t s) e >>= λ x. state_after_remove t s r x
 
 -- one step of it
-abbrev pub step_filing : Tables → State → ℕ → AFiling → State
+abbrev pub step_filing : Tables → State → ℕ → Filing → State
 step_filing t s next f = state_after_result s (state_after_filing t s f) (state_at_place next)
 
 -- ---- IF, ELSE and ALWAYS
@@ -303,7 +307,7 @@ question_answer t s WasFound = Ok s.frame.found
 question_answer t s WasNone = Ok (not s.frame.found)
 
 -- a true IF goes on to the next place, a false one behind its ELSE, or to its ALWAYS; ELSE goes on to its ALWAYS
-abbrev pub step_branch : Tables → State → Ways → ABranch → State
+abbrev pub step_branch : Tables → State → Ways → Branch → State
 step_branch t s w (If q) =
     state_after_result s (question_answer t s q) (λ b. state_at_place (if b then w.next else w.exit) s)
 step_branch t s w Else = state_at_place w.next s
@@ -407,7 +411,7 @@ state_after_telling t g s (x ∷ xs) =
     state_with_value t s x.target (statistic_value g x.statistic) >>= λ r. state_after_telling t g r xs
 
 -- one step of LOOP, FIND and the two places of COMPUTE: LOOP goes on to its phrase, FIND closes the loops of its chain
-abbrev pub step_looping : Tables → State → Ways → ALooping → State
+abbrev pub step_looping : Tables → State → Ways → Looping → State
 step_looping t s w (For f) = step_phrase t s w f
 step_looping t s w Loop = state_at_place w.next s
 step_looping t s w Find =
@@ -422,27 +426,35 @@ step_looping t s w (Tell xs) =
 
 -- F18 where there are 200 frames
 abbrev pub room_for_frame : List FrameState → List ℤ → Result (List ℤ) RunFault
-room_for_frame below xs = if nat_lt (length below) most_below then Ok xs else Err TooManyFrames
+room_for_frame below xs = if nat_lt (length below) MOST_BELOW then Ok xs else Err TooManyFrames
+
+-- the state in which the frame of a section is the last one, with these values in its first locals
+abbrev pub state_with_frame : ProgramTable → State → ℕ → List ℤ → State
+state_with_frame p s section xs = record s { frame = new_frame p section xs; below = s.frame ∷ s.below }
 
 -- one step of a CALL, which opens a frame
-abbrev pub step_call : ProgramTable → State → ACall → State
+abbrev pub step_call : ProgramTable → State → Call → State
 step_call p s c =
     state_after_result s (values_of (readings (tables_of p) s) c.given >>= room_for_frame s.below)
-    (λ xs. record s { frame = new_frame p c.section xs; below = s.frame ∷ s.below })
+    (state_with_frame p s c.section)
 
 -- the state behind a CALL, which goes on at `next`, to which these locals came back
 abbrev pub state_behind_call : Tables → List ℤ → ℕ → ℕ → State → Place → Result State RunFault
-state_behind_call t vs k next s (Call c) = state_with_values t vs s k c.targets >>= λ r. Ok (state_at_place next r)
+state_behind_call t vs k next s (places.Call c) =
+    state_with_values t vs s k c.targets >>= λ r. Ok (state_at_place next r)
+-- never met: a routine's frame stands on a CALL
 state_behind_call t vs k next s other = Ok s
 
 -- the same by the place where the frame stands
 abbrev pub state_behind_place : ProgramTable → List ℤ → ℕ → State → Option Spot → Result State RunFault
 state_behind_place p vs k s (Some spot) =
     state_behind_call (tables_of p) vs k (ways_here p s spot.place).next s spot.place
+-- never met: each frame stands at a place
 state_behind_place p vs k s None = Ok s
 
 -- the state after a routine's frame is dropped and what it yields is assigned: its locals behind those that were given
 abbrev pub state_after_return : ProgramTable → State → List FrameState → State
+-- never met: a routine's frame stands on another
 state_after_return p s [] = s
 state_after_return p s (f ∷ fs) =
     state_after_result s (state_behind_place p s.frame.locals (section_of p s.frame.section).given
@@ -461,6 +473,7 @@ state_without_entry s (Running c k) = state_behind_mark s (place_behind_mark s.f
 
 -- the state after an event's frame is dropped; MAIN stands where it stood
 abbrev pub state_after_event : State → List FrameState → State
+-- never met: an event's frame stands on MAIN's
 state_after_event s [] = s
 state_after_event s (f ∷ fs) =
     state_after_result s (state_without_entry s s.entry) (λ r. record r { frame = f; below = fs })
@@ -472,7 +485,7 @@ state_after_section p s kinds.Routine = state_after_return p s s.below
 state_after_section p s kinds.Event = state_after_event s s.below
 
 -- one step of STOP, RETURN and END
-abbrev pub step_control : ProgramTable → State → AControl → State
+abbrev pub step_control : ProgramTable → State → Control → State
 step_control p s Stop = record s { status = Stopped }
 step_control p s Return = state_after_section p s (section_of p s.frame.section).kind
 step_control p s End = state_after_section p s (section_of p s.frame.section).kind
@@ -537,10 +550,10 @@ state_after_new p s c target time xs =
 abbrev pub state_after_notice : ProgramTable → State → ℕ → Notice → ℤ → ℤ → List ℤ → Result State RunFault
 state_after_notice p s c (New is_called target) x time xs = state_after_new p s c target time xs
 state_after_notice p s c (Known is_called e) x time xs =
-    existing s.store c x >>= λ k. state_after_scheduling p s c k time xs
+    entity_named s.store c x >>= λ k. state_after_scheduling p s c k time xs
 
 -- the state after SCHEDULE: what names the notice and the arguments, then the time, then the deed
-abbrev pub state_after_schedule : ProgramTable → State → ASchedule → Result State RunFault
+abbrev pub state_after_schedule : ProgramTable → State → Schedule → Result State RunFault
 state_after_schedule p s x =
     arguments_asked (readings (tables_of p) s) x.notice x.arguments x.listing
     >>= λ a. time_asked (readings (tables_of p) s) x.when
@@ -554,7 +567,7 @@ agenda_without s k =
 -- the state after CANCEL of the notice that a value names
 abbrev pub state_after_cancel : Tables → State → ℕ → Expr → Result State RunFault
 state_after_cancel t s c e =
-    value_of (readings t s) e >>= existing s.store c >>= agenda_without s >>= λ a. Ok (state_with_agenda s a)
+    value_of (readings t s) e >>= entity_named s.store c >>= agenda_without s >>= λ a. Ok (state_with_agenda s a)
 
 -- ---- the timing routine
 
@@ -575,10 +588,6 @@ state_at_time s k time st = record s {
   agenda = agenda_after_taking s.agenda k;
   entry = entry_at_start k s.entry;
 }
-
--- the state in which the frame of a section is the last one, with these values in its first locals
-abbrev pub state_with_frame : ProgramTable → State → ℕ → List ℤ → State
-state_with_frame p s section xs = record s { frame = new_frame p section xs; below = s.frame ∷ s.below }
 
 -- the state after the start of the event of notice k of class c at a time: the class's variable has its reference, and
 -- the parameters have its first attributes
@@ -632,30 +641,31 @@ step_start p s next =
     else step_simulation p s next (least (rules_of p) s.agenda.pending)
 
 -- one step of what schedules notices, takes them off, and starts events
-abbrev pub step_timing : ProgramTable → State → ℕ → ATiming → State
-step_timing p s next (Schedule x) = state_after_result s (state_after_schedule p s x) (state_at_place next)
-step_timing p s next (Cancel c is_called e) =
+abbrev pub step_timing : ProgramTable → State → ℕ → Timing → State
+step_timing p s next (timings.Schedule x) = state_after_result s (state_after_schedule p s x) (state_at_place next)
+step_timing p s next (timings.Cancel c is_called e) =
     state_after_result s (state_after_cancel (tables_of p) s c e) (state_at_place next)
-step_timing p s next Start = step_start p s next
+step_timing p s next timings.Start = step_start p s next
 
 -- ---- all places
 
 -- one step of a place with these ways, by its kind
 abbrev pub step_at : ProgramTable → State → Ways → Place → State
-step_at p s w (Assign a) = step_assign (tables_of p) s w.next a
-step_at p s w (Making m) = step_making (tables_of p) s w.next m
-step_at p s w (Filing f) = step_filing (tables_of p) s w.next f
-step_at p s w (Output o) = step_output (tables_of p) s w.next o
-step_at p s w (Control c) = step_control p s c
-step_at p s w (Branch b) = step_branch (tables_of p) s w b
-step_at p s w (Looping l) = step_looping (tables_of p) s w l
-step_at p s w (Call c) = step_call p s c
-step_at p s w (Timing x) = step_timing p s w.next x
-step_at p s w (Read ts) = step_read p s w.next ts
+step_at p s w (places.Assign a) = step_assign (tables_of p) s w.next a
+step_at p s w (places.Making m) = step_making (tables_of p) s w.next m
+step_at p s w (places.Filing f) = step_filing (tables_of p) s w.next f
+step_at p s w (places.Output o) = step_output (tables_of p) s w.next o
+step_at p s w (places.Control c) = step_control p s c
+step_at p s w (places.Branch b) = step_branch (tables_of p) s w b
+step_at p s w (places.Looping l) = step_looping (tables_of p) s w l
+step_at p s w (places.Call c) = step_call p s c
+step_at p s w (places.Timing x) = step_timing p s w.next x
+step_at p s w (places.Read ts) = step_read p s w.next ts
 
 -- one step of the place that stands there, if one does
 abbrev pub step_by : ProgramTable → State → Option Spot → State
 step_by p s (Some spot) = step_at p s (ways_here p s spot.place) spot.place
+-- never met: each frame stands at a place
 step_by p s None = s
 
 -- one step of a ready state: that of the place where the last frame stands

@@ -6,6 +6,7 @@ use Rattle.ss_words.specs.declared.fault.StepFault.TheVariants.{Fault, Memory}
 use Rattle.ss_store.specs.Store.{Store, last_reference}
 use Rattle.ss_events.specs.Agenda.{Agenda}
 use Rattle.ss_machine.specs.declared.change.Change.{Change}
+use Rattle.ss_machine.specs.ChangeView.{as_change}
 use Rattle.ss_machine.specs.declared.status.Status.TheVariants.{Faulted}
 use Rattle.ss_machine.specs.Held.{Held}
 use Rattle.ss_machine.specs.Change.{unapply, Fits}
@@ -21,9 +22,9 @@ pub record LeavesStore (c : Change) (st : Store) (old new : Held) : Type 0 where
   -- so are the rules
   pub rules : new.beside.rules ≡ old.beside.rules
   -- the change fits
-  pub fits : Fits c new
+  pub fits : Fits (as_change c) new
   -- and leads back
-  pub back : unapply c new ≡ old
+  pub back : unapply (as_change c) new ≡ old
 
 -- a call that may fault; a fault changes nothing
 abbrev pub IsStoring : Result Change RunFault → Result Store RunFault → Held → Held → Type 0
@@ -67,9 +68,9 @@ pub record LeavesState (c : Change) (s : State) (old new : Held) : Type 0 where
   -- so are the rules
   pub rules : new.beside.rules ≡ old.beside.rules
   -- the change fits
-  pub fits : Fits c new
+  pub fits : Fits (as_change c) new
   -- and leads back
-  pub back : unapply c new ≡ old
+  pub back : unapply (as_change c) new ≡ old
 
 -- a fault was marked in a state; a want of memory is not
 abbrev pub IsMarked : StepFault → State → State → Type 0

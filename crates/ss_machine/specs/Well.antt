@@ -1,5 +1,6 @@
 -- A well-formed state.
-use Rattle.std.specs.Prelude.{◌≡◌, ℕ, ℤ, ◌<◌, ◌≤◌, List, [], ◌∷◌, length, slice_get, true, false, int_lt, is_some, Option, Some, None}
+use Rattle.std.specs.Prelude.{◌≡◌, ℕ, ℤ, ◌<◌, ◌≤◌, List, [], ◌∷◌, length, slice_get, true, false, int_lt, is_some}
+use Rattle.std.specs.Prelude.{Option, Some, None}
 use Rattle.ss_report.specs.declared.limits.TheConstants.{LONGEST_REPORT}
 use Rattle.ss_program.specs.declared.kinds.SectionKind.{SectionKind}
 use Rattle.ss_program.specs.declared.kinds.SectionKind.TheVariants.{Main, Routine, Event}
@@ -8,16 +9,16 @@ use Rattle.ss_program.specs.declared.place.Place.TheVariants.{Call, Timing}
 use Rattle.ss_program.specs.declared.timing.Timing.TheVariants.{Start}
 use Rattle.ss_program.specs.declared.place.Spot.{Spot}
 use Rattle.ss_program.specs.Nesting.{may_be_open}
-use Rattle.ss_program.specs.Program.{ProgramTable, places_of, locals_of, class_of, event_of, section_of, is_main, is_event, spot_at}
+use Rattle.ss_program.specs.Program.{ProgramTable, places_of, locals_of, class_of, event_of, section_of, is_main}
+use Rattle.ss_program.specs.Program.{is_event, spot_at}
 use Rattle.ss_data.specs.Items.{Item}
 use Rattle.ss_store.specs.Store.{Entity, Store, exists}
 use Rattle.ss_events.specs.Agenda.{Pending, pending_at}
 use Rattle.ss_machine.specs.declared.entry.Entry.{Entry}
 use Rattle.ss_machine.specs.declared.entry.Entry.TheVariants.{Absent, Waiting, Running}
-use Rattle.ss_machine.specs.declared.statistics.Statistics.{Statistics}
-use Rattle.ss_machine.specs.declared.loops.OpenLoop.{OpenLoop}
-use Rattle.ss_machine.specs.Loops.{AreSoundWalks}
-use Rattle.ss_machine.specs.State.{State, FrameState, most_below}
+use Rattle.ss_machine.specs.Loops.{OpenLoop, AreSoundWalks}
+use Rattle.ss_machine.specs.declared.limits.TheConstants.{MOST_BELOW}
+use Rattle.ss_machine.specs.State.{State, FrameState, Statistics}
 use Rattle.ss_words.specs.Ranges.{in_range}
 
 -- values are in range
@@ -182,7 +183,7 @@ pub record IsInBounds (p : ProgramTable) (s : State) : Type 0 where
   -- the first is MAIN's, and each other stands on the one below it
   pub stack : IsStack p s.frame.section s.below
   -- there are at most 200
-  pub few : length s.below ≤ most_below
+  pub few : length s.below ≤ MOST_BELOW
   -- the clock is in range
   pub clock : in_range s.clock ≡ true
   -- so are the attributes of all entities

@@ -1,9 +1,11 @@
-ghost use Rattle.std.specs.Prelude.{◌≡◌, ◌<◌, length, Ok};
-ghost use Rattle.ss_program.specs.ProgramSound.{IsSoundPhrase, IsSoundExpr, IsSoundSetRef, IsSoundOption, IsSoundBegin, AreSoundQualifiers};
+ghost use Rattle.std.specs.Prelude.{◌≡◌, ◌<◌, length, Ok, Err, IfOk, IfErr};
+ghost use Rattle.ss_program.specs.ProgramSound.{IsSoundPhrase, IsSoundExpr, IsSoundSetRef, IsSoundOption, IsSoundBegin};
+ghost use Rattle.ss_program.specs.ProgramSound.{AreSoundQualifiers};
 ghost use Rattle.ss_values.specs.Faults.{◌>>=◌ as and_then};
 ghost use Rattle.ss_values.specs.Values.{value_of, subscript_value};
 ghost use Rattle.ss_values.specs.Seen.{view_readings, InView};
 ghost use Rattle.ss_machine.specs.Loops as loops;
+ghost use Rattle.ss_machine.specs.View.{as_walk, as_verdict};
 
 use crate::loops::{OpenLoop, Walk};
 use crate::verdict::Verdict;
@@ -84,8 +86,8 @@ pub fn next_candidate<S: SetBoard>(
     walk: Walk,
     x: i64,
 ) -> Result<Option<i64>, RunFault>
-    requires { loops.IsSoundWalk (length view.store.now.tables.sets) walk }
-    ensures { result ≡ loops.next_candidate (view_readings view.entry) walk x }
+    requires { loops.IsSoundWalk (length view.store.now.tables.sets) (as_walk walk) }
+    ensures { result ≡ loops.next_candidate (view_readings view.entry) (as_walk walk) x }
 {
     match walk {
         Walk::Numbers {
@@ -148,7 +150,8 @@ fn candidate_at_begin<S: SetBoard>(
 ) -> Result<Option<i64>, RunFault>
     requires set { set < length view.store.now.tables.sets }
     requires sound { InView view IsSoundBegin begin.now }
-    ensures { result ≡ loops.candidate_at_begin (view_readings view.entry) direction set owner begin.now }
+    ensures { result
+        ≡ loops.candidate_at_begin (view_readings view.entry) direction set owner begin.now }
 {
     match begin {
         Begin::AtTheEnd => Ok(as_candidate(end_member(view, direction, set, owner)?)),
@@ -230,7 +233,8 @@ fn walking_loop<S: SetBoard>(
     requires begin { InView view IsSoundBegin begin.now }
     ensures { result
         ≡ and_then (subscript_value (view_readings view.entry) set.now.owner)
-        (λ o. and_then (loops.candidate_at_begin (view_readings view.entry) direction set.now.set o begin.now)
+        (λ o. and_then
+        (loops.candidate_at_begin (view_readings view.entry) direction set.now.set o begin.now)
         (λ c. Ok (loops.list_loop place direction set.now.set o c))) }
 {
     let owner = subscript_value(view, &set.owner)?;
@@ -290,7 +294,10 @@ pub fn loop_variable(phrase: &Phrase) -> Variable
 /// What the qualifiers say, in written order, or the first fault.
 pub fn verdict<S: SetBoard>(view: View<'_, S>, qualifiers: &Qualifiers) -> Result<Verdict, RunFault>
     requires { InView view AreSoundQualifiers qualifiers.now }
-    ensures { result ≡ loops.verdict_of (view_readings view.entry) qualifiers.now }
+    ensures ok { IfOk result
+        (λ v. loops.verdict_of (view_readings view.entry) qualifiers.now ≡ Ok (as_verdict v)) }
+    ensures err { IfErr result
+        (λ e. loops.verdict_of (view_readings view.entry) qualifiers.now ≡ Err e) }
 {
     for qualifier in &qualifiers.list {
         let truth = holds(view, &qualifier.condition)?;

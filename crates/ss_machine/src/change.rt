@@ -1,6 +1,6 @@
 use crate::frame::FrameBox;
 use crate::loops::ClosedLoop;
-use crate::{entry, statistics, status};
+use crate::{entry, status};
 use ss_events::AgendaChange;
 use ss_store::StoreChange;
 
@@ -8,9 +8,15 @@ use ss_store::StoreChange;
 #[derive(Drop)]
 pub enum Change {
     /// A global variable was assigned; what it held.
-    Variable { number: usize, old: i64 },
+    Variable {
+        number: usize,
+        old: i64,
+    },
     /// A local of the last frame was assigned; what it held.
-    Local { number: usize, old: i64 },
+    Local {
+        number: usize,
+        old: i64,
+    },
     /// The last frame went to another place; where it stood.
     Place(usize),
     /// The clock was set; what it showed.
@@ -40,5 +46,10 @@ pub enum Change {
     /// What FIND answers changed; what it was.
     Found(bool),
     /// What COMPUTE has gathered changed; what it was.
-    Statistics(statistics::Statistics),
+    Statistics {
+        number: i64,
+        sum: i64,
+        greatest: i64,
+        least: i64,
+    },
 }

@@ -1,14 +1,18 @@
-ghost use Rattle.std.specs.Prelude.{◌≡◌, ◌+◌, ◌<◌, ◌≤◌, ◌^◌, ◌∷◌, [], length, drop, slice_get, slice_index_or, pos, true, Some, OnOk, IfOk, IfErr, false, OnErr};
+ghost use Rattle.std.specs.Prelude.{◌≡◌, ◌+◌, ◌<◌, ◌≤◌, ◌^◌, ◌∷◌, [], length, drop, slice_get, slice_index_or, pos};
+ghost use Rattle.std.specs.Prelude.{true, Some, OnOk, IfOk, IfErr, false, OnErr};
 ghost use Rattle.ss_program.specs.Match.{ways_of};
 ghost use Rattle.ss_report.specs.Pictures.{field_count};
 ghost use Rattle.ss_program.specs.Program.{places_of, section_of, spot_at};
-ghost use Rattle.ss_program.specs.ProgramSound.{IsSettable, IsTarget, IsSoundSetRef, IsSoundOption, IsSoundExpr, IsSoundMaking, IsSoundFiling};
-ghost use Rattle.ss_program.specs.ProgramSound.{AreTargets, IsSoundAssign, IsSoundOutput, IsSoundQuestion, IsSoundBranch, IsSoundPhrase, AreSoundQualifiers, AreSoundTellings, IsSoundLooping, IsSoundPlace, AreSoundExprs, IsCalledBy, IsTimed, LeadsOn, loop_limit, parameter_limit};
+ghost use Rattle.ss_program.specs.ProgramSound.{IsSettable, IsTarget, IsSoundSetRef, IsSoundOption, IsSoundExpr};
+ghost use Rattle.ss_program.specs.ProgramSound.{IsSoundMaking, IsSoundFiling};
+ghost use Rattle.ss_program.specs.ProgramSound.{AreTargets, IsSoundAssign, IsSoundOutput, IsSoundQuestion};
+ghost use Rattle.ss_program.specs.ProgramSound.{IsSoundBranch, IsSoundPhrase, AreSoundQualifiers, AreSoundTellings};
+ghost use Rattle.ss_program.specs.ProgramSound.{IsSoundLooping, IsSoundPlace, AreSoundExprs, IsCalledBy, IsTimed};
+ghost use Rattle.ss_program.specs.ProgramSound.{LeadsOn, loop_limit, parameter_limit};
 ghost use Rattle.ss_journal.specs.Undoing.{unapply_all, FitsAll};
 ghost use Rattle.ss_links.specs.Board.{empty_board};
 ghost use Rattle.ss_store.specs.Tables.{tables_of};
 ghost use Rattle.ss_events.specs.Rules.{rules_of};
-ghost use Rattle.ss_machine.specs.State.{most_below};
 ghost use Rattle.ss_machine.specs.Change.{Fits, unapply};
 ghost use Rattle.ss_machine.specs.Noting.{Notes};
 ghost use Rattle.ss_machine.specs.Storing.{IsMarked};
@@ -17,17 +21,24 @@ ghost use Rattle.ss_machine.specs.Moment as changes;
 ghost use Rattle.ss_machine.specs.Dropping.{HasDropped};
 ghost use Rattle.ss_machine.specs.Seen.{InHeld, scope_held};
 ghost use Rattle.ss_machine.specs.Loops.{innermost, loops_with_candidate, loop_of_phrase};
-ghost use Rattle.ss_machine.specs.Step.{state_after_result, state_after_assignment, state_with_value, target_of, state_after_assign};
-ghost use Rattle.ss_machine.specs.Step.{state_at_place, state_after_print, state_after_skip, step, step_at, step_assign, step_output};
-ghost use Rattle.ss_machine.specs.Step.{step_making, step_filing, step_control, step_branch, step_looping, step_phrase, step_call};
-ghost use Rattle.ss_machine.specs.Step.{step_read, state_with_loops, state_with_found, state_with_statistics, state_after_reset};
+ghost use Rattle.ss_machine.specs.Step.{state_after_result, state_after_assignment, state_with_value, target_of};
+ghost use Rattle.ss_machine.specs.Step.{state_after_assign};
+ghost use Rattle.ss_machine.specs.Step.{state_at_place, state_after_print, state_after_skip, step, step_at};
+ghost use Rattle.ss_machine.specs.Step.{step_assign, step_output};
+ghost use Rattle.ss_machine.specs.Step.{step_making, step_filing, step_control, step_branch, step_looping, step_phrase};
+ghost use Rattle.ss_machine.specs.Step.{step_call};
+ghost use Rattle.ss_machine.specs.Step.{step_read, state_with_loops, state_with_found, state_with_statistics};
+ghost use Rattle.ss_machine.specs.Step.{state_after_reset};
 ghost use Rattle.ss_machine.specs.Step.{state_after_entry, state_after_closing, candidate_tried, state_after_turn};
 ghost use Rattle.ss_machine.specs.Step.{state_after_telling, statistics_after, state_with_values, state_after_read};
 ghost use Rattle.ss_machine.specs.Step.{state_after_create, state_after_making, state_after_destroy, state_after_file};
-ghost use Rattle.ss_machine.specs.Step.{state_after_remove_end, state_after_remove, state_after_filing, state_behind_call};
-ghost use Rattle.ss_machine.specs.Step.{state_behind_place, state_after_return, state_without_entry, state_after_event, state_after_section};
+ghost use Rattle.ss_machine.specs.Step.{state_after_remove_end, state_after_remove, state_after_filing};
+ghost use Rattle.ss_machine.specs.Step.{state_behind_call};
+ghost use Rattle.ss_machine.specs.Step.{state_behind_place, state_after_return, state_without_entry, state_after_event};
+ghost use Rattle.ss_machine.specs.Step.{state_after_section};
 ghost use Rattle.ss_machine.specs.Step.{question_answer, ways_here};
 ghost use Rattle.ss_machine.specs.Loops.{IsSoundWalk, AreSoundWalks};
+ghost use Rattle.ss_machine.specs.View.{as_verdict};
 ghost use Rattle.ss_machine.specs.declared.status.Status.TheVariants.{Faulted};
 ghost use Rattle.ss_program.specs.declared.making.Making.TheVariants as making;
 ghost use Rattle.ss_store.specs.Tables.{class_of};
@@ -40,9 +51,10 @@ use crate::entry::Entry;
 use crate::external::has_external;
 use crate::frame::FrameBox;
 use crate::history::History;
+use crate::limits::MOST_BELOW;
 use crate::loops::OpenLoop;
 use crate::questions::{how_asked, how_at, line_count, number_asked, owner_value, which_at};
-use crate::state::{MOST_BELOW, State};
+use crate::state::State;
 use crate::statistics::{Statistics, no_statistics, statistic_value, statistics_with};
 use crate::status::Status;
 use crate::timing::most_timing_changes;
@@ -86,9 +98,12 @@ impl<S: SetBoard> Executor<S> {
         requires sets { S.board sets ≡ empty_board }
         requires pending { S.board pending ≡ empty_board }
         ensures state { IfOk result
-            (λ executor. executor.held.state ≡ start (record { program = program.now; items = feed.items })) }
-        ensures tables { IfOk result (λ executor. executor.held.beside.tables ≡ tables_of program.now) }
-        ensures rules { IfOk result (λ executor. executor.held.beside.rules ≡ rules_of program.now) }
+            (λ executor. executor.held.state
+            ≡ start (record { program = program.now; items = feed.items })) }
+        ensures tables { IfOk result
+            (λ executor. executor.held.beside.tables ≡ tables_of program.now) }
+        ensures rules { IfOk result
+            (λ executor. executor.held.beside.rules ≡ rules_of program.now) }
         ensures steps { IfOk result (λ executor. executor.journal.steps ≡ []) }
         ensures current { IfOk result (λ executor. executor.journal.current ≡ []) }
     {
@@ -103,7 +118,8 @@ impl<S: SetBoard> Executor<S> {
     pub fn assign(&mut self, target: Variable, value: i64)
         requires target { InHeld self.old.held IsSettable target }
         requires room { 0 < self.old.journal.notes }
-        ensures state { self.new.held.state ≡ state_after_assignment self.old.held.state target value }
+        ensures state { self.new.held.state
+            ≡ state_after_assignment self.old.held.state target value }
         ensures beside { self.new.held.beside ≡ self.old.held.beside }
         ensures values { self.new.values ≡ self.old.values }
         ensures notes { Notes 1 self.old self.new }
@@ -139,7 +155,8 @@ impl<S: SetBoard> Executor<S> {
             (state_with_value self.old.held.beside.tables self.old.held.state target.now value
             ≡ Ok self.new.held.state) }
         ensures err { IfErr result
-            (λ e. state_with_value self.old.held.beside.tables self.old.held.state target.now value ≡ Err e) }
+            (λ e. state_with_value self.old.held.beside.tables self.old.held.state target.now value
+            ≡ Err e) }
         ensures tables { self.new.held.beside.tables ≡ self.old.held.beside.tables }
         ensures scope { OnOk result (scope_held self.new.held ≡ scope_held self.old.held) }
         ensures values { self.new.values ≡ self.old.values }
@@ -224,9 +241,11 @@ impl<S: SetBoard> Executor<S> {
     fn assign_value(&mut self, assign: &Assign) -> Result<(), RunFault>
         requires sound { InHeld self.old.held IsSoundAssign assign.now }
         requires room { 0 < self.old.journal.notes }
-        ensures ok { OnOk result (state_after_assign self.old.held.beside.tables self.old.held.state assign.now
+        ensures ok { OnOk result
+            (state_after_assign self.old.held.beside.tables self.old.held.state assign.now
             ≡ Ok self.new.held.state) }
-        ensures err { IfErr result (λ e. state_after_assign self.old.held.beside.tables self.old.held.state assign.now
+        ensures err { IfErr result
+            (λ e. state_after_assign self.old.held.beside.tables self.old.held.state assign.now
             ≡ Err e) }
         ensures notes { Notes 1 self.old self.new }
     {
@@ -277,7 +296,8 @@ impl<S: SetBoard> Executor<S> {
     /// Appends so many line feeds and goes on, or marks the fault.
     fn skip(&mut self, next: usize, count: Result<usize, RunFault>) -> Result<(), AllocError>
         requires room { 1 < self.old.journal.notes }
-        ensures state { OnOk result (self.new.held.state ≡ state_after_skip self.old.held.state next count) }
+        ensures state { OnOk result
+            (self.new.held.state ≡ state_after_skip self.old.held.state next count) }
         ensures notes { Notes 2 self.old self.new }
     {
         let skipped = match count {
@@ -302,7 +322,8 @@ impl<S: SetBoard> Executor<S> {
         requires sound { InHeld self.old.held IsSoundOutput output.now }
         requires room { 1 < self.old.journal.notes }
         ensures state { OnOk result
-            (self.new.held.state ≡ step_output self.old.held.beside.tables self.old.held.state next output.now) }
+            (self.new.held.state
+            ≡ step_output self.old.held.beside.tables self.old.held.state next output.now) }
         ensures notes { Notes 2 self.old self.new }
     {
         match output {
@@ -320,7 +341,8 @@ impl<S: SetBoard> Executor<S> {
 
     fn answer(&self, question: &Question) -> Result<bool, RunFault>
         requires { InHeld self.now.held IsSoundQuestion question.now }
-        ensures { result ≡ question_answer self.now.held.beside.tables self.now.held.state question.now }
+        ensures { result
+            ≡ question_answer self.now.held.beside.tables self.now.held.state question.now }
     {
         match question {
             Question::Whether(condition) => holds(self.held.view(), condition),
@@ -349,7 +371,8 @@ impl<S: SetBoard> Executor<S> {
     fn open_loop(&mut self, open_loop: OpenLoop) -> Result<(), AllocError>
         requires room { 0 < self.old.journal.notes }
         ensures state { OnOk result
-            (self.new.held.state ≡ state_with_loops self.old.held.state (open_loop ∷ self.old.held.state.frame.loops)) }
+            (self.new.held.state
+            ≡ state_with_loops self.old.held.state (open_loop ∷ self.old.held.state.frame.loops)) }
         ensures notes { Notes 1 self.old self.new }
     {
         let change = self.held.open_loop(self.alloc, open_loop)?;
@@ -361,7 +384,8 @@ impl<S: SetBoard> Executor<S> {
         requires there { 0 < length self.old.held.state.frame.loops }
         requires room { 0 < self.old.journal.notes }
         ensures state { self.new.held.state
-            ≡ state_with_loops self.old.held.state (loops_with_candidate candidate self.old.held.state.frame.loops) }
+            ≡ state_with_loops self.old.held.state
+            (loops_with_candidate candidate self.old.held.state.frame.loops) }
         ensures beside { self.new.held.beside ≡ self.old.held.beside }
         ensures notes { Notes 1 self.old self.new }
     {
@@ -424,7 +448,8 @@ impl<S: SetBoard> Executor<S> {
         requires sound { InHeld self.old.held IsSoundPhrase phrase.now.phrase }
         requires room { 1 < self.old.journal.notes }
         ensures state { OnOk result
-            (self.new.held.state ≡ state_after_entry self.old.held.beside.tables self.old.held.state ways phrase.now) }
+            (self.new.held.state
+            ≡ state_after_entry self.old.held.beside.tables self.old.held.state ways phrase.now) }
         ensures notes { Notes 2 self.old self.new }
     {
         let (_, place) = self.held.place();
@@ -453,9 +478,10 @@ impl<S: SetBoard> Executor<S> {
         requires room { 1 < self.old.journal.notes }
         ensures ok { IfOk result (λ v.
             candidate_tried self.old.held.beside.tables self.old.held.state phrase.now open_loop x
-            ≡ Ok (self.new.held.state, v)) }
+            ≡ Ok (self.new.held.state, as_verdict v)) }
         ensures err { IfErr result (λ e.
-            candidate_tried self.old.held.beside.tables self.old.held.state phrase.now open_loop x ≡ Err e) }
+            candidate_tried self.old.held.beside.tables self.old.held.state phrase.now open_loop x
+            ≡ Err e) }
         ensures there { 0 < length self.new.held.state.frame.loops }
         ensures notes { Notes 2 self.old self.new }
     {
@@ -497,11 +523,13 @@ impl<S: SetBoard> Executor<S> {
     fn run_phrase(&mut self, ways: Ways, phrase: &ForPhrase) -> Result<(), AllocError>
         requires sound { InHeld self.old.held IsSoundPhrase phrase.now.phrase }
         requires qualifiers { InHeld self.old.held AreSoundQualifiers phrase.now.qualifiers }
-        requires walks { AreSoundWalks (length self.old.held.beside.tables.sets) self.old.held.state.frame.loops }
+        requires walks { AreSoundWalks
+            (length self.old.held.beside.tables.sets) self.old.held.state.frame.loops }
         requires none { self.old.journal.current ≡ [] }
         requires room { 3 < self.old.journal.notes }
         ensures state { OnOk result
-            (self.new.held.state ≡ step_phrase self.old.held.beside.tables self.old.held.state ways phrase.now) }
+            (self.new.held.state
+            ≡ step_phrase self.old.held.beside.tables self.old.held.state ways phrase.now) }
         ensures notes { Notes 4 self.old self.new }
     {
         match self.held.loop_here() {
@@ -552,7 +580,8 @@ impl<S: SetBoard> Executor<S> {
     fn gather(&mut self, next: usize, got: Result<i64, RunFault>)
         requires room { 1 < self.old.journal.notes }
         ensures state { self.new.held.state
-            ≡ state_after_result self.old.held.state (statistics_after self.old.held.state.frame.statistics got)
+            ≡ state_after_result self.old.held.state
+            (statistics_after self.old.held.state.frame.statistics got)
             (λ g. state_at_place next (state_with_statistics self.old.held.state g)) }
         ensures notes { Notes 2 self.old self.new }
     {
@@ -571,7 +600,8 @@ impl<S: SetBoard> Executor<S> {
 
     fn run_looping(&mut self, ways: Ways, looping: &Looping) -> Result<(), AllocError>
         requires sound { InHeld self.old.held IsSoundLooping looping.now }
-        requires walks { AreSoundWalks (length self.old.held.beside.tables.sets) self.old.held.state.frame.loops }
+        requires walks { AreSoundWalks
+            (length self.old.held.beside.tables.sets) self.old.held.state.frame.loops }
         requires few { ways.chain ≤ loop_limit }
         requires none { self.old.journal.current ≡ [] }
         requires room { changes.most_looping_changes ways looping.now ≤ self.old.journal.notes }
@@ -608,7 +638,8 @@ impl<S: SetBoard> Executor<S> {
         requires tables { self.old.held.beside.tables ≡ tables_of program.now }
         requires sound { InHeld self.old.held AreSoundExprs call.now.given }
         requires room { 0 < self.old.journal.notes }
-        ensures state { OnOk result (self.new.held.state ≡ step_call program.now self.old.held.state call.now) }
+        ensures state { OnOk result
+            (self.new.held.state ≡ step_call program.now self.old.held.state call.now) }
         ensures notes { Notes 1 self.old self.new }
     {
         program.known();
@@ -640,21 +671,22 @@ impl<S: SetBoard> Executor<S> {
         ensures ok { OnOk result
             (state_with_values self.old.held.beside.tables self.old.values.items self.old.held.state
             first targets.now ≡ Ok self.new.held.state) }
-        ensures err { IfErr result (λ e. state_with_values self.old.held.beside.tables self.old.values.items
+        ensures err { IfErr result
+            (λ e. state_with_values self.old.held.beside.tables self.old.values.items
             self.old.held.state first targets.now ≡ Err e) }
         ensures notes { Notes (length targets.now) self.old self.new }
     {
         let mut number = first;
         for target in &targets.list {
-            let value = self.kept(number);
+            let value = self.value_at(number);
             self.assign_target(target, value)?;
             number += 1;
         }
         Ok(())
     }
 
-    /// A value kept; 0 where none is.
-    fn kept(&self, number: usize) -> i64
+    /// The value of this number that is kept for the targets; 0 where there is none.
+    fn value_at(&self, number: usize) -> i64
         ensures { result ≡ slice_index_or self.now.values.items number (pos 0) }
     {
         match self.values.get(number) {
@@ -665,7 +697,7 @@ impl<S: SetBoard> Executor<S> {
 
     fn drop_frame(&mut self)
         requires some { 0 < length self.old.held.state.below }
-        requires few { length self.old.held.state.below ≤ most_below }
+        requires few { length self.old.held.state.below ≤ MOST_BELOW }
         requires room { 0 < self.old.journal.notes }
         ensures state { HasDropped self.old.held.state self.new.held.state }
         ensures beside { self.new.held.beside ≡ self.old.held.beside }
@@ -719,10 +751,12 @@ impl<S: SetBoard> Executor<S> {
         requires kind { (class_of self.old.held.beside.tables class).permanent ≡ false }
         requires target { InHeld self.old.held IsTarget target.now }
         requires room { 1 < self.old.journal.notes }
-        ensures ok { OnOk result (state_after_create self.old.held.beside.tables self.old.held.state class target.now
+        ensures ok { OnOk result
+            (state_after_create self.old.held.beside.tables self.old.held.state class target.now
             ≡ Ok self.new.held.state) }
         ensures err { IfErr result
-            (λ e. FaultIs e (state_after_create self.old.held.beside.tables self.old.held.state class target.now)) }
+            (λ e. FaultIs e
+            (state_after_create self.old.held.beside.tables self.old.held.state class target.now)) }
         ensures notes { Notes 2 self.old self.new }
     {
         let (number, change) = self.held.create(class)?;
@@ -745,7 +779,8 @@ impl<S: SetBoard> Executor<S> {
         requires room { 1 < self.old.journal.notes }
         ensures ok { OnOk result (state_after_making self.old.held.beside.tables self.old.held.state
             (making.CreateEvery class number.now count) ≡ Ok self.new.held.state) }
-        ensures err { IfErr result (λ e. FaultIs e (state_after_making self.old.held.beside.tables self.old.held.state
+        ensures err { IfErr result
+            (λ e. FaultIs e (state_after_making self.old.held.beside.tables self.old.held.state
             (making.CreateEvery class number.now count))) }
         ensures notes { Notes 2 self.old self.new }
     {
@@ -762,14 +797,15 @@ impl<S: SetBoard> Executor<S> {
         requires kind { (class_of self.old.held.beside.tables class).permanent ≡ false }
         requires entity { InHeld self.old.held IsSoundExpr entity.now }
         requires room { 0 < self.old.journal.notes }
-        ensures ok { OnOk result (state_after_destroy self.old.held.beside.tables self.old.held.state class entity.now
+        ensures ok { OnOk result
+            (state_after_destroy self.old.held.beside.tables self.old.held.state class entity.now
             ≡ Ok self.new.held.state) }
         ensures err { IfErr result
             (λ e. state_after_destroy self.old.held.beside.tables self.old.held.state class entity.now ≡ Err e) }
         ensures notes { Notes 1 self.old self.new }
     {
         let x = value(self.held.view(), entity)?;
-        let number = self.held.existing(class, x)?;
+        let number = self.held.entity_named(class, x)?;
         if self.held.is_pending(number) {
             return Err(RunFault::EndedInUse);
         }
@@ -782,10 +818,12 @@ impl<S: SetBoard> Executor<S> {
     fn make(&mut self, making: &Making) -> Result<(), StepFault>
         requires sound { InHeld self.old.held IsSoundMaking making.now }
         requires room { 1 < self.old.journal.notes }
-        ensures ok { OnOk result (state_after_making self.old.held.beside.tables self.old.held.state making.now
+        ensures ok { OnOk result
+            (state_after_making self.old.held.beside.tables self.old.held.state making.now
             ≡ Ok self.new.held.state) }
         ensures err { IfErr result
-            (λ e. FaultIs e (state_after_making self.old.held.beside.tables self.old.held.state making.now)) }
+            (λ e. FaultIs e
+            (state_after_making self.old.held.beside.tables self.old.held.state making.now)) }
         ensures notes { Notes 2 self.old self.new }
     {
         match making {
@@ -807,7 +845,8 @@ impl<S: SetBoard> Executor<S> {
         requires none { self.old.journal.current ≡ [] }
         requires room { 2 < self.old.journal.notes }
         ensures state { OnOk result
-            (self.new.held.state ≡ step_making self.old.held.beside.tables self.old.held.state next making.now) }
+            (self.new.held.state
+            ≡ step_making self.old.held.beside.tables self.old.held.state next making.now) }
         ensures notes { Notes 3 self.old self.new }
     {
         let done = self.make(making);
@@ -857,7 +896,8 @@ impl<S: SetBoard> Executor<S> {
             (state_after_remove self.old.held.beside.tables self.old.held.state set.now member
             ≡ Ok self.new.held.state) }
         ensures err { IfErr result
-            (λ e. state_after_remove self.old.held.beside.tables self.old.held.state set.now member ≡ Err e) }
+            (λ e. state_after_remove self.old.held.beside.tables self.old.held.state set.now member
+            ≡ Err e) }
         ensures notes { Notes 1 self.old self.new }
     {
         let owner = owner_value(self.held.view(), set)?;
@@ -869,10 +909,12 @@ impl<S: SetBoard> Executor<S> {
     fn file_or_remove(&mut self, filing: &Filing) -> Result<(), RunFault>
         requires sound { InHeld self.old.held IsSoundFiling filing.now }
         requires room { 1 < self.old.journal.notes }
-        ensures ok { OnOk result (state_after_filing self.old.held.beside.tables self.old.held.state filing.now
+        ensures ok { OnOk result
+            (state_after_filing self.old.held.beside.tables self.old.held.state filing.now
             ≡ Ok self.new.held.state) }
         ensures err { IfErr result
-            (λ e. state_after_filing self.old.held.beside.tables self.old.held.state filing.now ≡ Err e) }
+            (λ e. state_after_filing self.old.held.beside.tables self.old.held.state filing.now
+            ≡ Err e) }
         ensures notes { Notes 2 self.old self.new }
     {
         match filing {
@@ -915,9 +957,11 @@ impl<S: SetBoard> Executor<S> {
         requires parameters { first ≤ parameter_limit }
         requires few { changes.call_targets place.now ≤ parameter_limit }
         requires room { changes.call_targets place.now < self.old.journal.notes }
-        ensures ok { OnOk result (state_behind_call self.old.held.beside.tables self.old.values.items first next
+        ensures ok { OnOk result
+            (state_behind_call self.old.held.beside.tables self.old.values.items first next
             self.old.held.state place.now ≡ Ok self.new.held.state) }
-        ensures err { IfErr result (λ e. state_behind_call self.old.held.beside.tables self.old.values.items first next
+        ensures err { IfErr result
+            (λ e. state_behind_call self.old.held.beside.tables self.old.values.items first next
             self.old.held.state place.now ≡ Err e) }
         ensures notes { Notes (1 + changes.call_targets place.now) self.old self.new }
         ensures fewer { OnErr result (Notes (changes.call_targets place.now) self.old self.new) }
@@ -936,13 +980,18 @@ impl<S: SetBoard> Executor<S> {
         requires tables { self.old.held.beside.tables ≡ tables_of program.now }
         requires parameters { first ≤ parameter_limit }
         requires room { place_targets program.now self.old.held.state < self.old.journal.notes }
-        ensures ok { OnOk result (state_behind_place program.now self.old.values.items first self.old.held.state
+        ensures ok { OnOk result
+            (state_behind_place program.now self.old.values.items first self.old.held.state
             (spot_at program.now self.old.held.state.frame.section self.old.held.state.frame.place)
             ≡ Ok self.new.held.state) }
-        ensures err { IfErr result (λ e. state_behind_place program.now self.old.values.items first self.old.held.state
-            (spot_at program.now self.old.held.state.frame.section self.old.held.state.frame.place) ≡ Err e) }
-        ensures notes { Notes (1 + place_targets program.now self.old.held.state) self.old self.new }
-        ensures fewer { OnErr result (Notes (place_targets program.now self.old.held.state) self.old self.new) }
+        ensures err { IfErr result
+            (λ e. state_behind_place program.now self.old.values.items first self.old.held.state
+            (spot_at program.now self.old.held.state.frame.section self.old.held.state.frame.place)
+            ≡ Err e) }
+        ensures notes { Notes
+            (1 + place_targets program.now self.old.held.state) self.old self.new }
+        ensures fewer { OnErr result
+            (Notes (place_targets program.now self.old.held.state) self.old self.new) }
     {
         program.known();
         let (section, place) = self.held.place();
@@ -958,10 +1007,13 @@ impl<S: SetBoard> Executor<S> {
         requires given { given ≡ (section_of program.now self.old.held.state.frame.section).given }
         requires parameters { given ≤ parameter_limit }
         requires none { self.old.journal.current ≡ [] }
-        requires room { 1 + yield_count program.now self.old.held.state.below < self.old.journal.notes }
+        requires room { 1 + yield_count program.now self.old.held.state.below
+            < self.old.journal.notes }
         ensures state { OnOk result
-            (self.new.held.state ≡ state_after_return program.now self.old.held.state self.old.held.state.below) }
-        ensures notes { Notes (2 + yield_count program.now self.old.held.state.below) self.old self.new }
+            (self.new.held.state
+            ≡ state_after_return program.now self.old.held.state self.old.held.state.below) }
+        ensures notes { Notes
+            (2 + yield_count program.now self.old.held.state.below) self.old self.new }
     {
         if self.held.below() == 0 {
             return Ok(());
@@ -996,10 +1048,11 @@ impl<S: SetBoard> Executor<S> {
 
     /// RETURN or END of an event.
     fn end_event(&mut self)
-        requires few { length self.old.held.state.below ≤ most_below }
+        requires few { length self.old.held.state.below ≤ MOST_BELOW }
         requires none { self.old.journal.current ≡ [] }
         requires room { 2 < self.old.journal.notes }
-        ensures state { self.new.held.state ≡ state_after_event self.old.held.state self.old.held.state.below }
+        ensures state { self.new.held.state
+            ≡ state_after_event self.old.held.state self.old.held.state.below }
         ensures notes { Notes 3 self.old self.new }
     {
         if self.held.below() == 0 {
@@ -1018,9 +1071,12 @@ impl<S: SetBoard> Executor<S> {
         requires well { IsInBounds program.now self.old.held.state }
         requires tables { self.old.held.beside.tables ≡ tables_of program.now }
         requires none { self.old.journal.current ≡ [] }
-        requires room { 2 + yield_count program.now self.old.held.state.below < self.old.journal.notes }
-        ensures state { OnOk result (self.new.held.state ≡ step_control program.now self.old.held.state control) }
-        ensures notes { Notes (3 + yield_count program.now self.old.held.state.below) self.old self.new }
+        requires room { 2 + yield_count program.now self.old.held.state.below
+            < self.old.journal.notes }
+        ensures state { OnOk result
+            (self.new.held.state ≡ step_control program.now self.old.held.state control) }
+        ensures notes { Notes
+            (3 + yield_count program.now self.old.held.state.below) self.old self.new }
     {
         match control {
             Control::Stop => {
@@ -1036,10 +1092,13 @@ impl<S: SetBoard> Executor<S> {
         requires well { IsInBounds program.now self.old.held.state }
         requires tables { self.old.held.beside.tables ≡ tables_of program.now }
         requires none { self.old.journal.current ≡ [] }
-        requires room { 2 + yield_count program.now self.old.held.state.below < self.old.journal.notes }
-        ensures state { OnOk result (self.new.held.state ≡ state_after_section program.now self.old.held.state
+        requires room { 2 + yield_count program.now self.old.held.state.below
+            < self.old.journal.notes }
+        ensures state { OnOk result
+            (self.new.held.state ≡ state_after_section program.now self.old.held.state
             (section_of program.now self.old.held.state.frame.section).kind) }
-        ensures notes { Notes (3 + yield_count program.now self.old.held.state.below) self.old self.new }
+        ensures notes { Notes
+            (3 + yield_count program.now self.old.held.state.below) self.old self.new }
     {
         program.known();
         let (section, _) = self.held.place();
@@ -1063,14 +1122,19 @@ impl<S: SetBoard> Executor<S> {
         requires sound { InHeld self.old.held IsSoundPlace place.now }
         requires tables { self.old.held.beside.tables ≡ tables_of program.now }
         requires rules { self.old.held.beside.rules ≡ rules_of program.now }
-        requires timed { IsTimed program.now (section_of program.now self.old.held.state.frame.section) place.now }
+        requires timed { IsTimed program.now
+            (section_of program.now self.old.held.state.frame.section) place.now }
         requires leads { LeadsOn program.now.sections
-            (length (places_of (slice_get program.now.sections self.old.held.state.frame.section))) ways place.now }
+            (length (places_of
+            (slice_get program.now.sections self.old.held.state.frame.section))) ways place.now }
         requires few { ways.chain ≤ loop_limit }
         requires none { self.old.journal.current ≡ [] }
-        requires room { most_changes program.now self.old.held.state ways place.now ≤ self.old.journal.notes }
-        ensures state { OnOk result (self.new.held.state ≡ step_at program.now self.old.held.state ways place.now) }
-        ensures notes { Notes (most_changes program.now self.old.held.state ways place.now) self.old self.new }
+        requires room { most_changes program.now self.old.held.state ways place.now
+            ≤ self.old.journal.notes }
+        ensures state { OnOk result
+            (self.new.held.state ≡ step_at program.now self.old.held.state ways place.now) }
+        ensures notes { Notes
+            (most_changes program.now self.old.held.state ways place.now) self.old self.new }
     {
         match place {
             Place::Assign(assign) => {
@@ -1183,7 +1247,8 @@ fn ways_at(program: &Program, section: usize, place: usize, spot: &Spot) -> Ways
     requires section { section < length program.now.sections }
     requires place { place < length (places_of (slice_get program.now.sections section)) }
     requires spot { spot_at program.now section place ≡ Some spot.now }
-    ensures { result ≡ ways_of (places_of (slice_get program.now.sections section)) place spot.now.place }
+    ensures { result
+        ≡ ways_of (places_of (slice_get program.now.sections section)) place spot.now.place }
 {
     program.ways(section, place)
 }

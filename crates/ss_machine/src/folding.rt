@@ -1,12 +1,12 @@
 ghost use Rattle.std.specs.Prelude.{◌≡◌};
-ghost use Rattle.ss_machine.specs.History.{unfolded, narrowed, is_set, owner_of};
+ghost use Rattle.ss_machine.specs.History.{signed_number, narrow_number, is_set, owner_of};
 
 use ss_program::Owner;
 
 /// A number with sign as one without: 0, -1, 1, -2, 2 as 0, 1, 2, 3, 4, so that small ones stay
 /// small.
 pub fn fold(number: i64) -> u64
-    ensures { unfolded result ≡ number }
+    ensures { signed_number result ≡ number }
 {
     if number < 0 {
         2 * (-(number + 1)) as u64 + 1
@@ -17,7 +17,7 @@ pub fn fold(number: i64) -> u64
 
 /// The number with sign that was folded into this one.
 pub fn unfold(number: u64) -> i64
-    ensures { result ≡ unfolded number }
+    ensures { result ≡ signed_number number }
 {
     let half = (number / 2) as i64;
     if number % 2 == 0 { half } else { -half - 1 }
@@ -25,14 +25,14 @@ pub fn unfold(number: u64) -> i64
 
 /// A number of 32 bits in 64.
 pub fn widen(number: u32) -> u64
-    ensures { narrowed result ≡ number }
+    ensures { narrow_number result ≡ number }
 {
     u64::from(number)
 }
 
 /// The number of 32 bits in this one, of which no greater one is written.
 pub fn narrow(number: u64) -> u32
-    ensures { result ≡ narrowed number }
+    ensures { result ≡ narrow_number number }
 {
     number.min(u64::from(u32::MAX)) as u32
 }

@@ -54,8 +54,10 @@ impl Frame {
     /// Gives a local another value; answers the old one.
     pub fn assign(&mut self, number: usize, value: i64) -> i64
         requires { number < length self.old.locals }
-        ensures state { self.new ≡ record self.old { locals = slice_set self.old.locals number value } }
-        ensures back { record self.new { locals = slice_set self.new.locals number result } ≡ self.old }
+        ensures state { self.new
+            ≡ record self.old { locals = slice_set self.old.locals number value } }
+        ensures back { record self.new { locals = slice_set self.new.locals number result }
+            ≡ self.old }
     {
         let old = self.locals[number];
         self.locals[number] = value;
@@ -72,7 +74,8 @@ impl FrameBox {
         values: Vec<i64>,
     ) -> Result<Self, AllocError>
         requires section { section < length program.now.sections }
-        requires few { length values.items ≤ length (locals_of (slice_get program.now.sections section)) }
+        requires few { length values.items
+            ≤ length (locals_of (slice_get program.now.sections section)) }
         ensures { IfOk result (λ frame. frame ≡ new_frame program.now section values.items) }
     {
         let count = program.section(section).locals.len();

@@ -1,4 +1,5 @@
 ghost use Rattle.std.specs.Prelude.{◌≡◌, ◌+◌, ◌<◌, ◌≤◌, ◌∷◌, [], length, IsOk, OnOk, MatchBool, MatchOption};
+ghost use Rattle.ss_machine.specs.ChangeView.{as_change};
 
 use crate::change::Change;
 use crate::numbers::Numbers;
@@ -22,7 +23,7 @@ pub struct History {
 impl Model for History {
     ghost use Rattle.std.specs.Prelude.{◌∷◌, min};
     ghost use Rattle.ss_journal.specs.Log.{Log};
-    ghost use Rattle.ss_machine.specs.declared.change.Change.{Change};
+    ghost use Rattle.ss_machine.specs.Change.{Change};
     ghost use Rattle.ss_machine.specs.History.{changes_of, steps_of, change_room, AreWritten};
 
     ghost Value = { Log Change };
@@ -82,7 +83,7 @@ impl History {
     pub fn note(&mut self, change: Change)
         requires { 0 < self.old.notes }
         ensures steps { self.new.steps ≡ self.old.steps }
-        ensures current { self.new.current ≡ change ∷ self.old.current }
+        ensures current { self.new.current ≡ as_change change ∷ self.old.current }
         ensures notes { self.old.notes ≤ self.new.notes + 1 }
         ensures closes { self.new.closes ≡ self.old.closes }
     {
@@ -107,7 +108,7 @@ impl History {
         ensures steps { self.new.steps ≡ self.old.steps }
         ensures current { MatchOption result
             ((self.old.current ≡ []) × (self.new.current ≡ []))
-            (λ change. self.old.current ≡ change ∷ self.new.current) }
+            (λ change. self.old.current ≡ as_change change ∷ self.new.current) }
         ensures notes { self.old.notes ≤ self.new.notes }
         ensures closes { self.new.closes ≡ self.old.closes }
     {
@@ -145,7 +146,8 @@ impl History {
         ensures steps { self.new.steps ≡ newest n self.old.steps }
         ensures current { self.new.current ≡ [] }
         ensures notes { self.old.notes ≤ self.new.notes }
-        ensures closes { self.new.closes + length self.new.steps ≡ self.old.closes + length self.old.steps }
+        ensures closes { self.new.closes + length self.new.steps
+            ≡ self.old.closes + length self.old.steps }
     {
         self.tape.numbers.keep_last(n);
         self.tape.kept.keep_last(n);

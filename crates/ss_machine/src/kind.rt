@@ -14,20 +14,20 @@ ghost use Rattle.ss_machine.specs.Kinds.{
 /// The kinds of changes, by what they are of. A kind tells which numbers tell the change, and what
 /// is kept beside them.
 #[derive(Clone, Copy)]
-pub enum Kind {
-    Value(ValueKind),
-    Control(ControlKind),
-    Loop(LoopKind),
-    Entity(EntityKind),
-    Set(SetKind),
-    Time(TimeKind),
-    Entry(EntryKind),
-    Text(TextKind),
+pub enum ChangeKind {
+    Value(ValueChangeKind),
+    Control(ControlChangeKind),
+    Loop(LoopChangeKind),
+    Entity(EntityChangeKind),
+    Set(SetChangeKind),
+    Time(TimeChangeKind),
+    Entry(EntryChangeKind),
+    Text(TextChangeKind),
 }
 
 /// Changes of what a variable, FIND or COMPUTE holds.
 #[derive(Clone, Copy)]
-pub enum ValueKind {
+pub enum ValueChangeKind {
     Variable,
     Local,
     Found,
@@ -36,7 +36,7 @@ pub enum ValueKind {
 
 /// Changes of where the run stands.
 #[derive(Clone, Copy)]
-pub enum ControlKind {
+pub enum ControlChangeKind {
     Place,
     FrameOpened,
     FrameDropped,
@@ -45,7 +45,7 @@ pub enum ControlKind {
 
 /// Changes of open loops.
 #[derive(Clone, Copy)]
-pub enum LoopKind {
+pub enum LoopChangeKind {
     Opened,
     Moved,
     MovedFromNone,
@@ -54,7 +54,7 @@ pub enum LoopKind {
 
 /// Changes of entities.
 #[derive(Clone, Copy)]
-pub enum EntityKind {
+pub enum EntityChangeKind {
     Created,
     ClassCreated,
     AttributeSet,
@@ -63,7 +63,7 @@ pub enum EntityKind {
 
 /// Changes of sets.
 #[derive(Clone, Copy)]
-pub enum SetKind {
+pub enum SetChangeKind {
     Filed,
     FirstRemoved,
     Removed,
@@ -71,7 +71,7 @@ pub enum SetKind {
 
 /// Changes of the clock and of the event list.
 #[derive(Clone, Copy)]
-pub enum TimeKind {
+pub enum TimeChangeKind {
     Clock,
     Scheduled,
     FirstTakenOff,
@@ -80,7 +80,7 @@ pub enum TimeKind {
 
 /// Changes of the entry of an external event.
 #[derive(Clone, Copy)]
-pub enum EntryKind {
+pub enum EntryChangeKind {
     Absent,
     Waiting,
     Running,
@@ -88,7 +88,7 @@ pub enum EntryKind {
 
 /// Changes of data and report.
 #[derive(Clone, Copy)]
-pub enum TextKind {
+pub enum TextChangeKind {
     Taken,
     Report,
 }
@@ -96,121 +96,121 @@ pub enum TextKind {
 /// How many kinds there may be of each sort.
 const SORT: u64 = 4;
 
-impl Kind {
+impl ChangeKind {
     /// The number that tells the kind.
     pub fn number(self) -> u64
         ensures { kind_of result ≡ self }
     {
         match self {
-            Kind::Value(kind) => kind as u64,
-            Kind::Control(kind) => SORT + kind as u64,
-            Kind::Loop(kind) => 2 * SORT + kind as u64,
-            Kind::Entity(kind) => 3 * SORT + kind as u64,
-            Kind::Set(kind) => 4 * SORT + kind as u64,
-            Kind::Time(kind) => 5 * SORT + kind as u64,
-            Kind::Entry(kind) => 6 * SORT + kind as u64,
-            Kind::Text(kind) => 7 * SORT + kind as u64,
+            ChangeKind::Value(kind) => kind as u64,
+            ChangeKind::Control(kind) => SORT + kind as u64,
+            ChangeKind::Loop(kind) => 2 * SORT + kind as u64,
+            ChangeKind::Entity(kind) => 3 * SORT + kind as u64,
+            ChangeKind::Set(kind) => 4 * SORT + kind as u64,
+            ChangeKind::Time(kind) => 5 * SORT + kind as u64,
+            ChangeKind::Entry(kind) => 6 * SORT + kind as u64,
+            ChangeKind::Text(kind) => 7 * SORT + kind as u64,
         }
     }
 
     /// The kind that a number tells.
-    pub fn of_number(number: u64) -> Kind
+    pub fn of_number(number: u64) -> ChangeKind
         ensures { result ≡ kind_of number }
     {
         let which = number % SORT;
         match number / SORT {
-            0 => Kind::Value(value_kind(which)),
-            1 => Kind::Control(control_kind(which)),
-            2 => Kind::Loop(loop_kind(which)),
-            3 => Kind::Entity(entity_kind(which)),
-            4 => Kind::Set(set_kind(which)),
-            5 => Kind::Time(time_kind(which)),
-            6 => Kind::Entry(entry_kind(which)),
-            _ => Kind::Text(text_kind(which)),
+            0 => ChangeKind::Value(value_kind(which)),
+            1 => ChangeKind::Control(control_kind(which)),
+            2 => ChangeKind::Loop(loop_kind(which)),
+            3 => ChangeKind::Entity(entity_kind(which)),
+            4 => ChangeKind::Set(set_kind(which)),
+            5 => ChangeKind::Time(time_kind(which)),
+            6 => ChangeKind::Entry(entry_kind(which)),
+            _ => ChangeKind::Text(text_kind(which)),
         }
     }
 }
 
-fn value_kind(which: u64) -> ValueKind
+fn value_kind(which: u64) -> ValueChangeKind
     ensures { result ≡ value_kind_of which }
 {
     match which {
-        0 => ValueKind::Variable,
-        1 => ValueKind::Local,
-        2 => ValueKind::Found,
-        _ => ValueKind::Statistics,
+        0 => ValueChangeKind::Variable,
+        1 => ValueChangeKind::Local,
+        2 => ValueChangeKind::Found,
+        _ => ValueChangeKind::Statistics,
     }
 }
 
-fn control_kind(which: u64) -> ControlKind
+fn control_kind(which: u64) -> ControlChangeKind
     ensures { result ≡ control_kind_of which }
 {
     match which {
-        0 => ControlKind::Place,
-        1 => ControlKind::FrameOpened,
-        2 => ControlKind::FrameDropped,
-        _ => ControlKind::Status,
+        0 => ControlChangeKind::Place,
+        1 => ControlChangeKind::FrameOpened,
+        2 => ControlChangeKind::FrameDropped,
+        _ => ControlChangeKind::Status,
     }
 }
 
-fn loop_kind(which: u64) -> LoopKind
+fn loop_kind(which: u64) -> LoopChangeKind
     ensures { result ≡ loop_kind_of which }
 {
     match which {
-        0 => LoopKind::Opened,
-        1 => LoopKind::Moved,
-        2 => LoopKind::MovedFromNone,
-        _ => LoopKind::Closed,
+        0 => LoopChangeKind::Opened,
+        1 => LoopChangeKind::Moved,
+        2 => LoopChangeKind::MovedFromNone,
+        _ => LoopChangeKind::Closed,
     }
 }
 
-fn entity_kind(which: u64) -> EntityKind
+fn entity_kind(which: u64) -> EntityChangeKind
     ensures { result ≡ entity_kind_of which }
 {
     match which {
-        0 => EntityKind::Created,
-        1 => EntityKind::ClassCreated,
-        2 => EntityKind::AttributeSet,
-        _ => EntityKind::Ended,
+        0 => EntityChangeKind::Created,
+        1 => EntityChangeKind::ClassCreated,
+        2 => EntityChangeKind::AttributeSet,
+        _ => EntityChangeKind::Ended,
     }
 }
 
-fn set_kind(which: u64) -> SetKind
+fn set_kind(which: u64) -> SetChangeKind
     ensures { result ≡ set_kind_of which }
 {
     match which {
-        0 => SetKind::Filed,
-        1 => SetKind::FirstRemoved,
-        _ => SetKind::Removed,
+        0 => SetChangeKind::Filed,
+        1 => SetChangeKind::FirstRemoved,
+        _ => SetChangeKind::Removed,
     }
 }
 
-fn time_kind(which: u64) -> TimeKind
+fn time_kind(which: u64) -> TimeChangeKind
     ensures { result ≡ time_kind_of which }
 {
     match which {
-        0 => TimeKind::Clock,
-        1 => TimeKind::Scheduled,
-        2 => TimeKind::FirstTakenOff,
-        _ => TimeKind::TakenOff,
+        0 => TimeChangeKind::Clock,
+        1 => TimeChangeKind::Scheduled,
+        2 => TimeChangeKind::FirstTakenOff,
+        _ => TimeChangeKind::TakenOff,
     }
 }
 
-fn entry_kind(which: u64) -> EntryKind
+fn entry_kind(which: u64) -> EntryChangeKind
     ensures { result ≡ entry_kind_of which }
 {
     match which {
-        0 => EntryKind::Absent,
-        1 => EntryKind::Waiting,
-        _ => EntryKind::Running,
+        0 => EntryChangeKind::Absent,
+        1 => EntryChangeKind::Waiting,
+        _ => EntryChangeKind::Running,
     }
 }
 
-fn text_kind(which: u64) -> TextKind
+fn text_kind(which: u64) -> TextChangeKind
     ensures { result ≡ text_kind_of which }
 {
     match which {
-        0 => TextKind::Taken,
-        _ => TextKind::Report,
+        0 => TextChangeKind::Taken,
+        _ => TextChangeKind::Report,
     }
 }

@@ -32,7 +32,7 @@ mod verdict;
 mod writing;
 
 pub use entry::Entry;
-pub use limits::LAST_POSITION;
+pub use limits::{LAST_POSITION, MOST_STEP_CHANGES};
 pub use machine::Machine;
 pub use status::Status;
 pub use stepped::Stepped;

@@ -1,4 +1,12 @@
-//! The limit of a run's length.
+//! The limits of a run (docs/LANGUAGE.md, "Limits"). The definitions read these names too.
 
 /// The greatest position of a machine: a step further is not made (docs/DEBUGGER.md, "States").
 pub const LAST_POSITION: u64 = (1 << 63) - 1;
+/// At most so many frames stand below the last one, of 200 in all; a CALL further is F18.
+pub const MOST_BELOW: usize = 199;
+/// One SKIP appends at most so many lines; more are F13.
+pub const MOST_SKIPPED_LINES: i64 = 1000;
+/// A run gives at most so many references, and so has at most so many event notices; a further one is F20.
+pub const MOST_REFERENCES: usize = 1_000_000;
+/// A step notes at most so many changes, and two for each target of its statement.
+pub const MOST_STEP_CHANGES: usize = 64;

@@ -6,7 +6,7 @@ use std::alloc::{AllocError, Global};
 use std::marker::Model;
 
 /// What an open loop goes through.
-#[derive(Clone, Copy, PartialEq, Eq)]
+#[derive(Clone, Copy)]
 pub enum Walk {
     /// Numbers, each `step` further than the one before, up to the last.
     Numbers {
@@ -24,11 +24,34 @@ pub enum Walk {
 
 /// An open loop: the place of its FOR phrase, the candidate that comes next, if one is left, and
 /// what it goes through.
-#[derive(Clone, Copy, PartialEq, Eq)]
+#[derive(Clone, Copy)]
 pub struct OpenLoop {
     pub phrase: usize,
     pub candidate: Option<i64>,
     pub walk: Walk,
+}
+
+impl Model for OpenLoop {
+    ghost use Rattle.std.proofs.Common.{ap};
+    ghost use Rattle.ss_machine.specs.declared.loops.Walk.{Walk};
+    ghost use Rattle.ss_machine.specs.Loops.{OpenLoop};
+    ghost use Rattle.ss_machine.specs.View.{as_walk, code_walk, code_walk_is};
+
+    ghost Value = { OpenLoop };
+
+    ghost view = { λ a. record {
+      phrase = a.phrase;
+      candidate = a.candidate;
+      walk = as_walk a.walk;
+    } };
+
+    ghost inverse = { λ l. record {
+      phrase = l.phrase;
+      candidate = l.candidate;
+      walk = code_walk l.walk;
+    } };
+
+    ghost inverse_ok = { λ a _. ap (λ (w : Walk). record a { walk = w }) (code_walk_is a.walk) };
 }
 
 /// The open loops of a frame, the innermost first. Each has memory of its own, which it keeps when
@@ -46,7 +69,7 @@ struct Node {
 
 impl Model for Loops {
     ghost use Rattle.std.specs.Prelude.{List};
-    ghost use Rattle.ss_machine.specs.declared.loops.OpenLoop.{OpenLoop};
+    ghost use Rattle.ss_machine.specs.Loops.{OpenLoop};
     ghost use Rattle.ss_machine.specs.Nodes.{chain_loops};
 
     ghost Value = { List OpenLoop };
@@ -61,7 +84,7 @@ pub struct ClosedLoop {
 }
 
 impl Model for ClosedLoop {
-    ghost use Rattle.ss_machine.specs.declared.loops.OpenLoop.{OpenLoop};
+    ghost use Rattle.ss_machine.specs.Loops.{OpenLoop};
     ghost use Rattle.ss_machine.specs.Nodes.{node_loop};
 
     ghost Value = { OpenLoop };
@@ -104,17 +127,19 @@ impl Loops {
     }
 
     /// Gives the innermost loop another candidate.
-    pub fn advance(&mut self, candidate: Option<i64>)
+    pub fn set_candidate(&mut self, candidate: Option<i64>)
         ensures { self.new ≡ loops_with_candidate candidate self.old }
     {
         if let Some(node) = &mut self.top {
-            node.open_loop.candidate = candidate;
+            let innermost = &mut node.open_loop;
+            innermost.candidate = candidate;
         }
     }
 
     /// Closes the innermost loop.
     pub fn close(&mut self) -> Option<ClosedLoop>
-        ensures { MatchOption result ((self.old ≡ []) × (self.new ≡ [])) (λ closed. self.old ≡ closed ∷ self.new) }
+        ensures { MatchOption result ((self.old ≡ []) × (self.new ≡ []))
+            (λ closed. self.old ≡ closed ∷ self.new) }
     {
         match self.top.take() {
             None => None,

@@ -1,4 +1,5 @@
-ghost use Rattle.std.specs.Prelude.{◌≡◌, ℕ, ◌+◌, ◌^◌, ◌<◌, ◌≤◌, ◌∷◌, [], length, All, IsOk, OnOk, MatchBool, MatchOption};
+ghost use Rattle.std.specs.Prelude.{◌≡◌, ℕ, ◌+◌, ◌^◌, ◌<◌, ◌≤◌, ◌∷◌, [], length, All, IsOk, OnOk, MatchBool};
+ghost use Rattle.std.specs.Prelude.{MatchOption};
 ghost use Rattle.ss_machine.specs.Numbers.{numbers_of, AreSmall, IsHigher};
 
 use crate::folding::{narrow, unfold};
@@ -145,7 +146,8 @@ impl Numbers {
         ensures steps { self.new.steps ≡ newest n self.old.steps }
         ensures current { self.new.current ≡ [] }
         ensures notes { self.old.notes ≤ self.new.notes }
-        ensures closes { self.new.closes + length self.new.steps ≡ self.old.closes + length self.old.steps }
+        ensures closes { self.new.closes + length self.new.steps
+            ≡ self.old.closes + length self.old.steps }
     {
         self.bytes.keep_last(n);
     }
@@ -153,7 +155,7 @@ impl Numbers {
 
 impl Numbers {
     ghost use Rattle.std.specs.Prelude.{slice_index, not};
-    ghost use Rattle.ss_machine.specs.History.{IsTaken, unfolded, narrowed, is_set};
+    ghost use Rattle.ss_machine.specs.History.{IsTaken, signed_number, narrow_number, is_set};
 
     /// Takes the newest number off the open step, or 0 where that step is empty.
     pub fn take(&mut self) -> u64
@@ -165,7 +167,7 @@ impl Numbers {
 
     /// The same of a number with sign.
     pub fn take_signed(&mut self) -> i64
-        ensures value { result ≡ unfolded (slice_index self.old.current 0) }
+        ensures value { result ≡ signed_number (slice_index self.old.current 0) }
         ensures taken { IsTaken 1 self.old self.new }
     {
         unfold(self.take())
@@ -173,7 +175,7 @@ impl Numbers {
 
     /// The same of a number of 32 bits.
     pub fn take_narrow(&mut self) -> u32
-        ensures value { result ≡ narrowed (slice_index self.old.current 0) }
+        ensures value { result ≡ narrow_number (slice_index self.old.current 0) }
         ensures taken { IsTaken 1 self.old self.new }
     {
         narrow(self.take())
@@ -209,7 +211,8 @@ fn put(bytes: &mut Journal<u8>, number: u64)
 fn higher(bytes: &mut Journal<u8>) -> u64
     requires { AreSmall bytes.old.current }
     ensures steps { bytes.new.steps ≡ bytes.old.steps }
-    ensures current { IsHigher result (numbers_of bytes.old.current) (numbers_of bytes.new.current) }
+    ensures current { IsHigher result (numbers_of bytes.old.current)
+        (numbers_of bytes.new.current) }
     ensures notes { bytes.old.notes ≤ bytes.new.notes }
     ensures closes { bytes.new.closes ≡ bytes.old.closes }
 {

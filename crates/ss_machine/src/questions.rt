@@ -1,27 +1,26 @@
 //! What a statement asks of a view.
 ghost use Rattle.std.specs.Prelude.{◌≡◌, ◌<◌, length, Ok, IfOk, IfErr};
-ghost use Rattle.ss_program.specs.ProgramSound.{IsSoundExpr, AreSoundExprs, IsSoundOption, IsSoundPosition, IsSoundSetRef, IsSoundNotice, IsSoundWhen};
+ghost use Rattle.ss_program.specs.ProgramSound.{IsSoundExpr, AreSoundExprs, IsSoundOption, IsSoundPosition};
+ghost use Rattle.ss_program.specs.ProgramSound.{IsSoundSetRef, IsSoundNotice, IsSoundWhen};
 ghost use Rattle.ss_values.specs.Seen.{view_readings, InView};
 ghost use Rattle.ss_values.specs.Values as evaluated;
 ghost use Rattle.ss_values.specs.Values.{FaultIs};
 ghost use Rattle.ss_machine.specs.Step as steps;
 
+use crate::limits::MOST_SKIPPED_LINES;
 use ss_links::SetBoard;
 use ss_program::{Expr, Listing, Notice, Position, Schedule, SetEnd, SetRef, Variable, When};
 use ss_store::{How, Which};
 use ss_values::{View, subscript_value, value, values, variable_value};
 use ss_words::{RunFault, StepFault};
 
-/// The most lines that one SKIP appends.
-const MOST_LINES: i64 = 1000;
-
-/// How many lines a SKIP appends, or the first fault: F13 where they are more than 1000.
+/// How many lines a SKIP appends, or the first fault: F13 where they are below 0 or too many.
 pub fn line_count<S: SetBoard>(view: View<'_, S>, count: &Expr) -> Result<usize, RunFault>
     requires { InView view IsSoundExpr count.now }
     ensures { result ≡ steps.lines_asked (view_readings view.entry) count.now }
 {
     let count = value(view, count)?;
-    if count < 0 || MOST_LINES < count {
+    if count < 0 || MOST_SKIPPED_LINES < count {
         return Err(RunFault::CountOutOfRange);
     }
     Ok(count.unsigned_abs() as usize)
@@ -104,9 +103,11 @@ pub fn arguments_asked<S: SetBoard>(
 ) -> Result<i64, StepFault>
     requires notice { InView view IsSoundNotice schedule.now.notice }
     requires sound { InView view AreSoundExprs schedule.now.arguments }
-    ensures ok { IfOk result (λ x. steps.arguments_asked (view_readings view.entry) schedule.now.notice
+    ensures ok { IfOk result
+        (λ x. steps.arguments_asked (view_readings view.entry) schedule.now.notice
         schedule.now.arguments schedule.now.listing ≡ Ok (x, arguments.new.items)) }
-    ensures err { IfErr result (λ e. FaultIs e (steps.arguments_asked (view_readings view.entry) schedule.now.notice
+    ensures err { IfErr result
+        (λ e. FaultIs e (steps.arguments_asked (view_readings view.entry) schedule.now.notice
         schedule.now.arguments schedule.now.listing)) }
 {
     match schedule.listing {

@@ -1,49 +1,51 @@
 ghost use Rattle.std.specs.Prelude.{◌≡◌, ◌≤◌, ◌∷◌};
 ghost use Rattle.ss_machine.specs.History as pure;
-ghost use Rattle.ss_machine.specs.History.{IsTaken, value_numbers, set_numbers, entry_numbers, HasKept, AreValues, IsRead, IsNoticeRead};
-ghost use Rattle.ss_machine.specs.declared.change.Change.TheVariants as changes;
-ghost use Rattle.ss_machine.specs.declared.tape.Kept.TheVariants as kepts;
-ghost use Rattle.ss_machine.specs.declared.kind.Kind.TheVariants as kinds;
+ghost use Rattle.ss_machine.specs.History.{IsTaken, value_numbers, set_numbers, entry_numbers, HasKept, AreValues};
+ghost use Rattle.ss_machine.specs.History.{IsRead, IsNoticeRead};
+ghost use Rattle.ss_machine.specs.Change as changes;
+ghost use Rattle.ss_machine.specs.ChangeView.{as_change};
+ghost use Rattle.ss_machine.specs.declared.tape.Owned.TheVariants as owned;
+ghost use Rattle.ss_machine.specs.declared.kind.ChangeKind.TheVariants as kinds;
 
 use crate::change::Change;
 use crate::entry::Entry;
 use crate::kind::{
-    ControlKind, EntityKind, EntryKind, Kind, LoopKind, SetKind, TextKind, TimeKind, ValueKind,
+    ChangeKind, ControlChangeKind, EntityChangeKind, EntryChangeKind, LoopChangeKind,
+    SetChangeKind, TextChangeKind, TimeChangeKind, ValueChangeKind,
 };
 use crate::numbers::Numbers;
-use crate::statistics::Statistics;
-use crate::tape::{Kept, Tape};
+use crate::tape::{Owned, Tape};
 use ss_events::{AgendaChange, PendingNotice};
 use ss_journal::Journal;
 use ss_program::Owner;
 use ss_store::StoreChange;
 
 /// A change of what a variable, FIND or COMPUTE holds.
-fn value_change(kind: ValueKind, numbers: &mut Numbers) -> Change
-    ensures value { result ≡ pure.value_change kind numbers.old.current }
+fn value_change(kind: ValueChangeKind, numbers: &mut Numbers) -> Change
+    ensures value { as_change result ≡ pure.value_change kind numbers.old.current }
     ensures taken { IsTaken (value_numbers kind) numbers.old numbers.new }
 {
     match kind {
-        ValueKind::Variable => Change::Variable {
+        ValueChangeKind::Variable => Change::Variable {
             number: numbers.take() as usize,
             old: numbers.take_signed(),
         },
-        ValueKind::Local => Change::Local {
+        ValueChangeKind::Local => Change::Local {
             number: numbers.take() as usize,
             old: numbers.take_signed(),
         },
-        ValueKind::Found => Change::Found(numbers.take_flag()),
-        ValueKind::Statistics => Change::Statistics(Statistics {
+        ValueChangeKind::Found => Change::Found(numbers.take_flag()),
+        ValueChangeKind::Statistics => Change::Statistics {
             number: numbers.take_signed(),
             sum: numbers.take_signed(),
             greatest: numbers.take_signed(),
             least: numbers.take_signed(),
-        }),
+        },
     }
 }
 
 /// A change of a set.
-fn set_change(kind: SetKind, numbers: &mut Numbers) -> StoreChange
+fn set_change(kind: SetChangeKind, numbers: &mut Numbers) -> StoreChange
     ensures value { result ≡ pure.set_change kind numbers.old.current }
     ensures taken { IsTaken (set_numbers kind) numbers.old numbers.new }
 {
@@ -53,14 +55,14 @@ fn set_change(kind: SetKind, numbers: &mut Numbers) -> StoreChange
     let number = numbers.take() as usize;
     let member = numbers.take() as usize;
     match kind {
-        SetKind::Filed => StoreChange::Filed {
+        SetChangeKind::Filed => StoreChange::Filed {
             set,
             owner,
             list,
             number,
             member,
         },
-        SetKind::FirstRemoved => StoreChange::Removed {
+        SetChangeKind::FirstRemoved => StoreChange::Removed {
             set,
             owner,
             list,
@@ -68,7 +70,7 @@ fn set_change(kind: SetKind, numbers: &mut Numbers) -> StoreChange
             member,
             before: None,
         },
-        SetKind::Removed => StoreChange::Removed {
+        SetChangeKind::Removed => StoreChange::Removed {
             set,
             owner,
             list,
@@ -80,7 +82,8 @@ fn set_change(kind: SetKind, numbers: &mut Numbers) -> StoreChange
 }
 
 fn take_owner(numbers: &mut Numbers) -> Owner
-    ensures value { result ≡ pure.owner_of (pure.at 0 numbers.old.current) (pure.at 1 numbers.old.current) }
+    ensures value { result
+        ≡ pure.owner_of (pure.at 0 numbers.old.current) (pure.at 1 numbers.old.current) }
     ensures taken { IsTaken 2 numbers.old numbers.new }
 {
     let owned = numbers.take_flag();
@@ -93,17 +96,17 @@ fn take_owner(numbers: &mut Numbers) -> Owner
 }
 
 /// An entry of an external event.
-fn entry_of(kind: EntryKind, numbers: &mut Numbers) -> Entry
+fn entry_of(kind: EntryChangeKind, numbers: &mut Numbers) -> Entry
     ensures value { result ≡ pure.entry_of kind numbers.old.current }
     ensures taken { IsTaken (entry_numbers kind) numbers.old numbers.new }
 {
     match kind {
-        EntryKind::Absent => Entry::Absent,
-        EntryKind::Waiting => Entry::Waiting {
+        EntryChangeKind::Absent => Entry::Absent,
+        EntryChangeKind::Waiting => Entry::Waiting {
             class: numbers.take() as usize,
             notice: numbers.take_narrow(),
         },
-        EntryKind::Running => Entry::Running {
+        EntryChangeKind::Running => Entry::Running {
             class: numbers.take() as usize,
             notice: numbers.take_narrow(),
         },
@@ -111,96 +114,96 @@ fn entry_of(kind: EntryKind, numbers: &mut Numbers) -> Entry
 }
 
 /// A change of data or report.
-fn text_change(kind: TextKind, numbers: &mut Numbers) -> Change
-    ensures value { result ≡ pure.text_change kind numbers.old.current }
+fn text_change(kind: TextChangeKind, numbers: &mut Numbers) -> Change
+    ensures value { as_change result ≡ pure.text_change kind numbers.old.current }
     ensures taken { IsTaken 1 numbers.old numbers.new }
 {
     let old = numbers.take() as usize;
     match kind {
-        TextKind::Taken => Change::Taken(old),
-        TextKind::Report => Change::Report(old),
+        TextChangeKind::Taken => Change::Taken(old),
+        TextChangeKind::Report => Change::Report(old),
     }
 }
 
 impl Tape {
     /// Reads the newest change of this kind, of which the number of its kind was taken off.
-    pub fn read(&mut self, kind: Kind) -> Change
+    pub fn read(&mut self, kind: ChangeKind) -> Change
         requires { HasKept kind self.old.kept.current }
-        ensures { IsRead kind result self.old self.new }
+        ensures { IsRead kind (as_change result) self.old self.new }
     {
         match kind {
-            Kind::Value(kind) => value_change(kind, &mut self.numbers),
-            Kind::Control(kind) => self.control_change(kind),
-            Kind::Loop(kind) => self.loop_change(kind),
-            Kind::Entity(kind) => Change::Store(self.entity_change(kind)),
-            Kind::Set(kind) => Change::Store(set_change(kind, &mut self.numbers)),
-            Kind::Time(kind) => self.time_change(kind),
-            Kind::Entry(kind) => Change::Entry(entry_of(kind, &mut self.numbers)),
-            Kind::Text(kind) => text_change(kind, &mut self.numbers),
+            ChangeKind::Value(kind) => value_change(kind, &mut self.numbers),
+            ChangeKind::Control(kind) => self.control_change(kind),
+            ChangeKind::Loop(kind) => self.loop_change(kind),
+            ChangeKind::Entity(kind) => Change::Store(self.entity_change(kind)),
+            ChangeKind::Set(kind) => Change::Store(set_change(kind, &mut self.numbers)),
+            ChangeKind::Time(kind) => self.time_change(kind),
+            ChangeKind::Entry(kind) => Change::Entry(entry_of(kind, &mut self.numbers)),
+            ChangeKind::Text(kind) => text_change(kind, &mut self.numbers),
         }
     }
 
     /// A change of where the run stands.
-    fn control_change(&mut self, kind: ControlKind) -> Change
+    fn control_change(&mut self, kind: ControlChangeKind) -> Change
         requires { HasKept (kinds.Control kind) self.old.kept.current }
-        ensures { IsRead (kinds.Control kind) result self.old self.new }
+        ensures { IsRead (kinds.Control kind) (as_change result) self.old self.new }
     {
         match kind {
-            ControlKind::Place => Change::Place(self.numbers.take() as usize),
-            ControlKind::FrameOpened => Change::FrameOpened,
-            ControlKind::FrameDropped => match self.kept.pop_open() {
-                Some(Kept::Frame(frame)) => Change::FrameDropped(frame),
+            ControlChangeKind::Place => Change::Place(self.numbers.take() as usize),
+            ControlChangeKind::FrameOpened => Change::FrameOpened,
+            ControlChangeKind::FrameDropped => match self.kept.pop_open() {
+                Some(Owned::Frame(frame)) => Change::FrameDropped(frame),
                 _ => unreachable!(),
             },
-            ControlKind::Status => match self.kept.pop_open() {
-                Some(Kept::Status(status)) => Change::Status(status),
+            ControlChangeKind::Status => match self.kept.pop_open() {
+                Some(Owned::Status(status)) => Change::Status(status),
                 _ => unreachable!(),
             },
         }
     }
 
     /// A change of open loops.
-    fn loop_change(&mut self, kind: LoopKind) -> Change
+    fn loop_change(&mut self, kind: LoopChangeKind) -> Change
         requires { HasKept (kinds.Loop kind) self.old.kept.current }
-        ensures { IsRead (kinds.Loop kind) result self.old self.new }
+        ensures { IsRead (kinds.Loop kind) (as_change result) self.old self.new }
     {
         match kind {
-            LoopKind::Opened => Change::LoopOpened,
-            LoopKind::Moved => Change::LoopMoved(Some(self.numbers.take_signed())),
-            LoopKind::MovedFromNone => Change::LoopMoved(None),
-            LoopKind::Closed => match self.kept.pop_open() {
-                Some(Kept::Loop(closed)) => Change::LoopClosed(closed),
+            LoopChangeKind::Opened => Change::LoopOpened,
+            LoopChangeKind::Moved => Change::LoopMoved(Some(self.numbers.take_signed())),
+            LoopChangeKind::MovedFromNone => Change::LoopMoved(None),
+            LoopChangeKind::Closed => match self.kept.pop_open() {
+                Some(Owned::Loop(closed)) => Change::LoopClosed(closed),
                 _ => unreachable!(),
             },
         }
     }
 
     /// A change of entities.
-    fn entity_change(&mut self, kind: EntityKind) -> StoreChange
+    fn entity_change(&mut self, kind: EntityChangeKind) -> StoreChange
         requires { HasKept (kinds.Entity kind) self.old.kept.current }
         ensures { IsRead (kinds.Entity kind) (changes.Store result) self.old self.new }
     {
         let class = self.numbers.take() as usize;
         match kind {
-            EntityKind::Created => StoreChange::Created {
+            EntityChangeKind::Created => StoreChange::Created {
                 class,
                 number: self.numbers.take() as usize,
                 heads: self.numbers.take_narrow(),
                 seats: self.numbers.take_narrow(),
             },
-            EntityKind::ClassCreated => StoreChange::ClassCreated {
+            EntityChangeKind::ClassCreated => StoreChange::ClassCreated {
                 class,
                 count: self.numbers.take() as usize,
                 heads: self.numbers.take_narrow(),
                 seats: self.numbers.take_narrow(),
             },
-            EntityKind::AttributeSet => StoreChange::AttributeSet {
+            EntityChangeKind::AttributeSet => StoreChange::AttributeSet {
                 class,
                 attribute: self.numbers.take() as usize,
                 number: self.numbers.take() as usize,
                 old: self.numbers.take_signed(),
             },
-            EntityKind::Ended => StoreChange::Ended {
+            EntityChangeKind::Ended => StoreChange::Ended {
                 class,
                 number: self.numbers.take() as usize,
                 owned: self.numbers.take_narrow(),
@@ -210,22 +213,22 @@ impl Tape {
     }
 
     /// A change of the clock or of the event list.
-    fn time_change(&mut self, kind: TimeKind) -> Change
+    fn time_change(&mut self, kind: TimeChangeKind) -> Change
         requires { HasKept (kinds.Time kind) self.old.kept.current }
-        ensures { IsRead (kinds.Time kind) result self.old self.new }
+        ensures { IsRead (kinds.Time kind) (as_change result) self.old self.new }
     {
         match kind {
-            TimeKind::Clock => Change::Clock(self.numbers.take_signed()),
-            TimeKind::Scheduled => Change::Agenda(AgendaChange::Scheduled {
+            TimeChangeKind::Clock => Change::Clock(self.numbers.take_signed()),
+            TimeChangeKind::Scheduled => Change::Agenda(AgendaChange::Scheduled {
                 notice: self.numbers.take_narrow(),
                 seated: self.numbers.take_flag(),
             }),
-            TimeKind::FirstTakenOff => Change::Agenda(AgendaChange::TakenOff {
+            TimeChangeKind::FirstTakenOff => Change::Agenda(AgendaChange::TakenOff {
                 notice: self.numbers.take_narrow(),
                 entry: self.notice(),
                 predecessor: None,
             }),
-            TimeKind::TakenOff => Change::Agenda(AgendaChange::TakenOff {
+            TimeChangeKind::TakenOff => Change::Agenda(AgendaChange::TakenOff {
                 notice: self.numbers.take_narrow(),
                 entry: self.notice(),
                 predecessor: Some(self.numbers.take_narrow()),
@@ -248,15 +251,15 @@ impl Tape {
 }
 
 /// The values that are kept of the newest change.
-fn take_values(kept: &mut Journal<Kept>) -> Vec<i64>
+fn take_values(kept: &mut Journal<Owned>) -> Vec<i64>
     requires { AreValues kept.old.current }
-    ensures current { kept.old.current ≡ kepts.Values result ∷ kept.new.current }
+    ensures current { kept.old.current ≡ owned.Values result ∷ kept.new.current }
     ensures steps { kept.new.steps ≡ kept.old.steps }
     ensures notes { kept.old.notes ≤ kept.new.notes }
     ensures closes { kept.new.closes ≡ kept.old.closes }
 {
     match kept.pop_open() {
-        Some(Kept::Values(values)) => values,
+        Some(Owned::Values(values)) => values,
         _ => unreachable!(),
     }
 }

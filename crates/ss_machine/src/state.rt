@@ -1,4 +1,6 @@
-ghost use Rattle.std.specs.Prelude.{◌≡◌, ◌+◌, ◌^◌, ◌<◌, ◌≤◌, ◌∷◌, ◌++◌, [], length, drop, replicate, map, nat_lt, slice_get, OnOk, Some, None, Err, slice_set, IfOk, OnErr, IfErr, MatchOption, Ok, true, false};
+ghost use Rattle.std.specs.Prelude.{◌≡◌, ◌+◌, ◌^◌, ◌<◌, ◌≤◌, ◌∷◌, ◌++◌, [], length, drop, replicate, map, nat_lt};
+ghost use Rattle.std.specs.Prelude.{slice_get, OnOk, Some, None, Err, slice_set, IfOk, OnErr, IfErr, MatchOption, Ok};
+ghost use Rattle.std.specs.Prelude.{true, false};
 ghost use Rattle.ss_report.specs.Pictures.{field_count, picture_text};
 ghost use Rattle.ss_program.specs.ProgramSound.{IsSettable};
 ghost use Rattle.ss_values.specs.Seen.{scope_of};
@@ -11,7 +13,8 @@ ghost use Rattle.ss_events.specs.Rules.{rule_at, is_event_class};
 ghost use Rattle.ss_events.specs.Slots.{slot_of};
 ghost use Rattle.std.specs.Option.{option_map};
 ghost use Rattle.std.specs.List.{range_with_len};
-ghost use Rattle.ss_machine.specs.Step.{value_taken, external_class, arrival_asked, existing, attributes_now, state_with_agenda, state_with_notice, agenda_without};
+ghost use Rattle.ss_machine.specs.Step.{value_taken, external_class, arrival_asked, entity_named, attributes_now};
+ghost use Rattle.ss_machine.specs.Step.{state_with_agenda, state_with_notice, agenda_without};
 ghost use Rattle.ss_machine.specs.Storing.{LeavesState, IsScheduling, IsCancelling};
 ghost use Rattle.ss_machine.specs.Storing.{IsStoring, IsRemoving, IsCreating, IsMakingAll};
 ghost use Rattle.ss_links.specs.Board.{empty_board};
@@ -21,11 +24,13 @@ ghost use Rattle.ss_machine.specs.Held.{store_of, agenda_of};
 ghost use Rattle.ss_values.specs.Seen.{view_readings};
 ghost use Rattle.ss_values.specs.Values.{FaultIs};
 ghost use Rattle.ss_machine.specs.Readings.{readings, variable_in, HasVariable};
-ghost use Rattle.ss_machine.specs.Step.{state_after_assignment, longer_report, state_at_place, state_with_loops, state_with_found, state_with_statistics, state_with_taken, values_taken};
+ghost use Rattle.ss_machine.specs.Step.{state_after_assignment, longer_report, state_at_place, state_with_loops};
+ghost use Rattle.ss_machine.specs.Step.{state_with_found, state_with_statistics, state_with_taken, values_taken};
 ghost use Rattle.ss_machine.specs.Loops.{loop_of_phrase, innermost, loops_with_candidate};
 ghost use Rattle.ss_machine.specs.Run.{start};
 ghost use Rattle.ss_machine.specs.Change.{Fits, unapply};
-ghost use Rattle.ss_machine.specs.State.{most_below, waits_for, entry_at_start};
+ghost use Rattle.ss_machine.specs.ChangeView.{as_change};
+ghost use Rattle.ss_machine.specs.State.{waits_for, entry_at_start};
 ghost use Rattle.ss_words.specs.declared.fault.RunFault.TheVariants as RunFault;
 ghost use Rattle.ss_data.specs.Items.{with_taken, value_or_fault};
 ghost use Rattle.ss_data.specs.Entries.{place_behind_mark};
@@ -36,6 +41,7 @@ use crate::change::Change;
 use crate::entry::Entry;
 use crate::external::external_class;
 use crate::frame::{Frame, FrameBox};
+use crate::limits::{MOST_BELOW, MOST_REFERENCES};
 use crate::loops::OpenLoop;
 use crate::statistics::{Statistics, no_statistics};
 use crate::status::Status;
@@ -47,13 +53,11 @@ use ss_program::{Keys, Program, Targets, Variable};
 use ss_report::{Picture, Report};
 use ss_store::{How, Store, Which};
 use ss_values::View;
+use ss_words::characters::LINE_FEED;
 use ss_words::{RunFault, StepFault};
 use std::alloc::{AllocError, Global};
 use std::marker::Model;
 use std::mem;
-
-/// The most frames below the last one.
-pub const MOST_BELOW: usize = 199;
 
 /// The state of a run. Each call that writes gives what takes its change back.
 #[derive(Drop)]
@@ -72,6 +76,7 @@ pub struct State<S: SetBoard> {
 
 impl<S: SetBoard> Model for State<S> {
     ghost use Rattle.std.specs.Prelude.{reverse, ◌≤◌, vec_capacity};
+    ghost use Rattle.ss_machine.specs.declared.limits.TheConstants.{MOST_BELOW};
     ghost use Rattle.ss_machine.specs.Held.{Held};
 
     ghost Value = { Held };
@@ -97,7 +102,7 @@ impl<S: SetBoard> Model for State<S> {
       };
     } };
 
-    ghost invariant = { λ a. 199 ≤ vec_capacity a.below };
+    ghost invariant = { λ a. MOST_BELOW ≤ vec_capacity a.below };
 }
 
 impl<S: SetBoard> State<S> {
@@ -164,7 +169,6 @@ impl<S: SetBoard> State<S> {
         }
     }
 
-    /// The store.
     pub fn store(&self) -> &Store<S>
         ensures { result.now ≡ store_of self.now }
     {
@@ -186,7 +190,6 @@ impl<S: SetBoard> State<S> {
         (frame.section, frame.place)
     }
 
-    /// The clock.
     pub fn clock(&self) -> i64
         ensures { result ≡ self.now.state.clock }
     {
@@ -207,7 +210,6 @@ impl<S: SetBoard> State<S> {
         self.report.bytes()
     }
 
-    /// The status.
     pub fn status(&self) -> Status
         ensures { result ≡ self.now.state.status }
     {
@@ -226,8 +228,8 @@ impl<S: SetBoard> State<S> {
         requires { IsSettable (scope_of (readings self.old.beside.tables self.old.state)) target }
         ensures state { self.new.state ≡ state_after_assignment self.old.state target value }
         ensures beside { self.new.beside ≡ self.old.beside }
-        ensures fits { Fits result self.new }
-        ensures back { unapply result self.new ≡ self.old }
+        ensures fits { Fits (as_change result) self.new }
+        ensures back { unapply (as_change result) self.new ≡ self.old }
     {
         match target {
             Variable::Global(number) => self.assign_global(number, value),
@@ -238,10 +240,11 @@ impl<S: SetBoard> State<S> {
 
     fn assign_global(&mut self, number: usize, value: i64) -> Change
         requires { number < length self.old.state.variables }
-        ensures state { self.new.state ≡ state_after_assignment self.old.state (variable.Global number) value }
+        ensures state { self.new.state
+            ≡ state_after_assignment self.old.state (variable.Global number) value }
         ensures beside { self.new.beside ≡ self.old.beside }
-        ensures fits { Fits result self.new }
-        ensures back { unapply result self.new ≡ self.old }
+        ensures fits { Fits (as_change result) self.new }
+        ensures back { unapply (as_change result) self.new ≡ self.old }
     {
         let old = self.variables[number];
         self.variables[number] = value;
@@ -250,10 +253,11 @@ impl<S: SetBoard> State<S> {
 
     fn assign_local(&mut self, number: usize, value: i64) -> Change
         requires { number < length self.old.state.frame.locals }
-        ensures state { self.new.state ≡ state_after_assignment self.old.state (variable.Local number) value }
+        ensures state { self.new.state
+            ≡ state_after_assignment self.old.state (variable.Local number) value }
         ensures beside { self.new.beside ≡ self.old.beside }
-        ensures fits { Fits result self.new }
-        ensures back { unapply result self.new ≡ self.old }
+        ensures fits { Fits (as_change result) self.new }
+        ensures back { unapply (as_change result) self.new ≡ self.old }
     {
         let frame = &mut *self.frame.frame;
         let old = frame.assign(number, value);
@@ -268,7 +272,8 @@ impl<S: SetBoard> State<S> {
 
     /// The innermost loop of the last frame, if it is that of the phrase where the frame stands.
     pub fn loop_here(&self) -> Option<OpenLoop>
-        ensures { result ≡ loop_of_phrase self.now.state.frame.place (innermost self.now.state.frame.loops) }
+        ensures { result
+            ≡ loop_of_phrase self.now.state.frame.place (innermost self.now.state.frame.loops) }
     {
         let frame = self.last();
         match frame.loops.top() {
@@ -327,8 +332,8 @@ impl<S: SetBoard> State<S> {
     /// The last frame goes to another place.
     pub fn go_to(&mut self, place: usize) -> Change
         ensures state { self.new.state ≡ state_at_place place self.old.state }
-        ensures fits { Fits result self.new }
-        ensures back { unapply result self.new ≡ self.old }
+        ensures fits { Fits (as_change result) self.new }
+        ensures back { unapply (as_change result) self.new ≡ self.old }
     {
         let frame = &mut *self.frame.frame;
         let old = frame.place;
@@ -339,8 +344,8 @@ impl<S: SetBoard> State<S> {
     /// Sets what FIND answers.
     pub fn set_found(&mut self, found: bool) -> Change
         ensures state { self.new.state ≡ state_with_found self.old.state found }
-        ensures fits { Fits result self.new }
-        ensures back { unapply result self.new ≡ self.old }
+        ensures fits { Fits (as_change result) self.new }
+        ensures back { unapply (as_change result) self.new ≡ self.old }
     {
         let frame = &mut *self.frame.frame;
         let old = frame.found;
@@ -351,21 +356,27 @@ impl<S: SetBoard> State<S> {
     /// Sets what COMPUTE has gathered.
     pub fn set_statistics(&mut self, statistics: Statistics) -> Change
         ensures state { self.new.state ≡ state_with_statistics self.old.state statistics }
-        ensures fits { Fits result self.new }
-        ensures back { unapply result self.new ≡ self.old }
+        ensures fits { Fits (as_change result) self.new }
+        ensures back { unapply (as_change result) self.new ≡ self.old }
     {
         let frame = &mut *self.frame.frame;
         let old = frame.statistics;
         frame.statistics = statistics;
-        Change::Statistics(old)
+        Change::Statistics {
+            number: old.number,
+            sum: old.sum,
+            greatest: old.greatest,
+            least: old.least,
+        }
     }
 
     /// Opens a loop in the last frame. After an error nothing has changed.
     pub fn open_loop(&mut self, alloc: Global, open_loop: OpenLoop) -> Result<Change, AllocError>
         ensures state { IfOk result
-            (λ _. self.new.state ≡ state_with_loops self.old.state (open_loop ∷ self.old.state.frame.loops)) }
-        ensures fits { IfOk result (λ c. Fits c self.new) }
-        ensures back { IfOk result (λ c. unapply c self.new ≡ self.old) }
+            (λ _. self.new.state
+            ≡ state_with_loops self.old.state (open_loop ∷ self.old.state.frame.loops)) }
+        ensures fits { IfOk result (λ c. Fits (as_change c) self.new) }
+        ensures back { IfOk result (λ c. unapply (as_change c) self.new ≡ self.old) }
         ensures err { OnErr result (self.new ≡ self.old) }
     {
         let frame = &mut *self.frame.frame;
@@ -377,25 +388,28 @@ impl<S: SetBoard> State<S> {
     pub fn move_loop(&mut self, candidate: Option<i64>) -> Change
         requires { 0 < length self.old.state.frame.loops }
         ensures state { self.new.state
-            ≡ state_with_loops self.old.state (loops_with_candidate candidate self.old.state.frame.loops) }
+            ≡ state_with_loops self.old.state
+            (loops_with_candidate candidate self.old.state.frame.loops) }
         ensures beside { self.new.beside ≡ self.old.beside }
-        ensures fits { Fits result self.new }
-        ensures back { unapply result self.new ≡ self.old }
+        ensures fits { Fits (as_change result) self.new }
+        ensures back { unapply (as_change result) self.new ≡ self.old }
     {
         let frame = &mut *self.frame.frame;
         let old = match frame.loops.top() {
             None => None,
             Some(top) => top.candidate,
         };
-        frame.loops.advance(candidate);
+        frame.loops.set_candidate(candidate);
         Change::LoopMoved(old)
     }
 
     /// Closes the innermost loop; none where none is open, and then nothing changes.
     pub fn close_loop(&mut self) -> Option<Change>
-        ensures state { self.new.state ≡ state_with_loops self.old.state (drop 1 self.old.state.frame.loops) }
-        ensures fits { MatchOption result (self.new ≡ self.old) (λ c. Fits c self.new) }
-        ensures back { MatchOption result (self.new ≡ self.old) (λ c. unapply c self.new ≡ self.old) }
+        ensures state { self.new.state
+            ≡ state_with_loops self.old.state (drop 1 self.old.state.frame.loops) }
+        ensures fits { MatchOption result (self.new ≡ self.old) (λ c. Fits (as_change c) self.new) }
+        ensures back { MatchOption result (self.new ≡ self.old)
+            (λ c. unapply (as_change c) self.new ≡ self.old) }
     {
         let frame = &mut *self.frame.frame;
         match frame.loops.close() {
@@ -406,11 +420,15 @@ impl<S: SetBoard> State<S> {
 
     /// A frame becomes the last one.
     pub fn open_frame(&mut self, frame: FrameBox) -> Change
-        requires { length self.old.state.below < most_below }
+        requires { length self.old.state.below < MOST_BELOW }
         ensures state { self.new.state
-            ≡ record self.old.state { frame = frame; below = self.old.state.frame ∷ self.old.state.below } }
-        ensures fits { Fits result self.new }
-        ensures back { unapply result self.new ≡ self.old }
+            ≡ record self.old.state {
+              frame = frame;
+              below = self.old.state.frame
+                  ∷ self.old.state.below;
+            } }
+        ensures fits { Fits (as_change result) self.new }
+        ensures back { unapply (as_change result) self.new ≡ self.old }
     {
         let last = mem::replace(&mut self.frame, frame);
         self.below.push_reserved(last);
@@ -419,12 +437,13 @@ impl<S: SetBoard> State<S> {
 
     /// Drops the last frame; none where none stands below it, and then nothing changes.
     pub fn drop_frame(&mut self) -> Option<Change>
-        requires { length self.old.state.below ≤ most_below }
+        requires { length self.old.state.below ≤ MOST_BELOW }
         ensures state { MatchOption result ((self.old.state.below ≡ []) × (self.new ≡ self.old))
             (λ _. HasDropped self.old.state self.new.state) }
         ensures beside { self.new.beside ≡ self.old.beside }
-        ensures fits { MatchOption result (Unit {0}) (λ c. Fits c self.new) }
-        ensures back { MatchOption result (Unit {0}) (λ c. unapply c self.new ≡ self.old) }
+        ensures fits { MatchOption result (Unit {0}) (λ c. Fits (as_change c) self.new) }
+        ensures back { MatchOption result (Unit {0})
+            (λ c. unapply (as_change c) self.new ≡ self.old) }
     {
         match self.below.pop() {
             None => None,
@@ -435,8 +454,8 @@ impl<S: SetBoard> State<S> {
     /// Gives the state another status.
     pub fn mark(&mut self, status: Status) -> Change
         ensures state { self.new.state ≡ record self.old.state { status = status } }
-        ensures fits { Fits result self.new }
-        ensures back { unapply result self.new ≡ self.old }
+        ensures fits { Fits (as_change result) self.new }
+        ensures back { unapply (as_change result) self.new ≡ self.old }
     {
         let old = self.status;
         self.status = status;
@@ -447,8 +466,8 @@ impl<S: SetBoard> State<S> {
     pub fn set_entry(&mut self, entry: Entry) -> Change
         ensures state { self.new.state ≡ record self.old.state { entry = entry } }
         ensures beside { self.new.beside ≡ self.old.beside }
-        ensures fits { Fits result self.new }
-        ensures back { unapply result self.new ≡ self.old }
+        ensures fits { Fits (as_change result) self.new }
+        ensures back { unapply (as_change result) self.new ≡ self.old }
     {
         let old = self.entry;
         self.entry = entry;
@@ -464,14 +483,16 @@ impl<S: SetBoard> State<S> {
         values: &mut Vec<i64>,
     ) -> Result<Change, StepFault>
         ensures state { IfOk result
-            (λ _. self.new.state ≡ state_with_taken self.old.state (self.old.state.feed.taken + length targets.now)) }
+            (λ _. self.new.state
+            ≡ state_with_taken self.old.state (self.old.state.feed.taken + length targets.now)) }
         ensures beside { self.new.beside ≡ self.old.beside }
         ensures few { OnOk result (length targets.now < 2 ^ 64) }
         ensures values { IfOk result
-            (λ _. values_taken external self.old.state.feed.items self.old.state.feed.taken targets.now
+            (λ _.
+            values_taken external self.old.state.feed.items self.old.state.feed.taken targets.now
             ≡ Ok values.new.items) }
-        ensures fits { IfOk result (λ c. Fits c self.new) }
-        ensures back { IfOk result (λ c. unapply c self.new ≡ self.old) }
+        ensures fits { IfOk result (λ c. Fits (as_change c) self.new) }
+        ensures back { IfOk result (λ c. unapply (as_change c) self.new ≡ self.old) }
         ensures fault { IfErr result
             (λ e. FaultIs e (values_taken external self.old.state.feed.items self.old.state.feed.taken targets.now)) }
         ensures err { OnErr result (self.new ≡ self.old) }
@@ -489,14 +510,16 @@ impl<S: SetBoard> State<S> {
     /// Appends the text of a picture to the report. After a fault nothing has changed.
     pub fn print(&mut self, picture: &Picture, values: &[i64]) -> Result<Change, StepFault>
         requires { length values.now ≡ field_count picture.now }
-        ensures state { IfOk result (λ _. self.new.state ≡ record self.old.state { report = self.new.state.report }) }
+        ensures state { IfOk result
+            (λ _. self.new.state ≡ record self.old.state { report = self.new.state.report }) }
         ensures report { IfOk result
             (λ _. longer_report self.old.state.report (picture_text picture.now values.now)
             ≡ Ok self.new.state.report) }
-        ensures fits { IfOk result (λ c. Fits c self.new) }
-        ensures back { IfOk result (λ c. unapply c self.new ≡ self.old) }
+        ensures fits { IfOk result (λ c. Fits (as_change c) self.new) }
+        ensures back { IfOk result (λ c. unapply (as_change c) self.new ≡ self.old) }
         ensures fault { IfErr result
-            (λ e. FaultIs e (longer_report self.old.state.report (picture_text picture.now values.now))) }
+            (λ e.
+            FaultIs e (longer_report self.old.state.report (picture_text picture.now values.now))) }
         ensures err { OnErr result (self.new ≡ self.old) }
     {
         let old = self.report.len();
@@ -506,12 +529,15 @@ impl<S: SetBoard> State<S> {
 
     /// Appends so many line feeds to the report. After a fault nothing has changed.
     pub fn skip(&mut self, lines: usize) -> Result<Change, StepFault>
-        ensures state { IfOk result (λ _. self.new.state ≡ record self.old.state { report = self.new.state.report }) }
+        ensures state { IfOk result
+            (λ _. self.new.state ≡ record self.old.state { report = self.new.state.report }) }
         ensures report { IfOk result
-            (λ _. longer_report self.old.state.report (replicate lines 10) ≡ Ok self.new.state.report) }
-        ensures fits { IfOk result (λ c. Fits c self.new) }
-        ensures back { IfOk result (λ c. unapply c self.new ≡ self.old) }
-        ensures fault { IfErr result (λ e. FaultIs e (longer_report self.old.state.report (replicate lines 10))) }
+            (λ _. longer_report self.old.state.report (replicate lines LINE_FEED)
+            ≡ Ok self.new.state.report) }
+        ensures fits { IfOk result (λ c. Fits (as_change c) self.new) }
+        ensures back { IfOk result (λ c. unapply (as_change c) self.new ≡ self.old) }
+        ensures fault { IfErr result
+            (λ e. FaultIs e (longer_report self.old.state.report (replicate lines LINE_FEED))) }
         ensures err { OnErr result (self.new ≡ self.old) }
     {
         let old = self.report.len();
@@ -531,7 +557,8 @@ impl<S: SetBoard> State<S> {
     ) -> Result<Change, RunFault>
         requires { class < length self.old.beside.tables.classes }
         ensures { IsStoring result
-            (entities.with_attribute self.old.state.store class attribute (number_of entity) value) self.old self.new }
+            (entities.with_attribute self.old.state.store class attribute
+            (number_of entity) value) self.old self.new }
     {
         match self.store.set(class, attribute, entity, value) {
             Ok(change) => Ok(Change::Store(change)),
@@ -545,7 +572,8 @@ impl<S: SetBoard> State<S> {
         requires class { class < length self.old.beside.tables.classes }
         requires kind { (class_of self.old.beside.tables class).permanent ≡ false }
         ensures { IsCreating result
-            (entities.with_new self.old.state.store class (class_of self.old.beside.tables class)) self.old self.new }
+            (entities.with_new self.old.state.store class
+            (class_of self.old.beside.tables class)) self.old self.new }
     {
         match self.store.create(class) {
             Ok((number, change)) => Ok((number, Change::Store(change))),
@@ -559,7 +587,8 @@ impl<S: SetBoard> State<S> {
         requires class { class < length self.old.beside.tables.classes }
         requires kind { (class_of self.old.beside.tables class).permanent ≡ true }
         ensures { IsMakingAll result
-            (entities.with_class self.old.state.store class (class_of self.old.beside.tables class) count)
+            (entities.with_class self.old.state.store class
+            (class_of self.old.beside.tables class) count)
             self.old self.new }
     {
         match self.store.create_all(class, count) {
@@ -573,7 +602,8 @@ impl<S: SetBoard> State<S> {
         requires class { class < length self.old.beside.tables.classes }
         requires kind { (class_of self.old.beside.tables class).permanent ≡ false }
         ensures { IsStoring result
-            (entities.without_entity self.old.beside.tables self.old.state.store class (number_of entity))
+            (entities.without_entity self.old.beside.tables self.old.state.store class
+            (number_of entity))
             self.old self.new }
     {
         match self.store.destroy(class, entity) {
@@ -592,7 +622,8 @@ impl<S: SetBoard> State<S> {
     ) -> Result<Change, RunFault>
         requires { set < length self.old.beside.tables.sets }
         ensures { IsStoring result
-            (after_filing (set_of self.old.beside.tables set) self.old.state.store (number_of owner) (number_of member) how)
+            (after_filing (set_of self.old.beside.tables set) self.old.state.store (number_of owner)
+            (number_of member) how)
             self.old self.new }
     {
         match self.store.file(set, owner, member, how) {
@@ -610,7 +641,8 @@ impl<S: SetBoard> State<S> {
     ) -> Result<(u32, Change), RunFault>
         requires { set < length self.old.beside.tables.sets }
         ensures { IsRemoving result
-            (after_removing (set_of self.old.beside.tables set) self.old.state.store (number_of owner) which)
+            (after_removing (set_of self.old.beside.tables set) self.old.state.store
+            (number_of owner) which)
             self.old self.new }
     {
         match self.store.remove(set, owner, which) {
@@ -622,10 +654,10 @@ impl<S: SetBoard> State<S> {
 
 impl<S: SetBoard> State<S> {
     /// The number of the entity of a class that a value names, or F3.
-    pub fn existing(&self, class: usize, x: i64) -> Result<u32, RunFault>
-        ensures number { result ≡ existing self.now.state.store class x }
+    pub fn entity_named(&self, class: usize, x: i64) -> Result<u32, RunFault>
+        ensures number { result ≡ entity_named self.now.state.store class x }
         ensures named { IfOk result (λ k. 0 < k) }
-        ensures small { IfOk result (λ k. k ≤ 1000000) }
+        ensures small { IfOk result (λ k. k ≤ MOST_REFERENCES) }
     {
         self.store.known();
         if !self.store.exists(class, x) {
@@ -646,7 +678,8 @@ impl<S: SetBoard> State<S> {
     /// pending.
     pub fn next_notice(&self) -> Option<(u32, Slot)>
         ensures { result
-            ≡ option_map (λ e. (e.notice, slot_of e)) (least self.now.beside.rules self.now.state.agenda.pending) }
+            ≡ option_map (λ e. (e.notice, slot_of e))
+            (least self.now.beside.rules self.now.state.agenda.pending) }
     {
         self.agenda.known();
         let notice = self.agenda.next()?;
@@ -664,10 +697,11 @@ impl<S: SetBoard> State<S> {
         keys: &[i64],
     ) -> Result<Change, StepFault>
         requires number { 0 < notice }
-        requires small { notice ≤ 1000000 }
+        requires small { notice ≤ MOST_REFERENCES }
         requires class { is_event_class self.old.beside.rules class ≡ true }
         requires keys { length keys.now ≡ length (rule_at self.old.beside.rules class).ties }
-        ensures { IsScheduling result (state_with_notice self.old.state class notice time keys.now) self.old self.new }
+        ensures { IsScheduling result
+            (state_with_notice self.old.state class notice time keys.now) self.old self.new }
     {
         match self.agenda.schedule(notice, class, time, self.clock, keys) {
             Ok(change) => Ok(Change::Agenda(change)),
@@ -704,7 +738,8 @@ impl<S: SetBoard> State<S> {
         requires number { 0 < notice }
         requires pending { is_pending self.old.state.agenda notice ≡ true }
         ensures { LeavesState result
-            (state_with_agenda self.old.state (agenda_after_taking self.old.state.agenda notice)) self.old self.new }
+            (state_with_agenda self.old.state
+            (agenda_after_taking self.old.state.agenda notice)) self.old self.new }
     {
         Change::Agenda(self.agenda.take(notice))
     }
@@ -739,12 +774,13 @@ impl<S: SetBoard> State<S> {
         ensures class { IfOk result (λ r. external_class program.now
             (slice_get self.old.state.feed.items self.old.state.feed.taken) ≡ Some r.0) }
         ensures time { IfOk result
-            (λ r. value_or_fault (slice_get self.old.state.feed.items (self.old.state.feed.taken + 1)) ≡ Ok r.1) }
+            (λ r. value_or_fault
+            (slice_get self.old.state.feed.items (self.old.state.feed.taken + 1)) ≡ Ok r.1) }
         ensures state { OnOk result
             (self.new.state ≡ state_with_taken self.old.state (self.old.state.feed.taken + 2)) }
         ensures beside { self.new.beside ≡ self.old.beside }
-        ensures fits { IfOk result (λ r. Fits r.2 self.new) }
-        ensures back { IfOk result (λ r. unapply r.2 self.new ≡ self.old) }
+        ensures fits { IfOk result (λ r. Fits (as_change r.2) self.new) }
+        ensures back { IfOk result (λ r. unapply (as_change r.2) self.new ≡ self.old) }
         ensures fault { IfErr result (λ e. arrival_asked program.now self.old.state ≡ Err e) }
         ensures err { OnErr result (self.new ≡ self.old) }
     {
@@ -767,8 +803,8 @@ impl<S: SetBoard> State<S> {
         ensures place { OnOk result
             (place_behind_mark self.old.state.feed ≡ Some self.new.state.feed.taken) }
         ensures beside { self.new.beside ≡ self.old.beside }
-        ensures fits { IfOk result (λ c. Fits c self.new) }
-        ensures back { IfOk result (λ c. unapply c self.new ≡ self.old) }
+        ensures fits { IfOk result (λ c. Fits (as_change c) self.new) }
+        ensures back { IfOk result (λ c. unapply (as_change c) self.new ≡ self.old) }
         ensures fault { IfErr result
             (λ e. (e ≡ RunFault.OutsideEntry) × (place_behind_mark self.old.state.feed ≡ None)) }
         ensures err { OnErr result (self.new ≡ self.old) }
@@ -778,12 +814,11 @@ impl<S: SetBoard> State<S> {
         Ok(Change::Taken(old))
     }
 
-    /// Sets the clock.
     pub fn set_clock(&mut self, time: i64) -> Change
         ensures state { self.new.state ≡ record self.old.state { clock = time } }
         ensures beside { self.new.beside ≡ self.old.beside }
-        ensures fits { Fits result self.new }
-        ensures back { unapply result self.new ≡ self.old }
+        ensures fits { Fits (as_change result) self.new }
+        ensures back { unapply (as_change result) self.new ≡ self.old }
     {
         let old = self.clock;
         self.clock = time;
@@ -803,7 +838,8 @@ impl<S: SetBoard> State<S> {
             (attributes_now self.now.state.store class entity (map (λ key. key.attribute) ties.now)
             ≡ Ok values.new.items) }
         ensures err { IfErr result
-            (λ e. FaultIs e (attributes_now self.now.state.store class entity (map (λ key. key.attribute) ties.now))) }
+            (λ e. FaultIs e (attributes_now self.now.state.store class entity
+            (map (λ key. key.attribute) ties.now))) }
     {
         values.clear();
         for key in &ties.list {
@@ -823,9 +859,11 @@ impl<S: SetBoard> State<S> {
         values: &mut Vec<i64>,
     ) -> Result<(), StepFault>
         ensures ok { OnOk result
-            (attributes_now self.now.state.store class entity (range_with_len 0 count) ≡ Ok values.new.items) }
+            (attributes_now self.now.state.store class entity (range_with_len 0 count)
+            ≡ Ok values.new.items) }
         ensures err { IfErr result
-            (λ e. FaultIs e (attributes_now self.now.state.store class entity (range_with_len 0 count))) }
+            (λ e.
+            FaultIs e (attributes_now self.now.state.store class entity (range_with_len 0 count))) }
     {
         values.clear();
         for attribute in 0..count {
@@ -864,7 +902,8 @@ fn take_values(
     ensures taken { OnOk result (feed.new.taken ≡ feed.old.taken + length targets.now) }
     ensures values { OnOk result
         (values_taken external feed.old.items feed.old.taken targets.now ≡ Ok values.new.items) }
-    ensures fault { IfErr result (λ e. FaultIs e (values_taken external feed.old.items feed.old.taken targets.now)) }
+    ensures fault { IfErr result
+        (λ e. FaultIs e (values_taken external feed.old.items feed.old.taken targets.now)) }
 {
     values.clear();
     values.reserve(targets.list.len())?;
@@ -878,9 +917,9 @@ fn take_values(
 impl<S: SetBoard> Undo for State<S> {
     type Change = Change;
 
-    ghost fits = { Fits };
+    ghost fits = { λ c h. Fits (as_change c) h };
 
-    ghost unapply = { unapply };
+    ghost unapply = { λ c h. unapply (as_change c) h };
 
     fn undo(&mut self, change: Change) {
         match change {
@@ -915,7 +954,7 @@ impl<S: SetBoard> Undo for State<S> {
             }
             Change::LoopMoved(old) => {
                 let frame = &mut *self.frame.frame;
-                frame.loops.advance(old);
+                frame.loops.set_candidate(old);
             }
             Change::LoopClosed(closed) => {
                 let frame = &mut *self.frame.frame;
@@ -925,9 +964,19 @@ impl<S: SetBoard> Undo for State<S> {
                 let frame = &mut *self.frame.frame;
                 frame.found = old;
             }
-            Change::Statistics(old) => {
+            Change::Statistics {
+                number,
+                sum,
+                greatest,
+                least,
+            } => {
                 let frame = &mut *self.frame.frame;
-                frame.statistics = old;
+                frame.statistics = Statistics {
+                    number,
+                    sum,
+                    greatest,
+                    least,
+                };
             }
         }
     }

@@ -5,15 +5,36 @@ ghost use Rattle.ss_machine.specs.State as states;
 use ss_program::Statistic;
 use ss_values::sum;
 use ss_words::RunFault;
+use std::marker::Model;
 
 /// What a COMPUTE has gathered: how many values, their sum, the greatest and the least; all 0 over
 /// no case.
-#[derive(Clone, Copy, PartialEq, Eq)]
+#[derive(Clone, Copy)]
 pub struct Statistics {
     pub number: i64,
     pub sum: i64,
     pub greatest: i64,
     pub least: i64,
+}
+
+impl Model for Statistics {
+    ghost use Rattle.ss_machine.specs.State.{Statistics};
+
+    ghost Value = { Statistics };
+
+    ghost view = { λ a. record {
+      number = a.number;
+      sum = a.sum;
+      greatest = a.greatest;
+      least = a.least;
+    } };
+
+    ghost inverse = { λ g. record {
+      number = g.number;
+      sum = g.sum;
+      greatest = g.greatest;
+      least = g.least;
+    } };
 }
 
 /// The statistics over no case.

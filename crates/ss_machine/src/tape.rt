@@ -13,7 +13,7 @@ ghost use Rattle.ss_machine.specs.History.{
 
 use crate::change::Change;
 use crate::frame::FrameBox;
-use crate::kind::Kind;
+use crate::kind::ChangeKind;
 use crate::loops::ClosedLoop;
 use crate::numbers::Numbers;
 use crate::status::Status;
@@ -22,7 +22,7 @@ use ss_journal::Journal;
 /// What of a change is kept as it is, beside the numbers that tell the rest: what owns memory, and
 /// a status.
 #[derive(Drop)]
-pub enum Kept {
+pub enum Owned {
     /// The values of an entity that ended, or the keys of a notice that was taken off.
     Values(Vec<i64>),
     /// A loop that was closed.
@@ -40,32 +40,34 @@ pub enum Kept {
 #[derive(Drop)]
 pub struct Tape {
     pub numbers: Numbers,
-    pub kept: Journal<Kept>,
+    pub kept: Journal<Owned>,
 }
 
 impl Tape {
     /// Writes a change of a kind of which nothing is kept.
-    pub fn write(&mut self, kind: Kind, fields: &[u64])
+    pub fn write(&mut self, kind: ChangeKind, fields: &[u64])
         requires count { length fields.now ≡ number_count kind }
         requires few { length fields.now ≤ 7 }
         requires kept { kept_count kind ≡ 0 }
         requires has { HasKept kind self.old.kept.current }
         requires numbers { 7 < self.old.numbers.notes }
-        ensures { IsNoted (change_of kind (fields.now ++ self.old.numbers.current) self.old.kept.current)
+        ensures { IsNoted
+            (change_of kind (fields.now ++ self.old.numbers.current) self.old.kept.current)
             self.old self.new }
     {
         put(&mut self.numbers, kind, fields);
     }
 
     /// Writes a change of a kind, and keeps what is to be kept of it.
-    pub fn write_kept(&mut self, kind: Kind, fields: &[u64], kept: Kept)
+    pub fn write_kept(&mut self, kind: ChangeKind, fields: &[u64], kept: Owned)
         requires count { length fields.now ≡ number_count kind }
         requires few { length fields.now ≤ 7 }
         requires kept { kept_count kind ≡ 1 }
         requires has { HasKept kind (kept ∷ self.old.kept.current) }
         requires numbers { 7 < self.old.numbers.notes }
         requires room { 0 < self.old.kept.notes }
-        ensures { IsNoted (change_of kind (fields.now ++ self.old.numbers.current) (kept ∷ self.old.kept.current))
+        ensures { IsNoted
+            (change_of kind (fields.now ++ self.old.numbers.current) (kept ∷ self.old.kept.current))
             self.old self.new }
     {
         put(&mut self.numbers, kind, fields);
@@ -78,12 +80,12 @@ impl Tape {
         ensures { IsPopped result self.old self.new }
     {
         let number = self.numbers.pop_open()?;
-        Some(self.read(Kind::of_number(number)))
+        Some(self.read(ChangeKind::of_number(number)))
     }
 }
 
 /// Notes numbers, the first one last, and then that of a kind.
-fn put(numbers: &mut Numbers, kind: Kind, fields: &[u64])
+fn put(numbers: &mut Numbers, kind: ChangeKind, fields: &[u64])
     requires { length fields.now < numbers.old.notes }
     ensures steps { numbers.new.steps ≡ numbers.old.steps }
     ensures current { IsHeaded kind fields.now numbers.old.current numbers.new.current }

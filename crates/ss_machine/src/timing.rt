@@ -1,7 +1,9 @@
 //! The statements on event notices, and the timing routine.
-ghost use Rattle.std.specs.Prelude.{◌≡◌, ◌+◌, ◌<◌, ◌≤◌, [], length, slice_get, Ok, Err, OnOk, IfErr, OnErr, true, false, if◌then◌else◌};
+ghost use Rattle.std.specs.Prelude.{◌≡◌, ◌+◌, ◌<◌, ◌≤◌, [], length, slice_get, Ok, Err, OnOk, IfErr, OnErr, true};
+ghost use Rattle.std.specs.Prelude.{false, if◌then◌else◌};
 ghost use Rattle.ss_program.specs.Program.{class_of, section_of, locals_of, event_of, is_main};
-ghost use Rattle.ss_program.specs.ProgramSound.{IsTarget, IsSoundExpr, IsSoundTiming, IsSoundNotice, AreSoundExprs, IsSoundWhen, IsEventClass, IsTimed};
+ghost use Rattle.ss_program.specs.ProgramSound.{IsTarget, IsSoundExpr, IsSoundTiming, IsSoundNotice, AreSoundExprs};
+ghost use Rattle.ss_program.specs.ProgramSound.{IsSoundWhen, IsEventClass, IsTimed};
 ghost use Rattle.ss_program.specs.declared.place.Place.TheVariants as places;
 ghost use Rattle.ss_program.specs.declared.timing.Timing.TheVariants as timings;
 ghost use Rattle.ss_store.specs.Tables as shapes;
@@ -13,8 +15,11 @@ ghost use Rattle.ss_values.specs.Values.{FaultIs};
 ghost use Rattle.ss_machine.specs.Noting.{Notes};
 ghost use Rattle.ss_machine.specs.Seen.{InHeld, scope_held};
 ghost use Rattle.ss_machine.specs.Moment as changes;
-ghost use Rattle.ss_machine.specs.Step.{state_with_attributes, state_after_scheduling, state_after_new, state_after_schedule};
-ghost use Rattle.ss_machine.specs.Step.{state_after_notice, state_after_cancel, state_with_store, state_at_time, state_after_start, step_simulation, step_timing, state_after_arrival, state_after_load, loads, step_start};
+ghost use Rattle.ss_machine.specs.Step.{state_with_attributes, state_after_scheduling, state_after_new};
+ghost use Rattle.ss_machine.specs.Step.{state_after_schedule};
+ghost use Rattle.ss_machine.specs.Step.{state_after_notice, state_after_cancel, state_with_store, state_at_time};
+ghost use Rattle.ss_machine.specs.Step.{state_after_start, step_simulation, step_timing, state_after_arrival};
+ghost use Rattle.ss_machine.specs.Step.{state_after_load, loads, step_start};
 ghost use Rattle.ss_machine.specs.Well.{IsInBounds};
 ghost use Rattle.ss_machine.specs.Step as steps;
 
@@ -22,6 +27,7 @@ use crate::entry::Entry;
 use crate::executor::Executor;
 use crate::external::has_external;
 use crate::frame::FrameBox;
+use crate::limits::MOST_REFERENCES;
 use crate::questions::{arguments_asked, time_asked};
 use ss_events::Slot;
 use ss_links::SetBoard;
@@ -37,10 +43,12 @@ impl<S: SetBoard> Executor<S> {
     fn set_attributes(&mut self, class: usize, entity: u32) -> Result<(), RunFault>
         requires class { class < length self.old.held.beside.tables.classes }
         requires room { length self.old.values.items < self.old.journal.notes }
-        ensures ok { OnOk result (state_with_attributes self.old.held.state class entity 0 self.old.values.items
+        ensures ok { OnOk result
+            (state_with_attributes self.old.held.state class entity 0 self.old.values.items
             ≡ Ok self.new.held.state) }
         ensures err { IfErr result
-            (λ e. state_with_attributes self.old.held.state class entity 0 self.old.values.items ≡ Err e) }
+            (λ e. state_with_attributes self.old.held.state class entity 0 self.old.values.items
+            ≡ Err e) }
         ensures tables { self.new.held.beside.tables ≡ self.old.held.beside.tables }
         ensures rules { self.new.held.beside.rules ≡ self.old.held.beside.rules }
         ensures scope { scope_held self.new.held ≡ scope_held self.old.held }
@@ -68,7 +76,7 @@ impl<S: SetBoard> Executor<S> {
         requires tables { self.old.held.beside.tables ≡ tables_of program.now }
         requires rules { self.old.held.beside.rules ≡ rules_of program.now }
         requires number { 0 < notice }
-        requires small { notice ≤ 1000000 }
+        requires small { notice ≤ MOST_REFERENCES }
         requires room { 1 + length self.old.values.items < self.old.journal.notes }
         ensures ok { OnOk result
             (state_after_scheduling program.now self.old.held.state class notice time self.old.values.items
@@ -134,19 +142,22 @@ impl<S: SetBoard> Executor<S> {
         requires tables { self.old.held.beside.tables ≡ tables_of program.now }
         requires rules { self.old.held.beside.rules ≡ rules_of program.now }
         requires class { schedule.now.class < length self.old.held.beside.tables.classes }
-        requires kind { (shapes.class_of self.old.held.beside.tables schedule.now.class).permanent ≡ false }
+        requires kind { (shapes.class_of self.old.held.beside.tables schedule.now.class).permanent
+            ≡ false }
         requires notice { InHeld self.old.held IsSoundNotice schedule.now.notice }
         requires room { 3 + length self.old.values.items < self.old.journal.notes }
-        ensures ok { OnOk result (state_after_notice program.now self.old.held.state schedule.now.class
+        ensures ok { OnOk result
+            (state_after_notice program.now self.old.held.state schedule.now.class
             schedule.now.notice named time self.old.values.items ≡ Ok self.new.held.state) }
-        ensures err { IfErr result (λ e. FaultIs e (state_after_notice program.now self.old.held.state
+        ensures err { IfErr result
+            (λ e. FaultIs e (state_after_notice program.now self.old.held.state
             schedule.now.class schedule.now.notice named time self.old.values.items)) }
         ensures notes { Notes (3 + length self.old.values.items) self.old self.new }
     {
         match &schedule.notice {
             Notice::New { target, .. } => self.schedule_new(program, schedule.class, target, time),
             Notice::Known { .. } => {
-                let notice = self.held.existing(schedule.class, named)?;
+                let notice = self.held.entity_named(schedule.class, named)?;
                 self.schedule_notice(program, schedule.class, notice, time)
             }
         }
@@ -154,13 +165,15 @@ impl<S: SetBoard> Executor<S> {
 
     /// SCHEDULE: gets what names the notice and the arguments, then the time, and does it.
     fn schedule(&mut self, program: &Program, schedule: &Schedule) -> Result<(), StepFault>
-        requires event { IsEventClass program.now schedule.now.class (length schedule.now.arguments) }
+        requires event { IsEventClass program.now schedule.now.class
+            (length schedule.now.arguments) }
         requires tables { self.old.held.beside.tables ≡ tables_of program.now }
         requires rules { self.old.held.beside.rules ≡ rules_of program.now }
         requires sound { InHeld self.old.held IsSoundTiming (timings.Schedule schedule.now) }
         requires room { 3 + length schedule.now.arguments < self.old.journal.notes }
         ensures ok { OnOk result
-            (state_after_schedule program.now self.old.held.state schedule.now ≡ Ok self.new.held.state) }
+            (state_after_schedule program.now self.old.held.state schedule.now
+            ≡ Ok self.new.held.state) }
         ensures err { IfErr result
             (λ e. FaultIs e (state_after_schedule program.now self.old.held.state schedule.now)) }
         ensures notes { Notes (3 + length schedule.now.arguments) self.old self.new }
@@ -174,14 +187,15 @@ impl<S: SetBoard> Executor<S> {
     fn cancel(&mut self, class: usize, notice: &Expr) -> Result<(), RunFault>
         requires notice { InHeld self.old.held IsSoundExpr notice.now }
         requires room { 0 < self.old.journal.notes }
-        ensures ok { OnOk result (state_after_cancel self.old.held.beside.tables self.old.held.state class notice.now
+        ensures ok { OnOk result
+            (state_after_cancel self.old.held.beside.tables self.old.held.state class notice.now
             ≡ Ok self.new.held.state) }
         ensures err { IfErr result
             (λ e. state_after_cancel self.old.held.beside.tables self.old.held.state class notice.now ≡ Err e) }
         ensures notes { Notes 1 self.old self.new }
     {
         let x = value(self.held.view(), notice)?;
-        let number = self.held.existing(class, x)?;
+        let number = self.held.entity_named(class, x)?;
         let change = self.held.cancel(number)?;
         self.journal.note(change);
         Ok(())
@@ -193,7 +207,8 @@ impl<S: SetBoard> Executor<S> {
         requires number { 0 < notice }
         requires pending { is_pending self.old.held.state.agenda notice ≡ true }
         requires room { 2 < self.old.journal.notes }
-        ensures state { self.new.held.state ≡ state_at_time self.old.held.state notice time self.old.held.state.store }
+        ensures state { self.new.held.state
+            ≡ state_at_time self.old.held.state notice time self.old.held.state.store }
         ensures tables { self.new.held.beside.tables ≡ self.old.held.beside.tables }
         ensures notes { Notes 3 self.old self.new }
     {
@@ -215,8 +230,10 @@ impl<S: SetBoard> Executor<S> {
             else without_entity self.old.held.beside.tables self.old.held.state.store class notice)
             ≡ Ok self.new.held.state.store) }
         ensures err { IfErr result (λ e. (if saving then Ok self.old.held.state.store
-            else without_entity self.old.held.beside.tables self.old.held.state.store class notice) ≡ Err e) }
-        ensures rest { self.new.held.state ≡ state_with_store self.old.held.state self.new.held.state.store }
+            else without_entity self.old.held.beside.tables self.old.held.state.store class notice)
+            ≡ Err e) }
+        ensures rest { self.new.held.state
+            ≡ state_with_store self.old.held.state self.new.held.state.store }
         ensures tables { self.new.held.beside.tables ≡ self.old.held.beside.tables }
         ensures notes { Notes 1 self.old self.new }
     {
@@ -236,10 +253,12 @@ impl<S: SetBoard> Executor<S> {
         requires pending { is_pending self.old.held.state.agenda notice ≡ true }
         requires below { self.old.held.state.below ≡ [] }
         requires room { 5 < self.old.journal.notes }
-        ensures ok { OnOk result (state_after_start program.now self.old.held.state notice slot.class slot.time
+        ensures ok { OnOk result
+            (state_after_start program.now self.old.held.state notice slot.class slot.time
             ≡ Ok self.new.held.state) }
         ensures err { IfErr result
-            (λ e. FaultIs e (state_after_start program.now self.old.held.state notice slot.class slot.time)) }
+            (λ e. FaultIs e
+            (state_after_start program.now self.old.held.state notice slot.class slot.time)) }
         ensures notes { Notes 6 self.old self.new }
         ensures fewer { OnErr result (Notes 5 self.old self.new) }
     {
@@ -266,7 +285,8 @@ impl<S: SetBoard> Executor<S> {
         requires rules { self.old.held.beside.rules ≡ rules_of program.now }
         requires none { self.old.journal.current ≡ [] }
         requires room { 5 < self.old.journal.notes }
-        ensures state { OnOk result (self.new.held.state ≡ step_simulation program.now self.old.held.state next
+        ensures state { OnOk result
+            (self.new.held.state ≡ step_simulation program.now self.old.held.state next
             (least (rules_of program.now) self.old.held.state.agenda.pending)) }
         ensures notes { Notes 6 self.old self.new }
     {
@@ -312,8 +332,10 @@ impl<S: SetBoard> Executor<S> {
         requires tables { self.old.held.beside.tables ≡ tables_of program.now }
         requires rules { self.old.held.beside.rules ≡ rules_of program.now }
         requires room { 3 < self.old.journal.notes }
-        ensures ok { OnOk result (state_after_load program.now self.old.held.state ≡ Ok self.new.held.state) }
-        ensures err { IfErr result (λ e. FaultIs e (state_after_load program.now self.old.held.state)) }
+        ensures ok { OnOk result
+            (state_after_load program.now self.old.held.state ≡ Ok self.new.held.state) }
+        ensures err { IfErr result
+            (λ e. FaultIs e (state_after_load program.now self.old.held.state)) }
         ensures notes { Notes 4 self.old self.new }
     {
         let (class, time, change) = self.held.take_arrival(program)?;
@@ -339,7 +361,8 @@ impl<S: SetBoard> Executor<S> {
         requires rules { self.old.held.beside.rules ≡ rules_of program.now }
         requires none { self.old.journal.current ≡ [] }
         requires room { 5 < self.old.journal.notes }
-        ensures state { OnOk result (self.new.held.state ≡ step_start program.now self.old.held.state next) }
+        ensures state { OnOk result
+            (self.new.held.state ≡ step_start program.now self.old.held.state next) }
         ensures notes { Notes 6 self.old self.new }
     {
         if !self.loads(program) {
@@ -359,7 +382,8 @@ impl<S: SetBoard> Executor<S> {
         timing: &Timing,
     ) -> Result<(), AllocError>
         requires well { IsInBounds program.now self.old.held.state }
-        requires timed { IsTimed program.now (section_of program.now self.old.held.state.frame.section)
+        requires timed { IsTimed program.now
+            (section_of program.now self.old.held.state.frame.section)
             (places.Timing timing.now) }
         requires sound { InHeld self.old.held IsSoundTiming timing.now }
         requires tables { self.old.held.beside.tables ≡ tables_of program.now }
@@ -401,7 +425,8 @@ fn event_section(program: &Program, class: usize) -> usize
     requires { IsEventClass program.now class 0 }
     ensures number { result ≡ steps.event_section program.now class }
     ensures there { result < length program.now.sections }
-    ensures few { (section_of program.now result).given ≤ length (locals_of (slice_get program.now.sections result)) }
+    ensures few { (section_of program.now result).given
+        ≤ length (locals_of (slice_get program.now.sections result)) }
 {
     program.known();
     event_class(program, class).section

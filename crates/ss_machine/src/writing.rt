@@ -1,6 +1,7 @@
 ghost use Rattle.std.specs.Prelude.{◌<◌};
 ghost use Rattle.ss_machine.specs.History.{IsNoted};
-ghost use Rattle.ss_machine.specs.declared.change.Change.TheVariants as changes;
+ghost use Rattle.ss_machine.specs.Change as changes;
+ghost use Rattle.ss_machine.specs.ChangeView.{as_change};
 ghost use Rattle.ss_store.specs.declared.change.StoreChange.TheVariants as stores;
 ghost use Rattle.ss_events.specs.declared.agenda.AgendaChange.TheVariants as notices;
 
@@ -8,10 +9,10 @@ use crate::change::Change;
 use crate::entry::Entry;
 use crate::folding::{flag, fold, owner_numbers, widen};
 use crate::kind::{
-    ControlKind, EntityKind, EntryKind, Kind, LoopKind, SetKind, TextKind, TimeKind, ValueKind,
+    ChangeKind, ControlChangeKind, EntityChangeKind, EntryChangeKind, LoopChangeKind,
+    SetChangeKind, TextChangeKind, TimeChangeKind, ValueChangeKind,
 };
-use crate::statistics::Statistics;
-use crate::tape::{Kept, Tape};
+use crate::tape::{Owned, Tape};
 use ss_events::{AgendaChange, PendingNotice};
 use ss_program::Owner;
 use ss_store::StoreChange;
@@ -21,57 +22,79 @@ impl Tape {
     pub fn note(&mut self, change: Change)
         requires numbers { 7 < self.old.numbers.notes }
         requires kept { 0 < self.old.kept.notes }
-        ensures { IsNoted change self.old self.new }
+        ensures { IsNoted (as_change change) self.old self.new }
     {
         match change {
             Change::Variable { number, old } => self.write(
-                Kind::Value(ValueKind::Variable),
+                ChangeKind::Value(ValueChangeKind::Variable),
                 &[number as u64, fold(old)],
             ),
             Change::Local { number, old } => self.write(
-                Kind::Value(ValueKind::Local),
+                ChangeKind::Value(ValueChangeKind::Local),
                 &[number as u64, fold(old)],
             ),
-            Change::Place(old) => self.write(Kind::Control(ControlKind::Place), &[old as u64]),
-            Change::Clock(old) => self.write(Kind::Time(TimeKind::Clock), &[fold(old)]),
+            Change::Place(old) => self.write(
+                ChangeKind::Control(ControlChangeKind::Place),
+                &[old as u64],
+            ),
+            Change::Clock(old) => self.write(ChangeKind::Time(TimeChangeKind::Clock), &[fold(old)]),
             Change::Store(change) => self.note_store(change),
             Change::Agenda(change) => self.note_agenda(change),
-            Change::Taken(old) => self.write(Kind::Text(TextKind::Taken), &[old as u64]),
-            Change::Report(old) => self.write(Kind::Text(TextKind::Report), &[old as u64]),
+            Change::Taken(old) => self.write(
+                ChangeKind::Text(TextChangeKind::Taken),
+                &[old as u64],
+            ),
+            Change::Report(old) => self.write(
+                ChangeKind::Text(TextChangeKind::Report),
+                &[old as u64],
+            ),
             Change::Entry(old) => self.note_entry(old),
             Change::Status(old) => {
-                self.write_kept(Kind::Control(ControlKind::Status), &[], Kept::Status(old))
+                self.write_kept(
+                    ChangeKind::Control(ControlChangeKind::Status),
+                    &[],
+                    Owned::Status(old),
+                )
             }
-            Change::LoopOpened => self.write(Kind::Loop(LoopKind::Opened), &[]),
-            Change::LoopMoved(Some(old)) => self.write(Kind::Loop(LoopKind::Moved), &[fold(old)]),
-            Change::LoopMoved(None) => self.write(Kind::Loop(LoopKind::MovedFromNone), &[]),
-            Change::LoopClosed(closed) => {
-                self.write_kept(Kind::Loop(LoopKind::Closed), &[], Kept::Loop(closed))
-            }
-            Change::FrameOpened => self.write(Kind::Control(ControlKind::FrameOpened), &[]),
-            Change::FrameDropped(frame) => self.write_kept(
-                Kind::Control(ControlKind::FrameDropped),
-                &[],
-                Kept::Frame(frame),
+            Change::LoopOpened => self.write(ChangeKind::Loop(LoopChangeKind::Opened), &[]),
+            Change::LoopMoved(Some(old)) => self.write(
+                ChangeKind::Loop(LoopChangeKind::Moved),
+                &[fold(old)],
             ),
-            Change::Found(old) => self.write(Kind::Value(ValueKind::Found), &[flag(old)]),
-            Change::Statistics(old) => self.note_statistics(old),
+            Change::LoopMoved(None) => self.write(
+                ChangeKind::Loop(LoopChangeKind::MovedFromNone),
+                &[],
+            ),
+            Change::LoopClosed(closed) => {
+                self.write_kept(
+                    ChangeKind::Loop(LoopChangeKind::Closed),
+                    &[],
+                    Owned::Loop(closed),
+                )
+            }
+            Change::FrameOpened => self.write(
+                ChangeKind::Control(ControlChangeKind::FrameOpened),
+                &[],
+            ),
+            Change::FrameDropped(frame) => self.write_kept(
+                ChangeKind::Control(ControlChangeKind::FrameDropped),
+                &[],
+                Owned::Frame(frame),
+            ),
+            Change::Found(old) => self.write(
+                ChangeKind::Value(ValueChangeKind::Found),
+                &[flag(old)],
+            ),
+            Change::Statistics {
+                number,
+                sum,
+                greatest,
+                least,
+            } => self.write(
+                ChangeKind::Value(ValueChangeKind::Statistics),
+                &[fold(number), fold(sum), fold(greatest), fold(least)],
+            ),
         }
-    }
-
-    fn note_statistics(&mut self, old: Statistics)
-        requires numbers { 7 < self.old.numbers.notes }
-        ensures { IsNoted (changes.Statistics old) self.old self.new }
-    {
-        self.write(
-            Kind::Value(ValueKind::Statistics),
-            &[
-                fold(old.number),
-                fold(old.sum),
-                fold(old.greatest),
-                fold(old.least),
-            ],
-        );
     }
 
     fn note_entry(&mut self, old: Entry)
@@ -79,13 +102,13 @@ impl Tape {
         ensures { IsNoted (changes.Entry old) self.old self.new }
     {
         match old {
-            Entry::Absent => self.write(Kind::Entry(EntryKind::Absent), &[]),
+            Entry::Absent => self.write(ChangeKind::Entry(EntryChangeKind::Absent), &[]),
             Entry::Waiting { class, notice } => self.write(
-                Kind::Entry(EntryKind::Waiting),
+                ChangeKind::Entry(EntryChangeKind::Waiting),
                 &[class as u64, widen(notice)],
             ),
             Entry::Running { class, notice } => self.write(
-                Kind::Entry(EntryKind::Running),
+                ChangeKind::Entry(EntryChangeKind::Running),
                 &[class as u64, widen(notice)],
             ),
         }
@@ -98,7 +121,7 @@ impl Tape {
     {
         match change {
             AgendaChange::Scheduled { notice, seated } => self.write(
-                Kind::Time(TimeKind::Scheduled),
+                ChangeKind::Time(TimeChangeKind::Scheduled),
                 &[widen(notice), flag(seated)],
             ),
             AgendaChange::TakenOff {
@@ -112,20 +135,21 @@ impl Tape {
     fn note_taken_off(&mut self, notice: u32, entry: PendingNotice, predecessor: Option<u32>)
         requires numbers { 7 < self.old.numbers.notes }
         requires kept { 0 < self.old.kept.notes }
-        ensures { IsNoted (changes.Agenda (notices.TakenOff notice entry predecessor)) self.old self.new }
+        ensures { IsNoted
+            (changes.Agenda (notices.TakenOff notice entry predecessor)) self.old self.new }
     {
         let notice = widen(notice);
         let time = fold(entry.time);
         let class = entry.class as u64;
-        let keys = Kept::Values(entry.keys);
+        let keys = Owned::Values(entry.keys);
         match predecessor {
             None => self.write_kept(
-                Kind::Time(TimeKind::FirstTakenOff),
+                ChangeKind::Time(TimeChangeKind::FirstTakenOff),
                 &[notice, time, class, entry.filing],
                 keys,
             ),
             Some(predecessor) => self.write_kept(
-                Kind::Time(TimeKind::TakenOff),
+                ChangeKind::Time(TimeChangeKind::TakenOff),
                 &[notice, time, class, entry.filing, widen(predecessor)],
                 keys,
             ),
@@ -134,11 +158,12 @@ impl Tape {
 
     fn note_filed(&mut self, set: usize, owner: Owner, list: u32, number: usize, member: usize)
         requires { 7 < self.old.numbers.notes }
-        ensures { IsNoted (changes.Store (stores.Filed set owner list number member)) self.old self.new }
+        ensures { IsNoted
+            (changes.Store (stores.Filed set owner list number member)) self.old self.new }
     {
         let (owned, class) = owner_numbers(owner);
         self.write(
-            Kind::Set(SetKind::Filed),
+            ChangeKind::Set(SetChangeKind::Filed),
             &[
                 set as u64,
                 owned,
@@ -160,18 +185,19 @@ impl Tape {
         before: Option<u32>,
     )
         requires { 7 < self.old.numbers.notes }
-        ensures { IsNoted (changes.Store (stores.Removed set owner list number member before)) self.old self.new }
+        ensures { IsNoted
+            (changes.Store (stores.Removed set owner list number member before)) self.old self.new }
     {
         let (owned, class) = owner_numbers(owner);
         let (set, list) = (set as u64, widen(list));
         let (number, member) = (number as u64, member as u64);
         match before {
             None => self.write(
-                Kind::Set(SetKind::FirstRemoved),
+                ChangeKind::Set(SetChangeKind::FirstRemoved),
                 &[set, owned, class, list, number, member],
             ),
             Some(before) => self.write(
-                Kind::Set(SetKind::Removed),
+                ChangeKind::Set(SetChangeKind::Removed),
                 &[set, owned, class, list, number, member, widen(before)],
             ),
         }
@@ -204,7 +230,7 @@ impl Tape {
                 heads,
                 seats,
             } => self.write(
-                Kind::Entity(EntityKind::Created),
+                ChangeKind::Entity(EntityChangeKind::Created),
                 &[class as u64, number as u64, widen(heads), widen(seats)],
             ),
             StoreChange::ClassCreated {
@@ -213,7 +239,7 @@ impl Tape {
                 heads,
                 seats,
             } => self.write(
-                Kind::Entity(EntityKind::ClassCreated),
+                ChangeKind::Entity(EntityChangeKind::ClassCreated),
                 &[class as u64, count as u64, widen(heads), widen(seats)],
             ),
             StoreChange::AttributeSet {
@@ -222,7 +248,7 @@ impl Tape {
                 number,
                 old,
             } => self.write(
-                Kind::Entity(EntityKind::AttributeSet),
+                ChangeKind::Entity(EntityChangeKind::AttributeSet),
                 &[class as u64, attribute as u64, number as u64, fold(old)],
             ),
             StoreChange::Ended {
@@ -231,9 +257,9 @@ impl Tape {
                 owned,
                 values,
             } => self.write_kept(
-                Kind::Entity(EntityKind::Ended),
+                ChangeKind::Entity(EntityChangeKind::Ended),
                 &[class as u64, number as u64, widen(owned)],
-                Kept::Values(values),
+                Owned::Values(values),
             ),
         }
     }

@@ -1,4 +1,5 @@
-use Rattle.std.proofs.Common.{◌≡◌, ◌+◌, [], ◌∷◌, length, drop, arith, rules, refl, ap, sym, ◌∙◌, Ok, Err, w64, FitsSigned, to_z, of_z}
+use Rattle.std.proofs.Common.{◌≡◌, ◌+◌, [], ◌∷◌, length, drop, arith, rules, refl, ap, sym, ◌∙◌, Ok, Err, w64}
+use Rattle.std.proofs.Common.{FitsSigned, to_z, of_z}
 use Rattle.std.proofs.lemmas.Int.{to_z-of_z}
 use Rattle.ss_words.specs.declared.fault.RunFault.{RunFault}
 use Rattle.ss_machine.specs.Seen.{scope_held}
@@ -46,8 +47,8 @@ loop-target-preserved g c =
     let here : c.deref-target-items.result.now ≡ xs = search rules in
     let d : drop i xs ≡ x ∷ drop (i + 1) xs =
     drop_at i xs c.deref-target-items.result.now x c.loop-target-test.true here c.target-item.is in
-    let fits : FitsSigned w64 c.kept-value.result = search rules in
-    let a : to_z w64 (of_z w64 c.kept-value.result) ≡ c.kept-value.result = to_z-of_z w64 _ fits in
+    let fits : FitsSigned w64 c.value_at-value.result = search rules in
+    let a : to_z w64 (of_z w64 c.value_at-value.result) ≡ c.value_at-value.result = to_z-of_z w64 _ fits in
     let u = c.loop-target.invariant in
     record {
       sound =
@@ -59,9 +60,9 @@ loop-target-preserved g c =
       state =
           targets_more c.args.self.now.held.beside.tables c.loop-target.self.held.beside.tables
           c.args.self.now.values.items c.loop-target.self.held.state c.assign_target.new.self.held.state xs i
-          c.loop-target.number x (to_z w64 (of_z w64 c.kept-value.result))
+          c.loop-target.number x (to_z w64 (of_z w64 c.value_at-value.result))
           (state_with_values c.args.self.now.held.beside.tables c.args.self.now.values.items c.args.self.now.held.state
-          c.args.first c.args.targets.now) d u.tables (a ∙ rw u.values at c.kept-value.ensures)
+          c.args.first c.args.targets.now) d u.tables (a ∙ rw u.values at c.value_at-value.ensures)
           c.in_ok-assign_target.ensures.ok u.state;
       notes =
           notes_both i 1 (i + 1) c.args.self.now c.loop-target.self c.assign_target.new.self u.notes
@@ -77,16 +78,16 @@ returns-in_err-assign_target-clause-err g c =
     let here : c.deref-target-items.result.now ≡ xs = search rules in
     let d : drop i xs ≡ x ∷ drop (i + 1) xs =
     drop_at i xs c.deref-target-items.result.now x c.loop-target-test.true here c.target-item.is in
-    let fits : FitsSigned w64 c.kept-value.result = search rules in
-    let a : to_z w64 (of_z w64 c.kept-value.result) ≡ c.kept-value.result = to_z-of_z w64 _ fits in
+    let fits : FitsSigned w64 c.value_at-value.result = search rules in
+    let a : to_z w64 (of_z w64 c.value_at-value.result) ≡ c.value_at-value.result = to_z-of_z w64 _ fits in
     let u = c.loop-target.invariant in
     let r : c.from_residual.result ≡ Err e = search rules in
     rw r
     (targets_fail c.args.self.now.held.beside.tables c.loop-target.self.held.beside.tables c.args.self.now.values.items
-    c.loop-target.self.held.state xs i c.loop-target.number x (to_z w64 (of_z w64 c.kept-value.result)) e
+    c.loop-target.self.held.state xs i c.loop-target.number x (to_z w64 (of_z w64 c.value_at-value.result)) e
     (state_with_values c.args.self.now.held.beside.tables c.args.self.now.values.items c.args.self.now.held.state
     c.args.first c.args.targets.now) d u.tables
-    (a ∙ rw u.values at c.kept-value.ensures) c.in_err-assign_target.ensures.err u.state)
+    (a ∙ rw u.values at c.value_at-value.ensures) c.in_err-assign_target.ensures.err u.state)
 
 pub returns-in_err-assign_target-clause-notes : goal.returns-in_err-assign_target-clause-notes
 returns-in_err-assign_target-clause-notes g c =

@@ -3,7 +3,7 @@ use Rattle.std.proofs.lemmas.Int.{to_z-of_z}
 use Rattle.ss_words.specs.declared.fault.RunFault.{RunFault}
 use Rattle.ss_values.specs.Values.{value_of}
 use Rattle.ss_machine.specs.Readings.{readings}
-use Rattle.ss_machine.specs.Step.{existing}
+use Rattle.ss_machine.specs.Step.{entity_named}
 use Rattle.ss_machine.proofs.Notings.{notes_none}
 use Rattle.ss_machine.proofs.Executing.{cancel_refused, cancelling_is, cancel_fails, cancel_ends}
 use Rattle.ss_machine.proofs.executor.Executor.cancel.Goals as goal
@@ -17,7 +17,7 @@ returns-in_err-change-clause-err g c =
     let fits : FitsSigned w64 x = search rules in
     let a : to_z w64 (of_z w64 x) ≡ x = to_z-of_z w64 _ fits in
     let o : value_of (readings h.beside.tables h.state) c.args.notice.now ≡ Ok x = search rules in
-    let i : existing h.state.store c.args.class x ≡ Ok k = sym (rw a at c.in_ok-number.ensures.number) in
+    let i : entity_named h.state.store c.args.class x ≡ Ok k = sym (rw a at c.in_ok-number.ensures.number) in
     let r : c.from_residual-in_err-change.result ≡ Err e = search rules in
     rw r (cancel_fails h.beside.tables h.state c.args.class k c.args.notice.now x e o i
     (cancel_refused e _ h c.cancel.new.self c.in_err-change.ensures).0)
@@ -35,6 +35,6 @@ returns-clause-ok g c =
     let fits : FitsSigned w64 x = search rules in
     let a : to_z w64 (of_z w64 x) ≡ x = to_z-of_z w64 _ fits in
     let o : value_of (readings h.beside.tables h.state) c.args.notice.now ≡ Ok x = search rules in
-    let i : existing h.state.store c.args.class x ≡ Ok k = sym (rw a at c.in_ok-number.ensures.number) in
+    let i : entity_named h.state.store c.args.class x ≡ Ok k = sym (rw a at c.in_ok-number.ensures.number) in
     let s = cancelling_is c.in_ok-change.change _ h c.cancel.new.self c.in_ok-change.ensures in
     cancel_ends h.beside.tables h.state c.cancel.new.self.state c.args.class k c.args.notice.now x s.0 o i s.1 s.2

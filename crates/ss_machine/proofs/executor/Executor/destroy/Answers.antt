@@ -4,7 +4,7 @@ use Rattle.ss_words.specs.declared.fault.RunFault.{RunFault}
 use Rattle.ss_values.specs.Values.{value_of}
 use Rattle.ss_events.specs.Agenda.{is_pending}
 use Rattle.ss_machine.specs.Readings.{readings}
-use Rattle.ss_machine.specs.Step.{existing}
+use Rattle.ss_machine.specs.Step.{entity_named}
 use Rattle.ss_machine.proofs.Notings.{notes_none}
 use Rattle.ss_machine.proofs.Storings.{refusal_is, storing_is}
 use Rattle.ss_machine.proofs.Executing.{destroy_fails, destroy_ends}
@@ -19,7 +19,7 @@ returns-in_err-change-clause-err g c =
     let fits : FitsSigned w64 x = search rules in
     let a : to_z w64 (of_z w64 x) ≡ x = to_z-of_z w64 _ fits in
     let o : value_of (readings h.beside.tables h.state) c.args.entity.now ≡ Ok x = search rules in
-    let i : existing h.state.store c.args.class x ≡ Ok k = sym (rw a at c.in_ok-number.ensures.number) in
+    let i : entity_named h.state.store c.args.class x ≡ Ok k = sym (rw a at c.in_ok-number.ensures.number) in
     let p : is_pending h.state.agenda k ≡ false = search rules in
     let r : c.from_residual-in_err-change.result ≡ Err e = search rules in
     rw r (destroy_fails h.beside.tables h.state c.args.class k c.args.entity.now x e o i p
@@ -38,7 +38,7 @@ returns-clause-ok g c =
     let fits : FitsSigned w64 x = search rules in
     let a : to_z w64 (of_z w64 x) ≡ x = to_z-of_z w64 _ fits in
     let o : value_of (readings h.beside.tables h.state) c.args.entity.now ≡ Ok x = search rules in
-    let i : existing h.state.store c.args.class x ≡ Ok k = sym (rw a at c.in_ok-number.ensures.number) in
+    let i : entity_named h.state.store c.args.class x ≡ Ok k = sym (rw a at c.in_ok-number.ensures.number) in
     let p : is_pending h.state.agenda k ≡ false = search rules in
     let s = storing_is c.in_ok-change.change _ h c.destroy.new.self (rw a at c.in_ok-change.ensures) in
     destroy_ends h.beside.tables h.state c.destroy.new.self.state c.args.class k c.args.entity.now x s.0 o i p s.1

@@ -1,8 +1,10 @@
-use Rattle.std.proofs.Common.{◌≡◌, ◌<◌, ◌+◌, [], ◌∷◌, length, drop, get_or, arith, rules, refl, ap, sym, ◌∙◌, Ok, Err, w64, FitsSigned, to_z, of_z}
+use Rattle.std.proofs.Common.{◌≡◌, ◌<◌, ◌+◌, [], ◌∷◌, length, drop, get_or, arith, rules, refl, ap, sym, ◌∙◌, Ok, Err}
+use Rattle.std.proofs.Common.{w64, FitsSigned, to_z, of_z}
 use Rattle.std.proofs.lemmas.Int.{to_z-of_z}
 use Rattle.ss_words.specs.declared.fault.RunFault.{RunFault}
 use Rattle.ss_values.specs.Seen.{scope_of}
 use Rattle.ss_machine.specs.Held.{Held}
+use Rattle.ss_machine.specs.ChangeView.{as_change}
 use Rattle.ss_machine.specs.Readings.{readings}
 use Rattle.ss_machine.specs.Seen.{scope_held}
 use Rattle.ss_machine.specs.Step.{state_with_attributes}
@@ -51,7 +53,7 @@ loop-number-preserved g c =
       notes =
           noted_more n c.args.self.now.held h k c.args.self.now.journal c.loop-number.self.journal c.note.new.self
           u.notes
-          (noted_one c.in_ok-change.change h k c.loop-number.self.journal c.note.new.self s.2.fits s.2.back
+          (noted_one (as_change c.in_ok-change.change) h k c.loop-number.self.journal c.note.new.self s.2.fits s.2.back
           c.note.ensures.steps c.note.ensures.current c.note.ensures.notes c.note.ensures.closes);
     }
 

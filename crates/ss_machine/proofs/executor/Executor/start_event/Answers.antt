@@ -1,4 +1,5 @@
-use Rattle.std.proofs.Common.{◌≡◌, ◌<◌, ◌≤◌, ◌^◌, pos, length, arith, sym, ap, rules, Ok, ◌∙◌, w64, FitsSigned, to_z, of_z}
+use Rattle.std.proofs.Common.{◌≡◌, ◌<◌, ◌≤◌, ◌^◌, pos, length, arith, sym, ap, rules, Ok, ◌∙◌, w64, FitsSigned, to_z}
+use Rattle.std.proofs.Common.{of_z}
 use Rattle.std.specs.List.{range_with_len}
 use Rattle.std.proofs.lemmas.Int.{to_z-of_z}
 use Rattle.std.proofs.lemmas.List.FromFn.{length-range_with_len}
@@ -7,7 +8,8 @@ use Rattle.ss_program.specs.declared.variable.Variable.TheVariants.{Global}
 use Rattle.ss_store.specs.Tables.{tables_of}
 use Rattle.ss_machine.specs.State.{State}
 use Rattle.ss_machine.proofs.Sounds.{section_found}
-use Rattle.ss_machine.specs.Step.{attributes_now, event_section, store_at_start, state_at_time, state_with_frame, state_after_assignment}
+use Rattle.ss_machine.specs.Step.{attributes_now, event_section, store_at_start, state_at_time, state_with_frame}
+use Rattle.ss_machine.specs.Step.{state_after_assignment}
 use Rattle.ss_machine.proofs.Storings.{counted_small}
 use Rattle.ss_machine.proofs.Starts.{class_shaped, event_shaped, attributes_count, start_done, start_left}
 use Rattle.ss_machine.proofs.executor.Executor.start_event.Goals as goal

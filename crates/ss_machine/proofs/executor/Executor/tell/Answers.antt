@@ -1,4 +1,5 @@
-use Rattle.std.proofs.Common.{◌≡◌, ◌+◌, [], ◌∷◌, length, drop, arith, rules, refl, ap, sym, ◌∙◌, Ok, Err, w64, FitsSigned, to_z, of_z}
+use Rattle.std.proofs.Common.{◌≡◌, ◌+◌, [], ◌∷◌, length, drop, arith, rules, refl, ap, sym, ◌∙◌, Ok, Err, w64}
+use Rattle.std.proofs.Common.{FitsSigned, to_z, of_z}
 use Rattle.std.proofs.lemmas.Int.{to_z-of_z}
 use Rattle.ss_words.specs.declared.fault.RunFault.{RunFault}
 use Rattle.ss_machine.specs.Seen.{scope_held}

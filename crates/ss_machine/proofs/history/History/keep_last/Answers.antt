@@ -1,7 +1,8 @@
 use Rattle.std.proofs.Common.{◌∙◌, ap, refl, arith}
 use Rattle.ss_journal.specs.Log.{Log}
-use Rattle.ss_machine.specs.declared.change.Change.{Change}
-use Rattle.ss_machine.proofs.Histories.{no_numbers, none_kept, length-steps, length-kept, steps_of-newest, newest_written}
+use Rattle.ss_machine.specs.Change.{Change}
+use Rattle.ss_machine.proofs.Histories.{no_numbers, none_kept, length-steps, length-kept, steps_of-newest}
+use Rattle.ss_machine.proofs.Histories.{newest_written}
 use Rattle.ss_machine.proofs.Written.{change_count-newest}
 use Rattle.ss_machine.proofs.history.History.keep_last.Goals as goal
 

@@ -1,4 +1,5 @@
 use Rattle.std.proofs.Common.{◌∙◌, arith}
+use Rattle.ss_machine.specs.ChangeView.{as_change}
 use Rattle.ss_machine.proofs.Histories.{has_kept, changes_read, written_read}
 use Rattle.ss_machine.proofs.tape.Tape.pop.Goals as goal
 
@@ -14,7 +15,8 @@ returns c =
     record {
       current =
           changes_read c.in_ok-number.number c.pop_open.new.self.current c.args.self.now.numbers.current
-          c.read.new.self.numbers.current c.args.self.now.kept.current c.read.new.self.kept.current c.read.result
+          c.read.new.self.numbers.current c.args.self.now.kept.current c.read.new.self.kept.current
+          (as_change c.read.result)
           c.in_ok-number.ensures.current read.value read.numbers_left read.kept_left;
       written =
           written_read c.in_ok-number.number c.pop_open.new.self.current c.args.self.now.numbers.current

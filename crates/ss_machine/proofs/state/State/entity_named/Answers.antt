@@ -7,18 +7,19 @@ use Rattle.std.proofs.lemmas.Option.{slice_get_within}
 use Rattle.ss_store.specs.Tables.{Tables}
 use Rattle.ss_store.specs.Store.{Entity, Store, exists, number_of, made_of, of_class}
 use Rattle.ss_store.specs.WellStore.{IsWellStore}
+use Rattle.ss_machine.specs.declared.limits.TheConstants.{MOST_REFERENCES}
 use Rattle.ss_machine.specs.Held.{Held}
-use Rattle.ss_machine.specs.Step.{existing}
+use Rattle.ss_machine.specs.Step.{entity_named}
 use Rattle.ss_machine.proofs.Stores.{named_positive}
-use Rattle.ss_machine.proofs.state.State.existing.Goals as goal
+use Rattle.ss_machine.proofs.state.State.entity_named.Goals as goal
 
-named_small : (t : Tables) (st : Store) (c k : ℕ) → IsWellStore t st → exists st c k ≡ true → k ≤ 1000000
+named_small : (t : Tables) (st : Store) (c k : ℕ) → IsWellStore t st → exists st c k ≡ true → k ≤ MOST_REFERENCES
 named_small t st c zero w h = omega arith
 named_small t st c (suc k) w h = by (slice_get (made_of st c) k) refl (slice_get st.references k) refl h
   where
     by : (o : Option Entity) → slice_get (made_of st c) k ≡ o →
         (q : Option (Option Entity)) → slice_get st.references k ≡ q →
-        is_some (option_or o (option_and_then (of_class c) q)) ≡ true → suc k ≤ 1000000
+        is_some (option_or o (option_and_then (of_class c) q)) ≡ true → suc k ≤ MOST_REFERENCES
     by (Some e) a q b i = omega (arith, slice_get_within (made_of st c) k e a, w.few_made c)
     by None a (Some r) b i = omega (arith, slice_get_within st.references k r b, w.few_references)
     by None a None b i = cc
@@ -27,7 +28,7 @@ positive_is : (x : ℤ) → 0 < number_of x → unsigned_abs x ≡ number_of x
 positive_is (pos n) h = refl
 positive_is (negsuc n) h = absurd (omega arith)
 
-existing_is : (st : Store) (c : ℕ) (x : ℤ) → exists st c (number_of x) ≡ true → Ok (number_of x) ≡ existing st c x
+existing_is : (st : Store) (c : ℕ) (x : ℤ) → exists st c (number_of x) ≡ true → Ok (number_of x) ≡ entity_named st c x
 existing_is st c x h = rw h refl
 
 pub overflow_cast-result : goal.overflow_cast-result
@@ -52,7 +53,7 @@ returns-clause-number g c =
     let store = ap (λ (h : Held). h.state.store) c.self.view_is in
     ap Ok value
     ∙ (existing_is c.self.inside.store.state c.args.class c.args.x there
-    ∙ ap (λ (st : Store). existing st c.args.class c.args.x) store)
+    ∙ ap (λ (st : Store). entity_named st c.args.class c.args.x) store)
 
 pub returns-clause-named : goal.returns-clause-named
 returns-clause-named g c =
@@ -73,4 +74,4 @@ returns-clause-small g c =
     let value : c.unsigned_abs.result ≡ k =
     c.unsigned_abs.ensures.value ∙ (ap unsigned_abs z ∙ positive_is c.args.x positive) in
     let small = named_small c.self.inside.store.tables c.self.inside.store.state c.args.class k c.known.ensures there in
-    subst (λ (n : ℕ). n ≤ 1000000) (sym value) small
+    subst (λ (n : ℕ). n ≤ MOST_REFERENCES) (sym value) small
