@@ -1,4 +1,5 @@
-use Rattle.std.proofs.Common.{◌≡◌, ℕ, zero, suc, ◌<◌, List, [], ◌∷◌, ◌++◌, length, take, refl, ap, ◌∙◌, Option, Some, None, IfSome, arith}
+use Rattle.std.proofs.Common.{◌≡◌, ℕ, zero, suc, ◌<◌, List, [], ◌∷◌, ◌++◌, length, take, refl, ap, ◌∙◌, Option, Some}
+use Rattle.std.proofs.Common.{None, IfSome, arith}
 use Rattle.std.specs.Prelude.{option_map}
 
 -- what is shorter than the limit was not cut at it

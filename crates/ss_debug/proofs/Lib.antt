@@ -3,6 +3,7 @@ pub mod LineTables
 pub mod Names
 pub mod Splits
 pub mod Moves
+pub mod Bounds
 pub mod Pendings
 pub mod Tables
 pub mod Walks

@@ -4,8 +4,8 @@ use borrow.Author.Count.{below_more}
 use borrow.Author.Tests.{ltb-true, ltb-false, leb-true, leb-false}
 use Rattle.ss_machine.specs.declared.limits.TheConstants.{LAST_POSITION}
 use Rattle.ss_machine.specs.Run.{Input}
-use Rattle.ss_debug.specs.Move.{StopCondition, least, stops, forward, is_ready_at, is_in_time, is_met}
-use Rattle.ss_debug.specs.Move.{is_on_break, EndsAt, stops_back, backward, EndsBackAt}
+use Rattle.ss_debug.specs.Move.{StopCondition, least, stops, forward_end, is_ready_at, has_come}
+use Rattle.ss_debug.specs.Move.{is_on_break, EndsAt, stops_back, search_back_end, EndsBackAt}
 
 least_step : (b c : Bool) (m n : ℕ) → nat_lt m n ≡ b → m ≤ n → cond b m (cond c n (suc n)) ≤ suc n
 least_step true c m n e h = omega arith
@@ -103,33 +103,33 @@ or_true true false true true e = inr (inr (refl, refl))
 or_true true false true false e = absurd (cc)
 or_true true false false d e = absurd (cc)
 
-lt_is_true : (j : ℕ) → 0 < j → nat_lt 0 j ≡ true
-lt_is_true j h = search rules
+lt_is_true : (i j : ℕ) → i < j → nat_lt i j ≡ true
+lt_is_true i j h = search rules
 
 -- why a movement that ended at q, less than n positions on, ended there
-abbrev HasStopped : Input → List ℕ → StopCondition → ℕ → ℕ → Type 0
-HasStopped t breaks condition p q =
-    (is_ready_at t q ≡ false) ⊎ ((is_in_time t condition q ≡ true) ⊎ ((p < q)
-    × (is_met t breaks condition q ≡ true)))
+abbrev HasStopped : Input → StopCondition → ℕ → ℕ → Type 0
+HasStopped t condition p q =
+    (is_ready_at t q ≡ false) ⊎ ((has_come t condition.time q ≡ true) ⊎ ((p < q)
+    × (condition.test q ≡ true)))
 
-reason_is : (t : Input) (breaks : List ℕ) (condition : StopCondition) (p k : ℕ) →
-    (is_ready_at t (p + k) ≡ false) ⊎ ((is_in_time t condition (p + k) ≡ true) ⊎ ((nat_lt 0 k ≡ true)
-    × (is_met t breaks condition (p + k) ≡ true))) →
-    HasStopped t breaks condition p (p + k)
-reason_is t breaks condition p k (inl r) = inl r
-reason_is t breaks condition p k (inr (inl r)) = inr (inl r)
-reason_is t breaks condition p k (inr (inr r)) =
-    let lt : 0 < k = omega (arith, ltb-true _ _ r.0) in inr (inr (omega arith, r.1))
+reason_is : (t : Input) (condition : StopCondition) (p k : ℕ) →
+    (is_ready_at t (p + k) ≡ false) ⊎ ((has_come t condition.time (p + k) ≡ true) ⊎ ((nat_lt p (p + k) ≡ true)
+    × (condition.test (p + k) ≡ true))) →
+    HasStopped t condition p (p + k)
+reason_is t condition p k (inl r) = inl r
+reason_is t condition p k (inr (inl r)) = inr (inl r)
+reason_is t condition p k (inr (inr r)) =
+    let lt : p < p + k = omega (arith, ltb-true _ _ r.0) in inr (inr (lt, r.1))
 
-reason_at : (b : Bool) (t : Input) (breaks : List ℕ) (condition : StopCondition) (p n k : ℕ) → nat_lt k n ≡ b →
-    k ≤ n → (k < n → stops t breaks condition p k ≡ true) →
-    (p + k ≡ p + n) ⊎ HasStopped t breaks condition p (p + k)
-reason_at true t breaks condition p n k e h found =
+reason_at : (b : Bool) (t : Input) (condition : StopCondition) (p n k : ℕ) → nat_lt k n ≡ b →
+    k ≤ n → (k < n → stops t condition p k ≡ true) →
+    (p + k ≡ p + n) ⊎ HasStopped t condition p (p + k)
+reason_at true t condition p n k e h found =
     let stopped = found (omega (arith, ltb-true _ _ e)) in
-    inr (reason_is t breaks condition p k
-    (or_true (is_ready_at t (p + k)) (is_in_time t condition (p + k)) (nat_lt 0 k)
-    (is_met t breaks condition (p + k)) stopped))
-reason_at false t breaks condition p n k e h found = inl (omega (arith, ltb-false _ _ e))
+    inr (reason_is t condition p k
+    (or_true (is_ready_at t (p + k)) (has_come t condition.time (p + k)) (nat_lt p (p + k))
+    (condition.test (p + k)) stopped))
+reason_at false t condition p n k e h found = inl (omega (arith, ltb-false _ _ e))
 
 -- where a movement has made as many steps as it may, it has made n, or it is at the last position
 bound_at : (b : Bool) (p n q : ℕ) → nat_le n (LAST_POSITION - p) ≡ b → p ≤ LAST_POSITION →
@@ -137,23 +137,23 @@ bound_at : (b : Bool) (p n q : ℕ) → nat_le n (LAST_POSITION - p) ≡ b → p
 bound_at true p n q e h f = inl (omega (arith, leb-true _ _ e, f))
 bound_at false p n q e h f = inr (omega (arith, leb-false _ _ e, f, h))
 
-reason_of : (t : Input) (breaks : List ℕ) (condition : StopCondition) (p n q : ℕ) → p ≤ LAST_POSITION →
-    (q ≡ p + min n (LAST_POSITION - p)) ⊎ HasStopped t breaks condition p q →
-    (q ≡ p + n) ⊎ ((q ≡ LAST_POSITION) ⊎ HasStopped t breaks condition p q)
-reason_of t breaks condition p n q h (inl e) = at_bound (bound_at _ p n q refl h e)
+reason_of : (t : Input) (condition : StopCondition) (p n q : ℕ) → p ≤ LAST_POSITION →
+    (q ≡ p + min n (LAST_POSITION - p)) ⊎ HasStopped t condition p q →
+    (q ≡ p + n) ⊎ ((q ≡ LAST_POSITION) ⊎ HasStopped t condition p q)
+reason_of t condition p n q h (inl e) = at_bound (bound_at _ p n q refl h e)
   where
     at_bound : (q ≡ p + n) ⊎ (q ≡ LAST_POSITION) →
-        (q ≡ p + n) ⊎ ((q ≡ LAST_POSITION) ⊎ HasStopped t breaks condition p q)
+        (q ≡ p + n) ⊎ ((q ≡ LAST_POSITION) ⊎ HasStopped t condition p q)
     at_bound (inl f) = inl f
     at_bound (inr f) = inr (inl f)
-reason_of t breaks condition p n q h (inr s) = inr (inr s)
+reason_of t condition p n q h (inr s) = inr (inr s)
 
 -- a movement ends where the one fact says
-pub forward_ends : (t : Input) (breaks : List ℕ) (condition : StopCondition) (p n : ℕ) → p ≤ LAST_POSITION →
-    EndsAt t breaks condition p n (forward t breaks condition p n)
-forward_ends t breaks condition p m before =
+pub forward_ends : (t : Input) (condition : StopCondition) (p n : ℕ) → p ≤ LAST_POSITION →
+    EndsAt t condition p n (forward_end t condition p n)
+forward_ends t condition p m before =
     let n : ℕ = min m (LAST_POSITION - p) in
-    let test : ℕ → Bool = stops t breaks condition p in
+    let test : ℕ → Bool = stops t condition p in
     let w = least_within test n in
     record {
       no_earlier = omega arith;
@@ -165,44 +165,44 @@ forward_ends t breaks condition p m before =
           subst P e (or_false_left _ _ _ (least_below test n (k - p) (omega arith)));
       not_past_the_time = λ k h g.
           let e : p + (k - p) ≡ k = omega arith in
-          let P : ℕ → Type 0 = λ q. is_in_time t condition q ≡ false in
+          let P : ℕ → Type 0 = λ q. has_come t condition.time q ≡ false in
           subst P e (or_false_time (is_ready_at t (p + (k - p))) _ _ (least_below test n (k - p) (omega arith)));
       not_past_a_met = λ k h g.
           let e : p + (k - p) ≡ k = omega arith in
-          let P : ℕ → Type 0 = λ q. is_met t breaks condition q ≡ false in
+          let P : ℕ → Type 0 = λ q. condition.test q ≡ false in
           subst P e
-          (or_false_break (is_ready_at t (p + (k - p))) (is_in_time t condition (p + (k - p))) _ _
-          (least_below test n (k - p) (omega arith)) (lt_is_true (k - p) (omega arith)));
+          (or_false_break (is_ready_at t (p + (k - p))) (has_come t condition.time (p + (k - p))) _ _
+          (least_below test n (k - p) (omega arith)) (lt_is_true p (p + (k - p)) (omega arith)));
       for_a_reason =
-          reason_of t breaks condition p m (p + least test n) before
-          (reason_at _ t breaks condition p n (least test n) refl w (least_passes test n));
+          reason_of t condition p m (p + least test n) before
+          (reason_at _ t condition p n (least test n) refl w (least_passes test n));
     }
 
-no_end_before : (t : Input) (breaks : List ℕ) (condition : StopCondition) (p n q r : ℕ) →
-    EndsAt t breaks condition p n q → EndsAt t breaks condition p n r → q < r →
-    (q ≡ p + n) ⊎ ((q ≡ LAST_POSITION) ⊎ HasStopped t breaks condition p q) → q ≡ r
-no_end_before t breaks condition p n q r a b h (inl e) = let w = b.within in absurd (omega arith)
-no_end_before t breaks condition p n q r a b h (inr (inl e)) = let w = b.not_past_the_last in absurd (omega arith)
-no_end_before t breaks condition p n q r a b h (inr (inr (inl e))) =
+no_end_before : (t : Input) (condition : StopCondition) (p n q r : ℕ) →
+    EndsAt t condition p n q → EndsAt t condition p n r → q < r →
+    (q ≡ p + n) ⊎ ((q ≡ LAST_POSITION) ⊎ HasStopped t condition p q) → q ≡ r
+no_end_before t condition p n q r a b h (inl e) = let w = b.within in absurd (omega arith)
+no_end_before t condition p n q r a b h (inr (inl e)) = let w = b.not_past_the_last in absurd (omega arith)
+no_end_before t condition p n q r a b h (inr (inr (inl e))) =
     let ready = b.not_past_an_end q a.no_earlier h in absurd (cc)
-no_end_before t breaks condition p n q r a b h (inr (inr (inr (inl e)))) =
+no_end_before t condition p n q r a b h (inr (inr (inr (inl e)))) =
     let early = b.not_past_the_time q a.no_earlier h in absurd (cc)
-no_end_before t breaks condition p n q r a b h (inr (inr (inr (inr e)))) =
+no_end_before t condition p n q r a b h (inr (inr (inr (inr e)))) =
     let unmet = b.not_past_a_met q e.0 h in let met = e.1 in absurd (cc)
 
-end_by_order : (t : Input) (breaks : List ℕ) (condition : StopCondition) (p n q r : ℕ) (x y : Bool) →
+end_by_order : (t : Input) (condition : StopCondition) (p n q r : ℕ) (x y : Bool) →
     nat_lt q r ≡ x → nat_lt r q ≡ y →
-    EndsAt t breaks condition p n q → EndsAt t breaks condition p n r → q ≡ r
-end_by_order t breaks condition p n q r true y e f a b =
-    no_end_before t breaks condition p n q r a b (omega (arith, ltb-true _ _ e)) a.for_a_reason
-end_by_order t breaks condition p n q r false true e f a b =
-    sym (no_end_before t breaks condition p n r q b a (omega (arith, ltb-true _ _ f)) b.for_a_reason)
-end_by_order t breaks condition p n q r false false e f a b = omega (arith, ltb-false _ _ e, ltb-false _ _ f)
+    EndsAt t condition p n q → EndsAt t condition p n r → q ≡ r
+end_by_order t condition p n q r true y e f a b =
+    no_end_before t condition p n q r a b (omega (arith, ltb-true _ _ e)) a.for_a_reason
+end_by_order t condition p n q r false true e f a b =
+    sym (no_end_before t condition p n r q b a (omega (arith, ltb-true _ _ f)) b.for_a_reason)
+end_by_order t condition p n q r false false e f a b = omega (arith, ltb-false _ _ e, ltb-false _ _ f)
 
 -- and nowhere else
-pub one_end : (t : Input) (breaks : List ℕ) (condition : StopCondition) (p n q r : ℕ) →
-    EndsAt t breaks condition p n q → EndsAt t breaks condition p n r → q ≡ r
-one_end t breaks condition p n q r a b = end_by_order t breaks condition p n q r _ _ refl refl a b
+pub one_end : (t : Input) (condition : StopCondition) (p n q r : ℕ) →
+    EndsAt t condition p n q → EndsAt t condition p n r → q ≡ r
+one_end t condition p n q r a b = end_by_order t condition p n q r _ _ refl refl a b
 
 -- ---- back to where a test holds
 
@@ -232,9 +232,9 @@ back_reason true test a p n k o e h found =
 back_reason false test a p n k o e h found =
     back_at_bound _ test a p n k o refl (omega (arith, ltb-false _ _ e)) h
 
--- a movement back ends where the one fact says
-pub backward_ends : (test : ℕ → Bool) (a p n : ℕ) → a ≤ p → EndsBackAt test a p n (backward test a p n)
-backward_ends test a p n o =
+-- a search back ends where the one fact says
+pub search_back_ends : (test : ℕ → Bool) (a p n : ℕ) → a ≤ p → EndsBackAt test a p n (search_back_end test a p n)
+search_back_ends test a p n o =
     let stop : ℕ → Bool = stops_back test p in
     let w = least_within stop (min n (p - a)) in
     record {
@@ -245,22 +245,22 @@ backward_ends test a p n o =
           let e : p - (p - k) ≡ k = omega arith in
           let P : ℕ → Type 0 = λ q. test q ≡ false in
           subst P e
-          (and_false _ _ (least_below stop (min n (p - a)) (p - k) (omega arith)) (lt_is_true (p - k) (omega arith)));
+          (and_false _ _ (least_below stop (min n (p - a)) (p - k) (omega arith)) (lt_is_true 0 (p - k) (omega arith)));
       for_a_reason =
           back_reason _ test a p n (least stop (min n (p - a))) o refl w (least_passes stop (min n (p - a)));
     }
 
--- what stops a movement back to a break line at q, k positions back
+-- what stops BACK BREAK at q, k positions back
 pub stops_back_here : (t u : Input) (breaks : List ℕ) (p q k : ℕ) → u ≡ t → p ≡ q + k →
     stops_back (is_on_break t breaks) p k ≡ (nat_lt 0 k && is_on_break u breaks q)
 stops_back_here t u breaks p q k e f = let g : p - k ≡ q = omega arith in rw (e, g) refl
 
--- where a movement back that has come from p to q, k positions back, ends there: it went on from all between, and it is
+-- where a search back that has come from p to q, k positions back, ends there: it went on from all between, and it is
 -- at its bound, where the test holds, or at the earliest kept position
-pub backward_is : (test : ℕ → Bool) (a p n k q : ℕ) → p ≡ q + k → k ≤ n → a ≤ q →
+pub search_back_is : (test : ℕ → Bool) (a p n k q : ℕ) → p ≡ q + k → k ≤ n → a ≤ q →
     ((j : ℕ) → j < k → stops_back test p j ≡ false) →
-    (k < n → a < q → stops_back test p k ≡ true) → backward test a p n ≡ q
-backward_is test a p n k q e h o none found =
+    (k < n → a < q → stops_back test p k ≡ true) → search_back_end test a p n ≡ q
+search_back_is test a p n k q e h o none found =
     let found_at : k < min n (p - a) → stops_back test p k ≡ true = λ g. found (omega arith) (omega arith) in
     let f = least_is (stops_back test p) (min n (p - a)) k (omega arith) none found_at in omega arith
 
@@ -281,9 +281,9 @@ back_end_by_order test o p n q r false true e f a b =
 back_end_by_order test o p n q r false false e f a b = omega (arith, ltb-false _ _ e, ltb-false _ _ f)
 
 -- and nowhere else
-pub one_back_end : (test : ℕ → Bool) (o p n q r : ℕ) →
+pub one_search_back_end : (test : ℕ → Bool) (o p n q r : ℕ) →
     EndsBackAt test o p n q → EndsBackAt test o p n r → q ≡ r
-one_back_end test o p n q r a b = back_end_by_order test o p n q r _ _ refl refl a b
+one_search_back_end test o p n q r a b = back_end_by_order test o p n q r _ _ refl refl a b
 
 -- the steps to the least number that passes a test
 pub ruleset least_steps = (least_is, least_at_least, or_false_left)

@@ -19,8 +19,7 @@ use Rattle.ss_machine.specs.declared.status.Status.TheVariants.{Ready, Stopped, 
 use Rattle.ss_machine.specs.Readings.{variable_in}
 use Rattle.ss_machine.specs.Run.{Input, run}
 use Rattle.ss_debug.specs.BreakLines.{is_break_line, is_full}
-use Rattle.ss_debug.specs.Move.{StopCondition, never, at_break_line, at_time, behind_event_start}
-use Rattle.ss_debug.specs.Move.{is_ready_at, is_in_time, is_met, line_at}
+use Rattle.ss_debug.specs.Move.{StopCondition, is_ready_at, has_come, line_at}
 
 -- the word of a status
 abbrev pub status_text : Status → List ℕ
@@ -29,7 +28,7 @@ status_text Stopped = codes "STOPPED"
 status_text Finished = codes "FINISHED"
 status_text (Faulted f) = codes "FAULT F" ++ decimal (run_fault_number f)
 
--- a section's name
+-- a section's name; an empty one, which is never met, where there is none
 abbrev pub section_name : Option SectionTable → List ℕ
 section_name (Some s) = s.name
 section_name None = []
@@ -56,31 +55,18 @@ state_line t p = moment_text t p ++ place_text t p ++ 10 ∷ []
 unfoldable pub movement_text : List ℕ → Input → ℕ → List ℕ
 movement_text word t p = word ++ codes ": " ++ state_line t p
 
--- the word where neither a time has come nor the condition is met: DONE where steps are counted and all were made
-abbrev pub bound_word : StopCondition → Bool → List ℕ
-bound_word never is_whole = if is_whole then codes "DONE" else codes "BOUND"
-bound_word at_break_line is_whole = codes "BOUND"
-bound_word (at_time time) is_whole = codes "BOUND"
-bound_word behind_event_start is_whole = codes "BOUND"
-
--- the word where the condition is met later than at the beginning
-abbrev pub met_word : StopCondition → List ℕ
-met_word never = codes "DONE"
-met_word at_break_line = codes "BREAK"
-met_word (at_time time) = codes "BREAK"
-met_word behind_event_start = codes "EVENT"
-
 -- the word of a movement from p by at most n steps to a state q that is ready: TIME where the time has come, that of
--- the condition where it is met later than p, else that of the bound
-abbrev pub ready_word : Input → List ℕ → StopCondition → ℕ → ℕ → ℕ → List ℕ
-ready_word t breaks condition p n q =
-    if is_in_time t condition q then codes "TIME" else
-    if nat_lt p q && is_met t breaks condition q then met_word condition else bound_word condition (nat_eq q (p + n))
+-- the condition where it is met later than p, that of its bound where all steps were made, else BOUND
+abbrev pub ready_word : Input → StopCondition → ℕ → ℕ → ℕ → List ℕ
+ready_word t condition p n q =
+    if has_come t condition.time q then codes "TIME" else
+    if nat_lt p q && condition.test q then condition.word else
+    if nat_eq q (p + n) then condition.bound_word else codes "BOUND"
 
 -- the word of a movement from p by at most n steps to q: HALTED where the status isn't ready
-abbrev pub forward_word : Input → List ℕ → StopCondition → ℕ → ℕ → ℕ → List ℕ
-forward_word t breaks condition p n q =
-    if is_ready_at t q then ready_word t breaks condition p n q else codes "HALTED"
+abbrev pub forward_word : Input → StopCondition → ℕ → ℕ → ℕ → List ℕ
+forward_word t condition p n q =
+    if is_ready_at t q then ready_word t condition p n q else codes "HALTED"
 
 -- the word at the earliest kept position
 abbrev pub earliest_word : ℕ → List ℕ
@@ -90,9 +76,9 @@ earliest_word earliest = if nat_eq earliest 0 then codes "START" else codes "NOT
 abbrev pub back_word : ℕ → ℕ → ℕ → List ℕ
 back_word earliest p n = if nat_lt (p - earliest) n then earliest_word earliest else codes "DONE"
 
--- the word of a movement back from p to q, to a state at which the test holds, where the word for that is given
-abbrev pub back_to_word : List ℕ → (ℕ → Bool) → ℕ → ℕ → ℕ → List ℕ
-back_to_word word test earliest p q =
+-- the word of a search back from p that ended at q, where the word for a state at which the test holds is given
+abbrev pub search_back_word : (ℕ → Bool) → List ℕ → ℕ → ℕ → ℕ → List ℕ
+search_back_word test word earliest p q =
     if nat_lt q p && test q then word else
     if nat_eq q earliest then earliest_word earliest else codes "BOUND"
 

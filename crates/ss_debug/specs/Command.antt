@@ -1,14 +1,17 @@
 -- What a command line says.
-use Rattle.std.specs.Prelude.{ℕ, ℤ, pos, List, [], ◌∷◌, length, map, Option, Some, None, option_map, if◌then◌else◌, nat_lt, codes}
+use Rattle.std.specs.Prelude.{ℕ, ℤ, pos, List, [], ◌∷◌, length, map, Option, Some, None, option_map, if◌then◌else◌}
+use Rattle.std.specs.Prelude.{nat_lt, codes}
 use Rattle.std.specs.Char.{to_ascii_uppercase}
 use Rattle.std.specs.Str.{bytes_eq}
 use Rattle.ss_debug.specs.CommandLines.{command_words, number_within, name_of}
-use Rattle.ss_debug.specs.declared.limits.TheConstants.{LINE_LIMIT, GREATEST_BOUND, GREATEST_KEPT, GREATEST_LINE, GREATEST_TIME, GREATEST_ENTITY}
+use Rattle.ss_debug.specs.declared.limits.TheConstants.{LINE_LIMIT, GREATEST_BOUND, GREATEST_KEPT, GREATEST_LINE}
+use Rattle.ss_debug.specs.declared.limits.TheConstants.{GREATEST_TIME, GREATEST_ENTITY}
 use Rattle.ss_debug.specs.declared.commands.Command.{Command}
 use Rattle.ss_debug.specs.declared.commands.Command.TheVariants.{Blank, Bad, Move, Break, Clear, Forget, Show, Quit}
 use Rattle.ss_debug.specs.declared.commands.Movement.{Movement}
 use Rattle.ss_debug.specs.declared.commands.Movement.TheVariants.{Step, Run, RunTo, Next, Back, BackEvent, BackBreak}
-use Rattle.ss_debug.specs.declared.commands.Question.TheVariants.{Clock, Where, Variable, Entity, Set, Events, Taken, Entry, Report}
+use Rattle.ss_debug.specs.declared.commands.Question.TheVariants.{Clock, Where, Variable, Entity, Set, Events, Taken}
+use Rattle.ss_debug.specs.declared.commands.Question.TheVariants.{Entry, Report}
 
 -- the command that is made of what was read, or a bad one
 abbrev pub or_bad : {A : Type 0} → (A → Command) → Option A → Command

@@ -23,8 +23,8 @@ EachSays command lines = map command_of lines ≡ map (λ _. command) lines
 -- ---- steps that are forgotten
 
 -- the debugger at a position, where nothing before another one is kept
-abbrev pub standing : ℕ → ℕ → DebuggerState
-standing earliest p = record { position = p; earliest = earliest; breaks = [] }
+abbrev pub debugger_at : ℕ → ℕ → DebuggerState
+debugger_at earliest p = record { position = p; earliest = earliest; breaks = [] }
 
 -- FORGET leads there, and says so, whatever the run is
 abbrev pub Keeps : DebuggerState → Command → DebuggerState → List ℕ → Type 0
@@ -64,8 +64,8 @@ notice_at notice class time filing =
     record { notice = notice; time = pos time; class = class; keys = []; filing = filing }
 
 -- an ARRIVAL at 20, a TICK at 5 and a TICK at 20, scheduled in this order
-abbrev pub waiting : Agenda
-waiting = record { pending = notice_at 1 1 20 3 ∷ notice_at 2 0 20 1 ∷ notice_at 3 1 5 2 ∷ []; next_filing = 4 }
+abbrev pub three_notices : Agenda
+three_notices = record { pending = notice_at 1 1 20 3 ∷ notice_at 2 0 20 1 ∷ notice_at 3 1 5 2 ∷ []; next_filing = 4 }
 
 -- ---- entities and sets
 
@@ -118,9 +118,9 @@ shop_at d = record {
 }
 
 -- the answer to SHOW c k in the shop
-abbrev pub shown : List ℕ → ℤ → List ℕ
-shown name x = class_text name x shop two_desks (class_named shop name)
+abbrev pub shop_entity_text : List ℕ → ℤ → List ℕ
+shop_entity_text name x = class_text name x shop two_desks (class_named shop name)
 
 -- the answer to SHOW SET in the shop, where the variable DESK has this value
-abbrev pub listed_at : ℤ → List ℕ → Option ℤ → List ℕ
-listed_at d name owner = named_list_text name owner shop (shop_at d) (set_named shop name)
+abbrev pub shop_list_text : ℤ → List ℕ → Option ℤ → List ℕ
+shop_list_text d name owner = named_list_text name owner shop (shop_at d) (set_named shop name)

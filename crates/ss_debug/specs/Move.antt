@@ -1,12 +1,15 @@
--- Where a movement ends.
+-- What each movement does, and where it ends.
 use Rattle.std.specs.Prelude.{ℕ, zero, suc, ◌+◌, ◌-◌, min, max, pos, int_le, ◌≡◌, ◌<◌, ◌≤◌}
-use Rattle.std.specs.Prelude.{Bool, true, false, not, ◌&&◌, ◌||◌, ◌⊎◌}
-use Rattle.std.specs.Prelude.{List, Option, Some, None, if◌then◌else◌, nat_lt, length}
+use Rattle.std.specs.Prelude.{Bool, true, false, not, ◌&&◌, ◌||◌, ◌⊎◌, if◌then◌else◌, nat_lt}
+use Rattle.std.specs.Prelude.{List, length, codes, Option, Some, None}
 use Rattle.ss_program.specs.Program.{spot_at, section_of, is_event_section}
 use Rattle.ss_program.specs.declared.place.Spot.{Spot}
 use Rattle.ss_machine.specs.declared.limits.TheConstants.{LAST_POSITION}
 use Rattle.ss_machine.specs.State.{State, is_ready}
 use Rattle.ss_machine.specs.Run.{Input, run}
+use Rattle.ss_debug.specs.declared.commands.Movement.{Movement}
+use Rattle.ss_debug.specs.declared.commands.Movement.TheVariants.{Step, Run, RunTo, Next, Back, BackEvent, BackBreak}
+use Rattle.ss_debug.specs.declared.limits.TheConstants.{GREATEST_BOUND}
 use Rattle.ss_debug.specs.BreakLines.{is_break_line}
 
 -- the least number below n at which the test holds, or n
@@ -14,19 +17,11 @@ unfoldable pub least : (ℕ → Bool) → ℕ → ℕ
 least test zero = 0
 least test (suc n) = if nat_lt (least test n) n then least test n else (if test n then n else suc n)
 
--- where a forward movement may stop before its bound: nowhere; at a state whose place is on a break line; there, or at
--- a state whose clock is at or past a time; at a state to which an event start led
-pub data StopCondition : Type 0 where
-  never : StopCondition
-  at_break_line : StopCondition
-  at_time : ℕ → StopCondition
-  behind_event_start : StopCondition
-
 -- whether the status of state p is ready
 abbrev pub is_ready_at : Input → ℕ → Bool
 is_ready_at t p = is_ready (run t p).status
 
--- the line of a place
+-- the line of a place; 0, which is never met, where there is none
 abbrev pub spot_line : Option Spot → ℕ
 spot_line None = 0
 spot_line (Some spot) = spot.line
@@ -43,9 +38,10 @@ line_at t p = line_of_state t (run t p)
 abbrev pub is_on_break : Input → List ℕ → ℕ → Bool
 is_on_break t breaks p = is_break_line breaks (line_at t p)
 
--- whether the clock of state p is at or past a time
-abbrev pub has_come : Input → ℕ → ℕ → Bool
-has_come t time p = int_le (pos time) (run t p).clock
+-- whether the clock of state p is at or past a time, if one is named
+abbrev pub has_come : Input → Option ℕ → ℕ → Bool
+has_come t None p = false
+has_come t (Some time) p = int_le (pos time) (run t p).clock
 
 -- whether the frame of an event is the last one
 abbrev pub runs_event : Input → State → Bool
@@ -59,38 +55,71 @@ starts_event t p = runs_event t (run t (p + 1)) && nat_lt (length (run t p).belo
 abbrev pub is_behind_start : Input → ℕ → Bool
 is_behind_start t p = nat_lt 0 p && starts_event t (p - 1)
 
--- whether state p is at or past the time that the condition names
-abbrev pub is_in_time : Input → StopCondition → ℕ → Bool
-is_in_time t never p = false
-is_in_time t at_break_line p = false
-is_in_time t (at_time time) p = has_come t time p
-is_in_time t behind_event_start p = false
+-- where a forward movement may stop before its bound, and what it says
+pub record StopCondition : Type 0 where
+  -- where the clock is at or past this time, if one is named, also where the movement begins
+  pub time : Option ℕ
+  -- where this test holds, later than where it begins
+  pub test : ℕ → Bool
+  -- the word for that
+  pub word : List ℕ
+  -- the word where all steps were made and nothing else is to be said
+  pub bound_word : List ℕ
 
--- whether state p is what the condition asks for later than at a movement's beginning: at a break line, or behind an
--- event start
-abbrev pub is_met : Input → List ℕ → StopCondition → ℕ → Bool
-is_met t breaks never p = false
-is_met t breaks at_break_line p = is_on_break t breaks p
-is_met t breaks (at_time time) p = is_on_break t breaks p
-is_met t breaks behind_event_start p = is_behind_start t p
+-- STEP stops nowhere: it is told how many steps to make
+abbrev pub step_condition : StopCondition
+step_condition = record { time = None; test = λ p. false; word = codes "DONE"; bound_word = codes "DONE" }
 
--- whether a movement ends at q, k positions on: there the status isn't ready, or the time has come, or, later than at
--- its beginning, the condition is met
-abbrev pub is_stop : Input → List ℕ → StopCondition → ℕ → ℕ → Bool
-is_stop t breaks condition k q =
-    not (is_ready_at t q) || is_in_time t condition q || (nat_lt 0 k && is_met t breaks condition q)
+-- RUN stops at a state whose place is on a break line
+abbrev pub run_condition : Input → List ℕ → StopCondition
+run_condition t breaks =
+    record { time = None; test = is_on_break t breaks; word = codes "BREAK"; bound_word = codes "BOUND" }
 
--- whether a movement from p ends k positions on
-abbrev pub stops : Input → List ℕ → StopCondition → ℕ → ℕ → Bool
-stops t breaks condition p k = is_stop t breaks condition k (p + k)
+-- RUN TO stops there, and at a state whose clock is at or past a time
+abbrev pub run_to_condition : Input → List ℕ → ℕ → StopCondition
+run_to_condition t breaks time = record (run_condition t breaks) { time = Some time }
+
+-- NEXT stops at a state to which an event start led
+abbrev pub next_condition : Input → StopCondition
+next_condition t =
+    record { time = None; test = is_behind_start t; word = codes "EVENT"; bound_word = codes "BOUND" }
+
+-- what a movement does: it goes forward to where it stops, so many steps at most; so many steps back; or back to where
+-- a test holds, for which it has a word
+pub data MovementShape : Type 0 where
+  forward : StopCondition → ℕ → MovementShape
+  back : ℕ → MovementShape
+  search_back : (ℕ → Bool) → List ℕ → MovementShape
+
+-- what each movement does
+abbrev pub shape_of : Input → List ℕ → Movement → MovementShape
+shape_of t breaks (Step n) = forward step_condition n
+shape_of t breaks (Run n) = forward (run_condition t breaks) n
+shape_of t breaks (RunTo time) = forward (run_to_condition t breaks time) GREATEST_BOUND
+shape_of t breaks Next = forward (next_condition t) GREATEST_BOUND
+shape_of t breaks (Back n) = back n
+shape_of t breaks BackEvent = search_back (starts_event t) (codes "EVENT")
+shape_of t breaks BackBreak = search_back (is_on_break t breaks) (codes "BREAK")
+
+-- ---- forward
+
+-- whether a movement from p stops at q: there the status isn't ready, or the time has come, or q is later and the test
+-- holds
+abbrev pub is_stop : Input → StopCondition → ℕ → ℕ → Bool
+is_stop t condition p q =
+    not (is_ready_at t q) || has_come t condition.time q || (nat_lt p q && condition.test q)
+
+-- whether it stops k positions on
+abbrev pub stops : Input → StopCondition → ℕ → ℕ → Bool
+stops t condition p k = is_stop t condition p (p + k)
 
 -- where a movement from p ends: at the least such position, at most n positions on, and not past the last one
-abbrev pub forward : Input → List ℕ → StopCondition → ℕ → ℕ → ℕ
-forward t breaks condition p n = p + least (stops t breaks condition p) (min n (LAST_POSITION - p))
+abbrev pub forward_end : Input → StopCondition → ℕ → ℕ → ℕ
+forward_end t condition p n = p + least (stops t condition p) (min n (LAST_POSITION - p))
 
 -- the same as one fact: q is the least later position that meets the condition, within the bound, never past a state
 -- that isn't ready nor past the last position
-pub record EndsAt (t : Input) (breaks : List ℕ) (condition : StopCondition) (p n q : ℕ) : Type 0 where
+pub record EndsAt (t : Input) (condition : StopCondition) (p n q : ℕ) : Type 0 where
   -- it is not before the start
   pub no_earlier : p ≤ q
   -- it is within the bound
@@ -100,26 +129,28 @@ pub record EndsAt (t : Input) (breaks : List ℕ) (condition : StopCondition) (p
   -- no state before it has ended
   pub not_past_an_end : (k : ℕ) → p ≤ k → k < q → is_ready_at t k ≡ true
   -- before it the time has not come
-  pub not_past_the_time : (k : ℕ) → p ≤ k → k < q → is_in_time t condition k ≡ false
-  -- between the two no state meets the condition
-  pub not_past_a_met : (k : ℕ) → p < k → k < q → is_met t breaks condition k ≡ false
+  pub not_past_the_time : (k : ℕ) → p ≤ k → k < q → has_come t condition.time k ≡ false
+  -- between the two the test holds nowhere
+  pub not_past_a_met : (k : ℕ) → p < k → k < q → condition.test k ≡ false
   -- it is at one of the bounds, or meets the condition
   pub for_a_reason :
-      (q ≡ p + n) ⊎ ((q ≡ LAST_POSITION) ⊎ ((is_ready_at t q ≡ false) ⊎ ((is_in_time t condition q ≡ true)
-      ⊎ ((p < q) × (is_met t breaks condition q ≡ true)))))
+      (q ≡ p + n) ⊎ ((q ≡ LAST_POSITION) ⊎ ((is_ready_at t q ≡ false) ⊎ ((has_come t condition.time q ≡ true)
+      ⊎ ((p < q) × (condition.test q ≡ true)))))
+
+-- ---- back
 
 -- n positions before p, or the earliest kept position where that is later
-abbrev pub back_by : ℕ → ℕ → ℕ → ℕ
-back_by earliest p n = max earliest (p - n)
+abbrev pub back_end : ℕ → ℕ → ℕ → ℕ
+back_end earliest p n = max earliest (p - n)
 
--- whether a movement back from p ends k positions back: earlier than at its beginning, where the test holds
+-- whether a search back from p ends k positions back: earlier than at its beginning, where the test holds
 abbrev pub stops_back : (ℕ → Bool) → ℕ → ℕ → Bool
 stops_back test p k = nat_lt 0 k && test (p - k)
 
--- where a movement back from p to a state at which the test holds ends: at the greatest earlier such position, at most
--- n positions back, and not before the earliest kept one
-abbrev pub backward : (ℕ → Bool) → ℕ → ℕ → ℕ → ℕ
-backward test earliest p n = p - least (stops_back test p) (min n (p - earliest))
+-- where a search back from p to a state at which the test holds ends: at the greatest earlier such position, at most n
+-- positions back, and not before the earliest kept one
+abbrev pub search_back_end : (ℕ → Bool) → ℕ → ℕ → ℕ → ℕ
+search_back_end test earliest p n = p - least (stops_back test p) (min n (p - earliest))
 
 -- the same as one fact: q is the greatest earlier position at which the test holds, within the bound, not before the
 -- earliest kept one

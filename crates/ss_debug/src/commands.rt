@@ -1,7 +1,7 @@
 //! What a command line says.
 use crate::name::Name;
 
-/// A command (docs/DEBUGGER.md).
+/// A command (docs/DEBUGGER.md); limits.rt has the limits of the numbers.
 #[derive(Drop)]
 pub enum Command {
     /// A line without words: no answer.
@@ -14,7 +14,7 @@ pub enum Command {
     Break(u32),
     /// CLEAR: this line is no break line any more.
     Clear(u32),
-    /// FORGET: all steps but so many newest ones, from 1 to 1,000,000 where a line was read.
+    /// FORGET: all steps but so many newest ones, at most `GREATEST_KEPT` where a line was read.
     Forget(u64),
     /// SHOW: a question.
     Show(Question),
@@ -22,7 +22,7 @@ pub enum Command {
     Quit,
 }
 
-/// A movement. Bounds are numbers of steps, from 1 to 1,000,000 where a line was read.
+/// A movement. Bounds are numbers of steps, from 1 to `GREATEST_BOUND` where a line was read.
 #[derive(Clone, Copy, Debug, PartialEq, Eq)]
 pub enum Movement {
     /// STEP: so many steps forward.

@@ -1,16 +1,14 @@
 //! The debugger, and what each command does.
 ghost use Rattle.std.specs.Prelude.{◌≡◌, ◌++◌, [], codes, true, OnOk, OnErr, IfOk, IsOk};
 ghost use Rattle.ss_machine.specs.Moment.{position};
-ghost use Rattle.ss_debug.specs.Turn.{debugger_state_at, position_after_forward, forward_answer};
-ghost use Rattle.ss_debug.specs.Turn.{debugger_state_after_movement, back_to_answer, movement_answer};
-ghost use Rattle.ss_debug.specs.Turn.{debugger_state_after_forget, forget_answer};
-ghost use Rattle.ss_debug.specs.Turn.{question_answer, debugger_state_after, answer, go_of, is_silent};
+ghost use Rattle.ss_debug.specs.Move.{forward, back, search_back, shape_of, is_on_break, starts_event};
+ghost use Rattle.ss_debug.specs.Turn.{debugger_state_after_movement, movement_answer};
+ghost use Rattle.ss_debug.specs.Turn.{debugger_state_after_forget, forget_answer, show_answer};
+ghost use Rattle.ss_debug.specs.Turn.{debugger_state_after, answer, go_of, is_silent};
 ghost use Rattle.ss_debug.specs.Answer.{break_text, clear_text};
 ghost use Rattle.ss_debug.specs.BreakLines.{breaks_after_set, without_line};
-ghost use Rattle.ss_debug.specs.declared.commands.Movement.TheVariants.{Back, BackEvent, BackBreak};
-ghost use Rattle.ss_debug.specs.Move.{is_on_break, starts_event};
-ghost use Rattle.ss_debug.specs.View.{debugger_state_of, condition_of};
-ghost use Rattle.ss_debug.specs.AfterRefusal.{IsPartOfMovement, IsStateAfterRefusedMovement, IsStateAfterRefusal};
+ghost use Rattle.ss_debug.specs.View.{debugger_state_of, condition_in};
+ghost use Rattle.ss_debug.specs.AfterRefusal.{IsStateAfterRefusedMovement, IsStateAfterRefusal};
 
 use crate::break_lines::BreakLines;
 use crate::commands::{Command, Movement, Question};
@@ -19,12 +17,12 @@ use crate::entry_text::entry_text;
 use crate::events_text::events_text;
 use crate::go::Go;
 use crate::limits::GREATEST_BOUND;
-use crate::movement::{advance, retreat, retreat_to_break, retreat_to_event};
+use crate::movement::{back, back_break, back_event, forward};
 use crate::set_text::set_text;
-use crate::stop_condition::StopCondition;
+use crate::stop_condition::{StopCondition, Target};
 use crate::text::{
-    break_text, clear_text, clock_text, kept_text, movement_text, movement_word, report_text,
-    retreat_to_break_word, retreat_to_event_word, retreat_word, taken_text, var_text, where_text,
+    back_break_word, back_event_word, back_word, break_text, clear_text, clock_text, forward_word,
+    kept_text, movement_text, report_text, taken_text, var_text, where_text,
 };
 use ss_links::SetBoard;
 use ss_machine::Machine;
@@ -71,75 +69,79 @@ impl<S: SetBoard> Debugger<S> {
     }
 
     /// A forward movement, and its answer.
-    fn go_forward(
+    fn forward(
         &mut self,
         condition: StopCondition,
         bound: u64,
         bytes: &mut Vec<u8>,
     ) -> Result<(), AllocError>
         ensures input { self.new.machine.input ≡ self.old.machine.input }
-        ensures place { OnOk result (debugger_state_of self.new ≡ debugger_state_at (debugger_state_of self.old)
-            (position_after_forward self.old.machine.input (debugger_state_of self.old)
-            (condition_of condition) bound)) }
+        ensures place { OnOk result (debugger_state_of self.new
+            ≡ debugger_state_after_movement self.old.machine.input (debugger_state_of self.old)
+            (forward (condition_in self.old condition) bound)) }
         ensures said { OnOk result (bytes.new.items ≡ bytes.old.items
-            ++ forward_answer self.old.machine.input (debugger_state_of self.old) (condition_of condition) bound) }
+            ++ movement_answer self.old.machine.input (debugger_state_of self.old)
+            (forward (condition_in self.old condition) bound)) }
         ensures memory { OnErr result ((bytes.new.items ≡ bytes.old.items)
-            × IsPartOfMovement (debugger_state_of self.old)
-            (position_after_forward self.old.machine.input (debugger_state_of self.old)
-            (condition_of condition) bound) (debugger_state_of self.new)) }
+            × IsStateAfterRefusedMovement self.old.machine.input (debugger_state_of self.old)
+            (forward (condition_in self.old condition) bound) (debugger_state_of self.new)) }
     {
         let from = self.machine.position();
-        let started = advance(&mut self.machine, &self.breaks, condition, bound)?;
-        let word = movement_word(&self.machine, &self.breaks, condition, from, bound, started);
+        let started = forward(&mut self.machine, &self.breaks, condition, bound)?;
+        let word = forward_word(&self.machine, &self.breaks, condition, from, bound, started);
         let text = movement_text(self.alloc, word, &self.machine)?;
         bytes.extend_from_slice(&text)
     }
 
-    /// A movement back, and its answer.
-    fn go_back(&mut self, count: u64, bytes: &mut Vec<u8>) -> Result<(), AllocError>
+    /// BACK, and its answer.
+    fn back(&mut self, count: u64, bytes: &mut Vec<u8>) -> Result<(), AllocError>
         ensures input { self.new.machine.input ≡ self.old.machine.input }
-        ensures place { debugger_state_of self.new ≡ debugger_state_after_movement self.old.machine.input
-            (debugger_state_of self.old) (Back count) }
+        ensures place { debugger_state_of self.new
+            ≡ debugger_state_after_movement self.old.machine.input (debugger_state_of self.old)
+            (back count) }
         ensures said { OnOk result (bytes.new.items ≡ bytes.old.items
-            ++ movement_answer self.old.machine.input (debugger_state_of self.old) (Back count)) }
+            ++ movement_answer self.old.machine.input (debugger_state_of self.old)
+            (back count)) }
         ensures memory { OnErr result (bytes.new.items ≡ bytes.old.items) }
     {
-        let word = retreat_word(&self.machine, count);
-        retreat(&mut self.machine, count);
+        let word = back_word(&self.machine, count);
+        back(&mut self.machine, count);
         let text = movement_text(self.alloc, word, &self.machine)?;
         bytes.extend_from_slice(&text)
     }
 
-    /// A movement back to a break line, and its answer.
-    fn go_back_to_break(&mut self, bytes: &mut Vec<u8>) -> Result<(), AllocError>
+    /// BACK BREAK, and its answer.
+    fn back_break(&mut self, bytes: &mut Vec<u8>) -> Result<(), AllocError>
         ensures input { self.new.machine.input ≡ self.old.machine.input }
-        ensures place { debugger_state_of self.new ≡ debugger_state_after_movement self.old.machine.input
-            (debugger_state_of self.old) BackBreak }
+        ensures place { debugger_state_of self.new
+            ≡ debugger_state_after_movement self.old.machine.input (debugger_state_of self.old)
+            (search_back (is_on_break self.old.machine.input self.old.breaks) (codes "BREAK")) }
         ensures said { OnOk result (bytes.new.items ≡ bytes.old.items
-            ++ back_to_answer self.old.machine.input (debugger_state_of self.old) (codes "BREAK")
-            (is_on_break self.old.machine.input self.old.breaks)) }
+            ++ movement_answer self.old.machine.input (debugger_state_of self.old)
+            (search_back (is_on_break self.old.machine.input self.old.breaks) (codes "BREAK"))) }
         ensures memory { OnErr result (bytes.new.items ≡ bytes.old.items) }
     {
         let from = self.machine.position();
-        retreat_to_break(&mut self.machine, &self.breaks, GREATEST_BOUND);
-        let word = retreat_to_break_word(&self.machine, &self.breaks, from);
+        back_break(&mut self.machine, &self.breaks, GREATEST_BOUND);
+        let word = back_break_word(&self.machine, &self.breaks, from);
         let text = movement_text(self.alloc, word, &self.machine)?;
         bytes.extend_from_slice(&text)
     }
 
-    /// A movement back to an event start, and its answer.
-    fn go_back_to_event(&mut self, bytes: &mut Vec<u8>) -> Result<(), AllocError>
+    /// BACK EVENT, and its answer.
+    fn back_event(&mut self, bytes: &mut Vec<u8>) -> Result<(), AllocError>
         ensures input { self.new.machine.input ≡ self.old.machine.input }
-        ensures place { debugger_state_of self.new ≡ debugger_state_after_movement self.old.machine.input
-            (debugger_state_of self.old) BackEvent }
+        ensures place { debugger_state_of self.new
+            ≡ debugger_state_after_movement self.old.machine.input (debugger_state_of self.old)
+            (search_back (starts_event self.old.machine.input) (codes "EVENT")) }
         ensures said { OnOk result (bytes.new.items ≡ bytes.old.items
-            ++ back_to_answer self.old.machine.input (debugger_state_of self.old) (codes "EVENT")
-            (starts_event self.old.machine.input)) }
+            ++ movement_answer self.old.machine.input (debugger_state_of self.old)
+            (search_back (starts_event self.old.machine.input) (codes "EVENT"))) }
         ensures memory { OnErr result (bytes.new.items ≡ bytes.old.items) }
     {
         let from = self.machine.position();
-        let is_met = retreat_to_event(&mut self.machine, GREATEST_BOUND);
-        let word = retreat_to_event_word(&self.machine, from, is_met);
+        let is_met = back_event(&mut self.machine, GREATEST_BOUND);
+        let word = back_event_word(&self.machine, from, is_met);
         let text = movement_text(self.alloc, word, &self.machine)?;
         bytes.extend_from_slice(&text)
     }
@@ -148,25 +150,36 @@ impl<S: SetBoard> Debugger<S> {
     fn go(&mut self, movement: Movement, bytes: &mut Vec<u8>) -> Result<(), AllocError>
         ensures input { self.new.machine.input ≡ self.old.machine.input }
         ensures place { OnOk result (debugger_state_of self.new
-            ≡ debugger_state_after_movement self.old.machine.input (debugger_state_of self.old) movement) }
+            ≡ debugger_state_after_movement self.old.machine.input (debugger_state_of self.old)
+            (shape_of self.old.machine.input self.old.breaks movement)) }
         ensures said { OnOk result (bytes.new.items ≡ bytes.old.items
-            ++ movement_answer self.old.machine.input (debugger_state_of self.old) movement) }
+            ++ movement_answer self.old.machine.input (debugger_state_of self.old)
+            (shape_of self.old.machine.input self.old.breaks movement)) }
         ensures memory { OnErr result ((bytes.new.items ≡ bytes.old.items)
-            × IsStateAfterRefusedMovement self.old.machine.input (debugger_state_of self.old) movement
+            × IsStateAfterRefusedMovement self.old.machine.input (debugger_state_of self.old)
+            (shape_of self.old.machine.input self.old.breaks movement)
             (debugger_state_of self.new)) }
     {
         match movement {
-            Movement::Step(n) => self.go_forward(StopCondition::Never, n, bytes),
-            Movement::Run(n) => self.go_forward(StopCondition::AtBreakLine, n, bytes),
+            Movement::Step(n) => self.forward(StopCondition::new(None, Target::Nothing), n, bytes),
+            Movement::Run(n) => self.forward(StopCondition::new(None, Target::BreakLine), n, bytes),
             Movement::RunTo(time) => {
-                self.go_forward(StopCondition::AtTime(time), GREATEST_BOUND, bytes)
+                self.forward(
+                    StopCondition::new(Some(time), Target::BreakLine),
+                    GREATEST_BOUND,
+                    bytes,
+                )
             }
             Movement::Next => {
-                self.go_forward(StopCondition::BehindEventStart, GREATEST_BOUND, bytes)
+                self.forward(
+                    StopCondition::new(None, Target::EventStart),
+                    GREATEST_BOUND,
+                    bytes,
+                )
             }
-            Movement::Back(n) => self.go_back(n, bytes),
-            Movement::BackEvent => self.go_back_to_event(bytes),
-            Movement::BackBreak => self.go_back_to_break(bytes),
+            Movement::Back(n) => self.back(n, bytes),
+            Movement::BackEvent => self.back_event(bytes),
+            Movement::BackBreak => self.back_break(bytes),
         }
     }
 
@@ -174,8 +187,10 @@ impl<S: SetBoard> Debugger<S> {
     fn set_break(&mut self, line: u32, bytes: &mut Vec<u8>) -> Result<(), AllocError>
         ensures machine { self.new.machine ≡ self.old.machine }
         ensures breaks { OnOk result (self.new.breaks ≡ breaks_after_set self.old.breaks line) }
-        ensures said { OnOk result (bytes.new.items ≡ bytes.old.items ++ break_text self.old.breaks line) }
-        ensures memory { OnErr result ((bytes.new.items ≡ bytes.old.items) × (self.new ≡ self.old)) }
+        ensures said { OnOk result (bytes.new.items ≡ bytes.old.items
+            ++ break_text self.old.breaks line) }
+        ensures memory { OnErr result ((bytes.new.items ≡ bytes.old.items)
+            × (self.new ≡ self.old)) }
     {
         let text = break_text(self.alloc, &self.breaks, line)?;
         let length = bytes.len();
@@ -195,8 +210,10 @@ impl<S: SetBoard> Debugger<S> {
     fn clear_break(&mut self, line: u32, bytes: &mut Vec<u8>) -> Result<(), AllocError>
         ensures machine { self.new.machine ≡ self.old.machine }
         ensures breaks { OnOk result (self.new.breaks ≡ without_line line self.old.breaks) }
-        ensures said { OnOk result (bytes.new.items ≡ bytes.old.items ++ clear_text self.old.breaks line) }
-        ensures memory { OnErr result ((bytes.new.items ≡ bytes.old.items) × (self.new ≡ self.old)) }
+        ensures said { OnOk result (bytes.new.items ≡ bytes.old.items
+            ++ clear_text self.old.breaks line) }
+        ensures memory { OnErr result ((bytes.new.items ≡ bytes.old.items)
+            × (self.new ≡ self.old)) }
     {
         let text = clear_text(self.alloc, &self.breaks, line)?;
         bytes.extend_from_slice(&text)?;
@@ -209,10 +226,12 @@ impl<S: SetBoard> Debugger<S> {
     fn forget(&mut self, count: u64, bytes: &mut Vec<u8>) -> Result<(), AllocError>
         ensures input { self.new.machine.input ≡ self.old.machine.input }
         ensures place { OnOk result
-            (debugger_state_of self.new ≡ debugger_state_after_forget (debugger_state_of self.old) count) }
+            (debugger_state_of self.new
+            ≡ debugger_state_after_forget (debugger_state_of self.old) count) }
         ensures said { OnOk result (bytes.new.items ≡ bytes.old.items
             ++ forget_answer (debugger_state_of self.old) count) }
-        ensures memory { OnErr result ((bytes.new.items ≡ bytes.old.items) × (self.new ≡ self.old)) }
+        ensures memory { OnErr result ((bytes.new.items ≡ bytes.old.items)
+            × (self.new ≡ self.old)) }
     {
         let text = kept_text(self.alloc, count.min(self.machine.kept()))?;
         bytes.extend_from_slice(&text)?;
@@ -223,7 +242,7 @@ impl<S: SetBoard> Debugger<S> {
     /// The answer to a question.
     fn show(&self, question: Question, bytes: &mut Vec<u8>) -> Result<(), AllocError>
         ensures said { OnOk result (bytes.new.items ≡ bytes.old.items
-            ++ question_answer self.now.machine.input (position self.now.machine) question) }
+            ++ show_answer self.now.machine.input (position self.now.machine) question) }
         ensures memory { OnErr result (bytes.new.items ≡ bytes.old.items) }
     {
         let text = match question {
@@ -255,7 +274,8 @@ pub fn obey<S: SetBoard>(
 ) -> Result<Go, AllocError>
     ensures input { debugger.new.machine.input ≡ debugger.old.machine.input }
     ensures place { OnOk result (debugger_state_of debugger.new
-        ≡ debugger_state_after debugger.old.machine.input (debugger_state_of debugger.old) command) }
+        ≡ debugger_state_after debugger.old.machine.input (debugger_state_of debugger.old)
+        command) }
     ensures said { OnOk result (bytes.new.items ≡ bytes.old.items
         ++ answer debugger.old.machine.input (debugger_state_of debugger.old) command) }
     ensures quit { IfOk result (λ go. go ≡ go_of command) }

@@ -10,7 +10,9 @@ ghost use Rattle.ss_debug.specs.Entities.{member_lines, owned_set_lines, joined_
 ghost use Rattle.ss_debug.specs.Entities.{no_entity_text, entity_text};
 
 use crate::name::Name;
-use crate::rows::{attribute_count, attribute_name, find_class, member_class, set_name, set_owner};
+use crate::program_rows::{
+    attribute_count, attribute_name, find_class, member_class, set_name, set_owner,
+};
 use crate::text::{push_integer, push_number};
 use ss_links::SetBoard;
 use ss_machine::Machine;
@@ -48,7 +50,8 @@ fn push_attribute<S: SetBoard>(
     requires class { class < length machine.now.input.program.classes }
     requires attribute { attribute < length (class_of machine.now.input.program class).attributes }
     ensures ok { OnOk result (text.new.items ≡ text.old.items
-        ++ attribute_line machine.now.input.program machine.now.state.store class (number_of x) attribute) }
+        ++ attribute_line machine.now.input.program machine.now.state.store class
+        (number_of x) attribute) }
 {
     let value = machine.store().get(class, attribute, x).unwrap_or(0);
     text.extend_from_slice(attribute_name(machine.program(), class, attribute))?;
@@ -66,7 +69,8 @@ fn push_attributes<S: SetBoard>(
 ) -> Result<(), AllocError>
     requires { class < length machine.now.input.program.classes }
     ensures ok { OnOk result (text.new.items ≡ text.old.items
-        ++ lines_below (attribute_line machine.now.input.program machine.now.state.store class (number_of x))
+        ++ lines_below (attribute_line machine.now.input.program machine.now.state.store class
+        (number_of x))
         (length (class_of machine.now.input.program class).attributes)) }
 {
     for attribute in 0..attribute_count(machine.program(), class) {
@@ -131,7 +135,8 @@ fn push_owned_set<S: SetBoard>(
 ) -> Result<(), AllocError>
     requires { set < length machine.now.input.program.sets }
     ensures ok { OnOk result (text.new.items ≡ text.old.items
-        ++ owned_set_lines machine.now.input.program machine.now.state.store class (number_of x) set) }
+        ++ owned_set_lines machine.now.input.program machine.now.state.store class
+        (number_of x) set) }
 {
     let program = machine.program();
     if is_owned_by(set_owner(program, set), class) {
@@ -151,7 +156,8 @@ fn push_joined_set<S: SetBoard>(
 ) -> Result<(), AllocError>
     requires { set < length machine.now.input.program.sets }
     ensures ok { OnOk result (text.new.items ≡ text.old.items
-        ++ joined_set_lines machine.now.input.program machine.now.state.store class (number_of x) set) }
+        ++ joined_set_lines machine.now.input.program machine.now.state.store class
+        (number_of x) set) }
 {
     let program = machine.program();
     if member_class(program, set) == class {
@@ -168,7 +174,8 @@ fn push_owned_sets<S: SetBoard>(
     x: i64,
 ) -> Result<(), AllocError>
     ensures ok { OnOk result (text.new.items ≡ text.old.items
-        ++ lines_below (owned_set_lines machine.now.input.program machine.now.state.store class (number_of x))
+        ++ lines_below (owned_set_lines machine.now.input.program machine.now.state.store class
+        (number_of x))
         (length machine.now.input.program.sets)) }
 {
     for set in 0..machine.program().sets.len() {
@@ -185,7 +192,8 @@ fn push_joined_sets<S: SetBoard>(
     x: i64,
 ) -> Result<(), AllocError>
     ensures ok { OnOk result (text.new.items ≡ text.old.items
-        ++ lines_below (joined_set_lines machine.now.input.program machine.now.state.store class (number_of x))
+        ++ lines_below (joined_set_lines machine.now.input.program machine.now.state.store class
+        (number_of x))
         (length machine.now.input.program.sets)) }
 {
     for set in 0..machine.program().sets.len() {
@@ -230,7 +238,8 @@ pub fn entity_text<S: SetBoard>(
     x: i64,
     machine: &Machine<S>,
 ) -> Result<Vec<u8>, AllocError>
-    ensures { IfOk result (λ text. text.items ≡ entity_text name.now x machine.now.input (position machine.now)) }
+    ensures { IfOk result (λ text. text.items
+        ≡ entity_text name.now x machine.now.input (position machine.now)) }
 {
     machine.known();
     let name = name.as_slice();

@@ -4,7 +4,7 @@ ghost use Rattle.ss_program.specs.Program.{class_of};
 ghost use Rattle.ss_machine.specs.Moment.{position};
 ghost use Rattle.ss_debug.specs.Answer.{entry_text};
 
-use crate::rows::class_name;
+use crate::program_rows::class_name;
 use crate::text::push_number;
 use ss_links::SetBoard;
 use ss_machine::{Entry, Machine};
@@ -20,8 +20,8 @@ fn entry_line(
     what: &[u8],
 ) -> Result<Vec<u8>, AllocError>
     requires { class < length program.now.classes }
-    ensures { IfOk result (λ text. text.items ≡ codes "ENTRY " ++ (class_of program.now class).name ++ codes " "
-        ++ decimal notice ++ what.now) }
+    ensures { IfOk result (λ text. text.items ≡ codes "ENTRY " ++ (class_of program.now class).name
+        ++ codes " " ++ decimal notice ++ what.now) }
 {
     let mut text = Vec::from_slice(alloc, b"ENTRY ")?;
     text.extend_from_slice(class_name(program, class))?;
@@ -34,7 +34,8 @@ fn entry_line(
 /// The entry of an external event, and whether it waits or runs, or `ENTRY NONE`.
 #[tactic(auto, unfolding(crate::specs::Answer::entry_text), using(crate::proofs::Entries::class_of_entry))]
 pub fn entry_text<S: SetBoard>(alloc: Global, machine: &Machine<S>) -> Result<Vec<u8>, AllocError>
-    ensures { IfOk result (λ text. text.items ≡ entry_text machine.now.input (position machine.now)) }
+    ensures { IfOk result (λ text. text.items
+        ≡ entry_text machine.now.input (position machine.now)) }
 {
     machine.known();
     match machine.entry() {

@@ -3,7 +3,7 @@ ghost use Rattle.std.specs.Prelude.{◌≡◌, ◌++◌, ◌<◌, length, OnOk, 
 ghost use Rattle.ss_machine.specs.Moment.{position};
 ghost use Rattle.ss_debug.specs.Answer.{notice_line, events_text};
 
-use crate::rows::class_name;
+use crate::program_rows::class_name;
 use crate::text::{push_integer, push_number};
 use ss_events::Slot;
 use ss_links::SetBoard;
@@ -19,7 +19,8 @@ fn push_notice(
     slot: Slot,
 ) -> Result<(), AllocError>
     requires { slot.class < length program.now.classes }
-    ensures ok { OnOk result (text.new.items ≡ text.old.items ++ notice_line program.now notice slot) }
+    ensures ok { OnOk result (text.new.items ≡ text.old.items
+        ++ notice_line program.now notice slot) }
 {
     text.extend_from_slice(class_name(program, slot.class))?;
     text.extend_from_slice(b" ")?;
@@ -32,7 +33,8 @@ fn push_notice(
 /// A line for each pending notice, the next first, or `NO EVENTS`.
 #[tactic(auto, unfolding(crate::specs::Answer::events_text))]
 pub fn events_text<S: SetBoard>(alloc: Global, machine: &Machine<S>) -> Result<Vec<u8>, AllocError>
-    ensures { IfOk result (λ text. text.items ≡ events_text machine.now.input (position machine.now)) }
+    ensures { IfOk result (λ text. text.items
+        ≡ events_text machine.now.input (position machine.now)) }
 {
     machine.known();
     let agenda = machine.agenda();

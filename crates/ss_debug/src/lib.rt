@@ -13,8 +13,8 @@ mod limits;
 mod movement;
 mod name;
 mod pieces;
+mod program_rows;
 mod read;
-mod rows;
 mod set_text;
 mod stop_condition;
 mod text;
@@ -22,7 +22,10 @@ mod text;
 pub use commands::{Command, Movement, Question};
 pub use debugger::{Debugger, obey};
 pub use go::Go;
-pub use laws::{a_movement_back_has_one_end, a_movement_has_one_end};
+pub use laws::{
+    a_movement_back_has_one_end, a_movement_has_one_end, every_movement_ends_within_its_bound,
+    forget_leaves_the_newest_steps,
+};
 pub use name::Name;
 pub use pieces::split_line;
 pub use read::command;

@@ -1,4 +1,4 @@
-//! The limits of command lines (docs/DEBUGGER.md, "Lines").
+//! The limits of command lines (docs/DEBUGGER.md, "Lines"). The definitions read these names too.
 
 /// The most bytes of a command line that is obeyed.
 pub const LINE_LIMIT: usize = 200;

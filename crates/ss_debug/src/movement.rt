@@ -2,13 +2,13 @@
 ghost use Rattle.std.specs.Prelude.{◌≡◌, ◌+◌, ◌<◌, ◌≤◌, OnOk, OnErr, IfOk, MatchOption, true, ◌&&◌, nat_lt};
 ghost use Rattle.ss_machine.specs.Moment.{position};
 ghost use Rattle.ss_machine.specs.declared.limits.TheConstants.{LAST_POSITION};
-ghost use Rattle.ss_debug.specs.Move.{is_ready_at, line_at, is_stop, stops, forward, is_on_break, has_come};
-ghost use Rattle.ss_debug.specs.Move.{is_in_time, is_met, is_behind_start, runs_event, starts_event, back_by, backward};
+ghost use Rattle.ss_debug.specs.Move.{is_ready_at, line_at, is_on_break, has_come, is_stop, forward_end};
+ghost use Rattle.ss_debug.specs.Move.{is_behind_start, runs_event, starts_event, back_end, search_back_end};
 ghost use Rattle.ss_debug.specs.Position.{IsAt};
-ghost use Rattle.ss_debug.specs.View.{condition_of};
+ghost use Rattle.ss_debug.specs.View.{condition_of, target_test};
 
 use crate::break_lines::BreakLines;
-use crate::stop_condition::StopCondition;
+use crate::stop_condition::{StopCondition, Target};
 use ss_links::SetBoard;
 use ss_machine::{LAST_POSITION, Machine, Status};
 use ss_program::SectionKind;
@@ -38,59 +38,52 @@ pub fn stands_on_break<S: SetBoard>(machine: &Machine<S>, breaks: &BreakLines) -
     breaks.contains(present_line(machine))
 }
 
-/// Whether the machine's clock is at or past a time.
-fn has_come<S: SetBoard>(machine: &Machine<S>, time: u64) -> bool
+/// Whether the machine's clock is at or past a time, if one is named.
+pub fn has_come<S: SetBoard>(machine: &Machine<S>, time: Option<u64>) -> bool
     ensures { result ≡ has_come machine.now.input time (position machine.now) }
 {
     machine.known();
+    let Some(time) = time else {
+        return false;
+    };
     i128::from(time) <= i128::from(machine.clock())
 }
 
-/// Whether the machine's state is at or past the time that the condition names.
-pub fn is_in_time<S: SetBoard>(machine: &Machine<S>, condition: StopCondition) -> bool
-    ensures { result ≡ is_in_time machine.now.input (condition_of condition) (position machine.now) }
-{
-    match condition {
-        StopCondition::Never | StopCondition::AtBreakLine | StopCondition::BehindEventStart => {
-            false
-        }
-        StopCondition::AtTime(time) => has_come(machine, time),
-    }
-}
-
-/// Whether the machine stands at what the condition asks for: at a break line, or behind an event
+/// Whether the machine stands at what a movement looks for: at a break line, or behind an event
 /// start, where the last step was one.
 pub fn is_met<S: SetBoard>(
     machine: &Machine<S>,
     breaks: &BreakLines,
-    condition: StopCondition,
+    target: Target,
     started: bool,
 ) -> bool
     requires { started ≡ is_behind_start machine.now.input (position machine.now) }
-    ensures { result ≡ is_met machine.now.input breaks.now (condition_of condition) (position machine.now) }
+    ensures { result ≡ target_test machine.now.input breaks.now target (position machine.now) }
 {
-    match condition {
-        StopCondition::Never => false,
-        StopCondition::AtBreakLine | StopCondition::AtTime(_) => stands_on_break(machine, breaks),
-        StopCondition::BehindEventStart => started,
+    match target {
+        Target::Nothing => false,
+        Target::BreakLine => stands_on_break(machine, breaks),
+        Target::EventStart => started,
     }
 }
 
-/// Whether a movement stops where the machine stands, after k steps, where the last one was
+/// Whether a movement from position `from` stops where the machine stands, where the last step was
 /// perhaps an event start.
 fn is_at_stop<S: SetBoard>(
     machine: &Machine<S>,
     breaks: &BreakLines,
     condition: StopCondition,
-    k: u64,
+    from: u64,
     started: bool,
 ) -> bool
-    requires { 0 < k → started ≡ is_behind_start machine.now.input (position machine.now) }
-    ensures { result ≡ is_stop machine.now.input breaks.now (condition_of condition) k (position machine.now) }
+    requires { from < position machine.now
+        → started ≡ is_behind_start machine.now.input (position machine.now) }
+    ensures { result ≡ is_stop machine.now.input
+        (condition_of machine.now.input breaks.now condition) from (position machine.now) }
 {
     !is_ready_now(machine)
-        || is_in_time(machine, condition)
-        || (0 < k && is_met(machine, breaks, condition, started))
+        || has_come(machine, condition.time)
+        || (from < machine.position() && is_met(machine, breaks, condition.target, started))
 }
 
 /// Whether the frame of an event is the last one.
@@ -107,8 +100,10 @@ fn runs_event<S: SetBoard>(machine: &Machine<S>) -> bool
 fn step_once<S: SetBoard>(machine: &mut Machine<S>) -> Result<bool, AllocError>
     requires ready { is_ready_at machine.old.input (position machine.old) ≡ true }
     requires before_last { position machine.old < LAST_POSITION }
-    ensures place { OnOk result (IsAt machine.old.input machine.old.forgotten (position machine.old + 1) machine.new) }
-    ensures started { IfOk result (λ started. started ≡ is_behind_start machine.old.input (position machine.new)) }
+    ensures place { OnOk result
+        (IsAt machine.old.input machine.old.forgotten (position machine.old + 1) machine.new) }
+    ensures started { IfOk result
+        (λ started. started ≡ is_behind_start machine.old.input (position machine.new)) }
     ensures err { OnErr result (machine.new ≡ machine.old) }
 {
     machine.known();
@@ -124,26 +119,29 @@ fn step_once<S: SetBoard>(machine: &mut Machine<S>) -> Result<bool, AllocError>
 ///
 /// `AllocError` where a step was refused memory: the machine stands where the steps before it led.
 #[tactic(auto, using(crate::proofs::Moves::least_steps))]
-pub fn advance<S: SetBoard>(
+pub fn forward<S: SetBoard>(
     machine: &mut Machine<S>,
     breaks: &BreakLines,
     condition: StopCondition,
     bound: u64,
 ) -> Result<bool, AllocError>
     ensures ok { OnOk result (IsAt machine.old.input machine.old.forgotten
-        (forward machine.old.input breaks.now (condition_of condition) (position machine.old) bound) machine.new) }
+        (forward_end machine.old.input (condition_of machine.old.input breaks.now condition)
+        (position machine.old) bound) machine.new) }
     ensures started { IfOk result (λ started. position machine.old < position machine.new →
         started ≡ is_behind_start machine.old.input (position machine.new)) }
     ensures memory { OnErr result ((machine.new.input ≡ machine.old.input)
-        × (machine.new.forgotten ≡ machine.old.forgotten) × (position machine.old ≤ position machine.new)
-        × (position machine.new
-        ≤ forward machine.old.input breaks.now (condition_of condition) (position machine.old) bound)) }
+        × (machine.new.forgotten ≡ machine.old.forgotten)
+        × (position machine.old ≤ position machine.new)
+        × (position machine.new ≤ forward_end machine.old.input
+        (condition_of machine.old.input breaks.now condition) (position machine.old) bound)) }
 {
     machine.known();
-    let steps = bound.min(LAST_POSITION - machine.position());
+    let from = machine.position();
+    let steps = bound.min(LAST_POSITION - from);
     let mut started = false;
-    for k in 0..steps {
-        if is_at_stop(machine, breaks, condition, k, started) {
+    for _k in 0..steps {
+        if is_at_stop(machine, breaks, condition, from, started) {
             return Ok(started);
         }
         match step_once(machine) {
@@ -154,10 +152,10 @@ pub fn advance<S: SetBoard>(
     Ok(started)
 }
 
-/// Steps back a number of times, or to the earliest kept position.
-pub fn retreat<S: SetBoard>(machine: &mut Machine<S>, count: u64)
+/// BACK: steps back a number of times, or to the earliest kept position.
+pub fn back<S: SetBoard>(machine: &mut Machine<S>, count: u64)
     ensures { IsAt machine.old.input machine.old.forgotten
-        (back_by machine.old.forgotten (position machine.old) count) machine.new }
+        (back_end machine.old.forgotten (position machine.old) count) machine.new }
 {
     for _k in 0..count {
         if !machine.back() {
@@ -166,19 +164,21 @@ pub fn retreat<S: SetBoard>(machine: &mut Machine<S>, count: u64)
     }
 }
 
-/// Whether a movement back to a break line stops where the machine stands, after k steps.
+/// Whether BACK BREAK stops where the machine stands, after k steps.
 fn is_at_back_stop<S: SetBoard>(machine: &Machine<S>, breaks: &BreakLines, k: u64) -> bool
-    ensures { result ≡ (nat_lt 0 k && is_on_break machine.now.input breaks.now (position machine.now)) }
+    ensures { result
+        ≡ (nat_lt 0 k && is_on_break machine.now.input breaks.now (position machine.now)) }
 {
     0 < k && stands_on_break(machine, breaks)
 }
 
-/// Steps back to the greatest earlier position at a break line, or to the earliest kept position,
-/// within the bound.
-#[tactic(auto, using(crate::proofs::Moves::backward_is))]
-pub fn retreat_to_break<S: SetBoard>(machine: &mut Machine<S>, breaks: &BreakLines, bound: u64)
-    ensures { IsAt machine.old.input machine.old.forgotten (backward (is_on_break machine.old.input breaks.now)
-        machine.old.forgotten (position machine.old) bound) machine.new }
+/// BACK BREAK: steps back to the greatest earlier position at a break line, or to the earliest kept
+/// position, within the bound.
+#[tactic(auto, using(crate::proofs::Moves::search_back_is))]
+pub fn back_break<S: SetBoard>(machine: &mut Machine<S>, breaks: &BreakLines, bound: u64)
+    ensures { IsAt machine.old.input machine.old.forgotten
+        (search_back_end (is_on_break machine.old.input breaks.now) machine.old.forgotten
+        (position machine.old) bound) machine.new }
 {
     for k in 0..bound {
         if is_at_back_stop(machine, breaks, k) {
@@ -193,8 +193,10 @@ pub fn retreat_to_break<S: SetBoard>(machine: &mut Machine<S>, breaks: &BreakLin
 /// One step back, if one is kept. Tells whether the step that was taken back was an event start.
 #[tactic(auto, using(crate::proofs::Starts::taken_back))]
 fn back_once<S: SetBoard>(machine: &mut Machine<S>) -> Option<bool>
-    ensures none { MatchOption result ((position machine.old ≡ machine.old.forgotten) × (machine.new ≡ machine.old))
-        (λ started. (machine.new.input ≡ machine.old.input) × (machine.new.forgotten ≡ machine.old.forgotten)
+    ensures none { MatchOption result
+        ((position machine.old ≡ machine.old.forgotten) × (machine.new ≡ machine.old))
+        (λ started. (machine.new.input ≡ machine.old.input)
+        × (machine.new.forgotten ≡ machine.old.forgotten)
         × (position machine.old ≡ position machine.new + 1)
         × (started ≡ starts_event machine.old.input (position machine.new))) }
 {
@@ -208,13 +210,14 @@ fn back_once<S: SetBoard>(machine: &mut Machine<S>) -> Option<bool>
     Some(is_event && machine.frames() < frames)
 }
 
-/// Steps back to the greatest earlier position whose next step is an event start, or to the
-/// earliest kept position, within the bound. Tells whether the next step is an event start where it
-/// then stands.
-#[tactic(auto, using(crate::proofs::Moves::backward_is))]
-pub fn retreat_to_event<S: SetBoard>(machine: &mut Machine<S>, bound: u64) -> bool
+/// BACK EVENT: steps back to the greatest earlier position whose next step is an event start, or to
+/// the earliest kept position, within the bound. Tells whether the next step is an event start
+/// where it then stands.
+#[tactic(auto, using(crate::proofs::Moves::search_back_is))]
+pub fn back_event<S: SetBoard>(machine: &mut Machine<S>, bound: u64) -> bool
     ensures place { IsAt machine.old.input machine.old.forgotten
-        (backward (starts_event machine.old.input) machine.old.forgotten (position machine.old) bound) machine.new }
+        (search_back_end (starts_event machine.old.input) machine.old.forgotten
+        (position machine.old) bound) machine.new }
     ensures met { result ≡ (nat_lt (position machine.new) (position machine.old)
         && starts_event machine.old.input (position machine.new)) }
 {

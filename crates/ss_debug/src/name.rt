@@ -4,6 +4,7 @@ ghost use Rattle.std.specs.List.{list_all};
 ghost use Rattle.ss_words.specs.TextBytes.{in_run};
 ghost use Rattle.ss_words.specs.TextRuns.{has_letter};
 ghost use Rattle.ss_debug.specs.CommandLines.{is_command_name, name_of};
+ghost use Rattle.ss_debug.specs.declared.limits.TheConstants.{NAME_LIMIT};
 
 use crate::limits::NAME_LIMIT;
 use ss_words::without_stops;
@@ -22,7 +23,7 @@ impl Model for Name {
 
     ghost view = { λ n. take n.length n.bytes };
 
-    ghost invariant = { λ n. n.length ≤ 80 };
+    ghost invariant = { λ n. n.length ≤ NAME_LIMIT };
 }
 
 #[tactic(auto, unfolding(ss_words::specs::TextBytes::in_run))]
@@ -52,7 +53,7 @@ fn is_name(word: &[u8]) -> bool
 
 impl Name {
     /// The name that a word in upper case is: letters, digits and stops, a letter among them, in at
-    /// most 80 bytes; the stops at its end are dropped.
+    /// most `NAME_LIMIT` bytes; the stops at its end are dropped.
     #[tactic(auto, using(crate::proofs::Names::take_front), unfolding(crate::specs::CommandLines::name_of))]
     pub(crate) fn of(word: &[u8]) -> Option<Name>
         ensures { result ≡ name_of word.now }

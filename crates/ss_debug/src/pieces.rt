@@ -3,7 +3,8 @@ ghost use Rattle.std.specs.Prelude.{◌≡◌, ◌<◌, ◌≤◌, ◌≢◌, le
 ghost use Rattle.std.specs.List.{list_all, before_first, after_first, position_or_len};
 ghost use Rattle.std.specs.Char.{is_ascii_digit};
 ghost use Rattle.ss_words.specs.TextRuns.{number_of};
-ghost use Rattle.ss_debug.specs.CommandLines.{separates, word_separators, line_separators, command_words, number_within};
+ghost use Rattle.ss_debug.specs.CommandLines.{separates, word_separators, line_separators, command_words};
+ghost use Rattle.ss_debug.specs.CommandLines.{number_within};
 
 /// The place of the first of these separators, or the length.
 #[tactic(auto, using(std::proofs::lemmas::List::Sums::position_or_len_is))]

@@ -212,8 +212,8 @@ fn command_in_words(line: &[u8]) -> Command
 }
 
 /// What a command line says: letters in either case, words separated by blanks, tabs and carriage
-/// returns. A line without words is `Blank`; one that is no command, or is over 200 bytes long, is
-/// `Bad` (docs/DEBUGGER.md). It takes no memory.
+/// returns. A line without words is `Blank`; one that is no command, or is longer than `LINE_LIMIT`,
+/// is `Bad` (docs/DEBUGGER.md). It takes no memory.
 #[tactic(auto, unfolding(crate::specs::Command::command_of), using(crate::proofs::Names::take_front))]
 pub fn command(line: &[u8]) -> Command
     ensures { result ≡ command_of line.now }

@@ -11,7 +11,7 @@ ghost use Rattle.ss_debug.specs.Entities.{owned_list_text, list_text, owner_or_v
 
 use crate::entity_text::no_entity_text;
 use crate::name::Name;
-use crate::rows::{class_name, class_variable, find_set, set_owner};
+use crate::program_rows::{class_name, class_variable, find_set, set_owner};
 use crate::text::{push_integer, push_number};
 use ss_links::SetBoard;
 use ss_machine::Machine;
@@ -22,9 +22,11 @@ use std::alloc::{AllocError, Global};
 /// The member behind one of the list of a set, or none where it is the last.
 fn member_behind<S: SetBoard>(store: &Store<S>, set: usize, owner: i64, member: u32) -> Option<u32>
     requires set { set < length store.now.tables.sets }
-    requires there { has (members_of (set_of store.now.tables set) store.now.state (number_of owner)) member ≡ true }
+    requires there { has (members_of (set_of store.now.tables set) store.now.state
+        (number_of owner)) member ≡ true }
     ensures { result
-        ≡ next_in (members_of (set_of store.now.tables set) store.now.state (number_of owner)) member }
+        ≡ next_in (members_of (set_of store.now.tables set) store.now.state
+        (number_of owner)) member }
 {
     store.known();
     store
@@ -41,9 +43,11 @@ fn push_further<S: SetBoard>(
     first: u32,
 ) -> Result<(), AllocError>
     requires set { set < length store.now.tables.sets }
-    requires there { has (members_of (set_of store.now.tables set) store.now.state (number_of owner)) first ≡ true }
+    requires there { has (members_of (set_of store.now.tables set) store.now.state
+        (number_of owner)) first ≡ true }
     ensures ok { OnOk result (text.new.items ≡ text.old.items ++ further_members
-        (members_behind (members_of (set_of store.now.tables set) store.now.state (number_of owner)) first)) }
+        (members_behind (members_of (set_of store.now.tables set) store.now.state
+        (number_of owner)) first)) }
 {
     store.known();
     let mut member = first;
@@ -64,7 +68,8 @@ fn push_members<S: SetBoard>(
 ) -> Result<(), AllocError>
     requires { set < length store.now.tables.sets }
     ensures ok { OnOk result (text.new.items ≡ text.old.items
-        ++ members_text (members_of (set_of store.now.tables set) store.now.state (number_of owner))) }
+        ++ members_text (members_of (set_of store.now.tables set) store.now.state
+        (number_of owner))) }
 {
     let Ok(Some(first)) = store.walk_first(set, owner) else {
         return text.extend_from_slice(b"EMPTY");
@@ -102,7 +107,8 @@ fn owned_list_text<S: SetBoard>(
     requires set { set < length machine.now.input.program.sets }
     requires class { class < length machine.now.input.program.classes }
     ensures { IfOk result (λ text. text.items
-        ≡ owned_list_text name.now machine.now.input.program machine.now.state.store set class owner) }
+        ≡ owned_list_text name.now machine.now.input.program machine.now.state.store set class
+        owner) }
 {
     if !machine.store().exists(class, owner) {
         return no_entity_text(alloc, class_name(machine.program(), class), owner);
@@ -154,7 +160,8 @@ pub fn set_text<S: SetBoard>(
     owner: Option<i64>,
     machine: &Machine<S>,
 ) -> Result<Vec<u8>, AllocError>
-    ensures { IfOk result (λ text. text.items ≡ set_text name.now owner machine.now.input (position machine.now)) }
+    ensures { IfOk result (λ text. text.items
+        ≡ set_text name.now owner machine.now.input (position machine.now)) }
 {
     machine.known();
     let program = machine.program();

@@ -1,18 +1,19 @@
 //! The texts that the debugger answers.
-ghost use Rattle.std.specs.Prelude.{◌≡◌, ◌++◌, ◌+◌, ◌<◌, ◌≤◌, ◌&&◌, codes, nat_lt, nat_eq, if◌then◌else◌, OnOk, IfOk, decimal, Option};
+ghost use Rattle.std.specs.Prelude.{◌≡◌, ◌++◌, ◌+◌, ◌<◌, ◌≤◌, ◌&&◌, codes, nat_lt, nat_eq, if◌then◌else◌};
+ghost use Rattle.std.specs.Prelude.{OnOk, IfOk, decimal, Option};
 ghost use Rattle.std.specs.Fmt.{signed_decimal};
 ghost use Rattle.ss_machine.specs.Moment.{position};
 ghost use Rattle.ss_debug.specs.Answer.{status_text, moment_text, place_text, state_line, movement_text};
-ghost use Rattle.ss_debug.specs.Answer.{forward_word, back_word, back_to_word, earliest_word, bound_word, met_word};
+ghost use Rattle.ss_debug.specs.Answer.{forward_word, back_word, search_back_word, earliest_word};
 ghost use Rattle.ss_debug.specs.Answer.{break_text, clear_text, kept_text};
 ghost use Rattle.ss_debug.specs.Answer.{clock_text, variable_named, var_text, taken_text, report_text};
 ghost use Rattle.ss_debug.specs.Move.{is_on_break, is_behind_start, starts_event};
-ghost use Rattle.ss_debug.specs.View.{condition_of};
+ghost use Rattle.ss_debug.specs.View.{condition_of, target_word, target_bound_word};
 
 use crate::break_lines::BreakLines;
-use crate::movement::{is_in_time, is_met, is_ready_now, present_line, stands_on_break};
+use crate::movement::{has_come, is_met, is_ready_now, present_line, stands_on_break};
 use crate::name::Name;
-use crate::stop_condition::StopCondition;
+use crate::stop_condition::{StopCondition, Target};
 use itoa::Buffer;
 use ss_links::SetBoard;
 use ss_machine::{Machine, Status};
@@ -97,7 +98,8 @@ pub fn movement_text<S: SetBoard>(
     word: &[u8],
     machine: &Machine<S>,
 ) -> Result<Vec<u8>, AllocError>
-    ensures { IfOk result (λ text. text.items ≡ movement_text word.now machine.now.input (position machine.now)) }
+    ensures { IfOk result (λ text. text.items
+        ≡ movement_text word.now machine.now.input (position machine.now)) }
 {
     let mut text = Vec::from_slice(alloc, word)?;
     text.extend_from_slice(b": ")?;
@@ -105,32 +107,30 @@ pub fn movement_text<S: SetBoard>(
     Ok(text)
 }
 
-/// The word where neither a time has come nor the condition is met, by whether all steps were made.
-fn bound_word(condition: StopCondition, is_whole: bool) -> &'static [u8]
-    ensures { result.now ≡ bound_word (condition_of condition) is_whole }
+/// The word where what a movement looks for is found.
+fn target_word(target: Target) -> &'static [u8]
+    ensures { result.now ≡ target_word target }
 {
-    match condition {
-        StopCondition::Never if is_whole => b"DONE",
-        StopCondition::Never => b"BOUND",
-        StopCondition::AtBreakLine | StopCondition::AtTime(_) | StopCondition::BehindEventStart =>
-            b"BOUND",
+    match target {
+        Target::Nothing => b"DONE",
+        Target::BreakLine => b"BREAK",
+        Target::EventStart => b"EVENT",
     }
 }
 
-/// The word where the condition is met later than at the beginning.
-fn met_word(condition: StopCondition) -> &'static [u8]
-    ensures { result.now ≡ met_word (condition_of condition) }
+/// The word where all steps were made.
+fn target_bound_word(target: Target) -> &'static [u8]
+    ensures { result.now ≡ target_bound_word target }
 {
-    match condition {
-        StopCondition::Never => b"DONE",
-        StopCondition::AtBreakLine | StopCondition::AtTime(_) => b"BREAK",
-        StopCondition::BehindEventStart => b"EVENT",
+    match target {
+        Target::Nothing => b"DONE",
+        Target::BreakLine | Target::EventStart => b"BOUND",
     }
 }
 
-/// The word of a movement of at most `bound` steps that began at `from` and ended where the machine
-/// stands, where the last step, if there was one, was perhaps an event start.
-pub fn movement_word<S: SetBoard>(
+/// The word of a forward movement of at most `bound` steps that began at `from` and ended where the
+/// machine stands, where the last step, if there was one, was perhaps an event start.
+pub fn forward_word<S: SetBoard>(
     machine: &Machine<S>,
     breaks: &BreakLines,
     condition: StopCondition,
@@ -139,21 +139,24 @@ pub fn movement_word<S: SetBoard>(
     started: bool,
 ) -> &'static [u8]
     requires from { from ≤ position machine.now }
-    requires started { from < position machine.now →
-        started ≡ is_behind_start machine.now.input (position machine.now) }
-    ensures { result.now
-        ≡ forward_word machine.now.input breaks.now (condition_of condition) from bound (position machine.now) }
+    requires started { from < position machine.now
+        → started ≡ is_behind_start machine.now.input (position machine.now) }
+    ensures { result.now ≡ forward_word machine.now.input
+        (condition_of machine.now.input breaks.now condition) from bound (position machine.now) }
 {
     if !is_ready_now(machine) {
         return b"HALTED";
     }
-    if is_in_time(machine, condition) {
+    if has_come(machine, condition.time) {
         return b"TIME";
     }
-    if from < machine.position() && is_met(machine, breaks, condition, started) {
-        return met_word(condition);
+    if from < machine.position() && is_met(machine, breaks, condition.target, started) {
+        return target_word(condition.target);
     }
-    bound_word(condition, machine.position() - from == bound)
+    if machine.position() - from == bound {
+        return target_bound_word(condition.target);
+    }
+    b"BOUND"
 }
 
 /// The word at the earliest kept position.
@@ -167,8 +170,8 @@ fn earliest_word<S: SetBoard>(machine: &Machine<S>) -> &'static [u8]
     }
 }
 
-/// The word of a movement back by `count` from where the machine stands.
-pub fn retreat_word<S: SetBoard>(machine: &Machine<S>, count: u64) -> &'static [u8]
+/// The word of BACK by `count` from where the machine stands.
+pub fn back_word<S: SetBoard>(machine: &Machine<S>, count: u64) -> &'static [u8]
     ensures { result.now ≡ back_word machine.now.forgotten (position machine.now) count }
 {
     if machine.kept() < count {
@@ -177,7 +180,7 @@ pub fn retreat_word<S: SetBoard>(machine: &Machine<S>, count: u64) -> &'static [
     b"DONE"
 }
 
-/// The word of a movement back that looked for a state and found none.
+/// The word of a search back that found nothing.
 fn earliest_or_bound<S: SetBoard>(machine: &Machine<S>) -> &'static [u8]
     ensures { result.now ≡ (if nat_eq (position machine.now) machine.now.forgotten
         then earliest_word machine.now.forgotten else codes "BOUND") }
@@ -188,15 +191,14 @@ fn earliest_or_bound<S: SetBoard>(machine: &Machine<S>) -> &'static [u8]
     b"BOUND"
 }
 
-/// The word of a movement back to a break line that began at `from` and ended where the machine
-/// stands.
-pub fn retreat_to_break_word<S: SetBoard>(
+/// The word of BACK BREAK, which began at `from` and ended where the machine stands.
+pub fn back_break_word<S: SetBoard>(
     machine: &Machine<S>,
     breaks: &BreakLines,
     from: u64,
 ) -> &'static [u8]
-    ensures { result.now ≡ back_to_word (codes "BREAK") (is_on_break machine.now.input breaks.now)
-        machine.now.forgotten from (position machine.now) }
+    ensures { result.now ≡ search_back_word (is_on_break machine.now.input breaks.now)
+        (codes "BREAK") machine.now.forgotten from (position machine.now) }
 {
     if machine.position() < from && stands_on_break(machine, breaks) {
         return b"BREAK";
@@ -204,16 +206,12 @@ pub fn retreat_to_break_word<S: SetBoard>(
     earliest_or_bound(machine)
 }
 
-/// The word of a movement back to an event start that began at `from` and ended where the machine
-/// stands; whether that is earlier and the next step is an event start is told.
-pub fn retreat_to_event_word<S: SetBoard>(
-    machine: &Machine<S>,
-    from: u64,
-    is_met: bool,
-) -> &'static [u8]
-    requires { is_met
-        ≡ (nat_lt (position machine.now) from && starts_event machine.now.input (position machine.now)) }
-    ensures { result.now ≡ back_to_word (codes "EVENT") (starts_event machine.now.input)
+/// The word of BACK EVENT, which began at `from` and ended where the machine stands; whether that
+/// is earlier and the next step is an event start is told.
+pub fn back_event_word<S: SetBoard>(machine: &Machine<S>, from: u64, is_met: bool) -> &'static [u8]
+    requires { is_met ≡ (nat_lt (position machine.now) from
+        && starts_event machine.now.input (position machine.now)) }
+    ensures { result.now ≡ search_back_word (starts_event machine.now.input) (codes "EVENT")
         machine.now.forgotten from (position machine.now) }
 {
     if is_met {
@@ -269,7 +267,8 @@ pub fn kept_text(alloc: Global, kept: u64) -> Result<Vec<u8>, AllocError>
 /// The clock.
 #[tactic(auto, unfolding(crate::specs::Answer::clock_text))]
 pub fn clock_text<S: SetBoard>(alloc: Global, machine: &Machine<S>) -> Result<Vec<u8>, AllocError>
-    ensures { IfOk result (λ text. text.items ≡ clock_text machine.now.input (position machine.now)) }
+    ensures { IfOk result (λ text. text.items
+        ≡ clock_text machine.now.input (position machine.now)) }
 {
     machine.known();
     let mut text = Vec::from_slice(alloc, b"CLOCK ")?;
@@ -280,7 +279,8 @@ pub fn clock_text<S: SetBoard>(alloc: Global, machine: &Machine<S>) -> Result<Ve
 
 /// The state line.
 pub fn where_text<S: SetBoard>(alloc: Global, machine: &Machine<S>) -> Result<Vec<u8>, AllocError>
-    ensures { IfOk result (λ text. text.items ≡ state_line machine.now.input (position machine.now)) }
+    ensures { IfOk result (λ text. text.items
+        ≡ state_line machine.now.input (position machine.now)) }
 {
     let mut text = Vec::new(alloc);
     push_state_line(&mut text, machine)?;
@@ -313,7 +313,8 @@ pub fn var_text<S: SetBoard>(
     name: &Name,
     machine: &Machine<S>,
 ) -> Result<Vec<u8>, AllocError>
-    ensures { IfOk result (λ text. text.items ≡ var_text name.now machine.now.input (position machine.now)) }
+    ensures { IfOk result (λ text. text.items
+        ≡ var_text name.now machine.now.input (position machine.now)) }
 {
     machine.known();
     let Some(variable) = find_variable(machine, name.as_slice()) else {
@@ -332,7 +333,8 @@ pub fn var_text<S: SetBoard>(
 /// How many values of the data are taken.
 #[tactic(auto, unfolding(crate::specs::Answer::taken_text))]
 pub fn taken_text<S: SetBoard>(alloc: Global, machine: &Machine<S>) -> Result<Vec<u8>, AllocError>
-    ensures { IfOk result (λ text. text.items ≡ taken_text machine.now.input (position machine.now)) }
+    ensures { IfOk result (λ text. text.items
+        ≡ taken_text machine.now.input (position machine.now)) }
 {
     machine.known();
     let mut text = Vec::from_slice(alloc, b"TAKEN ")?;
@@ -344,7 +346,8 @@ pub fn taken_text<S: SetBoard>(alloc: Global, machine: &Machine<S>) -> Result<Ve
 /// The line REPORT, and the report's bytes.
 #[tactic(auto, unfolding(crate::specs::Answer::report_text))]
 pub fn report_text<S: SetBoard>(alloc: Global, machine: &Machine<S>) -> Result<Vec<u8>, AllocError>
-    ensures { IfOk result (λ text. text.items ≡ report_text machine.now.input (position machine.now)) }
+    ensures { IfOk result (λ text. text.items
+        ≡ report_text machine.now.input (position machine.now)) }
 {
     machine.known();
     let mut text = Vec::from_slice(alloc, b"REPORT\n")?;

@@ -8,7 +8,8 @@ use Rattle.ss_words.specs.Spellings.{spellings, mark_of}
 use Rattle.ss_words.specs.PlainRules.{plain_words_of}
 use Rattle.ss_routines.specs.Expr.{Expr, expr, no_sums, term, no_products, digits, named}
 use Rattle.ss_routines.specs.Condition.{Reference}
-use Rattle.ss_routines.specs.Simple.{Let as Lets, Add as Adds, Print as Prints, Stop as Stops, Simple, Assigns, Transfers, Exchanges}
+use Rattle.ss_routines.specs.Simple.{Let as Lets, Add as Adds, Print as Prints, Stop as Stops, Simple, Assigns}
+use Rattle.ss_routines.specs.Simple.{Transfers, Exchanges}
 use Rattle.ss_routines.specs.Tree.{Block, no_statements, statement, alone, simple, MainHead, Tree, spell}
 use Rattle.ss_program.specs.declared.kinds.SectionKind.TheVariants.{Main}
 use Rattle.ss_program.specs.declared.target.Target.TheVariants.{Variable as ToVariable}
@@ -22,7 +23,8 @@ use Rattle.ss_program.specs.declared.place.Spot.{Spot}
 use Rattle.ss_program.specs.ProgramExpr as checked
 use Rattle.ss_program.specs.Program.{ProgramTable}
 use Rattle.ss_session.proofs.Transcripts.{at}
-use Rattle.ss_session.proofs.ExampleWords.{stop_words, five_words, overflow_words, two_values_words, word_behind_words, unended_words}
+use Rattle.ss_session.proofs.ExampleWords.{stop_words, five_words, overflow_words, two_values_words, word_behind_words}
+use Rattle.ss_session.proofs.ExampleWords.{half_statement_words}
 
 abbrev constant : ℕ → Expr
 constant n = expr None (term (digits n) no_products) no_sums
@@ -152,14 +154,14 @@ pub word_behind_spelled : plain_words_of word_behind_words ≡ word_behind_plain
 unfolding mark_of spellings
 word_behind_spelled = refl
 
-abbrev pub unended_plain : List PlainAt
-unended_plain =
+abbrev pub half_statement_plain : List PlainAt
+half_statement_plain =
     at 1 0 (mark (m.Reserved r.Main)) ∷ at 2 1 (mark (m.Reserved r.Let)) ∷ at 2 2 (name (codes "X"))
     ∷ at 2 3 (mark (m.Sign s.Equal)) ∷ []
 
-pub unended_spelled : plain_words_of unended_words ≡ unended_plain
+pub half_statement_spelled : plain_words_of half_statement_words ≡ half_statement_plain
 unfolding mark_of spellings
-unended_spelled = refl
+half_statement_spelled = refl
 
 abbrev pub stop_program : ProgramTable
 stop_program = of_main [] (spot 2 (Control Stop) ∷ spot 3 (Control End) ∷ [])

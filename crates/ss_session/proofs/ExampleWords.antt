@@ -6,7 +6,7 @@ use Rattle.ss_words.specs.declared.word.Sign.TheVariants.{Equal, Comma}
 use Rattle.ss_words.specs.Words.{WordAt, name, number, sign, picture}
 use Rattle.ss_words.specs.TextWords.{on_line, words_of}
 use Rattle.ss_words.proofs.Unfoldings.{text_together}
-use Rattle.ss_session.specs.Examples.{stop, five, overflow, two_values, word_behind, unended, too_large}
+use Rattle.ss_session.specs.Examples.{stop, five, overflow, two_values, word_behind, half_statement, too_large}
 
 abbrev pub stop_words : List WordAt
 stop_words = on_line 1 (name (codes "MAIN")) ∷ on_line 2 (name (codes "STOP")) ∷ on_line 3 (name (codes "END")) ∷ []
@@ -57,14 +57,14 @@ pub word_behind_read : words_of word_behind ≡ Ok word_behind_words
 unfolding text_together
 word_behind_read = refl
 
-abbrev pub unended_words : List WordAt
-unended_words =
+abbrev pub half_statement_words : List WordAt
+half_statement_words =
     on_line 1 (name (codes "MAIN")) ∷ on_line 2 (name (codes "LET")) ∷ on_line 2 (name (codes "X"))
     ∷ on_line 2 (sign Equal) ∷ []
 
-pub unended_read : words_of unended ≡ Ok unended_words
+pub half_statement_read : words_of half_statement ≡ Ok half_statement_words
 unfolding text_together
-unended_read = refl
+half_statement_read = refl
 
 pub too_large_read : words_of too_large ≡ Err (Refused BadNumber 2)
 unfolding text_together

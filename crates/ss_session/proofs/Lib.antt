@@ -1,7 +1,7 @@
 pub mod Pieces
 pub mod Parts
 pub mod FirstLine
-pub mod SessionStates
+pub mod LineStates
 pub mod Refusals
 pub mod Loads
 pub mod Outcomes

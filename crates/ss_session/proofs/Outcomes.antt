@@ -1,9 +1,11 @@
-use Rattle.std.proofs.Common.{◌≡◌, inl, inr, ℕ, List, [], ◌∷◌, Option, Some, None, Result, Ok, Err, refl, sym, ap, subst, ◌∙◌}
+use Rattle.std.proofs.Common.{◌≡◌, inl, inr, ℕ, List, [], ◌∷◌, Option, Some, None, Result, Ok, Err, refl, sym, ap}
+use Rattle.std.proofs.Common.{subst, ◌∙◌}
 use Rattle.ss_words.specs.declared.fault.TextFault.{TextFault}
 use Rattle.ss_words.specs.declared.fault.TextFault.TheVariants.{Refused, Memory}
 use Rattle.ss_words.specs.declared.fault.TextRule.{TextRule}
 use Rattle.ss_words.specs.Words.{WordAt}
-use Rattle.ss_words.specs.TextWords.{Finding, word, breach as broken, breaches_in, words_in, answer_of, found_in_text, words_of}
+use Rattle.ss_words.specs.TextWords.{Finding, word, breach as broken, breaches_in, words_in, answer_of, found_in_text}
+use Rattle.ss_words.specs.TextWords.{words_of}
 use Rattle.ss_words.specs.Plain.{PlainAt}
 use Rattle.ss_words.specs.PlainRules.{plain_words_of}
 use Rattle.ss_preamble.specs.Tree.{Decls}

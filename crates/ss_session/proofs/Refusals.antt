@@ -165,7 +165,7 @@ fewer_room : (ws : List Plain) (k j : ℕ) → k ≤ j → InRoom ws j → InRoo
 fewer_room ws k j le h = record {
   size = h.size;
   head = h.head;
-  declared = fewer (roles (take h.size ws)) k j le h.declared;
+  preamble_within = fewer (roles (take h.size ws)) k j le h.preamble_within;
   behind = room_less (drop h.size ws) (k - h.size) (j - h.size) (omega (arith, le)) h.behind;
 }
 
@@ -272,7 +272,7 @@ module _ (ws : List Plain) (begins : HasPreamble ws) where
 record Behind (ws : List Plain) (n : ℕ) : Type 0 where
   pub inside : n ≤ length ws
   pub head : IsHead ws n
-  pub declared : AreWithin (roles (take n ws))
+  pub preamble_within : AreWithin (roles (take n ws))
   pub far : (k : ℕ) → IsFarthest grammar.spell (drop n ws) k → IsFarthest spell ws (n + k)
   pub back : (k : ℕ) → IsFarthest spell ws (n + k) → IsFarthest grammar.spell (drop n ws) k
   pub begins : (j : ℕ) → sections.Begins (take j (drop n ws)) → Begins (take (n + j) ws)
@@ -314,7 +314,7 @@ module _ (ws : List Plain) (none : HasPreamble ws → ⊥) where
   behind_none = record {
     inside = omega arith;
     head = inl (none, refl);
-    declared = none_within;
+    preamble_within = none_within;
     far = λ k far. subst (IsFarthest spell ws) (let h : k ≡ 0 + k = omega arith in h) (far_none k far);
     back = λ k far. back_none k (subst (IsFarthest spell ws) (let h : 0 + k ≡ k = omega arith in h) far);
     begins = λ j h. (
@@ -368,7 +368,7 @@ module _ (ws : List Plain) (items : Preamble) (rest : List Plain) (split : ws �
       record {
         inside = omega (arith, size);
         head = inr (starts, inr (items, rest, split, refl));
-        declared = subst (λ (u : List Plain). AreWithin (roles u)) (sym front_is) within;
+        preamble_within = subst (λ (u : List Plain). AreWithin (roles u)) (sym front_is) within;
         far = λ k far.
             (farthest_of_program grammar.spell [] none_begins ws starts).1 items rest k split
             (subst (λ (u : List Plain). IsFarthest grammar.spell u k) rest_is far);
@@ -399,7 +399,7 @@ in_preamble ws rule.UnexpectedWord l begins (k, x, p) = (
     in_room = record {
       size = k;
       head = inr (begins, inl x.farthest);
-      declared = cut (roles (take k (plains ws))) k x.in_room;
+      preamble_within = cut (roles (take k (plains ws))) k x.in_room;
       behind = none_behind k k (drop k (plains ws)) (omega arith);
     };
   },
@@ -411,7 +411,7 @@ in_preamble ws rule.UnexpectedEnd l begins (x, p) = (
     in_room = record {
       size = length (plains ws);
       head = inr (begins, inl x.farthest);
-      declared = subst (λ (u : List Plain). AreWithin (take (length (plains ws) - 1) (roles u)))
+      preamble_within = subst (λ (u : List Plain). AreWithin (take (length (plains ws) - 1) (roles u)))
           (sym (all_taken (plains ws))) x.in_room;
       behind = none_behind (length (plains ws) - 1) (length (plains ws)) _ (omega arith);
     };
@@ -430,14 +430,14 @@ in_preamble ws rule.PastLimit l begins (k, x, p) =
           before = record {
             size = x.last;
             head = inr (begins, x.count);
-            declared = x.passes.before;
+            preamble_within = x.passes.before;
             behind = none_behind k x.last (drop x.last us) (omega (arith, is_word, size));
           };
           with_it = start_less spell us (k + 1) x.last (omega (arith, is_word, size))
               (counted_begins us begins x.last x.count);
           no_room = λ h. x.passes.no_room
               (subst (λ (i : ℕ). AreWithin (take (k + 1) (roles (take i us))))
-              (same_head us h.size x.last h.head (inr (begins, x.count))) h.declared);
+              (same_head us h.size x.last h.head (inr (begins, x.count))) h.preamble_within);
         };
         goes_on = λ e far. omega (arith, e, goes_on);
       },
@@ -462,7 +462,7 @@ module _ (ws : List PlainAt) (n : ℕ) (b : Behind (plains ws) n) where
   room k h = record {
     size = n;
     head = b.head;
-    declared = cut (roles (take n us)) (n + k) b.declared;
+    preamble_within = cut (roles (take n us)) (n + k) b.preamble_within;
     behind = subst (λ (i : ℕ). sections.InRoom (take i (drop n us))) (let h : k ≡ n + k - n = omega arith in h) h;
   }
 
@@ -552,7 +552,7 @@ module _ (ws : List PlainAt) (n : ℕ) (b : Behind (plains ws) n) where
     all_in_room k = record {
       size = n;
       head = b.head;
-      declared = cut (roles (take n us)) k b.declared;
+      preamble_within = cut (roles (take n us)) k b.preamble_within;
       behind = inl (t, w, drop (k - n) (drop n us), sym e ∙ sym (take-append-drop (k - n) (drop n us)));
     }
 

@@ -20,6 +20,7 @@ use Rattle.ss_program.specs.Program.{ProgramTable}
 use Rattle.std.specs.Prelude.{codes}
 use Rattle.ss_machine.specs.Run.{input_with}
 use Rattle.ss_debug.specs.CommandLines.{command_lines}
+use Rattle.ss_debug.specs.Turn.{obeyed_lines}
 use Rattle.ss_session.specs.Model.{refused_text, refused_check, accepted, Spells}
 use Rattle.ss_session.proofs.Refusals.{to_one}
 use Rattle.ss_session.specs.Transcript.{refusal_line, program_transcript}
@@ -50,7 +51,8 @@ module _ (model : List ℕ) (ws : List WordAt) (ps : List PlainAt) (read : words
 
   pub tells_run : (t : Tree) (p : ProgramTable) → IsWithin t → plains ps ≡ spell t →
       breach no_decls (written (lines ps) t) ≡ None → p ≡ resolved no_decls (written (lines ps) t) →
-      (commands text : List ℕ) → program_transcript (input_with p (codes "")) (command_lines commands) ≡ text →
+      (commands text : List ℕ) →
+      program_transcript (input_with p (codes "")) (obeyed_lines (command_lines commands)) ≡ text →
       HasTranscript model commands text
   tells_run t p within e sound is commands text same =
       (accepted p, (no_decls, written (lines ps) t, spells t within e, sound, is), same)

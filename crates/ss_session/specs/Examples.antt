@@ -1,20 +1,23 @@
 -- Whole models, the commands that they are run under, and their transcripts.
 use Rattle.std.specs.Prelude.{◌≡◌, ◌++◌, ℕ, List, codes}
 use Rattle.ss_session.specs.Model.{Outcome, IsOutcome}
+use Rattle.ss_session.specs.Texts.{Texts}
 use Rattle.ss_session.specs.Transcript.{transcript}
 
--- the transcript of a model over data under the commands is this text
-abbrev pub HasTranscriptOver : List ℕ → List ℕ → List ℕ → List ℕ → Type 0
-HasTranscriptOver data_text model commands text =
-    (outcome : Outcome) × IsOutcome model outcome × (transcript outcome data_text commands ≡ text)
+-- the transcript of these texts
+abbrev pub IsTranscriptOf : Texts → List ℕ → Type 0
+IsTranscriptOf texts text = (outcome : Outcome) × IsOutcome texts.model outcome × (transcript outcome texts ≡ text)
 
--- the same without data
+-- a model without data has this transcript under the commands
 abbrev pub HasTranscript : List ℕ → List ℕ → List ℕ → Type 0
-HasTranscript = HasTranscriptOver (codes "")
+HasTranscript model commands text =
+    IsTranscriptOf (record { model = model; data_text = codes ""; commands = commands }) text
 
 -- and so over all data under all commands, as that of a refused model
 abbrev pub AlwaysHasTranscript : List ℕ → List ℕ → Type 0
-AlwaysHasTranscript model text = (data_text commands : List ℕ) → HasTranscriptOver data_text model commands text
+AlwaysHasTranscript model text =
+    (data_text commands : List ℕ) →
+    IsTranscriptOf (record { model = model; data_text = data_text; commands = commands }) text
 
 -- a program that does nothing but stop
 abbrev pub stop : List ℕ
@@ -37,8 +40,8 @@ abbrev pub word_behind : List ℕ
 word_behind = codes "MAIN\nEND\nLOOP\n"
 
 -- a text that ends in a statement
-abbrev pub unended : List ℕ
-unended = codes "MAIN\nLET X ="
+abbrev pub half_statement : List ℕ
+half_statement = codes "MAIN\nLET X ="
 
 -- a number past the greatest
 abbrev pub too_large : List ℕ
@@ -97,7 +100,7 @@ WordBehindEndIsRefused = AlwaysHasTranscript word_behind (codes "MODEL REFUSED P
 
 -- a text that ends in a statement is refused by P2, at its last word
 abbrev pub TextsEndIsRefused : Type 0
-TextsEndIsRefused = AlwaysHasTranscript unended (codes "MODEL REFUSED P2 LINE 2\n")
+TextsEndIsRefused = AlwaysHasTranscript half_statement (codes "MODEL REFUSED P2 LINE 2\n")
 
 -- a number past the greatest is refused by L2, at its line
 abbrev pub LargeNumberIsRefused : Type 0

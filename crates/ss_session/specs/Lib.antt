@@ -2,8 +2,10 @@ pub mod Outlet
 pub mod Exit
 pub mod Refused
 pub mod Model
+pub mod Texts
 pub mod Written
 pub mod Transcript
+pub mod Session
 pub mod Laws
 pub mod Examples
 pub mod Private

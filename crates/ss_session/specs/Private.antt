@@ -7,8 +7,8 @@ use Rattle.ss_check.specs.declared.fault.CheckFault.{CheckFault}
 use Rattle.ss_check.specs.declared.fault.CheckFault.TheVariants as check
 use Rattle.ss_machine.specs.Run.{Input}
 use Rattle.ss_debug.specs.Command.{command_of}
-use Rattle.ss_debug.specs.Turn.{DebuggerState, SessionState, initial_session_state, debugger_state_after}
-use Rattle.ss_debug.specs.Turn.{answer, answers, session_state_after, go_of}
+use Rattle.ss_debug.specs.Turn.{DebuggerState, initial_debugger_state, debugger_state_after, answer}
+use Rattle.ss_debug.specs.Turn.{answers, debugger_state_after_lines, go_of}
 use Rattle.ss_debug.specs.View.{DebuggerView, debugger_state_of}
 use Rattle.ss_debug.specs.declared.go.Go.{Go}
 use Rattle.ss_session.specs.declared.ending.Cut.{Cut}
@@ -20,8 +20,9 @@ use Rattle.ss_session.specs.declared.load.LoadFault.{LoadFault}
 use Rattle.ss_session.specs.declared.load.LoadFault.TheVariants as load
 use Rattle.ss_session.specs.Model.{refused_text, refused_check, IsOutcome, IsTextRefused, IsCheckRefused}
 use Rattle.ss_session.specs.Written.{WritesFirst, WritesPart}
-use Rattle.ss_session.specs.Transcript.{program_transcript, ends_faulted, end_of, EndsBy}
-use Rattle.ss_session.specs.Transcript.{WritesFirstAnswers, WritesTranscript, WritesPartOfTranscript}
+use Rattle.ss_session.specs.Texts.{Texts}
+use Rattle.ss_session.specs.Transcript.{program_transcript, ends_faulted, end_of}
+use Rattle.ss_session.specs.Session.{EndsBy, WritesFirstAnswers, WritesTranscript, WritesPartOfTranscript}
 
 -- ---- the reading of a model
 
@@ -44,20 +45,16 @@ IsLoadFault load.Memory model = Unit {0}
 -- ---- the turns
 
 -- some of the lines are done, and their whole answers are written
-pub record IsWrittenSoFar (t : Input) (start : SessionState) (lines rest : List (List ℕ))
-    (now : SessionState) (old new : Option (List ℕ)) : Type 0 where
+pub record IsWrittenSoFar (t : Input) (start : DebuggerState) (lines rest : List (List ℕ))
+    (now : DebuggerState) (old new : Option (List ℕ)) : Type 0 where
   -- the lines that are done
-  pub done : List (List ℕ)
+  pub done_lines : List (List ℕ)
   -- the others are still to come
-  pub split : lines ≡ done ++ rest
-  -- the session is in the state behind them
-  pub place : now ≡ session_state_after t start done
+  pub split : lines ≡ done_lines ++ rest
+  -- the debugger is in the state behind them
+  pub place : now ≡ debugger_state_after_lines t start done_lines
   -- their answers are put behind what was written
-  pub said : Appends old new (answers t start done)
-
--- the state of a session in which QUIT has not come
-abbrev pub open_session_state : DebuggerState → SessionState
-open_session_state d = record { debugger = d; over = false }
+  pub said : Appends old new (answers t start done_lines)
 
 -- one turn over a program, by how it ends
 unfoldable pub TurnEnds : Result Go Cut → Input → DebuggerView → DebuggerView → List ℕ →
@@ -75,13 +72,13 @@ TurnEnds (Err cut.Write) t view next line old new failures failures' =
 unfoldable pub TurnsEnd : Result (Unit {0}) Cut → Input → DebuggerView → DebuggerView → List (List ℕ) →
     Option (List ℕ) → Option (List ℕ) → ℕ → ℕ → Type 0
 TurnsEnd (Ok done) t view next lines old new failures failures' =
-    (debugger_state_of next ≡ (session_state_after t (open_session_state (debugger_state_of view)) lines).debugger)
+    (debugger_state_of next ≡ debugger_state_after_lines t (debugger_state_of view) lines)
     × (next.machine.input ≡ t)
-    × Appends old new (answers t (open_session_state (debugger_state_of view)) lines) × (failures' ≡ failures)
+    × Appends old new (answers t (debugger_state_of view) lines) × (failures' ≡ failures)
 TurnsEnd (Err cut.Memory) t view next lines old new failures failures' =
-    WritesFirst t (open_session_state (debugger_state_of view)) lines old new × (failures' ≡ failures)
+    WritesFirst t (debugger_state_of view) lines old new × (failures' ≡ failures)
 TurnsEnd (Err cut.Write) t view next lines old new failures failures' =
-    WritesPart (answers t (open_session_state (debugger_state_of view)) lines) old new × (failures' ≡ failures + 1)
+    WritesPart (answers t (debugger_state_of view) lines) old new × (failures' ≡ failures + 1)
 
 -- ---- the whole
 
@@ -102,20 +99,19 @@ unfoldable pub ProgramEnds : Result End Cut → Input → List (List ℕ) →
 ProgramEnds (Ok end) t lines old new failures failures' =
     (end ≡ end_of (ends_faulted t lines)) × Appends old new (program_transcript t lines) × (failures' ≡ failures)
 ProgramEnds (Err cut.Memory) t lines old new failures failures' =
-    WritesFirst t initial_session_state lines old new × (failures' ≡ failures)
+    WritesFirst t initial_debugger_state lines old new × (failures' ≡ failures)
 ProgramEnds (Err cut.Write) t lines old new failures failures' =
     WritesPart (program_transcript t lines) old new × (failures' ≡ failures + 1)
 
 -- a session, by how it ends
-unfoldable pub SessionEnds : Result End SessionFault → List ℕ → List ℕ → List ℕ →
-    Option (List ℕ) → Option (List ℕ) → ℕ → ℕ → Type 0
-SessionEnds (Ok end) model data_text commands old new failures failures' =
-    EndsBy model data_text commands end × WritesTranscript model data_text commands old new × (failures' ≡ failures)
-SessionEnds (Err Text) model data_text commands old new failures failures' =
-    IsTextRefused model × WritesTranscript model data_text commands old new × (failures' ≡ failures)
-SessionEnds (Err Check) model data_text commands old new failures failures' =
-    IsCheckRefused model × WritesTranscript model data_text commands old new × (failures' ≡ failures)
-SessionEnds (Err Memory) model data_text commands old new failures failures' =
-    WritesFirstAnswers model data_text commands old new × (failures' ≡ failures)
-SessionEnds (Err Write) model data_text commands old new failures failures' =
-    WritesPartOfTranscript model data_text commands old new × (failures' ≡ failures + 1)
+unfoldable pub SessionEnds : Result End SessionFault → Texts → Option (List ℕ) → Option (List ℕ) → ℕ → ℕ → Type 0
+SessionEnds (Ok end) texts old new failures failures' =
+    EndsBy texts end × WritesTranscript texts old new × (failures' ≡ failures)
+SessionEnds (Err Text) texts old new failures failures' =
+    IsTextRefused texts.model × WritesTranscript texts old new × (failures' ≡ failures)
+SessionEnds (Err Check) texts old new failures failures' =
+    IsCheckRefused texts.model × WritesTranscript texts old new × (failures' ≡ failures)
+SessionEnds (Err Memory) texts old new failures failures' =
+    WritesFirstAnswers texts old new × (failures' ≡ failures)
+SessionEnds (Err Write) texts old new failures failures' =
+    WritesPartOfTranscript texts old new × (failures' ≡ failures + 1)

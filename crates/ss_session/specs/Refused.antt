@@ -34,7 +34,7 @@ pub record InRoom (ws : List Plain) (k : ℕ) : Type 0 where
   -- they are those that count to its limits
   pub head : IsHead ws size
   -- what they count to
-  pub declared : AreWithin (take k (roles (take size ws)))
+  pub preamble_within : AreWithin (take k (roles (take size ws)))
   -- the words behind them
   pub behind : sections.InRoom (take (k - size) (drop size ws))
 

@@ -2,10 +2,10 @@
 use Rattle.std.specs.Prelude.{ℕ, ◌≤◌, List, length, take, Option}
 use Rattle.std.specs.Io.KnownBytes.{Appends}
 use Rattle.ss_machine.specs.Run.{Input}
-use Rattle.ss_debug.specs.Turn.{SessionState, answers}
+use Rattle.ss_debug.specs.Turn.{DebuggerState, answers}
 
 -- the whole answers of the first lines, some number of them
-pub record WritesFirst (t : Input) (start : SessionState) (lines : List (List ℕ))
+pub record WritesFirst (t : Input) (start : DebuggerState) (lines : List (List ℕ))
     (old new : Option (List ℕ)) : Type 0 where
   -- how many lines
   pub count : ℕ

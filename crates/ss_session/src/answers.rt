@@ -1,6 +1,7 @@
 ghost use Rattle.std.specs.Prelude.{◌≡◌, ◌+◌, ◌-◌, ◌^◌, ◌<◌, ◌++◌, [], OnOk, OnErr};
 ghost use Rattle.std.specs.Io.KnownBytes.{Appends};
 ghost use Rattle.ss_debug.specs.CommandLines.{command_lines};
+ghost use Rattle.ss_debug.specs.Turn.{obeyed_lines};
 ghost use Rattle.ss_machine.specs.State.{is_faulted};
 ghost use Rattle.ss_session.specs.Written.{WritesPart};
 ghost use Rattle.ss_session.specs.Transcript.{end_of};
@@ -20,7 +21,8 @@ fn put_both<W: Outlet>(out: &mut W, first: &[u8], second: &[u8]) -> Result<(), P
     requires { W.failures out.old < 2 ^ 64 - 1 }
     ensures ok { OnOk result (Appends (W.taken out.old) (W.taken out.new) (first.now ++ second.now)
         × (W.failures out.new ≡ W.failures out.old)) }
-    ensures err { OnErr result (WritesPart (first.now ++ second.now) (W.taken out.old) (W.taken out.new)
+    ensures err { OnErr result
+        (WritesPart (first.now ++ second.now) (W.taken out.old) (W.taken out.new)
         × (W.failures out.new ≡ W.failures out.old + 1)) }
 {
     put_all(out, first)?;
@@ -49,7 +51,8 @@ fn write_answers<S: SetBoard, W: Outlet>(
     requires forgotten { debugger.old.machine.forgotten ≡ 0 }
     requires breaks { debugger.old.breaks ≡ [] }
     requires room { W.failures out.old < 2 ^ 64 - 1 }
-    ensures { ProgramEnds result debugger.old.machine.input (command_lines commands.now)
+    ensures { ProgramEnds result debugger.old.machine.input
+        (obeyed_lines (command_lines commands.now))
         (W.taken out.old) (W.taken out.new) (W.failures out.old) (W.failures out.new) }
 {
     obey_lines(debugger, bytes, commands, out)?;
@@ -70,8 +73,8 @@ pub(crate) fn write_transcript<S: SetBoard, W: Outlet>(
     requires start { machine.steps ≡ [] }
     requires forgotten { machine.forgotten ≡ 0 }
     requires room { W.failures out.old < 2 ^ 64 - 1 }
-    ensures { ProgramEnds result machine.input (command_lines commands.now) (W.taken out.old) (W.taken out.new)
-        (W.failures out.old) (W.failures out.new) }
+    ensures { ProgramEnds result machine.input (obeyed_lines (command_lines commands.now))
+        (W.taken out.old) (W.taken out.new) (W.failures out.old) (W.failures out.new) }
 {
     let mut debugger = Debugger::new(alloc, machine);
     let mut bytes = Vec::new(alloc);

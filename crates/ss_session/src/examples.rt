@@ -1,6 +1,9 @@
 //! Transcripts of whole models, computed on the definitions; the tests of the same names run
 //! `session` on them. Each function does nothing, and its contract says the law.
-ghost use Rattle.ss_session.specs.Examples.{EmptyProgramStops, BadCommandIsAnswered, FiveIsPrintedAgain, BackEndsAtStart, OldStepsAreForgotten, OverflowStands, WrongPictureIsRefused, EmptyTextIsRefused, WordBehindEndIsRefused, TextsEndIsRefused, LargeNumberIsRefused};
+ghost use Rattle.ss_session.specs.Examples.{EmptyProgramStops, BadCommandIsAnswered, FiveIsPrintedAgain};
+ghost use Rattle.ss_session.specs.Examples.{BackEndsAtStart, OldStepsAreForgotten, OverflowStands};
+ghost use Rattle.ss_session.specs.Examples.{WrongPictureIsRefused, EmptyTextIsRefused, WordBehindEndIsRefused};
+ghost use Rattle.ss_session.specs.Examples.{TextsEndIsRefused, LargeNumberIsRefused};
 
 /// A program that was not run has an empty report.
 pub fn an_empty_program_stops()

@@ -1,4 +1,5 @@
-ghost use Rattle.std.specs.Prelude.{◌≡◌, ℕ, ◌+◌, ◌-◌, ◌<◌, ◌≤◌, ◌^◌, ◌++◌, List, [], length, take, drop, Option, Some, None, OnOk, OnErr, IfOk};
+ghost use Rattle.std.specs.Prelude.{◌≡◌, ℕ, ◌+◌, ◌-◌, ◌<◌, ◌≤◌, ◌^◌, ◌++◌, List, [], length, take, drop, Option, Some};
+ghost use Rattle.std.specs.Prelude.{None, OnOk, OnErr, IfOk};
 ghost use Rattle.std.specs.Io.KnownBytes.{Appends};
 ghost use Rattle.std.specs.Vec.{vec_capacity};
 ghost use Rattle.ss_session.specs.Outlet.{count_taken, failure_count};
@@ -26,7 +27,8 @@ pub trait Outlet {
         requires some { 0 < length piece.now }
         requires room { failures self.old < 2 ^ 64 - 1 }
         ensures within { count_taken result ≤ length piece.now }
-        ensures took { Appends (taken self.old) (taken self.new) (take (count_taken result) piece.now) }
+        ensures took { Appends (taken self.old) (taken self.new)
+            (take (count_taken result) piece.now) }
         ensures counts { failures self.new ≡ failures self.old + failure_count result };
 }
 
@@ -71,7 +73,8 @@ impl Outlet for MemoryOutlet {
             (take (count_taken result) piece.now) }
         ensures counts { self.new.failures ≡ self.old.failures + failure_count result }
         ensures whole { IfOk result (λ n. n ≡ length piece.now) }
-        ensures full { OnErr result (vec_capacity self.old.bytes < length self.old.bytes.items + length piece.now) }
+        ensures full { OnErr result (vec_capacity self.old.bytes
+            < length self.old.bytes.items + length piece.now) }
     {
         match self.bytes.extend_from_slice(piece) {
             Ok(()) => Ok(piece.len()),

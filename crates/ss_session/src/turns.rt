@@ -1,5 +1,6 @@
 ghost use Rattle.std.specs.Prelude.{◌≡◌, ◌+◌, ◌-◌, ◌^◌, ◌<◌, false};
 ghost use Rattle.ss_debug.specs.CommandLines.{command_lines};
+ghost use Rattle.ss_debug.specs.Turn.{obeyed_lines};
 ghost use Rattle.ss_session.specs.Private.{TurnEnds, TurnsEnd};
 
 use crate::ending::Cut;
@@ -34,7 +35,8 @@ pub(crate) fn obey_lines<S: SetBoard, W: Outlet>(
     out: &mut W,
 ) -> Result<(), Cut>
     requires { W.failures out.old < 2 ^ 64 - 1 }
-    ensures { TurnsEnd result debugger.old.machine.input debugger.old debugger.new (command_lines commands.now)
+    ensures { TurnsEnd result debugger.old.machine.input debugger.old debugger.new
+        (obeyed_lines (command_lines commands.now))
         (W.taken out.old) (W.taken out.new) (W.failures out.old) (W.failures out.new) }
 {
     let mut rest = commands;

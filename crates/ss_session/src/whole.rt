@@ -1,11 +1,8 @@
-ghost use Rattle.std.specs.Prelude.{◌≡◌, ℕ, ◌+◌, ◌-◌, ◌^◌, ◌<◌, ◌≤◌, ◌↔◌, List, [], Option, IfOk, Ok, Err};
-ghost use Rattle.std.specs.Io.KnownBytes.{Appends};
+ghost use Rattle.std.specs.Prelude.{◌≡◌, ◌-◌, ◌^◌, ◌<◌, [], IfOk};
 ghost use Rattle.ss_links.specs.Board.{empty_board};
 ghost use Rattle.ss_machine.specs.Run.{input_with, run};
-ghost use Rattle.ss_session.specs.declared.ending.End.{End};
-ghost use Rattle.ss_session.specs.declared.ending.SessionFault.TheVariants.{Text, Check, Write, Memory};
-ghost use Rattle.ss_session.specs.Model.{IsTextRefused, IsCheckRefused};
-ghost use Rattle.ss_session.specs.Transcript.{WritesFirstAnswers, WritesTranscript, WritesPartOfTranscript, EndsBy, IsWhole, count_failed, refusal_line};
+ghost use Rattle.ss_session.specs.Transcript.{refusal_line};
+ghost use Rattle.ss_session.specs.Session.{SessionSays};
 ghost use Rattle.ss_session.specs.Private.{LineEnds, SessionEnds};
 
 use crate::answers::write_transcript;
@@ -63,8 +60,9 @@ fn session_by_cases<S: SetBoard, W: Outlet>(
     requires sets { S.board sets ≡ empty_board }
     requires pending { S.board pending ≡ empty_board }
     requires room { W.failures out.old < 2 ^ 64 - 1 }
-    ensures { SessionEnds result model.now data_text.now commands.now (W.taken out.old) (W.taken out.new)
-        (W.failures out.old) (W.failures out.new) }
+    ensures { SessionEnds result
+        (record { model = model.now; data_text = data_text.now; commands = commands.now })
+        (W.taken out.old) (W.taken out.new) (W.failures out.old) (W.failures out.new) }
 {
     match load(alloc, model) {
         Err(fault) => {
@@ -109,29 +107,10 @@ pub fn session_over<S: SetBoard, W: Outlet>(
     requires sets { S.board sets ≡ empty_board }
     requires pending { S.board pending ≡ empty_board }
     requires room { W.failures out.old < 2 ^ 64 - 1 }
-
-    // What is written is the transcript of the model over the data under the commands, unless
-    // memory is refused or a write fails: then it is the whole answers of the first lines, or a
-    // prefix of the transcript.
-    ensures whole { IsWhole result
-        → WritesTranscript model.now data_text.now commands.now (W.taken out.old) (W.taken out.new) }
-    ensures memory { result ≡ Err Memory
-        → WritesFirstAnswers model.now data_text.now commands.now (W.taken out.old) (W.taken out.new) }
-    ensures write { result ≡ Err Write
-        → WritesPartOfTranscript model.now data_text.now commands.now (W.taken out.old) (W.taken out.new) }
-
-    // It ends with Write exactly where the outlet counted a failure; it counts one then, and else
-    // none.
-    ensures failure { (result ≡ Err Write) ↔ (W.failures out.old < W.failures out.new) }
-    ensures counts { W.failures out.new ≡ W.failures out.old + count_failed result }
-
-    // How else it ends: Text exactly where a rule L or P refuses the model, Check exactly where a
-    // rule C does, and Done or RunFault exactly where the model is a program whose last state says
-    // so.
-    ensures text { IsWhole result → (result ≡ Err Text) ↔ IsTextRefused model.now }
-    ensures check { IsWhole result → (result ≡ Err Check) ↔ IsCheckRefused model.now }
-    ensures accepted { IsWhole result
-        → (end : End) → (result ≡ Ok end) ↔ EndsBy model.now data_text.now commands.now end }
+    ensures { SessionSays result
+        (record { model = model.now; data_text = data_text.now; commands = commands.now })
+        (record { taken = W.taken out.old; failures = W.failures out.old })
+        (record { taken = W.taken out.new; failures = W.failures out.new }) }
 {
     session_by_cases(alloc, sets, pending, model, data_text, commands, out)
 }
@@ -152,29 +131,10 @@ pub fn session<W: Outlet>(
     out: &mut W,
 ) -> Result<End, SessionFault>
     requires { W.failures out.old < 2 ^ 64 - 1 }
-
-    // What is written is the transcript of the model over the data under the commands, unless
-    // memory is refused or a write fails: then it is the whole answers of the first lines, or a
-    // prefix of the transcript.
-    ensures whole { IsWhole result
-        → WritesTranscript model.now data_text.now commands.now (W.taken out.old) (W.taken out.new) }
-    ensures memory { result ≡ Err Memory
-        → WritesFirstAnswers model.now data_text.now commands.now (W.taken out.old) (W.taken out.new) }
-    ensures write { result ≡ Err Write
-        → WritesPartOfTranscript model.now data_text.now commands.now (W.taken out.old) (W.taken out.new) }
-
-    // It ends with Write exactly where the outlet counted a failure; it counts one then, and else
-    // none.
-    ensures failure { (result ≡ Err Write) ↔ (W.failures out.old < W.failures out.new) }
-    ensures counts { W.failures out.new ≡ W.failures out.old + count_failed result }
-
-    // How else it ends: Text exactly where a rule L or P refuses the model, Check exactly where a
-    // rule C does, and Done or RunFault exactly where the model is a program whose last state says
-    // so.
-    ensures text { IsWhole result → (result ≡ Err Text) ↔ IsTextRefused model.now }
-    ensures check { IsWhole result → (result ≡ Err Check) ↔ IsCheckRefused model.now }
-    ensures accepted { IsWhole result
-        → (end : End) → (result ≡ Ok end) ↔ EndsBy model.now data_text.now commands.now end }
+    ensures { SessionSays result
+        (record { model = model.now; data_text = data_text.now; commands = commands.now })
+        (record { taken = W.taken out.old; failures = W.failures out.old })
+        (record { taken = W.taken out.new; failures = W.failures out.new }) }
 {
     session_over(
         alloc,

@@ -4,17 +4,17 @@ use Rattle.ss_machine.specs.Moment.{position}
 use Rattle.ss_debug.specs.Move.{stops}
 use Rattle.ss_debug.specs.View.{condition_of}
 use Rattle.ss_debug.proofs.Moves.{least_is, least_at_least}
-use Rattle.ss_debug.proofs.movement.advance.Goals as goal
+use Rattle.ss_debug.proofs.movement.forward.Goals as goal
 
 pub returns-then-is_at_stop-clause-ok : goal.returns-then-is_at_stop-clause-ok
 returns-then-is_at_stop-clause-ok g c =
     let m = c.args.machine.now in
     let most : ℕ = min c.args.bound (LAST_POSITION - position m) in
-    let found : stops m.input c.args.breaks.now (condition_of c.args.condition) (position m) c.loop-k.k ≡ true =
-    search rules in
+    let found : stops m.input (condition_of m.input c.args.breaks.now c.args.condition) (position m) c.loop-k._k
+    ≡ true = search rules in
     let e =
-    least_is (stops m.input c.args.breaks.now (condition_of c.args.condition) (position m)) most
-    c.loop-k.k (omega arith) c.loop-k.invariant.went_on (λ _. found) in
+    least_is (stops m.input (condition_of m.input c.args.breaks.now c.args.condition) (position m)) most
+    c.loop-k._k (omega arith) c.loop-k.invariant.went_on (λ _. found) in
     record {
       input = c.loop-k.invariant.input;
       forgotten = c.loop-k.invariant.forgotten;
@@ -26,8 +26,8 @@ returns-in-Err-clause-memory g c =
     let m = c.args.machine.now in
     let most : ℕ = min c.args.bound (LAST_POSITION - position m) in
     let low =
-    least_at_least (stops m.input c.args.breaks.now (condition_of c.args.condition) (position m)) most
-    c.loop-k.k (omega arith) c.loop-k.invariant.went_on in
+    least_at_least (stops m.input (condition_of m.input c.args.breaks.now c.args.condition) (position m)) most
+    c.loop-k._k (omega arith) c.loop-k.invariant.went_on in
     let same : c.step_once.new.machine ≡ c.loop-k.machine = search rules in
     rw (same, c.loop-k.invariant.stepped)
     (c.loop-k.invariant.input, c.loop-k.invariant.forgotten, omega arith, omega arith)

@@ -1,7 +1,7 @@
 use Rattle.std.proofs.Common.{◌≡◌, ℕ, ◌+◌, ◌<◌, false}
 use Rattle.ss_machine.specs.Moment.{position}
 use Rattle.ss_debug.specs.Move.{is_on_break, stops_back}
-use Rattle.ss_debug.proofs.movement.retreat_to_break.Given as goal
+use Rattle.ss_debug.proofs.movement.back_break.Given as goal
 
 abbrev pub invariant-loop-k : goal.invariant-loop-k
 invariant-loop-k g l = record {

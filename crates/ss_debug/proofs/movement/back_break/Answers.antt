@@ -2,8 +2,8 @@ use Rattle.std.proofs.Common.{◌≡◌, ◌+◌, true, false, length, sym, ap, 
 use borrow.Author.Count.{below_more}
 use Rattle.ss_machine.specs.Moment.{position}
 use Rattle.ss_debug.specs.Move.{is_on_break, stops_back}
-use Rattle.ss_debug.proofs.Moves.{stops_back_here, backward_is}
-use Rattle.ss_debug.proofs.movement.retreat_to_break.Goals as goal
+use Rattle.ss_debug.proofs.Moves.{stops_back_here, search_back_is}
+use Rattle.ss_debug.proofs.movement.back_break.Goals as goal
 
 pub returns-then-is_at_back_stop : goal.returns-then-is_at_back_stop
 returns-then-is_at_back_stop g c =
@@ -15,7 +15,7 @@ returns-then-is_at_back_stop g c =
     let found : stops_back (is_on_break m.input c.args.breaks.now) (position m) c.loop-k.k ≡ true =
     rw here (sym c.if-is_at_back_stop.ensures) in
     let ends =
-    backward_is (is_on_break m.input c.args.breaks.now) m.forgotten (position m) c.args.bound c.loop-k.k
+    search_back_is (is_on_break m.input c.args.breaks.now) m.forgotten (position m) c.args.bound c.loop-k.k
     (position l) held.stepped (omega arith)
     (omega (arith, held.forgotten)) held.went_on (λ h g. found) in
     record { input = held.input; forgotten = held.forgotten; position = sym ends }
@@ -27,7 +27,7 @@ returns-then-not-back g c =
     let held = c.loop-k.invariant in
     let none : length l.steps ≡ 0 = ap length c.if-not-back.ensures.0 in
     let ends =
-    backward_is (is_on_break m.input c.args.breaks.now) m.forgotten (position m) c.args.bound c.loop-k.k
+    search_back_is (is_on_break m.input c.args.breaks.now) m.forgotten (position m) c.args.bound c.loop-k.k
     (position l) held.stepped (omega arith)
     (omega (arith, held.forgotten)) held.went_on (λ h g. absurd (omega (arith, none, held.forgotten))) in
     rw (c.if-not-back.ensures.1) (record { input = held.input; forgotten = held.forgotten; position = sym ends })
@@ -58,7 +58,7 @@ returns g c =
     let l = c.loop-k.machine in
     let held = c.loop-k.invariant in
     let ends =
-    backward_is (is_on_break m.input c.args.breaks.now) m.forgotten (position m) c.args.bound c.loop-k.k
+    search_back_is (is_on_break m.input c.args.breaks.now) m.forgotten (position m) c.args.bound c.loop-k.k
     (position l) held.stepped (omega arith)
     (omega (arith, held.forgotten)) held.went_on (λ h g. absurd (omega arith)) in
     record { input = held.input; forgotten = held.forgotten; position = sym ends }

@@ -1,6 +1,6 @@
 use Rattle.std.proofs.Common.{◌≡◌, ◌+◌}
 use Rattle.ss_machine.specs.Moment.{position}
-use Rattle.ss_debug.proofs.movement.retreat.Given as goal
+use Rattle.ss_debug.proofs.movement.back.Given as goal
 
 abbrev pub invariant-loop-k : goal.invariant-loop-k
 invariant-loop-k g l = record {
