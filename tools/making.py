@@ -1,0 +1,98 @@
+"""What those who make a program have in common: where it stands, whose turn it is, and a copy of the
+sources to make it of."""
+import contextlib
+import fcntl
+import os
+import re
+import shutil
+import signal
+import subprocess
+import sys
+import tempfile
+import time
+
+TOP = os.path.dirname(os.path.dirname(os.path.realpath(__file__)))
+# The exit status of what the user ends.
+INTERRUPTED = 130
+
+
+class Place:
+    """Where a program of this name stands: a folder that has it, and the sums that it was built
+    from."""
+
+    def __init__(self, name, folder):
+        self.name, self.folder = name, f"{TOP}/crates/{name}/{folder}"
+        self.program, self.stamp = f"{self.folder}/{name}", f"{self.folder}/built-from"
+        self.log, self.begun = f"{self.folder}/build.log", time.monotonic()
+
+    def tell(self, words):
+        """Says something on standard error."""
+        print(f"{self.name}: {words}", file=sys.stderr, flush=True)
+
+    def spent(self):
+        """Returns how much time has gone by since the beginning."""
+        minutes, seconds = divmod(int(time.monotonic() - self.begun), 60)
+        return f"{minutes} min {seconds:02} s"
+
+    def sums(self):
+        """Returns the sums of the sources: of code and definitions, and of proofs."""
+        words = [f"{TOP}/tools/sources", self.name]
+        return subprocess.run(words, check=True, stdout=subprocess.PIPE, text=True).stdout
+
+    def has(self, sums):
+        """Whether the program stands there, built from these."""
+        with contextlib.suppress(OSError), open(self.stamp, encoding="ascii") as it:
+            return it.read().startswith(sums) and os.access(self.program, os.X_OK)
+        return False
+
+    def put(self, program, sums):
+        """Leaves a program there, whole, and behind it what it was built from."""
+        with contextlib.suppress(FileNotFoundError):
+            os.remove(self.stamp)
+        shutil.copy(program, f"{self.program}.new")
+        os.replace(f"{self.program}.new", self.program)
+        with open(f"{self.stamp}.new", "w", encoding="ascii") as it:
+            it.write(sums)
+        os.replace(f"{self.stamp}.new", self.stamp)
+
+    @contextlib.contextmanager
+    def in_turn(self):
+        """Waits until no other command makes what stands there."""
+        os.makedirs(self.folder, exist_ok=True)
+        with open(f"{self.folder}/lock", "w", encoding="ascii") as lock:
+            try:
+                fcntl.flock(lock, fcntl.LOCK_EX | fcntl.LOCK_NB)
+            except BlockingIOError:
+                self.tell("another command is making the program: waiting for it")
+                fcntl.flock(lock, fcntl.LOCK_EX)
+            yield
+
+
+def sweep():
+    """Removes the copies of commands that were killed."""
+    for name in os.listdir(tempfile.gettempdir()):
+        owner = re.match(r"simscript2-(\d+)-", name)
+        if owner and not os.path.exists(f"/proc/{owner[1]}"):
+            shutil.rmtree(f"{tempfile.gettempdir()}/{name}", ignore_errors=True)
+
+
+@contextlib.contextmanager
+def copy_of_sources():
+    """Gives a folder with a copy of the sources, so that a change of theirs does no harm. It is
+    removed at the end, also where the user ends the command."""
+    sweep()
+    with tempfile.TemporaryDirectory(prefix=f"simscript2-{os.getpid()}-") as room:
+
+        def leave(*_):
+            shutil.rmtree(room, ignore_errors=True)
+            os._exit(INTERRUPTED)
+
+        for it in (signal.SIGINT, signal.SIGTERM, signal.SIGHUP):
+            signal.signal(it, leave)
+        for name in ("crates.txt", "HANDLES"):
+            shutil.copy(f"{TOP}/{name}", room)
+        for name in sorted(os.listdir(f"{TOP}/crates")):
+            for part in ("src", "specs", "proofs"):
+                if os.path.isdir(f"{TOP}/crates/{name}/{part}"):
+                    shutil.copytree(f"{TOP}/crates/{name}/{part}", f"{room}/crates/{name}/{part}")
+        yield room
