@@ -1,25 +1,62 @@
-/* Refuses one growth of memory: the one whose number, counted from 1, stands in REFUSED_GROWTH. It says so on standard error.
+/* Refuses growths of memory and bytes of standard output. What it is to refuse stands in the environment:
 
-   tests/refused builds it and has it loaded before the C library, whose heap serves the rest. It is a tool of the tests, and no part of
-   any crate. */
+   REFUSED_GROWTH=N     the growth of this number, counted from 1
+   REFUSED_BEHIND=W:N   behind write number W of standard output (0 for the start) the growth of number N; several, parted by blanks
+   TOLD_WRITES=1        nothing: at each write of standard output it tells how many growths there were since the one before, and its bytes
+   WRITTEN_AT_ONCE=N    a write of standard output takes N bytes at most
+   WRITTEN_IN_ALL=N     after so many bytes of standard output a write takes none, and fails where WRITES_FAIL is set
+
+   It says 'growth refused' on standard error where it refuses one, and tells numbers there, a line each.
+
+   The scripts of tests/ build it and have it loaded before the C library, whose heap serves the rest. It is a tool of the tests, and no
+   part of any crate. */
 
 typedef __SIZE_TYPE__ size_t;
 
 extern void *__libc_malloc(size_t size);
 extern void *__libc_realloc(void *block, size_t size);
+extern long __write(int file, const void *bytes, size_t count);
 extern char *getenv(const char *name);
-extern long atol(const char *text);
-extern long write(int file, const void *bytes, size_t count);
+extern long strtol(const char *text, char **end, int base);
+extern int *__errno_location(void);
+
+/* The error of a device that has no room. */
+enum { NO_ROOM = 28 };
+
+static long growths = 0;
+static long growths_since_write = 0;
+static long writes = 0;
+static long written = 0;
+
+/* The number that stands in the environment, or another where none does. */
+static long number_of(const char *name, long otherwise) {
+    const char *text = getenv(name);
+    return text == 0 ? otherwise : strtol(text, 0, 10);
+}
+
+/* Whether REFUSED_BEHIND names this growth. */
+static int is_named(void) {
+    const char *text = getenv("REFUSED_BEHIND");
+    while (text != 0 && *text != 0) {
+        char *end;
+        long write = strtol(text, &end, 10);
+        long growth = strtol(end + 1, &end, 10);
+        if (write == writes && growth == growths_since_write) {
+            return 1;
+        }
+        text = end;
+    }
+    return 0;
+}
 
 static int is_refused(void) {
-    static long growths = 0;
     static const char told[] = "growth refused\n";
-    const char *number = getenv("REFUSED_GROWTH");
     growths += 1;
-    if (number == 0 || atol(number) != growths) {
+    growths_since_write += 1;
+    if (number_of("REFUSED_GROWTH", 0) != growths && !is_named()) {
         return 0;
     }
-    write(2, told, sizeof told - 1);
+    __write(2, told, sizeof told - 1);
     return 1;
 }
 
@@ -29,4 +66,43 @@ void *malloc(size_t size) {
 
 void *realloc(void *block, size_t size) {
     return is_refused() ? 0 : __libc_realloc(block, size);
+}
+
+/* Tells a number from 0 on, in a line. */
+static void tell(long number) {
+    char line[24];
+    size_t at = sizeof line;
+    line[--at] = '\n';
+    do {
+        line[--at] = (char)('0' + number % 10);
+        number /= 10;
+    } while (number > 0);
+    __write(2, line + at, sizeof line - at);
+}
+
+/* How many of these bytes a write of standard output takes. */
+static size_t taken_of(size_t count) {
+    size_t at_once = number_of("WRITTEN_AT_ONCE", count);
+    size_t room = number_of("WRITTEN_IN_ALL", written + count) - written;
+    size_t taken = count < at_once ? count : at_once;
+    return taken < room ? taken : room;
+}
+
+long write(int file, const void *bytes, size_t count) {
+    size_t taken = count;
+    if (file == 1) {
+        if (getenv("TOLD_WRITES") != 0) {
+            tell(growths_since_write);
+            tell(count);
+        }
+        growths_since_write = 0;
+        writes += 1;
+        taken = taken_of(count);
+        if (taken == 0 && count > 0) {
+            *__errno_location() = NO_ROOM;
+            return getenv("WRITES_FAIL") != 0 ? -1 : 0;
+        }
+        written += taken;
+    }
+    return __write(file, bytes, taken);
 }

@@ -4,6 +4,7 @@
 //!
 //! - `WORKED`: the text is the name of a worked example of data/; the boards, `linked` and `plain`,
 //!   over which its session gives its transcript and its status.
+//! - `TURNS`: nothing; each command's answer is written at once, also where a growth is refused.
 //! - `WORDS`: each word behind its line and a colon.
 //! - `COUNT`: how many words there are.
 //! - `PLAIN`: the plain words; `PLACED`: each behind its line and its place in the list of words.
@@ -41,6 +42,7 @@ mod plain;
 mod raw;
 mod sections;
 mod shown;
+mod turns;
 mod worked;
 
 use answer::answer;
@@ -86,9 +88,13 @@ fn noted_case(line: &str) -> Option<Case<'_>> {
 }
 
 /// What a case gives, where it is not the answer that it is to give.
-fn wrong<R: Files + AllocGlobal>(rt: &R, case: &Case<'_>) -> io::Result<Option<Vec<u8>>> {
+fn wrong<R: Files + AllocGlobal + Print>(rt: &R, case: &Case<'_>) -> io::Result<Option<Vec<u8>>> {
     let given = match case.way {
         "WORKED" => worked::boards(rt, case.text)?,
+        "TURNS" => {
+            turns::show(rt, case.text)?;
+            Vec::new(rt.alloc())
+        }
         way => answer(rt.alloc(), way, case.text)?,
     };
     if given.as_slice() == case.wanted.as_bytes() {

@@ -33,13 +33,13 @@ pub fn boards<R: Files + AllocGlobal>(rt: &R, name: &str) -> io::Result<Vec<u8>>
 }
 
 /// The file of this name and ending.
-fn file<R: Files + AllocGlobal>(rt: &R, name: &str, ending: &str) -> io::Result<Vec<u8>> {
+pub fn file<R: Files + AllocGlobal>(rt: &R, name: &str, ending: &str) -> io::Result<Vec<u8>> {
     let path = format!(in rt.alloc(); "{name}.{ending}")?;
     fs::read(rt, path.as_str())
 }
 
 /// The file of this name and ending, or these bytes where there is none.
-fn file_or<R: Files + AllocGlobal>(
+pub fn file_or<R: Files + AllocGlobal>(
     rt: &R,
     name: &str,
     ending: &str,
