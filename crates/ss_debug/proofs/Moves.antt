@@ -4,7 +4,9 @@ use borrow.Author.Count.{below_more}
 use borrow.Author.Tests.{ltb-true, ltb-false, leb-true, leb-false}
 use Rattle.ss_machine.specs.declared.limits.TheConstants.{LAST_POSITION}
 use Rattle.ss_machine.specs.Run.{Input}
-use Rattle.ss_debug.specs.Move.{StopCondition, least, stops, forward_end, is_ready_at, has_come}
+use Rattle.ss_debug.specs.declared.stop_condition.StopCondition.{StopCondition as StopChoice}
+use Rattle.ss_debug.specs.View.{condition_of}
+use Rattle.ss_debug.specs.Move.{StopCondition, least, is_stop, stops, forward_end, is_ready_at, has_come}
 use Rattle.ss_debug.specs.Move.{is_on_break, EndsAt, stops_back, search_back_end, EndsBackAt}
 
 least_step : (b c : Bool) (m n : ℕ) → nat_lt m n ≡ b → m ≤ n → cond b m (cond c n (suc n)) ≤ suc n
@@ -203,6 +205,11 @@ end_by_order t condition p n q r false false e f a b = omega (arith, ltb-false _
 pub one_end : (t : Input) (condition : StopCondition) (p n q r : ℕ) →
     EndsAt t condition p n q → EndsAt t condition p n r → q ≡ r
 one_end t condition p n q r a b = end_by_order t condition p n q r _ _ refl refl a b
+
+-- what stops a forward movement at q, k positions on
+pub stops_here : (t u : Input) (breaks : List ℕ) (choice : StopChoice) (p q k from : ℕ) → u ≡ t → q ≡ p + k →
+    from ≡ p → stops t (condition_of t breaks choice) p k ≡ is_stop u (condition_of u breaks choice) from q
+stops_here t u breaks choice p q k from e f g = rw (e, f, g) refl
 
 -- ---- back to where a test holds
 
