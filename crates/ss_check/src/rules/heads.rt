@@ -69,7 +69,7 @@ pub(crate) fn head_rule(
     ensures tables { OnOk result
         (before.new ≡ with_head before.old (view.section_view section.now).head) }
 {
-    let is_second_main = is_main(section) & before.has_main;
+    let is_second_main = is_main(section) & has_main(before);
     let repeats_parameter = repeats_parameter(alloc, section)?;
     before.add_head(section)?;
     let breaks = HeadBreaks {
@@ -79,6 +79,13 @@ pub(crate) fn head_rule(
         is_second_main,
     };
     Ok(breaks.lowest())
+}
+
+/// Whether these tables have a MAIN.
+fn has_main(tables: &Tables) -> bool
+    ensures { result ≡ tables.now.has_main }
+{
+    tables.has_main
 }
 
 /// Whether it is MAIN.

@@ -92,16 +92,16 @@ pub(crate) fn item_rule(
         (before.new ≡ with_item before.old (headed_item heading (view.item_at_view one.now))) }
 {
     let item = &one.item;
-    let is_ownerless = names_new_without(&whole.owners, &before.kinds, item);
-    let is_memberless = names_new_without(&whole.members, &before.kinds, item);
-    let lacks_section = lacks_section(whole, &before.classes, item);
-    let has_wrong_priority = has_wrong_priority(alloc, whole, &before.priority, item)?;
+    let is_ownerless = names_ownerless_set(whole, before, item);
+    let is_memberless = names_memberless_set(whole, before, item);
+    let lacks_section = names_without_section(whole, before, item);
+    let has_wrong_priority = orders_wrong_priority(alloc, whole, before, item)?;
     before.add_item(alloc, heading, one)?;
     let breaks = ItemBreaks {
         declares_twice: says_twice(before),
         names_wrong_class: names_wrong_class(whole, heading, item),
-        has_wrong_owner: is_ownerless | before.owners.has_repeat(),
-        has_wrong_member: is_memberless | before.members.has_repeat() | joins_system(item),
+        has_wrong_owner: is_ownerless | repeats_owner(before),
+        has_wrong_member: is_memberless | repeats_member(before) | joins_system(item),
         has_wrong_keys: has_wrong_keys(whole, item),
         lacks_section,
         has_wrong_priority,
@@ -162,6 +162,36 @@ fn any_no_event(whole: &Tables, names: &[Name]) -> bool
 }
 
 // ---- C4 and C5
+
+/// Whether an item is the first to name a set that has no owner.
+fn names_ownerless_set(whole: &Tables, before: &Tables, item: &Item) -> bool
+    ensures { result ≡ list_any (λ s. not (names_set (fact_of before.now.kinds s))
+        && not (is_among s (names_of whole.now.owners))) (declared.sets_in (view.item_view item.now)) }
+{
+    names_new_without(&whole.owners, &before.kinds, item)
+}
+
+/// Whether an item is the first to name a set that has no class of members.
+fn names_memberless_set(whole: &Tables, before: &Tables, item: &Item) -> bool
+    ensures { result ≡ list_any (λ s. not (names_set (fact_of before.now.kinds s))
+        && not (is_among s (names_of whole.now.members))) (declared.sets_in (view.item_view item.now)) }
+{
+    names_new_without(&whole.members, &before.kinds, item)
+}
+
+/// Whether these tables give a set two owners.
+fn repeats_owner(tables: &Tables) -> bool
+    ensures { result ≡ repeats [] (names_of tables.now.owners) }
+{
+    tables.owners.has_repeat()
+}
+
+/// Whether these tables give a set two classes of members.
+fn repeats_member(tables: &Tables) -> bool
+    ensures { result ≡ repeats [] (names_of tables.now.members) }
+{
+    tables.members.has_repeat()
+}
 
 /// Whether an item is the first to name a set of which there is no fact.
 #[tactic(auto, using(crate::proofs::Tests::any_append, crate::proofs::Tests::any_end, crate::proofs::Tests::any_parts))]
@@ -335,6 +365,13 @@ fn is_wrong_key(whole: &Tables, class: &[u8], key: &Key) -> bool
 
 // ---- C8
 
+/// Whether an item is the first to name an event class without a section.
+fn names_without_section(whole: &Tables, before: &Tables, item: &Item) -> bool
+    ensures { result ≡ rules.lacks_section whole.now before.now (view.item_view item.now) }
+{
+    lacks_section(whole, &before.classes, item)
+}
+
 /// Whether an item names an event class without a section that is not among `classes`, those named
 /// before.
 fn lacks_section(whole: &Tables, classes: &NameList, item: &Item) -> bool
@@ -395,6 +432,20 @@ fn is_new_without_section(whole: &Tables, classes: &NameList, name: &[u8]) -> bo
 }
 
 // ---- C12
+
+/// Whether an item is a PRIORITY behind one of `before`, names a class twice or names what is no
+/// event class.
+fn orders_wrong_priority(
+    alloc: Global,
+    whole: &Tables,
+    before: &Tables,
+    item: &Item,
+) -> Result<bool, AllocError>
+    ensures { IfOk result (λ r. r ≡ rules.has_wrong_priority whole.now before.now.priority
+        (declared.priority_in (view.item_view item.now))) }
+{
+    has_wrong_priority(alloc, whole, &before.priority, item)
+}
 
 /// Whether an item is a PRIORITY behind others, names a class twice or names what is no event
 /// class.

@@ -1,10 +1,10 @@
-use Rattle.std.proofs.Common.{refl}
+use Rattle.std.proofs.Common.{refl, sym, ap, ◌∙◌}
 use Rattle.std.specs.Prelude.{map}
 use Rattle.std.proofs.lemmas.Result.{err_from_is_err_and}
 use Rattle.ss_preamble.specs.View.{decls_view}
 use Rattle.ss_routines.specs.View.{section_view}
 use Rattle.ss_check.specs.Increments.{with_items}
-use Rattle.ss_check.specs.Declarations.{headed_items}
+use Rattle.ss_check.specs.Declarations.{Declared, headed_items}
 use Rattle.ss_check.proofs.Statements.{AreTables, fault_end, fault_items, fault_sections, sound_all}
 use Rattle.ss_check.proofs.rules.breach.check_statements.Goals as goal
 
@@ -49,7 +49,7 @@ returns-then-not-whole-clause-err c =
     rw (c.last_end-line.ensures, c.unwrap_or.ensures)
     (fault_end p ss c.args.whole.now c.args.before.now c.check_items.new.before t
     (rw c.deref.ensures.value at c.in_ok-check_items.ensures.sound) c.in_ok-check_sections.ensures.sound
-    c.if-not-whole.true)
+    (sym (ap (λ (d : Declared). d.has_main) c.whole.view_is) ∙ c.if-not-whole.true))
 
 pub returns-clause-sound : goal.returns-clause-sound
 returns-clause-sound c =
@@ -63,4 +63,4 @@ returns-clause-sound c =
     } in
     sound_all p ss c.args.whole.now c.args.before.now c.check_items.new.before t
     (rw c.deref.ensures.value at c.in_ok-check_items.ensures.sound) c.in_ok-check_sections.ensures.sound
-    c.if-not-whole.false
+    (sym (ap (λ (d : Declared). d.has_main) c.whole.view_is) ∙ c.if-not-whole.false)

@@ -1,4 +1,4 @@
-use Rattle.std.proofs.Common.{◌&&◌, Bool, ap, ◌∙◌}
+use Rattle.std.proofs.Common.{◌&&◌, refl, ◌∙◌}
 use Rattle.ss_routines.specs.View.{section_view}
 use Rattle.ss_check.proofs.ItemRules.{head_rule_is}
 use Rattle.ss_check.proofs.rules.heads.head_rule.Goals as goal
@@ -9,6 +9,7 @@ returns-clause-rule c =
     ∙ head_rule_is c.args.whole.now c.args.before.now c.add_head.new.self
     (section_view c.args.section.now) c.says_twice.result
     c.in_ok-repeats_parameter.repeats_parameter c.declares_parameter.result c.has_too_many.result c.lacks_class.result
-    (c.is_main.result && c.args.before.now.has_main) c.requires c.in_ok-add_head.ensures c.says_twice.ensures
+    (c.is_main.result && c.has_main.result) c.requires c.in_ok-add_head.ensures c.says_twice.ensures
     c.in_ok-repeats_parameter.ensures c.declares_parameter.ensures c.has_too_many.ensures
-    c.lacks_class.ensures (ap (λ (b : Bool). b && c.args.before.now.has_main) c.is_main.ensures)
+    c.lacks_class.ensures
+    (rw (c.is_main.ensures, c.has_main.ensures) refl)
