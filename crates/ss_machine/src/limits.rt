@@ -6,7 +6,5 @@ pub const LAST_POSITION: u64 = (1 << 63) - 1;
 pub const MOST_BELOW: usize = 199;
 /// One SKIP appends at most so many lines; more are F13.
 pub const MOST_SKIPPED_LINES: i64 = 1000;
-/// A run gives at most so many references, and so has at most so many event notices; a further one is F20.
-pub const MOST_REFERENCES: usize = 1_000_000;
 /// A step notes at most so many changes, and two for each target of its statement.
 pub const MOST_STEP_CHANGES: usize = 64;

@@ -27,7 +27,6 @@ use crate::entry::Entry;
 use crate::executor::Executor;
 use crate::external::has_external;
 use crate::frame::FrameBox;
-use crate::limits::MOST_REFERENCES;
 use crate::questions::{arguments_asked, time_asked};
 use ss_events::Slot;
 use ss_links::SetBoard;
@@ -35,6 +34,7 @@ use ss_program::{
     ClassKind, EventClass, Expr, Notice, Program, Schedule, Target, Timing, Variable,
 };
 use ss_values::value;
+use ss_words::limits::MOST_REFERENCES;
 use ss_words::{RunFault, StepFault};
 use std::alloc::AllocError;
 

@@ -7,7 +7,7 @@ use Rattle.std.proofs.lemmas.Option.{slice_get_within}
 use Rattle.ss_store.specs.Tables.{Tables}
 use Rattle.ss_store.specs.Store.{Entity, Store, exists, number_of, made_of, of_class}
 use Rattle.ss_store.specs.WellStore.{IsWellStore}
-use Rattle.ss_machine.specs.declared.limits.TheConstants.{MOST_REFERENCES}
+use Rattle.ss_words.specs.declared.limits.TheConstants.{MOST_REFERENCES}
 use Rattle.ss_machine.specs.Held.{Held}
 use Rattle.ss_machine.specs.Step.{entity_named}
 use Rattle.ss_machine.proofs.Stores.{named_positive}
