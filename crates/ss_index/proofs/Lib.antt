@@ -1,0 +1,3 @@
+pub mod FilingLaws
+pub mod ForkLaws
+pub mod OrderLaws

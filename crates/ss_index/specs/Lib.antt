@@ -1,0 +1,4 @@
+pub mod Filing
+pub mod Trees
+pub mod Orders
+pub mod Laws
