@@ -1,5 +1,5 @@
 ghost use Rattle.std.specs.Prelude.{◌≡◌, ◌+◌, ◌^◌, ◌<◌, ◌≤◌, ◌∷◌, [], length, sum, take, IsOk, OnOk, MatchOption};
-ghost use Rattle.std.specs.Prelude.{MatchBool};
+ghost use Rattle.std.specs.Prelude.{◌↔◌, IsTrue, MatchBool};
 
 use crate::sizes::Sizes;
 use std::alloc::{AllocError, Global};
@@ -61,6 +61,7 @@ impl<C> Journal<C> {
     /// Room grows by doubling, so that over many steps a step takes constant time for each of its
     /// changes. `AllocError` comes only where room was missing and a growth was refused; the room
     /// of the other kind may then have grown.
+    #[inline]
     pub fn reserve(&mut self, n: usize) -> Result<(), AllocError>
         // The steps stay as they are, whatever the result, and no room is less.
         ensures steps { self.new.steps ≡ self.old.steps }
@@ -73,11 +74,38 @@ impl<C> Journal<C> {
         ensures closes { OnOk result (0 < self.new.closes) }
         ensures had_room { n ≤ self.old.notes → 0 < self.old.closes → IsOk result }
     {
+        if self.has_room(n) {
+            return Ok(());
+        }
+        self.grow(n)
+    }
+
+    /// Whether there is room for `n` notes and one close.
+    #[inline]
+    fn has_room(&self, n: usize) -> bool
+        ensures { IsTrue result ↔ ((n ≤ self.now.notes) × (0 < self.now.closes)) }
+    {
+        let len = self.changes.len();
+        n <= self.changes.capacity() - len && self.sizes.has_room(len + n)
+    }
+
+    /// The part of `reserve` that takes memory.
+    #[cold]
+    #[inline(never)]
+    fn grow(&mut self, n: usize) -> Result<(), AllocError>
+        ensures steps { self.new.steps ≡ self.old.steps }
+        ensures current { self.new.current ≡ self.old.current }
+        ensures notes_stay { self.old.notes ≤ self.new.notes }
+        ensures closes_stay { self.old.closes ≤ self.new.closes }
+        ensures notes { OnOk result (n ≤ self.new.notes) }
+        ensures closes { OnOk result (0 < self.new.closes) }
+    {
         self.changes.try_reserve(n)?;
         self.sizes.reserve(self.changes.len() + n)
     }
 
     /// Notes a change as the newest of the open step. It uses up the room of one note.
+    #[inline]
     pub fn note(&mut self, change: C)
         requires { 0 < self.old.notes }
         ensures steps { self.new.steps ≡ self.old.steps }
@@ -91,6 +119,7 @@ impl<C> Journal<C> {
 
     /// Makes the open step the newest closed one, and opens an empty step. It uses up the room of
     /// one close.
+    #[inline]
     pub fn close(&mut self)
         requires { 0 < self.old.closes }
         ensures steps { self.new.steps ≡ self.old.current ∷ self.old.steps }
@@ -104,6 +133,7 @@ impl<C> Journal<C> {
 
     /// Takes the newest change off the open step; `None` where that step is empty. The room of its
     /// note is free again.
+    #[inline]
     pub fn pop_open(&mut self) -> Option<C>
         ensures steps { self.new.steps ≡ self.old.steps }
         ensures current { MatchOption result
@@ -124,6 +154,7 @@ impl<C> Journal<C> {
 
     /// Makes the newest closed step the open one again; false where no step is closed, and then
     /// nothing changes. The room of its close is free again.
+    #[inline]
     pub fn reopen_last(&mut self) -> bool
         requires { self.old.current ≡ [] }
         ensures steps { MatchBool result

@@ -1,5 +1,5 @@
 ghost use Rattle.std.specs.Prelude.{◌≡◌, ◌+◌, ◌-◌, ◌^◌, ◌<◌, ◌≤◌, ◌∷◌, ◌++◌, [], length, sum, take, IsOk, OnOk};
-ghost use Rattle.std.specs.Prelude.{MatchOption};
+ghost use Rattle.std.specs.Prelude.{◌↔◌, IsTrue, MatchOption};
 
 use std::alloc::{AllocError, Global};
 use std::collections::VecDeque;
@@ -46,6 +46,15 @@ impl Sizes {
         }
     }
 
+    /// Whether there is room for one size more, of steps that have at most so many changes
+    /// together.
+    #[inline]
+    pub fn has_room(&self, changes: usize) -> bool
+        ensures { IsTrue result ↔ ((0 < self.now.closes) × (changes ≤ self.now.most)) }
+    {
+        self.bytes.len() < self.bytes.capacity() && changes / LONG <= self.longs.capacity()
+    }
+
     /// Makes room for one size more, of steps that have at most so many changes together.
     pub fn reserve(&mut self, changes: usize) -> Result<(), AllocError>
         ensures sizes { self.new.sizes ≡ self.old.sizes }
@@ -62,6 +71,7 @@ impl Sizes {
     }
 
     /// Puts the size of the newest step in.
+    #[inline]
     pub fn push(&mut self, size: usize)
         requires closes { 0 < self.old.closes }
         requires most { size + sum self.old.sizes ≤ self.old.most }
@@ -78,6 +88,7 @@ impl Sizes {
     }
 
     /// Takes the size of the newest step out.
+    #[inline]
     pub fn pop(&mut self) -> Option<usize>
         requires { sum self.old.sizes < 2 ^ 64 }
         ensures sizes { MatchOption result
