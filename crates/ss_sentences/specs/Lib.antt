@@ -1,0 +1,3 @@
+pub mod Wording
+pub mod Filled
+pub mod Reading
