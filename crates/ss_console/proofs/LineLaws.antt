@@ -1,0 +1,136 @@
+use Rattle.std.proofs.Common.{◌≡◌, ℕ, ◌<◌, ◌≤◌, Bool, true, false, cond, nat_le, ◌==◌, not, List, [], ◌∷◌, ◌++◌, length, refl, ◌∙◌, sym, ap, append_assoc, append-nil, arith, length-append, Option, Some, None}
+use Rattle.std.specs.Prelude.{if◌then◌else◌, fold, slice_index, slice_set}
+use Rattle.std.specs.Io.KnownBytes.{Consumes, IsAtEnd as IsAtEndOfBytes}
+use Rattle.std.proofs.lemmas.List.Sums.{fold_push}
+use Rattle.std.proofs.lemmas.Bool.Decides.{nat_tests}
+use Rattle.std.proofs.Math.ListN.{length-set}
+use Rattle.ss_console.specs.Lines.{lines, is_stop, keep, kept, known_lines, Gives, IsAtEnd}
+use Rattle.ss_console.specs.Faults.{lines_read}
+use Rattle.ss_console.specs.declared.lines.TheConstants.{LINE_LIMIT, LINE_FEED}
+use Rattle.ss_console.proofs.KnownBytes.{consumes_none, consumes_then}
+
+-- ---- what is kept of a line
+
+length-keep : (line : List ℕ) (b : ℕ) → length line ≤ length (keep line b)
+length-keep line b =
+    elim (nat_le (length line) LINE_LIMIT)
+    as (λ t. length line
+    ≤ length (cond t (line ++ b ∷ [])
+    (cond (is_stop (slice_index line LINE_LIMIT)) (slice_set line LINE_LIMIT b) line))) [
+      | true ↦ rw length-append (omega arith)
+      | false ↦ elim (is_stop (slice_index line LINE_LIMIT))
+          as (λ t. length line ≤ length (cond t (slice_set line LINE_LIMIT b) line)) [
+            | true ↦ rw length-set (omega arith)
+            | false ↦ omega arith
+          ]
+    ]
+
+length-fold : (bs line : List ℕ) → length line ≤ length (fold keep line bs)
+length-fold [] line = omega arith
+length-fold (b ∷ bs) line = omega (arith, length-keep line b, length-fold bs (keep line b))
+
+kept-cons : (b : ℕ) (bs : List ℕ) → 0 < length (kept (b ∷ bs))
+kept-cons b bs = let h : 1 ≤ length (kept (b ∷ bs)) = length-fold bs (b ∷ []) in omega arith
+
+-- ---- the lines of a text
+
+-- whether a line feed stands in some bytes
+abbrev pub has_feed : List ℕ → Bool
+has_feed [] = false
+has_feed (b ∷ bs) = if b == LINE_FEED then true else has_feed bs
+
+abbrev one_line : List ℕ → Type 0
+one_line line = has_feed line ≡ false
+
+any_if : (t more : Bool) → cond t true more ≡ false → (t ≡ false) × (more ≡ false)
+any_if true more h = absurd (cc)
+any_if false more h = (refl, h)
+
+any_cons : (b : ℕ) (bs : List ℕ) → one_line (b ∷ bs) → ((b == LINE_FEED) ≡ false) × one_line bs
+any_cons b bs h = any_if (b == LINE_FEED) (has_feed bs) h
+
+any_push : (line : List ℕ) (b : ℕ) → one_line line → (b == LINE_FEED) ≡ false → one_line (line ++ b ∷ [])
+any_push [] b h e = rw e refl
+any_push (c ∷ line) b h e = let p = any_cons c line h in rw p.0 (any_push line b p.1 e)
+
+lines_behind : (line rest : List ℕ) → one_line line → lines (line ++ LINE_FEED ∷ rest) ≡ line ∷ lines rest
+unfolding lines
+lines_behind [] rest h = refl
+lines_behind (b ∷ line) rest h =
+    let p = any_cons b line h in
+    rw (p.0, lines_behind line rest p.1) refl
+
+last_line : (b : ℕ) (line : List ℕ) → one_line (b ∷ line) → lines (b ∷ line) ≡ (b ∷ line) ∷ []
+unfolding lines
+last_line b [] h = let p = any_cons b [] h in rw p.0 refl
+last_line b (c ∷ line) h =
+    let p = any_cons b (c ∷ line) h in
+    rw (p.0, last_line c line p.1) refl
+
+lines_none : lines [] ≡ []
+unfolding lines
+lines_none = refl
+
+-- ---- a reading
+
+-- within a line, of which this is kept
+pub record IsWithin (old now : Option (List ℕ)) (line : List ℕ) : Type 0 where
+  pub done : List ℕ
+  pub consumed : Consumes old now done
+  pub one : has_feed done ≡ false
+  pub kept_so_far : line ≡ kept done
+
+pub within_none : (a : Option (List ℕ)) → IsWithin a a []
+within_none a = record { done = []; consumed = consumes_none a; one = refl; kept_so_far = refl }
+
+pub within_more : (old mid now : Option (List ℕ)) (line : List ℕ) (b : ℕ) → IsWithin old mid line →
+    Consumes mid now (b ∷ []) → (b == LINE_FEED) ≡ false → IsWithin old now (keep line b)
+within_more old mid now line b w c e = record {
+  done = w.done ++ b ∷ [];
+  consumed = consumes_then old mid now w.done (b ∷ []) w.consumed c;
+  one = any_push w.done b w.one e;
+  kept_so_far = rw w.kept_so_far (sym (fold_push keep [] w.done b));
+}
+
+-- a line feed came
+pub line_given : (old mid new : Option (List ℕ)) (line : List ℕ) → IsWithin old mid line →
+    Consumes mid new (LINE_FEED ∷ []) → Gives (known_lines old) (known_lines new) (line ∷ [])
+line_given old mid new line w c =
+    given old new w.done line (consumes_then old mid new w.done (LINE_FEED ∷ []) w.consumed c) w.one w.kept_so_far
+  where
+    given : (old new : Option (List ℕ)) (done line : List ℕ) → Consumes old new (done ++ LINE_FEED ∷ []) →
+        has_feed done ≡ false → line ≡ kept done → Gives (known_lines old) (known_lines new) (line ∷ [])
+    given None new done line c one e = tt
+    given (Some xs) None done line c one e = absurd c
+    given (Some xs) (Some ys) done line c one e =
+        let split : xs ≡ done ++ LINE_FEED ∷ ys = c ∙ append_assoc done (LINE_FEED ∷ []) ys in
+        rw (split, lines_behind done ys one, e) refl
+
+-- the end came, behind a line or behind the last line feed
+pub end_given : (old mid new : Option (List ℕ)) (line : List ℕ) → IsWithin old mid line →
+    Consumes mid new [] → IsAtEndOfBytes new → (n : ℕ) → n ≡ length line → (empty : Bool) → empty ≡ (n == 0) →
+    Gives (known_lines old) (known_lines new) (lines_read (not empty) line) × IsAtEnd (known_lines new)
+unfolding lines
+end_given old mid new line w c end n count empty test =
+    given old new w.done line (consumes_then old mid new w.done [] w.consumed c) end w.one w.kept_so_far n count empty test
+  where
+    given : (old new : Option (List ℕ)) (done line : List ℕ) → Consumes old new (done ++ []) → IsAtEndOfBytes new →
+        has_feed done ≡ false → line ≡ kept done → (n : ℕ) → n ≡ length line → (empty : Bool) → empty ≡ (n == 0) →
+        Gives (known_lines old) (known_lines new) (lines_read (not empty) line) × IsAtEnd (known_lines new)
+    given None None done line c end one e n count empty test = (tt, tt)
+    given None (Some ys) done line c end one e n count empty test = (tt, rw end refl)
+    given (Some xs) None done line c end one e n count empty test = absurd c
+    given (Some xs) (Some ys) [] line c end one e n count true test =
+        let none : xs ≡ [] = c ∙ end in
+        (rw (none, end) refl, rw end refl)
+    given (Some xs) (Some ys) [] line c end one e n count false test =
+        let none : length line ≡ 0 = ap length e in
+        absurd (grind (arith, nat_tests))
+    given (Some xs) (Some ys) (b ∷ bs) line c end one e n count true test =
+        let some : 0 < length (kept (b ∷ bs)) = kept-cons b bs in
+        let same : length line ≡ length (kept (b ∷ bs)) = ap length e in
+        absurd (grind (arith, nat_tests))
+    given (Some xs) (Some ys) (b ∷ bs) line c end one e n count false test =
+        let all : xs ≡ b ∷ bs =
+        c ∙ ap (λ v. ((b ∷ bs) ++ []) ++ v) end ∙ append-nil ((b ∷ bs) ++ []) ∙ append-nil (b ∷ bs) in
+        (rw (all, end, last_line b bs one, e) refl, rw end refl)

@@ -1,0 +1,133 @@
+-- The turns of a dialogue, the events that they make, and how a dialogue ends.
+use Rattle.std.specs.Prelude.{ℕ, ◌≡◌, ◌-◌, ◌^◌, ◌≤◌, Bool, true, false, List, [], ◌∷◌, ◌++◌, length, take, map, codes, decimal}
+use Rattle.std.specs.Prelude.{if◌then◌else◌, Option}
+use Rattle.std.specs.List.{list_any}
+use Rattle.ss_console.specs.Event.{Event, read, written, Adds}
+use Rattle.ss_console.specs.Lines.{Gives, IsAtEnd}
+use Rattle.ss_console.specs.Meaning.{Meaning}
+
+-- a line that was read, and whether memory for its answer was refused; then the state in which that left the answerer
+pub data Turn (S : Type 0) : Type 0 where
+  answered : List ℕ → Turn S
+  refused : List ℕ → S → Turn S
+
+abbrev pub line_of : {S : Type 0} → Turn S → List ℕ
+line_of (answered line) = line
+line_of (refused line after) = line
+
+-- what is written behind the line
+abbrev pub answer_of : (m : Meaning) → m.State → Turn m.State → List ℕ
+answer_of m s (answered line) = m.said s line
+answer_of m s (refused line after) = m.refusal after
+
+abbrev pub state_after : (m : Meaning) → m.State → Turn m.State → m.State
+state_after m s (answered line) = m.next s line
+state_after m s (refused line after) = after
+
+-- whether the dialogue ends with it
+abbrev pub is_last : (m : Meaning) → Turn m.State → Bool
+is_last m (answered line) = m.ends line
+is_last m (refused line after) = false
+
+-- the answerer may be left so; a line that ends the dialogue is never refused
+abbrev pub IsAllowed : (m : Meaning) → m.State → Turn m.State → Type 0
+IsAllowed m s (answered line) = Unit {0}
+IsAllowed m s (refused line after) = m.MayBeLeft s line after × (m.ends line ≡ false)
+
+-- what is written before a line is read: at a terminal the position in parentheses
+abbrev pub prompt : Bool → ℕ → List ℕ
+prompt terminal position = if terminal then codes "(" ++ decimal position ++ codes ") " else []
+
+-- the events of a turn: the prompt, the line, the answer
+abbrev pub turn_events : (m : Meaning) → Bool → m.State → Turn m.State → List Event
+turn_events m terminal s turn =
+    written (prompt terminal (m.position s)) ++ read (line_of turn) ∷ written (answer_of m s turn)
+
+-- some turns, one after the other
+unfoldable pub events : (m : Meaning) → Bool → m.State → List (Turn m.State) → List Event
+events m terminal s [] = []
+events m terminal s (turn ∷ turns) = turn_events m terminal s turn ++ events m terminal (state_after m s turn) turns
+
+unfoldable pub state_after_all : (m : Meaning) → m.State → List (Turn m.State) → m.State
+state_after_all m s [] = s
+state_after_all m s (turn ∷ turns) = state_after_all m (state_after m s turn) turns
+
+unfoldable pub AreAllowed : (m : Meaning) → m.State → List (Turn m.State) → Type 0
+AreAllowed m s [] = Unit {0}
+AreAllowed m s (turn ∷ turns) = IsAllowed m s turn × AreAllowed m (state_after m s turn) turns
+
+-- whether one of them ends the dialogue
+abbrev pub has_last : (m : Meaning) → List (Turn m.State) → Bool
+has_last m turns = list_any (is_last m) turns
+
+-- the turns lead from state to state, over the lines that were read, in order
+pub record Lead (m : Meaning) (from to : m.State) (before after : Option (List (List ℕ)))
+    (turns : List (Turn m.State)) : Type 0 where
+  pub allowed : AreAllowed m from turns
+  pub state : to ≡ state_after_all m from turns
+  pub lines : Gives before after (map line_of turns)
+
+-- the input ended: all turns, and the prompt behind them
+pub record EndsByInput (m : Meaning) (terminal : Bool) (from to : m.State) (before after : Option (List (List ℕ)))
+    (old new : Option (List Event)) : Type 0 where
+  pub turns : List (Turn m.State)
+  pub led : Lead m from to before after turns
+  pub goes_on : has_last m turns ≡ false
+  pub input : IsAtEnd after
+  pub told : Adds old new (events m terminal from turns ++ written (prompt terminal (m.position to)))
+
+-- a line ended it: all turns, the last with that line
+pub record EndsByLine (m : Meaning) (terminal : Bool) (from to : m.State) (before after : Option (List (List ℕ)))
+    (old new : Option (List Event)) : Type 0 where
+  pub turns : List (Turn m.State)
+  pub line : List ℕ
+  pub led : Lead m from to before after (turns ++ answered line ∷ [])
+  pub goes_on : has_last m turns ≡ false
+  pub ends : m.ends line ≡ true
+  pub told : Adds old new (events m terminal from (turns ++ answered line ∷ []))
+
+-- a reading failed: all turns, and the prompt behind them; nothing is said of the lines that are left
+pub record EndsByRead (m : Meaning) (terminal : Bool) (from to : m.State) (before : Option (List (List ℕ)))
+    (old new : Option (List Event)) : Type 0 where
+  pub turns : List (Turn m.State)
+  pub left : Option (List (List ℕ))
+  pub led : Lead m from to before left turns
+  pub goes_on : has_last m turns ≡ false
+  pub told : Adds old new (events m terminal from turns ++ written (prompt terminal (m.position to)))
+
+-- a put of the prompt failed: all turns, and a prefix of the prompt
+pub record EndsInPrompt (m : Meaning) (terminal : Bool) (from to : m.State) (before after : Option (List (List ℕ)))
+    (old new : Option (List Event)) : Type 0 where
+  pub turns : List (Turn m.State)
+  pub count : ℕ
+  pub led : Lead m from to before after turns
+  pub goes_on : has_last m turns ≡ false
+  pub within : count ≤ length (prompt terminal (m.position to))
+  pub told :
+      Adds old new (events m terminal from turns ++ written (take count (prompt terminal (m.position to))))
+
+-- a put of an answer failed: all turns but the last, its prompt and its line, and a prefix of its answer
+pub record EndsInAnswer (m : Meaning) (terminal : Bool) (from to : m.State) (before after : Option (List (List ℕ)))
+    (old new : Option (List Event)) : Type 0 where
+  pub turns : List (Turn m.State)
+  pub last : Turn m.State
+  pub state : m.State
+  pub count : ℕ
+  pub led : Lead m from to before after (turns ++ last ∷ [])
+  pub goes_on : has_last m turns ≡ false
+  pub reached : state ≡ state_after_all m from turns
+  pub within : count ≤ length (answer_of m state last)
+  pub told :
+      Adds old new
+      (events m terminal from turns
+      ++ (written (prompt terminal (m.position state)) ++ read (line_of last)
+      ∷ written (take count (answer_of m state last))))
+
+-- 2^64 - 1 lines were answered
+pub record EndsByCount (m : Meaning) (terminal : Bool) (from to : m.State) (before after : Option (List (List ℕ)))
+    (old new : Option (List Event)) : Type 0 where
+  pub turns : List (Turn m.State)
+  pub led : Lead m from to before after turns
+  pub goes_on : has_last m turns ≡ false
+  pub many : length turns ≡ 2 ^ 64 - 1
+  pub told : Adds old new (events m terminal from turns)

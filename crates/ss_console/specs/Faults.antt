@@ -1,0 +1,41 @@
+-- What the calls of a console did, by what they returned.
+use Rattle.std.specs.Prelude.{ℕ, ◌+◌, ◌==◌, Bool, true, false, List, [], ◌∷◌, if◌then◌else◌, Result, Ok, Err}
+use Rattle.ss_console.specs.Event.{Event, read}
+
+-- how many readings and how many puts failed
+pub record Faults : Type 0 where
+  pub reads : ℕ
+  pub puts : ℕ
+
+abbrev pub faults_of : ℕ → ℕ → Faults
+faults_of reads puts = record { reads = reads; puts = puts }
+
+abbrev pub one_more_read : Faults → Faults
+one_more_read f = record { reads = f.reads + 1; puts = f.puts }
+
+abbrev pub one_more_put : Faults → Faults
+one_more_put f = record { reads = f.reads; puts = f.puts + 1 }
+
+-- the line that was read, if one was
+abbrev pub lines_read : Bool → List ℕ → List (List ℕ)
+lines_read true line = line ∷ []
+lines_read false line = []
+
+-- the event of a reading
+abbrev pub reading : {E : Type 0} → Result Bool E → List ℕ → List Event
+reading (Ok true) line = read line ∷ []
+reading (Ok false) line = []
+reading (Err e) line = []
+
+abbrev pub faults_after_read : {E : Type 0} → Result Bool E → Faults → Faults
+faults_after_read (Ok some) f = f
+faults_after_read (Err e) f = one_more_read f
+
+-- how many bytes a put took
+abbrev pub count_taken : {E : Type 0} → Result ℕ E → ℕ
+count_taken (Ok n) = n
+count_taken (Err e) = 0
+
+abbrev pub faults_after_put : {E : Type 0} → Result ℕ E → Faults → Faults
+faults_after_put (Ok n) f = if n == 0 then one_more_put f else f
+faults_after_put (Err e) f = one_more_put f

@@ -1,0 +1,70 @@
+-- Laws of dialogues, in other words than those of their definition.
+use Rattle.std.specs.Prelude.{ℕ, ◌≡◌, ◌+◌, ◌<◌, ◌≤◌, Bool, true, false, not, List, [], ◌∷◌, ◌++◌, length, if◌then◌else◌, Option, Some}
+use Rattle.std.specs.List.{list_any, list_all}
+use Rattle.ss_console.specs.Event.{Event, read, wrote, written}
+use Rattle.ss_console.specs.Lines.{is_stop, kept}
+use Rattle.ss_console.specs.Meaning.{Meaning}
+use Rattle.ss_console.specs.Dialogue.{Turn, answered, refused, prompt, events, state_after_all, EndsByInput, EndsByLine}
+use Rattle.ss_console.specs.declared.lines.TheConstants.{LINE_LIMIT}
+
+-- ---- the batch
+
+-- the answers to the lines of a batch, each in the state behind the lines before; behind a line that ends it none counts
+unfoldable pub answers : (m : Meaning) → m.State → List (List ℕ) → List ℕ
+answers m s [] = []
+answers m s (line ∷ lines) = m.said s line ++ (if m.ends line then [] else answers m (m.next s line) lines)
+
+-- the bytes that were written
+unfoldable pub bytes_of : List Event → List ℕ
+bytes_of [] = []
+bytes_of (read line ∷ events) = bytes_of events
+bytes_of (wrote b ∷ events) = b ∷ bytes_of events
+
+abbrev pub is_answered : {S : Type 0} → Turn S → Bool
+is_answered (answered line) = true
+is_answered (refused line after) = false
+
+-- what a log gained is the answers to all lines that were there
+abbrev pub GainsAnswers : (m : Meaning) → m.State → Option (List (List ℕ)) → Option (List Event) → Option (List Event) →
+    Type 0
+GainsAnswers m s before old new =
+    (lines : List (List ℕ)) (first last : List Event) → before ≡ Some lines → old ≡ Some first →
+    new ≡ Some last → bytes_of last ≡ bytes_of first ++ answers m s lines
+
+-- away from a terminal and with memory for each answer, a dialogue up to the end of input writes what the batch writes
+abbrev pub BatchByInput : Meaning → Type 0
+BatchByInput m =
+    (from to : m.State) (before after : Option (List (List ℕ))) (old new : Option (List Event))
+    (e : EndsByInput m false from to before after old new) → list_all is_answered e.turns ≡ true →
+    GainsAnswers m from before old new
+
+-- and so does one up to a line that ends it
+abbrev pub BatchByLine : Meaning → Type 0
+BatchByLine m =
+    (from to : m.State) (before after : Option (List (List ℕ))) (old new : Option (List Event))
+    (e : EndsByLine m false from to before after old new) → list_all is_answered e.turns ≡ true →
+    GainsAnswers m from before old new
+
+-- ---- answers come before the next line
+
+-- wherever a line is read, whole turns stand before it, and the prompt
+abbrev pub AnswersComeFirst : Meaning → Type 0
+AnswersComeFirst m =
+    (terminal : Bool) (s : m.State) (turns : List (Turn m.State)) (before after : List Event) (line : List ℕ) →
+    events m terminal s turns ≡ before ++ read line ∷ after →
+    (done left : List (Turn m.State)) × (turns ≡ done ++ left)
+    × (before ≡ events m terminal s done ++ written (prompt terminal (m.position (state_after_all m s done))))
+
+-- ---- what is kept of a line
+
+-- a line within the limit is kept whole
+abbrev pub ShortLinesAreKept : Type 0
+ShortLinesAreKept = (line : List ℕ) → length line ≤ LINE_LIMIT → kept line ≡ line
+
+-- of a longer one a byte more than the limit is kept
+abbrev pub LongLinesAreCut : Type 0
+LongLinesAreCut = (line : List ℕ) → LINE_LIMIT < length line → length (kept line) ≡ LINE_LIMIT + 1
+
+-- what is kept has a word where the line has one
+abbrev pub WordsAreKept : Type 0
+WordsAreKept = (line : List ℕ) → list_any (λ b. not (is_stop b)) (kept line) ≡ list_any (λ b. not (is_stop b)) line
