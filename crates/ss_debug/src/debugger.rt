@@ -1,4 +1,6 @@
 //! The debugger, and what each command does.
+mod single;
+
 ghost use Rattle.std.specs.Prelude.{◌≡◌, ◌++◌, [], codes, true, OnOk, OnErr, IfOk, IsOk};
 ghost use Rattle.ss_machine.specs.Moment.{position};
 ghost use Rattle.ss_debug.specs.Move.{forward, back, search_back, shape_of, is_on_break, starts_event};

@@ -26,6 +26,7 @@ pub use laws::{
     a_movement_back_has_one_end, a_movement_has_one_end, every_movement_ends_within_its_bound,
     forget_leaves_the_newest_steps,
 };
+pub use limits::GREATEST_BOUND;
 pub use name::Name;
 pub use pieces::split_line;
 pub use read::command;
