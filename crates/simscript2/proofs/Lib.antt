@@ -1,3 +1,1 @@
-pub mod Kept
-pub mod Limits
-pub mod Words
+pub mod FewWords

@@ -4,24 +4,22 @@
 
 ghost use Rattle.std.specs.Prelude.{◌≡◌};
 ghost use Rattle.ss_session.specs.Exit.{status_of};
-ghost use Rattle.simscript2.specs.Stops.{stop_status};
+ghost use Rattle.ss_host.specs.Stops.{stop_status};
 
-mod files;
 mod paths;
-mod stop;
-mod stream;
 
-use files::{read_model, read_or};
-use paths::{read_arguments, read_paths};
+use paths::read_paths;
+use ss_host::{Stop, Stream, read_arguments, read_model, read_or, tell};
 use ss_session::{End, SessionFault, exit_status, session};
 use std::io;
 use std::process::ExitCode;
 use std::rt::Files;
-use stop::{Stop, tell};
-use stream::Stream;
 
 /// The commands where no file of commands is named.
 const RUN: &[u8] = b"RUN\n";
+
+/// The words that the program takes.
+const USAGE: &str = "simscript2 [MODEL [DATA [COMMANDS]]]";
 
 /// Reads the words, then MODEL, DATA and COMMANDS in that order, and runs the session where all
 /// were read.
@@ -41,7 +39,7 @@ fn run<'a, R: Files + Input + Print + AllocGlobal>(
 fn stopped<R: Eprint>(rt: &R, stop: Stop<'_>) -> u8
     ensures { result ≡ stop_status stop.entry }
 {
-    tell(rt, stop);
+    tell(rt, stop, USAGE);
     stop.status()
 }
 
@@ -50,8 +48,8 @@ fn ended<R: Eprint>(rt: &R, outcome: Result<End, SessionFault>) -> u8
     ensures { result ≡ status_of outcome }
 {
     match outcome {
-        Err(SessionFault::Write) => tell(rt, Stop::CannotWrite),
-        Err(SessionFault::Memory) => tell(rt, Stop::Memory),
+        Err(SessionFault::Write) => tell(rt, Stop::CannotWrite, USAGE),
+        Err(SessionFault::Memory) => tell(rt, Stop::Memory, USAGE),
         _ => {}
     }
     exit_status(&outcome)

@@ -2,14 +2,13 @@ ghost use Rattle.std.specs.Prelude.{◌≡◌, ◌≢◌, Err, IfErr, map, true}
 ghost use Rattle.std.specs.List.{list_any};
 ghost use Rattle.std.specs.String.{string_bytes};
 ghost use Rattle.clap.specs.Words.{kind_of};
-ghost use Rattle.simscript2.specs.Stops.{IsOfWords, are_wrong_words, is_option};
+ghost use Rattle.ss_host.specs.Stops.{IsOfWords};
+ghost use Rattle.simscript2.specs.Words.{are_wrong_words, is_option};
 
-use crate::stop::{Stop, stop_by};
 use clap::error::ErrorKind;
 use clap::{Arg, Command, Error};
+use ss_host::Stop;
 use std::alloc::Global;
-use std::env;
-use std::rt::Env;
 
 /// The most paths that the program takes.
 const MOST_PATHS: usize = 3;
@@ -20,20 +19,6 @@ pub struct Paths<'a> {
     pub model: Option<&'a str>,
     pub input: Option<&'a str>,
     pub commands: Option<&'a str>,
-}
-
-/// The words that the program was started with, its name first.
-pub fn read_arguments(rt: &HostRuntime) -> Result<Vec<String>, Stop<'static>>
-    ensures { IfErr result (λ stop. IsOfWords stop) }
-{
-    let arguments = match env::args(rt) {
-        Ok(arguments) => arguments,
-        Err(error) => return Err(stop_by(&error, Stop::Usage)),
-    };
-    match arguments.collect(rt.alloc()) {
-        Ok(words) => Ok(words),
-        Err(_) => Err(Stop::Memory),
-    }
 }
 
 /// Whether a word is an option: it begins with `-` and goes on.

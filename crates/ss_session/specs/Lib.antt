@@ -9,3 +9,5 @@ pub mod Session
 pub mod Laws
 pub mod Examples
 pub mod Private
+pub mod Report
+pub mod Advance

@@ -1,4 +1,5 @@
-//! A whole session: model, data and commands in, the transcript out.
+//! A whole session: model, data and commands in, the transcript out; and a whole run: model and data
+//! in, the report out.
 #![tactic(auto)]
 
 mod answers;
@@ -8,10 +9,12 @@ mod laws;
 mod load;
 mod outlet;
 mod refusal;
+mod whole_run;
 mod turns;
 mod whole;
 
 pub use ending::{End, SessionFault, exit_status};
 pub use laws::{model_has_one_outcome, program_is_refused_in_one_part};
 pub use outlet::{MemoryOutlet, Outlet, PutFault};
+pub use whole_run::{Progress, RunCut, RunEnd, report, run_status};
 pub use whole::{session, session_over};

@@ -29,7 +29,7 @@ fn refuse<W: Outlet>(alloc: Global, code: &str, line: usize, out: &mut W) -> Res
 }
 
 /// The machine at the start of a program's run over its data.
-fn machine<S: SetBoard>(
+pub(crate) fn machine<S: SetBoard>(
     alloc: Global,
     program: Program,
     data_text: &[u8],

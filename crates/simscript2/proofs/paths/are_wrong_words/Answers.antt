@@ -1,6 +1,6 @@
 use Rattle.std.proofs.Common.{◌≡◌, ◌≤◌, ◌∷◌, ◌∙◌, length, sym, rules}
 use Rattle.std.specs.String.{string_bytes}
-use Rattle.simscript2.proofs.Words.{wrong_among_few}
+use Rattle.simscript2.proofs.FewWords.{wrong_among_few}
 use Rattle.simscript2.proofs.paths.are_wrong_words.Goals as goal
 
 pub returns-else-paths-gt-MOST_PATHS : goal.returns-else-paths-gt-MOST_PATHS

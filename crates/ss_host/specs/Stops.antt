@@ -1,9 +1,8 @@
--- What stops the program, and the exit status of that.
-use Rattle.std.specs.Prelude.{◌≡◌, ◌||◌, ℕ, Bool, false, List, [], ◌∷◌, length, Option, Some, None, nat_eq, nat_lt}
+-- What stops a program before its work, and the exit status of that.
+use Rattle.std.specs.Prelude.{◌≡◌, ℕ, List, Option, Some, None}
 use Rattle.std.specs.Borrow.{Bor}
-use Rattle.std.specs.List.{list_any}
-use Rattle.simscript2.specs.declared.stop.Stop.{Stop}
-use Rattle.simscript2.specs.declared.stop.Stop.TheVariants.{Usage, Memory, CannotRead, CannotWrite}
+use Rattle.ss_host.specs.declared.stop.Stop.{Stop}
+use Rattle.ss_host.specs.declared.stop.Stop.TheVariants.{Usage, Memory, CannotRead, CannotWrite}
 
 -- 1 for the words, 2 for a file or for the output, 5 for memory
 abbrev pub stop_status : Stop → ℕ
@@ -11,17 +10,6 @@ stop_status Usage = 1
 stop_status Memory = 5
 stop_status (CannotRead path) = 2
 stop_status CannotWrite = 2
-
--- a word that begins with `-` (45) and goes on
-abbrev pub is_option : List ℕ → Bool
-is_option [] = false
-is_option (b ∷ []) = false
-is_option (b ∷ c ∷ more) = nat_eq b 45
-
--- the words with which the program was started: behind its name stand more than three, or an option is among them
-abbrev pub are_wrong_words : List (List ℕ) → Bool
-are_wrong_words [] = false
-are_wrong_words (name ∷ paths) = nat_lt 3 (length paths) || list_any is_option paths
 
 -- what stops the reading of the words
 abbrev pub IsOfWords : Stop → Type 0

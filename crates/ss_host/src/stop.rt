@@ -1,10 +1,10 @@
 ghost use Rattle.std.specs.Prelude.{◌≡◌, ◌≢◌};
 ghost use Rattle.std.specs.IoError.{error_kind};
-ghost use Rattle.simscript2.specs.Stops.{stop_status};
+ghost use Rattle.ss_host.specs.Stops.{stop_status};
 
 use std::io::{Error, ErrorKind};
 
-/// What stops the program before a session, or ends a session without its transcript.
+/// What stops a program before its work, or ends that before all is written.
 #[derive(Clone, Copy, Drop)]
 pub enum Stop<'a> {
     /// The words are none that the program takes.
@@ -42,10 +42,10 @@ pub fn stop_by<'a>(error: &Error, otherwise: Stop<'a>) -> Stop<'a>
     }
 }
 
-/// Says on standard error, in one line, what stopped the program.
-pub fn tell<R: Eprint>(rt: &R, stop: Stop<'_>) {
+/// Says on standard error, in one line, what stopped a program that is started as `usage` says.
+pub fn tell<R: Eprint>(rt: &R, stop: Stop<'_>, usage: &str) {
     let _ = match stop {
-        Stop::Usage => eprintln!(rt; "USAGE: simscript2 [MODEL [DATA [COMMANDS]]]"),
+        Stop::Usage => eprintln!(rt; "USAGE: {usage}"),
         Stop::Memory => eprintln!(rt; "OUT OF MEMORY"),
         Stop::CannotRead(path) => eprintln!(rt; "CANNOT READ {path}"),
         Stop::CannotWrite => eprintln!(rt; "CANNOT WRITE"),

@@ -1,6 +1,6 @@
 ghost use Rattle.std.specs.Prelude.{◌≡◌, ◌≢◌, ◌≤◌, ◌^◌, [], length, IfOk, IfErr, IfSome, None, codes};
 ghost use Rattle.std.specs.IoError.{error_kind};
-ghost use Rattle.simscript2.specs.Stops.{IsOfFile, IsOfPath, path_or};
+ghost use Rattle.ss_host.specs.Stops.{IsOfFile, IsOfPath, path_or};
 
 use crate::stop::{Stop, stop_by};
 use std::alloc::Global;
@@ -33,8 +33,8 @@ fn stop_at<'a>(error: io::Error, path: &'a str) -> Stop<'a>
     stop_by(&error, Stop::CannotRead(path))
 }
 
-/// The bytes of the file of a path.
-fn read_file<'a, R: Files + AllocGlobal>(rt: &R, path: &'a str) -> Result<Vec<u8>, Stop<'a>>
+/// The bytes of the file of a path; at most 64 MiB.
+pub fn read_file<'a, R: Files + AllocGlobal>(rt: &R, path: &'a str) -> Result<Vec<u8>, Stop<'a>>
     ensures limit { IfOk result (λ bytes. length bytes.items ≤ 2 ^ 26) }
     ensures err { IfErr result (λ stop. IsOfFile path.now stop) }
 {

@@ -1,7 +1,7 @@
 use Rattle.std.proofs.Common.{◌≡◌, ℕ, ◌≤◌, Bool, false, List, [], ◌∷◌, map, length, nat_lt, refl, rules}
 use Rattle.std.proofs.lemmas.List.{length-map}
 use Rattle.std.specs.List.{list_any}
-use Rattle.simscript2.specs.Stops.{are_wrong_words, is_option}
+use Rattle.simscript2.specs.Words.{are_wrong_words, is_option}
 
 -- a test of what a function makes of some of them is a test of these
 any_of_map : {A B : Type 0} (p : B → Bool) (f : A → B) (xs : List A) →

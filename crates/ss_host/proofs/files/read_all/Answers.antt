@@ -1,6 +1,6 @@
 use Rattle.std.proofs.Common.{◌<◌, length, arith}
-use Rattle.simscript2.proofs.Limits.{whole_within}
-use Rattle.simscript2.proofs.files.read_all.Goals as goal
+use Rattle.ss_host.proofs.Limits.{whole_within}
+use Rattle.ss_host.proofs.files.read_all.Goals as goal
 
 pub returns-clause-whole : goal.returns-clause-whole
 returns-clause-whole g c =

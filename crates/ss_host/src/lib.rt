@@ -1,0 +1,13 @@
+//! What programs share at their edge: the words that they are started with, files, standard output,
+//! and what stops them.
+#![tactic(auto)]
+
+mod arguments;
+mod files;
+mod stop;
+mod stream;
+
+pub use arguments::read_arguments;
+pub use files::{read_file, read_model, read_or};
+pub use stop::{Stop, stop_by, tell};
+pub use stream::Stream;

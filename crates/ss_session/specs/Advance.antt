@@ -1,0 +1,44 @@
+-- How each private function of a whole run ends. No public contract cites this module.
+use Rattle.std.specs.Prelude.{ℕ, ◌+◌, ◌<◌, ◌≤◌, ◌≡◌, ◌⊎◌, true, false, Result, Ok, Err}
+use Rattle.ss_words.specs.Faults.{text_rule_code}
+use Rattle.ss_check.specs.CheckRules.{check_rule_code}
+use Rattle.ss_machine.specs.declared.limits.TheConstants.{LAST_POSITION}
+use Rattle.ss_machine.specs.declared.stepped.Stepped.{Stepped}
+use Rattle.ss_machine.specs.declared.stepped.Stepped.TheVariants.{Moved, AtEnd}
+use Rattle.ss_machine.specs.Moment.{Moment, position}
+use Rattle.ss_debug.specs.Move.{is_ready_at}
+use Rattle.ss_session.specs.declared.load.LoadFault.{LoadFault}
+use Rattle.ss_session.specs.declared.load.LoadFault.TheVariants as load
+use Rattle.ss_session.specs.declared.whole_run.RunEnd.{RunEnd}
+use Rattle.ss_session.specs.declared.whole_run.RunEnd.TheVariants.{Done, Faulted, Refused}
+use Rattle.ss_session.specs.declared.whole_run.RunCut.{RunCut}
+use Rattle.ss_session.specs.declared.whole_run.RunCut.TheVariants.{Write, Memory}
+use Rattle.ss_session.specs.Transcript.{refusal_line}
+
+-- where some steps lead that were to be made: all of them, or fewer where the run has ended
+abbrev pub EndsBy : Stepped → ℕ → Moment → Moment → Type 0
+EndsBy Moved steps old new = position new ≡ position old + steps
+EndsBy AtEnd steps old new = (is_ready_at old.input (position new) ≡ false) ⊎ (position new ≡ LAST_POSITION)
+
+-- some steps are made, or fewer where the run has ended
+pub record HasAdvanced (stepped : Stepped) (steps : ℕ) (old new : Moment) : Type 0 where
+  -- the run is the same one
+  pub input : new.input ≡ old.input
+  -- it has not gone back
+  pub on : position old ≤ position new
+  -- nor past the last position
+  pub within : position new ≤ LAST_POSITION
+  -- all states that it left were ready
+  pub ready : (k : ℕ) → position old ≤ k → k < position new → is_ready_at old.input k ≡ true
+  -- why it stopped
+  pub reason : EndsBy stepped steps old new
+
+-- what is said of a model that was not loaded
+abbrev pub IsRefusal : Result RunEnd RunCut → LoadFault → Type 0
+IsRefusal (Ok (Refused line)) (load.Text rule number) = line.items ≡ refusal_line (text_rule_code rule) number
+IsRefusal (Ok (Refused line)) (load.Check rule number) = line.items ≡ refusal_line (check_rule_code rule) number
+IsRefusal (Ok (Refused line)) load.Memory = ⊥
+IsRefusal (Ok Done) fault = ⊥
+IsRefusal (Ok (Faulted line)) fault = ⊥
+IsRefusal (Err Memory) fault = Unit {0}
+IsRefusal (Err Write) fault = ⊥

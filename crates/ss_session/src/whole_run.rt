@@ -1,0 +1,244 @@
+//! A whole run without a debugger: to its end, and its report alone.
+ghost use Rattle.std.specs.Prelude.{◌≡◌, ◌-◌, ◌^◌, ◌<◌, OnErr, OnOk, IfOk};
+ghost use Rattle.ss_links.specs.Board.{empty_board};
+ghost use Rattle.ss_machine.specs.Moment.{position};
+ghost use Rattle.ss_machine.specs.Run.{input_with};
+ghost use Rattle.ss_session.specs.Report.{run_end, status_of_run, SaysEnd, RunEnds, ReportSays};
+ghost use Rattle.ss_session.specs.Advance.{HasAdvanced, IsRefusal};
+
+use crate::load::{LoadFault, load};
+use crate::outlet::{Outlet, put_all};
+use crate::refusal::refusal_text;
+use crate::whole::machine;
+use ss_debug::{Command, Debugger, Question, obey};
+use ss_links::{LinkedSets, SetBoard};
+use ss_machine::{Machine, Status, Stepped};
+use ss_program::Program;
+use std::alloc::{AllocError, Global};
+use thiserror::Error;
+
+/// How many steps the way back has at most while a run goes to its end; nobody goes it.
+const MOST_KEPT: u64 = 4096;
+
+/// After how many steps a run says how far it is: ten million.
+const STEPS_BETWEEN: u64 = 10_000_000;
+
+/// Hears how far a run is.
+pub trait Progress {
+    /// The run has come to this position, and its clock to this time; it goes on.
+    fn reached(&mut self, position: u64, clock: i64);
+}
+
+/// How a whole run ended.
+#[derive(Debug, Drop, PartialEq, Eq)]
+pub enum RunEnd {
+    /// Its last state is finished, stopped, or the last position of a run.
+    Done,
+    /// Its last state is faulted; this is its state line (docs/DEBUGGER.md, "Movements").
+    Faulted(Vec<u8>),
+    /// The model is refused; this is the line that says by which rule, and where.
+    Refused(Vec<u8>),
+}
+
+/// What cut a whole run short.
+#[derive(Clone, Copy, Debug, Drop, PartialEq, Eq, Error)]
+pub enum RunCut {
+    /// The outlet failed.
+    #[error("cannot write")]
+    Write,
+    /// Memory was refused.
+    #[error("out of memory")]
+    Memory,
+}
+
+impl From<AllocError> for RunCut {
+    ghost use Rattle.std.specs.Prelude.{◌≡◌};
+    ghost use Rattle.ss_session.specs.declared.whole_run.RunCut.TheVariants.{Memory};
+
+    ghost from_gives = { λ _ cut. cut ≡ Memory };
+
+    fn from(_error: AllocError) -> RunCut {
+        RunCut::Memory
+    }
+}
+
+/// The exit status for how a whole run ended: 0 where it did not fault, 2 where the outlet failed,
+/// 3 for a refused model, 4 where the last state is faulted, 5 where memory was refused.
+pub fn run_status(outcome: &Result<RunEnd, RunCut>) -> u8
+    ensures { result ≡ status_of_run outcome.now }
+{
+    match outcome {
+        Ok(RunEnd::Done) => 0,
+        Ok(RunEnd::Faulted(_)) => 4,
+        Ok(RunEnd::Refused(_)) => 3,
+        Err(RunCut::Write) => 2,
+        Err(RunCut::Memory) => 5,
+    }
+}
+
+/// Makes some steps, or fewer where the run ends, and keeps few of them.
+fn advance<S: SetBoard>(machine: &mut Machine<S>, steps: u64) -> Result<Stepped, AllocError>
+    ensures ok { IfOk result (λ stepped. HasAdvanced stepped steps machine.old machine.new) }
+    ensures err { OnErr result (machine.new.input ≡ machine.old.input) }
+{
+    machine.known();
+    for _k in 0..steps {
+        if machine.kept() == MOST_KEPT {
+            machine.forget(0);
+        }
+        machine.known();
+        match machine.step() {
+            Ok(Stepped::Moved) => {}
+            Ok(Stepped::AtEnd) => return Ok(Stepped::AtEnd),
+            Err(error) => return Err(error),
+        }
+    }
+    machine.known();
+    Ok(Stepped::Moved)
+}
+
+/// Makes steps to the end of the run.
+fn run_to_end<S: SetBoard, P: Progress>(
+    machine: &mut Machine<S>,
+    progress: &mut P,
+) -> Result<(), AllocError>
+    requires { position machine.old ≡ 0 }
+    ensures input { machine.new.input ≡ machine.old.input }
+    ensures ok { OnOk result (position machine.new ≡ run_end machine.old.input) }
+{
+    loop {
+        match advance(machine, STEPS_BETWEEN) {
+            Ok(Stepped::Moved) => progress.reached(machine.position(), machine.clock()),
+            Ok(Stepped::AtEnd) => return Ok(()),
+            Err(error) => return Err(error),
+        }
+    }
+}
+
+/// How the run ended whose last state a debugger holds.
+fn end_of_run<S: SetBoard>(
+    alloc: Global,
+    debugger: &mut Debugger<S>,
+) -> Result<RunEnd, AllocError>
+    requires { position debugger.old.machine ≡ run_end debugger.old.machine.input }
+    ensures input { debugger.new.machine.input ≡ debugger.old.machine.input }
+    ensures position { position debugger.new.machine ≡ position debugger.old.machine }
+    ensures ok { IfOk result (λ end. SaysEnd debugger.old.machine.input end) }
+{
+    debugger.machine().known();
+    let Status::Faulted(_) = debugger.machine().status() else {
+        return Ok(RunEnd::Done);
+    };
+    let mut line = Vec::new(alloc);
+    match obey(debugger, Command::Show(Question::Where), &mut line) {
+        Ok(_) => Ok(RunEnd::Faulted(line)),
+        Err(error) => Err(error),
+    }
+}
+
+/// Writes the report of the run whose last state a debugger holds.
+fn write_report<S: SetBoard, W: Outlet>(
+    alloc: Global,
+    debugger: &mut Debugger<S>,
+    out: &mut W,
+) -> Result<RunEnd, RunCut>
+    requires end { position debugger.old.machine ≡ run_end debugger.old.machine.input }
+    requires room { W.failures out.old < 2 ^ 64 - 1 }
+    ensures { RunEnds result debugger.old.machine.input
+        (record { taken = W.taken out.old; failures = W.failures out.old })
+        (record { taken = W.taken out.new; failures = W.failures out.new }) }
+{
+    let end = end_of_run(alloc, debugger)?;
+    let machine = debugger.machine();
+    machine.known();
+    match put_all(out, machine.report()) {
+        Ok(()) => Ok(end),
+        Err(_) => {
+            drop(end);
+            Err(RunCut::Write)
+        }
+    }
+}
+
+/// Makes the steps of a run to its end, and writes its report.
+fn write_run<S: SetBoard, P: Progress, W: Outlet>(
+    alloc: Global,
+    machine: Machine<S>,
+    progress: &mut P,
+    out: &mut W,
+) -> Result<RunEnd, RunCut>
+    requires start { position machine ≡ 0 }
+    requires room { W.failures out.old < 2 ^ 64 - 1 }
+    ensures { RunEnds result machine.input
+        (record { taken = W.taken out.old; failures = W.failures out.old })
+        (record { taken = W.taken out.new; failures = W.failures out.new }) }
+{
+    let mut machine = machine;
+    let ran = run_to_end(&mut machine, progress);
+    let mut debugger = Debugger::new(alloc, machine);
+    let written = match ran {
+        Ok(()) => write_report(alloc, &mut debugger, out),
+        Err(_) => Err(RunCut::Memory),
+    };
+    drop(debugger);
+    written
+}
+
+/// What is said of a model that is no program.
+fn refusal(alloc: Global, fault: LoadFault) -> Result<RunEnd, RunCut>
+    ensures { IsRefusal result fault }
+{
+    match fault {
+        LoadFault::Memory => Err(RunCut::Memory),
+        LoadFault::Text { rule, line } => {
+            Ok(RunEnd::Refused(refusal_text(alloc, rule.code(), line)?))
+        }
+        LoadFault::Check { rule, line } => {
+            Ok(RunEnd::Refused(refusal_text(alloc, rule.code(), line)?))
+        }
+    }
+}
+
+/// Makes the run of a program over its data to its end, and writes its report.
+fn run_program<P: Progress, W: Outlet>(
+    alloc: Global,
+    program: Program,
+    data_text: &[u8],
+    progress: &mut P,
+    out: &mut W,
+) -> Result<RunEnd, RunCut>
+    requires { W.failures out.old < 2 ^ 64 - 1 }
+    ensures { RunEnds result (input_with program data_text.now)
+        (record { taken = W.taken out.old; failures = W.failures out.old })
+        (record { taken = W.taken out.new; failures = W.failures out.new }) }
+{
+    let (sets, pending) = (LinkedSets::new(alloc), LinkedSets::new(alloc));
+    let machine = machine(alloc, program, data_text, sets, pending)?;
+    write_run(alloc, machine, progress, out)
+}
+
+/// Runs a model over its data to the end of the run, without a bound, and writes its report alone;
+/// few steps back are kept, so that the memory it takes does not grow with the steps. `progress`
+/// hears every ten million steps how far it is.
+///
+/// `Ok` where all was written: `Done`, or `Faulted` with the state line of the last state; `Refused`
+/// with the line of a refused model, where nothing is written. `Write` where `out` counted a
+/// failure; what was written is a prefix of the report. `Memory` where a growth was refused, and
+/// nothing is written.
+pub fn report<P: Progress, W: Outlet>(
+    alloc: Global,
+    model: &[u8],
+    data_text: &[u8],
+    progress: &mut P,
+    out: &mut W,
+) -> Result<RunEnd, RunCut>
+    requires { W.failures out.old < 2 ^ 64 - 1 }
+    ensures { ReportSays result model.now data_text.now
+        (record { taken = W.taken out.old; failures = W.failures out.old })
+        (record { taken = W.taken out.new; failures = W.failures out.new }) }
+{
+    match load(alloc, model) {
+        Ok(program) => run_program(alloc, program, data_text, progress, out),
+        Err(fault) => refusal(alloc, fault),
+    }
+}
