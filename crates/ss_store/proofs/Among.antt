@@ -6,7 +6,7 @@ use Rattle.ss_links.specs.Seats.{has, times_in, first_of, next_in}
 use Rattle.ss_links.specs.Board.{Board, IsSound, list_at, list_of}
 use Rattle.ss_links.proofs.BoardLaws.{times-list_at, head_of-found, head_of-list_at}
 use Rattle.ss_links.proofs.SeatLaws.{times_in-append, times_in-present, seat_behind-between}
-use Rattle.ss_store.specs.Finding.{rank_before}
+use Rattle.ss_store.specs.Finding.{rank_before, Among}
 use Rattle.ss_store.proofs.Core.{some_eq}
 
 -- the list from a seat on
@@ -15,20 +15,11 @@ rest_from l None = []
 rest_from [] (Some t) = []
 rest_from (y ∷ l) (Some t) = cond (y == t) (y ∷ l) (rest_from l (Some t))
 
--- what was passed, the last of which stands before, and what is left, which begins at a seat; from there the search
--- goes on
-pub record Among (l : List ℕ) (test : ℕ → Bool) (before at : Option ℕ) : Type 0 where
-  pub passed : List ℕ
-  pub left : List ℕ
-  pub all : l ≡ passed ++ left
-  pub begins : first_of left ≡ at
-  pub result : rank_before test before left ≡ rank_before test None l
-
-pub among_begins : (l : List ℕ) (test : ℕ → Bool) (at : Option ℕ) → at ≡ first_of l → Among l test None at
+unfoldable pub among_begins : (l : List ℕ) (test : ℕ → Bool) (at : Option ℕ) → at ≡ first_of l → Among l test None at
 among_begins l test at e = record { passed = []; left = l; all = refl; begins = sym e; result = refl }
 
 -- no seat is left
-left_none : (l : List ℕ) → first_of l ≡ None → l ≡ []
+pub left_none : (l : List ℕ) → first_of l ≡ None → l ≡ []
 left_none [] e = refl
 left_none (y ∷ l) e = cc
 
@@ -102,6 +93,12 @@ among_goes_on l test before t next once a e n =
           ∙ ap (rank_before test before) (sym m.1) ∙ a.result;
     }
 
+pub among_passed : (l : List ℕ) (test : ℕ → Bool) (before : Option ℕ) (t : ℕ) (next : Option ℕ)
+    → (once : (y : ℕ) → times_in l y ≤ 1) (a : Among l test before (Some t)) (e : test t ≡ false)
+    → (n : next ≡ next_in l t) → (among_goes_on l test before t next once a e n).passed ≡ a.passed ++ t ∷ []
+unfolding among_goes_on
+among_passed l test before t next once a e n = refl
+
 -- the seat at which it stands is in the list
 pub among_has : (l : List ℕ) (test : ℕ → Bool) (before : Option ℕ) (t : ℕ) → Among l test before (Some t)
     → has l t ≡ true
@@ -128,11 +125,11 @@ fewer_left l test before t next once a n =
 
 -- ---- over a board
 
-once_in : (b : Board) (h : ℕ) → IsSound b → (y : ℕ) → times_in (list_at b.lists h) y ≤ 1
+pub once_in : (b : Board) (h : ℕ) → IsSound b → (y : ℕ) → times_in (list_at b.lists h) y ≤ 1
 once_in b h s y = let a = s.once y in let d = times-list_at b.lists h y in omega (arith, a, d)
 
 -- a seat of a list is one of the board
-seat_in : (b : Board) (h t : ℕ) → IsSound b → has (list_at b.lists h) t ≡ true → t < b.seats
+pub seat_in : (b : Board) (h t : ℕ) → IsSound b → has (list_at b.lists h) t ≡ true → t < b.seats
 seat_in b h t s e =
     (elim (nat_lt t b.seats) as (λ k. nat_lt t b.seats ≡ k → t < b.seats) [
       | true ↦ λ w. grind (arith, nat_tests)
@@ -150,7 +147,7 @@ among_in b h test before at t s a e = seat_in b h t s
     (among_has (list_at b.lists h) test before t (subst (Among (list_at b.lists h) test before) e a))
 
 -- the seat that comes next
-next_is : (b : Board) (h t : ℕ) (next : Option ℕ) → IsSound b → has (list_at b.lists h) t ≡ true
+pub next_is : (b : Board) (h t : ℕ) (next : Option ℕ) → IsSound b → has (list_at b.lists h) t ≡ true
     → next ≡ next_in (list_of b.lists t) t → next ≡ next_in (list_at b.lists h) t
 next_is b h t next s e n = n ∙ ap (λ l. next_in l t)
     (head_of-found b.lists t h (head_of-list_at b.lists h t e (s.once t))).2

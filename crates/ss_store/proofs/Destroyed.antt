@@ -10,6 +10,7 @@ use Rattle.std.specs.List.{list_any}
 use Rattle.ss_words.specs.declared.fault.RunFault.{RunFault}
 use Rattle.ss_words.specs.declared.fault.RunFault.TheVariants.{NoEntity, EndedInUse, EndedOwner}
 use Rattle.ss_links.specs.Board.{list_at, head_of}
+use Rattle.ss_store.specs.Order.{AreInOrder}
 use Rattle.ss_store.specs.declared.change.StoreChange.TheVariants as change
 use Rattle.ss_store.specs.declared.rows.Row.{Row}
 use Rattle.ss_store.specs.declared.shape.SetShape.{SetShape}
@@ -182,6 +183,7 @@ put_is g c k n r u es e i number f =
 
 pub ended_pair : (g : StoreParts) (v : StoreValue) (c k n : ℕ) (shape : ClassShape) (r : Row) (es : EntityTable)
     → Found_out g v c k shape r → n ≡ k - 1 → es ≡ with_table (with_values n None) g.rows None
+    → (fs : List Bool) → AreInOrder (record g { rows = es }) fs
     → (ws : List HeadEntry) × (ms : List SeatEntry) × IsStore (record {
       tables = g.tables;
       rows = es;
@@ -189,11 +191,18 @@ pub ended_pair : (g : StoreParts) (v : StoreValue) (c k n : ℕ) (shape : ClassS
       owners = ws;
       members = ms;
       board = g.board;
-    })
-ended_pair g v c k n shape r es d e f =
+    }) × AreInOrder (record {
+      tables = g.tables;
+      rows = es;
+      numbers = g.numbers;
+      owners = ws;
+      members = ms;
+      board = g.board;
+    }) fs
+ended_pair g v c k n shape r es d e f fs o =
     let l = lives g v c k shape r d.at d.not_permanent d.row in
     let is = put_is g c k n r None es e l.index l.number f in
-    (g.owners, g.members, subst IsStore (sym is) (ended_store g l.index r d.at.store (ends g v c k shape r d l)))
+    (g.owners, g.members, subst IsStore (sym is) (ended_store g l.index r d.at.store (ends g v c k shape r d l)), o)
 
 leaves : (g : StoreParts) (v : StoreValue) (c k n : ℕ) (shape : ClassShape) (r : Row) (values : Vec ℤ)
     → Found_out g v c k shape r

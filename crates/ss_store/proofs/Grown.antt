@@ -175,7 +175,7 @@ refound es d i q v u (inr is) er ev ec later =
     ∙ er) (ap (λ z. slice_get (rows_in es z).values i) (sym is) ∙ ev) ec
 
 -- a class of references has no rows of its own then, either
-given_none : (g : StoreParts) (w : Option ℕ) (c : ℕ) (shape : ClassShape) (v : List ℤ) → Grows g w c shape v → (d i : ℕ)
+pub given_none : (g : StoreParts) (w : Option ℕ) (c : ℕ) (shape : ClassShape) (v : List ℤ) → Grows g w c shape v → (d i : ℕ)
     → (class_of g.tables d).permanent ≡ false → slice_get (rows_in g.rows (Some d)).rows i ≡ None
     → slice_get (rows_in (with_next_entity g w c shape v).rows (Some d)).rows i ≡ None
 given_none g w c shape v k d i f e = elim (table_case (with_row (next_row g c) v) g.rows w (Some d) k.table) [

@@ -24,7 +24,7 @@ use Rattle.ss_store.proofs.Relist.{index_map}
 use Rattle.ss_store.proofs.More.{length_more, length_rep, change_change, change_none, map_change, index_get}
 use Rattle.ss_store.proofs.Grown.{Grows, list_more, list_past}
 
-index_left : (xs ys : List ℕ) (i : ℕ) → i < length xs → number_at (xs ++ ys) i ≡ number_at xs i
+pub index_left : (xs ys : List ℕ) (i : ℕ) → i < length xs → number_at (xs ++ ys) i ≡ number_at xs i
 index_left [] ys i lt = absurd (omega (arith, lt))
 index_left (x ∷ xs) ys zero lt = refl
 index_left (x ∷ xs) ys (suc i) lt = index_left xs ys i (omega (arith, lt))

@@ -4,6 +4,7 @@ pub mod Boards
 pub mod Agree
 pub mod Ranked
 pub mod Among
+pub mod Climbing
 pub mod Filed
 pub mod Calls
 pub mod Removed
@@ -26,3 +27,4 @@ pub mod Ended
 pub mod Destroyed
 pub mod Wells
 pub mod Between
+pub mod Ordered

@@ -11,6 +11,7 @@ use Rattle.ss_links.specs.Board.{Board, IsSound, list_at, head_of}
 use Rattle.ss_links.specs.Seats.{has}
 use Rattle.ss_links.proofs.BoardLaws.{head_of-found, times-list_at}
 use Rattle.ss_links.proofs.SeatLaws.{times_in-present}
+use Rattle.ss_store.specs.Order.{AreInOrder}
 use Rattle.ss_store.specs.declared.rows.Row.{Row}
 use Rattle.ss_store.specs.declared.shape.ClassShape.{ClassShape}
 use Rattle.ss_store.specs.declared.shape.SetShape.{SetShape}
@@ -292,7 +293,7 @@ added g c shape es ns b = record {
   board = b;
 }
 
-added_is : (g : StoreParts) (c : ℕ) (shape : ClassShape) (row : Row) (es : EntityTable) (ns : List ℕ) (b : Board)
+pub added_is : (g : StoreParts) (c : ℕ) (shape : ClassShape) (row : Row) (es : EntityTable) (ns : List ℕ) (b : Board)
     → Adds g c shape row es ns b → added g c shape es ns b
     ≡ with_next_entity g (numbering_by shape.permanent c) c shape (replicate shape.attributes (pos 0))
 added_is g c shape row es ns b d =
@@ -371,16 +372,21 @@ kept_value g v es ns b w s e f h = (λ i. value_of
 pub added_pair : (g : StoreParts) (v : StoreValue) (c : ℕ) (shape : ClassShape) (row : Row) (es : EntityTable)
     (ns : List ℕ)
     (b : Board) → At g v c shape → HasRoom c v → Adds g c shape row es ns b
+    → (fs : List Bool) → AreInOrder (added g c shape es ns b) fs
     → (ws : List HeadEntry) × (ms : List SeatEntry)
     × IsStore (record { tables = g.tables; rows = es; numbers = ns; owners = ws; members = ms; board = b })
-added_pair g v c shape row es ns b k room d =
-    ((added g c shape es ns b).owners, (added g c shape es ns b).members, added_store g v c shape row es ns b k room d)
+    × AreInOrder (record { tables = g.tables; rows = es; numbers = ns; owners = ws; members = ms; board = b }) fs
+added_pair g v c shape row es ns b k room d fs o =
+    ((added g c shape es ns b).owners, (added g c shape es ns b).members, added_store g v c shape row es ns b k room d, o)
 
 pub kept_pair : (g : StoreParts) (es : EntityTable) (ns : List ℕ) (b : Board) → IsStore g → es ≡ g.rows → ns ≡ g.numbers
     → b ≡ g.board
-    → (ws : List HeadEntry) × (ms : List SeatEntry)
+    → (fs : List Bool)
+    → AreInOrder (record { tables = g.tables; rows = es; numbers = ns; owners = g.owners; members = g.members; board = b })
+    fs → (ws : List HeadEntry) × (ms : List SeatEntry)
     × IsStore (record { tables = g.tables; rows = es; numbers = ns; owners = ws; members = ms; board = b })
-kept_pair g es ns b s e f h = (g.owners, g.members, kept_store g es ns b s e f h)
+    × AreInOrder (record { tables = g.tables; rows = es; numbers = ns; owners = ws; members = ms; board = b }) fs
+kept_pair g es ns b s e f h fs o = (g.owners, g.members, kept_store g es ns b s e f h, o)
 
 -- ---- how many were made
 

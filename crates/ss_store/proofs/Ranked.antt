@@ -97,7 +97,7 @@ no_values c (Some r) (Some (Some v)) e =
       | false ↦ λ f. refl
     ]) e
 
-values_there : (t : RowTable) (c i : ℕ) (r : Row) (v : List ℤ) → slice_get t.rows i ≡ Some r
+pub values_there : (t : RowTable) (c i : ℕ) (r : Row) (v : List ℤ) → slice_get t.rows i ≡ Some r
     → slice_get t.values i ≡ Some (Some v) → r.class ≡ c → values_in t c i ≡ Some v
 values_there t c i r v er ev ec = rw (er, ev)
     (subst (λ z. cond (r.class == z) (Some v) None ≡ Some v) ec (let same : (r.class == r.class) ≡ true =

@@ -1,6 +1,6 @@
 -- Values written: what is held is a store still, and the state has the entity changed.
 use Rattle.std.proofs.lemmas.Bool.Decides.{nat_tests}
-use Rattle.std.proofs.Common.{negsuc, ◌^◌, ◌≡◌, ◌≢◌, ◌⊎◌, inl, inr, ℕ, ℤ, pos, zero, suc, ◌+◌, ◌-◌, ◌<◌, ◌==◌}
+use Rattle.std.proofs.Common.{Bool, negsuc, ◌^◌, ◌≡◌, ◌≢◌, ◌⊎◌, inl, inr, ℕ, ℤ, pos, zero, suc, ◌+◌, ◌-◌, ◌<◌, ◌==◌}
 use Rattle.std.proofs.Common.{List, []}
 use Rattle.std.proofs.Common.{◌∷◌}
 use Rattle.std.proofs.Common.{length, map, refl, ap, sym, subst, ◌∙◌, arith, slice_get, slice_index_or}
@@ -10,6 +10,7 @@ use Rattle.std.specs.Prelude.{is_some, Result, Ok, Err}
 use Rattle.std.specs.Option.{option_map}
 use Rattle.ss_words.specs.declared.fault.RunFault.{RunFault}
 use Rattle.ss_words.specs.declared.fault.RunFault.TheVariants.{NoEntity}
+use Rattle.ss_store.specs.Order.{AreInOrder}
 use Rattle.ss_store.specs.declared.change.StoreChange.{StoreChange}
 use Rattle.ss_program.specs.declared.kinds.Owner.{Owner}
 use Rattle.ss_program.specs.declared.kinds.Owner.TheVariants.{System, OwnedBy}
@@ -436,6 +437,7 @@ wrote_is g c k n a x shape es l e f = λ i. record g {
 pub set_pair : (g : StoreParts) (v : StoreValue) (c k n a : ℕ) (x : ℤ) (shape : ClassShape) (es : EntityTable)
     → At g v c shape → in_range x ≡ true → (l : Lies g c k shape) → n ≡ k - 1
     → es ≡ with_table (with_values n (Some (set l.value a x))) g.rows (numbering_by shape.permanent c)
+    → (fs : List Bool) → AreInOrder (record g { rows = es }) fs
     → (ws : List HeadEntry) × (ms : List SeatEntry)
     × IsStore (record {
       tables = g.tables;
@@ -444,13 +446,21 @@ pub set_pair : (g : StoreParts) (v : StoreValue) (c k n a : ℕ) (x : ℤ) (shap
       owners = ws;
       members = ms;
       board = g.board;
-    })
-set_pair g v c k n a x shape es at ix l e f = (
+    }) × AreInOrder (record {
+      tables = g.tables;
+      rows = es;
+      numbers = g.numbers;
+      owners = ws;
+      members = ms;
+      board = g.board;
+    }) fs
+set_pair g v c k n a x shape es at ix l e f fs o = (
   g.owners,
   g.members,
   subst IsStore (sym (wrote_is g c k n a x shape es l e f))
       (wrote_store g (numbering_by shape.permanent c) c l.index l.row l.value (set l.value a x) at.store
       (writes g c k a x shape at.store ix l)),
+  o,
 )
 
 pub set_value : (g : StoreParts) (v : StoreValue) (c k n a : ℕ) (x : ℤ) (shape : ClassShape) (es : EntityTable)

@@ -1,6 +1,6 @@
 -- Private: what the calls of a store find on the board: the seat of a member, and the place at which one is filed.
 use Rattle.std.specs.Prelude.{ℕ, ℤ, ◌<◌, ◌==◌, if◌then◌else◌, Bool, false, List, [], ◌∷◌, Option, Some, None, unwrap_or}
-use Rattle.std.specs.Prelude.{Result, Ok, Err}
+use Rattle.std.specs.Prelude.{Result, Ok, Err, ◌≡◌, ◌++◌}
 use Rattle.std.specs.Ordering.{is_gt}
 use Rattle.ss_words.specs.declared.fault.RunFault.{RunFault}
 use Rattle.ss_words.specs.declared.fault.RunFault.TheVariants.{NoEntity, NotInList, EmptySet}
@@ -62,6 +62,20 @@ seat_behind_in es ns keys c k t = is_gt (by_keys keys (keys_in es keys c (number
 abbrev pub rank_before : (ℕ → Bool) → Option ℕ → List ℕ → Option ℕ
 rank_before test p [] = p
 rank_before test p (t ∷ ts) = if test t then p else rank_before test (Some t) ts
+
+-- a search among the seats of a list: those that were passed, the last of which stands before, and those that are left,
+-- the first of which is looked at; from there the search finds what it finds from the front
+pub record Among (l : List ℕ) (test : ℕ → Bool) (before at : Option ℕ) : Type 0 where
+  -- those that were passed
+  pub passed : List ℕ
+  -- those that are left
+  pub left : List ℕ
+  -- they are all seats
+  pub all : l ≡ passed ++ left
+  -- the first that is left
+  pub begins : first_of left ≡ at
+  -- what is found
+  pub result : rank_before test before left ≡ rank_before test None l
 
 -- the seat behind which a discipline files entity number k
 abbrev pub rule_place : EntityTable → List ℕ → ℕ → ℕ → List ℕ → Discipline → Option ℕ

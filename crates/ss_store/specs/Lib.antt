@@ -7,6 +7,7 @@ pub mod Value
 pub mod Parts
 pub mod Invariant
 pub mod Finding
+pub mod Order
 pub mod Making
 pub mod Writing
 pub mod Change

@@ -96,5 +96,6 @@ impl<S: SetBoard> Store<S> {
     {
         let index = number - 1;
         self.entities.put_values(false, class, index, values);
+        self.search.forget();
     }
 }

@@ -10,9 +10,11 @@ mod making;
 mod places;
 mod ranking;
 mod rows;
+mod search;
 mod shape;
 mod store;
 mod tables;
+mod trees;
 mod writing;
 
 pub use change::StoreChange;

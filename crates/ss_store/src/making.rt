@@ -57,6 +57,9 @@ impl<S: SetBoard> Store<S> {
         ensures err { OnErr result (self.new ≡ self.old) }
     {
         let shape = self.classes[class];
+        let heads = self.board.heads().saturating_add(shape.owned);
+        let seats = self.board.seats().saturating_add(shape.joined);
+        self.search.try_grow(heads, seats)?;
         let grown = grow(
             self.alloc,
             &mut self.entities,
@@ -86,6 +89,7 @@ impl<S: SetBoard> Store<S> {
             shape.permanent,
             class,
         );
+        self.search.forget();
     }
 
     /// Takes so many entities of a class off, last first.

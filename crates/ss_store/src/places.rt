@@ -1,5 +1,5 @@
 //! Where the lists and the members of a set are on the board.
-ghost use Rattle.std.specs.Prelude.{◌≡◌, ◌<◌, ◌^◌, length, IfOk, None, Some, ℕ, option_map};
+ghost use Rattle.std.specs.Prelude.{◌≡◌, ◌<◌, ◌^◌, length, IfOk, IsSome, None, Some, ℕ, option_map};
 ghost use Rattle.std.specs.Option.{ForNone, ForSome};
 ghost use Rattle.ss_store.specs.Store as pure;
 ghost use Rattle.ss_store.specs.Rows as table;
@@ -7,7 +7,8 @@ ghost use Rattle.ss_store.specs.Finding as finding;
 ghost use Rattle.ss_store.specs.Finding.{seat_in_list, seat_to_remove, is_at, spot_by, place_by};
 ghost use Rattle.ss_store.specs.Parts.{head_at, seat_at, number_at};
 ghost use Rattle.ss_store.specs.Finding.{SpotBelow};
-ghost use Rattle.ss_links.specs.Board.{head_of, IsSound};
+ghost use Rattle.ss_store.specs.Order.{InOrder};
+ghost use Rattle.ss_links.specs.Board.{head_of, list_at, IsSound};
 
 use crate::ranking::ranked_place;
 use crate::rows::{Entities, Row, Rows};
@@ -118,7 +119,7 @@ pub(crate) fn spot_of(entities: &Entities, set: &SetShape, how: How) -> Result<S
 }
 
 /// Whether a seat stands in the list of a head.
-fn stands<S: SetBoard>(board: &S, head: u32, seat: u32) -> bool
+pub(crate) fn stands<S: SetBoard>(board: &S, head: u32, seat: u32) -> bool
     requires { seat < (S.board board.now).seats }
     ensures { result ≡ is_at (head_of (S.board board.now).lists seat) head }
 {
@@ -136,6 +137,7 @@ pub(crate) fn place_for<S: SetBoard>(
     board: &S,
     set: &SetShape,
     head: u32,
+    start: Option<u32>,
     member: usize,
     spot: Spot,
 ) -> Result<Option<u32>, RunFault>
@@ -143,6 +145,8 @@ pub(crate) fn place_for<S: SetBoard>(
     requires spot { SpotBelow spot (S.board board.now).seats }
     requires numbers { length numbers.now ≡ (S.board board.now).seats }
     requires sound { IsSound (S.board board.now) }
+    requires order { (t : ℕ) → start ≡ Some t → InOrder entities.now numbers.now set.now
+        (list_at (S.board board.now).lists head) }
     ensures { result
         ≡ place_by entities.now numbers.now (S.board board.now).lists set.now head member spot }
 {
@@ -153,7 +157,7 @@ pub(crate) fn place_for<S: SetBoard>(
             Discipline::Fifo => Ok(board.last(head)),
             Discipline::Lifo => Ok(None),
             Discipline::Ranked(keys) => Ok(ranked_place(
-                entities, numbers, board, set.member, keys, head, member,
+                entities, numbers, board, set.member, keys, head, start, member,
             )),
         },
         Spot::Before(at) => {

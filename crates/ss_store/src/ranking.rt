@@ -1,18 +1,23 @@
 //! Where a ranked set files a member.
-ghost use Rattle.std.specs.Prelude.{◌≡◌, ◌<◌, length, None, IsSome, unwrap_or, [], pos, slice_index_or, option_map};
+ghost use Rattle.std.specs.Prelude.{◌≡◌, ◌<◌, ℕ, length, None, Some, IsSome, unwrap_or, [], pos, slice_index_or, option_map};
+ghost use Rattle.std.specs.Prelude.{true, false};
 ghost use Rattle.std.specs.Ordering.{is_gt};
 ghost use Rattle.std.specs.Option.{ForSome};
 ghost use Rattle.ss_links.specs.Board.{list_at, list_of, head_of, IsSound};
 ghost use Rattle.ss_links.specs.Seats.{next_in};
 ghost use Rattle.ss_program.specs.Keys.{by_keys, key_values};
 ghost use Rattle.ss_store.specs.Rows as table;
-ghost use Rattle.ss_store.specs.Finding.{keys_in, rank_before, seat_behind_in};
+ghost use Rattle.ss_store.specs.Finding.{Among, is_at, keys_in, rank_before, seat_behind_in};
+ghost use Rattle.ss_store.specs.Order.{Climbs, InOrder, known_at, seat_after};
 ghost use Rattle.ss_store.specs.Parts.{number_at};
+ghost use Rattle.ss_store.specs.declared.places.Spot.TheVariants as spots;
 
-use crate::places::member_at_seat;
+use crate::places::{Spot, member_at_seat, stands};
 use crate::rows::{Entities, Rows};
+use crate::search::Search;
+use crate::shape::SetShape;
 use ss_links::SetBoard;
-use ss_program::{Key, Keys, Rank};
+use ss_program::{Discipline, Key, Keys, Rank};
 
 /// The values of the attributes of the entity with this index, if it is of this class and has not
 /// ended.
@@ -100,6 +105,201 @@ fn seat_behind(
     }
 }
 
+/// Whether the member at the seat before ranks strictly behind the one at this seat.
+fn falls(
+    entities: &Entities,
+    numbers: &[u32],
+    class: usize,
+    keys: &[Key],
+    before: Option<u32>,
+    seat: u32,
+) -> bool
+    requires before { ForSome before (λ x. x < length numbers.now) }
+    requires seat { seat < length numbers.now }
+    ensures { result ≡ false → (x : ℕ) → before ≡ Some x
+        → seat_after entities.now numbers.now keys.now class x seat ≡ false }
+{
+    match before {
+        None => false,
+        Some(front) => {
+            let number = member_at_seat(numbers, seat) as usize;
+            match values_of(entities, class, number) {
+                None => seat_behind(entities, numbers, class, keys, front, &[]),
+                Some(ours) => seat_behind(entities, numbers, class, keys, front, ours),
+            }
+        }
+    }
+}
+
+/// Whether no member of the list of a head ranks strictly behind one that stands later.
+fn climbs<S: SetBoard>(
+    entities: &Entities,
+    numbers: &[u32],
+    board: &S,
+    class: usize,
+    keys: &[Key],
+    head: u32,
+) -> bool
+    requires head { head < length (S.board board.now).lists }
+    requires numbers { length numbers.now ≡ (S.board board.now).seats }
+    requires sound { IsSound (S.board board.now) }
+    ensures { result ≡ true → Climbs (seat_after entities.now numbers.now keys.now class)
+        (list_at (S.board board.now).lists head) }
+{
+    let mut before = None;
+    let mut at = board.first(head);
+    while let Some(seat) = at {
+        if falls(entities, numbers, class, keys, before, seat) {
+            return false;
+        }
+        before = at;
+        at = board.next(seat);
+    }
+    true
+}
+
+/// Whether the list of a head is in order, where a member is to be filed by the ranking of its set.
+pub(crate) fn is_in_order<S: SetBoard>(
+    search: &Search,
+    entities: &Entities,
+    numbers: &[u32],
+    board: &S,
+    set: &SetShape,
+    head: u32,
+    spot: Spot,
+) -> bool
+    requires head { head < length (S.board board.now).lists }
+    requires numbers { length numbers.now ≡ (S.board board.now).seats }
+    requires sound { IsSound (S.board board.now) }
+    requires known { known_at search.now head ≡ true → InOrder entities.now numbers.now set.now
+        (list_at (S.board board.now).lists head) }
+    ensures order { result ≡ true → InOrder entities.now numbers.now set.now
+        (list_at (S.board board.now).lists head) }
+    ensures rule { result ≡ true → spot ≡ spots.ByRule }
+{
+    match (spot, &set.discipline) {
+        (Spot::ByRule, Discipline::Ranked(keys)) => {
+            search.knows(head) || climbs(entities, numbers, board, set.member, &keys.list, head)
+        }
+        _ => false,
+    }
+}
+
+/// The last seat of the tree of a head whose member does not rank behind an entity with these
+/// values, as far as the tree is right.
+fn searched(
+    search: &Search,
+    entities: &Entities,
+    numbers: &[u32],
+    class: usize,
+    keys: &[Key],
+    head: u32,
+    ours: &[i64],
+) -> Option<u32> {
+    let trees = search.trees();
+    let mut found = None;
+    let mut at = trees.root(head);
+    for _ in 0..numbers.len() {
+        let Some(seat) = at else {
+            return found;
+        };
+        if seat as usize >= numbers.len() {
+            return found;
+        }
+        if seat_behind(entities, numbers, class, keys, seat, ours) {
+            at = trees.left(seat);
+        } else {
+            found = at;
+            at = trees.right(seat);
+        }
+    }
+    found
+}
+
+/// A seat of the list of a head behind which the place of an entity is to be looked for, if the list
+/// is in order.
+pub(crate) fn start_of(
+    in_order: bool,
+    search: &Search,
+    entities: &Entities,
+    numbers: &[u32],
+    set: &SetShape,
+    head: u32,
+    member: usize,
+) -> Option<u32>
+    ensures { in_order ≡ false → result ≡ None }
+{
+    if !in_order {
+        return None;
+    }
+    match &set.discipline {
+        Discipline::Ranked(keys) => {
+            let class = set.member;
+            match values_of(entities, class, member) {
+                None => searched(search, entities, numbers, class, &keys.list, head, &[]),
+                Some(ours) => searched(search, entities, numbers, class, &keys.list, head, ours),
+            }
+        }
+        _ => None,
+    }
+}
+
+/// Whether a seat stands in the list of a head and its member does not rank behind an entity with
+/// these values, so that the search for that one's place may begin behind it.
+fn may_begin<S: SetBoard>(
+    entities: &Entities,
+    numbers: &[u32],
+    board: &S,
+    class: usize,
+    keys: &[Key],
+    head: u32,
+    seat: u32,
+    ours: &[i64],
+) -> bool
+    requires { length numbers.now ≡ (S.board board.now).seats }
+    ensures there { result ≡ true → seat < (S.board board.now).seats }
+    ensures stands { result ≡ true → is_at (head_of (S.board board.now).lists seat) head ≡ true }
+    ensures passed { result ≡ true → is_gt (by_keys keys.now
+        (keys_in entities.now keys.now class (number_at numbers.now seat))
+        (key_values keys.now ours.now)) ≡ false }
+{
+    if seat as usize >= numbers.len() || !stands(board, head, seat) {
+        return false;
+    }
+    !seat_behind(entities, numbers, class, keys, seat, ours)
+}
+
+/// Where the search for the place of an entity with these values begins: at the first seat of the
+/// list of a head, or behind a seat of the list, where that one's member does not rank behind.
+fn first_look<S: SetBoard>(
+    entities: &Entities,
+    numbers: &[u32],
+    board: &S,
+    class: usize,
+    keys: &[Key],
+    head: u32,
+    start: Option<u32>,
+    ours: &[i64],
+) -> (Option<u32>, Option<u32>)
+    requires head { head < length (S.board board.now).lists }
+    requires numbers { length numbers.now ≡ (S.board board.now).seats }
+    requires sound { IsSound (S.board board.now) }
+    requires order { (t : ℕ) → start ≡ Some t → Climbs (seat_after entities.now numbers.now keys.now class)
+        (list_at (S.board board.now).lists head) }
+    ensures { Among (list_at (S.board board.now).lists head)
+        (λ t. is_gt (by_keys keys.now
+        (keys_in entities.now keys.now class (number_at numbers.now t))
+        (key_values keys.now ours.now)))
+        result.0 result.1 }
+{
+    if let Some(seat) = start {
+        if may_begin(entities, numbers, board, class, keys, head, seat, ours) {
+            return (start, board.next(seat));
+        }
+    }
+    (None, board.first(head))
+}
+
 /// The seat behind which the list of a head has an entity with these values filed, or none where it
 /// is filed first.
 fn place_among<S: SetBoard>(
@@ -109,19 +309,21 @@ fn place_among<S: SetBoard>(
     class: usize,
     keys: &[Key],
     head: u32,
+    start: Option<u32>,
     ours: &[i64],
 ) -> Option<u32>
     requires head { head < length (S.board board.now).lists }
     requires numbers { length numbers.now ≡ (S.board board.now).seats }
     requires sound { IsSound (S.board board.now) }
+    requires order { (t : ℕ) → start ≡ Some t → Climbs (seat_after entities.now numbers.now keys.now class)
+        (list_at (S.board board.now).lists head) }
     ensures { result ≡ rank_before
         (λ t. is_gt (by_keys keys.now
         (keys_in entities.now keys.now class (number_at numbers.now t))
         (key_values keys.now ours.now)))
         None (list_at (S.board board.now).lists head) }
 {
-    let mut before = None;
-    let mut at = board.first(head);
+    let (mut before, mut at) = first_look(entities, numbers, board, class, keys, head, start, ours);
     while let Some(seat) = at {
         if seat_behind(entities, numbers, class, keys, seat, ours) {
             return before;
@@ -141,17 +343,31 @@ pub(crate) fn ranked_place<S: SetBoard>(
     class: usize,
     keys: &Keys,
     head: u32,
+    start: Option<u32>,
     member: usize,
 ) -> Option<u32>
     requires head { head < length (S.board board.now).lists }
     requires numbers { length numbers.now ≡ (S.board board.now).seats }
     requires sound { IsSound (S.board board.now) }
+    requires order { (t : ℕ) → start ≡ Some t → Climbs (seat_after entities.now numbers.now keys.now class)
+        (list_at (S.board board.now).lists head) }
     ensures { result
         ≡ rank_before (seat_behind_in entities.now numbers.now keys.now class member) None
         (list_at (S.board board.now).lists head) }
 {
     match values_of(entities, class, member) {
-        None => place_among(entities, numbers, board, class, &keys.list, head, &[]),
-        Some(ours) => place_among(entities, numbers, board, class, &keys.list, head, ours),
+        None => place_among(
+            entities,
+            numbers,
+            board,
+            class,
+            &keys.list,
+            head,
+            start,
+            &[],
+        ),
+        Some(ours) => place_among(
+            entities, numbers, board, class, &keys.list, head, start, ours,
+        ),
     }
 }

@@ -15,8 +15,9 @@ use crate::places::{
     head_of, known, member_at_seat, member_if, number_of_value, place_for, row_of, seat_if,
     seat_in, seat_of, seat_to_remove, spot_of,
 };
-use crate::ranking::{value_at, values_of};
+use crate::ranking::{is_in_order, start_of, value_at, values_of};
 use crate::rows::Entities;
+use crate::search::Search;
 use crate::shape::{ClassShape, How, SetShape, Which};
 use crate::tables::{class_shapes, count_owned, set_shapes};
 use ss_journal::Undo;
@@ -39,11 +40,13 @@ pub struct Store<S: SetBoard> {
     pub(crate) entities: Entities,
     pub(crate) numbers: Vec<u32>,
     pub(crate) board: S,
+    pub(crate) search: Search,
 }
 
 impl<S: SetBoard> Model for Store<S> {
     ghost use Rattle.std.specs.Prelude.{List, []};
     ghost use Rattle.ss_store.specs.Invariant.{IsStore};
+    ghost use Rattle.ss_store.specs.Order.{AreInOrder};
     ghost use Rattle.ss_store.specs.Parts.{HeadEntry, SeatEntry, StoreParts, value_of};
     ghost use Rattle.ss_store.specs.Value.{StoreValue};
 
@@ -65,7 +68,14 @@ impl<S: SetBoard> Model for Store<S> {
       owners = ws;
       members = ms;
       board = S.board a.board;
-    }) };
+    }) × AreInOrder (record {
+      tables = record { classes = a.classes.items; sets = a.sets.items; system = a.system };
+      rows = a.entities;
+      numbers = a.numbers.items;
+      owners = ws;
+      members = ms;
+      board = S.board a.board;
+    }) a.search };
 }
 
 impl<S: SetBoard> Store<S> {
@@ -99,6 +109,8 @@ impl<S: SetBoard> Store<S> {
     {
         let entities = Entities::new(alloc, classes.len())?;
         let mut board = board;
+        let mut search = Search::new(alloc);
+        search.try_grow(system, 0)?;
         add_heads(&mut board, system)?;
         Ok(Store {
             alloc,
@@ -108,6 +120,7 @@ impl<S: SetBoard> Store<S> {
             entities,
             numbers: Vec::new(alloc),
             board,
+            search,
         })
     }
 }
@@ -150,12 +163,31 @@ impl<S: SetBoard> Store<S> {
             Some(_) => return Err(RunFault::AlreadyInSet),
             None => {}
         }
+        let in_order = is_in_order(
+            &self.search,
+            &self.entities,
+            &self.numbers,
+            &self.board,
+            shape,
+            head,
+            spot,
+        );
+        let start = start_of(
+            in_order,
+            &self.search,
+            &self.entities,
+            &self.numbers,
+            shape,
+            head,
+            member,
+        );
         let before = match place_for(
             &self.entities,
             &self.numbers,
             &self.board,
             shape,
             head,
+            start,
             member,
             spot,
         ) {
@@ -163,6 +195,8 @@ impl<S: SetBoard> Store<S> {
             Ok(before) => before,
         };
         self.board.relink(seat, Place { head, before });
+        self.search.put(shape, head, seat, before);
+        self.search.note(head, in_order);
         Ok(StoreChange::Filed {
             set,
             owner: shape.owner,
@@ -200,6 +234,7 @@ impl<S: SetBoard> Store<S> {
             Ok(seat) => seat,
         };
         let place = self.board.unlink(seat);
+        self.search.take(shape, head, seat);
         let member = member_at_seat(&self.numbers, seat);
         let before = member_if(&self.numbers, place.before);
         Ok((
@@ -446,7 +481,8 @@ impl<S: SetBoard> Undo for Store<S> {
                 known(&self.board);
                 let shape = &self.sets[set];
                 let seat = seat_of(&self.entities, shape, member).unwrap();
-                let _place = self.board.unlink(seat);
+                let place = self.board.unlink(seat);
+                self.search.take(shape, place.head, seat);
             }
             StoreChange::Removed {
                 set,
@@ -462,6 +498,8 @@ impl<S: SetBoard> Undo for Store<S> {
                 let head = head_of(&self.entities, shape, number).unwrap();
                 let seat = seat_of(&self.entities, shape, member).unwrap();
                 self.board.relink(seat, Place { head, before });
+                self.search.put(shape, head, seat, before);
+                self.search.note(head, false);
             }
             StoreChange::Created {
                 class,

@@ -1,4 +1,10 @@
 //! Attributes written.
+ghost use Rattle.std.specs.Prelude.{◌+◌, ◌==◌, ◌&&◌, is_some};
+ghost use Rattle.std.specs.List.{list_any};
+ghost use Rattle.ss_links.specs.Board.{head_of};
+ghost use Rattle.ss_store.specs.declared.shape.SetShape.{SetShape as ASet};
+ghost use Rattle.ss_store.specs.Order as order;
+ghost use Rattle.ss_store.specs.Tables.{IsSet};
 ghost use Rattle.std.specs.Prelude.{◌≡◌, ◌<◌, ℤ, List, pos, length, true, slice_get, slice_index_or, slice_set, Some};
 ghost use Rattle.ss_store.specs.Rows.{rows_in, values_of};
 ghost use Rattle.ss_store.specs.Making.{with_table, numbering_by};
@@ -7,11 +13,13 @@ ghost use Rattle.ss_store.specs.Store as pure;
 ghost use Rattle.ss_store.specs.Change.{IsOutcome};
 
 use crate::change::StoreChange;
-use crate::places::{number_of_value, row_of};
+use crate::places::{known, number_of_value, row_of};
 use crate::ranking::value_at;
 use crate::rows::Entities;
+use crate::shape::SetShape;
 use crate::store::Store;
 use ss_links::SetBoard;
+use ss_program::{Discipline, Key};
 use ss_words::RunFault;
 
 /// Gives an attribute of an entity, by its index in its numbering, another value; answers the old
@@ -47,6 +55,52 @@ pub(crate) fn replace(
     old
 }
 
+/// Whether an attribute is one of these keys.
+fn has_key(keys: &[Key], attribute: usize) -> bool
+    ensures { result ≡ list_any (λ k. k.attribute == attribute) keys.now }
+{
+    for key in keys {
+        if key.attribute == attribute {
+            return true;
+        }
+    }
+    false
+}
+
+/// Whether an attribute is a key of the ranking of a set.
+fn is_key(set: &SetShape, attribute: usize) -> bool
+    ensures { result ≡ order.is_key set.now attribute }
+{
+    match &set.discipline {
+        Discipline::Ranked(keys) => has_key(&keys.list, attribute),
+        _ => false,
+    }
+}
+
+/// Whether an entity of a class, whose seats begin at this one, is in a list that this attribute
+/// ranks.
+fn is_ranked_by<S: SetBoard>(
+    board: &S,
+    sets: &[SetShape],
+    class: usize,
+    seat: u32,
+    attribute: usize,
+) -> bool
+    requires { (s : ASet) → IsSet sets.now s → s.member ≡ class
+        → seat + s.slot < (S.board board.now).seats }
+    ensures { result
+        ≡ list_any (λ s. (s.member == class) && order.is_key s attribute
+        && is_some (head_of (S.board board.now).lists (seat + s.slot))) sets.now }
+{
+    known(board);
+    for set in sets {
+        if set.member == class && is_key(set, attribute) && board.place(seat + set.slot).is_some() {
+            return true;
+        }
+    }
+    false
+}
+
 impl<S: SetBoard> Store<S> {
     /// Gives an attribute of an entity, by its number in the class, another value; F3 where the
     /// entity does not exist, and then nothing changes.
@@ -64,10 +118,11 @@ impl<S: SetBoard> Store<S> {
     {
         let shape = self.classes[class];
         let number = number_of_value(entity);
-        match row_of(&self.entities, class, number) {
+        let row = match row_of(&self.entities, class, number) {
             None => return Err(RunFault::NoEntity),
-            Some(_) => {}
-        }
+            Some(row) => row,
+        };
+        let ranked = is_ranked_by(&self.board, &self.sets, class, row.seat, attribute);
         let index = number - 1;
         let old = replace(
             &mut self.entities,
@@ -77,6 +132,7 @@ impl<S: SetBoard> Store<S> {
             attribute,
             value,
         );
+        self.search.forget_if(ranked);
         Ok(StoreChange::AttributeSet {
             class,
             attribute,
@@ -106,5 +162,6 @@ impl<S: SetBoard> Store<S> {
             attribute,
             value,
         );
+        self.search.forget();
     }
 }

@@ -1,9 +1,9 @@
 use Rattle.std.proofs.Common.{sym, ◌∙◌, arith}
-use Rattle.ss_store.proofs.Among.{among_begins, among_in, fewer_in, among_next}
+use Rattle.ss_store.proofs.Among.{among_in, fewer_in, among_next}
 use Rattle.ss_store.proofs.ranking.place_among.Goals as goal
 
 pub loop-at-init : goal.loop-at-init
-loop-at-init g c = among_begins _ _ _ c.first-at.ensures.value
+loop-at-init g c = c.first_look-before.ensures
 
 pub seat_behind-requires : goal.seat_behind-requires
 seat_behind-requires g c = let b = among_in (g.S.SetBoard.board c.args.board.now) c.args.head _ _ _ c.in-Some.seat

@@ -1,5 +1,8 @@
 use Rattle.std.proofs.Common.{◌-◌, refl}
 use Rattle.ss_store.proofs.Destroyed.{lay, lay_below, back_pair, back_value}
+use Rattle.std.proofs.Common.{subst, sym}
+use Rattle.ss_store.specs.Order.{AreInOrder}
+use Rattle.ss_store.proofs.Ordered.{none_known}
 use Rattle.ss_store.proofs.store.Store.bring_back.Goals as goal
 
 pub put_values-requires-clause-index : goal.put_values-requires-clause-index
@@ -12,9 +15,9 @@ pub invariant_of-self : goal.invariant_of-self
 invariant_of-self g c =
     let l = lay _ _ c.args.class c.args.number _ c.args.values.items c.self.view_is c.self.invariant.2
     c.requires in
-    back_pair _ _ c.args.class c.args.number (c.args.number - 1) _ c.args.values.items _ c.self.view_is
+    let p = back_pair _ _ c.args.class c.args.number (c.args.number - 1) _ c.args.values.items _ c.self.view_is
     c.self.invariant.2
-    c.requires l refl c.put_values.ensures
+    c.requires l refl c.put_values.ensures in (p.0, p.1, p.2, subst (AreInOrder _) (sym c.forget.ensures) (none_known _))
 
 pub returns : goal.returns
 returns g c =

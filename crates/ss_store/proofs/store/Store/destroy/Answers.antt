@@ -4,6 +4,8 @@ use Rattle.ss_store.specs.Store.{number_of}
 use Rattle.ss_store.proofs.Made.{at_of}
 use Rattle.ss_store.proofs.Destroyed.{lives, seats_below, heads_below, index_below, end_fault, none_ends, member_stays}
 use Rattle.ss_store.proofs.Destroyed.{owner_stays, found_out, ended_pair, taken_out, ended_outcome}
+use Rattle.ss_store.proofs.Destroyed.{lives}
+use Rattle.ss_store.proofs.Ordered.{ended_order}
 use Rattle.ss_store.proofs.store.Store.destroy.Goals as goal
 
 pub returns-in-None : goal.returns-in-None
@@ -71,7 +73,12 @@ invariant_of-self g c =
     ended_pair _ _ c.args.class c.number_of_value-number.result
     (c.number_of_value-number.result - 1) c.index-shape.result.now c.in-Some.row
     _ d
-    refl c.take_values.ensures.rows
+    refl c.take_values.ensures.rows _
+    (ended_order _ _ c.args.class
+    c.number_of_value-number.result (c.number_of_value-number.result - 1) c.in-Some.row _ _ _ c.self.invariant.2
+    c.self.invariant.3 (lives _ _ c.args.class c.number_of_value-number.result c.index-shape.result.now c.in-Some.row k
+    c.requires.kind (sym c.row_of.ensures ∙ c.in-Some.is)) refl c.take_values.ensures.rows c.deref.ensures.value
+    c.stands_anywhere.ensures c.if-stands_anywhere.false)
 
 pub returns : goal.returns
 returns g c =

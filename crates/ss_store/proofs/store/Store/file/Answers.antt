@@ -4,11 +4,15 @@ use Rattle.std.specs.Prelude.{Ok, Err}
 use Rattle.ss_words.specs.declared.fault.RunFault.TheVariants.{NoEntity, AlreadyInSet}
 use Rattle.ss_store.specs.declared.change.StoreChange.TheVariants.{Filed}
 use Rattle.ss_store.specs.Store.{number_of}
-use Rattle.std.proofs.Common.{ap, sym, ◌∙◌}
+use Rattle.std.proofs.Common.{ap, sym, subst, ◌∙◌}
+use Rattle.std.specs.Prelude.{slice_set}
+use Rattle.ss_links.specs.Board.{list_at}
+use Rattle.ss_store.specs.Order.{InOrder, AreInOrder}
 use Rattle.ss_store.specs.Finding.{place_by}
 use Rattle.ss_store.proofs.Calls.{case_of, head_small, seat_small, file_no_owner, file_no_member, file_none_named}
 use Rattle.ss_store.proofs.Calls.{file_already, file_not_there, spot_below, can_relink, file_store, file_left, file_to}
 use Rattle.ss_store.proofs.Agree.{head_below, seat_below}
+use Rattle.ss_store.proofs.Ordered.{filed_order, known_order, started}
 use Rattle.ss_store.proofs.store.Store.file.Goals as goal
 
 pub head_of-requires : goal.head_of-requires
@@ -78,6 +82,26 @@ returns-in-Some-place g c = let p = file_already _ _ c.args.set c.index-shape.re
     (let fits : FitsSigned w64 c.args.member = search rules in c.number_of_value-member.ensures
     ∙ ap number_of (to_z-of_z w64 _ fits)) p
 
+pub is_in_order-in_order-requires-clause-head : goal.is_in_order-in_order-requires-clause-head
+is_in_order-in_order-requires-clause-head g c = let k =
+    (case_of _ _ c.args.set c.index-shape.result.now c.self.view_is c.self.invariant.2 c.requires
+    c.index-shape.ensures) in head_below _ c.index-shape.result.now c.number_of_value-number.result c.in-Some.head
+    c.self.invariant.2 k.is_set (sym c.head_of.ensures ∙ c.in-Some.is)
+
+pub is_in_order-in_order-requires-clause-known : goal.is_in_order-in_order-requires-clause-known
+is_in_order-in_order-requires-clause-known g c e = let k =
+    (case_of _ _ c.args.set c.index-shape.result.now c.self.view_is c.self.invariant.2 c.requires
+    c.index-shape.ensures) in subst (λ z. InOrder c.self.inside.entities z c.index-shape.result.now
+    (list_at (g.S.SetBoard.board c.self.inside.board).lists c.in-Some.head)) (sym c.deref.ensures.value)
+    (known_order _ _ c.index-shape.result.now c.number_of_value-number.result c.in-Some.head c.self.invariant.2
+    c.self.invariant.3 k.is_set (sym c.head_of.ensures ∙ c.in-Some.is) e)
+
+pub place_for-requires-clause-order : goal.place_for-requires-clause-order
+place_for-requires-clause-order g c t e = subst (λ z. InOrder c.self.inside.entities z c.index-shape.result.now
+    (list_at (g.S.SetBoard.board c.self.inside.board).lists c.in-Some.head))
+    (c.deref.ensures.value ∙ sym c.deref-3.ensures.value) (c.is_in_order-in_order.ensures.order
+    (started c.is_in_order-in_order.result c.start_of-start.result t c.start_of-start.ensures e))
+
 pub place_for-requires-clause-head : goal.place_for-requires-clause-head
 place_for-requires-clause-head g c = let k =
     (case_of _ _ c.args.set c.index-shape.result.now c.self.view_is c.self.invariant.2 c.requires
@@ -100,7 +124,7 @@ returns-in-Err-place_for g c = let p = file_not_there _ _ c.args.set c.index-sha
     ∙ c.in-Ok.is) (sym c.place.ensures.value
     ∙ c.in-None-place.is) (sym (c.place_for.ensures
     ∙ ap (λ z. place_by c.self.inside.entities z (g.S.SetBoard.board c.self.inside.board).lists c.index-shape.result.now
-    c.in-Some.head c.number_of_value-member.result c.in-Ok.spot) c.deref.ensures.value) ∙ c.in-Err-place_for.is) in
+    c.in-Some.head c.number_of_value-member.result c.in-Ok.spot) c.deref-3.ensures.value) ∙ c.in-Err-place_for.is) in
     file_to (Err c.in-Err-place_for.fault) c.args.self.now c.args.self.now c.args.set _ _ _ _ c.args.how
     (let fits : FitsSigned w64 c.args.owner = search rules in c.number_of_value-number.ensures
     ∙ ap number_of (to_z-of_z w64 _ fits))
@@ -116,7 +140,7 @@ relink-requires g c = can_relink _ _ c.args.set c.index-shape.result.now c.numbe
     ∙ c.in-Ok.is) (sym c.place.ensures.value
     ∙ c.in-None-place.is) (sym (c.place_for.ensures
     ∙ ap (λ z. place_by c.self.inside.entities z (g.S.SetBoard.board c.self.inside.board).lists c.index-shape.result.now
-    c.in-Some.head c.number_of_value-member.result c.in-Ok.spot) c.deref.ensures.value) ∙ c.in-Ok-place_for.is)
+    c.in-Some.head c.number_of_value-member.result c.in-Ok.spot) c.deref-3.ensures.value) ∙ c.in-Ok-place_for.is)
 
 pub invariant_of-self : goal.invariant_of-self
 invariant_of-self g c = (
@@ -132,8 +156,25 @@ invariant_of-self g c = (
       ∙ c.in-None-place.is) (sym (c.place_for.ensures
       ∙ ap (λ z. place_by c.self.inside.entities z (g.S.SetBoard.board c.self.inside.board).lists
       c.index-shape.result.now
-      c.in-Some.head c.number_of_value-member.result c.in-Ok.spot) c.deref.ensures.value)
+      c.in-Some.head c.number_of_value-member.result c.in-Ok.spot) c.deref-3.ensures.value)
       ∙ c.in-Ok-place_for.is) c.relink.ensures.board c.relink.ensures.sound.1,
+  subst (AreInOrder _) (sym (c.note.ensures
+      ∙ ap (λ z. slice_set z c.in-Some.head c.is_in_order-in_order.result) c.put.ensures))
+      (filed_order _ _ _ _ c.args.set c.index-shape.result.now c.number_of_value-number.result
+      c.number_of_value-member.result c.in-Some.head c.in-Some-seat_of.seat c.in-Ok-place_for.before c.args.how
+      c.in-Ok.spot c.is_in_order-in_order.result
+      (case_of _ _ c.args.set c.index-shape.result.now c.self.view_is c.self.invariant.2 c.requires
+      c.index-shape.ensures)
+      (sym c.head_of.ensures ∙ c.in-Some.is) (sym c.seat_of.ensures ∙ c.in-Some-seat_of.is) (sym c.spot_of.ensures
+      ∙ c.in-Ok.is) (sym c.place.ensures.value
+      ∙ c.in-None-place.is) (sym (c.place_for.ensures
+      ∙ ap (λ z. place_by c.self.inside.entities z (g.S.SetBoard.board c.self.inside.board).lists
+      c.index-shape.result.now
+      c.in-Some.head c.number_of_value-member.result c.in-Ok.spot) c.deref-3.ensures.value)
+      ∙ c.in-Ok-place_for.is) c.relink.ensures.board c.relink.ensures.sound.1 c.self.invariant.3
+      c.is_in_order-in_order.ensures.rule (λ e. subst (λ z. InOrder c.self.inside.entities z c.index-shape.result.now
+      (list_at (g.S.SetBoard.board c.self.inside.board).lists c.in-Some.head)) c.deref.ensures.value
+      (c.is_in_order-in_order.ensures.order e))),
 )
 
 pub returns : goal.returns
@@ -145,7 +186,7 @@ returns g c = let p = file_left _ _ _ c.args.set c.index-shape.result.now c.numb
     ∙ c.in-Ok.is) (sym c.place.ensures.value
     ∙ c.in-None-place.is) (sym (c.place_for.ensures
     ∙ ap (λ z. place_by c.self.inside.entities z (g.S.SetBoard.board c.self.inside.board).lists c.index-shape.result.now
-    c.in-Some.head c.number_of_value-member.result c.in-Ok.spot) c.deref.ensures.value)
+    c.in-Some.head c.number_of_value-member.result c.in-Ok.spot) c.deref-3.ensures.value)
     ∙ c.in-Ok-place_for.is) c.relink.ensures.board c.relink.ensures.sound.1 in
     file_to
     (Ok (Filed c.args.set c.index-shape.result.now.owner c.index-shape.result.now.list c.number_of_value-number.result

@@ -11,6 +11,9 @@ use Rattle.ss_store.proofs.Calls.{case_of, head_small}
 use Rattle.ss_store.proofs.Agree.{head_below, seat_below}
 use Rattle.ss_store.proofs.Named.{remove_no_owner, remove_unnamed, remove_store, remove_left, named_below, named_linked}
 use Rattle.ss_store.proofs.Named.{named_number, before_below, remove_to}
+use Rattle.std.proofs.Common.{subst}
+use Rattle.ss_store.specs.Order.{AreInOrder}
+use Rattle.ss_store.proofs.Ordered.{removed_order}
 use Rattle.ss_store.proofs.store.Store.remove.Goals as goal
 
 pub head_of-requires : goal.head_of-requires
@@ -89,6 +92,8 @@ invariant_of-self g c = (
       c.args.which (case_of _ _ c.args.set c.index-shape.result.now c.self.view_is c.self.invariant.2 c.requires
       c.index-shape.ensures) (sym c.head_of.ensures ∙ c.in-Some.is) (sym c.seat_to_remove.ensures
       ∙ c.in-Ok.is) c.unlink-place.ensures.board c.unlink-place.ensures.sound.1,
+  subst (AreInOrder _) (sym c.take.ensures)
+      (removed_order _ _ _ c.in-Ok.seat c.unlink-place.ensures.board c.self.invariant.3),
 )
 
 pub returns : goal.returns

@@ -4,6 +4,8 @@ use Rattle.ss_store.specs.Store.{number_of}
 use Rattle.ss_store.specs.Making.{numbering_by}
 use Rattle.ss_store.proofs.Made.{at_of}
 use Rattle.ss_store.proofs.Written.{signed_range, lies, living_at, as_value, set_pair, set_outcome_to, set_none_to}
+use Rattle.ss_store.proofs.Ordered.{set_order}
+use Rattle.ss_store.proofs.Destroyed.{seats_below}
 use Rattle.ss_store.proofs.store.Store.set.Goals as goal
 
 pub returns-in-None : goal.returns-in-None
@@ -24,6 +26,12 @@ replace-old-requires-clause-living g c =
           refl,
     )
 
+pub is_ranked_by-ranked-requires : goal.is_ranked_by-ranked-requires
+is_ranked_by-ranked-requires g c = seats_below _ _ c.args.class c.number_of_value-number.result
+    c.index-shape.result.now c.in-Some.row _
+    (at_of _ _ c.args.class c.index-shape.result.now c.self.view_is c.self.invariant.2 c.requires c.index-shape.ensures)
+    (sym c.row_of.ensures ∙ c.in-Some.is) c.deref.ensures.value
+
 pub invariant_of-self : goal.invariant_of-self
 invariant_of-self g c =
     let k = at_of _ _ c.args.class c.index-shape.result.now c.self.view_is c.self.invariant.2 c.requires
@@ -38,7 +46,17 @@ invariant_of-self g c =
     (c.replace-old.ensures.rows l.value
     (living_at _ c.args.class c.number_of_value-number.result (c.number_of_value-number.result - 1)
     c.index-shape.result.now l refl)) (let fits : FitsSigned w64 c.args.value = search rules in
-    to_z-of_z w64 _ fits))
+    to_z-of_z w64 _ fits)) _
+    (set_order _ _ _ c.args.class c.number_of_value-number.result
+    (c.number_of_value-number.result - 1) c.args.attribute c.args.value c.in-Some.row c.index-shape.result.now _ _ _
+    c.self.invariant.2 c.self.invariant.3 l (sym c.row_of.ensures ∙ c.in-Some.is) refl
+    (as_value _ c.self.inside.entities (numbering_by c.index-shape.result.now.permanent c.args.class)
+    (c.number_of_value-number.result - 1) c.args.attribute l.value c.args.value _
+    (c.replace-old.ensures.rows l.value
+    (living_at _ c.args.class c.number_of_value-number.result (c.number_of_value-number.result - 1)
+    c.index-shape.result.now l refl)) (let fits : FitsSigned w64 c.args.value = search rules in
+    to_z-of_z w64 _ fits)) c.deref.ensures.value c.is_ranked_by-ranked.ensures c.forget_if.ensures.forgotten
+    c.forget_if.ensures.kept)
 
 pub returns : goal.returns
 returns g c =

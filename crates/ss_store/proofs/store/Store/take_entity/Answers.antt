@@ -1,6 +1,9 @@
 use Rattle.ss_store.specs.Making.{numbering_by}
 use Rattle.ss_store.proofs.Made.{at_of}
 use Rattle.ss_store.proofs.Taken.{newest, any_row, shrinks, takes, taken_pair, taken_value}
+use Rattle.std.proofs.Common.{subst, sym}
+use Rattle.ss_store.specs.Order.{AreInOrder}
+use Rattle.ss_store.proofs.Ordered.{none_known}
 use Rattle.ss_store.proofs.store.Store.take_entity.Goals as goal
 
 pub shrink-requires-clause-any : goal.shrink-requires-clause-any
@@ -25,10 +28,10 @@ invariant_of-self g c =
     let k = at_of _ _ c.args.class c.index-shape.result.now c.self.view_is c.self.invariant.2 c.requires.class
     c.index-shape.ensures in
     let n = newest _ _ c.args.class c.index-shape.result.now f.0 f.1 f.2 k f.3 in
-    taken_pair _ (numbering_by c.index-shape.result.now.permanent c.args.class) c.args.class c.index-shape.result.now
+    let p = taken_pair _ (numbering_by c.index-shape.result.now.permanent c.args.class) c.args.class c.index-shape.result.now
     f.1 f.2 _ _ _ c.self.invariant.2 n
     (takes _ _ c.args.class c.index-shape.result.now f.1 f.2 _ _ _ n c.shrink.ensures.rows c.shrink.ensures.numbers
-    c.shrink.ensures.board c.shrink.ensures.sound)
+    c.shrink.ensures.board c.shrink.ensures.sound) in (p.0, p.1, p.2, subst (AreInOrder _) (sym c.forget.ensures) (none_known _))
 
 pub returns : goal.returns
 returns g c = λ j h t f.

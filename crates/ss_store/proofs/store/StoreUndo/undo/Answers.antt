@@ -10,6 +10,11 @@ use Rattle.ss_store.proofs.Removed.{refile_can, refile_store, refile_left}
 use Rattle.ss_store.proofs.Undone.{undoes, behind, filed_seat, removed_head, removed_seat}
 use Rattle.ss_store.proofs.Chained.{created_back}
 use Rattle.ss_store.proofs.Written.{positive, reset_back}
+use Rattle.std.proofs.Common.{false}
+use Rattle.std.specs.Prelude.{slice_set}
+use Rattle.ss_store.specs.Order.{AreInOrder}
+use Rattle.ss_store.proofs.Agree.{head_below}
+use Rattle.ss_store.proofs.Ordered.{removed_order, refiled_order}
 use Rattle.ss_store.proofs.store.StoreUndo.undo.Goals as goal
 
 pub seat_of-requires : goal.seat_of-requires
@@ -58,6 +63,8 @@ invariant_of-self g c = let f : FitsFiled c.args.self.now c.in-Filed.set c.in-Fi
           c.in-Filed.number c.in-Filed.member (undoes _ _ c.in-Filed.set c.index-shape.result.now k) f)
           (sym c.seat_of.ensures
           ∙ c.unwrap-seat.ensures) c.unlink-place.ensures.board c.unlink-place.ensures.sound.1,
+      subst (AreInOrder _) (sym c.take.ensures)
+          (removed_order _ _ _ c.unwrap-seat.result c.unlink-place.ensures.board c.self.invariant.3),
     )
 
 pub returns-in-Filed : goal.returns-in-Filed
@@ -146,6 +153,11 @@ invariant_of-self-in-Removed g c = let f : FitsRemoved c.args.self.now c.in-Remo
           ∙ c.unwrap-seat-in-Removed.ensures) (behind _ c.index-shape-in-Removed.result.now c.in-Removed.before
           c.seat_if-before.result c.seat_if-before.ensures.none c.seat_if-before.ensures.some) c.relink.ensures.board
           c.relink.ensures.sound.1,
+      subst (AreInOrder _) (sym (c.note.ensures ∙ ap (λ z. slice_set z c.unwrap-head.result false) c.put.ensures))
+          (refiled_order _ _ _ c.unwrap-head.result c.unwrap-seat-in-Removed.result c.seat_if-before.result
+          (head_below _ c.index-shape-in-Removed.result.now c.in-Removed.number c.unwrap-head.result
+          c.self-in-Removed.invariant.2 k.is_set (sym c.head_of.ensures ∙ c.unwrap-head.ensures)) c.relink.ensures.board
+          c.relink.ensures.sound.1 c.self-in-Removed.invariant.3),
     )
 
 pub returns-in-Removed : goal.returns-in-Removed

@@ -1,0 +1,14 @@
+use Rattle.std.proofs.Common.{length}
+use Rattle.ss_links.specs.Board.{list_at}
+use Rattle.ss_store.specs.Order.{seat_after}
+use Rattle.ss_store.proofs.Among.{rest_from}
+use Rattle.ss_store.proofs.Climbing.{Walks}
+use Rattle.ss_store.proofs.ranking.climbs.Given as goal
+
+-- none that was passed ranks behind one that stands later
+abbrev pub invariant-loop-at : goal.invariant-loop-at
+invariant-loop-at g l = Walks (seat_after l.entities l.numbers l.keys l.class)
+    (list_at (g.S.SetBoard.board l.board).lists l.head) l.before l.at
+
+abbrev pub decreases-loop-at : goal.decreases-loop-at
+decreases-loop-at g l = length (rest_from (list_at (g.S.SetBoard.board l.board).lists l.head) l.at)
