@@ -1,4 +1,5 @@
 ghost use Rattle.std.specs.Prelude.{◌≡◌, ◌<◌, ℤ, pos, neg_ℤ, ◌+ℤ◌, ◌-ℤ◌, ◌*ℤ◌, unsigned_abs, length, Ok, OnOk, IfErr};
+ghost use Rattle.std.specs.Prelude.{None, MatchOption};
 ghost use Rattle.ss_program.specs.ProgramExpr.{expr_of, arguments_of, term_of, factor_of, subscript_of};
 ghost use Rattle.ss_program.specs.ProgramExpr as tree;
 ghost use Rattle.ss_program.specs.ProgramSound.{IsSoundVariable, IsSoundExpr, IsSoundTerm, IsSoundFactor};
@@ -17,24 +18,28 @@ use ss_program::{
 use ss_words::{RunFault, StepFault};
 
 /// A sum, or F1.
+#[inline]
 pub fn sum(x: i64, y: i64) -> Result<i64, RunFault>
     ensures { result ≡ result_in_range (x +ℤ y) }
 {
     x.checked_add(y).ok_or(RunFault::OutOfRange)
 }
 
+#[inline]
 fn difference(x: i64, y: i64) -> Result<i64, RunFault>
     ensures { result ≡ result_in_range (x -ℤ y) }
 {
     x.checked_sub(y).ok_or(RunFault::OutOfRange)
 }
 
+#[inline]
 fn product(x: i64, y: i64) -> Result<i64, RunFault>
     ensures { result ≡ result_in_range (x *ℤ y) }
 {
     x.checked_mul(y).ok_or(RunFault::OutOfRange)
 }
 
+#[inline]
 fn negation(x: i64) -> Result<i64, RunFault>
     ensures { result ≡ result_in_range (neg_ℤ x) }
 {
@@ -65,12 +70,14 @@ fn remainder(x: i64, y: i64) -> Result<i64, RunFault>
     Ok(x.wrapping_rem(y))
 }
 
+#[inline]
 fn number(n: u64) -> Result<i64, RunFault>
     ensures { result ≡ result_in_range (pos n) }
 {
     i64::try_from(n).map_err(|_| RunFault::OutOfRange)
 }
 
+#[inline]
 fn signed(sign: Option<TermSign>, x: i64) -> Result<i64, RunFault>
     ensures { result ≡ with_sign sign x }
 {
@@ -80,6 +87,7 @@ fn signed(sign: Option<TermSign>, x: i64) -> Result<i64, RunFault>
     }
 }
 
+#[inline]
 fn join(sign: TermSign, x: i64, y: i64) -> Result<i64, RunFault>
     ensures { result ≡ sum_or_difference sign x y }
 {
@@ -133,6 +141,7 @@ fn member_kept<S: SetBoard>(
 }
 
 /// The value of a variable.
+#[inline(always)]
 pub fn variable_value<S: SetBoard>(view: View<'_, S>, variable: Variable) -> i64
     requires { InView view IsSoundVariable variable }
     ensures { result ≡ terms.variable_value (view_readings view.entry) variable }
@@ -141,6 +150,7 @@ pub fn variable_value<S: SetBoard>(view: View<'_, S>, variable: Variable) -> i64
 }
 
 /// The same of a view that is lent.
+#[inline(always)]
 fn variable_seen<S: SetBoard>(view: &View<'_, S>, variable: Variable) -> i64
     requires { InView view.now IsSoundVariable variable }
     ensures { result ≡ terms.variable_value (view_readings view.now) variable }
@@ -153,6 +163,7 @@ fn variable_seen<S: SetBoard>(view: &View<'_, S>, variable: Variable) -> i64
 }
 
 /// The value of an expression, or its first fault.
+#[inline(always)]
 pub fn value<S: SetBoard>(view: View<'_, S>, e: &Expr) -> Result<i64, RunFault>
     requires { InView view IsSoundExpr e.now }
     ensures { result ≡ value_of (view_readings view.entry) e.now }
@@ -160,12 +171,29 @@ pub fn value<S: SetBoard>(view: View<'_, S>, e: &Expr) -> Result<i64, RunFault>
     value_seen(&view, e)
 }
 
-/// The same of a view that is lent.
+/// The only factor of an expression that has no sign, or `None` where it is more than that.
+#[inline(always)]
+fn only_factor(e: &Sum) -> Option<&Factor>
+    ensures { MatchOption result (Unit {0}) (λ f. expr_of e.now ≡ tree.expr None
+        (tree.term (factor_of f.now) tree.no_products) tree.no_sums) }
+{
+    if e.sign.is_some() || !e.more.is_empty() || !e.first.more.is_empty() {
+        return None;
+    }
+    Some(&e.first.first)
+}
+
+/// The same of a view that is lent. A number or a variable alone is read without a further call.
+#[inline(always)]
 pub fn value_seen<S: SetBoard>(view: &View<'_, S>, e: &Expr) -> Result<i64, RunFault>
     requires { InView view.now IsSoundExpr e.now }
     ensures { result ≡ value_of (view_readings view.now) e.now }
 {
-    sum_value(view, &e.sum)
+    match only_factor(&e.sum) {
+        Some(Factor::Number(n)) => number(*n),
+        Some(Factor::Variable(x)) => Ok(variable_seen(view, *x)),
+        _ => sum_value(view, &e.sum),
+    }
 }
 
 #[cycle(value)]
@@ -183,6 +211,7 @@ fn sum_value<S: SetBoard>(view: &View<'_, S>, e: &Sum) -> Result<i64, RunFault>
 }
 
 #[cycle(value)]
+#[inline(always)]
 fn term_value<S: SetBoard>(view: &View<'_, S>, t: &Term) -> Result<i64, RunFault>
     requires { InView view.now IsSoundTerm (term_of t.now) }
     ensures { result ≡ terms.term_value (view_readings view.now) (term_of t.now) }
@@ -273,6 +302,7 @@ fn least_value<S: SetBoard>(view: &View<'_, S>, arguments: &Arguments) -> Result
 }
 
 /// The value of a subscript: without one that of the class's variable.
+#[inline(always)]
 pub fn subscript_value<S: SetBoard>(view: View<'_, S>, index: &Index) -> Result<i64, RunFault>
     requires { InView view IsSoundSubscript index.now }
     ensures { result ≡ terms.subscript_value (view_readings view.entry) index.now }
@@ -289,18 +319,28 @@ pub fn subscript_seen<S: SetBoard>(view: &View<'_, S>, index: &Index) -> Result<
 }
 
 /// What a target holds.
+#[inline(always)]
 pub fn target_value<S: SetBoard>(view: View<'_, S>, target: &Target) -> Result<i64, RunFault>
     requires { InView view IsTarget target.now }
     ensures { result ≡ terms.target_value (view_readings view.entry) target.now }
 {
+    target_seen(&view, target)
+}
+
+/// The same of a view that is lent.
+#[inline]
+fn target_seen<S: SetBoard>(view: &View<'_, S>, target: &Target) -> Result<i64, RunFault>
+    requires { InView view.now IsTarget target.now }
+    ensures { result ≡ terms.target_value (view_readings view.now) target.now }
+{
     match target {
-        Target::Variable(x) => Ok(variable_value(view, *x)),
+        Target::Variable(x) => Ok(variable_seen(view, *x)),
         Target::Attribute {
             class,
             attribute,
             index,
         } => {
-            let entity = subscript_value(view, index)?;
+            let entity = subscript_seen(view, index)?;
             view.store.get(*class, *attribute, entity)
         }
     }
@@ -308,19 +348,20 @@ pub fn target_value<S: SetBoard>(view: View<'_, S>, target: &Target) -> Result<i
 
 /// The value that a LET, an ADD or a SUBTRACT assigns: the expression first, then the target's old
 /// value, then the sum.
+#[inline]
 pub fn assigned_value<S: SetBoard>(view: View<'_, S>, assign: &Assign) -> Result<i64, RunFault>
     requires { InView view IsSoundAssign assign.now }
     ensures { result ≡ terms.assigned_value (view_readings view.entry) assign.now }
 {
     match assign {
-        Assign::Let { value: e, .. } => value(view, e),
+        Assign::Let { value: e, .. } => value_seen(&view, e),
         Assign::Add { value: e, target } => {
-            let x = value(view, e)?;
-            sum(target_value(view, target)?, x)
+            let x = value_seen(&view, e)?;
+            sum(target_seen(&view, target)?, x)
         }
         Assign::Subtract { value: e, target } => {
-            let x = value(view, e)?;
-            difference(target_value(view, target)?, x)
+            let x = value_seen(&view, e)?;
+            difference(target_seen(&view, target)?, x)
         }
     }
 }

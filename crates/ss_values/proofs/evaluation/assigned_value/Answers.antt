@@ -1,5 +1,5 @@
 use Rattle.std.proofs.Common as usual
 use Rattle.ss_values.proofs.evaluation.assigned_value.Goals as goal
 
-pub returns-in_ok-target_value-in-Subtract : goal.returns-in_ok-target_value-in-Subtract
-returns-in_ok-target_value-in-Subtract g c = search usual.rules
+pub returns-in_ok-target_seen-in-Subtract : goal.returns-in_ok-target_seen-in-Subtract
+returns-in_ok-target_seen-in-Subtract g c = search usual.rules
