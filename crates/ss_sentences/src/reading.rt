@@ -45,10 +45,12 @@ pub(crate) fn goes_on(alloc: Global, words: &Words) -> Result<bool, AllocError>
             drop(decls);
             Ok(true)
         }
-        Err(TextFault::Refused {
-            rule: TextRule::UnexpectedEnd,
-            ..
-        }) => Ok(true),
+        Err(
+            TextFault::Refused {
+                rule: TextRule::UnexpectedEnd,
+                ..
+            },
+        ) => Ok(true),
         Err(TextFault::Refused { .. }) => Ok(false),
         Err(TextFault::Memory) => Err(AllocError),
     }

@@ -9,28 +9,76 @@ use ss_words::RunFault;
 /// The sentence of each rule on the text and of each rule of the checker, by its code. The first
 /// `{}` stands for the word at which the text is refused, the second for the word before it.
 pub const RULE_SENTENCES: [(&[u8], &[u8]); 22] = [
-    (b"L1", b"This line has a byte that has no meaning where it stands."),
-    (b"L2", b"A number here is no whole number from 0 to 9223372036854775807."),
+    (
+        b"L1",
+        b"This line has a byte that has no meaning where it stands.",
+    ),
+    (
+        b"L2",
+        b"A number here is no whole number from 0 to 9223372036854775807.",
+    ),
     (b"L3", b"A word here is longer than 80 bytes."),
-    (b"L4", b"Behind THUS the line must end, and as many picture lines must follow as PRINT says, 1 to 100."),
+    (
+        b"L4",
+        b"Behind THUS the line must end, and as many picture lines must follow as PRINT says, 1 to 100.",
+    ),
     (b"L5", b"This line of a picture has more than 132 bytes."),
     (b"P1", b"{} does not fit behind {}."),
     (b"P2", b"The text ends behind {}, where no program ends."),
-    (b"P3", b"{} is one more than a limit of the language allows."),
-    (b"C1", b"This statement declares a name that is declared already."),
-    (b"C2", b"A class of this statement does not exist, or is not of the kind that is needed here."),
-    (b"C3", b"A name of this statement is used as what it is not."),
-    (b"C4", b"A set of this statement has no owner, or this is a second OWNS of it."),
-    (b"C5", b"A set of this statement has no member class, or this is a second BELONGS TO it."),
-    (b"C6", b"A key of this statement is no attribute of the class that it ranks."),
-    (b"C7", b"This statement has another count of values than is needed."),
-    (b"C8", b"An event of this statement has no EVENT section, or this section has no event class."),
-    (b"C9", b"This statement sets what cannot be set, or its loop variable is no variable."),
-    (b"C10", b"The picture has another count of fields than there are values, or a field has decimals."),
+    (
+        b"P3",
+        b"{} is one more than a limit of the language allows.",
+    ),
+    (
+        b"C1",
+        b"This statement declares a name that is declared already.",
+    ),
+    (
+        b"C2",
+        b"A class of this statement does not exist, or is not of the kind that is needed here.",
+    ),
+    (
+        b"C3",
+        b"A name of this statement is used as what it is not.",
+    ),
+    (
+        b"C4",
+        b"A set of this statement has no owner, or this is a second OWNS of it.",
+    ),
+    (
+        b"C5",
+        b"A set of this statement has no member class, or this is a second BELONGS TO it.",
+    ),
+    (
+        b"C6",
+        b"A key of this statement is no attribute of the class that it ranks.",
+    ),
+    (
+        b"C7",
+        b"This statement has another count of values than is needed.",
+    ),
+    (
+        b"C8",
+        b"An event of this statement has no EVENT section, or this section has no event class.",
+    ),
+    (
+        b"C9",
+        b"This statement sets what cannot be set, or its loop variable is no variable.",
+    ),
+    (
+        b"C10",
+        b"The picture has another count of fields than there are values, or a field has decimals.",
+    ),
     (b"C11", b"No section is MAIN, or this is a second MAIN."),
-    (b"C12", b"A name of PRIORITY is no event or stands twice, or PRIORITY is given a second time."),
+    (
+        b"C12",
+        b"A name of PRIORITY is no event or stands twice, or PRIORITY is given a second time.",
+    ),
     (b"C13", b"START SIMULATION stands in MAIN alone."),
-    (b"C14", b"IF FOUND and IF NONE stand directly behind a FIND alone."),
+    (
+        b"C14",
+        b"IF FOUND and IF NONE stand directly behind a FIND alone.",
+    ),
 ];
 
 /// The sentence of each fault of a run, by its number.
@@ -41,22 +89,37 @@ pub const FAULT_SENTENCES: [(u8, &[u8]); 22] = [
     (4, b"The entity stands in a list of this set already."),
     (5, b"The entity does not stand in this list."),
     (6, b"The set is empty."),
-    (7, b"The entity cannot end: it stands in a set, or is scheduled."),
+    (
+        7,
+        b"The entity cannot end: it stands in a set, or is scheduled.",
+    ),
     (8, b"The entity cannot end: a set that it owns has members."),
     (9, b"The event would be due before the clock."),
     (10, b"The notice is scheduled already."),
-    (11, b"The notice is not scheduled, or belongs to the entry that waits."),
+    (
+        11,
+        b"The notice is not scheduled, or belongs to the entry that waits.",
+    ),
     (12, b"The entities of this class were created before."),
-    (13, b"A count is out of range: CREATE EVERY makes 1 to 10,000, SKIP skips 0 to 1,000."),
+    (
+        13,
+        b"A count is out of range: CREATE EVERY makes 1 to 10,000, SKIP skips 0 to 1,000.",
+    ),
     (14, b"The next member of this loop has left its set."),
     (15, b"The value behind BY is below 1."),
     (16, b"The data end here: all pieces are taken."),
     (17, b"The next piece of the data is no number."),
     (18, b"More than 200 sections would be open at once."),
     (19, b"The report would be longer than 16,777,216 bytes."),
-    (20, b"The references or the schedulings of a run are used up."),
+    (
+        20,
+        b"The references or the schedulings of a run are used up.",
+    ),
     (21, b"The next piece of the data is no external event."),
-    (22, b"The mark * that ends an entry is missing or met too early, or the entry still waits."),
+    (
+        22,
+        b"The mark * that ends an entry is missing or met too early, or the entry still waits.",
+    ),
 ];
 
 /// The sentence of the rule with this code, as `C10`, with `{}` in the place of the words that it
