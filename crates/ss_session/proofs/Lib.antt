@@ -9,3 +9,4 @@ pub mod Ends
 pub mod Transcripts
 pub mod ExampleWords
 pub mod ExamplePrograms
+pub mod Advances

@@ -76,24 +76,46 @@ pub fn run_status(outcome: &Result<RunEnd, RunCut>) -> u8
     }
 }
 
-/// Makes some steps, or fewer where the run ends, and keeps few of them.
+/// Lets go of the way back where it has become long.
+fn forget_many<S: SetBoard>(machine: &mut Machine<S>)
+    ensures input { machine.new.input ≡ machine.old.input }
+    ensures position { position machine.new ≡ position machine.old }
+{
+    if machine.kept() >= MOST_KEPT {
+        machine.forget(0);
+    }
+}
+
+/// One step, or none where the run has ended; few are kept.
+#[tactic(auto, using(crate::proofs::Advances::one_step))]
+fn advance_once<S: SetBoard>(machine: &mut Machine<S>) -> Result<Stepped, AllocError>
+    ensures ok { IfOk result (λ stepped. HasAdvanced stepped 1 machine.old machine.new) }
+    ensures err { OnErr result (machine.new.input ≡ machine.old.input) }
+{
+    machine.known();
+    match machine.step() {
+        Ok(stepped) => {
+            machine.known();
+            forget_many(machine);
+            Ok(stepped)
+        }
+        Err(error) => Err(error),
+    }
+}
+
+/// Makes some steps, or fewer where the run ends.
 fn advance<S: SetBoard>(machine: &mut Machine<S>, steps: u64) -> Result<Stepped, AllocError>
     ensures ok { IfOk result (λ stepped. HasAdvanced stepped steps machine.old machine.new) }
     ensures err { OnErr result (machine.new.input ≡ machine.old.input) }
 {
     machine.known();
     for _k in 0..steps {
-        if machine.kept() == MOST_KEPT {
-            machine.forget(0);
-        }
-        machine.known();
-        match machine.step() {
+        match advance_once(machine) {
             Ok(Stepped::Moved) => {}
             Ok(Stepped::AtEnd) => return Ok(Stepped::AtEnd),
             Err(error) => return Err(error),
         }
     }
-    machine.known();
     Ok(Stepped::Moved)
 }
 
@@ -106,6 +128,7 @@ fn run_to_end<S: SetBoard, P: Progress>(
     ensures input { machine.new.input ≡ machine.old.input }
     ensures ok { OnOk result (position machine.new ≡ run_end machine.old.input) }
 {
+    machine.known();
     loop {
         match advance(machine, STEPS_BETWEEN) {
             Ok(Stepped::Moved) => progress.reached(machine.position(), machine.clock()),
