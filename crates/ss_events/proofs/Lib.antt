@@ -7,9 +7,9 @@ pub mod RowLaws
 pub mod StateLaws
 pub mod BoardOf
 pub mod Stands
-pub mod Walk
 pub mod PutAndTakeOut
 pub mod Predecessors
+pub mod IndexLaws
 pub mod GiveSeat
 pub mod Schedule
 pub mod Listings
@@ -18,4 +18,3 @@ pub mod WithRules
 pub mod Steps
 pub mod WellLaws
 pub mod LimitLaws
-pub mod FirstLaws

@@ -24,12 +24,12 @@ use Rattle.ss_events.proofs.Stands.{stands, each-between, told, sound_board}
 use Rattle.ss_events.proofs.PutAndTakeOut.{has-row, seat-is, passed-number, pending-seat}
 
 -- a pending notice stands between two parts
-record IsBetween (es : List Pending) (e : Pending) : Type 0 where
+pub record IsBetween (es : List Pending) (e : Pending) : Type 0 where
   pub front : List Pending
   pub rear : List Pending
   pub whole : es ≡ front ++ e ∷ rear
 
-between : (es : List Pending) (n : ℕ) (e : Pending) → pending_at es n ≡ Some e → IsBetween es e
+pub between : (es : List Pending) (n : ℕ) (e : Pending) → pending_at es n ≡ Some e → IsBetween es e
 between [] n e h = absurd (cc)
 between (f ∷ fs) n e h = elim (eqb f.notice n)
     as (λ t. cond t (Some f) (pending_at fs n) ≡ Some e → IsBetween (f ∷ fs) e) [
@@ -157,52 +157,3 @@ pub predecessor-read : (s : AgendaState) (n : ℕ) (x : PendingNotice) (at : Opt
     option_map (notice_on s) at ≡ predecessor_of (with_pending s es) (notice_of n x)
 predecessor-read s n x at es p h =
     p.notice ∙ ap (λ (l : List Pending). predecessor_of (with_pending s l) (notice_of n x)) h
-
--- the row of a predecessor
-pub record IsBehind (rows : List Row) (s : AgendaState) (x : PendingNotice) (n : ℕ) : Type 0 where
-  pub above : 0 < n
-  pub row : n - 1 < length rows
-  pub seat : (row_at rows (n - 1)).seat ≡ (rank_place s (notice_of 0 x)).before
-
-pub predecessor-row : (rows : List Row) (s : AgendaState) (b : Board) (x : PendingNotice) (n : ℕ) → IsAgenda rows s b →
-    Some n ≡ predecessor_of s (notice_of 0 x) → IsBehind rows s x n
-predecessor-row rows s b x n k h = go (last es) refl h
-  where
-    es : List Pending
-    es = notices_passed (is_before s.rules) (notice_of 0 x) (of_class x.class (order s))
-
-    seated : AreSeated s.notices es
-    seated = let t = told rows s b k in Each-passed (λ f. has s.notices f.notice ≡ true) (is_before s.rules) (notice_of
-        0 x) (of_class x.class (order s)) (Each-of_class (λ f. has s.notices f.notice ≡ true) x.class (order s)
-        (Each-order (λ f. has s.notices f.notice ≡ true) s t t.seated))
-
-    go : (o : Option Pending) → last es ≡ o → Some n ≡ option_map (λ f. f.notice) o → IsBehind rows s x n
-    go None e i = absurd (cc)
-    go (Some f) e i =
-        let same : n ≡ f.notice = cc in
-        let seat = Each-last (λ g. has s.notices g.notice ≡ true) es f seated e in
-        rw same (record {
-          above = (k.seated f.notice seat).0;
-          row = has-row rows s b f.notice k seat;
-          seat = seat-is rows s b f.notice k seat ∙
-              sym (last-seat s.notices es ∙ ap (option_map (λ g. seat_in s.notices g.notice)) e);
-        })
-
--- in front of all there is no seat
-pub predecessor-none : (s : AgendaState) (x : PendingNotice) → None ≡ predecessor_of s (notice_of 0 x) →
-    (rank_place s (notice_of 0 x)).before ≡ None
-predecessor-none s x h = go (last es) refl h
-  where
-    es : List Pending
-    es = notices_passed (is_before s.rules) (notice_of 0 x) (of_class x.class (order s))
-
-    go : (o : Option Pending) → last es ≡ o → None ≡ option_map (λ f. f.notice) o →
-        last_of (seats_of s.notices es) ≡ None
-    go None e i = last-seat s.notices es ∙ ap (option_map (λ g. seat_in s.notices g.notice)) e
-    go (Some f) e i = absurd (cc)
-
--- it doesn't depend on the number of the notice
-pub predecessor-number : (s : AgendaState) (m n : ℕ) (x : PendingNotice) →
-    predecessor_of s (notice_of m x) ≡ predecessor_of s (notice_of n x)
-predecessor-number s m n x = ap (λ (l : List Pending). option_map (λ f. f.notice) (last l)) (passed-number s m n x
-    (of_class x.class (order s)))

@@ -1,9 +1,9 @@
 -- Laws of the pending notices that are read off rows.
 use Rattle.std.proofs.Common.{◌≡◌, ℕ, ◌+◌, ◌-◌, ◌≤◌, ◌<◌, ◌++◌, true, false, cond, eqb, ltb, List, [], ◌∷◌, length}
-use Rattle.std.proofs.Common.{Option, Some, None, refl, sym, ap, arith, suc, zero}
+use Rattle.std.proofs.Common.{Option, Some, None, refl, sym, ap, ◌∙◌, arith, suc, zero}
 use Rattle.std.proofs.Math.ListN.{set}
 use Rattle.std.proofs.lemmas.Bool.Decides.{nat_tests}
-use Rattle.std.specs.Option.{option_map}
+use Rattle.std.specs.Option.{option_map, IsSome}
 use Rattle.ss_events.specs.declared.pending_notice.PendingNotice.{PendingNotice}
 use Rattle.ss_events.specs.declared.pending_notice.Row.{Row}
 use Rattle.ss_events.specs.Agenda.{Pending, without_notice}
@@ -199,3 +199,17 @@ pending_row rs n h = let same : 1 + (n - 1) ≡ n = omega arith in rw same at (p
 pub pending_of_row : (rs qs : List Row) (n : ℕ) (o : Option PendingNotice) (es : List Pending) → 0 < n →
     notices_from 1 rs ≡ es → qs ≡ rs → o ≡ (row_at qs (n - 1)).pending → pending_at es n ≡ option_map (notice_of n) o
 pending_of_row rs qs n o es h e f g = let row = pending_row rs n h in rw (← e, g, f) row
+
+-- the entry of a pending notice, as its row has it
+pub entry-some : (rs : List Row) (n : ℕ) (o : Option PendingNotice) (f : Pending) → 0 < n →
+    pending_at (notices_from 1 rs) n ≡ Some f → o ≡ (row_at rs (n - 1)).pending → IsSome o
+entry-some rs n o f h e g = go o (sym (pending_row rs n h ∙ ap (option_map (notice_of n)) (sym g)) ∙ e)
+  where
+    go : (o : Option PendingNotice) → option_map (notice_of n) o ≡ Some f → IsSome o
+    go None e = absurd (cc)
+    go (Some y) e = refl
+
+pub entry-is : (rs : List Row) (n : ℕ) (y : PendingNotice) (f : Pending) → 0 < n →
+    pending_at (notices_from 1 rs) n ≡ Some f → Some y ≡ (row_at rs (n - 1)).pending → f ≡ notice_of n y
+entry-is rs n y f h e g =
+    let same : Some f ≡ Some (notice_of n y) = sym e ∙ (pending_row rs n h ∙ ap (option_map (notice_of n)) (sym g)) in cc

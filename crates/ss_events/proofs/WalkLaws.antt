@@ -68,33 +68,3 @@ pub passed-none : (lt : Pending → Pending → Bool) (e : Pending) (es : List P
     notices_passed lt e es ≡ []
 passed-none lt e [] h = refl
 passed-none lt e (f ∷ fs) h = rw h.0 refl
-
--- where a walk from the back stops: in front of all behind which the notice doesn't belong
-abbrev pub Stops : (Pending → Pending → Bool) → Pending → List Pending → Type 0
-Stops lt e [] = Unit {0}
-Stops lt e (f ∷ []) = lt e f ≡ false
-Stops lt e (f ∷ g ∷ gs) = Stops lt e (g ∷ gs)
-
-first-stops : (P : Pending → Type 0) (lt : Pending → Pending → Bool) → IsOrder P lt →
-    (e f : Pending) (front rear : List Pending) → P e → Each P (f ∷ front ++ rear) → IsSorted lt (f ∷ front ++ rear) →
-    Stops lt e (f ∷ front) → lt e f ≡ false
-first-stops P lt o e f [] rear p q s h = h
-first-stops P lt o e f (g ∷ gs) rear p q s h =
-    let later = first-stops P lt o e g gs rear p q.1 s.1 h in
-    elim (lt e f)
-    as (λ t. lt e f ≡ t → t ≡ false) [
-      | true ↦ λ t. let wrong = o.transitive e f g p q.0 q.1.0 t s.0.0 in absurd (cc)
-      | false ↦ λ t. refl
-    ] refl
-
-stops-rest : (lt : Pending → Pending → Bool) (e f : Pending) (front : List Pending) → Stops lt e (f ∷ front) →
-    Stops lt e front
-stops-rest lt e f [] h = tt
-stops-rest lt e f (g ∷ gs) h = h
-
-pub passed-stops : (P : Pending → Type 0) (lt : Pending → Pending → Bool) → IsOrder P lt →
-    (e : Pending) (front rear : List Pending) → P e → Each P (front ++ rear) → IsSorted lt (front ++ rear) →
-    Stops lt e front → AreBehind lt e rear → notices_passed lt e (front ++ rear) ≡ front
-passed-stops P lt o e [] rear p q s h b = passed-none lt e rear b
-passed-stops P lt o e (f ∷ fs) rear p q s h b = rw (first-stops P lt o e f fs rear p q s h) (ap (λ (l : List Pending).
-    f ∷ l) (passed-stops P lt o e fs rear p q.1 s.1 (stops-rest lt e f fs h) b))

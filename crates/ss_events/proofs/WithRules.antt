@@ -1,5 +1,5 @@
 -- The agenda without notices, and its board by class.
-use Rattle.std.proofs.Common.{◌≡◌, ℕ, ◌+◌, ◌<◌, ◌≤◌, List, [], ◌∷◌, length, map, refl, sym, ap, ◌∙◌, arith, suc, zero}
+use Rattle.std.proofs.Common.{◌≡◌, ℕ, ◌+◌, ◌<◌, ◌≤◌, ◌++◌, List, [], ◌∷◌, length, map, refl, sym, ap, ◌∙◌, arith, suc, zero}
 use Rattle.std.proofs.Common.{true, slice_index}
 use Rattle.std.specs.List.{range_with_len}
 use Rattle.std.proofs.lemmas.List.FromFn.{map-range_with_len_more, length-map-range_with_len}
@@ -29,6 +29,11 @@ board_of_lists ls = record { lists = ls; seats = 0 }
 pub heads-more : (n : ℕ) → with_head (empty_heads n) ≡ empty_heads (n + 1)
 heads-more n = ap board_of_lists (sym (map-range_with_len_more (λ c. []) 0 n n (omega arith)))
 
+-- the indexes of heads, with one head more
+pub indexes-more : (ls ms : List (List ℕ)) (l : List ℕ) (b c : Board) → ms ≡ ls ++ l ∷ [] → l ≡ [] → ls ≡ b.lists →
+    c ≡ with_head b → ms ≡ c.lists
+indexes-more ls ms l b c e h i k = rw (e, h, i, k) refl
+
 times-empty : (a n x : ℕ) → times (map (λ c. []) (range_with_len a n)) x ≡ 0
 times-empty a zero x = refl
 times-empty a (suc n) x = omega (arith, times-empty (a + 1) n x)
@@ -46,6 +51,7 @@ begins rules n b h r few e = record {
   board = e ∙ (ap empty_heads h ∙ ap board_of_lists (empty-each 0 (event_classes rules)));
   sound = rw e (record { once = λ x. omega (arith, times-empty 0 n x); below = λ x l. times-empty 0 n x });
   seats = λ i l. absurd (omega arith);
+  nodes = λ i. refl;
   seated = λ m l. absurd (cc);
   once = λ m. omega arith;
   few = omega arith;

@@ -5,6 +5,7 @@ pub mod Places
 pub mod Listings
 pub mod Views
 pub mod Rows
+pub mod Indexes
 pub mod Slots
 pub mod Changes
 pub mod WellAgenda

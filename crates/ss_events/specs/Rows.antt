@@ -1,7 +1,7 @@
 -- The agenda's state, read off the rows that it keeps, one for each number of a notice. Private: cited by the view, the
 -- invariant and private functions alone.
 use Rattle.std.specs.Prelude.{◌≡◌, ℕ, ◌+◌, ◌<◌, ◌≤◌, true, List, [], ◌∷◌, ◌++◌, replicate, length, map}
-use Rattle.std.specs.Prelude.{slice_index_or, Option, Some, None}
+use Rattle.std.specs.Prelude.{slice_index_or, is_some, if◌then◌else◌, Option, Some, None}
 use Rattle.ss_links.specs.Board.{Board, IsSound}
 use Rattle.ss_links.specs.Seats.{has, times_in}
 use Rattle.ss_events.specs.declared.rule.ClassRule.{ClassRule}
@@ -27,7 +27,7 @@ notices_from n (r ∷ rs) = and_others n r.pending (notices_from (n + 1) rs)
 
 -- a row without a seat and without an entry
 abbrev pub empty_row : Row
-empty_row = record { seat = None; pending = None }
+empty_row = record { seat = None; pending = None; node = None }
 
 -- the row of a number
 abbrev pub row_at : List Row → ℕ → Row
@@ -41,6 +41,10 @@ state_of rules rows next notices = record {
   notices = notices;
 }
 
+-- the room of a row's seat in an index is kept in the row while its notice is not pending
+abbrev pub HasNode : Row → Type 0
+HasNode r = r.node ≡ (if is_some r.pending then None else r.seat)
+
 -- what is kept, the rows, the state and the board, agrees
 pub record IsAgenda (rows : List Row) (s : AgendaState) (b : Board) : Type 0 where
   -- the rows are the pending notices
@@ -51,6 +55,8 @@ pub record IsAgenda (rows : List Row) (s : AgendaState) (b : Board) : Type 0 whe
   pub sound : IsSound b
   -- each row has its notice's seat
   pub seats : (i : ℕ) → i < length rows → (row_at rows i).seat ≡ seat_at s.notices (i + 1)
+  -- each seat has its room
+  pub nodes : (i : ℕ) → HasNode (row_at rows i)
   -- a seat is a row's notice's
   pub seated : (n : ℕ) → has s.notices n ≡ true → (0 < n) × (n ≤ length rows)
   -- no notice has two seats

@@ -14,6 +14,7 @@ ghost use Rattle.ss_events.specs.Slots.{slot_of};
 use crate::pending_notice::{PendingNotice, Row};
 use crate::ranking::entry_of;
 use crate::rule::{ClassRule, class_rules, event_number};
+use ss_index::SeatIndex;
 use ss_links::SetBoard;
 use ss_program::Program;
 use std::alloc::{AllocError, Global};
@@ -54,6 +55,8 @@ pub struct Agenda<S: SetBoard> {
     pub(crate) notices: Vec<u32>,
     pub(crate) next_filing: u64,
     pub(crate) board: S,
+    /// The list of each head of the board once more, in which a place is found down a tree.
+    pub(crate) indexes: Vec<SeatIndex>,
 }
 
 impl<S: SetBoard> Model for Agenda<S> {
@@ -61,13 +64,14 @@ impl<S: SetBoard> Model for Agenda<S> {
 
     ghost Value = { AgendaState };
 
+    ghost use Rattle.std.specs.Prelude.{◌≡◌};
     ghost use Rattle.ss_events.specs.Rows.{state_of, IsAgenda};
 
     ghost view = { λ a. state_of a.rules.items a.rows.items a.next_filing a.notices.items };
 
     ghost invariant = { λ a.
         IsAgenda a.rows.items (state_of a.rules.items a.rows.items a.next_filing a.notices.items)
-        (S.board a.board) };
+        (S.board a.board) × (a.indexes.items ≡ (S.board a.board).lists) };
 }
 
 impl<S: SetBoard> Agenda<S> {
@@ -90,9 +94,11 @@ impl<S: SetBoard> Agenda<S> {
         ensures { IfOk result (λ agenda. agenda ≡ no_notices (map rule_of rules.items)) }
     {
         let mut board = board;
+        let mut indexes = Vec::new(alloc);
         for class in 0..rules.len() {
             if rules[class].for_events {
                 board.try_add_head()?;
+                indexes.push(SeatIndex::new())?;
             }
         }
         Ok(Agenda {
@@ -102,6 +108,7 @@ impl<S: SetBoard> Agenda<S> {
             notices: Vec::new(alloc),
             next_filing: 1,
             board,
+            indexes,
         })
     }
 

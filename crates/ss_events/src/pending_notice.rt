@@ -1,3 +1,5 @@
+use ss_index::SeatNode;
+
 /// What is kept of a pending notice.
 #[derive(Drop)]
 pub struct PendingNotice {
@@ -17,4 +19,6 @@ pub struct Row {
     pub seat: Option<u32>,
     /// What is kept of the notice, if it is pending.
     pub pending: Option<PendingNotice>,
+    /// The room of its seat in an index, if it has a seat and is not pending.
+    pub node: Option<SeatNode>,
 }

@@ -10,6 +10,7 @@ ghost use Rattle.ss_events.specs.Rows.{row_at, IsEntry, IsGrown};
 
 use crate::pending_notice::{PendingNotice, Row};
 use crate::rule::ClassRule;
+use ss_index::Order;
 use ss_program::{Key, Rank};
 use std::alloc::AllocError;
 
@@ -44,6 +45,7 @@ pub(crate) fn grow(rows: &mut Vec<Row>, count: usize) -> Result<(), AllocError>
         rows.push(Row {
             seat: None,
             pending: None,
+            node: None,
         })?;
     }
     Ok(())
@@ -87,5 +89,35 @@ pub(crate) fn is_before(rules: &[ClassRule], a: &PendingNotice, b: &PendingNotic
     match keys_decide(&rules[a.class].ties, &a.keys, &b.keys) {
         Some(first) => first,
         None => a.filing < b.filing,
+    }
+}
+
+/// Where an entry belongs among the pending notices of its class, as a place that is looked for in
+/// their index: in front of all that it comes before.
+#[derive(Clone, Copy)]
+pub(crate) struct EntryRank<'a> {
+    pub(crate) rules: &'a [ClassRule],
+    pub(crate) rows: &'a [Row],
+    pub(crate) notices: &'a [u32],
+    pub(crate) entry: &'a PendingNotice,
+}
+
+impl Order for EntryRank<'_> {
+    ghost use Rattle.std.specs.Prelude.{map};
+    ghost use Rattle.ss_events.specs.Views.{rule_of, notice_of};
+    ghost use Rattle.ss_events.specs.Rows.{notices_from};
+    ghost use Rattle.ss_events.specs.Indexes.{IsComparable, comes_before};
+
+    ghost knows = { λ p seat.
+        IsComparable (map rule_of p.rules.now) (notices_from 1 p.rows.now) p.notices.now
+        (notice_of 0 p.entry.now) seat };
+
+    ghost behind = { λ p seat.
+        comes_before (map rule_of p.rules.now) (notices_from 1 p.rows.now) p.notices.now
+        (notice_of 0 p.entry.now) seat };
+
+    fn is_behind(&self, seat: u32) -> bool {
+        let other = entry_of(self.rows, self.notices[seat as usize]).unwrap();
+        is_before(self.rules, self.entry, other)
     }
 }

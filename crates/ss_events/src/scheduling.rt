@@ -1,116 +1,49 @@
 //! Notices made pending and taken off.
-ghost use Rattle.std.specs.Prelude.{◌≡◌, [], ◌+◌, ◌-◌, ◌<◌, ◌≤◌, not, length, take, Some, IfOk, OnErr, true};
+ghost use Rattle.std.specs.Prelude.{◌≡◌, ◌+◌, ◌-◌, ◌<◌, ◌≤◌, not, length, take, Some, IfOk, OnErr, true};
 ghost use Rattle.std.specs.Option.{IsSome};
 ghost use Rattle.ss_words.specs.declared.limits.TheConstants.{MOST_REFERENCES};
 ghost use Rattle.ss_events.specs.declared.limits.TheConstants.{MOST_SCHEDULINGS};
 ghost use Rattle.ss_links.specs.Seats.{has};
-ghost use Rattle.ss_events.specs.Rules.{rule_at, is_event_class, event_number};
-ghost use Rattle.ss_events.specs.Agenda.{pending_at, is_before, of_class, may_schedule, may_cancel};
+ghost use Rattle.ss_events.specs.Rules.{rule_at, is_event_class};
+ghost use Rattle.ss_events.specs.Agenda.{pending_at, may_schedule, may_cancel};
 ghost use Rattle.ss_events.specs.Agenda.{with_notice, without_notice};
-ghost use Rattle.ss_events.specs.State.{NoneNoted, Each, order};
+ghost use Rattle.ss_events.specs.State.{NoneNoted, Each};
 ghost use Rattle.ss_events.specs.Changes.{with_pending, with_notices, with_filing, with_seat_for, CanPend};
 ghost use Rattle.ss_events.specs.Changes.{IsLastSeat, Went, after_taking, after_scheduling, IsScheduled};
 ghost use Rattle.ss_events.specs.Changes.{IsCancelled, Fits, unapply};
-ghost use Rattle.ss_events.specs.Places.{notices_passed, rank_place, predecessor_of};
+ghost use Rattle.ss_events.specs.Places.{predecessor_of};
 ghost use Rattle.ss_events.specs.Views.{notice_of};
-ghost use Rattle.ss_events.specs.Rows.{IsEntry};
 
 use crate::agenda::{Agenda, AgendaChange};
 use crate::limits::MOST_SCHEDULINGS;
 use crate::pending_notice::PendingNotice;
-use crate::ranking::{grow, is_before, notice_if};
+use crate::ranking::{EntryRank, entry_of, grow, notice_if};
+use ss_index::SeatNode;
 use ss_journal::Undo;
 use ss_links::{Place, SetBoard};
 use ss_words::{RunFault, StepFault};
 use std::alloc::AllocError;
 
 impl<S: SetBoard> Agenda<S> {
-    /// Whether a notice with this entry comes before all those of its class, whose head is given.
-    fn is_first(&self, entry: &PendingNotice, head: u32) -> bool
-        requires entry { IsEntry self.now.rules entry.now }
-        requires head { head ≡ event_number self.now.rules entry.now.class }
-        ensures { result ≡ true →
-            notices_passed (is_before self.now.rules) (notice_of 0 entry.now)
-            (of_class entry.now.class (order self.now)) ≡ [] }
-    {
-        let board = &self.board;
-        let first = board.first(head);
-        match first {
-            None => true,
-            Some(seat) => is_before(&self.rules, entry, self.entry_on(seat)),
-        }
-    }
-
-    /// Where a notice with this entry belongs on the board: in front of all those of its class, or
-    /// looked for from their end.
-    fn rank_place(&self, entry: &PendingNotice) -> Place
-        requires { IsEntry self.now.rules entry.now }
-        ensures { result ≡ rank_place self.now (notice_of 0 entry.now) }
-    {
-        let board = &self.board;
-        let head = self.head(entry.class);
-        if self.is_first(entry, head) {
-            return Place { head, before: None };
-        }
-        let mut before = board.last(head);
-        while let Some(seat) = before {
-            if !is_before(&self.rules, entry, self.entry_on(seat)) {
-                break;
-            }
-            before = board.prev(seat);
-        }
-        Place { head, before }
-    }
-
-    /// The place directly behind a notice of the entry's class, or in front of all of them.
-    fn place_behind(&self, entry: &PendingNotice, predecessor: Option<u32>) -> Place
-        requires entry { IsEntry self.now.rules entry.now }
-        requires predecessor { predecessor ≡ predecessor_of self.now (notice_of 0 entry.now) }
-        ensures { result ≡ rank_place self.now (notice_of 0 entry.now) }
-    {
-        let rows = &self.rows;
-        let head = self.head(entry.class);
-        match predecessor {
-            None => Place { head, before: None },
-            Some(notice) => Place {
-                head,
-                before: rows[notice as usize - 1].seat,
-            },
-        }
-    }
-
-    /// Makes a notice pending, with its seat at the place where it belongs.
-    fn put_at(&mut self, notice: u32, entry: PendingNotice, place: Place)
-        requires can { CanPend self.old (notice_of notice entry) }
-        requires place { place ≡ rank_place self.old (notice_of 0 entry) }
-        ensures { self.new
-            ≡ with_pending self.old (with_notice (notice_of notice entry) self.old.agenda.pending) }
-    {
-        let row = &mut self.rows[notice as usize - 1];
-        let seat = row.seat.unwrap();
-        row.pending = Some(entry);
-        self.board.relink(seat, place);
-    }
-
-    /// Makes a notice pending, at a place that is looked for.
+    /// Makes a notice pending. The index of its class finds the place where its seat belongs.
     fn put_in(&mut self, notice: u32, entry: PendingNotice)
         requires { CanPend self.old (notice_of notice entry) }
         ensures { self.new
             ≡ with_pending self.old (with_notice (notice_of notice entry) self.old.agenda.pending) }
     {
-        let place = self.rank_place(&entry);
-        self.put_at(notice, entry, place);
-    }
-
-    /// Makes a notice pending again, directly behind the notice that stood before it.
-    fn put_back(&mut self, notice: u32, entry: PendingNotice, predecessor: Option<u32>)
-        requires can { CanPend self.old (notice_of notice entry) }
-        requires predecessor { predecessor ≡ predecessor_of self.old (notice_of notice entry) }
-        ensures { self.new
-            ≡ with_pending self.old (with_notice (notice_of notice entry) self.old.agenda.pending) }
-    {
-        let place = self.place_behind(&entry, predecessor);
-        self.put_at(notice, entry, place);
+        let head = self.head(entry.class);
+        let index = notice as usize - 1;
+        let seat = self.rows[index].seat.unwrap();
+        let node = self.rows[index].node.take().unwrap();
+        let rank = EntryRank {
+            rules: &self.rules,
+            rows: &self.rows,
+            notices: &self.notices,
+            entry: &entry,
+        };
+        let before = self.indexes[head as usize].put(node, &rank);
+        self.rows[index].pending = Some(entry);
+        self.board.relink(seat, Place { head, before });
     }
 
     /// Takes a pending notice out, and gives what was kept of it and the notice before it.
@@ -125,7 +58,18 @@ impl<S: SetBoard> Agenda<S> {
     {
         let index = notice as usize - 1;
         let seat = self.rows[index].seat.unwrap();
-        let entry = self.rows[index].pending.take().unwrap();
+        let head = self.board.place(seat).unwrap();
+        let entry = entry_of(&self.rows, notice).unwrap();
+        let rank = EntryRank {
+            rules: &self.rules,
+            rows: &self.rows,
+            notices: &self.notices,
+            entry,
+        };
+        let node = self.indexes[head as usize].take(seat, &rank);
+        let row = &mut self.rows[index];
+        let entry = row.pending.take().unwrap();
+        row.node = Some(node);
         let place = self.board.unlink(seat);
         let predecessor = notice_if(&self.notices, place.before);
         (entry, predecessor)
@@ -145,9 +89,12 @@ impl<S: SetBoard> Agenda<S> {
             return Ok(false);
         }
         self.notices.reserve(1)?;
+        let node = SeatNode::new(self.alloc, self.notices.len() as u32)?;
         let seat = self.board.try_add_seat()?;
         self.notices.push(notice).unwrap();
-        self.rows[index].seat = Some(seat);
+        let row = &mut self.rows[index];
+        row.seat = Some(seat);
+        row.node = Some(node);
         Ok(true)
     }
 
@@ -160,7 +107,9 @@ impl<S: SetBoard> Agenda<S> {
     {
         self.board.take_last_seat();
         self.notices.truncate(self.notices.len() - 1);
-        self.rows[notice as usize - 1].seat = None;
+        let row = &mut self.rows[notice as usize - 1];
+        row.seat = None;
+        row.node = None;
     }
 
     /// Takes the next filing number.
@@ -271,11 +220,7 @@ impl<S: SetBoard> Undo for Agenda<S> {
                     self.take_seat(notice);
                 }
             }
-            AgendaChange::TakenOff {
-                notice,
-                entry,
-                predecessor,
-            } => self.put_back(notice, entry, predecessor),
+            AgendaChange::TakenOff { notice, entry, .. } => self.put_in(notice, entry),
         }
     }
 }

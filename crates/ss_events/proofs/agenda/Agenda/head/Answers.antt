@@ -21,7 +21,7 @@ event_number-requires-clause-class g c =
 
 pub event_number-requires-clause-few : goal.event_number-requires-clause-few
 event_number-requires-clause-few g c =
-    let k = kept _ _ _ _ c.self.view_is c.self.invariant in
+    let k = kept _ _ _ _ c.self.view_is c.self.invariant.0 in
     let rules = ap (map rule_of) c.deref.ensures.value ∙ ap (λ (s : AgendaState). s.rules) c.self.view_is in
     let long = ap (λ (l : List Rule). length l) rules in
     omega (arith, k.classes, long, length-map c.deref.result.now rule_of)

@@ -11,7 +11,7 @@ loop-class-init g c = first-none _ _
 
 pub bounds-listing-class : goal.bounds-listing-class
 bounds-listing-class g c =
-    let k = kept _ _ _ _ c.self.view_is c.self.invariant in
+    let k = kept _ _ _ _ c.self.view_is c.self.invariant.0 in
     let long = ap (λ (s : AgendaState). length s.rules) c.self.view_is in
     omega (
       arith,
@@ -25,7 +25,7 @@ bounds-listing-class g c =
 
 pub earlier-least-requires-clause-other : goal.earlier-least-requires-clause-other
 earlier-least-requires-clause-other g c =
-    let k = kept _ _ _ _ c.self.view_is c.self.invariant in
+    let k = kept _ _ _ _ c.self.view_is c.self.invariant.0 in
     let long = ap (λ (s : AgendaState). length s.rules) c.self.view_is in
     let within : c.loop-class.class < length c.args.self.now.rules = omega (
       arith,
@@ -40,7 +40,7 @@ earlier-least-requires-clause-other g c =
 
 pub loop-class-preserved : goal.loop-class-preserved
 loop-class-preserved g c =
-    let k = kept _ _ _ _ c.self.view_is c.self.invariant in
+    let k = kept _ _ _ _ c.self.view_is c.self.invariant.0 in
     let long = ap (λ (s : AgendaState). length s.rules) c.self.view_is in
     let within : c.loop-class.class < length c.args.self.now.rules = omega (
       arith,
@@ -56,7 +56,7 @@ loop-class-preserved g c =
 
 pub returns-clause-notice : goal.returns-clause-notice
 returns-clause-notice g c =
-    let k = kept _ _ _ _ c.self.view_is c.self.invariant in
+    let k = kept _ _ _ _ c.self.view_is c.self.invariant.0 in
     let long = ap (λ (s : AgendaState). length s.rules) c.self.view_is in
     let all : c.loop-class.class ≡ length c.args.self.now.rules = omega (
       arith,

@@ -21,7 +21,7 @@ loop-class-init g c =
 
 pub first-requires : goal.first-requires
 first-requires g c =
-    let k = kept _ _ _ _ c.self.view_is c.self.invariant in
+    let k = kept _ _ _ _ c.self.view_is c.self.invariant.0 in
     let rules = ap (λ (s : AgendaState). s.rules) c.self.view_is in
     let within : c.loop-class.class < length c.self.inside.rules.items = omega (
       arith,
@@ -36,7 +36,7 @@ first-requires g c =
 
 pub overflow_add-head : goal.overflow_add-head
 overflow_add-head g c =
-    let k = kept _ _ _ _ c.self.view_is c.self.invariant in
+    let k = kept _ _ _ _ c.self.view_is c.self.invariant.0 in
     let long = ap (λ (s : AgendaState). length s.rules) c.self.view_is in
     let few = number-few c.args.self.now.rules c.loop-class.class in
     omega (
@@ -53,7 +53,7 @@ overflow_add-head g c =
 
 pub loop-class-preserved : goal.loop-class-preserved
 loop-class-preserved g c =
-    let k = kept _ _ _ _ c.self.view_is c.self.invariant in
+    let k = kept _ _ _ _ c.self.view_is c.self.invariant.0 in
     let rules = ap (λ (s : AgendaState). s.rules) c.self.view_is in
     let within : c.loop-class.class < length c.self.inside.rules.items = omega (
       arith,
@@ -99,7 +99,7 @@ loop-class-preserved g c =
 
 pub returns-clause-listing : goal.returns-clause-listing
 returns-clause-listing g c =
-    let k = kept _ _ _ _ c.self.view_is c.self.invariant in
+    let k = kept _ _ _ _ c.self.view_is c.self.invariant.0 in
     let long = ap (λ (s : AgendaState). length s.rules) c.self.view_is in
     let all : c.loop-class.class ≡ length c.args.self.now.rules = omega (
       arith,
@@ -116,5 +116,5 @@ returns-clause-listing g c =
 
 pub returns-clause-first : goal.returns-clause-first
 returns-clause-first g c =
-    let k = kept _ _ _ _ c.self.view_is c.self.invariant in
+    let k = kept _ _ _ _ c.self.view_is c.self.invariant.0 in
     least-at _ _ _ k

@@ -9,7 +9,7 @@ use Rattle.ss_events.proofs.agenda.Agenda.schedule.Goals as goal
 
 pub put_in-requires : goal.put_in-requires
 put_in-requires g c =
-    let k = kept _ _ _ _ c.self.view_is c.self.invariant in
+    let k = kept _ _ _ _ c.self.view_is c.self.invariant.0 in
     let same = c.in_ok-keys.ensures.items_if_clones_equal (λ x y e. e) in
     let idle = no-slot c.slot.result _ c.is_some.result c.slot.ensures c.is_some.ensures c.if-is_some.false in
     let time : to_z w64 (of_z w64 c.args.time) ≡ c.args.time = to_z-of_z w64 c.args.time c.ranges.time in
@@ -33,7 +33,7 @@ put_in-requires g c =
 
 pub returns : goal.returns
 returns g c =
-    let k = kept _ _ _ _ c.self.view_is c.self.invariant in
+    let k = kept _ _ _ _ c.self.view_is c.self.invariant.0 in
     let same = c.in_ok-keys.ensures.items_if_clones_equal (λ x y e. e) in
     let idle = no-slot c.slot.result _ c.is_some.result c.slot.ensures c.is_some.ensures c.if-is_some.false in
     let time : to_z w64 (of_z w64 c.args.time) ≡ c.args.time = to_z-of_z w64 c.args.time c.ranges.time in

@@ -1,4 +1,5 @@
 use Rattle.std.proofs.Common.{◌≡◌, sym, ap, ◌∙◌, arith, subst, ℕ, ◌-◌, length, take}
+use Rattle.ss_links.specs.Board.{Board}
 use Rattle.ss_events.specs.State.{AgendaState, NoneNoted}
 use Rattle.ss_events.specs.Changes.{IsLastSeat}
 use Rattle.ss_events.proofs.GiveSeat.{unseated-free, last-row, unseat-closed, unseat-view}
@@ -9,17 +10,17 @@ take_last_seat-requires-clause-free g c =
     let l = subst (λ (s : AgendaState). IsLastSeat s c.args.notice) (sym c.self.view_is) c.requires.last in
     let i = subst (λ (s : AgendaState). NoneNoted c.args.notice s.agenda.pending) (sym c.self.view_is)
     c.requires.idle in
-    unseated-free _ _ _ _ c.self.invariant l i
+    unseated-free _ _ _ _ c.self.invariant.0 l i
 
 pub overflow_sub-notice : goal.overflow_sub-notice
 overflow_sub-notice g c =
     let l = subst (λ (s : AgendaState). IsLastSeat s c.args.notice) (sym c.self.view_is) c.requires.last in
-    (last-row _ _ _ _ c.self.invariant l).0
+    (last-row _ _ _ _ c.self.invariant.0 l).0
 
-pub index_mut-requires : goal.index_mut-requires
-index_mut-requires g c =
+pub index_mut-row-requires : goal.index_mut-row-requires
+index_mut-row-requires g c =
     let l = subst (λ (s : AgendaState). IsLastSeat s c.args.notice) (sym c.self.view_is) c.requires.last in
-    let r = last-row _ _ _ _ c.self.invariant l in
+    let r = last-row _ _ _ _ c.self.invariant.0 l in
     omega (arith, r.0, r.1, c.self.inside.rows.ok)
 
 pub invariant_of-self : goal.invariant_of-self
@@ -31,10 +32,12 @@ invariant_of-self g c =
       arith,
       c.len.ensures,
       c.self.inside.notices.ok,
-    ) in
-    unseat-closed _ _ _ _ _ _ _ (c.truncate.ensures.items ∙
-    ap (λ (k : ℕ). take (k - 1) c.self.inside.notices.items) same) c.self.invariant l i
-    c.take_last_seat.ensures.board c.take_last_seat.ensures.sound.1 c.index_mut.ensures.value
+    ) in (
+      unseat-closed _ _ _ _ _ _ _ (c.truncate.ensures.items ∙
+          ap (λ (k : ℕ). take (k - 1) c.self.inside.notices.items) same) c.self.invariant.0 l i
+          c.take_last_seat.ensures.board c.take_last_seat.ensures.sound.1 c.index_mut-row.ensures.value,
+      c.self.invariant.1 ∙ ap (λ (d : Board). d.lists) (sym c.take_last_seat.ensures.board),
+    )
 
 pub returns : goal.returns
 returns g c =
@@ -45,5 +48,5 @@ returns g c =
       c.self.inside.notices.ok,
     ) in
     unseat-view _ _ _ _ _ _ _ (c.truncate.ensures.items ∙
-    ap (λ (k : ℕ). take (k - 1) c.self.inside.notices.items) same) c.self.view_is c.self.invariant l
-    c.index_mut.ensures.value
+    ap (λ (k : ℕ). take (k - 1) c.self.inside.notices.items) same) c.self.view_is c.self.invariant.0 l
+    c.index_mut-row.ensures.value
