@@ -2,6 +2,7 @@
 use Rattle.std.proofs.Common.{◌≡◌, ℕ, ◌+◌, ◌-◌, ◌<◌, Bool, true, ◌&&◌, nat_lt, length, refl, arith, rules}
 use Rattle.ss_machine.specs.State.{State}
 use Rattle.ss_machine.specs.Run.{Input, run}
+use Rattle.ss_debug.specs.Position.{frames_before}
 use Rattle.ss_debug.specs.Move.{runs_event, starts_event, is_behind_start, stops_back}
 
 lt_more : (a b m n : ℕ) → m ≡ 1 + a → n ≡ 1 + b → nat_lt m n ≡ nat_lt a b
@@ -22,6 +23,18 @@ started t s v p q m n e f h i j =
     let before : q - 1 ≡ p = omega (arith, h) in
     let some : nat_lt 0 q ≡ true = lt_some q (omega (arith, h)) in
     rw (some, before) (taken_back t v s q p n m f e h j i)
+
+-- before the step from state s, number p, to state number q, the frames of s stood
+pub before_step : (t : Input) (s : State) (p q n : ℕ) → s ≡ run t p → q ≡ p + 1 → n ≡ 1 + length s.below
+    → n ≡ frames_before t q
+before_step t s p q n is on now = let back : q - 1 ≡ p = omega (arith, on) in rw (back, now, is) refl
+
+-- the step to state s, number p, was an event start, by how many frames stood before it
+pub started_by : (t : Input) (s : State) (p m n : ℕ) → 0 < p → s ≡ run t p → m ≡ frames_before t p →
+    n ≡ 1 + length s.below → (runs_event t s && nat_lt m n) ≡ is_behind_start t p
+started_by t s p m n some is before now =
+    let on : p ≡ (p - 1) + 1 = omega (arith, some) in
+    started t (run t (p - 1)) s (p - 1) p m n refl is on before now
 
 lt_from : (p q k : ℕ) → p ≡ q + k → nat_lt q p ≡ nat_lt 0 k
 lt_from p q k e = rw e (search rules)

@@ -1,6 +1,6 @@
 -- Where a machine stands, for the private functions that move it.
-use Rattle.std.specs.Prelude.{ℕ, ◌≡◌}
-use Rattle.ss_machine.specs.Run.{Input}
+use Rattle.std.specs.Prelude.{ℕ, ◌≡◌, ◌+◌, ◌-◌, length}
+use Rattle.ss_machine.specs.Run.{Input, run}
 use Rattle.ss_machine.specs.Moment.{Moment, position}
 
 -- a machine holds state number p of the run of this program, and k steps are forgotten
@@ -11,3 +11,7 @@ pub record IsAt (t : Input) (k p : ℕ) (m : Moment) : Type 0 where
   pub forgotten : m.forgotten ≡ k
   -- its state is number p
   pub position : position m ≡ p
+
+-- how many frames stand in the state before number p
+abbrev pub frames_before : Input → ℕ → ℕ
+frames_before t p = 1 + length (run t (p - 1)).below

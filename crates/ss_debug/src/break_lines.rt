@@ -1,5 +1,5 @@
 //! The break lines.
-ghost use Rattle.std.specs.Prelude.{◌≡◌, ◌<◌, ◌^◌, [], length, OnOk, OnErr};
+ghost use Rattle.std.specs.Prelude.{◌≡◌, ◌<◌, ◌^◌, ◌↔◌, [], length, IsTrue, OnOk, OnErr};
 ghost use Rattle.ss_debug.specs.BreakLines.{is_break_line, is_full, with_line, without_line};
 ghost use Rattle.ss_debug.specs.LineTable.{lines_of};
 
@@ -48,6 +48,14 @@ impl BreakLines {
             is_set: Vec::new(alloc),
             count: 0,
         }
+    }
+
+    /// Whether there is none.
+    #[inline]
+    pub fn is_empty(&self) -> bool
+        ensures { IsTrue result ↔ (self.now ≡ []) }
+    {
+        self.count == 0
     }
 
     /// Whether a line is a break line.

@@ -89,8 +89,8 @@ impl<S: SetBoard> Debugger<S> {
             (forward (condition_in self.old condition) bound) (debugger_state_of self.new)) }
     {
         let from = self.machine.position();
-        let started = forward(&mut self.machine, &self.breaks, condition, bound)?;
-        let word = forward_word(&self.machine, &self.breaks, condition, from, bound, started);
+        let before = forward(&mut self.machine, &self.breaks, condition, bound)?;
+        let word = forward_word(&self.machine, &self.breaks, condition, from, bound, before);
         let text = movement_text(self.alloc, word, &self.machine)?;
         bytes.extend_from_slice(&text)
     }

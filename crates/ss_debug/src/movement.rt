@@ -4,7 +4,7 @@ ghost use Rattle.ss_machine.specs.Moment.{position};
 ghost use Rattle.ss_machine.specs.declared.limits.TheConstants.{LAST_POSITION};
 ghost use Rattle.ss_debug.specs.Move.{is_ready_at, line_at, is_on_break, has_come, is_stop, forward_end};
 ghost use Rattle.ss_debug.specs.Move.{is_behind_start, runs_event, starts_event, back_end, search_back_end};
-ghost use Rattle.ss_debug.specs.Position.{IsAt};
+ghost use Rattle.ss_debug.specs.Position.{IsAt, frames_before};
 ghost use Rattle.ss_debug.specs.View.{condition_of, target_test};
 
 use crate::break_lines::BreakLines;
@@ -31,11 +31,12 @@ pub fn present_line<S: SetBoard>(machine: &Machine<S>) -> usize
     machine.program().spot(section, place).line
 }
 
-/// Whether the machine's place is on a break line.
+/// Whether the machine's place is on a break line. Where there are none, no place is looked up.
+#[inline]
 pub fn stands_on_break<S: SetBoard>(machine: &Machine<S>, breaks: &BreakLines) -> bool
     ensures { result ≡ is_on_break machine.now.input breaks.now (position machine.now) }
 {
-    breaks.contains(present_line(machine))
+    !breaks.is_empty() && breaks.contains(present_line(machine))
 }
 
 /// Whether the machine's clock is at or past a time, if one is named.
@@ -49,43 +50,6 @@ pub fn has_come<S: SetBoard>(machine: &Machine<S>, time: Option<u64>) -> bool
     i128::from(time) <= i128::from(machine.clock())
 }
 
-/// Whether the machine stands at what a movement looks for: at a break line, or behind an event
-/// start, where the last step was one.
-pub fn is_met<S: SetBoard>(
-    machine: &Machine<S>,
-    breaks: &BreakLines,
-    target: Target,
-    started: bool,
-) -> bool
-    requires { started ≡ is_behind_start machine.now.input (position machine.now) }
-    ensures { result ≡ target_test machine.now.input breaks.now target (position machine.now) }
-{
-    match target {
-        Target::Nothing => false,
-        Target::BreakLine => stands_on_break(machine, breaks),
-        Target::EventStart => started,
-    }
-}
-
-/// Whether a movement from position `from` stops where the machine stands, where the last step was
-/// perhaps an event start.
-fn is_at_stop<S: SetBoard>(
-    machine: &Machine<S>,
-    breaks: &BreakLines,
-    condition: StopCondition,
-    from: u64,
-    started: bool,
-) -> bool
-    requires { from < position machine.now
-        → started ≡ is_behind_start machine.now.input (position machine.now) }
-    ensures { result ≡ is_stop machine.now.input
-        (condition_of machine.now.input breaks.now condition) from (position machine.now) }
-{
-    !is_ready_now(machine)
-        || has_come(machine, condition.time)
-        || (from < machine.position() && is_met(machine, breaks, condition.target, started))
-}
-
 /// Whether the frame of an event is the last one.
 fn runs_event<S: SetBoard>(machine: &Machine<S>) -> bool
     ensures { result ≡ runs_event machine.now.input machine.now.state }
@@ -95,27 +59,75 @@ fn runs_event<S: SetBoard>(machine: &Machine<S>) -> bool
     matches!(machine.program().section(section).kind, SectionKind::Event)
 }
 
-/// One step from a state that is ready and not the last. Tells whether it was an event start.
-#[tactic(auto, using(crate::proofs::Starts::started))]
-fn step_once<S: SetBoard>(machine: &mut Machine<S>) -> Result<bool, AllocError>
+/// Whether the last step was an event start, by how many frames stood before it.
+#[tactic(auto, using(crate::proofs::Starts::started_by))]
+fn is_behind_start<S: SetBoard>(machine: &Machine<S>, before: usize) -> bool
+    requires some { 0 < position machine.now }
+    requires before { before ≡ frames_before machine.now.input (position machine.now) }
+    ensures { result ≡ is_behind_start machine.now.input (position machine.now) }
+{
+    machine.known();
+    runs_event(machine) && before < machine.frames()
+}
+
+/// Whether the machine stands at what a movement looks for: at a break line, or behind an event
+/// start; `before` tells how many frames stood before the last step.
+pub fn is_met<S: SetBoard>(
+    machine: &Machine<S>,
+    breaks: &BreakLines,
+    target: Target,
+    before: usize,
+) -> bool
+    requires some { 0 < position machine.now }
+    requires before { before ≡ frames_before machine.now.input (position machine.now) }
+    ensures { result ≡ target_test machine.now.input breaks.now target (position machine.now) }
+{
+    match target {
+        Target::Nothing => false,
+        Target::BreakLine => stands_on_break(machine, breaks),
+        Target::EventStart => is_behind_start(machine, before),
+    }
+}
+
+/// Whether a movement from position `from` stops where the machine stands; `before` tells how many
+/// frames stood before the last step, if there was one.
+fn is_at_stop<S: SetBoard>(
+    machine: &Machine<S>,
+    breaks: &BreakLines,
+    condition: StopCondition,
+    from: u64,
+    before: usize,
+) -> bool
+    requires { from < position machine.now
+        → before ≡ frames_before machine.now.input (position machine.now) }
+    ensures { result ≡ is_stop machine.now.input
+        (condition_of machine.now.input breaks.now condition) from (position machine.now) }
+{
+    !is_ready_now(machine)
+        || has_come(machine, condition.time)
+        || (from < machine.position() && is_met(machine, breaks, condition.target, before))
+}
+
+/// One step from a state that is ready and not the last. Tells how many frames stood before it.
+#[tactic(auto, using(crate::proofs::Starts::before_step))]
+fn step_once<S: SetBoard>(machine: &mut Machine<S>) -> Result<usize, AllocError>
     requires ready { is_ready_at machine.old.input (position machine.old) ≡ true }
     requires before_last { position machine.old < LAST_POSITION }
     ensures place { OnOk result
         (IsAt machine.old.input machine.old.forgotten (position machine.old + 1) machine.new) }
-    ensures started { IfOk result
-        (λ started. started ≡ is_behind_start machine.old.input (position machine.new)) }
+    ensures before { IfOk result
+        (λ before. before ≡ frames_before machine.old.input (position machine.new)) }
     ensures err { OnErr result (machine.new ≡ machine.old) }
 {
     machine.known();
     let frames = machine.frames();
     machine.step()?;
-    machine.known();
-    Ok(runs_event(machine) && frames < machine.frames())
+    Ok(frames)
 }
 
 /// Steps to the least later position at which the condition is met or the status isn't ready,
-/// within the bound and not past the last position. Tells whether the last step, if there was one,
-/// was an event start.
+/// within the bound and not past the last position. Tells how many frames stood before the last
+/// step, if there was one.
 ///
 /// `AllocError` where a step was refused memory: the machine stands where the steps before it led.
 #[tactic(auto, using(crate::proofs::Moves::least_steps))]
@@ -124,12 +136,12 @@ pub fn forward<S: SetBoard>(
     breaks: &BreakLines,
     condition: StopCondition,
     bound: u64,
-) -> Result<bool, AllocError>
+) -> Result<usize, AllocError>
     ensures ok { OnOk result (IsAt machine.old.input machine.old.forgotten
         (forward_end machine.old.input (condition_of machine.old.input breaks.now condition)
         (position machine.old) bound) machine.new) }
-    ensures started { IfOk result (λ started. position machine.old < position machine.new →
-        started ≡ is_behind_start machine.old.input (position machine.new)) }
+    ensures before { IfOk result (λ before. position machine.old < position machine.new →
+        before ≡ frames_before machine.old.input (position machine.new)) }
     ensures memory { OnErr result ((machine.new.input ≡ machine.old.input)
         × (machine.new.forgotten ≡ machine.old.forgotten)
         × (position machine.old ≤ position machine.new)
@@ -139,17 +151,17 @@ pub fn forward<S: SetBoard>(
     machine.known();
     let from = machine.position();
     let steps = bound.min(LAST_POSITION - from);
-    let mut started = false;
+    let mut before = 0;
     for _k in 0..steps {
-        if is_at_stop(machine, breaks, condition, from, started) {
-            return Ok(started);
+        if is_at_stop(machine, breaks, condition, from, before) {
+            return Ok(before);
         }
         match step_once(machine) {
-            Ok(is_start) => started = is_start,
+            Ok(frames) => before = frames,
             Err(error) => return Err(error),
         }
     }
-    Ok(started)
+    Ok(before)
 }
 
 /// BACK: steps back a number of times, or to the earliest kept position.

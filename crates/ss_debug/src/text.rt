@@ -7,7 +7,8 @@ ghost use Rattle.ss_debug.specs.Answer.{status_text, moment_text, place_text, st
 ghost use Rattle.ss_debug.specs.Answer.{forward_word, back_word, search_back_word, earliest_word};
 ghost use Rattle.ss_debug.specs.Answer.{break_text, clear_text, kept_text};
 ghost use Rattle.ss_debug.specs.Answer.{clock_text, variable_named, var_text, taken_text, report_text};
-ghost use Rattle.ss_debug.specs.Move.{is_on_break, is_behind_start, starts_event};
+ghost use Rattle.ss_debug.specs.Move.{is_on_break, starts_event};
+ghost use Rattle.ss_debug.specs.Position.{frames_before};
 ghost use Rattle.ss_debug.specs.View.{condition_of, target_word, target_bound_word};
 
 use crate::break_lines::BreakLines;
@@ -129,18 +130,18 @@ fn target_bound_word(target: Target) -> &'static [u8]
 }
 
 /// The word of a forward movement of at most `bound` steps that began at `from` and ended where the
-/// machine stands, where the last step, if there was one, was perhaps an event start.
+/// machine stands; `before` tells how many frames stood before the last step, if there was one.
 pub fn forward_word<S: SetBoard>(
     machine: &Machine<S>,
     breaks: &BreakLines,
     condition: StopCondition,
     from: u64,
     bound: u64,
-    started: bool,
+    before: usize,
 ) -> &'static [u8]
     requires from { from ≤ position machine.now }
-    requires started { from < position machine.now
-        → started ≡ is_behind_start machine.now.input (position machine.now) }
+    requires before { from < position machine.now
+        → before ≡ frames_before machine.now.input (position machine.now) }
     ensures { result.now ≡ forward_word machine.now.input
         (condition_of machine.now.input breaks.now condition) from bound (position machine.now) }
 {
@@ -150,7 +151,7 @@ pub fn forward_word<S: SetBoard>(
     if has_come(machine, condition.time) {
         return b"TIME";
     }
-    if from < machine.position() && is_met(machine, breaks, condition.target, started) {
+    if from < machine.position() && is_met(machine, breaks, condition.target, before) {
         return target_word(condition.target);
     }
     if machine.position() - from == bound {

@@ -45,12 +45,12 @@ loop-k-preserved g c =
     let at_k : stops m.input (condition_of m.input c.args.breaks.now c.args.condition) (position m) c.loop-k._k
     ≡ false = rw here (sym c.if-is_at_stop.ensures) in
     let on : position c.step_once.new.machine ≡ position l + 1 = gone.position in
-    let started = rw held.input at c.in-Ok.ensures.started in
+    let before = rw held.input at c.in-Ok.ensures.before in
     record {
       input = rw gone.input held.input;
       forgotten = rw gone.forgotten held.forgotten;
       stepped = omega (arith, held.stepped, on);
-      started = λ h. started;
+      before = λ h. before;
       went_on = λ j h.
           below_more
           (λ i. stops m.input (condition_of m.input c.args.breaks.now c.args.condition) (position m) i ≡ false)
