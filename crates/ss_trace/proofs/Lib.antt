@@ -1,0 +1,4 @@
+pub mod Stops
+pub mod Parts
+pub mod Ends
+pub mod Refused

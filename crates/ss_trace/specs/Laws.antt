@@ -1,0 +1,37 @@
+-- Laws on OVER and BACK OVER, which are no single movements: they stay within their bounds.
+use Rattle.std.specs.Prelude.{ℕ, ◌+◌, ◌≡◌, ◌<◌, ◌≤◌, true, List}
+use Rattle.ss_machine.specs.declared.limits.TheConstants.{LAST_POSITION}
+use Rattle.ss_machine.specs.Run.{Input}
+use Rattle.ss_debug.specs.Move.{is_ready_at}
+use Rattle.ss_trace.specs.Movements.{over, back_over}
+
+-- q is not before p, nor more than n steps on, nor past the last position, nor past a state that isn't ready
+pub record IsAheadWithin (t : Input) (p n q : ℕ) : Type 0 where
+  -- it is not before the start
+  pub no_earlier : p ≤ q
+  -- it is within the bound
+  pub within : q ≤ p + n
+  -- it is not past the last position
+  pub not_past_the_last : q ≤ LAST_POSITION
+  -- no state before it has ended
+  pub not_past_an_end : (k : ℕ) → p ≤ k → k < q → is_ready_at t k ≡ true
+
+-- q is not behind p, nor more than n steps back, nor before the earliest kept position
+pub record IsBackWithin (earliest p n q : ℕ) : Type 0 where
+  -- it is not behind the start
+  pub no_later : q ≤ p
+  -- it is kept
+  pub not_before_the_kept : earliest ≤ q
+  -- it is within the bound
+  pub within : p ≤ q + n
+
+-- OVER, so many times, ends there
+abbrev pub OverEnds : Type 0
+OverEnds =
+    (t : Input) (breaks : List ℕ) (k p n : ℕ) → p ≤ LAST_POSITION → IsAheadWithin t p n (over t breaks k p n).position
+
+-- and BACK OVER there
+abbrev pub BackOverEnds : Type 0
+BackOverEnds =
+    (t : Input) (earliest k p n : ℕ) → earliest ≤ p →
+    IsBackWithin earliest p n (back_over t earliest k p n).position

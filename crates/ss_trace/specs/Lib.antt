@@ -1,0 +1,4 @@
+pub mod Movements
+pub mod Turn
+pub mod View
+pub mod Laws

@@ -1,0 +1,106 @@
+-- Where the movements over and out of sections, to a time and to a position end.
+use Rattle.std.specs.Prelude.{ℕ, zero, suc, ◌+◌, ◌-◌, pos, int_lt, Bool, not, ◌&&◌, ◌||◌, List, length, codes}
+use Rattle.std.specs.Prelude.{None, if◌then◌else◌, nat_lt, nat_le}
+use Rattle.ss_machine.specs.declared.limits.TheConstants.{LAST_POSITION}
+use Rattle.ss_machine.specs.Run.{Input, run}
+use Rattle.ss_debug.specs.declared.limits.TheConstants.{GREATEST_BOUND}
+use Rattle.ss_debug.specs.Move.{StopCondition, is_on_break, forward_end, search_back_end, step_condition}
+use Rattle.ss_debug.specs.Move.{MovementShape, forward, back, search_back}
+use Rattle.ss_debug.specs.Turn.{DebuggerState}
+use Rattle.ss_trace.specs.declared.movement.Movement.{Movement}
+use Rattle.ss_trace.specs.declared.movement.Movement.TheVariants.{Over, Out, BackOver, BackOut, BackTo, Go, GoEnd}
+
+-- ---- what is looked for
+
+-- how many frames state p has
+abbrev pub frames_at : Input → ℕ → ℕ
+frames_at t p = 1 + length (run t p).below
+
+-- OVER, BACK OVER: no more frames than so many
+abbrev pub is_level : Input → ℕ → ℕ → Bool
+is_level t frames q = nat_le (frames_at t q) frames
+
+-- OUT, BACK OUT: fewer frames than so many
+abbrev pub is_outside : Input → ℕ → ℕ → Bool
+is_outside t frames q = nat_lt (frames_at t q) frames
+
+-- BACK TO: the clock is before a time
+abbrev pub is_before : Input → ℕ → ℕ → Bool
+is_before t time q = int_lt (run t q).clock (pos time)
+
+-- ---- forward
+
+-- a movement forward stops where its test holds, and at a break line
+abbrev pub ahead_condition : Input → List ℕ → (ℕ → Bool) → StopCondition
+ahead_condition t breaks test = record {
+  time = None;
+  test = λ q. test q || is_on_break t breaks q;
+  word = codes "DONE";
+  bound_word = codes "BOUND";
+}
+
+-- where it ends, from p within n steps
+abbrev pub ahead_end : Input → List ℕ → (ℕ → Bool) → ℕ → ℕ → ℕ
+ahead_end t breaks test p n = forward_end t (ahead_condition t breaks test) p n
+
+-- whether a movement forward from p to q ended where its test holds
+abbrev pub is_met : (ℕ → Bool) → ℕ → ℕ → Bool
+is_met test p q = nat_lt p q && test q
+
+-- the same of a movement back
+abbrev pub is_met_back : (ℕ → Bool) → ℕ → ℕ → Bool
+is_met_back test p q = nat_lt q p && test q
+
+-- ---- n times over
+
+-- where such a movement ends, and how many of its parts were not made
+pub record Counted : Type 0 where
+  -- where it ends
+  pub position : ℕ
+  -- how many were not made
+  pub left : ℕ
+
+-- it ended at q, so many parts before its last
+abbrev pub counted : ℕ → ℕ → Counted
+counted q k = record { position = q; left = k }
+
+-- OVER, k times within n steps: it ends early where one is not made, and at a break line
+unfoldable pub over : Input → List ℕ → ℕ → ℕ → ℕ → Counted
+over t breaks zero p n = counted p 0
+over t breaks (suc k) p n =
+    let level : ℕ → Bool = is_level t (frames_at t p) in
+    let q : ℕ = ahead_end t breaks level p n in
+    if not (is_met level p q) then counted q (suc k) else
+    if is_on_break t breaks q then counted q k else over t breaks k q (n - (q - p))
+
+-- BACK OVER, k times within n steps: it ends early where one is not made
+unfoldable pub back_over : Input → ℕ → ℕ → ℕ → ℕ → Counted
+back_over t earliest zero p n = counted p 0
+back_over t earliest (suc k) p n =
+    let level : ℕ → Bool = is_level t (frames_at t p) in
+    let q : ℕ = search_back_end level earliest p n in
+    if not (is_met_back level p q) then counted q (suc k) else back_over t earliest k q (n - (p - q))
+
+-- ---- all of them
+
+-- what a movement does: what one of the debugger's does; it goes forward to where a test holds, for which it has a word,
+-- or a break line; so many times over; so many times back over
+pub data Shape : Type 0 where
+  standing : MovementShape → Shape
+  ahead : (ℕ → Bool) → List ℕ → Shape
+  over_by : ℕ → Shape
+  back_over_by : ℕ → Shape
+
+-- GO q from p: so many steps back or forward
+abbrev pub go_shape : ℕ → ℕ → MovementShape
+go_shape p q = if nat_lt q p then back (p - q) else forward step_condition (q - p)
+
+-- what each movement does
+unfoldable pub shape_of : Input → ℕ → Movement → Shape
+shape_of t p (Over k) = over_by k
+shape_of t p Out = ahead (is_outside t (frames_at t p)) (codes "DONE")
+shape_of t p (BackOver k) = back_over_by k
+shape_of t p BackOut = standing (search_back (is_outside t (frames_at t p)) (codes "DONE"))
+shape_of t p (BackTo time) = standing (search_back (is_before t time) (codes "TIME"))
+shape_of t p (Go q) = standing (go_shape p q)
+shape_of t p GoEnd = standing (forward step_condition (LAST_POSITION + 1))

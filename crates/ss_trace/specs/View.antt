@@ -1,0 +1,38 @@
+-- Private: what the types of the code stand for, and where a debugger stands.
+use Rattle.std.specs.Prelude.{ℕ, ◌≡◌, ◌≤◌, Bool}
+use Rattle.ss_machine.specs.Moment.{position}
+use Rattle.ss_machine.specs.Run.{Input}
+use Rattle.ss_debug.specs.View.{DebuggerView}
+use Rattle.ss_trace.specs.declared.sought.Sought.{Sought}
+use Rattle.ss_trace.specs.declared.sought.Sought.TheVariants.{Level, Outside, Before}
+use Rattle.ss_trace.specs.Movements.{is_level, is_outside, is_before}
+
+-- whether a state is what a movement looks for
+abbrev pub sought_test : Input → Sought → ℕ → Bool
+sought_test t (Level frames) = is_level t frames
+sought_test t (Outside frames) = is_outside t frames
+sought_test t (Before time) = is_before t time
+
+-- a debugger stands at position q of the run, and all else is as it was
+pub record IsAt (old : DebuggerView) (q : ℕ) (new : DebuggerView) : Type 0 where
+  -- its run is the same one
+  pub input : new.machine.input ≡ old.machine.input
+  -- as many steps are forgotten
+  pub forgotten : new.machine.forgotten ≡ old.machine.forgotten
+  -- so are the break lines
+  pub breaks : new.breaks ≡ old.breaks
+  -- its position
+  pub position : position new.machine ≡ q
+
+-- it stands between two positions, and all else is as it was
+pub record IsBetween (old : DebuggerView) (p q : ℕ) (new : DebuggerView) : Type 0 where
+  -- its run is the same one
+  pub input : new.machine.input ≡ old.machine.input
+  -- as many steps are forgotten
+  pub forgotten : new.machine.forgotten ≡ old.machine.forgotten
+  -- so are the break lines
+  pub breaks : new.breaks ≡ old.breaks
+  -- not before the first
+  pub no_earlier : p ≤ position new.machine
+  -- not behind the second
+  pub no_later : position new.machine ≤ q

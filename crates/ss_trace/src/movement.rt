@@ -1,0 +1,23 @@
+/// A movement beside those of the debugger (docs/DEBUGGER.md).
+///
+/// Those forward end at a state that isn't ready, and, but for `Go` and `GoEnd`, at a break line;
+/// those back end at the earliest kept position. All but `Go` and `GoEnd` are bounded by
+/// `GREATEST_BOUND` steps.
+#[derive(Drop)]
+pub enum Movement {
+    /// OVER: so many times forward to a state with no more frames.
+    Over(u64),
+    /// OUT: forward to a state with fewer frames.
+    Out,
+    /// BACK OVER: so many times back to a state with no more frames.
+    BackOver(u64),
+    /// BACK OUT: back to a state with fewer frames: there the statement that opened the last frame
+    /// is the next to run.
+    BackOut,
+    /// BACK TO: back to a state whose clock is before this time.
+    BackTo(u64),
+    /// GO: to this position, forward or back.
+    Go(u64),
+    /// GO END: forward to the first state that isn't ready.
+    GoEnd,
+}

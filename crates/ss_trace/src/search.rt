@@ -1,0 +1,180 @@
+//! What each movement does.
+ghost use Rattle.std.specs.Prelude.{◌≡◌, ◌++◌, OnOk, OnErr, ℕ, List};
+ghost use Rattle.ss_machine.specs.Run.{Input};
+ghost use Rattle.ss_debug.specs.Move.{search_back, shape_of as standing_shape};
+ghost use Rattle.ss_debug.specs.Turn.{debugger_state_after_movement, movement_answer};
+ghost use Rattle.ss_debug.specs.AfterRefusal.{IsStateAfterRefusedMovement};
+ghost use Rattle.ss_debug.specs.View.{debugger_state_of};
+ghost use Rattle.ss_trace.specs.Movements.{standing, ahead, over_by, back_over_by, go_shape};
+ghost use Rattle.ss_trace.specs.Turn.{state_after, answer, IsStateAfterRefusal};
+ghost use Rattle.ss_trace.specs.Turn.{state_after_shape, shape_answer, IsAfterRefusedShape};
+ghost use Rattle.ss_trace.specs.View.{sought_test};
+
+use crate::ahead::ahead;
+use crate::back::back_to;
+use crate::counted::{back_over, frames, over};
+use crate::movement::Movement;
+use crate::sought::{Sought, is_found};
+use crate::text::{backward_word, forward_word};
+use ss_debug::{Command, Debugger, GREATEST_BOUND, Movement as Standing, obey};
+use ss_links::SetBoard;
+use ss_machine::LAST_POSITION;
+use std::alloc::AllocError;
+
+/// A movement of the debugger, and its answer.
+#[tactic(auto, unfolding(ss_debug::proofs::Unfoldings::turns))]
+fn make_standing<S: SetBoard>(
+    debugger: &mut Debugger<S>,
+    movement: Standing,
+    bytes: &mut Vec<u8>,
+) -> Result<(), AllocError>
+    ensures input { debugger.new.machine.input ≡ debugger.old.machine.input }
+    ensures place { OnOk result (debugger_state_of debugger.new
+        ≡ debugger_state_after_movement debugger.old.machine.input
+        (debugger_state_of debugger.old)
+        (standing_shape debugger.old.machine.input debugger.old.breaks movement)) }
+    ensures said { OnOk result (bytes.new.items ≡ bytes.old.items
+        ++ movement_answer debugger.old.machine.input (debugger_state_of debugger.old)
+        (standing_shape debugger.old.machine.input debugger.old.breaks movement)) }
+    ensures memory { OnErr result ((bytes.new.items ≡ bytes.old.items)
+        × IsStateAfterRefusedMovement debugger.old.machine.input (debugger_state_of debugger.old)
+        (standing_shape debugger.old.machine.input debugger.old.breaks movement)
+        (debugger_state_of debugger.new)) }
+{
+    obey(debugger, Command::Move(movement), bytes)?;
+    Ok(())
+}
+
+/// A movement forward to what is looked for or a break line, and its answer.
+fn go_ahead<S: SetBoard>(
+    debugger: &mut Debugger<S>,
+    sought: Sought,
+    word: &'static [u8],
+    bytes: &mut Vec<u8>,
+) -> Result<(), AllocError>
+    ensures input { debugger.new.machine.input ≡ debugger.old.machine.input }
+    ensures place { OnOk result (debugger_state_of debugger.new
+        ≡ state_after_shape debugger.old.machine.input (debugger_state_of debugger.old)
+        (ahead (sought_test debugger.old.machine.input sought) word.now)) }
+    ensures said { OnOk result (bytes.new.items ≡ bytes.old.items
+        ++ shape_answer debugger.old.machine.input (debugger_state_of debugger.old)
+        (ahead (sought_test debugger.old.machine.input sought) word.now)) }
+    ensures memory { OnErr result ((bytes.new.items ≡ bytes.old.items)
+        × IsAfterRefusedShape debugger.old.machine.input (debugger_state_of debugger.old)
+        (ahead (sought_test debugger.old.machine.input sought) word.now)
+        (debugger_state_of debugger.new)) }
+{
+    let from = debugger.machine().position();
+    ahead(debugger, sought, GREATEST_BOUND)?;
+    let met = from < debugger.machine().position() && is_found(debugger, sought);
+    debugger.push_movement(forward_word(debugger, word, from, met), bytes)
+}
+
+/// OVER, and its answer.
+fn go_over<S: SetBoard>(
+    debugger: &mut Debugger<S>,
+    count: u64,
+    bytes: &mut Vec<u8>,
+) -> Result<(), AllocError>
+    ensures input { debugger.new.machine.input ≡ debugger.old.machine.input }
+    ensures place { OnOk result (debugger_state_of debugger.new
+        ≡ state_after_shape debugger.old.machine.input (debugger_state_of debugger.old)
+        (over_by count)) }
+    ensures said { OnOk result (bytes.new.items ≡ bytes.old.items
+        ++ shape_answer debugger.old.machine.input (debugger_state_of debugger.old)
+        (over_by count)) }
+    ensures memory { OnErr result ((bytes.new.items ≡ bytes.old.items)
+        × IsAfterRefusedShape debugger.old.machine.input (debugger_state_of debugger.old)
+        (over_by count) (debugger_state_of debugger.new)) }
+{
+    let from = debugger.machine().position();
+    let left = over(debugger, count)?;
+    debugger.push_movement(forward_word(debugger, b"DONE", from, left == 0), bytes)
+}
+
+/// A movement back to what is looked for, and its answer.
+fn go_back_to<S: SetBoard>(
+    debugger: &mut Debugger<S>,
+    sought: Sought,
+    word: &'static [u8],
+    bytes: &mut Vec<u8>,
+) -> Result<(), AllocError>
+    ensures input { debugger.new.machine.input ≡ debugger.old.machine.input }
+    ensures place { debugger_state_of debugger.new
+        ≡ state_after_shape debugger.old.machine.input (debugger_state_of debugger.old)
+        (standing (search_back (sought_test debugger.old.machine.input sought) word.now)) }
+    ensures said { OnOk result (bytes.new.items ≡ bytes.old.items
+        ++ shape_answer debugger.old.machine.input (debugger_state_of debugger.old)
+        (standing (search_back (sought_test debugger.old.machine.input sought) word.now))) }
+    ensures memory { OnErr result (bytes.new.items ≡ bytes.old.items) }
+{
+    let from = debugger.machine().position();
+    back_to(debugger, sought, GREATEST_BOUND);
+    let met = debugger.machine().position() < from && is_found(debugger, sought);
+    debugger.push_movement(backward_word(debugger, word, met), bytes)
+}
+
+/// BACK OVER, and its answer.
+fn go_back_over<S: SetBoard>(
+    debugger: &mut Debugger<S>,
+    count: u64,
+    bytes: &mut Vec<u8>,
+) -> Result<(), AllocError>
+    ensures input { debugger.new.machine.input ≡ debugger.old.machine.input }
+    ensures place { debugger_state_of debugger.new
+        ≡ state_after_shape debugger.old.machine.input (debugger_state_of debugger.old)
+        (back_over_by count) }
+    ensures said { OnOk result (bytes.new.items ≡ bytes.old.items
+        ++ shape_answer debugger.old.machine.input (debugger_state_of debugger.old)
+        (back_over_by count)) }
+    ensures memory { OnErr result (bytes.new.items ≡ bytes.old.items) }
+{
+    let left = back_over(debugger, count);
+    debugger.push_movement(backward_word(debugger, b"DONE", left == 0), bytes)
+}
+
+/// How GO is made from position `from`: so many steps back or forward.
+fn go_steps(from: u64, to: u64) -> Standing
+    ensures { (t : Input) → (breaks : List ℕ) → standing_shape t breaks result ≡ go_shape from to }
+{
+    if to < from {
+        Standing::Back(from - to)
+    } else {
+        Standing::Step(to - from)
+    }
+}
+
+/// Makes a movement, and appends its whole answer to `bytes`.
+///
+/// `AllocError` where a growth was refused: `bytes`, the break lines and the earliest kept position
+/// are as before; a movement forward was made in part, and the machine stands where the steps that
+/// were made led; one back was made as a whole.
+#[tactic(auto, unfolding(crate::specs::Movements::shape_of))]
+pub fn make_movement<S: SetBoard>(
+    debugger: &mut Debugger<S>,
+    movement: Movement,
+    bytes: &mut Vec<u8>,
+) -> Result<(), AllocError>
+    ensures input { debugger.new.machine.input ≡ debugger.old.machine.input }
+    ensures place { OnOk result (debugger_state_of debugger.new
+        ≡ state_after debugger.old.machine.input (debugger_state_of debugger.old) movement) }
+    ensures said { OnOk result (bytes.new.items ≡ bytes.old.items
+        ++ answer debugger.old.machine.input (debugger_state_of debugger.old) movement) }
+    ensures memory { OnErr result ((bytes.new.items ≡ bytes.old.items)
+        × IsStateAfterRefusal debugger.old.machine.input (debugger_state_of debugger.old) movement
+        (debugger_state_of debugger.new)) }
+{
+    let frames = frames(debugger);
+    match movement {
+        Movement::Over(count) => go_over(debugger, count, bytes),
+        Movement::Out => go_ahead(debugger, Sought::Outside(frames), b"DONE", bytes),
+        Movement::BackOver(count) => go_back_over(debugger, count, bytes),
+        Movement::BackOut => go_back_to(debugger, Sought::Outside(frames), b"DONE", bytes),
+        Movement::BackTo(time) => go_back_to(debugger, Sought::Before(time), b"TIME", bytes),
+        Movement::Go(position) => {
+            let steps = go_steps(debugger.machine().position(), position);
+            make_standing(debugger, steps, bytes)
+        }
+        Movement::GoEnd => make_standing(debugger, Standing::Step(LAST_POSITION + 1), bytes),
+    }
+}
