@@ -20,14 +20,13 @@ mod limits;
 mod loops;
 mod machine;
 mod numbers;
-mod questions;
 mod reading;
 mod state;
+mod statements;
 mod statistics;
 mod status;
 mod stepped;
 mod tape;
-mod timing;
 mod verdict;
 mod writing;
 

@@ -4,7 +4,7 @@ use Rattle.std.specs.Prelude.{slice_get}
 use Rattle.ss_data.specs.Items.{with_taken}
 use Rattle.ss_machine.specs.Step.{value_taken}
 use Rattle.ss_machine.proofs.Takes.{take_more, take_none}
-use Rattle.ss_machine.proofs.state.take_values.Goals as goal
+use Rattle.ss_machine.proofs.state.data.take_values.Goals as goal
 
 pub returns-in_err-value-clause-fault : goal.returns-in_err-value-clause-fault
 returns-in_err-value-clause-fault c =

@@ -1,5 +1,5 @@
 use Rattle.std.proofs.Common.{◌≡◌, ◌++◌, take}
-use Rattle.ss_machine.proofs.state.append_all.Given as goal
+use Rattle.ss_machine.proofs.state.frames.append_all.Given as goal
 
 -- so many values of the part are behind the old ones
 abbrev pub invariant-loop-value : goal.invariant-loop-value
