@@ -14,8 +14,9 @@ ghost use Rattle.ss_machine.specs.Noting.{Notes};
 ghost use Rattle.ss_machine.specs.Storing.{IsMarked};
 ghost use Rattle.ss_machine.specs.Moment.{most_changes, change_bound};
 ghost use Rattle.ss_machine.specs.Seen.{InHeld, scope_held};
-ghost use Rattle.ss_machine.specs.Step.{state_after_assignment, state_with_value, state_at_place, step, step_at};
-ghost use Rattle.ss_machine.specs.Step.{state_with_values};
+ghost use Rattle.ss_machine.specs.Statements.{state_after_assignment, state_with_value, state_at_place};
+ghost use Rattle.ss_machine.specs.Statements.{state_with_values};
+ghost use Rattle.ss_machine.specs.Step.{step, step_at};
 ghost use Rattle.ss_machine.specs.declared.status.Status.TheVariants.{Faulted};
 ghost use Rattle.ss_machine.specs.Run.{start};
 ghost use Rattle.ss_machine.specs.Well.{IsInBounds};
@@ -182,7 +183,9 @@ impl<S: SetBoard> Executor<S> {
         requires room { 0 < self.old.journal.notes }
         ensures ok { OnOk done (self.new.held.state ≡ state_at_place next self.old.held.state) }
         ensures err { IfErr done (λ e. self.new.held.state
-            ≡ record (unapply_all unapply self.old.journal.current self.old.held).state { status = Faulted e }) }
+            ≡ record (unapply_all unapply self.old.journal.current self.old.held).state {
+              status = Faulted e;
+            }) }
         ensures notes { Notes 1 self.old self.new }
     {
         match done {
@@ -204,7 +207,8 @@ impl<S: SetBoard> Executor<S> {
         requires room { 0 < self.old.journal.notes }
         ensures ok { OnOk done (self.new.held.state ≡ state_at_place next self.old.held.state) }
         ensures err { IfErr done (λ e. OnOk result (IsMarked e
-            (unapply_all unapply self.old.journal.current self.old.held).state self.new.held.state)) }
+            (unapply_all unapply self.old.journal.current self.old.held).state
+            self.new.held.state)) }
         ensures notes { Notes 1 self.old self.new }
     {
         let Err(fault) = done else {
@@ -220,7 +224,8 @@ impl<S: SetBoard> Executor<S> {
         requires fits { FitsAll Fits unapply self.old.journal.current self.old.held }
         requires room { 0 < self.old.journal.notes }
         ensures state { OnOk result (IsMarked fault
-            (unapply_all unapply self.old.journal.current self.old.held).state self.new.held.state) }
+            (unapply_all unapply self.old.journal.current self.old.held).state
+            self.new.held.state) }
         ensures notes { Notes 1 self.old self.new }
     {
         match fault {

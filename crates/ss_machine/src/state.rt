@@ -1,8 +1,13 @@
 //! The state of a run.
+pub mod change;
 pub mod data;
 pub mod entities;
+pub mod external;
+pub mod frame;
 pub mod frames;
+pub mod loops;
 pub mod notices;
+pub mod statistics;
 
 ghost use Rattle.std.specs.Prelude.{◌≡◌, ◌<◌, ◌≤◌, length, IfOk};
 ghost use Rattle.ss_program.specs.ProgramSound.{IsSettable};
@@ -12,17 +17,17 @@ ghost use Rattle.ss_store.specs.Tables.{tables_of};
 ghost use Rattle.ss_events.specs.Rules.{rules_of};
 ghost use Rattle.ss_machine.specs.Held.{store_of, agenda_of};
 ghost use Rattle.ss_machine.specs.Readings.{readings, variable_in, HasVariable};
-ghost use Rattle.ss_machine.specs.Step.{state_after_assignment};
+ghost use Rattle.ss_machine.specs.Statements.{state_after_assignment};
 ghost use Rattle.ss_machine.specs.Run.{start};
 ghost use Rattle.ss_machine.specs.Change.{Fits, unapply};
 ghost use Rattle.ss_machine.specs.ChangeView.{as_change};
 ghost use Rattle.ss_program.specs.declared.variable.Variable.TheVariants as variable;
 
-use crate::change::Change;
 use crate::entry::Entry;
-use crate::frame::{Frame, FrameBox};
 use crate::limits::MOST_BELOW;
-use crate::statistics::Statistics;
+use crate::state::change::Change;
+use crate::state::frame::{Frame, FrameBox};
+use crate::state::statistics::Statistics;
 use crate::status::Status;
 use ss_data::Feed;
 use ss_events::Agenda;

@@ -4,16 +4,18 @@ ghost use Rattle.std.specs.Prelude.{Err, replicate, nat_lt, None};
 ghost use Rattle.ss_report.specs.Pictures.{field_count, picture_text};
 ghost use Rattle.ss_machine.specs.Change.{Fits, unapply};
 ghost use Rattle.ss_values.specs.Values.{FaultIs};
-ghost use Rattle.ss_machine.specs.Step.{value_taken, external_class, arrival_asked, longer_report, state_with_taken};
-ghost use Rattle.ss_machine.specs.Step.{values_taken};
+ghost use Rattle.ss_machine.specs.Statements.Reading.{value_taken, values_taken};
+ghost use Rattle.ss_machine.specs.Statements.Timing.{external_class, arrival_asked};
+ghost use Rattle.ss_machine.specs.Statements.Printing.{longer_report};
+ghost use Rattle.ss_machine.specs.Statements.{state_with_taken};
 ghost use Rattle.ss_machine.specs.ChangeView.{as_change};
 ghost use Rattle.ss_words.specs.declared.fault.RunFault.TheVariants as RunFault;
 ghost use Rattle.ss_data.specs.Items.{with_taken, value_or_fault};
 ghost use Rattle.ss_data.specs.Entries.{place_behind_mark};
 
-use crate::change::Change;
-use crate::external::external_class;
 use crate::state::State;
+use crate::state::change::Change;
+use crate::state::external::external_class;
 use ss_data::{Feed, PieceKind};
 use ss_journal::Undo;
 use ss_links::SetBoard;
@@ -43,7 +45,8 @@ impl<S: SetBoard> State<S> {
         ensures fits { IfOk result (λ c. Fits (as_change c) self.new) }
         ensures back { IfOk result (λ c. unapply (as_change c) self.new ≡ self.old) }
         ensures fault { IfErr result
-            (λ e. FaultIs e (values_taken external self.old.state.feed.items self.old.state.feed.taken targets.now)) }
+            (λ e. FaultIs e (values_taken external self.old.state.feed.items
+            self.old.state.feed.taken targets.now)) }
         ensures err { OnErr result (self.new ≡ self.old) }
     {
         let old = self.feed.taken();

@@ -6,11 +6,12 @@ ghost use Rattle.ss_store.specs.Store as entities;
 ghost use Rattle.ss_store.specs.Store.{number_of};
 ghost use Rattle.ss_store.specs.Filing.{after_filing, after_removing};
 ghost use Rattle.std.specs.List.{range_with_len};
-ghost use Rattle.ss_machine.specs.Step.{entity_named, attributes_now};
+ghost use Rattle.ss_machine.specs.Statements.{entity_named};
+ghost use Rattle.ss_machine.specs.Statements.Timing.{attributes_now};
 ghost use Rattle.ss_machine.specs.Storing.{IsStoring, IsRemoving, IsCreating, IsMakingAll};
 
-use crate::change::Change;
 use crate::state::State;
+use crate::state::change::Change;
 use ss_links::SetBoard;
 use ss_program::Keys;
 use ss_store::{How, Store, Which};

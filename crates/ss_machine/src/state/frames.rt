@@ -3,15 +3,16 @@ ghost use Rattle.std.specs.Prelude.{◌≡◌, ◌<◌, ◌≤◌, ◌∷◌, []
 ghost use Rattle.ss_machine.specs.Change.{Fits, unapply};
 ghost use Rattle.ss_machine.specs.Dropping.{HasDropped, caller_place};
 ghost use Rattle.ss_machine.specs.Loops.{innermost, loops_with_candidate, loop_of_phrase};
-ghost use Rattle.ss_machine.specs.Step.{state_at_place, state_with_loops, state_with_found, state_with_statistics};
+ghost use Rattle.ss_machine.specs.Statements.{state_at_place};
+ghost use Rattle.ss_machine.specs.Statements.Looping.{state_with_loops, state_with_found, state_with_statistics};
 ghost use Rattle.ss_machine.specs.ChangeView.{as_change};
 
-use crate::change::Change;
-use crate::frame::FrameBox;
 use crate::limits::MOST_BELOW;
-use crate::loops::OpenLoop;
 use crate::state::State;
-use crate::statistics::Statistics;
+use crate::state::change::Change;
+use crate::state::frame::FrameBox;
+use crate::state::loops::OpenLoop;
+use crate::state::statistics::Statistics;
 use ss_links::SetBoard;
 use std::alloc::{AllocError, Global};
 use std::mem;

@@ -3,7 +3,7 @@ ghost use Rattle.std.specs.Prelude.{◌≡◌, ◌<◌, [], OnOk, IfErr};
 ghost use Rattle.ss_program.specs.ProgramSound.{IsSoundAssign};
 ghost use Rattle.ss_machine.specs.Noting.{Notes};
 ghost use Rattle.ss_machine.specs.Seen.{InHeld};
-ghost use Rattle.ss_machine.specs.Step.{target_of, state_after_assign, step_assign};
+ghost use Rattle.ss_machine.specs.Statements.Assigning.{target_of, state_after_assign, step_assign};
 
 use crate::executor::Executor;
 use ss_links::SetBoard;

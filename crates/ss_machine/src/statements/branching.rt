@@ -3,7 +3,7 @@ ghost use Rattle.std.specs.Prelude.{◌≡◌, ◌<◌};
 ghost use Rattle.ss_program.specs.ProgramSound.{IsSoundQuestion, IsSoundBranch};
 ghost use Rattle.ss_machine.specs.Noting.{Notes};
 ghost use Rattle.ss_machine.specs.Seen.{InHeld};
-ghost use Rattle.ss_machine.specs.Step.{step_branch, question_answer};
+ghost use Rattle.ss_machine.specs.Statements.Branching.{step_branch, question_answer};
 
 use crate::executor::Executor;
 use crate::status::Status;

@@ -3,11 +3,12 @@ ghost use Rattle.std.specs.Prelude.{◌≡◌, ◌<◌, [], length, true, OnOk, 
 ghost use Rattle.ss_program.specs.ProgramSound.{IsTarget, IsSoundOption, IsSoundExpr, IsSoundMaking};
 ghost use Rattle.ss_machine.specs.Noting.{Notes};
 ghost use Rattle.ss_machine.specs.Seen.{InHeld};
-ghost use Rattle.ss_machine.specs.Step.{step_making, state_after_create, state_after_making, state_after_destroy};
+ghost use Rattle.ss_machine.specs.Statements.Entities.{step_making, state_after_create, state_after_making};
+ghost use Rattle.ss_machine.specs.Statements.Entities.{state_after_destroy};
 ghost use Rattle.ss_program.specs.declared.making.Making.TheVariants as making;
 ghost use Rattle.ss_store.specs.Tables.{class_of};
 ghost use Rattle.ss_values.specs.Values.{FaultIs};
-ghost use Rattle.ss_machine.specs.Step as steps;
+ghost use Rattle.ss_machine.specs.Statements.Entities as steps;
 ghost use Rattle.ss_values.specs.Seen.{view_readings, InView};
 
 use crate::executor::Executor;
@@ -74,7 +75,8 @@ impl<S: SetBoard> Executor<S> {
             (state_after_destroy self.old.held.beside.tables self.old.held.state class entity.now
             ≡ Ok self.new.held.state) }
         ensures err { IfErr result
-            (λ e. state_after_destroy self.old.held.beside.tables self.old.held.state class entity.now ≡ Err e) }
+            (λ e. state_after_destroy self.old.held.beside.tables self.old.held.state class entity.now
+            ≡ Err e) }
         ensures notes { Notes 1 self.old self.new }
     {
         let x = value(self.held.view(), entity)?;

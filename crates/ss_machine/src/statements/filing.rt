@@ -3,9 +3,9 @@ ghost use Rattle.std.specs.Prelude.{◌≡◌, ◌<◌, [], OnOk, IfErr};
 ghost use Rattle.ss_program.specs.ProgramSound.{IsTarget, IsSoundSetRef, IsSoundFiling, IsSoundPosition};
 ghost use Rattle.ss_machine.specs.Noting.{Notes};
 ghost use Rattle.ss_machine.specs.Seen.{InHeld};
-ghost use Rattle.ss_machine.specs.Step.{step_filing, state_after_file, state_after_remove_end, state_after_remove};
-ghost use Rattle.ss_machine.specs.Step.{state_after_filing};
-ghost use Rattle.ss_machine.specs.Step as steps;
+ghost use Rattle.ss_machine.specs.Statements.Filing.{step_filing, state_after_file, state_after_remove_end};
+ghost use Rattle.ss_machine.specs.Statements.Filing.{state_after_remove, state_after_filing};
+ghost use Rattle.ss_machine.specs.Statements.Filing as steps;
 ghost use Rattle.ss_values.specs.Seen.{view_readings, InView};
 ghost use Rattle.ss_values.specs.Values as evaluated;
 
@@ -25,7 +25,8 @@ impl<S: SetBoard> Executor<S> {
             (state_after_file self.old.held.beside.tables self.old.held.state set.now member how
             ≡ Ok self.new.held.state) }
         ensures err { IfErr result
-            (λ e. state_after_file self.old.held.beside.tables self.old.held.state set.now member how ≡ Err e) }
+            (λ e. state_after_file self.old.held.beside.tables self.old.held.state set.now member how
+            ≡ Err e) }
         ensures notes { Notes 1 self.old self.new }
     {
         let owner = owner_value(self.held.view(), set)?;
@@ -40,10 +41,12 @@ impl<S: SetBoard> Executor<S> {
         requires target { InHeld self.old.held IsTarget target.now }
         requires room { 1 < self.old.journal.notes }
         ensures ok { OnOk result
-            (state_after_remove_end self.old.held.beside.tables self.old.held.state set.now end target.now
+            (state_after_remove_end self.old.held.beside.tables self.old.held.state set.now end
+            target.now
             ≡ Ok self.new.held.state) }
         ensures err { IfErr result (λ e.
-            state_after_remove_end self.old.held.beside.tables self.old.held.state set.now end target.now ≡ Err e) }
+            state_after_remove_end self.old.held.beside.tables self.old.held.state set.now end
+            target.now ≡ Err e) }
         ensures notes { Notes 2 self.old self.new }
     {
         let owner = owner_value(self.held.view(), set)?;

@@ -1,4 +1,7 @@
 //! FOR, LOOP, FIND and COMPUTE.
+pub mod candidates;
+pub mod verdict;
+
 ghost use Rattle.std.specs.Prelude.{◌≡◌, ◌+◌, ◌<◌, ◌≤◌, ◌∷◌, [], length, drop, true, OnOk, IfOk, IfErr};
 ghost use Rattle.ss_program.specs.ProgramSound.{IsSoundPhrase, AreSoundQualifiers, AreSoundTellings, IsSoundLooping};
 ghost use Rattle.ss_program.specs.ProgramSound.{loop_limit};
@@ -6,18 +9,21 @@ ghost use Rattle.ss_machine.specs.Noting.{Notes};
 ghost use Rattle.ss_machine.specs.Moment as changes;
 ghost use Rattle.ss_machine.specs.Seen.{InHeld};
 ghost use Rattle.ss_machine.specs.Loops.{loops_with_candidate, IsSoundWalk, AreSoundWalks};
-ghost use Rattle.ss_machine.specs.Step.{state_after_result, state_at_place, step_looping, step_phrase};
-ghost use Rattle.ss_machine.specs.Step.{state_with_loops, state_with_found, state_with_statistics, state_after_reset};
-ghost use Rattle.ss_machine.specs.Step.{state_after_entry, state_after_closing, candidate_tried, state_after_turn};
-ghost use Rattle.ss_machine.specs.Step.{state_after_telling, statistics_after};
+ghost use Rattle.ss_machine.specs.Statements.{state_after_result, state_at_place};
+ghost use Rattle.ss_machine.specs.Statements.Looping.{step_looping, step_phrase, state_with_loops, state_with_found};
+ghost use Rattle.ss_machine.specs.Statements.Looping.{state_with_statistics, state_after_reset, state_after_entry};
+ghost use Rattle.ss_machine.specs.Statements.Looping.{state_after_closing, candidate_tried, state_after_turn};
+ghost use Rattle.ss_machine.specs.Statements.Looping.{state_after_telling, statistics_after};
 ghost use Rattle.ss_machine.specs.View.{as_verdict};
 
-use crate::candidates::{loop_at_entry, loop_variable, next_candidate, verdict};
 use crate::executor::Executor;
-use crate::loops::OpenLoop;
-use crate::statistics::{Statistics, no_statistics, statistic_value, statistics_with};
+use crate::state::loops::OpenLoop;
+use crate::state::statistics::{Statistics, no_statistics, statistic_value, statistics_with};
+use crate::statements::looping::candidates::{
+    loop_at_entry, loop_variable, next_candidate, verdict,
+};
+use crate::statements::looping::verdict::Verdict;
 use crate::status::Status;
-use crate::verdict::Verdict;
 use ss_links::SetBoard;
 use ss_program::{ForPhrase, Looping, Resets, Tellings, Ways};
 use ss_values::value;
@@ -158,7 +164,8 @@ impl<S: SetBoard> Executor<S> {
         requires none { self.old.journal.current ≡ [] }
         requires room { 3 < self.old.journal.notes }
         ensures state { self.new.held.state
-            ≡ state_after_turn self.old.held.beside.tables self.old.held.state ways phrase.now open_loop
+            ≡ state_after_turn self.old.held.beside.tables self.old.held.state ways phrase.now
+            open_loop
             open_loop.candidate }
         ensures notes { Notes 4 self.old self.new }
     {
@@ -219,10 +226,12 @@ impl<S: SetBoard> Executor<S> {
         requires sound { InHeld self.old.held AreSoundTellings tellings.now }
         requires room { length tellings.now < self.old.journal.notes }
         ensures ok { OnOk result
-            (state_after_telling self.old.held.beside.tables statistics self.old.held.state tellings.now
+            (state_after_telling self.old.held.beside.tables statistics self.old.held.state
+            tellings.now
             ≡ Ok self.new.held.state) }
         ensures err { IfErr result (λ e.
-            state_after_telling self.old.held.beside.tables statistics self.old.held.state tellings.now ≡ Err e) }
+            state_after_telling self.old.held.beside.tables statistics self.old.held.state
+            tellings.now ≡ Err e) }
         ensures notes { Notes (length tellings.now) self.old self.new }
     {
         for telling in &tellings.list {

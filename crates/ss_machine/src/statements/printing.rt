@@ -4,8 +4,8 @@ ghost use Rattle.ss_report.specs.Pictures.{field_count};
 ghost use Rattle.ss_program.specs.ProgramSound.{IsSoundExpr, IsSoundOutput, AreSoundExprs};
 ghost use Rattle.ss_machine.specs.Noting.{Notes};
 ghost use Rattle.ss_machine.specs.Seen.{InHeld};
-ghost use Rattle.ss_machine.specs.Step.{state_after_print, state_after_skip, step_output};
-ghost use Rattle.ss_machine.specs.Step as steps;
+ghost use Rattle.ss_machine.specs.Statements.Printing.{state_after_print, state_after_skip, step_output};
+ghost use Rattle.ss_machine.specs.Statements.Printing as steps;
 ghost use Rattle.ss_values.specs.Seen.{view_readings, InView};
 
 use crate::executor::Executor;
@@ -26,7 +26,8 @@ impl<S: SetBoard> Executor<S> {
         requires room { 1 < self.old.journal.notes }
         ensures state { OnOk result
             (self.new.held.state
-            ≡ state_after_print self.old.held.beside.tables self.old.held.state next es.now picture.now) }
+            ≡ state_after_print self.old.held.beside.tables self.old.held.state next es.now
+            picture.now) }
         ensures notes { Notes 2 self.old self.new }
     {
         let printed = match values(self.held.view(), es, &mut self.values) {

@@ -4,12 +4,12 @@ ghost use Rattle.ss_program.specs.ProgramSound.{AreTargets};
 ghost use Rattle.ss_store.specs.Tables.{tables_of};
 ghost use Rattle.ss_machine.specs.Noting.{Notes};
 ghost use Rattle.ss_machine.specs.Seen.{InHeld};
-ghost use Rattle.ss_machine.specs.Step.{step_read, state_after_read};
+ghost use Rattle.ss_machine.specs.Statements.Reading.{step_read, state_after_read};
 ghost use Rattle.ss_values.specs.Values.{FaultIs};
 
 use crate::entry::Entry;
 use crate::executor::Executor;
-use crate::external::has_external;
+use crate::state::external::has_external;
 use ss_links::SetBoard;
 use ss_program::{Program, Targets};
 use ss_values::values;

@@ -15,9 +15,10 @@ ghost use Rattle.ss_machine.specs.Well.{IsInBounds};
 ghost use Rattle.ss_program.specs.declared.place.Place.TheVariants as places;
 ghost use Rattle.ss_program.specs.declared.timing.Timing.TheVariants as timings;
 ghost use Rattle.ss_store.specs.Tables as shapes;
-ghost use Rattle.ss_machine.specs.Step.{state_with_attributes, state_after_scheduling, state_after_new};
-ghost use Rattle.ss_machine.specs.Step.{state_after_schedule, state_after_notice, state_after_cancel, step_timing};
-ghost use Rattle.ss_machine.specs.Step as steps;
+ghost use Rattle.ss_machine.specs.Statements.Timing.{state_with_attributes, state_after_scheduling, state_after_new};
+ghost use Rattle.ss_machine.specs.Statements.Timing.{state_after_schedule, state_after_notice, state_after_cancel};
+ghost use Rattle.ss_machine.specs.Statements.Timing.{step_timing};
+ghost use Rattle.ss_machine.specs.Statements.Timing as steps;
 ghost use Rattle.ss_values.specs.Seen.{view_readings, InView};
 
 use crate::executor::Executor;
@@ -71,10 +72,12 @@ impl<S: SetBoard> Executor<S> {
         requires small { notice ≤ MOST_REFERENCES }
         requires room { 1 + length self.old.values.items < self.old.journal.notes }
         ensures ok { OnOk result
-            (state_after_scheduling program.now self.old.held.state class notice time self.old.values.items
+            (state_after_scheduling program.now self.old.held.state class notice time
+            self.old.values.items
             ≡ Ok self.new.held.state) }
         ensures err { IfErr result (λ e. FaultIs e
-            (state_after_scheduling program.now self.old.held.state class notice time self.old.values.items)) }
+            (state_after_scheduling program.now self.old.held.state class notice time
+            self.old.values.items)) }
         ensures tables { self.new.held.beside.tables ≡ self.old.held.beside.tables }
         ensures scope { OnOk result (scope_held self.new.held ≡ scope_held self.old.held) }
         ensures notes { Notes (1 + length self.old.values.items) self.old self.new }
@@ -106,10 +109,12 @@ impl<S: SetBoard> Executor<S> {
         requires target { InHeld self.old.held IsTarget target.now }
         requires room { 3 + length self.old.values.items < self.old.journal.notes }
         ensures ok { OnOk result
-            (state_after_new program.now self.old.held.state class target.now time self.old.values.items
+            (state_after_new program.now self.old.held.state class target.now time
+            self.old.values.items
             ≡ Ok self.new.held.state) }
         ensures err { IfErr result (λ e. FaultIs e
-            (state_after_new program.now self.old.held.state class target.now time self.old.values.items)) }
+            (state_after_new program.now self.old.held.state class target.now time
+            self.old.values.items)) }
         ensures notes { Notes (3 + length self.old.values.items) self.old self.new }
     {
         if time < self.held.clock() {
@@ -183,7 +188,8 @@ impl<S: SetBoard> Executor<S> {
             (state_after_cancel self.old.held.beside.tables self.old.held.state class notice.now
             ≡ Ok self.new.held.state) }
         ensures err { IfErr result
-            (λ e. state_after_cancel self.old.held.beside.tables self.old.held.state class notice.now ≡ Err e) }
+            (λ e. state_after_cancel self.old.held.beside.tables self.old.held.state class notice.now
+            ≡ Err e) }
         ensures notes { Notes 1 self.old self.new }
     {
         let x = value(self.held.view(), notice)?;
