@@ -9,7 +9,7 @@ use Rattle.std.proofs.lemmas.Option.{slice_get-get_or}
 use Rattle.ss_words.specs.declared.fault.RunFault.{RunFault}
 use Rattle.ss_store.specs.Store.{Store, attribute_of}
 use Rattle.ss_values.specs.Faults.{◌>>=◌}
-use Rattle.ss_machine.specs.Step.{attributes_now}
+use Rattle.ss_machine.specs.Statements.Timing.{attributes_now}
 
 behind_first : (r : Result (List ℤ) RunFault) (vs : List ℤ) (x : ℤ) →
     ((r >>= λ xs. Ok (x ∷ xs)) >>= λ xs. Ok (vs ++ xs)) ≡ (r >>= λ xs. Ok ((vs ++ x ∷ []) ++ xs))

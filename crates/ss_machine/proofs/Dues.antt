@@ -19,7 +19,7 @@ use Rattle.ss_events.specs.declared.agenda.Slot.{Slot}
 use Rattle.ss_events.specs.WellAgenda.{IsRising}
 use Rattle.ss_store.specs.Store.{Store}
 use Rattle.ss_machine.specs.Well.{IsDue, AreDue}
-use Rattle.ss_machine.proofs.Stores.{Stays, StaysBut}
+use Rattle.ss_machine.proofs.Staying.{Stays, StaysBut}
 
 -- ---- stores
 

@@ -1,9 +1,9 @@
 -- changes that are read from numbers
 use Rattle.std.proofs.Common.{◌≡◌, ℕ, zero, suc, List, [], ◌∷◌, ◌++◌, length, refl, ap, sym, ◌∙◌, subst, arith}
 use Rattle.ss_machine.specs.Change.{Change}
-use Rattle.ss_machine.specs.declared.tape.Owned.{Owned}
-use Rattle.ss_machine.specs.declared.kind.ChangeKind.{ChangeKind}
-use Rattle.ss_machine.specs.Kinds.{kind_of}
+use Rattle.ss_machine.specs.declared.history.tape.Owned.{Owned}
+use Rattle.ss_machine.specs.declared.history.kinds.ChangeKind.{ChangeKind}
+use Rattle.ss_machine.specs.History.Kinds.{kind_of}
 use Rattle.ss_machine.specs.History.{behind, change_of, number_count, kept_count, changes_behind, changes_of, HasKept}
 use Rattle.ss_machine.specs.History.{IsWritten, AreWritten, steps_of}
 use Rattle.ss_journal.specs.Log.{newest}

@@ -10,7 +10,7 @@ use Rattle.ss_data.specs.Pieces.{pieces}
 use Rattle.ss_data.specs.Items.{Item, item, items, number_or_fault, value_or_fault}
 use Rattle.ss_words.specs.declared.fault.RunFault.TheVariants.{OutsideEntry}
 use Rattle.ss_data.specs.Entries.{kind_or_end}
-use Rattle.ss_machine.specs.Step.{is_mark, value_taken, values_taken}
+use Rattle.ss_machine.specs.Statements.Reading.{is_mark, value_taken, values_taken}
 use Rattle.ss_machine.specs.Well.{AreInRange, AreItemsInRange, IsNoneOrInRange}
 use Rattle.ss_machine.proofs.Ranges.{Got, after_got, unless_refused, IsIn}
 

@@ -37,13 +37,19 @@ use Rattle.ss_values.specs.Values.{number_value}
 use Rattle.ss_machine.specs.State.{State, FrameState, is_ready, is_waiting}
 use Rattle.ss_machine.specs.Loops.{OpenLoop, Verdict, Runs, Passes, Closes, innermost, loop_of_phrase, loop_variable}
 use Rattle.ss_machine.specs.Loops.{loops_with_candidate, next_candidate, verdict_of}
-use Rattle.ss_machine.specs.Step.{state_after_result, state_with_store, state_behind_mark, state_without_entry}
-use Rattle.ss_machine.specs.Step.{state_after_scheduling, state_after_arrival, arrival_asked, state_after_load, loads}
-use Rattle.ss_machine.specs.Step.{state_after_event, state_after_phrase, state_after_reset, state_after_return}
-use Rattle.ss_machine.specs.Step.{state_after_section, candidate_tried, state_after_turn, state_after_verdict}
-use Rattle.ss_machine.specs.Step.{state_behind_call, state_behind_place, state_with_candidate, state_with_loops}
-use Rattle.ss_machine.specs.Step.{state_with_taken, state_with_values, attributes_now, event_section, store_at_start}
-use Rattle.ss_machine.specs.Step.{state_after_start, step_simulation, step, step_at, step_by, values_taken, ways_here}
+use Rattle.ss_machine.specs.Statements.{state_after_result, state_with_store, state_with_taken, state_with_values}
+use Rattle.ss_machine.specs.Statements.{ways_here}
+use Rattle.ss_machine.specs.Statements.Reading.{values_taken}
+use Rattle.ss_machine.specs.Statements.Looping.{state_after_phrase, state_after_reset, candidate_tried}
+use Rattle.ss_machine.specs.Statements.Looping.{state_after_turn, state_after_verdict, state_with_candidate}
+use Rattle.ss_machine.specs.Statements.Looping.{state_with_loops}
+use Rattle.ss_machine.specs.Statements.Calling.{state_behind_mark, state_without_entry, state_after_event}
+use Rattle.ss_machine.specs.Statements.Calling.{state_after_return, state_after_section, state_behind_call}
+use Rattle.ss_machine.specs.Statements.Calling.{state_behind_place}
+use Rattle.ss_machine.specs.Statements.Timing.{state_after_scheduling, state_after_arrival, arrival_asked}
+use Rattle.ss_machine.specs.Statements.Timing.{state_after_load, loads, attributes_now, event_section, store_at_start}
+use Rattle.ss_machine.specs.Statements.Timing.{state_after_start, step_simulation}
+use Rattle.ss_machine.specs.Step.{step, step_at, step_by}
 use Rattle.ss_machine.specs.Readings.{readings}
 use Rattle.ss_machine.proofs.Ranges.{Got, after_got, anything}
 use Rattle.ss_machine.proofs.Rests.{LeavesRest, assigned_rest, assign_rest, making_rest, filing_rest, telling_rest}

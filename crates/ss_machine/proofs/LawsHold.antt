@@ -12,7 +12,7 @@ use Rattle.ss_program.specs.ProgramSound.{IsSound, IsTimed, loop_limit}
 use Rattle.ss_machine.specs.declared.limits.TheConstants.{MOST_STEP_CHANGES}
 use Rattle.ss_machine.specs.State.{State}
 use Rattle.ss_machine.specs.Run.{input_with}
-use Rattle.ss_machine.specs.Step.{ways_here}
+use Rattle.ss_machine.specs.Statements.{ways_here}
 use Rattle.ss_machine.specs.Moment.{most_changes, most_changes_by, targets_at, targets_by}
 use Rattle.ss_machine.specs.Laws.{ProgramsKeepStatesWell, StepsNoteFew}
 use Rattle.ss_machine.proofs.Sounds.{spot_linked, spot_timed, few_arguments, chain_few}

@@ -14,8 +14,10 @@ pub mod Items
 pub mod Kept
 pub mod Moments
 pub mod Stores
+pub mod Staying
 pub mod ValuesIn
 pub mod Storings
+pub mod Openings
 pub mod Nesting
 pub mod Attributes
 pub mod Dues

@@ -1,21 +1,18 @@
 -- a step keeps the open loops of each frame those of the phrases around its place
-use Rattle.std.proofs.Common.{◌≡◌, ◌≢◌, ◌≤◌, ◌+◌, ℕ, ℤ, zero, suc, List, [], ◌∷◌, drop, Bool, true, false, nat_eq}
-use Rattle.std.proofs.Common.{Option, Some, None, Result, Ok, Err, refl, sym, ap, subst, ◌∙◌, arith}
-use Rattle.std.proofs.Math.Logic.{◌⊎◌, inl, inr}
-use Rattle.std.proofs.lemmas.Bool.{eqb-true, eq-eqb, or_cases, and_parts}
-use Rattle.std.proofs.lemmas.Slice.Eq.{bytes_eq-Decides}
-use Rattle.std.specs.Prelude.{if◌then◌else◌, slice_get, slice_index_or, pos, int_lt, length, bytes_eq, ◌&&◌, ◌||◌}
+use Rattle.std.proofs.Common.{◌≡◌, ◌+◌, ℕ, ℤ, List, [], ◌∷◌, drop, Bool, true, false, nat_eq, Option, Some, None}
+use Rattle.std.proofs.Common.{Result, Ok, Err, refl, sym, ap, subst, ◌∙◌}
+use Rattle.std.proofs.Math.Logic.{inl, inr}
+use Rattle.std.proofs.lemmas.Bool.{eqb-true, eq-eqb, and_parts}
+use Rattle.std.specs.Prelude.{if◌then◌else◌, slice_get, pos, int_lt, length}
 use Rattle.ss_words.specs.declared.fault.RunFault.{RunFault}
-use Rattle.ss_words.specs.declared.fault.RunFault.TheVariants.{StepBelowOne}
-use Rattle.ss_program.specs.declared.variable.Variable.{Variable}
-use Rattle.ss_program.specs.declared.variable.Variable.TheVariants.{Global, Local, Clock}
+use Rattle.ss_words.specs.declared.fault.RunFault.TheVariants.{StepBelowOne, OutsideEntry, TimeBeforeClock}
+use Rattle.ss_program.specs.declared.variable.Variable.TheVariants.{Global}
 use Rattle.ss_program.specs.declared.branch.Branch.TheVariants.{If, Else, Always}
 use Rattle.ss_words.specs.declared.terms.Direction.{Direction}
 use Rattle.ss_words.specs.declared.terms.Direction.TheVariants.{Onward}
 use Rattle.ss_program.specs.declared.looping.Phrase.{Phrase}
 use Rattle.ss_program.specs.declared.looping.Phrase.TheVariants.{Counting, Each, Walking}
 use Rattle.ss_program.specs.declared.looping.ForPhrase.{ForPhrase}
-use Rattle.ss_program.specs.declared.looping.Telling.{Telling}
 use Rattle.ss_program.specs.declared.looping.Looping.TheVariants.{For, Loop, Find, Gather, Tell}
 use Rattle.ss_program.specs.declared.place.Output.TheVariants.{Print, Skip}
 use Rattle.ss_program.specs.declared.place.Control.TheVariants.{Stop, Return, End}
@@ -30,103 +27,40 @@ use Rattle.ss_program.specs.declared.ways.Ways.{Ways}
 use Rattle.ss_program.specs.declared.kinds.SectionKind.{SectionKind}
 use Rattle.ss_program.specs.declared.kinds.SectionKind.TheVariants as kinds
 use Rattle.ss_program.specs.Match.{is_at, passes}
-use Rattle.ss_program.specs.Nesting.{is_phrase, is_around, phrases_before, phrases_around, may_be_open, is_nested}
+use Rattle.ss_program.specs.Nesting.{is_phrase, phrases_around, may_be_open, is_nested}
 use Rattle.ss_program.specs.Program.{ProgramTable, has_external, places_of, section_of, spot_at}
 use Rattle.ss_program.specs.ProgramSound.{IsSound}
 use Rattle.std.specs.List.{range_with_len}
-use Rattle.ss_words.specs.declared.fault.RunFault.TheVariants.{OutsideEntry, TimeBeforeClock}
 use Rattle.ss_store.specs.Tables.{Tables, tables_of, class_of}
 use Rattle.ss_store.specs.Store.{Store, last_reference, with_new}
 use Rattle.ss_events.specs.Rules.{rules_of}
 use Rattle.ss_events.specs.Agenda.{Pending, least}
 use Rattle.ss_machine.proofs.Rests.{LeavesRest, assigned_rest, assign_rest, making_rest, filing_rest, telling_rest}
 use Rattle.ss_machine.proofs.Rests.{values_rest, scheduling_rest, schedule_rest, cancel_rest}
-use Rattle.ss_machine.specs.State.{State, FrameState, Statistics, new_frame, is_waiting}
+use Rattle.ss_machine.specs.State.{State, FrameState, new_frame, is_waiting}
 use Rattle.ss_values.specs.Faults.{◌>>=◌, ◌>>◌, refuse_if}
 use Rattle.ss_values.specs.Values.{Readings, variable_value, value_of, values_of, subscript_value, number_value}
 use Rattle.ss_machine.specs.Readings.{readings}
 use Rattle.ss_machine.specs.Loops.{OpenLoop, Numbers, Verdict, Runs, Passes, Closes, innermost, loop_of_phrase}
 use Rattle.ss_machine.specs.Loops.{loops_with_candidate, next_candidate, candidate_within, candidate_at_begin}
 use Rattle.ss_machine.specs.Loops.{loop_variable, number_loop, loop_at_entry, step_value, verdict_of}
-use Rattle.ss_machine.specs.Step.{state_after_result, state_at_place, state_with_loops, state_with_taken}
-use Rattle.ss_machine.specs.Step.{state_with_statistics, state_after_reset, state_after_closing, state_with_candidate}
-use Rattle.ss_machine.specs.Step.{candidate_tried, state_after_verdict, state_after_turn, state_after_phrase}
-use Rattle.ss_machine.specs.Step.{state_with_values, values_taken, room_for_frame, state_behind_call}
-use Rattle.ss_machine.specs.Step.{state_behind_place, state_after_return, state_after_event, state_after_section}
-use Rattle.ss_machine.specs.Step.{ways_here, step, step_by, step_at, attributes_now, event_section, store_at_start}
-use Rattle.ss_machine.specs.Step.{state_after_start, step_simulation, state_with_store, state_after_scheduling}
-use Rattle.ss_machine.specs.Step.{arrival_asked, state_after_load, loads}
+use Rattle.ss_machine.specs.Statements.{state_after_result, state_at_place, state_with_taken, state_with_values}
+use Rattle.ss_machine.specs.Statements.{ways_here, state_with_store}
+use Rattle.ss_machine.specs.Statements.Reading.{values_taken}
+use Rattle.ss_machine.specs.Statements.Looping.{state_with_loops, state_with_statistics, state_after_reset}
+use Rattle.ss_machine.specs.Statements.Looping.{state_after_closing, state_with_candidate, candidate_tried}
+use Rattle.ss_machine.specs.Statements.Looping.{state_after_verdict, state_after_turn, state_after_phrase}
+use Rattle.ss_machine.specs.Statements.Calling.{room_for_frame, state_behind_call, state_behind_place}
+use Rattle.ss_machine.specs.Statements.Calling.{state_after_return, state_after_event, state_after_section}
+use Rattle.ss_machine.specs.Statements.Timing.{attributes_now, event_section, store_at_start, state_after_start}
+use Rattle.ss_machine.specs.Statements.Timing.{step_simulation, state_after_scheduling, arrival_asked, state_after_load}
+use Rattle.ss_machine.specs.Statements.Timing.{loads}
+use Rattle.ss_machine.specs.Step.{step, step_by, step_at}
 use Rattle.ss_machine.specs.Well.{phrases_of, HasItsLoops, HaveTheirLoops}
 use Rattle.ss_machine.proofs.Ranges.{Got, after_got, anything}
 use Rattle.ss_machine.proofs.Sounds.{spot_nested}
-
--- ---- lists
-
-phrases_drop : (n : ℕ) (ls : List OpenLoop) → phrases_of (drop n ls) ≡ drop n (phrases_of ls)
-phrases_drop zero ls = refl
-phrases_drop (suc n) [] = refl
-phrases_drop (suc n) (l ∷ ls) = phrases_drop n ls
-
-phrases_moved : (c : Option ℤ) (ls : List OpenLoop) → phrases_of (loops_with_candidate c ls) ≡ phrases_of ls
-phrases_moved c [] = refl
-phrases_moved c (l ∷ ls) = refl
-
-clash : (b : Bool) → b ≡ true → b ≡ false → ⊥
-clash b t f = cc
-
--- the first is not this one
-abbrev IsNotFirst : ℕ → List ℕ → Type 0
-IsNotFirst i [] = Unit {0}
-IsNotFirst i (j ∷ js) = j ≢ i
-
-earlier_first : (ps : List Spot) (i k j : ℕ) → j ≤ k → IsNotFirst k (phrases_before ps i j)
-earlier_first ps i k zero h = tt
-earlier_first ps i k (suc j) h = chosen (is_around ps i j) (earlier_first ps i k j (omega (arith, h)))
-  where
-    chosen : (b : Bool) → IsNotFirst k (phrases_before ps i j) →
-        IsNotFirst k (if b then j ∷ phrases_before ps i j else phrases_before ps i j)
-    chosen true r = λ e. omega (arith, h, e)
-    chosen false r = r
-
--- no phrase is around itself
-around_first : (ps : List Spot) (i : ℕ) → IsNotFirst i (phrases_around ps i)
-around_first ps i = earlier_first ps i i i (omega arith)
-
--- ---- what may be open, by its two cases
-
-abbrev Enters : List Spot → List ℕ → ℕ → Type 0
-Enters ps js n = (js ≡ phrases_around ps n) ⊎ ((is_at ps is_phrase n ≡ true) × (js ≡ n ∷ phrases_around ps n))
-
-second : (ps : List Spot) (js : List ℕ) (n : ℕ) →
-    (is_at ps is_phrase n && bytes_eq js (n ∷ phrases_around ps n)) ≡ true → Enters ps js n
-second ps js n h =
-    let parts = and_parts (is_at ps is_phrase n) (bytes_eq js (n ∷ phrases_around ps n)) h in
-    inr (parts.0, (bytes_eq-Decides js (n ∷ phrases_around ps n)).0 parts.1)
-
-either_case : (ps : List Spot) (js : List ℕ) (n : ℕ) →
-    (bytes_eq js (phrases_around ps n) ≡ true) ⊎ ((is_at ps is_phrase n && bytes_eq js (n ∷ phrases_around ps n)) ≡
-    true) → Enters ps js n
-either_case ps js n (inl e) = inl ((bytes_eq-Decides js (phrases_around ps n)).0 e)
-either_case ps js n (inr h) = second ps js n h
-
-enters : (ps : List Spot) (js : List ℕ) (n : ℕ) → may_be_open ps js n ≡ true → Enters ps js n
-enters ps js n h = either_case ps js n (or_cases (bytes_eq js (phrases_around ps n))
-    (is_at ps is_phrase n && bytes_eq js (n ∷ phrases_around ps n)) h)
-
-or_second : (b c d : Bool) → c ≡ true → d ≡ true → (b || (c && d)) ≡ true
-or_second true c d e f = refl
-or_second false c d e f = rw (e, f) refl
-
-opens : (ps : List Spot) (js : List ℕ) (n : ℕ) → Enters ps js n → may_be_open ps js n ≡ true
-opens ps js n (inl e) = rw ((bytes_eq-Decides js (phrases_around ps n)).1 e) refl
-opens ps js n (inr h) =
-    or_second (bytes_eq js (phrases_around ps n)) (is_at ps is_phrase n) (bytes_eq js (n ∷ phrases_around ps n)) h.0
-    ((bytes_eq-Decides js (n ∷ phrases_around ps n)).1 h.1)
-
--- at a place that is no phrase the loops are those around it
-kept : (ps : List Spot) (js : List ℕ) (i : ℕ) → Enters ps js i → is_at ps is_phrase i ≡ false → js ≡ phrases_around ps i
-kept ps js i (inl e) f = e
-kept ps js i (inr h) f = absurd (clash _ h.0 f)
+use Rattle.ss_machine.proofs.Openings.{Enters, IsNotFirst, around_first, enters, kept, opens, phrases_drop}
+use Rattle.ss_machine.proofs.Openings.{phrases_moved}
 
 module _ (p : ProgramTable) where
   abbrev Places : ℕ → List Spot

@@ -8,8 +8,9 @@ use Rattle.ss_program.specs.ProgramSound.{Scope, IsTarget, AreTargets, AreSoundT
 use Rattle.ss_store.specs.Tables.{Tables}
 use Rattle.ss_store.specs.Store.{Store, with_attribute}
 use Rattle.ss_machine.specs.State.{State, Statistics}
-use Rattle.ss_machine.specs.Step.{state_with_value, state_with_values, state_after_telling, statistic_value}
-use Rattle.ss_machine.specs.Step.{state_with_store, state_with_attributes}
+use Rattle.ss_machine.specs.Statements.{state_with_value, state_with_values, state_with_store}
+use Rattle.ss_machine.specs.Statements.Looping.{state_after_telling, statistic_value}
+use Rattle.ss_machine.specs.Statements.Timing.{state_with_attributes}
 
 value_there : (t u : Tables) (s : State) (x : Target) (y z : ℤ) (q : Result State RunFault) → u ≡ t → z ≡ y →
     state_with_value u s x z ≡ q → state_with_value t s x y ≡ q

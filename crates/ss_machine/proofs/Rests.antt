@@ -30,15 +30,18 @@ use Rattle.ss_values.specs.Faults.{◌>>=◌, ◌>>◌, refuse_if}
 use Rattle.ss_values.specs.Values.{value_of, subscript_value, assigned_value, number_value}
 use Rattle.ss_machine.specs.State.{State, Statistics}
 use Rattle.ss_machine.specs.Readings.{readings}
-use Rattle.ss_machine.specs.Step.{state_after_assignment, state_with_store, state_with_value, target_of}
-use Rattle.ss_machine.specs.Step.{state_after_assign, state_with_values, statistic_value, state_after_telling}
-use Rattle.ss_machine.specs.Step.{state_after_create, number_asked, state_after_create_every, state_after_destroy}
-use Rattle.ss_machine.specs.Step.{state_after_making, which_at, how_at, how_asked, state_after_file}
-use Rattle.ss_machine.specs.Step.{state_after_remove_end, state_after_remove, state_after_filing, entity_named}
-use Rattle.ss_machine.specs.Step.{store_without, arguments_asked, time_asked, attributes_now, tie_attributes}
-use Rattle.ss_machine.specs.Step.{state_with_attributes, state_with_agenda, state_with_notice, state_after_scheduling}
-use Rattle.ss_machine.specs.Step.{state_after_new, state_after_notice, state_after_schedule, agenda_without}
-use Rattle.ss_machine.specs.Step.{state_after_cancel}
+use Rattle.ss_machine.specs.Statements.{state_after_assignment, state_with_store, state_with_value, state_with_values}
+use Rattle.ss_machine.specs.Statements.{entity_named}
+use Rattle.ss_machine.specs.Statements.Assigning.{target_of, state_after_assign}
+use Rattle.ss_machine.specs.Statements.Entities.{state_after_create, number_asked, state_after_create_every}
+use Rattle.ss_machine.specs.Statements.Entities.{state_after_destroy, state_after_making, store_without}
+use Rattle.ss_machine.specs.Statements.Filing.{which_at, how_at, how_asked, state_after_file, state_after_remove_end}
+use Rattle.ss_machine.specs.Statements.Filing.{state_after_remove, state_after_filing}
+use Rattle.ss_machine.specs.Statements.Looping.{statistic_value, state_after_telling}
+use Rattle.ss_machine.specs.Statements.Timing.{arguments_asked, time_asked, attributes_now, tie_attributes}
+use Rattle.ss_machine.specs.Statements.Timing.{state_with_attributes, state_with_agenda, state_with_notice}
+use Rattle.ss_machine.specs.Statements.Timing.{state_after_scheduling, state_after_new, state_after_notice}
+use Rattle.ss_machine.specs.Statements.Timing.{state_after_schedule, agenda_without, state_after_cancel}
 use Rattle.ss_machine.proofs.Ranges.{Got, after_got, anything}
 
 -- the section, the place and the open loops of the last frame, the frames below it, and what is read of the data

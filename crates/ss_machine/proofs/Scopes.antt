@@ -22,7 +22,7 @@ use Rattle.ss_program.specs.declared.target.Target.{Target}
 use Rattle.ss_program.specs.declared.target.Target.TheVariants as targets
 use Rattle.ss_store.specs.Store.{Store, number_of, with_attribute}
 use Rattle.ss_values.specs.Values.{subscript_value}
-use Rattle.ss_machine.specs.Step.{state_after_assignment, state_with_value}
+use Rattle.ss_machine.specs.Statements.{state_after_assignment, state_with_value}
 use Rattle.ss_machine.proofs.Ranges.{Got, after_got, anything}
 use Rattle.ss_values.specs.Seen.{scope_of}
 use Rattle.ss_machine.specs.State.{State}

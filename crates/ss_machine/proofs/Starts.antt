@@ -38,19 +38,19 @@ use Rattle.ss_machine.specs.Change.{Change}
 use Rattle.ss_machine.specs.State.{State, FrameState, new_frame}
 use Rattle.ss_machine.specs.Held.{Held}
 use Rattle.ss_machine.specs.Change.{Fits, unapply}
-use Rattle.ss_machine.specs.Step.{notice_named, arguments_asked, attributes_now, event_section, store_at_start}
-use Rattle.ss_machine.specs.Step.{state_at_time, state_with_store, state_after_assignment, state_with_frame}
-use Rattle.ss_machine.specs.Step.{state_after_start, external_class}
+use Rattle.ss_machine.specs.Statements.{state_with_store, state_after_assignment, state_with_frame}
+use Rattle.ss_machine.specs.Statements.Timing.{notice_named, arguments_asked, attributes_now, event_section}
+use Rattle.ss_machine.specs.Statements.Timing.{store_at_start, state_at_time, state_after_start, external_class}
 use Rattle.ss_program.specs.declared.variable.Variable.TheVariants.{Global}
 use Rattle.ss_machine.specs.Storing.{IsScheduling}
 use Rattle.ss_machine.specs.Well.{IsInBounds, IsDue}
 use Rattle.ss_machine.proofs.Ranges.{Got, after_got, anything}
 use Rattle.ss_machine.proofs.Evaluated.{values_counted}
 use Rattle.ss_machine.proofs.Sounds.{event_within}
-use Rattle.ss_machine.proofs.Stores.{named_positive}
+use Rattle.ss_machine.proofs.Staying.{named_positive}
 use Rattle.ss_machine.proofs.Dues.{least_of_each, least_due}
 use Rattle.ss_data.specs.Items.{Item}
-use Rattle.ss_machine.proofs.Wells.{main_alone, named_well}
+use Rattle.ss_machine.proofs.Wells.Simulating.{main_alone, named_well}
 
 -- ---- tables and rules of a class
 

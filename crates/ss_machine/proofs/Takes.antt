@@ -7,7 +7,7 @@ use Rattle.ss_words.specs.declared.fault.RunFault.{RunFault}
 use Rattle.ss_program.specs.declared.target.Target.{Target}
 use Rattle.ss_data.specs.Items.{Item, DataRead, with_taken}
 use Rattle.ss_values.specs.Faults.{◌>>=◌}
-use Rattle.ss_machine.specs.Step.{value_taken, values_taken}
+use Rattle.ss_machine.specs.Statements.Reading.{value_taken, values_taken}
 use Rattle.ss_machine.proofs.Parts.{drop_one_more}
 
 after_first : (r : Result (List ℤ) RunFault) (vs : List ℤ) (x : ℤ) →

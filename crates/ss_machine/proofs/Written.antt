@@ -7,7 +7,7 @@ use Rattle.std.proofs.lemmas.Bool.{lt-ltb, le-ltb}
 use Rattle.std.specs.Prelude.{map, take, if◌then◌else◌, MatchBool, MatchOption, Option, Some, None}
 use Rattle.std.proofs.lemmas.List.Sums.{sum_by-cons}
 use Rattle.ss_journal.specs.Log.{newest, change_count}
-use Rattle.ss_machine.specs.Numbers.{with_group, with_byte, numbers_of, AreSmall, IsHigher}
+use Rattle.ss_machine.specs.History.Numbers.{with_group, with_byte, numbers_of, AreSmall, IsHigher}
 
 some_group : (group : ℕ) (numbers : List ℕ) → with_group group numbers ≡ [] → ⊥
 some_group group [] none = omega (arith, ap length none)

@@ -1,6 +1,6 @@
 -- Private: what the code notes of a change.
-use Rattle.ss_machine.specs.declared.change.Change.{Change as CodeChange}
-use Rattle.ss_machine.specs.declared.change.Change.TheVariants as code
+use Rattle.ss_machine.specs.declared.state.change.Change.{Change as CodeChange}
+use Rattle.ss_machine.specs.declared.state.change.Change.TheVariants as code
 use Rattle.ss_machine.specs.Change.{Change, Variable, Local, Place, Clock, Store, Agenda, Taken, Report, Entry, Status}
 use Rattle.ss_machine.specs.Change.{LoopOpened, LoopMoved, LoopClosed, FrameOpened, FrameDropped, Found, Statistics}
 

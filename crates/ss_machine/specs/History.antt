@@ -1,4 +1,6 @@
 -- Private: how changes are read from numbers, and from what is kept beside these.
+pub mod Kinds
+pub mod Numbers
 use Rattle.std.specs.Prelude.{◌≡◌, ℕ, ℤ, pos, negsuc, ◌-◌, ◌/◌, ◌%◌, ◌^◌, ◌≤◌, ◌+◌, ◌==◌, not, min, zero, suc, Bool}
 use Rattle.std.specs.Prelude.{List, [], ◌∷◌, ◌++◌, drop, slice_index, MatchOption, Option, Some, None, if◌then◌else◌}
 use Rattle.std.specs.declared.vec.Vec.{Vec}
@@ -12,32 +14,32 @@ use Rattle.ss_events.specs.declared.agenda.AgendaChange.TheVariants as notices
 use Rattle.ss_machine.specs.declared.entry.Entry.{Entry}
 use Rattle.ss_machine.specs.declared.entry.Entry.TheVariants as entry
 use Rattle.ss_events.specs.declared.pending_notice.PendingNotice.{PendingNotice}
-use Rattle.ss_machine.specs.declared.tape.Tape.{Tape}
+use Rattle.ss_machine.specs.declared.history.tape.Tape.{Tape}
 use Rattle.ss_machine.specs.Change.{Change}
 use Rattle.ss_machine.specs.Change as changes
-use Rattle.ss_machine.specs.declared.change.Change.{Change as CodeChange}
+use Rattle.ss_machine.specs.declared.state.change.Change.{Change as CodeChange}
 use Rattle.ss_machine.specs.ChangeView.{as_change}
-use Rattle.ss_machine.specs.declared.tape.Owned.{Owned}
-use Rattle.ss_machine.specs.declared.tape.Owned.TheVariants as owned
-use Rattle.ss_machine.specs.declared.kind.ChangeKind.{ChangeKind}
-use Rattle.ss_machine.specs.declared.kind.ChangeKind.TheVariants as kinds
-use Rattle.ss_machine.specs.declared.kind.ValueChangeKind.{ValueChangeKind}
-use Rattle.ss_machine.specs.declared.kind.ValueChangeKind.TheVariants as values
-use Rattle.ss_machine.specs.declared.kind.ControlChangeKind.{ControlChangeKind}
-use Rattle.ss_machine.specs.declared.kind.ControlChangeKind.TheVariants as controls
-use Rattle.ss_machine.specs.declared.kind.LoopChangeKind.{LoopChangeKind}
-use Rattle.ss_machine.specs.declared.kind.LoopChangeKind.TheVariants as loops
-use Rattle.ss_machine.specs.declared.kind.EntityChangeKind.{EntityChangeKind}
-use Rattle.ss_machine.specs.declared.kind.EntityChangeKind.TheVariants as entities
-use Rattle.ss_machine.specs.declared.kind.SetChangeKind.{SetChangeKind}
-use Rattle.ss_machine.specs.declared.kind.SetChangeKind.TheVariants as sets
-use Rattle.ss_machine.specs.declared.kind.TimeChangeKind.{TimeChangeKind}
-use Rattle.ss_machine.specs.declared.kind.TimeChangeKind.TheVariants as times
-use Rattle.ss_machine.specs.declared.kind.EntryChangeKind.{EntryChangeKind}
-use Rattle.ss_machine.specs.declared.kind.EntryChangeKind.TheVariants as entries
-use Rattle.ss_machine.specs.declared.kind.TextChangeKind.{TextChangeKind}
-use Rattle.ss_machine.specs.declared.kind.TextChangeKind.TheVariants as texts
-use Rattle.ss_machine.specs.Kinds.{kind_of}
+use Rattle.ss_machine.specs.declared.history.tape.Owned.{Owned}
+use Rattle.ss_machine.specs.declared.history.tape.Owned.TheVariants as owned
+use Rattle.ss_machine.specs.declared.history.kinds.ChangeKind.{ChangeKind}
+use Rattle.ss_machine.specs.declared.history.kinds.ChangeKind.TheVariants as kinds
+use Rattle.ss_machine.specs.declared.history.kinds.ValueChangeKind.{ValueChangeKind}
+use Rattle.ss_machine.specs.declared.history.kinds.ValueChangeKind.TheVariants as values
+use Rattle.ss_machine.specs.declared.history.kinds.ControlChangeKind.{ControlChangeKind}
+use Rattle.ss_machine.specs.declared.history.kinds.ControlChangeKind.TheVariants as controls
+use Rattle.ss_machine.specs.declared.history.kinds.LoopChangeKind.{LoopChangeKind}
+use Rattle.ss_machine.specs.declared.history.kinds.LoopChangeKind.TheVariants as loops
+use Rattle.ss_machine.specs.declared.history.kinds.EntityChangeKind.{EntityChangeKind}
+use Rattle.ss_machine.specs.declared.history.kinds.EntityChangeKind.TheVariants as entities
+use Rattle.ss_machine.specs.declared.history.kinds.SetChangeKind.{SetChangeKind}
+use Rattle.ss_machine.specs.declared.history.kinds.SetChangeKind.TheVariants as sets
+use Rattle.ss_machine.specs.declared.history.kinds.TimeChangeKind.{TimeChangeKind}
+use Rattle.ss_machine.specs.declared.history.kinds.TimeChangeKind.TheVariants as times
+use Rattle.ss_machine.specs.declared.history.kinds.EntryChangeKind.{EntryChangeKind}
+use Rattle.ss_machine.specs.declared.history.kinds.EntryChangeKind.TheVariants as entries
+use Rattle.ss_machine.specs.declared.history.kinds.TextChangeKind.{TextChangeKind}
+use Rattle.ss_machine.specs.declared.history.kinds.TextChangeKind.TheVariants as texts
+use Rattle.ss_machine.specs.History.Kinds.{kind_of}
 
 -- the numbers 0, 1, 2, 3, 4 stand for 0, -1, 1, -2, 2
 abbrev pub signed_number : ℕ → ℤ

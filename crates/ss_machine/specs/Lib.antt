@@ -5,6 +5,7 @@ pub mod Nodes
 pub mod Dropping
 pub mod Held
 pub mod Readings
+pub mod Statements
 pub mod Step
 pub mod Run
 pub mod Change
@@ -17,6 +18,4 @@ pub mod Examples
 pub mod Seen
 pub mod Noting
 pub mod Storing
-pub mod Kinds
-pub mod Numbers
 pub mod History

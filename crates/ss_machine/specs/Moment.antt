@@ -19,7 +19,8 @@ use Rattle.ss_machine.specs.declared.stepped.Stepped.TheVariants.{Moved, AtEnd}
 use Rattle.ss_machine.specs.State.{State, FrameState}
 use Rattle.ss_machine.specs.Held.{Beside, Held}
 use Rattle.ss_machine.specs.Change.{Change, unapply}
-use Rattle.ss_machine.specs.Step.{step, ways_here}
+use Rattle.ss_machine.specs.Statements.{ways_here}
+use Rattle.ss_machine.specs.Step.{step}
 use Rattle.ss_machine.specs.Run.{Input}
 
 -- what a machine stands for: a state of a run, and the way back from it

@@ -2,7 +2,7 @@
 use Rattle.std.specs.Prelude.{List, [], ◌∷◌, Option, Some, None}
 use Rattle.std.specs.Global.{Box}
 use Rattle.ss_machine.specs.Loops.{OpenLoop}
-use Rattle.ss_machine.specs.declared.loops.Node.{Node, Node', Held-Node-outer, None', Some'}
+use Rattle.ss_machine.specs.declared.state.loops.Node.{Node, Node', Held-Node-outer, None', Some'}
 
 -- the loops of a chain, the innermost first
 abbrev mutual

@@ -5,13 +5,14 @@ use Rattle.ss_words.specs.declared.fault.StepFault.{StepFault}
 use Rattle.ss_words.specs.declared.fault.StepFault.TheVariants.{Fault, Memory}
 use Rattle.ss_store.specs.Store.{Store, last_reference}
 use Rattle.ss_events.specs.Agenda.{Agenda}
-use Rattle.ss_machine.specs.declared.change.Change.{Change}
+use Rattle.ss_machine.specs.declared.state.change.Change.{Change}
 use Rattle.ss_machine.specs.ChangeView.{as_change}
 use Rattle.ss_machine.specs.declared.status.Status.TheVariants.{Faulted}
 use Rattle.ss_machine.specs.Held.{Held}
 use Rattle.ss_machine.specs.Change.{unapply, Fits}
 use Rattle.ss_machine.specs.State.{State}
-use Rattle.ss_machine.specs.Step.{state_with_store, state_with_agenda}
+use Rattle.ss_machine.specs.Statements.{state_with_store}
+use Rattle.ss_machine.specs.Statements.Timing.{state_with_agenda}
 
 -- a change of the store was made
 pub record LeavesStore (c : Change) (st : Store) (old new : Held) : Type 0 where

@@ -1,10 +1,10 @@
 -- Private: what the types of the code stand for.
 use Rattle.std.specs.Prelude.{◌≡◌}
 use Rattle.std.proofs.Common.{refl}
-use Rattle.ss_machine.specs.declared.loops.Walk.{Walk as CodeWalk}
-use Rattle.ss_machine.specs.declared.loops.Walk.TheVariants as walks
-use Rattle.ss_machine.specs.declared.verdict.Verdict.{Verdict as CodeVerdict}
-use Rattle.ss_machine.specs.declared.verdict.Verdict.TheVariants as verdicts
+use Rattle.ss_machine.specs.declared.state.loops.Walk.{Walk as CodeWalk}
+use Rattle.ss_machine.specs.declared.state.loops.Walk.TheVariants as walks
+use Rattle.ss_machine.specs.declared.statements.looping.verdict.Verdict.{Verdict as CodeVerdict}
+use Rattle.ss_machine.specs.declared.statements.looping.verdict.Verdict.TheVariants as verdicts
 use Rattle.ss_machine.specs.Loops.{Walk, Numbers, Members, Verdict, Runs, Passes, Closes}
 
 -- what a loop goes through, as the code says it

@@ -1,9 +1,17 @@
+//! The journal of a run: its changes, written in bytes.
+pub mod folding;
+pub mod kinds;
+pub mod numbers;
+pub mod reading;
+pub mod tape;
+pub mod writing;
+
 ghost use Rattle.std.specs.Prelude.{◌≡◌, ◌+◌, ◌<◌, ◌≤◌, ◌∷◌, [], length, IsOk, OnOk, MatchBool, MatchOption};
 ghost use Rattle.ss_machine.specs.ChangeView.{as_change};
 
-use crate::change::Change;
-use crate::numbers::Numbers;
-use crate::tape::Tape;
+use crate::history::numbers::Numbers;
+use crate::history::tape::Tape;
+use crate::state::change::Change;
 use ss_journal::Journal;
 use std::alloc::{AllocError, Global};
 use std::marker::Model;

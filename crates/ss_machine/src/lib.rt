@@ -5,31 +5,17 @@
 //! back restores the state before it, whole.
 #![tactic(auto)]
 
-mod candidates;
-mod change;
 mod entry;
 mod examples;
 mod executor;
-mod external;
-mod folding;
-mod frame;
 mod history;
-mod kind;
 pub mod laws;
 mod limits;
-mod loops;
 mod machine;
-mod numbers;
-mod questions;
-mod reading;
 mod state;
-mod statistics;
+mod statements;
 mod status;
 mod stepped;
-mod tape;
-mod timing;
-mod verdict;
-mod writing;
 
 pub use entry::Entry;
 pub use limits::{LAST_POSITION, MOST_STEP_CHANGES};

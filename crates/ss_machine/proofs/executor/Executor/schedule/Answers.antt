@@ -5,7 +5,7 @@ use Rattle.ss_words.specs.declared.fault.RunFault.{RunFault}
 use Rattle.ss_words.specs.declared.fault.StepFault.TheVariants.{Fault}
 use Rattle.ss_values.specs.Seen.{view_readings}
 use Rattle.ss_machine.specs.Readings.{readings}
-use Rattle.ss_machine.specs.Step.{arguments_asked, time_asked}
+use Rattle.ss_machine.specs.Statements.Timing.{arguments_asked, time_asked}
 use Rattle.ss_machine.proofs.Starts.{arguments_count, noted_same}
 use Rattle.ss_machine.proofs.Executing.{schedule_ends, schedule_fails, schedule_untimed}
 use Rattle.ss_machine.proofs.executor.Executor.schedule.Goals as goal

@@ -7,7 +7,7 @@ use Rattle.ss_machine.specs.Held.{Held}
 use Rattle.ss_machine.specs.ChangeView.{as_change}
 use Rattle.ss_machine.specs.Readings.{readings}
 use Rattle.ss_machine.specs.Seen.{scope_held}
-use Rattle.ss_machine.specs.Step.{state_with_attributes}
+use Rattle.ss_machine.specs.Statements.Timing.{state_with_attributes}
 use Rattle.ss_machine.proofs.Parts.{drop_at, drop_past}
 use Rattle.ss_machine.proofs.Notings.{notes_none, notes_within, noted_one, noted_more}
 use Rattle.ss_machine.proofs.Storings.{refusal_is, storing_is}

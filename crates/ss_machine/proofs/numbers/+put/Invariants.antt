@@ -1,5 +1,0 @@
-use Rattle.ss_machine.proofs.numbers.+put.Given as goal
-
--- each call writes a smaller number
-abbrev pub decreases-put : goal.decreases-put
-decreases-put l = l.number

@@ -1,0 +1,101 @@
+ghost use Rattle.std.specs.Prelude.{◌≡◌, ◌+◌, ◌<◌, ◌≤◌, ◌∷◌, ◌++◌, [], length, MatchOption};
+ghost use Rattle.ss_machine.specs.History.{
+  change_of,
+  number_count,
+  kept_count,
+  changes_of,
+  HasKept,
+  IsWritten,
+  IsNoted,
+  IsPopped,
+  IsHeaded,
+};
+
+use crate::history::kinds::ChangeKind;
+use crate::history::numbers::Numbers;
+use crate::state::change::Change;
+use crate::state::frame::FrameBox;
+use crate::state::loops::ClosedLoop;
+use crate::status::Status;
+use ss_journal::Journal;
+
+/// What of a change is kept as it is, beside the numbers that tell the rest: what owns memory, and
+/// a status.
+#[derive(Drop)]
+pub enum Owned {
+    /// The values of an entity that ended, or the keys of a notice that was taken off.
+    Values(Vec<i64>),
+    /// A loop that was closed.
+    Loop(ClosedLoop),
+    /// A frame that was dropped.
+    Frame(FrameBox),
+    /// A status.
+    Status(Status),
+}
+
+/// What changes are written on: numbers, and beside them what is kept as it is.
+///
+/// A change is the number of its kind and, behind it, the numbers that this kind has; one that owns
+/// memory has that in the same step of what is kept.
+#[derive(Drop)]
+pub struct Tape {
+    pub numbers: Numbers,
+    pub kept: Journal<Owned>,
+}
+
+impl Tape {
+    /// Writes a change of a kind of which nothing is kept.
+    pub fn write(&mut self, kind: ChangeKind, fields: &[u64])
+        requires count { length fields.now ≡ number_count kind }
+        requires few { length fields.now ≤ 7 }
+        requires kept { kept_count kind ≡ 0 }
+        requires has { HasKept kind self.old.kept.current }
+        requires numbers { 7 < self.old.numbers.notes }
+        ensures { IsNoted
+            (change_of kind (fields.now ++ self.old.numbers.current) self.old.kept.current)
+            self.old self.new }
+    {
+        put(&mut self.numbers, kind, fields);
+    }
+
+    /// Writes a change of a kind, and keeps what is to be kept of it.
+    pub fn write_kept(&mut self, kind: ChangeKind, fields: &[u64], kept: Owned)
+        requires count { length fields.now ≡ number_count kind }
+        requires few { length fields.now ≤ 7 }
+        requires kept { kept_count kind ≡ 1 }
+        requires has { HasKept kind (kept ∷ self.old.kept.current) }
+        requires numbers { 7 < self.old.numbers.notes }
+        requires room { 0 < self.old.kept.notes }
+        ensures { IsNoted
+            (change_of kind (fields.now ++ self.old.numbers.current) (kept ∷ self.old.kept.current))
+            self.old self.new }
+    {
+        put(&mut self.numbers, kind, fields);
+        self.kept.note(kept);
+    }
+
+    /// Takes the newest change off.
+    pub fn pop(&mut self) -> Option<Change>
+        requires { IsWritten 0 self.old.numbers.current self.old.kept.current }
+        ensures { IsPopped result self.old self.new }
+    {
+        let number = self.numbers.pop_open()?;
+        Some(self.read(ChangeKind::of_number(number)))
+    }
+}
+
+/// Notes numbers, the first one last, and then that of a kind.
+fn put(numbers: &mut Numbers, kind: ChangeKind, fields: &[u64])
+    requires { length fields.now < numbers.old.notes }
+    ensures steps { numbers.new.steps ≡ numbers.old.steps }
+    ensures current { IsHeaded kind fields.now numbers.old.current numbers.new.current }
+    ensures notes { numbers.old.notes ≤ numbers.new.notes + length fields.now + 1 }
+    ensures closes { numbers.new.closes ≡ numbers.old.closes }
+{
+    let mut left = fields.len();
+    while left > 0 {
+        left -= 1;
+        numbers.note(fields[left]);
+    }
+    numbers.note(kind.number());
+}

@@ -1,0 +1,210 @@
+//! The frames of a state: where the last one stands, its loops, and those below it.
+ghost use Rattle.std.specs.Prelude.{◌≡◌, ◌<◌, ◌≤◌, ◌∷◌, [], length, drop, OnOk, IfOk, OnErr, ◌++◌, MatchOption};
+ghost use Rattle.ss_machine.specs.Change.{Fits, unapply};
+ghost use Rattle.ss_machine.specs.Dropping.{HasDropped, caller_place};
+ghost use Rattle.ss_machine.specs.Loops.{innermost, loops_with_candidate, loop_of_phrase};
+ghost use Rattle.ss_machine.specs.Statements.{state_at_place};
+ghost use Rattle.ss_machine.specs.Statements.Looping.{state_with_loops, state_with_found, state_with_statistics};
+ghost use Rattle.ss_machine.specs.ChangeView.{as_change};
+
+use crate::limits::MOST_BELOW;
+use crate::state::State;
+use crate::state::change::Change;
+use crate::state::frame::FrameBox;
+use crate::state::loops::OpenLoop;
+use crate::state::statistics::Statistics;
+use ss_links::SetBoard;
+use std::alloc::{AllocError, Global};
+use std::mem;
+
+impl<S: SetBoard> State<S> {
+    /// The innermost loop of the last frame, if it is that of the phrase where the frame stands.
+    pub fn loop_here(&self) -> Option<OpenLoop>
+        ensures { result
+            ≡ loop_of_phrase self.now.state.frame.place (innermost self.now.state.frame.loops) }
+    {
+        let frame = self.last();
+        match frame.loops.top() {
+            None => None,
+            Some(top) => {
+                if top.phrase == frame.place {
+                    Some(top)
+                } else {
+                    None
+                }
+            }
+        }
+    }
+
+    /// What FIND answers.
+    pub fn found(&self) -> bool
+        ensures { result ≡ self.now.state.frame.found }
+    {
+        self.last().found
+    }
+
+    /// What COMPUTE has gathered.
+    pub fn statistics(&self) -> Statistics
+        ensures { result ≡ self.now.state.frame.statistics }
+    {
+        self.last().statistics
+    }
+
+    /// Appends to `values` the locals of the last frame.
+    pub fn append_locals(&self, values: &mut Vec<i64>) -> Result<(), AllocError>
+        ensures { OnOk result (values.new.items ≡ values.old.items ++ self.now.state.frame.locals) }
+    {
+        append_all(self.last().locals.as_slice(), values)
+    }
+
+    /// How many frames stand below the last one.
+    pub fn below(&self) -> usize
+        ensures { result ≡ length self.now.state.below }
+    {
+        self.below.len()
+    }
+
+    /// The section of the nearest frame below the last one, and the place where it stands.
+    pub fn caller(&self) -> Option<(usize, usize)>
+        ensures { result ≡ caller_place self.now.state.below }
+    {
+        match self.below.last() {
+            None => None,
+            Some(below) => {
+                let frame = &below.frame;
+                Some((frame.section, frame.place))
+            }
+        }
+    }
+
+    /// The last frame goes to another place.
+    pub fn go_to(&mut self, place: usize) -> Change
+        ensures state { self.new.state ≡ state_at_place place self.old.state }
+        ensures fits { Fits (as_change result) self.new }
+        ensures back { unapply (as_change result) self.new ≡ self.old }
+    {
+        let frame = &mut *self.frame.frame;
+        let old = frame.place;
+        frame.place = place;
+        Change::Place(old)
+    }
+
+    /// Sets what FIND answers.
+    pub fn set_found(&mut self, found: bool) -> Change
+        ensures state { self.new.state ≡ state_with_found self.old.state found }
+        ensures fits { Fits (as_change result) self.new }
+        ensures back { unapply (as_change result) self.new ≡ self.old }
+    {
+        let frame = &mut *self.frame.frame;
+        let old = frame.found;
+        frame.found = found;
+        Change::Found(old)
+    }
+
+    /// Sets what COMPUTE has gathered.
+    pub fn set_statistics(&mut self, statistics: Statistics) -> Change
+        ensures state { self.new.state ≡ state_with_statistics self.old.state statistics }
+        ensures fits { Fits (as_change result) self.new }
+        ensures back { unapply (as_change result) self.new ≡ self.old }
+    {
+        let frame = &mut *self.frame.frame;
+        let old = frame.statistics;
+        frame.statistics = statistics;
+        Change::Statistics {
+            number: old.number,
+            sum: old.sum,
+            greatest: old.greatest,
+            least: old.least,
+        }
+    }
+
+    /// Opens a loop in the last frame. After an error nothing has changed.
+    pub fn open_loop(&mut self, alloc: Global, open_loop: OpenLoop) -> Result<Change, AllocError>
+        ensures state { IfOk result
+            (λ _. self.new.state
+            ≡ state_with_loops self.old.state (open_loop ∷ self.old.state.frame.loops)) }
+        ensures fits { IfOk result (λ c. Fits (as_change c) self.new) }
+        ensures back { IfOk result (λ c. unapply (as_change c) self.new ≡ self.old) }
+        ensures err { OnErr result (self.new ≡ self.old) }
+    {
+        let frame = &mut *self.frame.frame;
+        frame.loops.open(alloc, open_loop)?;
+        Ok(Change::LoopOpened)
+    }
+
+    /// Gives the innermost loop another candidate.
+    pub fn move_loop(&mut self, candidate: Option<i64>) -> Change
+        requires { 0 < length self.old.state.frame.loops }
+        ensures state { self.new.state
+            ≡ state_with_loops self.old.state
+            (loops_with_candidate candidate self.old.state.frame.loops) }
+        ensures beside { self.new.beside ≡ self.old.beside }
+        ensures fits { Fits (as_change result) self.new }
+        ensures back { unapply (as_change result) self.new ≡ self.old }
+    {
+        let frame = &mut *self.frame.frame;
+        let old = match frame.loops.top() {
+            None => None,
+            Some(top) => top.candidate,
+        };
+        frame.loops.set_candidate(candidate);
+        Change::LoopMoved(old)
+    }
+
+    /// Closes the innermost loop; none where none is open, and then nothing changes.
+    pub fn close_loop(&mut self) -> Option<Change>
+        ensures state { self.new.state
+            ≡ state_with_loops self.old.state (drop 1 self.old.state.frame.loops) }
+        ensures fits { MatchOption result (self.new ≡ self.old) (λ c. Fits (as_change c) self.new) }
+        ensures back { MatchOption result (self.new ≡ self.old)
+            (λ c. unapply (as_change c) self.new ≡ self.old) }
+    {
+        let frame = &mut *self.frame.frame;
+        match frame.loops.close() {
+            None => None,
+            Some(closed) => Some(Change::LoopClosed(closed)),
+        }
+    }
+
+    /// A frame becomes the last one.
+    pub fn open_frame(&mut self, frame: FrameBox) -> Change
+        requires { length self.old.state.below < MOST_BELOW }
+        ensures state { self.new.state
+            ≡ record self.old.state {
+              frame = frame;
+              below = self.old.state.frame
+                  ∷ self.old.state.below;
+            } }
+        ensures fits { Fits (as_change result) self.new }
+        ensures back { unapply (as_change result) self.new ≡ self.old }
+    {
+        let last = mem::replace(&mut self.frame, frame);
+        self.below.push_reserved(last);
+        Change::FrameOpened
+    }
+
+    /// Drops the last frame; none where none stands below it, and then nothing changes.
+    pub fn drop_frame(&mut self) -> Option<Change>
+        requires { length self.old.state.below ≤ MOST_BELOW }
+        ensures state { MatchOption result ((self.old.state.below ≡ []) × (self.new ≡ self.old))
+            (λ _. HasDropped self.old.state self.new.state) }
+        ensures beside { self.new.beside ≡ self.old.beside }
+        ensures fits { MatchOption result (Unit {0}) (λ c. Fits (as_change c) self.new) }
+        ensures back { MatchOption result (Unit {0})
+            (λ c. unapply (as_change c) self.new ≡ self.old) }
+    {
+        match self.below.pop() {
+            None => None,
+            Some(next) => Some(Change::FrameDropped(mem::replace(&mut self.frame, next))),
+        }
+    }
+}
+
+fn append_all(part: &[i64], values: &mut Vec<i64>) -> Result<(), AllocError>
+    ensures { OnOk result (values.new.items ≡ values.old.items ++ part.now) }
+{
+    for &value in part {
+        values.push(value)?;
+    }
+    Ok(())
+}

@@ -1,0 +1,267 @@
+//! CALL, RETURN, END and STOP.
+ghost use Rattle.std.specs.Prelude.{◌≡◌, ◌+◌, ◌<◌, ◌≤◌, ◌^◌, [], length, slice_get, OnOk, IfErr, OnErr};
+ghost use Rattle.ss_program.specs.Program.{section_of, spot_at};
+ghost use Rattle.ss_program.specs.ProgramSound.{IsSoundPlace, AreSoundExprs, IsCalledBy, parameter_limit};
+ghost use Rattle.ss_store.specs.Tables.{tables_of};
+ghost use Rattle.ss_machine.specs.Noting.{Notes};
+ghost use Rattle.ss_machine.specs.Moment.{place_targets, yield_count};
+ghost use Rattle.ss_machine.specs.Moment as changes;
+ghost use Rattle.ss_machine.specs.Dropping.{HasDropped};
+ghost use Rattle.ss_machine.specs.Seen.{InHeld};
+ghost use Rattle.ss_machine.specs.Statements.Calling.{step_control, step_call, state_behind_call, state_behind_place};
+ghost use Rattle.ss_machine.specs.Statements.Calling.{state_after_return, state_without_entry, state_after_event};
+ghost use Rattle.ss_machine.specs.Statements.Calling.{state_after_section};
+ghost use Rattle.ss_machine.specs.Well.{IsInBounds, IsWellFrame};
+
+use crate::entry::Entry;
+use crate::executor::{Executor, ways_at};
+use crate::limits::MOST_BELOW;
+use crate::state::frame::FrameBox;
+use crate::status::Status;
+use ss_links::SetBoard;
+use ss_program::{Call, Control, Place, Program, Section, SectionKind};
+use ss_values::{value, values};
+use ss_words::{RunFault, StepFault};
+use std::alloc::AllocError;
+
+impl<S: SetBoard> Executor<S> {
+    pub fn run_call(&mut self, program: &Program, call: &Call) -> Result<(), AllocError>
+        requires called { IsCalledBy call.now (slice_get program.now.sections call.now.section) }
+        requires tables { self.old.held.beside.tables ≡ tables_of program.now }
+        requires sound { InHeld self.old.held AreSoundExprs call.now.given }
+        requires room { 0 < self.old.journal.notes }
+        ensures state { OnOk result
+            (self.new.held.state ≡ step_call program.now self.old.held.state call.now) }
+        ensures notes { Notes 1 self.old self.new }
+    {
+        program.known();
+        let locals = program.section(call.section).locals.len();
+        let mut given = Vec::with_capacity(self.alloc, locals)?;
+        match values(self.held.view(), &call.given, &mut given) {
+            Ok(()) => {}
+            Err(StepFault::Fault(fault)) => {
+                self.mark(Status::Faulted(fault));
+                return Ok(());
+            }
+            Err(StepFault::Memory) => return Err(AllocError),
+        }
+        if self.held.below() >= MOST_BELOW {
+            self.mark(Status::Faulted(RunFault::TooManyFrames));
+            return Ok(());
+        }
+        let frame = FrameBox::new(self.alloc, program, call.section, given)?;
+        let change = self.held.open_frame(frame);
+        self.journal.note(change);
+        Ok(())
+    }
+
+    fn drop_frame(&mut self)
+        requires some { 0 < length self.old.held.state.below }
+        requires few { length self.old.held.state.below ≤ MOST_BELOW }
+        requires room { 0 < self.old.journal.notes }
+        ensures state { HasDropped self.old.held.state self.new.held.state }
+        ensures beside { self.new.held.beside ≡ self.old.held.beside }
+        ensures values { self.new.values ≡ self.old.values }
+        ensures notes { Notes 1 self.old self.new }
+    {
+        match self.held.drop_frame() {
+            Some(change) => self.journal.note(change),
+            None => unreachable!(),
+        }
+    }
+
+    /// Behind a CALL, to which the values kept from number `first` on came back.
+    fn behind_call(&mut self, first: usize, next: usize, place: &Place) -> Result<(), RunFault>
+        requires sound { InHeld self.old.held IsSoundPlace place.now }
+        requires parameters { first ≤ parameter_limit }
+        requires few { changes.call_targets place.now ≤ parameter_limit }
+        requires room { changes.call_targets place.now < self.old.journal.notes }
+        ensures ok { OnOk result
+            (state_behind_call self.old.held.beside.tables self.old.values.items first next
+            self.old.held.state place.now ≡ Ok self.new.held.state) }
+        ensures err { IfErr result
+            (λ e. state_behind_call self.old.held.beside.tables self.old.values.items first next
+            self.old.held.state place.now ≡ Err e) }
+        ensures notes { Notes (1 + changes.call_targets place.now) self.old self.new }
+        ensures fewer { OnErr result (Notes (changes.call_targets place.now) self.old self.new) }
+    {
+        if let Place::Call(call) = place {
+            self.assign_kept(first, &call.value().targets)?;
+            self.go_to(next);
+        }
+        Ok(())
+    }
+
+    /// In the frame to which a RETURN came back.
+    fn come_back(&mut self, program: &Program, first: usize) -> Result<(), RunFault>
+        requires frame { IsWellFrame program.now self.old.held.state.frame }
+        requires variables { length self.old.held.state.variables ≡ length program.now.globals }
+        requires tables { self.old.held.beside.tables ≡ tables_of program.now }
+        requires parameters { first ≤ parameter_limit }
+        requires room { place_targets program.now self.old.held.state < self.old.journal.notes }
+        ensures ok { OnOk result
+            (state_behind_place program.now self.old.values.items first self.old.held.state
+            (spot_at program.now self.old.held.state.frame.section self.old.held.state.frame.place)
+            ≡ Ok self.new.held.state) }
+        ensures err { IfErr result
+            (λ e. state_behind_place program.now self.old.values.items first self.old.held.state
+            (spot_at program.now self.old.held.state.frame.section self.old.held.state.frame.place)
+            ≡ Err e) }
+        ensures notes { Notes
+            (1 + place_targets program.now self.old.held.state) self.old self.new }
+        ensures fewer { OnErr result
+            (Notes (place_targets program.now self.old.held.state) self.old self.new) }
+    {
+        program.known();
+        let (section, place) = self.held.place();
+        let spot = program.spot(section, place);
+        let ways = ways_at(program, section, place, spot);
+        self.behind_call(first, ways.next, &spot.place)
+    }
+
+    /// RETURN or END of a routine, which is given so many values.
+    fn run_return(&mut self, program: &Program, given: usize) -> Result<(), AllocError>
+        requires well { IsInBounds program.now self.old.held.state }
+        requires tables { self.old.held.beside.tables ≡ tables_of program.now }
+        requires given { given ≡ (section_of program.now self.old.held.state.frame.section).given }
+        requires parameters { given ≤ parameter_limit }
+        requires none { self.old.journal.current ≡ [] }
+        requires room { 1 + yield_count program.now self.old.held.state.below
+            < self.old.journal.notes }
+        ensures state { OnOk result
+            (self.new.held.state
+            ≡ state_after_return program.now self.old.held.state self.old.held.state.below) }
+        ensures notes { Notes
+            (2 + yield_count program.now self.old.held.state.below) self.old self.new }
+    {
+        if self.held.below() == 0 {
+            return Ok(());
+        }
+        self.values.clear();
+        self.held.append_locals(&mut self.values)?;
+        self.drop_frame();
+        if let Err(fault) = self.come_back(program, given) {
+            self.roll_back();
+            self.mark(Status::Faulted(fault));
+        }
+        Ok(())
+    }
+
+    /// Passes the data of an entry that runs up to and with its mark; then there is no entry.
+    fn end_entry(&mut self) -> Result<(), RunFault>
+        requires room { 1 < self.old.journal.notes }
+        ensures ok { OnOk result (state_without_entry self.old.held.state self.old.held.state.entry
+            ≡ Ok self.new.held.state) }
+        ensures err { IfErr result
+            (λ e. state_without_entry self.old.held.state self.old.held.state.entry ≡ Err e) }
+        ensures notes { Notes 2 self.old self.new }
+    {
+        if let Entry::Running { .. } = self.held.entry() {
+            let change = self.held.pass_entry()?;
+            self.journal.note(change);
+            let change = self.held.set_entry(Entry::Absent);
+            self.journal.note(change);
+        }
+        Ok(())
+    }
+
+    /// RETURN or END of an event.
+    fn end_event(&mut self)
+        requires few { length self.old.held.state.below ≤ MOST_BELOW }
+        requires none { self.old.journal.current ≡ [] }
+        requires room { 2 < self.old.journal.notes }
+        ensures state { self.new.held.state
+            ≡ state_after_event self.old.held.state self.old.held.state.below }
+        ensures notes { Notes 3 self.old self.new }
+    {
+        if self.held.below() == 0 {
+            return;
+        }
+        match self.end_entry() {
+            Ok(()) => self.drop_frame(),
+            Err(fault) => {
+                self.roll_back();
+                self.mark(Status::Faulted(fault));
+            }
+        }
+    }
+
+    pub fn run_control(&mut self, program: &Program, control: Control) -> Result<(), AllocError>
+        requires well { IsInBounds program.now self.old.held.state }
+        requires tables { self.old.held.beside.tables ≡ tables_of program.now }
+        requires none { self.old.journal.current ≡ [] }
+        requires room { 2 + yield_count program.now self.old.held.state.below
+            < self.old.journal.notes }
+        ensures state { OnOk result
+            (self.new.held.state ≡ step_control program.now self.old.held.state control) }
+        ensures notes { Notes
+            (3 + yield_count program.now self.old.held.state.below) self.old self.new }
+    {
+        match control {
+            Control::Stop => {
+                self.mark(Status::Stopped);
+                Ok(())
+            }
+            Control::Return | Control::End => self.end_section(program),
+        }
+    }
+
+    #[tactic(auto, using(crate::proofs::Sounds::section_found, crate::proofs::Sounds::few_parameters))]
+    fn end_section(&mut self, program: &Program) -> Result<(), AllocError>
+        requires well { IsInBounds program.now self.old.held.state }
+        requires tables { self.old.held.beside.tables ≡ tables_of program.now }
+        requires none { self.old.journal.current ≡ [] }
+        requires room { 2 + yield_count program.now self.old.held.state.below
+            < self.old.journal.notes }
+        ensures state { OnOk result
+            (self.new.held.state ≡ state_after_section program.now self.old.held.state
+            (section_of program.now self.old.held.state.frame.section).kind) }
+        ensures notes { Notes
+            (3 + yield_count program.now self.old.held.state.below) self.old self.new }
+    {
+        program.known();
+        let (section, _) = self.held.place();
+        let (kind, given) = ending(program.section(section));
+        match kind {
+            SectionKind::Main => {
+                self.mark(Status::Finished);
+                Ok(())
+            }
+            SectionKind::Routine => self.run_return(program, given),
+            SectionKind::Event => {
+                self.end_event();
+                Ok(())
+            }
+        }
+    }
+
+    /// How many values come back from the last frame.
+    #[tactic(auto, using(crate::proofs::Returns::caller_none))]
+    pub fn yield_count(&self, program: &Program) -> usize
+        requires well { IsInBounds program.now self.now.held.state }
+        ensures count { result ≡ yield_count program.now self.now.held.state.below }
+        ensures small { result < 2 ^ 63 }
+    {
+        let Some((section, place)) = self.held.caller() else {
+            return 0;
+        };
+        call_targets(&program.spot(section, place).place)
+    }
+}
+
+/// What a section is, and how many values it is given.
+fn ending(section: &Section) -> (SectionKind, usize)
+    ensures { result ≡ (section.now.kind, section.now.given) }
+{
+    (section.kind, section.given)
+}
+
+fn call_targets(place: &Place) -> usize
+    ensures count { result ≡ changes.call_targets place.now }
+    ensures small { result < 2 ^ 63 }
+{
+    match place {
+        Place::Call(call) => call.value().targets.list.len(),
+        _ => 0,
+    }
+}

@@ -1,0 +1,314 @@
+//! FOR, LOOP, FIND and COMPUTE.
+pub mod candidates;
+pub mod verdict;
+
+ghost use Rattle.std.specs.Prelude.{◌≡◌, ◌+◌, ◌<◌, ◌≤◌, ◌∷◌, [], length, drop, true, OnOk, IfOk, IfErr};
+ghost use Rattle.ss_program.specs.ProgramSound.{IsSoundPhrase, AreSoundQualifiers, AreSoundTellings, IsSoundLooping};
+ghost use Rattle.ss_program.specs.ProgramSound.{loop_limit};
+ghost use Rattle.ss_machine.specs.Noting.{Notes};
+ghost use Rattle.ss_machine.specs.Moment as changes;
+ghost use Rattle.ss_machine.specs.Seen.{InHeld};
+ghost use Rattle.ss_machine.specs.Loops.{loops_with_candidate, IsSoundWalk, AreSoundWalks};
+ghost use Rattle.ss_machine.specs.Statements.{state_after_result, state_at_place};
+ghost use Rattle.ss_machine.specs.Statements.Looping.{step_looping, step_phrase, state_with_loops, state_with_found};
+ghost use Rattle.ss_machine.specs.Statements.Looping.{state_with_statistics, state_after_reset, state_after_entry};
+ghost use Rattle.ss_machine.specs.Statements.Looping.{state_after_closing, candidate_tried, state_after_turn};
+ghost use Rattle.ss_machine.specs.Statements.Looping.{state_after_telling, statistics_after};
+ghost use Rattle.ss_machine.specs.View.{as_verdict};
+
+use crate::executor::Executor;
+use crate::state::loops::OpenLoop;
+use crate::state::statistics::{Statistics, no_statistics, statistic_value, statistics_with};
+use crate::statements::looping::candidates::{
+    loop_at_entry, loop_variable, next_candidate, verdict,
+};
+use crate::statements::looping::verdict::Verdict;
+use crate::status::Status;
+use ss_links::SetBoard;
+use ss_program::{ForPhrase, Looping, Resets, Tellings, Ways};
+use ss_values::value;
+use ss_words::RunFault;
+use std::alloc::AllocError;
+
+impl<S: SetBoard> Executor<S> {
+    fn open_loop(&mut self, open_loop: OpenLoop) -> Result<(), AllocError>
+        requires room { 0 < self.old.journal.notes }
+        ensures state { OnOk result
+            (self.new.held.state
+            ≡ state_with_loops self.old.held.state (open_loop ∷ self.old.held.state.frame.loops)) }
+        ensures notes { Notes 1 self.old self.new }
+    {
+        let change = self.held.open_loop(self.alloc, open_loop)?;
+        self.journal.note(change);
+        Ok(())
+    }
+
+    fn move_loop(&mut self, candidate: Option<i64>)
+        requires there { 0 < length self.old.held.state.frame.loops }
+        requires room { 0 < self.old.journal.notes }
+        ensures state { self.new.held.state
+            ≡ state_with_loops self.old.held.state
+            (loops_with_candidate candidate self.old.held.state.frame.loops) }
+        ensures beside { self.new.held.beside ≡ self.old.held.beside }
+        ensures notes { Notes 1 self.old self.new }
+    {
+        let change = self.held.move_loop(candidate);
+        self.journal.note(change);
+    }
+
+    fn close_loop(&mut self)
+        requires room { 0 < self.old.journal.notes }
+        ensures state { self.new.held.state
+            ≡ state_with_loops self.old.held.state (drop 1 self.old.held.state.frame.loops) }
+        ensures notes { Notes 1 self.old self.new }
+    {
+        if let Some(change) = self.held.close_loop() {
+            self.journal.note(change);
+        }
+    }
+
+    fn close_to(&mut self, place: usize)
+        requires room { 1 < self.old.journal.notes }
+        ensures state { self.new.held.state ≡ state_after_closing place self.old.held.state }
+        ensures notes { Notes 2 self.old self.new }
+    {
+        self.close_loop();
+        self.go_to(place);
+    }
+
+    fn set_found(&mut self, found: bool)
+        requires room { 0 < self.old.journal.notes }
+        ensures state { self.new.held.state ≡ state_with_found self.old.held.state found }
+        ensures notes { Notes 1 self.old self.new }
+    {
+        let change = self.held.set_found(found);
+        self.journal.note(change);
+    }
+
+    fn set_statistics(&mut self, statistics: Statistics)
+        requires room { 0 < self.old.journal.notes }
+        ensures state { self.new.held.state ≡ state_with_statistics self.old.held.state statistics }
+        ensures notes { Notes 1 self.old self.new }
+    {
+        let change = self.held.set_statistics(statistics);
+        self.journal.note(change);
+    }
+
+    fn reset(&mut self, resets: Resets)
+        requires room { 0 < self.old.journal.notes }
+        ensures state { self.new.held.state ≡ state_after_reset self.old.held.state resets }
+        ensures notes { Notes 1 self.old self.new }
+    {
+        match resets {
+            Resets::Nothing => {}
+            Resets::Found => self.set_found(false),
+            Resets::Statistics => self.set_statistics(no_statistics()),
+        }
+    }
+
+    /// The entry of a FOR phrase.
+    fn enter(&mut self, ways: Ways, phrase: &ForPhrase) -> Result<(), AllocError>
+        requires sound { InHeld self.old.held IsSoundPhrase phrase.now.phrase }
+        requires room { 1 < self.old.journal.notes }
+        ensures state { OnOk result
+            (self.new.held.state
+            ≡ state_after_entry self.old.held.beside.tables self.old.held.state ways phrase.now) }
+        ensures notes { Notes 2 self.old self.new }
+    {
+        let (_, place) = self.held.place();
+        match loop_at_entry(self.held.view(), place, &phrase.phrase) {
+            Ok(open_loop) => {
+                self.open_loop(open_loop)?;
+                self.reset(ways.resets);
+            }
+            Err(fault) => self.mark(Status::Faulted(fault)),
+        }
+        Ok(())
+    }
+
+    /// Moves the innermost loop past its candidate, which goes to its variable, and says what the
+    /// qualifiers say then.
+    fn try_candidate(
+        &mut self,
+        phrase: &ForPhrase,
+        open_loop: OpenLoop,
+        x: i64,
+    ) -> Result<Verdict, RunFault>
+        requires sound { InHeld self.old.held IsSoundPhrase phrase.now.phrase }
+        requires qualifiers { InHeld self.old.held AreSoundQualifiers phrase.now.qualifiers }
+        requires walk { IsSoundWalk (length self.old.held.beside.tables.sets) open_loop.walk }
+        requires there { 0 < length self.old.held.state.frame.loops }
+        requires room { 1 < self.old.journal.notes }
+        ensures ok { IfOk result (λ v.
+            candidate_tried self.old.held.beside.tables self.old.held.state phrase.now open_loop x
+            ≡ Ok (self.new.held.state, as_verdict v)) }
+        ensures err { IfErr result (λ e.
+            candidate_tried self.old.held.beside.tables self.old.held.state phrase.now open_loop x
+            ≡ Err e) }
+        ensures there { 0 < length self.new.held.state.frame.loops }
+        ensures notes { Notes 2 self.old self.new }
+    {
+        let next = next_candidate(self.held.view(), open_loop.walk, x)?;
+        self.move_loop(next);
+        self.assign(loop_variable(&phrase.phrase), x);
+        verdict(self.held.view(), &phrase.qualifiers)
+    }
+
+    /// A turn of the innermost loop. The candidate is in its variable when the qualifiers are
+    /// tested, so that a fault of theirs takes back what the step has done.
+    fn turn(&mut self, ways: Ways, phrase: &ForPhrase, open_loop: OpenLoop)
+        requires sound { InHeld self.old.held IsSoundPhrase phrase.now.phrase }
+        requires qualifiers { InHeld self.old.held AreSoundQualifiers phrase.now.qualifiers }
+        requires walk { IsSoundWalk (length self.old.held.beside.tables.sets) open_loop.walk }
+        requires there { 0 < length self.old.held.state.frame.loops }
+        requires none { self.old.journal.current ≡ [] }
+        requires room { 3 < self.old.journal.notes }
+        ensures state { self.new.held.state
+            ≡ state_after_turn self.old.held.beside.tables self.old.held.state ways phrase.now
+            open_loop
+            open_loop.candidate }
+        ensures notes { Notes 4 self.old self.new }
+    {
+        let Some(x) = open_loop.candidate else {
+            self.close_to(ways.exit);
+            return;
+        };
+        match self.try_candidate(phrase, open_loop, x) {
+            Ok(Verdict::Runs) => self.go_to(ways.next),
+            Ok(Verdict::Passes) => {}
+            Ok(Verdict::Closes) => self.close_to(ways.exit),
+            Err(fault) => {
+                self.roll_back();
+                self.mark(Status::Faulted(fault));
+            }
+        }
+    }
+
+    fn run_phrase(&mut self, ways: Ways, phrase: &ForPhrase) -> Result<(), AllocError>
+        requires sound { InHeld self.old.held IsSoundPhrase phrase.now.phrase }
+        requires qualifiers { InHeld self.old.held AreSoundQualifiers phrase.now.qualifiers }
+        requires walks { AreSoundWalks
+            (length self.old.held.beside.tables.sets) self.old.held.state.frame.loops }
+        requires none { self.old.journal.current ≡ [] }
+        requires room { 3 < self.old.journal.notes }
+        ensures state { OnOk result
+            (self.new.held.state
+            ≡ step_phrase self.old.held.beside.tables self.old.held.state ways phrase.now) }
+        ensures notes { Notes 4 self.old self.new }
+    {
+        match self.held.loop_here() {
+            None => self.enter(ways, phrase),
+            Some(open_loop) => {
+                self.turn(ways, phrase, open_loop);
+                Ok(())
+            }
+        }
+    }
+
+    #[tactic(auto, using(crate::proofs::Parts::drop_one_more))]
+    fn find(&mut self, ways: Ways)
+        requires few { ways.chain ≤ loop_limit }
+        requires room { 1 + ways.chain < self.old.journal.notes }
+        ensures state { self.new.held.state ≡ state_at_place ways.next
+            (state_with_loops (state_with_found self.old.held.state true)
+            (drop ways.chain self.old.held.state.frame.loops)) }
+        ensures notes { Notes (2 + ways.chain) self.old self.new }
+    {
+        self.set_found(true);
+        for _ in 0..ways.chain {
+            self.close_loop();
+        }
+        self.go_to(ways.next);
+    }
+
+    /// Assigns the statistics to the targets, in order.
+    fn tell(&mut self, tellings: &Tellings, statistics: Statistics) -> Result<(), RunFault>
+        requires sound { InHeld self.old.held AreSoundTellings tellings.now }
+        requires room { length tellings.now < self.old.journal.notes }
+        ensures ok { OnOk result
+            (state_after_telling self.old.held.beside.tables statistics self.old.held.state
+            tellings.now
+            ≡ Ok self.new.held.state) }
+        ensures err { IfErr result (λ e.
+            state_after_telling self.old.held.beside.tables statistics self.old.held.state
+            tellings.now ≡ Err e) }
+        ensures notes { Notes (length tellings.now) self.old self.new }
+    {
+        for telling in &tellings.list {
+            self.assign_target(
+                &telling.target,
+                statistic_value(statistics, telling.statistic),
+            )?;
+        }
+        Ok(())
+    }
+
+    fn gather(&mut self, next: usize, got: Result<i64, RunFault>)
+        requires room { 1 < self.old.journal.notes }
+        ensures state { self.new.held.state
+            ≡ state_after_result self.old.held.state
+            (statistics_after self.old.held.state.frame.statistics got)
+            (λ g. state_at_place next (state_with_statistics self.old.held.state g)) }
+        ensures notes { Notes 2 self.old self.new }
+    {
+        let more = match got {
+            Ok(x) => statistics_with(self.held.statistics(), x),
+            Err(fault) => Err(fault),
+        };
+        match more {
+            Ok(statistics) => {
+                self.set_statistics(statistics);
+                self.go_to(next);
+            }
+            Err(fault) => self.mark(Status::Faulted(fault)),
+        }
+    }
+
+    pub fn run_looping(&mut self, ways: Ways, looping: &Looping) -> Result<(), AllocError>
+        requires sound { InHeld self.old.held IsSoundLooping looping.now }
+        requires walks { AreSoundWalks
+            (length self.old.held.beside.tables.sets) self.old.held.state.frame.loops }
+        requires few { ways.chain ≤ loop_limit }
+        requires none { self.old.journal.current ≡ [] }
+        requires room { changes.most_looping_changes ways looping.now ≤ self.old.journal.notes }
+        ensures state { OnOk result (self.new.held.state
+            ≡ step_looping self.old.held.beside.tables self.old.held.state ways looping.now) }
+        ensures notes { Notes (changes.most_looping_changes ways looping.now) self.old self.new }
+    {
+        match looping {
+            Looping::For(phrase) => self.run_phrase(ways, phrase.value()),
+            Looping::Loop => {
+                self.go_to(ways.next);
+                Ok(())
+            }
+            Looping::Find => {
+                self.find(ways);
+                Ok(())
+            }
+            Looping::Gather(e) => {
+                let got = value(self.held.view(), e.value());
+                self.gather(ways.next, got);
+                Ok(())
+            }
+            Looping::Tell(tellings) => {
+                let statistics = self.held.statistics();
+                let done = self.tell(tellings, statistics);
+                self.settle(ways.next, done);
+                Ok(())
+            }
+        }
+    }
+}
+
+pub fn most_looping_changes(ways: Ways, looping: &Looping) -> usize
+    requires { ways.chain ≤ loop_limit }
+    ensures { result ≡ changes.most_looping_changes ways looping.now }
+{
+    match looping {
+        Looping::For(_) => 4,
+        Looping::Loop => 1,
+        Looping::Find => 2 + ways.chain,
+        Looping::Gather(_) => 2,
+        Looping::Tell(tellings) => 1 + tellings.list.len(),
+    }
+}

@@ -1,0 +1,59 @@
+//! READ of the data.
+ghost use Rattle.std.specs.Prelude.{◌≡◌, ◌+◌, ◌<◌, [], length, OnOk, IfErr};
+ghost use Rattle.ss_program.specs.ProgramSound.{AreTargets};
+ghost use Rattle.ss_store.specs.Tables.{tables_of};
+ghost use Rattle.ss_machine.specs.Noting.{Notes};
+ghost use Rattle.ss_machine.specs.Seen.{InHeld};
+ghost use Rattle.ss_machine.specs.Statements.Reading.{step_read, state_after_read};
+ghost use Rattle.ss_values.specs.Values.{FaultIs};
+
+use crate::entry::Entry;
+use crate::executor::Executor;
+use crate::state::external::has_external;
+use ss_links::SetBoard;
+use ss_program::{Program, Targets};
+use ss_values::values;
+use ss_words::{RunFault, StepFault};
+use std::alloc::AllocError;
+
+impl<S: SetBoard> Executor<S> {
+    /// Takes the values of a READ and assigns them to its targets, or answers the first fault.
+    fn take(&mut self, program: &Program, targets: &Targets) -> Result<(), StepFault>
+        requires tables { self.old.held.beside.tables ≡ tables_of program.now }
+        requires sound { InHeld self.old.held AreTargets targets.now }
+        requires room { 1 + length targets.now < self.old.journal.notes }
+        ensures ok { OnOk result (state_after_read program.now self.old.held.state targets.now
+            ≡ Ok self.new.held.state) }
+        ensures err { IfErr result
+            (λ e. FaultIs e (state_after_read program.now self.old.held.state targets.now)) }
+        ensures notes { Notes (1 + length targets.now) self.old self.new }
+    {
+        if let Entry::Waiting { .. } = self.held.entry() {
+            return Err(StepFault::Fault(RunFault::OutsideEntry));
+        }
+        let change = self
+            .held
+            .take(has_external(program), targets, &mut self.values)?;
+        self.journal.note(change);
+        self.assign_kept(0, targets)?;
+        Ok(())
+    }
+
+    pub fn read(
+        &mut self,
+        program: &Program,
+        next: usize,
+        targets: &Targets,
+    ) -> Result<(), AllocError>
+        requires tables { self.old.held.beside.tables ≡ tables_of program.now }
+        requires sound { InHeld self.old.held AreTargets targets.now }
+        requires none { self.old.journal.current ≡ [] }
+        requires room { 1 + length targets.now < self.old.journal.notes }
+        ensures state { OnOk result
+            (self.new.held.state ≡ step_read program.now self.old.held.state next targets.now) }
+        ensures notes { Notes (2 + length targets.now) self.old self.new }
+    {
+        let done = self.take(program, targets);
+        self.settle_or_refuse(next, done)
+    }
+}
