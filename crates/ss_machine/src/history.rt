@@ -146,7 +146,7 @@ impl History {
     }
 
     /// Forgets the oldest closed steps, so that the newest `n` are left, or all where there are
-    /// fewer. The room of what is forgotten is free again.
+    /// fewer. The room of what is forgotten is free again once `reserve` needs it.
     ///
     /// It takes no memory, and its time is in proportion to the changes forgotten.
     pub fn keep_last(&mut self, n: usize)
@@ -154,8 +154,7 @@ impl History {
         ensures steps { self.new.steps ≡ newest n self.old.steps }
         ensures current { self.new.current ≡ [] }
         ensures notes { self.old.notes ≤ self.new.notes }
-        ensures closes { self.new.closes + length self.new.steps
-            ≡ self.old.closes + length self.old.steps }
+        ensures closes { self.old.closes ≤ self.new.closes }
     {
         self.tape.numbers.keep_last(n);
         self.tape.kept.keep_last(n);

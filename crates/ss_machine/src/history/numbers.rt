@@ -3,7 +3,7 @@ ghost use Rattle.std.specs.Prelude.{MatchOption};
 ghost use Rattle.ss_machine.specs.History.Numbers.{numbers_of, AreSmall, IsHigher};
 
 use crate::history::folding::{narrow, unfold};
-use ss_journal::Journal;
+use ss_byte_journal::ByteJournal;
 use std::alloc::{AllocError, Global};
 use std::marker::Model;
 
@@ -20,7 +20,7 @@ const LONGEST: usize = 10;
 #[derive(Drop)]
 pub struct Numbers {
     // The groups of seven bits of each number, its lowest one the newest.
-    bytes: Journal<u8>,
+    bytes: ByteJournal,
 }
 
 impl Model for Numbers {
@@ -51,7 +51,7 @@ impl Numbers {
         ensures closes { result.closes ≡ 0 }
     {
         Numbers {
-            bytes: Journal::new(alloc),
+            bytes: ByteJournal::new(alloc),
         }
     }
 
@@ -138,16 +138,15 @@ impl Numbers {
     }
 
     /// Forgets the oldest closed steps, so that the newest `n` are left, or all where there are
-    /// fewer. The room of what is forgotten is free again.
+    /// fewer. The room of what is forgotten is free again once `reserve` needs it.
     ///
-    /// It takes no memory, and its time is in proportion to the bytes forgotten.
+    /// It takes no memory, and its time is in proportion to the steps forgotten.
     pub fn keep_last(&mut self, n: usize)
         requires { self.old.current ≡ [] }
         ensures steps { self.new.steps ≡ newest n self.old.steps }
         ensures current { self.new.current ≡ [] }
-        ensures notes { self.old.notes ≤ self.new.notes }
-        ensures closes { self.new.closes + length self.new.steps
-            ≡ self.old.closes + length self.old.steps }
+        ensures notes { self.new.notes ≡ self.old.notes }
+        ensures closes { self.new.closes ≡ self.old.closes }
     {
         self.bytes.keep_last(n);
     }
@@ -191,7 +190,7 @@ impl Numbers {
 }
 
 /// Writes a number as the newest one: first what is above its lowest group, then that.
-fn put(bytes: &mut Journal<u8>, number: u64)
+fn put(bytes: &mut ByteJournal, number: u64)
     requires some { 0 < bytes.old.notes }
     requires enough { number < 128 ^ bytes.old.notes }
     ensures steps { bytes.new.steps ≡ bytes.old.steps }
@@ -208,7 +207,7 @@ fn put(bytes: &mut Journal<u8>, number: u64)
 }
 
 /// Takes the newest number off; 0 where there is none.
-fn higher(bytes: &mut Journal<u8>) -> u64
+fn higher(bytes: &mut ByteJournal) -> u64
     requires { AreSmall bytes.old.current }
     ensures steps { bytes.new.steps ≡ bytes.old.steps }
     ensures current { IsHigher result (numbers_of bytes.old.current)

@@ -1,7 +1,7 @@
-use Rattle.std.proofs.Common.{◌∙◌, ap, refl, arith}
+use Rattle.std.proofs.Common.{◌∙◌, ap, refl, arith, length, length-take}
 use Rattle.ss_journal.specs.Log.{Log}
 use Rattle.ss_machine.specs.Change.{Change}
-use Rattle.ss_machine.proofs.Histories.{no_numbers, none_kept, length-steps, length-kept, steps_of-newest}
+use Rattle.ss_machine.proofs.Histories.{no_numbers, none_kept, steps_of-newest}
 use Rattle.ss_machine.proofs.Histories.{newest_written}
 use Rattle.ss_machine.proofs.Written.{change_count-newest}
 use Rattle.ss_machine.proofs.history.History.keep_last.Goals as goal
@@ -40,14 +40,11 @@ returns-clause-notes c =
 
 pub returns-clause-closes : goal.returns-clause-closes
 returns-clause-closes c =
-    let written = invariant_of-self c in
     rw (← c.self.view_is)
     (omega (
       arith,
       c.keep_last.ensures.closes,
       c.keep_last-2.ensures.closes,
-      length-steps c.self.inside.tape.numbers.steps c.self.inside.tape.kept.steps c.self.invariant.1,
-      length-kept c.self.inside.tape.numbers.steps c.self.inside.tape.kept.steps c.self.invariant.1,
-      length-steps c.keep_last.new.self.steps c.keep_last-2.new.self.steps written.1,
-      length-kept c.keep_last.new.self.steps c.keep_last-2.new.self.steps written.1,
+      ap length c.keep_last-2.ensures.steps,
+      length-take c.args.n c.self.inside.tape.kept.steps,
     ))
