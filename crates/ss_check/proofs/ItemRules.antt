@@ -1,6 +1,6 @@
 -- The rules of items and heads, by tables to which they are added.
 use Rattle.std.proofs.Common.{◌≡◌, ◌||◌, ◌&&◌, Bool, true, false, not, List, [], ◌∷◌, ◌++◌, refl, sym, ap, ◌∙◌}
-use Rattle.std.proofs.Common.{append_assoc, None}
+use Rattle.std.proofs.Common.{append_assoc, Some, None}
 use Rattle.std.specs.List.{list_any}
 use Rattle.std.proofs.lemmas.List.{map-append}
 use Rattle.ss_words.specs.Lists.{Name}
@@ -96,7 +96,7 @@ twice_is d b x o =
     refl
 
 -- the lowest rule, by tables with the item
-pub item_rule_is : (d b t : Declared) (x : HeadedItem) (declared class ownerless memberless keys section order : Bool) →
+rule_is : (d b t : Declared) (x : HeadedItem) (declared class ownerless memberless keys section order : Bool) →
     IsOnce b → t ≡ with_item b x →
     declared ≡ (one_conflicts [] t.kinds || repeats [] t.disciplines || repeats [] t.ties || repeats [] t.external) →
     class ≡ names_wrong_class d x.heading x.item →
@@ -114,7 +114,7 @@ pub item_rule_is : (d b t : Declared) (x : HeadedItem) (declared class ownerless
     ++ rule_where WrongKey keys ++ rule_where WrongEvent section ++ rule_where WrongPriority order)
     ≡ item_rule d b x
 unfolding item_rule with_item
-item_rule_is d b t x declared class ownerless memberless keys section order o e e1 e2 e3 e4 e5 e6 e7 =
+rule_is d b t x declared class ownerless memberless keys section order o e e1 e2 e3 e4 e5 e6 e7 =
     let fresh = any_filter (λ n. not (is_among n (names_of d.owners))) (λ s. not (names_set (fact_of b.kinds s)))
     (sets_in x.item) in
     let alone = any_filter (λ n. not (is_among n (names_of d.members))) (λ s. not (names_set (fact_of b.kinds s)))
@@ -133,6 +133,43 @@ item_rule_is d b t x declared class ownerless memberless keys section order o e 
       names_behind b.members (members_in x.item) o.members,
     )
     refl
+
+-- a rule behind C1 need not be asked where C1 is broken
+unless_twice : (twice b : Bool) (f : Bool → Bool → List CheckRule) →
+    ((c : Bool) → lowest (f true c) ≡ Some DeclaredTwice) →
+    lowest (f twice (not twice && b)) ≡ lowest (f twice b)
+unless_twice true b f first = first false ∙ sym (first b)
+unless_twice false b f first = refl
+
+-- the lowest rule, by tables with the item, where the keys are asked only if nothing is declared twice
+pub item_rule_is : (d b t : Declared) (x : HeadedItem) (declared class ownerless memberless keys section order : Bool) →
+    IsOnce b → t ≡ with_item b x →
+    declared ≡ (one_conflicts [] t.kinds || repeats [] t.disciplines || repeats [] t.ties || repeats [] t.external) →
+    class ≡ names_wrong_class d x.heading x.item →
+    ownerless ≡ list_any (λ s. not (names_set (fact_of b.kinds s)) && not (is_among s (names_of d.owners)))
+    (sets_in x.item) →
+    memberless ≡ list_any (λ s. not (names_set (fact_of b.kinds s)) && not (is_among s (names_of d.members)))
+    (sets_in x.item) →
+    keys ≡ (not declared && has_wrong_keys d x.item) →
+    section ≡ lacks_section d b x.item →
+    order ≡ has_wrong_priority d b.priority (priority_in x.item) →
+    lowest (rule_where DeclaredTwice declared ++ rule_where WrongClass class
+    ++ rule_where WrongOwner (ownerless || repeats [] (names_of t.owners))
+    ++ rule_where WrongMember (memberless || repeats [] (names_of t.members) || joins_system (class_of_item x.item)
+    (sets_joined x.item))
+    ++ rule_where WrongKey keys ++ rule_where WrongEvent section ++ rule_where WrongPriority order)
+    ≡ item_rule d b x
+item_rule_is d b t x declared class ownerless memberless keys section order o e e1 e2 e3 e4 e5 e6 e7 =
+    let rules : Bool → Bool → List CheckRule =
+    λ twice k. rule_where DeclaredTwice twice ++ rule_where WrongClass class
+    ++ rule_where WrongOwner (ownerless || repeats [] (names_of t.owners))
+    ++ rule_where WrongMember (memberless || repeats [] (names_of t.members) || joins_system (class_of_item x.item)
+    (sets_joined x.item))
+    ++ rule_where WrongKey k ++ rule_where WrongEvent section ++ rule_where WrongPriority order in
+    ap (λ (k : Bool). lowest (rules declared k)) e5
+    ∙ unless_twice declared (has_wrong_keys d x.item) rules (λ c. refl)
+    ∙ rule_is d b t x declared class ownerless memberless (has_wrong_keys d x.item) section order o e e1 e2 e3 e4 refl
+    e6 e7
 
 -- behind an item that breaks no rule nothing is said twice
 pub once_behind_item : (d b : Declared) (x : HeadedItem) → IsOnce b → item_rule d b x ≡ None → IsOnce (with_item b x)

@@ -1,4 +1,5 @@
 pub mod Arguments
+mod Attributes
 pub mod Conflicts
 pub mod CountMaps
 pub mod FactTables

@@ -281,7 +281,7 @@ module _ (xs : List HeadedItem) (qs : List Section) where
         ap (λ (ns : List Name). map (named_key (attributes b)) (map (resolved_key ns) keys))
         (attributes_are xs hs h R b i)
         ∙ keys_again (attributes b) keys
-        (λ q x. is_attribute xs hs h b q.name (kind_of D q.name) refl (none_in (is_wrong_key D b) q keys e x))
+        (λ q x. is_attribute xs hs h b q.name (none_in (is_wrong_key D b) q keys e x))
 
     -- what the item keeps to that breaks ties
     record IsBreak (n : Name) (keys : List WrittenKey) : Type 0 where

@@ -31,7 +31,7 @@ use Rattle.ss_check.specs.ClassNeed.{Permanent, Ending, Event}
 use Rattle.ss_check.specs.NameKind.{NameKind}
 use Rattle.ss_check.specs.NameKind as k
 use Rattle.ss_check.specs.Declarations.{Declared}
-use Rattle.ss_check.specs.NameKinds.{names_set, names_routine, serves}
+use Rattle.ss_check.specs.NameKinds.{names_set, serves}
 use Rattle.ss_check.specs.Declarations.{kind_of}
 use Rattle.ss_check.specs.Uses.{Use, LoopVariable, OfClass, uses_expr, uses_sums, uses_term, uses_products, uses_factor}
 use Rattle.ss_check.specs.Uses.{uses_exprs, uses_option, uses_target, uses_set, uses_value, uses_called_target}
@@ -75,19 +75,6 @@ set_is_set (Some (k.MemberKept q t)) h = absurd (false≢true h)
 set_is_set (Some (k.Function f)) h = absurd (false≢true h)
 set_is_set (Some k.Clock) h = absurd (false≢true h)
 set_is_set (Some k.Routine) h = absurd (false≢true h)
-
-routine_is_routine : (j : Option NameKind) → names_routine j ≡ true → j ≡ Some k.Routine
-routine_is_routine (Some k.Routine) h = refl
-routine_is_routine None h = absurd (false≢true h)
-routine_is_routine (Some k.Variable) h = absurd (false≢true h)
-routine_is_routine (Some k.ClassCount) h = absurd (false≢true h)
-routine_is_routine (Some (k.Class g)) h = absurd (false≢true h)
-routine_is_routine (Some (k.Attribute c)) h = absurd (false≢true h)
-routine_is_routine (Some (k.OwnerKept q t)) h = absurd (false≢true h)
-routine_is_routine (Some (k.MemberKept q t)) h = absurd (false≢true h)
-routine_is_routine (Some (k.Function f)) h = absurd (false≢true h)
-routine_is_routine (Some k.Clock) h = absurd (false≢true h)
-routine_is_routine (Some k.Set) h = absurd (false≢true h)
 
 -- a kind that is a class's
 record IsOfClass (j : Option NameKind) : Type 0 where
@@ -368,8 +355,7 @@ module _ (d : Declared) (v : Names) (locals : List Name) (p : ProgramTable) (S :
       IsGood d locals (Rattle.ss_check.specs.Uses.Routine n values targets) →
       (Rattle.ss_program.specs.Program.section_of p
       (Rattle.ss_check.specs.ResolvedNames.routine_number d v locals n)).name ≡ n
-  routine_named n values targets g =
-      S.routine n (routine_is_routine (kind_of d n) (not-false (names_routine (kind_of d n)) g.usage))
+  routine_named n values targets g = S.routine n g.usage
 
   simple_is : (x : Simple) → AreGood d locals (uses_simple x) →
       named_place p locals (resolved_simple d v locals x) ≡ plain_place (w.Simply x)

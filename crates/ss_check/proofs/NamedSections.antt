@@ -1,6 +1,6 @@
 -- A program without a breach, each number looked up in its table, is its text again.
 use Rattle.std.proofs.Common.{◌≡◌, Bool, true, false, cond, List, [], ◌∷◌, ◌++◌, length, refl, sym, ap, ◌∙◌, arith}
-use Rattle.std.proofs.Common.{Option, Some, append_assoc}
+use Rattle.std.proofs.Common.{Option, Some, not, append_assoc}
 use Rattle.std.specs.Prelude.{ℕ, map, take, drop, slice_get, option_map, unwrap_or}
 use Rattle.std.specs.List.{flat_map, fold}
 use mathlib.Core.Logic.{inl, inr}
@@ -25,6 +25,7 @@ use Rattle.ss_check.specs.Declarations as declared
 use Rattle.ss_check.specs.Declarations.{HeadedItem, headed_items, heads, declared_by_program, given_of, yielded_of}
 use Rattle.ss_check.specs.Declarations.{parameters, kind_of}
 use Rattle.ss_check.specs.ResolvedNames.{Names, names, number, attribute_names, attributes_of, variables_used}
+use Rattle.ss_check.specs.PlaceRules.{is_routine}
 use Rattle.ss_check.specs.ResolvedNames.{undeclared_name, locals_of, routine_number}
 use Rattle.ss_check.specs.Resolved.{Rankings, rankings, class_table, set_table, section_name, section_kind, says_saving}
 use Rattle.ss_check.specs.Resolved.{resolved_spot, resolved_section, resolved_with}
@@ -35,7 +36,7 @@ use Rattle.ss_check.proofs.SoundLists.{In, same_name, number_there, image_at, wh
 use Rattle.ss_check.proofs.SoundCompanions.{HasClass, routine_names}
 use Rattle.ss_check.proofs.SoundPlaceUses.{good_place}
 use Rattle.ss_check.proofs.SoundNumbers.{routine_found, section_at}
-use Rattle.ss_check.proofs.SoundNames.{kind_in, closed_kind, global_in, class_in, set_in, attributes_are}
+use Rattle.ss_check.proofs.SoundNames.{kind_in, closed_kind, global_in, class_in, set_in, attributes_are, is_called}
 use Rattle.ss_check.proofs.SoundStatements.{AreItemsKept, AreSectionsKept, ArePlacesKept, kept}
 use Rattle.ss_check.proofs.NamedKinds.{all_called, number_finds}
 use Rattle.ss_check.proofs.NamedPlaces.{place_is}
@@ -155,10 +156,10 @@ module _ (is : List ItemAt) (qs : List Section) (h : AreItemsKept (declared_by_p
       ∙ ap (λ (o : Option Name). unwrap_or o [])
       (number_finds n (attributes_of D c) (number_there n (attributes_of D c) there))
 
-  routine_at : (locals : List Name) (n : Name) → kind_of D n ≡ Some k.Routine →
+  routine_at : (locals : List Name) (n : Name) → not (is_routine D n) ≡ false →
       (section_of p (routine_number D V locals n)).name ≡ n
   routine_at locals n e =
-      let f = routine_found qs 0 n (closed_kind xs hs h n k.Routine e) in
+      let f = routine_found qs 0 n (is_called xs hs h n e) in
       let y = f.section in
       let holds = f.holds in
       let number_is : routine_number D V locals n ≡ f.place =

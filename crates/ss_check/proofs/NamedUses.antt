@@ -17,6 +17,7 @@ use Rattle.ss_check.specs.NameKind as k
 use Rattle.ss_check.specs.Declarations.{Declared}
 use Rattle.ss_check.specs.NameKinds.{is_global, names_function, names_variable, names_fixed}
 use Rattle.ss_check.specs.Declarations.{kind_of, is_of_system}
+use Rattle.ss_check.specs.PlaceRules.{is_routine}
 use Rattle.ss_check.specs.PlaceRules.{is_valueless, takes, takes_no_parentheses, has_wrong_arguments}
 use Rattle.ss_check.specs.Uses.{count}
 use Rattle.ss_check.specs.ResolvedNames.{Names, number, attribute_names, variable_of, subscript_of_owner, owner_of}
@@ -65,7 +66,7 @@ pub record IsListed (d : Declared) (v : Names) (locals : List Name) (p : Program
       (class_of p (number n v.classes)).name ≡ n
   pub function : (n : Name) (f : LanguageFunction) → kind_of d n ≡ Some (k.Function f) → function_name f ≡ n
   pub clock : (n : Name) → kind_of d n ≡ Some k.Clock → codes "TIME.V" ≡ n
-  pub routine : (n : Name) → kind_of d n ≡ Some k.Routine → (section_of p (routine_number d v locals n)).name ≡ n
+  pub routine : (n : Name) → not (is_routine d n) ≡ false → (section_of p (routine_number d v locals n)).name ≡ n
 
 module _ (d : Declared) (v : Names) (locals : List Name) (p : ProgramTable) (S : IsListed d v locals p) where
   local_is : (n : Name) → number n locals < length locals → name_at locals (number n locals) ≡ n

@@ -11,13 +11,13 @@ use Rattle.ss_preamble.specs.Tree.{Clause, Has, Owns, BelongsTo, Variables, Sets
 use Rattle.ss_preamble.specs.Tree.{OfSystem, Defines, Orders}
 use Rattle.ss_preamble.specs.Limits.{clause_has, class_names}
 use Rattle.ss_routines.specs.Tree.{Head, MainHead, RoutineHead, EventHead}
-use Rattle.ss_check.specs.Facts.{Fact, fact}
+use Rattle.ss_check.specs.Facts.{Fact, fact, names_of}
 use Rattle.ss_check.specs.NameKind.{NameKind}
 use Rattle.ss_check.specs.NameKind as k
 use Rattle.ss_check.specs.NameKinds.{language_facts, class_facts, set_facts}
 use Rattle.ss_check.specs.Declarations.{HeadedItem, class_of_item, clauses_of, included_names, clause_facts, item_facts}
 use Rattle.ss_check.specs.Declarations.{declarations, owners_in, owned_in, sets_joined, members_for, members_in}
-use Rattle.ss_check.specs.Declarations.{sets_of, sets_in, routine_facts}
+use Rattle.ss_check.specs.Declarations.{sets_of, sets_in, routine_counts, routine_facts}
 use Rattle.ss_check.proofs.SoundLists.{In, in_left, in_right, in_split, map_in, in_flat, flat_in}
 
 abbrev pub Facts : Type 0
@@ -239,6 +239,13 @@ declared xs = flat_map declarations xs
 abbrev pub routine_names : Head → List Name
 routine_names (RoutineHead n given yielded) = n ∷ []
 routine_names _ = []
+
+-- those that have counts
+pub routine_names_are : (hs : List Head) → names_of (flat_map routine_counts hs) ≡ flat_map routine_names hs
+routine_names_are [] = refl
+routine_names_are (MainHead ∷ hs) = routine_names_are hs
+routine_names_are (RoutineHead n given yielded ∷ hs) = ap (λ (ns : List Name). n ∷ ns) (routine_names_are hs)
+routine_names_are (EventHead n given saving ∷ hs) = routine_names_are hs
 
 abbrev pub names_all : List HeadedItem → List Head → Names
 names_all xs hs = record {

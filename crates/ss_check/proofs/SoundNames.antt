@@ -1,10 +1,10 @@
 -- The tables of a program without a breach have what its names stand for.
 use Rattle.std.proofs.Common.{◌≡◌, ◌⊎◌, ◌<◌, Bool, true, false, not, List, [], ◌∷◌, ◌++◌, length, refl, sym, ap, ◌∙◌}
 use Rattle.std.proofs.Common.{subst, Option, Some, None}
-use Rattle.std.specs.Prelude.{map, codes, slice_get, option_map, unwrap_or}
+use Rattle.std.specs.Prelude.{map, codes, slice_get, unwrap_or}
 use Rattle.std.specs.List.{flat_map, list_any}
 use mathlib.Core.Logic.{inl, inr}
-use Rattle.std.proofs.lemmas.Bool.{true≢false, false≢true, not-false}
+use Rattle.std.proofs.lemmas.Bool.{false≢true, not-false}
 use Rattle.std.proofs.lemmas.List.{length-map}
 use Rattle.std.proofs.lemmas.Option.{none-some, get_or_from_slice_get}
 use Rattle.ss_words.specs.Lists.{Name}
@@ -15,17 +15,19 @@ use Rattle.ss_program.specs.ProgramSound.{Scope}
 use Rattle.ss_check.specs.NameKind.{NameKind}
 use Rattle.ss_check.specs.NameKind as k
 use Rattle.ss_check.specs.Declarations.{Declared}
-use Rattle.ss_check.specs.Facts.{fact, fact_of}
-use Rattle.ss_check.specs.NameKinds.{language_facts, is_attribute_of, is_class, is_global, names_permanent}
+use Rattle.ss_check.specs.Facts.{fact, fact_of, is_among, names_of}
+use Rattle.ss_check.specs.NameKinds.{language_facts, is_class, is_global, names_permanent}
 use Rattle.ss_check.specs.NameKinds.{names_ending, names_event}
 use Rattle.ss_check.specs.Declarations.{HeadedItem, routine_facts, declared_by, kind_of}
 use Rattle.ss_check.specs.ResolvedNames.{Names, names, number, names_where, is_set, attributes_of, attribute_names}
+use Rattle.ss_check.specs.PlaceRules.{is_routine}
 use Rattle.ss_check.specs.ResolvedNames.{owner_of, member_class}
 use Rattle.ss_check.specs.Resolved.{Rankings, class_kind, class_table, set_table}
 use Rattle.ss_check.proofs.SoundLists.{In, in_split, in_any, number_there, image_at, once_has, once_from, fact_in}
-use Rattle.ss_check.proofs.SoundLists.{fact_there, where_has, where_from}
+use Rattle.ss_check.proofs.SoundLists.{among_in, fact_there, where_has, where_from}
 use Rattle.ss_check.proofs.SoundCompanions.{Facts, HasClass, IsClosed, all_kinds, names_all, all_closed, declared}
-use Rattle.ss_check.proofs.SoundCompanions.{declared_there, has_more, owner_declared, member_declared}
+use Rattle.ss_check.proofs.SoundCompanions.{declared_there, has_more, owner_declared, member_declared, routine_names}
+use Rattle.ss_check.proofs.SoundCompanions.{routine_names_are}
 use Rattle.ss_check.proofs.SoundStatements.{AreItemsKept}
 use Rattle.ss_check.proofs.SoundItems.{names_a_set, not_of_language, sets_have_members}
 use Rattle.ss_check.proofs.SoundUses.{Scoped}
@@ -155,11 +157,12 @@ module _ (xs : List HeadedItem) (hs : List Head) (h : AreItemsKept (declared_by 
       (has_more (declared xs) L p.0 (declared_there xs hs) (member_declared xs s p.0 (fact_in d.members s p.0 p.1)))
 
   -- a key that is not wrong is an attribute
-  pub is_attribute : (c n : Name) (o : Option NameKind) → kind_of d n ≡ o →
-      not (unwrap_or (option_map (is_attribute_of c) o) false) ≡ false → In n (attributes_of d c)
-  is_attribute c n None e t = absurd (true≢false t)
-  is_attribute c n (Some j) e t =
-      where_has (is_attribute_of c) n j d.kinds (kind_in n j e) (not-false (is_attribute_of c j) t)
+  pub is_attribute : (c n : Name) → not (is_among n (attributes_of d c)) ≡ false → In n (attributes_of d c)
+  is_attribute c n e = among_in n (attributes_of d c) (not-false (is_among n (attributes_of d c)) e)
+
+  -- a name that is called is that of a section ROUTINE
+  pub is_called : (n : Name) → not (is_routine d n) ≡ false → In n (flat_map routine_names hs)
+  is_called n e = subst (In n) (routine_names_are hs) (among_in n (names_of d.routines) (not-false (is_routine d n) e))
 
   -- ---- kinds of classes
 

@@ -1,6 +1,6 @@
 -- The sections of a program without a breach are sound, and their places go on where the program has a place.
 use Rattle.std.proofs.Common.{◌≡◌, ◌≤◌, ◌<◌, ℕ, ◌+◌, ◌^◌, ◌==◌, Bool, true, false, not, ◌||◌, ◌&&◌, cond, List, [], ◌∷◌}
-use Rattle.std.proofs.Common.{◌++◌, length, refl, sym, ap, ◌∙◌, subst, arith, Option, Some, None, length-append}
+use Rattle.std.proofs.Common.{◌++◌, length, refl, sym, ap, ◌∙◌, subst, arith, Option, Some, length-append}
 use Rattle.std.specs.Prelude.{map, count_by, unwrap_or, option_map, slice_get, nat_lt}
 use Rattle.std.specs.List.{All, flat_map, list_any}
 use mathlib.Core.Logic.{inl, inr}
@@ -34,15 +34,15 @@ use Rattle.ss_program.specs.Program.{ClassTable, SectionTable, ProgramTable, is_
 use Rattle.ss_program.specs.ProgramSound.{AreSoundPlaces, IsCalledBy, LeadsOn, AreLinkedPlaces, AreLinkedSections}
 use Rattle.ss_program.specs.ProgramSound.{IsEventClass, IsTimed, AreTimed, scope_of, IsSoundSection, AreSoundSections}
 use Rattle.ss_check.specs.ClassNeed.{Event}
-use Rattle.ss_check.specs.NameKind.{NameKind}
 use Rattle.ss_check.specs.NameKind as k
 use Rattle.ss_check.specs.Declarations.{Counts}
 use Rattle.ss_check.specs.Declarations.{Declared}
 use Rattle.ss_check.specs.Facts.{fact_of}
-use Rattle.ss_check.specs.NameKinds.{names_event, names_routine}
+use Rattle.ss_check.specs.NameKinds.{names_event}
 use Rattle.ss_check.specs.Declarations as declared
 use Rattle.ss_check.specs.Declarations.{HeadedItem, headed_items, heads, given_of, yielded_of, parameters, kind_of}
 use Rattle.ss_check.specs.Declarations.{is_declared, declared_by_program, attribute_count}
+use Rattle.ss_check.specs.PlaceRules.{is_routine}
 use Rattle.ss_check.specs.PlaceRules.{is_wrong_class, is_wrong_count, has_other_counts, is_wrong_call}
 use Rattle.ss_check.specs.Uses.{Use, Notice, OfClass, values_of, uses_details, uses_when, uses_called_value}
 use Rattle.ss_check.specs.ResolvedNames.{Names, names, number, variable_used, variables_used, undeclared_name}
@@ -53,7 +53,7 @@ use Rattle.ss_check.proofs.SoundLists.{In, in_left, once_has, once_apart, as_man
 use Rattle.ss_check.proofs.SoundStatements.{AreItemsKept, AreSectionsKept, IsPlaceKept, ArePlacesKept}
 use Rattle.ss_check.proofs.SoundPlaceUses.{good_place}
 use Rattle.ss_check.proofs.SoundPlaces.{sound_place}
-use Rattle.ss_check.proofs.SoundNames.{closed_kind, class_in, event_class, scoped}
+use Rattle.ss_check.proofs.SoundNames.{class_in, event_class, is_called, scoped}
 use Rattle.ss_check.proofs.SoundLimits.{attributes_counted}
 use Rattle.ss_check.proofs.SoundNumbers.{routine_found, section_at}
 use Rattle.ss_check.proofs.SoundTables.{class_is, class_place}
@@ -274,19 +274,6 @@ module _ (is : List ItemAt) (qs : List Section) (h : AreItemsKept (declared_by_p
 
     -- ---- CALL
 
-    routine_by : (n : Name) (o : Option NameKind) → names_routine o ≡ true → o ≡ Some k.Routine
-    routine_by n (Some k.Routine) e = refl
-    routine_by n None e = absurd (false≢true e)
-    routine_by n (Some k.Variable) e = absurd (false≢true e)
-    routine_by n (Some k.ClassCount) e = absurd (false≢true e)
-    routine_by n (Some (k.Class g)) e = absurd (false≢true e)
-    routine_by n (Some (k.Attribute c)) e = absurd (false≢true e)
-    routine_by n (Some (k.OwnerKept a z)) e = absurd (false≢true e)
-    routine_by n (Some (k.MemberKept a z)) e = absurd (false≢true e)
-    routine_by n (Some (k.Function f)) e = absurd (false≢true e)
-    routine_by n (Some k.Clock) e = absurd (false≢true e)
-    routine_by n (Some k.Set) e = absurd (false≢true e)
-
     right_counts : (a b : ℕ) (c : Counts) → has_other_counts a b c ≡ false → (a ≡ c.given) × (b ≡ c.yielded)
     right_counts a b c e = by (c.given == a) (c.yielded == b) (eqb-true c.given a) (eqb-true c.yielded b) e
       where
@@ -305,9 +292,7 @@ module _ (is : List ItemAt) (qs : List Section) (h : AreItemsKept (declared_by_p
         IsPlaceKept D (declared.is_main q.head) (w.Simply (Transfers (Call n es rs))) →
         IsCalled p.sections (resolved_place D V locals (w.Simply (Transfers (Call n es rs))))
     called_routine n es rs kept =
-        let usage = not-false (names_routine (kind_of D n))
-        (or_parts (not (names_routine (kind_of D n))) _ kept.usage).0 in
-        let named = closed_kind xs hs h n k.Routine (routine_by n (kind_of D n) usage) in
+        let named = is_called xs hs h n (or_parts (not (is_routine D n)) _ kept.usage).0 in
         let f = routine_found qs 0 n named in
         let y = f.section in
         let holds = f.holds in

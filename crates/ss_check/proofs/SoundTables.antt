@@ -144,7 +144,7 @@ module _ (is : List ItemAt) (qs : List Section) (h : AreItemsKept (declared_by_p
       (all_from (λ (q : WrittenKey). number q.name (attribute_names V c) < length (attributes_of D c)) keys (λ q x.
       let right = none_in (is_wrong_key D c) q keys t x in
       rw (attributes_are xs hs h R c i)
-      (number_there q.name (attributes_of D c) (is_attribute xs hs h c q.name (kind_of D q.name) refl right))))
+      (number_there q.name (attributes_of D c) (is_attribute xs hs h c q.name right))))
 
   sound_keys : (b : Declared) (c : Name) (keys : List WrittenKey) → In c V.classes →
       list_any (is_wrong_key D c) keys ≡ false → length keys ≤ 8 →

@@ -16,7 +16,7 @@ use Rattle.ss_check.specs.Breach.{breach}
 use Rattle.ss_check.specs.Examples.{alone, applied_to_one, breach_behind_main, breach_in_main, class_t, define, event_e}
 use Rattle.ss_check.specs.Examples.{events_e, every, high, kept_f, let_be, let_x, name_a, name_d, name_w, name_x}
 use Rattle.ss_check.specs.Examples.{name_y, number, one, places_from, plain, preamble, routine, routine_r, section_at}
-use Rattle.ss_check.specs.Examples.{set_s, start, system_set, temporary, temporary_t, time_v, two}
+use Rattle.ss_check.specs.Examples.{set_s, start, system, system_set, temporary, temporary_t, time_v, two}
 
 -- ---- parts of programs
 
@@ -111,6 +111,21 @@ KeysAreOfTheirClass =
     (Headed PermanentEntities None ∷ OfEvery name_d (two (Owns (one set_s)) (Has (one name_w))) ∷ temporary
     ∷ every class_t (BelongsTo (one set_s)) ∷ Defines (Sets (one set_s) (Ranked (high name_w))) ∷ []) []
     ≡ Some (WrongKey, 6))
+
+-- ---- names declared twice
+
+-- a set of T ranked by W, which the system has and, further down, T; ties of E by W, a variable and, further down, an
+-- attribute of E; CALL R of a variable R where, further down, a section ROUTINE R stands
+abbrev pub SecondDeclarationsAreRefused : Type 0
+SecondDeclarationsAreRefused =
+    (breach_in_main
+    (Defines (Sets (one set_s) (Ranked (high name_w)))
+    ∷ (system_set ++ system (Has (one name_w)) ∷ every class_t (Has (one name_w)) ∷ [])) []
+    ≡ Some (DeclaredTwice, 7))
+    × (breach_with_event (ties name_w ∷ define name_w ∷ events_w) [] ≡ Some (DeclaredTwice, 5))
+    × (breach (preamble (define routine_r ∷ []))
+    (section_at 20 MainHead (Simply (Transfers (Call routine_r Unwritten [])) ∷ [])
+    ∷ section_at 30 (routine Unwritten) [] ∷ []) ≡ Some (DeclaredTwice, 30))
 
 -- ---- C7
 

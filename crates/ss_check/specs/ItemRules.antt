@@ -1,6 +1,6 @@
 -- The rules that items of the preamble, heads of sections and local DEFINEs break.
 use Rattle.std.specs.Prelude.{Bool, true, false, not, ◌||◌, ◌&&◌, nat_lt, List, [], ◌∷◌, ◌++◌, length, Option, Some}
-use Rattle.std.specs.Prelude.{None, is_none, option_map, unwrap_or}
+use Rattle.std.specs.Prelude.{None, is_none}
 use Rattle.std.specs.List.{list_any, filter}
 use Rattle.ss_words.specs.Lists.{Name, all_of}
 use Rattle.ss_preamble.specs.declared.item.Heading.{Heading}
@@ -14,11 +14,12 @@ use Rattle.ss_check.specs.declared.fault.CheckRule.TheVariants.{WrongKey, WrongC
 use Rattle.ss_check.specs.declared.fault.CheckRule.TheVariants.{WrongPriority}
 use Rattle.ss_check.specs.Declarations.{Declared}
 use Rattle.ss_check.specs.Facts.{is_among, repeats, is_one_outside, fact_of, names_of}
-use Rattle.ss_check.specs.NameKinds.{one_conflicts, is_attribute_of, names_set}
+use Rattle.ss_check.specs.NameKinds.{one_conflicts, names_set}
 use Rattle.ss_check.specs.Declarations.{HeadedItem, class_of_item, declarations, owners_in, sets_joined, members_in}
 use Rattle.ss_check.specs.Declarations.{disciplined_sets, disciplines_in, sets_in, tied_events, ties_in, external_in}
 use Rattle.ss_check.specs.Declarations.{priority_in, classes_in, given_of, parameters, is_main, routine_facts}
 use Rattle.ss_check.specs.Declarations.{events_in, kind_of, is_declared, attribute_count, is_event_class}
+use Rattle.ss_check.specs.ResolvedNames.{attributes_of}
 use Rattle.ss_check.specs.Statements.{Statement, rule_where, lowest}
 
 -- BELONGS without a class
@@ -41,9 +42,9 @@ module _ (d : Declared) where
   names_wrong_class h (Orders r) = orders_wrong_class r
   names_wrong_class h _ = false
 
-  -- whether a key is no attribute of a class
+  -- whether a key is none of the attributes that the HAS clauses of a class write, whatever else its name is declared as
   abbrev pub is_wrong_key : Name → Key → Bool
-  is_wrong_key c k = not (unwrap_or (option_map (is_attribute_of c) (kind_of d k.name)) false)
+  is_wrong_key c k = not (is_among k.name (attributes_of d c))
 
   -- whether one of several is; keys without a class are wrong
   abbrev pub has_wrong_key : Option Name → List Key → Bool

@@ -2,6 +2,7 @@
 use Rattle.std.specs.Prelude.{ℕ, Bool, true, false, not, ◌||◌, ◌&&◌, ◌==◌, nat_lt, nat_le, List, [], ◌∷◌, ◌++◌, length}
 use Rattle.std.specs.Prelude.{Option, Some, None}
 use Rattle.std.specs.List.{list_any}
+use Rattle.ss_words.specs.Lists.{Name}
 use Rattle.ss_report.specs.Pictures.{field_count, has_decimal_field}
 use Rattle.ss_routines.specs.Simple.{Times, StartSimulation, Exchanges, Print}
 use Rattle.ss_routines.specs.Loops.{Found, NoneFound}
@@ -15,7 +16,7 @@ use Rattle.ss_check.specs.NameKind.{NameKind}
 use Rattle.ss_check.specs.NameKind as kinds
 use Rattle.ss_check.specs.Declarations.{Counts}
 use Rattle.ss_check.specs.Declarations.{Declared}
-use Rattle.ss_check.specs.Facts.{fact_of}
+use Rattle.ss_check.specs.Facts.{fact_of, is_among, names_of}
 use Rattle.ss_check.specs.NameKinds.{names_set, names_routine, names_function, names_variable, names_fixed, serves}
 use Rattle.ss_check.specs.Declarations.{kind_of, is_of_system, attribute_count}
 use Rattle.ss_check.specs.Uses.{Use, Value, Target, InSet, LoopVariable, OfClass, Notice, Routine, uses}
@@ -62,6 +63,10 @@ module _ (d : Declared) where
   abbrev pub takes_no_parentheses : Option NameKind → Bool
   takes_no_parentheses j = not (names_function j || takes_subscript j)
 
+  -- a name that a section ROUTINE has, whatever else it is declared as
+  abbrev pub is_routine : Name → Bool
+  is_routine n = is_among n (names_of d.routines)
+
   -- C3: a set or a routine as a value or target; a subscript of what takes none, as of a set of the system; no set
   -- where one is needed; CALL of no routine
   abbrev pub is_misused : Use → Bool
@@ -70,7 +75,7 @@ module _ (d : Declared) where
   is_misused (Target n false) = is_valueless (kind_of d n)
   is_misused (Target n true) = takes_no_parentheses (kind_of d n)
   is_misused (InSet n subscripted) = not (names_set (kind_of d n)) || (subscripted && is_of_system d n)
-  is_misused (Routine n values targets) = not (names_routine (kind_of d n))
+  is_misused (Routine n values targets) = not (is_routine n)
   is_misused _ = false
 
   -- whether a function takes another count of arguments, or what takes a subscript has more than one

@@ -3,7 +3,7 @@ ghost use Rattle.ss_check.specs.FurtherExamples.{SectionsAreDeclaredOnce, Orders
 ghost use Rattle.ss_check.specs.FurtherExamples.{LocalsHaveNamesOfTheirOwn, OrdersNameEvents, ValuesAreNoRoutines};
 ghost use Rattle.ss_check.specs.FurtherExamples.{KeysAreOfTheirClass, NoticesHaveAttributesForValues};
 ghost use Rattle.ss_check.specs.FurtherExamples.{YieldedAreCounted, FirstNamingIsRefused, AttributesMayChange};
-ghost use Rattle.ss_check.specs.FurtherExamples.{EventsStartNoSimulation};
+ghost use Rattle.ss_check.specs.FurtherExamples.{EventsStartNoSimulation, SecondDeclarationsAreRefused};
 ghost use Rattle.ss_check.specs.NamedTree.{TablesGiveTheText};
 ghost use Rattle.ss_check.specs.NamedItems.{TablesGiveTheItems};
 ghost use Rattle.ss_check.specs.TableExample.{PreambleHasTables};
@@ -151,6 +151,13 @@ pub fn values_are_no_routines()
 /// owners.
 pub fn keys_are_of_their_class()
     ensures { KeysAreOfTheirClass }
+{}
+
+/// A name that is declared twice is refused at its second declaration, by C1: a key that its class
+/// has is right, and so is the CALL of what a section ROUTINE has as its name, whatever else the
+/// name was declared as before.
+pub fn second_declarations_are_refused()
+    ensures { SecondDeclarationsAreRefused }
 {}
 
 /// A notice has an attribute for each value of its SCHEDULE.

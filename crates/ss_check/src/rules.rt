@@ -3,5 +3,6 @@ pub mod breach;
 pub mod fields;
 pub mod heads;
 pub mod items;
+pub mod keys;
 pub mod places;
 pub mod uses;

@@ -1,12 +1,15 @@
-ghost use Rattle.std.specs.Prelude.{◌≡◌, [], ◌∷◌, ◌++◌, option_map, OnErr, OnOk};
+ghost use Rattle.std.specs.Prelude.{◌≡◌, ◌&&◌, false, [], ◌∷◌, ◌++◌, bytes_eq, option_map, unwrap_or};
+ghost use Rattle.std.specs.Prelude.{OnErr, OnOk};
+ghost use Rattle.std.specs.List.{list_any};
 ghost use Rattle.ss_check.specs.Facts.{fact, fact_of, is_among, names_of};
 ghost use Rattle.ss_check.specs.FactsView.{facts_view};
 ghost use Rattle.ss_check.specs.KindView.{kind_view};
-ghost use Rattle.ss_check.specs.NameKinds.{one_conflicts};
+ghost use Rattle.ss_check.specs.NameKinds.{is_attribute_of as is_attribute, one_conflicts};
+ghost use Rattle.ss_check.specs.ResolvedNames.{names_where};
 
 use crate::declared::fact::Fact;
 use crate::declared::fact_table::FactTable;
-use crate::declared::name_kind::{NameKind, conflicts};
+use crate::declared::name_kind::{NameKind, conflicts, is_attribute_of};
 use std::alloc::{AllocError, Global};
 use std::marker::Model;
 
@@ -66,6 +69,25 @@ impl KindTable {
         self.table.has(name)
     }
 
+    /// Whether some declaration of a name is as an attribute of this class. All declarations are
+    /// gone over only where the name's first one is another.
+    pub fn has_attribute(&self, class: &[u8], name: &[u8]) -> bool
+        ensures { result ≡ is_among name.now (names_where (is_attribute class.now) self.now) }
+    {
+        self.is_first_attribute(class, name) || any_attribute(self.as_slice(), class, name)
+    }
+
+    /// Whether the first declaration of a name is as an attribute of this class.
+    fn is_first_attribute(&self, class: &[u8], name: &[u8]) -> bool
+        ensures { result ≡ unwrap_or
+            (option_map (is_attribute class.now) (fact_of self.now name.now)) false }
+    {
+        match self.get(name) {
+            Some(kind) => is_attribute_of(class, kind),
+            None => false,
+        }
+    }
+
     /// Whether some declaration conflicts with what its name was before.
     pub fn has_conflict(&self) -> bool
         ensures { result ≡ one_conflicts [] self.now }
@@ -84,4 +106,13 @@ impl KindTable {
         self.has_conflict |= conflict;
         Ok(())
     }
+}
+
+/// Whether one of these declares a name as an attribute of this class.
+fn any_attribute(facts: &[Fact<NameKind>], class: &[u8], name: &[u8]) -> bool
+    ensures { result ≡ list_any
+        (λ f. is_attribute class.now (kind_view f.what) && bytes_eq name.now f.name) facts.now }
+{
+    facts.iter().any(|fact| is_attribute_of(class, &fact.what)
+        && name == fact.name.bytes.as_slice())
 }

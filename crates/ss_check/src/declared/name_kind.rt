@@ -57,6 +57,16 @@ pub(crate) fn conflicts(first: Option<&NameKind>, second: &NameKind) -> bool
     }
 }
 
+/// Whether it is an attribute of this class.
+pub(crate) fn is_attribute_of(class: &[u8], kind: &NameKind) -> bool
+    ensures { result ≡ kinds.is_attribute_of class.now (kind_view kind.now) }
+{
+    match kind {
+        NameKind::Attribute(owner) => class == owner.bytes.as_slice(),
+        _ => false,
+    }
+}
+
 /// Whether it is the name of a set.
 pub(crate) fn names_set(kind: Option<&NameKind>) -> bool
     ensures { result ≡ kinds.names_set (option_map (λ k. kind_view k.now) kind.entry) }

@@ -10,7 +10,7 @@ ghost use Rattle.ss_check.specs.Sorts.{belongs};
 
 use crate::declared::fact::Fact;
 use crate::declared::fact_table::FactTable;
-use crate::declared::name_kind::NameKind;
+use crate::declared::name_kind::{NameKind, is_attribute_of};
 use crate::declared::tables::Tables;
 use crate::resolved::declarations::{copied, prefixed};
 use ss_program::{Name, NameTable};
@@ -243,16 +243,6 @@ pub(crate) fn attributes_of(
         }
     }
     Ok(names)
-}
-
-/// Whether it is an attribute of this class.
-fn is_attribute_of(class: &[u8], kind: &NameKind) -> bool
-    ensures { result ≡ rules.is_attribute_of class.now (kind_view kind.now) }
-{
-    match kind {
-        NameKind::Attribute(owner) => class == owner.bytes.as_slice(),
-        _ => false,
-    }
 }
 
 /// The routines, each with the number of its section.

@@ -15,14 +15,13 @@ use crate::declared::class_need::ClassNeed;
 use crate::declared::fact_table::FactTable;
 use crate::declared::item_names::add_names;
 use crate::declared::kind_table::KindTable;
-use crate::declared::name_kind::{NameKind, names_set, serves};
+use crate::declared::name_kind::{names_set, serves};
 use crate::declared::name_list::NameList;
 use crate::declared::tables::Tables;
 use crate::fault::CheckRule;
-use ss_preamble::{
-    Clause, Definition, EventRule, Heading, Item, ItemAt, Key, Names, SetDiscipline,
-};
-use ss_words::{Name, Several};
+use crate::rules::keys::has_wrong_keys_unless;
+use ss_preamble::{Clause, Definition, EventRule, Heading, Item, ItemAt, Names};
+use ss_words::Name;
 use std::alloc::{AllocError, Global};
 
 /// Which rules an item breaks.
@@ -36,7 +35,7 @@ struct ItemBreaks {
     has_wrong_owner: bool,
     /// C5
     has_wrong_member: bool,
-    /// C6
+    /// C6, asked only where C1 is kept
     has_wrong_keys: bool,
     /// C8
     lacks_section: bool,
@@ -97,12 +96,13 @@ pub(crate) fn item_rule(
     let lacks_section = names_without_section(whole, before, item);
     let has_wrong_priority = orders_wrong_priority(alloc, whole, before, item)?;
     before.add_item(alloc, heading, one)?;
+    let declares_twice = says_twice(before);
     let breaks = ItemBreaks {
-        declares_twice: says_twice(before),
+        declares_twice,
         names_wrong_class: names_wrong_class(whole, heading, item),
         has_wrong_owner: is_ownerless | repeats_owner(before),
         has_wrong_member: is_memberless | repeats_member(before) | joins_system(item),
-        has_wrong_keys: has_wrong_keys(whole, item),
+        has_wrong_keys: has_wrong_keys_unless(declares_twice, whole, item),
         lacks_section,
         has_wrong_priority,
     };
@@ -286,81 +286,6 @@ fn is_belongs(clause: &Clause) -> bool
     ensures { result ≡ is_belongs_to (view.clause_view clause.now) }
 {
     matches!(clause, Clause::BelongsTo(_))
-}
-
-// ---- C6
-
-/// Whether an item ranks a set by what is no attribute of its members, or breaks the ties of an
-/// event class by what is none of it.
-#[tactic(auto, using(crate::proofs::Tests::any_map))]
-fn has_wrong_keys(whole: &Tables, item: &Item) -> bool
-    ensures { result ≡ rules.has_wrong_keys whole.now (view.item_view item.now) }
-{
-    match item {
-        Item::Defines(Definition::Sets { names, kind }) => any_wrong_rank(whole, names, kind),
-        Item::Orders(EventRule::BreakTies { event, keys }) => any_wrong_key(
-            whole,
-            event.bytes(),
-            keys,
-        ),
-        _ => false,
-    }
-}
-
-/// Whether one of these sets is ranked by what is no attribute of its members.
-#[tactic(auto, using(crate::proofs::Tests::any_map))]
-fn any_wrong_rank(whole: &Tables, sets: &Names, kind: &SetDiscipline) -> bool
-    ensures { result ≡ list_any (λ s. rules.has_wrong_rank whole.now (fact_of whole.now.members s)
-        (view.set_discipline_view kind.now)) (all_of (several_view (λ n. n) sets.now)) }
-{
-    is_wrong_rank(whole, sets.first.bytes(), kind) || any_other_rank(whole, &sets.others, kind)
-}
-
-fn any_other_rank(whole: &Tables, sets: &[Name], kind: &SetDiscipline) -> bool
-    ensures { result ≡ list_any (λ s. rules.has_wrong_rank whole.now (fact_of whole.now.members s)
-        (view.set_discipline_view kind.now)) sets.now }
-{
-    sets.iter()
-        .any(|set| is_wrong_rank(whole, set.bytes(), kind))
-}
-
-/// Whether a set is ranked by what is no attribute of its members, or has none and is ranked.
-fn is_wrong_rank(whole: &Tables, set: &[u8], kind: &SetDiscipline) -> bool
-    ensures { result ≡ rules.has_wrong_rank whole.now (fact_of whole.now.members set.now)
-        (view.set_discipline_view kind.now) }
-{
-    match kind {
-        SetDiscipline::Fifo | SetDiscipline::Lifo => false,
-        SetDiscipline::Ranked(keys) => match whole.members.get(set) {
-            Some(class) => any_wrong_key(whole, &class.bytes, keys),
-            None => true,
-        },
-    }
-}
-
-/// Whether one of these keys is no attribute of a class.
-#[tactic(auto, using(crate::proofs::Tests::any_map))]
-fn any_wrong_key(whole: &Tables, class: &[u8], keys: &Several<Key>) -> bool
-    ensures { result ≡ rules.has_wrong_key whole.now (Some class.now)
-        (all_of (several_view view.key_view keys.now)) }
-{
-    is_wrong_key(whole, class, &keys.first) || any_other_key(whole, class, &keys.others)
-}
-
-fn any_other_key(whole: &Tables, class: &[u8], keys: &[Key]) -> bool
-    ensures { result ≡ list_any
-        (λ k. rules.is_wrong_key whole.now class.now (view.key_view k)) keys.now }
-{
-    keys.iter().any(|key| is_wrong_key(whole, class, key))
-}
-
-fn is_wrong_key(whole: &Tables, class: &[u8], key: &Key) -> bool
-    ensures { result ≡ rules.is_wrong_key whole.now class.now (view.key_view key.now) }
-{
-    match whole.kinds.get(key.name.bytes()) {
-        Some(NameKind::Attribute(of)) => class != of.bytes.as_slice(),
-        _ => true,
-    }
 }
 
 // ---- C8

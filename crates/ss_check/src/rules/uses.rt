@@ -58,7 +58,7 @@ fn is_misused(whole: &Tables, one: &Use<'_>) -> bool
         Use::InSet { name, subscripted } => {
             !names_set(whole.kinds.get(name)) || (*subscripted && is_of_system(whole, name))
         }
-        Use::Routine { name, .. } => !names_routine(whole.kinds.get(name)),
+        Use::Routine { name, .. } => !whole.routines.has(name),
         Use::LoopVariable(_) | Use::OfClass { .. } | Use::Notice { .. } => false,
     }
 }

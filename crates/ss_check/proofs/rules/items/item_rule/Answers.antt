@@ -10,11 +10,12 @@ returns-clause-rule c =
     ∙ rw (c.repeats_owner.ensures, c.repeats_member.ensures, c.joins_system.ensures)
     (item_rule_is c.args.whole.now c.args.before.now c.add_item.new.self
     (headed_item c.args.heading (item_at_view c.args.one.now))
-    c.says_twice.result c.names_wrong_class.result c.names_ownerless_set-is_ownerless.result
+    c.says_twice-declares_twice.result c.names_wrong_class.result c.names_ownerless_set-is_ownerless.result
     c.names_memberless_set-is_memberless.result
-    c.has_wrong_keys.result c.names_without_section-lacks_section.result
+    c.has_wrong_keys_unless.result c.names_without_section-lacks_section.result
     c.in_ok-has_wrong_priority.has_wrong_priority
     c.requires
-    c.in_ok-add_item.ensures c.says_twice.ensures c.names_wrong_class.ensures c.names_ownerless_set-is_ownerless.ensures
-    c.names_memberless_set-is_memberless.ensures c.has_wrong_keys.ensures c.names_without_section-lacks_section.ensures
+    c.in_ok-add_item.ensures c.says_twice-declares_twice.ensures c.names_wrong_class.ensures
+    c.names_ownerless_set-is_ownerless.ensures c.names_memberless_set-is_memberless.ensures
+    c.has_wrong_keys_unless.ensures c.names_without_section-lacks_section.ensures
     c.in_ok-has_wrong_priority.ensures)
