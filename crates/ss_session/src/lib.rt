@@ -13,5 +13,7 @@ mod whole;
 
 pub use ending::{End, SessionFault, exit_status};
 pub use laws::{model_has_one_outcome, program_is_refused_in_one_part};
+pub use load::{LoadFault, load_program};
 pub use outlet::{MemoryOutlet, Outlet, PutFault};
-pub use whole::{session, session_over};
+pub use refusal::refusal_text;
+pub use whole::{machine, session, session_over};
