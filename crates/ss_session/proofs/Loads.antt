@@ -10,7 +10,7 @@ use Rattle.ss_preamble.specs.Refused.{AreDecls}
 use Rattle.ss_preamble.specs.Refused as preamble
 use Rattle.ss_routines.specs.Refused.{words_from}
 use Rattle.ss_routines.specs.Refused as sections
-use Rattle.ss_session.specs.Private.{load_fault_of_text, IsLoadFault}
+use Rattle.ss_session.specs.Load.{load_fault_of_text, IsLoadFault}
 use Rattle.ss_session.proofs.Refusals.{to_one}
 
 -- one in the preamble

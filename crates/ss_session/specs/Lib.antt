@@ -2,6 +2,7 @@ pub mod Outlet
 pub mod Exit
 pub mod Refused
 pub mod Model
+pub mod Load
 pub mod Texts
 pub mod Written
 pub mod Transcript

@@ -1,10 +1,6 @@
 -- How each private function of the session ends. No public contract cites this module.
 use Rattle.std.specs.Prelude.{ℕ, ◌+◌, ◌≡◌, false, List, [], ◌++◌, Option, Result, Ok, Err}
 use Rattle.std.specs.Io.KnownBytes.{Appends}
-use Rattle.ss_words.specs.declared.fault.TextFault.{TextFault}
-use Rattle.ss_words.specs.declared.fault.TextFault.TheVariants as text
-use Rattle.ss_check.specs.declared.fault.CheckFault.{CheckFault}
-use Rattle.ss_check.specs.declared.fault.CheckFault.TheVariants as check
 use Rattle.ss_machine.specs.Run.{Input}
 use Rattle.ss_debug.specs.Command.{command_of}
 use Rattle.ss_debug.specs.Turn.{DebuggerState, initial_debugger_state, debugger_state_after, answer}
@@ -16,31 +12,11 @@ use Rattle.ss_session.specs.declared.ending.Cut.TheVariants as cut
 use Rattle.ss_session.specs.declared.ending.End.{End}
 use Rattle.ss_session.specs.declared.ending.SessionFault.{SessionFault}
 use Rattle.ss_session.specs.declared.ending.SessionFault.TheVariants.{Text, Check, Write, Memory}
-use Rattle.ss_session.specs.declared.load.LoadFault.{LoadFault}
-use Rattle.ss_session.specs.declared.load.LoadFault.TheVariants as load
-use Rattle.ss_session.specs.Model.{refused_text, refused_check, IsOutcome, IsTextRefused, IsCheckRefused}
+use Rattle.ss_session.specs.Model.{IsTextRefused, IsCheckRefused}
 use Rattle.ss_session.specs.Written.{WritesFirst, WritesPart}
 use Rattle.ss_session.specs.Texts.{Texts}
 use Rattle.ss_session.specs.Transcript.{program_transcript, ends_faulted, end_of}
 use Rattle.ss_session.specs.Session.{EndsBy, WritesFirstAnswers, WritesTranscript, WritesPartOfTranscript}
-
--- ---- the reading of a model
-
--- a refusal of the text, or of memory for it, as a fault of the reading
-abbrev pub load_fault_of_text : TextFault → LoadFault
-load_fault_of_text (text.Refused rule line) = load.Text rule line
-load_fault_of_text text.Memory = load.Memory
-
--- a refusal of the spelled model, or of memory for it, as a fault of the reading
-abbrev pub load_fault_of_check : CheckFault → LoadFault
-load_fault_of_check (check.Broken rule line) = load.Check rule line
-load_fault_of_check check.Memory = load.Memory
-
--- a fault of the reading tells the model's refusal, unless memory was refused
-abbrev pub IsLoadFault : LoadFault → List ℕ → Type 0
-IsLoadFault (load.Text rule line) model = IsOutcome model (refused_text rule line)
-IsLoadFault (load.Check rule line) model = IsOutcome model (refused_check rule line)
-IsLoadFault load.Memory model = Unit {0}
 
 -- ---- the turns
 

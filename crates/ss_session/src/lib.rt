@@ -9,12 +9,14 @@ mod laws;
 mod load;
 mod outlet;
 mod refusal;
-mod whole_run;
 mod turns;
 mod whole;
+mod whole_run;
 
 pub use ending::{End, SessionFault, exit_status};
 pub use laws::{model_has_one_outcome, program_is_refused_in_one_part};
+pub use load::{LoadFault, load_program};
 pub use outlet::{MemoryOutlet, Outlet, PutFault};
+pub use refusal::refusal_text;
+pub use whole::{machine, session, session_over};
 pub use whole_run::{Progress, RunCut, RunEnd, report, run_status};
-pub use whole::{session, session_over};

@@ -1,6 +1,6 @@
 ghost use Rattle.std.specs.Prelude.{IfOk, IfErr};
 ghost use Rattle.ss_session.specs.Model.{accepted, IsOutcome};
-ghost use Rattle.ss_session.specs.Private.{IsLoadFault};
+ghost use Rattle.ss_session.specs.Load.{IsLoadFault};
 
 use ss_check::{CheckFault, CheckRule, Program, check};
 use ss_preamble::preamble;
@@ -10,15 +10,18 @@ use std::alloc::Global;
 
 /// Why a model is no program, or that memory for reading it was refused.
 #[derive(Clone, Copy, Debug, Drop, PartialEq, Eq)]
-pub(crate) enum LoadFault {
+pub enum LoadFault {
+    /// The model's text is refused, by this rule L or P at this line.
     Text { rule: TextRule, line: usize },
+    /// The spelled model is refused, by this rule C at this line.
     Check { rule: CheckRule, line: usize },
+    /// Memory was refused.
     Memory,
 }
 
 impl From<TextFault> for LoadFault {
     ghost use Rattle.std.specs.Prelude.{◌≡◌};
-    ghost use Rattle.ss_session.specs.Private.{load_fault_of_text};
+    ghost use Rattle.ss_session.specs.Load.{load_fault_of_text};
 
     ghost from_gives = { λ refusal fault. fault ≡ load_fault_of_text refusal };
 
@@ -32,7 +35,7 @@ impl From<TextFault> for LoadFault {
 
 impl From<CheckFault> for LoadFault {
     ghost use Rattle.std.specs.Prelude.{◌≡◌};
-    ghost use Rattle.ss_session.specs.Private.{load_fault_of_check};
+    ghost use Rattle.ss_session.specs.Load.{load_fault_of_check};
 
     ghost from_gives = { λ refusal fault. fault ≡ load_fault_of_check refusal };
 
@@ -44,9 +47,9 @@ impl From<CheckFault> for LoadFault {
     }
 }
 
-/// The program that a model is.
+/// The program that a model is (docs/LANGUAGE.md), or the one rule and line by which it is refused.
 #[tactic(auto, using(crate::proofs::Loads::loads))]
-pub(crate) fn load(alloc: Global, model: &[u8]) -> Result<Program, LoadFault>
+pub fn load_program(alloc: Global, model: &[u8]) -> Result<Program, LoadFault>
     ensures ok { IfOk result (λ program. IsOutcome model.now (accepted program)) }
     ensures err { IfErr result (λ fault. IsLoadFault fault model.now) }
 {

@@ -4,8 +4,8 @@ ghost use Rattle.ss_session.specs.Transcript.{refusal_line};
 use itoa::Buffer;
 use std::alloc::{AllocError, Global};
 
-/// `MODEL REFUSED r LINE l`.
-pub(crate) fn refusal_text(alloc: Global, code: &str, line: usize) -> Result<Vec<u8>, AllocError>
+/// The line of a refused model: `MODEL REFUSED r LINE l`, with a rule's code and a line.
+pub fn refusal_text(alloc: Global, code: &str, line: usize) -> Result<Vec<u8>, AllocError>
     ensures { IfOk result (λ text. text.items ≡ refusal_line code.now line) }
 {
     let mut buffer = Buffer::new();

@@ -7,7 +7,7 @@ ghost use Rattle.ss_session.specs.Private.{LineEnds, SessionEnds};
 
 use crate::answers::write_transcript;
 use crate::ending::{Cut, End, SessionFault};
-use crate::load::{LoadFault, load};
+use crate::load::{LoadFault, load_program};
 use crate::outlet::{Outlet, put_all};
 use crate::refusal::refusal_text;
 use ss_data::Feed;
@@ -28,8 +28,9 @@ fn refuse<W: Outlet>(alloc: Global, code: &str, line: usize, out: &mut W) -> Res
     Ok(())
 }
 
-/// The machine at the start of a program's run over its data.
-pub(crate) fn machine<S: SetBoard>(
+/// The machine at the start of a program's run over its data (docs/LANGUAGE.md). Its sets and its
+/// pending notices stand on `sets` and `pending`, boards without heads and seats.
+pub fn machine<S: SetBoard>(
     alloc: Global,
     program: Program,
     data_text: &[u8],
@@ -64,7 +65,7 @@ fn session_by_cases<S: SetBoard, W: Outlet>(
         (record { model = model.now; data_text = data_text.now; commands = commands.now })
         (W.taken out.old) (W.taken out.new) (W.failures out.old) (W.failures out.new) }
 {
-    match load(alloc, model) {
+    match load_program(alloc, model) {
         Err(fault) => {
             drop(pending);
             drop(sets);

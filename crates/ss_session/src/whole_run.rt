@@ -6,7 +6,7 @@ ghost use Rattle.ss_machine.specs.Run.{input_with};
 ghost use Rattle.ss_session.specs.Report.{run_end, status_of_run, SaysEnd, RunEnds, ReportSays};
 ghost use Rattle.ss_session.specs.Advance.{HasAdvanced, IsRefusal};
 
-use crate::load::{LoadFault, load};
+use crate::load::{LoadFault, load_program};
 use crate::outlet::{Outlet, put_all};
 use crate::refusal::refusal_text;
 use crate::whole::machine;
@@ -260,7 +260,7 @@ pub fn report<P: Progress, W: Outlet>(
         (record { taken = W.taken out.old; failures = W.failures out.old })
         (record { taken = W.taken out.new; failures = W.failures out.new }) }
 {
-    match load(alloc, model) {
+    match load_program(alloc, model) {
         Ok(program) => run_program(alloc, program, data_text, progress, out),
         Err(fault) => refusal(alloc, fault),
     }
