@@ -1,0 +1,10 @@
+use Rattle.std.proofs.Common.{◌≡◌, ◌++◌, length, map}
+use Rattle.ssdb.specs.Source.{source_lines}
+use Rattle.ssdb.proofs.source.source_lines.Given as goal
+
+abbrev pub invariant-loop-rest : goal.invariant-loop-rest
+invariant-loop-rest l =
+    map (λ line. line.items) l.lines.items ++ source_lines l.rest ≡ source_lines l.model
+
+abbrev pub decreases-loop-rest : goal.decreases-loop-rest
+decreases-loop-rest l = length l.rest

@@ -1,0 +1,17 @@
+-- The exit statuses of the program.
+use Rattle.std.specs.Prelude.{ℕ, Result, Ok, Err}
+use Rattle.ss_console.specs.declared.cut.Cut.{Cut}
+use Rattle.ssdb.specs.declared.opening.PromptEnd.{PromptEnd}
+use Rattle.ssdb.specs.declared.opening.PromptEnd.TheVariants.{Done, Faulted}
+use Rattle.ssdb.specs.declared.opening.PromptFault.{PromptFault}
+use Rattle.ssdb.specs.declared.opening.PromptFault.TheVariants.{Refused, Cut as Broken, Memory}
+use Rattle.std.specs.Prelude.{Bool, if◌then◌else◌}
+
+-- a run that is faulted where input that is no terminal ends: 4, else 0; a failed reading or writing 2, a refused model
+-- 3, no memory 5
+abbrev pub prompt_status : Bool → Result PromptEnd PromptFault → ℕ
+prompt_status terminal (Ok Done) = 0
+prompt_status terminal (Ok Faulted) = if terminal then 0 else 4
+prompt_status terminal (Err (Broken cut)) = 2
+prompt_status terminal (Err Refused) = 3
+prompt_status terminal (Err Memory) = 5
