@@ -139,10 +139,7 @@ fn run_to_end<S: SetBoard, P: Progress>(
 }
 
 /// How the run ended whose last state a debugger holds.
-fn end_of_run<S: SetBoard>(
-    alloc: Global,
-    debugger: &mut Debugger<S>,
-) -> Result<RunEnd, AllocError>
+fn end_of_run<S: SetBoard>(alloc: Global, debugger: &mut Debugger<S>) -> Result<RunEnd, AllocError>
     requires { position debugger.old.machine ≡ run_end debugger.old.machine.input }
     ensures input { debugger.new.machine.input ≡ debugger.old.machine.input }
     ensures position { position debugger.new.machine ≡ position debugger.old.machine }

@@ -3,4 +3,4 @@ use Rattle.ss_session.specs.Advance.{HasAdvanced}
 use Rattle.ss_session.proofs.whole_run.advance.Given as goal
 
 abbrev pub invariant-loop-k : goal.invariant-loop-k
-invariant-loop-k g l = record { advanced : HasAdvanced Moved l._k l.initial.machine l.machine; }
+invariant-loop-k g l = record { advanced : HasAdvanced Moved l._k l.initial.machine l.machine }

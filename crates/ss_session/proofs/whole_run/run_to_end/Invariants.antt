@@ -6,7 +6,7 @@ use Rattle.ss_session.specs.Advance.{HasAdvanced}
 use Rattle.ss_session.proofs.whole_run.run_to_end.Given as goal
 
 abbrev pub invariant-loop : goal.invariant-loop
-invariant-loop g l = record { advanced : HasAdvanced Moved (position l.machine) l.initial.machine l.machine; }
+invariant-loop g l = record { advanced : HasAdvanced Moved (position l.machine) l.initial.machine l.machine }
 
 abbrev pub decreases-loop : goal.decreases-loop
 decreases-loop g l = LAST_POSITION - position l.machine
