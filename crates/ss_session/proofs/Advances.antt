@@ -1,4 +1,5 @@
-use Rattle.std.proofs.Common.{◌≡◌, ◌≢◌, ℕ, ◌+◌, ◌<◌, ◌≤◌, ◌∙◌, ◌⊎◌, inl, inr, Bool, true, false, nat_lt, refl, sym, arith}
+use Rattle.std.proofs.Common.{◌≡◌, ◌≢◌, ℕ, ◌+◌, ◌<◌, ◌≤◌, ◌∙◌, ◌⊎◌, inl, inr, Bool, true, false, nat_lt, refl, arith}
+use Rattle.std.proofs.Common.{List, [], ◌++◌}
 use borrow.Author.Tests.{ltb-true, ltb-false}
 use Rattle.ss_machine.specs.declared.limits.TheConstants.{LAST_POSITION}
 use Rattle.ss_machine.specs.declared.status.Status.{Status}
@@ -9,6 +10,11 @@ use Rattle.ss_machine.specs.Moment.{Moment, position, HasMoved, Steps}
 use Rattle.ss_machine.specs.State.{is_ready}
 use Rattle.ss_machine.specs.Run.{Input, run}
 use Rattle.ss_debug.specs.Move.{step_condition, is_ready_at, EndsAt}
+use Rattle.ss_debug.specs.declared.commands.Command.TheVariants.{Show}
+use Rattle.ss_debug.specs.declared.commands.Question.TheVariants.{Where}
+use Rattle.ss_debug.specs.Answer.{state_line}
+use Rattle.ss_debug.specs.Turn.{answer}
+use Rattle.ss_debug.specs.View.{DebuggerView, debugger_state_of}
 use Rattle.ss_debug.proofs.Moves.{forward_ends, one_end}
 use Rattle.ss_session.specs.Report.{run_end}
 use Rattle.ss_session.specs.Advance.{EndsBy, HasAdvanced}
@@ -128,4 +134,28 @@ run_ended n a b e p =
     one_end a.input step_condition 0 LAST_POSITION (position b) (run_end a.input) ends
     (forward_ends a.input step_condition 0 LAST_POSITION (omega arith))
 
+-- a run that begins has made no step
+pub begun : (a : Moment) → position a ≡ 0 → position a ≤ LAST_POSITION → HasAdvanced Moved (position a) a a
+begun a e h = rw e (none_advanced a h)
+
+-- it has made as many steps as its position says
+pub further : (k : ℕ) (a b c : Moment) → position a ≡ 0 → HasAdvanced Moved (position b) a b →
+    HasAdvanced Moved k b c → HasAdvanced Moved (position c) a c
+further k a b c e p q =
+    let on = advanced_on Moved (position b) k a b c p q in
+    record { input = on.input; on = on.on; within = on.within; ready = on.ready; reason = omega (arith, e) }
+
+-- and at last it is at its end
+pub at_the_end : (k : ℕ) (a b c : Moment) → position a ≡ 0 → HasAdvanced Moved (position b) a b →
+    HasAdvanced AtEnd k b c → position c ≡ run_end a.input
+at_the_end k a b c e p q = run_ended _ a c e (advanced_on AtEnd (position b) k a b c p q)
+
+-- what SHOW WHERE appends to nothing
+pub where_said : (h : DebuggerView) (text : List ℕ) (p : ℕ) → position h.machine ≡ p →
+    text ≡ [] ++ answer h.machine.input (debugger_state_of h) (Show Where) → text ≡ state_line h.machine.input p
+unfolding answer
+where_said h text p e s = rw e at s
+
 pub ruleset one_step = (stepped_once)
+
+pub ruleset to_the_end = (begun, further, at_the_end)

@@ -120,6 +120,7 @@ fn advance<S: SetBoard>(machine: &mut Machine<S>, steps: u64) -> Result<Stepped,
 }
 
 /// Makes steps to the end of the run.
+#[tactic(auto, using(crate::proofs::Advances::to_the_end))]
 fn run_to_end<S: SetBoard, P: Progress>(
     machine: &mut Machine<S>,
     progress: &mut P,

@@ -5,8 +5,8 @@ use Rattle.ss_machine.specs.Moment.{position}
 use Rattle.ss_session.specs.Advance.{HasAdvanced}
 use Rattle.ss_session.proofs.whole_run.run_to_end.Given as goal
 
-abbrev pub invariant-loop : goal.invariant-loop
-invariant-loop g l = record { advanced : HasAdvanced Moved (position l.machine) l.initial.machine l.machine }
+abbrev pub invariant-loop-progress : goal.invariant-loop-progress
+invariant-loop-progress g l = record { advanced : HasAdvanced Moved (position l.machine) l.initial.machine l.machine }
 
-abbrev pub decreases-loop : goal.decreases-loop
-decreases-loop g l = LAST_POSITION - position l.machine
+abbrev pub decreases-loop-progress : goal.decreases-loop-progress
+decreases-loop-progress g l = LAST_POSITION - position l.machine

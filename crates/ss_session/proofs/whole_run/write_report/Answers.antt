@@ -1,0 +1,26 @@
+use Rattle.std.proofs.Common.{◌≡◌, Err, refl, rules}
+use Rattle.ss_session.specs.declared.whole_run.RunCut.TheVariants.{Memory}
+use Rattle.ss_session.specs.Report.{RunEnds}
+use Rattle.ss_session.proofs.Pieces.{appends_none}
+use Rattle.ss_session.proofs.whole_run.write_report.Goals as goal
+
+pub returns-in_err-end : goal.returns-in_err-end
+unfolding RunEnds
+returns-in_err-end g c =
+    let e : c.from_residual.result ≡ Err Memory = search rules in
+    rw e (appends_none _, refl)
+
+pub returns-in-Ok : goal.returns-in-Ok
+unfolding RunEnds
+returns-in-Ok g c =
+    let k = rw c.machine-machine.ensures at c.known.ensures.state in
+    let r = rw (c.in_ok-end.ensures.position, c.in_ok-end.ensures.input, c.requires.end) at k in
+    let o = rw (c.report.ensures, c.machine-machine.ensures, r) at c.in-Ok.ensures.ok in
+    (c.in_ok-end.ensures.ok, o.0, o.1)
+
+pub returns-in-Err : goal.returns-in-Err
+unfolding RunEnds
+returns-in-Err g c =
+    let k = rw c.machine-machine.ensures at c.known.ensures.state in
+    let r = rw (c.in_ok-end.ensures.position, c.in_ok-end.ensures.input, c.requires.end) at k in
+    rw (c.report.ensures, c.machine-machine.ensures, r) at c.in-Err.ensures.err
