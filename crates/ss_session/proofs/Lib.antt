@@ -9,4 +9,3 @@ pub mod Ends
 pub mod Transcripts
 pub mod ExampleWords
 pub mod ExamplePrograms
-pub mod Advances

@@ -10,5 +10,3 @@ pub mod Session
 pub mod Laws
 pub mod Examples
 pub mod Private
-pub mod Report
-pub mod Advance

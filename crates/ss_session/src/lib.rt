@@ -1,5 +1,4 @@
-//! A whole session: model, data and commands in, the transcript out; and a whole run: model and data
-//! in, the report out.
+//! A whole session: model, data and commands in, the transcript out.
 #![tactic(auto)]
 
 mod answers;
@@ -11,12 +10,10 @@ mod outlet;
 mod refusal;
 mod turns;
 mod whole;
-mod whole_run;
 
 pub use ending::{End, SessionFault, exit_status};
 pub use laws::{model_has_one_outcome, program_is_refused_in_one_part};
 pub use load::{LoadFault, load_program};
-pub use outlet::{MemoryOutlet, Outlet, PutFault};
+pub use outlet::{MemoryOutlet, Outlet, PutFault, put_all};
 pub use refusal::refusal_text;
 pub use whole::{machine, session, session_over};
-pub use whole_run::{Progress, RunCut, RunEnd, report, run_status};

@@ -102,9 +102,10 @@ fn put_some<W: Outlet>(out: &mut W, bytes: &[u8], at: usize) -> Result<usize, Pu
     }
 }
 
-/// Writes all of the bytes, as many pieces as `put` takes them in, until one call fails.
+/// Writes all of the bytes, as many pieces as `put` takes them in, until one call fails: then a prefix
+/// of them is written, and one failure counted.
 #[tactic(auto, using(crate::proofs::Parts::texts_in_pieces))]
-pub(crate) fn put_all<W: Outlet>(out: &mut W, bytes: &[u8]) -> Result<(), PutFault>
+pub fn put_all<W: Outlet>(out: &mut W, bytes: &[u8]) -> Result<(), PutFault>
     requires { W.failures out.old < 2 ^ 64 - 1 }
     ensures ok { OnOk result (Appends (W.taken out.old) (W.taken out.new) bytes.now
         × (W.failures out.new ≡ W.failures out.old)) }

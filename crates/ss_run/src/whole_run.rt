@@ -3,17 +3,14 @@ ghost use Rattle.std.specs.Prelude.{◌≡◌, ◌-◌, ◌^◌, ◌<◌, OnErr,
 ghost use Rattle.ss_links.specs.Board.{empty_board};
 ghost use Rattle.ss_machine.specs.Moment.{position};
 ghost use Rattle.ss_machine.specs.Run.{input_with};
-ghost use Rattle.ss_session.specs.Report.{run_end, status_of_run, SaysEnd, RunEnds, ReportSays};
-ghost use Rattle.ss_session.specs.Advance.{HasAdvanced, IsRefusal};
+ghost use Rattle.ss_run.specs.Report.{IsRunEnd, status_of_run, SaysEnd, RunEnds, ReportSays};
+ghost use Rattle.ss_run.specs.Advance.{HasAdvanced, IsRefusal};
 
-use crate::load::{LoadFault, load_program};
-use crate::outlet::{Outlet, put_all};
-use crate::refusal::refusal_text;
-use crate::whole::machine;
 use ss_debug::{Command, Debugger, Question, obey};
 use ss_links::{LinkedSets, SetBoard};
 use ss_machine::{Machine, Status, Stepped};
 use ss_program::Program;
+use ss_session::{LoadFault, Outlet, load_program, machine, put_all, refusal_text};
 use std::alloc::{AllocError, Global};
 use thiserror::Error;
 
@@ -53,7 +50,7 @@ pub enum RunCut {
 
 impl From<AllocError> for RunCut {
     ghost use Rattle.std.specs.Prelude.{◌≡◌};
-    ghost use Rattle.ss_session.specs.declared.whole_run.RunCut.TheVariants.{Memory};
+    ghost use Rattle.ss_run.specs.declared.whole_run.RunCut.TheVariants.{Memory};
 
     ghost from_gives = { λ _ cut. cut ≡ Memory };
 
@@ -127,7 +124,7 @@ fn run_to_end<S: SetBoard, P: Progress>(
 ) -> Result<(), AllocError>
     requires { position machine.old ≡ 0 }
     ensures input { machine.new.input ≡ machine.old.input }
-    ensures ok { OnOk result (position machine.new ≡ run_end machine.old.input) }
+    ensures ok { OnOk result (IsRunEnd machine.old.input (position machine.new)) }
 {
     machine.known();
     loop {
@@ -141,10 +138,10 @@ fn run_to_end<S: SetBoard, P: Progress>(
 
 /// How the run ended whose last state a debugger holds.
 fn end_of_run<S: SetBoard>(alloc: Global, debugger: &mut Debugger<S>) -> Result<RunEnd, AllocError>
-    requires { position debugger.old.machine ≡ run_end debugger.old.machine.input }
     ensures input { debugger.new.machine.input ≡ debugger.old.machine.input }
     ensures position { position debugger.new.machine ≡ position debugger.old.machine }
-    ensures ok { IfOk result (λ end. SaysEnd debugger.old.machine.input end) }
+    ensures ok { IfOk result (λ end. SaysEnd debugger.old.machine.input
+        (position debugger.old.machine) end) }
 {
     debugger.machine().known();
     let Status::Faulted(_) = debugger.machine().status() else {
@@ -163,7 +160,7 @@ fn write_report<S: SetBoard, W: Outlet>(
     debugger: &mut Debugger<S>,
     out: &mut W,
 ) -> Result<RunEnd, RunCut>
-    requires end { position debugger.old.machine ≡ run_end debugger.old.machine.input }
+    requires end { IsRunEnd debugger.old.machine.input (position debugger.old.machine) }
     requires room { W.failures out.old < 2 ^ 64 - 1 }
     ensures { RunEnds result debugger.old.machine.input
         (record { taken = W.taken out.old; failures = W.failures out.old })
@@ -182,6 +179,7 @@ fn write_report<S: SetBoard, W: Outlet>(
 }
 
 /// Makes the steps of a run to its end, and writes its report.
+#[tactic(auto, using(ss_session::proofs::Pieces::appends_none), unfolding(crate::specs::Report::RunEnds))]
 fn write_run<S: SetBoard, P: Progress, W: Outlet>(
     alloc: Global,
     machine: Machine<S>,
@@ -221,6 +219,7 @@ fn refusal(alloc: Global, fault: LoadFault) -> Result<RunEnd, RunCut>
 }
 
 /// Makes the run of a program over its data to its end, and writes its report.
+#[tactic(auto, using(ss_session::proofs::Pieces::appends_none), unfolding(crate::specs::Report::RunEnds))]
 fn run_program<P: Progress, W: Outlet>(
     alloc: Global,
     program: Program,

@@ -9,10 +9,10 @@ use Rattle.ss_machine.specs.Moment.{Moment, position}
 use Rattle.ss_debug.specs.Move.{is_ready_at}
 use Rattle.ss_session.specs.declared.load.LoadFault.{LoadFault}
 use Rattle.ss_session.specs.declared.load.LoadFault.TheVariants as load
-use Rattle.ss_session.specs.declared.whole_run.RunEnd.{RunEnd}
-use Rattle.ss_session.specs.declared.whole_run.RunEnd.TheVariants.{Done, Faulted, Refused}
-use Rattle.ss_session.specs.declared.whole_run.RunCut.{RunCut}
-use Rattle.ss_session.specs.declared.whole_run.RunCut.TheVariants.{Write, Memory}
+use Rattle.ss_run.specs.declared.whole_run.RunEnd.{RunEnd}
+use Rattle.ss_run.specs.declared.whole_run.RunEnd.TheVariants.{Done, Faulted, Refused}
+use Rattle.ss_run.specs.declared.whole_run.RunCut.{RunCut}
+use Rattle.ss_run.specs.declared.whole_run.RunCut.TheVariants.{Write, Memory}
 use Rattle.ss_session.specs.Transcript.{refusal_line}
 
 -- where some steps lead that were to be made: all of them, or fewer where the run has ended

@@ -1,5 +1,5 @@
 -- What a whole run writes: its report alone.
-use Rattle.std.specs.Prelude.{ℕ, zero, ◌+◌, ◌<◌, ◌≤◌, ◌≡◌, ◌≢◌, ◌⊎◌, true, false, List, [], Option, Result, Ok, Err}
+use Rattle.std.specs.Prelude.{ℕ, ◌+◌, ◌<◌, ◌≤◌, ◌≡◌, ◌⊎◌, true, false, List, [], Result, Ok, Err}
 use Rattle.std.specs.Io.KnownBytes.{Appends}
 use Rattle.ss_words.specs.declared.fault.TextRule.{TextRule}
 use Rattle.ss_words.specs.Faults.{text_rule_code}
@@ -7,35 +7,33 @@ use Rattle.ss_check.specs.declared.fault.CheckRule.{CheckRule}
 use Rattle.ss_check.specs.CheckRules.{check_rule_code}
 use Rattle.ss_program.specs.Program.{ProgramTable}
 use Rattle.ss_machine.specs.declared.limits.TheConstants.{LAST_POSITION}
-use Rattle.ss_machine.specs.declared.stepped.Stepped.{Stepped}
-use Rattle.ss_machine.specs.declared.stepped.Stepped.TheVariants.{Moved, AtEnd}
-use Rattle.ss_machine.specs.Moment.{Moment, position}
 use Rattle.ss_machine.specs.State.{is_faulted}
 use Rattle.ss_machine.specs.Run.{Input, run, input_with}
-use Rattle.ss_debug.specs.Move.{step_condition, forward_end, is_ready_at}
+use Rattle.ss_debug.specs.Move.{is_ready_at}
 use Rattle.ss_debug.specs.Answer.{state_line}
-use Rattle.ss_session.specs.declared.whole_run.RunEnd.{RunEnd}
-use Rattle.ss_session.specs.declared.whole_run.RunEnd.TheVariants.{Done, Faulted, Refused}
-use Rattle.ss_session.specs.declared.whole_run.RunCut.{RunCut}
-use Rattle.ss_session.specs.declared.whole_run.RunCut.TheVariants.{Write, Memory}
-use Rattle.ss_session.specs.Model.{Outcome, refused_text, refused_check, accepted, IsOutcome}
+use Rattle.ss_run.specs.declared.whole_run.RunEnd.{RunEnd}
+use Rattle.ss_run.specs.declared.whole_run.RunEnd.TheVariants.{Done, Faulted, Refused}
+use Rattle.ss_run.specs.declared.whole_run.RunCut.{RunCut}
+use Rattle.ss_run.specs.declared.whole_run.RunCut.TheVariants.{Write, Memory}
+use Rattle.ss_session.specs.Model.{refused_text, refused_check, accepted, IsOutcome}
 use Rattle.ss_session.specs.Texts.{OutletState}
 use Rattle.ss_session.specs.Transcript.{refusal_line}
 use Rattle.ss_session.specs.Written.{WritesPart}
 
--- the position at which a run ends: that of the first state that isn't ready, or the last one
-abbrev pub run_end : Input → ℕ
-run_end t = forward_end t step_condition 0 LAST_POSITION
+-- a run ends at position p: that of the first state that isn't ready, or the last one
+pub record IsRunEnd (t : Input) (p : ℕ) : Type 0 where
+  -- it is no further than the last one
+  pub within : p ≤ LAST_POSITION
+  -- all states before are ready
+  pub ready : (k : ℕ) → k < p → is_ready_at t k ≡ true
+  -- it is not ready, or the last one
+  pub ended : (is_ready_at t p ≡ false) ⊎ (p ≡ LAST_POSITION)
 
--- the report of its last state
-abbrev pub run_report : Input → List ℕ
-run_report t = (run t (run_end t)).report
-
--- how the run of a program ended: whether its last state is faulted, and then its state line
-abbrev pub SaysEnd : Input → RunEnd → Type 0
-SaysEnd t Done = is_faulted (run t (run_end t)).status ≡ false
-SaysEnd t (Faulted line) = (is_faulted (run t (run_end t)).status ≡ true) × (line.items ≡ state_line t (run_end t))
-SaysEnd t (Refused line) = ⊥
+-- how the run of a program ended at position p: whether that state is faulted, and then its state line
+abbrev pub SaysEnd : Input → ℕ → RunEnd → Type 0
+SaysEnd t p Done = is_faulted (run t p).status ≡ false
+SaysEnd t p (Faulted line) = (is_faulted (run t p).status ≡ true) × (line.items ≡ state_line t p)
+SaysEnd t p (Refused line) = ⊥
 
 -- the line of a refused model
 abbrev pub IsRefusalLine : List ℕ → List ℕ → Type 0
@@ -45,14 +43,15 @@ IsRefusalLine model line =
     ⊎ ((rule : CheckRule) × (number : ℕ) × IsOutcome model (refused_check rule number)
     × (line ≡ refusal_line (check_rule_code rule) number))
 
--- the run of a program is made, by how it ends: its whole report is written, nothing where memory is refused, a prefix
--- where a write fails
+-- the run of a program is made, by how it ends: the whole report of its last state is written, nothing where memory is
+-- refused, a prefix where a write fails
 unfoldable pub RunEnds : Result RunEnd RunCut → Input → OutletState → OutletState → Type 0
 RunEnds (Ok end) t old new =
-    SaysEnd t end × Appends old.taken new.taken (run_report t) × (new.failures ≡ old.failures)
+    (p : ℕ) × IsRunEnd t p × SaysEnd t p end × Appends old.taken new.taken (run t p).report
+    × (new.failures ≡ old.failures)
 RunEnds (Err Memory) t old new = Appends old.taken new.taken [] × (new.failures ≡ old.failures)
 RunEnds (Err Write) t old new =
-    WritesPart (run_report t) old.taken new.taken × (new.failures ≡ old.failures + 1)
+    (p : ℕ) × IsRunEnd t p × WritesPart (run t p).report old.taken new.taken × (new.failures ≡ old.failures + 1)
 
 -- the model is a program, whose run over the data is made
 abbrev pub IsRun : Result RunEnd RunCut → List ℕ → List ℕ → OutletState → OutletState → Type 0

@@ -9,15 +9,14 @@ use Rattle.ss_machine.specs.declared.stepped.Stepped.TheVariants.{Moved, AtEnd}
 use Rattle.ss_machine.specs.Moment.{Moment, position, HasMoved, Steps}
 use Rattle.ss_machine.specs.State.{is_ready}
 use Rattle.ss_machine.specs.Run.{Input, run}
-use Rattle.ss_debug.specs.Move.{step_condition, is_ready_at, EndsAt}
+use Rattle.ss_debug.specs.Move.{is_ready_at}
 use Rattle.ss_debug.specs.declared.commands.Command.TheVariants.{Show}
 use Rattle.ss_debug.specs.declared.commands.Question.TheVariants.{Where}
 use Rattle.ss_debug.specs.Answer.{state_line}
 use Rattle.ss_debug.specs.Turn.{answer}
 use Rattle.ss_debug.specs.View.{DebuggerView, debugger_state_of}
-use Rattle.ss_debug.proofs.Moves.{forward_ends, one_end}
-use Rattle.ss_session.specs.Report.{run_end}
-use Rattle.ss_session.specs.Advance.{EndsBy, HasAdvanced}
+use Rattle.ss_run.specs.Report.{IsRunEnd}
+use Rattle.ss_run.specs.Advance.{EndsBy, HasAdvanced}
 
 -- no step leads to where it begins
 pub none_advanced : (a : Moment) → position a ≤ LAST_POSITION → HasAdvanced Moved 0 a a
@@ -113,27 +112,6 @@ pub stepped_once : (s : Stepped) (a b c : Moment) → a.state ≡ run a.input (p
 stepped_once Moved a b c known low high s i e = advanced_same Moved 1 a b c i e (moved_once a b known high s)
 stepped_once AtEnd a b c known low high s i e = advanced_same AtEnd 1 a b c i e (ended_once a b known low s)
 
-why_ended : (t : Input) (q : ℕ) → (is_ready_at t q ≡ false) ⊎ (q ≡ LAST_POSITION) →
-    (q ≡ 0 + LAST_POSITION) ⊎ ((q ≡ LAST_POSITION) ⊎ ((is_ready_at t q ≡ false) ⊎ ((false ≡ true)
-    ⊎ ((0 < q) × (false ≡ true)))))
-why_ended t q (inl r) = inr (inr (inl r))
-why_ended t q (inr e) = inr (inl e)
-
--- where a run from its start has ended, it is at its end
-pub run_ended : (n : ℕ) (a b : Moment) → position a ≡ 0 → HasAdvanced AtEnd n a b → position b ≡ run_end a.input
-run_ended n a b e p =
-    let ends : EndsAt a.input step_condition 0 LAST_POSITION (position b) = record {
-      no_earlier = omega arith;
-      within = omega (arith, p.within);
-      not_past_the_last = p.within;
-      not_past_an_end = λ k h g. p.ready k (omega (arith, e)) g;
-      not_past_the_time = λ k h g. refl;
-      not_past_a_met = λ k h g. refl;
-      for_a_reason = why_ended a.input (position b) p.reason;
-    } in
-    one_end a.input step_condition 0 LAST_POSITION (position b) (run_end a.input) ends
-    (forward_ends a.input step_condition 0 LAST_POSITION (omega arith))
-
 -- a run that begins has made no step
 pub begun : (a : Moment) → position a ≡ 0 → position a ≤ LAST_POSITION → HasAdvanced Moved (position a) a a
 begun a e h = rw e (none_advanced a h)
@@ -147,14 +125,17 @@ further k a b c e p q =
 
 -- and at last it is at its end
 pub at_the_end : (k : ℕ) (a b c : Moment) → position a ≡ 0 → HasAdvanced Moved (position b) a b →
-    HasAdvanced AtEnd k b c → position c ≡ run_end a.input
-at_the_end k a b c e p q = run_ended _ a c e (advanced_on AtEnd (position b) k a b c p q)
+    HasAdvanced AtEnd k b c → IsRunEnd a.input (position c)
+at_the_end k a b c e p q =
+    let on = advanced_on AtEnd (position b) k a b c p q in
+    record { within = on.within; ready = λ j g. on.ready j (omega (arith, e)) g; ended = on.reason }
 
 -- what SHOW WHERE appends to nothing
-pub where_said : (h : DebuggerView) (text : List ℕ) (p : ℕ) → position h.machine ≡ p →
-    text ≡ [] ++ answer h.machine.input (debugger_state_of h) (Show Where) → text ≡ state_line h.machine.input p
+pub where_said : (h : DebuggerView) (text : List ℕ) →
+    text ≡ [] ++ answer h.machine.input (debugger_state_of h) (Show Where) →
+    text ≡ state_line h.machine.input (position h.machine)
 unfolding answer
-where_said h text p e s = rw e at s
+where_said h text s = s
 
 pub ruleset one_step = (stepped_once)
 

@@ -1,6 +1,6 @@
 use Rattle.ss_machine.specs.declared.stepped.Stepped.TheVariants.{Moved}
-use Rattle.ss_session.specs.Advance.{HasAdvanced}
-use Rattle.ss_session.proofs.whole_run.advance.Given as goal
+use Rattle.ss_run.specs.Advance.{HasAdvanced}
+use Rattle.ss_run.proofs.whole_run.advance.Given as goal
 
 abbrev pub invariant-loop-k : goal.invariant-loop-k
 invariant-loop-k g l = record { advanced : HasAdvanced Moved l._k l.initial.machine l.machine }

@@ -1,11 +1,11 @@
 use Rattle.std.proofs.Common.{◌≡◌, ap, refl, true}
 use Rattle.ss_machine.specs.State.{is_faulted}
+use Rattle.ss_machine.specs.Moment.{position}
 use Rattle.ss_machine.specs.Run.{run}
 use Rattle.ss_debug.specs.Turn.{debugger_state_after}
 use Rattle.ss_debug.specs.AfterRefusal.{IsStateAfterRefusal}
-use Rattle.ss_session.specs.Report.{run_end}
-use Rattle.ss_session.proofs.Advances.{where_said}
-use Rattle.ss_session.proofs.whole_run.end_of_run.Goals as goal
+use Rattle.ss_run.proofs.Advances.{where_said}
+use Rattle.ss_run.proofs.whole_run.end_of_run.Goals as goal
 
 pub returns-in-Ok-clause-position : goal.returns-in-Ok-clause-position
 unfolding debugger_state_after
@@ -13,11 +13,11 @@ returns-in-Ok-clause-position g c = ap (λ d. d.position) c.in-Ok.ensures.place
 
 pub returns-in-Ok-clause-ok : goal.returns-in-Ok-clause-ok
 returns-in-Ok-clause-ok g c =
-    let k = rw (c.machine.ensures, c.requires) at c.known.ensures.state in
+    let k = rw c.machine.ensures at c.known.ensures.state in
     let s = rw c.machine-2.ensures at c.status.ensures in
-    let t = c.args.debugger.now.machine.input in
-    let faulted : is_faulted (run t (run_end t)).status ≡ true = rw (← k, ← s, c.in-Faulted.is) refl in
-    (faulted, where_said c.args.debugger.now _ _ c.requires (rw c.new-line.ensures.items at c.in-Ok.ensures.said))
+    let m = c.args.debugger.now.machine in
+    let faulted : is_faulted (run m.input (position m)).status ≡ true = rw (← k, ← s, c.in-Faulted.is) refl in
+    (faulted, where_said c.args.debugger.now _ (rw c.new-line.ensures.items at c.in-Ok.ensures.said))
 
 pub returns-in-Err-clause-position : goal.returns-in-Err-clause-position
 unfolding IsStateAfterRefusal
