@@ -1,0 +1,38 @@
+ghost use Rattle.std.specs.Prelude.{◌≡◌, ◌≢◌};
+ghost use Rattle.clap.specs.Words.{kind_of};
+
+use clap::{Arg, Command, Error};
+use std::alloc::Global;
+
+/// What the program is called with.
+#[derive(Drop)]
+pub struct Words<'a> {
+    /// The path of the model.
+    pub model: &'a str,
+    /// The path of its data, where one is named.
+    pub input: Option<&'a str>,
+}
+
+/// The words that the program takes, for `--help` and the line that tells of wrong ones.
+pub fn command<'a>(alloc: Global) -> Result<Command<'a>, Error> {
+    let model = Arg::new(alloc, "MODEL")
+        .required(true)
+        .help("the path of the model");
+    let input = Arg::new(alloc, "DATA").help("the path of its data; without it the data is empty");
+    let command = Command::new(alloc, "ssrun")
+        .version("1")
+        .about("Runs a model to its end and writes its report")
+        .arg(model)?
+        .arg(input)?;
+    Ok(command)
+}
+
+/// The words behind the program's name, or why they name no model: also where help or version is
+/// asked for.
+pub fn read_words<'a>(alloc: Global, arguments: &'a [String]) -> Result<Words<'a>, Error> {
+    let matches = command(alloc)?.try_get_matches_from(arguments)?;
+    Ok(Words {
+        model: matches.get_str("MODEL").unwrap_or(""),
+        input: matches.get_str("DATA"),
+    })
+}
