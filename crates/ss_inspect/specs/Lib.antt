@@ -1,0 +1,6 @@
+pub mod Texts
+pub mod Frames
+pub mod Living
+pub mod Attribute
+pub mod Lists
+pub mod Tables
