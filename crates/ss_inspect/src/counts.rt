@@ -114,6 +114,15 @@ pub fn push_count<S: SetBoard>(
     }
 }
 
+/// The first member of a list, none where it is empty.
+fn first_member<S: SetBoard>(store: &Store<S>, set: usize, owner: i64) -> Option<u32>
+    requires { set < length store.now.tables.sets }
+    ensures { result ≡ slice_get (members_of (set_of store.now.tables set) store.now.state
+        (number_of owner)) 0 }
+{
+    store.walk_first(set, owner).unwrap_or(None)
+}
+
 /// The member of a list behind so many others, none where there are not so many.
 fn member_at<S: SetBoard>(store: &Store<S>, set: usize, owner: i64, start: usize) -> Option<u32>
     requires { set < length store.now.tables.sets }
@@ -121,8 +130,9 @@ fn member_at<S: SetBoard>(store: &Store<S>, set: usize, owner: i64, start: usize
         (number_of owner)) start }
 {
     store.known();
-    let mut member = store.walk_first(set, owner).unwrap_or(None)?;
-    for _ in 0..start {
+    let mut member = first_member(store, set, owner)?;
+    for place in 0..start {
+        let _ = place;
         member = member_behind(store, set, owner, member)?;
     }
     Some(member)

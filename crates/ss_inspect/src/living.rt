@@ -12,35 +12,45 @@ use ss_store::Store;
 use ss_words::limits::MOST_REFERENCES;
 use std::alloc::{AllocError, Global};
 
-/// The greatest number that an entity may have.
-pub const GREATEST_NUMBER: usize = MOST_REFERENCES;
+/// No entity has a greater number: a permanent class has fewer than the references.
+const GREATEST_NUMBER: u32 = MOST_REFERENCES as u32;
 
-/// The entities of a class that live, in a store.
-fn living_in<S: SetBoard>(
+/// A number that no entity of a class is past.
+pub fn number_limit<S: SetBoard>(store: &Store<S>, class: usize) -> u32
+    ensures { greatest_number store.now.state class ≤ result }
+{
+    store.known();
+    let _ = class;
+    GREATEST_NUMBER
+}
+
+/// The entities of a class that live, none of which is past a limit.
+fn living_within<S: SetBoard>(
     alloc: Global,
     store: &Store<S>,
     class: usize,
+    limit: u32,
 ) -> Result<Vec<u32>, AllocError>
+    requires { greatest_number store.now.state class ≤ limit }
     ensures { IfOk result (λ numbers. numbers.items ≡ living store.now.state class) }
 {
-    store.known();
     let mut numbers = Vec::new(alloc);
-    for below in 0..GREATEST_NUMBER {
-        if store.exists(class, below as i64 + 1) {
-            numbers.push(below as u32 + 1)?;
+    for below in 0..limit {
+        if store.exists(class, i64::from(below) + 1) {
+            numbers.push(below + 1)?;
         }
     }
     Ok(numbers)
 }
 
-/// How many entities of a class live, in a store.
-fn count_living_in<S: SetBoard>(store: &Store<S>, class: usize) -> usize
+/// How many entities of a class live, none of which is past a limit.
+fn count_living_within<S: SetBoard>(store: &Store<S>, class: usize, limit: u32) -> u32
+    requires { greatest_number store.now.state class ≤ limit }
     ensures { result ≡ length (living store.now.state class) }
 {
-    store.known();
-    let mut count = 0;
-    for below in 0..GREATEST_NUMBER {
-        if store.exists(class, below as i64 + 1) {
+    let mut count = 0u32;
+    for below in 0..limit {
+        if store.exists(class, i64::from(below) + 1) {
             count += 1;
         }
     }
@@ -58,15 +68,17 @@ pub fn living<S: SetBoard>(
 ) -> Result<Vec<u32>, AllocError>
     ensures { IfOk result (λ numbers. numbers.items ≡ living machine.now.state.store class) }
 {
-    living_in(alloc, machine.store(), class)
+    let store = machine.store();
+    living_within(alloc, store, class, number_limit(store, class))
 }
 
 /// How many entities of the class with this number live. It takes no memory, and as long as
 /// [`living`].
-pub fn count_living<S: SetBoard>(machine: &Machine<S>, class: usize) -> usize
+pub fn count_living<S: SetBoard>(machine: &Machine<S>, class: usize) -> u32
     ensures { result ≡ length (living machine.now.state.store class) }
 {
-    count_living_in(machine.store(), class)
+    let store = machine.store();
+    count_living_within(store, class, number_limit(store, class))
 }
 
 /// Appends the answer to SHOW c: the numbers of the entities of the class of this name that live,

@@ -1,5 +1,5 @@
 //! The answer to SHOW IN: where an entity is.
-ghost use Rattle.std.specs.Prelude.{◌≡◌, ◌++◌, ◌+◌, ◌<◌, length, OnOk, true, [], pos};
+ghost use Rattle.std.specs.Prelude.{◌≡◌, ◌++◌, ◌<◌, ◌≤◌, length, OnOk, true, []};
 ghost use Rattle.ss_links.specs.Seats.{has};
 ghost use Rattle.ss_program.specs.Program.{set_of};
 ghost use Rattle.ss_program.specs.declared.kinds.Owner.TheVariants.{OwnedBy};
@@ -12,9 +12,8 @@ ghost use Rattle.ss_inspect.specs.Lists.{list_with, owned_list_with, lists_with,
 ghost use Rattle.ss_inspect.specs.Lists.{entity_places_text, places_text};
 ghost use Rattle.ss_inspect.specs.Living.{greatest_number};
 ghost use Rattle.ss_inspect.specs.Texts.{texts_below};
-ghost use Rattle.ss_inspect.specs.declared.living.TheConstants.{GREATEST_NUMBER};
 
-use crate::living::GREATEST_NUMBER;
+use crate::living::number_limit;
 use crate::texts::{push_no_entity, push_no_such};
 use ss_debug::{
     find_class, member_class, push_listed, push_notice, push_number, set_name, set_owner,
@@ -43,23 +42,22 @@ fn push_owned_list_with<S: SetBoard>(
     machine: &Machine<S>,
     set: usize,
     x: i64,
-    below: usize,
+    below: u32,
 ) -> Result<(), AllocError>
     requires set { set < length machine.now.input.program.sets }
     requires there { exists machine.now.state.store (set_of machine.now.input.program set).member
         (number_of x) ≡ true }
-    requires few { below < GREATEST_NUMBER }
     ensures { OnOk result (text.new.items ≡ text.old.items
         ++ owned_list_with machine.now.input.program machine.now.state.store set
         (number_of x) below) }
 {
-    let owner = below as i64 + 1;
+    let owner = i64::from(below) + 1;
     if !holds(machine.store(), set, owner, x) {
         return Ok(());
     }
     text.extend_from_slice(set_name(machine.program(), set))?;
     text.extend_from_slice(b" ")?;
-    push_number(text, below as u64 + 1)?;
+    push_number(text, u64::from(below) + 1)?;
     push_listed(text, machine, set, owner)
 }
 
@@ -83,23 +81,27 @@ fn push_system_list_with<S: SetBoard>(
     push_listed(text, machine, set, 0)
 }
 
-/// Appends the lists of a set, of all entities of the class that owns it, in which the entity is.
+/// Appends the lists of a set, of all entities of the class that owns it, in which the entity is;
+/// none of them is past a limit.
 fn push_owned_lists_with<S: SetBoard>(
     text: &mut Vec<u8>,
     machine: &Machine<S>,
     set: usize,
     x: i64,
     class: usize,
+    limit: u32,
 ) -> Result<(), AllocError>
     requires set { set < length machine.now.input.program.sets }
     requires there { exists machine.now.state.store (set_of machine.now.input.program set).member
         (number_of x) ≡ true }
     requires owner { (set_of machine.now.input.program set).owner ≡ OwnedBy class }
+    requires limit { greatest_number machine.now.state.store class ≤ limit }
     ensures { OnOk result (text.new.items ≡ text.old.items
         ++ texts_below (owned_list_with machine.now.input.program machine.now.state.store set
         (number_of x)) (greatest_number machine.now.state.store class)) }
 {
-    for below in 0..GREATEST_NUMBER {
+    let _ = class;
+    for below in 0..limit {
         push_owned_list_with(text, machine, set, x, below)?;
     }
     Ok(())
@@ -125,7 +127,10 @@ fn push_class_lists_with<S: SetBoard>(
     }
     match set_owner(program, set) {
         Owner::System => push_system_list_with(text, machine, set, x),
-        Owner::OwnedBy(owner) => push_owned_lists_with(text, machine, set, x, owner),
+        Owner::OwnedBy(owner) => {
+            let limit = number_limit(machine.store(), owner);
+            push_owned_lists_with(text, machine, set, x, owner, limit)
+        }
     }
 }
 

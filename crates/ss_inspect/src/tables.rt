@@ -41,7 +41,7 @@ fn push_class<S: SetBoard>(
     text.extend_from_slice(b" ")?;
     text.extend_from_slice(kind_word(program, class))?;
     text.extend_from_slice(b": ")?;
-    push_number(text, count_living(machine, class) as u64)?;
+    push_number(text, u64::from(count_living(machine, class)))?;
     text.extend_from_slice(b"\n")
 }
 

@@ -22,4 +22,4 @@ from_end (x ∷ xs) k h w =
 -- what stands below the last frame
 pub below_last : {A : Type 0} (x : A) (xs : List A) (k : ℕ) → 0 < k → slice_get (x ∷ xs) k ≡ slice_get xs (k - 1)
 below_last x xs zero h = absurd (omega arith)
-below_last x xs (suc k) h = refl
+below_last x xs (suc k) h = let same : suc k - 1 ≡ k = omega arith in rw same refl
