@@ -4,3 +4,4 @@ pub mod Living
 pub mod Attribute
 pub mod Lists
 pub mod Tables
+pub mod Examples

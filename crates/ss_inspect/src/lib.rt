@@ -9,6 +9,7 @@
 
 mod attribute;
 mod counts;
+mod examples;
 mod frames;
 mod living;
 mod places;

@@ -1,8 +1,8 @@
 //! The entities of a class that live, and the answer to SHOW c.
-ghost use Rattle.std.specs.Prelude.{◌≡◌, ◌++◌, ◌<◌, ◌≤◌, length, OnOk, IfOk};
+ghost use Rattle.std.specs.Prelude.{◌≡◌, ◌++◌, ◌-◌, ◌<◌, ◌≤◌, ◌^◌, length, OnOk, IfOk};
 ghost use Rattle.ss_store.specs.Tables.{class_of};
 ghost use Rattle.ss_machine.specs.Moment.{position};
-ghost use Rattle.ss_inspect.specs.Living.{greatest_number, living, living_text};
+ghost use Rattle.ss_inspect.specs.Living.{greatest_number, living_at, living, living_text};
 
 use crate::texts::{push_members, push_no_such};
 use ss_debug::find_class;
@@ -24,6 +24,23 @@ pub fn number_limit<S: SetBoard>(store: &Store<S>, class: usize) -> u32
     GREATEST_NUMBER
 }
 
+/// Appends the number one more than `below`, where an entity of the class with it lives.
+fn push_if_living<S: SetBoard>(
+    numbers: &mut Vec<u32>,
+    store: &Store<S>,
+    class: usize,
+    below: u32,
+) -> Result<(), AllocError>
+    requires { below < 2 ^ 32 - 1 }
+    ensures { OnOk result (numbers.new.items
+        ≡ numbers.old.items ++ living_at store.now.state class below) }
+{
+    if !store.exists(class, i64::from(below) + 1) {
+        return Ok(());
+    }
+    numbers.push(below + 1)
+}
+
 /// The entities of a class that live, none of which is past a limit.
 fn living_within<S: SetBoard>(
     alloc: Global,
@@ -36,11 +53,21 @@ fn living_within<S: SetBoard>(
 {
     let mut numbers = Vec::new(alloc);
     for below in 0..limit {
-        if store.exists(class, i64::from(below) + 1) {
-            numbers.push(below + 1)?;
-        }
+        push_if_living(&mut numbers, store, class, below)?;
     }
     Ok(numbers)
+}
+
+/// 1 where an entity of the class lives whose number is one more than `below`, else 0.
+fn one_if_living<S: SetBoard>(store: &Store<S>, class: usize, below: u32) -> u32
+    ensures count { result ≡ length (living_at store.now.state class below) }
+    ensures one { result ≤ 1 }
+{
+    if store.exists(class, i64::from(below) + 1) {
+        1
+    } else {
+        0
+    }
 }
 
 /// How many entities of a class live, none of which is past a limit.
@@ -50,9 +77,7 @@ fn count_living_within<S: SetBoard>(store: &Store<S>, class: usize, limit: u32) 
 {
     let mut count = 0u32;
     for below in 0..limit {
-        if store.exists(class, i64::from(below) + 1) {
-            count += 1;
-        }
+        count += one_if_living(store, class, below);
     }
     count
 }
