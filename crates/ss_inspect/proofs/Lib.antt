@@ -1,0 +1,4 @@
+pub mod Unfoldings
+pub mod Ordered
+pub mod Numbers
+pub mod Members
