@@ -1,0 +1,4 @@
+pub mod Streams
+pub mod Pieces
+pub mod Heads
+pub mod Points

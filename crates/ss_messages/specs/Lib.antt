@@ -1,0 +1,4 @@
+pub mod Requests
+pub mod Escapes
+pub mod Frames
+pub mod Messages
