@@ -2,3 +2,4 @@ pub mod Streams
 pub mod Pieces
 pub mod Heads
 pub mod Points
+pub mod Posts

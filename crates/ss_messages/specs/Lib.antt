@@ -1,4 +1,5 @@
-pub mod Requests
 pub mod Escapes
 pub mod Frames
 pub mod Messages
+pub mod Requests
+pub mod Bodies
