@@ -2,3 +2,4 @@ pub mod Unfoldings
 pub mod Ordered
 pub mod Numbers
 pub mod Members
+pub mod Existing

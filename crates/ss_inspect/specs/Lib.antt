@@ -4,4 +4,5 @@ pub mod Living
 pub mod Attribute
 pub mod Lists
 pub mod Tables
+pub mod Laws
 pub mod Examples

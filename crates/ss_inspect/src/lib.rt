@@ -9,9 +9,10 @@
 
 mod attribute;
 mod counts;
+mod entities;
 mod examples;
 mod frames;
-mod living;
+mod laws;
 mod places;
 mod rows;
 mod tables;
@@ -19,7 +20,8 @@ mod texts;
 
 pub use attribute::{push_attribute, push_by_variable, variable_value};
 pub use counts::{members_page, push_count};
+pub use entities::{count_living, living, push_living};
 pub use frames::{push_calls, push_globals, push_locals};
-pub use living::{count_living, living, push_living};
+pub use laws::the_living_are_those_that_exist;
 pub use places::push_places;
 pub use tables::{push_classes, push_sections, push_sets};

@@ -13,7 +13,7 @@ ghost use Rattle.ss_inspect.specs.Lists.{entity_places_text, places_text};
 ghost use Rattle.ss_inspect.specs.Living.{greatest_number};
 ghost use Rattle.ss_inspect.specs.Texts.{texts_below};
 
-use crate::living::number_limit;
+use crate::entities::number_limit;
 use crate::texts::{push_no_entity, push_no_such};
 use ss_debug::{
     find_class, member_class, push_listed, push_notice, push_number, set_name, set_owner,

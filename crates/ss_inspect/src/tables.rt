@@ -6,7 +6,7 @@ ghost use Rattle.ss_inspect.specs.Tables.{kind_word, class_line, classes_text, d
 ghost use Rattle.ss_inspect.specs.Tables.{set_line, sets_text, section_word, section_line, sections_text};
 ghost use Rattle.ss_inspect.specs.Texts.{texts_below, lines_or};
 
-use crate::living::count_living;
+use crate::entities::count_living;
 use ss_debug::{class_name, member_class, push_number, set_name, set_owner};
 use ss_links::SetBoard;
 use ss_machine::Machine;

@@ -38,7 +38,8 @@ fn push_if_living<S: SetBoard>(
     if !store.exists(class, i64::from(below) + 1) {
         return Ok(());
     }
-    numbers.push(below + 1)
+    numbers.push(below + 1)?;
+    Ok(())
 }
 
 /// The entities of a class that live, none of which is past a limit.

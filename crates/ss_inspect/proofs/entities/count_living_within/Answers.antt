@@ -3,7 +3,7 @@ use Rattle.std.proofs.lemmas.List.{length-append}
 use Rattle.ss_debug.specs.Entities.{lines_below}
 use Rattle.ss_inspect.specs.Living.{living_at}
 use Rattle.ss_inspect.proofs.Numbers.{all_living}
-use Rattle.ss_inspect.proofs.living.count_living_within.Goals as goal
+use Rattle.ss_inspect.proofs.entities.count_living_within.Goals as goal
 
 one_more : (text : ℕ → List ℕ) (n m old one : ℕ) → m ≡ n + 1 → old ≡ length (lines_below text n) →
     one ≡ length (text n) → old + one ≡ length (lines_below text m)

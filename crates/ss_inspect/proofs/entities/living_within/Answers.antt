@@ -2,7 +2,7 @@ use Rattle.std.proofs.Common.{◌≡◌, [], refl, arith, ◌∙◌}
 use Rattle.ss_inspect.specs.Living.{living_at}
 use Rattle.ss_inspect.proofs.Ordered.{text_more}
 use Rattle.ss_inspect.proofs.Numbers.{all_living}
-use Rattle.ss_inspect.proofs.living.living_within.Goals as goal
+use Rattle.ss_inspect.proofs.entities.living_within.Goals as goal
 
 pub loop-below-preserved : goal.loop-below-preserved
 loop-below-preserved g c =
