@@ -34,29 +34,30 @@ or_false : (b : Bool) → (b || false) ≡ b
 or_false true = refl
 or_false false = refl
 
+step : (st : Store) (c n k : ℕ) → (k ≤ n → has (lines_below (living_at st c) n) k ≡ exists st c k) → k ≤ suc n →
+    (b : Bool) → nat_lt k (suc n) ≡ b → has (lines_below (living_at st c) (suc n)) k ≡ exists st c k
+step st c n k below h true e =
+    let less : k < suc n = ltb-true k (suc n) e in
+    let not_this : (suc n == k) ≡ false = grind (arith, nat_tests, less) in
+    rw (
+      has-append (lines_below (living_at st c) n) (living_at st c n) k,
+      other (suc n) k (exists st c (suc n)) not_this,
+      or_false (has (lines_below (living_at st c) n) k),
+    )
+    (below (omega (arith, less)))
+step st c n k below h false e =
+    let this : k ≡ suc n = grind (arith, nat_tests, h, e) in
+    rw (
+      this,
+      has-append (lines_below (living_at st c) n) (living_at st c n) (suc n),
+      past st c n (suc n) (omega arith),
+      own (suc n) (exists st c (suc n)),
+    ) refl
+
 within : (st : Store) (c n k : ℕ) → k ≤ n → has (lines_below (living_at st c) n) k ≡ exists st c k
 within st c zero zero h = refl
 within st c zero (suc k) h = absurd (omega arith)
-within st c (suc n) k h = split (nat_lt k (suc n)) refl
-  where
-    split : (b : Bool) → nat_lt k (suc n) ≡ b → has (lines_below (living_at st c) (suc n)) k ≡ exists st c k
-    split true e =
-        let below : k < suc n = ltb-true k (suc n) e in
-        let not_this : (suc n == k) ≡ false = grind (arith, nat_tests, below) in
-        rw (
-          has-append (lines_below (living_at st c) n) (living_at st c n) k,
-          other (suc n) k (exists st c (suc n)) not_this,
-          or_false (has (lines_below (living_at st c) n) k),
-        )
-        (within st c n k (omega (arith, below)))
-    split false e =
-        let this : k ≡ suc n = grind (arith, nat_tests, h, e) in
-        rw (
-          this,
-          has-append (lines_below (living_at st c) n) (living_at st c n) (suc n),
-          past st c n (suc n) (omega arith),
-          own (suc n) (exists st c (suc n)),
-        ) refl
+within st c (suc n) k h = step st c n k (λ w. within st c n k w) h (nat_lt k (suc n)) refl
 
 not_past : (st : Store) (c k : ℕ) → greatest_number st c < k → exists st c k ≡ false
 not_past st c zero h = refl

@@ -3,3 +3,5 @@ pub mod Ordered
 pub mod Numbers
 pub mod Members
 pub mod Existing
+pub mod Shapes
+pub mod Telling

@@ -1,5 +1,6 @@
 -- One entity, or one attribute of it, whose number is given or is the value of a variable.
-use Rattle.std.specs.Prelude.{ℕ, ℤ, Bool, List, [], ◌∷◌, ◌++◌, codes, Option, Some, None, find, if◌then◌else◌, nat_eq}
+use Rattle.std.specs.Prelude.{ℕ, ℤ, Bool, ◌&&◌, List, [], ◌∷◌, ◌++◌, length, drop, codes, Option, Some, None, find}
+use Rattle.std.specs.Prelude.{if◌then◌else◌, nat_eq}
 use Rattle.std.specs.List.{slice_split, starts_with}
 use Rattle.ss_program.specs.Program.{ProgramTable}
 use Rattle.ss_program.specs.declared.variable.Variable.{Variable}
@@ -7,22 +8,19 @@ use Rattle.ss_store.specs.Store.{Store, number_of, exists}
 use Rattle.ss_machine.specs.Readings.{variable_in}
 use Rattle.ss_machine.specs.Run.{Input, run}
 use Rattle.ss_debug.specs.Answer.{variable_named}
+use Rattle.ss_debug.specs.CommandLines.{separates, line_separators}
 use Rattle.ss_debug.specs.Entities.{class_named, class_text, no_entity_text, entity_lines}
 use Rattle.ss_inspect.specs.Texts.{no_such_text}
 
 -- ---- one attribute
 
--- whether a byte ends a line
-abbrev pub is_line_end : ℕ → Bool
-is_line_end b = nat_eq b 10
-
 -- whether a line tells the attribute of this name
 abbrev pub tells : List ℕ → List ℕ → Bool
-tells name line = starts_with nat_eq line (name ++ codes " = ")
+tells name line = starts_with nat_eq line name && starts_with nat_eq (drop (length name) line) (codes " = ")
 
 -- the line of some lines that tells an attribute, if there is one
 abbrev pub line_telling : List ℕ → List ℕ → Option (List ℕ)
-line_telling name lines = find (tells name) (slice_split is_line_end lines)
+line_telling name lines = find (tells name) (slice_split (separates line_separators) lines)
 
 -- that line, or that there is no such attribute
 abbrev pub line_or_none : List ℕ → Option (List ℕ) → List ℕ

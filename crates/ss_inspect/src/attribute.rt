@@ -1,5 +1,5 @@
 //! The answers to SHOW c k a, SHOW c v and SHOW c v a.
-ghost use Rattle.std.specs.Prelude.{◌≡◌, ◌++◌, ◌<◌, length, OnOk, find};
+ghost use Rattle.std.specs.Prelude.{◌≡◌, ◌++◌, ◌<◌, length, OnOk};
 ghost use Rattle.std.specs.Option.{option_map};
 ghost use Rattle.ss_store.specs.Store.{number_of};
 ghost use Rattle.ss_machine.specs.Moment.{position};
@@ -7,11 +7,11 @@ ghost use Rattle.ss_machine.specs.Readings.{variable_in};
 ghost use Rattle.ss_machine.specs.Run.{run};
 ghost use Rattle.ss_debug.specs.Answer.{variable_named};
 ghost use Rattle.ss_debug.specs.Entities.{entity_lines};
-ghost use Rattle.ss_inspect.specs.Attribute.{is_line_end, tells, line_telling, line_or_none, told_text};
+ghost use Rattle.ss_inspect.specs.Attribute.{tells, line_telling, line_or_none, told_text};
 ghost use Rattle.ss_inspect.specs.Attribute.{attribute_text, by_variable_text};
 
 use crate::texts::{push_no_entity, push_no_such};
-use ss_debug::{find_class, find_variable, push_entity, push_integer};
+use ss_debug::{find_class, find_variable, push_entity, push_integer, split_line};
 use ss_links::SetBoard;
 use ss_machine::Machine;
 use std::alloc::{AllocError, Global};
@@ -24,10 +24,19 @@ fn tells(name: &[u8], line: &[u8]) -> bool
 }
 
 /// The line of some lines that tells an attribute.
+#[tactic(auto, using(crate::proofs::Telling::told_first, crate::proofs::Telling::none_told))]
 fn line_telling<'a>(name: &[u8], lines: &'a [u8]) -> Option<&'a [u8]>
     ensures { option_map (λ line. line.now) result ≡ line_telling name.now lines.now }
 {
-    lines.split(|b| *b == b'\n').find(|line| tells(name, line))
+    let mut rest = lines;
+    while !rest.is_empty() {
+        let (line, more) = split_line(rest);
+        if tells(name, line) {
+            return Some(line);
+        }
+        rest = more;
+    }
+    None
 }
 
 /// Appends the line of some lines that tells an attribute, or that there is none.
@@ -71,7 +80,7 @@ fn push_told<S: SetBoard>(
     attribute: Option<&[u8]>,
 ) -> Result<(), AllocError>
     ensures { OnOk result (text.new.items ≡ text.old.items
-        ++ told_text class_name.now x (option_map (λ name. name.now) attribute)
+        ++ told_text class_name.now x (option_map (λ name. name.now) attribute.entry)
         machine.now.input.program machine.now.state.store) }
 {
     let Some(class) = find_class(machine.program(), class_name) else {
@@ -131,7 +140,7 @@ pub fn push_by_variable<S: SetBoard>(
     attribute: Option<&[u8]>,
 ) -> Result<(), AllocError>
     ensures { OnOk result (text.new.items ≡ text.old.items
-        ++ by_variable_text class.now variable.now (option_map (λ name. name.now) attribute)
+        ++ by_variable_text class.now variable.now (option_map (λ name. name.now) attribute.entry)
         machine.now.input (position machine.now)) }
 {
     machine.known();

@@ -26,6 +26,7 @@ fn list_length<S: SetBoard>(store: &Store<S>, set: usize, owner: i64) -> u32
 }
 
 /// Appends how many members the list of a set has, and ends the line.
+#[tactic(auto, using(ss_debug::proofs::Tables::sets_kept))]
 fn push_counted<S: SetBoard>(
     text: &mut Vec<u8>,
     machine: &Machine<S>,
@@ -154,12 +155,15 @@ fn page_in<S: SetBoard>(
     store.known();
     let mut page = Vec::new(alloc);
     let mut next = member_at(store, set, owner, start);
-    while let Some(member) = next {
-        if page.len() == count {
-            return Ok(page);
+    for taken in 0..count {
+        let _ = taken;
+        match next {
+            None => return Ok(page),
+            Some(member) => {
+                page.push(member)?;
+                next = member_behind(store, set, owner, member);
+            }
         }
-        page.push(member)?;
-        next = member_behind(store, set, owner, member);
     }
     Ok(page)
 }
@@ -169,6 +173,7 @@ fn page_in<S: SetBoard>(
 /// is any number. It walks through the list once, up to the last of them.
 ///
 /// `AllocError` where the room for them was refused.
+#[tactic(auto, using(ss_debug::proofs::Tables::sets_kept))]
 pub fn members_page<S: SetBoard>(
     alloc: Global,
     machine: &Machine<S>,

@@ -131,20 +131,32 @@ fn push_local_line<S: SetBoard>(
     text.extend_from_slice(b"\n")
 }
 
+/// Appends a line for each local of the last frame, whose section this is.
+fn push_section_locals<S: SetBoard>(
+    text: &mut Vec<u8>,
+    machine: &Machine<S>,
+    section: usize,
+) -> Result<(), AllocError>
+    ensures { OnOk result (text.new.items ≡ text.old.items
+        ++ texts_below (local_line machine.now.input.program machine.now.state section)
+        (length (locals_in machine.now.input.program section))) }
+{
+    for number in 0..locals_in(machine.program(), section).len() {
+        push_local_line(text, machine, section, number)?;
+    }
+    Ok(())
+}
+
 /// Appends the lines of the locals of the last frame, or that there is none.
 fn push_local_lines<S: SetBoard>(text: &mut Vec<u8>, machine: &Machine<S>) -> Result<(), AllocError>
     ensures { OnOk result (text.new.items ≡ text.old.items
         ++ local_lines machine.now.input.program machine.now.state) }
 {
     let (section, _) = machine.place();
-    let count = locals_in(machine.program(), section).len();
-    if count == 0 {
+    if locals_in(machine.program(), section).len() == 0 {
         return text.extend_from_slice(b"NO LOCALS\n");
     }
-    for number in 0..count {
-        push_local_line(text, machine, section, number)?;
-    }
-    Ok(())
+    push_section_locals(text, machine, section)
 }
 
 /// Appends the answer to SHOW LOCALS: the locals of the last frame with their values, in the order
@@ -182,6 +194,18 @@ fn push_global<S: SetBoard>(
     text.extend_from_slice(b"\n")
 }
 
+/// Appends a line for each global variable.
+fn push_all_globals<S: SetBoard>(text: &mut Vec<u8>, machine: &Machine<S>) -> Result<(), AllocError>
+    ensures { OnOk result (text.new.items ≡ text.old.items
+        ++ texts_below (global_line machine.now.input.program machine.now.state)
+        (length machine.now.input.program.globals)) }
+{
+    for number in 0..machine.program().globals.len() {
+        push_global(text, machine, number)?;
+    }
+    Ok(())
+}
+
 /// Appends the lines of the global variables, or that there is none.
 fn push_global_lines<S: SetBoard>(
     text: &mut Vec<u8>,
@@ -190,14 +214,10 @@ fn push_global_lines<S: SetBoard>(
     ensures { OnOk result (text.new.items ≡ text.old.items
         ++ global_lines machine.now.input.program machine.now.state) }
 {
-    let count = machine.program().globals.len();
-    if count == 0 {
+    if machine.program().globals.len() == 0 {
         return text.extend_from_slice(b"NO GLOBALS\n");
     }
-    for number in 0..count {
-        push_global(text, machine, number)?;
-    }
-    Ok(())
+    push_all_globals(text, machine)
 }
 
 /// Appends the answer to SHOW GLOBALS: the global variables with their values, in the order of

@@ -1,5 +1,5 @@
 //! The answer to SHOW IN: where an entity is.
-ghost use Rattle.std.specs.Prelude.{◌≡◌, ◌++◌, ◌<◌, ◌≤◌, length, OnOk, true, []};
+ghost use Rattle.std.specs.Prelude.{◌≡◌, ◌++◌, ◌<◌, ◌≤◌, length, OnOk, true, [], codes, decimal};
 ghost use Rattle.ss_links.specs.Seats.{has};
 ghost use Rattle.ss_program.specs.Program.{set_of};
 ghost use Rattle.ss_program.specs.declared.kinds.Owner.TheVariants.{OwnedBy};
@@ -35,30 +35,40 @@ fn holds<S: SetBoard>(store: &Store<S>, set: usize, owner: i64, x: i64) -> bool
     store.is_in(set, owner, x).unwrap_or(false)
 }
 
-/// Appends the list of a set for the owner whose number is one more than `below`, where the entity
-/// is in it.
+/// Whether an entity that exists is in the list of a set of the program.
+#[tactic(auto, using(crate::proofs::Shapes::shape_is, ss_debug::proofs::Tables::sets_kept))]
+fn is_listed<S: SetBoard>(machine: &Machine<S>, set: usize, owner: i64, x: i64) -> bool
+    requires set { set < length machine.now.input.program.sets }
+    requires there { exists machine.now.state.store (set_of machine.now.input.program set).member
+        (number_of x) ≡ true }
+    ensures { result ≡ has (members_of (shape_of machine.now.input.program set)
+        machine.now.state.store (number_of owner)) (number_of x) }
+{
+    holds(machine.store(), set, owner, x)
+}
+
+/// Appends the list of a set for an owner, where the entity is in it.
 fn push_owned_list_with<S: SetBoard>(
     text: &mut Vec<u8>,
     machine: &Machine<S>,
     set: usize,
     x: i64,
-    below: u32,
+    owner: u32,
 ) -> Result<(), AllocError>
     requires set { set < length machine.now.input.program.sets }
     requires there { exists machine.now.state.store (set_of machine.now.input.program set).member
         (number_of x) ≡ true }
     ensures { OnOk result (text.new.items ≡ text.old.items
-        ++ owned_list_with machine.now.input.program machine.now.state.store set
-        (number_of x) below) }
+        ++ list_with machine.now.input.program machine.now.state.store set (number_of x)
+        (codes " " ++ decimal owner) owner) }
 {
-    let owner = i64::from(below) + 1;
-    if !holds(machine.store(), set, owner, x) {
+    if !is_listed(machine, set, i64::from(owner), x) {
         return Ok(());
     }
     text.extend_from_slice(set_name(machine.program(), set))?;
     text.extend_from_slice(b" ")?;
-    push_number(text, u64::from(below) + 1)?;
-    push_listed(text, machine, set, owner)
+    push_number(text, u64::from(owner))?;
+    push_listed(text, machine, set, i64::from(owner))
 }
 
 /// Appends the list of a set of the system, where the entity is in it.
@@ -74,7 +84,7 @@ fn push_system_list_with<S: SetBoard>(
     ensures { OnOk result (text.new.items ≡ text.old.items
         ++ list_with machine.now.input.program machine.now.state.store set (number_of x) [] 0) }
 {
-    if !holds(machine.store(), set, 0, x) {
+    if !is_listed(machine, set, 0, x) {
         return Ok(());
     }
     text.extend_from_slice(set_name(machine.program(), set))?;
@@ -102,7 +112,7 @@ fn push_owned_lists_with<S: SetBoard>(
 {
     let _ = class;
     for below in 0..limit {
-        push_owned_list_with(text, machine, set, x, below)?;
+        push_owned_list_with(text, machine, set, x, below + 1)?;
     }
     Ok(())
 }

@@ -12,7 +12,8 @@ pub fn name_at(names: &[Name], number: usize) -> &[u8]
     requires { number < length names.now }
     ensures { result.now ≡ name_at names.now number }
 {
-    &names[number].bytes
+    let name = &names[number];
+    &name.bytes
 }
 
 /// The name of the section with this number, an empty one where there is none.

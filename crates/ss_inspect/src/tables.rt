@@ -4,7 +4,7 @@ ghost use Rattle.ss_program.specs.Program.{class_of, set_of, section_of};
 ghost use Rattle.ss_machine.specs.Moment.{position};
 ghost use Rattle.ss_inspect.specs.Tables.{kind_word, class_line, classes_text, discipline_word, owner_name};
 ghost use Rattle.ss_inspect.specs.Tables.{set_line, sets_text, section_word, section_line, sections_text};
-ghost use Rattle.ss_inspect.specs.Texts.{texts_below, lines_or};
+ghost use Rattle.ss_inspect.specs.Texts.{texts_below};
 
 use crate::entities::count_living;
 use ss_debug::{class_name, member_class, push_number, set_name, set_owner};
@@ -45,6 +45,18 @@ fn push_class<S: SetBoard>(
     text.extend_from_slice(b"\n")
 }
 
+/// Appends a line for each class.
+fn push_all_classes<S: SetBoard>(text: &mut Vec<u8>, machine: &Machine<S>) -> Result<(), AllocError>
+    ensures { OnOk result (text.new.items ≡ text.old.items
+        ++ texts_below (class_line machine.now.input.program machine.now.state.store)
+        (length machine.now.input.program.classes)) }
+{
+    for class in 0..machine.program().classes.len() {
+        push_class(text, machine, class)?;
+    }
+    Ok(())
+}
+
 /// Appends the answer to SHOW CLASSES: a line for each class in order of declaration, with its kind
 /// and how many of its entities live, or `NO CLASSES`.
 #[tactic(auto, unfolding(crate::specs::Tables::classes_text))]
@@ -53,14 +65,10 @@ pub fn push_classes<S: SetBoard>(text: &mut Vec<u8>, machine: &Machine<S>) -> Re
         ≡ text.old.items ++ classes_text machine.now.input (position machine.now)) }
 {
     machine.known();
-    let count = machine.program().classes.len();
-    if count == 0 {
+    if machine.program().classes.len() == 0 {
         return text.extend_from_slice(b"NO CLASSES\n");
     }
-    for class in 0..count {
-        push_class(text, machine, class)?;
-    }
-    Ok(())
+    push_all_classes(text, machine)
 }
 
 /// The word of the discipline of the set with this number.
@@ -104,6 +112,17 @@ fn push_set(text: &mut Vec<u8>, program: &Program, set: usize) -> Result<(), All
     text.extend_from_slice(b"\n")
 }
 
+/// Appends a line for each set.
+fn push_all_sets(text: &mut Vec<u8>, program: &Program) -> Result<(), AllocError>
+    ensures { OnOk result (text.new.items ≡ text.old.items
+        ++ texts_below (set_line program.now) (length program.now.sets)) }
+{
+    for set in 0..program.sets.len() {
+        push_set(text, program, set)?;
+    }
+    Ok(())
+}
+
 /// Appends the answer to SHOW SETS: a line for each set in order of declaration, with its
 /// discipline, its owner's class or SYSTEM, and the class of its members, or `NO SETS`.
 #[tactic(auto, unfolding(crate::specs::Tables::sets_text))]
@@ -111,14 +130,10 @@ pub fn push_sets<S: SetBoard>(text: &mut Vec<u8>, machine: &Machine<S>) -> Resul
     ensures { OnOk result (text.new.items ≡ text.old.items ++ sets_text machine.now.input) }
 {
     let program = machine.program();
-    let count = program.sets.len();
-    if count == 0 {
+    if program.sets.len() == 0 {
         return text.extend_from_slice(b"NO SETS\n");
     }
-    for set in 0..count {
-        push_set(text, program, set)?;
-    }
-    Ok(())
+    push_all_sets(text, program)
 }
 
 /// The word of a section's kind, behind a blank.
@@ -146,6 +161,17 @@ fn push_section(text: &mut Vec<u8>, program: &Program, number: usize) -> Result<
     text.extend_from_slice(b"\n")
 }
 
+/// Appends a line for each section.
+fn push_all_sections(text: &mut Vec<u8>, program: &Program) -> Result<(), AllocError>
+    ensures { OnOk result (text.new.items ≡ text.old.items
+        ++ texts_below (section_line program.now) (length program.now.sections)) }
+{
+    for number in 0..program.sections.len() {
+        push_section(text, program, number)?;
+    }
+    Ok(())
+}
+
 /// Appends the answer to SHOW SECTIONS: a line for each section in the text's order, with its kind
 /// and the line of its head; MAIN's has no kind.
 #[tactic(auto, unfolding(crate::specs::Tables::sections_text))]
@@ -155,9 +181,5 @@ pub fn push_sections<S: SetBoard>(
 ) -> Result<(), AllocError>
     ensures { OnOk result (text.new.items ≡ text.old.items ++ sections_text machine.now.input) }
 {
-    let program = machine.program();
-    for number in 0..program.sections.len() {
-        push_section(text, program, number)?;
-    }
-    Ok(())
+    push_all_sections(text, machine.program())
 }

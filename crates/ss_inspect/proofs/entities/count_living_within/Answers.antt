@@ -17,8 +17,8 @@ pub loop-below-preserved : goal.loop-below-preserved
 loop-below-preserved g c = record {
   count =
       one_more (living_at c.args.store.now.state c.args.class) c.loop-below.below _ c.loop-below.count _ refl
-      c.loop-below.invariant.count c.one_if_living.ensures.count;
-  few = omega (arith, c.loop-below.invariant.few, c.one_if_living.ensures.one);
+      c.loop-below.invariant.count c.one_if_living-count.ensures.count;
+  few = omega (arith, c.loop-below.invariant.few, c.one_if_living-count.ensures.one);
 }
 
 pub returns : goal.returns

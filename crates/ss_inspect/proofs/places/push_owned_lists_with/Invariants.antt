@@ -5,5 +5,5 @@ use Rattle.ss_inspect.specs.Lists.{owned_list_with}
 use Rattle.ss_inspect.proofs.places.push_owned_lists_with.Given as goal
 
 abbrev pub invariant-loop-below : goal.invariant-loop-below
-invariant-loop-below g l =
-    l.text.items ≡ l.initial.text.items ++ lines_below (owned_list_with l.machine.input.program l.machine.state.store l.set (number_of l.x)) l.below
+invariant-loop-below g l = l.text.items ≡ l.initial.text.items
+    ++ lines_below (owned_list_with l.machine.input.program l.machine.state.store l.set (number_of l.x)) l.below
