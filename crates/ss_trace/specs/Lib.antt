@@ -5,3 +5,4 @@ pub mod Turn
 pub mod View
 pub mod Laws
 pub mod History
+pub mod Touches

@@ -16,16 +16,23 @@ use std::alloc::{AllocError, Global};
 
 /// Whether a movement from position `from` stops where the machine stands, where it is known
 /// whether it met what it looks for.
-#[tactic(auto, using(crate::proofs::Changes::stop_where))]
-fn is_at_stop<S: SetBoard>(debugger: &Debugger<S>, from: u64, met: bool) -> bool
-    ensures { (test : ℕ → Bool) → met ≡ is_met test from (position debugger.now.machine) →
-        result ≡ is_stop debugger.now.machine.input
-        (ahead_condition debugger.now.machine.input debugger.now.breaks test) from
+fn is_at_stop<S: SetBoard>(
+    debugger: &Debugger<S>,
+    question: &Question,
+    from: u64,
+    met: bool,
+) -> bool
+    requires { met ≡ is_met (has_changed debugger.now.machine.input question.now) from
+        (position debugger.now.machine) }
+    ensures { result ≡ is_stop debugger.now.machine.input
+        (ahead_condition debugger.now.machine.input debugger.now.breaks
+        (has_changed debugger.now.machine.input question.now)) from
         (position debugger.now.machine) }
 {
-    !is_ready_now(debugger)
-        || met
-        || (from < debugger.machine().position() && debugger.stands_on_break())
+    if !is_ready_now(debugger) || met {
+        return true;
+    }
+    from < debugger.machine().position() && debugger.stands_on_break()
 }
 
 /// Steps to the least later position behind a step at which a question changes, or on a break line,
@@ -57,11 +64,12 @@ pub fn ahead_to_change<S: SetBoard>(
     let from = debugger.machine().position();
     let steps = bound.min(LAST_POSITION - from);
     for _k in 0..steps {
-        if is_at_stop(debugger, from, met) {
+        if is_at_stop(debugger, question, from, met) {
             return Ok(met);
         }
+        let touched = reading.may_change(debugger);
         step_once(debugger)?;
-        met = reading.follow(debugger, question)?.is_some();
+        met = reading.follow(debugger, question, touched)?.is_some();
     }
     Ok(met)
 }
@@ -93,7 +101,8 @@ pub fn back_to_change<S: SetBoard>(
         if !debugger.step_back() {
             return Ok(false);
         }
-        if reading.follow(debugger, question)?.is_some() {
+        let touched = reading.may_change(debugger);
+        if reading.follow(debugger, question, touched)?.is_some() {
             return Ok(true);
         }
     }

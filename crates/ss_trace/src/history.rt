@@ -6,6 +6,7 @@ ghost use Rattle.ss_machine.specs.declared.limits.TheConstants.{LAST_POSITION};
 ghost use Rattle.ss_debug.specs.Move.{is_ready_at};
 ghost use Rattle.ss_debug.specs.View.{debugger_state_of};
 ghost use Rattle.ss_trace.specs.Question.{answer_at};
+ghost use Rattle.ss_trace.specs.Touches.{part_of};
 ghost use Rattle.ss_trace.specs.History.{history, step_rows, history_text, newest_change};
 ghost use Rattle.ss_trace.specs.History.{why_head, why_line, why_change};
 ghost use Rattle.ss_trace.specs.View.{IsAt, IsBetween, HasLookedBack};
@@ -26,8 +27,10 @@ fn back_to_newest<S: SetBoard>(
     question: &Question,
     reading: &mut Reading,
 ) -> Result<Option<Vec<u8>>, AllocError>
-    requires { reading.old.answer.items ≡ answer_at debugger.old.machine.input question.now
-        (position debugger.old.machine) }
+    requires answer { reading.old.answer.items
+        ≡ answer_at debugger.old.machine.input question.now (position debugger.old.machine) }
+    requires part { reading.old.part ≡ part_of question.now }
+    ensures part { reading.new.part ≡ reading.old.part }
     ensures gone { OnOk result (HasLookedBack debugger.old debugger.new) }
     ensures reading { OnOk result (reading.new.answer.items
         ≡ answer_at debugger.old.machine.input question.now (position debugger.new.machine)) }
@@ -49,7 +52,8 @@ fn back_to_newest<S: SetBoard>(
             // Never met: a step was made from this state.
             return Err(AllocError);
         }
-        if let Some(after) = reading.follow(debugger, question)? {
+        let touched = reading.may_change(debugger);
+        if let Some(after) = reading.follow(debugger, question, touched)? {
             return Ok(Some(after));
         }
     }

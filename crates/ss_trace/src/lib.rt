@@ -19,6 +19,7 @@ mod search;
 mod sought;
 mod table;
 mod text;
+mod touches;
 mod value;
 
 pub use answer::{push_answer, push_asked};

@@ -52,6 +52,24 @@ fn push_left(bytes: &mut Vec<u8>, width: usize, text: &[u8]) -> Result<(), Alloc
     push_blanks(bytes, width.saturating_sub(text.len()))
 }
 
+/// Appends the first cells of a row.
+fn push_cells(
+    bytes: &mut Vec<u8>,
+    state: &[u8],
+    time: &[u8],
+    section: &[u8],
+) -> Result<(), AllocError>
+    ensures { OnOk result (bytes.new.items ≡ bytes.old.items
+        ++ to_right 8 state.now ++ codes " " ++ to_right 7 time.now ++ codes "  "
+        ++ to_left 12 section.now) }
+{
+    push_right(bytes, STATE_WIDTH, state)?;
+    bytes.extend_from_slice(b" ")?;
+    push_right(bytes, TIME_WIDTH, time)?;
+    bytes.extend_from_slice(b"  ")?;
+    push_left(bytes, SECTION_WIDTH, section)
+}
+
 /// Appends a row of the table.
 fn push_row(
     bytes: &mut Vec<u8>,
@@ -64,11 +82,7 @@ fn push_row(
     ensures { OnOk result (bytes.new.items ≡ bytes.old.items
         ++ row state.now time.now section.now line.now value.now) }
 {
-    push_right(bytes, STATE_WIDTH, state)?;
-    bytes.extend_from_slice(b" ")?;
-    push_right(bytes, TIME_WIDTH, time)?;
-    bytes.extend_from_slice(b"  ")?;
-    push_left(bytes, SECTION_WIDTH, section)?;
+    push_cells(bytes, state, time, section)?;
     bytes.extend_from_slice(b" ")?;
     push_right(bytes, LINE_WIDTH, line)?;
     bytes.extend_from_slice(b"  ")?;
@@ -135,6 +149,14 @@ pub fn push_step_row<S: SetBoard>(
     )
 }
 
+/// The earliest kept position.
+fn earliest<S: SetBoard>(debugger: &Debugger<S>) -> u64
+    ensures { result ≡ debugger.now.machine.forgotten }
+{
+    let machine = debugger.machine();
+    machine.position() - machine.kept()
+}
+
 /// Appends that a question did not change since the earliest kept state.
 pub fn push_no_change<S: SetBoard>(
     bytes: &mut Vec<u8>,
@@ -143,9 +165,8 @@ pub fn push_no_change<S: SetBoard>(
     ensures { OnOk result (bytes.new.items ≡ bytes.old.items
         ++ no_change_text debugger.now.machine.forgotten) }
 {
-    let machine = debugger.machine();
     bytes.extend_from_slice(b"NO CHANGE SINCE STATE ")?;
-    push_number(bytes, machine.position() - machine.kept())?;
+    push_number(bytes, earliest(debugger))?;
     bytes.extend_from_slice(b"\n")
 }
 

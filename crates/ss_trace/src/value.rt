@@ -1,5 +1,6 @@
 //! The value that an answer tells, in one line.
-ghost use Rattle.std.specs.Prelude.{◌≡◌, ◌++◌, OnOk, drop};
+ghost use Rattle.std.specs.Prelude.{◌≡◌, ◌++◌, ◌≤◌, OnOk, drop, length, nat_eq};
+ghost use Rattle.std.specs.List.{position_or_len};
 ghost use Rattle.ss_trace.specs.declared.question.Question.TheVariants as questions;
 ghost use Rattle.ss_trace.specs.Value.{says_none, behind, without_end, joined, joined_byte, or_lives};
 ghost use Rattle.ss_trace.specs.Value.{report_value, told_value, value_in};
@@ -24,14 +25,29 @@ fn says_none(answer: &[u8]) -> bool
         || answer.starts_with(b"NO EVENTS")
 }
 
+/// The place of the first of these bytes, or the length.
+#[tactic(auto, using(std::proofs::lemmas::List::Sums::position_or_len_is))]
+fn place_of(byte: u8, text: &[u8]) -> usize
+    ensures place { result ≡ position_or_len (nat_eq byte) text.now }
+    ensures within { result ≤ length text.now }
+{
+    for (i, b) in text.iter().enumerate() {
+        if byte == *b {
+            return i;
+        }
+    }
+    text.len()
+}
+
 /// What stands behind the first of these bytes; nothing where there is none.
 fn behind(byte: u8, text: &[u8]) -> &[u8]
     ensures { result.now ≡ behind byte text.now }
 {
-    match text.iter().position(|b| byte == *b) {
-        Some(place) => &text[place + 1..],
-        None => &text[text.len()..],
+    let place = place_of(byte, text);
+    if place == text.len() {
+        return &text[place..];
     }
+    &text[place + 1..]
 }
 
 /// A text without its last byte.
