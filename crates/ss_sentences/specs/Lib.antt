@@ -1,1 +1,8 @@
 pub mod Wording
+pub mod Reserved
+pub mod Grammar
+pub mod Candidates
+pub mod Expected
+pub mod Pieces
+pub mod Hints
+pub mod Refusals
