@@ -1,7 +1,7 @@
 -- All words of a list, and the first of them.
-use Rattle.std.proofs.Common.{◌≡◌, ℕ, List, length, map, take, min, subst}
+use Rattle.std.proofs.Common.{◌≡◌, ℕ, List, length, map, take, min, subst, sym, arith, ◌+◌, ◌≤◌, ◌∙◌}
 use Rattle.std.proofs.Math.Seq.{take-length}
-use Rattle.std.proofs.lemmas.List.{length-map}
+use Rattle.std.proofs.lemmas.List.{length-map, take_all}
 use Rattle.ss_columns.proofs.Takes.{first_views}
 
 -- all are the first ones, as many as there are
@@ -13,3 +13,10 @@ pub ruleset whole = (all_views)
 
 -- the first ones
 pub ruleset firsts = (first_views)
+
+-- no word stands behind the last
+pub past_views : {X : Type 0} (n : ℕ) (xs : List X) → length xs ≤ n → take n xs ≡ take (n + 1) xs
+past_views n xs h = take_all n xs h ∙ sym (take_all (n + 1) xs (omega arith))
+
+-- the next ones
+pub ruleset nexts = (past_views, length-map)

@@ -5,7 +5,7 @@ use Rattle.ss_words.specs.PlainRules.{plain_words_of}
 use Rattle.ss_sentences.specs.declared.candidate.Candidate.{Candidate}
 use Rattle.ss_sentences.specs.declared.candidate.Candidate.TheVariants as c
 use Rattle.ss_sentences.specs.Grammar.{IsGoing}
-use Rattle.ss_sentences.specs.Reserved.{is_kind_among, scheduling}
+use Rattle.ss_columns.specs.Reserved.{is_kind_among, scheduling}
 
 -- the word that is tried: of names and numbers, one
 abbrev pub candidate_kind : Candidate → Kind

@@ -7,7 +7,7 @@ use Rattle.ss_sentences.specs.declared.hints.TheConstants.{RESERVED_HINT, UNIT_H
 use Rattle.ss_sentences.specs.Candidates.{keeps_article, is_scheduling}
 use Rattle.ss_sentences.specs.Expected.{fits}
 use Rattle.ss_sentences.specs.Pieces.{filled}
-use Rattle.ss_sentences.specs.Reserved.{dropped, is_kind_among, reserved}
+use Rattle.ss_columns.specs.Reserved.{dropped, is_kind_among, reserved}
 
 -- a name, reserved or not
 abbrev pub is_name : Kind → Bool

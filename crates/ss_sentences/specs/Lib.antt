@@ -1,5 +1,4 @@
 pub mod Wording
-pub mod Reserved
 pub mod Grammar
 pub mod Candidates
 pub mod Expected

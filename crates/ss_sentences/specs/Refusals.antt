@@ -65,27 +65,32 @@ abbrev pub ended_text : List WordAt → List Judgement → List ℕ
 ended_text ws js = judged_text js ++ block_hints js ws
 
 -- what is said behind the sentence of a rule at word i
-abbrev pub IsSaidBehind : List ℕ → List WordAt → TextRule → ℕ → List ℕ → Type 0
-IsSaidBehind model ws r.UnexpectedWord i more =
-    (js : List Judgement) × AreJudged model (numbered (take i ws)) js × (more ≡ unexpected_text ws i js)
-IsSaidBehind model ws r.UnexpectedEnd i more =
-    (js : List Judgement) × AreJudged model (numbered ws) js × (more ≡ ended_text ws js)
-IsSaidBehind model ws _ i more = more ≡ []
+abbrev pub behind_text : List WordAt → TextRule → ℕ → List Judgement → List ℕ
+behind_text ws r.UnexpectedWord i js = unexpected_text ws i js
+behind_text ws r.UnexpectedEnd i js = ended_text ws js
+behind_text ws _ i js = []
+
+-- what is judged for it: what could stand behind the words before word i, and behind all words
+unfoldable pub IsJudgedFor : List ℕ → List WordAt → TextRule → ℕ → List Judgement → Type 0
+IsJudgedFor model ws r.UnexpectedWord i js = AreJudged model (numbered (take i ws)) js
+IsJudgedFor model ws r.UnexpectedEnd i js = AreJudged model (numbered ws) js
+IsJudgedFor model ws _ i js = js ≡ []
 
 -- what is said of words that are refused by a rule at word i
-abbrev pub IsSaidOf : List ℕ → List WordAt → TextRule → ℕ → List ℕ → Type 0
+unfoldable pub IsSaidOf : List ℕ → List WordAt → TextRule → ℕ → List ℕ → Type 0
 IsSaidOf model ws rule i said =
-    (more : List ℕ) × IsSaidBehind model ws rule i more × (said ≡ sentence_text model ws rule i ++ more)
+    (js : List Judgement) × IsJudgedFor model ws rule i js
+    × (said ≡ sentence_text model ws rule i ++ behind_text ws rule i js)
 
 -- what is said of words: nothing where they are a program; else what is said of their refusal, where the word is that
 -- whose line the refusal tells when each word stands on a line of its own, the lines numbered from 0
-abbrev pub AreSaid : List ℕ → List WordAt → List ℕ → Type 0
+unfoldable pub AreSaid : List ℕ → List WordAt → List ℕ → Type 0
 AreSaid model ws said =
     (IsSpelled (plain_words_of (numbered ws)) × (said ≡ []))
     ⊎ ((rule : TextRule) × (i : ℕ) × IsRefused rule i (plain_words_of (numbered ws)) × IsSaidOf model ws rule i said)
 
 -- what is said of a model
-abbrev pub IsSaid : List ℕ → List ℕ → Type 0
+unfoldable pub IsSaid : List ℕ → List ℕ → Type 0
 IsSaid model said =
     ((rule : TextRule) × (line : ℕ) × (words_of model ≡ Err (Refused rule line)) × (said ≡ unread_text model rule line))
     ⊎ ((ws : List WordAt) × (words_of model ≡ Ok ws) × AreSaid model ws said)

@@ -8,7 +8,7 @@ ghost use Rattle.ss_sentences.specs.Grammar.{IsGoing};
 ghost use Rattle.ss_sentences.specs.declared.candidate.TheConstants.{CANDIDATES};
 
 use crate::grammar::goes_on;
-use crate::reserved::{SCHEDULING, is_among};
+use ss_columns::{SCHEDULING, is_kind_among};
 use ss_words::{Name, Sign, Word, WordKind, Words};
 use std::alloc::{AllocError, Global};
 
@@ -174,13 +174,11 @@ pub fn keeps_article(words: &[Word]) -> bool
     }
 }
 
+#[tactic(auto, unfolding(ss_columns::specs::Reserved::scheduling))]
 fn is_scheduling(word: &Word) -> bool
     ensures { result ≡ spec.is_scheduling (word_at word.now) }
 {
-    match &word.kind {
-        WordKind::Name(name) => is_among(name.bytes(), &SCHEDULING),
-        _ => false,
-    }
+    is_kind_among(&word.kind, &SCHEDULING)
 }
 
 /// Whether a candidate would be dropped behind these words.

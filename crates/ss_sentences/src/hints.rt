@@ -2,13 +2,13 @@
 ghost use Rattle.std.specs.Prelude.{◌≡◌, ◌++◌, [], IfOk, OnOk, map};
 ghost use Rattle.ss_words.specs.Words.{word_at};
 ghost use Rattle.ss_sentences.specs.Hints as spec;
-ghost use Rattle.ss_sentences.specs.Reserved.{is_kind_among};
+ghost use Rattle.ss_columns.specs.Reserved.{is_kind_among};
 ghost use Rattle.ss_sentences.specs.declared.hints.TheConstants.{DROPPED_HINT};
 
 use crate::candidate::{Judgement, keeps_article};
 use crate::expected::fits;
 use crate::pieces::{push_filled, push_number};
-use crate::reserved::{DROPPED, RESERVED, is_among};
+use ss_columns::{DROPPED, RESERVED, is_kind_among};
 use ss_words::{Word, WordKind};
 use std::alloc::{AllocError, Global};
 
@@ -29,10 +29,7 @@ pub const DO_HINT: &[u8] = b"A DO is open here, that of line {}: LOOP ends it.\n
 fn is_word_among(word: &Word, table: &[&[u8]]) -> bool
     ensures { result ≡ is_kind_among (map (λ row. row.now) table.now) (word_at word.now).kind }
 {
-    match &word.kind {
-        WordKind::Name(name) => is_among(name.bytes(), table),
-        _ => false,
-    }
+    is_kind_among(&word.kind, table)
 }
 
 /// Whether a word is a name, reserved or not.
@@ -43,7 +40,7 @@ fn is_name(word: &Word) -> bool
 }
 
 /// Whether the last of these words is dropped.
-#[tactic(auto, unfolding(crate::specs::Reserved::dropped, crate::specs::Reserved::scheduling))]
+#[tactic(auto, unfolding(ss_columns::specs::Reserved::dropped, ss_columns::specs::Reserved::scheduling))]
 fn ends_in_dropped(words: &[Word]) -> bool
     ensures { result ≡ spec.ends_in_dropped (map word_at words.now) }
 {
@@ -70,7 +67,7 @@ fn push_hint(
 }
 
 /// Appends what a refused word hints at, behind these words.
-#[tactic(auto, unfolding(crate::specs::Reserved::reserved))]
+#[tactic(auto, unfolding(ss_columns::specs::Reserved::reserved))]
 pub fn push_word_hints(
     text: &mut Vec<u8>,
     judged: &[Judgement],

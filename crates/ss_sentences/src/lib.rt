@@ -8,9 +8,8 @@ mod grammar;
 mod hints;
 mod pieces;
 mod refusal;
-mod reserved;
 mod wording;
 
 pub use candidate::{Candidate, Judgement};
-pub use refusal::{LONGEST_TEXT_JUDGED, push_text_refusal};
+pub use refusal::{LONGEST_TEXT_JUDGED, text_refusal};
 pub use wording::{fault_sentence, rule_sentence};

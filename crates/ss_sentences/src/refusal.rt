@@ -1,11 +1,7 @@
 //! What is said of a text that a rule L or P refuses.
-ghost use Rattle.std.specs.Prelude.{◌≡◌, ◌++◌, ◌≤◌, IfOk, IfErr, List, OnOk, length, map, take, drop, ℕ};
-ghost use Rattle.ss_words.specs.Words.{word_at};
-ghost use Rattle.ss_words.specs.PlainRules.{plain_words_of};
-ghost use Rattle.ss_columns.specs.Columns.{line_at, column_at};
+ghost use Rattle.std.specs.Prelude.{◌≡◌, ◌+◌, ◌++◌, IfOk, OnOk, slice_get};
 ghost use Rattle.ss_columns.specs.Numbers.{numbered};
 ghost use Rattle.ss_sentences.specs.Refusals as spec;
-ghost use Rattle.ss_sentences.specs.Grammar.{IsRefused};
 
 use crate::candidate::{Judgement, judge_all};
 use crate::expected::push_expected;
@@ -20,76 +16,115 @@ use std::alloc::{AllocError, Global};
 /// Of longer texts it is not told what could stand at a place. The definitions read this number too.
 pub const LONGEST_TEXT_JUDGED: usize = 262_144;
 
-/// Appends what a model that a rule L or P refuses is refused with (docs/SENTENCES.md): the sentence
-/// of the rule with its place, the line with a caret below the word, what could stand there, and
-/// hints. Appends nothing where no rule L or P refuses it. The only error is that memory was refused.
-pub fn push_text_refusal(
-    alloc: Global,
-    model: &[u8],
-    text: &mut Vec<u8>,
-) -> Result<(), AllocError>
-    ensures { OnOk result ((said : List ℕ) × spec.IsSaid model.now said
-        × (text.new.items ≡ text.old.items ++ said)) }
+/// What a model that a rule L or P refuses is refused with (docs/SENTENCES.md): the sentence of the
+/// rule with its place, the line with a caret below the word, what could stand there, and hints.
+/// Empty where no rule L or P refuses it. The only error is that memory was refused.
+#[tactic(auto, using(crate::proofs::Sayings::of_models))]
+pub fn text_refusal(alloc: Global, model: &[u8]) -> Result<Vec<u8>, AllocError>
+    ensures { IfOk result (λ said. spec.IsSaid model.now said.items) }
 {
     match words(alloc, model) {
-        Ok(words) => push_spelled(alloc, model, &words, text),
+        Ok(words) => said_of_words(alloc, model, &words),
         Err(TextFault::Memory) => Err(AllocError),
-        Err(TextFault::Refused { rule, line }) => push_unread(alloc, model, rule, line, text),
+        Err(TextFault::Refused { rule, line }) => said_of_line(alloc, model, rule, line),
     }
 }
 
-/// Appends what a text that a rule L refuses is refused with.
-fn push_unread(
+/// What a text that a rule L refuses is refused with.
+fn said_of_line(
     alloc: Global,
     model: &[u8],
     rule: TextRule,
     line: usize,
-    text: &mut Vec<u8>,
-) -> Result<(), AllocError>
-    ensures { OnOk result (text.new.items ≡ text.old.items ++ spec.unread_text model.now rule line) }
+) -> Result<Vec<u8>, AllocError>
+    ensures { IfOk result (λ said. said.items ≡ spec.unread_text model.now rule line) }
 {
     let place = Place { line, column: None };
-    push_place(text, place)?;
+    let mut text = Vec::new(alloc);
+    push_place(&mut text, place)?;
     text.extend_from_slice(rule_sentence(rule.code()))?;
     text.extend_from_slice(b"\n")?;
-    push_source(alloc, text, model, place)
+    push_source(alloc, &mut text, model, place)?;
+    Ok(text)
 }
 
-/// Appends what the words of a model are refused with, if they are.
-#[tactic(auto, using(crate::proofs::Whole::whole))]
-fn push_spelled(
-    alloc: Global,
-    model: &[u8],
-    words: &Words,
-    text: &mut Vec<u8>,
-) -> Result<(), AllocError>
-    ensures { OnOk result ((said : List ℕ) × spec.AreSaid model.now words.now said
-        × (text.new.items ≡ text.old.items ++ said)) }
+/// What the words of a model are refused with, if they are.
+#[tactic(auto, using(crate::proofs::Sayings::of_words))]
+fn said_of_words(alloc: Global, model: &[u8], words: &Words) -> Result<Vec<u8>, AllocError>
+    ensures { IfOk result (λ said. spec.AreSaid model.now words.now said.items) }
 {
-    let numbers = numbered_words(alloc, words, words.list.len())?;
+    let numbers = all_numbered(alloc, words)?;
     match spelled(alloc, &numbers) {
-        Ok(()) => Ok(()),
+        Ok(()) => Ok(Vec::new(alloc)),
         Err(TextFault::Memory) => Err(AllocError),
-        Err(TextFault::Refused { rule, line }) => push_refused(alloc, model, words, rule, line, text),
+        Err(TextFault::Refused { rule, line }) => said_of_rule(alloc, model, words, rule, line),
     }
 }
 
-/// Appends what the words of a model are refused with, by this rule at the word with this number.
-fn push_refused(
+/// The words, each with its number for its line.
+#[tactic(auto, using(crate::proofs::Whole::whole))]
+fn all_numbered(alloc: Global, words: &Words) -> Result<Words, AllocError>
+    ensures { IfOk result (λ numbers. numbers ≡ numbered words.now) }
+{
+    numbered_words(alloc, words, words.list.len())
+}
+
+/// What the words of a model are refused with, by this rule at the word with this number.
+#[tactic(auto, using(crate::proofs::Sayings::of_rules))]
+fn said_of_rule(
     alloc: Global,
     model: &[u8],
     words: &Words,
     rule: TextRule,
     number: usize,
+) -> Result<Vec<u8>, AllocError>
+    ensures { IfOk result (λ said. spec.IsSaidOf model.now words.now rule number said.items) }
+{
+    let judged = judge_for(alloc, model, words, rule, number)?;
+    let mut text = Vec::new(alloc);
+    push_sentence(alloc, model, words, rule, number, &mut text)?;
+    push_behind(alloc, words, rule, number, &judged, &mut text)?;
+    Ok(text)
+}
+
+/// Judges what could stand at the place of a refusal.
+#[tactic(auto, unfolding(crate::specs::Refusals::IsJudgedFor))]
+fn judge_for(
+    alloc: Global,
+    model: &[u8],
+    words: &Words,
+    rule: TextRule,
+    number: usize,
+) -> Result<Vec<Judgement>, AllocError>
+    ensures { IfOk result
+        (λ judged. spec.IsJudgedFor model.now words.now rule number judged.items) }
+{
+    if model.len() > LONGEST_TEXT_JUDGED {
+        return Ok(Vec::new(alloc));
+    }
+    let mut front = match rule {
+        TextRule::UnexpectedWord => numbered_words(alloc, words, number)?,
+        TextRule::UnexpectedEnd => all_numbered(alloc, words)?,
+        _ => return Ok(Vec::new(alloc)),
+    };
+    judge_all(alloc, &mut front)
+}
+
+/// Appends what is said behind the sentence of a rule at a word.
+fn push_behind(
+    alloc: Global,
+    words: &Words,
+    rule: TextRule,
+    number: usize,
+    judged: &[Judgement],
     text: &mut Vec<u8>,
 ) -> Result<(), AllocError>
-    ensures { OnOk result ((said : List ℕ) × spec.IsSaidOf model.now words.now rule number said
-        × (text.new.items ≡ text.old.items ++ said)) }
+    ensures { OnOk result (text.new.items
+        ≡ text.old.items ++ spec.behind_text words.now rule number judged.now) }
 {
-    push_sentence(alloc, model, words, rule, number, text)?;
     match rule {
-        TextRule::UnexpectedWord => push_unexpected(alloc, model, words, number, text),
-        TextRule::UnexpectedEnd => push_ended(alloc, model, words, text),
+        TextRule::UnexpectedWord => push_unexpected(alloc, words, number, judged, text),
+        TextRule::UnexpectedEnd => push_ended(alloc, words, judged, text),
         _ => Ok(()),
     }
 }
@@ -107,7 +142,7 @@ fn push_sentence(
         ≡ text.old.items ++ spec.sentence_text model.now words.now rule number) }
 {
     let place = place_of(alloc, model, words, number)?;
-    let word = told_before(alloc, words, number.saturating_add(1))?;
+    let word = told_at(alloc, words, number)?;
     let before = told_before(alloc, words, number)?;
     push_place(text, place)?;
     push_filled(text, rule_sentence(rule.code()), &word, &before)?;
@@ -123,62 +158,78 @@ fn told_before(alloc: Global, words: &Words, count: usize) -> Result<Vec<u8>, Al
     last_text(alloc, &words.list[..count.min(words.list.len())])
 }
 
-/// Judges what could stand behind the first words, so many of them.
-fn judge_behind(
-    alloc: Global,
-    model: &[u8],
-    words: &Words,
-    count: usize,
-) -> Result<Vec<Judgement>, AllocError>
-    ensures { IfOk result (λ judged. spec.AreJudged model.now (numbered (take count words.now)) judged.items) }
+/// How the word of a number is told: as the last of the words up to it.
+#[tactic(auto, using(crate::proofs::Whole::nexts))]
+fn told_at(alloc: Global, words: &Words, number: usize) -> Result<Vec<u8>, AllocError>
+    ensures { IfOk result (λ told. told.items ≡ spec.told_before words.now (number + 1)) }
 {
-    if model.len() > LONGEST_TEXT_JUDGED {
-        return Ok(Vec::new(alloc));
+    if number < words.list.len() {
+        return told_before(alloc, words, number + 1);
     }
-    let mut front = numbered_words(alloc, words, count)?;
-    judge_all(alloc, &mut front)
+    told_before(alloc, words, number)
+}
+
+/// Appends what could stand at a place, where that is judged.
+fn push_judged(text: &mut Vec<u8>, judged: &[Judgement]) -> Result<(), AllocError>
+    ensures { OnOk result (text.new.items ≡ text.old.items ++ spec.judged_text judged.now) }
+{
+    match judged {
+        [] => Ok(()),
+        _ => push_expected(text, judged),
+    }
+}
+
+/// Appends what the word of a number hints at, if there is one.
+fn push_hints_at(
+    alloc: Global,
+    words: &Words,
+    number: usize,
+    judged: &[Judgement],
+    text: &mut Vec<u8>,
+) -> Result<(), AllocError>
+    ensures { OnOk result (text.new.items ≡ text.old.items
+        ++ spec.hints_at judged.now (slice_get words.now number)
+        (spec.told_before words.now (number + 1))) }
+{
+    match words.list.get(number) {
+        Some(word) => {
+            let told = told_at(alloc, words, number)?;
+            push_word_hints(text, judged, word, &told)
+        }
+        None => Ok(()),
+    }
 }
 
 /// Appends what could stand in the place of a word, and hints.
 #[tactic(auto, using(crate::proofs::Whole::firsts))]
 fn push_unexpected(
     alloc: Global,
-    model: &[u8],
     words: &Words,
     number: usize,
+    judged: &[Judgement],
     text: &mut Vec<u8>,
 ) -> Result<(), AllocError>
-    ensures { OnOk result ((judged : List Judgement) × spec.AreJudged model.now (numbered (take number words.now)) judged
-        × (text.new.items ≡ text.old.items ++ spec.unexpected_text words.now number judged)) }
+    ensures { OnOk result (text.new.items
+        ≡ text.old.items ++ spec.unexpected_text words.now number judged.now) }
 {
-    let judged = judge_behind(alloc, model, words, number)?;
-    if !judged.is_empty() {
-        push_expected(text, &judged)?;
-    }
     let before = &words.list[..number.min(words.list.len())];
-    let told = told_before(alloc, words, number)?;
-    if let Some(word) = words.list.get(number) {
-        let refused = told_before(alloc, words, number.saturating_add(1))?;
-        push_word_hints(text, &judged, word, &refused)?;
-    }
+    let told = last_text(alloc, before)?;
+    push_judged(text, judged)?;
+    push_hints_at(alloc, words, number, judged, text)?;
     push_dropped_hint(text, before, &told)?;
-    push_block_hints(alloc, text, &judged, before)
+    push_block_hints(alloc, text, judged, before)
 }
 
 /// Appends what could stand at the end of a text, and which blocks are open there.
-#[tactic(auto, using(crate::proofs::Whole::whole))]
 fn push_ended(
     alloc: Global,
-    model: &[u8],
     words: &Words,
+    judged: &[Judgement],
     text: &mut Vec<u8>,
 ) -> Result<(), AllocError>
-    ensures { OnOk result ((judged : List Judgement) × spec.AreJudged model.now (numbered words.now) judged
-        × (text.new.items ≡ text.old.items ++ spec.ended_text words.now judged)) }
+    ensures { OnOk result (text.new.items
+        ≡ text.old.items ++ spec.ended_text words.now judged.now) }
 {
-    let judged = judge_behind(alloc, model, words, words.list.len())?;
-    if !judged.is_empty() {
-        push_expected(text, &judged)?;
-    }
-    push_block_hints(alloc, text, &judged, &words.list)
+    push_judged(text, judged)?;
+    push_block_hints(alloc, text, judged, &words.list)
 }

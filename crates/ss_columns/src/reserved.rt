@@ -1,6 +1,9 @@
 //! Which names are words of the language.
 ghost use Rattle.std.specs.Prelude.{◌≡◌, map};
-ghost use Rattle.ss_sentences.specs.Reserved as spec;
+ghost use Rattle.ss_words.specs.Words.{kind_of};
+ghost use Rattle.ss_columns.specs.Reserved as spec;
+
+use ss_words::WordKind;
 
 /// The reserved words. The definitions read these tables too.
 pub const RESERVED: [&[u8]; 130] = [
@@ -153,4 +156,14 @@ pub fn is_among(name: &[u8], mut table: &[&[u8]]) -> bool
         table = rest;
     }
     false
+}
+
+/// Whether a word is a name that is in a table.
+pub fn is_kind_among(kind: &WordKind, table: &[&[u8]]) -> bool
+    ensures { result ≡ spec.is_kind_among (map (λ row. row.now) table.now) (kind_of kind.now) }
+{
+    match kind {
+        WordKind::Name(name) => is_among(name.bytes(), table),
+        _ => false,
+    }
 }

@@ -1,6 +1,6 @@
 use Rattle.std.proofs.Common.{◌≡◌, map, length}
-use Rattle.ss_sentences.specs.Reserved.{is_among}
-use Rattle.ss_sentences.proofs.reserved.is_among.Given as goal
+use Rattle.ss_columns.specs.Reserved.{is_among}
+use Rattle.ss_columns.proofs.reserved.is_among.Given as goal
 
 abbrev pub invariant-loop-table : goal.invariant-loop-table
 invariant-loop-table l =

@@ -1,7 +1,7 @@
 -- Names that are words of the language: the rows of the tables of src/reserved.rt.
 use Rattle.std.specs.Prelude.{ℕ, Bool, true, false, List, [], ◌∷◌, map, bytes_eq}
 use Rattle.ss_words.specs.Words.{Kind, name, number, sign, picture}
-use Rattle.ss_sentences.specs.declared.reserved.TheConstants.{RESERVED, DROPPED, SCHEDULING}
+use Rattle.ss_columns.specs.declared.reserved.TheConstants.{RESERVED, DROPPED, SCHEDULING}
 
 -- a name is in a table
 abbrev pub is_among : List ℕ → List (List ℕ) → Bool

@@ -1,0 +1,4 @@
+pub mod CountMap
+pub mod Names
+pub mod Warnings
+pub mod Index
