@@ -51,9 +51,9 @@ columns_from at last (b ∷ bs) = elim (begins_word last (b ∷ bs)) [
   | false ↦ columns_from (at + 1) b bs
 ]
 
--- the columns of a line, from 0, at which its words begin: outside comments
+-- the columns of a line, from 1, at which its words begin: outside comments
 unfoldable pub columns : List ℕ → List ℕ
-columns line = columns_from 0 BLANK (with_blank_comments false line)
+columns line = columns_from 1 BLANK (with_blank_comments false line)
 
 -- ---- places of words
 

@@ -16,7 +16,7 @@ use std::alloc::{AllocError, Global};
 pub struct Place {
     /// Its line, from 1; 0 where there is no such word.
     pub line: usize,
-    /// Its column, from 0; `None` for a picture, and where there is no such word.
+    /// Its column, from 1; `None` for a picture, and where there is no such word.
     pub column: Option<usize>,
 }
 
@@ -113,9 +113,9 @@ fn with_blank_comments(alloc: Global, line: &[u8]) -> Result<Vec<u8>, AllocError
 /// The column of the word before which so many stand in a line without comments.
 #[tactic(auto, unfolding(crate::specs::Columns::columns_from))]
 fn column_behind(mut words: usize, plain: &[u8]) -> Option<usize>
-    ensures { result ≡ slice_get (spec.columns_from 0 BLANK plain.now) words }
+    ensures { result ≡ slice_get (spec.columns_from 1 BLANK plain.now) words }
 {
-    let mut column = 0;
+    let mut column = 1;
     let mut last = BLANK;
     let mut rest = plain;
     while let [byte, behind @ ..] = rest {

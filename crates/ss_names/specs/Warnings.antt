@@ -1,5 +1,5 @@
 -- Warnings of what is suspicious in the words of a model. Each says what is so, and not that it is wrong.
-use Rattle.std.specs.Prelude.{ℕ, Bool, true, false, not, ◌==◌, ◌&&◌, ◌||◌, List, [], ◌∷◌, ◌++◌, map, codes, decimal}
+use Rattle.std.specs.Prelude.{ℕ, Bool, true, false, not, ◌==◌, ◌&&◌, ◌||◌, List, [], ◌∷◌, ◌++◌, map}
 use Rattle.std.specs.Prelude.{count_by, bytes_eq, Option, Some, None, Result, Ok, Err}
 use Rattle.std.specs.Borrow.{Bor}
 use Rattle.ss_words.specs.Plain.{Plain, PlainAt, name, number, mark, picture}
@@ -12,10 +12,8 @@ use Rattle.ss_names.specs.declared.once.TheConstants.{ONCE}
 use Rattle.ss_names.specs.declared.dropped.TheConstants.{ARTICLES, FILLERS, DROPPED_HERE}
 use Rattle.ss_columns.specs.Reserved.{is_among, is_kind_among, reserved, scheduling}
 use Rattle.ss_names.specs.Names.{names_in, is_of_language}
-
--- a line, a name and what is said of it
-abbrev pub warning : ℕ → List ℕ → List ℕ → List ℕ
-warning line n said = codes "Line " ++ decimal line ++ codes ": " ++ n ++ said
+use Rattle.ss_names.specs.Saying.{warning}
+use Rattle.ss_names.specs.Unread.{settings_in, unread_text}
 
 -- ---- names that stand once
 
@@ -98,7 +96,9 @@ dropped_text before (w ∷ ws) = dropped_word before w (first_kind ws) ++ droppe
 -- the warnings of words
 abbrev pub warnings_of_words : List WordAt → List ℕ
 warnings_of_words ws =
-    let plain = plain_words_of ws in once_text (names_in plain) plain ++ dropped_text None ws
+    let plain = plain_words_of ws in
+    let names = names_in plain in
+    once_text names plain ++ unread_text names (settings_in None plain) [] plain ++ dropped_text None ws
 
 -- the warnings of a model; none where a rule L refuses it
 abbrev pub warnings : List ℕ → List ℕ

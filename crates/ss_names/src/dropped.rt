@@ -17,7 +17,7 @@ pub const DROPPED_HERE: &[u8] = b" is dropped here: it can be no name.\n";
 
 /// Whether a word is a sign; `None` where there is none.
 fn is_sign(kind: Option<&WordKind>) -> bool
-    ensures { result ≡ spec.is_sign (spec.kind_seen kind) }
+    ensures { result ≡ spec.is_sign (spec.kind_seen kind.entry) }
 {
     matches!(kind, Some(WordKind::Sign(_)))
 }
@@ -25,7 +25,7 @@ fn is_sign(kind: Option<&WordKind>) -> bool
 /// Whether a word is a name that is not reserved.
 #[tactic(auto, unfolding(ss_columns::specs::Reserved::reserved))]
 fn is_plain_name(kind: Option<&WordKind>) -> bool
-    ensures { result ≡ spec.is_plain_name (spec.kind_seen kind) }
+    ensures { result ≡ spec.is_plain_name (spec.kind_seen kind.entry) }
 {
     match kind {
         Some(WordKind::Name(name)) => !is_among(name.bytes(), &RESERVED),
@@ -36,7 +36,7 @@ fn is_plain_name(kind: Option<&WordKind>) -> bool
 /// Whether a word keeps an article directly behind it.
 #[tactic(auto, unfolding(ss_columns::specs::Reserved::scheduling))]
 fn is_scheduling(kind: Option<&WordKind>) -> bool
-    ensures { result ≡ spec.is_scheduling (spec.kind_seen kind) }
+    ensures { result ≡ spec.is_scheduling (spec.kind_seen kind.entry) }
 {
     match kind {
         Some(kind) => is_kind_among(kind, &SCHEDULING),
@@ -46,7 +46,7 @@ fn is_scheduling(kind: Option<&WordKind>) -> bool
 
 /// Whether a word between two others is dropped where a name could have stood.
 fn is_suspect(before: Option<&WordKind>, kind: &WordKind, behind: Option<&WordKind>) -> bool
-    ensures { result ≡ spec.is_suspect (spec.kind_seen before) (kind_of kind.now) (spec.kind_seen behind) }
+    ensures { result ≡ spec.is_suspect (spec.kind_seen before.entry) (kind_of kind.now) (spec.kind_seen behind.entry) }
 {
     if is_scheduling(before) || is_plain_name(behind) {
         return false;
@@ -63,7 +63,7 @@ fn push_dropped_word(
     behind: Option<&WordKind>,
 ) -> Result<(), AllocError>
     ensures { OnOk result (text.new.items ≡ text.old.items
-        ++ spec.dropped_word (spec.kind_seen before) (word_at word.now) (spec.kind_seen behind)) }
+        ++ spec.dropped_word (spec.kind_seen before.entry) (word_at word.now) (spec.kind_seen behind.entry)) }
 {
     if !is_suspect(before, &word.kind, behind) {
         return Ok(());

@@ -7,6 +7,7 @@ mod language;
 mod name_counts;
 mod names;
 mod once;
+mod unread;
 mod warnings;
 
 pub use index::push_names;

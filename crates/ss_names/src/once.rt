@@ -1,6 +1,7 @@
 //! Names that stand once.
 ghost use Rattle.std.specs.Prelude.{◌≡◌, ◌++◌, OnOk, map};
 ghost use Rattle.ss_words.specs.Plain.{plain_at};
+ghost use Rattle.ss_names.specs.Saying.{warning};
 ghost use Rattle.ss_names.specs.Warnings as spec;
 
 use crate::language::is_of_language;
@@ -20,7 +21,7 @@ pub fn push_warning(
     said: &[u8],
 ) -> Result<(), AllocError>
     ensures { OnOk result (text.new.items
-        ≡ text.old.items ++ spec.warning line name.now said.now) }
+        ≡ text.old.items ++ warning line name.now said.now) }
 {
     let mut buffer = Buffer::new();
     text.extend_from_slice(b"Line ")?;

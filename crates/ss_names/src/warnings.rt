@@ -5,11 +5,12 @@ ghost use Rattle.ss_names.specs.Warnings as spec;
 use crate::dropped::push_dropped;
 use crate::names::names_in;
 use crate::once::push_once;
+use crate::unread::{push_unread, settings_in};
 use ss_words::{TextFault, Words, plain_words, words};
 use std::alloc::{AllocError, Global};
 
 /// Appends the warnings of a model (docs/SENTENCES.md), each with its line: the names that stand
-/// once, and the words that are dropped where a name could have stood; nothing where a rule L refuses
+/// once, those that are set and never read, and the words that are dropped where a name could have stood; nothing where a rule L refuses
 /// it. The only error is that memory was refused.
 pub fn push_warnings(
     alloc: Global,
@@ -35,6 +36,8 @@ fn push_warnings_of_words(
 {
     let plain = plain_words(alloc, words)?;
     let names = names_in(alloc, &plain)?;
+    let settings = settings_in(alloc, &plain)?;
     push_once(text, &names, &plain)?;
+    push_unread(alloc, text, &names, &settings, &plain)?;
     push_dropped(text, &words.list)
 }

@@ -9,7 +9,7 @@ use Rattle.ss_preamble.specs.Refused.{AreDecls}
 use Rattle.ss_preamble.specs.Refused as preamble
 use Rattle.ss_routines.specs.Refused.{words_from}
 use Rattle.ss_routines.specs.Refused as sections
-use Rattle.ss_sentences.specs.Grammar.{IsFault, IsGoing, IsRefused, is_end}
+use Rattle.ss_sentences.specs.Grammar.{IsFault, IsGoing, IsRefused, IsSpelled, is_end}
 
 -- one in the preamble
 pub in_preamble : (ws : List PlainAt) (f : TextFault) → preamble.IsFault f ws → IsFault f ws
@@ -29,3 +29,10 @@ going false ws r l e h = (r, l, h, sym e)
 
 -- of parts
 pub ruleset parts = (in_preamble, in_sections)
+
+-- where words are a program
+pub going_on : (ws : List PlainAt) → IsSpelled ws → IsGoing true ws
+going_on ws h = inl h
+
+-- whether a program goes on
+pub ruleset goings = (going, going_on)

@@ -3,7 +3,6 @@ use Rattle.std.specs.Prelude.{ℕ, ◌-◌, ◌&&◌, Bool, true, false, nat_lt,
 use Rattle.std.specs.Prelude.{if◌then◌else◌}
 use Rattle.ss_sentences.specs.declared.candidate.Judgement.{Judgement}
 use Rattle.ss_sentences.specs.declared.expected.TheConstants.{EXPECTED, FIRST_ROOM, FURTHER_ROOM}
-use Rattle.ss_sentences.specs.Candidates.{candidate_text}
 
 -- before the first, and between others
 abbrev pub separator : Bool → List ℕ
@@ -14,7 +13,7 @@ abbrev pub listed : Bool → ℕ → List Judgement → List ℕ
 listed is_first room [] = codes "\n"
 listed is_first room (j ∷ js) = elim j.fits [
   | false ↦ listed is_first room js
-  | true ↦ let told = candidate_text j.candidate in elim (nat_lt (room - length told) 2) [
+  | true ↦ let told = j.told.now in elim (nat_lt (room - length told) 2) [
     | true ↦ codes ",\n  " ++ told ++ listed false (FURTHER_ROOM - length told) js
     | false ↦ separator is_first ++ told ++ listed false (room - length told - 2) js
   ]
@@ -27,4 +26,4 @@ expected_text js = EXPECTED.now ++ listed true FIRST_ROOM js
 -- a candidate that is told so fits
 abbrev pub fits : List Judgement → List ℕ → Bool
 fits [] told = false
-fits (j ∷ js) told = elim (j.fits && bytes_eq (candidate_text j.candidate) told) [ true ↦ true | false ↦ fits js told ]
+fits (j ∷ js) told = elim (j.fits && bytes_eq (j.told.now) told) [ true ↦ true | false ↦ fits js told ]

@@ -1,12 +1,12 @@
 -- Hints at what is often meant where a word does not fit.
-use Rattle.std.specs.Prelude.{ℕ, ◌-◌, ◌&&◌, Bool, true, false, not, List, [], ◌∷◌, ◌++◌, length, take, map, codes, decimal}
+use Rattle.std.specs.Prelude.{ℕ, ◌-◌, ◌&&◌, Bool, true, false, not, List, [], ◌∷◌, ◌++◌, length, take, map, codes, decimal, Option, Some, None}
 use Rattle.ss_words.specs.Words.{Kind, name, number, sign, picture, WordAt}
 use Rattle.ss_sentences.specs.declared.candidate.Judgement.{Judgement}
 use Rattle.ss_sentences.specs.declared.hints.TheConstants.{IFS, ALWAYS, DOS, LOOPS}
-use Rattle.ss_sentences.specs.declared.hints.TheConstants.{RESERVED_HINT, UNIT_HINT, IF_HINT, DO_HINT}
-use Rattle.ss_sentences.specs.Candidates.{keeps_article, is_scheduling}
+use Rattle.ss_sentences.specs.declared.hints.TheConstants.{DROPPED_HINT, RESERVED_HINT, UNIT_HINT, IF_HINT, DO_HINT}
+use Rattle.ss_sentences.specs.Candidates.{keeps_article}
 use Rattle.ss_sentences.specs.Expected.{fits}
-use Rattle.ss_sentences.specs.Pieces.{filled}
+use Rattle.ss_sentences.specs.Pieces.{filled, last_kind, last_text}
 use Rattle.ss_columns.specs.Reserved.{dropped, is_kind_among, reserved}
 
 -- a name, reserved or not
@@ -16,12 +16,14 @@ is_name (number n) = false
 is_name (sign s) = false
 is_name (picture ls) = false
 
--- the last word is dropped: A, AN, THE, THIS, MAY or OUTPUT, not directly behind SCHEDULE or CAUSE
+-- A, AN, THE, THIS, MAY or OUTPUT
+abbrev pub is_dropped_word : Option Kind → Bool
+is_dropped_word None = false
+is_dropped_word (Some k) = is_kind_among dropped k
+
+-- the last word is dropped: it is one of these, and does not stand directly behind SCHEDULE or CAUSE
 abbrev pub ends_in_dropped : List WordAt → Bool
-ends_in_dropped [] = false
-ends_in_dropped (w ∷ []) = is_kind_among dropped w.kind
-ends_in_dropped (v ∷ w ∷ []) = is_kind_among dropped w.kind && not (is_scheduling v)
-ends_in_dropped (u ∷ v ∷ w ∷ ws) = ends_in_dropped (v ∷ w ∷ ws)
+ends_in_dropped ws = is_dropped_word (last_kind None ws) && not (keeps_article (take (length ws - 1) ws))
 
 -- a hint that names a word, if it is given
 abbrev pub hint_text : Bool → List ℕ → List ℕ → List ℕ
@@ -44,11 +46,19 @@ open_lines opening closing lines (w ∷ ws) = elim (is_kind_among opening w.kind
   ]
 ]
 
+-- the last of these lines, behind this one
+abbrev pub last_line : Option ℕ → List ℕ → Option ℕ
+last_line last [] = last
+last_line last (l ∷ ls) = last_line (Some l) ls
+
+-- a line, if there is one, and if a hint is given
+abbrev pub line_hint : Bool → List ℕ → Option ℕ → List ℕ
+line_hint is_given hint None = []
+line_hint is_given hint (Some l) = hint_text is_given hint (decimal l)
+
 -- the last of the open blocks, where its end fits
 abbrev pub open_hint : Bool → List ℕ → List ℕ → List ℕ
-open_hint ends_here hint [] = []
-open_hint ends_here hint (l ∷ []) = elim ends_here [ true ↦ filled hint (decimal l) (decimal l) | false ↦ [] ]
-open_hint ends_here hint (l ∷ m ∷ ls) = open_hint ends_here hint (m ∷ ls)
+open_hint ends_here hint ls = line_hint ends_here hint (last_line None ls)
 
 -- which blocks are open behind these words, where their ends fit
 abbrev pub block_hints : List Judgement → List WordAt → List ℕ
@@ -56,3 +66,11 @@ block_hints js ws =
     let names = map (λ row. row.now) in
     open_hint (fits js (codes "ALWAYS")) IF_HINT.now (open_lines (names IFS) (names ALWAYS) [] ws)
     ++ open_hint (fits js (codes "LOOP")) DO_HINT.now (open_lines (names DOS) (names LOOPS) [] ws)
+
+-- that the last of these words is dropped, if it is
+abbrev pub dropped_hint : List WordAt → List ℕ
+dropped_hint ws = hint_text (ends_in_dropped ws) DROPPED_HINT.now (last_text ws)
+
+-- what the words before a place hint at
+unfoldable pub front_hints : List Judgement → List WordAt → List ℕ
+front_hints js ws = dropped_hint ws ++ block_hints js ws

@@ -1,10 +1,12 @@
 -- The pieces of which texts are made.
-use Rattle.std.specs.Prelude.{ℕ, ◌+◌, ◌&&◌, ◌==◌, Bool, true, false, List, [], ◌∷◌, ◌++◌, map, take, codes, decimal}
+use Rattle.std.specs.Prelude.{ℕ, ◌-◌, ◌&&◌, ◌==◌, Bool, true, false, List, [], ◌∷◌, ◌++◌, map, take, codes, decimal}
 use Rattle.std.specs.Prelude.{Option, Some, None, if◌then◌else◌}
+use Rattle.std.specs.Borrow.{Bor}
 use Rattle.ss_words.specs.declared.characters.TheConstants.{BLANK, TAB}
 use Rattle.ss_words.specs.declared.word.Sign.{Sign}
 use Rattle.ss_words.specs.declared.word.Sign.TheVariants as s
-use Rattle.ss_words.specs.Words.{Kind, name, number, sign, picture, WordAt}
+use Rattle.ss_words.specs.declared.word.WordKind.{WordKind}
+use Rattle.ss_words.specs.Words.{Kind, name, number, sign, picture, WordAt, kind_of}
 use Rattle.ss_columns.specs.Columns.{line_of}
 
 -- a place for a word, `{}`
@@ -43,16 +45,29 @@ kind_text (number n) = decimal n
 kind_text (sign s) = sign_text s
 kind_text (picture ls) = codes "the picture"
 
+-- a word of the code, if there is one
+abbrev pub kind_seen : Option (Bor WordKind) → Option Kind
+kind_seen None = None
+kind_seen (Some k) = Some (kind_of k.now)
+
+-- what the last of these words is, behind this one
+abbrev pub last_kind : Option Kind → List WordAt → Option Kind
+last_kind last [] = last
+last_kind last (w ∷ ws) = last_kind (Some w.kind) ws
+
+-- how a word is told, if there is one
+abbrev pub told : Option Kind → List ℕ
+told None = codes "the start of the text"
+told (Some k) = kind_text k
+
 -- how the last of these words is told
 abbrev pub last_text : List WordAt → List ℕ
-last_text [] = codes "the start of the text"
-last_text (w ∷ []) = kind_text w.kind
-last_text (w ∷ v ∷ ws) = last_text (v ∷ ws)
+last_text ws = told (last_kind None ws)
 
--- a column, from 1, if there is one
+-- a column, if there is one
 abbrev pub column_text : Option ℕ → List ℕ
 column_text None = []
-column_text (Some c) = codes ", column " ++ decimal (c + 1)
+column_text (Some c) = codes ", column " ++ decimal c
 
 -- a place
 abbrev pub place_text : ℕ → Option ℕ → List ℕ
@@ -69,7 +84,7 @@ caret_text mark before = map blank_of mark ++ map blank_of before ++ codes "^\n"
 -- the caret at a column, if there is one
 abbrev pub caret_at : List ℕ → List ℕ → Option ℕ → List ℕ
 caret_at mark line None = []
-caret_at mark line (Some c) = caret_text mark (take c line)
+caret_at mark line (Some c) = caret_text mark (take (c - 1) line)
 
 -- a line of the model behind its number, and below it a caret at a column
 abbrev pub source_text : List ℕ → ℕ → Option ℕ → List ℕ

@@ -1,5 +1,5 @@
 -- What is said of a text that a rule L or P refuses.
-use Rattle.std.specs.Prelude.{◌≡◌, ◌⊎◌, ℕ, ◌+◌, Bool, true, false, nat_lt, List, [], ◌∷◌, ◌++◌, length, take, map}
+use Rattle.std.specs.Prelude.{◌≡◌, ◌⊎◌, ℕ, ◌+◌, ◌<◌, ◌≤◌, Bool, true, false, List, [], ◌∷◌, ◌++◌, length, take, map}
 use Rattle.std.specs.Prelude.{codes, Option, Some, None, slice_get, Result, Ok, Err, All}
 use Rattle.ss_words.specs.declared.fault.TextRule.{TextRule}
 use Rattle.ss_words.specs.declared.fault.TextRule.TheVariants as r
@@ -10,14 +10,12 @@ use Rattle.ss_words.specs.TextWords.{words_of}
 use Rattle.ss_words.specs.PlainRules.{plain_words_of}
 use Rattle.ss_columns.specs.Columns.{line_at, column_at}
 use Rattle.ss_columns.specs.Numbers.{numbered}
-use Rattle.ss_sentences.specs.declared.candidate.TheConstants.{CANDIDATES}
 use Rattle.ss_sentences.specs.declared.candidate.Judgement.{Judgement}
-use Rattle.ss_sentences.specs.declared.hints.TheConstants.{DROPPED_HINT}
 use Rattle.ss_sentences.specs.declared.refusal.TheConstants.{LONGEST_TEXT_JUDGED}
-use Rattle.ss_sentences.specs.Candidates.{IsFitting}
+use Rattle.ss_sentences.specs.Candidates.{IsFitting, candidate_of, candidates}
 use Rattle.ss_sentences.specs.Expected.{expected_text}
-use Rattle.ss_sentences.specs.Grammar.{IsRefused, IsSpelled}
-use Rattle.ss_sentences.specs.Hints.{block_hints, ends_in_dropped, hint_text, word_hints}
+use Rattle.ss_sentences.specs.Grammar.{IsRefused, IsSpelled, is_end}
+use Rattle.ss_sentences.specs.Hints.{block_hints, front_hints, word_hints}
 use Rattle.ss_sentences.specs.Pieces.{filled, last_text, place_text, source_text}
 use Rattle.ss_sentences.specs.Wording.{rule_sentence}
 
@@ -38,11 +36,11 @@ sentence_text model ws rule i =
     ++ codes "\n" ++ source_text model (line_at ws i) (column_at model ws i)
 
 -- each candidate is judged behind these words; none where the text is too long
-abbrev pub AreJudged : List ℕ → List WordAt → List Judgement → Type 0
-AreJudged model front js = elim (nat_lt LONGEST_TEXT_JUDGED (length model)) [
-  | true ↦ js ≡ []
-  | false ↦ All (λ j. IsFitting front j.candidate j.fits) js × (map (λ j. j.candidate) js ≡ CANDIDATES)
-]
+unfoldable pub AreJudged : List ℕ → List WordAt → List Judgement → Type 0
+AreJudged model front js =
+    ((LONGEST_TEXT_JUDGED < length model) × (js ≡ []))
+    ⊎ ((length model ≤ LONGEST_TEXT_JUDGED) × All (λ j. IsFitting front j.told.now j.tried j.fits) js
+    × (map candidate_of js ≡ candidates))
 
 -- what could stand at a place, where that is judged
 abbrev pub judged_text : List Judgement → List ℕ
@@ -57,8 +55,7 @@ hints_at js (Some w) told = word_hints js w.kind told
 -- what could stand in the place of word i, and hints
 abbrev pub unexpected_text : List WordAt → ℕ → List Judgement → List ℕ
 unexpected_text ws i js =
-    judged_text js ++ hints_at js (slice_get ws i) (told_before ws (i + 1))
-    ++ hint_text (ends_in_dropped (take i ws)) DROPPED_HINT.now (told_before ws i) ++ block_hints js (take i ws)
+    judged_text js ++ hints_at js (slice_get ws i) (told_before ws (i + 1)) ++ front_hints js (take i ws)
 
 -- what could stand at the end of the words, and which blocks are open there
 abbrev pub ended_text : List WordAt → List Judgement → List ℕ
@@ -70,16 +67,14 @@ behind_text ws r.UnexpectedWord i js = unexpected_text ws i js
 behind_text ws r.UnexpectedEnd i js = ended_text ws js
 behind_text ws _ i js = []
 
--- what is judged for it: what could stand behind the words before word i, and behind all words
-unfoldable pub IsJudgedFor : List ℕ → List WordAt → TextRule → ℕ → List Judgement → Type 0
-IsJudgedFor model ws r.UnexpectedWord i js = AreJudged model (numbered (take i ws)) js
-IsJudgedFor model ws r.UnexpectedEnd i js = AreJudged model (numbered ws) js
-IsJudgedFor model ws _ i js = js ≡ []
+-- the words behind which it is judged what could stand: at the end of the words all, and else those before word i
+abbrev pub front_of : List WordAt → TextRule → ℕ → List WordAt
+front_of ws rule i = elim (is_end rule) [ true ↦ numbered ws | false ↦ numbered (take i ws) ]
 
 -- what is said of words that are refused by a rule at word i
 unfoldable pub IsSaidOf : List ℕ → List WordAt → TextRule → ℕ → List ℕ → Type 0
 IsSaidOf model ws rule i said =
-    (js : List Judgement) × IsJudgedFor model ws rule i js
+    (js : List Judgement) × AreJudged model (front_of ws rule i) js
     × (said ≡ sentence_text model ws rule i ++ behind_text ws rule i js)
 
 -- what is said of words: nothing where they are a program; else what is said of their refusal, where the word is that

@@ -1,209 +1,209 @@
 //! What could stand at a place of a text.
 ghost use Rattle.std.specs.Prelude.{◌≡◌, IfOk, OnOk, All, map};
 ghost use Rattle.ss_words.specs.PlainRules.{plain_words_of};
-ghost use Rattle.ss_words.specs.Words.{kind_of, word_at};
+ghost use Rattle.ss_words.specs.Words.{kind_of, name, word_at};
 ghost use Rattle.ss_sentences.specs.Candidates as spec;
 ghost use Rattle.ss_sentences.specs.Candidates.{IsFitting};
 ghost use Rattle.ss_sentences.specs.Grammar.{IsGoing};
-ghost use Rattle.ss_sentences.specs.declared.candidate.TheConstants.{CANDIDATES};
 
 use crate::grammar::goes_on;
+use crate::pieces::last_kind;
 use ss_columns::{SCHEDULING, is_kind_among};
 use ss_words::{Name, Sign, Word, WordKind, Words};
 use std::alloc::{AllocError, Global};
 
-/// A word, or a kind of words, that could stand at a place.
-#[derive(Clone, Copy, Debug)]
-pub enum Candidate {
+/// What is tried at a place: a word, or one of a kind of words.
+#[derive(Clone, Copy, Debug, PartialEq, Eq)]
+pub enum Tried {
     /// A name that is not reserved.
     AName,
     ANumber,
-    /// A sign, by how it is told.
-    Sign(Sign, &'static [u8]),
-    /// A reserved word.
-    Reserved(&'static [u8]),
-    /// An article, which stays directly behind SCHEDULE and CAUSE alone.
-    Article(&'static [u8]),
+    Sign(Sign),
+    /// The reserved word that is told.
+    Reserved,
+    /// The article that is told, which stays directly behind SCHEDULE and CAUSE alone.
+    Article,
 }
 
-/// A candidate, and whether it fits.
+/// How a candidate is told, what is tried for it, and whether it fits.
 #[derive(Clone, Copy, Debug)]
 pub struct Judgement {
-    pub candidate: Candidate,
+    pub told: &'static [u8],
+    pub tried: Tried,
     pub fits: bool,
 }
 
-/// What is tried, in this order: of words that mean the same, one. The definitions read this table
-/// too.
-pub const CANDIDATES: [Candidate; 111] = [
-    Candidate::AName,
-    Candidate::ANumber,
-    Candidate::Sign(Sign::Plus, b"+"),
-    Candidate::Sign(Sign::Minus, b"-"),
-    Candidate::Sign(Sign::Star, b"*"),
-    Candidate::Sign(Sign::Open, b"("),
-    Candidate::Sign(Sign::Close, b")"),
-    Candidate::Sign(Sign::Comma, b"a comma"),
-    Candidate::Sign(Sign::Equal, b"="),
-    Candidate::Sign(Sign::Less, b"<"),
-    Candidate::Sign(Sign::Greater, b">"),
-    Candidate::Sign(Sign::LessEqual, b"<="),
-    Candidate::Sign(Sign::GreaterEqual, b">="),
-    Candidate::Article(b"A"),
-    Candidate::Article(b"THE"),
-    Candidate::Reserved(b"PREAMBLE"),
-    Candidate::Reserved(b"END"),
-    Candidate::Reserved(b"MAIN"),
-    Candidate::Reserved(b"ROUTINE"),
-    Candidate::Reserved(b"EVENT"),
-    Candidate::Reserved(b"EVENTS"),
-    Candidate::Reserved(b"EXTERNAL"),
-    Candidate::Reserved(b"ARE"),
-    Candidate::Reserved(b"NOTICES"),
-    Candidate::Reserved(b"PERMANENT"),
-    Candidate::Reserved(b"TEMPORARY"),
-    Candidate::Reserved(b"ENTITIES"),
-    Candidate::Reserved(b"INCLUDE"),
-    Candidate::Reserved(b"EVERY"),
-    Candidate::Reserved(b"SYSTEM"),
-    Candidate::Reserved(b"HAS"),
-    Candidate::Reserved(b"OWNS"),
-    Candidate::Reserved(b"BELONGS"),
-    Candidate::Reserved(b"TO"),
-    Candidate::Reserved(b"NORMALLY"),
-    Candidate::Reserved(b"MODE"),
-    Candidate::Reserved(b"IS"),
-    Candidate::Reserved(b"INTEGER"),
-    Candidate::Reserved(b"DEFINE"),
-    Candidate::Reserved(b"AS"),
-    Candidate::Reserved(b"VARIABLES"),
-    Candidate::Reserved(b"FIFO"),
-    Candidate::Reserved(b"LIFO"),
-    Candidate::Reserved(b"SETS"),
-    Candidate::Reserved(b"RANKED"),
-    Candidate::Reserved(b"BY"),
-    Candidate::Reserved(b"HIGH"),
-    Candidate::Reserved(b"LOW"),
-    Candidate::Reserved(b"THEN"),
-    Candidate::Reserved(b"PRIORITY"),
-    Candidate::Reserved(b"ORDER"),
-    Candidate::Reserved(b"BREAK"),
-    Candidate::Reserved(b"TIES"),
-    Candidate::Reserved(b"SAVING"),
-    Candidate::Reserved(b"GIVEN"),
-    Candidate::Reserved(b"YIELDING"),
-    Candidate::Reserved(b"LET"),
-    Candidate::Reserved(b"ADD"),
-    Candidate::Reserved(b"SUBTRACT"),
-    Candidate::Reserved(b"FROM"),
-    Candidate::Reserved(b"CREATE"),
-    Candidate::Reserved(b"CALLED"),
-    Candidate::Reserved(b"DESTROY"),
-    Candidate::Reserved(b"FILE"),
-    Candidate::Reserved(b"REMOVE"),
-    Candidate::Reserved(b"FIRST"),
-    Candidate::Reserved(b"LAST"),
-    Candidate::Reserved(b"BEFORE"),
-    Candidate::Reserved(b"AFTER"),
-    Candidate::Reserved(b"IN"),
-    Candidate::Reserved(b"AT"),
-    Candidate::Reserved(b"IF"),
-    Candidate::Reserved(b"ELSE"),
-    Candidate::Reserved(b"ALWAYS"),
-    Candidate::Reserved(b"FOUND"),
-    Candidate::Reserved(b"NONE"),
-    Candidate::Reserved(b"NOT"),
-    Candidate::Reserved(b"EMPTY"),
-    Candidate::Reserved(b"AND"),
-    Candidate::Reserved(b"OR"),
-    Candidate::Reserved(b"NE"),
-    Candidate::Reserved(b"FOR"),
-    Candidate::Reserved(b"BACK"),
-    Candidate::Reserved(b"REVERSE"),
-    Candidate::Reserved(b"WITH"),
-    Candidate::Reserved(b"UNLESS"),
-    Candidate::Reserved(b"WHILE"),
-    Candidate::Reserved(b"UNTIL"),
-    Candidate::Reserved(b"DO"),
-    Candidate::Reserved(b"LOOP"),
-    Candidate::Reserved(b"FIND"),
-    Candidate::Reserved(b"CASE"),
-    Candidate::Reserved(b"COMPUTE"),
-    Candidate::Reserved(b"NUMBER"),
-    Candidate::Reserved(b"SUM"),
-    Candidate::Reserved(b"MAXIMUM"),
-    Candidate::Reserved(b"MINIMUM"),
-    Candidate::Reserved(b"SCHEDULE"),
-    Candidate::Reserved(b"CANCEL"),
-    Candidate::Reserved(b"NOW"),
-    Candidate::Reserved(b"UNITS"),
-    Candidate::Reserved(b"START"),
-    Candidate::Reserved(b"SIMULATION"),
-    Candidate::Reserved(b"STOP"),
-    Candidate::Reserved(b"CALL"),
-    Candidate::Reserved(b"RETURN"),
-    Candidate::Reserved(b"READ"),
-    Candidate::Reserved(b"PRINT"),
-    Candidate::Reserved(b"LINES"),
-    Candidate::Reserved(b"THUS"),
-    Candidate::Reserved(b"SKIP"),
+/// How each candidate is told, and what is tried for it, in this order: of words that mean the same,
+/// one. The definitions read this table too.
+pub const CANDIDATES: [(&[u8], Tried); 111] = [
+    (b"a name", Tried::AName),
+    (b"a number", Tried::ANumber),
+    (b"+", Tried::Sign(Sign::Plus)),
+    (b"-", Tried::Sign(Sign::Minus)),
+    (b"*", Tried::Sign(Sign::Star)),
+    (b"(", Tried::Sign(Sign::Open)),
+    (b")", Tried::Sign(Sign::Close)),
+    (b"a comma", Tried::Sign(Sign::Comma)),
+    (b"=", Tried::Sign(Sign::Equal)),
+    (b"<", Tried::Sign(Sign::Less)),
+    (b">", Tried::Sign(Sign::Greater)),
+    (b"<=", Tried::Sign(Sign::LessEqual)),
+    (b">=", Tried::Sign(Sign::GreaterEqual)),
+    (b"A", Tried::Article),
+    (b"THE", Tried::Article),
+    (b"PREAMBLE", Tried::Reserved),
+    (b"END", Tried::Reserved),
+    (b"MAIN", Tried::Reserved),
+    (b"ROUTINE", Tried::Reserved),
+    (b"EVENT", Tried::Reserved),
+    (b"EVENTS", Tried::Reserved),
+    (b"EXTERNAL", Tried::Reserved),
+    (b"ARE", Tried::Reserved),
+    (b"NOTICES", Tried::Reserved),
+    (b"PERMANENT", Tried::Reserved),
+    (b"TEMPORARY", Tried::Reserved),
+    (b"ENTITIES", Tried::Reserved),
+    (b"INCLUDE", Tried::Reserved),
+    (b"EVERY", Tried::Reserved),
+    (b"SYSTEM", Tried::Reserved),
+    (b"HAS", Tried::Reserved),
+    (b"OWNS", Tried::Reserved),
+    (b"BELONGS", Tried::Reserved),
+    (b"TO", Tried::Reserved),
+    (b"NORMALLY", Tried::Reserved),
+    (b"MODE", Tried::Reserved),
+    (b"IS", Tried::Reserved),
+    (b"INTEGER", Tried::Reserved),
+    (b"DEFINE", Tried::Reserved),
+    (b"AS", Tried::Reserved),
+    (b"VARIABLES", Tried::Reserved),
+    (b"FIFO", Tried::Reserved),
+    (b"LIFO", Tried::Reserved),
+    (b"SETS", Tried::Reserved),
+    (b"RANKED", Tried::Reserved),
+    (b"BY", Tried::Reserved),
+    (b"HIGH", Tried::Reserved),
+    (b"LOW", Tried::Reserved),
+    (b"THEN", Tried::Reserved),
+    (b"PRIORITY", Tried::Reserved),
+    (b"ORDER", Tried::Reserved),
+    (b"BREAK", Tried::Reserved),
+    (b"TIES", Tried::Reserved),
+    (b"SAVING", Tried::Reserved),
+    (b"GIVEN", Tried::Reserved),
+    (b"YIELDING", Tried::Reserved),
+    (b"LET", Tried::Reserved),
+    (b"ADD", Tried::Reserved),
+    (b"SUBTRACT", Tried::Reserved),
+    (b"FROM", Tried::Reserved),
+    (b"CREATE", Tried::Reserved),
+    (b"CALLED", Tried::Reserved),
+    (b"DESTROY", Tried::Reserved),
+    (b"FILE", Tried::Reserved),
+    (b"REMOVE", Tried::Reserved),
+    (b"FIRST", Tried::Reserved),
+    (b"LAST", Tried::Reserved),
+    (b"BEFORE", Tried::Reserved),
+    (b"AFTER", Tried::Reserved),
+    (b"IN", Tried::Reserved),
+    (b"AT", Tried::Reserved),
+    (b"IF", Tried::Reserved),
+    (b"ELSE", Tried::Reserved),
+    (b"ALWAYS", Tried::Reserved),
+    (b"FOUND", Tried::Reserved),
+    (b"NONE", Tried::Reserved),
+    (b"NOT", Tried::Reserved),
+    (b"EMPTY", Tried::Reserved),
+    (b"AND", Tried::Reserved),
+    (b"OR", Tried::Reserved),
+    (b"NE", Tried::Reserved),
+    (b"FOR", Tried::Reserved),
+    (b"BACK", Tried::Reserved),
+    (b"REVERSE", Tried::Reserved),
+    (b"WITH", Tried::Reserved),
+    (b"UNLESS", Tried::Reserved),
+    (b"WHILE", Tried::Reserved),
+    (b"UNTIL", Tried::Reserved),
+    (b"DO", Tried::Reserved),
+    (b"LOOP", Tried::Reserved),
+    (b"FIND", Tried::Reserved),
+    (b"CASE", Tried::Reserved),
+    (b"COMPUTE", Tried::Reserved),
+    (b"NUMBER", Tried::Reserved),
+    (b"SUM", Tried::Reserved),
+    (b"MAXIMUM", Tried::Reserved),
+    (b"MINIMUM", Tried::Reserved),
+    (b"SCHEDULE", Tried::Reserved),
+    (b"CANCEL", Tried::Reserved),
+    (b"NOW", Tried::Reserved),
+    (b"UNITS", Tried::Reserved),
+    (b"START", Tried::Reserved),
+    (b"SIMULATION", Tried::Reserved),
+    (b"STOP", Tried::Reserved),
+    (b"CALL", Tried::Reserved),
+    (b"RETURN", Tried::Reserved),
+    (b"READ", Tried::Reserved),
+    (b"PRINT", Tried::Reserved),
+    (b"LINES", Tried::Reserved),
+    (b"THUS", Tried::Reserved),
+    (b"SKIP", Tried::Reserved),
 ];
 
 /// The word that is tried.
-fn word_kind(alloc: Global, candidate: Candidate) -> Result<WordKind, AllocError>
-    ensures { IfOk result (λ kind. kind_of kind ≡ spec.candidate_kind candidate.entry) }
+fn word_kind(alloc: Global, told: &[u8], tried: Tried) -> Result<WordKind, AllocError>
+    ensures { IfOk result (λ kind. kind_of kind ≡ spec.candidate_kind told.now tried) }
 {
-    let spelling: &[u8] = match candidate {
-        Candidate::Sign(sign, _) => return Ok(WordKind::Sign(sign)),
-        Candidate::ANumber => return Ok(WordKind::Number(1)),
-        Candidate::AName => b"X",
-        Candidate::Reserved(spelling) => spelling,
-        Candidate::Article(spelling) => spelling,
-    };
-    let bytes = Vec::from_slice(alloc, spelling)?;
+    match tried {
+        Tried::Sign(sign) => Ok(WordKind::Sign(sign)),
+        Tried::ANumber => Ok(WordKind::Number(1)),
+        Tried::AName => name_of(alloc, b"X"),
+        Tried::Reserved | Tried::Article => name_of(alloc, told),
+    }
+}
+
+fn name_of(alloc: Global, bytes: &[u8]) -> Result<WordKind, AllocError>
+    ensures { IfOk result (λ kind. kind_of kind ≡ name bytes.now) }
+{
+    let bytes = Vec::from_slice(alloc, bytes)?;
     Ok(WordKind::Name(Name::new(alloc, bytes)?))
 }
 
 /// Whether the last of these words keeps an article behind it.
+#[tactic(auto, unfolding(ss_columns::specs::Reserved::scheduling))]
 pub fn keeps_article(words: &[Word]) -> bool
     ensures { result ≡ spec.keeps_article (map word_at words.now) }
 {
-    match words.last() {
-        Some(word) => is_scheduling(word),
+    match last_kind(words) {
+        Some(kind) => is_kind_among(kind, &SCHEDULING),
         None => false,
     }
 }
 
-#[tactic(auto, unfolding(ss_columns::specs::Reserved::scheduling))]
-fn is_scheduling(word: &Word) -> bool
-    ensures { result ≡ spec.is_scheduling (word_at word.now) }
-{
-    is_kind_among(&word.kind, &SCHEDULING)
-}
-
 /// Whether a candidate would be dropped behind these words.
-fn is_dropped(words: &Words, candidate: Candidate) -> bool
-    ensures { result ≡ spec.is_dropped words.now candidate.entry }
+fn is_dropped(words: &Words, tried: Tried) -> bool
+    ensures { result ≡ spec.is_dropped words.now tried }
 {
-    match candidate {
-        Candidate::Article(_) => !keeps_article(&words.list),
+    match tried {
+        Tried::Article => !keeps_article(&words.list),
         _ => false,
     }
 }
 
 /// Whether a program goes on or ends behind these words and the candidate. The words are again as
 /// they were, unless memory was refused.
+#[tactic(auto, using(crate::proofs::Whole::pushed))]
 fn goes_on_with(
     alloc: Global,
     words: &mut Words,
-    candidate: Candidate,
+    told: &[u8],
+    tried: Tried,
 ) -> Result<bool, AllocError>
     ensures same { OnOk result (words.new ≡ words.old) }
     ensures judged { IfOk result (λ goes_on. IsGoing goes_on (plain_words_of
-        (spec.with_candidate words.old candidate.entry))) }
+        (spec.with_candidate words.old told.now tried))) }
 {
     let line = words.list.len();
-    let kind = word_kind(alloc, candidate)?;
+    let kind = word_kind(alloc, told, tried)?;
     words.list.push(Word { line, kind })?;
     let goes_on = goes_on(alloc, words)?;
     words.list.truncate(line);
@@ -211,29 +211,35 @@ fn goes_on_with(
 }
 
 /// Judges a candidate behind these words.
-fn judge(alloc: Global, words: &mut Words, candidate: Candidate) -> Result<bool, AllocError>
+fn judge(
+    alloc: Global,
+    words: &mut Words,
+    told: &[u8],
+    tried: Tried,
+) -> Result<bool, AllocError>
     ensures same { OnOk result (words.new ≡ words.old) }
-    ensures judged { IfOk result (λ fits. IsFitting words.old candidate.entry fits) }
+    ensures judged { IfOk result (λ fits. IsFitting words.old told.now tried fits) }
 {
-    if is_dropped(words, candidate) {
+    if is_dropped(words, tried) {
         return Ok(false);
     }
-    goes_on_with(alloc, words, candidate)
+    goes_on_with(alloc, words, told, tried)
 }
 
 /// Judges each candidate behind these words, which are numbered from 0.
+#[tactic(auto, unfolding(crate::specs::Candidates::candidates))]
 pub fn judge_all(alloc: Global, words: &mut Words) -> Result<Vec<Judgement>, AllocError>
     ensures judged { IfOk result
-        (λ all. All (λ j. IsFitting words.old j.candidate j.fits) all.items) }
+        (λ all. All (λ j. IsFitting words.old j.told.now j.tried j.fits) all.items) }
     ensures complete { IfOk result
-        (λ all. map (λ j. j.candidate) all.items ≡ CANDIDATES) }
+        (λ all. map spec.candidate_of all.items ≡ spec.candidates) }
 {
     let mut all = Vec::with_capacity(alloc, CANDIDATES.len())?;
-    let mut rows: &'static [Candidate] = &CANDIDATES;
-    while let [candidate, rest @ ..] = rows {
-        let candidate = *candidate;
-        let fits = judge(alloc, words, candidate)?;
-        all.push(Judgement { candidate, fits })?;
+    let mut rows: &'static [(&'static [u8], Tried)] = &CANDIDATES;
+    while let [row, rest @ ..] = rows {
+        let (told, tried) = *row;
+        let fits = judge(alloc, words, told, tried)?;
+        all.push(Judgement { told, tried, fits })?;
         rows = rest;
     }
     Ok(all)

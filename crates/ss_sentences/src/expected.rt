@@ -1,10 +1,9 @@
 //! What could stand at a place, as it is told.
-ghost use Rattle.std.specs.Prelude.{◌≡◌, ◌++◌, OnOk};
-ghost use Rattle.std.specs.List.{list_any};
-ghost use Rattle.ss_sentences.specs.Candidates.{candidate_text};
+ghost use Rattle.std.specs.Prelude.{◌≡◌, ◌++◌, true, OnOk};
+ghost use Rattle.ss_sentences.specs.declared.expected.TheConstants.{FIRST_ROOM};
 ghost use Rattle.ss_sentences.specs.Expected as spec;
 
-use crate::candidate::{Candidate, Judgement};
+use crate::candidate::Judgement;
 use std::alloc::AllocError;
 
 /// What stands before what could stand at a place. The definitions read these texts too.
@@ -13,19 +12,6 @@ pub const EXPECTED: &[u8] = b"Expected:";
 pub const FIRST_ROOM: usize = 110;
 /// So many bytes have room on each further line, and a comma.
 pub const FURTHER_ROOM: usize = 117;
-
-/// How a candidate is told.
-pub fn candidate_text(candidate: Candidate) -> &'static [u8]
-    ensures { result.now ≡ candidate_text candidate.entry }
-{
-    match candidate {
-        Candidate::AName => b"a name",
-        Candidate::ANumber => b"a number",
-        Candidate::Sign(_, told) => told,
-        Candidate::Reserved(spelling) => spelling,
-        Candidate::Article(spelling) => spelling,
-    }
-}
 
 fn separator(is_first: bool) -> &'static [u8]
     ensures { result.now ≡ spec.separator is_first }
@@ -51,7 +37,7 @@ fn push_listed(text: &mut Vec<u8>, judged: &[Judgement]) -> Result<(), AllocErro
     let mut rest = judged;
     while let [judgement, behind @ ..] = rest {
         if judgement.fits {
-            let told = candidate_text(judgement.candidate);
+            let told = judgement.told;
             if room.saturating_sub(told.len()) < 2 {
                 text.extend_from_slice(b",\n  ")?;
                 room = FURTHER_ROOM.saturating_sub(told.len());
@@ -72,7 +58,7 @@ pub fn fits(mut judged: &[Judgement], told: &[u8]) -> bool
     ensures { result ≡ spec.fits judged.entry.now told.now }
 {
     while let [judgement, rest @ ..] = judged {
-        if judgement.fits && candidate_text(judgement.candidate) == told {
+        if judgement.fits && judgement.told == told {
             return true;
         }
         judged = rest;

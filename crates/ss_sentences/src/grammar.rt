@@ -1,7 +1,8 @@
 //! Whether words are a program, and whether one goes on behind them.
-ghost use Rattle.std.specs.Prelude.{IfErr, IfOk};
+ghost use Rattle.std.specs.Prelude.{◌≡◌, IfErr, IfOk};
 ghost use Rattle.ss_words.specs.PlainRules.{plain_words_of};
 ghost use Rattle.ss_sentences.specs.Grammar.{IsFault, IsGoing, IsSpelled};
+ghost use Rattle.ss_sentences.specs.Grammar as spec;
 
 use ss_preamble::preamble;
 use ss_routines::sections;
@@ -22,6 +23,7 @@ pub fn spelled(alloc: Global, words: &Words) -> Result<(), TextFault>
 }
 
 /// Whether the words are a program, or are refused only because they end.
+#[tactic(auto, using(crate::proofs::Parts::goings))]
 pub fn goes_on(alloc: Global, words: &Words) -> Result<bool, AllocError>
     ensures { IfOk result (λ goes_on. IsGoing goes_on (plain_words_of words.now)) }
 {
@@ -32,8 +34,9 @@ pub fn goes_on(alloc: Global, words: &Words) -> Result<bool, AllocError>
     }
 }
 
-fn is_end(rule: TextRule) -> bool
-    ensures { result ≡ is_end rule }
+/// Whether it is P2.
+pub fn is_end(rule: TextRule) -> bool
+    ensures { result ≡ spec.is_end rule }
 {
     matches!(rule, TextRule::UnexpectedEnd)
 }

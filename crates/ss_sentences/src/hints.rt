@@ -1,13 +1,14 @@
 //! Hints at what is often meant where a word does not fit.
-ghost use Rattle.std.specs.Prelude.{◌≡◌, ◌++◌, [], IfOk, OnOk, map};
+ghost use Rattle.std.specs.Prelude.{◌≡◌, ◌-◌, ◌++◌, [], IfOk, None, OnOk, length, map, take};
 ghost use Rattle.ss_words.specs.Words.{word_at};
 ghost use Rattle.ss_sentences.specs.Hints as spec;
 ghost use Rattle.ss_columns.specs.Reserved.{is_kind_among};
-ghost use Rattle.ss_sentences.specs.declared.hints.TheConstants.{DROPPED_HINT};
+ghost use Rattle.ss_sentences.specs.Candidates.{keeps_article};
+ghost use Rattle.ss_sentences.specs.Pieces.{last_kind};
 
 use crate::candidate::{Judgement, keeps_article};
 use crate::expected::fits;
-use crate::pieces::{push_filled, push_number};
+use crate::pieces::{last_kind, last_text, push_filled, push_number};
 use ss_columns::{DROPPED, RESERVED, is_kind_among};
 use ss_words::{Word, WordKind};
 use std::alloc::{AllocError, Global};
@@ -39,15 +40,31 @@ fn is_name(word: &Word) -> bool
     matches!(word.kind, WordKind::Name(_))
 }
 
+/// Whether the last of these words is one that is dropped, wherever it stands.
+#[tactic(auto, unfolding(ss_columns::specs::Reserved::dropped))]
+fn ends_in_filler(words: &[Word]) -> bool
+    ensures { result ≡ spec.is_dropped_word (last_kind None (map word_at words.now)) }
+{
+    match last_kind(words) {
+        Some(kind) => is_kind_among(kind, &DROPPED),
+        None => false,
+    }
+}
+
+/// Whether the last but one of these words keeps an article behind it.
+#[tactic(auto, using(crate::proofs::Whole::but_last))]
+fn last_is_kept(words: &[Word]) -> bool
+    ensures { let all = map word_at words.now in
+        result ≡ keeps_article (take (length all - 1) all) }
+{
+    keeps_article(&words[..words.len().saturating_sub(1)])
+}
+
 /// Whether the last of these words is dropped.
-#[tactic(auto, unfolding(ss_columns::specs::Reserved::dropped, ss_columns::specs::Reserved::scheduling))]
 fn ends_in_dropped(words: &[Word]) -> bool
     ensures { result ≡ spec.ends_in_dropped (map word_at words.now) }
 {
-    let [front @ .., word] = words else {
-        return false;
-    };
-    is_word_among(word, &DROPPED) && !keeps_article(front)
+    ends_in_filler(words) && !last_is_kept(words)
 }
 
 /// Appends a hint that names a word, if it is to be given.
@@ -84,15 +101,27 @@ pub fn push_word_hints(
 }
 
 /// Appends that the last of these words is dropped, if it is.
-pub fn push_dropped_hint(
-    text: &mut Vec<u8>,
-    before: &[Word],
-    told: &[u8],
-) -> Result<(), AllocError>
+fn push_dropped_hint(alloc: Global, text: &mut Vec<u8>, before: &[Word]) -> Result<(), AllocError>
     ensures { OnOk result (text.new.items ≡ text.old.items
-        ++ spec.hint_text (spec.ends_in_dropped (map word_at before.now)) DROPPED_HINT.now told.now) }
+        ++ spec.dropped_hint (map word_at before.now)) }
 {
-    push_hint(text, ends_in_dropped(before), DROPPED_HINT, told)
+    let told = last_text(alloc, before)?;
+    push_hint(text, ends_in_dropped(before), DROPPED_HINT, &told)
+}
+
+/// Appends what the words before a place hint at.
+#[tactic(auto, unfolding(crate::specs::Hints::front_hints))]
+pub fn push_front_hints(
+    alloc: Global,
+    text: &mut Vec<u8>,
+    judged: &[Judgement],
+    before: &[Word],
+) -> Result<(), AllocError>
+    ensures { OnOk result (text.new.items
+        ≡ text.old.items ++ spec.front_hints judged.now (map word_at before.now)) }
+{
+    push_dropped_hint(alloc, text, before)?;
+    push_block_hints(alloc, text, judged, before)
 }
 
 /// The lines of the words that open blocks which no word behind them closes, the innermost last.
@@ -118,6 +147,19 @@ fn open_lines(
     Ok(lines)
 }
 
+/// The last of these lines.
+fn last_line(lines: &[usize]) -> Option<usize>
+    ensures { result ≡ spec.last_line None lines.now }
+{
+    let mut last = None;
+    let mut rest = lines;
+    while let [line, behind @ ..] = rest {
+        last = Some(*line);
+        rest = behind;
+    }
+    last
+}
+
 /// Appends the line of the innermost open block behind these words, if its end fits there.
 fn push_open(
     alloc: Global,
@@ -129,14 +171,12 @@ fn push_open(
     ensures { OnOk result (text.new.items
         ≡ text.old.items ++ spec.open_hint ends_here hint.now lines.now) }
 {
+    let Some(line) = last_line(lines) else {
+        return Ok(());
+    };
     let mut number = Vec::new(alloc);
-    match lines.last() {
-        Some(line) if ends_here => {
-            push_number(&mut number, *line)?;
-            push_filled(text, hint, &number, &number)
-        }
-        _ => Ok(()),
-    }
+    push_number(&mut number, line)?;
+    push_hint(text, ends_here, hint, &number)
 }
 
 /// Appends which blocks are open behind these words, where their ends fit.

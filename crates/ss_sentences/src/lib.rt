@@ -10,6 +10,6 @@ mod pieces;
 mod refusal;
 mod wording;
 
-pub use candidate::{Candidate, Judgement};
+pub use candidate::{Judgement, Tried};
 pub use refusal::{LONGEST_TEXT_JUDGED, text_refusal};
 pub use wording::{fault_sentence, rule_sentence};

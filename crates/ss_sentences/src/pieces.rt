@@ -1,5 +1,5 @@
 //! The pieces of which texts are made.
-ghost use Rattle.std.specs.Prelude.{◌≡◌, ◌≤◌, ◌++◌, IfOk, IsTrue, OnOk, decimal, length, map};
+ghost use Rattle.std.specs.Prelude.{◌≡◌, ◌≤◌, ◌++◌, IfOk, IsTrue, OnOk, decimal, length, map, None, take};
 ghost use Rattle.ss_words.specs.Words.{kind_of, word_at};
 ghost use Rattle.ss_sentences.specs.Pieces as spec;
 
@@ -35,6 +35,7 @@ pub fn push_filled(
 }
 
 /// A place for a word is at the front.
+#[tactic(auto, unfolding(crate::specs::Pieces::begins_gap))]
 fn begins_gap(rest: &[u8]) -> bool
     ensures exact { result ≡ spec.begins_gap rest.now }
     ensures long { IsTrue result → 2 ≤ length rest.now }
@@ -73,12 +74,25 @@ fn kind_text(alloc: Global, kind: &WordKind) -> Result<Vec<u8>, AllocError>
     }
 }
 
+/// What the last of these words is.
+pub fn last_kind(words: &[Word]) -> Option<&WordKind>
+    ensures { spec.kind_seen result ≡ spec.last_kind None (map word_at words.now) }
+{
+    let mut last = None;
+    let mut rest = words;
+    while let [word, behind @ ..] = rest {
+        last = Some(&word.kind);
+        rest = behind;
+    }
+    last
+}
+
 /// How the last of these words is told.
 pub fn last_text(alloc: Global, words: &[Word]) -> Result<Vec<u8>, AllocError>
     ensures { IfOk result (λ text. text.items ≡ spec.last_text (map word_at words.now)) }
 {
-    match words.last() {
-        Some(word) => kind_text(alloc, &word.kind),
+    match last_kind(words) {
+        Some(kind) => kind_text(alloc, kind),
         None => Vec::from_slice(alloc, b"the start of the text"),
     }
 }
@@ -100,7 +114,7 @@ pub fn push_place(text: &mut Vec<u8>, place: Place) -> Result<(), AllocError>
     push_number(text, place.line)?;
     if let Some(column) = place.column {
         text.extend_from_slice(b", column ")?;
-        push_number(text, column.saturating_add(1))?;
+        push_number(text, column)?;
     }
     text.extend_from_slice(b": ")
 }
@@ -122,6 +136,13 @@ fn blank_of(byte: u8) -> u8
     if byte == TAB { TAB } else { BLANK }
 }
 
+/// The first bytes, so many of them.
+fn first_bytes(bytes: &[u8], count: usize) -> &[u8]
+    ensures { result.now ≡ take count bytes.now }
+{
+    &bytes[..count.min(bytes.len())]
+}
+
 /// Appends the line of a place, behind its number, and below it a caret at its column.
 pub fn push_source(
     alloc: Global,
@@ -140,7 +161,7 @@ pub fn push_source(
     text.extend_from_slice(line)?;
     text.extend_from_slice(b"\n")?;
     match place.column {
-        Some(column) => push_caret(text, &mark, &line[..column.min(line.len())]),
+        Some(column) => push_caret(text, &mark, first_bytes(line, column.saturating_sub(1))),
         None => Ok(()),
     }
 }

@@ -1,16 +1,17 @@
 //! What is said of a text that a rule L or P refuses.
-ghost use Rattle.std.specs.Prelude.{◌≡◌, ◌+◌, ◌++◌, IfOk, OnOk, slice_get};
+ghost use Rattle.std.specs.Prelude.{◌≡◌, ◌+◌, ◌++◌, IfOk, OnOk, map, slice_get, take};
+ghost use Rattle.ss_words.specs.Words.{word_at};
 ghost use Rattle.ss_columns.specs.Numbers.{numbered};
 ghost use Rattle.ss_sentences.specs.Refusals as spec;
 
 use crate::candidate::{Judgement, judge_all};
 use crate::expected::push_expected;
-use crate::grammar::spelled;
-use crate::hints::{push_block_hints, push_dropped_hint, push_word_hints};
+use crate::grammar::{is_end, spelled};
+use crate::hints::{push_block_hints, push_front_hints, push_word_hints};
 use crate::pieces::{last_text, push_filled, push_place, push_source};
 use crate::wording::rule_sentence;
 use ss_columns::{Place, numbered_words, place_of};
-use ss_words::{TextFault, TextRule, Words, words};
+use ss_words::{TextFault, TextRule, Word, Words, words};
 use std::alloc::{AllocError, Global};
 
 /// Of longer texts it is not told what could stand at a place. The definitions read this number too.
@@ -80,34 +81,42 @@ fn said_of_rule(
 ) -> Result<Vec<u8>, AllocError>
     ensures { IfOk result (λ said. spec.IsSaidOf model.now words.now rule number said.items) }
 {
-    let judged = judge_for(alloc, model, words, rule, number)?;
+    let front = front_of(alloc, words, rule, number)?;
+    let judged = judge_behind(alloc, model, front)?;
     let mut text = Vec::new(alloc);
     push_sentence(alloc, model, words, rule, number, &mut text)?;
     push_behind(alloc, words, rule, number, &judged, &mut text)?;
     Ok(text)
 }
 
-/// Judges what could stand at the place of a refusal.
-#[tactic(auto, unfolding(crate::specs::Refusals::IsJudgedFor))]
-fn judge_for(
+/// Judges what could stand behind these words of a model, if it is not too long.
+#[tactic(auto, using(crate::proofs::Sayings::of_judgements))]
+fn judge_behind(
     alloc: Global,
     model: &[u8],
-    words: &Words,
-    rule: TextRule,
-    number: usize,
+    mut front: Words,
 ) -> Result<Vec<Judgement>, AllocError>
-    ensures { IfOk result
-        (λ judged. spec.IsJudgedFor model.now words.now rule number judged.items) }
+    ensures { IfOk result (λ judged. spec.AreJudged model.now front judged.items) }
 {
     if model.len() > LONGEST_TEXT_JUDGED {
         return Ok(Vec::new(alloc));
     }
-    let mut front = match rule {
-        TextRule::UnexpectedWord => numbered_words(alloc, words, number)?,
-        TextRule::UnexpectedEnd => all_numbered(alloc, words)?,
-        _ => return Ok(Vec::new(alloc)),
-    };
     judge_all(alloc, &mut front)
+}
+
+/// The words behind which it is judged what could stand.
+fn front_of(
+    alloc: Global,
+    words: &Words,
+    rule: TextRule,
+    number: usize,
+) -> Result<Words, AllocError>
+    ensures { IfOk result (λ front. front ≡ spec.front_of words.now rule number) }
+{
+    if is_end(rule) {
+        return all_numbered(alloc, words);
+    }
+    numbered_words(alloc, words, number)
 }
 
 /// Appends what is said behind the sentence of a rule at a word.
@@ -151,11 +160,10 @@ fn push_sentence(
 }
 
 /// How the last of so many words is told.
-#[tactic(auto, using(crate::proofs::Whole::firsts))]
 fn told_before(alloc: Global, words: &Words, count: usize) -> Result<Vec<u8>, AllocError>
     ensures { IfOk result (λ told. told.items ≡ spec.told_before words.now count) }
 {
-    last_text(alloc, &words.list[..count.min(words.list.len())])
+    last_text(alloc, first_words(words, count))
 }
 
 /// How the word of a number is told: as the last of the words up to it.
@@ -180,6 +188,7 @@ fn push_judged(text: &mut Vec<u8>, judged: &[Judgement]) -> Result<(), AllocErro
 }
 
 /// Appends what the word of a number hints at, if there is one.
+#[tactic(auto, using(crate::proofs::Whole::gets))]
 fn push_hints_at(
     alloc: Global,
     words: &Words,
@@ -200,8 +209,15 @@ fn push_hints_at(
     }
 }
 
-/// Appends what could stand in the place of a word, and hints.
+/// The first words, so many of them.
 #[tactic(auto, using(crate::proofs::Whole::firsts))]
+fn first_words(words: &Words, count: usize) -> &[Word]
+    ensures { map word_at result.now ≡ take count words.now }
+{
+    &words.list[..count.min(words.list.len())]
+}
+
+/// Appends what could stand in the place of a word, and hints.
 fn push_unexpected(
     alloc: Global,
     words: &Words,
@@ -212,12 +228,9 @@ fn push_unexpected(
     ensures { OnOk result (text.new.items
         ≡ text.old.items ++ spec.unexpected_text words.now number judged.now) }
 {
-    let before = &words.list[..number.min(words.list.len())];
-    let told = last_text(alloc, before)?;
     push_judged(text, judged)?;
     push_hints_at(alloc, words, number, judged, text)?;
-    push_dropped_hint(text, before, &told)?;
-    push_block_hints(alloc, text, judged, before)
+    push_front_hints(alloc, text, judged, first_words(words, number))
 }
 
 /// Appends what could stand at the end of a text, and which blocks are open there.

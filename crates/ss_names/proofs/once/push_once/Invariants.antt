@@ -5,8 +5,8 @@ use Rattle.ss_names.proofs.once.push_once.Given as goal
 
 abbrev pub invariant-loop-rest : goal.invariant-loop-rest
 invariant-loop-rest l =
-    l.text.items ++ once_text l.names.names.items (map plain_at l.rest)
-    ≡ l.fn.text.items ++ once_text l.names.names.items (map plain_at l.words)
+    l.text.items ++ once_text l.names (map plain_at l.rest)
+    ≡ l.fn.text.items ++ once_text l.names (map plain_at l.words)
 
 abbrev pub decreases-loop-rest : goal.decreases-loop-rest
 decreases-loop-rest l = length l.rest

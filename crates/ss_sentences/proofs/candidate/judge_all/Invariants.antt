@@ -1,15 +1,13 @@
 use Rattle.std.proofs.Common.{◌≡◌, ◌++◌, map, length}
 use Rattle.std.specs.Prelude.{All}
-use Rattle.ss_words.specs.Words.{word_at}
-use Rattle.ss_sentences.specs.declared.candidate.TheConstants.{CANDIDATES}
-use Rattle.ss_sentences.specs.Candidates.{IsFitting}
+use Rattle.ss_sentences.specs.Candidates.{IsFitting, candidate_of, candidates}
 use Rattle.ss_sentences.proofs.candidate.judge_all.Given as goal
 
 abbrev pub invariant-loop-rows : goal.invariant-loop-rows
 invariant-loop-rows l = record {
-  same : map word_at l.words.list.items ≡ map word_at l.initial.words.list.items;
-  judged : All (λ j. IsFitting (map word_at l.initial.words.list.items) j.candidate j.fits) l.all.items;
-  complete : map (λ j. j.candidate) l.all.items ++ l.rows ≡ CANDIDATES;
+  same : l.words ≡ l.initial.words;
+  judged : All (λ j. IsFitting l.initial.words j.told.now j.tried j.fits) l.all.items;
+  complete : map candidate_of l.all.items ++ map (λ row. (row.0.now, row.1)) l.rows ≡ candidates;
 }
 
 abbrev pub decreases-loop-rows : goal.decreases-loop-rows
