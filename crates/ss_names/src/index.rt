@@ -22,11 +22,7 @@ pub fn push_names(alloc: Global, model: &[u8], text: &mut Vec<u8>) -> Result<(),
     }
 }
 
-fn push_names_of_words(
-    alloc: Global,
-    words: &Words,
-    text: &mut Vec<u8>,
-) -> Result<(), AllocError>
+fn push_names_of_words(alloc: Global, words: &Words, text: &mut Vec<u8>) -> Result<(), AllocError>
     ensures { OnOk result (text.new.items
         ≡ text.old.items ++ spec.names_of_words words.now) }
 {

@@ -5,7 +5,9 @@ ghost use Rattle.ss_names.specs.Names as spec;
 use ss_columns::is_among;
 
 /// The clock and the functions. The definitions read these tables too.
-pub const LANGUAGE_NAMES: [&[u8]; 6] = [b"TIME.V", b"ABS.F", b"MAX.F", b"MIN.F", b"DIV.F", b"MOD.F"];
+pub const LANGUAGE_NAMES: [&[u8]; 6] = [
+    b"TIME.V", b"ABS.F", b"MAX.F", b"MIN.F", b"DIV.F", b"MOD.F",
+];
 
 /// How the names begin of what is kept of a class or a set.
 pub const COMPANIONS: [&[u8]; 6] = [b"N.", b"F.", b"L.", b"P.", b"S.", b"M."];

@@ -211,12 +211,7 @@ fn goes_on_with(
 }
 
 /// Judges a candidate behind these words.
-fn judge(
-    alloc: Global,
-    words: &mut Words,
-    told: &[u8],
-    tried: Tried,
-) -> Result<bool, AllocError>
+fn judge(alloc: Global, words: &mut Words, told: &[u8], tried: Tried) -> Result<bool, AllocError>
     ensures same { OnOk result (words.new ≡ words.old) }
     ensures judged { IfOk result (λ fits. IsFitting words.old told.now tried fits) }
 {

@@ -15,15 +15,22 @@ use std::alloc::{AllocError, Global};
 
 /// What opens blocks, and what closes them. The definitions read these tables too.
 pub const IFS: [&[u8]; 1] = [b"IF"];
+
 pub const ALWAYS: [&[u8]; 2] = [b"ALWAYS", b"REGARDLESS"];
+
 pub const DOS: [&[u8]; 1] = [b"DO"];
+
 pub const LOOPS: [&[u8]; 2] = [b"LOOP", b"REPEAT"];
 
 /// The hints. The definitions read them too.
 pub const RESERVED_HINT: &[u8] = b"{} is a reserved word: it can be no name.\n";
+
 pub const DROPPED_HINT: &[u8] = b"{} is dropped here: it can be no name.\n";
+
 pub const UNIT_HINT: &[u8] = b"{} is no unit: a time ends with UNITS or DAYS.\n";
+
 pub const IF_HINT: &[u8] = b"An IF is open here, that of line {}: ALWAYS ends it.\n";
+
 pub const DO_HINT: &[u8] = b"A DO is open here, that of line {}: LOOP ends it.\n";
 
 /// Whether a word is in a table.
@@ -68,12 +75,7 @@ fn ends_in_dropped(words: &[Word]) -> bool
 }
 
 /// Appends a hint that names a word, if it is to be given.
-fn push_hint(
-    text: &mut Vec<u8>,
-    is_given: bool,
-    hint: &[u8],
-    word: &[u8],
-) -> Result<(), AllocError>
+fn push_hint(text: &mut Vec<u8>, is_given: bool, hint: &[u8], word: &[u8]) -> Result<(), AllocError>
     ensures { OnOk result (text.new.items
         ≡ text.old.items ++ spec.hint_text is_given hint.now word.now) }
 {
@@ -95,7 +97,12 @@ pub fn push_word_hints(
         ≡ text.old.items ++ spec.word_hints judged.now (word_at refused.now).kind told.now) }
 {
     let reserved = is_word_among(refused, &RESERVED);
-    push_hint(text, reserved && fits(judged, b"a name"), RESERVED_HINT, told)?;
+    push_hint(
+        text,
+        reserved && fits(judged, b"a name"),
+        RESERVED_HINT,
+        told,
+    )?;
     let unit = is_name(refused) && !reserved && fits(judged, b"UNITS");
     push_hint(text, unit, UNIT_HINT, told)
 }

@@ -11,5 +11,6 @@ mod refusal;
 mod wording;
 
 pub use candidate::{Judgement, Tried};
+pub use pieces::{push_place, push_source};
 pub use refusal::{LONGEST_TEXT_JUDGED, text_refusal};
 pub use wording::{fault_sentence, rule_sentence};

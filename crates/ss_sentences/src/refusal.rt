@@ -91,11 +91,7 @@ fn said_of_rule(
 
 /// Judges what could stand behind these words of a model, if it is not too long.
 #[tactic(auto, using(crate::proofs::Sayings::of_judgements))]
-fn judge_behind(
-    alloc: Global,
-    model: &[u8],
-    mut front: Words,
-) -> Result<Vec<Judgement>, AllocError>
+fn judge_behind(alloc: Global, model: &[u8], mut front: Words) -> Result<Vec<Judgement>, AllocError>
     ensures { IfOk result (λ judged. spec.AreJudged model.now front judged.items) }
 {
     if model.len() > LONGEST_TEXT_JUDGED {
