@@ -1,3 +1,14 @@
 pub mod Source
-pub mod PromptAnswer
+pub mod Words
+pub mod Cuts
+pub mod Reading
+pub mod FaultLine
+pub mod PromptState
+pub mod Plain
+pub mod Travel
+pub mod Sections
+pub mod Listing
+pub mod Displays
+pub mod Help
 pub mod Prompting
+pub mod Laws

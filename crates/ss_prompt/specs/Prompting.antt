@@ -1,37 +1,66 @@
 -- What a dialogue with the debugger means.
-use Rattle.std.specs.Prelude.{ℕ, ◌≡◌, ◌⊎◌, List, codes}
-use Rattle.ss_debug.specs.declared.commands.Command.{Command}
-use Rattle.ss_debug.specs.declared.commands.Command.TheVariants.{Move}
-use Rattle.ss_debug.specs.Turn.{is_quit}
-use Rattle.ss_debug.specs.Command.{command_of}
-use Rattle.ss_debug.specs.AfterRefusal.{IsStateAfterRefusal}
+use Rattle.std.specs.Prelude.{ℕ, ◌≡◌, List, codes, Bool, false}
+use Rattle.ss_debug.specs.declared.commands.Command.TheVariants.{Break, Clear}
+use Rattle.ss_debug.specs.Turn.{is_quit as is_plain_quit}
 use Rattle.ss_console.specs.Meaning.{Meaning}
-use Rattle.ss_prompt.specs.PromptAnswer.{PromptState, prompt_answer, prompt_state_after}
+use Rattle.ss_prompt.specs.declared.commands.PromptCommand.{PromptCommand}
+use Rattle.ss_prompt.specs.declared.commands.PromptCommand.TheVariants.{Plain, Travel, Lines, SectionLines}
+use Rattle.ss_prompt.specs.declared.commands.PromptCommand.TheVariants.{BreakSection, ClearSection}
+use Rattle.ss_prompt.specs.declared.commands.PromptCommand.TheVariants.{Display, Undisplay, Help}
+use Rattle.ss_prompt.specs.Reading.{prompt_command_of}
+use Rattle.ss_prompt.specs.PromptState.{PromptState}
+use Rattle.ss_prompt.specs.Plain.{plain_next, plain_said, IsPlainRefused}
+use Rattle.ss_prompt.specs.Travel.{travel_next, travel_said, IsTravelRefused}
+use Rattle.ss_prompt.specs.Sections.{on_section_said, on_section_next}
+use Rattle.ss_prompt.specs.Listing.{lines_said, section_lines_said}
+use Rattle.ss_prompt.specs.Displays.{display_said, display_next, undisplay_said, undisplay_next}
+use Rattle.ss_prompt.specs.Help.{help_said}
+
+-- what a command answers
+unfoldable pub prompt_answer : PromptState → PromptCommand → List ℕ
+prompt_answer s (Plain command) = plain_said s command
+prompt_answer s (Travel m) = travel_said s m
+prompt_answer s (Lines line) = lines_said s line
+prompt_answer s (SectionLines name) = section_lines_said s name
+prompt_answer s (BreakSection name) = on_section_said s Break name
+prompt_answer s (ClearSection name) = on_section_said s Clear name
+prompt_answer s (Display q) = display_said s q
+prompt_answer s Undisplay = undisplay_said s
+prompt_answer s (Help word) = help_said word
+
+-- the state behind a command
+unfoldable pub prompt_state_after : PromptState → PromptCommand → PromptState
+prompt_state_after s (Plain command) = plain_next s command
+prompt_state_after s (Travel m) = travel_next s m
+prompt_state_after s (BreakSection name) = on_section_next s Break name
+prompt_state_after s (ClearSection name) = on_section_next s Clear name
+prompt_state_after s (Display q) = display_next s q
+prompt_state_after s Undisplay = undisplay_next s
+prompt_state_after s _ = s
+
+-- whether a command ends the dialogue: QUIT alone
+abbrev pub is_quit : PromptCommand → Bool
+is_quit (Plain command) = is_plain_quit command
+is_quit _ = false
+
+-- where memory was refused: a movement was made in part or whole; any other command left all as it was
+unfoldable pub IsRefused : PromptState → PromptCommand → PromptState → Type 0
+IsRefused s (Plain command) after = IsPlainRefused s command after
+IsRefused s (Travel m) after = IsTravelRefused s m after
+IsRefused s _ after = after ≡ s
 
 -- the answer where memory was refused
 abbrev pub refusal_text : PromptState → List ℕ
 refusal_text s = codes "OUT OF MEMORY\n"
-
--- the lines and the run are the same ones
-abbrev pub IsSameRun : PromptState → PromptState → Type 0
-IsSameRun s after = (after.lines ≡ s.lines) × (after.input ≡ s.input)
-
--- a movement was made in part or whole; any other command left all as it was
-unfoldable pub IsRefused : PromptState → Command → PromptState → Type 0
-IsRefused s (Move m) after =
-    IsSameRun s after
-    × (IsStateAfterRefusal s.input s.debugger (Move m) after.debugger ⊎ (after ≡ prompt_state_after s (Move m)))
-IsRefused s command after =
-    IsSameRun s after × IsStateAfterRefusal s.input s.debugger command after.debugger
 
 -- a dialogue with the debugger
 abbrev pub prompting : Meaning
 prompting = record {
   State = PromptState;
   position = λ s. s.debugger.position;
-  said = λ s line. prompt_answer s (command_of line);
-  next = λ s line. prompt_state_after s (command_of line);
-  ends = λ line. is_quit (command_of line);
+  said = λ s line. prompt_answer s (prompt_command_of line);
+  next = λ s line. prompt_state_after s (prompt_command_of line);
+  ends = λ line. is_quit (prompt_command_of line);
   refusal = refusal_text;
-  MayBeLeft = λ s line after. IsRefused s (command_of line) after;
+  MayBeLeft = λ s line after. IsRefused s (prompt_command_of line) after;
 }

@@ -1,8 +1,22 @@
 //! The prompt: the lines of an analyst, each answered by the debugger before the next is read.
 #![tactic(auto)]
 
+mod commands;
+mod cuts;
+mod displays;
+mod fault_line;
+mod help;
+mod laws;
+mod line;
+mod listing;
+mod pieces;
 mod prompt;
+mod read;
+mod sections;
 mod source;
 
+pub use commands::PromptCommand;
+pub use laws::{plain_answers_come_first, plain_lines_stay};
 pub use prompt::Prompt;
+pub use read::prompt_command;
 pub use source::push_marked_line;

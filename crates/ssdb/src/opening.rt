@@ -1,18 +1,19 @@
 //! A whole dialogue over a model and its data.
-ghost use Rattle.std.specs.Prelude.{◌≡◌, ◌⊎◌, ◌-◌, ◌^◌, ◌<◌, map, OnOk, IfOk, IfErr};
+ghost use Rattle.std.specs.Prelude.{◌≡◌, ◌⊎◌, ◌-◌, ◌^◌, ◌<◌, ◌++◌, map, OnOk, IfOk, IfErr};
 ghost use Rattle.std.specs.Vec.{vec_capacity};
 ghost use Rattle.ss_console.specs.declared.lines.TheConstants.{LINE_LIMIT};
 ghost use Rattle.ss_console.specs.Dialogue.{EndsByInput, EndsByLine};
-ghost use Rattle.ss_prompt.specs.PromptAnswer.{prompt_state_of};
+ghost use Rattle.ss_console.specs.Event.{Adds, written};
 ghost use Rattle.ss_prompt.specs.Prompting.{prompting};
-ghost use Rattle.ss_machine.specs.Run.{input_with};
+ghost use Rattle.ss_machine.specs.Run.{input_with, run};
 ghost use Rattle.ss_debug.specs.Turn.{initial_debugger_state};
 ghost use Rattle.ss_debug.specs.View.{debugger_state_of};
 ghost use Rattle.ss_session.specs.Model.{accepted, IsOutcome};
 ghost use Rattle.ss_session.specs.Load.{IsLoadFault};
 ghost use Rattle.ss_session.specs.declared.load.LoadFault.TheVariants as load;
 ghost use Rattle.ssdb.specs.declared.opening.PromptFault.TheVariants.{Memory};
-ghost use Rattle.ssdb.specs.Opening.{end_of_status, refused_model_text};
+ghost use Rattle.ss_sentences.specs.Wording.{rule_sentence};
+ghost use Rattle.ssdb.specs.Opening.{greeted, end_of_status, has_blank, rule_line, refused_model_text};
 
 use crate::source::source_lines;
 use ss_console::{Console, Cut, LINE_LIMIT, converse, put_all};
@@ -20,6 +21,7 @@ use ss_debug::Debugger;
 use ss_links::{LinkedSets, SetBoard};
 use ss_machine::Status;
 use ss_prompt::{Prompt, push_marked_line};
+use ss_sentences::rule_sentence;
 use ss_session::{LoadFault, load_program, machine, refusal_text};
 use std::alloc::{AllocError, Global};
 use thiserror::Error;
@@ -69,12 +71,35 @@ impl From<Cut> for PromptFault {
     }
 }
 
+/// Whether a sentence has a blank for a word of the model.
+fn has_blank(sentence: &[u8]) -> bool
+    ensures { result ≡ has_blank sentence.now }
+{
+    sentence.iter().any(|b| *b == b'{')
+}
+
+/// Appends what a rule means, if its sentence has no blank.
+fn push_rule(text: &mut Vec<u8>, code: &str) -> Result<(), AllocError>
+    ensures { OnOk result (text.new.items
+        ≡ text.old.items ++ rule_line code.now (rule_sentence code.now)) }
+{
+    let sentence = rule_sentence(code);
+    if has_blank(sentence) {
+        return Ok(());
+    }
+    text.extend_from_slice(code.as_bytes())?;
+    text.extend_from_slice(b": ")?;
+    text.extend_from_slice(sentence)?;
+    text.extend_from_slice(b"\n")
+}
+
 /// What is said of a refused model.
 fn refusal(alloc: Global, lines: &[Vec<u8>], code: &str, line: usize) -> Result<Vec<u8>, AllocError>
     ensures { IfOk result (λ text. text.items
         ≡ refused_model_text (map (λ l. l.items) lines.now) code.now line) }
 {
     let mut text = refusal_text(alloc, code, line)?;
+    push_rule(&mut text, code)?;
     push_marked_line(&mut text, lines, b"> ", line)?;
     Ok(text)
 }
@@ -112,6 +137,31 @@ fn end(status: Status) -> PromptEnd
     }
 }
 
+/// Tells at a terminal where the debugger stands, before the first line is read.
+#[tactic(auto, using(ss_console::proofs::Parts::no_prompt))]
+fn greet<S: SetBoard, C: Console>(
+    alloc: Global,
+    prompt: &Prompt<S>,
+    console: &mut C,
+) -> Result<(), PromptFault>
+    requires { (C.faults console.old).puts < 2 ^ 64 - 1 }
+    ensures ok { OnOk result (Adds (C.log console.old) (C.log console.new)
+        (written (greeted (C.terminal console.old) prompt.now))
+        × (C.faults console.new ≡ C.faults console.old)) }
+    ensures lines { C.left console.new ≡ C.left console.old }
+    ensures terminal { C.terminal console.new ≡ C.terminal console.old }
+{
+    if !console.is_terminal() {
+        return Ok(());
+    }
+    let mut text = Vec::new(alloc);
+    prompt.push_greeting(&mut text)?;
+    match put_all(console, &text) {
+        Ok(()) => Ok(()),
+        Err(_) => Err(PromptFault::Cut(Cut::Write)),
+    }
+}
+
 /// Answers the lines of a console, and says how the run stands then.
 fn hold<S: SetBoard, C: Console>(
     alloc: Global,
@@ -122,17 +172,16 @@ fn hold<S: SetBoard, C: Console>(
     requires room { LINE_LIMIT < vec_capacity line.old }
     requires reads { (C.faults console.old).reads < 2 ^ 64 - 1 }
     requires puts { (C.faults console.old).puts < 2 ^ 64 - 1 }
-    ensures ok { let from = prompt_state_of prompt.old.debugger (map (λ l. l.items) prompt.old.lines.items) in
-        let to = prompt_state_of prompt.new.debugger (map (λ l. l.items) prompt.new.lines.items) in
-        OnOk result (EndsByInput prompting (C.terminal console.old) from to
+    ensures ok { OnOk result (EndsByInput prompting (C.terminal console.old) prompt.old prompt.new
         (C.left console.old) (C.left console.new) (C.log console.old) (C.log console.new)
-        ⊎ EndsByLine prompting (C.terminal console.old) from to
+        ⊎ EndsByLine prompting (C.terminal console.old) prompt.old prompt.new
         (C.left console.old) (C.left console.new) (C.log console.old) (C.log console.new)) }
-    ensures end { IfOk result (λ end. end ≡ end_of_status prompt.new.debugger.machine.state.status) }
+    ensures end { IfOk result
+        (λ end. end ≡ end_of_status (run prompt.new.input prompt.new.debugger.position).status) }
 {
     let mut answer = Vec::new(alloc);
     converse(prompt, console, line, &mut answer)?;
-    Ok(end(prompt.debugger().machine().status()))
+    Ok(end(prompt.status()))
 }
 
 /// The debugger at the start of the run of a model over its data.
@@ -167,8 +216,11 @@ pub fn open_prompt<C: Console>(
     let lines = source_lines(alloc, model)?;
     match open(alloc, model, data_text) {
         Ok(debugger) => {
-            let mut prompt = Prompt::new(debugger, lines);
-            let ended = hold(alloc, &mut prompt, &mut line, console);
+            let mut prompt = Prompt::new(alloc, debugger, lines);
+            let ended = match greet(alloc, &prompt, console) {
+                Ok(()) => hold(alloc, &mut prompt, &mut line, console),
+                Err(fault) => Err(fault),
+            };
             drop(prompt);
             ended
         }

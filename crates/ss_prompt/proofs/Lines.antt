@@ -1,0 +1,25 @@
+-- Lines are made word by word.
+use Rattle.std.proofs.Common.{◌≡◌, ℕ, List, [], ◌∷◌, refl, fold, Option, Some, None}
+use Rattle.ss_prompt.specs.Words.{with_word, line_behind}
+use Rattle.ss_prompt.specs.Cuts.{all_whole, made_whole, behind}
+use Rattle.ss_prompt.specs.declared.cuts.Standing.{Standing}
+
+-- a line that is too long stays so
+pub too_long : (words : List (List ℕ)) → fold with_word None words ≡ None
+unfolding with_word
+too_long [] = refl
+too_long (word ∷ words) = too_long words
+
+-- one word made whole, and those behind it
+pub one_whole : (at : Standing) (word : List ℕ) (more : List (List ℕ)) →
+    all_whole at (word ∷ more) ≡ made_whole at word more ∷ all_whole (behind at (made_whole at word more)) more
+unfolding all_whole
+one_whole at word more = refl
+
+-- none made whole
+pub none_whole : (at : Standing) → all_whole at [] ≡ []
+unfolding all_whole
+none_whole at = refl
+
+-- words made whole, one by one
+pub ruleset whole_words = (too_long, one_whole, none_whole)

@@ -1,0 +1,47 @@
+-- Lines of the model, as LIST tells them.
+use Rattle.std.specs.Prelude.{ℕ, zero, suc, ◌+◌, ◌-◌, max, min, ◌||◌, List, [], ◌∷◌, ◌++◌, length, codes, decimal}
+use Rattle.std.specs.Prelude.{Option, Some, None, if◌then◌else◌, nat_eq, nat_lt}
+use Rattle.ss_debug.specs.Move.{line_at}
+use Rattle.ss_program.specs.Program.{section_of}
+use Rattle.ss_prompt.specs.Source.{marked_line}
+use Rattle.ss_prompt.specs.PromptState.{PromptState}
+use Rattle.ss_prompt.specs.Sections.{section_named, no_section, last_line}
+
+-- the mark of a line: that of the present place, or another
+abbrev pub mark_of : ℕ → ℕ → List ℕ
+mark_of present l = if nat_eq l present then codes "> " else codes ": "
+
+-- so many lines from one on, each behind its number and a mark
+abbrev pub listed : List (List ℕ) → ℕ → ℕ → ℕ → List ℕ
+listed lines present from zero = []
+listed lines present from (suc k) =
+    listed lines present from k ++ marked_line lines (mark_of present (from + k)) (from + k)
+
+-- the line of the present place
+abbrev pub present_line : PromptState → ℕ
+present_line s = line_at s.input s.debugger.position
+
+-- the lines from one to another that there are
+abbrev pub listed_to : List (List ℕ) → ℕ → ℕ → ℕ → List ℕ
+listed_to lines present from to = listed lines present from (min (length lines) to + 1 - from)
+
+-- line l with the five before it and the five behind it
+abbrev pub listed_about : List (List ℕ) → ℕ → ℕ → List ℕ
+listed_about lines present l =
+    if nat_eq l 0 || nat_lt (length lines) l then codes "NO LINE " ++ decimal l ++ 10 ∷ []
+    else listed_to lines present (max 1 (l - 5)) (l + 5)
+
+-- what LIST answers, with a line or without
+abbrev pub lines_said : PromptState → Option ℕ → List ℕ
+lines_said s (Some l) = listed_about s.lines (present_line s) l
+lines_said s None = listed_about s.lines (present_line s) (present_line s)
+
+-- the lines of section number n, from its head to its last place
+abbrev pub section_listed : PromptState → List ℕ → Option ℕ → List ℕ
+section_listed s name None = no_section name
+section_listed s name (Some n) =
+    listed_to s.lines (present_line s) (section_of s.input.program n).line (last_line s.input.program n)
+
+-- what LIST r answers
+abbrev pub section_lines_said : PromptState → List ℕ → List ℕ
+section_lines_said s name = section_listed s name (section_named s.input.program name)

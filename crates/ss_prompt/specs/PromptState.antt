@@ -1,0 +1,59 @@
+-- The state of the prompt, and what is told at a stop.
+use Rattle.std.specs.Prelude.{ℕ, ◌≡◌, List, [], ◌∷◌, ◌++◌, codes}
+use Rattle.ss_machine.specs.Run.{Input, run}
+use Rattle.ss_debug.specs.declared.commands.Question.{Question}
+use Rattle.ss_debug.specs.Answer.{state_line}
+use Rattle.ss_debug.specs.Move.{line_at}
+use Rattle.ss_debug.specs.Turn.{DebuggerState, show_answer}
+use Rattle.ss_debug.specs.View.{DebuggerView, debugger_state_of}
+use Rattle.ss_prompt.specs.Source.{marked_line}
+use Rattle.ss_prompt.specs.FaultLine.{fault_line}
+
+-- a debugger in the run of an input, the lines of its model, and the questions that are answered at each stop
+pub record PromptState : Type 0 where
+  pub lines : List (List ℕ)
+  pub input : Input
+  pub debugger : DebuggerState
+  pub displays : List Question
+
+-- what a debugger with these lines and questions stands for
+abbrev pub prompt_state_of : DebuggerView → List (List ℕ) → List Question → PromptState
+prompt_state_of d lines displays = record {
+  lines = lines;
+  input = d.machine.input;
+  debugger = debugger_state_of d;
+  displays = displays;
+}
+
+-- the same, with the debugger in another state
+abbrev pub with_debugger : PromptState → DebuggerState → PromptState
+with_debugger s d = record { lines = s.lines; input = s.input; debugger = d; displays = s.displays }
+
+-- the same, with other questions
+abbrev pub with_displays : PromptState → List Question → PromptState
+with_displays s displays =
+    record { lines = s.lines; input = s.input; debugger = s.debugger; displays = displays }
+
+-- all but the state of the debugger is the same
+abbrev pub IsSameBeside : PromptState → PromptState → Type 0
+IsSameBeside s after = (after.lines ≡ s.lines) × (after.input ≡ s.input) × (after.displays ≡ s.displays)
+
+-- the line of the place of a state, as it is written in the model
+abbrev pub source_line : PromptState → List ℕ
+source_line s = marked_line s.lines (codes "> ") (line_at s.input s.debugger.position)
+
+-- the answers to some questions in state p
+abbrev pub answers_to : Input → ℕ → List Question → List ℕ
+answers_to t p [] = []
+answers_to t p (q ∷ qs) = show_answer t p q ++ answers_to t p qs
+
+-- what is told where a movement stops: what the fault means, where there is one; the line of the model; the answers to
+-- the questions of each stop
+abbrev pub stop_text : PromptState → List ℕ
+stop_text s =
+    fault_line (run s.input s.debugger.position).status
+    ++ source_line s ++ answers_to s.input s.debugger.position s.displays
+
+-- what is told at a terminal before the first line: that HELP tells the commands, and where the debugger stands
+abbrev pub greeting : PromptState → List ℕ
+greeting s = codes "HELP TELLS THE COMMANDS.\n" ++ state_line s.input s.debugger.position ++ stop_text s

@@ -1,0 +1,54 @@
+-- Sections and their lines.
+use Rattle.std.specs.Prelude.{ℕ, ◌+◌, ◌-◌, List, [], ◌∷◌, ◌++◌, length, codes, Option, Some, None, option_map, position}
+use Rattle.std.specs.Prelude.{if◌then◌else◌, nat_le, slice_get}
+use Rattle.std.specs.Str.{bytes_eq}
+use Rattle.ss_program.specs.Program.{ProgramTable, section_of, places_of, spot_at}
+use Rattle.ss_debug.specs.declared.commands.Command.{Command}
+use Rattle.ss_debug.specs.declared.commands.Command.TheVariants.{Bad}
+use Rattle.ss_debug.specs.Move.{spot_line}
+use Rattle.ss_debug.specs.Turn.{answer}
+use Rattle.ss_prompt.specs.declared.sections.TheConstants.{LAST_BREAK_LINE}
+use Rattle.ss_prompt.specs.PromptState.{PromptState}
+use Rattle.ss_prompt.specs.Plain.{plain_next}
+
+-- the number of the section of this name
+abbrev pub section_named : ProgramTable → List ℕ → Option ℕ
+section_named p name = position (λ s. bytes_eq name s.name) p.sections
+
+-- that there is none
+abbrev pub no_section : List ℕ → List ℕ
+no_section name = codes "NO SECTION " ++ name ++ 10 ∷ []
+
+-- the line of the first place of section number n
+abbrev pub first_line : ProgramTable → ℕ → ℕ
+first_line p n = spot_line (spot_at p n 0)
+
+-- the line of its last place
+abbrev pub last_line : ProgramTable → ℕ → ℕ
+last_line p n = spot_line (spot_at p n (length (places_of (slice_get p.sections n)) - 1))
+
+-- BREAK or CLEAR of a line, or a bad one behind the last line that they take
+abbrev pub command_on : (ℕ → Command) → ℕ → Command
+command_on make line = if nat_le line LAST_BREAK_LINE then make line else Bad
+
+-- the line of the first place of the section of this name
+abbrev pub line_of_section : ProgramTable → List ℕ → Option ℕ
+line_of_section p name = option_map (first_line p) (section_named p name)
+
+-- what a command on the line of a section answers, or that there is no such section
+abbrev pub on_line_said : PromptState → (ℕ → Command) → List ℕ → Option ℕ → List ℕ
+on_line_said s make name None = no_section name
+on_line_said s make name (Some line) = answer s.input s.debugger (command_on make line)
+
+-- the state behind it
+abbrev pub on_line_next : PromptState → (ℕ → Command) → Option ℕ → PromptState
+on_line_next s make None = s
+on_line_next s make (Some line) = plain_next s (command_on make line)
+
+-- what BREAK r or CLEAR r answers: what BREAK or CLEAR answers on the line of the first place of section r
+abbrev pub on_section_said : PromptState → (ℕ → Command) → List ℕ → List ℕ
+on_section_said s make name = on_line_said s make name (line_of_section s.input.program name)
+
+-- the state behind it
+abbrev pub on_section_next : PromptState → (ℕ → Command) → List ℕ → PromptState
+on_section_next s make name = on_line_next s make (line_of_section s.input.program name)

@@ -1,0 +1,46 @@
+-- Lines that are made of words, and what such a line says to the debugger.
+use Rattle.std.specs.Prelude.{ℕ, List, [], ◌∷◌, ◌++◌, length, fold, nat_le, Option, Some, None, if◌then◌else◌, codes}
+use Rattle.ss_console.specs.declared.lines.TheConstants.{LINE_LIMIT}
+use Rattle.ss_debug.specs.Command.{command_of}
+use Rattle.ss_debug.specs.declared.commands.Command.{Command}
+use Rattle.ss_debug.specs.declared.commands.Command.TheVariants.{Bad, Show}
+use Rattle.ss_debug.specs.declared.commands.Question.{Question}
+use Rattle.ss_debug.specs.declared.commands.Question.TheVariants.{Variable}
+
+-- a line with one more word, behind a blank
+abbrev pub appended : List ℕ → List ℕ → List ℕ
+appended [] word = word
+appended (b ∷ line) word = (b ∷ line) ++ 32 ∷ word
+
+-- the same, if it is no longer than a line may be
+unfoldable pub with_word : Option (List ℕ) → List ℕ → Option (List ℕ)
+with_word None word = None
+with_word (Some line) word =
+    if nat_le (length (appended line word)) LINE_LIMIT then Some (appended line word) else None
+
+-- a line of some words behind a beginning, if it is no longer than a line may be
+abbrev pub line_behind : List ℕ → List (List ℕ) → Option (List ℕ)
+line_behind head words = fold with_word (Some head) words
+
+-- what a line says to the debugger, where it is no longer than a line may be
+abbrev pub command_or_bad : Option (List ℕ) → Command
+command_or_bad None = Bad
+command_or_bad (Some line) = command_of line
+
+-- what some words say to the debugger behind a beginning
+abbrev pub command_behind : List ℕ → List (List ℕ) → Command
+command_behind head words = command_or_bad (line_behind head words)
+
+-- the question that a command asks
+abbrev pub question_of : Command → Option Question
+question_of (Show q) = Some q
+question_of _ = None
+
+-- the name of a question on a variable
+abbrev pub name_in : Command → Option (List ℕ)
+name_in (Show (Variable name)) = Some name
+name_in _ = None
+
+-- the name that the only word is: what SHOW VAR takes for the name of a variable
+abbrev pub only_name_of : List (List ℕ) → Option (List ℕ)
+only_name_of words = name_in (command_behind (codes "SHOW VAR") words)

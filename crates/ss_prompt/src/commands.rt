@@ -1,0 +1,26 @@
+//! What a line of the prompt says.
+use ss_debug::{Command, Name, Question};
+use ss_trace::Movement;
+
+/// A command of the prompt (docs/PROMPT.md).
+#[derive(Drop)]
+pub enum PromptCommand {
+    /// A line of docs/DEBUGGER.md, or one that is no command.
+    Plain(Command),
+    /// A movement beside those of docs/DEBUGGER.md.
+    Travel(Movement),
+    /// LIST: the lines about this one, or about the present one.
+    Lines(Option<u32>),
+    /// LIST r: the lines of the section of this name.
+    SectionLines(Name),
+    /// BREAK r: makes the line of the first place of the section of this name a break line.
+    BreakSection(Name),
+    /// CLEAR r: that line is no break line any more.
+    ClearSection(Name),
+    /// DISPLAY: a question that is answered at each stop.
+    Display(Question),
+    /// UNDISPLAY: no question is answered at stops any more.
+    Undisplay,
+    /// HELP: the commands, or those that begin with this word.
+    Help(Option<Name>),
+}

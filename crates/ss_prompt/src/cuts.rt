@@ -1,0 +1,184 @@
+//! Words that are cut, made whole.
+ghost use Rattle.std.specs.Prelude.{◌≡◌, ◌∷◌, ◌≤◌, [], length, MatchOption};
+ghost use Rattle.std.specs.List.{filter};
+ghost use Rattle.ss_console.specs.declared.lines.TheConstants.{LINE_LIMIT};
+ghost use Rattle.ss_debug.specs.CommandLines.{command_words};
+ghost use Rattle.ss_prompt.specs.Cuts.{begins, whole, words_at, behind, behind_first, behind_movement};
+ghost use Rattle.ss_prompt.specs.Cuts.{is_asked, begins_with_digit, made_whole, whole_line};
+
+use crate::line::Line;
+use crate::pieces::next_word;
+
+/// The fewest letters of a word that is cut.
+const FEWEST_LETTERS: usize = 3;
+
+/// The words that a line may begin with.
+const FIRST_WORDS: &[u8] =
+    b"STEP RUN NEXT BACK BREAK CLEAR FORGET SHOW QUIT OVER OUT LIST BREAKS DISPLAY UNDISPLAY HELP WHY HISTORY";
+
+/// The words that may stand behind SHOW.
+const SHOW_WORDS: &[u8] =
+    b"CLOCK WHERE VAR SET EVENTS TAKEN ENTRY REPORT COUNT CALLS LOCALS CLASSES SETS GLOBALS SECTIONS CHANGED";
+
+/// Where a word stands.
+#[derive(Clone, Copy, Debug, PartialEq, Eq)]
+pub(crate) enum Standing {
+    /// It is the first of its line.
+    First,
+    /// Behind RUN.
+    BehindRun,
+    /// Behind BACK.
+    BehindBack,
+    /// Behind SHOW.
+    BehindShow,
+    /// A question begins with it.
+    Asked,
+    /// No word of a table is to be there.
+    Free,
+}
+
+/// Where the word behind a first word stands.
+fn behind_first(word: &[u8]) -> Standing
+    ensures { result ≡ behind_first word.now }
+{
+    if word == b"RUN".as_slice() {
+        return Standing::BehindRun;
+    }
+    if word == b"BACK".as_slice() {
+        return Standing::BehindBack;
+    }
+    if word == b"SHOW".as_slice() {
+        return Standing::BehindShow;
+    }
+    if word == b"WHY".as_slice() || word == b"HISTORY".as_slice() || word == b"DISPLAY".as_slice() {
+        return Standing::Asked;
+    }
+    if word == b"HELP".as_slice() {
+        return Standing::First;
+    }
+    Standing::Free
+}
+
+/// Where the word behind the second word of a movement stands.
+fn behind_movement(word: &[u8]) -> Standing
+    ensures { result ≡ behind_movement word.now }
+{
+    if word == b"CHANGE".as_slice() {
+        Standing::Asked
+    } else {
+        Standing::Free
+    }
+}
+
+impl Standing {
+    /// The words that may stand there.
+    fn words(self) -> &'static [u8]
+        ensures { result.now ≡ words_at self }
+    {
+        match self {
+            Standing::First => FIRST_WORDS,
+            Standing::BehindRun => b"CHANGE",
+            Standing::BehindBack => b"EVENT BREAK CHANGE OVER OUT",
+            Standing::BehindShow => SHOW_WORDS,
+            Standing::Asked => b"CLOCK WHERE VAR SET EVENTS TAKEN ENTRY REPORT COUNT",
+            Standing::Free => b"",
+        }
+    }
+
+    /// Where the next word stands.
+    fn behind(self, word: &[u8]) -> Standing
+        ensures { result ≡ behind self word.now }
+    {
+        match self {
+            Standing::First => behind_first(word),
+            Standing::BehindRun | Standing::BehindBack => behind_movement(word),
+            Standing::BehindShow | Standing::Asked | Standing::Free => Standing::Free,
+        }
+    }
+
+    /// Whether a question may stand there.
+    fn is_asked(self) -> bool
+        ensures { result ≡ is_asked self }
+    {
+        matches!(self, Standing::BehindShow | Standing::Asked)
+    }
+}
+
+/// Whether a word is the beginning of another.
+fn begins(word: &[u8], other: &[u8]) -> bool
+    ensures { result ≡ begins word.now other.now }
+{
+    word.len() <= other.len() && &other[..word.len()] == word
+}
+
+/// The first word of a table that a word begins, and what stands behind it.
+#[tactic(auto, using(crate::proofs::Filters::kept_first, crate::proofs::Filters::passed_first))]
+fn first_begun<'a>(table: &'a [u8], word: &[u8]) -> Option<(&'a [u8], &'a [u8])>
+    ensures { MatchOption result (filter (begins word.now) (command_words table.now) ≡ [])
+        (λ r. filter (begins word.now) (command_words table.now)
+        ≡ r.0.now ∷ filter (begins word.now) (command_words r.1.now)) }
+{
+    let mut rest = table;
+    while let Some((other, more)) = next_word(rest) {
+        if begins(word, other) {
+            return Some((other, more));
+        }
+        rest = more;
+    }
+    None
+}
+
+/// The word of a table for which a word of three letters or more stands, since it begins that one
+/// alone; else the word as it is.
+#[tactic(auto, unfolding(crate::specs::Cuts::whole))]
+fn whole<'a>(table: &'a [u8], word: &'a [u8]) -> &'a [u8]
+    ensures { result.now ≡ whole table.now word.now }
+{
+    if word.len() < FEWEST_LETTERS {
+        return word;
+    }
+    let Some((other, more)) = first_begun(table, word) else {
+        return word;
+    };
+    if first_begun(more, word).is_some() {
+        return word;
+    }
+    other
+}
+
+/// Whether the first word of a line begins with a digit.
+fn begins_with_digit(line: &[u8]) -> bool
+    ensures { result ≡ begins_with_digit (command_words line.now) }
+{
+    match next_word(line) {
+        None => false,
+        Some((word, _)) => word[0].is_ascii_digit(),
+    }
+}
+
+/// A word made whole by where it stands; a class in front of a number is none.
+fn made_whole<'a>(at: Standing, word: &'a [u8], more: &[u8]) -> &'a [u8]
+    ensures { result.now ≡ made_whole at word.now (command_words more.now) }
+{
+    if at.is_asked() && begins_with_digit(more) {
+        return word;
+    }
+    whole(at.words(), word)
+}
+
+/// A line whose words are made whole, if it is no longer than a line may be.
+#[tactic(auto, using(crate::proofs::Lines::whole_words))]
+pub(crate) fn whole_line(line: &[u8]) -> Option<Line>
+    ensures { result ≡ whole_line line.now }
+{
+    let mut made = Line::new(b"")?;
+    let mut at = Standing::First;
+    let mut rest = line;
+    while let Some((word, more)) = next_word(rest) {
+        let it = made_whole(at, word, more);
+        made = made.with_word(it)?;
+        at = at.behind(it);
+        rest = more;
+    }
+    Some(made)
+}

@@ -1,0 +1,140 @@
+//! Questions that are answered at each stop.
+ghost use Rattle.std.specs.Prelude.{◌≡◌, ◌++◌, ◌∷◌, [], length, codes, decimal, OnOk, OnErr, IfOk};
+ghost use Rattle.ss_machine.specs.Moment.{position};
+ghost use Rattle.ss_prompt.specs.PromptState.{answers_to};
+ghost use Rattle.ss_prompt.specs.Displays.{with_number, asked, is_among, displays_with, display_text, display_set};
+
+use itoa::Buffer;
+use ss_debug::{Debugger, Question};
+use ss_links::SetBoard;
+use std::alloc::{AllocError, Global};
+
+/// The most questions that are answered at each stop.
+pub const MOST_DISPLAYS: usize = 20;
+
+/// Appends a name, and a number behind it where one is given.
+fn push_with_number(text: &mut Vec<u8>, name: &[u8], number: Option<i64>) -> Result<(), AllocError>
+    ensures { OnOk result (text.new.items ≡ text.old.items ++ with_number name.now number) }
+{
+    text.extend_from_slice(name)?;
+    let Some(number) = number else {
+        return Ok(());
+    };
+    let mut buffer = Buffer::new();
+    text.extend_from_slice(b" ")?;
+    text.extend_from_slice(buffer.format(number).as_bytes())
+}
+
+/// Appends a question as it is asked.
+fn push_asked(text: &mut Vec<u8>, question: &Question) -> Result<(), AllocError>
+    ensures { OnOk result (text.new.items ≡ text.old.items ++ asked question.now) }
+{
+    match question {
+        Question::Clock => text.extend_from_slice(b"CLOCK"),
+        Question::Where => text.extend_from_slice(b"WHERE"),
+        Question::Variable(name) => {
+            text.extend_from_slice(b"VAR ")?;
+            text.extend_from_slice(name.as_slice())
+        }
+        Question::Entity(name, number) => push_with_number(text, name.as_slice(), Some(*number)),
+        Question::Set(name, owner) => {
+            text.extend_from_slice(b"SET ")?;
+            push_with_number(text, name.as_slice(), *owner)
+        }
+        Question::Events => text.extend_from_slice(b"EVENTS"),
+        Question::Taken => text.extend_from_slice(b"TAKEN"),
+        Question::Entry => text.extend_from_slice(b"ENTRY"),
+        Question::Report => text.extend_from_slice(b"REPORT"),
+    }
+}
+
+/// A question as it is asked, in upper case and least digits.
+pub(crate) fn asked_text(alloc: Global, question: &Question) -> Result<Vec<u8>, AllocError>
+    ensures { IfOk result (λ text. text.items ≡ asked question.now) }
+{
+    let mut text = Vec::new(alloc);
+    push_asked(&mut text, question)?;
+    Ok(text)
+}
+
+/// Whether a question that is asked so is among some.
+fn is_among(alloc: Global, displays: &[Question], text: &[u8]) -> Result<bool, AllocError>
+    ensures { IfOk result (λ among. among ≡ is_among displays.now text.now) }
+{
+    let Some((first, behind)) = displays.split_first() else {
+        return Ok(false);
+    };
+    let other = asked_text(alloc, first)?;
+    if other.as_slice() == text {
+        return Ok(true);
+    }
+    is_among(alloc, behind, text)
+}
+
+/// Makes a question one that is answered at each stop, unless there are too many, and answers.
+pub(crate) fn display(
+    alloc: Global,
+    displays: &mut Vec<Question>,
+    question: Question,
+    answer: &mut Vec<u8>,
+) -> Result<(), AllocError>
+    ensures displays { OnOk result (displays.new.items ≡ displays_with displays.old.items question) }
+    ensures said { OnOk result (answer.new.items
+        ≡ answer.old.items ++ display_text displays.old.items (asked question)) }
+    ensures memory { OnErr result (displays.new.items ≡ displays.old.items) }
+{
+    let text = asked_text(alloc, &question)?;
+    if is_among(alloc, displays, &text)? {
+        return push_set(answer, &text);
+    }
+    if displays.len() >= MOST_DISPLAYS {
+        return answer.extend_from_slice(b"TOO MANY DISPLAYS\n");
+    }
+    push_set(answer, &text)?;
+    displays.push(question)?;
+    Ok(())
+}
+
+/// Appends that a question is answered at each stop.
+fn push_set(answer: &mut Vec<u8>, text: &[u8]) -> Result<(), AllocError>
+    ensures { OnOk result (answer.new.items ≡ answer.old.items ++ display_set text.now) }
+{
+    answer.extend_from_slice(b"DISPLAY ")?;
+    answer.extend_from_slice(text)?;
+    answer.extend_from_slice(b" SET\n")
+}
+
+/// Answers no question at stops any more, and tells how many there were.
+pub(crate) fn undisplay(
+    displays: &mut Vec<Question>,
+    answer: &mut Vec<u8>,
+) -> Result<(), AllocError>
+    ensures displays { OnOk result (displays.new.items ≡ []) }
+    ensures said { OnOk result (answer.new.items ≡ answer.old.items
+        ++ codes "DISPLAYS CLEARED: " ++ decimal (length displays.old.items) ++ 10 ∷ []) }
+    ensures memory { OnErr result (displays.new.items ≡ displays.old.items) }
+{
+    let mut buffer = Buffer::new();
+    answer.extend_from_slice(b"DISPLAYS CLEARED: ")?;
+    answer.extend_from_slice(buffer.format(displays.len()).as_bytes())?;
+    answer.extend_from_slice(b"\n")?;
+    displays.clear();
+    Ok(())
+}
+
+/// Appends the answers to some questions, where the machine stands.
+pub(crate) fn push_answers<S: SetBoard>(
+    debugger: &Debugger<S>,
+    questions: &[Question],
+    answer: &mut Vec<u8>,
+) -> Result<(), AllocError>
+    ensures { OnOk result (answer.new.items ≡ answer.old.items
+        ++ answers_to debugger.now.machine.input (position debugger.now.machine) questions.now) }
+{
+    let Some((first, behind)) = questions.split_first() else {
+        return Ok(());
+    };
+    let text = debugger.answer_to(first)?;
+    answer.extend_from_slice(&text)?;
+    push_answers(debugger, behind, answer)
+}

@@ -1,0 +1,128 @@
+//! HELP: the wording is in the table; the definitions read it too (specs/Help.antt).
+ghost use Rattle.std.specs.Prelude.{◌≡◌, ◌++◌, ◌∷◌, [], map, OnOk};
+ghost use Rattle.ss_prompt.specs.Help.{all_rows, rows_of, help_said};
+
+use ss_debug::Name;
+use std::alloc::AllocError;
+
+/// A row for each form of a command: the word that it begins with; how it is written, and what it
+/// does.
+pub const HELP_ROWS: [(&[u8], &[u8]); 34] = [
+    (b"STEP", b"STEP [n]: n steps forward, 1 if not said"),
+    (
+        b"RUN",
+        b"RUN [n]: forward to a break line or the end, at most n steps, 1000000 if not said",
+    ),
+    (b"RUN", b"RUN TO t: forward to time t or a break line"),
+    (b"NEXT", b"NEXT: forward to the next event start"),
+    (
+        b"OVER",
+        b"OVER [n]: n statements of this section, with all that they call",
+    ),
+    (b"OUT", b"OUT: forward out of this section"),
+    (b"BACK", b"BACK [n]: n steps back, 1 if not said"),
+    (b"BACK", b"BACK EVENT: back to the last event start"),
+    (b"BACK", b"BACK BREAK: back to a break line"),
+    (
+        b"BACK",
+        b"BACK OVER [n]: back over n statements of this section",
+    ),
+    (b"BACK", b"BACK OUT: back to what called this section"),
+    (b"BACK", b"BACK TO t: back to a state before time t"),
+    (b"GO", b"GO p: to state p, forward or back"),
+    (b"GO", b"GO END: forward to the end, without a bound"),
+    (b"BREAK", b"BREAK l: stop at line l"),
+    (b"BREAK", b"BREAK r: stop at the first place of section r"),
+    (b"CLEAR", b"CLEAR l: no stop at line l any more"),
+    (
+        b"CLEAR",
+        b"CLEAR r: no stop at the first place of section r any more",
+    ),
+    (
+        b"LIST",
+        b"LIST [l]: the lines about line l, or about the present one",
+    ),
+    (b"LIST", b"LIST r: the lines of section r"),
+    (b"SHOW", b"SHOW CLOCK: the time"),
+    (b"SHOW", b"SHOW WHERE: the state line"),
+    (b"SHOW", b"SHOW VAR v: variable v"),
+    (b"SHOW", b"SHOW c k: entity k of class c"),
+    (b"SHOW", b"SHOW SET s [k]: the members of set s, of owner k"),
+    (b"SHOW", b"SHOW EVENTS: the pending notices, the next first"),
+    (
+        b"SHOW",
+        b"SHOW TAKEN: how many values of the data are taken",
+    ),
+    (b"SHOW", b"SHOW ENTRY: the entry of an external event"),
+    (b"SHOW", b"SHOW REPORT: the report so far"),
+    (
+        b"DISPLAY",
+        b"DISPLAY x: answer x at each stop; x is what may stand behind SHOW",
+    ),
+    (b"UNDISPLAY", b"UNDISPLAY: answer nothing at stops any more"),
+    (b"FORGET", b"FORGET n: let go of all steps but the newest n"),
+    (
+        b"HELP",
+        b"HELP [word]: the commands, or those that begin with a word",
+    ),
+    (b"QUIT", b"QUIT: the end"),
+];
+
+/// Appends a row.
+fn push_row(text: &mut Vec<u8>, row: &'static [u8]) -> Result<(), AllocError>
+    ensures { OnOk result (text.new.items ≡ text.old.items ++ row.now ++ 10 ∷ []) }
+{
+    text.extend_from_slice(row)?;
+    text.extend_from_slice(b"\n")
+}
+
+/// Appends all rows.
+fn push_all(
+    text: &mut Vec<u8>,
+    mut rows: &'static [(&'static [u8], &'static [u8])],
+) -> Result<(), AllocError>
+    ensures { OnOk result (text.new.items ≡ text.old.items
+        ++ all_rows (map (λ row. (row.0.now, row.1.now)) rows.entry.now)) }
+{
+    while let [row, rest @ ..] = rows {
+        push_row(text, row.1)?;
+        rows = rest;
+    }
+    Ok(())
+}
+
+/// Appends the rows of this word.
+fn push_rows_of(
+    text: &mut Vec<u8>,
+    word: &[u8],
+    mut rows: &'static [(&'static [u8], &'static [u8])],
+) -> Result<(), AllocError>
+    ensures { OnOk result (text.new.items ≡ text.old.items
+        ++ rows_of word.now (map (λ row. (row.0.now, row.1.now)) rows.entry.now)) }
+{
+    while let [row, rest @ ..] = rows {
+        if row.0 == word {
+            push_row(text, row.1)?;
+        }
+        rows = rest;
+    }
+    Ok(())
+}
+
+/// Appends what HELP answers.
+#[tactic(auto, unfolding(crate::specs::Help::help_said))]
+pub(crate) fn push_help(text: &mut Vec<u8>, word: Option<Name>) -> Result<(), AllocError>
+    ensures { OnOk result (text.new.items ≡ text.old.items ++ help_said word) }
+{
+    let Some(word) = word else {
+        return push_all(text, &HELP_ROWS);
+    };
+    let length = text.len();
+    push_rows_of(text, word.as_slice(), &HELP_ROWS)?;
+    if length < text.len() {
+        return Ok(());
+    }
+    text.extend_from_slice(b"NO HELP ON ")?;
+    text.extend_from_slice(word.as_slice())?;
+    text.extend_from_slice(b"\n")
+}

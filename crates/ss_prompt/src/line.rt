@@ -1,0 +1,98 @@
+//! Lines that are made of words, and what they say to the debugger.
+ghost use Rattle.std.specs.Prelude.{◌≡◌, ◌≤◌, length, Some};
+ghost use Rattle.ss_console.specs.declared.lines.TheConstants.{LINE_LIMIT};
+ghost use Rattle.ss_debug.specs.CommandLines.{command_words};
+ghost use Rattle.ss_prompt.specs.Words.{with_word, line_behind, command_behind, only_name_of};
+
+use crate::pieces::next_word;
+use arrayvec::ArrayVec;
+use ss_console::LINE_LIMIT;
+use ss_debug::{Command, Name, Question, command};
+use std::marker::Model;
+
+/// A line that is being made. It keeps its bytes in place, so that it takes no memory.
+#[derive(Drop)]
+pub(crate) struct Line {
+    bytes: ArrayVec<u8, LINE_LIMIT>,
+}
+
+impl Model for Line {
+    ghost use Rattle.std.specs.Prelude.{ℕ, List};
+
+    ghost Value = { List ℕ };
+
+    ghost view = { λ l. l.bytes.items };
+}
+
+impl Line {
+    /// A line of these bytes; none where they are more than a line may have.
+    pub fn new(bytes: &[u8]) -> Option<Line>
+        ensures { length bytes.now ≤ LINE_LIMIT → result ≡ Some bytes.now }
+    {
+        let mut line = Line {
+            bytes: ArrayVec::new(),
+        };
+        if line.bytes.try_extend_from_slice(bytes).is_err() {
+            return None;
+        }
+        Some(line)
+    }
+
+    /// The line with one more word, if it is no longer than a line may be.
+    #[tactic(auto, unfolding(crate::specs::Words::with_word))]
+    pub fn with_word(self, word: &[u8]) -> Option<Line>
+        ensures { result ≡ with_word (Some self) word.now }
+    {
+        let mut line = self;
+        if !line.bytes.is_empty() && line.bytes.try_push(b' ').is_err() {
+            return None;
+        }
+        if line.bytes.try_extend_from_slice(word).is_err() {
+            return None;
+        }
+        Some(line)
+    }
+
+    /// Its bytes.
+    pub fn as_slice(&self) -> &[u8]
+        ensures { result.now ≡ self.now }
+    {
+        self.bytes.as_slice()
+    }
+}
+
+/// A line of a beginning and the words of another, if it is no longer than a line may be.
+#[tactic(auto, using(crate::proofs::Lines::too_long))]
+fn line_behind(head: &[u8], rest: &[u8]) -> Option<Line>
+    requires { length head.now ≤ LINE_LIMIT }
+    ensures { result ≡ line_behind head.now (command_words rest.now) }
+{
+    let mut line = Line::new(head)?;
+    let mut left = rest;
+    while let Some((word, more)) = next_word(left) {
+        line = line.with_word(word)?;
+        left = more;
+    }
+    Some(line)
+}
+
+/// What the words of a line say to the debugger behind a beginning.
+pub(crate) fn command_behind(head: &[u8], rest: &[u8]) -> Command
+    requires { length head.now ≤ LINE_LIMIT }
+    ensures { result ≡ command_behind head.now (command_words rest.now) }
+{
+    match line_behind(head, rest) {
+        None => Command::Bad,
+        Some(line) => command(line.as_slice()),
+    }
+}
+
+/// The name that is the only word of a line.
+pub(crate) fn only_name(rest: &[u8]) -> Option<Name>
+    ensures { result ≡ only_name_of (command_words rest.now) }
+{
+    match command_behind(b"SHOW VAR", rest) {
+        Command::Show(Question::Variable(name)) => Some(name),
+        _ => None,
+    }
+}

@@ -1,0 +1,93 @@
+//! Sections by their names, and their lines.
+ghost use Rattle.std.specs.Prelude.{◌≡◌, ◌++◌, ◌<◌, length, position, slice_get, bytes_eq, IfSome, OnOk};
+ghost use Rattle.ss_debug.specs.Move.{line_at, spot_line};
+ghost use Rattle.ss_machine.specs.Moment.{position as moment_position};
+ghost use Rattle.ss_program.specs.Program.{section_of};
+ghost use Rattle.ss_prompt.specs.Sections.{section_named, no_section, first_line, last_line, line_of_section};
+
+use ss_links::SetBoard;
+use ss_machine::Machine;
+use ss_program::{Program, Section, Spot};
+use std::alloc::AllocError;
+
+/// The last line that BREAK and CLEAR take (docs/DEBUGGER.md).
+pub const LAST_BREAK_LINE: u32 = 1_000_000;
+
+/// The number of the section of this name.
+pub(crate) fn find_section(program: &Program, name: &[u8]) -> Option<usize>
+    ensures section { result ≡ section_named program.now name.now }
+    ensures within { IfSome result (λ n. n < length program.now.sections) }
+{
+    sections_position(&program.sections, name)
+}
+
+/// The place of a section in their table.
+fn sections_position(sections: &[Section], name: &[u8]) -> Option<usize>
+    ensures value { result ≡ position (λ s. bytes_eq name.now s.name) sections.now }
+    ensures within { IfSome result (λ i. i < length sections.now) }
+{
+    sections
+        .iter()
+        .position(|section| name == section.name.bytes.as_slice())
+}
+
+/// The line of a place, 0 where there is none.
+fn line_of(places: &[Spot], place: usize) -> usize
+    ensures { result ≡ spot_line (slice_get places.now place) }
+{
+    match places.get(place) {
+        Some(spot) => spot.line,
+        None => 0,
+    }
+}
+
+/// The line of the head of the section with this number.
+pub(crate) fn head_line(program: &Program, section: usize) -> usize
+    requires { section < length program.now.sections }
+    ensures { result ≡ (section_of program.now section).line }
+{
+    program.section(section).line
+}
+
+/// The line of the first place of the section with this number.
+fn first_line(program: &Program, section: usize) -> usize
+    requires { section < length program.now.sections }
+    ensures { result ≡ first_line program.now section }
+{
+    line_of(&program.section(section).places, 0)
+}
+
+/// The line of the first place of the section of this name.
+pub(crate) fn line_of_section(program: &Program, name: &[u8]) -> Option<usize>
+    ensures { result ≡ line_of_section program.now name.now }
+{
+    let section = find_section(program, name)?;
+    Some(first_line(program, section))
+}
+
+/// The line of its last place.
+pub(crate) fn last_line(program: &Program, section: usize) -> usize
+    requires { section < length program.now.sections }
+    ensures { result ≡ last_line program.now section }
+{
+    let places = &program.section(section).places;
+    line_of(places, places.len().saturating_sub(1))
+}
+
+/// The line of the place where a machine stands.
+pub(crate) fn present_line<S: SetBoard>(machine: &Machine<S>) -> usize
+    ensures { result ≡ line_at machine.now.input (moment_position machine.now) }
+{
+    machine.known();
+    let (section, place) = machine.place();
+    machine.program().spot(section, place).line
+}
+
+/// Appends that there is no section of this name.
+pub(crate) fn push_no_section(text: &mut Vec<u8>, name: &[u8]) -> Result<(), AllocError>
+    ensures { OnOk result (text.new.items ≡ text.old.items ++ no_section name.now) }
+{
+    text.extend_from_slice(b"NO SECTION ")?;
+    text.extend_from_slice(name)?;
+    text.extend_from_slice(b"\n")
+}
