@@ -47,7 +47,7 @@ loop-taken-preserved g c =
       next = rw next (c.member_behind-next.ensures ∙ behind);
       page =
           page_more (members_of s st o) c.args.start c.loop-taken.taken (c.loop-taken.taken + 1) c.in-Some.member
-          c.loop-taken.page.items c.push.new.self.items here refl c.loop-taken.invariant.page c.in_ok-push.ensures.items;
+          c.loop-taken.page.items c.push.new.self.items here refl c.loop-taken.invariant.page c.in_ok-push-in-Some.ensures.items;
     }
 
 pub returns : goal.returns
