@@ -36,7 +36,10 @@ line_of text n = let rest = behind_feeds (n - 1) text in take (line_len rest) re
 -- a run with a letter or a digit begins here
 unfoldable pub begins_run : List ℕ → Bool
 begins_run [] = false
-begins_run (b ∷ bs) = elim (in_run b) [ true ↦ (elim (b == STOP) [ true ↦ begins_run bs | false ↦ true ]) | false ↦ false ]
+begins_run (b ∷ bs) = elim (in_run b) [
+  | true ↦ (elim (b == STOP) [ true ↦ begins_run bs | false ↦ true ])
+  | false ↦ false
+]
 
 -- a run with a letter or a digit, or a sign, begins here, behind the byte `last`
 unfoldable pub begins_word : ℕ → List ℕ → Bool

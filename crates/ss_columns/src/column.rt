@@ -1,5 +1,6 @@
 //! The lines of a text, and the columns at which words begin.
-ghost use Rattle.std.specs.Prelude.{◌≡◌, ◌≤◌, IfOk, IsTrue, false, length, map, slice_get, slice_index, take, if◌then◌else◌};
+ghost use Rattle.std.specs.Prelude.{◌≡◌, ◌≤◌, IfOk, IsTrue, false, length, map, slice_get, slice_index};
+ghost use Rattle.std.specs.Prelude.{take, if◌then◌else◌};
 ghost use Rattle.ss_words.specs.declared.characters.TheConstants.{BLANK};
 ghost use Rattle.ss_words.specs.TextLines.{with_blank_comments};
 ghost use Rattle.ss_words.specs.TextScan.{begins_comment};
@@ -183,7 +184,8 @@ pub fn place_of(
     number: usize,
 ) -> Result<Place, AllocError>
     ensures line { IfOk result (λ place. place.line ≡ spec.line_at words.now number) }
-    ensures column { IfOk result (λ place. place.column ≡ spec.column_at text.now words.now number) }
+    ensures column { IfOk result
+        (λ place. place.column ≡ spec.column_at text.now words.now number) }
 {
     let line = line_at(words, number);
     let plain = with_blank_comments(alloc, line_of(text, line))?;

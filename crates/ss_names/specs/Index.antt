@@ -1,5 +1,6 @@
 -- Where the names of a model stand.
-use Rattle.std.specs.Prelude.{ℕ, Bool, true, false, ◌==◌, List, [], ◌∷◌, ◌++◌, codes, decimal, count_by, bytes_eq, Ok, Err}
+use Rattle.std.specs.Prelude.{ℕ, true, false, ◌==◌, List, [], ◌∷◌, ◌++◌, codes, decimal, count_by, bytes_eq}
+use Rattle.std.specs.Prelude.{Ok, Err}
 use Rattle.ss_words.specs.Plain.{PlainAt, name, number, mark, picture}
 use Rattle.ss_words.specs.PlainRules.{plain_words_of}
 use Rattle.ss_words.specs.TextWords.{words_of}

@@ -1,6 +1,6 @@
 -- The names of a model: the words that are names and not reserved.
-use Rattle.std.specs.Prelude.{ℕ, Bool, true, false, ◌==◌, ◌&&◌, ◌||◌, List, [], ◌∷◌, ◌++◌, map, bytes_eq}
-use Rattle.ss_words.specs.Plain.{Plain, PlainAt, name, number, mark, picture}
+use Rattle.std.specs.Prelude.{ℕ, Bool, false, ◌||◌, List, [], ◌∷◌, map}
+use Rattle.ss_words.specs.Plain.{PlainAt, name, number, mark, picture}
 use Rattle.ss_columns.specs.Reserved.{is_among}
 use Rattle.ss_names.specs.declared.language.TheConstants.{LANGUAGE_NAMES, COMPANIONS}
 

@@ -5,7 +5,6 @@ use Rattle.ss_words.specs.declared.mark.Mark.{Mark}
 use Rattle.ss_words.specs.declared.mark.Mark.TheVariants.{Reserved}
 use Rattle.ss_words.specs.declared.reserved.Reserved.TheVariants as r
 use Rattle.ss_words.specs.Plain.{PlainAt, name, number, mark, picture}
-use Rattle.ss_words.specs.PlainRules.{mark_in}
 use Rattle.ss_names.specs.declared.unread.TheConstants.{UNREAD}
 use Rattle.ss_names.specs.Saying.{warning}
 

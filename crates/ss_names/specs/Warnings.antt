@@ -1,8 +1,8 @@
 -- Warnings of what is suspicious in the words of a model. Each says what is so, and not that it is wrong.
 use Rattle.std.specs.Prelude.{ℕ, Bool, true, false, not, ◌==◌, ◌&&◌, ◌||◌, List, [], ◌∷◌, ◌++◌, map}
-use Rattle.std.specs.Prelude.{count_by, bytes_eq, Option, Some, None, Result, Ok, Err}
+use Rattle.std.specs.Prelude.{count_by, bytes_eq, Option, Some, None, Ok, Err}
 use Rattle.std.specs.Borrow.{Bor}
-use Rattle.ss_words.specs.Plain.{Plain, PlainAt, name, number, mark, picture}
+use Rattle.ss_words.specs.Plain.{PlainAt, name, number, mark, picture}
 use Rattle.ss_words.specs.PlainRules.{plain_words_of}
 use Rattle.ss_words.specs.TextWords.{words_of}
 use Rattle.ss_words.specs.declared.word.WordKind.{WordKind}

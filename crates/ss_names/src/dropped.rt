@@ -46,7 +46,8 @@ fn is_scheduling(kind: Option<&WordKind>) -> bool
 
 /// Whether a word between two others is dropped where a name could have stood.
 fn is_suspect(before: Option<&WordKind>, kind: &WordKind, behind: Option<&WordKind>) -> bool
-    ensures { result ≡ spec.is_suspect (spec.kind_seen before.entry) (kind_of kind.now) (spec.kind_seen behind.entry) }
+    ensures { result ≡ spec.is_suspect
+        (spec.kind_seen before.entry) (kind_of kind.now) (spec.kind_seen behind.entry) }
 {
     if is_scheduling(before) || is_plain_name(behind) {
         return false;
@@ -63,7 +64,8 @@ fn push_dropped_word(
     behind: Option<&WordKind>,
 ) -> Result<(), AllocError>
     ensures { OnOk result (text.new.items ≡ text.old.items
-        ++ spec.dropped_word (spec.kind_seen before.entry) (word_at word.now) (spec.kind_seen behind.entry)) }
+        ++ spec.dropped_word
+        (spec.kind_seen before.entry) (word_at word.now) (spec.kind_seen behind.entry)) }
 {
     if !is_suspect(before, &word.kind, behind) {
         return Ok(());

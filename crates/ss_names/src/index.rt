@@ -1,5 +1,5 @@
 //! Where the names of a model stand.
-ghost use Rattle.std.specs.Prelude.{◌≡◌, ◌++◌, ◌∷◌, [], OnOk, map};
+ghost use Rattle.std.specs.Prelude.{◌≡◌, ◌++◌, [], OnOk, map};
 ghost use Rattle.ss_words.specs.Plain.{plain_at};
 ghost use Rattle.ss_names.specs.Index as spec;
 
@@ -9,7 +9,7 @@ use itoa::Buffer;
 use ss_words::{Plain, PlainWord, TextFault, Words, plain_words, words};
 use std::alloc::{AllocError, Global};
 
-/// Appends the names of a model (docs/SENTENCES.md), each once, in the order in which they stand first:
+/// Appends the names of a model (docs/SENTENCES.md), each once, in the order of their first places:
 /// how often each stands, and the line on which it stands first; nothing where a rule L refuses it.
 /// The only error is that memory was refused.
 pub fn push_names(alloc: Global, model: &[u8], text: &mut Vec<u8>) -> Result<(), AllocError>

@@ -10,8 +10,8 @@ use ss_words::{TextFault, Words, plain_words, words};
 use std::alloc::{AllocError, Global};
 
 /// Appends the warnings of a model (docs/SENTENCES.md), each with its line: the names that stand
-/// once, those that are set and never read, and the words that are dropped where a name could have stood; nothing where a rule L refuses
-/// it. The only error is that memory was refused.
+/// once, those that are set and never read, and the words that are dropped where a name could have
+/// stood; nothing where a rule L refuses it. The only error is that memory was refused.
 pub fn push_warnings(alloc: Global, model: &[u8], text: &mut Vec<u8>) -> Result<(), AllocError>
     ensures { OnOk result (text.new.items ≡ text.old.items ++ spec.warnings model.now) }
 {

@@ -1,5 +1,5 @@
 -- All words of a list, and the first of them.
-use Rattle.std.proofs.Common.{◌≡◌, ℕ, List, length, map, take, min, subst, sym, arith, ◌+◌, ◌-◌, ◌≤◌, ◌∙◌, ◌++◌, ◌∷◌, [], ap}
+use Rattle.std.proofs.Common.{◌≡◌, ℕ, List, length, map, take, subst, sym, arith, ◌+◌, ◌-◌, ◌≤◌, ◌∙◌, ◌++◌, ◌∷◌, [], ap}
 use Rattle.std.proofs.Math.Seq.{take-append_seam, take-length}
 use Rattle.std.proofs.lemmas.List.{length-map, map_push, take-map, take_all}
 use Rattle.std.proofs.lemmas.Option.{slice_get-map}

@@ -1,5 +1,6 @@
 -- What could stand behind words.
-use Rattle.std.specs.Prelude.{◌≡◌, ℕ, Bool, true, false, not, List, [], ◌∷◌, ◌++◌, length, codes, map, Option, Some, None}
+use Rattle.std.specs.Prelude.{◌≡◌, ℕ, Bool, true, false, not, List, [], ◌∷◌, ◌++◌, length, codes, map, Option}
+use Rattle.std.specs.Prelude.{Some, None}
 use Rattle.ss_words.specs.Words.{Kind, name, number, sign, WordAt}
 use Rattle.ss_words.specs.PlainRules.{plain_words_of}
 use Rattle.ss_sentences.specs.declared.candidate.Judgement.{Judgement}

@@ -1,5 +1,6 @@
 -- Hints at what is often meant where a word does not fit.
-use Rattle.std.specs.Prelude.{ℕ, ◌-◌, ◌&&◌, Bool, true, false, not, List, [], ◌∷◌, ◌++◌, length, take, map, codes, decimal, Option, Some, None}
+use Rattle.std.specs.Prelude.{ℕ, ◌-◌, ◌&&◌, Bool, true, false, not, List, [], ◌∷◌, ◌++◌, length, take, map, codes}
+use Rattle.std.specs.Prelude.{decimal, Option, Some, None}
 use Rattle.ss_words.specs.Words.{Kind, name, number, sign, picture, WordAt}
 use Rattle.ss_sentences.specs.declared.candidate.Judgement.{Judgement}
 use Rattle.ss_sentences.specs.declared.hints.TheConstants.{IFS, ALWAYS, DOS, LOOPS}
@@ -29,10 +30,12 @@ ends_in_dropped ws = is_dropped_word (last_kind None ws) && not (keeps_article (
 abbrev pub hint_text : Bool → List ℕ → List ℕ → List ℕ
 hint_text is_given hint word = elim is_given [ true ↦ filled hint word word | false ↦ [] ]
 
--- what a refused word hints at: that it is reserved, where a name fits; that it is no unit, where one fits
+-- what a refused word hints at: that it is reserved, where a name fits and no statement begins; that it is no unit,
+-- where one fits
 abbrev pub word_hints : List Judgement → Kind → List ℕ → List ℕ
 word_hints js k told =
-    hint_text (is_kind_among reserved k && fits js (codes "a name")) RESERVED_HINT.now told
+    hint_text (is_kind_among reserved k && fits js (codes "a name") && not (fits js (codes "LET"))) RESERVED_HINT.now
+    told
     ++ hint_text (is_name k && not (is_kind_among reserved k) && fits js (codes "UNITS")) UNIT_HINT.now told
 
 -- the lines of the words that open blocks which no word behind them closes, the innermost last

@@ -97,12 +97,8 @@ pub fn push_word_hints(
         ≡ text.old.items ++ spec.word_hints judged.now (word_at refused.now).kind told.now) }
 {
     let reserved = is_word_among(refused, &RESERVED);
-    push_hint(
-        text,
-        reserved && fits(judged, b"a name"),
-        RESERVED_HINT,
-        told,
-    )?;
+    let name = reserved && fits(judged, b"a name") && !fits(judged, b"LET");
+    push_hint(text, name, RESERVED_HINT, told)?;
     let unit = is_name(refused) && !reserved && fits(judged, b"UNITS");
     push_hint(text, unit, UNIT_HINT, told)
 }

@@ -1,4 +1,4 @@
-use Rattle.std.proofs.Common.{◌≡◌, ◌∙◌, sym, rules, arith}
+use Rattle.std.proofs.Common.{◌∙◌, sym, rules, arith}
 use Rattle.std.proofs.lemmas.Grind.{common_steps}
 use Rattle.ss_sentences.proofs.Filling.{gap_step, letter_step, no_more}
 use Rattle.ss_sentences.proofs.pieces.push_filled.Goals as goal
