@@ -53,8 +53,9 @@ fn back_to_newest<S: SetBoard>(
             return Err(AllocError);
         }
         let touched = reading.may_change(debugger);
-        if let Some(after) = reading.follow(debugger, question, touched)? {
-            return Ok(Some(after));
+        let after = reading.follow(debugger, question, touched)?;
+        if after.is_some() {
+            return Ok(after);
         }
     }
     Ok(None)
@@ -90,6 +91,30 @@ fn push_rows<S: SetBoard>(
         count += 1;
     }
     Ok(count)
+}
+
+/// Goes back, and appends the history of a question as a table, or that it did not change.
+#[tactic(auto, using(crate::proofs::Histories::told_some, crate::proofs::Histories::told_none))]
+fn push_table<S: SetBoard>(
+    debugger: &mut Debugger<S>,
+    question: &Question,
+    most: u64,
+    bytes: &mut Vec<u8>,
+) -> Result<(), AllocError>
+    ensures gone { OnOk result (HasLookedBack debugger.old debugger.new) }
+    ensures said { OnOk result (bytes.new.items ≡ bytes.old.items
+        ++ history_text debugger.old.machine.input question.now most
+        debugger.old.machine.forgotten (position debugger.old.machine)) }
+    ensures memory { OnErr result (IsBetween debugger.old debugger.old.machine.forgotten
+        (position debugger.old.machine) debugger.new) }
+{
+    let mut rows = Vec::new(*bytes.allocator());
+    let count = push_rows(debugger, question, most, &mut rows)?;
+    if count == 0 {
+        return push_no_change(bytes, debugger);
+    }
+    push_head_row(bytes, question)?;
+    bytes.extend_from_slice(&rows)
 }
 
 /// Goes forward again to a position over steps that were made.
@@ -130,14 +155,42 @@ pub fn push_history<S: SetBoard>(
 {
     debugger.machine().known();
     let from = debugger.machine().position();
-    let start = bytes.len();
-    push_head_row(bytes, question)?;
-    let count = push_rows(debugger, question, most, bytes)?;
-    if count == 0 {
-        bytes.truncate(start);
-        push_no_change(bytes, debugger)?;
-    }
+    push_table(debugger, question, most, bytes)?;
     return_to(debugger, from)
+}
+
+/// Goes back to the newest step before at which a question changes, and tells of it.
+#[tactic(auto, using(crate::proofs::Histories::newest_is, crate::proofs::Histories::newest_none))]
+fn push_newest<S: SetBoard>(
+    debugger: &mut Debugger<S>,
+    question: &Question,
+    head: &mut Vec<u8>,
+    change: &mut Vec<u8>,
+) -> Result<Option<usize>, AllocError>
+    ensures gone { OnOk result (HasLookedBack debugger.old debugger.new) }
+    ensures head { OnOk result (head.new.items ≡ head.old.items
+        ++ why_head debugger.old.machine.input debugger.old.machine.forgotten
+        (newest_change debugger.old.machine.input question.now
+        debugger.old.machine.forgotten (position debugger.old.machine))) }
+    ensures line { IfOk result (λ line. line ≡ why_line debugger.old.machine.input
+        (newest_change debugger.old.machine.input question.now
+        debugger.old.machine.forgotten (position debugger.old.machine))) }
+    ensures change { OnOk result (change.new.items ≡ change.old.items
+        ++ why_change debugger.old.machine.input question.now
+        (newest_change debugger.old.machine.input question.now
+        debugger.old.machine.forgotten (position debugger.old.machine))) }
+    ensures memory { OnErr result (IsBetween debugger.old debugger.old.machine.forgotten
+        (position debugger.old.machine) debugger.new) }
+{
+    let mut reading = Reading::new(*head.allocator(), debugger, question)?;
+    let Some(after) = back_to_newest(debugger, question, &mut reading)? else {
+        push_no_change(head, debugger)?;
+        return Ok(None);
+    };
+    let text = debugger.answer_to(&Shown::Where)?;
+    head.extend_from_slice(&text)?;
+    push_change_line(change, question, &reading.answer, &after)?;
+    Ok(Some(present_line(debugger)))
 }
 
 /// Looks for the newest step before at which a question changes. Appends to `head` its state line,
@@ -170,16 +223,7 @@ pub fn push_why<S: SetBoard>(
 {
     debugger.machine().known();
     let from = debugger.machine().position();
-    let mut reading = Reading::new(*head.allocator(), debugger, question)?;
-    let mut line = None;
-    if let Some(after) = back_to_newest(debugger, question, &mut reading)? {
-        let text = debugger.answer_to(&Shown::Where)?;
-        head.extend_from_slice(&text)?;
-        push_change_line(change, question, &reading.answer, &after)?;
-        line = Some(present_line(debugger));
-    } else {
-        push_no_change(head, debugger)?;
-    }
+    let line = push_newest(debugger, question, head, change)?;
     return_to(debugger, from)?;
     Ok(line)
 }

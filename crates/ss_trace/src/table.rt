@@ -157,6 +157,17 @@ fn earliest<S: SetBoard>(debugger: &Debugger<S>) -> u64
     machine.position() - machine.kept()
 }
 
+/// Appends the earliest kept position.
+fn push_earliest<S: SetBoard>(
+    bytes: &mut Vec<u8>,
+    debugger: &Debugger<S>,
+) -> Result<(), AllocError>
+    ensures { OnOk result (bytes.new.items ≡ bytes.old.items
+        ++ decimal debugger.now.machine.forgotten) }
+{
+    push_number(bytes, earliest(debugger))
+}
+
 /// Appends that a question did not change since the earliest kept state.
 pub fn push_no_change<S: SetBoard>(
     bytes: &mut Vec<u8>,
@@ -166,7 +177,7 @@ pub fn push_no_change<S: SetBoard>(
         ++ no_change_text debugger.now.machine.forgotten) }
 {
     bytes.extend_from_slice(b"NO CHANGE SINCE STATE ")?;
-    push_number(bytes, earliest(debugger))?;
+    push_earliest(bytes, debugger)?;
     bytes.extend_from_slice(b"\n")
 }
 
