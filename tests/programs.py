@@ -39,6 +39,12 @@ def run(words, text=os.devnull, refuse=None, **refused):
     return ended.returncode, ended.stdout, ended.stderr
 
 
+def differs(wanted, found):
+    """Returns what is wrong with how a run ended, its status, what it wrote and what it said, beside what is wanted."""
+    names = ("status", "standard output", "standard error")
+    return "; ".join(f"{name} was {str(it)[:300]}" for name, it, right in zip(names, found, wanted) if it != right)
+
+
 class Tally:
     """What passed and what failed of a script's cases."""
 

@@ -301,7 +301,7 @@ fn back<S: SetBoard>(agenda: &mut Agenda<S>, journal: &mut Journal<AgendaChange>
 
 impl Dice {
     fn notice(&mut self, clock: i64, filing: u64) -> Plain {
-        let notice = (self.below(200) as u32).wrapping_add(1);
+        let notice = (self.below(300) as u32).wrapping_add(1);
         let time = clock.wrapping_add(self.below(6) as i64);
         let class = self.below(4) as usize;
         let keys = [self.below(3) as i64, self.below(3) as i64];
@@ -313,6 +313,11 @@ impl Dice {
             filing,
         }
     }
+}
+
+// The numbers 1 to 200, each of another number below 200.
+fn scattered(number: usize) -> u32 {
+    (number.wrapping_mul(77) % 200) as u32 + 1
 }
 
 // A plain list before a step, and the steps.
@@ -450,7 +455,7 @@ fn turn<S: SetBoard>(
     ensures fits { FitsSteps Fits unapply journal.new.steps agenda.new }
 {
     let clock = (number / 100) as i64;
-    let notice = dice.notice(clock, number);
+    let notice = dice.notice(clock, number.wrapping_add(200));
     match dice.below(8) {
         0 | 1 | 2 | 3 => schedule_in_both(rt, agenda, journal, plains, notice, clock),
         4 => match agenda.next() {
@@ -461,6 +466,33 @@ fn turn<S: SetBoard>(
         6 => too_early(rt, agenda, journal, &notice),
         _ => back_in_both(rt, agenda, journal, plains),
     }
+}
+
+// Schedules so many notices in four classes, most of them at equal times; the agenda agrees with the
+// plain list after each.
+fn schedule_many<S: SetBoard>(
+    rt: &impl Abort,
+    agenda: &mut Agenda<S>,
+    journal: &mut Journal<AgendaChange>,
+    plains: &mut Plains,
+    dice: &mut Dice,
+    count: usize,
+)
+    requires closed { journal.old.current ≡ [] }
+    requires fits { FitsSteps Fits unapply journal.old.steps agenda.old }
+    ensures closed { journal.new.current ≡ [] }
+    ensures fits { FitsSteps Fits unapply journal.new.steps agenda.new }
+{
+    for number in 0..count {
+        let drawn = dice.notice(0, number as u64);
+        let notice = Plain {
+            notice: scattered(number),
+            ..drawn
+        };
+        schedule_in_both(rt, agenda, journal, plains, notice, 0);
+        agrees(rt, agenda, &plains.now);
+    }
+    same(rt, plains.now.len(), count);
 }
 
 // A random mixture of calls; the agenda agrees with the plain list after each.
@@ -483,8 +515,8 @@ fn mixture<S: SetBoard>(
     same(rt, plains.now.len() > 20, true);
 }
 
-// The mixture on a new agenda.
-fn mixture_on<S: SetBoard>(rt: &impl Abort, alloc: Global, board: S)
+// So many notices, and then the mixture, on a new agenda.
+fn mixture_on<S: SetBoard>(rt: &impl Abort, alloc: Global, board: S, count: usize)
     requires { S.board board ≡ empty_board }
 {
     let mut agenda = started(alloc, board).expect(rt, "an agenda");
@@ -494,6 +526,7 @@ fn mixture_on<S: SetBoard>(rt: &impl Abort, alloc: Global, board: S)
         before: Vec::new(alloc),
     };
     let mut dice = Dice { state: 19 };
+    schedule_many(rt, &mut agenda, &mut journal, &mut plains, &mut dice, count);
     mixture(rt, &mut agenda, &mut journal, &mut plains, &mut dice);
     drop(plains);
     drop(journal);
@@ -503,8 +536,8 @@ fn mixture_on<S: SetBoard>(rt: &impl Abort, alloc: Global, board: S)
 #[test]
 fn every_call_agrees_with_a_plain_list(rt: HostRuntime) {
     let alloc = rt.alloc();
-    mixture_on(&rt, alloc, PlainSets::new(alloc));
-    mixture_on(&rt, alloc, LinkedSets::new(alloc));
+    mixture_on(&rt, alloc, LinkedSets::new(alloc), 200);
+    mixture_on(&rt, alloc, PlainSets::new(alloc), 40);
 }
 
 // Compares the order with these notices.

@@ -203,7 +203,7 @@ fn push_joined_sets<S: SetBoard>(
 }
 
 /// Appends all lines of an entity of this class.
-fn push_entity<S: SetBoard>(
+pub fn push_entity<S: SetBoard>(
     text: &mut Vec<u8>,
     machine: &Machine<S>,
     class: usize,

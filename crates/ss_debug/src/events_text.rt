@@ -12,7 +12,7 @@ use ss_program::Program;
 use std::alloc::{AllocError, Global};
 
 /// Appends the line of a pending notice: its class, its reference and its time.
-fn push_notice(
+pub fn push_notice(
     text: &mut Vec<u8>,
     program: &Program,
     notice: u32,

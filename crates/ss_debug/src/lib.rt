@@ -21,6 +21,8 @@ mod text;
 
 pub use commands::{Command, Movement, Question};
 pub use debugger::{Debugger, obey};
+pub use entity_text::push_entity;
+pub use events_text::push_notice;
 pub use go::Go;
 pub use laws::{
     a_movement_back_has_one_end, a_movement_has_one_end, every_movement_ends_within_its_bound,
@@ -29,4 +31,7 @@ pub use laws::{
 pub use limits::GREATEST_BOUND;
 pub use name::Name;
 pub use pieces::split_line;
+pub use program_rows::{class_name, find_class, find_set, member_class, set_name, set_owner};
 pub use read::command;
+pub use set_text::{class_value, member_behind, push_listed};
+pub use text::{find_variable, push_integer, push_number};

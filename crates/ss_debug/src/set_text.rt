@@ -20,7 +20,12 @@ use ss_store::Store;
 use std::alloc::{AllocError, Global};
 
 /// The member behind one of the list of a set, or none where it is the last.
-fn member_behind<S: SetBoard>(store: &Store<S>, set: usize, owner: i64, member: u32) -> Option<u32>
+pub fn member_behind<S: SetBoard>(
+    store: &Store<S>,
+    set: usize,
+    owner: i64,
+    member: u32,
+) -> Option<u32>
     requires set { set < length store.now.tables.sets }
     requires there { has (members_of (set_of store.now.tables set) store.now.state
         (number_of owner)) member ≡ true }
@@ -80,7 +85,7 @@ fn push_members<S: SetBoard>(
 
 /// Appends the members of the list of a set, and ends the line.
 #[tactic(auto, using(crate::proofs::Tables::sets_kept))]
-fn push_listed<S: SetBoard>(
+pub fn push_listed<S: SetBoard>(
     text: &mut Vec<u8>,
     machine: &Machine<S>,
     set: usize,
@@ -121,7 +126,7 @@ fn owned_list_text<S: SetBoard>(
 }
 
 /// The value of the variable of a class.
-fn class_value<S: SetBoard>(machine: &Machine<S>, class: usize) -> i64
+pub fn class_value<S: SetBoard>(machine: &Machine<S>, class: usize) -> i64
     requires { class < length machine.now.input.program.classes }
     ensures { result ≡ slice_index_or machine.now.state.variables
         (class_of machine.now.input.program class).variable (pos 0) }

@@ -289,7 +289,7 @@ pub fn where_text<S: SetBoard>(alloc: Global, machine: &Machine<S>) -> Result<Ve
 }
 
 /// The variable that a name stands for where the machine stands.
-fn find_variable<S: SetBoard>(machine: &Machine<S>, name: &[u8]) -> Option<Variable>
+pub fn find_variable<S: SetBoard>(machine: &Machine<S>, name: &[u8]) -> Option<Variable>
     ensures { result ≡ variable_named machine.now.input (position machine.now) name.now }
 {
     machine.known();

@@ -1,4 +1,5 @@
 pub mod Sets
+pub mod Frames
 pub mod Parts
 pub mod Takes
 pub mod Notings

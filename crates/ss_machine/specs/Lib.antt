@@ -1,4 +1,5 @@
 pub mod State
+pub mod Frames
 pub mod Loops
 pub mod View
 pub mod Nodes

@@ -8,6 +8,7 @@ pub mod frames;
 pub mod loops;
 pub mod notices;
 pub mod statistics;
+mod views;
 
 ghost use Rattle.std.specs.Prelude.{◌≡◌, ◌<◌, ◌≤◌, length, IfOk};
 ghost use Rattle.ss_program.specs.ProgramSound.{IsSettable};

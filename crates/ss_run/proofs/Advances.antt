@@ -8,7 +8,7 @@ use Rattle.ss_machine.specs.declared.stepped.Stepped.{Stepped}
 use Rattle.ss_machine.specs.declared.stepped.Stepped.TheVariants.{Moved, AtEnd}
 use Rattle.ss_machine.specs.Moment.{Moment, position, HasMoved, Steps}
 use Rattle.ss_machine.specs.State.{is_ready}
-use Rattle.ss_machine.specs.Run.{Input, run}
+use Rattle.ss_machine.specs.Run.{run}
 use Rattle.ss_debug.specs.Move.{is_ready_at}
 use Rattle.ss_debug.specs.declared.commands.Command.TheVariants.{Show}
 use Rattle.ss_debug.specs.declared.commands.Question.TheVariants.{Where}

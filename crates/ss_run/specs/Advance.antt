@@ -1,19 +1,26 @@
 -- How each private function of a whole run ends. No public contract cites this module.
-use Rattle.std.specs.Prelude.{ℕ, ◌+◌, ◌<◌, ◌≤◌, ◌≡◌, ◌⊎◌, true, false, Result, Ok, Err}
+use Rattle.std.specs.Prelude.{ℕ, ◌+◌, ◌<◌, ◌≤◌, ◌≡◌, ◌⊎◌, true, false, List, Result, Ok, Err}
+use Rattle.std.specs.Io.KnownBytes.{Appends}
 use Rattle.ss_words.specs.Faults.{text_rule_code}
 use Rattle.ss_check.specs.CheckRules.{check_rule_code}
 use Rattle.ss_machine.specs.declared.limits.TheConstants.{LAST_POSITION}
 use Rattle.ss_machine.specs.declared.stepped.Stepped.{Stepped}
 use Rattle.ss_machine.specs.declared.stepped.Stepped.TheVariants.{Moved, AtEnd}
 use Rattle.ss_machine.specs.Moment.{Moment, position}
+use Rattle.ss_machine.specs.Run.{Input, run}
 use Rattle.ss_debug.specs.Move.{is_ready_at}
 use Rattle.ss_session.specs.declared.load.LoadFault.{LoadFault}
 use Rattle.ss_session.specs.declared.load.LoadFault.TheVariants as load
+use Rattle.ss_session.specs.Texts.{OutletState}
+use Rattle.ss_session.specs.Transcript.{refusal_line}
 use Rattle.ss_run.specs.declared.whole_run.RunEnd.{RunEnd}
 use Rattle.ss_run.specs.declared.whole_run.RunEnd.TheVariants.{Done, Faulted, Refused}
 use Rattle.ss_run.specs.declared.whole_run.RunCut.{RunCut}
 use Rattle.ss_run.specs.declared.whole_run.RunCut.TheVariants.{Write, Memory}
-use Rattle.ss_session.specs.Transcript.{refusal_line}
+use Rattle.ss_run.specs.declared.whole_run.WholeRun.{WholeRun}
+use Rattle.ss_run.specs.Explained.{refusal_explanation}
+use Rattle.ss_run.specs.Report.{IsRunEnd, SaysEnd, RunEnds}
+use Rattle.ss_run.specs.WholeRun.{TellsEnd}
 
 -- where some steps lead that were to be made: all of them, or fewer where the run has ended
 abbrev pub EndsBy : Stepped → ℕ → Moment → Moment → Type 0
@@ -33,12 +40,25 @@ pub record HasAdvanced (stepped : Stepped) (steps : ℕ) (old new : Moment) : Ty
   -- why it stopped
   pub reason : EndsBy stepped steps old new
 
+-- a run is made, and its report written, or what cut it short
+unfoldable pub MakesRun : Result WholeRun RunCut → Input → OutletState → OutletState → Type 0
+MakesRun (Ok whole) t old new =
+    (p : ℕ) × IsRunEnd t p × SaysEnd t p whole.end × TellsEnd whole t p
+    × Appends old.taken new.taken (run t p).report × (new.failures ≡ old.failures)
+MakesRun (Err cut) t old new = RunEnds (Err cut) t old new
+
+-- what is said of a model that the rule with this code refuses
+abbrev pub RefusesBy : RunEnd → WholeRun → List ℕ → List ℕ → ℕ → Type 0
+RefusesBy (Refused line) whole model code number =
+    (line.items ≡ refusal_line code number)
+    × (whole.explanation.items ≡ refusal_explanation model code number) × (whole.unfit ≡ 0)
+RefusesBy Done whole model code number = ⊥
+RefusesBy (Faulted line) whole model code number = ⊥
+
 -- what is said of a model that was not loaded
-abbrev pub IsRefusal : Result RunEnd RunCut → LoadFault → Type 0
-IsRefusal (Ok (Refused line)) (load.Text rule number) = line.items ≡ refusal_line (text_rule_code rule) number
-IsRefusal (Ok (Refused line)) (load.Check rule number) = line.items ≡ refusal_line (check_rule_code rule) number
-IsRefusal (Ok (Refused line)) load.Memory = ⊥
-IsRefusal (Ok Done) fault = ⊥
-IsRefusal (Ok (Faulted line)) fault = ⊥
-IsRefusal (Err Memory) fault = Unit {0}
-IsRefusal (Err Write) fault = ⊥
+abbrev pub IsRefusal : Result WholeRun RunCut → List ℕ → LoadFault → Type 0
+IsRefusal (Ok whole) model (load.Text rule number) = RefusesBy whole.end whole model (text_rule_code rule) number
+IsRefusal (Ok whole) model (load.Check rule number) = RefusesBy whole.end whole model (check_rule_code rule) number
+IsRefusal (Ok whole) model load.Memory = ⊥
+IsRefusal (Err Memory) model fault = Unit {0}
+IsRefusal (Err Write) model fault = ⊥

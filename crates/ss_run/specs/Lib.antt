@@ -1,2 +1,5 @@
+pub mod Fields
+pub mod Explained
 pub mod Report
+pub mod WholeRun
 pub mod Advance

@@ -3,9 +3,12 @@ ghost use Rattle.std.specs.Prelude.{◌≡◌, ◌-◌, ◌^◌, ◌<◌, OnErr,
 ghost use Rattle.ss_links.specs.Board.{empty_board};
 ghost use Rattle.ss_machine.specs.Moment.{position};
 ghost use Rattle.ss_machine.specs.Run.{input_with};
-ghost use Rattle.ss_run.specs.Report.{IsRunEnd, status_of_run, SaysEnd, RunEnds, ReportSays};
-ghost use Rattle.ss_run.specs.Advance.{HasAdvanced, IsRefusal};
+ghost use Rattle.ss_run.specs.Report.{IsRunEnd, status_of_run, SaysEnd, ReportSays};
+ghost use Rattle.ss_run.specs.WholeRun.{TellsEnd, RunSays};
+ghost use Rattle.ss_run.specs.Advance.{HasAdvanced, MakesRun, RefusesBy, IsRefusal};
 
+use crate::explained::{end_explanation, refusal_explanation};
+use crate::fields::unfit_values;
 use ss_debug::{Command, Debugger, Question, obey};
 use ss_links::{LinkedSets, SetBoard};
 use ss_machine::{Machine, Status, Stepped};
@@ -35,6 +38,19 @@ pub enum RunEnd {
     Faulted(Vec<u8>),
     /// The model is refused; this is the line that says by which rule, and where.
     Refused(Vec<u8>),
+}
+
+/// What is known of a whole run behind its end.
+#[derive(Debug, Drop, PartialEq, Eq)]
+pub struct WholeRun {
+    /// How it ended.
+    pub end: RunEnd,
+    /// What explains a fault or a refusal, in whole lines: the sentence of the fault; the sentence of
+    /// the rule, where it has no blanks for words of the model, and the refused line of the model.
+    /// Empty for another end.
+    pub explanation: Vec<u8>,
+    /// How many values of the report did not fit their fields.
+    pub unfit: usize,
 }
 
 /// What cut a whole run short.
@@ -154,41 +170,62 @@ fn end_of_run<S: SetBoard>(alloc: Global, debugger: &mut Debugger<S>) -> Result<
     }
 }
 
+/// What is told of the run whose last state a debugger holds.
+fn tell_end<S: SetBoard>(alloc: Global, debugger: &mut Debugger<S>) -> Result<WholeRun, AllocError>
+    ensures input { debugger.new.machine.input ≡ debugger.old.machine.input }
+    ensures position { position debugger.new.machine ≡ position debugger.old.machine }
+    ensures end { IfOk result (λ whole. SaysEnd debugger.old.machine.input
+        (position debugger.old.machine) whole.end) }
+    ensures beside { IfOk result (λ whole. TellsEnd whole debugger.old.machine.input
+        (position debugger.old.machine)) }
+{
+    let end = end_of_run(alloc, debugger)?;
+    let machine = debugger.machine();
+    machine.known();
+    let explanation = end_explanation(alloc, machine.status())?;
+    let unfit = unfit_values(machine.report());
+    Ok(WholeRun {
+        end,
+        explanation,
+        unfit,
+    })
+}
+
 /// Writes the report of the run whose last state a debugger holds.
 fn write_report<S: SetBoard, W: Outlet>(
     alloc: Global,
     debugger: &mut Debugger<S>,
     out: &mut W,
-) -> Result<RunEnd, RunCut>
+) -> Result<WholeRun, RunCut>
     requires end { IsRunEnd debugger.old.machine.input (position debugger.old.machine) }
     requires room { W.failures out.old < 2 ^ 64 - 1 }
-    ensures { RunEnds result debugger.old.machine.input
+    ensures { MakesRun result debugger.old.machine.input
         (record { taken = W.taken out.old; failures = W.failures out.old })
         (record { taken = W.taken out.new; failures = W.failures out.new }) }
 {
-    let end = end_of_run(alloc, debugger)?;
+    let whole = tell_end(alloc, debugger)?;
     let machine = debugger.machine();
     machine.known();
     match put_all(out, machine.report()) {
-        Ok(()) => Ok(end),
+        Ok(()) => Ok(whole),
         Err(_) => {
-            drop(end);
+            drop(whole);
             Err(RunCut::Write)
         }
     }
 }
 
 /// Makes the steps of a run to its end, and writes its report.
-#[tactic(auto, using(ss_session::proofs::Pieces::appends_none), unfolding(crate::specs::Report::RunEnds))]
+#[tactic(auto, using(ss_session::proofs::Pieces::appends_none), unfolding(crate::proofs::Reports::runs_made))]
 fn write_run<S: SetBoard, P: Progress, W: Outlet>(
     alloc: Global,
     machine: Machine<S>,
     progress: &mut P,
     out: &mut W,
-) -> Result<RunEnd, RunCut>
+) -> Result<WholeRun, RunCut>
     requires start { position machine ≡ 0 }
     requires room { W.failures out.old < 2 ^ 64 - 1 }
-    ensures { RunEnds result machine.input
+    ensures { MakesRun result machine.input
         (record { taken = W.taken out.old; failures = W.failures out.old })
         (record { taken = W.taken out.new; failures = W.failures out.new }) }
 {
@@ -203,32 +240,41 @@ fn write_run<S: SetBoard, P: Progress, W: Outlet>(
     written
 }
 
+/// What is said of a model that the rule with this code refuses at this line.
+fn refused(alloc: Global, model: &[u8], code: &str, line: usize) -> Result<WholeRun, AllocError>
+    ensures { IfOk result (λ whole. RefusesBy whole.end whole model.now code.now line) }
+{
+    let text = refusal_text(alloc, code, line)?;
+    let explanation = refusal_explanation(alloc, model, code, line)?;
+    Ok(WholeRun {
+        end: RunEnd::Refused(text),
+        explanation,
+        unfit: 0,
+    })
+}
+
 /// What is said of a model that is no program.
-fn refusal(alloc: Global, fault: LoadFault) -> Result<RunEnd, RunCut>
-    ensures { IsRefusal result fault }
+fn refusal(alloc: Global, model: &[u8], fault: LoadFault) -> Result<WholeRun, RunCut>
+    ensures { IsRefusal result model.now fault }
 {
     match fault {
         LoadFault::Memory => Err(RunCut::Memory),
-        LoadFault::Text { rule, line } => {
-            Ok(RunEnd::Refused(refusal_text(alloc, rule.code(), line)?))
-        }
-        LoadFault::Check { rule, line } => {
-            Ok(RunEnd::Refused(refusal_text(alloc, rule.code(), line)?))
-        }
+        LoadFault::Text { rule, line } => Ok(refused(alloc, model, rule.code(), line)?),
+        LoadFault::Check { rule, line } => Ok(refused(alloc, model, rule.code(), line)?),
     }
 }
 
 /// Makes the run of a program over its data to its end, and writes its report.
-#[tactic(auto, using(ss_session::proofs::Pieces::appends_none), unfolding(crate::specs::Report::RunEnds))]
+#[tactic(auto, using(ss_session::proofs::Pieces::appends_none), unfolding(crate::proofs::Reports::runs_made))]
 fn run_program<P: Progress, W: Outlet>(
     alloc: Global,
     program: Program,
     data_text: &[u8],
     progress: &mut P,
     out: &mut W,
-) -> Result<RunEnd, RunCut>
+) -> Result<WholeRun, RunCut>
     requires { W.failures out.old < 2 ^ 64 - 1 }
-    ensures { RunEnds result (input_with program data_text.now)
+    ensures { MakesRun result (input_with program data_text.now)
         (record { taken = W.taken out.old; failures = W.failures out.old })
         (record { taken = W.taken out.new; failures = W.failures out.new }) }
 {
@@ -239,12 +285,38 @@ fn run_program<P: Progress, W: Outlet>(
 
 /// Runs a model over its data to the end of the run, without a bound, and writes its report alone;
 /// few steps back are kept, so that the memory it takes does not grow with the steps. `progress`
-/// hears every ten million steps how far it is.
+/// hears every ten million steps how far it is. Beside how the run ended it tells what explains a
+/// fault or a refusal, and how many values did not fit their fields (docs/RUNS.md).
+///
+/// `Ok` where all was written: its end is `Done`, or `Faulted` with the state line of the last
+/// state; or `Refused` with the line of a refused model, where nothing is written. `Write` where
+/// `out` counted a failure; what was written is a prefix of the report. `Memory` where a growth was
+/// refused, and nothing is written.
+pub fn run_model<P: Progress, W: Outlet>(
+    alloc: Global,
+    model: &[u8],
+    data_text: &[u8],
+    progress: &mut P,
+    out: &mut W,
+) -> Result<WholeRun, RunCut>
+    requires { W.failures out.old < 2 ^ 64 - 1 }
+    ensures { RunSays result model.now data_text.now
+        (record { taken = W.taken out.old; failures = W.failures out.old })
+        (record { taken = W.taken out.new; failures = W.failures out.new }) }
+{
+    match load_program(alloc, model) {
+        Ok(program) => run_program(alloc, program, data_text, progress, out),
+        Err(fault) => refusal(alloc, model, fault),
+    }
+}
+
+/// As `run_model`, and tells how the run ended alone.
 ///
 /// `Ok` where all was written: `Done`, or `Faulted` with the state line of the last state; `Refused`
 /// with the line of a refused model, where nothing is written. `Write` where `out` counted a
 /// failure; what was written is a prefix of the report. `Memory` where a growth was refused, and
 /// nothing is written.
+#[tactic(auto, unfolding(crate::specs::WholeRun::RunSays))]
 pub fn report<P: Progress, W: Outlet>(
     alloc: Global,
     model: &[u8],
@@ -257,8 +329,8 @@ pub fn report<P: Progress, W: Outlet>(
         (record { taken = W.taken out.old; failures = W.failures out.old })
         (record { taken = W.taken out.new; failures = W.failures out.new }) }
 {
-    match load_program(alloc, model) {
-        Ok(program) => run_program(alloc, program, data_text, progress, out),
-        Err(fault) => refusal(alloc, fault),
+    match run_model(alloc, model, data_text, progress, out) {
+        Ok(whole) => Ok(whole.end),
+        Err(cut) => Err(cut),
     }
 }

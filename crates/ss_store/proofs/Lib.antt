@@ -28,3 +28,4 @@ pub mod Destroyed
 pub mod Wells
 pub mod Between
 pub mod Ordered
+pub mod Rounds

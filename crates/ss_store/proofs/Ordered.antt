@@ -1,7 +1,7 @@
 -- Lists that are known to be in order stay so.
 use Rattle.std.proofs.lemmas.Bool.Decides.{nat_tests}
-use Rattle.std.proofs.Common.{◌≡◌, ◌≢◌, ◌⊎◌, inl, inr, ℕ, ℤ, pos, zero, suc, ◌+◌, ◌-◌, ◌<◌, ◌≤◌, ◌==◌, ◌&&◌, ◌||◌, List, [], ◌∷◌}
-use Rattle.std.proofs.Common.{◌++◌, length, map, refl, ap, sym, subst, ◌∙◌, arith, slice_get, slice_index_or, replicate}
+use Rattle.std.proofs.Common.{◌≡◌, ◌≢◌, ◌⊎◌, inl, inr, ℕ, ℤ, pos, zero, suc, ◌+◌, ◌-◌, ◌<◌, ◌≤◌}
+use Rattle.std.proofs.Common.{◌==◌, ◌&&◌, ◌||◌, List, [], ◌∷◌, ◌++◌, length, map, refl, ap, sym, subst, ◌∙◌, arith, slice_get, slice_index_or, replicate}
 use Rattle.std.proofs.Common.{Option, Some, None, Bool, true, false, cond, set}
 use Rattle.std.specs.Prelude.{Ok, is_some, unwrap_or, slice_set}
 use Rattle.std.specs.List.{list_any}
@@ -47,8 +47,8 @@ use Rattle.ss_store.proofs.Written.{Lies, get_other, get_set}
 
 -- ---- what is known
 
-pub none_known : (g : StoreParts) → AreInOrder g []
-none_known g = record { each = λ h s o known is own. cc }
+pub none_known : (g : StoreParts) (fs : List Bool) → ((h : ℕ) → known_at fs h ≡ false) → AreInOrder g fs
+none_known g fs f = record { each = λ h s o known is own. absurd (let bad = sym (f h) ∙ known in cc) }
 
 pub fewer_known : (g : StoreParts) (old new : List Bool) → ((h : ℕ) → known_at new h ≡ true → known_at old h ≡ true)
     → AreInOrder g old → AreInOrder g new
@@ -363,11 +363,11 @@ pub set_order : (g : StoreParts) (fs new : List Bool) (c k n a : ℕ) (x : ℤ) 
     (es : EntityTable) (b : Bool) (sets : List SetShape) → IsStore g → AreInOrder g fs → (l : Lies g c k shape)
     → row_of g.rows c k ≡ Some r → n ≡ k - 1
     → es ≡ with_table (with_values n (Some (set l.value a x))) g.rows (numbering_by shape.permanent c)
-    → sets ≡ g.tables.sets → b ≡ list_any (ranks g c a r) sets → (b ≡ true → new ≡ []) → (b ≡ false → new ≡ fs)
-    → AreInOrder (record g { rows = es }) new
+    → sets ≡ g.tables.sets → b ≡ list_any (ranks g c a r) sets → (b ≡ true → (h : ℕ) → known_at new h ≡ false)
+    → (b ≡ false → new ≡ fs) → AreInOrder (record g { rows = es }) new
 set_order g fs new c k n a x r shape es b sets s o l er en ee es_is eb forgotten stays =
     (elim b as (λ y. b ≡ y → AreInOrder (record g { rows = es }) new) [
-      | true ↦ λ e. subst (AreInOrder (record g { rows = es })) (sym (forgotten e)) (none_known (record g { rows = es }))
+      | true ↦ λ e. none_known (record g { rows = es }) new (forgotten e)
       | false ↦ λ e. subst (AreInOrder (record g { rows = es })) (sym (stays e))
           (unset_order g fs c k n a x r shape es sets s o l er en ee es_is (sym eb ∙ e))
     ]) refl
@@ -437,11 +437,3 @@ kept_order g fs new es ns b e f k fewer a = subst (λ z. AreInOrder z new) (λ i
   members = g.members;
   board = sym k i;
 }) (fewer_known g fs new fewer a)
-
--- more heads, of which nothing is known
-pub unknown_more : (fs : List Bool) (n h : ℕ) → known_at (fs ++ replicate n false) h ≡ true → known_at fs h ≡ true
-unknown_more [] zero h e = cc
-unknown_more [] (suc n) zero e = cc
-unknown_more [] (suc n) (suc h) e = absurd (let bad = unknown_more [] n h e in cc)
-unknown_more (f ∷ fs) n zero e = e
-unknown_more (f ∷ fs) n (suc h) e = unknown_more fs n h e

@@ -1,5 +1,6 @@
 -- Private: lists of seats that are in the order of their set's ranking.
-use Rattle.std.specs.Prelude.{◌≡◌, ◌==◌, ℕ, Bool, true, false, List, [], ◌∷◌, slice_get, slice_index_or, Some}
+use Rattle.std.specs.Prelude.{◌≡◌, ◌==◌, ◌<◌, ◌≤◌, ℕ, Bool, true, false, List, [], ◌∷◌, map}
+use Rattle.std.specs.Prelude.{slice_get, slice_index_or, Some}
 use Rattle.std.specs.Ordering.{is_gt}
 use Rattle.std.specs.List.{list_any}
 use Rattle.ss_links.specs.Board.{list_at}
@@ -21,11 +22,20 @@ Climbs behind (x ∷ l) = ((y : ℕ) → has l y ≡ true → behind x y ≡ fal
 
 -- whether the member at one seat ranks strictly behind that at another, as the attributes are now
 abbrev pub seat_after : EntityTable → List ℕ → List Key → ℕ → ℕ → ℕ → Bool
-seat_after es ns keys c x y = is_gt (by_keys keys (keys_in es keys c (number_at ns x)) (keys_in es keys c (number_at ns y)))
+seat_after es ns keys c x y =
+    is_gt (by_keys keys (keys_in es keys c (number_at ns x)) (keys_in es keys c (number_at ns y)))
 
 -- the members at the seats of a list are in the order of this set's ranking, if it has one
 abbrev pub InOrder : EntityTable → List ℕ → SetShape → List ℕ → Type 0
 InOrder es ns s l = (keys : List Key) → s.discipline ≡ Ranked keys → Climbs (seat_after es ns keys s.member) l
+
+-- the lists found to be in order in this round, by the round in which each was
+abbrev pub known_in : List ℕ → ℕ → List Bool
+known_in rounds round = map (λ r. r == round) rounds
+
+-- no list was found to be in order in a later round, and 0 is none
+abbrev pub AreRounds : List ℕ → ℕ → Type 0
+AreRounds rounds round = (0 < round) × ((h : ℕ) → slice_index_or rounds h 0 ≤ round)
 
 -- whether the list of a head is known to be in order
 abbrev pub known_at : List Bool → ℕ → Bool

@@ -9,6 +9,7 @@ use Rattle.ss_program.specs.declared.kinds.Owner.{Owner}
 use Rattle.ss_program.specs.declared.kinds.Owner.TheVariants.{System, OwnedBy}
 use Rattle.ss_program.specs.Program as program
 use Rattle.ss_program.specs.Program.{SetTable, ProgramTable, owned_among, list_number}
+use Rattle.ss_words.specs.declared.limits.TheConstants.{MOST_CLASSES, MOST_SETS}
 use Rattle.ss_store.specs.declared.shape.ClassShape.{ClassShape}
 use Rattle.ss_store.specs.declared.shape.SetShape.{SetShape}
 
@@ -88,10 +89,6 @@ abbrev pub owned_by : Owner → Tables → ℕ
 owned_by System t = t.system
 owned_by (OwnedBy c) t = (class_of t c).owned
 
--- no more classes than these, nor sets
-abbrev pub table_limit : ℕ
-table_limit = 64
-
 -- each set has a number of its own among those of its owner and among those of its members
 pub record AreTables (t : Tables) : Type 0 where
   -- a set's list is one of its owner's
@@ -103,10 +100,10 @@ pub record AreTables (t : Tables) : Type 0 where
   -- two sets of one class of members have two slots
   pub one_slot : (a b : SetShape) → IsSet t.sets a → IsSet t.sets b → a.member ≡ b.member → a.slot ≡ b.slot → a ≡ b
   -- the classes are few
-  pub few_classes : length t.classes ≤ table_limit
+  pub few_classes : length t.classes ≤ MOST_CLASSES
   -- a class owns few sets
-  pub few_owned : (c : ℕ) → (class_of t c).owned ≤ table_limit
+  pub few_owned : (c : ℕ) → (class_of t c).owned ≤ MOST_SETS
   -- a class may be in few sets
-  pub few_joined : (c : ℕ) → (class_of t c).joined ≤ table_limit
+  pub few_joined : (c : ℕ) → (class_of t c).joined ≤ MOST_SETS
   -- the system owns few sets
-  pub few_system : t.system ≤ table_limit
+  pub few_system : t.system ≤ MOST_SETS

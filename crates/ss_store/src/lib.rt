@@ -9,6 +9,7 @@ pub mod limits;
 mod making;
 mod places;
 mod ranking;
+mod reading;
 mod rows;
 mod search;
 mod shape;

@@ -1,6 +1,6 @@
 //! Where a ranked set files a member.
-ghost use Rattle.std.specs.Prelude.{◌≡◌, ◌<◌, ℕ, length, None, Some, IsSome, unwrap_or, [], pos, slice_index_or, option_map};
-ghost use Rattle.std.specs.Prelude.{true, false};
+ghost use Rattle.std.specs.Prelude.{◌≡◌, ◌<◌, ℕ, length, None, Some, IsSome, unwrap_or, [], pos};
+ghost use Rattle.std.specs.Prelude.{slice_index_or, option_map, true, false};
 ghost use Rattle.std.specs.Ordering.{is_gt};
 ghost use Rattle.std.specs.Option.{ForSome};
 ghost use Rattle.ss_links.specs.Board.{list_at, list_of, head_of, IsSound};

@@ -8,32 +8,41 @@ use ss_program::Discipline;
 use std::alloc::{AllocError, Global};
 use std::marker::Model;
 
+/// Stands for a list that was in no round found to be in order.
+const NO_ROUND: u64 = 0;
+
 /// The lists of the ranked sets that are known to be in order, and a tree of the seats of each.
 ///
-/// Contracts see which lists are known. Nothing is said of the trees: they only say where a search
-/// may begin.
+/// A list is known while the round lasts in which it was found to be in order. Contracts see which
+/// lists are known. Nothing is said of the trees: they only say where a search may begin.
 #[derive(Drop)]
 pub(crate) struct Search {
-    known: Vec<bool>,
+    /// The round in which each list was found to be in order.
+    rounds: Vec<u64>,
+    /// The round that lasts.
+    round: u64,
     trees: Trees,
 }
 
 impl Model for Search {
     ghost use Rattle.std.specs.Prelude.{List, Bool};
+    ghost use Rattle.ss_store.specs.Order.{AreRounds, known_in};
 
     ghost Value = { List Bool };
 
-    ghost view = { λ a. a.known.items };
+    ghost view = { λ a. known_in a.rounds.items a.round };
+
+    ghost invariant = { λ a. AreRounds a.rounds.items a.round };
 }
 
-/// Adds so many lists of which nothing is known, or none where memory is refused.
-fn add_unknown(known: &mut Vec<bool>, count: usize) -> Result<(), AllocError>
-    ensures ok { IfOk result (λ _. known.new.items ≡ known.old.items ++ replicate count false) }
-    ensures err { OnErr result (known.new.items ≡ known.old.items) }
+/// Adds so many lists that were in no round found to be in order, or none where memory is refused.
+fn add_unknown(rounds: &mut Vec<u64>, count: usize) -> Result<(), AllocError>
+    ensures ok { IfOk result (λ _. rounds.new.items ≡ rounds.old.items ++ replicate count NO_ROUND) }
+    ensures err { OnErr result (rounds.new.items ≡ rounds.old.items) }
 {
-    known.try_reserve(count)?;
+    rounds.try_reserve(count)?;
     for _ in 0..count {
-        known.push_reserved(false);
+        rounds.push_reserved(NO_ROUND);
     }
     Ok(())
 }
@@ -44,7 +53,8 @@ impl Search {
         ensures { result ≡ [] }
     {
         Search {
-            known: Vec::new(alloc),
+            rounds: Vec::new(alloc),
+            round: 1,
             trees: Trees::new(alloc),
         }
     }
@@ -53,8 +63,8 @@ impl Search {
     pub(crate) fn try_grow(&mut self, heads: u32, seats: u32) -> Result<(), AllocError>
         ensures { (h : ℕ) → known_at self.new h ≡ true → known_at self.old h ≡ true }
     {
-        let more = (heads as usize).saturating_sub(self.known.len());
-        add_unknown(&mut self.known, more)?;
+        let more = (heads as usize).saturating_sub(self.rounds.len());
+        add_unknown(&mut self.rounds, more)?;
         self.trees.try_grow(heads as usize, seats as usize)
     }
 
@@ -62,9 +72,9 @@ impl Search {
     pub(crate) fn knows(&self, head: u32) -> bool
         ensures { result ≡ known_at self.now head }
     {
-        match self.known.get(head as usize) {
+        match self.rounds.get(head as usize) {
             None => false,
-            Some(known) => *known,
+            Some(round) => *round == self.round,
         }
     }
 
@@ -73,21 +83,25 @@ impl Search {
         ensures { self.new ≡ slice_set self.old head known }
     {
         let at = head as usize;
-        if at < self.known.len() {
-            self.known[at] = known;
+        if at < self.rounds.len() {
+            self.rounds[at] = if known { self.round } else { NO_ROUND };
         }
     }
 
-    /// Nothing is known of any list.
+    /// Nothing is known of any list until it is found to be in order once more. No run has as many
+    /// rounds as there are; if it had, nothing would be known until the next lists are made.
     pub(crate) fn forget(&mut self)
-        ensures { self.new ≡ [] }
+        ensures { (h : ℕ) → known_at self.new h ≡ false }
     {
-        self.known.truncate(0);
+        match self.round.checked_add(1) {
+            None => self.rounds.truncate(0),
+            Some(next) => self.round = next,
+        }
     }
 
     /// Nothing is known of any list, where this holds.
     pub(crate) fn forget_if(&mut self, all: bool)
-        ensures forgotten { all ≡ true → self.new ≡ [] }
+        ensures forgotten { all ≡ true → (h : ℕ) → known_at self.new h ≡ false }
         ensures kept { all ≡ false → self.new ≡ self.old }
     {
         if all {

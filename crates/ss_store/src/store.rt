@@ -3,19 +3,17 @@ ghost use Rattle.ss_links.specs.Board.{empty_board};
 ghost use Rattle.ss_store.specs.Tables.{set_of, tables_of};
 ghost use Rattle.ss_store.specs.Tables.{AreTables};
 ghost use Rattle.ss_store.specs.Value.{empty_value};
-ghost use Rattle.ss_store.specs.WellStore.{IsWellStore};
 ghost use Rattle.ss_store.specs.Store as pure;
-ghost use Rattle.ss_store.specs.Filing.{after_filing, after_removing, is_in, count, walk_first, walk_last, walk_next};
-ghost use Rattle.ss_store.specs.Filing.{walk_prev, predecessor, successor, membership};
+ghost use Rattle.ss_store.specs.Filing.{after_filing, after_removing};
 ghost use Rattle.ss_store.specs.Change.{FitsStore, unapply_store, IsOutcome, IsRemoval};
 
 use crate::change::StoreChange;
 use crate::growing::add_heads;
 use crate::places::{
-    head_of, known, member_at_seat, member_if, number_of_value, place_for, row_of, seat_if,
-    seat_in, seat_of, seat_to_remove, spot_of,
+    head_of, known, member_at_seat, member_if, number_of_value, place_for, seat_if, seat_of,
+    seat_to_remove, spot_of,
 };
-use crate::ranking::{is_in_order, start_of, value_at, values_of};
+use crate::ranking::{is_in_order, start_of};
 use crate::rows::Entities;
 use crate::search::Search;
 use crate::shape::{ClassShape, How, SetShape, Which};
@@ -248,217 +246,6 @@ impl<S: SetBoard> Store<S> {
                 before,
             },
         ))
-    }
-}
-
-impl<S: SetBoard> Store<S> {
-    /// Tells its caller that the store is well-formed.
-    pub fn known(&self)
-        ensures { IsWellStore self.now.tables self.now.state }
-    {
-        // What is kept is known where a field is read.
-        let _ = &self.entities;
-    }
-
-    /// Whether there is an entity of this class with this number.
-    pub fn exists(&self, class: usize, entity: i64) -> bool
-        ensures { result ≡ pure.exists self.now.state class (pure.number_of entity) }
-    {
-        row_of(&self.entities, class, number_of_value(entity)).is_some()
-    }
-
-    /// The value of an attribute, by its number in the class; F3 where the entity does not exist.
-    pub fn get(&self, class: usize, attribute: usize, entity: i64) -> Result<i64, RunFault>
-        ensures { result
-            ≡ pure.attribute_of self.now.state class attribute (pure.number_of entity) }
-    {
-        match values_of(&self.entities, class, number_of_value(entity)) {
-            None => Err(RunFault::NoEntity),
-            Some(values) => Ok(value_at(values, attribute)),
-        }
-    }
-
-    /// The number of members in the list of a set for this owner; F3 where the owner does not
-    /// exist.
-    pub fn count(&self, set: usize, owner: i64) -> Result<u32, RunFault>
-        requires { set < length self.now.tables.sets }
-        ensures { result
-            ≡ count (set_of self.now.tables set) self.now.state (pure.number_of owner) }
-    {
-        let shape = &self.sets[set];
-        known(&self.board);
-        match head_of(&self.entities, shape, number_of_value(owner)) {
-            None => Err(RunFault::NoEntity),
-            Some(head) => Ok(self.board.len(head)),
-        }
-    }
-
-    /// The first member of the list of a set for this owner, or none; F3 where the owner does not
-    /// exist.
-    pub fn walk_first(&self, set: usize, owner: i64) -> Result<Option<u32>, RunFault>
-        requires { set < length self.now.tables.sets }
-        ensures { result
-            ≡ walk_first (set_of self.now.tables set) self.now.state (pure.number_of owner) }
-    {
-        let shape = &self.sets[set];
-        known(&self.board);
-        match head_of(&self.entities, shape, number_of_value(owner)) {
-            None => Err(RunFault::NoEntity),
-            Some(head) => {
-                let first = self.board.first(head);
-                Ok(member_if(&self.numbers, first))
-            }
-        }
-    }
-
-    /// The last member of the list of a set for this owner, or none; F3 where the owner does not
-    /// exist.
-    pub fn walk_last(&self, set: usize, owner: i64) -> Result<Option<u32>, RunFault>
-        requires { set < length self.now.tables.sets }
-        ensures { result
-            ≡ walk_last (set_of self.now.tables set) self.now.state (pure.number_of owner) }
-    {
-        let shape = &self.sets[set];
-        known(&self.board);
-        match head_of(&self.entities, shape, number_of_value(owner)) {
-            None => Err(RunFault::NoEntity),
-            Some(head) => {
-                let last = self.board.last(head);
-                Ok(member_if(&self.numbers, last))
-            }
-        }
-    }
-
-    /// Whether a member is in the list of a set for this owner; F3 where the owner or the member
-    /// does not exist.
-    pub fn is_in(&self, set: usize, owner: i64, member: i64) -> Result<bool, RunFault>
-        requires { set < length self.now.tables.sets }
-        ensures { result ≡ is_in (set_of self.now.tables set) self.now.state (pure.number_of owner)
-            (pure.number_of member) }
-    {
-        let shape = &self.sets[set];
-        known(&self.board);
-        match seat_in(
-            &self.entities,
-            &self.board,
-            shape,
-            number_of_value(owner),
-            number_of_value(member),
-        ) {
-            Err(fault) => Err(fault),
-            Ok(None) => Ok(false),
-            Ok(Some(_)) => Ok(true),
-        }
-    }
-
-    /// The member directly behind one of the list of a set for this owner, or none where it is the
-    /// last.
-    ///
-    /// Faults: F3 where the owner or the member does not exist; F14 where the member is not in the
-    /// list.
-    pub fn walk_next(&self, set: usize, owner: i64, member: i64) -> Result<Option<u32>, RunFault>
-        requires { set < length self.now.tables.sets }
-        ensures { result
-            ≡ walk_next (set_of self.now.tables set) self.now.state (pure.number_of owner)
-            (pure.number_of member) }
-    {
-        let shape = &self.sets[set];
-        known(&self.board);
-        match seat_in(
-            &self.entities,
-            &self.board,
-            shape,
-            number_of_value(owner),
-            number_of_value(member),
-        ) {
-            Err(fault) => Err(fault),
-            Ok(None) => Err(RunFault::MemberLeft),
-            Ok(Some(seat)) => {
-                let next = self.board.next(seat);
-                Ok(member_if(&self.numbers, next))
-            }
-        }
-    }
-
-    /// The member directly before one of the list of a set for this owner, or none where it is the
-    /// first.
-    ///
-    /// Faults: F3 where the owner or the member does not exist; F14 where the member is not in the
-    /// list.
-    pub fn walk_prev(&self, set: usize, owner: i64, member: i64) -> Result<Option<u32>, RunFault>
-        requires { set < length self.now.tables.sets }
-        ensures { result
-            ≡ walk_prev (set_of self.now.tables set) self.now.state (pure.number_of owner)
-            (pure.number_of member) }
-    {
-        let shape = &self.sets[set];
-        known(&self.board);
-        match seat_in(
-            &self.entities,
-            &self.board,
-            shape,
-            number_of_value(owner),
-            number_of_value(member),
-        ) {
-            Err(fault) => Err(fault),
-            Ok(None) => Err(RunFault::MemberLeft),
-            Ok(Some(seat)) => {
-                let before = self.board.prev(seat);
-                Ok(member_if(&self.numbers, before))
-            }
-        }
-    }
-}
-
-impl<S: SetBoard> Store<S> {
-    /// `P.s`: the member directly before one in the list that holds it, or none where it is the
-    /// first or in no list; F3 where it does not exist.
-    pub fn predecessor(&self, set: usize, member: i64) -> Result<Option<u32>, RunFault>
-        requires { set < length self.now.tables.sets }
-        ensures { result
-            ≡ predecessor (set_of self.now.tables set) self.now.state (pure.number_of member) }
-    {
-        let shape = &self.sets[set];
-        known(&self.board);
-        match seat_of(&self.entities, shape, number_of_value(member)) {
-            None => Err(RunFault::NoEntity),
-            Some(seat) => {
-                let before = self.board.prev(seat);
-                Ok(member_if(&self.numbers, before))
-            }
-        }
-    }
-
-    /// `S.s`: the member directly behind one in the list that holds it, or none where it is the
-    /// last or in no list; F3 where it does not exist.
-    pub fn successor(&self, set: usize, member: i64) -> Result<Option<u32>, RunFault>
-        requires { set < length self.now.tables.sets }
-        ensures { result
-            ≡ successor (set_of self.now.tables set) self.now.state (pure.number_of member) }
-    {
-        let shape = &self.sets[set];
-        known(&self.board);
-        match seat_of(&self.entities, shape, number_of_value(member)) {
-            None => Err(RunFault::NoEntity),
-            Some(seat) => {
-                let next = self.board.next(seat);
-                Ok(member_if(&self.numbers, next))
-            }
-        }
-    }
-
-    /// `M.s`: whether an entity is in a list of the set; F3 where it does not exist.
-    pub fn membership(&self, set: usize, member: i64) -> Result<bool, RunFault>
-        requires { set < length self.now.tables.sets }
-        ensures { result
-            ≡ membership (set_of self.now.tables set) self.now.state (pure.number_of member) }
-    {
-        let shape = &self.sets[set];
-        known(&self.board);
-        match seat_of(&self.entities, shape, number_of_value(member)) {
-            None => Err(RunFault::NoEntity),
-            Some(seat) => Ok(self.board.place(seat).is_some()),
-        }
     }
 }
 

@@ -4,6 +4,7 @@
 ghost use Rattle.std.specs.Prelude.{◌≡◌};
 ghost use Rattle.ss_host.specs.Stops.{stop_status};
 ghost use Rattle.ss_run.specs.Report.{status_of_run};
+ghost use Rattle.ss_run.specs.WholeRun.{end_of_outcome};
 
 mod meter;
 mod words;
@@ -12,7 +13,7 @@ use clap::Error;
 use clap::error::ErrorKind;
 use meter::Meter;
 use ss_host::{Stop, Stream, read_arguments, read_file, read_or, tell};
-use ss_run::{RunCut, RunEnd, report, run_status};
+use ss_run::{RunCut, RunEnd, WholeRun, run_model, run_status};
 use std::io;
 use std::io::{IsTerminal, Write};
 use std::process::ExitCode;
@@ -27,12 +28,12 @@ fn run<'a, R: Files + Print + Eprint + AllocGlobal>(
     rt: &R,
     words: &Words<'a>,
     is_seen: bool,
-) -> Result<Result<RunEnd, RunCut>, Stop<'a>> {
+) -> Result<Result<WholeRun, RunCut>, Stop<'a>> {
     let model = read_file(rt, words.model)?;
     let input = read_or(rt, words.input, b"")?;
     let mut out = Stream::new(io::writer(rt));
     let mut meter = Meter::new(rt, is_seen);
-    Ok(report(rt.alloc(), &model, &input, &mut meter, &mut out))
+    Ok(run_model(rt.alloc(), &model, &input, &mut meter, &mut out))
 }
 
 /// Says what stopped the program, and gives its exit status.
@@ -43,23 +44,48 @@ fn stopped<R: Eprint>(rt: &R, stop: Stop<'_>) -> u8
     stop.status()
 }
 
-/// Says on standard error how a run ended where it did not end well, and gives the exit status.
-fn ended(rt: &HostRuntime, outcome: &Result<RunEnd, RunCut>) -> u8
-    ensures { result ≡ status_of_run outcome.now }
+/// Says on standard error how a run ended, and gives the exit status.
+fn ended(rt: &HostRuntime, outcome: Result<WholeRun, RunCut>) -> u8
+    ensures { result ≡ status_of_run (end_of_outcome outcome) }
 {
-    match outcome {
-        Ok(RunEnd::Done) => {}
-        Ok(RunEnd::Faulted(line)) => put_line(rt, line),
-        Ok(RunEnd::Refused(line)) => put_line(rt, line),
-        Err(RunCut::Write) => tell(rt, Stop::CannotWrite, USAGE),
-        Err(RunCut::Memory) => tell(rt, Stop::Memory, USAGE),
-    }
-    run_status(outcome)
+    let end = match outcome {
+        Ok(whole) => {
+            tell_whole(rt, &whole);
+            Ok(whole.end)
+        }
+        Err(cut) => {
+            tell_cut(rt, cut);
+            Err(cut)
+        }
+    };
+    run_status(&end)
 }
 
-/// Writes a line to standard error, as far as that takes it.
-fn put_line(rt: &HostRuntime, line: &[u8]) {
-    let _ = rt.stderr().write_all(line);
+/// Says where a run did not end well, what explains that, and how many values did not fit.
+fn tell_whole(rt: &HostRuntime, whole: &WholeRun) {
+    match &whole.end {
+        RunEnd::Done => {}
+        RunEnd::Faulted(line) => put_lines(rt, line),
+        RunEnd::Refused(line) => put_lines(rt, line),
+    }
+    put_lines(rt, &whole.explanation);
+    let unfit = whole.unfit;
+    if unfit > 0 {
+        let _ = eprintln!(rt; "{unfit} VALUES DID NOT FIT THEIR FIELDS");
+    }
+}
+
+/// Says what cut a run short.
+fn tell_cut(rt: &HostRuntime, cut: RunCut) {
+    match cut {
+        RunCut::Write => tell(rt, Stop::CannotWrite, USAGE),
+        RunCut::Memory => tell(rt, Stop::Memory, USAGE),
+    }
+}
+
+/// Writes lines to standard error, as far as that takes them.
+fn put_lines(rt: &HostRuntime, lines: &[u8]) {
+    let _ = rt.stderr().write_all(lines);
 }
 
 /// What is said of words that name no model, and the exit status: 0 where help or version was asked
@@ -88,7 +114,7 @@ fn started(rt: &HostRuntime, arguments: &[String]) -> u8 {
         Err(error) => return explained(rt, &error),
     };
     match run(rt, &words, rt.stderr().is_terminal()) {
-        Ok(outcome) => ended(rt, &outcome),
+        Ok(outcome) => ended(rt, outcome),
         Err(stop) => stopped(rt, stop),
     }
 }

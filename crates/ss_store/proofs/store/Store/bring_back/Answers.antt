@@ -1,7 +1,5 @@
 use Rattle.std.proofs.Common.{◌-◌, refl}
 use Rattle.ss_store.proofs.Destroyed.{lay, lay_below, back_pair, back_value}
-use Rattle.std.proofs.Common.{subst, sym}
-use Rattle.ss_store.specs.Order.{AreInOrder}
 use Rattle.ss_store.proofs.Ordered.{none_known}
 use Rattle.ss_store.proofs.store.Store.bring_back.Goals as goal
 
@@ -17,7 +15,7 @@ invariant_of-self g c =
     c.requires in
     let p = back_pair _ _ c.args.class c.args.number (c.args.number - 1) _ c.args.values.items _ c.self.view_is
     c.self.invariant.2
-    c.requires l refl c.put_values.ensures in (p.0, p.1, p.2, subst (AreInOrder _) (sym c.forget.ensures) (none_known _))
+    c.requires l refl c.put_values.ensures in (p.0, p.1, p.2, none_known _ _ c.forget.ensures)
 
 pub returns : goal.returns
 returns g c =

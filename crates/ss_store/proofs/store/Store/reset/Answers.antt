@@ -1,10 +1,8 @@
-use Rattle.std.proofs.Common.{subst, sym}
 use Rattle.std.proofs.lemmas.Int.{to_z-of_z}
 use Rattle.std.proofs.Common.{rules, w64, FitsSigned, ◌-◌, refl}
 use Rattle.ss_store.specs.Making.{numbering_by}
 use Rattle.ss_store.proofs.Made.{at_of}
 use Rattle.ss_store.proofs.Written.{signed_range, row_there, lies, living_at, as_value, set_pair, set_value}
-use Rattle.ss_store.specs.Order.{AreInOrder}
 use Rattle.ss_store.proofs.Ordered.{none_known}
 use Rattle.ss_store.proofs.store.Store.reset.Goals as goal
 
@@ -29,7 +27,7 @@ invariant_of-self g c =
     (c.replace.ensures.rows l.value (living_at _ c.args.class c.args.number (c.args.number - 1)
     c.index-shape.result.now l refl)) (let fits : FitsSigned w64 c.args.value = search rules in
     to_z-of_z w64 _ fits)) _
-    (subst (AreInOrder _) (sym c.forget.ensures) (none_known _))
+    (none_known _ _ c.forget.ensures)
 
 pub returns : goal.returns
 returns g c =

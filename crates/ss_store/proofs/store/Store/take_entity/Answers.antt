@@ -1,8 +1,6 @@
 use Rattle.ss_store.specs.Making.{numbering_by}
 use Rattle.ss_store.proofs.Made.{at_of}
 use Rattle.ss_store.proofs.Taken.{newest, any_row, shrinks, takes, taken_pair, taken_value}
-use Rattle.std.proofs.Common.{subst, sym}
-use Rattle.ss_store.specs.Order.{AreInOrder}
 use Rattle.ss_store.proofs.Ordered.{none_known}
 use Rattle.ss_store.proofs.store.Store.take_entity.Goals as goal
 
@@ -31,7 +29,7 @@ invariant_of-self g c =
     let p = taken_pair _ (numbering_by c.index-shape.result.now.permanent c.args.class) c.args.class c.index-shape.result.now
     f.1 f.2 _ _ _ c.self.invariant.2 n
     (takes _ _ c.args.class c.index-shape.result.now f.1 f.2 _ _ _ n c.shrink.ensures.rows c.shrink.ensures.numbers
-    c.shrink.ensures.board c.shrink.ensures.sound) in (p.0, p.1, p.2, subst (AreInOrder _) (sym c.forget.ensures) (none_known _))
+    c.shrink.ensures.board c.shrink.ensures.sound) in (p.0, p.1, p.2, none_known _ _ c.forget.ensures)
 
 pub returns : goal.returns
 returns g c = λ j h t f.

@@ -1,0 +1,50 @@
+-- What is answered before a run is launched, and to launch.
+use Rattle.std.specs.Prelude.{ℕ, ◌≡◌, List, [], ◌∷◌, codes, Bool}
+use Rattle.std.specs.Str.{bytes_eq}
+use Rattle.ss_words.specs.Faults.{text_rule_code}
+use Rattle.ss_check.specs.CheckRules.{check_rule_code}
+use Rattle.ss_machine.specs.Run.{input_with}
+use Rattle.ss_debug.specs.Turn.{initial_debugger_state}
+use Rattle.ss_debug.specs.View.{DebuggerView, debugger_state_of}
+use Rattle.ss_session.specs.Model.{accepted, IsOutcome}
+use Rattle.ss_session.specs.Load.{IsLoadFault}
+use Rattle.ss_session.specs.Transcript.{refusal_line}
+use Rattle.ss_session.specs.declared.load.LoadFault.{LoadFault}
+use Rattle.ss_session.specs.declared.load.LoadFault.TheVariants.{Text, Check, Memory}
+use Rattle.ss_messages.specs.declared.request.Command.{Command}
+use Rattle.ss_messages.specs.declared.request.Command.TheVariants.{Initialize, Disconnect, Terminate, Bad, Unknown}
+use Rattle.ss_messages.specs.Messages.{Sent, reply, failure, event}
+use Rattle.ss_messages.specs.Bodies.{output_body, without_last}
+use Rattle.ss_adapter.specs.declared.fixed.TheConstants.{CAPABILITIES}
+use Rattle.ss_adapter.specs.Desk.{DeskView}
+use Rattle.ss_adapter.specs.Turn.{terminated}
+
+-- what a request is answered with before a run is launched
+unfoldable pub answers_before : Command → List Sent
+answers_before Initialize = reply CAPABILITIES.now ∷ []
+answers_before Disconnect = reply (codes "{}") ∷ []
+answers_before Terminate = terminated
+answers_before Bad = failure (codes "an argument is missing") ∷ []
+answers_before Unknown = failure (codes "unknown request") ∷ []
+answers_before other = failure (codes "no run is launched") ∷ []
+
+-- what launch is answered with: where the model is accepted
+abbrev pub launched : List Sent
+launched = reply (codes "{}") ∷ event (codes "initialized") (codes "{}") ∷ []
+
+-- where it is refused, with what is said of it
+abbrev pub refused : List ℕ → List Sent
+refused line = failure (without_last line) ∷ event (codes "output") (output_body (codes "stderr") line) ∷ []
+
+-- a debugger at the start of the run of a model over its data, and a desk on which nothing is set or told
+pub record IsLaunched (model text path : List ℕ) (stops : Bool) (d : DebuggerView) (k : DeskView) : Type 0 where
+  pub program : IsOutcome model (accepted d.machine.input.program)
+  pub input : d.machine.input ≡ input_with d.machine.input.program text
+  pub start : debugger_state_of d ≡ initial_debugger_state
+  pub desk : k ≡ record { path = path; set = []; told = 0; stops = stops }
+
+-- the line of a refused model
+abbrev pub fault_line : LoadFault → List ℕ
+fault_line (Text rule line) = refusal_line (text_rule_code rule) line
+fault_line (Check rule line) = refusal_line (check_rule_code rule) line
+fault_line Memory = []

@@ -1,0 +1,13 @@
+-- What the adapter keeps beside the debugger.
+use Rattle.std.specs.Prelude.{ℕ, Bool, List}
+
+-- what the adapter keeps beside the debugger
+pub record DeskView : Type 0 where
+  -- the path of the model
+  pub path : List ℕ
+  -- the break lines that requests set
+  pub set : List ℕ
+  -- how much of the report is told
+  pub told : ℕ
+  -- whether configurationDone stops where the run stands
+  pub stops : Bool

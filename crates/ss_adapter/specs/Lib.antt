@@ -1,0 +1,6 @@
+pub mod Desk
+pub mod Places
+pub mod Going
+pub mod Looking
+pub mod Turn
+pub mod Before

@@ -1,0 +1,208 @@
+-- One turn of the adapter: what a request is answered with, and where it leads.
+use Rattle.std.specs.Prelude.{ℕ, ◌≡◌, max, Bool, true, false, List, [], ◌∷◌, ◌++◌, codes, drop, length, take, min, nat_lt, nat_eq}
+use Rattle.std.specs.Prelude.{Option, Some, None, if◌then◌else◌}
+use Rattle.ss_machine.specs.Run.{Input, run}
+use Rattle.ss_debug.specs.declared.limits.TheConstants.{GREATEST_BOUND, BREAK_LIMIT}
+use Rattle.ss_debug.specs.declared.commands.Command.{Command as Line}
+use Rattle.ss_debug.specs.declared.commands.Command.TheVariants.{Move}
+use Rattle.ss_debug.specs.declared.commands.Movement.TheVariants.{Run}
+use Rattle.ss_debug.specs.declared.commands.Question.{Question}
+use Rattle.ss_debug.specs.Command.{command_of}
+use Rattle.ss_debug.specs.Answer.{state_line}
+use Rattle.ss_debug.specs.Turn.{DebuggerState, debugger_state_after, debugger_state_with, answer, show_answer}
+use Rattle.ss_debug.specs.View.{DebuggerView, debugger_state_of}
+use Rattle.ss_messages.specs.declared.request.Command.{Command}
+use Rattle.ss_messages.specs.declared.request.Command.TheVariants.{Initialize, Launch, SetBreakpoints, SetExceptionBreakpoints}
+use Rattle.ss_messages.specs.declared.request.Command.TheVariants.{ConfigurationDone, Threads, StackTrace, Scopes, Variables}
+use Rattle.ss_messages.specs.declared.request.Command.TheVariants.{Obey, Ask, Source, LoadedSources, ExceptionInfo}
+use Rattle.ss_messages.specs.declared.request.Command.TheVariants.{Pause, Disconnect, Terminate, Bad, Unknown}
+use Rattle.ss_messages.specs.Messages.{Sent, reply, failure, event}
+use Rattle.ss_messages.specs.Bodies.{stopped_body, output_body, result_body, content_body, sources_body, list_body, without_last}
+use Rattle.ss_adapter.specs.declared.fixed.TheConstants.{CAPABILITIES, THREADS, SCOPES, NO_EXIT}
+use Rattle.ss_adapter.specs.declared.going.Going.{Going}
+use Rattle.ss_adapter.specs.declared.going.Going.TheVariants.{Standing}
+use Rattle.ss_adapter.specs.declared.turn.Further.{Further}
+use Rattle.ss_adapter.specs.declared.turn.Further.TheVariants as further
+use Rattle.ss_adapter.specs.Going.{going_of, state_behind, going_answer}
+use Rattle.ss_adapter.specs.Looking.{reason_at, exception_by, frames_text, scope_items, question_of}
+use Rattle.ss_adapter.specs.Places.{Setting, setting_of}
+use Rattle.ss_adapter.specs.Desk.{DeskView}
+
+-- ---- the state
+
+-- the state of the adapter: a debugger in the run of an input, and the desk
+pub record AdapterState : Type 0 where
+  pub input : Input
+  pub debugger : DebuggerState
+  pub desk : DeskView
+
+-- the report of the state where the debugger stands
+abbrev pub report_at : Input → DebuggerState → List ℕ
+report_at t d = (run t d.position).report
+
+-- how much of a report is told once it was reached: it is told once
+abbrev pub told_with : DeskView → List ℕ → DeskView
+told_with k report =
+    record { path = k.path; set = k.set; told = max k.told (length report); stops = k.stops }
+
+-- where a movement leads
+abbrev pub moved : AdapterState → DebuggerState → AdapterState
+moved s d = record { input = s.input; debugger = d; desk = told_with s.desk (report_at s.input d) }
+
+-- ---- what is sent
+
+-- the part of a report that is not told yet
+abbrev pub untold : ℕ → List ℕ → List Sent
+untold told report =
+    if nat_lt told (length report)
+    then event (codes "output") (output_body (codes "stdout") (drop told report)) ∷ []
+    else []
+
+-- the run stands where the debugger is, for this reason
+abbrev pub stopped : List ℕ → List ℕ → Sent
+stopped reason text = event (codes "stopped") (stopped_body reason text)
+
+-- what follows a movement to d, of which this is the answer: first what was printed, then where it stopped
+abbrev pub behind_movement : Input → ℕ → DebuggerState → List ℕ → List Sent
+behind_movement t told d text =
+    untold told (report_at t d) ++ stopped (reason_at t d.breaks d.position) (without_last text) ∷ []
+
+-- a reply with a body, and a movement behind it
+abbrev pub gone : AdapterState → List ℕ → Going → List Sent
+gone s body g =
+    reply body
+    ∷ behind_movement s.input s.desk.told (state_behind s.input s.debugger g) (going_answer s.input s.debugger g)
+
+-- RUN
+abbrev pub running : Going
+running = Standing (Run GREATEST_BOUND)
+
+-- a reply, and where the run stands
+abbrev pub here : AdapterState → List ℕ → List Sent
+here s reason =
+    reply (codes "{}") ∷ stopped reason (without_last (state_line s.input s.debugger.position)) ∷ []
+
+-- a line that is obeyed: its answer, and, behind a movement, where it stopped
+abbrev pub obeyed : AdapterState → Line → List Sent
+obeyed s (Move m) = gone s (result_body (answer s.input s.debugger (Move m))) (Standing m)
+obeyed s line = reply (result_body (answer s.input s.debugger line)) ∷ []
+
+-- a question that is answered
+abbrev pub asked : AdapterState → Option Question → List Sent
+asked s (Some q) = reply (result_body (without_last (show_answer s.input s.debugger.position q))) ∷ []
+asked s None = failure (codes "no question") ∷ []
+
+-- what is told of a fault
+abbrev pub excepted : Option (List ℕ) → List Sent
+excepted (Some body) = reply body ∷ []
+excepted None = failure (codes "no fault") ∷ []
+
+-- the lines of a request that are obeyed
+abbrev pub within_limit : List ℕ → List ℕ
+within_limit lines = take BREAK_LIMIT lines
+
+-- the break lines behind a request
+abbrev pub setting_in : AdapterState → List ℕ → Setting
+setting_in s lines = setting_of s.input.program s.debugger.breaks s.desk.set (within_limit lines)
+
+-- the content of a source: the report is number 1
+abbrev pub source_messages : List ℕ → ℕ → List Sent
+source_messages report reference =
+    if nat_eq reference 1 then reply (content_body report) ∷ [] else failure (codes "no source") ∷ []
+
+-- the run is over for the editor
+abbrev pub terminated : List Sent
+terminated = reply (codes "{}") ∷ event (codes "terminated") (codes "{}") ∷ event (codes "exited") NO_EXIT.now ∷ []
+
+-- configurationDone
+abbrev pub configuring : AdapterState → List Sent
+configuring s = if s.desk.stops then here s (codes "entry") else gone s (codes "{}") running
+
+-- what a request is answered with that asks about the run
+unfoldable pub looked : AdapterState → Command → List Sent
+looked s Initialize = reply CAPABILITIES.now ∷ []
+looked s (Launch model input stops) = failure (codes "a run is launched already") ∷ []
+looked s Threads = reply THREADS.now ∷ []
+looked s (StackTrace start levels) =
+    reply (list_body (codes "stackFrames") (frames_text s.input s.debugger.position s.desk.path start)) ∷ []
+looked s (Scopes frame) = reply SCOPES.now ∷ []
+looked s (Variables reference start count) =
+    reply (list_body (codes "variables") (scope_items s.input s.debugger.position reference start count)) ∷ []
+looked s (Ask text) = asked s (question_of text)
+looked s (Source reference) = source_messages (report_at s.input s.debugger) reference
+looked s LoadedSources = reply (sources_body s.desk.path) ∷ []
+looked s ExceptionInfo = excepted (exception_by (run s.input s.debugger.position).status)
+looked s Pause = here s (codes "pause")
+looked s Terminate = terminated
+looked s Bad = failure (codes "an argument is missing") ∷ []
+looked s Unknown = failure (codes "unknown request") ∷ []
+looked s other = reply (codes "{}") ∷ []
+
+-- what a request is answered with that asks for no movement
+unfoldable pub told_of : AdapterState → Command → List Sent
+told_of s (SetBreakpoints lines) = reply (list_body (codes "breakpoints") (setting_in s lines).text) ∷ []
+told_of s ConfigurationDone = configuring s
+told_of s (Obey text) = obeyed s (command_of text)
+told_of s other = looked s other
+
+-- what a request is answered with: where it asks for a movement, what follows that
+abbrev pub answers_by : AdapterState → Command → Option Going → List Sent
+answers_by s command (Some g) = gone s (codes "{}") g
+answers_by s command None = told_of s command
+
+-- what a request is answered with
+abbrev pub answers : AdapterState → Command → List Sent
+answers s command = answers_by s command (going_of command)
+
+-- ---- where a request leads
+
+-- behind a line
+abbrev pub behind_line : AdapterState → Line → AdapterState
+behind_line s (Move m) = moved s (debugger_state_after s.input s.debugger (Move m))
+behind_line s line =
+    record { input = s.input; debugger = debugger_state_after s.input s.debugger line; desk = s.desk }
+
+-- behind break lines
+abbrev pub behind_setting : AdapterState → Setting → AdapterState
+behind_setting s setting = record {
+  input = s.input;
+  debugger = debugger_state_with s.debugger setting.breaks;
+  desk = record { path = s.desk.path; set = setting.set; told = s.desk.told; stops = s.desk.stops };
+}
+
+-- once configured, the run stops where it stands when it is configured again
+abbrev pub configured : AdapterState → AdapterState
+configured s = record {
+  input = s.input;
+  debugger = s.debugger;
+  desk = record { path = s.desk.path; set = s.desk.set; told = s.desk.told; stops = true };
+}
+
+-- behind configurationDone
+abbrev pub behind_configuring : AdapterState → AdapterState
+behind_configuring s = configured (if s.desk.stops then s else moved s (state_behind s.input s.debugger running))
+
+-- behind a request that asks for no movement
+unfoldable pub left_by : AdapterState → Command → AdapterState
+left_by s (SetBreakpoints lines) = behind_setting s (setting_in s lines)
+left_by s ConfigurationDone = behind_configuring s
+left_by s (Obey text) = behind_line s (command_of text)
+left_by s other = s
+
+-- behind a request that asks for a movement, or none
+abbrev pub state_by : AdapterState → Command → Option Going → AdapterState
+state_by s command (Some g) = moved s (state_behind s.input s.debugger g)
+state_by s command None = left_by s command
+
+-- behind a request
+abbrev pub state_after : AdapterState → Command → AdapterState
+state_after s command = state_by s command (going_of command)
+
+-- whether the session goes on
+abbrev pub further_of : Command → Further
+further_of Disconnect = further.Ended
+further_of _ = further.On
+
+-- a debugger and a desk
+abbrev pub adapter_state_of : DebuggerView → DeskView → AdapterState
+adapter_state_of d k = record { input = d.machine.input; debugger = debugger_state_of d; desk = k }

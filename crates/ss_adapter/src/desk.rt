@@ -1,0 +1,45 @@
+//! What the adapter keeps beside the debugger.
+ghost use Rattle.std.specs.Prelude.{◌≡◌, [], max};
+
+use std::alloc::Global;
+use std::marker::Model;
+
+/// What the adapter keeps beside the debugger.
+#[derive(Drop)]
+pub struct Desk {
+    /// The path of the model.
+    pub(crate) path: Vec<u8>,
+    /// The break lines that requests set.
+    pub(crate) set: Vec<u32>,
+    /// How much of the report is told.
+    pub(crate) told: usize,
+    /// Whether configurationDone stops where the run stands.
+    pub(crate) stops: bool,
+}
+
+impl Model for Desk {
+    ghost use Rattle.ss_adapter.specs.Desk.{DeskView};
+
+    ghost Value = { DeskView };
+
+    ghost view = { λ k. record {
+      path = k.path.items;
+      set = k.set.items;
+      told = k.told;
+      stops = k.stops;
+    } };
+}
+
+impl Desk {
+    /// Nothing is set or told yet.
+    pub fn new(alloc: Global, path: Vec<u8>, stops: bool) -> Self
+        ensures { result ≡ record { path = path.items; set = []; told = 0; stops = stops } }
+    {
+        Desk {
+            path,
+            set: Vec::new(alloc),
+            told: 0,
+            stops,
+        }
+    }
+}

@@ -1,0 +1,99 @@
+//! launch: a model becomes a run.
+ghost use Rattle.std.specs.Prelude.{◌≡◌, ◌+◌, ◌-◌, ◌^◌, ◌<◌, IfOk, IfErr, OnOk, MatchOption};
+ghost use Rattle.ss_machine.specs.Run.{input_with};
+ghost use Rattle.ss_debug.specs.Turn.{initial_debugger_state};
+ghost use Rattle.ss_debug.specs.View.{debugger_state_of};
+ghost use Rattle.ss_session.specs.Model.{accepted, IsOutcome};
+ghost use Rattle.ss_session.specs.Load.{IsLoadFault};
+ghost use Rattle.ss_session.specs.declared.load.LoadFault.{LoadFault as Fault};
+ghost use Rattle.ss_messages.specs.Messages.{posted_all};
+ghost use Rattle.ss_adapter.specs.Before.{launched, refused, IsLaunched, fault_line};
+
+use crate::desk::Desk;
+use ss_debug::Debugger;
+use ss_links::LinkedSets;
+use ss_messages::{NOTHING, Post, Request, output_body, without_last};
+use ss_session::{LoadFault, load_program, machine, refusal_text};
+use std::alloc::{AllocError, Global};
+
+/// The debugger at the start of the run of a model over its data.
+fn open(alloc: Global, model: &[u8], text: &[u8]) -> Result<Debugger<LinkedSets>, LoadFault>
+    ensures program { IfOk result (λ d. IsOutcome model.now (accepted d.machine.input.program)) }
+    ensures input { IfOk result (λ d. d.machine.input
+        ≡ input_with d.machine.input.program text.now) }
+    ensures start { IfOk result (λ d. debugger_state_of d ≡ initial_debugger_state) }
+    ensures err { IfErr result (λ fault. IsLoadFault fault model.now) }
+{
+    let program = load_program(alloc, model)?;
+    let sets = LinkedSets::new(alloc);
+    let pending = LinkedSets::new(alloc);
+    match machine(alloc, program, text, sets, pending) {
+        Ok(machine) => Ok(Debugger::new(alloc, machine)),
+        Err(_) => Err(LoadFault::Memory),
+    }
+}
+
+/// What is said of a refused model.
+fn fault_line(alloc: Global, fault: &LoadFault) -> Result<Vec<u8>, AllocError>
+    ensures { IfOk result (λ text. text.items ≡ fault_line fault.now) }
+{
+    match fault {
+        LoadFault::Text { rule, line } => refusal_text(alloc, rule.code(), *line),
+        LoadFault::Check { rule, line } => refusal_text(alloc, rule.code(), *line),
+        LoadFault::Memory => Ok(Vec::new(alloc)),
+    }
+}
+
+/// Answers launch with what is said of a refused model.
+#[tactic(auto, unfolding(ss_messages::specs::Messages::posted_all))]
+fn refuse(request: &Request, post: &mut Post, fault: &LoadFault) -> Result<(), AllocError>
+    requires { post.old.sent + 1 < 2 ^ 64 - 1 }
+    ensures { OnOk result (post.new
+        ≡ posted_all request.now post.old (refused (fault_line fault.now))) }
+{
+    let line = fault_line(post.alloc(), fault)?;
+    post.fail(request, without_last(&line))?;
+    let body = output_body(post.alloc(), b"stderr", &line)?;
+    post.event(request, b"output", &body)
+}
+
+/// Answers launch with the run of a model over its data, at its start.
+#[tactic(auto, unfolding(ss_messages::specs::Messages::posted_all))]
+fn accept(request: &Request, post: &mut Post) -> Result<(), AllocError>
+    requires { post.old.sent + 1 < 2 ^ 64 - 1 }
+    ensures { OnOk result (post.new ≡ posted_all request.now post.old launched) }
+{
+    post.reply(request, NOTHING)?;
+    post.event(request, b"initialized", NOTHING)
+}
+
+/// Launches the run of a model, whose path is told, over its data, and answers the request. `None`
+/// where the model is refused; the answer says why, and on which line.
+pub fn launch(
+    request: &Request,
+    post: &mut Post,
+    path: &[u8],
+    stops: bool,
+    model: &[u8],
+    text: &[u8],
+) -> Result<Option<(Debugger<LinkedSets>, Desk)>, AllocError>
+    requires { post.old.sent + 1 < 2 ^ 64 - 1 }
+    ensures run { IfOk result (λ opened. MatchOption opened
+        ((fault : Fault) × IsLoadFault fault model.now
+        × (post.new ≡ posted_all request.now post.old (refused (fault_line fault))))
+        (λ run. IsLaunched model.now text.now path.now stops run.0 run.1
+        × (post.new ≡ posted_all request.now post.old launched))) }
+{
+    let desk = Desk::new(post.alloc(), path.to_vec(post.alloc())?, stops);
+    match open(post.alloc(), model, text) {
+        Ok(debugger) => {
+            accept(request, post)?;
+            Ok(Some((debugger, desk)))
+        }
+        Err(LoadFault::Memory) => Err(AllocError),
+        Err(fault) => {
+            refuse(request, post, &fault)?;
+            Ok(None)
+        }
+    }
+}

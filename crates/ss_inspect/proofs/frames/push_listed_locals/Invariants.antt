@@ -1,0 +1,8 @@
+use Rattle.std.proofs.Common.{◌≡◌, ◌++◌}
+use Rattle.ss_debug.specs.Entities.{lines_below}
+use Rattle.ss_inspect.specs.Frames.{listed_local}
+use Rattle.ss_inspect.proofs.frames.push_listed_locals.Given as goal
+
+abbrev pub invariant-loop-number : goal.invariant-loop-number
+invariant-loop-number g l =
+    l.text.items ≡ l.initial.text.items ++ lines_below (listed_local l.machine.input.program l.machine.state l.depth l.section) l.number

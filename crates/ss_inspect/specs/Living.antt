@@ -1,0 +1,27 @@
+-- Which entities of a class live.
+use Rattle.std.specs.Prelude.{ℕ, suc, max, List, [], ◌∷◌, ◌++◌, length, codes, Option, Some, None, if◌then◌else◌}
+use Rattle.ss_store.specs.Store.{Store, made_of, exists}
+use Rattle.ss_machine.specs.Run.{Input, run}
+use Rattle.ss_debug.specs.Entities.{class_named, members_text}
+use Rattle.ss_inspect.specs.Texts.{texts_below, no_such_text}
+
+-- no entity of class c has a greater number
+abbrev pub greatest_number : Store → ℕ → ℕ
+greatest_number st c = max (length (made_of st c)) (length st.references)
+
+-- number i + 1, if it is that of an entity of class c that lives
+abbrev pub living_at : Store → ℕ → ℕ → List ℕ
+living_at st c i = if exists st c (suc i) then suc i ∷ [] else []
+
+-- the entities of class c that live, the least number first
+abbrev pub living : Store → ℕ → List ℕ
+living st c = texts_below (living_at st c) (greatest_number st c)
+
+-- the entities of a class that live, or that there is no such class
+abbrev pub class_living_text : List ℕ → Store → Option ℕ → List ℕ
+class_living_text name st None = no_such_text (codes "CLASS") name
+class_living_text name st (Some c) = name ++ codes ": " ++ members_text (living st c) ++ 10 ∷ []
+
+-- the answer to SHOW c in state p
+unfoldable pub living_text : List ℕ → Input → ℕ → List ℕ
+living_text name t p = class_living_text name (run t p).store (class_named t.program name)

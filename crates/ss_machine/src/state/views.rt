@@ -1,0 +1,52 @@
+//! The frames of a state, by how many others stand on them.
+ghost use Rattle.std.specs.Prelude.{◌≡◌, ◌≤◌, ◌-◌, ◌<◌, length, reverse, slice_get};
+ghost use Rattle.std.specs.Option.{option_map};
+ghost use Rattle.ss_machine.specs.Frames.{frame_at, frame_place, frame_local};
+
+use crate::state::State;
+use crate::state::frame::{Frame, FrameBox};
+use ss_links::SetBoard;
+
+/// The frame at this place from the end of some frames, the last of which is at place 1.
+#[tactic(auto, using(crate::proofs::Frames::from_end))]
+fn from_end(frames: &[FrameBox], place: usize) -> Option<&FrameBox>
+    requires { 0 < place }
+    ensures { option_map (λ f. f.now) result ≡ slice_get (reverse frames.now) (place - 1) }
+{
+    if place > frames.len() {
+        return None;
+    }
+    frames.get(frames.len() - place)
+}
+
+impl<S: SetBoard> State<S> {
+    /// The frame on which so many others stand.
+    #[tactic(auto, using(crate::proofs::Frames::below_last))]
+    fn frame_at(&self, depth: usize) -> Option<&Frame>
+        ensures { option_map (λ f. f.now) result ≡ frame_at self.now.state depth }
+    {
+        if depth == 0 {
+            return Some(self.last());
+        }
+        let below = from_end(&self.below, depth)?;
+        let frame: &Frame = &below.frame;
+        Some(frame)
+    }
+
+    /// The section of the frame on which so many others stand, and the place where it stands.
+    pub fn frame_place(&self, depth: usize) -> Option<(usize, usize)>
+        ensures { result ≡ frame_place self.now.state depth }
+    {
+        let frame = self.frame_at(depth)?;
+        Some((frame.section, frame.place))
+    }
+
+    /// The value of a local of the frame on which so many others stand.
+    pub fn frame_local(&self, depth: usize, number: usize) -> Option<i64>
+        ensures { result ≡ frame_local self.now.state depth number }
+    {
+        let frame = self.frame_at(depth)?;
+        let value = frame.locals.get(number)?;
+        Some(*value)
+    }
+}

@@ -1,0 +1,5 @@
+pub mod Streams
+pub mod Pieces
+pub mod Heads
+pub mod Points
+pub mod Posts

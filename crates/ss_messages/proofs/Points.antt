@@ -1,0 +1,9 @@
+-- The lines of some break points, one by one.
+use Rattle.std.proofs.Common.{◌≡◌, List, [], ◌∷◌, map, codes, refl, ap, ◌∙◌}
+use Rattle.serde_json.specs.View.{view, items_view}
+use Rattle.serde_json.specs.declared.value.Value.{Value}
+use Rattle.ss_messages.specs.Requests.{number_at, lines_of}
+
+pub lines_are : (vs : List Value) → lines_of (items_view vs) ≡ map (λ v. number_at (codes "line") (view v)) vs
+lines_are [] = refl
+lines_are (v ∷ vs) = ap (λ ls. number_at (codes "line") (view v) ∷ ls) (lines_are vs)

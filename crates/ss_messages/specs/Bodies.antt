@@ -1,0 +1,62 @@
+-- The bodies of replies and events, as they are written.
+use Rattle.std.specs.Prelude.{ℕ, ◌-◌, List, ◌∷◌, ◌++◌, codes, decimal, drop, take, length}
+use Rattle.ss_messages.specs.Escapes.{quoted, quoted_text}
+
+-- a text without the byte at its end, which is a line feed
+abbrev pub without_last : List ℕ → List ℕ
+without_last text = take (length text - 1) text
+
+-- stopped: why, and what is said of it
+unfoldable pub stopped_body : List ℕ → List ℕ → List ℕ
+stopped_body reason text =
+    codes "{\"reason\":\"" ++ reason ++ codes "\",\"threadId\":1,\"allThreadsStopped\":true,\"description\":"
+    ++ quoted text ++ codes "}"
+
+-- output to a stream of this name
+unfoldable pub output_body : List ℕ → List ℕ → List ℕ
+output_body category text =
+    codes "{\"category\":\"" ++ category ++ codes "\",\"output\":" ++ quoted text ++ codes "}"
+
+-- what an expression says
+unfoldable pub result_body : List ℕ → List ℕ
+result_body text = codes "{\"result\":" ++ quoted text ++ codes ",\"variablesReference\":0}"
+
+-- the content of a source
+unfoldable pub content_body : List ℕ → List ℕ
+content_body text = codes "{\"content\":" ++ quoted text ++ codes "}"
+
+-- what a fault is, by its name and its sentence
+unfoldable pub exception_body : List ℕ → List ℕ → List ℕ
+exception_body name sentence =
+    codes "{\"exceptionId\":" ++ quoted name ++ codes ",\"description\":" ++ quoted sentence
+    ++ codes ",\"breakMode\":\"always\"}"
+
+-- the model, by its path, and the report
+unfoldable pub sources_body : List ℕ → List ℕ
+sources_body path =
+    codes "{\"sources\":[{\"path\":" ++ quoted_text path
+    ++ codes "},{\"name\":\"report\",\"sourceReference\":1}]}"
+
+-- some items, each behind a comma, as the list that is the one member of an object
+unfoldable pub list_body : List ℕ → List ℕ → List ℕ
+list_body name items = codes "{\"" ++ name ++ codes "\":[" ++ drop 1 items ++ codes "]}"
+
+-- a comma and a variable with its value; what it refers to, or 0
+unfoldable pub variable_item : List ℕ → List ℕ → ℕ → List ℕ
+variable_item name value reference =
+    codes ",{\"name\":" ++ quoted name ++ codes ",\"value\":" ++ quoted value ++ codes ",\"variablesReference\":"
+    ++ decimal reference ++ codes "}"
+
+-- a comma and a frame: its number, its section and its line of the model
+unfoldable pub frame_item : ℕ → List ℕ → ℕ → List ℕ → List ℕ
+frame_item n name line path =
+    codes ",{\"id\":" ++ decimal n ++ codes ",\"name\":" ++ quoted name ++ codes ",\"line\":" ++ decimal line
+    ++ codes ",\"column\":1,\"source\":{\"path\":" ++ quoted_text path ++ codes "}}"
+
+-- a comma and a break point that is set on a line
+unfoldable pub set_item : ℕ → List ℕ
+set_item line = codes ",{\"verified\":true,\"line\":" ++ decimal line ++ codes "}"
+
+-- a comma and a break point that is not set, and why
+unfoldable pub unset_item : List ℕ → List ℕ
+unset_item reason = codes ",{\"verified\":false,\"message\":" ++ quoted reason ++ codes "}"

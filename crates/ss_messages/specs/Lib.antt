@@ -1,0 +1,5 @@
+pub mod Escapes
+pub mod Frames
+pub mod Messages
+pub mod Requests
+pub mod Bodies

@@ -1,0 +1,118 @@
+-- What a message asks for.
+use Rattle.std.specs.Prelude.{ℕ, Bool, true, false, List, [], ◌∷◌, codes, Option, Some, None, option_and_then, unwrap_or, if◌then◌else◌}
+use Rattle.std.specs.Str.{bytes_eq}
+use Rattle.serde_json.specs.Data.{Data, null, Items, no_items, item}
+use Rattle.serde_json.specs.Find.{get, as_array, as_bool, as_number, as_str, as_u64}
+use Rattle.ss_messages.specs.declared.request.Command.{Command}
+use Rattle.ss_messages.specs.declared.request.Command.TheVariants.{Initialize, Launch, SetBreakpoints, SetExceptionBreakpoints}
+use Rattle.ss_messages.specs.declared.request.Command.TheVariants.{ConfigurationDone, Threads, StackTrace, Scopes, Variables}
+use Rattle.ss_messages.specs.declared.request.Command.TheVariants.{Obey, Ask, Source, LoadedSources, ExceptionInfo}
+use Rattle.ss_messages.specs.declared.request.Command.TheVariants.{Continue, Next, StepIn, StepOut, StepBack, ReverseContinue}
+use Rattle.ss_messages.specs.declared.request.Command.TheVariants.{Restart, Pause, Disconnect, Terminate, Bad, Unknown}
+use Rattle.ss_messages.specs.declared.request.Request.{Request}
+
+-- ---- members of an object
+
+-- the number at a key
+abbrev pub number_in : List ℕ → Data → Option ℕ
+number_in key d = option_and_then as_u64 (option_and_then as_number (get key d))
+
+-- the same, or 0
+abbrev pub number_at : List ℕ → Data → ℕ
+number_at key d = unwrap_or (number_in key d) 0
+
+-- the text at a key
+abbrev pub text_at : List ℕ → Data → Option (List ℕ)
+text_at key d = option_and_then as_str (get key d)
+
+-- whether true stands at a key
+abbrev pub flag_at : List ℕ → Data → Bool
+flag_at key d = unwrap_or (option_and_then as_bool (get key d)) false
+
+-- whether a text stands at a key
+abbrev pub is_text_at : List ℕ → List ℕ → Data → Bool
+is_text_at key text d = bytes_eq (unwrap_or (text_at key d) []) text
+
+-- the lines of some break points, 0 for one that has none
+abbrev pub lines_of : Items → List ℕ
+lines_of no_items = []
+lines_of (item d ds) = number_at (codes "line") d ∷ lines_of ds
+
+-- the lines of the break points of a request
+abbrev pub lines_at : Data → List ℕ
+lines_at d = lines_of (unwrap_or (option_and_then as_array (get (codes "breakpoints") d)) no_items)
+
+-- the arguments of a request; null where there are none
+abbrev pub arguments_of : Data → Data
+arguments_of d = unwrap_or (get (codes "arguments") d) null
+
+-- ---- commands
+
+-- launch needs a model
+abbrev pub launch_with : Option (List ℕ) → Option (List ℕ) → Bool → Command
+launch_with None input stops = Bad
+launch_with (Some model) input stops = Launch model input stops
+
+-- launch
+abbrev pub launch_of : Data → Command
+launch_of d = launch_with (text_at (codes "model") d) (text_at (codes "data") d) (flag_at (codes "stopOnEntry") d)
+
+-- evaluate needs an expression
+abbrev pub evaluate_with : Bool → Option (List ℕ) → Command
+evaluate_with obeyed None = Bad
+evaluate_with obeyed (Some text) = if obeyed then Obey text else Ask text
+
+-- evaluate: in the context of the repl a line is obeyed, in another a question is asked
+abbrev pub evaluate_of : Data → Command
+evaluate_of d = evaluate_with (is_text_at (codes "context") (codes "repl") d) (text_at (codes "expression") d)
+
+-- what a request says about the session
+unfoldable pub session_command : List ℕ → Data → Command
+session_command name d =
+    if bytes_eq name (codes "initialize") then Initialize else
+    if bytes_eq name (codes "launch") then launch_of d else
+    if bytes_eq name (codes "setBreakpoints") then SetBreakpoints (lines_at d) else
+    if bytes_eq name (codes "setExceptionBreakpoints") then SetExceptionBreakpoints else
+    if bytes_eq name (codes "configurationDone") then ConfigurationDone else
+    if bytes_eq name (codes "disconnect") then Disconnect else
+    if bytes_eq name (codes "terminate") then Terminate else Unknown
+
+-- what it says that asks about the state, else about the session
+unfoldable pub looking_command : List ℕ → Data → Command
+looking_command name d =
+    if bytes_eq name (codes "threads") then Threads else
+    if bytes_eq name (codes "stackTrace")
+    then StackTrace (number_at (codes "startFrame") d) (number_at (codes "levels") d) else
+    if bytes_eq name (codes "scopes") then Scopes (number_at (codes "frameId") d) else
+    if bytes_eq name (codes "variables")
+    then Variables (number_at (codes "variablesReference") d) (number_at (codes "start") d)
+    (number_at (codes "count") d) else
+    if bytes_eq name (codes "evaluate") then evaluate_of d else
+    if bytes_eq name (codes "source") then Source (number_at (codes "sourceReference") d) else
+    if bytes_eq name (codes "loadedSources") then LoadedSources else
+    if bytes_eq name (codes "exceptionInfo") then ExceptionInfo else session_command name d
+
+-- what a request says
+unfoldable pub command_of : List ℕ → Data → Command
+command_of name d =
+    if bytes_eq name (codes "continue") then Continue else
+    if bytes_eq name (codes "next") then Next else
+    if bytes_eq name (codes "stepIn") then StepIn else
+    if bytes_eq name (codes "stepOut") then StepOut else
+    if bytes_eq name (codes "stepBack")
+    then StepBack (is_text_at (codes "granularity") (codes "instruction") d) else
+    if bytes_eq name (codes "reverseContinue") then ReverseContinue else
+    if bytes_eq name (codes "restart") then Restart else
+    if bytes_eq name (codes "pause") then Pause else looking_command name d
+
+-- ---- a request
+
+-- a request needs a number; one without a name has no known command
+abbrev pub request_with : Option ℕ → List ℕ → Data → Option Request
+request_with None name d = None
+request_with (Some n) name d =
+    Some (record { number = n; name = name; command = command_of name (arguments_of d) })
+
+-- what a message asks for
+abbrev pub request_of : Data → Option Request
+request_of d = request_with (number_in (codes "seq") d) (unwrap_or (text_at (codes "command") d) []) d

@@ -1,0 +1,102 @@
+//! The arguments of a request.
+ghost use Rattle.std.specs.Prelude.{◌≡◌, codes, map, IfOk, option_map};
+ghost use Rattle.serde_json.specs.View.{view};
+ghost use Rattle.ss_messages.specs.Requests.{number_at, number_in, text_at, flag_at, is_text_at, lines_at};
+ghost use Rattle.ss_messages.specs.Requests.{launch_of, evaluate_of};
+
+use crate::parts::{Lines, Text};
+use crate::request::Command;
+use serde_json::Value;
+use std::alloc::{AllocError, Global};
+
+/// The number at a key, if there is one.
+pub fn number_in(value: &Value, key: &'static str) -> Option<u64>
+    ensures { result ≡ number_in key.now (view value.now) }
+{
+    value.get(key).and_then(Value::as_u64)
+}
+
+/// The number at a key, or 0.
+pub fn number_at(value: &Value, key: &'static str) -> u64
+    ensures { result ≡ number_at key.now (view value.now) }
+{
+    number_in(value, key).unwrap_or(0)
+}
+
+/// The text at a key, if there is one.
+pub fn text_at<'a>(value: &'a Value, key: &'static str) -> Option<&'a str>
+    ensures { option_map (λ text. text.now) result ≡ text_at key.now (view value.now) }
+{
+    value.get(key).and_then(Value::as_str)
+}
+
+/// Whether true stands at a key.
+fn flag_at(value: &Value, key: &'static str) -> bool
+    ensures { result ≡ flag_at key.now (view value.now) }
+{
+    value.get(key).and_then(Value::as_bool).unwrap_or(false)
+}
+
+/// Whether a text stands at a key.
+pub fn is_text_at(value: &Value, key: &'static str, text: &'static [u8]) -> bool
+    ensures { result ≡ is_text_at key.now text.now (view value.now) }
+{
+    text_at(value, key).unwrap_or("").as_bytes() == text
+}
+
+/// The text at a key, in memory of its own.
+fn own_text(alloc: Global, value: &Value, key: &'static str) -> Result<Option<Text>, AllocError>
+    ensures { IfOk result (λ text. text ≡ text_at key.now (view value.now)) }
+{
+    match text_at(value, key) {
+        Some(text) => Ok(Some(Text::of(alloc, text.as_bytes())?)),
+        None => Ok(None),
+    }
+}
+
+/// launch, which needs a model.
+pub fn launch(alloc: Global, arguments: &Value) -> Result<Command, AllocError>
+    ensures { IfOk result (λ command. command ≡ launch_of (view arguments.now)) }
+{
+    let Some(model) = own_text(alloc, arguments, "model")? else {
+        return Ok(Command::Bad);
+    };
+    let data = own_text(alloc, arguments, "data")?;
+    Ok(Command::Launch(model, data, flag_at(arguments, "stopOnEntry")))
+}
+
+/// evaluate, which needs an expression.
+pub fn evaluate(alloc: Global, arguments: &Value) -> Result<Command, AllocError>
+    ensures { IfOk result (λ command. command ≡ evaluate_of (view arguments.now)) }
+{
+    let Some(text) = own_text(alloc, arguments, "expression")? else {
+        return Ok(Command::Bad);
+    };
+    if is_text_at(arguments, "context", b"repl") {
+        return Ok(Command::Obey(text));
+    }
+    Ok(Command::Ask(text))
+}
+
+/// The lines of some break points.
+fn lines_of(alloc: Global, points: &[Value]) -> Result<Vec<u64>, AllocError>
+    ensures { IfOk result (λ lines. lines.items
+        ≡ map (λ point. number_at (codes "line") (view point)) points.now) }
+{
+    let mut lines = Vec::new(alloc);
+    for point in points {
+        lines.push(number_at(point, "line"))?;
+    }
+    Ok(lines)
+}
+
+/// The lines of the break points of a request.
+#[tactic(auto, using(crate::proofs::Points::lines_are))]
+pub fn lines_at(alloc: Global, arguments: &Value) -> Result<Lines, AllocError>
+    ensures { IfOk result (λ lines. lines ≡ lines_at (view arguments.now)) }
+{
+    match arguments.get("breakpoints").and_then(Value::as_array) {
+        Some(points) => Ok(Lines::of(lines_of(alloc, points)?)),
+        None => Ok(Lines::of(Vec::new(alloc))),
+    }
+}

@@ -1,0 +1,176 @@
+//! The bodies of replies and events.
+ghost use Rattle.std.specs.Prelude.{◌≡◌, drop, IfOk};
+ghost use Rattle.ss_messages.specs.Bodies.{stopped_body, output_body, result_body, content_body, exception_body};
+ghost use Rattle.ss_messages.specs.Bodies.{sources_body, list_body, variable_item, frame_item, set_item, unset_item};
+ghost use Rattle.ss_messages.specs.Bodies.{without_last};
+
+use crate::escape::{push_quoted, push_quoted_text};
+use crate::messages::push_number;
+use std::alloc::{AllocError, Global};
+
+/// A body with no member.
+pub const NOTHING: &[u8] = b"{}";
+
+/// A text without the byte at its end.
+pub fn without_last(text: &[u8]) -> &[u8]
+    ensures { result.now ≡ without_last text.now }
+{
+    &text[..text.len().saturating_sub(1)]
+}
+
+/// stopped: why, and what is said of it.
+#[tactic(auto, unfolding(crate::specs::Bodies::stopped_body))]
+pub fn stopped_body(alloc: Global, reason: &[u8], text: &[u8]) -> Result<Vec<u8>, AllocError>
+    ensures { IfOk result (λ body. body.items ≡ stopped_body reason.now text.now) }
+{
+    let mut body = Vec::from_slice(alloc, b"{\"reason\":\"")?;
+    body.extend_from_slice(reason)?;
+    body.extend_from_slice(b"\",\"threadId\":1,\"allThreadsStopped\":true,\"description\":")?;
+    push_quoted(&mut body, text)?;
+    body.extend_from_slice(b"}")?;
+    Ok(body)
+}
+
+/// output to a stream of this name.
+#[tactic(auto, unfolding(crate::specs::Bodies::output_body))]
+pub fn output_body(alloc: Global, category: &[u8], text: &[u8]) -> Result<Vec<u8>, AllocError>
+    ensures { IfOk result (λ body. body.items ≡ output_body category.now text.now) }
+{
+    let mut body = Vec::from_slice(alloc, b"{\"category\":\"")?;
+    body.extend_from_slice(category)?;
+    body.extend_from_slice(b"\",\"output\":")?;
+    push_quoted(&mut body, text)?;
+    body.extend_from_slice(b"}")?;
+    Ok(body)
+}
+
+/// What an expression says.
+#[tactic(auto, unfolding(crate::specs::Bodies::result_body))]
+pub fn result_body(alloc: Global, text: &[u8]) -> Result<Vec<u8>, AllocError>
+    ensures { IfOk result (λ body. body.items ≡ result_body text.now) }
+{
+    let mut body = Vec::from_slice(alloc, b"{\"result\":")?;
+    push_quoted(&mut body, text)?;
+    body.extend_from_slice(b",\"variablesReference\":0}")?;
+    Ok(body)
+}
+
+/// The content of a source.
+#[tactic(auto, unfolding(crate::specs::Bodies::content_body))]
+pub fn content_body(alloc: Global, text: &[u8]) -> Result<Vec<u8>, AllocError>
+    ensures { IfOk result (λ body. body.items ≡ content_body text.now) }
+{
+    let mut body = Vec::from_slice(alloc, b"{\"content\":")?;
+    push_quoted(&mut body, text)?;
+    body.extend_from_slice(b"}")?;
+    Ok(body)
+}
+
+/// What a fault is, by its name and its sentence.
+#[tactic(auto, unfolding(crate::specs::Bodies::exception_body))]
+pub fn exception_body(alloc: Global, name: &[u8], sentence: &[u8]) -> Result<Vec<u8>, AllocError>
+    ensures { IfOk result (λ body. body.items ≡ exception_body name.now sentence.now) }
+{
+    let mut body = Vec::from_slice(alloc, b"{\"exceptionId\":")?;
+    push_quoted(&mut body, name)?;
+    body.extend_from_slice(b",\"description\":")?;
+    push_quoted(&mut body, sentence)?;
+    body.extend_from_slice(b",\"breakMode\":\"always\"}")?;
+    Ok(body)
+}
+
+/// The model, by its path, and the report.
+#[tactic(auto, unfolding(crate::specs::Bodies::sources_body))]
+pub fn sources_body(alloc: Global, path: &[u8]) -> Result<Vec<u8>, AllocError>
+    ensures { IfOk result (λ body. body.items ≡ sources_body path.now) }
+{
+    let mut body = Vec::from_slice(alloc, b"{\"sources\":[{\"path\":")?;
+    push_quoted_text(&mut body, path)?;
+    body.extend_from_slice(b"},{\"name\":\"report\",\"sourceReference\":1}]}")?;
+    Ok(body)
+}
+
+/// Items, each behind a comma, as the list that is the one member of an object.
+#[tactic(auto, unfolding(crate::specs::Bodies::list_body))]
+pub fn list_body(alloc: Global, name: &[u8], items: &[u8]) -> Result<Vec<u8>, AllocError>
+    ensures { IfOk result (λ body. body.items ≡ list_body name.now items.now) }
+{
+    let mut body = Vec::from_slice(alloc, b"{\"")?;
+    body.extend_from_slice(name)?;
+    body.extend_from_slice(b"\":[")?;
+    body.extend_from_slice(without_first(items))?;
+    body.extend_from_slice(b"]}")?;
+    Ok(body)
+}
+
+/// Items without the comma before them.
+fn without_first(items: &[u8]) -> &[u8]
+    ensures { result.now ≡ drop 1 items.now }
+{
+    if items.is_empty() { items } else { &items[1..] }
+}
+
+/// A comma and a variable with its value; what it refers to, or 0.
+#[tactic(auto, unfolding(crate::specs::Bodies::variable_item))]
+pub fn variable_item(
+    alloc: Global,
+    name: &[u8],
+    value: &[u8],
+    reference: u64,
+) -> Result<Vec<u8>, AllocError>
+    ensures { IfOk result (λ item. item.items ≡ variable_item name.now value.now reference) }
+{
+    let mut item = Vec::from_slice(alloc, b",{\"name\":")?;
+    push_quoted(&mut item, name)?;
+    item.extend_from_slice(b",\"value\":")?;
+    push_quoted(&mut item, value)?;
+    item.extend_from_slice(b",\"variablesReference\":")?;
+    push_number(&mut item, reference)?;
+    item.extend_from_slice(b"}")?;
+    Ok(item)
+}
+
+/// A comma and a frame: its number, its section and its line of the model.
+#[tactic(auto, unfolding(crate::specs::Bodies::frame_item))]
+pub fn frame_item(
+    alloc: Global,
+    number: u64,
+    name: &[u8],
+    line: u64,
+    path: &[u8],
+) -> Result<Vec<u8>, AllocError>
+    ensures { IfOk result (λ item. item.items ≡ frame_item number name.now line path.now) }
+{
+    let mut item = Vec::from_slice(alloc, b",{\"id\":")?;
+    push_number(&mut item, number)?;
+    item.extend_from_slice(b",\"name\":")?;
+    push_quoted(&mut item, name)?;
+    item.extend_from_slice(b",\"line\":")?;
+    push_number(&mut item, line)?;
+    item.extend_from_slice(b",\"column\":1,\"source\":{\"path\":")?;
+    push_quoted_text(&mut item, path)?;
+    item.extend_from_slice(b"}}")?;
+    Ok(item)
+}
+
+/// A comma and a break point that is set on a line.
+#[tactic(auto, unfolding(crate::specs::Bodies::set_item))]
+pub fn set_item(alloc: Global, line: u64) -> Result<Vec<u8>, AllocError>
+    ensures { IfOk result (λ item. item.items ≡ set_item line) }
+{
+    let mut item = Vec::from_slice(alloc, b",{\"verified\":true,\"line\":")?;
+    push_number(&mut item, line)?;
+    item.extend_from_slice(b"}")?;
+    Ok(item)
+}
+
+/// A comma and a break point that is not set, and why.
+#[tactic(auto, unfolding(crate::specs::Bodies::unset_item))]
+pub fn unset_item(alloc: Global, reason: &[u8]) -> Result<Vec<u8>, AllocError>
+    ensures { IfOk result (λ item. item.items ≡ unset_item reason.now) }
+{
+    let mut item = Vec::from_slice(alloc, b",{\"verified\":false,\"message\":")?;
+    push_quoted(&mut item, reason)?;
+    item.extend_from_slice(b"}")?;
+    Ok(item)
+}

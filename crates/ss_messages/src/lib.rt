@@ -1,0 +1,22 @@
+//! The Debug Adapter Protocol: bytes to requests, and replies and events to bytes.
+#![tactic(auto)]
+
+mod arguments;
+mod bodies;
+mod escape;
+mod frame;
+mod messages;
+mod parts;
+mod post;
+mod request;
+
+pub use bodies::{
+    NOTHING, content_body, exception_body, frame_item, list_body, output_body, result_body,
+    set_item, sources_body, stopped_body, unset_item, variable_item, without_last,
+};
+pub use escape::{push_quoted, push_quoted_text};
+pub use frame::{FrameFault, MESSAGE_LIMIT, read_message};
+pub use messages::push_number;
+pub use parts::{Lines, Text};
+pub use post::Post;
+pub use request::{Command, Request, RequestFault, read_request};

@@ -1,0 +1,241 @@
+//! What a message asks for.
+ghost use Rattle.std.specs.Prelude.{◌≡◌, ◌⊎◌, Err, IfOk, Some, None, option_and_then};
+ghost use Rattle.std.specs.Str.{IsUtf8};
+ghost use Rattle.serde_json.specs.Read.{read};
+ghost use Rattle.serde_json.specs.View.{view};
+ghost use Rattle.ss_messages.specs.Requests.{command_of, session_command, looking_command, request_of};
+ghost use Rattle.ss_messages.specs.declared.request.RequestFault.TheVariants.{NoRequest};
+
+use crate::arguments::{evaluate, is_text_at, launch, lines_at, number_at, number_in, text_at};
+use crate::parts::{Lines, Text};
+use serde_json::Value;
+use std::alloc::{AllocError, Global};
+use std::str;
+use thiserror::Error;
+
+/// What a request says (docs/EDITORS.md).
+#[derive(Drop)]
+pub enum Command {
+    /// initialize.
+    Initialize,
+    /// launch: the path of a model, perhaps that of its data, and whether to stop at the start.
+    Launch(Text, Option<Text>, bool),
+    /// setBreakpoints: these lines, and no others.
+    SetBreakpoints(Lines),
+    /// setExceptionBreakpoints: a run stops at a fault whatever it says.
+    SetExceptionBreakpoints,
+    /// configurationDone.
+    ConfigurationDone,
+    /// threads.
+    Threads,
+    /// stackTrace: so many frames, from this one on; 0 are all.
+    StackTrace(u64, u64),
+    /// scopes of a frame.
+    Scopes(u64),
+    /// variables of a reference: so many, from this one on; 0 are all.
+    Variables(u64, u64, u64),
+    /// evaluate: a line of the debugger.
+    Obey(Text),
+    /// evaluate, to be shown beside the model: a question.
+    Ask(Text),
+    /// source of a reference.
+    Source(u64),
+    /// loadedSources.
+    LoadedSources,
+    /// exceptionInfo.
+    ExceptionInfo,
+    /// continue.
+    Continue,
+    /// next.
+    Next,
+    /// stepIn.
+    StepIn,
+    /// stepOut.
+    StepOut,
+    /// stepBack, of one step where it says so.
+    StepBack(bool),
+    /// reverseContinue.
+    ReverseContinue,
+    /// restart.
+    Restart,
+    /// pause.
+    Pause,
+    /// disconnect.
+    Disconnect,
+    /// terminate.
+    Terminate,
+    /// An argument that is needed is not there.
+    Bad,
+    /// No command that is known.
+    Unknown,
+}
+
+/// A request: its number, its command's name, and what it says.
+#[derive(Drop)]
+pub struct Request {
+    pub number: u64,
+    pub name: Text,
+    pub command: Command,
+}
+
+/// Why a message is no request.
+#[derive(Clone, Copy, Debug, Drop, PartialEq, Eq, Error)]
+pub enum RequestFault {
+    /// It is no JSON, or has no number or no command.
+    #[error("no request")]
+    NoRequest,
+    /// Memory was refused.
+    #[error("out of memory")]
+    Memory,
+}
+
+impl From<AllocError> for RequestFault {
+    ghost use Rattle.std.specs.Prelude.{◌≡◌};
+    ghost use Rattle.ss_messages.specs.declared.request.RequestFault.TheVariants.{Memory};
+
+    ghost from_gives = { λ _ fault. fault ≡ Memory };
+
+    fn from(_error: AllocError) -> RequestFault {
+        RequestFault::Memory
+    }
+}
+
+/// What a request says about the session.
+#[tactic(auto, unfolding(crate::specs::Requests::session_command))]
+fn session_command(alloc: Global, name: &[u8], arguments: &Value) -> Result<Command, AllocError>
+    ensures { IfOk result (λ command. command ≡ session_command name.now (view arguments.now)) }
+{
+    if name == b"initialize".as_slice() {
+        return Ok(Command::Initialize);
+    }
+    if name == b"launch".as_slice() {
+        return launch(alloc, arguments);
+    }
+    if name == b"setBreakpoints".as_slice() {
+        return Ok(Command::SetBreakpoints(lines_at(alloc, arguments)?));
+    }
+    if name == b"setExceptionBreakpoints".as_slice() {
+        return Ok(Command::SetExceptionBreakpoints);
+    }
+    if name == b"configurationDone".as_slice() {
+        return Ok(Command::ConfigurationDone);
+    }
+    if name == b"disconnect".as_slice() {
+        return Ok(Command::Disconnect);
+    }
+    if name == b"terminate".as_slice() {
+        return Ok(Command::Terminate);
+    }
+    Ok(Command::Unknown)
+}
+
+/// What a request says that asks about the state; else what it says about the session.
+#[tactic(auto, unfolding(crate::specs::Requests::looking_command))]
+fn looking_command(alloc: Global, name: &[u8], arguments: &Value) -> Result<Command, AllocError>
+    ensures { IfOk result (λ command. command ≡ looking_command name.now (view arguments.now)) }
+{
+    if name == b"threads".as_slice() {
+        return Ok(Command::Threads);
+    }
+    if name == b"stackTrace".as_slice() {
+        let start = number_at(arguments, "startFrame");
+        return Ok(Command::StackTrace(start, number_at(arguments, "levels")));
+    }
+    if name == b"scopes".as_slice() {
+        return Ok(Command::Scopes(number_at(arguments, "frameId")));
+    }
+    if name == b"variables".as_slice() {
+        let reference = number_at(arguments, "variablesReference");
+        let start = number_at(arguments, "start");
+        return Ok(Command::Variables(reference, start, number_at(arguments, "count")));
+    }
+    if name == b"evaluate".as_slice() {
+        return evaluate(alloc, arguments);
+    }
+    if name == b"source".as_slice() {
+        return Ok(Command::Source(number_at(arguments, "sourceReference")));
+    }
+    if name == b"loadedSources".as_slice() {
+        return Ok(Command::LoadedSources);
+    }
+    if name == b"exceptionInfo".as_slice() {
+        return Ok(Command::ExceptionInfo);
+    }
+    session_command(alloc, name, arguments)
+}
+
+/// What a request says.
+#[tactic(auto, unfolding(crate::specs::Requests::command_of))]
+fn named_command(alloc: Global, name: &[u8], arguments: &Value) -> Result<Command, AllocError>
+    ensures { IfOk result (λ command. command ≡ command_of name.now (view arguments.now)) }
+{
+    if name == b"continue".as_slice() {
+        return Ok(Command::Continue);
+    }
+    if name == b"next".as_slice() {
+        return Ok(Command::Next);
+    }
+    if name == b"stepIn".as_slice() {
+        return Ok(Command::StepIn);
+    }
+    if name == b"stepOut".as_slice() {
+        return Ok(Command::StepOut);
+    }
+    if name == b"stepBack".as_slice() {
+        return Ok(Command::StepBack(is_text_at(arguments, "granularity", b"instruction")));
+    }
+    if name == b"reverseContinue".as_slice() {
+        return Ok(Command::ReverseContinue);
+    }
+    if name == b"restart".as_slice() {
+        return Ok(Command::Restart);
+    }
+    if name == b"pause".as_slice() {
+        return Ok(Command::Pause);
+    }
+    looking_command(alloc, name, arguments)
+}
+
+/// The request that a value is.
+fn request_in(alloc: Global, value: &Value) -> Result<Option<Request>, AllocError>
+    ensures { IfOk result (λ request. request ≡ request_of (view value.now)) }
+{
+    let Some(number) = number_in(value, "seq") else {
+        return Ok(None);
+    };
+    let name = Text::of(alloc, text_at(value, "command").unwrap_or("").as_bytes())?;
+    let command = match value.get("arguments") {
+        Some(arguments) => named_command(alloc, name.as_slice(), arguments)?,
+        None => named_command(alloc, name.as_slice(), &Value::Null)?,
+    };
+    Ok(Some(Request {
+        number,
+        name,
+        command,
+    }))
+}
+
+/// The request that the body of a message is. `NoRequest` where it is no JSON in UTF-8, or has no
+/// number.
+pub fn read_request(alloc: Global, body: &[u8]) -> Result<Request, RequestFault>
+    ensures ok { IfOk result (λ request.
+        option_and_then request_of (read body.now) ≡ Some request) }
+    ensures none { result ≡ Err NoRequest →
+        (¬ (IsUtf8 body.now)) ⊎ (option_and_then request_of (read body.now) ≡ None) }
+{
+    let Ok(text) = str::from_utf8(body) else {
+        return Err(RequestFault::NoRequest);
+    };
+    match Value::from_str(alloc, text) {
+        Ok(value) => match request_in(alloc, &value)? {
+            Some(request) => Ok(request),
+            None => Err(RequestFault::NoRequest),
+        },
+        Err(error) => {
+            if error.is_memory() {
+                return Err(RequestFault::Memory);
+            }
+            Err(RequestFault::NoRequest)
+        }
+    }
+}

@@ -1,0 +1,16 @@
+-- Values that did not fit their fields.
+use Rattle.std.specs.Prelude.{ℕ, ◌-◌, ◌&&◌, Bool, not, List, length, nat_eq, nat_lt, get_or, count_by}
+use Rattle.std.specs.List.{range_with_len}
+
+-- whether an asterisk (42) stands at this place of a text
+abbrev pub is_asterisk_at : List ℕ → ℕ → Bool
+is_asterisk_at text k = nat_eq (get_or text k 0) 42
+
+-- whether a run of asterisks begins at this place
+abbrev pub begins_run : List ℕ → ℕ → Bool
+begins_run text k = is_asterisk_at text k && not (nat_lt 0 k && is_asterisk_at text (k - 1))
+
+-- how many values of a report did not fit their fields: a picture has no asterisk of its own, so that each run of
+-- asterisks stands for one
+unfoldable pub unfit_values : List ℕ → ℕ
+unfit_values report = count_by (begins_run report) (range_with_len 0 (length report))

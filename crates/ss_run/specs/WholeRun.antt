@@ -1,0 +1,53 @@
+-- What is told of a whole run beside its report.
+use Rattle.std.specs.Prelude.{ℕ, ◌≡◌, ◌⊎◌, List, Result, Ok, Err}
+use Rattle.ss_words.specs.declared.fault.TextRule.{TextRule}
+use Rattle.ss_words.specs.Faults.{text_rule_code}
+use Rattle.ss_check.specs.declared.fault.CheckRule.{CheckRule}
+use Rattle.ss_check.specs.CheckRules.{check_rule_code}
+use Rattle.ss_program.specs.Program.{ProgramTable}
+use Rattle.ss_machine.specs.Run.{Input, run, input_with}
+use Rattle.ss_session.specs.Model.{refused_text, refused_check, accepted, IsOutcome}
+use Rattle.ss_session.specs.Texts.{OutletState}
+use Rattle.ss_run.specs.declared.whole_run.RunEnd.{RunEnd}
+use Rattle.ss_run.specs.declared.whole_run.RunEnd.TheVariants.{Done, Faulted, Refused}
+use Rattle.ss_run.specs.declared.whole_run.RunCut.{RunCut}
+use Rattle.ss_run.specs.declared.whole_run.WholeRun.{WholeRun}
+use Rattle.ss_run.specs.Explained.{end_explanation, refusal_explanation}
+use Rattle.ss_run.specs.Fields.{unfit_values}
+use Rattle.ss_run.specs.Report.{IsRunEnd, ReportSays}
+
+-- of a run that ended at position p: what explains that state, and how many values of its report did not fit
+abbrev pub TellsEnd : WholeRun → Input → ℕ → Type 0
+TellsEnd whole t p =
+    (whole.explanation.items ≡ end_explanation (run t p).status) × (whole.unfit ≡ unfit_values (run t p).report)
+
+-- of the run of a model that is a program, over the data
+abbrev pub TellsRun : WholeRun → List ℕ → List ℕ → Type 0
+TellsRun whole model data_text =
+    (program : ProgramTable) × IsOutcome model (accepted program)
+    × (p : ℕ) × IsRunEnd (input_with program data_text) p × TellsEnd whole (input_with program data_text) p
+
+-- of a model that a rule refuses: the rule's sentence and the line
+abbrev pub TellsRefusal : WholeRun → List ℕ → Type 0
+TellsRefusal whole model =
+    ((rule : TextRule) × (number : ℕ) × IsOutcome model (refused_text rule number)
+    × (whole.explanation.items ≡ refusal_explanation model (text_rule_code rule) number))
+    ⊎ ((rule : CheckRule) × (number : ℕ) × IsOutcome model (refused_check rule number)
+    × (whole.explanation.items ≡ refusal_explanation model (check_rule_code rule) number))
+
+-- the one or the other, by how the run ended
+abbrev pub TellsBeside : RunEnd → WholeRun → List ℕ → List ℕ → Type 0
+TellsBeside Done whole model data_text = TellsRun whole model data_text
+TellsBeside (Faulted line) whole model data_text = TellsRun whole model data_text
+TellsBeside (Refused line) whole model data_text = TellsRefusal whole model × (whole.unfit ≡ 0)
+
+-- what a whole run writes, and what is told of it
+unfoldable pub RunSays : Result WholeRun RunCut → List ℕ → List ℕ → OutletState → OutletState → Type 0
+RunSays (Ok whole) model data_text old new =
+    ReportSays (Ok whole.end) model data_text old new × TellsBeside whole.end whole model data_text
+RunSays (Err cut) model data_text old new = ReportSays (Err cut) model data_text old new
+
+-- how a run ended, without what is told beside
+abbrev pub end_of_outcome : Result WholeRun RunCut → Result RunEnd RunCut
+end_of_outcome (Ok whole) = Ok whole.end
+end_of_outcome (Err cut) = Err cut

@@ -1,0 +1,1 @@
+autocmd BufRead,BufNewFile *.sim setfiletype simscript2
