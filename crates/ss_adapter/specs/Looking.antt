@@ -1,8 +1,7 @@
 -- What the debugger's states show: the bodies of replies, each read off one state of the run.
-use Rattle.std.specs.Prelude.{ℕ, suc, zero, ◌+◌, ◌==◌, min, List, [], ◌∷◌, ◌++◌, codes, drop, length, flat_map, nat_lt, nat_eq}
+use Rattle.std.specs.Prelude.{ℕ, suc, zero, ◌+◌, ◌-◌, min, List, [], ◌∷◌, ◌++◌, codes, length, nat_eq}
 use Rattle.std.specs.Prelude.{Option, Some, None, slice_get, slice_index_or, if◌then◌else◌}
 use Rattle.std.specs.Option.{option_or}
-use Rattle.std.specs.List.{range_with_len}
 use Rattle.std.specs.Fmt.{signed_decimal}
 use Rattle.ss_words.specs.Faults.{run_fault_number}
 use Rattle.ss_sentences.specs.Wording.{fault_sentence}
@@ -54,9 +53,9 @@ frames_text t p path start =
 
 -- ---- variables
 
--- behind which of n items a page ends that begins at start: all, where its length is 0
-abbrev pub page_end : ℕ → ℕ → ℕ → ℕ
-page_end start count n = if nat_eq count 0 then n else min n (start + count)
+-- how many of n items are on a page that begins at start: all that follow, where its length is 0
+abbrev pub page_size : ℕ → ℕ → ℕ → ℕ
+page_size start count n = if nat_eq count 0 then n - start else min count (n - start)
 
 -- global variable i in state p
 abbrev pub global_item : Input → ℕ → ℕ → List ℕ
@@ -72,14 +71,14 @@ abbrev pub local_item : Input → ℕ → ℕ → List ℕ
 local_item t p i =
     variable_item (slice_index_or (local_names t p) i []) (signed_decimal (variable_in (run t p) (Local i))) 0
 
--- items number start to end, those that are there
-abbrev pub items_from : (ℕ → List ℕ) → ℕ → ℕ → List ℕ
+-- n items from start on
+unfoldable pub items_from : (ℕ → List ℕ) → ℕ → ℕ → List ℕ
 items_from item start zero = []
-items_from item start (suc n) = if nat_lt n start then [] else items_from item start n ++ item n
+items_from item start (suc n) = items_from item start n ++ item (start + n)
 
 -- a page of n items
 abbrev pub page : (ℕ → List ℕ) → ℕ → ℕ → ℕ → List ℕ
-page item start count n = items_from item start (page_end start count n)
+page item start count n = items_from item start (page_size start count n)
 
 -- the answer to a question in state p, under a name
 abbrev pub question_item : List ℕ → Input → ℕ → Question → List ℕ

@@ -42,7 +42,11 @@ pub record Setting : Type 0 where
 abbrev pub with_break : Setting → ℕ → Setting
 with_break s line =
     if bytes_eq (break_text s.breaks line) (codes "TOO MANY BREAKS\n")
-    then record { breaks = s.breaks; set = s.set; text = s.text ++ unset_item (codes "too many break points") }
+    then record {
+      breaks = breaks_after_set s.breaks line;
+      set = s.set;
+      text = s.text ++ unset_item (codes "too many break points");
+    }
     else record {
       breaks = breaks_after_set s.breaks line;
       set = s.set ++ line ∷ [];

@@ -2,7 +2,7 @@
 use Rattle.std.specs.Prelude.{ℕ, ◌≡◌, max, Bool, true, false, List, [], ◌∷◌, ◌++◌, codes, drop, length, take, min, nat_lt, nat_eq}
 use Rattle.std.specs.Prelude.{Option, Some, None, if◌then◌else◌}
 use Rattle.ss_machine.specs.Run.{Input, run}
-use Rattle.ss_debug.specs.declared.limits.TheConstants.{GREATEST_BOUND, BREAK_LIMIT}
+use Rattle.ss_debug.specs.declared.limits.TheConstants.{GREATEST_BOUND}
 use Rattle.ss_debug.specs.declared.commands.Command.{Command as Line}
 use Rattle.ss_debug.specs.declared.commands.Command.TheVariants.{Move}
 use Rattle.ss_debug.specs.declared.commands.Movement.TheVariants.{Run}
@@ -19,10 +19,11 @@ use Rattle.ss_messages.specs.declared.request.Command.TheVariants.{Pause, Discon
 use Rattle.ss_messages.specs.Messages.{Sent, reply, failure, event}
 use Rattle.ss_messages.specs.Bodies.{stopped_body, output_body, result_body, content_body, sources_body, list_body, without_last}
 use Rattle.ss_adapter.specs.declared.fixed.TheConstants.{CAPABILITIES, THREADS, SCOPES, NO_EXIT}
+use Rattle.ss_adapter.specs.declared.turns.TheConstants.{POINT_LIMIT}
 use Rattle.ss_adapter.specs.declared.going.Going.{Going}
 use Rattle.ss_adapter.specs.declared.going.Going.TheVariants.{Standing}
-use Rattle.ss_adapter.specs.declared.turn.Further.{Further}
-use Rattle.ss_adapter.specs.declared.turn.Further.TheVariants as further
+use Rattle.ss_adapter.specs.declared.turns.Further.{Further}
+use Rattle.ss_adapter.specs.declared.turns.Further.TheVariants as further
 use Rattle.ss_adapter.specs.Going.{going_of, state_behind, going_answer}
 use Rattle.ss_adapter.specs.Looking.{reason_at, exception_by, frames_text, scope_items, question_of}
 use Rattle.ss_adapter.specs.Places.{Setting, setting_of}
@@ -78,9 +79,8 @@ abbrev pub running : Going
 running = Standing (Run GREATEST_BOUND)
 
 -- a reply, and where the run stands
-abbrev pub here : AdapterState → List ℕ → List Sent
-here s reason =
-    reply (codes "{}") ∷ stopped reason (without_last (state_line s.input s.debugger.position)) ∷ []
+abbrev pub here : Input → ℕ → List ℕ → List Sent
+here t p reason = reply (codes "{}") ∷ stopped reason (without_last (state_line t p)) ∷ []
 
 -- a line that is obeyed: its answer, and, behind a movement, where it stopped
 abbrev pub obeyed : AdapterState → Line → List Sent
@@ -88,22 +88,22 @@ obeyed s (Move m) = gone s (result_body (answer s.input s.debugger (Move m))) (S
 obeyed s line = reply (result_body (answer s.input s.debugger line)) ∷ []
 
 -- a question that is answered
-abbrev pub asked : AdapterState → Option Question → List Sent
-asked s (Some q) = reply (result_body (without_last (show_answer s.input s.debugger.position q))) ∷ []
-asked s None = failure (codes "no question") ∷ []
+abbrev pub asked : Input → ℕ → Option Question → List Sent
+asked t p (Some q) = reply (result_body (without_last (show_answer t p q))) ∷ []
+asked t p None = failure (codes "no question") ∷ []
 
 -- what is told of a fault
 abbrev pub excepted : Option (List ℕ) → List Sent
 excepted (Some body) = reply body ∷ []
 excepted None = failure (codes "no fault") ∷ []
 
--- the lines of a request that are obeyed
-abbrev pub within_limit : List ℕ → List ℕ
-within_limit lines = take BREAK_LIMIT lines
+-- the first of some lines
+unfoldable pub first_lines : ℕ → List ℕ → List ℕ
+first_lines n lines = take n lines
 
 -- the break lines behind a request
 abbrev pub setting_in : AdapterState → List ℕ → Setting
-setting_in s lines = setting_of s.input.program s.debugger.breaks s.desk.set (within_limit lines)
+setting_in s lines = setting_of s.input.program s.debugger.breaks s.desk.set (first_lines POINT_LIMIT lines)
 
 -- the content of a source: the report is number 1
 abbrev pub source_messages : List ℕ → ℕ → List Sent
@@ -116,7 +116,7 @@ terminated = reply (codes "{}") ∷ event (codes "terminated") (codes "{}") ∷ 
 
 -- configurationDone
 abbrev pub configuring : AdapterState → List Sent
-configuring s = if s.desk.stops then here s (codes "entry") else gone s (codes "{}") running
+configuring s = if s.desk.stops then here s.input s.debugger.position (codes "entry") else gone s (codes "{}") running
 
 -- what a request is answered with that asks about the run
 unfoldable pub looked : AdapterState → Command → List Sent
@@ -128,11 +128,11 @@ looked s (StackTrace start levels) =
 looked s (Scopes frame) = reply SCOPES.now ∷ []
 looked s (Variables reference start count) =
     reply (list_body (codes "variables") (scope_items s.input s.debugger.position reference start count)) ∷ []
-looked s (Ask text) = asked s (question_of text)
+looked s (Ask text) = asked s.input s.debugger.position (question_of text)
 looked s (Source reference) = source_messages (report_at s.input s.debugger) reference
 looked s LoadedSources = reply (sources_body s.desk.path) ∷ []
 looked s ExceptionInfo = excepted (exception_by (run s.input s.debugger.position).status)
-looked s Pause = here s (codes "pause")
+looked s Pause = here s.input s.debugger.position (codes "pause")
 looked s Terminate = terminated
 looked s Bad = failure (codes "an argument is missing") ∷ []
 looked s Unknown = failure (codes "unknown request") ∷ []

@@ -5,7 +5,7 @@ ghost use Rattle.ss_adapter.specs.Before.{answers_before};
 ghost use Rattle.ss_adapter.specs.Turn.{further_of};
 
 use crate::fixed::CAPABILITIES;
-use crate::turn::{Further, further_behind, terminate};
+use crate::turns::{Further, further_behind, terminate};
 use ss_messages::{Command, NOTHING, Post, Request};
 use std::alloc::AllocError;
 

@@ -31,26 +31,27 @@ fn nearer(from: u64, nearest: Option<u32>, line: usize) -> Option<u32>
 fn nearest_in(from: u64, nearest: Option<u32>, places: &[Spot]) -> Option<u32>
     ensures { result ≡ fold (nearer from) nearest (map (λ spot. spot.line) places.now) }
 {
-    let mut nearest = nearest;
+    let mut best = nearest;
     for spot in places {
-        nearest = nearer(from, nearest, spot.line);
+        best = nearer(from, best, spot.line);
     }
-    nearest
+    best
 }
 
 /// The nearest line with a place, from a line on.
-#[tactic(auto, unfolding(crate::specs::Places::next_line))]
+#[tactic(auto, unfolding(crate::specs::Places::next_line), using(crate::proofs::Nearest::fold_both))]
 fn next_line(program: &Program, from: u64) -> Option<u32>
     ensures { result ≡ next_line program.now from }
 {
-    let mut nearest = None;
+    let mut best = None;
     for section in &program.sections {
-        nearest = nearest_in(from, nearest, &section.places);
+        best = nearest_in(from, best, &section.places);
     }
-    nearest
+    best
 }
 
 /// Makes some lines no break lines.
+#[tactic(auto, unfolding(ss_debug::proofs::Unfoldings::turns))]
 fn clear_lines<S: SetBoard>(
     debugger: &mut Debugger<S>,
     set: &[u32],
@@ -75,6 +76,7 @@ fn push_unset(alloc: Global, text: &mut Vec<u8>, reason: &'static [u8]) -> Resul
 }
 
 /// Sets a break line that a request names, and tells where, or why not.
+#[tactic(auto, unfolding(ss_debug::proofs::Unfoldings::turns))]
 fn set_line<S: SetBoard>(
     alloc: Global,
     debugger: &mut Debugger<S>,

@@ -8,9 +8,9 @@ mod fixed;
 mod going;
 mod looking;
 mod opening;
-mod turn;
+mod turns;
 
 pub use before::turn_before;
 pub use desk::Desk;
 pub use opening::launch;
-pub use turn::{Further, turn};
+pub use turns::{Further, turn};

@@ -1,12 +1,12 @@
 //! What a state shows.
-ghost use Rattle.std.specs.Prelude.{◌≡◌, ◌++◌, ◌<◌, ◌≤◌, codes, decimal, length, IfOk, OnOk, option_map};
+ghost use Rattle.std.specs.Prelude.{◌≡◌, ◌++◌, ◌+◌, ◌<◌, ◌≤◌, ◌⊎◌, codes, decimal, length, IfOk, OnOk, option_map};
 ghost use Rattle.std.specs.Fmt.{signed_decimal};
 ghost use Rattle.ss_machine.specs.Moment.{position};
 ghost use Rattle.ss_machine.specs.Readings.{HasVariable, variable_in};
 ghost use Rattle.ss_machine.specs.Run.{run};
 ghost use Rattle.ss_debug.specs.Move.{line_at};
 ghost use Rattle.ss_messages.specs.Bodies.{variable_item};
-ghost use Rattle.ss_adapter.specs.Looking.{reason_at, exception_by, frames_text, page_end, global_item, local_item};
+ghost use Rattle.ss_adapter.specs.Looking.{reason_at, exception_by, frames_text, page_size, global_item, local_item};
 ghost use Rattle.ss_adapter.specs.Looking.{local_names, items_from, page, question_item, run_items, scope_items};
 ghost use Rattle.ss_adapter.specs.Looking.{question_in, question_of};
 
@@ -100,14 +100,13 @@ pub fn push_frames<S: SetBoard>(
     out.extend_from_slice(&item)
 }
 
-/// Behind which of so many items a page ends.
-fn page_end(start: usize, count: usize, items: usize) -> usize
-    ensures { result ≡ page_end start count items }
+/// How many of so many items are on a page.
+fn page_size(start: usize, count: usize, items: usize) -> usize
+    ensures size { result ≡ page_size start count items }
+    ensures within { result + start ≤ items ⊎ (result ≡ 0) }
 {
-    if count == 0 {
-        return items;
-    }
-    items.min(start.saturating_add(count))
+    let rest = items.saturating_sub(start);
+    if count == 0 { rest } else { count.min(rest) }
 }
 
 /// Appends a comma and a variable with its value.
@@ -145,6 +144,7 @@ fn push_global<S: SetBoard>(
 }
 
 /// Appends a page of the global variables.
+
 fn push_globals<S: SetBoard>(
     alloc: Global,
     out: &mut Vec<u8>,
@@ -156,8 +156,8 @@ fn push_globals<S: SetBoard>(
         ++ page (global_item machine.now.input (position machine.now)) start count
         (length machine.now.input.program.globals)) }
 {
-    for i in start..page_end(start, count, machine.program().globals.len()) {
-        push_global(alloc, out, machine, i)?;
+    for k in 0..page_size(start, count, machine.program().globals.len()) {
+        push_global(alloc, out, machine, start + k)?;
     }
     Ok(())
 }
@@ -189,6 +189,7 @@ fn push_local<S: SetBoard>(
 }
 
 /// Appends a page of the locals.
+
 fn push_locals<S: SetBoard>(
     alloc: Global,
     out: &mut Vec<u8>,
@@ -200,8 +201,8 @@ fn push_locals<S: SetBoard>(
         ++ page (local_item machine.now.input (position machine.now)) start count
         (length (local_names machine.now.input (position machine.now)))) }
 {
-    for i in start..page_end(start, count, local_count(machine)) {
-        push_local(alloc, out, machine, i)?;
+    for k in 0..page_size(start, count, local_count(machine)) {
+        push_local(alloc, out, machine, start + k)?;
     }
     Ok(())
 }

@@ -8,10 +8,9 @@ use ss_debug::Debugger;
 use ss_host::read_file;
 use ss_links::{LinkedSets, SetBoard};
 use ss_messages::{Command, Request, Text};
-use std::io;
 use std::io::{Read, Write};
 use std::rt::Files;
-use std::str;
+use std::{io, str};
 
 /// The bytes of the file of a path; `None` where it can't be read.
 fn file<R: Files + AllocGlobal>(rt: &R, path: &Text) -> Result<Option<Vec<u8>>, Stop> {

@@ -4,11 +4,10 @@ ghost use Rattle.ss_machine.specs.Moment.{position};
 ghost use Rattle.ss_debug.specs.View.{debugger_state_of};
 ghost use Rattle.ss_messages.specs.Messages.{posted, posted_all, reply};
 ghost use Rattle.ss_messages.specs.Bodies.{list_body};
-ghost use Rattle.ss_adapter.specs.Desk.{DeskView};
 ghost use Rattle.ss_adapter.specs.Turn.{adapter_state_of, told_with, report_at, untold, stopped, behind_movement};
 ghost use Rattle.ss_adapter.specs.Turn.{gone, here, obeyed, asked, excepted, setting_in, behind_setting, behind_line};
 ghost use Rattle.ss_adapter.specs.Turn.{moved, told_of, left_by, answers, state_after, further_of, looked, source_messages, terminated};
-ghost use Rattle.ss_adapter.specs.Turn.{configuring, behind_configuring};
+ghost use Rattle.ss_adapter.specs.Turn.{configuring, behind_configuring, first_lines};
 ghost use Rattle.ss_adapter.specs.Going.{state_behind};
 ghost use Rattle.ss_adapter.specs.Looking.{exception_by, question_of, frames_text, scope_items};
 ghost use Rattle.ss_debug.specs.declared.commands.Command.TheVariants.{Move};
@@ -136,11 +135,11 @@ fn go_by_line<S: SetBoard>(
     ensures state { OnOk result (adapter_state_of debugger.new desk.new
         ≡ behind_line (adapter_state_of debugger.old desk.old) (Move movement)) }
 {
-    let mut answer = Vec::new(post.alloc());
-    make(debugger, Going::Standing(movement), &mut answer)?;
-    let body = result_body(post.alloc(), &answer)?;
+    let mut said = Vec::new(post.alloc());
+    make(debugger, Going::Standing(movement), &mut said)?;
+    let body = result_body(post.alloc(), &said)?;
     post.reply(request, &body)?;
-    tell_movement(debugger, desk, request, post, &answer)
+    tell_movement(debugger, desk, request, post, &said)
 }
 
 /// Obeys a line of the debugger.
@@ -179,12 +178,23 @@ fn tell_here<S: SetBoard>(
     reason: &'static [u8],
 ) -> Result<(), AllocError>
     requires { post.old.sent + 1 < 2 ^ 64 - 1 }
-    ensures { (k : DeskView) → OnOk result (post.new ≡ posted_all request.now post.old
-        (here (adapter_state_of debugger.now k) reason.now)) }
+    ensures { OnOk result (post.new ≡ posted_all request.now post.old
+        (here debugger.now.machine.input (position debugger.now.machine) reason.now)) }
 {
     post.reply(request, NOTHING)?;
     let line = debugger.answer_to(&Question::Where)?;
     tell_stop(request, post, reason, without_last(&line))
+}
+
+/// The first of some lines, so many at most.
+#[tactic(auto, unfolding(crate::specs::Turn::first_lines), using(std::proofs::lemmas::List::take_all))]
+fn first_lines(lines: &[u64], limit: usize) -> &[u64]
+    ensures { result.now ≡ first_lines limit lines.now }
+{
+    if lines.len() <= limit {
+        return lines;
+    }
+    &lines[..limit]
 }
 
 /// Sets the break lines of a request.
@@ -205,14 +215,8 @@ fn set_breaks<S: SetBoard>(
         (setting_in (adapter_state_of debugger.old desk.old) lines.now)) }
 {
     let mut text = Vec::new(post.alloc());
-    let most = lines.len().min(POINT_LIMIT);
-    set_lines(
-        post.alloc(),
-        debugger,
-        &mut desk.set,
-        &mut text,
-        &lines[..most],
-    )?;
+    let asked = first_lines(lines, POINT_LIMIT);
+    set_lines(post.alloc(), debugger, &mut desk.set, &mut text, asked)?;
     let body = list_body(post.alloc(), b"breakpoints", &text)?;
     post.reply(request, &body)
 }
@@ -226,8 +230,8 @@ fn ask<S: SetBoard>(
     text: &[u8],
 ) -> Result<(), AllocError>
     requires { post.old.sent < 2 ^ 64 - 1 }
-    ensures { (k : DeskView) → OnOk result (post.new ≡ posted_all request.now post.old
-        (asked (adapter_state_of debugger.now k) (question_of text.now))) }
+    ensures { OnOk result (post.new ≡ posted_all request.now post.old
+        (asked debugger.now.machine.input (position debugger.now.machine) (question_of text.now))) }
 {
     match question(post.alloc(), text)? {
         Some(question) => {
