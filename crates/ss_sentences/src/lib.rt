@@ -1,6 +1,16 @@
-//! What a refusal of a model and a fault of a run mean, in English: a sentence for each code.
+//! What a refusal of a model and a fault of a run mean, in English: a sentence for each code, and for
+//! a refused text the word at which it is refused, where that stands, and what could stand there.
 #![tactic(auto)]
 
+mod candidate;
+mod expected;
+mod grammar;
+mod hints;
+mod pieces;
+mod refusal;
 mod wording;
 
+pub use candidate::{Judgement, Tried};
+pub use pieces::{push_place, push_source};
+pub use refusal::{LONGEST_TEXT_JUDGED, text_refusal};
 pub use wording::{fault_sentence, rule_sentence};

@@ -1,4 +1,10 @@
+pub mod Changes
+pub mod Histories
 pub mod Stops
 pub mod Parts
 pub mod Ends
+pub mod Looking
 pub mod Refused
+pub mod SameLists
+pub mod Untouched
+pub mod Skips

@@ -1,0 +1,12 @@
+-- Words with their numbers in the places of their lines.
+use Rattle.std.specs.Prelude.{ℕ, List, map}
+use Rattle.std.specs.List.{enumerate_from}
+use Rattle.ss_words.specs.Words.{WordAt}
+
+-- a word on this line
+abbrev pub on_line : ℕ → WordAt → WordAt
+on_line line w = record { line = line; kind = w.kind }
+
+-- the words where each has its number, from 0, for its line: each stands on a line of its own
+abbrev pub numbered : List WordAt → List WordAt
+numbered ws = map (λ e. on_line e.0 e.1) (enumerate_from 0 ws)

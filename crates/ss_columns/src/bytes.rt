@@ -1,0 +1,69 @@
+//! What the bytes of a line are.
+#![tactic(auto, unfolding(crate::specs::Columns::begins_run, crate::specs::Columns::begins_word))]
+
+ghost use Rattle.std.specs.Prelude.{◌≡◌, is_some};
+ghost use Rattle.ss_words.specs.TextBytes.{in_run, is_joined, one_byte_sign};
+ghost use Rattle.ss_columns.specs.Columns.{begins_run, begins_word};
+
+use ss_words::characters::{
+    ASTERISK, CLOSING_PARENTHESIS, COMMA, EQUALS_SIGN, GREATER_SIGN, LESS_SIGN, MINUS_SIGN,
+    OPENING_PARENTHESIS, PLUS_SIGN, STOP,
+};
+
+/// A letter, a digit or a stop.
+#[tactic(auto, unfolding(ss_words::specs::TextBytes::in_run))]
+fn in_run(byte: u8) -> bool
+    ensures { result ≡ in_run byte }
+{
+    byte.is_ascii_alphabetic() || byte.is_ascii_digit() || byte == STOP
+}
+
+#[tactic(auto, unfolding(ss_words::specs::TextBytes::one_byte_sign))]
+fn is_sign(byte: u8) -> bool
+    ensures { result ≡ is_some (one_byte_sign byte) }
+{
+    byte == PLUS_SIGN
+        || byte == MINUS_SIGN
+        || byte == ASTERISK
+        || byte == OPENING_PARENTHESIS
+        || byte == CLOSING_PARENTHESIS
+        || byte == COMMA
+        || byte == EQUALS_SIGN
+        || byte == LESS_SIGN
+        || byte == GREATER_SIGN
+}
+
+/// A byte goes on with what the byte before it belongs to.
+#[tactic(auto, unfolding(ss_words::specs::TextBytes::is_joined))]
+fn is_joined(last: u8, byte: u8) -> bool
+    ensures { result ≡ is_joined last byte }
+{
+    (in_run(last) && in_run(byte))
+        || ((last == LESS_SIGN || last == GREATER_SIGN) && byte == EQUALS_SIGN)
+}
+
+/// A run with a letter or a digit begins here.
+fn begins_run(mut rest: &[u8]) -> bool
+    ensures { result ≡ begins_run rest.entry.now }
+{
+    while let [byte, behind @ ..] = rest {
+        if !in_run(*byte) {
+            return false;
+        }
+        if *byte != STOP {
+            return true;
+        }
+        rest = behind;
+    }
+    false
+}
+
+/// A word begins here, behind this byte.
+pub fn begins_word(last: u8, rest: &[u8]) -> bool
+    ensures { result ≡ begins_word last rest.now }
+{
+    let [byte, ..] = rest else {
+        return false;
+    };
+    !is_joined(last, *byte) && (begins_run(rest) || is_sign(*byte))
+}

@@ -1,0 +1,12 @@
+//! Where the words of a text stand: their numbers, and the columns at which they begin; and which
+//! names are reserved.
+#![tactic(auto)]
+
+mod bytes;
+mod column;
+mod numbering;
+mod reserved;
+
+pub use column::{Place, line_at, line_of, place_of};
+pub use numbering::{copied_kind, numbered_words};
+pub use reserved::{DROPPED, RESERVED, SCHEDULING, is_among, is_kind_among};

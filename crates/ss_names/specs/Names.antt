@@ -1,0 +1,25 @@
+-- The names of a model: the words that are names and not reserved.
+use Rattle.std.specs.Prelude.{ℕ, Bool, true, false, ◌==◌, ◌&&◌, ◌||◌, List, [], ◌∷◌, ◌++◌, map, bytes_eq}
+use Rattle.ss_words.specs.Plain.{Plain, PlainAt, name, number, mark, picture}
+use Rattle.ss_columns.specs.Reserved.{is_among}
+use Rattle.ss_names.specs.declared.language.TheConstants.{LANGUAGE_NAMES, COMPANIONS}
+
+-- N.x, F.x, L.x, P.x, S.x or M.x
+abbrev pub is_companion : List ℕ → Bool
+is_companion [] = false
+is_companion (b ∷ []) = false
+is_companion (b ∷ c ∷ bs) = is_among (b ∷ c ∷ []) (map (λ row. row.now) COMPANIONS)
+
+-- the language gives this name: the clock, a function, or what is kept of a class or a set
+unfoldable pub is_of_language : List ℕ → Bool
+is_of_language n = is_among n (map (λ row. row.now) LANGUAGE_NAMES) || is_companion n
+
+-- the names among plain words, in their order, as often as they stand
+unfoldable pub names_in : List PlainAt → List (List ℕ)
+names_in [] = []
+names_in (w ∷ ws) = elim w.word [
+  | name n ↦ n ∷ names_in ws
+  | number n ↦ names_in ws
+  | mark m ↦ names_in ws
+  | picture ls ↦ names_in ws
+]

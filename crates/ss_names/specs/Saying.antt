@@ -1,0 +1,6 @@
+-- How a warning is said.
+use Rattle.std.specs.Prelude.{ℕ, List, ◌++◌, codes, decimal}
+
+-- a line, a name and what is said of it
+abbrev pub warning : ℕ → List ℕ → List ℕ → List ℕ
+warning line n said = codes "Line " ++ decimal line ++ codes ": " ++ n ++ said

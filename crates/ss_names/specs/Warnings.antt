@@ -1,0 +1,105 @@
+-- Warnings of what is suspicious in the words of a model. Each says what is so, and not that it is wrong.
+use Rattle.std.specs.Prelude.{ℕ, Bool, true, false, not, ◌==◌, ◌&&◌, ◌||◌, List, [], ◌∷◌, ◌++◌, map}
+use Rattle.std.specs.Prelude.{count_by, bytes_eq, Option, Some, None, Result, Ok, Err}
+use Rattle.std.specs.Borrow.{Bor}
+use Rattle.ss_words.specs.Plain.{Plain, PlainAt, name, number, mark, picture}
+use Rattle.ss_words.specs.PlainRules.{plain_words_of}
+use Rattle.ss_words.specs.TextWords.{words_of}
+use Rattle.ss_words.specs.declared.word.WordKind.{WordKind}
+use Rattle.ss_words.specs.Words.{Kind, WordAt, kind_of}
+use Rattle.ss_words.specs.Words as w
+use Rattle.ss_names.specs.declared.once.TheConstants.{ONCE}
+use Rattle.ss_names.specs.declared.dropped.TheConstants.{ARTICLES, FILLERS, DROPPED_HERE}
+use Rattle.ss_columns.specs.Reserved.{is_among, is_kind_among, reserved, scheduling}
+use Rattle.ss_names.specs.Names.{names_in, is_of_language}
+use Rattle.ss_names.specs.Saying.{warning}
+use Rattle.ss_names.specs.Unread.{settings_in, unread_text}
+
+-- ---- names that stand once
+
+-- a name, of these, that stands once and is not the language's
+abbrev pub is_once : List (List ℕ) → List ℕ → Bool
+is_once names n = count_by (bytes_eq n) names == 1 && not (is_of_language n)
+
+-- what is said of a name
+abbrev pub once_name : List (List ℕ) → ℕ → List ℕ → List ℕ
+once_name names line n = elim (is_once names n) [ true ↦ warning line n ONCE.now | false ↦ [] ]
+
+-- what is said of a word
+abbrev pub once_word : List (List ℕ) → PlainAt → List ℕ
+once_word names w = elim w.word [
+  | name n ↦ once_name names w.line n
+  | number n ↦ []
+  | mark m ↦ []
+  | picture ls ↦ []
+]
+
+-- each name of these words that stands once among the names, with its line
+unfoldable pub once_text : List (List ℕ) → List PlainAt → List ℕ
+once_text names [] = []
+once_text names (w ∷ ws) = once_word names w ++ once_text names ws
+
+-- ---- words that are dropped where a name could have stood
+
+-- a sign
+abbrev pub is_sign : Option Kind → Bool
+is_sign (Some (w.sign s)) = true
+is_sign _ = false
+
+-- a name that is not reserved
+abbrev pub is_plain_name : Option Kind → Bool
+is_plain_name (Some (w.name n)) = not (is_among n reserved)
+is_plain_name _ = false
+
+-- SCHEDULE or CAUSE
+abbrev pub is_scheduling : Option Kind → Bool
+is_scheduling None = false
+is_scheduling (Some k) = is_kind_among scheduling k
+
+-- A, AN or OUTPUT beside a sign, or THE, THIS or MAY before one, not directly before a name nor behind SCHEDULE: all of
+-- these are dropped, and no name follows to which they could belong
+abbrev pub is_suspect : Option Kind → Kind → Option Kind → Bool
+is_suspect before k behind =
+    not (is_scheduling before) && not (is_plain_name behind)
+    && ((is_kind_among (map (λ row. row.now) ARTICLES) k && (is_sign before || is_sign behind))
+    || (is_kind_among (map (λ row. row.now) FILLERS) k && is_sign behind))
+
+-- the bytes of a name
+abbrev pub name_bytes : Kind → List ℕ
+name_bytes (w.name n) = n
+name_bytes (w.number n) = []
+name_bytes (w.sign s) = []
+name_bytes (w.picture ls) = []
+
+-- a word of the code, if there is one
+abbrev pub kind_seen : Option (Bor WordKind) → Option Kind
+kind_seen None = None
+kind_seen (Some k) = Some (kind_of k.now)
+
+-- what the first of some words is
+abbrev pub first_kind : List WordAt → Option Kind
+first_kind [] = None
+first_kind (w ∷ ws) = Some w.kind
+
+-- what is said of a word between two others
+abbrev pub dropped_word : Option Kind → WordAt → Option Kind → List ℕ
+dropped_word before w behind =
+    elim (is_suspect before w.kind behind) [ true ↦ warning w.line (name_bytes w.kind) DROPPED_HERE.now | false ↦ [] ]
+
+-- each of these words that is dropped where a name could have stood, behind this word
+unfoldable pub dropped_text : Option Kind → List WordAt → List ℕ
+dropped_text before [] = []
+dropped_text before (w ∷ ws) = dropped_word before w (first_kind ws) ++ dropped_text (Some w.kind) ws
+
+-- ---- all of them
+
+-- the warnings of words
+abbrev pub warnings_of_words : List WordAt → List ℕ
+warnings_of_words ws =
+    let plain = plain_words_of ws in
+    let names = names_in plain in
+    once_text names plain ++ unread_text names (settings_in None plain) [] plain ++ dropped_text None ws
+
+-- the warnings of a model; none where a rule L refuses it
+abbrev pub warnings : List ℕ → List ℕ
+warnings model = elim (words_of model) [ Ok ws ↦ warnings_of_words ws | Err f ↦ [] ]

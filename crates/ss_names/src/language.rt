@@ -1,0 +1,30 @@
+//! The names that the language gives.
+ghost use Rattle.std.specs.Prelude.{◌≡◌};
+ghost use Rattle.ss_names.specs.Names as spec;
+
+use ss_columns::is_among;
+
+/// The clock and the functions. The definitions read these tables too.
+pub const LANGUAGE_NAMES: [&[u8]; 6] = [
+    b"TIME.V", b"ABS.F", b"MAX.F", b"MIN.F", b"DIV.F", b"MOD.F",
+];
+
+/// How the names begin of what is kept of a class or a set.
+pub const COMPANIONS: [&[u8]; 6] = [b"N.", b"F.", b"L.", b"P.", b"S.", b"M."];
+
+fn is_companion(name: &[u8]) -> bool
+    ensures { result ≡ spec.is_companion name.now }
+{
+    match name {
+        [first, second, ..] => is_among(&[*first, *second], &COMPANIONS),
+        _ => false,
+    }
+}
+
+/// Whether the language gives this name: the clock, a function, or what is kept of a class or a set.
+#[tactic(auto, unfolding(crate::specs::Names::is_of_language))]
+pub fn is_of_language(name: &[u8]) -> bool
+    ensures { result ≡ spec.is_of_language name.now }
+{
+    is_among(name, &LANGUAGE_NAMES) || is_companion(name)
+}

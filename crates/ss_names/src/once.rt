@@ -1,0 +1,81 @@
+//! Names that stand once.
+ghost use Rattle.std.specs.Prelude.{◌≡◌, ◌++◌, OnOk, map};
+ghost use Rattle.ss_words.specs.Plain.{plain_at};
+ghost use Rattle.ss_names.specs.Saying.{warning};
+ghost use Rattle.ss_names.specs.Warnings as spec;
+
+use crate::language::is_of_language;
+use crate::name_counts::NameCounts;
+use itoa::Buffer;
+use ss_words::{Plain, PlainWord};
+use std::alloc::AllocError;
+
+/// What is said of a name that stands once. The definitions read it too.
+pub const ONCE: &[u8] = b" stands only here.\n";
+
+/// Appends a line, a name and what is said of it.
+pub fn push_warning(
+    text: &mut Vec<u8>,
+    line: usize,
+    name: &[u8],
+    said: &[u8],
+) -> Result<(), AllocError>
+    ensures { OnOk result (text.new.items
+        ≡ text.old.items ++ warning line name.now said.now) }
+{
+    let mut buffer = Buffer::new();
+    text.extend_from_slice(b"Line ")?;
+    text.extend_from_slice(buffer.format(line).as_bytes())?;
+    text.extend_from_slice(b": ")?;
+    text.extend_from_slice(name)?;
+    text.extend_from_slice(said)
+}
+
+/// Appends what is said of a name.
+fn push_once_name(
+    text: &mut Vec<u8>,
+    names: &NameCounts,
+    line: usize,
+    name: &[u8],
+) -> Result<(), AllocError>
+    ensures { OnOk result (text.new.items
+        ≡ text.old.items ++ spec.once_name names.now line name.now) }
+{
+    if names.count(name) == 1 && !is_of_language(name) {
+        return push_warning(text, line, name, ONCE);
+    }
+    Ok(())
+}
+
+/// Appends what is said of a word.
+fn push_once_word(
+    text: &mut Vec<u8>,
+    names: &NameCounts,
+    word: &PlainWord<'_>,
+) -> Result<(), AllocError>
+    ensures { OnOk result (text.new.items
+        ≡ text.old.items ++ spec.once_word names.now (plain_at word.now)) }
+{
+    match word.kind() {
+        Plain::Name(name) => push_once_name(text, names, word.line(), name.bytes()),
+        _ => Ok(()),
+    }
+}
+
+/// Appends each name of these words that stands once, with its line.
+#[tactic(auto, unfolding(crate::specs::Warnings::once_text))]
+pub fn push_once(
+    text: &mut Vec<u8>,
+    names: &NameCounts,
+    words: &[PlainWord<'_>],
+) -> Result<(), AllocError>
+    ensures { OnOk result (text.new.items
+        ≡ text.old.items ++ spec.once_text names.now (map plain_at words.now)) }
+{
+    let mut rest = words;
+    while let [word, behind @ ..] = rest {
+        push_once_word(text, names, word)?;
+        rest = behind;
+    }
+    Ok(())
+}

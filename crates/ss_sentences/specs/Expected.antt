@@ -1,0 +1,29 @@
+-- What could stand at a place, as it is told.
+use Rattle.std.specs.Prelude.{ℕ, ◌-◌, ◌&&◌, Bool, true, false, nat_lt, List, [], ◌∷◌, ◌++◌, length, codes, bytes_eq}
+use Rattle.std.specs.Prelude.{if◌then◌else◌}
+use Rattle.ss_sentences.specs.declared.candidate.Judgement.{Judgement}
+use Rattle.ss_sentences.specs.declared.expected.TheConstants.{EXPECTED, FIRST_ROOM, FURTHER_ROOM}
+
+-- before the first, and between others
+abbrev pub separator : Bool → List ℕ
+separator is_first = if is_first then codes " " else codes ", "
+
+-- those of the candidates that fit, where so many bytes have room on the line, and on a new line where they have none
+abbrev pub listed : Bool → ℕ → List Judgement → List ℕ
+listed is_first room [] = codes "\n"
+listed is_first room (j ∷ js) = elim j.fits [
+  | false ↦ listed is_first room js
+  | true ↦ let told = j.told.now in elim (nat_lt (room - length told) 2) [
+    | true ↦ codes ",\n  " ++ told ++ listed false (FURTHER_ROOM - length told) js
+    | false ↦ separator is_first ++ told ++ listed false (room - length told - 2) js
+  ]
+]
+
+-- what could stand at a place
+unfoldable pub expected_text : List Judgement → List ℕ
+expected_text js = EXPECTED.now ++ listed true FIRST_ROOM js
+
+-- a candidate that is told so fits
+abbrev pub fits : List Judgement → List ℕ → Bool
+fits [] told = false
+fits (j ∷ js) told = elim (j.fits && bytes_eq (j.told.now) told) [ true ↦ true | false ↦ fits js told ]

@@ -1,0 +1,91 @@
+-- What is said of a text that a rule L or P refuses.
+use Rattle.std.specs.Prelude.{◌≡◌, ◌⊎◌, ℕ, ◌+◌, ◌<◌, ◌≤◌, Bool, true, false, List, [], ◌∷◌, ◌++◌, length, take, map}
+use Rattle.std.specs.Prelude.{codes, Option, Some, None, slice_get, Result, Ok, Err, All}
+use Rattle.ss_words.specs.declared.fault.TextRule.{TextRule}
+use Rattle.ss_words.specs.declared.fault.TextRule.TheVariants as r
+use Rattle.ss_words.specs.declared.fault.TextFault.TheVariants.{Refused}
+use Rattle.ss_words.specs.Faults.{text_rule_code}
+use Rattle.ss_words.specs.Words.{WordAt}
+use Rattle.ss_words.specs.TextWords.{words_of}
+use Rattle.ss_words.specs.PlainRules.{plain_words_of}
+use Rattle.ss_columns.specs.Columns.{line_at, column_at}
+use Rattle.ss_columns.specs.Numbers.{numbered}
+use Rattle.ss_sentences.specs.declared.candidate.Judgement.{Judgement}
+use Rattle.ss_sentences.specs.declared.refusal.TheConstants.{LONGEST_TEXT_JUDGED}
+use Rattle.ss_sentences.specs.Candidates.{IsFitting, candidate_of, candidates}
+use Rattle.ss_sentences.specs.Expected.{expected_text}
+use Rattle.ss_sentences.specs.Grammar.{IsRefused, IsSpelled, is_end}
+use Rattle.ss_sentences.specs.Hints.{block_hints, front_hints, word_hints}
+use Rattle.ss_sentences.specs.Pieces.{filled, last_text, place_text, source_text}
+use Rattle.ss_sentences.specs.Wording.{rule_sentence}
+
+-- the sentence of a rule L at its line
+abbrev pub unread_text : List ℕ → TextRule → ℕ → List ℕ
+unread_text model rule line =
+    place_text line None ++ rule_sentence (text_rule_code rule) ++ codes "\n" ++ source_text model line None
+
+-- how the last of so many words is told
+abbrev pub told_before : List WordAt → ℕ → List ℕ
+told_before ws count = last_text (take count ws)
+
+-- the sentence of a rule P at word i: with the word itself and the one before it, the line, and a caret below the word
+abbrev pub sentence_text : List ℕ → List WordAt → TextRule → ℕ → List ℕ
+sentence_text model ws rule i =
+    place_text (line_at ws i) (column_at model ws i)
+    ++ filled (rule_sentence (text_rule_code rule)) (told_before ws (i + 1)) (told_before ws i)
+    ++ codes "\n" ++ source_text model (line_at ws i) (column_at model ws i)
+
+-- each candidate is judged behind these words; none where the text is too long
+unfoldable pub AreJudged : List ℕ → List WordAt → List Judgement → Type 0
+AreJudged model front js =
+    ((LONGEST_TEXT_JUDGED < length model) × (js ≡ []))
+    ⊎ ((length model ≤ LONGEST_TEXT_JUDGED) × All (λ j. IsFitting front j.told.now j.tried j.fits) js
+    × (map candidate_of js ≡ candidates))
+
+-- what could stand at a place, where that is judged
+abbrev pub judged_text : List Judgement → List ℕ
+judged_text [] = []
+judged_text (j ∷ js) = expected_text (j ∷ js)
+
+-- the hints at a word, if there is one
+abbrev pub hints_at : List Judgement → Option WordAt → List ℕ → List ℕ
+hints_at js None told = []
+hints_at js (Some w) told = word_hints js w.kind told
+
+-- what could stand in the place of word i, and hints
+abbrev pub unexpected_text : List WordAt → ℕ → List Judgement → List ℕ
+unexpected_text ws i js =
+    judged_text js ++ hints_at js (slice_get ws i) (told_before ws (i + 1)) ++ front_hints js (take i ws)
+
+-- what could stand at the end of the words, and which blocks are open there
+abbrev pub ended_text : List WordAt → List Judgement → List ℕ
+ended_text ws js = judged_text js ++ block_hints js ws
+
+-- what is said behind the sentence of a rule at word i
+abbrev pub behind_text : List WordAt → TextRule → ℕ → List Judgement → List ℕ
+behind_text ws r.UnexpectedWord i js = unexpected_text ws i js
+behind_text ws r.UnexpectedEnd i js = ended_text ws js
+behind_text ws _ i js = []
+
+-- the words behind which it is judged what could stand: at the end of the words all, and else those before word i
+abbrev pub front_of : List WordAt → TextRule → ℕ → List WordAt
+front_of ws rule i = elim (is_end rule) [ true ↦ numbered ws | false ↦ numbered (take i ws) ]
+
+-- what is said of words that are refused by a rule at word i
+unfoldable pub IsSaidOf : List ℕ → List WordAt → TextRule → ℕ → List ℕ → Type 0
+IsSaidOf model ws rule i said =
+    (js : List Judgement) × AreJudged model (front_of ws rule i) js
+    × (said ≡ sentence_text model ws rule i ++ behind_text ws rule i js)
+
+-- what is said of words: nothing where they are a program; else what is said of their refusal, where the word is that
+-- whose line the refusal tells when each word stands on a line of its own, the lines numbered from 0
+unfoldable pub AreSaid : List ℕ → List WordAt → List ℕ → Type 0
+AreSaid model ws said =
+    (IsSpelled (plain_words_of (numbered ws)) × (said ≡ []))
+    ⊎ ((rule : TextRule) × (i : ℕ) × IsRefused rule i (plain_words_of (numbered ws)) × IsSaidOf model ws rule i said)
+
+-- what is said of a model
+unfoldable pub IsSaid : List ℕ → List ℕ → Type 0
+IsSaid model said =
+    ((rule : TextRule) × (line : ℕ) × (words_of model ≡ Err (Refused rule line)) × (said ≡ unread_text model rule line))
+    ⊎ ((ws : List WordAt) × (words_of model ≡ Ok ws) × AreSaid model ws said)
