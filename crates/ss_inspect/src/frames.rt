@@ -3,7 +3,8 @@ ghost use Rattle.std.specs.Prelude.{◌≡◌, ◌++◌, ◌<◌, ◌∷◌, [],
 ghost use Rattle.ss_machine.specs.Frames.{frame_local};
 ghost use Rattle.ss_machine.specs.Moment.{position};
 ghost use Rattle.ss_inspect.specs.Frames.{locals_in, local_text, listed_local, frame_line, frame_lines, calls_text};
-ghost use Rattle.ss_inspect.specs.Frames.{local_line, local_lines, locals_text, global_line, global_lines, globals_text};
+ghost use Rattle.ss_inspect.specs.Frames.{local_line, local_lines, locals_text};
+ghost use Rattle.ss_inspect.specs.Frames.{global_line, global_lines, globals_text};
 ghost use Rattle.ss_inspect.specs.Texts.{texts_below};
 
 use crate::rows::{locals_in, name_at, place_line, section_name};
