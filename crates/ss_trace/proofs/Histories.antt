@@ -115,3 +115,8 @@ pub found_before : (o : Option (Vec ℕ Global)) (old : List ℕ) (b : Bool) (wa
     MatchOption o N (λ after. (after.items ≡ wanted) × H)
 found_before None old b wanted N H e m r h = cc
 found_before (Some text) old b wanted N H e m r h = (m.0 ∙ r, h)
+
+-- the same of one run and the same forgotten steps
+pub history_moved : (t u : Input) (x : Question) (e f p q : ℕ) → u ≡ t → f ≡ e →
+    history u x f p ≡ q ∷ history u x f q → history t x e p ≡ q ∷ history t x e q
+history_moved t u x e f p q i j h = rw (sym i, sym j) h

@@ -90,7 +90,6 @@ abbrev pub IgnoresReport : (State → Type 0) → Type 0
 IgnoresReport P = (s : State) (bytes : List ℕ) → P s → P (record s { report = bytes })
 
 module _ {P : State → Type 0} (i : Ignores P) where
-
   settled : {A : Type 0} (s : State) (r : Result A RunFault) (f : A → State) → P s → ((x : A) → P (f x)) →
       P (state_after_result s r f)
   settled s (Ok x) f p h = h x

@@ -53,9 +53,13 @@ abbrev pub step_rows : Input → Question → List ℕ → List ℕ
 step_rows t x [] = []
 step_rows t x (q ∷ qs) = step_row t x q ++ step_rows t x qs
 
--- that a question did not change since the earliest kept state
+-- what is said where a question did not change
+unfoldable pub no_change_head : List ℕ
+no_change_head = codes "NO CHANGE SINCE STATE "
+
+-- that it did not since the earliest kept state
 abbrev pub no_change_text : ℕ → List ℕ
-no_change_text earliest = codes "NO CHANGE SINCE STATE " ++ decimal earliest ++ 10 ∷ []
+no_change_text earliest = no_change_head ++ decimal earliest ++ 10 ∷ []
 
 -- the table of some steps, or that there is none
 abbrev pub table_or_none : Input → Question → ℕ → List ℕ → List ℕ

@@ -14,7 +14,7 @@ ghost use Rattle.ss_trace.specs.View.{IsAt, IsBetween, HasLookedBack};
 use crate::question::Question;
 use crate::reading::Reading;
 use crate::sought::{is_ready_now, step_once};
-use crate::table::{present_line, push_change_line, push_head_row, push_no_change, push_step_row};
+use crate::table::{present_line, push_change_line, push_no_change, push_step_row, push_with_head};
 use ss_debug::{Debugger, Question as Shown};
 use ss_links::SetBoard;
 use std::alloc::AllocError;
@@ -113,8 +113,7 @@ fn push_table<S: SetBoard>(
     if count == 0 {
         return push_no_change(bytes, debugger);
     }
-    push_head_row(bytes, question)?;
-    bytes.extend_from_slice(&rows)
+    push_with_head(bytes, question, &rows)
 }
 
 /// Goes forward again to a position over steps that were made.

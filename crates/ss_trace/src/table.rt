@@ -6,7 +6,7 @@ ghost use Rattle.ss_debug.specs.Move.{line_at};
 ghost use Rattle.ss_debug.specs.Answer.{section_at};
 ghost use Rattle.ss_trace.specs.Question.{asked};
 ghost use Rattle.ss_trace.specs.Value.{value_in};
-ghost use Rattle.ss_trace.specs.History.{to_right, to_left, row, head_row, no_change_text, change_line};
+ghost use Rattle.ss_trace.specs.History.{to_right, to_left, row, head_row, no_change_head, no_change_text, change_line};
 
 use crate::answer::push_asked;
 use crate::numbers::push_number;
@@ -91,12 +91,25 @@ fn push_row(
 }
 
 /// Appends the head of the table.
-pub fn push_head_row(bytes: &mut Vec<u8>, question: &Question) -> Result<(), AllocError>
+fn push_head_row(bytes: &mut Vec<u8>, question: &Question) -> Result<(), AllocError>
     ensures { OnOk result (bytes.new.items ≡ bytes.old.items ++ head_row question.now) }
 {
     let mut name = Vec::new(*bytes.allocator());
     push_asked(question, &mut name)?;
     push_row(bytes, b"STATE", b"CLOCK", b"IN", b"LINE", &name)
+}
+
+/// Appends the head of the table, and its rows.
+pub fn push_with_head(
+    bytes: &mut Vec<u8>,
+    question: &Question,
+    rows: &[u8],
+) -> Result<(), AllocError>
+    ensures { OnOk result (bytes.new.items
+        ≡ bytes.old.items ++ (head_row question.now ++ rows.now)) }
+{
+    push_head_row(bytes, question)?;
+    bytes.extend_from_slice(rows)
 }
 
 /// The line of the place where the debugger stands.
@@ -158,14 +171,19 @@ fn earliest<S: SetBoard>(debugger: &Debugger<S>) -> u64
 }
 
 /// Appends the earliest kept position.
-fn push_earliest<S: SetBoard>(
-    bytes: &mut Vec<u8>,
-    debugger: &Debugger<S>,
-) -> Result<(), AllocError>
+fn push_earliest<S: SetBoard>(bytes: &mut Vec<u8>, debugger: &Debugger<S>) -> Result<(), AllocError>
     ensures { OnOk result (bytes.new.items ≡ bytes.old.items
         ++ decimal debugger.now.machine.forgotten) }
 {
     push_number(bytes, earliest(debugger))
+}
+
+/// Appends what is said where a question did not change.
+#[tactic(auto, unfolding(crate::specs::History::no_change_head))]
+fn push_no_change_head(bytes: &mut Vec<u8>) -> Result<(), AllocError>
+    ensures { OnOk result (bytes.new.items ≡ bytes.old.items ++ no_change_head) }
+{
+    bytes.extend_from_slice(b"NO CHANGE SINCE STATE ")
 }
 
 /// Appends that a question did not change since the earliest kept state.
@@ -176,7 +194,7 @@ pub fn push_no_change<S: SetBoard>(
     ensures { OnOk result (bytes.new.items ≡ bytes.old.items
         ++ no_change_text debugger.now.machine.forgotten) }
 {
-    bytes.extend_from_slice(b"NO CHANGE SINCE STATE ")?;
+    push_no_change_head(bytes)?;
     push_earliest(bytes, debugger)?;
     bytes.extend_from_slice(b"\n")
 }

@@ -1,0 +1,19 @@
+use Rattle.std.proofs.Common.{◌≡◌, ◌≢◌, ◌++◌, ℕ, List, take, length, sym, ap, ◌∙◌}
+use Rattle.ss_machine.specs.Moment.{position}
+use Rattle.ss_trace.specs.History.{history, step_rows, head_row}
+use Rattle.ss_trace.proofs.Refused.{on_ok}
+use Rattle.ss_trace.proofs.Histories.{told_some}
+use Rattle.ss_trace.proofs.history.push_table.Goals as goal
+
+pub returns-clause-said : goal.returns-clause-said
+returns-clause-said g c =
+    let m = c.args.debugger.now.machine in
+    let x = c.args.question.now in
+    let steps : List ℕ = take c.args.most (history m.input x m.forgotten (position m)) in
+    let rows : c.deref.result.now ≡ step_rows m.input x steps =
+    c.deref.ensures.value ∙ (rw c.new-rows.ensures.items at c.in_ok-count.ensures.rows) in
+    let some : length steps ≢ 0 = λ z. c.if-count-eq0.false (c.in_ok-count.ensures.count ∙ z) in
+    on_ok c.push_with_head.result c.push_with_head.ensures (λ e.
+    e ∙ ap (λ (ys : List ℕ). c.args.bytes.now.items ++ ys)
+    (ap (λ (rs : List ℕ). head_row x ++ rs) rows
+    ∙ sym (told_some m.input x c.args.most m.forgotten (position m) some)))
