@@ -1,4 +1,11 @@
+pub mod Changes
+pub mod Histories
+pub mod HistoryLaws
 pub mod Stops
 pub mod Parts
 pub mod Ends
+pub mod Looking
 pub mod Refused
+pub mod SameLists
+pub mod Untouched
+pub mod Skips

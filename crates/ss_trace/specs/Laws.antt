@@ -1,9 +1,10 @@
--- Laws on OVER and BACK OVER, which are no single movements: they stay within their bounds.
-use Rattle.std.specs.Prelude.{ℕ, ◌+◌, ◌≡◌, ◌<◌, ◌≤◌, true, List}
+-- Laws on OVER and BACK OVER, which are no single movements: they stay within their bounds; and on histories.
+use Rattle.std.specs.Prelude.{ℕ, ◌+◌, ◌≡◌, ◌<◌, ◌≤◌, ◌⊎◌, Bool, true, List, [], ◌∷◌}
 use Rattle.ss_machine.specs.declared.limits.TheConstants.{LAST_POSITION}
 use Rattle.ss_machine.specs.Run.{Input}
 use Rattle.ss_debug.specs.Move.{is_ready_at}
 use Rattle.ss_trace.specs.Movements.{over, back_over}
+use Rattle.ss_trace.specs.History.{positions_where}
 
 -- q is not before p, nor more than n steps on, nor past the last position, nor past a state that isn't ready
 pub record IsAheadWithin (t : Input) (p n q : ℕ) : Type 0 where
@@ -35,3 +36,28 @@ abbrev pub BackOverEnds : Type 0
 BackOverEnds =
     (t : Input) (earliest k p n : ℕ) → earliest ≤ p →
     IsBackWithin earliest p n (back_over t earliest k p n).position
+
+-- ---- histories
+
+-- q is among some positions
+abbrev pub IsAmong : ℕ → List ℕ → Type 0
+IsAmong q [] = ⊥
+IsAmong q (r ∷ rs) = (q ≡ r) ⊎ IsAmong q rs
+
+-- a history has each kept step before p at which its test holds
+abbrev pub HistoriesAreWhole : Type 0
+HistoriesAreWhole =
+    (test : ℕ → Bool) (earliest p q : ℕ) → earliest ≤ q → q < p → test q ≡ true →
+    IsAmong q (positions_where test earliest p)
+
+-- and no others
+abbrev pub HistoriesAreTrue : Type 0
+HistoriesAreTrue =
+    (test : ℕ → Bool) (earliest p q : ℕ) → IsAmong q (positions_where test earliest p) →
+    (earliest ≤ q) × (q < p) × (test q ≡ true)
+
+-- what stands behind a step in it is the history at that step: so it goes down, and its first is the newest
+abbrev pub HistoriesGoDown : Type 0
+HistoriesGoDown =
+    (test : ℕ → Bool) (earliest p q : ℕ) (qs : List ℕ) → positions_where test earliest p ≡ q ∷ qs →
+    qs ≡ positions_where test earliest q

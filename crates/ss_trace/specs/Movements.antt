@@ -9,6 +9,9 @@ use Rattle.ss_debug.specs.Move.{MovementShape, forward, back, search_back}
 use Rattle.ss_debug.specs.Turn.{DebuggerState}
 use Rattle.ss_trace.specs.declared.movement.Movement.{Movement}
 use Rattle.ss_trace.specs.declared.movement.Movement.TheVariants.{Over, Out, BackOver, BackOut, BackTo, Go, GoEnd}
+use Rattle.ss_trace.specs.declared.movement.Movement.TheVariants.{RunChange, BackChange}
+use Rattle.ss_trace.specs.declared.question.Question.{Question}
+use Rattle.ss_trace.specs.Question.{changes_at}
 
 -- ---- what is looked for
 
@@ -27,6 +30,10 @@ is_outside t frames q = nat_lt (frames_at t q) frames
 -- BACK TO: the clock is before a time
 abbrev pub is_before : Input → ℕ → ℕ → Bool
 is_before t time q = int_lt (run t q).clock (pos time)
+
+-- RUN CHANGE: the step that led to state q changed x
+abbrev pub has_changed : Input → Question → ℕ → Bool
+has_changed t x q = nat_lt 0 q && changes_at t x (q - 1)
 
 -- ---- forward
 
@@ -84,10 +91,12 @@ back_over t earliest (suc k) p n =
 -- ---- all of them
 
 -- what a movement does: what one of the debugger's does; it goes forward to where a test holds, for which it has a word,
--- or a break line; so many times over; so many times back over
+-- or a break line; back to where a test holds, for which it has a word, where answers are made on the way; so many
+-- times over; so many times back over
 pub data Shape : Type 0 where
   standing : MovementShape → Shape
   ahead : (ℕ → Bool) → List ℕ → Shape
+  seek_back : (ℕ → Bool) → List ℕ → Shape
   over_by : ℕ → Shape
   back_over_by : ℕ → Shape
 
@@ -104,3 +113,5 @@ shape_of t p BackOut = standing (search_back (is_outside t (frames_at t p)) (cod
 shape_of t p (BackTo time) = standing (search_back (is_before t time) (codes "TIME"))
 shape_of t p (Go q) = standing (go_shape p q)
 shape_of t p GoEnd = standing (forward step_condition (LAST_POSITION + 1))
+shape_of t p (RunChange x) = ahead (has_changed t x) (codes "CHANGE")
+shape_of t p (BackChange x) = seek_back (changes_at t x) (codes "CHANGE")

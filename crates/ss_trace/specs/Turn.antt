@@ -2,13 +2,14 @@
 use Rattle.std.specs.Prelude.{ℕ, Bool, List, codes, if◌then◌else◌, nat_eq, ◌≡◌, ◌≤◌}
 use Rattle.ss_machine.specs.Run.{Input}
 use Rattle.ss_debug.specs.declared.limits.TheConstants.{GREATEST_BOUND}
-use Rattle.ss_debug.specs.Move.{is_ready_at, is_on_break}
-use Rattle.ss_debug.specs.Answer.{movement_text, earliest_word}
+use Rattle.ss_debug.specs.Move.{is_ready_at, is_on_break, search_back_end}
+use Rattle.ss_debug.specs.Answer.{movement_text, earliest_word, search_back_word}
 use Rattle.ss_debug.specs.AfterRefusal.{IsPartOfMovement, IsStateAfterRefusedMovement}
 use Rattle.ss_debug.specs.Turn as debugger
 use Rattle.ss_debug.specs.Turn.{DebuggerState, debugger_state_at}
 use Rattle.ss_trace.specs.declared.movement.Movement.{Movement}
-use Rattle.ss_trace.specs.Movements.{Shape, standing, ahead, over_by, back_over_by, shape_of, Counted, over, back_over}
+use Rattle.ss_trace.specs.Movements.{Shape, standing, ahead, seek_back, over_by, back_over_by, shape_of, Counted}
+use Rattle.ss_trace.specs.Movements.{over, back_over}
 use Rattle.ss_trace.specs.Movements.{ahead_end, is_met}
 
 -- the word of a movement forward from p to q: HALTED where the status isn't ready, its own where it met what it looks
@@ -47,6 +48,7 @@ back_over_from t d k = back_over t d.earliest k d.position GREATEST_BOUND
 abbrev pub end_of : Input → DebuggerState → Shape → ℕ
 end_of t d (standing shape) = debugger.end_of t d shape
 end_of t d (ahead test word) = ahead_end t d.breaks test d.position GREATEST_BOUND
+end_of t d (seek_back test word) = search_back_end test d.earliest d.position GREATEST_BOUND
 end_of t d (over_by k) = (over_from t d k).position
 end_of t d (back_over_by k) = (back_over_from t d k).position
 
@@ -54,6 +56,7 @@ end_of t d (back_over_by k) = (back_over_from t d k).position
 abbrev pub word_of : Input → DebuggerState → Shape → ℕ → List ℕ
 word_of t d (standing shape) q = debugger.word_of t d shape q
 word_of t d (ahead test word) q = ahead_word word t d.breaks test d.position q
+word_of t d (seek_back test word) q = search_back_word test word d.earliest d.position q
 word_of t d (over_by k) q = over_word t d.breaks d.position (over_from t d k)
 word_of t d (back_over_by k) q = back_over_word d.earliest (back_over_from t d k)
 
@@ -65,10 +68,17 @@ state_after_shape t d shape = debugger_state_at d (end_of t d shape)
 abbrev pub shape_answer : Input → DebuggerState → Shape → List ℕ
 shape_answer t d shape = let q = end_of t d shape in movement_text (word_of t d shape q) t q
 
--- where it was refused memory: a movement forward was made in part, one back as a whole
+-- a movement back to q of which some steps were made: all but the position is as before
+abbrev pub IsPartOfMovementBack : DebuggerState → ℕ → DebuggerState → Type 0
+IsPartOfMovementBack old q new =
+    (new ≡ debugger_state_at old new.position) × (q ≤ new.position) × (new.position ≤ old.position)
+
+-- where it was refused memory: a movement forward was made in part, as one back that makes answers; others back as a
+-- whole
 abbrev pub IsAfterRefusedShape : Input → DebuggerState → Shape → DebuggerState → Type 0
 IsAfterRefusedShape t old (standing shape) new = IsStateAfterRefusedMovement t old shape new
 IsAfterRefusedShape t old (ahead test word) new = IsPartOfMovement old (end_of t old (ahead test word)) new
+IsAfterRefusedShape t old (seek_back test word) new = IsPartOfMovementBack old (end_of t old (seek_back test word)) new
 IsAfterRefusedShape t old (over_by k) new = IsPartOfMovement old (end_of t old (over_by k)) new
 IsAfterRefusedShape t old (back_over_by k) new = new ≡ debugger_state_at old (end_of t old (back_over_by k))
 

@@ -1,7 +1,8 @@
 -- Private: what the types of the code stand for, and where a debugger stands.
-use Rattle.std.specs.Prelude.{ℕ, ◌≡◌, ◌≤◌, Bool}
+use Rattle.std.specs.Prelude.{ℕ, ◌≡◌, ◌≤◌, ◌<◌, Bool, true}
 use Rattle.ss_machine.specs.Moment.{position}
 use Rattle.ss_machine.specs.Run.{Input}
+use Rattle.ss_debug.specs.Move.{is_ready_at}
 use Rattle.ss_debug.specs.View.{DebuggerView}
 use Rattle.ss_trace.specs.declared.sought.Sought.{Sought}
 use Rattle.ss_trace.specs.declared.sought.Sought.TheVariants.{Level, Outside, Before}
@@ -36,3 +37,16 @@ pub record IsBetween (old : DebuggerView) (p q : ℕ) (new : DebuggerView) : Typ
   pub no_earlier : p ≤ position new.machine
   -- not behind the second
   pub no_later : position new.machine ≤ q
+
+-- it went back, perhaps, over steps that were made, and all else is as it was
+pub record HasLookedBack (old new : DebuggerView) : Type 0 where
+  -- its run is the same one
+  pub input : new.machine.input ≡ old.machine.input
+  -- as many steps are forgotten
+  pub forgotten : new.machine.forgotten ≡ old.machine.forgotten
+  -- so are the break lines
+  pub breaks : new.breaks ≡ old.breaks
+  -- it is not behind the start
+  pub no_later : position new.machine ≤ position old.machine
+  -- the states on the way are ready
+  pub ready : (j : ℕ) → position new.machine ≤ j → j < position old.machine → is_ready_at old.machine.input j ≡ true

@@ -1,5 +1,6 @@
 //! Laws on the definitions. Each function does nothing, and its contract says the law.
 ghost use Rattle.ss_trace.specs.Laws.{OverEnds, BackOverEnds};
+ghost use Rattle.ss_trace.specs.Laws.{HistoriesAreWhole, HistoriesAreTrue, HistoriesGoDown};
 
 /// OVER ends within its bound, never past a state that isn't ready nor the last position.
 pub fn over_ends_within_its_bound()
@@ -9,4 +10,19 @@ pub fn over_ends_within_its_bound()
 /// BACK OVER ends within its bound, never before the earliest kept position.
 pub fn back_over_ends_within_its_bound()
     ensures { BackOverEnds }
+{}
+
+/// A history has each kept step before at which its question changes.
+pub fn histories_are_whole()
+    ensures { HistoriesAreWhole }
+{}
+
+/// A history has no other steps.
+pub fn histories_are_true()
+    ensures { HistoriesAreTrue }
+{}
+
+/// Behind a step of a history stands the history at that step: the newest is the first.
+pub fn histories_go_down()
+    ensures { HistoriesGoDown }
 {}

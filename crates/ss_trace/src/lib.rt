@@ -2,14 +2,33 @@
 #![tactic(auto)]
 
 mod ahead;
+mod answer;
+mod attribute;
 mod back;
+mod change_search;
+mod count;
 mod counted;
+mod history;
 mod laws;
 mod movement;
+mod numbers;
+mod question;
+mod reading;
+mod rows;
 mod search;
 mod sought;
+mod table;
 mod text;
+mod touches;
+mod value;
 
-pub use laws::{back_over_ends_within_its_bound, over_ends_within_its_bound};
+pub use answer::{push_answer, push_asked};
+pub use history::{push_history, push_why};
+pub use laws::{
+    back_over_ends_within_its_bound, histories_are_true, histories_are_whole, histories_go_down,
+    over_ends_within_its_bound,
+};
 pub use movement::Movement;
+pub use question::Question;
 pub use search::make_movement;
+pub use value::push_value;

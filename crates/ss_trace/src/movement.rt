@@ -1,3 +1,5 @@
+use crate::question::Question;
+
 /// A movement beside those of the debugger (docs/DEBUGGER.md).
 ///
 /// Those forward end at a state that isn't ready, and, but for `Go` and `GoEnd`, at a break line;
@@ -20,4 +22,9 @@ pub enum Movement {
     Go(u64),
     /// GO END: forward to the first state that isn't ready.
     GoEnd,
+    /// RUN CHANGE: forward to the state behind a step at which this question changes.
+    RunChange(Question),
+    /// BACK CHANGE: back to a state at whose step this question changes: the statement that changes
+    /// it is the next to run.
+    BackChange(Question),
 }

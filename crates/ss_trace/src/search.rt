@@ -1,19 +1,23 @@
 //! What each movement does.
-ghost use Rattle.std.specs.Prelude.{◌≡◌, ◌++◌, OnOk, OnErr, ℕ, List};
+ghost use Rattle.std.specs.Prelude.{◌≡◌, ◌++◌, OnOk, OnErr, ℕ, List, codes};
 ghost use Rattle.ss_machine.specs.Run.{Input};
 ghost use Rattle.ss_debug.specs.Move.{search_back, shape_of as standing_shape};
 ghost use Rattle.ss_debug.specs.Turn.{debugger_state_after_movement, movement_answer};
 ghost use Rattle.ss_debug.specs.AfterRefusal.{IsStateAfterRefusedMovement};
 ghost use Rattle.ss_debug.specs.View.{debugger_state_of};
-ghost use Rattle.ss_trace.specs.Movements.{standing, ahead, over_by, back_over_by, go_shape};
+ghost use Rattle.ss_trace.specs.Question.{changes_at};
+ghost use Rattle.ss_trace.specs.Movements.{standing, ahead, seek_back, over_by, back_over_by, go_shape};
+ghost use Rattle.ss_trace.specs.Movements.{has_changed};
 ghost use Rattle.ss_trace.specs.Turn.{state_after, answer, IsStateAfterRefusal};
 ghost use Rattle.ss_trace.specs.Turn.{state_after_shape, shape_answer, IsAfterRefusedShape};
 ghost use Rattle.ss_trace.specs.View.{sought_test};
 
 use crate::ahead::ahead;
 use crate::back::back_to;
+use crate::change_search::{ahead_to_change, back_to_change};
 use crate::counted::{back_over, frames, over};
 use crate::movement::Movement;
+use crate::question::Question;
 use crate::sought::{Sought, is_found};
 use crate::text::{backward_word, forward_word};
 use ss_debug::{Command, Debugger, GREATEST_BOUND, Movement as Standing, obey};
@@ -133,6 +137,51 @@ fn go_back_over<S: SetBoard>(
     debugger.push_movement(backward_word(debugger, b"DONE", left == 0), bytes)
 }
 
+/// RUN CHANGE, and its answer.
+fn go_to_change<S: SetBoard>(
+    debugger: &mut Debugger<S>,
+    question: &Question,
+    bytes: &mut Vec<u8>,
+) -> Result<(), AllocError>
+    ensures input { debugger.new.machine.input ≡ debugger.old.machine.input }
+    ensures place { OnOk result (debugger_state_of debugger.new
+        ≡ state_after_shape debugger.old.machine.input (debugger_state_of debugger.old)
+        (ahead (has_changed debugger.old.machine.input question.now) (codes "CHANGE"))) }
+    ensures said { OnOk result (bytes.new.items ≡ bytes.old.items
+        ++ shape_answer debugger.old.machine.input (debugger_state_of debugger.old)
+        (ahead (has_changed debugger.old.machine.input question.now) (codes "CHANGE"))) }
+    ensures memory { OnErr result ((bytes.new.items ≡ bytes.old.items)
+        × IsAfterRefusedShape debugger.old.machine.input (debugger_state_of debugger.old)
+        (ahead (has_changed debugger.old.machine.input question.now) (codes "CHANGE"))
+        (debugger_state_of debugger.new)) }
+{
+    let from = debugger.machine().position();
+    let met = ahead_to_change(*bytes.allocator(), debugger, question, GREATEST_BOUND)?;
+    debugger.push_movement(forward_word(debugger, b"CHANGE", from, met), bytes)
+}
+
+/// BACK CHANGE, and its answer.
+fn go_back_to_change<S: SetBoard>(
+    debugger: &mut Debugger<S>,
+    question: &Question,
+    bytes: &mut Vec<u8>,
+) -> Result<(), AllocError>
+    ensures input { debugger.new.machine.input ≡ debugger.old.machine.input }
+    ensures place { OnOk result (debugger_state_of debugger.new
+        ≡ state_after_shape debugger.old.machine.input (debugger_state_of debugger.old)
+        (seek_back (changes_at debugger.old.machine.input question.now) (codes "CHANGE"))) }
+    ensures said { OnOk result (bytes.new.items ≡ bytes.old.items
+        ++ shape_answer debugger.old.machine.input (debugger_state_of debugger.old)
+        (seek_back (changes_at debugger.old.machine.input question.now) (codes "CHANGE"))) }
+    ensures memory { OnErr result ((bytes.new.items ≡ bytes.old.items)
+        × IsAfterRefusedShape debugger.old.machine.input (debugger_state_of debugger.old)
+        (seek_back (changes_at debugger.old.machine.input question.now) (codes "CHANGE"))
+        (debugger_state_of debugger.new)) }
+{
+    let met = back_to_change(*bytes.allocator(), debugger, question, GREATEST_BOUND)?;
+    debugger.push_movement(backward_word(debugger, b"CHANGE", met), bytes)
+}
+
 /// How GO is made from position `from`: so many steps back or forward.
 fn go_steps(from: u64, to: u64) -> Standing
     ensures { (t : Input) → (breaks : List ℕ) → standing_shape t breaks result ≡ go_shape from to }
@@ -148,7 +197,7 @@ fn go_steps(from: u64, to: u64) -> Standing
 ///
 /// `AllocError` where a growth was refused: `bytes`, the break lines and the earliest kept position
 /// are as before; a movement forward was made in part, and the machine stands where the steps that
-/// were made led; one back was made as a whole.
+/// were made led; one back was made as a whole, but BACK CHANGE in part too.
 #[tactic(auto, unfolding(crate::specs::Movements::shape_of))]
 pub fn make_movement<S: SetBoard>(
     debugger: &mut Debugger<S>,
@@ -176,5 +225,7 @@ pub fn make_movement<S: SetBoard>(
             make_standing(debugger, steps, bytes)
         }
         Movement::GoEnd => make_standing(debugger, Standing::Step(LAST_POSITION + 1), bytes),
+        Movement::RunChange(question) => go_to_change(debugger, &question, bytes),
+        Movement::BackChange(question) => go_back_to_change(debugger, &question, bytes),
     }
 }

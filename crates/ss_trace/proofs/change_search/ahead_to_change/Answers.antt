@@ -1,0 +1,147 @@
+use Rattle.std.proofs.Common.{◌≡◌, ◌+◌, ◌-◌, ℕ, min, true, false, sym, ap, ◌∙◌, arith, rules}
+use borrow.Author.Count.{below_more}
+use Rattle.ss_machine.specs.declared.limits.TheConstants.{LAST_POSITION}
+use Rattle.ss_machine.specs.Moment.{position}
+use Rattle.ss_debug.specs.Move.{StopCondition, stops}
+use Rattle.ss_debug.proofs.Moves.{least_is, least_at_least}
+use Rattle.ss_trace.specs.Question.{answer_at}
+use Rattle.ss_trace.specs.Movements.{ahead_condition, has_changed}
+use Rattle.ss_trace.specs.Touches.{touches_at, part_of}
+use Rattle.ss_trace.proofs.Refused.{on_err}
+use Rattle.ss_trace.proofs.Changes.{stops_here, met_behind, changes_between}
+use Rattle.ss_trace.proofs.Skips.{untouched}
+use Rattle.ss_trace.proofs.change_search.ahead_to_change.Goals as goal
+
+pub follow-requires : goal.follow-requires
+follow-requires g c = λ e.
+    let m = c.args.debugger.now.machine in
+    let l = c.loop-k.debugger in
+    let held = c.loop-k.invariant in
+    let x = c.args.question.now in
+    let gone = c.in_ok-step_once.ensures.ok in
+    let quiet : touches_at m.input (part_of x) (position l.machine) ≡ false =
+    sym (rw (held.input, held.part) at c.may_change-touched.ensures) ∙ e in
+    rw (gone.input, held.input)
+    (held.reading ∙ sym (untouched m.input x (position l.machine) (position c.step_once.new.debugger.machine)
+    gone.position quiet))
+
+pub returns-then-is_at_stop-clause-ok : goal.returns-then-is_at_stop-clause-ok
+returns-then-is_at_stop-clause-ok g c =
+    let d = c.args.debugger.now in
+    let m = d.machine in
+    let l = c.loop-k.debugger in
+    let held = c.loop-k.invariant in
+    let from : c.position-from.result ≡ position m = rw c.machine-2.ensures at c.position-from.ensures in
+    let most : ℕ = min c.args.bound (LAST_POSITION - position m) in
+    let condition : StopCondition = ahead_condition m.input d.breaks (has_changed m.input c.args.question.now) in
+    let here =
+    stops_here m.input l.machine.input d.breaks l.breaks c.args.question.now (position m) (position l.machine)
+    c.loop-k._k c.position-from.result held.input held.breaks held.stepped from in
+    let found : stops m.input condition (position m) c.loop-k._k ≡ true = rw here (sym c.if-is_at_stop.ensures) in
+    let e = least_is (stops m.input condition (position m)) most c.loop-k._k (omega (arith, from)) held.went_on (λ _. found) in
+    record {
+      input = held.input;
+      forgotten = held.forgotten;
+      breaks = held.breaks;
+      position = rw e held.stepped;
+    }
+
+pub returns-in_err-step_once-clause-memory : goal.returns-in_err-step_once-clause-memory
+returns-in_err-step_once-clause-memory g c =
+    let d = c.args.debugger.now in
+    let m = d.machine in
+    let held = c.loop-k.invariant in
+    let from : c.position-from.result ≡ position m = rw c.machine-2.ensures at c.position-from.ensures in
+    let most : ℕ = min c.args.bound (LAST_POSITION - position m) in
+    let condition : StopCondition = ahead_condition m.input d.breaks (has_changed m.input c.args.question.now) in
+    let low =
+    least_at_least (stops m.input condition (position m)) most c.loop-k._k (omega (arith, from)) held.went_on in
+    let same : c.step_once.new.debugger ≡ c.loop-k.debugger = search rules in
+    rw (same)
+    (on_err c.from_residual-in_err-step_once.result (record {
+      input = held.input;
+      forgotten = held.forgotten;
+      breaks = held.breaks;
+      no_earlier = omega (arith, held.stepped);
+      no_later = omega (arith, held.stepped, low);
+    }))
+
+pub returns-in_err-follow-clause-memory : goal.returns-in_err-follow-clause-memory
+returns-in_err-follow-clause-memory g c =
+    let d = c.args.debugger.now in
+    let m = d.machine in
+    let l = c.loop-k.debugger in
+    let held = c.loop-k.invariant in
+    let gone = c.in_ok-step_once.ensures.ok in
+    let from : c.position-from.result ≡ position m = rw c.machine-2.ensures at c.position-from.ensures in
+    let most : ℕ = min c.args.bound (LAST_POSITION - position m) in
+    let condition : StopCondition = ahead_condition m.input d.breaks (has_changed m.input c.args.question.now) in
+    let here =
+    stops_here m.input l.machine.input d.breaks l.breaks c.args.question.now (position m) (position l.machine)
+    c.loop-k._k c.position-from.result held.input held.breaks held.stepped from in
+    let at_k : stops m.input condition (position m) c.loop-k._k ≡ false = rw here (sym c.if-is_at_stop.ensures) in
+    let low =
+    least_at_least (stops m.input condition (position m)) most (c.loop-k._k + 1) (omega (arith, from)) (λ j h.
+    below_more (λ i. stops m.input condition (position m) i ≡ false) c.loop-k._k
+    (λ i g. held.went_on i g) at_k j (omega arith)) in
+    on_err c.from_residual-in_err-follow.result (record {
+      input = rw gone.input held.input;
+      forgotten = rw gone.forgotten held.forgotten;
+      breaks = rw gone.breaks held.breaks;
+      no_earlier = omega (arith, held.stepped, gone.position);
+      no_later = omega (arith, held.stepped, gone.position, low);
+    })
+
+pub loop-k-preserved : goal.loop-k-preserved
+loop-k-preserved g c =
+    let d = c.args.debugger.now in
+    let m = d.machine in
+    let l = c.loop-k.debugger in
+    let held = c.loop-k.invariant in
+    let x = c.args.question.now in
+    let from : c.position-from.result ≡ position m = rw c.machine-2.ensures at c.position-from.ensures in
+    let condition : StopCondition = ahead_condition m.input d.breaks (has_changed m.input x) in
+    let gone = c.in_ok-step_once.ensures.ok in
+    let here =
+    stops_here m.input l.machine.input d.breaks l.breaks x (position m) (position l.machine)
+    c.loop-k._k c.position-from.result held.input held.breaks held.stepped from in
+    let at_k : stops m.input condition (position m) c.loop-k._k ≡ false = rw here (sym c.if-is_at_stop.ensures) in
+    let read : c.follow.new.self.answer.items ≡ answer_at m.input x (position c.step_once.new.debugger.machine) =
+    rw (gone.input, held.input) at c.in_ok-follow.ensures.ok in
+    let behind : c.follow.new.self.answer.items ≡ answer_at m.input x (position l.machine + 1) =
+    read ∙ ap (λ (q : ℕ). answer_at m.input x q) gone.position in
+    record {
+      input = rw gone.input held.input;
+      forgotten = rw gone.forgotten held.forgotten;
+      breaks = rw gone.breaks held.breaks;
+      stepped = omega (arith, held.stepped, gone.position);
+      part = c.follow.ensures.part ∙ held.part;
+      reading = read;
+      met =
+          c.is_some-met.ensures ∙ c.in_ok-follow.ensures.whether
+          ∙ sym (changes_between m.input x (position l.machine) c.loop-k.reading.answer.items
+          c.follow.new.self.answer.items held.reading behind)
+          ∙ sym (met_behind m.input x (position m) (position l.machine) (position c.step_once.new.debugger.machine)
+          (omega (arith, held.stepped)) gone.position);
+      went_on = λ j h.
+          below_more (λ i. stops m.input condition (position m) i ≡ false) c.loop-k._k
+          (λ i g. held.went_on i g) at_k j (omega arith);
+    }
+
+pub returns-clause-ok : goal.returns-clause-ok
+returns-clause-ok g c =
+    let d = c.args.debugger.now in
+    let m = d.machine in
+    let held = c.loop-k.invariant in
+    let from : c.position-from.result ≡ position m = rw c.machine-2.ensures at c.position-from.ensures in
+    let most : ℕ = min c.args.bound (LAST_POSITION - position m) in
+    let condition : StopCondition = ahead_condition m.input d.breaks (has_changed m.input c.args.question.now) in
+    let e =
+    least_is (stops m.input condition (position m)) most c.loop-k._k (omega (arith, from)) held.went_on
+    (λ h. absurd (omega (arith, from, h))) in
+    record {
+      input = held.input;
+      forgotten = held.forgotten;
+      breaks = held.breaks;
+      position = rw e held.stepped;
+    }

@@ -1,0 +1,148 @@
+use Rattle.std.proofs.Common.{◌≡◌, ◌+◌, ◌-◌, ℕ, min, Bool, true, false, length, sym, ap, ◌∙◌, arith}
+use Rattle.std.specs.Prelude.{not}
+use borrow.Author.Count.{below_more}
+use Rattle.ss_machine.specs.Moment.{position}
+use Rattle.ss_debug.specs.Move.{stops_back}
+use Rattle.ss_debug.proofs.Moves.{search_back_is, least_at_least}
+use Rattle.ss_trace.specs.Question.{answer_at, changes_at}
+use Rattle.ss_trace.specs.Touches.{touches_at, part_of}
+use Rattle.ss_trace.proofs.Refused.{on_err}
+use Rattle.ss_trace.proofs.Changes.{same_turned, stops_back_where, unmet_back, changes_between}
+use Rattle.ss_trace.proofs.Skips.{untouched}
+use Rattle.ss_trace.proofs.change_search.back_to_change.Goals as goal
+
+pub follow-requires : goal.follow-requires
+follow-requires g c = λ e.
+    let m = c.args.debugger.now.machine in
+    let l = c.loop-k.debugger in
+    let held = c.loop-k.invariant in
+    let x = c.args.question.now in
+    let u = c.step_back.new.self.machine in
+    let gone = c.if-not-step_back.ensures.back in
+    let quiet : touches_at m.input (part_of x) (position u) ≡ false =
+    sym (rw (gone.input, held.input, held.part) at c.may_change-touched.ensures) ∙ e in
+    rw (gone.input, held.input)
+    (held.reading ∙ untouched m.input x (position u) (position l.machine) gone.position quiet)
+
+pub returns-then-not-step_back-clause-ok : goal.returns-then-not-step_back-clause-ok
+returns-then-not-step_back-clause-ok g c =
+    let m = c.args.debugger.now.machine in
+    let l = c.loop-k.debugger.machine in
+    let held = c.loop-k.invariant in
+    let test : ℕ → Bool = changes_at m.input c.args.question.now in
+    let none : length l.steps ≡ 0 = ap length c.if-not-step_back.ensures.back.0 in
+    let ends =
+    search_back_is test m.forgotten (position m) c.args.bound c.loop-k._k (position l) held.stepped (omega arith)
+    (omega (arith, held.forgotten)) (λ j h. held.went_on j (omega arith))
+    (λ h g. absurd (omega (arith, none, held.forgotten))) in
+    rw (c.if-not-step_back.ensures.back.1, c.if-not-step_back.ensures.breaks)
+    (record { input = held.input; forgotten = held.forgotten; breaks = held.breaks; position = sym ends })
+
+pub returns-then-not-step_back-clause-met : goal.returns-then-not-step_back-clause-met
+returns-then-not-step_back-clause-met g c =
+    let m = c.args.debugger.now.machine in
+    let l = c.loop-k.debugger.machine in
+    let held = c.loop-k.invariant in
+    rw c.if-not-step_back.ensures.back.1
+    (unmet_back (changes_at m.input c.args.question.now) (position m) (position l) c.loop-k._k held.stepped held.went_on)
+
+pub returns-in_err-follow-clause-memory : goal.returns-in_err-follow-clause-memory
+returns-in_err-follow-clause-memory g c =
+    let m = c.args.debugger.now.machine in
+    let l = c.loop-k.debugger.machine in
+    let u = c.step_back.new.self.machine in
+    let held = c.loop-k.invariant in
+    let gone = c.if-not-step_back.ensures.back in
+    let test : ℕ → Bool = changes_at m.input c.args.question.now in
+    let back : position l ≡ position u + 1 = gone.position in
+    let low =
+    least_at_least (stops_back test (position m)) (min c.args.bound (position m - m.forgotten)) (c.loop-k._k + 1)
+    (omega (arith, held.stepped, back, gone.forgotten, held.forgotten)) held.went_on in
+    on_err c.from_residual-in_err-follow.result (record {
+      input = rw gone.input held.input;
+      forgotten = rw gone.forgotten held.forgotten;
+      breaks = rw c.if-not-step_back.ensures.breaks held.breaks;
+      no_earlier = omega (arith, held.stepped, back, low);
+      no_later = omega (arith, held.stepped, back);
+    })
+
+pub returns-then-is_some-clause-ok : goal.returns-then-is_some-clause-ok
+returns-then-is_some-clause-ok g c =
+    let m = c.args.debugger.now.machine in
+    let l = c.loop-k.debugger.machine in
+    let u = c.step_back.new.self.machine in
+    let held = c.loop-k.invariant in
+    let x = c.args.question.now in
+    let gone = c.if-not-step_back.ensures.back in
+    let test : ℕ → Bool = changes_at m.input x in
+    let back : position l ≡ position u + 1 = gone.position in
+    let come : position m ≡ position u + (c.loop-k._k + 1) = omega (arith, held.stepped, back) in
+    let read : c.follow.new.self.answer.items ≡ answer_at m.input x (position u) =
+    rw (gone.input, held.input) at c.in_ok-follow.ensures.ok in
+    let behind : c.loop-k.reading.answer.items ≡ answer_at m.input x (position u + 1) =
+    held.reading ∙ ap (λ (q : ℕ). answer_at m.input x q) back in
+    let yes : test (position u) ≡ true =
+    changes_between m.input x (position u) c.follow.new.self.answer.items c.loop-k.reading.answer.items read behind
+    ∙ ap not (same_turned c.follow.new.self.answer.items c.loop-k.reading.answer.items)
+    ∙ sym c.in_ok-follow.ensures.whether ∙ sym c.is_some.ensures ∙ c.if-is_some.true in
+    let ends =
+    search_back_is test m.forgotten (position m) c.args.bound (c.loop-k._k + 1) (position u) come (omega arith)
+    (omega (arith, gone.forgotten, held.forgotten)) held.went_on
+    (λ h g. stops_back_where test (position m) (position u) (c.loop-k._k + 1) come (omega arith) ∙ yes) in
+    record {
+      input = rw gone.input held.input;
+      forgotten = rw gone.forgotten held.forgotten;
+      breaks = rw c.if-not-step_back.ensures.breaks held.breaks;
+      position = sym ends;
+    }
+
+pub loop-k-preserved : goal.loop-k-preserved
+loop-k-preserved g c =
+    let m = c.args.debugger.now.machine in
+    let l = c.loop-k.debugger.machine in
+    let u = c.step_back.new.self.machine in
+    let held = c.loop-k.invariant in
+    let x = c.args.question.now in
+    let gone = c.if-not-step_back.ensures.back in
+    let test : ℕ → Bool = changes_at m.input x in
+    let back : position l ≡ position u + 1 = gone.position in
+    let come : position m ≡ position u + (c.loop-k._k + 1) = omega (arith, held.stepped, back) in
+    let read : c.follow.new.self.answer.items ≡ answer_at m.input x (position u) =
+    rw (gone.input, held.input) at c.in_ok-follow.ensures.ok in
+    let behind : c.loop-k.reading.answer.items ≡ answer_at m.input x (position u + 1) =
+    held.reading ∙ ap (λ (q : ℕ). answer_at m.input x q) back in
+    let no : test (position u) ≡ false =
+    changes_between m.input x (position u) c.follow.new.self.answer.items c.loop-k.reading.answer.items read behind
+    ∙ ap not (same_turned c.follow.new.self.answer.items c.loop-k.reading.answer.items)
+    ∙ sym c.in_ok-follow.ensures.whether ∙ sym c.is_some.ensures ∙ c.if-is_some.false in
+    let passed : stops_back test (position m) (c.loop-k._k + 1) ≡ false =
+    stops_back_where test (position m) (position u) (c.loop-k._k + 1) come (omega arith) ∙ no in
+    record {
+      input = rw gone.input held.input;
+      forgotten = rw gone.forgotten held.forgotten;
+      breaks = rw c.if-not-step_back.ensures.breaks held.breaks;
+      stepped = come;
+      part = c.follow.ensures.part ∙ held.part;
+      reading = read;
+      went_on = λ j h.
+          below_more (λ i. stops_back test (position m) i ≡ false) (c.loop-k._k + 1)
+          (λ i g. held.went_on i g) passed j (omega arith);
+    }
+
+pub returns-clause-ok : goal.returns-clause-ok
+returns-clause-ok g c =
+    let m = c.args.debugger.now.machine in
+    let l = c.loop-k.debugger.machine in
+    let held = c.loop-k.invariant in
+    let test : ℕ → Bool = changes_at m.input c.args.question.now in
+    let ends =
+    search_back_is test m.forgotten (position m) c.args.bound c.loop-k._k (position l) held.stepped (omega arith)
+    (omega (arith, held.forgotten)) (λ j h. held.went_on j (omega arith)) (λ h g. absurd (omega arith)) in
+    record { input = held.input; forgotten = held.forgotten; breaks = held.breaks; position = sym ends }
+
+pub returns-clause-met : goal.returns-clause-met
+returns-clause-met g c =
+    let m = c.args.debugger.now.machine in
+    let l = c.loop-k.debugger.machine in
+    let held = c.loop-k.invariant in
+    unmet_back (changes_at m.input c.args.question.now) (position m) (position l) c.loop-k._k held.stepped held.went_on

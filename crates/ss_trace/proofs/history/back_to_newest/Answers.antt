@@ -1,0 +1,95 @@
+use Rattle.std.proofs.Common.{◌≡◌, ◌+◌, ◌∷◌, ℕ, Bool, true, false, [], length, refl, sym, ap, ◌∙◌, arith}
+use Rattle.std.specs.Prelude.{not}
+use Rattle.ss_machine.specs.Moment.{position}
+use Rattle.ss_debug.specs.Move.{is_ready_at}
+use Rattle.ss_trace.specs.Question.{answer_at, changes_at}
+use Rattle.ss_trace.specs.Touches.{touches_at, part_of}
+use Rattle.ss_trace.specs.View.{HasLookedBack}
+use Rattle.ss_trace.proofs.Refused.{on_err}
+use Rattle.ss_trace.proofs.Changes.{same_turned, changes_between}
+use Rattle.ss_trace.proofs.Histories.{none_before, passed, found, found_before}
+use Rattle.ss_trace.proofs.Looking.{looked_nowhere, looked_further, looked_between}
+use Rattle.ss_trace.proofs.Skips.{untouched}
+use Rattle.ss_trace.proofs.history.back_to_newest.Goals as goal
+
+pub loop-debugger-init : goal.loop-debugger-init
+loop-debugger-init g c = record {
+  gone = looked_nowhere c.args.debugger.now;
+  part = c.requires.part;
+  reading = c.requires.answer;
+  left = refl;
+}
+
+pub follow-requires : goal.follow-requires
+follow-requires g c = λ e.
+    let m = c.args.debugger.now.machine in
+    let l = c.loop-debugger.debugger in
+    let held = c.loop-debugger.invariant in
+    let x = c.args.question.now in
+    let u = c.step_back.new.self.machine in
+    let gone = c.loop-debugger-test.ensures.back in
+    let quiet : touches_at m.input (part_of x) (position u) ≡ false =
+    sym (rw (gone.input, held.gone.input, held.part) at c.may_change-touched.ensures) ∙ e in
+    rw (gone.input, held.gone.input)
+    (held.reading ∙ untouched m.input x (position u) (position l.machine) gone.position quiet)
+
+pub loop-debugger-preserved : goal.loop-debugger-preserved
+loop-debugger-preserved g c =
+    let m = c.args.debugger.now.machine in
+    let l = c.loop-debugger.debugger in
+    let u = c.step_back.new.self in
+    let held = c.loop-debugger.invariant in
+    let x = c.args.question.now in
+    let gone = c.loop-debugger-test.ensures.back in
+    let back : position l.machine ≡ position u.machine + 1 = gone.position in
+    let further : HasLookedBack c.args.debugger.now u =
+    looked_further c.args.debugger.now l u held.gone gone c.loop-debugger-test.ensures.breaks
+    (sym c.is_ready_now.ensures ∙ c.if-not-is_ready_now.false) in
+    let read : c.follow.new.self.answer.items ≡ answer_at m.input x (position u.machine) =
+    rw (gone.input, held.gone.input) at c.in_ok-after.ensures.ok in
+    let behind : c.loop-debugger.reading.answer.items ≡ answer_at m.input x (position u.machine + 1) =
+    held.reading ∙ ap (λ (q : ℕ). answer_at m.input x q) back in
+    let no : changes_at m.input x (position u.machine) ≡ false =
+    changes_between m.input x (position u.machine) c.follow.new.self.answer.items c.loop-debugger.reading.answer.items
+    read behind
+    ∙ ap not (same_turned c.follow.new.self.answer.items c.loop-debugger.reading.answer.items)
+    ∙ sym c.in_ok-after.ensures.whether ∙ sym c.is_some.ensures ∙ c.if-is_some.false in
+    record {
+      gone = further;
+      part = c.follow.ensures.part ∙ held.part;
+      reading = read;
+      left = held.left ∙ passed (changes_at m.input x) m.forgotten (position l.machine) (position u.machine) back
+          (omega (arith, further.forgotten)) no;
+    }
+
+pub returns-then-is_some-clause-found : goal.returns-then-is_some-clause-found
+returns-then-is_some-clause-found g c =
+    let m = c.args.debugger.now.machine in
+    let l = c.loop-debugger.debugger in
+    let u = c.step_back.new.self in
+    let held = c.loop-debugger.invariant in
+    let x = c.args.question.now in
+    let gone = c.loop-debugger-test.ensures.back in
+    let back : position l.machine ≡ position u.machine + 1 = gone.position in
+    let read : c.follow.new.self.answer.items ≡ answer_at m.input x (position u.machine) =
+    rw (gone.input, held.gone.input) at c.in_ok-after.ensures.ok in
+    let behind : c.loop-debugger.reading.answer.items ≡ answer_at m.input x (position u.machine + 1) =
+    held.reading ∙ ap (λ (q : ℕ). answer_at m.input x q) back in
+    let yes : changes_at m.input x (position u.machine) ≡ true =
+    changes_between m.input x (position u.machine) c.follow.new.self.answer.items c.loop-debugger.reading.answer.items
+    read behind
+    ∙ ap not (same_turned c.follow.new.self.answer.items c.loop-debugger.reading.answer.items)
+    ∙ sym c.in_ok-after.ensures.whether ∙ sym c.is_some.ensures ∙ c.if-is_some.true in
+    found_before c.in_ok-after.after c.loop-debugger.reading.answer.items _ _ _ _
+    (sym c.is_some.ensures ∙ c.if-is_some.true) c.in_ok-after.ensures.changed behind
+    (held.left ∙ found (changes_at m.input x) m.forgotten (position l.machine) (position u.machine) back
+    (omega (arith, gone.forgotten, held.gone.forgotten)) yes)
+
+pub returns-clause-found : goal.returns-clause-found
+returns-clause-found g c =
+    let m = c.args.debugger.now.machine in
+    let l = c.loop-debugger.debugger in
+    let held = c.loop-debugger.invariant in
+    let none : length l.machine.steps ≡ 0 = ap length c.loop-debugger-test.ensures.back.0 in
+    held.left ∙ none_before (changes_at m.input c.args.question.now) m.forgotten (position l.machine)
+    (omega (arith, none, held.gone.forgotten))

@@ -1,0 +1,98 @@
+-- The history of a question: the steps at which it changes, the newest first.
+use Rattle.std.specs.Prelude.{ℕ, zero, suc, ◌+◌, ◌-◌, Bool, List, [], ◌∷◌, ◌++◌, length, take, replicate, codes, decimal}
+use Rattle.std.specs.Prelude.{Option, Some, None, if◌then◌else◌, nat_lt}
+use Rattle.std.specs.Fmt.{signed_decimal}
+use Rattle.ss_machine.specs.Run.{Input, run}
+use Rattle.ss_debug.specs.Move.{line_at}
+use Rattle.ss_debug.specs.Answer.{section_at, state_line}
+use Rattle.ss_trace.specs.declared.question.Question.{Question}
+use Rattle.ss_trace.specs.Question.{changes_at, asked}
+use Rattle.ss_trace.specs.Value.{value_at}
+
+-- a position before others, where a test holds there
+abbrev pub before_others : Bool → ℕ → List ℕ → List ℕ
+before_others test q qs = if test then q ∷ qs else qs
+
+-- the positions below p, from the earliest one on, at which a test holds, the greatest first
+unfoldable pub positions_where : (ℕ → Bool) → ℕ → ℕ → List ℕ
+positions_where test earliest zero = []
+positions_where test earliest (suc q) =
+    if nat_lt q earliest then [] else before_others (test q) q (positions_where test earliest q)
+
+-- the steps before state p that are kept, and at which x changes, the newest first
+abbrev pub history : Input → Question → ℕ → ℕ → List ℕ
+history t x earliest p = positions_where (changes_at t x) earliest p
+
+-- ---- the table
+
+-- a text behind blanks, of at least n bytes
+abbrev pub to_right : ℕ → List ℕ → List ℕ
+to_right n text = replicate (n - length text) 32 ++ text
+
+-- a text with blanks behind it, of at least n bytes
+abbrev pub to_left : ℕ → List ℕ → List ℕ
+to_left n text = text ++ replicate (n - length text) 32
+
+-- a row of the table
+abbrev pub row : List ℕ → List ℕ → List ℕ → List ℕ → List ℕ → List ℕ
+row state time section line value =
+    to_right 8 state ++ codes " " ++ to_right 7 time ++ codes "  " ++ to_left 12 section ++ codes " "
+    ++ to_right 5 line ++ codes "  " ++ value ++ 10 ∷ []
+
+-- its head
+abbrev pub head_row : Question → List ℕ
+head_row x = row (codes "STATE") (codes "CLOCK") (codes "IN") (codes "LINE") (asked x)
+
+-- the row of the step from state q
+abbrev pub step_row : Input → Question → ℕ → List ℕ
+step_row t x q =
+    row (decimal q) (signed_decimal (run t q).clock) (section_at t q) (decimal (line_at t q)) (value_at t x (q + 1))
+
+-- the rows of some steps
+abbrev pub step_rows : Input → Question → List ℕ → List ℕ
+step_rows t x [] = []
+step_rows t x (q ∷ qs) = step_row t x q ++ step_rows t x qs
+
+-- that a question did not change since the earliest kept state
+abbrev pub no_change_text : ℕ → List ℕ
+no_change_text earliest = codes "NO CHANGE SINCE STATE " ++ decimal earliest ++ 10 ∷ []
+
+-- the table of some steps, or that there is none
+abbrev pub table_or_none : Input → Question → ℕ → List ℕ → List ℕ
+table_or_none t x earliest [] = no_change_text earliest
+table_or_none t x earliest (q ∷ qs) = head_row x ++ step_rows t x (q ∷ qs)
+
+-- the answer to HISTORY x n in state p
+unfoldable pub history_text : Input → Question → ℕ → ℕ → ℕ → List ℕ
+history_text t x n earliest p = table_or_none t x earliest (take n (history t x earliest p))
+
+-- ---- why
+
+-- the newest step, if there is one
+abbrev pub newest : List ℕ → Option ℕ
+newest [] = None
+newest (q ∷ qs) = Some q
+
+-- the step before state p at which x changed last, if it is kept
+abbrev pub newest_change : Input → Question → ℕ → ℕ → Option ℕ
+newest_change t x earliest p = newest (history t x earliest p)
+
+-- a line of a name and its values before and after, behind a word
+abbrev pub change_line : List ℕ → List ℕ → List ℕ → List ℕ → List ℕ
+change_line word name before after =
+    word ++ codes " " ++ name ++ codes ": " ++ before ++ codes " -> " ++ after ++ 10 ∷ []
+
+-- what WHY says of a step before the line of the model: its state line; or that x did not change
+abbrev pub why_head : Input → ℕ → Option ℕ → List ℕ
+why_head t earliest None = no_change_text earliest
+why_head t earliest (Some q) = state_line t q
+
+-- the number of that line
+abbrev pub why_line : Input → Option ℕ → Option ℕ
+why_line t None = None
+why_line t (Some q) = Some (line_at t q)
+
+-- and what it says behind the line: the values of x before and after
+abbrev pub why_change : Input → Question → Option ℕ → List ℕ
+why_change t x None = []
+why_change t x (Some q) = change_line (codes "CHANGED") (asked x) (value_at t x q) (value_at t x (q + 1))

@@ -1,0 +1,156 @@
+-- Questions whose answers may change, and the answer to each in a state.
+use Rattle.std.specs.Prelude.{ℕ, ◌+◌, ◌==◌, ℤ, pos, false, not, Bool, List, ◌∷◌, [], ◌++◌, length, take, drop, codes, decimal}
+use Rattle.std.specs.Prelude.{Option, Some, None, position, bytes_eq, if◌then◌else◌}
+use Rattle.std.specs.Result.{result_unwrap_or}
+use Rattle.std.specs.Fmt.{signed_decimal}
+use Rattle.ss_program.specs.declared.kinds.Owner.{Owner}
+use Rattle.ss_program.specs.declared.kinds.Owner.TheVariants.{System, OwnedBy}
+use Rattle.ss_program.specs.Program.{ProgramTable, SetTable, class_of, set_of, is_same_owner}
+use Rattle.ss_store.specs.declared.shape.SetShape.{SetShape}
+use Rattle.ss_store.specs.Store.{Store, number_of, exists, attribute_of, members_of}
+use Rattle.ss_store.specs.Filing as filing
+use Rattle.ss_store.specs.Filing.{walk_first, walk_last, predecessor, successor, membership}
+use Rattle.ss_machine.specs.State.{State}
+use Rattle.ss_machine.specs.Run.{Input, run}
+use Rattle.ss_debug.specs.declared.commands.Question.{Question as ShownQuestion}
+use Rattle.ss_debug.specs.declared.commands.Question.TheVariants as shown
+use Rattle.ss_debug.specs.Entities.{class_named, set_named, shape_of, no_entity_text, owner_or_variable, member_read}
+use Rattle.ss_debug.specs.Turn.{show_answer}
+use Rattle.ss_trace.specs.declared.question.Question.{Question}
+use Rattle.ss_trace.specs.declared.question.Question.TheVariants.{Shown, Attribute, Count}
+use Rattle.ss_trace.specs.declared.attribute.Kept.{Kept}
+use Rattle.ss_trace.specs.declared.attribute.Kept.TheVariants as kepts
+
+-- ---- one attribute
+
+-- the kept attribute whose name begins with two bytes
+abbrev pub kept_of : List ℕ → Option Kept
+kept_of head =
+    if bytes_eq head (codes "F.") then Some kepts.First else
+    if bytes_eq head (codes "L.") then Some kepts.Last else
+    if bytes_eq head (codes "N.") then Some kepts.Number else
+    if bytes_eq head (codes "P.") then Some kepts.Predecessor else
+    if bytes_eq head (codes "S.") then Some kepts.Successor else
+    if bytes_eq head (codes "M.") then Some kepts.Membership else None
+
+-- whether the entities of a class have it in a set: as owners of its lists, or as members
+abbrev pub has_kept : SetTable → ℕ → Kept → Bool
+has_kept set c kepts.First = is_same_owner (OwnedBy c) set.owner
+has_kept set c kepts.Last = is_same_owner (OwnedBy c) set.owner
+has_kept set c kepts.Number = is_same_owner (OwnedBy c) set.owner
+has_kept set c kepts.Predecessor = set.member == c
+has_kept set c kepts.Successor = set.member == c
+has_kept set c kepts.Membership = set.member == c
+
+-- its value for entity number k
+abbrev pub kept_value : SetShape → Store → ℕ → Kept → ℕ
+kept_value shape st k kepts.First = member_read (walk_first shape st k)
+kept_value shape st k kepts.Last = member_read (walk_last shape st k)
+kept_value shape st k kepts.Number = result_unwrap_or (filing.count shape st k) 0
+kept_value shape st k kepts.Predecessor = member_read (predecessor shape st k)
+kept_value shape st k kepts.Successor = member_read (successor shape st k)
+kept_value shape st k kepts.Membership = if result_unwrap_or (membership shape st k) false then 1 else 0
+
+-- the same in the set of this number, if the entities of class c have it there
+abbrev pub kept_in_set : ProgramTable → Store → ℕ → ℕ → Kept → Option ℕ → Option ℤ
+kept_in_set p st c k kept None = None
+kept_in_set p st c k kept (Some s) =
+    if has_kept (set_of p s) c kept then Some (pos (kept_value (shape_of p s) st k kept)) else None
+
+-- the same in the set of this name
+abbrev pub kept_named : ProgramTable → Store → ℕ → ℕ → List ℕ → Option Kept → Option ℤ
+kept_named p st c k set None = None
+kept_named p st c k set (Some kept) = kept_in_set p st c k kept (set_named p set)
+
+-- the attribute of this number, or else the kept one of this name
+abbrev pub attribute_or_kept : ProgramTable → Store → ℕ → ℕ → List ℕ → Option ℕ → Option ℤ
+attribute_or_kept p st c k name (Some a) = Some (result_unwrap_or (attribute_of st c a k) (pos 0))
+attribute_or_kept p st c k name None = kept_named p st c k (drop 2 name) (kept_of (take 2 name))
+
+-- the value of the attribute of this name of entity number k of class c, if there is one
+abbrev pub attribute_named : ProgramTable → Store → ℕ → ℕ → List ℕ → Option ℤ
+attribute_named p st c k name =
+    attribute_or_kept p st c k name (position (bytes_eq name) (class_of p c).attributes)
+
+-- an attribute and its value, or that there is none of this name
+abbrev pub attribute_line : List ℕ → Option ℤ → List ℕ
+attribute_line name (Some value) = name ++ codes " = " ++ signed_decimal value ++ 10 ∷ []
+attribute_line name None = codes "NO ATTRIBUTE " ++ name ++ 10 ∷ []
+
+-- the attribute of the entity of this class that x names, or that there is none
+abbrev pub class_attribute_text : List ℕ → ℤ → List ℕ → ProgramTable → Store → Option ℕ → List ℕ
+class_attribute_text class x name p st None = codes "NO CLASS " ++ class ++ 10 ∷ []
+class_attribute_text class x name p st (Some c) =
+    if exists st c (number_of x) then attribute_line name (attribute_named p st c (number_of x) name)
+    else no_entity_text class x
+
+-- the answer to SHOW c k a in state p
+unfoldable pub attribute_text : List ℕ → ℤ → List ℕ → Input → ℕ → List ℕ
+attribute_text class x name t p =
+    class_attribute_text class x name t.program (run t p).store (class_named t.program class)
+
+-- ---- how many members
+
+-- how many members the list of set number s has for the owner that x names
+abbrev pub counted_text : ProgramTable → Store → ℕ → ℤ → List ℕ
+counted_text p st s x = codes ": " ++ decimal (length (members_of (shape_of p s) st (number_of x))) ++ 10 ∷ []
+
+-- the same for the entity of class c that x names, or that there is none
+abbrev pub owned_count_text : List ℕ → ProgramTable → Store → ℕ → ℕ → ℤ → List ℕ
+owned_count_text name p st s c x =
+    if exists st c (number_of x)
+    then codes "COUNT " ++ name ++ codes " " ++ signed_decimal x ++ counted_text p st s x
+    else no_entity_text (class_of p c).name x
+
+-- the same of set number s, whose lists are the system's or a class's
+abbrev pub list_count_text : List ℕ → Option ℤ → ProgramTable → State → ℕ → Owner → List ℕ
+list_count_text name None p state s System = codes "COUNT " ++ name ++ counted_text p state.store s (pos 0)
+list_count_text name (Some x) p state s System = no_entity_text (codes "SYSTEM") x
+list_count_text name owner p state s (OwnedBy c) =
+    owned_count_text name p state.store s c (owner_or_variable owner p state c)
+
+-- the same of the set of this number, or that there is no set of this name
+abbrev pub named_count_text : List ℕ → Option ℤ → ProgramTable → State → Option ℕ → List ℕ
+named_count_text name owner p state None = codes "NO SET " ++ name ++ 10 ∷ []
+named_count_text name owner p state (Some s) = list_count_text name owner p state s (set_of p s).owner
+
+-- the answer to SHOW COUNT in state p
+unfoldable pub count_text : List ℕ → Option ℤ → Input → ℕ → List ℕ
+count_text name owner t p = named_count_text name owner t.program (run t p) (set_named t.program name)
+
+-- ---- all questions
+
+-- the answer to a question in state p
+abbrev pub answer_at : Input → Question → ℕ → List ℕ
+answer_at t (Shown q) p = show_answer t p q
+answer_at t (Attribute class x name) p = attribute_text class x name t p
+answer_at t (Count name owner) p = count_text name owner t p
+
+-- whether a question changes at step p: its answers in state p and in the next one differ
+abbrev pub changes_at : Input → Question → ℕ → Bool
+changes_at t x p = not (bytes_eq (answer_at t x p) (answer_at t x (p + 1)))
+
+-- ---- as it is asked
+
+-- a name, and a number behind a blank where one is given
+abbrev pub with_number : List ℕ → Option ℤ → List ℕ
+with_number name None = name
+with_number name (Some x) = name ++ codes " " ++ signed_decimal x
+
+-- a question of the debugger as it is asked
+abbrev pub shown_asked : ShownQuestion → List ℕ
+shown_asked shown.Clock = codes "CLOCK"
+shown_asked shown.Where = codes "WHERE"
+shown_asked (shown.Variable name) = codes "VAR " ++ name
+shown_asked (shown.Entity name x) = with_number name (Some x)
+shown_asked (shown.Set name owner) = codes "SET " ++ with_number name owner
+shown_asked shown.Events = codes "EVENTS"
+shown_asked shown.Taken = codes "TAKEN"
+shown_asked shown.Entry = codes "ENTRY"
+shown_asked shown.Report = codes "REPORT"
+
+-- a question as it is asked, in upper case and least digits
+abbrev pub asked : Question → List ℕ
+asked (Shown q) = shown_asked q
+asked (Attribute class x name) = with_number class (Some x) ++ codes " " ++ name
+asked (Count name owner) = codes "COUNT " ++ with_number name owner

@@ -1,0 +1,46 @@
+-- Which parts of a state a step may change, by the kind of its place.
+use Rattle.std.specs.Prelude.{ℕ, Bool, true, false, Option, Some, None}
+use Rattle.ss_program.specs.Program.{ProgramTable, spot_at}
+use Rattle.ss_program.specs.declared.place.Place.{Place}
+use Rattle.ss_program.specs.declared.place.Place.TheVariants as places
+use Rattle.ss_program.specs.declared.place.Spot.{Spot}
+use Rattle.ss_machine.specs.State.{State}
+use Rattle.ss_debug.specs.declared.commands.Question.TheVariants as shown
+use Rattle.ss_trace.specs.declared.question.Question.{Question}
+use Rattle.ss_trace.specs.declared.question.Question.TheVariants.{Shown}
+use Rattle.ss_machine.specs.Run.{Input, run}
+use Rattle.ss_trace.specs.declared.touches.Part.{Part}
+use Rattle.ss_trace.specs.declared.touches.Part.TheVariants.{Anything, Lists, Notices, Report}
+
+-- whether the step of a place may change a part
+abbrev pub touches : Part → Place → Bool
+touches Anything x = true
+touches Lists (places.Making m) = true
+touches Lists (places.Filing f) = true
+touches Lists (places.Timing x) = true
+touches Lists x = false
+touches Notices (places.Timing x) = true
+touches Notices x = false
+touches Report (places.Output o) = true
+touches Report (places.Timing x) = true
+touches Report x = false
+
+-- the same of the place that stands there, if one does
+abbrev pub touches_by : Part → Option Spot → Bool
+touches_by part None = true
+touches_by part (Some spot) = touches part spot.place
+
+-- the same of the place where the last frame stands
+abbrev pub touches_in : ProgramTable → Part → State → Bool
+touches_in p part s = touches_by part (spot_at p s.frame.section s.frame.place)
+
+-- whether the step from state p may change a part
+abbrev pub touches_at : Input → Part → ℕ → Bool
+touches_at t part p = touches_in t.program part (run t p)
+
+-- the part at which a question looks
+abbrev pub part_of : Question → Part
+part_of (Shown (shown.Set name (Some k))) = Lists
+part_of (Shown shown.Events) = Notices
+part_of (Shown shown.Report) = Report
+part_of _ = Anything

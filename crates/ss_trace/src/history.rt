@@ -1,0 +1,229 @@
+//! The history of a question: the steps at which it changes, the newest first.
+ghost use Rattle.std.specs.Prelude.{◌≡◌, ◌++◌, ◌∷◌, ◌+◌, ◌<◌, ◌≤◌, [], OnOk, OnErr, IfOk, MatchOption, ℕ, true};
+ghost use Rattle.std.specs.Prelude.{take, length};
+ghost use Rattle.ss_machine.specs.Moment.{position};
+ghost use Rattle.ss_machine.specs.declared.limits.TheConstants.{LAST_POSITION};
+ghost use Rattle.ss_debug.specs.Move.{is_ready_at};
+ghost use Rattle.ss_debug.specs.View.{debugger_state_of};
+ghost use Rattle.ss_trace.specs.Question.{answer_at};
+ghost use Rattle.ss_trace.specs.Touches.{part_of};
+ghost use Rattle.ss_trace.specs.History.{history, step_rows, history_text, newest_change};
+ghost use Rattle.ss_trace.specs.History.{why_head, why_line, why_change};
+ghost use Rattle.ss_trace.specs.View.{IsAt, IsBetween, HasLookedBack};
+
+use crate::question::Question;
+use crate::reading::Reading;
+use crate::sought::{is_ready_now, step_once};
+use crate::table::{present_line, push_change_line, push_head_row, push_no_change, push_step_row};
+use ss_debug::{Debugger, Question as Shown};
+use ss_links::SetBoard;
+use std::alloc::AllocError;
+
+/// Goes back to the newest step before at which a question changes, where it is kept, and else to
+/// the earliest kept position. Gives the answer behind that step; the reading is of where the
+/// debugger stands, before and after.
+fn back_to_newest<S: SetBoard>(
+    debugger: &mut Debugger<S>,
+    question: &Question,
+    reading: &mut Reading,
+) -> Result<Option<Vec<u8>>, AllocError>
+    requires answer { reading.old.answer.items
+        ≡ answer_at debugger.old.machine.input question.now (position debugger.old.machine) }
+    requires part { reading.old.part ≡ part_of question.now }
+    ensures part { reading.new.part ≡ reading.old.part }
+    ensures gone { OnOk result (HasLookedBack debugger.old debugger.new) }
+    ensures reading { OnOk result (reading.new.answer.items
+        ≡ answer_at debugger.old.machine.input question.now (position debugger.new.machine)) }
+    ensures found { IfOk result (λ found. MatchOption found
+        (history debugger.old.machine.input question.now debugger.old.machine.forgotten
+        (position debugger.old.machine) ≡ [])
+        (λ after. (after.items ≡ answer_at debugger.old.machine.input question.now
+        (position debugger.new.machine + 1))
+        × (history debugger.old.machine.input question.now debugger.old.machine.forgotten
+        (position debugger.old.machine)
+        ≡ position debugger.new.machine
+        ∷ history debugger.old.machine.input question.now debugger.old.machine.forgotten
+        (position debugger.new.machine)))) }
+    ensures memory { OnErr result (IsBetween debugger.old debugger.old.machine.forgotten
+        (position debugger.old.machine) debugger.new) }
+{
+    while debugger.step_back() {
+        if !is_ready_now(debugger) {
+            // Never met: a step was made from this state.
+            return Err(AllocError);
+        }
+        let touched = reading.may_change(debugger);
+        let after = reading.follow(debugger, question, touched)?;
+        if after.is_some() {
+            return Ok(after);
+        }
+    }
+    Ok(None)
+}
+
+/// Appends the rows of the newest steps before at which a question changes, at most so many. Tells
+/// how many they are.
+fn push_rows<S: SetBoard>(
+    debugger: &mut Debugger<S>,
+    question: &Question,
+    most: u64,
+    bytes: &mut Vec<u8>,
+) -> Result<u64, AllocError>
+    ensures gone { OnOk result (HasLookedBack debugger.old debugger.new) }
+    ensures rows { OnOk result (bytes.new.items ≡ bytes.old.items
+        ++ step_rows debugger.old.machine.input question.now
+        (take most (history debugger.old.machine.input question.now
+        debugger.old.machine.forgotten (position debugger.old.machine)))) }
+    ensures count { IfOk result (λ count. count
+        ≡ length (take most (history debugger.old.machine.input question.now
+        debugger.old.machine.forgotten (position debugger.old.machine)))) }
+    ensures memory { OnErr result (IsBetween debugger.old debugger.old.machine.forgotten
+        (position debugger.old.machine) debugger.new) }
+{
+    let mut reading = Reading::new(*bytes.allocator(), debugger, question)?;
+    let mut count = 0;
+    while count < most {
+        let Some(after) = back_to_newest(debugger, question, &mut reading)? else {
+            return Ok(count);
+        };
+        debugger.machine().known();
+        push_step_row(bytes, debugger, question, &after)?;
+        count += 1;
+    }
+    Ok(count)
+}
+
+/// Goes back, and appends the history of a question as a table, or that it did not change.
+#[tactic(auto, using(crate::proofs::Histories::told_some, crate::proofs::Histories::told_none))]
+fn push_table<S: SetBoard>(
+    debugger: &mut Debugger<S>,
+    question: &Question,
+    most: u64,
+    bytes: &mut Vec<u8>,
+) -> Result<(), AllocError>
+    ensures gone { OnOk result (HasLookedBack debugger.old debugger.new) }
+    ensures said { OnOk result (bytes.new.items ≡ bytes.old.items
+        ++ history_text debugger.old.machine.input question.now most
+        debugger.old.machine.forgotten (position debugger.old.machine)) }
+    ensures memory { OnErr result (IsBetween debugger.old debugger.old.machine.forgotten
+        (position debugger.old.machine) debugger.new) }
+{
+    let mut rows = Vec::new(*bytes.allocator());
+    let count = push_rows(debugger, question, most, &mut rows)?;
+    if count == 0 {
+        return push_no_change(bytes, debugger);
+    }
+    push_head_row(bytes, question)?;
+    bytes.extend_from_slice(&rows)
+}
+
+/// Goes forward again to a position over steps that were made.
+fn return_to<S: SetBoard>(debugger: &mut Debugger<S>, to: u64) -> Result<(), AllocError>
+    requires later { position debugger.old.machine ≤ to }
+    requires ready { (j : ℕ) → position debugger.old.machine ≤ j → j < to →
+        is_ready_at debugger.old.machine.input j ≡ true }
+    requires within { to ≤ LAST_POSITION }
+    ensures ok { OnOk result (IsAt debugger.old to debugger.new) }
+    ensures memory { OnErr result (IsBetween debugger.old (position debugger.old.machine) to
+        debugger.new) }
+{
+    for _ in debugger.machine().position()..to {
+        step_once(debugger)?;
+    }
+    Ok(())
+}
+
+/// Appends the history of a question as a table, the newest steps first and at most so many, or
+/// that it did not change since the earliest kept state. Position, break lines and earliest kept
+/// position stay as they are: the debugger goes back, and forward again over the same steps.
+///
+/// `AllocError` where memory was refused to a text or a step: then the debugger stands perhaps at
+/// an earlier position that is kept, and what was appended does not count.
+pub fn push_history<S: SetBoard>(
+    debugger: &mut Debugger<S>,
+    question: &Question,
+    most: u64,
+    bytes: &mut Vec<u8>,
+) -> Result<(), AllocError>
+    ensures input { debugger.new.machine.input ≡ debugger.old.machine.input }
+    ensures place { OnOk result (debugger_state_of debugger.new ≡ debugger_state_of debugger.old) }
+    ensures said { OnOk result (bytes.new.items ≡ bytes.old.items
+        ++ history_text debugger.old.machine.input question.now most
+        debugger.old.machine.forgotten (position debugger.old.machine)) }
+    ensures memory { OnErr result (IsBetween debugger.old debugger.old.machine.forgotten
+        (position debugger.old.machine) debugger.new) }
+{
+    debugger.machine().known();
+    let from = debugger.machine().position();
+    push_table(debugger, question, most, bytes)?;
+    return_to(debugger, from)
+}
+
+/// Goes back to the newest step before at which a question changes, and tells of it.
+#[tactic(auto, using(crate::proofs::Histories::newest_is, crate::proofs::Histories::newest_none))]
+fn push_newest<S: SetBoard>(
+    debugger: &mut Debugger<S>,
+    question: &Question,
+    head: &mut Vec<u8>,
+    change: &mut Vec<u8>,
+) -> Result<Option<usize>, AllocError>
+    ensures gone { OnOk result (HasLookedBack debugger.old debugger.new) }
+    ensures head { OnOk result (head.new.items ≡ head.old.items
+        ++ why_head debugger.old.machine.input debugger.old.machine.forgotten
+        (newest_change debugger.old.machine.input question.now
+        debugger.old.machine.forgotten (position debugger.old.machine))) }
+    ensures line { IfOk result (λ line. line ≡ why_line debugger.old.machine.input
+        (newest_change debugger.old.machine.input question.now
+        debugger.old.machine.forgotten (position debugger.old.machine))) }
+    ensures change { OnOk result (change.new.items ≡ change.old.items
+        ++ why_change debugger.old.machine.input question.now
+        (newest_change debugger.old.machine.input question.now
+        debugger.old.machine.forgotten (position debugger.old.machine))) }
+    ensures memory { OnErr result (IsBetween debugger.old debugger.old.machine.forgotten
+        (position debugger.old.machine) debugger.new) }
+{
+    let mut reading = Reading::new(*head.allocator(), debugger, question)?;
+    let Some(after) = back_to_newest(debugger, question, &mut reading)? else {
+        push_no_change(head, debugger)?;
+        return Ok(None);
+    };
+    let text = debugger.answer_to(&Shown::Where)?;
+    head.extend_from_slice(&text)?;
+    push_change_line(change, question, &reading.answer, &after)?;
+    Ok(Some(present_line(debugger)))
+}
+
+/// Looks for the newest step before at which a question changes. Appends to `head` its state line,
+/// or that there was none since the earliest kept state; to `change` the line that tells the values
+/// before and after; and gives the line of the model on which it stands. Position, break lines and
+/// earliest kept position stay as they are.
+///
+/// `AllocError` as for [`push_history`].
+pub fn push_why<S: SetBoard>(
+    debugger: &mut Debugger<S>,
+    question: &Question,
+    head: &mut Vec<u8>,
+    change: &mut Vec<u8>,
+) -> Result<Option<usize>, AllocError>
+    ensures input { debugger.new.machine.input ≡ debugger.old.machine.input }
+    ensures place { OnOk result (debugger_state_of debugger.new ≡ debugger_state_of debugger.old) }
+    ensures head { OnOk result (head.new.items ≡ head.old.items
+        ++ why_head debugger.old.machine.input debugger.old.machine.forgotten
+        (newest_change debugger.old.machine.input question.now
+        debugger.old.machine.forgotten (position debugger.old.machine))) }
+    ensures line { IfOk result (λ line. line ≡ why_line debugger.old.machine.input
+        (newest_change debugger.old.machine.input question.now
+        debugger.old.machine.forgotten (position debugger.old.machine))) }
+    ensures change { OnOk result (change.new.items ≡ change.old.items
+        ++ why_change debugger.old.machine.input question.now
+        (newest_change debugger.old.machine.input question.now
+        debugger.old.machine.forgotten (position debugger.old.machine))) }
+    ensures memory { OnErr result (IsBetween debugger.old debugger.old.machine.forgotten
+        (position debugger.old.machine) debugger.new) }
+{
+    debugger.machine().known();
+    let from = debugger.machine().position();
+    let line = push_newest(debugger, question, head, change)?;
+    return_to(debugger, from)?;
+    Ok(line)
+}

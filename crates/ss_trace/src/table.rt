@@ -1,0 +1,202 @@
+//! The rows of a history, and the other texts of HISTORY and WHY.
+ghost use Rattle.std.specs.Prelude.{◌≡◌, ◌++◌, OnOk, replicate, codes, decimal};
+ghost use Rattle.std.specs.Fmt.{signed_decimal};
+ghost use Rattle.ss_machine.specs.Moment.{position};
+ghost use Rattle.ss_debug.specs.Move.{line_at};
+ghost use Rattle.ss_debug.specs.Answer.{section_at};
+ghost use Rattle.ss_trace.specs.Question.{asked};
+ghost use Rattle.ss_trace.specs.Value.{value_in};
+ghost use Rattle.ss_trace.specs.History.{to_right, to_left, row, head_row, no_change_text, change_line};
+
+use crate::answer::push_asked;
+use crate::numbers::push_number;
+use crate::question::Question;
+use crate::value::push_value;
+use itoa::Buffer;
+use ss_debug::Debugger;
+use ss_links::SetBoard;
+use std::alloc::AllocError;
+
+/// The widths of the columns of the table.
+const STATE_WIDTH: usize = 8;
+
+const TIME_WIDTH: usize = 7;
+
+const SECTION_WIDTH: usize = 12;
+
+const LINE_WIDTH: usize = 5;
+
+/// Appends so many blanks.
+fn push_blanks(bytes: &mut Vec<u8>, count: usize) -> Result<(), AllocError>
+    ensures { OnOk result (bytes.new.items ≡ bytes.old.items ++ replicate count 32) }
+{
+    for _ in 0..count {
+        bytes.push(b' ')?;
+    }
+    Ok(())
+}
+
+/// Appends a text behind blanks, at least `width` bytes.
+fn push_right(bytes: &mut Vec<u8>, width: usize, text: &[u8]) -> Result<(), AllocError>
+    ensures { OnOk result (bytes.new.items ≡ bytes.old.items ++ to_right width text.now) }
+{
+    push_blanks(bytes, width.saturating_sub(text.len()))?;
+    bytes.extend_from_slice(text)
+}
+
+/// Appends a text with blanks behind it, at least `width` bytes.
+fn push_left(bytes: &mut Vec<u8>, width: usize, text: &[u8]) -> Result<(), AllocError>
+    ensures { OnOk result (bytes.new.items ≡ bytes.old.items ++ to_left width text.now) }
+{
+    bytes.extend_from_slice(text)?;
+    push_blanks(bytes, width.saturating_sub(text.len()))
+}
+
+/// Appends the first cells of a row.
+fn push_cells(
+    bytes: &mut Vec<u8>,
+    state: &[u8],
+    time: &[u8],
+    section: &[u8],
+) -> Result<(), AllocError>
+    ensures { OnOk result (bytes.new.items ≡ bytes.old.items
+        ++ to_right 8 state.now ++ codes " " ++ to_right 7 time.now ++ codes "  "
+        ++ to_left 12 section.now) }
+{
+    push_right(bytes, STATE_WIDTH, state)?;
+    bytes.extend_from_slice(b" ")?;
+    push_right(bytes, TIME_WIDTH, time)?;
+    bytes.extend_from_slice(b"  ")?;
+    push_left(bytes, SECTION_WIDTH, section)
+}
+
+/// Appends a row of the table.
+fn push_row(
+    bytes: &mut Vec<u8>,
+    state: &[u8],
+    time: &[u8],
+    section: &[u8],
+    line: &[u8],
+    value: &[u8],
+) -> Result<(), AllocError>
+    ensures { OnOk result (bytes.new.items ≡ bytes.old.items
+        ++ row state.now time.now section.now line.now value.now) }
+{
+    push_cells(bytes, state, time, section)?;
+    bytes.extend_from_slice(b" ")?;
+    push_right(bytes, LINE_WIDTH, line)?;
+    bytes.extend_from_slice(b"  ")?;
+    bytes.extend_from_slice(value)?;
+    bytes.extend_from_slice(b"\n")
+}
+
+/// Appends the head of the table.
+pub fn push_head_row(bytes: &mut Vec<u8>, question: &Question) -> Result<(), AllocError>
+    ensures { OnOk result (bytes.new.items ≡ bytes.old.items ++ head_row question.now) }
+{
+    let mut name = Vec::new(*bytes.allocator());
+    push_asked(question, &mut name)?;
+    push_row(bytes, b"STATE", b"CLOCK", b"IN", b"LINE", &name)
+}
+
+/// The line of the place where the debugger stands.
+pub fn present_line<S: SetBoard>(debugger: &Debugger<S>) -> usize
+    ensures { result ≡ line_at debugger.now.machine.input (position debugger.now.machine) }
+{
+    let machine = debugger.machine();
+    machine.known();
+    let (section, place) = machine.place();
+    machine.program().spot(section, place).line
+}
+
+/// The name of the section where the debugger stands.
+fn present_section<S: SetBoard>(debugger: &Debugger<S>) -> &[u8]
+    ensures { result.now ≡ section_at debugger.now.machine.input (position debugger.now.machine) }
+{
+    let machine = debugger.machine();
+    machine.known();
+    let (section, _) = machine.place();
+    &machine.program().section(section).name.bytes
+}
+
+/// Appends the row of the step from where the debugger stands, behind which the answer is this.
+pub fn push_step_row<S: SetBoard>(
+    bytes: &mut Vec<u8>,
+    debugger: &Debugger<S>,
+    question: &Question,
+    after: &[u8],
+) -> Result<(), AllocError>
+    ensures { OnOk result (bytes.new.items ≡ bytes.old.items
+        ++ row (decimal (position debugger.now.machine))
+        (signed_decimal debugger.now.machine.state.clock)
+        (section_at debugger.now.machine.input (position debugger.now.machine))
+        (decimal (line_at debugger.now.machine.input (position debugger.now.machine)))
+        (value_in question.now after.now)) }
+{
+    let mut value = Vec::new(*bytes.allocator());
+    push_value(question, after, &mut value)?;
+    let machine = debugger.machine();
+    let mut state = Buffer::new();
+    let mut clock = Buffer::new();
+    let mut line = Buffer::new();
+    push_row(
+        bytes,
+        state.format(machine.position()).as_bytes(),
+        clock.format(machine.clock()).as_bytes(),
+        present_section(debugger),
+        line.format(present_line(debugger) as u64).as_bytes(),
+        &value,
+    )
+}
+
+/// The earliest kept position.
+fn earliest<S: SetBoard>(debugger: &Debugger<S>) -> u64
+    ensures { result ≡ debugger.now.machine.forgotten }
+{
+    let machine = debugger.machine();
+    machine.position() - machine.kept()
+}
+
+/// Appends the earliest kept position.
+fn push_earliest<S: SetBoard>(
+    bytes: &mut Vec<u8>,
+    debugger: &Debugger<S>,
+) -> Result<(), AllocError>
+    ensures { OnOk result (bytes.new.items ≡ bytes.old.items
+        ++ decimal debugger.now.machine.forgotten) }
+{
+    push_number(bytes, earliest(debugger))
+}
+
+/// Appends that a question did not change since the earliest kept state.
+pub fn push_no_change<S: SetBoard>(
+    bytes: &mut Vec<u8>,
+    debugger: &Debugger<S>,
+) -> Result<(), AllocError>
+    ensures { OnOk result (bytes.new.items ≡ bytes.old.items
+        ++ no_change_text debugger.now.machine.forgotten) }
+{
+    bytes.extend_from_slice(b"NO CHANGE SINCE STATE ")?;
+    push_earliest(bytes, debugger)?;
+    bytes.extend_from_slice(b"\n")
+}
+
+/// Appends a line that tells a question with its values before and after, by its answers.
+pub fn push_change_line(
+    bytes: &mut Vec<u8>,
+    question: &Question,
+    before: &[u8],
+    after: &[u8],
+) -> Result<(), AllocError>
+    ensures { OnOk result (bytes.new.items ≡ bytes.old.items
+        ++ change_line (codes "CHANGED") (asked question.now) (value_in question.now before.now)
+        (value_in question.now after.now)) }
+{
+    bytes.extend_from_slice(b"CHANGED ")?;
+    push_asked(question, bytes)?;
+    bytes.extend_from_slice(b": ")?;
+    push_value(question, before, bytes)?;
+    bytes.extend_from_slice(b" -> ")?;
+    push_value(question, after, bytes)?;
+    bytes.extend_from_slice(b"\n")
+}
