@@ -50,7 +50,15 @@ fn run_traced<'a>(
     let mut trace = Stream::new(file);
     let mut out = Stream::new(io::writer(rt));
     let mut meter = Meter::new(rt, rt.stderr().is_terminal());
-    Ok(trace_model(rt.alloc(), model, input, questions, &mut meter, &mut trace, &mut out))
+    Ok(trace_model(
+        rt.alloc(),
+        model,
+        input,
+        questions,
+        &mut meter,
+        &mut trace,
+        &mut out,
+    ))
 }
 
 /// Reads model and data, in that order, and runs the model where both were read.
