@@ -123,6 +123,13 @@ further k a b c e p q =
     let on = advanced_on Moved (position b) k a b c p q in
     record { input = on.input; on = on.on; within = on.within; ready = on.ready; reason = omega (arith, e) }
 
+-- a change of what is kept leaves that as it is
+pub advanced_here : (a b c : Moment) → HasAdvanced Moved (position b) a b → c.input ≡ b.input →
+    position c ≡ position b → HasAdvanced Moved (position c) a c
+advanced_here a b c p i e =
+    let same = advanced_same Moved (position b) a b c i e p in
+    record { input = same.input; on = same.on; within = same.within; ready = same.ready; reason = omega (arith, e, same.reason) }
+
 -- and at last it is at its end
 pub at_the_end : (k : ℕ) (a b c : Moment) → position a ≡ 0 → HasAdvanced Moved (position b) a b →
     HasAdvanced AtEnd k b c → IsRunEnd a.input (position c)

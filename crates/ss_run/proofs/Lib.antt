@@ -1,3 +1,5 @@
 pub mod Advances
 pub mod Counts
 pub mod Reports
+pub mod Parts
+pub mod Traces

@@ -3,3 +3,5 @@ pub mod Explained
 pub mod Report
 pub mod WholeRun
 pub mod Advance
+pub mod Trace
+pub mod Tracing

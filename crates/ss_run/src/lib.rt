@@ -1,9 +1,13 @@
-//! A whole run: model and data in, the report out.
+//! A whole run: model and data in, the report out, and a trace of questions beside it.
 #![tactic(auto)]
 
 mod explained;
 mod fields;
+mod here;
+mod rows;
+mod traced;
 mod whole_run;
 
 pub use fields::unfit_values;
+pub use traced::trace_model;
 pub use whole_run::{Progress, RunCut, RunEnd, WholeRun, report, run_model, run_status};

@@ -18,10 +18,10 @@ use std::alloc::{AllocError, Global};
 use thiserror::Error;
 
 /// How many steps the way back has at most while a run goes to its end; nobody goes it.
-const MOST_KEPT: u64 = 4096;
+pub(crate) const MOST_KEPT: u64 = 4096;
 
 /// After how many steps a run says how far it is: ten million.
-const STEPS_BETWEEN: u64 = 10_000_000;
+pub(crate) const STEPS_BETWEEN: u64 = 10_000_000;
 
 /// Hears how far a run is.
 pub trait Progress {
@@ -192,7 +192,7 @@ fn tell_end<S: SetBoard>(alloc: Global, debugger: &mut Debugger<S>) -> Result<Wh
 }
 
 /// Writes the report of the run whose last state a debugger holds.
-fn write_report<S: SetBoard, W: Outlet>(
+pub(crate) fn write_report<S: SetBoard, W: Outlet>(
     alloc: Global,
     debugger: &mut Debugger<S>,
     out: &mut W,
@@ -254,7 +254,7 @@ fn refused(alloc: Global, model: &[u8], code: &str, line: usize) -> Result<Whole
 }
 
 /// What is said of a model that is no program.
-fn refusal(alloc: Global, model: &[u8], fault: LoadFault) -> Result<WholeRun, RunCut>
+pub(crate) fn refusal(alloc: Global, model: &[u8], fault: LoadFault) -> Result<WholeRun, RunCut>
     ensures { IsRefusal result model.now fault }
 {
     match fault {

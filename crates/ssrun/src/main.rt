@@ -1,4 +1,5 @@
-//! `ssrun MODEL [DATA]`: runs a model to its end and writes its report.
+//! `ssrun [--watch QUESTION --trace FILE] MODEL [DATA]`: runs a model to its end and writes its
+//! report, and a trace of questions.
 #![tactic(auto)]
 
 ghost use Rattle.std.specs.Prelude.{◌≡◌};
@@ -7,32 +8,69 @@ ghost use Rattle.ss_run.specs.Report.{status_of_run};
 ghost use Rattle.ss_run.specs.WholeRun.{end_of_outcome};
 
 mod meter;
+mod questions;
 mod words;
 
 use clap::Error;
 use clap::error::ErrorKind;
 use meter::Meter;
-use ss_host::{Stop, Stream, read_arguments, read_file, read_or, tell};
-use ss_run::{RunCut, RunEnd, WholeRun, run_model, run_status};
-use std::io;
+use questions::read_questions;
+use ss_host::{Stop, Stream, read_arguments, read_file, read_or, stop_by, tell};
+use ss_run::{RunCut, RunEnd, WholeRun, run_model, run_status, trace_model};
+use ss_trace::Question;
 use std::io::{IsTerminal, Write};
 use std::process::ExitCode;
-use std::rt::Files;
+use std::{fs, io};
 use words::{Words, read_words};
 
 /// The words that the program takes.
-const USAGE: &str = "ssrun MODEL [DATA]";
+const USAGE: &str = "ssrun [--watch QUESTION --trace FILE] MODEL [DATA]";
+
+/// The questions that are traced.
+fn watched<'a, R: AllocGlobal>(rt: &R, words: &Words<'a>) -> Result<Vec<Question>, Stop<'a>> {
+    match read_questions(rt.alloc(), &words.watched) {
+        Ok(Some(questions)) => Ok(questions),
+        Ok(None) => Err(Stop::Usage),
+        Err(_) => Err(Stop::Memory),
+    }
+}
+
+/// Runs a model over its data, and writes the trace of some questions to the file of a path.
+fn run_traced<'a>(
+    rt: &HostRuntime,
+    model: &[u8],
+    input: &[u8],
+    questions: &[Question],
+    path: &'a str,
+) -> Result<Result<WholeRun, RunCut>, Stop<'a>> {
+    let file = match fs::create(rt, path) {
+        Ok(file) => file,
+        Err(error) => return Err(stop_by(&error, Stop::CannotWrite)),
+    };
+    let mut trace = Stream::new(file);
+    let mut out = Stream::new(io::writer(rt));
+    let mut meter = Meter::new(rt, rt.stderr().is_terminal());
+    Ok(trace_model(
+        rt.alloc(),
+        model,
+        input,
+        questions,
+        &mut meter,
+        &mut trace,
+        &mut out,
+    ))
+}
 
 /// Reads model and data, in that order, and runs the model where both were read.
-fn run<'a, R: Files + Print + Eprint + AllocGlobal>(
-    rt: &R,
-    words: &Words<'a>,
-    is_seen: bool,
-) -> Result<Result<WholeRun, RunCut>, Stop<'a>> {
+fn run<'a>(rt: &HostRuntime, words: &Words<'a>) -> Result<Result<WholeRun, RunCut>, Stop<'a>> {
+    let questions = watched(rt, words)?;
     let model = read_file(rt, words.model)?;
     let input = read_or(rt, words.input, b"")?;
+    if let Some(path) = words.trace {
+        return run_traced(rt, &model, &input, &questions, path);
+    }
     let mut out = Stream::new(io::writer(rt));
-    let mut meter = Meter::new(rt, is_seen);
+    let mut meter = Meter::new(rt, rt.stderr().is_terminal());
     Ok(run_model(rt.alloc(), &model, &input, &mut meter, &mut out))
 }
 
@@ -113,7 +151,7 @@ fn started(rt: &HostRuntime, arguments: &[String]) -> u8 {
         Ok(words) => words,
         Err(error) => return explained(rt, &error),
     };
-    match run(rt, &words, rt.stderr().is_terminal()) {
+    match run(rt, &words) {
         Ok(outcome) => ended(rt, outcome),
         Err(stop) => stopped(rt, stop),
     }

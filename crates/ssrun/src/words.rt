@@ -1,7 +1,7 @@
 ghost use Rattle.std.specs.Prelude.{◌≡◌, ◌≢◌};
 ghost use Rattle.clap.specs.Words.{kind_of};
 
-use clap::{Arg, Command, Error};
+use clap::{Arg, ArgAction, Command, Error};
 use std::alloc::Global;
 
 /// What the program is called with.
@@ -11,6 +11,10 @@ pub struct Words<'a> {
     pub model: &'a str,
     /// The path of its data, where one is named.
     pub input: Option<&'a str>,
+    /// The questions that are traced.
+    pub watched: Vec<&'a str>,
+    /// The path of their trace, where one is named.
+    pub trace: Option<&'a str>,
 }
 
 /// The words that the program takes, for `--help` and the line that tells of wrong ones.
@@ -19,11 +23,24 @@ pub fn command<'a>(alloc: Global) -> Result<Command<'a>, Error> {
         .required(true)
         .help("the path of the model");
     let input = Arg::new(alloc, "DATA").help("the path of its data; without it the data is empty");
+    let watch = Arg::new(alloc, "watch")
+        .long("watch")
+        .value_name("QUESTION")
+        .action(ArgAction::Append)
+        .requires_arg("trace")?
+        .help("a question that is traced, as VAR v or COUNT s; may be repeated");
+    let trace = Arg::new(alloc, "trace")
+        .long("trace")
+        .value_name("FILE")
+        .requires_arg("watch")?
+        .help("the path of the trace: comma-separated values, a row for each change");
     let command = Command::new(alloc, "ssrun")
         .version("1")
         .about("Runs a model to its end and writes its report")
         .arg(model)?
-        .arg(input)?;
+        .arg(input)?
+        .arg(watch)?
+        .arg(trace)?;
     Ok(command)
 }
 
@@ -31,8 +48,14 @@ pub fn command<'a>(alloc: Global) -> Result<Command<'a>, Error> {
 /// asked for.
 pub fn read_words<'a>(alloc: Global, arguments: &'a [String]) -> Result<Words<'a>, Error> {
     let matches = command(alloc)?.try_get_matches_from(arguments)?;
+    let watched = match matches.get_strs("watch") {
+        Some(texts) => texts.to_vec(alloc)?,
+        None => Vec::new(alloc),
+    };
     Ok(Words {
         model: matches.get_str("MODEL").unwrap_or(""),
         input: matches.get_str("DATA"),
+        watched,
+        trace: matches.get_str("trace"),
     })
 }

@@ -1,0 +1,114 @@
+-- The trace of some questions: a row for each step at which an answer changes, the oldest first.
+use Rattle.std.specs.Prelude.{ℕ, zero, suc, ◌+◌, ◌<◌, ◌≤◌, ◌≡◌, ◌⊎◌, true, List, [], ◌∷◌, ◌++◌, map, decimal, Result, Ok, Err}
+use Rattle.std.specs.Prelude.{if◌then◌else◌}
+use Rattle.std.specs.List.{flat_map}
+use Rattle.std.specs.Fmt.{signed_decimal}
+use Rattle.std.specs.Io.KnownBytes.{Appends}
+use Rattle.csv.specs.Writing.{default_writer, row_text}
+use Rattle.ss_program.specs.Program.{ProgramTable}
+use Rattle.ss_machine.specs.declared.limits.TheConstants.{LAST_POSITION}
+use Rattle.ss_machine.specs.Run.{Input, run, input_with}
+use Rattle.ss_debug.specs.Move.{is_ready_at, line_at}
+use Rattle.ss_debug.specs.Answer.{section_at}
+use Rattle.ss_trace.specs.declared.question.Question.{Question}
+use Rattle.ss_trace.specs.Question.{changes_at, asked}
+use Rattle.ss_trace.specs.Value.{value_at}
+use Rattle.ss_session.specs.Model.{accepted, IsOutcome}
+use Rattle.ss_session.specs.Texts.{OutletState}
+use Rattle.ss_session.specs.Written.{WritesPart}
+use Rattle.ss_run.specs.declared.rows.TheConstants.{COLUMN_NAMES}
+use Rattle.ss_run.specs.declared.whole_run.RunEnd.{RunEnd}
+use Rattle.ss_run.specs.declared.whole_run.RunEnd.TheVariants.{Done, Faulted, Refused}
+use Rattle.ss_run.specs.declared.whole_run.RunCut.{RunCut}
+use Rattle.ss_run.specs.declared.whole_run.RunCut.TheVariants.{Write, Memory}
+use Rattle.ss_run.specs.declared.whole_run.WholeRun.{WholeRun}
+use Rattle.ss_run.specs.Report.{IsRunEnd}
+use Rattle.ss_run.specs.WholeRun.{RunSays}
+
+-- a row of these fields, as the kit's writer of comma-separated values writes it
+abbrev pub csv_row : List (List ℕ) → List ℕ
+csv_row fields = row_text default_writer fields
+
+-- the names of the columns
+abbrev pub column_names : List (List ℕ)
+column_names = map (λ name. name.now) COLUMN_NAMES
+
+-- the row of a question that changes at the step from state q: the state, its clock, section and line, the question as it
+-- is asked, and its value behind the step
+abbrev pub step_fields : Input → Question → ℕ → List (List ℕ)
+step_fields t x q =
+    decimal q ∷ signed_decimal (run t q).clock ∷ section_at t q ∷ decimal (line_at t q) ∷ asked x
+    ∷ value_at t x (q + 1) ∷ []
+
+-- that row where the question changes, else nothing
+unfoldable pub change_row : Input → ℕ → Question → List ℕ
+change_row t q x = if changes_at t x q then csv_row (step_fields t x q) else []
+
+-- the rows of the step from state q, in the order of the questions
+abbrev pub step_rows : Input → List Question → ℕ → List ℕ
+step_rows t xs q = flat_map (change_row t q) xs
+
+-- the rows of all steps before state p
+unfoldable pub rows_before : Input → List Question → ℕ → List ℕ
+rows_before t xs zero = []
+rows_before t xs (suc q) = rows_before t xs q ++ step_rows t xs q
+
+-- the trace of a run up to state p
+abbrev pub trace_text : Input → List Question → ℕ → List ℕ
+trace_text t xs p = csv_row column_names ++ rows_before t xs p
+
+-- a run gets as far as state p
+pub record Reaches (t : Input) (p : ℕ) : Type 0 where
+  -- it is no further than the last one
+  pub within : p ≤ LAST_POSITION
+  -- all states before are ready
+  pub ready : (k : ℕ) → k < p → is_ready_at t k ≡ true
+
+-- nothing is written, and nothing failed
+abbrev pub WritesNothing : OutletState → OutletState → Type 0
+WritesNothing old new = Appends old.taken new.taken [] × (new.failures ≡ old.failures)
+
+-- how many failures of the trace a cut counts
+abbrev pub cut_failures : RunCut → ℕ
+cut_failures Memory = 0
+cut_failures Write = 1
+
+-- the whole trace of a run is written
+abbrev pub IsTraced : Input → List Question → OutletState → OutletState → Type 0
+IsTraced t xs trace traced =
+    (p : ℕ) × IsRunEnd t p × Appends trace.taken traced.taken (trace_text t xs p)
+    × (traced.failures ≡ trace.failures)
+
+-- a part of the trace up to a state that the run reaches is written, where it was cut
+abbrev pub IsTracedInPart : RunCut → Input → List Question → OutletState → OutletState → Type 0
+IsTracedInPart cut t xs trace traced =
+    (p : ℕ) × Reaches t p × WritesPart (trace_text t xs p) trace.taken traced.taken
+    × (traced.failures ≡ trace.failures + cut_failures cut)
+
+-- the model is a program, and the trace of its run over the data is written: whole, or in part
+abbrev pub TracesModel : (Input → Type 0) → List ℕ → List ℕ → Type 0
+TracesModel Traced model data_text =
+    (program : ProgramTable) × IsOutcome model (accepted program) × Traced (input_with program data_text)
+
+-- what is written of the trace of a run that ends so: nothing of a refused model
+abbrev pub EndsTraced : RunEnd → List ℕ → List ℕ → List Question → OutletState → OutletState → Type 0
+EndsTraced (Refused line) model data_text xs trace traced = WritesNothing trace traced
+EndsTraced Done model data_text xs trace traced = TracesModel (λ t. IsTraced t xs trace traced) model data_text
+EndsTraced (Faulted line) model data_text xs trace traced =
+    TracesModel (λ t. IsTraced t xs trace traced) model data_text
+
+-- nothing of a trace where memory was refused before the run
+abbrev pub IsNotBegun : RunCut → OutletState → OutletState → Type 0
+IsNotBegun Memory trace traced = WritesNothing trace traced
+IsNotBegun Write trace traced = ⊥
+
+-- a whole run and its trace: report and what is told as without a trace, and the whole trace; or where the trace was cut, a
+-- part of it and nothing of the report
+unfoldable pub TraceSays : Result WholeRun RunCut → List ℕ → List ℕ → List Question → OutletState → OutletState →
+    OutletState → OutletState → Type 0
+TraceSays (Ok whole) model data_text xs old new trace traced =
+    RunSays (Ok whole) model data_text old new × EndsTraced whole.end model data_text xs trace traced
+TraceSays (Err cut) model data_text xs old new trace traced =
+    (RunSays (Err cut) model data_text old new
+    × (IsNotBegun cut trace traced ⊎ TracesModel (λ t. IsTraced t xs trace traced) model data_text))
+    ⊎ (WritesNothing old new × TracesModel (λ t. IsTracedInPart cut t xs trace traced) model data_text)

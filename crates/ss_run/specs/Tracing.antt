@@ -1,0 +1,95 @@
+-- What the private functions of a traced run rest on. No public contract cites this module.
+use Rattle.std.specs.Prelude.{ℕ, ◌+◌, ◌<◌, ◌≡◌, ◌⊎◌, true, Result, Err, List, [], ◌∷◌, ◌++◌, length, map, decimal, slice_get}
+use Rattle.std.specs.declared.vec.Vec.{Vec}
+use Rattle.std.specs.Global.{Global}
+use Rattle.std.specs.Fmt.{signed_decimal}
+use Rattle.std.specs.Io.KnownBytes.{Appends}
+use Rattle.ss_program.specs.Program.{ProgramTable}
+use Rattle.ss_machine.specs.declared.limits.TheConstants.{LAST_POSITION}
+use Rattle.ss_machine.specs.declared.stepped.Stepped.TheVariants.{Moved}
+use Rattle.ss_machine.specs.Moment.{Moment, position}
+use Rattle.ss_machine.specs.Run.{Input, run}
+use Rattle.ss_debug.specs.Move.{is_ready_at, line_at}
+use Rattle.ss_debug.specs.Answer.{section_name}
+use Rattle.ss_trace.specs.declared.question.Question.{Question}
+use Rattle.ss_trace.specs.Question.{answer_at, asked}
+use Rattle.ss_trace.specs.Value.{value_in}
+use Rattle.ss_session.specs.Texts.{OutletState}
+use Rattle.ss_session.specs.Written.{WritesPart}
+use Rattle.ss_run.specs.declared.here.Here.{Here}
+use Rattle.ss_run.specs.declared.whole_run.RunCut.{RunCut}
+use Rattle.ss_run.specs.declared.whole_run.RunCut.TheVariants.{Write, Memory}
+use Rattle.ss_run.specs.declared.whole_run.WholeRun.{WholeRun}
+use Rattle.ss_run.specs.Advance.{MakesRun, HasAdvanced}
+use Rattle.ss_run.specs.Trace.{csv_row, step_rows, rows_before, Reaches, cut_failures}
+use Rattle.ss_run.specs.Trace.{WritesNothing, IsTraced, IsTracedInPart}
+
+-- it tells state q
+pub record IsHere (t : Input) (q : ℕ) (here : Here) : Type 0 where
+  -- its number
+  pub position : here.position ≡ q
+  -- its clock
+  pub clock : here.clock ≡ (run t q).clock
+  -- the section that runs
+  pub section : here.section ≡ (run t q).frame.section
+  -- there is such a section
+  pub within : here.section < length t.program.sections
+  -- the line of its place
+  pub line : here.line ≡ line_at t q
+
+-- the row of a question that has this answer behind a step from there
+abbrev pub row_of : ProgramTable → Here → Question → List ℕ → List ℕ
+row_of program here x answer =
+    csv_row (decimal here.position ∷ signed_decimal here.clock
+    ∷ section_name (slice_get program.sections here.section) ∷ decimal here.line ∷ asked x ∷ value_in x answer ∷ [])
+
+-- the answers to some questions in state p
+abbrev pub AreAnswers : Input → List Question → ℕ → List (Vec ℕ Global) → Type 0
+AreAnswers t xs p answers = map (λ v. v.items) answers ≡ map (λ x. answer_at t x p) xs
+
+-- the rows of the steps from state p to state q are written
+pub record HasTraced (t : Input) (xs : List Question) (p q : ℕ) (old new : OutletState) : Type 0 where
+  -- the rows
+  pub rows : List ℕ
+  -- they are those
+  pub follow : rows_before t xs q ≡ rows_before t xs p ++ rows
+  -- they are put behind what was written
+  pub put : Appends old.taken new.taken rows
+  -- nothing failed
+  pub failures : new.failures ≡ old.failures
+
+-- a run was traced from its start to where it stands now
+pub record TracesSoFar (a b : Moment) (xs : List Question) (vs : List (Vec ℕ Global)) (old new : OutletState) :
+    Type 0 where
+  -- it has made as many steps as its position says
+  pub advanced : HasAdvanced Moved (position b) a b
+  -- the answers are those of now
+  pub answers : AreAnswers a.input xs (position b) vs
+  -- the rows are written
+  pub traced : HasTraced a.input xs 0 (position b) old new
+
+-- what is written of a text where it is cut: nothing where memory is refused, else a part, by a call that failed
+abbrev pub CutsText : RunCut → List ℕ → OutletState → OutletState → Type 0
+CutsText Memory text old new = Appends old.taken new.taken [] × (new.failures ≡ old.failures)
+CutsText Write text old new = WritesPart text old.taken new.taken × (new.failures ≡ old.failures + 1)
+
+-- what is written of the rows of the step from state p where the trace is cut: nothing where memory is refused, else a
+-- part, by a call that failed; then the step was made
+abbrev pub CutsStep : RunCut → Input → List Question → ℕ → OutletState → OutletState → Type 0
+CutsStep Memory t xs p old new = Appends old.taken new.taken [] × (new.failures ≡ old.failures)
+CutsStep Write t xs p old new =
+    (is_ready_at t p ≡ true) × (p < LAST_POSITION) × CutsText Write (step_rows t xs p) old new
+
+-- what is written of the rows of a run where the trace is cut
+abbrev pub CutsRows : RunCut → Input → List Question → OutletState → OutletState → Type 0
+CutsRows cut t xs old new =
+    (p : ℕ) × Reaches t p × WritesPart (rows_before t xs p) old.taken new.taken
+    × (new.failures ≡ old.failures + cut_failures cut)
+
+-- a run is made and traced: the whole trace is written, and the report as without it, or the trace was cut, and nothing of
+-- the report is written
+unfoldable pub MakesTrace : Result WholeRun RunCut → Input → List Question → OutletState → OutletState →
+    OutletState → OutletState → Type 0
+MakesTrace result t xs old new trace traced =
+    (MakesRun result t old new × IsTraced t xs trace traced)
+    ⊎ ((cut : RunCut) × (result ≡ Err cut) × WritesNothing old new × IsTracedInPart cut t xs trace traced)

@@ -1,0 +1,46 @@
+//! Where a machine stands, as the rows of a trace tell it.
+ghost use Rattle.std.specs.Prelude.{◌≡◌};
+ghost use Rattle.ss_machine.specs.Moment.{position};
+ghost use Rattle.ss_debug.specs.Move.{line_at};
+ghost use Rattle.ss_run.specs.Tracing.{IsHere};
+
+use ss_debug::Debugger;
+use ss_links::SetBoard;
+use ss_machine::Machine;
+
+/// Where a machine stands.
+#[derive(Clone, Copy, Debug)]
+pub struct Here {
+    /// The number of the state.
+    pub position: u64,
+    /// Its clock.
+    pub clock: i64,
+    /// The number of the section that runs.
+    pub section: usize,
+    /// The line of its present place.
+    pub line: usize,
+}
+
+/// The line of the place where the machine stands.
+fn present_line<S: SetBoard>(machine: &Machine<S>) -> usize
+    ensures { result ≡ line_at machine.now.input (position machine.now) }
+{
+    machine.known();
+    let (section, place) = machine.place();
+    machine.program().spot(section, place).line
+}
+
+/// Where a debugger stands.
+pub fn read_here<S: SetBoard>(debugger: &Debugger<S>) -> Here
+    ensures { IsHere debugger.now.machine.input (position debugger.now.machine) result }
+{
+    let machine = debugger.machine();
+    machine.known();
+    let (section, _) = machine.place();
+    Here {
+        position: machine.position(),
+        clock: machine.clock(),
+        section,
+        line: present_line(machine),
+    }
+}

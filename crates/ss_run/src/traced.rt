@@ -1,0 +1,281 @@
+//! A whole run whose questions are traced.
+ghost use Rattle.std.specs.Prelude.{◌≡◌, ◌+◌, ◌-◌, ◌<◌, ◌^◌, IfOk, OnOk, IfErr};
+ghost use Rattle.std.specs.Io.KnownBytes.{Appends};
+ghost use Rattle.ss_machine.specs.Moment.{position};
+ghost use Rattle.ss_machine.specs.Run.{input_with};
+ghost use Rattle.ss_run.specs.Report.{IsRunEnd};
+ghost use Rattle.ss_run.specs.Advance.{HasAdvanced};
+ghost use Rattle.ss_run.specs.Trace.{step_rows, IsTraced, IsTracedInPart, TraceSays};
+ghost use Rattle.ss_run.specs.Tracing.{IsHere, AreAnswers, HasTraced, CutsText, CutsStep};
+ghost use Rattle.ss_run.specs.Tracing.{CutsRows, MakesTrace};
+
+use crate::here::{Here, read_here};
+use crate::rows::{answers, head_row, push_changes};
+use crate::whole_run::{
+    MOST_KEPT, Progress, RunCut, STEPS_BETWEEN, WholeRun, refusal, write_report,
+};
+use ss_debug::{Command, Debugger, obey};
+use ss_links::{LinkedSets, SetBoard};
+use ss_machine::{Machine, Stepped};
+use ss_program::Program;
+use ss_session::{Outlet, load_program, machine, put_all};
+use ss_trace::Question;
+use std::alloc::{AllocError, Global};
+use std::mem::replace;
+
+/// Lets go of the way back where it has become long.
+fn forget_many<S: SetBoard>(alloc: Global, debugger: &mut Debugger<S>) -> Result<(), AllocError>
+    ensures input { debugger.new.machine.input ≡ debugger.old.machine.input }
+    ensures position { position debugger.new.machine ≡ position debugger.old.machine }
+{
+    if debugger.machine().kept() < MOST_KEPT {
+        return Ok(());
+    }
+    let mut said = Vec::new(alloc);
+    obey(debugger, Command::Forget(0), &mut said)?;
+    Ok(())
+}
+
+/// Writes a text to the trace.
+fn put_text<T: Outlet>(trace: &mut T, text: &[u8]) -> Result<(), RunCut>
+    requires { T.failures trace.old < 2 ^ 64 - 1 }
+    ensures ok { OnOk result (Appends (T.taken trace.old) (T.taken trace.new) text.now
+        × (T.failures trace.new ≡ T.failures trace.old)) }
+    ensures err { IfErr result (λ cut. CutsText cut text.now
+        (record { taken = T.taken trace.old; failures = T.failures trace.old })
+        (record { taken = T.taken trace.new; failures = T.failures trace.new })) }
+{
+    match put_all(trace, text) {
+        Ok(()) => Ok(()),
+        Err(_) => Err(RunCut::Write),
+    }
+}
+
+/// Writes the rows of the step that led to where a debugger stands, and reads the answers there.
+fn trace_change<S: SetBoard, T: Outlet>(
+    alloc: Global,
+    debugger: &Debugger<S>,
+    here: Here,
+    questions: &[Question],
+    before: &mut Vec<Vec<u8>>,
+    trace: &mut T,
+) -> Result<(), RunCut>
+    requires here { IsHere debugger.now.machine.input here.position here }
+    requires step { position debugger.now.machine ≡ here.position + 1 }
+    requires before { AreAnswers debugger.now.machine.input questions.now here.position
+        before.old.items }
+    requires room { T.failures trace.old < 2 ^ 64 - 1 }
+    ensures now { OnOk result (AreAnswers debugger.now.machine.input questions.now
+        (here.position + 1) before.new.items) }
+    ensures rows { OnOk result (Appends (T.taken trace.old) (T.taken trace.new)
+        (step_rows debugger.now.machine.input questions.now here.position)
+        × (T.failures trace.new ≡ T.failures trace.old)) }
+    ensures cut { IfErr result (λ cut. CutsText cut
+        (step_rows debugger.now.machine.input questions.now here.position)
+        (record { taken = T.taken trace.old; failures = T.failures trace.old })
+        (record { taken = T.taken trace.new; failures = T.failures trace.new })) }
+{
+    let now = answers(alloc, debugger, questions)?;
+    let mut rows = Vec::new(alloc);
+    push_changes(&mut rows, debugger, here, questions, before, &now)?;
+    drop(replace(before, now));
+    put_text(trace, &rows)
+}
+
+/// One step and its rows, or none where the run has ended.
+fn trace_step<S: SetBoard, T: Outlet>(
+    alloc: Global,
+    debugger: &mut Debugger<S>,
+    questions: &[Question],
+    answers: &mut Vec<Vec<u8>>,
+    trace: &mut T,
+) -> Result<Stepped, RunCut>
+    requires answers { AreAnswers debugger.old.machine.input questions.now
+        (position debugger.old.machine) answers.old.items }
+    requires room { T.failures trace.old < 2 ^ 64 - 1 }
+    ensures step { IfOk result (λ stepped. HasAdvanced stepped 1 debugger.old.machine
+        debugger.new.machine) }
+    ensures answers { OnOk result (AreAnswers debugger.old.machine.input questions.now
+        (position debugger.new.machine) answers.new.items) }
+    ensures rows { OnOk result (HasTraced debugger.old.machine.input questions.now
+        (position debugger.old.machine) (position debugger.new.machine)
+        (record { taken = T.taken trace.old; failures = T.failures trace.old })
+        (record { taken = T.taken trace.new; failures = T.failures trace.new })) }
+    ensures cut { IfErr result (λ cut. CutsStep cut debugger.old.machine.input questions.now
+        (position debugger.old.machine)
+        (record { taken = T.taken trace.old; failures = T.failures trace.old })
+        (record { taken = T.taken trace.new; failures = T.failures trace.new })) }
+{
+    debugger.machine().known();
+    let here = read_here(debugger);
+    let stepped = debugger.step_forward()?;
+    debugger.machine().known();
+    if let Stepped::Moved = stepped {
+        trace_change(alloc, debugger, here, questions, answers, trace)?;
+    }
+    Ok(stepped)
+}
+
+/// Says each so many steps how far a run is.
+fn tell_progress<S: SetBoard, P: Progress>(debugger: &Debugger<S>, progress: &mut P) {
+    let machine = debugger.machine();
+    if machine.position() % STEPS_BETWEEN == 0 {
+        progress.reached(machine.position(), machine.clock());
+    }
+}
+
+/// Makes steps to the end of the run, and writes their rows; few steps are kept.
+fn trace_to_end<S: SetBoard, P: Progress, T: Outlet>(
+    alloc: Global,
+    debugger: &mut Debugger<S>,
+    questions: &[Question],
+    progress: &mut P,
+    trace: &mut T,
+) -> Result<(), RunCut>
+    requires start { position debugger.old.machine ≡ 0 }
+    requires room { T.failures trace.old < 2 ^ 64 - 1 }
+    ensures input { OnOk result (debugger.new.machine.input ≡ debugger.old.machine.input) }
+    ensures end { OnOk result (IsRunEnd debugger.old.machine.input (position debugger.new.machine)) }
+    ensures rows { OnOk result (HasTraced debugger.old.machine.input questions.now 0
+        (position debugger.new.machine)
+        (record { taken = T.taken trace.old; failures = T.failures trace.old })
+        (record { taken = T.taken trace.new; failures = T.failures trace.new })) }
+    ensures cut { IfErr result (λ cut. CutsRows cut debugger.old.machine.input questions.now
+        (record { taken = T.taken trace.old; failures = T.failures trace.old })
+        (record { taken = T.taken trace.new; failures = T.failures trace.new })) }
+{
+    debugger.machine().known();
+    let mut answers = answers(alloc, debugger, questions)?;
+    loop {
+        forget_many(alloc, debugger)?;
+        match trace_step(alloc, debugger, questions, &mut answers, trace)? {
+            Stepped::Moved => tell_progress(debugger, progress),
+            Stepped::AtEnd => return Ok(()),
+        }
+    }
+}
+
+/// Writes the names of the columns, and makes steps to the end of the run.
+fn trace_all<S: SetBoard, P: Progress, T: Outlet>(
+    alloc: Global,
+    debugger: &mut Debugger<S>,
+    questions: &[Question],
+    progress: &mut P,
+    trace: &mut T,
+) -> Result<(), RunCut>
+    requires start { position debugger.old.machine ≡ 0 }
+    requires room { T.failures trace.old < 2 ^ 64 - 1 }
+    ensures input { OnOk result (debugger.new.machine.input ≡ debugger.old.machine.input) }
+    ensures end { OnOk result (IsRunEnd debugger.old.machine.input (position debugger.new.machine)) }
+    ensures ok { OnOk result (IsTraced debugger.old.machine.input questions.now
+        (record { taken = T.taken trace.old; failures = T.failures trace.old })
+        (record { taken = T.taken trace.new; failures = T.failures trace.new })) }
+    ensures cut { IfErr result (λ cut. IsTracedInPart cut debugger.old.machine.input questions.now
+        (record { taken = T.taken trace.old; failures = T.failures trace.old })
+        (record { taken = T.taken trace.new; failures = T.failures trace.new })) }
+{
+    let head = head_row(alloc)?;
+    put_text(trace, &head)?;
+    trace_to_end(alloc, debugger, questions, progress, trace)
+}
+
+/// Makes the run of a debugger's machine and its trace, and writes its report.
+fn trace_report<S: SetBoard, P: Progress, T: Outlet, W: Outlet>(
+    alloc: Global,
+    debugger: &mut Debugger<S>,
+    questions: &[Question],
+    progress: &mut P,
+    trace: &mut T,
+    out: &mut W,
+) -> Result<WholeRun, RunCut>
+    requires start { position debugger.old.machine ≡ 0 }
+    requires trace_room { T.failures trace.old < 2 ^ 64 - 1 }
+    requires room { W.failures out.old < 2 ^ 64 - 1 }
+    ensures { MakesTrace result debugger.old.machine.input questions.now
+        (record { taken = W.taken out.old; failures = W.failures out.old })
+        (record { taken = W.taken out.new; failures = W.failures out.new })
+        (record { taken = T.taken trace.old; failures = T.failures trace.old })
+        (record { taken = T.taken trace.new; failures = T.failures trace.new }) }
+{
+    trace_all(alloc, debugger, questions, progress, trace)?;
+    write_report(alloc, debugger, out)
+}
+
+/// Makes the run of a machine and its trace, and writes its report.
+fn trace_run<S: SetBoard, P: Progress, T: Outlet, W: Outlet>(
+    alloc: Global,
+    machine: Machine<S>,
+    questions: &[Question],
+    progress: &mut P,
+    trace: &mut T,
+    out: &mut W,
+) -> Result<WholeRun, RunCut>
+    requires start { position machine ≡ 0 }
+    requires trace_room { T.failures trace.old < 2 ^ 64 - 1 }
+    requires room { W.failures out.old < 2 ^ 64 - 1 }
+    ensures { MakesTrace result machine.input questions.now
+        (record { taken = W.taken out.old; failures = W.failures out.old })
+        (record { taken = W.taken out.new; failures = W.failures out.new })
+        (record { taken = T.taken trace.old; failures = T.failures trace.old })
+        (record { taken = T.taken trace.new; failures = T.failures trace.new }) }
+{
+    let mut debugger = Debugger::new(alloc, machine);
+    let written = trace_report(alloc, &mut debugger, questions, progress, trace, out);
+    drop(debugger);
+    written
+}
+
+/// Makes the run of a program over its data and its trace, and writes its report.
+fn trace_program<P: Progress, T: Outlet, W: Outlet>(
+    alloc: Global,
+    program: Program,
+    data_text: &[u8],
+    questions: &[Question],
+    progress: &mut P,
+    trace: &mut T,
+    out: &mut W,
+) -> Result<WholeRun, RunCut>
+    requires trace_room { T.failures trace.old < 2 ^ 64 - 1 }
+    requires room { W.failures out.old < 2 ^ 64 - 1 }
+    ensures { MakesTrace result (input_with program data_text.now) questions.now
+        (record { taken = W.taken out.old; failures = W.failures out.old })
+        (record { taken = W.taken out.new; failures = W.failures out.new })
+        (record { taken = T.taken trace.old; failures = T.failures trace.old })
+        (record { taken = T.taken trace.new; failures = T.failures trace.new }) }
+{
+    let (sets, pending) = (LinkedSets::new(alloc), LinkedSets::new(alloc));
+    let machine = machine(alloc, program, data_text, sets, pending)?;
+    trace_run(alloc, machine, questions, progress, trace, out)
+}
+
+/// As `run_model`, and writes a trace of some questions as the run goes: comma-separated values, a
+/// row of the names of the columns, and then, for each step at which the answer to a question
+/// changes, the state before the step, its clock, section and line, the question and its value
+/// behind the step (docs/RUNS.md). Of each question the last answer is kept, and no more.
+///
+/// `Ok` where all of report and trace was written; of a refused model nothing is. `Write` where
+/// `out` counted a failure, and then the trace is whole, or where `trace` counted one: then a part of
+/// the trace is written, and nothing of the report. `Memory` where a growth was refused: nothing of
+/// the report is written, and of the trace a part.
+pub fn trace_model<P: Progress, T: Outlet, W: Outlet>(
+    alloc: Global,
+    model: &[u8],
+    data_text: &[u8],
+    questions: &[Question],
+    progress: &mut P,
+    trace: &mut T,
+    out: &mut W,
+) -> Result<WholeRun, RunCut>
+    requires trace_room { T.failures trace.old < 2 ^ 64 - 1 }
+    requires room { W.failures out.old < 2 ^ 64 - 1 }
+    ensures { TraceSays result model.now data_text.now questions.now
+        (record { taken = W.taken out.old; failures = W.failures out.old })
+        (record { taken = W.taken out.new; failures = W.failures out.new })
+        (record { taken = T.taken trace.old; failures = T.failures trace.old })
+        (record { taken = T.taken trace.new; failures = T.failures trace.new }) }
+{
+    match load_program(alloc, model) {
+        Ok(program) => { trace_program(alloc, program, data_text, questions, progress, trace, out) }
+        Err(fault) => refusal(alloc, model, fault),
+    }
+}
