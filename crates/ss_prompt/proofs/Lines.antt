@@ -10,6 +10,11 @@ unfolding with_word
 too_long [] = refl
 too_long (word ∷ words) = too_long words
 
+-- also by one word
+pub one_too_long : (word : List ℕ) → with_word None word ≡ None
+unfolding with_word
+one_too_long word = refl
+
 -- one word made whole, and those behind it
 pub one_whole : (at : Standing) (word : List ℕ) (more : List (List ℕ)) →
     all_whole at (word ∷ more) ≡ made_whole at word more ∷ all_whole (behind at (made_whole at word more)) more

@@ -1,6 +1,7 @@
 pub mod Source
 pub mod Words
 pub mod Cuts
+pub mod Asked
 pub mod Reading
 pub mod FaultLine
 pub mod PromptState
@@ -9,6 +10,7 @@ pub mod Travel
 pub mod Sections
 pub mod Listing
 pub mod Displays
+pub mod Histories
 pub mod Help
 pub mod Prompting
 pub mod Laws

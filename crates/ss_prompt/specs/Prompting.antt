@@ -2,11 +2,12 @@
 use Rattle.std.specs.Prelude.{ℕ, ◌≡◌, List, codes, Bool, false}
 use Rattle.ss_debug.specs.declared.commands.Command.TheVariants.{Break, Clear}
 use Rattle.ss_debug.specs.Turn.{is_quit as is_plain_quit}
+use Rattle.ss_trace.specs.Question.{answer_at}
 use Rattle.ss_console.specs.Meaning.{Meaning}
 use Rattle.ss_prompt.specs.declared.commands.PromptCommand.{PromptCommand}
 use Rattle.ss_prompt.specs.declared.commands.PromptCommand.TheVariants.{Plain, Travel, Lines, SectionLines}
 use Rattle.ss_prompt.specs.declared.commands.PromptCommand.TheVariants.{BreakSection, ClearSection}
-use Rattle.ss_prompt.specs.declared.commands.PromptCommand.TheVariants.{Display, Undisplay, Help}
+use Rattle.ss_prompt.specs.declared.commands.PromptCommand.TheVariants.{Ask, Why, History, Display, Undisplay, Help}
 use Rattle.ss_prompt.specs.Reading.{prompt_command_of}
 use Rattle.ss_prompt.specs.PromptState.{PromptState}
 use Rattle.ss_prompt.specs.Plain.{plain_next, plain_said, IsPlainRefused}
@@ -14,6 +15,7 @@ use Rattle.ss_prompt.specs.Travel.{travel_next, travel_said, IsTravelRefused}
 use Rattle.ss_prompt.specs.Sections.{on_section_said, on_section_next}
 use Rattle.ss_prompt.specs.Listing.{lines_said, section_lines_said}
 use Rattle.ss_prompt.specs.Displays.{display_said, display_next, undisplay_said, undisplay_next}
+use Rattle.ss_prompt.specs.Histories.{why_said, history_said, HasLookedBack}
 use Rattle.ss_prompt.specs.Help.{help_said}
 
 -- what a command answers
@@ -24,6 +26,9 @@ prompt_answer s (Lines line) = lines_said s line
 prompt_answer s (SectionLines name) = section_lines_said s name
 prompt_answer s (BreakSection name) = on_section_said s Break name
 prompt_answer s (ClearSection name) = on_section_said s Clear name
+prompt_answer s (Ask x) = answer_at s.input x s.debugger.position
+prompt_answer s (Why x) = why_said s x
+prompt_answer s (History x rows) = history_said s x rows
 prompt_answer s (Display q) = display_said s q
 prompt_answer s Undisplay = undisplay_said s
 prompt_answer s (Help word) = help_said word
@@ -43,10 +48,13 @@ abbrev pub is_quit : PromptCommand → Bool
 is_quit (Plain command) = is_plain_quit command
 is_quit _ = false
 
--- where memory was refused: a movement was made in part or whole; any other command left all as it was
+-- where memory was refused: a movement was made in part or whole; WHY and HISTORY left the debugger perhaps at an
+-- earlier state; any other command left all as it was
 unfoldable pub IsRefused : PromptState → PromptCommand → PromptState → Type 0
 IsRefused s (Plain command) after = IsPlainRefused s command after
 IsRefused s (Travel m) after = IsTravelRefused s m after
+IsRefused s (Why x) after = HasLookedBack s after
+IsRefused s (History x rows) after = HasLookedBack s after
 IsRefused s _ after = after ≡ s
 
 -- the answer where memory was refused

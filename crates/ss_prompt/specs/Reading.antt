@@ -10,12 +10,15 @@ use Rattle.ss_debug.specs.declared.commands.Command.TheVariants.{Bad, Move, Brea
 use Rattle.ss_debug.specs.declared.commands.Movement.TheVariants.{Step, RunTo}
 use Rattle.ss_debug.specs.declared.commands.Question.{Question}
 use Rattle.ss_trace.specs.declared.movement.Movement.TheVariants.{Over, Out, BackOver, BackOut, BackTo, Go, GoEnd}
+use Rattle.ss_trace.specs.declared.movement.Movement.TheVariants.{RunChange, BackChange}
 use Rattle.ss_prompt.specs.Words.{command_behind, question_of, only_name_of}
+use Rattle.ss_prompt.specs.Asked.{own_asked, asked_of}
+use Rattle.ss_prompt.specs.Histories.{history_wanted}
 use Rattle.ss_prompt.specs.Cuts.{whole_line}
 use Rattle.ss_prompt.specs.declared.commands.PromptCommand.{PromptCommand}
 use Rattle.ss_prompt.specs.declared.commands.PromptCommand.TheVariants.{Plain, Travel, Lines, SectionLines}
 use Rattle.ss_prompt.specs.declared.commands.PromptCommand.TheVariants.{BreakSection, ClearSection}
-use Rattle.ss_prompt.specs.declared.commands.PromptCommand.TheVariants.{Display, Undisplay, Help}
+use Rattle.ss_prompt.specs.declared.commands.PromptCommand.TheVariants.{Ask, Why, History, Display, Undisplay, Help}
 
 -- no command
 abbrev pub bad : PromptCommand
@@ -63,7 +66,14 @@ back_command [] = bad
 back_command (word ∷ rest) =
     if bytes_eq word (codes "OVER") then back_over_of (command_behind (codes "STEP") rest) else
     if bytes_eq word (codes "OUT") then alone (Travel BackOut) rest else
-    if bytes_eq word (codes "TO") then back_to_of (command_behind (codes "RUN TO") rest) else bad
+    if bytes_eq word (codes "TO") then back_to_of (command_behind (codes "RUN TO") rest) else
+    if bytes_eq word (codes "CHANGE") then made_or_bad (λ x. Travel (BackChange x)) (asked_of rest) else bad
+
+-- what stands behind RUN
+abbrev pub run_command : List (List ℕ) → PromptCommand
+run_command [] = bad
+run_command (word ∷ rest) =
+    if bytes_eq word (codes "CHANGE") then made_or_bad (λ x. Travel (RunChange x)) (asked_of rest) else bad
 
 -- LIST: a line as BREAK takes it, or the name of a section
 abbrev pub lines_of : Command → Option (List ℕ) → PromptCommand
@@ -87,6 +97,10 @@ own_in_words (verb ∷ rest) =
     if bytes_eq verb (codes "OVER") then over_of (command_behind (codes "STEP") rest) else
     if bytes_eq verb (codes "OUT") then alone (Travel Out) rest else
     if bytes_eq verb (codes "BACK") then back_command rest else
+    if bytes_eq verb (codes "RUN") then run_command rest else
+    if bytes_eq verb (codes "SHOW") then made_or_bad Ask (own_asked rest) else
+    if bytes_eq verb (codes "WHY") then made_or_bad Why (asked_of rest) else
+    if bytes_eq verb (codes "HISTORY") then made_or_bad (λ w. History w.0 w.1) (history_wanted rest) else
     if bytes_eq verb (codes "GO") then go_command rest else
     if bytes_eq verb (codes "LIST") then list_command rest else
     if bytes_eq verb (codes "BREAK") then made_or_bad BreakSection (only_name_of rest) else

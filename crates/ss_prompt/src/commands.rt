@@ -1,6 +1,6 @@
 //! What a line of the prompt says.
 use ss_debug::{Command, Name, Question};
-use ss_trace::Movement;
+use ss_trace::{Movement, Question as Asked};
 
 /// A command of the prompt (docs/PROMPT.md).
 #[derive(Drop)]
@@ -17,6 +17,12 @@ pub enum PromptCommand {
     BreakSection(Name),
     /// CLEAR r: that line is no break line any more.
     ClearSection(Name),
+    /// SHOW c k a, SHOW COUNT: a question beside those of docs/DEBUGGER.md.
+    Ask(Asked),
+    /// WHY: the newest step at which a question changed.
+    Why(Asked),
+    /// HISTORY: so many steps at which a question changed, the newest first.
+    History(Asked, u64),
     /// DISPLAY: a question that is answered at each stop.
     Display(Question),
     /// UNDISPLAY: no question is answered at stops any more.

@@ -7,13 +7,17 @@ use std::alloc::AllocError;
 
 /// A row for each form of a command: the word that it begins with; how it is written, and what it
 /// does.
-pub const HELP_ROWS: [(&[u8], &[u8]); 34] = [
+pub const HELP_ROWS: [(&[u8], &[u8]); 40] = [
     (b"STEP", b"STEP [n]: n steps forward, 1 if not said"),
     (
         b"RUN",
         b"RUN [n]: forward to a break line or the end, at most n steps, 1000000 if not said",
     ),
     (b"RUN", b"RUN TO t: forward to time t or a break line"),
+    (
+        b"RUN",
+        b"RUN CHANGE x: forward to behind a step that changes x",
+    ),
     (b"NEXT", b"NEXT: forward to the next event start"),
     (
         b"OVER",
@@ -23,6 +27,10 @@ pub const HELP_ROWS: [(&[u8], &[u8]); 34] = [
     (b"BACK", b"BACK [n]: n steps back, 1 if not said"),
     (b"BACK", b"BACK EVENT: back to the last event start"),
     (b"BACK", b"BACK BREAK: back to a break line"),
+    (
+        b"BACK",
+        b"BACK CHANGE x: back to before a step that changes x",
+    ),
     (
         b"BACK",
         b"BACK OVER [n]: back over n statements of this section",
@@ -47,7 +55,9 @@ pub const HELP_ROWS: [(&[u8], &[u8]); 34] = [
     (b"SHOW", b"SHOW WHERE: the state line"),
     (b"SHOW", b"SHOW VAR v: variable v"),
     (b"SHOW", b"SHOW c k: entity k of class c"),
+    (b"SHOW", b"SHOW c k a: attribute a of it"),
     (b"SHOW", b"SHOW SET s [k]: the members of set s, of owner k"),
+    (b"SHOW", b"SHOW COUNT s [k]: how many they are"),
     (b"SHOW", b"SHOW EVENTS: the pending notices, the next first"),
     (
         b"SHOW",
@@ -55,6 +65,11 @@ pub const HELP_ROWS: [(&[u8], &[u8]); 34] = [
     ),
     (b"SHOW", b"SHOW ENTRY: the entry of an external event"),
     (b"SHOW", b"SHOW REPORT: the report so far"),
+    (b"WHY", b"WHY x: the newest step that changed x"),
+    (
+        b"HISTORY",
+        b"HISTORY x [n]: the newest n steps that changed x, 10 if not said",
+    ),
     (
         b"DISPLAY",
         b"DISPLAY x: answer x at each stop; x is what may stand behind SHOW",

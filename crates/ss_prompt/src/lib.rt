@@ -1,11 +1,13 @@
 //! The prompt: the lines of an analyst, each answered by the debugger before the next is read.
 #![tactic(auto)]
 
+mod asked;
 mod commands;
 mod cuts;
 mod displays;
 mod fault_line;
 mod help;
+mod histories;
 mod laws;
 mod line;
 mod listing;

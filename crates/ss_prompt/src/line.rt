@@ -1,5 +1,5 @@
 //! Lines that are made of words, and what they say to the debugger.
-ghost use Rattle.std.specs.Prelude.{◌≡◌, ◌≤◌, length, Some};
+ghost use Rattle.std.specs.Prelude.{◌≡◌, ◌≤◌, ◌∷◌, [], length, codes, Some};
 ghost use Rattle.ss_console.specs.declared.lines.TheConstants.{LINE_LIMIT};
 ghost use Rattle.ss_debug.specs.CommandLines.{command_words};
 ghost use Rattle.ss_prompt.specs.Words.{with_word, line_behind, command_behind, only_name_of};
@@ -82,6 +82,37 @@ pub(crate) fn command_behind(head: &[u8], rest: &[u8]) -> Command
     ensures { result ≡ command_behind head.now (command_words rest.now) }
 {
     match line_behind(head, rest) {
+        None => Command::Bad,
+        Some(line) => command(line.as_slice()),
+    }
+}
+
+/// What one word says to the debugger behind a beginning.
+pub(crate) fn command_of_word(head: &[u8], word: &[u8]) -> Command
+    requires { length head.now ≤ LINE_LIMIT }
+    ensures { result ≡ command_behind head.now (word.now ∷ []) }
+{
+    let Some(line) = Line::new(head) else {
+        return Command::Bad;
+    };
+    match line.with_word(word) {
+        None => Command::Bad,
+        Some(line) => command(line.as_slice()),
+    }
+}
+
+/// What two words say to the debugger behind SHOW.
+#[tactic(auto, using(crate::proofs::Lines::one_too_long))]
+pub(crate) fn command_of_two(what: &[u8], word: &[u8]) -> Command
+    ensures { result ≡ command_behind (codes "SHOW") (what.now ∷ word.now ∷ []) }
+{
+    let Some(head) = Line::new(b"SHOW") else {
+        return Command::Bad;
+    };
+    let Some(first) = head.with_word(what) else {
+        return Command::Bad;
+    };
+    match first.with_word(word) {
         None => Command::Bad,
         Some(line) => command(line.as_slice()),
     }

@@ -11,6 +11,8 @@ ghost use Rattle.ss_debug.specs.Answer.{state_line};
 ghost use Rattle.ss_debug.specs.Turn.{answer as plain_answer};
 ghost use Rattle.ss_debug.specs.declared.commands.Command.TheVariants as plain;
 ghost use Rattle.ss_prompt.specs.Listing.{lines_said, section_lines_said};
+ghost use Rattle.ss_trace.specs.Question.{answer_at};
+ghost use Rattle.ss_prompt.specs.Histories.{why_said, history_said, HasLookedBack};
 ghost use Rattle.ss_prompt.specs.Displays.{display_said, display_next, undisplay_said, undisplay_next};
 ghost use Rattle.ss_prompt.specs.Prompting.{prompt_answer, prompt_state_after, IsRefused, is_quit, prompting};
 
@@ -29,7 +31,7 @@ use ss_console::{Answerer, Console, Go, PutFault, put_all};
 use ss_debug::{Command, Debugger, Name, Question, obey};
 use ss_links::SetBoard;
 use ss_machine::Status;
-use ss_trace::{Movement, make_movement};
+use ss_trace::{Movement, Question as Asked, make_movement, push_answer, push_history, push_why};
 use std::alloc::{AllocError, Global};
 use std::marker::Model;
 
@@ -229,6 +231,46 @@ impl<S: SetBoard> Prompt<S> {
         }
     }
 
+    /// SHOW of a question beside those of docs/DEBUGGER.md.
+    fn ask(&self, question: &Asked, answer: &mut Vec<u8>) -> Result<(), AllocError>
+        ensures { OnOk result (answer.new.items ≡ answer.old.items
+            ++ answer_at self.now.input question.now self.now.debugger.position) }
+    {
+        push_answer(&self.debugger, question, answer)
+    }
+
+    /// WHY.
+    #[tactic(auto, unfolding(crate::specs::Histories::HasLookedBack))]
+    fn why(&mut self, question: &Asked, answer: &mut Vec<u8>) -> Result<(), AllocError>
+        ensures place { OnOk result (self.new ≡ self.old) }
+        ensures said { OnOk result (answer.new.items
+            ≡ answer.old.items ++ why_said self.old question.now) }
+        ensures memory { OnErr result (HasLookedBack self.old self.new) }
+    {
+        self.debugger.machine().known();
+        let mut change = Vec::new(self.alloc);
+        if let Some(line) = push_why(&mut self.debugger, question, answer, &mut change)? {
+            push_marked_line(answer, &self.lines, b"> ", line)?;
+        }
+        answer.extend_from_slice(&change)
+    }
+
+    /// HISTORY.
+    #[tactic(auto, unfolding(crate::specs::Histories::HasLookedBack))]
+    fn history(
+        &mut self,
+        question: &Asked,
+        rows: u64,
+        answer: &mut Vec<u8>,
+    ) -> Result<(), AllocError>
+        ensures place { OnOk result (self.new ≡ self.old) }
+        ensures said { OnOk result (answer.new.items
+            ≡ answer.old.items ++ history_said self.old question.now rows) }
+        ensures memory { OnErr result (HasLookedBack self.old self.new) }
+    {
+        push_history(&mut self.debugger, question, rows, answer)
+    }
+
     /// DISPLAY.
     fn display(&mut self, question: Question, answer: &mut Vec<u8>) -> Result<(), AllocError>
         ensures place { OnOk result (self.new ≡ display_next self.old question) }
@@ -264,6 +306,9 @@ impl<S: SetBoard> Prompt<S> {
             PromptCommand::SectionLines(name) => self.list_section(&name, answer)?,
             PromptCommand::BreakSection(name) => self.break_section(&name, answer)?,
             PromptCommand::ClearSection(name) => self.clear_section(&name, answer)?,
+            PromptCommand::Ask(question) => self.ask(&question, answer)?,
+            PromptCommand::Why(question) => self.why(&question, answer)?,
+            PromptCommand::History(question, rows) => self.history(&question, rows, answer)?,
             PromptCommand::Display(question) => self.display(question, answer)?,
             PromptCommand::Undisplay => self.undisplay(answer)?,
             PromptCommand::Help(word) => push_help(answer, word)?,

@@ -4,12 +4,18 @@ ghost use Rattle.ss_debug.specs.CommandLines.{command_words};
 ghost use Rattle.ss_prompt.specs.Words.{command_behind, question_of, only_name_of};
 ghost use Rattle.ss_prompt.specs.Reading.{made_or_bad, alone, over_of, back_over_of, back_to_of};
 ghost use Rattle.ss_prompt.specs.Reading.{go_command, back_command, list_command, help_command};
+ghost use Rattle.ss_prompt.specs.Asked.{asked_of, own_asked};
+ghost use Rattle.ss_prompt.specs.Histories.{history_wanted};
+ghost use Rattle.ss_prompt.specs.Reading.{run_command};
 ghost use Rattle.ss_prompt.specs.Reading.{own_in_words, own_of_whole, own_command_of};
 ghost use Rattle.ss_prompt.specs.Reading.{prompt_command_of};
 ghost use Rattle.ss_prompt.specs.declared.commands.PromptCommand.TheVariants as prompt;
+ghost use Rattle.ss_trace.specs.declared.movement.Movement.TheVariants as trace;
 
+use crate::asked::{asked, own_asked};
 use crate::commands::PromptCommand;
 use crate::cuts::whole_line;
+use crate::histories::history_wanted;
 use crate::line::{Line, command_behind, only_name};
 use crate::pieces::next_word;
 use ss_console::LINE_LIMIT;
@@ -74,6 +80,72 @@ fn go(rest: &[u8]) -> PromptCommand
     }
 }
 
+/// RUN CHANGE: a question.
+fn run_change(rest: &[u8]) -> PromptCommand
+    ensures { result ≡ made_or_bad (λ x. prompt.Travel (trace.RunChange x))
+        (asked_of (command_words rest.now)) }
+{
+    match asked(rest) {
+        Some(question) => PromptCommand::Travel(Movement::RunChange(question)),
+        None => PromptCommand::Plain(Command::Bad),
+    }
+}
+
+/// BACK CHANGE: the same.
+fn back_change(rest: &[u8]) -> PromptCommand
+    ensures { result ≡ made_or_bad (λ x. prompt.Travel (trace.BackChange x))
+        (asked_of (command_words rest.now)) }
+{
+    match asked(rest) {
+        Some(question) => PromptCommand::Travel(Movement::BackChange(question)),
+        None => PromptCommand::Plain(Command::Bad),
+    }
+}
+
+/// What stands behind RUN.
+fn run(rest: &[u8]) -> PromptCommand
+    ensures { result ≡ run_command (command_words rest.now) }
+{
+    let Some((word, more)) = next_word(rest) else {
+        return PromptCommand::Plain(Command::Bad);
+    };
+    if word == b"CHANGE".as_slice() {
+        return run_change(more);
+    }
+    PromptCommand::Plain(Command::Bad)
+}
+
+/// What stands behind SHOW: a question that is none of docs/DEBUGGER.md.
+fn show(rest: &[u8]) -> PromptCommand
+    ensures { result ≡ made_or_bad prompt.Ask (own_asked (command_words rest.now)) }
+{
+    match own_asked(rest) {
+        Some(question) => PromptCommand::Ask(question),
+        None => PromptCommand::Plain(Command::Bad),
+    }
+}
+
+/// What stands behind WHY: a question.
+fn why(rest: &[u8]) -> PromptCommand
+    ensures { result ≡ made_or_bad prompt.Why (asked_of (command_words rest.now)) }
+{
+    match asked(rest) {
+        Some(question) => PromptCommand::Why(question),
+        None => PromptCommand::Plain(Command::Bad),
+    }
+}
+
+/// What stands behind HISTORY: a question, and perhaps a number of rows.
+fn history(rest: &[u8]) -> PromptCommand
+    ensures { result ≡ made_or_bad (λ w. prompt.History w.0 w.1)
+        (history_wanted (command_words rest.now)) }
+{
+    match history_wanted(rest) {
+        Some((question, rows)) => PromptCommand::History(question, rows),
+        None => PromptCommand::Plain(Command::Bad),
+    }
+}
+
 /// What stands behind BACK.
 fn back(rest: &[u8]) -> PromptCommand
     ensures { result ≡ back_command (command_words rest.now) }
@@ -89,6 +161,9 @@ fn back(rest: &[u8]) -> PromptCommand
     }
     if word == b"TO".as_slice() {
         return back_to(more);
+    }
+    if word == b"CHANGE".as_slice() {
+        return back_change(more);
     }
     PromptCommand::Plain(Command::Bad)
 }
@@ -169,6 +244,18 @@ fn own_in_words(line: &[u8]) -> PromptCommand
     }
     if verb == b"BACK".as_slice() {
         return back(rest);
+    }
+    if verb == b"RUN".as_slice() {
+        return run(rest);
+    }
+    if verb == b"SHOW".as_slice() {
+        return show(rest);
+    }
+    if verb == b"WHY".as_slice() {
+        return why(rest);
+    }
+    if verb == b"HISTORY".as_slice() {
+        return history(rest);
     }
     if verb == b"GO".as_slice() {
         return go(rest);

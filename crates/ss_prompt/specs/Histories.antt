@@ -1,0 +1,89 @@
+-- WHY and HISTORY: what they read, what they answer.
+use Rattle.std.specs.Prelude.{ℕ, ◌≡◌, ◌≤◌, Bool, true, false, List, [], ◌∷◌, ◌++◌, codes, Option, Some, None}
+use Rattle.std.specs.Prelude.{if◌then◌else◌}
+use Rattle.ss_debug.specs.CommandLines.{command_words}
+use Rattle.ss_debug.specs.Turn.{debugger_state_at}
+use Rattle.ss_debug.specs.declared.commands.Command.{Command}
+use Rattle.ss_debug.specs.declared.commands.Command.TheVariants.{Forget}
+use Rattle.ss_trace.specs.declared.question.Question.{Question}
+use Rattle.ss_trace.specs.History.{history_text, newest_change, why_head, why_line, why_change}
+use Rattle.ss_prompt.specs.declared.histories.TheConstants.{ROWS_UNLESS_SAID}
+use Rattle.ss_prompt.specs.Words.{line_behind, command_behind}
+use Rattle.ss_prompt.specs.Asked.{asked_of, first_there}
+use Rattle.ss_prompt.specs.Source.{marked_line}
+use Rattle.ss_prompt.specs.PromptState.{PromptState, IsSameBeside}
+
+-- some words without the last
+abbrev pub all_but_last : List (List ℕ) → List (List ℕ)
+all_but_last [] = []
+all_but_last (word ∷ []) = []
+all_but_last (word ∷ next ∷ more) = word ∷ all_but_last (next ∷ more)
+
+-- the last of some words, in a list
+abbrev pub only_last : List (List ℕ) → List (List ℕ)
+only_last [] = []
+only_last (word ∷ []) = word ∷ []
+only_last (word ∷ next ∷ more) = only_last (next ∷ more)
+
+-- how many rows: a number as FORGET takes it
+abbrev pub rows_in : Command → Option ℕ
+rows_in (Forget n) = Some n
+rows_in _ = None
+
+-- a question with a number of rows, where both are there
+abbrev pub wanted : Option Question → Option ℕ → Option (Question × ℕ)
+wanted (Some x) (Some n) = Some (x, n)
+wanted _ _ = None
+
+-- the question of a line, if it is not too long
+abbrev pub asked_in : Option (List ℕ) → Option Question
+asked_in None = None
+asked_in (Some line) = asked_of (command_words line)
+
+-- a question, with as many rows as there are unless it is said
+abbrev pub plainly : List (List ℕ) → Option (Question × ℕ)
+plainly words = wanted (asked_of words) (Some ROWS_UNLESS_SAID)
+
+-- a question and, as its last word, a number of rows
+abbrev pub with_rows : List (List ℕ) → Option (Question × ℕ)
+with_rows words =
+    wanted (asked_in (line_behind [] (all_but_last words))) (rows_in (command_behind (codes "FORGET") (only_last words)))
+
+-- whether some words are two
+abbrev pub is_pair : List (List ℕ) → Bool
+is_pair (word ∷ next ∷ []) = true
+is_pair _ = false
+
+-- what stands behind HISTORY: the longest question counts, but a number behind a single word is one of rows where that
+-- word is a question
+unfoldable pub history_wanted : List (List ℕ) → Option (Question × ℕ)
+history_wanted words =
+    if is_pair words then first_there (with_rows words) (plainly words)
+    else first_there (plainly words) (with_rows words)
+
+-- ---- answers
+
+-- the line of the model at which a question changed last, if it did
+abbrev pub why_source : List (List ℕ) → Option ℕ → List ℕ
+why_source lines None = []
+why_source lines (Some line) = marked_line lines (codes "> ") line
+
+-- what is told of a step, if there is one: its state line, its line of the model, and what it changed
+abbrev pub why_text : PromptState → Question → Option ℕ → List ℕ
+why_text s x step =
+    why_head s.input s.debugger.earliest step ++ why_source s.lines (why_line s.input step)
+    ++ why_change s.input x step
+
+-- what WHY answers: that of the newest step, of those that are kept, at which the question changes
+abbrev pub why_said : PromptState → Question → List ℕ
+why_said s x = why_text s x (newest_change s.input x s.debugger.earliest s.debugger.position)
+
+-- what HISTORY answers
+abbrev pub history_said : PromptState → Question → ℕ → List ℕ
+history_said s x rows = history_text s.input x rows s.debugger.earliest s.debugger.position
+
+-- where memory was refused, the debugger stands between the earliest kept position and its own
+unfoldable pub HasLookedBack : PromptState → PromptState → Type 0
+HasLookedBack s after =
+    IsSameBeside s after × (after.debugger ≡ debugger_state_at s.debugger after.debugger.position)
+    × (s.debugger.earliest ≤ after.debugger.position) × (after.debugger.position ≤ s.debugger.position)

@@ -1,0 +1,100 @@
+//! What stands behind HISTORY is read.
+ghost use Rattle.std.specs.Prelude.{◌≡◌, [], codes};
+ghost use Rattle.ss_debug.specs.CommandLines.{command_words};
+ghost use Rattle.ss_prompt.specs.Words.{line_behind, command_behind};
+ghost use Rattle.ss_prompt.specs.Histories.{all_but_last, only_last, is_pair, plainly, with_rows};
+ghost use Rattle.ss_prompt.specs.Histories.{history_wanted};
+
+use crate::asked::asked;
+use crate::line::{Line, command_behind, command_of_word};
+use crate::pieces::next_word;
+use ss_debug::Command;
+use ss_trace::Question;
+
+/// How many rows HISTORY tells where it isn't said.
+pub const ROWS_UNLESS_SAID: u64 = 10;
+
+/// A line of the words of another without the last, if it is no longer than a line may be.
+#[tactic(auto, using(crate::proofs::Lines::too_long))]
+fn all_but_last(line: &[u8]) -> Option<Line>
+    ensures { result ≡ line_behind [] (all_but_last (command_words line.now)) }
+{
+    let mut made = Line::new(b"")?;
+    let Some((first, behind)) = next_word(line) else {
+        return Some(made);
+    };
+    let mut word = first;
+    let mut rest = behind;
+    while let Some((next, more)) = next_word(rest) {
+        made = made.with_word(word)?;
+        word = next;
+        rest = more;
+    }
+    Some(made)
+}
+
+/// What the last word of a line says behind FORGET.
+fn forget_last(line: &[u8]) -> Command
+    ensures { result ≡ command_behind (codes "FORGET") (only_last (command_words line.now)) }
+{
+    let Some((first, behind)) = next_word(line) else {
+        return command_behind(b"FORGET", line);
+    };
+    let mut word = first;
+    let mut rest = behind;
+    while let Some((next, more)) = next_word(rest) {
+        word = next;
+        rest = more;
+    }
+    command_of_word(b"FORGET", word)
+}
+
+/// A question and, as its last word, a number of rows.
+fn with_rows(words: &[u8]) -> Option<(Question, u64)>
+    ensures { result ≡ with_rows (command_words words.now) }
+{
+    let front = all_but_last(words)?;
+    let question = asked(front.as_slice())?;
+    match forget_last(words) {
+        Command::Forget(rows) => Some((question, rows)),
+        _ => None,
+    }
+}
+
+/// A question, with as many rows as are told where it isn't said.
+fn plainly(words: &[u8]) -> Option<(Question, u64)>
+    ensures { result ≡ plainly (command_words words.now) }
+{
+    let question = asked(words)?;
+    Some((question, ROWS_UNLESS_SAID))
+}
+
+/// Whether a line has two words.
+fn is_pair(words: &[u8]) -> bool
+    ensures { result ≡ is_pair (command_words words.now) }
+{
+    let Some((_, behind)) = next_word(words) else {
+        return false;
+    };
+    let Some((_, rest)) = next_word(behind) else {
+        return false;
+    };
+    next_word(rest).is_none()
+}
+
+/// What stands behind HISTORY.
+#[tactic(auto, unfolding(crate::specs::Histories::history_wanted))]
+pub(crate) fn history_wanted(words: &[u8]) -> Option<(Question, u64)>
+    ensures { result ≡ history_wanted (command_words words.now) }
+{
+    if is_pair(words) {
+        return match with_rows(words) {
+            Some(wanted) => Some(wanted),
+            None => plainly(words),
+        };
+    }
+    match plainly(words) {
+        Some(wanted) => Some(wanted),
+        None => with_rows(words),
+    }
+}
