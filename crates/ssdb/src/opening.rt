@@ -13,6 +13,7 @@ ghost use Rattle.ss_session.specs.Load.{IsLoadFault};
 ghost use Rattle.ss_session.specs.declared.load.LoadFault.TheVariants as load;
 ghost use Rattle.ssdb.specs.declared.opening.PromptFault.TheVariants.{Memory};
 ghost use Rattle.ss_sentences.specs.Wording.{rule_sentence};
+ghost use Rattle.ss_prompt.specs.PromptState.{greeting};
 ghost use Rattle.ssdb.specs.Opening.{greeted, end_of_status, has_blank, rule_line, refused_model_text};
 
 use crate::source::source_lines;
@@ -137,6 +138,26 @@ fn end(status: Status) -> PromptEnd
     }
 }
 
+/// Tells where the debugger stands.
+fn put_greeting<S: SetBoard, C: Console>(
+    alloc: Global,
+    prompt: &Prompt<S>,
+    console: &mut C,
+) -> Result<(), PromptFault>
+    requires { (C.faults console.old).puts < 2 ^ 64 - 1 }
+    ensures ok { OnOk result (Adds (C.log console.old) (C.log console.new)
+        (written (greeting prompt.now)) × (C.faults console.new ≡ C.faults console.old)) }
+    ensures lines { C.left console.new ≡ C.left console.old }
+    ensures terminal { C.terminal console.new ≡ C.terminal console.old }
+{
+    let mut text = Vec::new(alloc);
+    prompt.push_greeting(&mut text)?;
+    match put_all(console, &text) {
+        Ok(()) => Ok(()),
+        Err(_) => Err(PromptFault::Cut(Cut::Write)),
+    }
+}
+
 /// Tells at a terminal where the debugger stands, before the first line is read.
 #[tactic(auto, using(ss_console::proofs::Parts::no_prompt))]
 fn greet<S: SetBoard, C: Console>(
@@ -151,15 +172,10 @@ fn greet<S: SetBoard, C: Console>(
     ensures lines { C.left console.new ≡ C.left console.old }
     ensures terminal { C.terminal console.new ≡ C.terminal console.old }
 {
-    if !console.is_terminal() {
-        return Ok(());
+    if console.is_terminal() {
+        return put_greeting(alloc, prompt, console);
     }
-    let mut text = Vec::new(alloc);
-    prompt.push_greeting(&mut text)?;
-    match put_all(console, &text) {
-        Ok(()) => Ok(()),
-        Err(_) => Err(PromptFault::Cut(Cut::Write)),
-    }
+    Ok(())
 }
 
 /// Answers the lines of a console, and says how the run stands then.
