@@ -2,6 +2,7 @@ pub mod Source
 pub mod Words
 pub mod Cuts
 pub mod Asked
+pub mod Sights
 pub mod Reading
 pub mod FaultLine
 pub mod PromptState

@@ -7,7 +7,7 @@ use Rattle.ss_console.specs.Meaning.{Meaning}
 use Rattle.ss_prompt.specs.declared.commands.PromptCommand.{PromptCommand}
 use Rattle.ss_prompt.specs.declared.commands.PromptCommand.TheVariants.{Plain, Travel, Lines, SectionLines}
 use Rattle.ss_prompt.specs.declared.commands.PromptCommand.TheVariants.{BreakSection, ClearSection}
-use Rattle.ss_prompt.specs.declared.commands.PromptCommand.TheVariants.{Ask, Why, History, Display, Undisplay, Help}
+use Rattle.ss_prompt.specs.declared.commands.PromptCommand.TheVariants.{Ask, See, Why, History, Display, Undisplay, Help}
 use Rattle.ss_prompt.specs.Reading.{prompt_command_of}
 use Rattle.ss_prompt.specs.PromptState.{PromptState}
 use Rattle.ss_prompt.specs.Plain.{plain_next, plain_said, IsPlainRefused}
@@ -15,6 +15,7 @@ use Rattle.ss_prompt.specs.Travel.{travel_next, travel_said, IsTravelRefused}
 use Rattle.ss_prompt.specs.Sections.{on_section_said, on_section_next}
 use Rattle.ss_prompt.specs.Listing.{lines_said, section_lines_said}
 use Rattle.ss_prompt.specs.Displays.{display_said, display_next, undisplay_said, undisplay_next}
+use Rattle.ss_prompt.specs.Sights.{sight_said}
 use Rattle.ss_prompt.specs.Histories.{why_said, history_said, HasLookedBack}
 use Rattle.ss_prompt.specs.Help.{help_said}
 
@@ -27,6 +28,7 @@ prompt_answer s (SectionLines name) = section_lines_said s name
 prompt_answer s (BreakSection name) = on_section_said s Break name
 prompt_answer s (ClearSection name) = on_section_said s Clear name
 prompt_answer s (Ask x) = answer_at s.input x s.debugger.position
+prompt_answer s (See sight) = sight_said sight s.input s.debugger.position
 prompt_answer s (Why x) = why_said s x
 prompt_answer s (History x rows) = history_said s x rows
 prompt_answer s (Display q) = display_said s q

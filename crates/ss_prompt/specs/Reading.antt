@@ -11,14 +11,16 @@ use Rattle.ss_debug.specs.declared.commands.Movement.TheVariants.{Step, RunTo}
 use Rattle.ss_debug.specs.declared.commands.Question.{Question}
 use Rattle.ss_trace.specs.declared.movement.Movement.TheVariants.{Over, Out, BackOver, BackOut, BackTo, Go, GoEnd}
 use Rattle.ss_trace.specs.declared.movement.Movement.TheVariants.{RunChange, BackChange}
+use Rattle.ss_trace.specs.declared.question.Question.{Question as AskedQuestion}
 use Rattle.ss_prompt.specs.Words.{command_behind, question_of, only_name_of}
 use Rattle.ss_prompt.specs.Asked.{own_asked, asked_of}
 use Rattle.ss_prompt.specs.Histories.{history_wanted}
+use Rattle.ss_prompt.specs.Sights.{sight_of}
 use Rattle.ss_prompt.specs.Cuts.{whole_line}
 use Rattle.ss_prompt.specs.declared.commands.PromptCommand.{PromptCommand}
 use Rattle.ss_prompt.specs.declared.commands.PromptCommand.TheVariants.{Plain, Travel, Lines, SectionLines}
 use Rattle.ss_prompt.specs.declared.commands.PromptCommand.TheVariants.{BreakSection, ClearSection}
-use Rattle.ss_prompt.specs.declared.commands.PromptCommand.TheVariants.{Ask, Why, History, Display, Undisplay, Help}
+use Rattle.ss_prompt.specs.declared.commands.PromptCommand.TheVariants.{Ask, See, Why, History, Display, Undisplay, Help}
 
 -- no command
 abbrev pub bad : PromptCommand
@@ -75,6 +77,11 @@ run_command [] = bad
 run_command (word ∷ rest) =
     if bytes_eq word (codes "CHANGE") then made_or_bad (λ x. Travel (RunChange x)) (asked_of rest) else bad
 
+-- what stands behind SHOW: a question, or what else is seen
+abbrev pub show_command : Option AskedQuestion → List (List ℕ) → PromptCommand
+show_command (Some x) words = Ask x
+show_command None words = made_or_bad See (sight_of words)
+
 -- LIST: a line as BREAK takes it, or the name of a section
 abbrev pub lines_of : Command → Option (List ℕ) → PromptCommand
 lines_of (Break line) name = Lines (Some line)
@@ -98,7 +105,7 @@ own_in_words (verb ∷ rest) =
     if bytes_eq verb (codes "OUT") then alone (Travel Out) rest else
     if bytes_eq verb (codes "BACK") then back_command rest else
     if bytes_eq verb (codes "RUN") then run_command rest else
-    if bytes_eq verb (codes "SHOW") then made_or_bad Ask (own_asked rest) else
+    if bytes_eq verb (codes "SHOW") then show_command (own_asked rest) rest else
     if bytes_eq verb (codes "WHY") then made_or_bad Why (asked_of rest) else
     if bytes_eq verb (codes "HISTORY") then made_or_bad (λ w. History w.0 w.1) (history_wanted rest) else
     if bytes_eq verb (codes "GO") then go_command rest else

@@ -1,4 +1,5 @@
 //! What a line of the prompt says.
+use crate::sight::Sight;
 use ss_debug::{Command, Name, Question};
 use ss_trace::{Movement, Question as Asked};
 
@@ -19,6 +20,8 @@ pub enum PromptCommand {
     ClearSection(Name),
     /// SHOW c k a, SHOW COUNT: a question beside those of docs/DEBUGGER.md.
     Ask(Asked),
+    /// SHOW: what else is seen of a state.
+    See(Sight),
     /// WHY: the newest step at which a question changed.
     Why(Asked),
     /// HISTORY: so many steps at which a question changed, the newest first.

@@ -7,7 +7,7 @@ use std::alloc::AllocError;
 
 /// A row for each form of a command: the word that it begins with; how it is written, and what it
 /// does.
-pub const HELP_ROWS: [(&[u8], &[u8]); 40] = [
+pub const HELP_ROWS: [(&[u8], &[u8]); 49] = [
     (b"STEP", b"STEP [n]: n steps forward, 1 if not said"),
     (
         b"RUN",
@@ -56,6 +56,30 @@ pub const HELP_ROWS: [(&[u8], &[u8]); 40] = [
     (b"SHOW", b"SHOW VAR v: variable v"),
     (b"SHOW", b"SHOW c k: entity k of class c"),
     (b"SHOW", b"SHOW c k a: attribute a of it"),
+    (b"SHOW", b"SHOW c: the entities of class c"),
+    (
+        b"SHOW",
+        b"SHOW c v [a]: the entity that variable v names, or attribute a of it",
+    ),
+    (
+        b"SHOW",
+        b"SHOW IN c k: the lists in which it stands, and when it is to happen",
+    ),
+    (
+        b"SHOW",
+        b"SHOW CALLS: the sections that are running, the last first",
+    ),
+    (b"SHOW", b"SHOW LOCALS: the local variables of this section"),
+    (b"SHOW", b"SHOW GLOBALS: the global variables"),
+    (
+        b"SHOW",
+        b"SHOW CLASSES: the classes, and how many entities each has",
+    ),
+    (b"SHOW", b"SHOW SETS: the sets"),
+    (
+        b"SHOW",
+        b"SHOW SECTIONS: the sections, with the lines of their heads",
+    ),
     (b"SHOW", b"SHOW SET s [k]: the members of set s, of owner k"),
     (b"SHOW", b"SHOW COUNT s [k]: how many they are"),
     (b"SHOW", b"SHOW EVENTS: the pending notices, the next first"),

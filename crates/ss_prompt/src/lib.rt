@@ -15,10 +15,13 @@ mod pieces;
 mod prompt;
 mod read;
 mod sections;
+mod seeing;
+mod sight;
 mod source;
 
 pub use commands::PromptCommand;
 pub use laws::{plain_answers_come_first, plain_lines_stay};
 pub use prompt::Prompt;
 pub use read::prompt_command;
+pub use sight::Sight;
 pub use source::push_marked_line;

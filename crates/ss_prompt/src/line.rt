@@ -101,6 +101,16 @@ pub(crate) fn command_of_word(head: &[u8], word: &[u8]) -> Command
     }
 }
 
+/// The name that a word is.
+pub(crate) fn name_of_word(word: &[u8]) -> Option<Name>
+    ensures { result ≡ only_name_of (word.now ∷ []) }
+{
+    match command_of_word(b"SHOW VAR", word) {
+        Command::Show(Question::Variable(name)) => Some(name),
+        _ => None,
+    }
+}
+
 /// What two words say to the debugger behind SHOW.
 #[tactic(auto, using(crate::proofs::Lines::one_too_long))]
 pub(crate) fn command_of_two(what: &[u8], word: &[u8]) -> Command

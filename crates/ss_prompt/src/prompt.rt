@@ -12,6 +12,7 @@ ghost use Rattle.ss_debug.specs.Turn.{answer as plain_answer};
 ghost use Rattle.ss_debug.specs.declared.commands.Command.TheVariants as plain;
 ghost use Rattle.ss_prompt.specs.Listing.{lines_said, section_lines_said};
 ghost use Rattle.ss_trace.specs.Question.{answer_at};
+ghost use Rattle.ss_prompt.specs.Sights.{sight_said};
 ghost use Rattle.ss_prompt.specs.Histories.{why_said, history_said, HasLookedBack};
 ghost use Rattle.ss_prompt.specs.Displays.{display_said, display_next, undisplay_said, undisplay_next};
 ghost use Rattle.ss_prompt.specs.Prompting.{prompt_answer, prompt_state_after, IsRefused, is_quit, prompting};
@@ -26,6 +27,8 @@ use crate::sections::{
     LAST_BREAK_LINE, find_section, head_line, last_line, line_of_section, present_line,
     push_no_section,
 };
+use crate::seeing::push_sight;
+use crate::sight::Sight;
 use crate::source::push_marked_line;
 use ss_console::{Answerer, Console, Go, PutFault, put_all};
 use ss_debug::{Command, Debugger, Name, Question, obey};
@@ -239,6 +242,14 @@ impl<S: SetBoard> Prompt<S> {
         push_answer(&self.debugger, question, answer)
     }
 
+    /// SHOW of what else is seen.
+    fn see(&self, sight: Sight, answer: &mut Vec<u8>) -> Result<(), AllocError>
+        ensures { OnOk result (answer.new.items ≡ answer.old.items
+            ++ sight_said sight self.now.input self.now.debugger.position) }
+    {
+        push_sight(self.alloc, answer, self.debugger.machine(), sight)
+    }
+
     /// WHY.
     #[tactic(auto, unfolding(crate::specs::Histories::HasLookedBack))]
     fn why(&mut self, question: &Asked, answer: &mut Vec<u8>) -> Result<(), AllocError>
@@ -307,6 +318,7 @@ impl<S: SetBoard> Prompt<S> {
             PromptCommand::BreakSection(name) => self.break_section(&name, answer)?,
             PromptCommand::ClearSection(name) => self.clear_section(&name, answer)?,
             PromptCommand::Ask(question) => self.ask(&question, answer)?,
+            PromptCommand::See(sight) => self.see(sight, answer)?,
             PromptCommand::Why(question) => self.why(&question, answer)?,
             PromptCommand::History(question, rows) => self.history(&question, rows, answer)?,
             PromptCommand::Display(question) => self.display(question, answer)?,

@@ -6,7 +6,7 @@ ghost use Rattle.ss_prompt.specs.Reading.{made_or_bad, alone, over_of, back_over
 ghost use Rattle.ss_prompt.specs.Reading.{go_command, back_command, list_command, help_command};
 ghost use Rattle.ss_prompt.specs.Asked.{asked_of, own_asked};
 ghost use Rattle.ss_prompt.specs.Histories.{history_wanted};
-ghost use Rattle.ss_prompt.specs.Reading.{run_command};
+ghost use Rattle.ss_prompt.specs.Reading.{run_command, show_command};
 ghost use Rattle.ss_prompt.specs.Reading.{own_in_words, own_of_whole, own_command_of};
 ghost use Rattle.ss_prompt.specs.Reading.{prompt_command_of};
 ghost use Rattle.ss_prompt.specs.declared.commands.PromptCommand.TheVariants as prompt;
@@ -18,6 +18,7 @@ use crate::cuts::whole_line;
 use crate::histories::history_wanted;
 use crate::line::{Line, command_behind, only_name};
 use crate::pieces::next_word;
+use crate::seeing::sight;
 use ss_console::LINE_LIMIT;
 use ss_debug::{Command, Movement as PlainMovement, command};
 use ss_trace::Movement;
@@ -115,12 +116,15 @@ fn run(rest: &[u8]) -> PromptCommand
     PromptCommand::Plain(Command::Bad)
 }
 
-/// What stands behind SHOW: a question that is none of docs/DEBUGGER.md.
+/// What stands behind SHOW that is none of docs/DEBUGGER.md: a question, or what else is seen.
 fn show(rest: &[u8]) -> PromptCommand
-    ensures { result ≡ made_or_bad prompt.Ask (own_asked (command_words rest.now)) }
+    ensures { result ≡ show_command (own_asked (command_words rest.now)) (command_words rest.now) }
 {
-    match own_asked(rest) {
-        Some(question) => PromptCommand::Ask(question),
+    if let Some(question) = own_asked(rest) {
+        return PromptCommand::Ask(question);
+    }
+    match sight(rest) {
+        Some(sight) => PromptCommand::See(sight),
         None => PromptCommand::Plain(Command::Bad),
     }
 }

@@ -1,0 +1,77 @@
+-- What SHOW tells beside questions.
+use Rattle.std.specs.Prelude.{ℕ, Bool, ◌||◌, List, [], ◌∷◌, codes, Option, Some, None, if◌then◌else◌}
+use Rattle.std.specs.Str.{bytes_eq}
+use Rattle.ss_machine.specs.Run.{Input}
+use Rattle.ss_inspect.specs.Frames.{calls_text, locals_text, globals_text}
+use Rattle.ss_inspect.specs.Tables.{classes_text, sets_text, sections_text}
+use Rattle.ss_inspect.specs.Living.{living_text}
+use Rattle.ss_inspect.specs.Lists.{places_text}
+use Rattle.ss_inspect.specs.Attribute.{by_variable_text}
+use Rattle.ss_debug.specs.declared.commands.Command.{Command}
+use Rattle.ss_debug.specs.declared.commands.Command.TheVariants.{Show}
+use Rattle.ss_debug.specs.declared.commands.Question.TheVariants.{Entity}
+use Rattle.ss_prompt.specs.Words.{command_behind, only_name_of}
+use Rattle.ss_prompt.specs.declared.sight.Sight.{Sight}
+use Rattle.ss_prompt.specs.declared.sight.Sight.TheVariants.{Calls, Locals, Globals, Classes, Sets, Sections}
+use Rattle.ss_prompt.specs.declared.sight.Sight.TheVariants.{Living, ByVariable, Places}
+
+-- the entities of a class, if a name is there
+abbrev pub living_of : Option (List ℕ) → Option Sight
+living_of None = None
+living_of (Some name) = Some (Living name)
+
+-- what one word behind SHOW tells
+abbrev pub sight_alone : List ℕ → Option Sight
+sight_alone what =
+    if bytes_eq what (codes "CALLS") then Some Calls else
+    if bytes_eq what (codes "LOCALS") then Some Locals else
+    if bytes_eq what (codes "GLOBALS") then Some Globals else
+    if bytes_eq what (codes "CLASSES") then Some Classes else
+    if bytes_eq what (codes "SETS") then Some Sets else
+    if bytes_eq what (codes "SECTIONS") then Some Sections else living_of (only_name_of (what ∷ []))
+
+-- IN c k: an entity as SHOW takes it
+abbrev pub places_of : Command → Option Sight
+places_of (Show (Entity class x)) = Some (Places class x)
+places_of _ = None
+
+-- c v, where both are names
+abbrev pub entity_by : Option (List ℕ) → Option (List ℕ) → Option (List ℕ) → Option Sight
+entity_by (Some class) (Some variable) attribute = Some (ByVariable class variable attribute)
+entity_by _ _ _ = None
+
+-- c v a, where all are names
+abbrev pub attribute_by : Option (List ℕ) → Option (List ℕ) → Option (List ℕ) → Option Sight
+attribute_by class variable None = None
+attribute_by class variable (Some name) = entity_by class variable (Some name)
+
+-- c v or c v a
+abbrev pub by_variable : List ℕ → List ℕ → List (List ℕ) → Option Sight
+by_variable what word [] = entity_by (only_name_of (what ∷ [])) (only_name_of (word ∷ [])) None
+by_variable what word (name ∷ more) =
+    attribute_by (only_name_of (what ∷ [])) (only_name_of (word ∷ [])) (only_name_of (name ∷ more))
+
+-- whether a word begins other questions than those on a class
+abbrev pub is_question_word : List ℕ → Bool
+is_question_word what =
+    bytes_eq what (codes "VAR") || bytes_eq what (codes "SET") || bytes_eq what (codes "COUNT")
+
+-- what some words behind SHOW tell
+abbrev pub sight_of : List (List ℕ) → Option Sight
+sight_of [] = None
+sight_of (what ∷ []) = sight_alone what
+sight_of (what ∷ word ∷ rest) =
+    if bytes_eq what (codes "IN") then places_of (command_behind (codes "SHOW") (word ∷ rest)) else
+    if is_question_word what then None else by_variable what word rest
+
+-- what is told in state p
+abbrev pub sight_said : Sight → Input → ℕ → List ℕ
+sight_said Calls t p = calls_text t p
+sight_said Locals t p = locals_text t p
+sight_said Globals t p = globals_text t p
+sight_said Classes t p = classes_text t p
+sight_said Sets t p = sets_text t
+sight_said Sections t p = sections_text t
+sight_said (Living name) t p = living_text name t p
+sight_said (ByVariable class variable attribute) t p = by_variable_text class variable attribute t p
+sight_said (Places class x) t p = places_text class x t p

@@ -1,0 +1,134 @@
+//! What is seen of a state: read, and told.
+ghost use Rattle.std.specs.Prelude.{◌≡◌, ◌++◌, ◌∷◌, [], codes, OnOk};
+ghost use Rattle.ss_machine.specs.Moment.{position};
+ghost use Rattle.ss_debug.specs.CommandLines.{command_words};
+ghost use Rattle.ss_prompt.specs.Words.{command_behind, only_name_of};
+ghost use Rattle.ss_prompt.specs.Sights.{sight_alone, places_of, by_variable, is_question_word};
+ghost use Rattle.ss_prompt.specs.Sights.{sight_of, sight_said};
+
+use crate::line::{command_behind, name_of_word, only_name};
+use crate::pieces::next_word;
+use crate::sight::Sight;
+use ss_debug::{Command, Question};
+use ss_inspect::{
+    push_by_variable, push_calls, push_classes, push_globals, push_living, push_locals,
+    push_places, push_sections, push_sets,
+};
+use ss_links::SetBoard;
+use ss_machine::Machine;
+use std::alloc::{AllocError, Global};
+
+/// What one word behind SHOW tells.
+fn sight_alone(what: &[u8]) -> Option<Sight>
+    ensures { result ≡ sight_alone what.now }
+{
+    if what == b"CALLS".as_slice() {
+        return Some(Sight::Calls);
+    }
+    if what == b"LOCALS".as_slice() {
+        return Some(Sight::Locals);
+    }
+    if what == b"GLOBALS".as_slice() {
+        return Some(Sight::Globals);
+    }
+    if what == b"CLASSES".as_slice() {
+        return Some(Sight::Classes);
+    }
+    if what == b"SETS".as_slice() {
+        return Some(Sight::Sets);
+    }
+    if what == b"SECTIONS".as_slice() {
+        return Some(Sight::Sections);
+    }
+    let name = name_of_word(what)?;
+    Some(Sight::Living(name))
+}
+
+/// `IN c k`: an entity as SHOW takes it.
+fn places(rest: &[u8]) -> Option<Sight>
+    ensures { result ≡ places_of (command_behind (codes "SHOW") (command_words rest.now)) }
+{
+    match command_behind(b"SHOW", rest) {
+        Command::Show(Question::Entity(class, x)) => Some(Sight::Places(class, x)),
+        _ => None,
+    }
+}
+
+/// `c v` or `c v a`.
+fn by_variable(what: &[u8], word: &[u8], rest: &[u8]) -> Option<Sight>
+    ensures { result ≡ by_variable what.now word.now (command_words rest.now) }
+{
+    let attribute = if next_word(rest).is_some() {
+        let name = only_name(rest)?;
+        Some(name)
+    } else {
+        None
+    };
+    let class = name_of_word(what)?;
+    let variable = name_of_word(word)?;
+    Some(Sight::ByVariable(class, variable, attribute))
+}
+
+/// Whether a word begins other questions than those on a class.
+fn is_question_word(what: &[u8]) -> bool
+    ensures { result ≡ is_question_word what.now }
+{
+    what == b"VAR".as_slice() || what == b"SET".as_slice() || what == b"COUNT".as_slice()
+}
+
+/// What the words of a line behind SHOW tell.
+pub(crate) fn sight(words: &[u8]) -> Option<Sight>
+    ensures { result ≡ sight_of (command_words words.now) }
+{
+    let (what, behind) = next_word(words)?;
+    let Some((word, rest)) = next_word(behind) else {
+        return sight_alone(what);
+    };
+    if what == b"IN".as_slice() {
+        return places(behind);
+    }
+    if is_question_word(what) {
+        return None;
+    }
+    by_variable(what, word, rest)
+}
+
+/// Appends what is told where the machine stands.
+pub(crate) fn push_sight<S: SetBoard>(
+    alloc: Global,
+    text: &mut Vec<u8>,
+    machine: &Machine<S>,
+    sight: Sight,
+) -> Result<(), AllocError>
+    ensures { OnOk result (text.new.items ≡ text.old.items
+        ++ sight_said sight machine.now.input (position machine.now)) }
+{
+    match sight {
+        Sight::Calls => push_calls(text, machine),
+        Sight::Locals => push_locals(text, machine),
+        Sight::Globals => push_globals(text, machine),
+        Sight::Classes => push_classes(text, machine),
+        Sight::Sets => push_sets(text, machine),
+        Sight::Sections => push_sections(text, machine),
+        Sight::Living(class) => push_living(alloc, text, machine, class.as_slice()),
+        Sight::ByVariable(class, variable, attribute) => match attribute {
+            Some(name) => push_by_variable(
+                alloc,
+                text,
+                machine,
+                class.as_slice(),
+                variable.as_slice(),
+                Some(name.as_slice()),
+            ),
+            None => push_by_variable(
+                alloc,
+                text,
+                machine,
+                class.as_slice(),
+                variable.as_slice(),
+                None,
+            ),
+        },
+        Sight::Places(class, x) => push_places(alloc, text, machine, class.as_slice(), x),
+    }
+}

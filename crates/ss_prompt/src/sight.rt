@@ -1,0 +1,25 @@
+//! What is seen of a state, beside the questions.
+use ss_debug::Name;
+
+/// What SHOW tells of a state beside the questions (docs/PROMPT.md).
+#[derive(Drop)]
+pub enum Sight {
+    /// SHOW CALLS: the frames, the last first.
+    Calls,
+    /// SHOW LOCALS: the locals of the last frame.
+    Locals,
+    /// SHOW GLOBALS: the global variables.
+    Globals,
+    /// SHOW CLASSES: the classes, and how many of each live.
+    Classes,
+    /// SHOW SETS: the sets.
+    Sets,
+    /// SHOW SECTIONS: the sections.
+    Sections,
+    /// SHOW c: the entities of the class of this name.
+    Living(Name),
+    /// SHOW c v, SHOW c v a: the entity whose number this variable holds, or this attribute of it.
+    ByVariable(Name, Name, Option<Name>),
+    /// SHOW IN c k: the lists in which this entity stands, and when it is to happen.
+    Places(Name, i64),
+}
