@@ -1,10 +1,11 @@
 -- What is said of a refused model, and how the run stands where a dialogue ends.
-use Rattle.std.specs.Prelude.{ℕ, Bool, List, [], ◌∷◌, ◌++◌, codes, if◌then◌else◌, nat_eq}
+use Rattle.std.specs.Prelude.{ℕ, ◌≡◌, Bool, List, [], ◌∷◌, ◌++◌, codes, if◌then◌else◌, nat_eq}
 use Rattle.std.specs.List.{list_any}
 use Rattle.ss_machine.specs.State.{is_faulted}
 use Rattle.ss_machine.specs.declared.status.Status.{Status}
 use Rattle.ss_session.specs.Transcript.{refusal_line}
 use Rattle.ss_sentences.specs.Wording.{rule_sentence}
+use Rattle.ss_sentences.specs.Refusals.{IsSaid}
 use Rattle.ss_prompt.specs.Source.{marked_line}
 use Rattle.ss_prompt.specs.PromptState.{PromptState, greeting}
 use Rattle.ssdb.specs.declared.opening.PromptEnd.{PromptEnd}
@@ -30,3 +31,8 @@ rule_line code sentence = if has_blank sentence then [] else code ++ codes ": " 
 abbrev pub refused_model_text : List (List ℕ) → List ℕ → ℕ → List ℕ
 refused_model_text lines code line =
     refusal_line code line ++ rule_line code (rule_sentence code) ++ marked_line lines (codes "> ") line
+
+-- what is said of a model whose text is refused: the rule and the line, and what is said of the word, its place and what
+-- could stand there
+abbrev pub IsTextTold : List ℕ → List ℕ → ℕ → List ℕ → Type 0
+IsTextTold model code line text = (said : List ℕ) × IsSaid model said × (text ≡ refusal_line code line ++ said)

@@ -14,7 +14,7 @@ ghost use Rattle.ss_session.specs.declared.load.LoadFault.TheVariants as load;
 ghost use Rattle.ssdb.specs.declared.opening.PromptFault.TheVariants.{Memory};
 ghost use Rattle.ss_sentences.specs.Wording.{rule_sentence};
 ghost use Rattle.ss_prompt.specs.PromptState.{greeting};
-ghost use Rattle.ssdb.specs.Opening.{greeted, end_of_status, has_blank, rule_line, refused_model_text};
+ghost use Rattle.ssdb.specs.Opening.{greeted, end_of_status, has_blank, rule_line, refused_model_text, IsTextTold};
 
 use crate::source::source_lines;
 use ss_console::{Console, Cut, LINE_LIMIT, converse, put_all};
@@ -22,7 +22,7 @@ use ss_debug::Debugger;
 use ss_links::{LinkedSets, SetBoard};
 use ss_machine::Status;
 use ss_prompt::{Prompt, push_marked_line};
-use ss_sentences::rule_sentence;
+use ss_sentences::{rule_sentence, text_refusal};
 use ss_session::{LoadFault, load_program, machine, refusal_text};
 use std::alloc::{AllocError, Global};
 use thiserror::Error;
@@ -94,7 +94,7 @@ fn push_rule(text: &mut Vec<u8>, code: &str) -> Result<(), AllocError>
     text.extend_from_slice(b"\n")
 }
 
-/// What is said of a refused model.
+/// What is said of a model that a rule of the checker refuses.
 fn refusal(alloc: Global, lines: &[Vec<u8>], code: &str, line: usize) -> Result<Vec<u8>, AllocError>
     ensures { IfOk result (λ text. text.items
         ≡ refused_model_text (map (λ l. l.items) lines.now) code.now line) }
@@ -105,9 +105,20 @@ fn refusal(alloc: Global, lines: &[Vec<u8>], code: &str, line: usize) -> Result<
     Ok(text)
 }
 
+/// What is said of a model whose text is refused.
+fn text_told(alloc: Global, model: &[u8], code: &str, line: usize) -> Result<Vec<u8>, AllocError>
+    ensures { IfOk result (λ text. IsTextTold model.now code.now line text.items) }
+{
+    let said = text_refusal(alloc, model)?;
+    let mut told = refusal_text(alloc, code, line)?;
+    told.extend_from_slice(&said)?;
+    Ok(told)
+}
+
 /// Writes what is said of a refused model, and gives what that is.
 fn refuse<C: Console>(
     alloc: Global,
+    model: &[u8],
     lines: &[Vec<u8>],
     fault: LoadFault,
     console: &mut C,
@@ -117,7 +128,7 @@ fn refuse<C: Console>(
 {
     let told = match fault {
         LoadFault::Memory => return PromptFault::Memory,
-        LoadFault::Text { rule, line } => refusal(alloc, lines, rule.code(), line),
+        LoadFault::Text { rule, line } => text_told(alloc, model, rule.code(), line),
         LoadFault::Check { rule, line } => refusal(alloc, lines, rule.code(), line),
     };
     let Ok(text) = told else {
@@ -240,6 +251,6 @@ pub fn open_prompt<C: Console>(
             drop(prompt);
             ended
         }
-        Err(fault) => Err(refuse(alloc, &lines, fault, console)),
+        Err(fault) => Err(refuse(alloc, model, &lines, fault, console)),
     }
 }
