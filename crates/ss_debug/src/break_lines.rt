@@ -1,5 +1,5 @@
 //! The break lines.
-ghost use Rattle.std.specs.Prelude.{◌≡◌, ◌<◌, ◌^◌, ◌↔◌, [], length, IsTrue, OnOk, OnErr};
+ghost use Rattle.std.specs.Prelude.{◌≡◌, ◌<◌, ◌^◌, ◌↔◌, ◌++◌, [], length, IsTrue, OnOk, OnErr, IfOk};
 ghost use Rattle.ss_debug.specs.BreakLines.{is_break_line, is_full, with_line, without_line};
 ghost use Rattle.ss_debug.specs.LineTable.{lines_of};
 
@@ -35,6 +35,18 @@ fn make_room(is_set: &mut Vec<bool>, line: usize) -> Result<(), AllocError>
 {
     if is_set.len() <= line {
         is_set.resize(line + 1, false)?;
+    }
+    Ok(())
+}
+
+/// Appends the lines that a table holds.
+fn push_lines(lines: &mut Vec<usize>, is_set: &[bool]) -> Result<(), AllocError>
+    ensures { OnOk result (lines.new.items ≡ lines.old.items ++ lines_of is_set.now) }
+{
+    for line in 0..is_set.len() {
+        if is_set[line] {
+            lines.push(line)?;
+        }
     }
     Ok(())
 }
@@ -76,6 +88,15 @@ impl BreakLines {
         } else {
             self.count
         }
+    }
+
+    /// All of them, in ascending order.
+    pub fn listed(&self, alloc: Global) -> Result<Vec<usize>, AllocError>
+        ensures { IfOk result (λ lines. lines.items ≡ self.now) }
+    {
+        let mut lines = Vec::new(alloc);
+        push_lines(&mut lines, &self.is_set)?;
+        Ok(lines)
     }
 
     /// Whether there is no room for a line: as many others are set as may be.

@@ -70,6 +70,13 @@ impl<S: SetBoard> Debugger<S> {
         &self.machine
     }
 
+    /// The break lines, in ascending order; wants memory for them.
+    pub fn break_lines(&self, alloc: Global) -> Result<Vec<usize>, AllocError>
+        ensures { IfOk result (λ lines. lines.items ≡ self.now.breaks) }
+    {
+        self.breaks.listed(alloc)
+    }
+
     /// A forward movement, and its answer.
     fn forward(
         &mut self,
