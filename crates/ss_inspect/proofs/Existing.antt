@@ -7,8 +7,8 @@ use borrow.Author.Tests.{ltb-true}
 use Rattle.ss_links.specs.Seats.{has}
 use Rattle.ss_links.proofs.SeatLaws.{has-append}
 use Rattle.ss_debug.specs.Entities.{lines_below}
-use Rattle.ss_store.specs.Store.{Store, exists}
-use Rattle.ss_inspect.specs.Living.{greatest_number, living_at, living}
+use Rattle.ss_store.specs.Store.{Store, exists, greatest_number}
+use Rattle.ss_inspect.specs.Living.{living_at, living}
 use Rattle.ss_inspect.proofs.Numbers.{none_there}
 
 -- the number at a place is told just where it exists

@@ -3,8 +3,8 @@ use Rattle.std.proofs.Common.{◌≡◌, ℕ, suc, ◌≤◌, false, true, List,
 use Rattle.std.proofs.lemmas.Option.{slice_get_past}
 use Rattle.ss_links.specs.Seats.{has}
 use Rattle.ss_debug.specs.Entities.{lines_below}
-use Rattle.ss_store.specs.Store.{Store, made_of, exists}
-use Rattle.ss_inspect.specs.Living.{greatest_number, living_at, living}
+use Rattle.ss_store.specs.Store.{Store, made_of, exists, greatest_number}
+use Rattle.ss_inspect.specs.Living.{living_at, living}
 use Rattle.ss_inspect.proofs.Ordered.{none_past}
 
 -- there is no entity past the greatest number

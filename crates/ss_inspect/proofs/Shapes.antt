@@ -8,8 +8,8 @@ use Rattle.ss_program.specs.declared.kinds.Owner.TheVariants.{OwnedBy}
 use Rattle.ss_program.specs.Program.{ProgramTable, set_of}
 use Rattle.ss_store.specs.Tables.{set_shape, tables_of, no_set}
 use Rattle.ss_store.specs.Store.{Store, Entity, entity, exists, members_of, members_by, list_number}
+use Rattle.ss_store.specs.Store.{greatest_number}
 use Rattle.ss_debug.specs.Entities.{shape_of, lines_below}
-use Rattle.ss_inspect.specs.Living.{greatest_number}
 use Rattle.ss_inspect.specs.Lists.{owned_list_with}
 use Rattle.ss_inspect.proofs.Ordered.{none_past}
 use Rattle.ss_inspect.proofs.Numbers.{none_there}

@@ -6,7 +6,7 @@ use Rattle.ss_links.specs.Seats.{has}
 use Rattle.ss_program.specs.declared.kinds.Owner.{Owner}
 use Rattle.ss_program.specs.declared.kinds.Owner.TheVariants.{System, OwnedBy}
 use Rattle.ss_program.specs.Program.{ProgramTable, class_of, set_of}
-use Rattle.ss_store.specs.Store.{Store, number_of, exists, members_of}
+use Rattle.ss_store.specs.Store.{Store, number_of, exists, greatest_number, members_of}
 use Rattle.ss_events.specs.Agenda.{Pending, pending_at}
 use Rattle.ss_events.specs.Slots.{slot_of}
 use Rattle.ss_machine.specs.State.{State}
@@ -14,7 +14,6 @@ use Rattle.ss_machine.specs.Run.{Input, run}
 use Rattle.ss_debug.specs.Answer.{notice_line}
 use Rattle.ss_debug.specs.Entities.{class_named, set_named, shape_of, no_entity_text, listed_text, owner_or_variable}
 use Rattle.ss_inspect.specs.Texts.{texts_below, no_such_text}
-use Rattle.ss_inspect.specs.Living.{greatest_number}
 
 -- ---- how many members
 

@@ -1,13 +1,9 @@
 -- Which entities of a class live.
-use Rattle.std.specs.Prelude.{ℕ, suc, max, List, [], ◌∷◌, ◌++◌, length, codes, Option, Some, None, if◌then◌else◌}
-use Rattle.ss_store.specs.Store.{Store, made_of, exists}
+use Rattle.std.specs.Prelude.{ℕ, suc, List, [], ◌∷◌, ◌++◌, codes, Option, Some, None, if◌then◌else◌}
+use Rattle.ss_store.specs.Store.{Store, exists, greatest_number}
 use Rattle.ss_machine.specs.Run.{Input, run}
 use Rattle.ss_debug.specs.Entities.{class_named, members_text}
 use Rattle.ss_inspect.specs.Texts.{texts_below, no_such_text}
-
--- no entity of class c has a greater number
-abbrev pub greatest_number : Store → ℕ → ℕ
-greatest_number st c = max (length (made_of st c)) (length st.references)
 
 -- number i + 1, if it is that of an entity of class c that lives
 abbrev pub living_at : Store → ℕ → ℕ → List ℕ

@@ -2,26 +2,21 @@
 ghost use Rattle.std.specs.Prelude.{◌≡◌, ◌++◌, ◌-◌, ◌<◌, ◌≤◌, ◌^◌, length, OnOk, IfOk};
 ghost use Rattle.ss_store.specs.Tables.{class_of};
 ghost use Rattle.ss_machine.specs.Moment.{position};
-ghost use Rattle.ss_inspect.specs.Living.{greatest_number, living_at, living, living_text};
+ghost use Rattle.ss_store.specs.Store.{greatest_number};
+ghost use Rattle.ss_inspect.specs.Living.{living_at, living, living_text};
 
 use crate::texts::{push_members, push_no_such};
 use ss_debug::find_class;
 use ss_links::SetBoard;
 use ss_machine::Machine;
 use ss_store::Store;
-use ss_words::limits::MOST_REFERENCES;
 use std::alloc::{AllocError, Global};
-
-/// No entity has a greater number: a permanent class has fewer than the references.
-const GREATEST_NUMBER: u32 = MOST_REFERENCES as u32;
 
 /// A number that no entity of a class is past.
 pub fn number_limit<S: SetBoard>(store: &Store<S>, class: usize) -> u32
     ensures { greatest_number store.now.state class ≤ result }
 {
-    store.known();
-    let _ = class;
-    GREATEST_NUMBER
+    store.greatest_number(class)
 }
 
 /// Appends the number one more than `below`, where an entity of the class with it lives.
@@ -84,7 +79,7 @@ fn count_living_within<S: SetBoard>(store: &Store<S>, class: usize, limit: u32) 
 }
 
 /// The numbers of the entities of the class with this number that live, the least first. It looks
-/// once at each number that an entity may have, `MOST_REFERENCES` in all.
+/// once at each number that an entity of the class may have.
 ///
 /// `AllocError` where the room for them was refused.
 pub fn living<S: SetBoard>(

@@ -4,13 +4,12 @@ ghost use Rattle.ss_links.specs.Seats.{has};
 ghost use Rattle.ss_program.specs.Program.{set_of};
 ghost use Rattle.ss_program.specs.declared.kinds.Owner.TheVariants.{OwnedBy};
 ghost use Rattle.ss_events.specs.Agenda.{pending_at};
-ghost use Rattle.ss_store.specs.Store.{number_of, exists, members_of};
+ghost use Rattle.ss_store.specs.Store.{number_of, exists, greatest_number, members_of};
 ghost use Rattle.ss_store.specs.Tables as tables;
 ghost use Rattle.ss_machine.specs.Moment.{position};
 ghost use Rattle.ss_debug.specs.Entities.{shape_of};
 ghost use Rattle.ss_inspect.specs.Lists.{list_with, owned_list_with, lists_with, class_lists_with, due_text};
 ghost use Rattle.ss_inspect.specs.Lists.{entity_places_text, places_text};
-ghost use Rattle.ss_inspect.specs.Living.{greatest_number};
 ghost use Rattle.ss_inspect.specs.Texts.{texts_below};
 
 use crate::entities::number_limit;

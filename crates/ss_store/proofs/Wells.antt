@@ -4,7 +4,7 @@ use Rattle.std.proofs.Common.{◌≡◌, ℕ, ℤ, zero, suc, ◌+◌, ◌<◌, 
 use Rattle.std.proofs.Common.{length, map, refl, ap, sym, subst, ◌∙◌, arith, slice_get, Option, Some, None, true}
 use Rattle.std.proofs.Common.{false}
 use Rattle.std.proofs.Common.{cond, eqb→eq, T}
-use Rattle.std.specs.Prelude.{filter_map, is_some}
+use Rattle.std.specs.Prelude.{filter_map, is_some, max}
 use Rattle.std.specs.Option.{option_map}
 use Rattle.std.specs.List.{cons_option}
 use Rattle.ss_links.specs.Board.{list_at, head_of, times}
@@ -16,8 +16,10 @@ use Rattle.ss_program.specs.declared.kinds.Owner.TheVariants.{System, OwnedBy}
 use Rattle.ss_store.specs.declared.rows.Row.{Row}
 use Rattle.ss_store.specs.declared.shape.SetShape.{SetShape}
 use Rattle.ss_store.specs.Tables.{class_in, class_of}
+use Rattle.ss_store.specs.Rows as rows
 use Rattle.ss_store.specs.Rows.{rows_in, row_of}
 use Rattle.ss_store.specs.Store.{Entity, of_class, made_of, entity, entities, exists, list_number, lists_by}
+use Rattle.ss_store.specs.Store.{greatest_number}
 use Rattle.ss_store.specs.Store.{is_filed}
 use Rattle.ss_store.specs.Invariant.{IsStore}
 use Rattle.ss_store.specs.Parts.{StoreParts, HeadEntry, owner_number, head_at, head_by, seat_at}
@@ -412,6 +414,16 @@ lists_once g p k (OwnedBy c) s is eo =
     ]) refl
 
 -- ---- the store
+
+pub greatest_is : (g : StoreParts) (c : ℕ) → IsStore g → rows.greatest_number g.rows c ≡ greatest_number (state_of g) c
+greatest_is g c s =
+    let cs = g.tables.classes in
+    let at = numbers_under g.board g.numbers in
+    let t = rows_in g.rows (Some c) in
+    let made : length (made_of (state_of g) c) ≡ length t.rows =
+    ap (length {A = Entity}) (made_is g c) ∙ length_zipped (made_with cs at) t.rows t.values (s.rows (Some c)) in
+    let given = length_zipped (reference_with cs at) g.rows.references.rows g.rows.references.values (s.rows None) in
+    ap (λ n. max n (length g.rows.references.rows)) (sym made) ∙ ap (λ n. max (length (made_of (state_of g) c)) n) (sym given)
 
 pub is_well : (g : StoreParts) → IsStore g → IsWellStore g.tables (state_of g)
 is_well g s =

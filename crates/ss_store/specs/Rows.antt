@@ -1,6 +1,6 @@
 -- Where entities lie on a board. Cited by the store's view and invariant alone.
-use Rattle.std.specs.Prelude.{ℕ, ℤ, zero, suc, ◌==◌, if◌then◌else◌, List, [], slice_get, slice_index_or, Option, Some}
-use Rattle.std.specs.Prelude.{None}
+use Rattle.std.specs.Prelude.{ℕ, ℤ, zero, suc, ◌==◌, if◌then◌else◌, max, List, [], length, slice_get, slice_index_or, Option}
+use Rattle.std.specs.Prelude.{Some, None}
 use Rattle.std.specs.Option.{option_or}
 use Rattle.ss_store.specs.declared.rows.Row.{Row}
 
@@ -26,6 +26,10 @@ no_rows = record { rows = []; values = [] }
 abbrev pub rows_in : EntityTable → Option ℕ → RowTable
 rows_in es None = es.references
 rows_in es (Some c) = slice_index_or es.made c no_rows
+
+-- how many rows the greater one of two numberings has: that of class c, and that of the references
+abbrev pub greatest_number : EntityTable → ℕ → ℕ
+greatest_number es c = max (length (rows_in es (Some c)).rows) (length es.references.rows)
 
 -- the row of an entity of class c that has not ended
 abbrev pub row_if : ℕ → Option Row → Option (Option (List ℤ)) → Option Row

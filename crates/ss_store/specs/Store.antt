@@ -1,5 +1,5 @@
 -- What the store holds: entities and the lists of their sets. How they are made, changed and ended.
-use Rattle.std.specs.Prelude.{◌≡◌, ℕ, zero, suc, ◌-◌, ◌==◌, Bool, true, false, ◌&&◌, not, nat_lt, nat_le}
+use Rattle.std.specs.Prelude.{◌≡◌, ℕ, zero, suc, ◌-◌, ◌==◌, max, Bool, true, false, ◌&&◌, not, nat_lt, nat_le}
 use Rattle.std.specs.Prelude.{if◌then◌else◌, ℤ}
 use Rattle.std.specs.Prelude.{pos, negsuc, List, [], ◌∷◌, ◌++◌, length, map, replicate, filter_map, find, slice_get}
 use Rattle.std.specs.Prelude.{slice_set, slice_index_or, Option, Some, None, is_some, option_map, option_and_then}
@@ -77,6 +77,10 @@ entities st c = made_of st c ++ filter_map (of_class c) st.references
 -- whether there is entity number k of class c
 abbrev pub exists : Store → ℕ → ℕ → Bool
 exists st c k = is_some (entity st c k)
+
+-- no entity of class c has a greater number
+abbrev pub greatest_number : Store → ℕ → ℕ
+greatest_number st c = max (length (made_of st c)) (length st.references)
 
 -- ---- attributes
 

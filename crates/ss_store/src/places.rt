@@ -63,6 +63,18 @@ pub(crate) fn row_of(entities: &Entities, class: usize, number: usize) -> Option
     }
 }
 
+/// How many rows the greater one of two numberings has: that of a class, and that of references.
+pub(crate) fn greatest_number(entities: &Entities, class: usize) -> usize
+    ensures { result ≡ table.greatest_number entities.now class }
+{
+    let made = match entities.made.get(class) {
+        None => 0,
+        Some(rows) => rows.rows.len(),
+    };
+    let given = entities.references.rows.len();
+    if made < given { given } else { made }
+}
+
 /// The head of a set's list, where its owner exists.
 pub(crate) fn head_of(entities: &Entities, set: &SetShape, owner: usize) -> Option<u32>
     requires { (h : ℕ) → head_at entities.now set.now owner ≡ Some h → h < 2 ^ 32 }

@@ -6,7 +6,7 @@ ghost use Rattle.ss_store.specs.Store as pure;
 ghost use Rattle.ss_store.specs.Filing.{is_in, count, walk_first, walk_last, walk_next};
 ghost use Rattle.ss_store.specs.Filing.{walk_prev, predecessor, successor, membership};
 
-use crate::places::{head_of, known, member_if, number_of_value, row_of, seat_in, seat_of};
+use crate::places::{greatest_number, head_of, known, member_if, number_of_value, row_of, seat_in, seat_of};
 use crate::ranking::{value_at, values_of};
 use crate::store::Store;
 use ss_links::SetBoard;
@@ -26,6 +26,14 @@ impl<S: SetBoard> Store<S> {
         ensures { result ≡ pure.exists self.now.state class (pure.number_of entity) }
     {
         row_of(&self.entities, class, number_of_value(entity)).is_some()
+    }
+
+    /// A number that no entity of this class is past. References count though their entities have
+    /// ended.
+    pub fn greatest_number(&self, class: usize) -> u32
+        ensures { result ≡ pure.greatest_number self.now.state class }
+    {
+        greatest_number(&self.entities, class) as u32
     }
 
     /// The value of an attribute, by its number in the class; F3 where the entity does not exist.
