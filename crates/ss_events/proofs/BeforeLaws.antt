@@ -5,6 +5,7 @@ use Rattle.std.proofs.lemmas.Bool.Decides.{nat_tests}
 use Rattle.std.proofs.lemmas.Cmp.{nat_cmp_total, int_cmp_total, lists_total, on_total, then_total}
 use Rattle.std.proofs.lemmas.Cmp.{ranked as numbers_ranked}
 use Rattle.std.proofs.lemmas.Int.{ints}
+use Rattle.std.specs.Prelude.{int_lt}
 use Rattle.std.specs.Cmp.{IsTotalOrder}
 use Rattle.std.specs.Cmp.Lexicographic.{slice_cmp}
 use Rattle.std.specs.Ordering.{is_lt, on, then_cmp, ordering_then, ordering_reverse, nat_cmp, int_cmp}
@@ -19,6 +20,18 @@ use Rattle.ss_events.specs.State.{AreRanked}
 use Rattle.ss_events.specs.Agenda.{Pending, by_time, is_before}
 use Rattle.ss_events.proofs.EventLaws.{event-below}
 use Rattle.ss_events.proofs.OrderLaws.{IsOrder}
+
+-- two times decide where they are different
+pub int-apart : (x y : ℤ) (o : Ordering) → (x ≡ y → ⊥) → int_lt x y ≡ is_lt (ordering_then (int_cmp x y) o)
+int-apart x y o n = elim (int_lt x y)
+    as (λ t. int_lt x y ≡ t → t ≡ is_lt (ordering_then (cond t Less (cond (int_lt y x) Greater Equal)) o)) [
+      | true ↦ λ t. refl
+      | false ↦ λ t. elim (int_lt y x)
+          as (λ u. int_lt y x ≡ u → false ≡ is_lt (ordering_then (cond u Greater Equal) o)) [
+            | true ↦ λ u. refl
+            | false ↦ λ u. absurd (n (grind (arith, ints, t, u)))
+          ] refl
+    ] refl
 
 -- a notice of an event class, with a key for each of the class's
 abbrev pub IsKeyed : List Rule → Pending → Type 0

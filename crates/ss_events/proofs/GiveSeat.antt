@@ -38,7 +38,7 @@ row_at-none zero i = refl
 row_at-none (suc k) zero = refl
 row_at-none (suc k) (suc i) = row_at-none k i
 
-row_at-empty : (k i : ℕ) (rs : List Row) → row_at (rs ++ replicate k empty_row) i ≡ row_at rs i
+pub row_at-empty : (k i : ℕ) (rs : List Row) → row_at (rs ++ replicate k empty_row) i ≡ row_at rs i
 row_at-empty k i [] = row_at-none k i
 row_at-empty k zero (r ∷ rs) = refl
 row_at-empty k (suc i) (r ∷ rs) = row_at-empty k i rs

@@ -18,3 +18,4 @@ pub mod WithRules
 pub mod Steps
 pub mod WellLaws
 pub mod LimitLaws
+pub mod Due

@@ -159,7 +159,7 @@ pub least-at : (rows : List Row) (s : AgendaState) (b : Board) → IsAgenda rows
 least-at rows s b k = sym (first-drop (order s) 0) ∙ sym (least-sorted s (told rows s b k))
 
 -- the seat of the notice of a seat
-seat_in-index : (ns : List ℕ) (i d : ℕ) → ((n : ℕ) → times_in ns n ≤ 1) → i < length ns →
+pub seat_in-index : (ns : List ℕ) (i d : ℕ) → ((n : ℕ) → times_in ns n ≤ 1) → i < length ns →
     seat_in ns (get_or ns i d) ≡ i
 seat_in-index [] i d o h = absurd (omega arith)
 seat_in-index (m ∷ ms) zero d o h = let same : eqb m m ≡ true = grind (arith, nat_tests) in rw same refl

@@ -1,7 +1,7 @@
 -- The agenda's state, read off the rows that it keeps, one for each number of a notice. Private: cited by the view, the
 -- invariant and private functions alone.
-use Rattle.std.specs.Prelude.{◌≡◌, ℕ, ◌+◌, ◌<◌, ◌≤◌, true, List, [], ◌∷◌, ◌++◌, replicate, length, map}
-use Rattle.std.specs.Prelude.{slice_index_or, is_some, if◌then◌else◌, Option, Some, None}
+use Rattle.std.specs.Prelude.{◌≡◌, ℕ, ℤ, pos, ◌+◌, ◌-◌, ◌<◌, ◌≤◌, true, List, [], ◌∷◌, ◌++◌, replicate, length, map}
+use Rattle.std.specs.Prelude.{slice_index, slice_index_or, is_some, if◌then◌else◌, Option, Some, None}
 use Rattle.ss_links.specs.Board.{Board, IsSound}
 use Rattle.ss_links.specs.Seats.{has, times_in}
 use Rattle.ss_events.specs.declared.rule.ClassRule.{ClassRule}
@@ -44,6 +44,14 @@ state_of rules rows next notices = record {
 -- the room of a row's seat in an index is kept in the row while its notice is not pending
 abbrev pub HasNode : Row → Type 0
 HasNode r = r.node ≡ (if is_some r.pending then None else r.seat)
+
+-- each seat has a time, and where its notice is pending, that is when it is due
+pub record AreDue (times : List ℤ) (notices : List ℕ) (rows : List Row) : Type 0 where
+  -- there is a time for each seat
+  pub count : length times ≡ length notices
+  -- a pending notice's is its own
+  pub due : (seat : ℕ) (x : PendingNotice) → seat < length notices
+      → (row_at rows (slice_index notices seat - 1)).pending ≡ Some x → slice_index_or times seat (pos 0) ≡ x.time
 
 -- what is kept, the rows, the state and the board, agrees
 pub record IsAgenda (rows : List Row) (s : AgendaState) (b : Board) : Type 0 where

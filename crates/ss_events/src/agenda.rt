@@ -53,6 +53,8 @@ pub struct Agenda<S: SetBoard> {
     pub(crate) rules: Vec<ClassRule>,
     pub(crate) rows: Vec<Row>,
     pub(crate) notices: Vec<u32>,
+    /// When the notice of each seat is due, if it is pending.
+    pub(crate) times: Vec<i64>,
     pub(crate) next_filing: u64,
     pub(crate) board: S,
     /// The list of each head of the board once more, in which a place is found down a tree.
@@ -65,13 +67,14 @@ impl<S: SetBoard> Model for Agenda<S> {
     ghost Value = { AgendaState };
 
     ghost use Rattle.std.specs.Prelude.{◌≡◌};
-    ghost use Rattle.ss_events.specs.Rows.{state_of, IsAgenda};
+    ghost use Rattle.ss_events.specs.Rows.{state_of, IsAgenda, AreDue};
 
     ghost view = { λ a. state_of a.rules.items a.rows.items a.next_filing a.notices.items };
 
     ghost invariant = { λ a.
         IsAgenda a.rows.items (state_of a.rules.items a.rows.items a.next_filing a.notices.items)
-        (S.board a.board) × (a.indexes.items ≡ (S.board a.board).lists) };
+        (S.board a.board) × (a.indexes.items ≡ (S.board a.board).lists)
+        × AreDue a.times.items a.notices.items a.rows.items };
 }
 
 impl<S: SetBoard> Agenda<S> {
@@ -106,6 +109,7 @@ impl<S: SetBoard> Agenda<S> {
             rules,
             rows: Vec::new(alloc),
             notices: Vec::new(alloc),
+            times: Vec::new(alloc),
             next_filing: 1,
             board,
             indexes,

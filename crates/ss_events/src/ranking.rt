@@ -99,24 +99,30 @@ pub(crate) struct EntryRank<'a> {
     pub(crate) rules: &'a [ClassRule],
     pub(crate) rows: &'a [Row],
     pub(crate) notices: &'a [u32],
+    pub(crate) times: &'a [i64],
     pub(crate) entry: &'a PendingNotice,
 }
 
 impl Order for EntryRank<'_> {
     ghost use Rattle.std.specs.Prelude.{map};
     ghost use Rattle.ss_events.specs.Views.{rule_of, notice_of};
-    ghost use Rattle.ss_events.specs.Rows.{notices_from};
+    ghost use Rattle.ss_events.specs.Rows.{notices_from, AreDue};
     ghost use Rattle.ss_events.specs.Indexes.{IsComparable, comes_before};
 
     ghost knows = { λ p seat.
         IsComparable (map rule_of p.rules.now) (notices_from 1 p.rows.now) p.notices.now
-        (notice_of 0 p.entry.now) seat };
+        (notice_of 0 p.entry.now) seat × AreDue p.times.now p.notices.now p.rows.now };
 
     ghost behind = { λ p seat.
         comes_before (map rule_of p.rules.now) (notices_from 1 p.rows.now) p.notices.now
         (notice_of 0 p.entry.now) seat };
 
     fn is_behind(&self, seat: u32) -> bool {
+        // The time decides most often, and is near: rows are far apart.
+        let time = self.times[seat as usize];
+        if self.entry.time != time {
+            return self.entry.time < time;
+        }
         let other = entry_of(self.rows, self.notices[seat as usize]).unwrap();
         is_before(self.rules, self.entry, other)
     }

@@ -39,9 +39,11 @@ impl<S: SetBoard> Agenda<S> {
             rules: &self.rules,
             rows: &self.rows,
             notices: &self.notices,
+            times: &self.times,
             entry: &entry,
         };
         let before = self.indexes[head as usize].put(node, &rank);
+        self.times[seat as usize] = entry.time;
         self.rows[index].pending = Some(entry);
         self.board.relink(seat, Place { head, before });
     }
@@ -64,6 +66,7 @@ impl<S: SetBoard> Agenda<S> {
             rules: &self.rules,
             rows: &self.rows,
             notices: &self.notices,
+            times: &self.times,
             entry,
         };
         let node = self.indexes[head as usize].take(seat, &rank);
@@ -89,9 +92,11 @@ impl<S: SetBoard> Agenda<S> {
             return Ok(false);
         }
         self.notices.reserve(1)?;
+        self.times.reserve(1)?;
         let node = SeatNode::new(self.alloc, self.notices.len() as u32)?;
         let seat = self.board.try_add_seat()?;
         self.notices.push(notice).unwrap();
+        self.times.push(0).unwrap();
         let row = &mut self.rows[index];
         row.seat = Some(seat);
         row.node = Some(node);
@@ -107,6 +112,7 @@ impl<S: SetBoard> Agenda<S> {
     {
         self.board.take_last_seat();
         self.notices.truncate(self.notices.len() - 1);
+        self.times.truncate(self.times.len() - 1);
         let row = &mut self.rows[notice as usize - 1];
         row.seat = None;
         row.node = None;

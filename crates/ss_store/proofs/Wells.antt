@@ -423,7 +423,8 @@ greatest_is g c s =
     let made : length (made_of (state_of g) c) ≡ length t.rows =
     ap (length {A = Entity}) (made_is g c) ∙ length_zipped (made_with cs at) t.rows t.values (s.rows (Some c)) in
     let given = length_zipped (reference_with cs at) g.rows.references.rows g.rows.references.values (s.rows None) in
-    ap (λ n. max n (length g.rows.references.rows)) (sym made) ∙ ap (λ n. max (length (made_of (state_of g) c)) n) (sym given)
+    ap (λ n. max n (length g.rows.references.rows)) (sym made)
+    ∙ ap (λ n. max (length (made_of (state_of g) c)) n) (sym given)
 
 pub is_well : (g : StoreParts) → IsStore g → IsWellStore g.tables (state_of g)
 is_well g s =

@@ -1,6 +1,6 @@
 -- Where entities lie on a board. Cited by the store's view and invariant alone.
-use Rattle.std.specs.Prelude.{ℕ, ℤ, zero, suc, ◌==◌, if◌then◌else◌, max, List, [], length, slice_get, slice_index_or, Option}
-use Rattle.std.specs.Prelude.{Some, None}
+use Rattle.std.specs.Prelude.{ℕ, ℤ, zero, suc, ◌==◌, if◌then◌else◌, max, List, [], length, slice_get, slice_index_or}
+use Rattle.std.specs.Prelude.{Option, Some, None}
 use Rattle.std.specs.Option.{option_or}
 use Rattle.ss_store.specs.declared.rows.Row.{Row}
 

@@ -6,7 +6,7 @@ use Rattle.std.specs.declared.cmp.Ordering.{Ordering}
 use Rattle.std.specs.declared.cmp.Ordering.TheVariants.{Less, Equal, Greater}
 use Rattle.std.proofs.lemmas.Bool.Decides.{nat_tests}
 use Rattle.std.proofs.lemmas.Cmp.{tied_itself, nat_cmp_total, int_cmp_total}
-use Rattle.std.proofs.lemmas.Int.{ints, to_z-of_z}
+use Rattle.std.proofs.lemmas.Int.{to_z-of_z}
 use Rattle.std.proofs.lemmas.List.{length-map, get_or-map}
 use Rattle.ss_program.specs.declared.keys.Key.{Key}
 use Rattle.ss_program.specs.Keys.{by_keys}
@@ -17,21 +17,11 @@ use Rattle.ss_events.specs.Rules.{Rule, rule_at}
 use Rattle.ss_events.specs.Views.{rule_of, notice_of}
 use Rattle.ss_events.specs.Rows.{IsEntry}
 use Rattle.ss_events.specs.State.{AreRanked}
+use Rattle.ss_events.proofs.BeforeLaws.{int-apart}
 use Rattle.ss_events.proofs.EventLaws.{event-below}
 use Rattle.ss_events.proofs.ranking.is_before.Goals as goal
 
 -- two numbers decide where they are different, and what follows them where they are the same
-int-apart : (x y : ℤ) (o : Ordering) → (x ≡ y → ⊥) → int_lt x y ≡ is_lt (ordering_then (int_cmp x y) o)
-int-apart x y o n = elim (int_lt x y)
-    as (λ t. int_lt x y ≡ t → t ≡ is_lt (ordering_then (cond t Less (cond (int_lt y x) Greater Equal)) o)) [
-      | true ↦ λ t. refl
-      | false ↦ λ t. elim (int_lt y x)
-          as (λ u. int_lt y x ≡ u → false ≡ is_lt (ordering_then (cond u Greater Equal) o)) [
-            | true ↦ λ u. refl
-            | false ↦ λ u. absurd (n (grind (arith, ints, t, u)))
-          ] refl
-    ] refl
-
 nat-apart : (p q : ℕ) (o : Ordering) → (p ≡ q → ⊥) → ltb p q ≡ is_lt (ordering_then (nat_cmp p q) o)
 nat-apart p q o n = elim (ltb p q)
     as (λ t. t ≡ is_lt (ordering_then (cond t Less (cond (eqb p q) Equal Greater)) o)) [

@@ -11,6 +11,7 @@ use Rattle.ss_events.proofs.PutAndTakeOut.{pending-row, read-seat, taken-linked,
 use Rattle.ss_events.proofs.PutAndTakeOut.{take_out-read, view-with, seat-read}
 use Rattle.ss_events.proofs.Predecessors.{predecessor-taken, predecessor-read}
 use Rattle.ss_events.proofs.IndexLaws.{take_out-ranked, headed-within, index-taken}
+use Rattle.ss_events.proofs.Due.{due-same, due-fewer, none-set}
 use Rattle.ss_events.proofs.agenda.Agenda.take_out.Goals as goal
 
 pub index-requires : goal.index-requires
@@ -62,7 +63,9 @@ take-node-requires-clause-known g c =
     let r = take_out-ranked _ _ _ c.args.notice _ _ _ c.unwrap-entry.result.now _ _ _ _ _ c.self.invariant.0 there
     c.index.ensures c.unwrap-seat.ensures head c.self.invariant.1 c.index_mut.ensures.value (ap (map _)
     c.deref-2.ensures.value) (ap (notices_from 1) c.deref-3.ensures.value) c.deref-4.ensures.value in
-    r.known
+    let due = due-same _ _ _ _ _ _ c.self.invariant.2 c.deref-5.ensures.value c.deref-4.ensures.value
+    c.deref-3.ensures.value in
+    λ y h. (r.known y h, due)
 
 pub take-node-requires-clause-divided : goal.take-node-requires-clause-divided
 take-node-requires-clause-divided g c =
@@ -98,7 +101,7 @@ notice_if-predecessor-requires g c =
     let row = taken-entry _ _ _ _ _ c.self.invariant.0 c.requires.number p c.index_mut-row.ensures.value in
     let there = row ∙ ap (option_map (notice_of c.args.notice)) (sym c.take.ensures.value ∙ c.unwrap-entry-2.ensures) in
     let seat = seat-read _ _ _ _ _ _ c.self.invariant.0 r.seat c.index.ensures c.unwrap-seat.ensures in
-    rw c.deref-5.ensures.value (predecessor-taken _ _ _ c.args.notice c.unwrap-entry-2.result _ _ c.self.invariant.0 there
+    rw c.deref-6.ensures.value (predecessor-taken _ _ _ c.args.notice c.unwrap-entry-2.result _ _ c.self.invariant.0 there
     seat c.unlink-place.ensures.before).made
 
 pub invariant_of-self : goal.invariant_of-self
@@ -115,6 +118,7 @@ invariant_of-self g c =
           c.take-node.ensures.node,
       index-taken _ _ _ _ _ _ _ c.self.invariant.1 c.self.invariant.0.sound within c.index_mut.ensures.value head
           c.unlink-place.ensures.board c.take-node.ensures.seats,
+      due-fewer _ _ _ _ c.self.invariant.2 (none-set _ _ _ c.take.ensures.after),
     )
 
 pub returns-clause-entry : goal.returns-clause-entry
@@ -150,6 +154,6 @@ returns-clause-predecessor g c =
       pending = c.take.new.self;
       node = Some c.take-node.result;
     }) c.self.invariant.0 r.seat c.take.ensures.after in
-    let told = rw c.deref-5.ensures.value at c.notice_if-predecessor.ensures in
+    let told = rw c.deref-6.ensures.value at c.notice_if-predecessor.ensures in
     told ∙ predecessor-read _ _ c.unwrap-entry-2.result _ _ (predecessor-taken _ _ _ c.args.notice
     c.unwrap-entry-2.result _ _ c.self.invariant.0 there seat c.unlink-place.ensures.before) read

@@ -1,8 +1,9 @@
-use Rattle.std.proofs.Common.{◌≡◌, sym, ap, ◌∙◌, arith, subst, ℕ, ◌-◌, length, take}
+use Rattle.std.proofs.Common.{refl, ◌-◌, ◌≡◌, sym, ap, ◌∙◌, arith, subst, ℕ, length, take}
 use Rattle.ss_links.specs.Board.{Board}
 use Rattle.ss_events.specs.State.{AgendaState, NoneNoted}
 use Rattle.ss_events.specs.Changes.{IsLastSeat}
 use Rattle.ss_events.proofs.GiveSeat.{unseated-free, last-row, unseat-closed, unseat-view}
+use Rattle.ss_events.proofs.Due.{due-unseat}
 use Rattle.ss_events.proofs.agenda.Agenda.take_seat.Goals as goal
 
 pub take_last_seat-requires-clause-free : goal.take_last_seat-requires-clause-free
@@ -32,11 +33,22 @@ invariant_of-self g c =
       arith,
       c.len.ensures,
       c.self.inside.notices.ok,
+    ) in
+    let r = last-row _ _ _ _ c.self.invariant.0 l in
+    let count : c.len-2.result - 1 ≡ c.len.result - 1 = omega (
+      arith,
+      c.len-2.ensures,
+      c.len.ensures,
+      c.self.inside.notices.ok,
+      c.self.inside.times.ok,
+      c.self.invariant.2.count,
     ) in (
       unseat-closed _ _ _ _ _ _ _ (c.truncate.ensures.items ∙
           ap (λ (k : ℕ). take (k - 1) c.self.inside.notices.items) same) c.self.invariant.0 l i
           c.take_last_seat.ensures.board c.take_last_seat.ensures.sound.1 c.index_mut-row.ensures.value,
       c.self.invariant.1 ∙ ap (λ (d : Board). d.lists) (sym c.take_last_seat.ensures.board),
+      due-unseat _ _ _ _ _ c.args.notice _ _ _ _ c.self.invariant.2 (omega (arith, r.0, r.1))
+          c.index_mut-row.ensures.value refl count c.truncate-2.ensures.items c.truncate.ensures.items,
     )
 
 pub returns : goal.returns

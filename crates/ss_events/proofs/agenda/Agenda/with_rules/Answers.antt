@@ -6,6 +6,7 @@ use Rattle.ss_events.specs.Views.{rule_of}
 use Rattle.ss_events.proofs.EventLaws.{number-few, number-event, number-other, number-all}
 use Rattle.ss_events.proofs.agenda.Agenda.with_rules.Goals.{then-index+in_ok-try_add_head+in_ok-push, else-index}
 use Rattle.ss_events.proofs.WithRules.{empty_heads, heads-more, indexes-more, heads-fit, begins-on}
+use Rattle.ss_events.proofs.Due.{due-none}
 use Rattle.ss_events.proofs.agenda.Agenda.with_rules.Goals as goal
 
 pub try_add_head-requires : goal.try_add_head-requires
@@ -63,4 +64,5 @@ invariant_of-result g c =
         length-map c.args.rules.items rule_of,
       )) c.loop-class.invariant.0,
       c.loop-class.invariant.1,
+      due-none _ _ _ c.new-4.ensures.items c.new-3.ensures.items,
     )
