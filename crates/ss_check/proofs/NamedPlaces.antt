@@ -25,6 +25,7 @@ use Rattle.ss_routines.specs.Simple as s
 use Rattle.ss_routines.specs.Loops as l
 use Rattle.ss_routines.specs.Tree.{listing_names}
 use Rattle.ss_routines.specs.Places as w
+use Rattle.ss_program.specs.declared.timing.Listing.TheVariants.{Given, InParentheses as Parenthesised}
 use Rattle.ss_program.specs.Program.{ProgramTable, class_of}
 use Rattle.ss_check.specs.ClassNeed.{ClassNeed}
 use Rattle.ss_check.specs.ClassNeed.{Permanent, Ending, Event}
@@ -47,14 +48,14 @@ use Rattle.ss_check.specs.Resolved.{resolved_conjunction, resolved_additions, re
 use Rattle.ss_check.specs.Resolved.{resolved_making, resolved_position, resolved_filing, resolved_notice, resolved_when}
 use Rattle.ss_check.specs.Resolved.{resolved_timing, resolved_simple, resolved_begin, resolved_range}
 use Rattle.ss_check.specs.Resolved.{resolved_qualifier, resolved_branch, resolved_telling, resolved_loop}
-use Rattle.ss_check.specs.Resolved.{resolved_place}
+use Rattle.ss_check.specs.Resolved.{resolved_place, resolved_listing}
 use Rattle.ss_check.specs.NamedTree.{several, listing_of, reference_of, named_variable, named_expr, named_sums}
 use Rattle.ss_check.specs.NamedTree.{named_term, named_products, named_factor, named_exprs, named_value, named_target}
 use Rattle.ss_check.specs.NamedTree.{named_set, named_called_target, named_called_value, named_condition}
 use Rattle.ss_check.specs.NamedTree.{named_alternatives, named_conjunction, named_additions, named_relation}
 use Rattle.ss_check.specs.NamedTree.{named_assign, named_making, named_position, named_filing, named_article}
 use Rattle.ss_check.specs.NamedTree.{named_notice, named_when, named_timing, named_begin, named_range, named_qualifier}
-use Rattle.ss_check.specs.NamedTree.{named_branch, named_telling, named_loop, named_place, behind_given, plain_place}
+use Rattle.ss_check.specs.NamedTree.{named_branch, named_telling, named_loop, named_place}
 use Rattle.ss_check.proofs.SoundUses.{IsGood, AreGood, good_parts}
 use Rattle.ss_check.proofs.NamedUses.{two, three, IsListed, variable_is, owner_is, value_is, applied_is, target_is}
 use Rattle.ss_check.proofs.NamedUses.{target_at_is}
@@ -310,10 +311,11 @@ module _ (d : Declared) (v : Names) (locals : List Name) (p : ProgramTable) (S :
   filing_is (Remove e r) h = let q = parts (uses_expr e) (uses_set r) h in two Remove (expr_is e q.0) (set_is r q.1)
 
   given_is : (es : Listing Expr) → AreGood d locals (flat_map uses_expr (listing_names es)) →
-      listing_of (map (named_expr p locals) (map (resolved_expr d v locals) (listing_names es))) ≡ behind_given es
+      listing_of (resolved_listing es) (map (named_expr p locals) (map (resolved_expr d v locals) (listing_names es)))
+      ≡ es
   given_is Unwritten h = refl
-  given_is (BehindGiven es) h = ap listing_of (exprs_are (all_of es) h)
-  given_is (InParentheses es) h = ap listing_of (exprs_are (all_of es) h)
+  given_is (BehindGiven es) h = ap (listing_of Given) (exprs_are (all_of es) h)
+  given_is (InParentheses es) h = ap (listing_of Parenthesised) (exprs_are (all_of es) h)
 
   article_is : (a : Article) (n : Name) (r : Option Reference) →
       named_article p locals (resolved_notice d v locals a n r) ≡ a
@@ -358,7 +360,7 @@ module _ (d : Declared) (v : Names) (locals : List Name) (p : ProgramTable) (S :
   routine_named n values targets g = S.routine n g.usage
 
   simple_is : (x : Simple) → AreGood d locals (uses_simple x) →
-      named_place p locals (resolved_simple d v locals x) ≡ plain_place (w.Simply x)
+      named_place p locals (resolved_simple d v locals x) ≡ w.Simply x
   simple_is (Assigns a) h = ap (λ (z : Assign). w.Simply (Assigns z)) (assign_is a h)
   simple_is (Makes m) h = ap (λ (z : Making). w.Simply (Makes z)) (making_is m h)
   simple_is (Files f) h = ap (λ (z : Filing). w.Simply (Files z)) (filing_is f h)
@@ -459,7 +461,7 @@ module _ (d : Declared) (v : Names) (locals : List Name) (p : ProgramTable) (S :
   branch_is w.Always h = refl
 
   pub place_is : (x : w.Place) → AreGood d locals (uses x) →
-      named_place p locals (resolved_place d v locals x) ≡ plain_place x
+      named_place p locals (resolved_place d v locals x) ≡ x
   place_is (w.Simply x) h = simple_is x h
   place_is (w.Branches b) h = ap w.Branches (branch_is b h)
   place_is (w.Loops x) h = ap w.Loops (loop_is x h)

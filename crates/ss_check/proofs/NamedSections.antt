@@ -28,10 +28,11 @@ use Rattle.ss_check.specs.ResolvedNames.{Names, names, number, attribute_names, 
 use Rattle.ss_check.specs.PlaceRules.{is_routine}
 use Rattle.ss_check.specs.ResolvedNames.{undeclared_name, locals_of, routine_number}
 use Rattle.ss_check.specs.Resolved.{Rankings, rankings, class_table, set_table, section_name, section_kind, says_saving}
-use Rattle.ss_check.specs.Resolved.{resolved_spot, resolved_section, resolved_with}
-use Rattle.ss_check.specs.NamedTree.{listing_of, behind_given, owner_kept_name, member_kept_name, name_at}
-use Rattle.ss_check.specs.NamedTree.{named_attribute, named_spot, named_head, named_section, named_sections, plain_spot}
-use Rattle.ss_check.specs.NamedTree.{plain_head, plain_section, TablesGiveTheText}
+use Rattle.ss_check.specs.Resolved.{resolved_spot, resolved_section, resolved_with, resolved_listing, head_listing}
+use Rattle.ss_check.specs.Resolved.{define_table}
+use Rattle.ss_check.specs.NamedTree.{listing_of, owner_kept_name, member_kept_name, name_at, named_define}
+use Rattle.ss_check.specs.NamedTree.{named_attribute, named_spot, named_head, named_section, named_sections}
+use Rattle.ss_check.specs.NamedTree.{TablesGiveTheText}
 use Rattle.ss_check.proofs.SoundLists.{In, same_name, number_there, image_at, where_has}
 use Rattle.ss_check.proofs.SoundCompanions.{HasClass, routine_names}
 use Rattle.ss_check.proofs.SoundPlaceUses.{good_place}
@@ -40,7 +41,7 @@ use Rattle.ss_check.proofs.SoundNames.{kind_in, closed_kind, global_in, class_in
 use Rattle.ss_check.proofs.SoundStatements.{AreItemsKept, AreSectionsKept, ArePlacesKept, kept}
 use Rattle.ss_check.proofs.NamedKinds.{all_called, number_finds}
 use Rattle.ss_check.proofs.NamedPlaces.{place_is}
-use Rattle.ss_check.proofs.NamedUses.{two, IsListed}
+use Rattle.ss_check.proofs.NamedUses.{two, three, IsListed}
 
 -- ---- the parameters are the first local variables
 
@@ -88,21 +89,27 @@ module _ (xs ys names : List Name) (h : IsLonger (xs ++ ys) names) where
       ap (λ (zs : List Name). take (length ys) (drop (length xs) zs)) split
       ∙ ap (take (length ys)) (drop-append_seam xs (ys ++ h.more)) ∙ take-append_seam ys h.more
 
-given_listed : (ps : Listing Name) → listing_of (listing_names ps) ≡ behind_given ps
+given_listed : (ps : Listing Name) → listing_of (resolved_listing ps) (listing_names ps) ≡ ps
 given_listed Unwritten = refl
 given_listed (BehindGiven ns) = refl
 given_listed (InParentheses ns) = refl
 
 head_by : (hd : Head) (names : List Name) → IsLonger (given_of hd ++ yielded_of hd) names →
-    named_head (section_kind hd) (section_name hd) (take (length (given_of hd)) names)
-    (take (length (yielded_of hd)) (drop (length (given_of hd)) names)) (says_saving hd) ≡ plain_head hd
+    named_head (section_kind hd) (section_name hd) (listing_of (head_listing hd) (take (length (given_of hd)) names))
+    (take (length (yielded_of hd)) (drop (length (given_of hd)) names)) (says_saving hd) ≡ hd
 head_by MainHead names h = refl
 head_by (RoutineHead n ps ys) names h =
-    two (RoutineHead n) (ap listing_of (first_part (listing_names ps) ys names h) ∙ given_listed ps)
+    two (RoutineHead n)
+    (ap (listing_of (resolved_listing ps)) (first_part (listing_names ps) ys names h) ∙ given_listed ps)
     (second_part (listing_names ps) ys names h)
 head_by (EventHead n ps saving) names h =
     ap (λ (zs : Listing Name). EventHead n zs saving)
-    (ap listing_of (first_part (listing_names ps) [] names h) ∙ given_listed ps)
+    (ap (listing_of (resolved_listing ps)) (first_part (listing_names ps) [] names h) ∙ given_listed ps)
+
+-- local DEFINEs
+defines_are : (xs : List w.LocalNames) → map named_define (map define_table xs) ≡ xs
+defines_are [] = refl
+defines_are (x ∷ xs) = ap (λ (zs : List w.LocalNames). x ∷ zs) (defines_are xs)
 
 -- the name of a routine
 routine_is : (n : Name) (hd : Head) → In n (routine_names hd) → section_name hd ≡ n
@@ -199,30 +206,32 @@ module _ (is : List ItemAt) (qs : List Section) (h : AreItemsKept (declared_by_p
 
     spots_are : (ys : List w.Spot) → ((x : w.Spot) → In x ys → In x q.places) →
         ArePlacesKept D (declared.is_main q.head) ys →
-        map (named_spot p locals) (map (resolved_spot D V locals) ys) ≡ map plain_spot ys
+        map (named_spot p locals) (map (resolved_spot D V locals) ys) ≡ ys
     spots_are [] i k = refl
     spots_are (x ∷ ys) i k =
         let good = good_place D q x (declared.is_main q.head) (i x (inl refl)) k.0 in
         two (λ (z : w.Place) (zs : List w.Spot). (record { line = x.line; place = z }) ∷ zs)
         (place_is D V locals p (listed_names locals) x.place good) (spots_are ys (λ y m. i y (inr m)) k.1)
 
-    section_is : In q qs → named_section p (resolved_section D V q) ≡ plain_section q
+    section_is : In q qs → named_section p (resolved_section D V q) ≡ q
     section_is i =
         let kept = section_at D xs [] qs q s i in
         let head = kept.1 in
-        two (λ (z : Head) (zs : List w.Spot). record { line = q.line; head = z; locals = []; places = zs })
+        three
+        (λ (z : Head) (ds : List w.LocalNames) (zs : List w.Spot).
+        record { line = q.line; head = z; locals = ds; places = zs })
         (head_by q.head locals
         (first_names (parameters q.head) (flat_map (undeclared_name D) (variables_used q)) head.apart))
-        (spots_are q.places (λ x m. m) kept.2)
+        (defines_are q.locals) (spots_are q.places (λ x m. m) kept.2)
 
   sections_are : (ss : List Section) → ((q : Section) → In q ss → In q qs) →
-      map (named_section p) (map (resolved_section D V) ss) ≡ map plain_section ss
+      map (named_section p) (map (resolved_section D V) ss) ≡ ss
   sections_are [] i = refl
   sections_are (q ∷ ss) i =
       two (λ (z : w.Section) (zs : List w.Section). z ∷ zs) (section_is q (i q (inl refl)))
       (sections_are ss (λ y m. i y (inr m)))
 
-  pub program_is : named_sections p ≡ map plain_section qs
+  pub program_is : named_sections p ≡ qs
   program_is = sections_are qs (λ q i. i)
 
 -- the tables give the text

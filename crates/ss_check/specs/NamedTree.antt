@@ -61,7 +61,7 @@ use Rattle.ss_words.specs.declared.terms.OwnerKept.{OwnerKept}
 use Rattle.ss_words.specs.declared.terms.OwnerKept.TheVariants as owner
 use Rattle.ss_words.specs.declared.terms.MemberKept.{MemberKept}
 use Rattle.ss_words.specs.declared.terms.MemberKept.TheVariants as member
-use Rattle.ss_program.specs.Program.{class_of, set_of, section_of, SectionTable, ProgramTable}
+use Rattle.ss_program.specs.Program.{class_of, set_of, section_of, DefineTable, SectionTable, ProgramTable}
 use Rattle.ss_program.specs.ProgramExpr as tree
 use Rattle.ss_program.specs.ProgramCondition as tree_condition
 use Rattle.ss_check.specs.Breach.{breach}
@@ -74,10 +74,11 @@ abbrev pub several : {A : Type 0} → A → List A → Several A
 several none [] = record { first = none; others = [] }
 several none (a ∷ rest) = record { first = a; others = rest }
 
--- a list of arguments or parameters, behind GIVEN
-abbrev pub listing_of : {A : Type 0} → List A → simple.Listing A
-listing_of [] = simple.Unwritten
-listing_of (a ∷ rest) = simple.BehindGiven (record { first = a; others = rest })
+-- a list of arguments or parameters, as it is written
+abbrev pub listing_of : {A : Type 0} → Listing → List A → simple.Listing A
+listing_of how [] = simple.Unwritten
+listing_of listing.Given (a ∷ rest) = simple.BehindGiven (record { first = a; others = rest })
+listing_of listing.InParentheses (a ∷ rest) = simple.InParentheses (record { first = a; others = rest })
 
 -- ---- names of the language
 
@@ -257,10 +258,11 @@ module _ (p : ProgramTable) (locals : List Name) where
   named_filing (filing.RemoveAt z t r) = simple.RemoveEnd z (named_target t) (named_set r)
   named_filing (filing.Remove a r) = simple.Remove (named_expr a) (named_set r)
 
-  -- CALL, its arguments behind GIVEN
+  -- CALL
   abbrev pub named_call : Call → simple.Transfer
   named_call k =
-      simple.Call (section_of p k.section).name (listing_of (map named_expr k.given)) (map named_target k.targets)
+      simple.Call (section_of p k.section).name (listing_of k.listing (map named_expr k.given))
+      (map named_target k.targets)
 
   -- A or THE
   abbrev pub named_article : Notice → Article
@@ -379,18 +381,23 @@ module _ (p : ProgramTable) (locals : List Name) where
 
 -- ---- sections
 
--- a head, by the kind of the section: its name, the names of the given and of the yielded parameters, and SAVING
-abbrev pub named_head : SectionKind → Name → List Name → List Name → Bool → Head
+-- a head, by the kind of the section: its name, the given parameters, the names of the yielded ones, and SAVING
+abbrev pub named_head : SectionKind → Name → simple.Listing Name → List Name → Bool → Head
 named_head sections.Main n ps ys saving = MainHead
-named_head sections.Routine n ps ys saving = RoutineHead n (listing_of ps) ys
-named_head sections.Event n ps ys saving = EventHead n (listing_of ps) saving
+named_head sections.Routine n ps ys saving = RoutineHead n ps ys
+named_head sections.Event n ps ys saving = EventHead n ps saving
+
+-- a local DEFINE
+abbrev pub named_define : DefineTable → spots.LocalNames
+named_define x = record { line = x.line; names = several [] x.names }
 
 -- a section of a program; its parameters are the first of its locals
 abbrev pub named_section : ProgramTable → SectionTable → spots.Section
 named_section p q = record {
   line = q.line;
-  head = named_head q.kind q.name (take q.given q.locals) (take q.yielded (drop q.given q.locals)) q.saving;
-  locals = [];
+  head = named_head q.kind q.name (listing_of q.listing (take q.given q.locals))
+      (take q.yielded (drop q.given q.locals)) q.saving;
+  locals = map named_define q.defines;
   places = map (named_spot p q.locals) q.places;
 }
 
@@ -398,46 +405,10 @@ named_section p q = record {
 abbrev pub named_sections : ProgramTable → List spots.Section
 named_sections p = map (named_section p) p.sections
 
--- ---- what a program does not keep of its text
-
--- a list of arguments or parameters as written behind GIVEN
-abbrev pub behind_given : {A : Type 0} → simple.Listing A → simple.Listing A
-behind_given (simple.InParentheses rest) = simple.BehindGiven rest
-behind_given a = a
-
--- a CALL with its arguments behind GIVEN
-abbrev pub plain_transfer : simple.Transfer → simple.Transfer
-plain_transfer (simple.Call n values targets) = simple.Call n (behind_given values) targets
-plain_transfer a = a
-
--- a place, with the arguments of a CALL behind GIVEN
-abbrev pub plain_place : spots.Place → spots.Place
-plain_place (spots.Simply (simple.Transfers a)) = spots.Simply (simple.Transfers (plain_transfer a))
-plain_place a = a
-
--- the same on its line
-abbrev pub plain_spot : spots.Spot → spots.Spot
-plain_spot q = record { line = q.line; place = plain_place q.place }
-
--- a head, with its parameters behind GIVEN
-abbrev pub plain_head : Head → Head
-plain_head MainHead = MainHead
-plain_head (RoutineHead n ps ys) = RoutineHead n (behind_given ps) ys
-plain_head (EventHead n ps saving) = EventHead n (behind_given ps) saving
-
--- a section without its local DEFINEs, and with parameters and arguments behind GIVEN
-abbrev pub plain_section : spots.Section → spots.Section
-plain_section q = record {
-  line = q.line;
-  head = plain_head q.head;
-  locals = [];
-  places = map plain_spot q.places;
-}
-
 -- ---- the law
 
--- a program without a breach, each number looked up in its table, is its text again, but for what it does not keep
+-- a program without a breach, each number looked up in its table, is its text again
 abbrev pub TablesGiveTheText : Type 0
 TablesGiveTheText =
     (decls : Decls) (qs : List spots.Section) → breach decls qs ≡ None →
-    named_sections (resolved decls qs) ≡ map plain_section qs
+    named_sections (resolved decls qs) ≡ qs

@@ -34,6 +34,7 @@ use Rattle.ss_program.specs.declared.branch.Branch.{Branch}
 use Rattle.ss_program.specs.declared.branch.Branch.TheVariants as branch
 use Rattle.ss_program.specs.declared.timing.Notice.{Notice}
 use Rattle.ss_program.specs.declared.timing.Notice.TheVariants as notice
+use Rattle.ss_program.specs.declared.timing.Listing.{Listing}
 use Rattle.ss_program.specs.declared.timing.Listing.TheVariants as listing
 use Rattle.ss_program.specs.declared.timing.When.{When}
 use Rattle.ss_program.specs.declared.timing.When.TheVariants as when
@@ -61,7 +62,7 @@ use Rattle.ss_program.specs.declared.kinds.Owner.TheVariants.{System, OwnedBy}
 use Rattle.ss_program.specs.declared.kinds.SectionKind.{SectionKind}
 use Rattle.ss_program.specs.declared.kinds.SectionKind.TheVariants as sections
 use Rattle.ss_program.specs.EventTable.{EventTable}
-use Rattle.ss_program.specs.Program.{ClassTable, SetTable, SectionTable, ProgramTable}
+use Rattle.ss_program.specs.Program.{ClassTable, SetTable, DefineTable, SectionTable, ProgramTable}
 use Rattle.ss_program.specs.ProgramExpr as tree
 use Rattle.ss_program.specs.ProgramCondition as tree_condition
 use Rattle.ss_check.specs.Facts.{Fact, is_among, fact_of}
@@ -78,6 +79,11 @@ use Rattle.ss_check.specs.ResolvedNames.{applied_factor, value_factor, target_of
 -- a factor alone as an expression
 abbrev pub alone : tree.Factor → tree.Expr
 alone f = tree.expr None (tree.term f tree.no_products) tree.no_sums
+
+-- how a list of arguments or parameters is written
+abbrev pub resolved_listing : {A : Type 0} → simple.Listing A → Listing
+resolved_listing (simple.InParentheses xs) = listing.InParentheses
+resolved_listing _ = listing.Given
 
 -- d: what the whole program says; v: its tables; locals: those of the section
 module _ (d : Declared) (v : Names) (locals : List Name) where
@@ -214,6 +220,7 @@ module _ (d : Declared) (v : Names) (locals : List Name) where
     section = routine_number d v locals n;
     given = map resolved_expr (listing_names bs);
     targets = map resolved_target rs;
+    listing = resolved_listing bs;
   })
   resolved_transfer simple.Return = place.Control control.Return
   resolved_transfer simple.Stop = place.Control control.Stop
@@ -424,6 +431,16 @@ abbrev pub says_saving : Head → Bool
 says_saving (EventHead n given saving) = saving
 says_saving _ = false
 
+-- how the given parameters of a head are written
+abbrev pub head_listing : Head → Listing
+head_listing MainHead = listing.Given
+head_listing (RoutineHead n given yielded) = resolved_listing given
+head_listing (EventHead n given saving) = resolved_listing given
+
+-- a local DEFINE
+abbrev pub define_table : spots.LocalNames → DefineTable
+define_table x = record { line = x.line; names = all_of x.names }
+
 -- a section with these locals
 abbrev pub section_with : Declared → Names → List Name → spots.Section → SectionTable
 section_with d v locals q = record {
@@ -435,6 +452,8 @@ section_with d v locals q = record {
   saving = says_saving q.head;
   locals = locals;
   places = map (resolved_spot d v locals) q.places;
+  listing = head_listing q.head;
+  defines = map define_table q.locals;
 }
 
 -- a section of a program

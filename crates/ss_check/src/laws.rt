@@ -190,9 +190,8 @@ pub fn preamble_has_tables()
     ensures { PreambleHasTables }
 {}
 
-/// A program without a breach, each number looked up in its table, is its text again: heads,
-/// parameters, places and their names and subscripts. It does not keep the local DEFINEs, nor
-/// whether arguments of CALL and parameters stand in parentheses or behind GIVEN.
+/// A program without a breach, each number looked up in its table, is its text again: its sections
+/// with their lines, heads, local DEFINEs and places.
 pub fn tables_give_the_text()
     ensures { TablesGiveTheText }
 {}

@@ -1,5 +1,5 @@
 -- what is sound about each place of a program
-use Rattle.std.proofs.Common.{◌≡◌, ℕ, zero, suc, ◌+◌, ◌<◌, ◌≤◌, List, [], ◌∷◌, length, true, false, Option, Some, None}
+use Rattle.std.proofs.Common.{◌≡◌, ℕ, zero, suc, ◌+◌, ◌<◌, ◌≤◌, List, [], ◌∷◌, length, true, Option, Some, None}
 use Rattle.std.proofs.Common.{arith, refl, ap, sym, subst, ◌∙◌}
 use Rattle.std.specs.Prelude.{map, slice_get, unwrap_or}
 use Rattle.std.proofs.lemmas.Option.{unwrap_or-slice_get}
@@ -9,13 +9,12 @@ use Rattle.ss_program.specs.declared.place.Place.TheVariants as places
 use Rattle.ss_program.specs.declared.looping.Looping.TheVariants.{For, Loop, Find, Gather, Tell}
 use Rattle.ss_program.specs.declared.call.Call.{Call}
 use Rattle.ss_program.specs.declared.ways.Ways.{Ways}
-use Rattle.ss_program.specs.declared.kinds.SectionKind.TheVariants.{Main}
 use Rattle.ss_program.specs.declared.kinds.ClassKind.{ClassKind}
 use Rattle.ss_program.specs.declared.kinds.ClassKind.TheVariants.{Permanent, Temporary, Event}
 use Rattle.ss_program.specs.Match.{ways_of, ways_from, section_ways}
 use Rattle.ss_program.specs.Nesting.{is_nested, AreNestedPlaces}
 use Rattle.ss_program.specs.Program.{ClassTable, SectionTable, ProgramTable, class_of, event_of, event_of_kind}
-use Rattle.ss_program.specs.Program.{is_event, places_of, locals_of, section_of, spot_at, is_permanent}
+use Rattle.ss_program.specs.Program.{is_event, places_of, locals_of, no_section, section_of, spot_at, is_permanent}
 use Rattle.ss_program.specs.ProgramSound.{Scope, IsSound, IsSoundSection, AreSoundSections, IsSoundPlace}
 use Rattle.ss_program.specs.ProgramSound.{AreSoundPlaces, IsEnded, LeadsOn, IsCalledBy, IsLinkedPlace, AreLinkedPlaces}
 use Rattle.ss_program.specs.ProgramSound.{AreLinkedSections, IsTimed, AreTimed, IsEventClass, IsSoundClass}
@@ -250,16 +249,7 @@ timed_place p t (x ∷ xs) (suc i) s h e = timed_place p t xs i s h.1 e
 spot_timed_of : (p : ProgramTable) (i j : ℕ) (spot : Spot) (o : Option SectionTable) → IsSound p →
     slice_get p.sections i ≡ o →
     slice_get (places_of o) j ≡ Some spot →
-    IsTimed p (unwrap_or o (record {
-      name = [];
-      kind = Main;
-      line = 0;
-      given = 0;
-      yielded = 0;
-      saving = false;
-      locals = [];
-      places = [];
-    })) spot.place
+    IsTimed p (unwrap_or o no_section) spot.place
 spot_timed_of p i j spot None h e f = cc
 spot_timed_of p i j spot (Some s) h e f =
     timed_place p s s.places j spot (section_sound _ p.sections i s h.sections e).timed f

@@ -25,8 +25,7 @@ use Rattle.ss_program.specs.declared.place.Place.TheVariants as places
 use Rattle.ss_program.specs.declared.place.Spot.{Spot}
 use Rattle.ss_program.specs.declared.timing.Timing.TheVariants as timings
 use Rattle.ss_program.specs.declared.ways.Ways.{Ways}
-use Rattle.ss_program.specs.declared.kinds.SectionKind.TheVariants.{Main}
-use Rattle.ss_program.specs.Program.{SectionTable, ProgramTable, is_main, main_number, section_of, spot_at}
+use Rattle.ss_program.specs.Program.{SectionTable, ProgramTable, is_main, main_number, no_section, section_of, spot_at}
 use Rattle.ss_program.specs.ProgramSound.{IsSoundPlace, IsSound, IsTimed}
 use Rattle.ss_program.proofs.Mains.{one_main}
 use Rattle.ss_machine.specs.Change.{Change}
@@ -147,16 +146,7 @@ passes_at f [] t e = cc
 passes_at f (x ∷ xs) t e = passes_by f x xs t (position_or_len f xs) (f x) refl (passes_at f xs t) e
 
 main_there : (p : ProgramTable) (o : Option SectionTable) → IsSound p → slice_get p.sections (main_number p) ≡ o →
-    is_main (unwrap_or o (record {
-      name = [];
-      kind = Main;
-      line = 0;
-      given = 0;
-      yielded = 0;
-      saving = false;
-      locals = [];
-      places = [];
-    })) ≡ true
+    is_main (unwrap_or o no_section) ≡ true
 main_there p None sound e = refl
 main_there p (Some t) sound e = passes_at is_main p.sections t e
 

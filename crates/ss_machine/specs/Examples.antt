@@ -133,6 +133,8 @@ main_of n xs = record {
   saving = false;
   locals = replicate n [];
   places = on_one_line xs;
+  listing = Given;
+  defines = [];
 }
 
 -- a routine with n locals, some of them given and some yielded
@@ -146,6 +148,8 @@ routine_of given yielded n xs = record {
   saving = false;
   locals = replicate n [];
   places = on_one_line xs;
+  listing = Given;
+  defines = [];
 }
 
 -- a program with n global variables
@@ -182,7 +186,12 @@ statistics_of a b =
 abbrev pub one_more : ProgramTable
 one_more =
     program_of 0 (
-    main_of 1 (Call (record { section = 1; given = number 4 ∷ []; targets = ToVariable (Local 0) ∷ [] }) ∷ end_place
+    main_of 1 (Call (record {
+      section = 1;
+      given = number 4 ∷ [];
+      targets = ToVariable (Local 0) ∷ [];
+      listing = Given;
+    }) ∷ end_place
     ∷ [])
     ∷ routine_of 1 1 2 (let_be (Local 1) (local 0) ∷ add_to (Local 1) (number 1) ∷ Control Return ∷ end_place ∷ [])
     ∷ []
@@ -191,7 +200,7 @@ one_more =
 -- a routine calls itself without end
 abbrev pub endless_calls : ProgramTable
 endless_calls =
-    let again : Place = Call (record { section = 1; given = []; targets = [] }) in
+    let again : Place = Call (record { section = 1; given = []; targets = []; listing = Given }) in
     program_of 0 (main_of 0 (again ∷ end_place ∷ []) ∷ routine_of 0 0 0 (again ∷ end_place ∷ []) ∷ [])
 
 -- READ of two locals
@@ -292,6 +301,8 @@ ticks_with ties saving xs ys = record {
     saving = saving;
     locals = [] ∷ [];
     places = on_one_line ys;
+    listing = Given;
+    defines = [];
   } ∷ [];
 }
 
@@ -399,6 +410,8 @@ arrivals_with xs ys = record {
     saving = false;
     locals = [] ∷ [];
     places = on_one_line ys;
+    listing = Given;
+    defines = [];
   } ∷ [];
 }
 

@@ -13,6 +13,8 @@ use Rattle.ss_program.specs.declared.kinds.Owner.TheVariants.{System, OwnedBy}
 use Rattle.ss_program.specs.declared.kinds.SectionKind.{SectionKind}
 use Rattle.ss_program.specs.declared.kinds.SectionKind.TheVariants.{Main, Routine, Event as EventSection}
 use Rattle.ss_program.specs.declared.place.Spot.{Spot}
+use Rattle.ss_program.specs.declared.timing.Listing.{Listing}
+use Rattle.ss_program.specs.declared.timing.Listing.TheVariants.{Given}
 
 -- a class
 pub record ClassTable : Type 0 where
@@ -36,6 +38,13 @@ pub record SetTable : Type 0 where
   -- the class of its members
   pub member : ℕ
 
+-- a local DEFINE
+pub record DefineTable : Type 0 where
+  -- its line
+  pub line : ℕ
+  -- the names that it gives
+  pub names : List (List ℕ)
+
 -- a section
 pub record SectionTable : Type 0 where
   -- its name
@@ -54,6 +63,10 @@ pub record SectionTable : Type 0 where
   pub locals : List (List ℕ)
   -- its places
   pub places : List Spot
+  -- how its given parameters are written
+  pub listing : Listing
+  -- its local DEFINEs
+  pub defines : List DefineTable
 
 -- a program
 pub record ProgramTable : Type 0 where
@@ -124,10 +137,24 @@ abbrev pub event_of_kind : ClassKind → EventTable
 event_of_kind (Event e) = e
 event_of_kind _ = record { section = 0; ties = []; external = false }
 
+-- a section of nothing
+abbrev pub no_section : SectionTable
+no_section = record {
+  name = [];
+  kind = Main;
+  line = 0;
+  given = 0;
+  yielded = 0;
+  saving = false;
+  locals = [];
+  places = [];
+  listing = Given;
+  defines = [];
+}
+
 -- section number n
 abbrev pub section_of : ProgramTable → ℕ → SectionTable
-section_of p n = unwrap_or (slice_get p.sections n)
-    (record { name = []; kind = Main; line = 0; given = 0; yielded = 0; saving = false; locals = []; places = [] })
+section_of p n = unwrap_or (slice_get p.sections n) no_section
 
 -- what event class c has besides
 abbrev pub event_of : ProgramTable → ℕ → EventTable

@@ -1,5 +1,6 @@
 use crate::expr::Values;
 use crate::target::Target;
+use crate::timing::Listing;
 use std::marker::Model;
 
 /// The targets of the values that a routine yields, or that a READ takes, in order.
@@ -21,11 +22,12 @@ impl Model for Targets {
     ghost view = { λ a. a.list.items };
 }
 
-/// `CALL` of a section, by its number, with the values given to it and the targets of those that it
-/// yields.
+/// `CALL` of a section, by its number, with the values given to it, the targets of those that it
+/// yields, and how the values given to it are written.
 #[derive(Drop)]
 pub struct Call {
     pub section: usize,
     pub given: Values,
     pub targets: Targets,
+    pub listing: Listing,
 }

@@ -42,7 +42,7 @@ pub use name::Name;
 pub use name_table::NameTable;
 pub use place::{Assign, Control, Output, Place, Spot};
 pub use program::Program;
-pub use section::{Head, Section};
+pub use section::{Head, LocalDefine, Section};
 pub use ss_words::{
     Comparison, Copula, Direction, MemberKept, OwnerKept, QualifierWord, Rank, SetEnd, Statistic,
     TermSign,

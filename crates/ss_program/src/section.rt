@@ -4,13 +4,34 @@ ghost use Rattle.ss_program.specs.Match.{section_ways};
 use crate::kinds::SectionKind;
 use crate::name::Name;
 use crate::place::Spot;
+use crate::timing::Listing;
 use crate::ways::{self, Ways};
 use std::alloc::{AllocError, Global};
 use std::marker::Model;
 
+/// A local DEFINE: its line, and the names that it gives, whether or not a place takes them for
+/// variables.
+#[derive(Drop)]
+pub struct LocalDefine {
+    pub line: usize,
+    pub names: Vec<Name>,
+}
+
+impl Model for LocalDefine {
+    ghost use Rattle.ss_program.specs.Program.{DefineTable};
+
+    ghost Value = { DefineTable };
+
+    ghost view = { λ a. record {
+      line = a.line;
+      names = a.names.items;
+    } };
+}
+
 /// A section: its name (`MAIN` for the main one), the line of its head, how many given and how many
 /// yielded parameters it has, whether its event's notice is saved, its locals in the order of its
-/// table (those of the parameters first), and its places.
+/// table (those of the parameters first), its places, how its given parameters are written, and its
+/// local DEFINEs.
 #[derive(Drop)]
 pub struct Section {
     pub name: Name,
@@ -21,6 +42,8 @@ pub struct Section {
     pub saving: bool,
     pub locals: Vec<Name>,
     pub places: Vec<Spot>,
+    pub listing: Listing,
+    pub defines: Vec<LocalDefine>,
     ways: Vec<Ways>,
 }
 
@@ -44,12 +67,14 @@ impl Model for Section {
       saving = a.saving;
       locals = a.locals.items;
       places = a.places.items;
+      listing = a.listing;
+      defines = a.defines.items;
     } };
 
     ghost invariant = { λ a. a.ways.items ≡ section_ways a.places.items };
 }
 
-/// What a section is made of, apart from its places.
+/// What a section is made of, apart from its locals, its places and its local DEFINEs.
 #[derive(Drop)]
 pub struct Head {
     pub name: Name,
@@ -58,15 +83,17 @@ pub struct Head {
     pub given: usize,
     pub yielded: usize,
     pub saving: bool,
+    pub listing: Listing,
 }
 
 impl Section {
-    /// A section of these places, with where each goes on.
+    /// A section of these places, with where each goes on, and of these local DEFINEs.
     pub fn new(
         alloc: Global,
         head: Head,
         locals: Vec<Name>,
         places: Vec<Spot>,
+        defines: Vec<LocalDefine>,
     ) -> Result<Self, AllocError>
         requires few { length places.items < 2 ^ 63 }
         ensures { IfOk result (λ section. section ≡ record {
@@ -78,6 +105,8 @@ impl Section {
           saving = head.saving;
           locals = locals.items;
           places = places.items;
+          listing = head.listing;
+          defines = defines.items;
         }) }
     {
         let ways = ways::section_ways(alloc, &places)?;
@@ -90,6 +119,8 @@ impl Section {
             saving: head.saving,
             locals,
             places,
+            listing: head.listing,
+            defines,
             ways,
         })
     }

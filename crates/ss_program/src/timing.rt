@@ -36,8 +36,8 @@ pub enum Notice {
     Known { is_called: bool, notice: Expr },
 }
 
-/// How the arguments are written: in parentheses before CALLED, or with GIVEN behind it. Without
-/// arguments it is `Given`.
+/// How arguments or parameters are written: in parentheses, or behind GIVEN. Of SCHEDULE parentheses
+/// stand before CALLED, and GIVEN behind it. Without arguments or parameters it is `Given`.
 #[derive(Clone, Copy, PartialEq, Eq)]
 pub enum Listing {
     InParentheses,

@@ -20,6 +20,7 @@ use Rattle.ss_program.specs.declared.place.Control.TheVariants.{Stop, End}
 use Rattle.ss_program.specs.declared.place.Place.{Place}
 use Rattle.ss_program.specs.declared.place.Place.TheVariants.{Assign, Output, Control}
 use Rattle.ss_program.specs.declared.place.Spot.{Spot}
+use Rattle.ss_program.specs.declared.timing.Listing.TheVariants.{Given}
 use Rattle.ss_program.specs.ProgramExpr as checked
 use Rattle.ss_program.specs.Program.{ProgramTable}
 use Rattle.ss_session.proofs.Transcripts.{at}
@@ -70,6 +71,8 @@ of_main locals places = record {
         saving = false;
         locals = locals;
         places = places;
+        listing = Given;
+        defines = [];
       }
       ∷ [];
 }

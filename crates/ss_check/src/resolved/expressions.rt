@@ -126,6 +126,16 @@ pub(crate) fn resolve_several(
     Ok(Values { list })
 }
 
+/// How a list that may be left out is written.
+pub(crate) fn written_listing<T>(written: &Listing<T>) -> ss_program::Listing
+    ensures { result ≡ resolved.resolved_listing (listing_view (λ x. x) written.now) }
+{
+    match written {
+        Listing::InParentheses(_) => ss_program::Listing::InParentheses,
+        Listing::Unwritten | Listing::BehindGiven(_) => ss_program::Listing::Given,
+    }
+}
+
 /// The expressions of a list that may be left out, in order.
 pub(crate) fn resolve_listed(
     scope: Scope<'_>,

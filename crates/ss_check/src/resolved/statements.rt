@@ -9,7 +9,7 @@ ghost use Rattle.ss_check.specs.Resolved as resolved;
 ghost use Rattle.ss_check.specs.Scope.{in_scope};
 
 use crate::resolved::expressions::{
-    resolve_expr, resolve_listed, resolve_option, resolve_several, resolve_values,
+    resolve_expr, resolve_listed, resolve_option, resolve_several, resolve_values, written_listing,
 };
 use crate::resolved::references::{
     called_target, called_value, member_and_set, resolve_set, resolve_several_targets,
@@ -213,6 +213,7 @@ fn resolve_transfer(scope: Scope<'_>, transfer: &Transfer) -> Result<Place, Allo
                 section: scope.names.routine(routine.bytes()),
                 given: resolve_listed(scope, values)?,
                 targets: resolve_targets(scope, targets)?,
+                listing: written_listing(values),
             };
             Ok(Place::Call(Boxed::new(scope.alloc, call)?))
         }

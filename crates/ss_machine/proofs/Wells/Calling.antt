@@ -23,7 +23,7 @@ use Rattle.ss_program.specs.declared.kinds.SectionKind.TheVariants.{Main, Routin
 use Rattle.ss_program.specs.ProgramExpr.{Expr}
 use Rattle.ss_program.specs.Program as program
 use Rattle.ss_program.specs.Program.{SectionTable, ProgramTable, event_of, event_of_kind, is_event, is_event_kind}
-use Rattle.ss_program.specs.Program.{is_routine_kind, section_of, places_of, locals_of, spot_at}
+use Rattle.ss_program.specs.Program.{is_routine_kind, no_section, section_of, places_of, locals_of, spot_at}
 use Rattle.ss_program.specs.ProgramSound.{IsSound, is_end, GoesOn, IsCalledBy}
 use Rattle.ss_machine.specs.declared.status.Status.TheVariants.{Finished}
 use Rattle.ss_machine.specs.declared.limits.TheConstants.{MOST_BELOW}
@@ -104,16 +104,7 @@ routine_stands p Routine section f e h = h
 routine_stands p Event section f e h = cc
 
 called_routine_by : (c : Call) (o : Option SectionTable) → IsCalledBy c o →
-    is_routine_kind (unwrap_or o (record {
-      name = [];
-      kind = Main;
-      line = 0;
-      given = 0;
-      yielded = 0;
-      saving = false;
-      locals = [];
-      places = [];
-    })).kind ≡ true
+    is_routine_kind (unwrap_or o no_section).kind ≡ true
 called_routine_by c None h = absurd h
 called_routine_by c (Some t) h = h.0
 
