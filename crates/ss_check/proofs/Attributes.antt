@@ -1,6 +1,6 @@
 -- A name among the attributes of a class, by what it is declared as.
-use Rattle.std.proofs.Common.{◌≡◌, ◌&&◌, true, false, List, refl, ap, sym, ◌∙◌, Some, None}
-use Rattle.std.specs.Prelude.{Option, map, bytes_eq, option_map, unwrap_or}
+use Rattle.std.proofs.Common.{◌≡◌, ◌&&◌, true, false, List, refl, sym, ◌∙◌, Some, None}
+use Rattle.std.specs.Prelude.{Option, bytes_eq, option_map, unwrap_or}
 use Rattle.std.specs.List.{list_any, filter}
 use Rattle.ss_words.specs.Lists.{Name}
 use Rattle.ss_check.specs.declared.declared.name_kind.NameKind.{NameKind as CodeKind}
@@ -14,7 +14,8 @@ use Rattle.ss_check.proofs.SoundLists.{fact_in, in_among, where_has}
 use Rattle.ss_check.proofs.Tests.{any_filter, any_map}
 
 first_by : (table : List (Fact NameKind)) (c n : Name) (o : Option NameKind) → fact_of table n ≡ o →
-    unwrap_or (option_map (is_attribute_of c) o) false ≡ true → is_among n (names_where (is_attribute_of c) table) ≡ true
+    unwrap_or (option_map (is_attribute_of c) o) false ≡ true →
+    is_among n (names_where (is_attribute_of c) table) ≡ true
 first_by table c n None e t = cc
 first_by table c n (Some j) e t =
     in_among n (names_where (is_attribute_of c) table)

@@ -41,11 +41,11 @@ use Rattle.ss_check.specs.Facts.{fact_of}
 use Rattle.ss_check.specs.NameKinds.{names_event}
 use Rattle.ss_check.specs.Declarations as declared
 use Rattle.ss_check.specs.Declarations.{HeadedItem, headed_items, heads, given_of, yielded_of, parameters, kind_of}
-use Rattle.ss_check.specs.Declarations.{is_declared, declared_by_program, attribute_count}
+use Rattle.ss_check.specs.Declarations.{declared_by_program, attribute_count}
 use Rattle.ss_check.specs.PlaceRules.{is_routine}
 use Rattle.ss_check.specs.PlaceRules.{is_wrong_class, is_wrong_count, has_other_counts, is_wrong_call}
 use Rattle.ss_check.specs.Uses.{Use, Notice, OfClass, values_of, uses_details, uses_when, uses_called_value}
-use Rattle.ss_check.specs.ResolvedNames.{Names, names, number, variable_used, variables_used, undeclared_name}
+use Rattle.ss_check.specs.ResolvedNames.{Names, names, number, variables_used, undeclared_name}
 use Rattle.ss_check.specs.ResolvedNames.{locals_of}
 use Rattle.ss_check.specs.Resolved.{Rankings, rankings, resolved_expr, resolved_target, resolved_place, resolved_spot}
 use Rattle.ss_check.specs.Resolved.{resolved_section, resolved_with}

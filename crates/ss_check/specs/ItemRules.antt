@@ -42,7 +42,7 @@ module _ (d : Declared) where
   names_wrong_class h (Orders r) = orders_wrong_class r
   names_wrong_class h _ = false
 
-  -- whether a key is none of the attributes that the HAS clauses of a class write, whatever else its name is declared as
+  -- whether a key is none of the attributes that the HAS clauses of a class write, whatever else it is declared as
   abbrev pub is_wrong_key : Name → Key → Bool
   is_wrong_key c k = not (is_among k.name (attributes_of d c))
 

@@ -1,5 +1,5 @@
 -- A small program, and what is found in it.
-use Rattle.std.specs.Prelude.{◌≡◌, ℕ, List, [], ◌∷◌, codes, Some, None}
+use Rattle.std.specs.Prelude.{◌≡◌, [], ◌∷◌, codes, Some, None}
 use Rattle.ss_program.specs.declared.kinds.ClassKind.TheVariants.{Permanent}
 use Rattle.ss_program.specs.declared.kinds.Discipline.TheVariants.{Fifo}
 use Rattle.ss_program.specs.declared.kinds.Owner.TheVariants.{System}

@@ -8,7 +8,7 @@ use Rattle.ss_words.specs.declared.terms.Copula.{Copula}
 use Rattle.ss_words.specs.declared.terms.Copula.TheVariants.{Is, IsNot}
 use Rattle.ss_program.specs.declared.target.SetRef.{SetRef}
 use Rattle.ss_words.specs.declared.terms.Comparison.TheVariants.{Equal, Unequal, Less, Greater, AtMost, AtLeast}
-use Rattle.ss_program.specs.ProgramExpr.{Expr, expr, Sums, no_sums, Term, term, no_products, Factor, digits, attribute}
+use Rattle.ss_program.specs.ProgramExpr.{Expr, expr, no_sums, Term, term, no_products, Factor, digits, attribute}
 use Rattle.ss_program.specs.ProgramExpr.{of_system}
 use Rattle.ss_program.specs.ProgramExprCode.{expr_code, ten_more}
 use Rattle.ss_program.specs.ProgramCondition.{Condition, any, Conjunctions, no_conjunctions, or_else, Conjunction, all}

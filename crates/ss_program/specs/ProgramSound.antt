@@ -9,7 +9,7 @@ use Rattle.ss_program.specs.declared.place.Assign.{Assign as AnAssign}
 use Rattle.ss_program.specs.declared.place.Assign.TheVariants.{Let, Add, Subtract}
 use Rattle.ss_program.specs.declared.place.Output.{Output as AnOutput}
 use Rattle.ss_program.specs.declared.place.Output.TheVariants.{Print, Skip}
-use Rattle.ss_program.specs.declared.place.Control.TheVariants.{Stop, Return, End}
+use Rattle.ss_program.specs.declared.place.Control.TheVariants.{End}
 use Rattle.ss_program.specs.declared.place.Place.{Place}
 use Rattle.ss_program.specs.declared.place.Place.TheVariants.{Assign, Making, Filing, Output, Control, Branch, Looping}
 use Rattle.ss_program.specs.declared.place.Place.TheVariants.{Call, Timing, Read}

@@ -1,7 +1,6 @@
 ghost use Rattle.std.specs.Prelude.{◌≡◌, ◌++◌, ◌||◌, [], IfOk, OnOk};
 ghost use Rattle.std.specs.List.{list_any};
 ghost use Rattle.ss_check.specs.declared.fault.CheckRule.TheVariants as check;
-ghost use Rattle.ss_words.specs.Lists.{all_of, several_view};
 ghost use Rattle.ss_routines.specs.Tree.{listing_names};
 ghost use Rattle.ss_routines.specs.View as view;
 ghost use Rattle.ss_check.specs.Increments.{IsOnce, with_head};
