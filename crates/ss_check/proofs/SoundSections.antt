@@ -48,7 +48,7 @@ use Rattle.ss_check.specs.Uses.{Use, Notice, OfClass, values_of, uses_details, u
 use Rattle.ss_check.specs.ResolvedNames.{Names, names, number, variables_used, undeclared_name}
 use Rattle.ss_check.specs.ResolvedNames.{locals_of}
 use Rattle.ss_check.specs.Resolved.{Rankings, rankings, resolved_expr, resolved_target, resolved_place, resolved_spot}
-use Rattle.ss_check.specs.Resolved.{resolved_section, resolved_with}
+use Rattle.ss_check.specs.Resolved.{resolved_section, resolved_with, resolved_listing}
 use Rattle.ss_check.proofs.SoundLists.{In, in_left, once_has, once_apart, as_many_at_least, apart_from}
 use Rattle.ss_check.proofs.SoundStatements.{AreItemsKept, AreSectionsKept, IsPlaceKept, ArePlacesKept}
 use Rattle.ss_check.proofs.SoundPlaceUses.{good_place}
@@ -312,6 +312,7 @@ module _ (is : List ItemAt) (qs : List Section) (h : AreItemsKept (declared_by_p
           section = Rattle.ss_check.specs.ResolvedNames.routine_number D V locals n;
           given = map (resolved_expr D V locals) (listing_names es);
           targets = map (resolved_target D V locals) rs;
+          listing = resolved_listing es;
         })
         (resolved_section D V y)
         (slice_get p.sections (Rattle.ss_check.specs.ResolvedNames.routine_number D V locals n)) there (

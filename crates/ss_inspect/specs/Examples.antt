@@ -15,6 +15,7 @@ use Rattle.ss_program.specs.declared.place.Output.TheVariants.{Skip}
 use Rattle.ss_program.specs.declared.place.Place.{Place}
 use Rattle.ss_program.specs.declared.place.Place.TheVariants.{Assign, Making, Filing, Output, Call, Read}
 use Rattle.ss_program.specs.declared.place.Spot.{Spot}
+use Rattle.ss_program.specs.declared.timing.Listing.TheVariants.{Given}
 use Rattle.ss_program.specs.declared.timing.When.TheVariants.{At}
 use Rattle.ss_program.specs.declared.variable.Variable.TheVariants.{Global, Local}
 use Rattle.ss_program.specs.ProgramExpr.{expr, no_sums, sum, term, no_products, variable, digits, implied, at}
@@ -38,6 +39,8 @@ section name kind l given yielded locals places = record {
   saving = false;
   locals = locals;
   places = on_lines_from (l + 1) places;
+  listing = Given;
+  defines = [];
 }
 
 -- jobs, a row of the system, and a routine: 7 CREATE A JOB; 8 LET SIZE = 5; 9 FILE JOB IN ROW;
@@ -53,7 +56,7 @@ jobs = record {
       Making (Create 0 false (ToVariable (Global 0)))
       ∷ Assign (Let false (Attribute 0 0 (implied 0)) (number 5))
       ∷ Filing (File job ByRule queue)
-      ∷ Call (record { section = 1; given = number 4 ∷ []; targets = ToVariable (Local 0) ∷ [] })
+      ∷ Call (record { section = 1; given = number 4 ∷ []; targets = ToVariable (Local 0) ∷ []; listing = Given })
       ∷ end_place ∷ [])
       ∷ section (codes "MORE") Routine 12 1 1 (codes "P" ∷ codes "Q" ∷ []) (
       Assign (Let false (ToVariable (Local 1)) (expr None (term (variable (Local 0)) no_products)
