@@ -6,7 +6,9 @@ ghost use Rattle.ss_store.specs.Store as pure;
 ghost use Rattle.ss_store.specs.Filing.{is_in, count, walk_first, walk_last, walk_next};
 ghost use Rattle.ss_store.specs.Filing.{walk_prev, predecessor, successor, membership};
 
-use crate::places::{greatest_number, head_of, known, member_if, number_of_value, row_of, seat_in, seat_of};
+use crate::places::{
+    greatest_number, head_of, known, member_if, number_of_value, row_of, seat_in, seat_of,
+};
 use crate::ranking::{value_at, values_of};
 use crate::store::Store;
 use ss_links::SetBoard;

@@ -19,12 +19,15 @@ unwrap-node-requires g c =
     rw (c.take.ensures.value, node-there _ _ _ _ c.args.entry _ c.self.invariant.0 p c.index_mut.ensures.value) refl
 
 pub put-before-requires-clause-known : goal.put-before-requires-clause-known
-put-before-requires-clause-known g c = λ y h. ((put_in-ranked _ _ _ _ _ c.args.notice _ c.args.entry _ _ _ _ _ _
-    c.self.view_is c.self.invariant.0 c.requires c.index_mut.ensures.value c.deref-2.ensures.value refl
-    c.head-head.ensures.value c.head-head.ensures.there c.self.invariant.1 c.index_mut-2.ensures.value (ap (map _)
-    c.deref.ensures.value) c.deref-3.ensures.value).known y h, due-ranked _ _ _ _ _ _ _ _ c.args.notice c.args.entry _ _ c.self.view_is
-    c.self.invariant.0 c.self.invariant.2 c.requires c.index_mut.ensures.value c.deref-2.ensures.value refl
-    c.deref-4.ensures.value c.deref-3.ensures.value)
+put-before-requires-clause-known g c = λ y h. (
+  (put_in-ranked _ _ _ _ _ c.args.notice _ c.args.entry _ _ _ _ _ _
+      c.self.view_is c.self.invariant.0 c.requires c.index_mut.ensures.value c.deref-2.ensures.value refl
+      c.head-head.ensures.value c.head-head.ensures.there c.self.invariant.1 c.index_mut-2.ensures.value (ap (map _)
+      c.deref.ensures.value) c.deref-3.ensures.value).known y h,
+  due-ranked _ _ _ _ _ _ _ _ c.args.notice c.args.entry _ _ c.self.view_is
+      c.self.invariant.0 c.self.invariant.2 c.requires c.index_mut.ensures.value c.deref-2.ensures.value refl
+      c.deref-4.ensures.value c.deref-3.ensures.value,
+)
 
 pub put-before-requires-clause-divided : goal.put-before-requires-clause-divided
 put-before-requires-clause-divided g c = (put_in-ranked _ _ _ _ _ c.args.notice _ c.args.entry _ _ _ _ _ _
