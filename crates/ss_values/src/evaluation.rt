@@ -189,10 +189,19 @@ pub fn value_seen<S: SetBoard>(view: &View<'_, S>, e: &Expr) -> Result<i64, RunF
     requires { InView view.now IsSoundExpr e.now }
     ensures { result ≡ value_of (view_readings view.now) e.now }
 {
-    match only_factor(&e.sum) {
+    sum_seen(view, &e.sum)
+}
+
+#[cycle(value)]
+#[inline(always)]
+fn sum_seen<S: SetBoard>(view: &View<'_, S>, e: &Sum) -> Result<i64, RunFault>
+    requires { InView view.now IsSoundExpr (expr_of e.now) }
+    ensures { result ≡ value_of (view_readings view.now) (expr_of e.now) }
+{
+    match only_factor(e) {
         Some(Factor::Number(n)) => number(*n),
         Some(Factor::Variable(x)) => Ok(variable_seen(view, *x)),
-        _ => sum_value(view, &e.sum),
+        _ => sum_value(view, e),
     }
 }
 
@@ -216,12 +225,26 @@ fn term_value<S: SetBoard>(view: &View<'_, S>, t: &Term) -> Result<i64, RunFault
     requires { InView view.now IsSoundTerm (term_of t.now) }
     ensures { result ≡ terms.term_value (view_readings view.now) (term_of t.now) }
 {
-    let mut total = factor_value(view, &t.first)?;
+    let mut total = factor_seen(view, &t.first)?;
     for further in &t.more {
-        let next = factor_value(view, further)?;
+        let next = factor_seen(view, further)?;
         total = product(total, next)?;
     }
     Ok(total)
+}
+
+/// The value of a factor. A number or a variable is read without a further call.
+#[cycle(value)]
+#[inline(always)]
+fn factor_seen<S: SetBoard>(view: &View<'_, S>, f: &Factor) -> Result<i64, RunFault>
+    requires { InView view.now IsSoundFactor (factor_of f.now) }
+    ensures { result ≡ terms.factor_value (view_readings view.now) (factor_of f.now) }
+{
+    match f {
+        Factor::Number(n) => number(*n),
+        Factor::Variable(x) => Ok(variable_seen(view, *x)),
+        _ => factor_value(view, f),
+    }
 }
 
 #[cycle(value)]
@@ -236,12 +259,12 @@ fn factor_value<S: SetBoard>(view: &View<'_, S>, f: &Factor) -> Result<i64, RunF
         Factor::Greatest(arguments) => greatest_value(view, arguments),
         Factor::Least(arguments) => least_value(view, arguments),
         Factor::Quotient(dividend, divisor) => {
-            let x = sum_value(view, dividend)?;
-            quotient(x, sum_value(view, divisor)?)
+            let x = sum_seen(view, dividend)?;
+            quotient(x, sum_seen(view, divisor)?)
         }
         Factor::Remainder(dividend, divisor) => {
-            let x = sum_value(view, dividend)?;
-            remainder(x, sum_value(view, divisor)?)
+            let x = sum_seen(view, dividend)?;
+            remainder(x, sum_seen(view, divisor)?)
         }
         Factor::Attribute { class, attribute } => {
             let entity = entity_named(view, &attribute.subscript)?;
@@ -267,7 +290,7 @@ fn entity_named<S: SetBoard>(view: &View<'_, S>, subscript: &Subscript) -> Resul
     match subscript {
         Subscript::Implied(number) => Ok(view.variables[*number]),
         Subscript::System => Ok(0),
-        Subscript::Written(e) => sum_value(view, e),
+        Subscript::Written(e) => sum_seen(view, e),
     }
 }
 

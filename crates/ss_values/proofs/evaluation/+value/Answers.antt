@@ -66,8 +66,8 @@ sum_value-loop-further-preserved g c = search (
 pub sum_value-returns : goal.sum_value-returns
 sum_value-returns g c = grind (usual.arith, steps.common_steps) steps 2000000
 
-pub term_value-factor_value-requires-in-loop-further : goal.term_value-factor_value-requires-in-loop-further
-term_value-factor_value-requires-in-loop-further g c =
+pub term_value-factor_seen-requires-in-loop-further : goal.term_value-factor_seen-requires-in-loop-further
+term_value-factor_seen-requires-in-loop-further g c =
     grind (folds.the_lemmas, usual.arith, steps.common_steps) steps 2000000
 
 pub term_value-returns-in_err-next : goal.term_value-returns-in_err-next

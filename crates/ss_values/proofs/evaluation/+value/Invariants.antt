@@ -1,4 +1,4 @@
-use Rattle.std.proofs.Common.{◌≡◌, drop}
+use Rattle.std.proofs.Common.{◌≡◌, ◌+◌, ◌*◌, drop}
 use Rattle.std.specs.Prelude.{map}
 use Rattle.ss_program.specs.ProgramExpr.{expr_of, exprs_of, arguments_of, term_of, factor_of, signed_of, sums_of}
 use Rattle.ss_program.specs.ProgramExpr.{products_of, greatest, least}
@@ -8,20 +8,30 @@ use Rattle.ss_values.specs.Values.{least_value}
 use Rattle.ss_values.specs.Seen.{view_readings, scope_of}
 use Rattle.ss_values.proofs.evaluation.+value.Given as goal
 
+-- twice the size of what is read, and one more where that is handed on whole
+abbrev pub decreases-entity_named : goal.decreases-entity_named
+decreases-entity_named g l = 2 * goal.size-entity_named g l
+
+abbrev pub decreases-factor_seen : goal.decreases-factor_seen
+decreases-factor_seen g l = 2 * goal.size-factor_seen g l + 1
+
 abbrev pub decreases-factor_value : goal.decreases-factor_value
-decreases-factor_value g l = goal.size-factor_value g l
+decreases-factor_value g l = 2 * goal.size-factor_value g l
 
 abbrev pub decreases-greatest_value : goal.decreases-greatest_value
-decreases-greatest_value g l = goal.size-greatest_value g l
+decreases-greatest_value g l = 2 * goal.size-greatest_value g l
 
 abbrev pub decreases-least_value : goal.decreases-least_value
-decreases-least_value g l = goal.size-least_value g l
+decreases-least_value g l = 2 * goal.size-least_value g l
+
+abbrev pub decreases-sum_seen : goal.decreases-sum_seen
+decreases-sum_seen g l = 2 * goal.size-sum_seen g l + 1
 
 abbrev pub decreases-sum_value : goal.decreases-sum_value
-decreases-sum_value g l = goal.size-sum_value g l
+decreases-sum_value g l = 2 * goal.size-sum_value g l
 
 abbrev pub decreases-term_value : goal.decreases-term_value
-decreases-term_value g l = goal.size-term_value g l
+decreases-term_value g l = 2 * goal.size-term_value g l
 
 -- the terms that are left bring the total to the value
 abbrev pub invariant-sum_value-loop-further : goal.invariant-sum_value-loop-further
