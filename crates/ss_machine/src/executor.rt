@@ -79,6 +79,7 @@ impl<S: SetBoard> Executor<S> {
         })
     }
 
+    #[inline(always)]
     pub fn assign(&mut self, target: Variable, value: i64)
         requires target { InHeld self.old.held IsSettable target }
         requires room { 0 < self.old.journal.notes }
@@ -92,6 +93,7 @@ impl<S: SetBoard> Executor<S> {
         self.journal.note(change);
     }
 
+    #[inline(always)]
     pub fn go_to(&mut self, place: usize)
         requires room { 0 < self.old.journal.notes }
         ensures state { self.new.held.state ≡ state_at_place place self.old.held.state }
@@ -101,6 +103,7 @@ impl<S: SetBoard> Executor<S> {
         self.journal.note(change);
     }
 
+    #[inline(never)]
     pub fn mark(&mut self, status: Status)
         requires room { 0 < self.old.journal.notes }
         ensures state { self.new.held.state ≡ record self.old.held.state { status = status } }
@@ -112,6 +115,7 @@ impl<S: SetBoard> Executor<S> {
 
     /// Assigns to a target; after F3 nothing has changed.
     #[tactic(auto, using(crate::proofs::Scopes::class_there))]
+    #[inline(always)]
     pub fn assign_target(&mut self, target: &Target, value: i64) -> Result<(), RunFault>
         requires target { InHeld self.old.held IsTarget target.now }
         requires room { 0 < self.old.journal.notes }
@@ -178,6 +182,7 @@ impl<S: SetBoard> Executor<S> {
 
     /// Goes on where the statement is done; where it faulted, takes back what it did and marks the
     /// fault.
+    #[inline(always)]
     pub fn settle(&mut self, next: usize, done: Result<(), RunFault>)
         requires fits { FitsAll Fits unapply self.old.journal.current self.old.held }
         requires room { 0 < self.old.journal.notes }
@@ -239,6 +244,7 @@ impl<S: SetBoard> Executor<S> {
     }
 
     /// Runs a place. After an error the changes made so far stand in the open step.
+    #[inline(always)]
     fn run_place(&mut self, program: &Program, ways: Ways, place: &Place) -> Result<(), AllocError>
         requires well { IsInBounds program.now self.old.held.state }
         requires sound { InHeld self.old.held IsSoundPlace place.now }
@@ -283,6 +289,7 @@ impl<S: SetBoard> Executor<S> {
 
     /// Runs the place where the state stands. After an error the changes made so far stand in the
     /// open step.
+    #[inline(always)]
     pub fn run(&mut self, program: &Program) -> Result<(), AllocError>
         requires well { IsInBounds program.now self.old.held.state }
         requires tables { self.old.held.beside.tables ≡ tables_of program.now }
@@ -335,6 +342,7 @@ impl<S: SetBoard> Executor<S> {
 }
 
 /// Where a place goes on.
+#[inline(always)]
 pub fn ways_at(program: &Program, section: usize, place: usize, spot: &Spot) -> Ways
     requires section { section < length program.now.sections }
     requires place { place < length (places_of (slice_get program.now.sections section)) }

@@ -88,6 +88,7 @@ impl History {
     }
 
     /// Notes a change as the newest of the open step. It uses up the room of one note at most.
+    #[inline(always)]
     pub fn note(&mut self, change: Change)
         requires { 0 < self.old.notes }
         ensures steps { self.new.steps ≡ self.old.steps }

@@ -126,6 +126,7 @@ impl<S: SetBoard> State<S> {
     }
 
     /// What an expression reads.
+    #[inline(always)]
     pub fn view(&self) -> View<'_, S>
         ensures { view_readings result ≡ readings self.now.beside.tables self.now.state }
     {
@@ -166,6 +167,7 @@ impl<S: SetBoard> State<S> {
     }
 
     /// The section of the last frame, and the place where it stands.
+    #[inline(always)]
     pub fn place(&self) -> (usize, usize)
         ensures { result ≡ (self.now.state.frame.section, self.now.state.frame.place) }
     {
@@ -207,6 +209,7 @@ impl<S: SetBoard> State<S> {
     }
 
     /// Assigns a value to a variable.
+    #[inline(always)]
     pub fn assign(&mut self, target: Variable, value: i64) -> Change
         requires { IsSettable (scope_of (readings self.old.beside.tables self.old.state)) target }
         ensures state { self.new.state ≡ state_after_assignment self.old.state target value }
@@ -221,6 +224,7 @@ impl<S: SetBoard> State<S> {
         }
     }
 
+    #[inline(always)]
     fn assign_global(&mut self, number: usize, value: i64) -> Change
         requires { number < length self.old.state.variables }
         ensures state { self.new.state
@@ -234,6 +238,7 @@ impl<S: SetBoard> State<S> {
         Change::Variable { number, old }
     }
 
+    #[inline(always)]
     fn assign_local(&mut self, number: usize, value: i64) -> Change
         requires { number < length self.old.state.frame.locals }
         ensures state { self.new.state
@@ -247,6 +252,7 @@ impl<S: SetBoard> State<S> {
         Change::Local { number, old }
     }
 
+    #[inline(always)]
     fn last(&self) -> &Frame
         ensures { result.now ≡ self.now.state.frame }
     {
@@ -254,6 +260,7 @@ impl<S: SetBoard> State<S> {
     }
 
     /// Gives the state another status.
+    #[inline(always)]
     pub fn mark(&mut self, status: Status) -> Change
         ensures state { self.new.state ≡ record self.old.state { status = status } }
         ensures fits { Fits (as_change result) self.new }
@@ -265,6 +272,7 @@ impl<S: SetBoard> State<S> {
     }
 
     /// Gives the state another entry.
+    #[inline(always)]
     pub fn set_entry(&mut self, entry: Entry) -> Change
         ensures state { self.new.state ≡ record self.old.state { entry = entry } }
         ensures beside { self.new.beside ≡ self.old.beside }
@@ -276,6 +284,7 @@ impl<S: SetBoard> State<S> {
         Change::Entry(old)
     }
 
+    #[inline(always)]
     pub fn set_clock(&mut self, time: i64) -> Change
         ensures state { self.new.state ≡ record self.old.state { clock = time } }
         ensures beside { self.new.beside ≡ self.old.beside }

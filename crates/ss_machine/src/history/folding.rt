@@ -5,6 +5,7 @@ use ss_program::Owner;
 
 /// A number with sign as one without: 0, -1, 1, -2, 2 as 0, 1, 2, 3, 4, so that small ones stay
 /// small.
+#[inline(always)]
 pub fn fold(number: i64) -> u64
     ensures { signed_number result ≡ number }
 {

@@ -98,6 +98,7 @@ const SORT: u64 = 4;
 
 impl ChangeKind {
     /// The number that tells the kind.
+    #[inline(always)]
     pub fn number(self) -> u64
         ensures { kind_of result ≡ self }
     {

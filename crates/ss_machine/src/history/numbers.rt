@@ -73,6 +73,7 @@ impl Numbers {
     }
 
     /// Notes a number as the newest of the open step. It uses up the room of one number at most.
+    #[inline(always)]
     pub fn note(&mut self, number: u64)
         requires { 0 < self.old.notes }
         ensures steps { self.new.steps ≡ self.old.steps }
@@ -190,6 +191,7 @@ impl Numbers {
 }
 
 /// Writes a number as the newest one: first what is above its lowest group, then that.
+#[inline(never)]
 fn put(bytes: &mut ByteJournal, number: u64)
     requires some { 0 < bytes.old.notes }
     requires enough { number < 128 ^ bytes.old.notes }

@@ -45,6 +45,7 @@ pub struct Tape {
 
 impl Tape {
     /// Writes a change of a kind of which nothing is kept.
+    #[inline(always)]
     pub fn write(&mut self, kind: ChangeKind, fields: &[u64])
         requires count { length fields.now ≡ number_count kind }
         requires few { length fields.now ≤ 7 }
@@ -59,6 +60,7 @@ impl Tape {
     }
 
     /// Writes a change of a kind, and keeps what is to be kept of it.
+    #[inline(always)]
     pub fn write_kept(&mut self, kind: ChangeKind, fields: &[u64], kept: Owned)
         requires count { length fields.now ≡ number_count kind }
         requires few { length fields.now ≤ 7 }
@@ -85,6 +87,7 @@ impl Tape {
 }
 
 /// Notes numbers, the first one last, and then that of a kind.
+#[inline(always)]
 fn put(numbers: &mut Numbers, kind: ChangeKind, fields: &[u64])
     requires { length fields.now < numbers.old.notes }
     ensures steps { numbers.new.steps ≡ numbers.old.steps }

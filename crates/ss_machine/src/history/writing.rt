@@ -19,6 +19,7 @@ use ss_store::StoreChange;
 
 impl Tape {
     /// Writes a change.
+    #[inline(always)]
     pub fn note(&mut self, change: Change)
         requires numbers { 7 < self.old.numbers.notes }
         requires kept { 0 < self.old.kept.notes }
@@ -97,6 +98,7 @@ impl Tape {
         }
     }
 
+    #[inline(never)]
     fn note_entry(&mut self, old: Entry)
         requires numbers { 7 < self.old.numbers.notes }
         ensures { IsNoted (changes.Entry old) self.old self.new }
@@ -114,6 +116,7 @@ impl Tape {
         }
     }
 
+    #[inline(never)]
     fn note_agenda(&mut self, change: AgendaChange)
         requires numbers { 7 < self.old.numbers.notes }
         requires kept { 0 < self.old.kept.notes }
@@ -203,6 +206,7 @@ impl Tape {
         }
     }
 
+    #[inline(never)]
     fn note_store(&mut self, change: StoreChange)
         requires numbers { 7 < self.old.numbers.notes }
         requires kept { 0 < self.old.kept.notes }

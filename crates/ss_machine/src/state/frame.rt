@@ -52,6 +52,7 @@ impl Model for FrameBox {
 
 impl Frame {
     /// Gives a local another value; answers the old one.
+    #[inline(always)]
     pub fn assign(&mut self, number: usize, value: i64) -> i64
         requires { number < length self.old.locals }
         ensures state { self.new

@@ -78,6 +78,7 @@ impl<S: SetBoard> State<S> {
     }
 
     /// The last frame goes to another place.
+    #[inline(always)]
     pub fn go_to(&mut self, place: usize) -> Change
         ensures state { self.new.state ≡ state_at_place place self.old.state }
         ensures fits { Fits (as_change result) self.new }
@@ -90,6 +91,7 @@ impl<S: SetBoard> State<S> {
     }
 
     /// Sets what FIND answers.
+    #[inline(always)]
     pub fn set_found(&mut self, found: bool) -> Change
         ensures state { self.new.state ≡ state_with_found self.old.state found }
         ensures fits { Fits (as_change result) self.new }
@@ -102,6 +104,7 @@ impl<S: SetBoard> State<S> {
     }
 
     /// Sets what COMPUTE has gathered.
+    #[inline(always)]
     pub fn set_statistics(&mut self, statistics: Statistics) -> Change
         ensures state { self.new.state ≡ state_with_statistics self.old.state statistics }
         ensures fits { Fits (as_change result) self.new }
@@ -133,6 +136,7 @@ impl<S: SetBoard> State<S> {
     }
 
     /// Gives the innermost loop another candidate.
+    #[inline(always)]
     pub fn move_loop(&mut self, candidate: Option<i64>) -> Change
         requires { 0 < length self.old.state.frame.loops }
         ensures state { self.new.state
@@ -152,6 +156,7 @@ impl<S: SetBoard> State<S> {
     }
 
     /// Closes the innermost loop; none where none is open, and then nothing changes.
+    #[inline(always)]
     pub fn close_loop(&mut self) -> Option<Change>
         ensures state { self.new.state
             ≡ state_with_loops self.old.state (drop 1 self.old.state.frame.loops) }
@@ -167,6 +172,7 @@ impl<S: SetBoard> State<S> {
     }
 
     /// A frame becomes the last one.
+    #[inline(always)]
     pub fn open_frame(&mut self, frame: FrameBox) -> Change
         requires { length self.old.state.below < MOST_BELOW }
         ensures state { self.new.state
@@ -184,6 +190,7 @@ impl<S: SetBoard> State<S> {
     }
 
     /// Drops the last frame; none where none stands below it, and then nothing changes.
+    #[inline(always)]
     pub fn drop_frame(&mut self) -> Option<Change>
         requires { length self.old.state.below ≤ MOST_BELOW }
         ensures state { MatchOption result ((self.old.state.below ≡ []) × (self.new ≡ self.old))

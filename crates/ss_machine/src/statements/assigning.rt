@@ -12,6 +12,7 @@ use ss_values::{assigned_value, value};
 use ss_words::RunFault;
 
 impl<S: SetBoard> Executor<S> {
+    #[inline(always)]
     fn assign_value(&mut self, assign: &Assign) -> Result<(), RunFault>
         requires sound { InHeld self.old.held IsSoundAssign assign.now }
         requires room { 0 < self.old.journal.notes }
@@ -27,6 +28,7 @@ impl<S: SetBoard> Executor<S> {
         self.assign_target(target(assign), value)
     }
 
+    #[inline(never)]
     pub fn run_assign(&mut self, next: usize, assign: &Assign)
         requires sound { InHeld self.old.held IsSoundAssign assign.now }
         requires none { self.old.journal.current ≡ [] }

@@ -25,6 +25,7 @@ impl<S: SetBoard> Executor<S> {
         }
     }
 
+    #[inline(never)]
     pub fn run_branch(&mut self, ways: Ways, branch: &Branch)
         requires sound { InHeld self.old.held IsSoundBranch branch.now }
         requires room { 0 < self.old.journal.notes }

@@ -25,6 +25,7 @@ use ss_words::{RunFault, StepFault};
 use std::alloc::AllocError;
 
 impl<S: SetBoard> Executor<S> {
+    #[inline(never)]
     pub fn run_call(&mut self, program: &Program, call: &Call) -> Result<(), AllocError>
         requires called { IsCalledBy call.now (slice_get program.now.sections call.now.section) }
         requires tables { self.old.held.beside.tables ≡ tables_of program.now }
@@ -186,6 +187,7 @@ impl<S: SetBoard> Executor<S> {
         }
     }
 
+    #[inline(never)]
     pub fn run_control(&mut self, program: &Program, control: Control) -> Result<(), AllocError>
         requires well { IsInBounds program.now self.old.held.state }
         requires tables { self.old.held.beside.tables ≡ tables_of program.now }

@@ -115,6 +115,7 @@ impl<S: SetBoard> Executor<S> {
         }
     }
 
+    #[inline(never)]
     pub fn run_making(&mut self, next: usize, making: &Making) -> Result<(), AllocError>
         requires sound { InHeld self.old.held IsSoundMaking making.now }
         requires none { self.old.journal.current ≡ [] }

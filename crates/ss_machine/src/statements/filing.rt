@@ -106,6 +106,7 @@ impl<S: SetBoard> Executor<S> {
         }
     }
 
+    #[inline(never)]
     pub fn run_filing(&mut self, next: usize, filing: &Filing)
         requires sound { InHeld self.old.held IsSoundFiling filing.now }
         requires none { self.old.journal.current ≡ [] }

@@ -264,6 +264,7 @@ impl<S: SetBoard> Executor<S> {
         }
     }
 
+    #[inline(never)]
     pub fn run_looping(&mut self, ways: Ways, looping: &Looping) -> Result<(), AllocError>
         requires sound { InHeld self.old.held IsSoundLooping looping.now }
         requires walks { AreSoundWalks

@@ -73,6 +73,7 @@ impl<S: SetBoard> Executor<S> {
         }
     }
 
+    #[inline(never)]
     pub fn run_output(&mut self, next: usize, output: &Output) -> Result<(), AllocError>
         requires sound { InHeld self.old.held IsSoundOutput output.now }
         requires room { 1 < self.old.journal.notes }

@@ -39,6 +39,7 @@ impl<S: SetBoard> Executor<S> {
         Ok(())
     }
 
+    #[inline(never)]
     pub fn read(
         &mut self,
         program: &Program,

@@ -200,6 +200,7 @@ impl<S: SetBoard> Executor<S> {
     }
 
     /// Runs a statement on event notices.
+    #[inline(never)]
     pub fn run_timing(
         &mut self,
         program: &Program,
