@@ -20,6 +20,7 @@ use ss_words::{RunFault, StepFault};
 
 impl<S: SetBoard> State<S> {
     /// Gives an attribute of an entity another value, or F3; then nothing has changed.
+    #[inline(always)]
     pub fn set_attribute(
         &mut self,
         class: usize,
@@ -40,6 +41,7 @@ impl<S: SetBoard> State<S> {
 
     /// Makes an entity of a temporary or event class, and gives its reference. After F20 and want
     /// of memory nothing has changed.
+    #[inline(always)]
     pub fn create(&mut self, class: usize) -> Result<(u32, Change), StepFault>
         requires class { class < length self.old.beside.tables.classes }
         requires kind { (class_of self.old.beside.tables class).permanent ≡ false }
@@ -70,6 +72,7 @@ impl<S: SetBoard> State<S> {
     }
 
     /// Ends an entity of a temporary or event class. After F3, F7 and F8 nothing has changed.
+    #[inline(always)]
     pub fn destroy(&mut self, class: usize, entity: i64) -> Result<Change, RunFault>
         requires class { class < length self.old.beside.tables.classes }
         requires kind { (class_of self.old.beside.tables class).permanent ≡ false }
@@ -85,6 +88,7 @@ impl<S: SetBoard> State<S> {
     }
 
     /// Files a member in a list. After F3, F4 and F5 nothing has changed.
+    #[inline(always)]
     pub fn file(
         &mut self,
         set: usize,
@@ -105,6 +109,7 @@ impl<S: SetBoard> State<S> {
     }
 
     /// Removes a member from a list, and gives its number. After F3, F5 and F6 nothing has changed.
+    #[inline(always)]
     pub fn remove(
         &mut self,
         set: usize,

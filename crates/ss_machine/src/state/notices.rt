@@ -71,6 +71,7 @@ impl<S: SetBoard> State<S> {
     }
 
     /// Takes a pending notice off. After F11 nothing has changed.
+    #[inline(always)]
     pub fn cancel(&mut self, notice: u32) -> Result<Change, RunFault>
         requires { 0 < notice }
         ensures { IsCancelling result (agenda_without self.old.state notice) self.old self.new }
@@ -85,6 +86,7 @@ impl<S: SetBoard> State<S> {
     }
 
     /// Takes off a notice that is pending.
+    #[inline(always)]
     pub fn take_off(&mut self, notice: u32) -> Change
         requires number { 0 < notice }
         requires pending { is_pending self.old.state.agenda notice ≡ true }
