@@ -1,0 +1,127 @@
+-- The parts of two states, one after the other, each kind in the order of its table.
+use Rattle.std.specs.Prelude.{ℕ, zero, suc, ◌-◌, min, not, List, [], ◌∷◌, ◌++◌, length, Option, Some, None}
+use Rattle.std.specs.List.{filter}
+use Rattle.ss_program.specs.declared.kinds.Owner.{Owner}
+use Rattle.ss_program.specs.declared.kinds.Owner.TheVariants.{System, OwnedBy}
+use Rattle.ss_program.specs.Program.{ProgramTable, class_of, set_of, section_of}
+use Rattle.ss_events.specs.Rules.{rules_of}
+use Rattle.ss_events.specs.Agenda.{Pending, in_order}
+use Rattle.ss_machine.specs.State.{State}
+use Rattle.ss_machine.specs.Frames.{frame_place}
+use Rattle.ss_inspect.specs.Living.{living}
+use Rattle.ss_changes.specs.declared.part.Part.{Part}
+use Rattle.ss_changes.specs.declared.part.Part.TheVariants.{Global, Local, Attribute, Entity, Notice, Taken, Entry}
+use Rattle.ss_changes.specs.declared.part.Part.TheVariants.{Clock, Report}
+use Rattle.ss_changes.specs.declared.part.Part.TheVariants as parts
+use Rattle.ss_changes.specs.Values.{value_in, is_there}
+
+-- ---- parts one after the other
+
+-- what belongs to the numbers below n, in order
+abbrev pub below_of : {A : Type 0} → (ℕ → List A) → ℕ → List A
+below_of f zero = []
+below_of f (suc n) = below_of f n ++ f n
+
+-- what belongs to each of some numbers, in order
+abbrev pub each_of : {A : Type 0} → (ℕ → List A) → List ℕ → List A
+each_of f [] = []
+each_of f (k ∷ ks) = f k ++ each_of f ks
+
+-- ---- variables
+
+-- a global variable
+abbrev pub global_part : ℕ → List Part
+global_part i = Global i ∷ []
+
+-- a local of the frame that stands on n others
+abbrev pub local_part : ℕ → ℕ → List Part
+local_part n i = Local n i ∷ []
+
+-- the names of the locals of the section of a frame
+abbrev pub names_in : ProgramTable → Option (ℕ × ℕ) → List (List ℕ)
+names_in p None = []
+names_in p (Some (section, place)) = (section_of p section).locals
+
+-- the names of the locals of the frame that stands on n others
+abbrev pub local_names : ProgramTable → State → ℕ → List (List ℕ)
+local_names p s n = names_in p (frame_place s (length s.below - n))
+
+-- how many frames are below the last one that both states have
+abbrev pub frames_below : State → State → ℕ
+frames_below s u = min (length s.below) (length u.below)
+
+-- the locals of the last frame that both states have
+abbrev pub local_parts : ProgramTable → State → State → List Part
+local_parts p s u =
+    below_of (local_part (frames_below s u)) (length (local_names p u (frames_below s u)))
+
+-- ---- entities
+
+-- an attribute of entity k of class c
+abbrev pub attribute_part : ℕ → ℕ → ℕ → List Part
+attribute_part c k a = Attribute c k a ∷ []
+
+-- its attributes
+abbrev pub attributes_of : ProgramTable → ℕ → ℕ → List Part
+attributes_of p c k = below_of (attribute_part c k) (length (class_of p c).attributes)
+
+-- the attributes of the entities of class c that live in a state
+abbrev pub attribute_parts : ProgramTable → State → ℕ → List Part
+attribute_parts p u c = each_of (attributes_of p c) (living u.store c)
+
+-- an entity of class c
+abbrev pub entity_part : ℕ → ℕ → List Part
+entity_part c k = Entity c k ∷ []
+
+-- the entities of class c that live in a state
+abbrev pub entities_in : State → ℕ → List Part
+entities_in s c = each_of (entity_part c) (living s.store c)
+
+-- those of some parts that are not there in a state
+abbrev pub absent_in : ProgramTable → State → List Part → List Part
+absent_in p s xs = filter (λ x. not (is_there (value_in p s x))) xs
+
+-- the entities of class c that ended, then those that were made
+abbrev pub entity_parts : ProgramTable → State → State → ℕ → List Part
+entity_parts p s u c = absent_in p u (entities_in s c) ++ absent_in p s (entities_in u c)
+
+-- ---- lists
+
+-- the list of set n for owner k
+abbrev pub list_part : ℕ → ℕ → List Part
+list_part n k = parts.List n k ∷ []
+
+-- the owners of lists in a state: the system, which has number 0, or the entities of a class that live
+abbrev pub owners_in : State → Owner → List ℕ
+owners_in u System = 0 ∷ []
+owners_in u (OwnedBy c) = living u.store c
+
+-- the lists of set n in a state
+abbrev pub list_parts : ProgramTable → State → ℕ → List Part
+list_parts p u n = each_of (list_part n) (owners_in u (set_of p n).owner)
+
+-- ---- notices
+
+-- some notices
+abbrev pub notices_of : List Pending → List Part
+notices_of [] = []
+notices_of (n ∷ ns) = Notice n.class n.notice ∷ notices_of ns
+
+-- the notices that are pending in a state, in their order
+abbrev pub notices_in : ProgramTable → State → List Part
+notices_in p s = notices_of (in_order (rules_of p) s.agenda)
+
+-- the notices that were pending, then those that are new
+abbrev pub notice_parts : ProgramTable → State → State → List Part
+notice_parts p s u = notices_in p s ++ absent_in p s (notices_in p u)
+
+-- ---- all
+
+-- the parts of two states: variables, locals of the last frame that both have, attributes, entities, lists, notices, and
+-- what there is once
+abbrev pub parts_of : ProgramTable → State → State → List Part
+parts_of p s u =
+    below_of global_part (length p.globals) ++ local_parts p s u
+    ++ below_of (attribute_parts p u) (length p.classes) ++ below_of (entity_parts p s u) (length p.classes)
+    ++ below_of (list_parts p u) (length p.sets) ++ notice_parts p s u
+    ++ Taken ∷ Entry ∷ Clock ∷ Report ∷ []

@@ -1,0 +1,100 @@
+-- The values of the parts of a state.
+use Rattle.std.specs.Prelude.{ℕ, ◌-◌, ℤ, Bool, true, false, not, ◌&&◌, ◌||◌, nat_eq, nat_lt, bytes_eq, List, length, if◌then◌else◌}
+use Rattle.std.specs.Prelude.{Option, Some, None, Result, Ok, Err, slice_get}
+use Rattle.std.specs.Ordering.{int_eq}
+use Rattle.ss_words.specs.declared.fault.RunFault.{RunFault}
+use Rattle.ss_program.specs.Program.{ProgramTable}
+use Rattle.ss_store.specs.declared.shape.SetShape.{SetShape}
+use Rattle.ss_store.specs.Store.{Store, exists, attribute_of, list_by}
+use Rattle.ss_events.specs.Agenda.{Pending, pending_at}
+use Rattle.ss_machine.specs.declared.entry.Entry.{Entry}
+use Rattle.ss_machine.specs.declared.entry.Entry.TheVariants as entries
+use Rattle.ss_machine.specs.State.{State}
+use Rattle.ss_machine.specs.Frames.{frame_local}
+use Rattle.ss_debug.specs.Entities.{shape_of}
+use Rattle.ss_changes.specs.declared.part.Part.{Part}
+use Rattle.ss_changes.specs.declared.part.Part.TheVariants as parts
+use Rattle.ss_changes.specs.declared.value.PartValue.{PartValue}
+use Rattle.ss_changes.specs.declared.value.PartValue.TheVariants.{Absent, Number, Count, Lives, Listed, Entered, Bytes}
+
+-- ---- the same
+
+-- whether two entries are the same
+abbrev pub is_same_entry : Entry → Entry → Bool
+is_same_entry entries.Absent entries.Absent = true
+is_same_entry (entries.Waiting c k) (entries.Waiting d j) = nat_eq c d && nat_eq k j
+is_same_entry (entries.Running c k) (entries.Running d j) = nat_eq c d && nat_eq k j
+is_same_entry _ _ = false
+
+-- whether two values are the same
+abbrev pub is_same : PartValue → PartValue → Bool
+is_same Absent Absent = true
+is_same (Number x) (Number y) = int_eq x y
+is_same (Count n) (Count m) = nat_eq n m
+is_same Lives Lives = true
+is_same (Listed ks) (Listed js) = bytes_eq ks js
+is_same (Entered x) (Entered y) = is_same_entry x y
+is_same (Bytes n) (Bytes m) = nat_eq n m
+is_same _ _ = false
+
+-- ---- the value of a part in a state
+
+-- a number, where there is one
+abbrev pub number_if : Option ℤ → PartValue
+number_if (Some x) = Number x
+number_if None = Absent
+
+-- a number that is read, where there is one
+abbrev pub number_read : Result ℤ RunFault → PartValue
+number_read (Ok x) = Number x
+number_read (Err f) = Absent
+
+-- whether an entity lives
+abbrev pub life_of : Bool → PartValue
+life_of true = Lives
+life_of false = Absent
+
+-- when a notice is due, if it is pending
+abbrev pub time_of : Option Pending → PartValue
+time_of (Some n) = Number n.time
+time_of None = Absent
+
+-- the members of a list, if its owner is there
+abbrev pub members_if : Option (List ℕ) → PartValue
+members_if (Some ks) = Listed ks
+members_if None = Absent
+
+-- the list of a set, as the store has that, for owner k
+abbrev pub listed_in : SetShape → Store → ℕ → PartValue
+listed_in shape st k = members_if (list_by shape.owner shape.list st k)
+
+-- the value of a part in a state
+abbrev pub value_in : ProgramTable → State → Part → PartValue
+value_in p s (parts.Global i) = number_if (slice_get s.variables i)
+value_in p s (parts.Local n i) = number_if (frame_local s (length s.below - n) i)
+value_in p s (parts.Attribute c k a) = number_read (attribute_of s.store c a k)
+value_in p s (parts.Entity c k) = life_of (exists s.store c k)
+value_in p s (parts.List n k) = if nat_lt n (length p.sets) then listed_in (shape_of p n) s.store k else Absent
+value_in p s (parts.Notice c k) = time_of (pending_at s.agenda.pending k)
+value_in p s parts.Taken = Count s.feed.taken
+value_in p s parts.Entry = Entered s.entry
+value_in p s parts.Clock = Number s.clock
+value_in p s parts.Report = Bytes (length s.report)
+
+-- ---- what is told
+
+-- whether a part is there
+abbrev pub is_there : PartValue → Bool
+is_there Absent = false
+is_there _ = true
+
+-- whether a part is told only where both states have it: what is made or ended is told, and not what belongs to it
+abbrev pub needs_both : Part → Bool
+needs_both (parts.Entity c k) = false
+needs_both (parts.Notice c k) = false
+needs_both _ = true
+
+-- whether a part with these values before and after is told
+abbrev pub is_told : Part → PartValue → PartValue → Bool
+is_told x before after =
+    not (is_same before after) && (not (needs_both x) || (is_there before && is_there after))

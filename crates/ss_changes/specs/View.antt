@@ -1,0 +1,79 @@
+-- Where a debugger stands that looks at the states beside its own.
+use Rattle.std.specs.Prelude.{ℕ, ◌≡◌, ◌+◌, ◌-◌, ◌≤◌, List, [], ◌∷◌, ◌++◌, if◌then◌else◌}
+use Rattle.ss_program.specs.Program.{ProgramTable}
+use Rattle.ss_machine.specs.State.{State}
+use Rattle.ss_machine.specs.Moment.{position}
+use Rattle.ss_machine.specs.Run.{run}
+use Rattle.ss_debug.specs.View.{DebuggerView}
+use Rattle.ss_changes.specs.declared.part.Part.{Part}
+use Rattle.ss_changes.specs.declared.change.Change.{Change}
+use Rattle.ss_changes.specs.declared.value.PartValue.{PartValue}
+use Rattle.ss_changes.specs.Values.{value_in, is_told}
+use Rattle.ss_changes.specs.Changes.{changes_among}
+
+-- a debugger stands at position q of the run, and all else is as it was
+pub record IsAt (old : DebuggerView) (q : ℕ) (new : DebuggerView) : Type 0 where
+  -- its run is the same one
+  pub input : new.machine.input ≡ old.machine.input
+  -- as many steps are forgotten
+  pub forgotten : new.machine.forgotten ≡ old.machine.forgotten
+  -- so are the break lines
+  pub breaks : new.breaks ≡ old.breaks
+  -- its position
+  pub position : position new.machine ≡ q
+
+-- it stands between two positions, and all else is as it was
+pub record IsBetween (old : DebuggerView) (p q : ℕ) (new : DebuggerView) : Type 0 where
+  -- its run is the same one
+  pub input : new.machine.input ≡ old.machine.input
+  -- as many steps are forgotten
+  pub forgotten : new.machine.forgotten ≡ old.machine.forgotten
+  -- so are the break lines
+  pub breaks : new.breaks ≡ old.breaks
+  -- not before the first
+  pub no_earlier : p ≤ position new.machine
+  -- not behind the second
+  pub no_later : position new.machine ≤ q
+
+-- it stands where it stood
+abbrev pub HasReturned : DebuggerView → DebuggerView → Type 0
+HasReturned old new = IsAt old (position old.machine) new
+
+-- it stands where it stood, or one step before
+abbrev pub IsBehind : DebuggerView → DebuggerView → Type 0
+IsBehind old new = IsBetween old (position old.machine - 1) (position old.machine) new
+
+-- it stands where it stood, or one step further
+abbrev pub IsAhead : DebuggerView → DebuggerView → Type 0
+IsAhead old new = IsBetween old (position old.machine) (position old.machine + 1) new
+
+-- ---- the states that it reads
+
+-- its program
+abbrev pub program_of : DebuggerView → ProgramTable
+program_of d = d.machine.input.program
+
+-- the state where it stands
+abbrev pub state_of : DebuggerView → State
+state_of d = run d.machine.input (position d.machine)
+
+-- the state before
+abbrev pub state_before : DebuggerView → State
+state_before d = run d.machine.input (position d.machine - 1)
+
+-- those of some parts that the last step changed
+abbrev pub changed_among : DebuggerView → List Part → List Change
+changed_among d xs = changes_among (program_of d) (state_before d) (state_of d) xs
+
+-- ---- how the code comes to it
+
+-- a part with its values before and after, where it is told
+abbrev pub told_if : Part → PartValue → PartValue → List Change
+told_if x before after =
+    if is_told x before after then record { part = x; before = before; after = after } ∷ [] else []
+
+-- those of some parts that are told, with these values before and their values in a state
+abbrev pub told_against : ProgramTable → State → List Part → List PartValue → List Change
+told_against p u [] values = []
+told_against p u (x ∷ xs) [] = []
+told_against p u (x ∷ xs) (v ∷ vs) = told_if x v (value_in p u x) ++ told_against p u xs vs

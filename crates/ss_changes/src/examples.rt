@@ -1,0 +1,1 @@
+//! What steps of small runs changed.

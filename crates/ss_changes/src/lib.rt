@@ -1,0 +1,26 @@
+//! What the step from one state to the next changed: the parts of the state whose values in the two
+//! differ, other than frames and places, each with its value before and after. The definition
+//! speaks of the two states alone.
+//!
+//! Each call appends an answer, and leaves the debugger where it stood: it goes one step back and
+//! forward again over the same step, and reads both states, kind by kind. A call takes as long as
+//! reading all parts of the two states.
+#![tactic(auto)]
+
+mod answers;
+mod before;
+mod change;
+mod changes;
+mod examples;
+mod laws;
+mod limits;
+mod listing;
+mod part;
+mod reading;
+mod rows;
+mod stepping;
+mod texts;
+mod value;
+
+pub use answers::{push_changed, push_stop_changes, push_stop_changes_ahead};
+pub use laws::what_a_step_changed_is_exact;
