@@ -4,3 +4,4 @@ pub mod Changes
 pub mod Texts
 pub mod View
 pub mod Laws
+pub mod Examples

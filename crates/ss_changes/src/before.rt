@@ -93,7 +93,7 @@ pub fn notices_before<S: SetBoard>(
 ) -> Result<Vec<Part>, AllocError>
     requires { debugger.old.machine.forgotten < position debugger.old.machine }
     ensures stays { OnOk result (HasReturned debugger.old debugger.new) }
-    ensures notices { IfOk result (λ notices. notices.items 
+    ensures notices { IfOk result (λ notices. notices.items
         ≡ notices_in (program_of debugger.old) (state_before debugger.old)) }
     ensures memory { OnErr result (IsBehind debugger.old debugger.new) }
 {

@@ -9,9 +9,7 @@ ghost use Rattle.ss_changes.specs.Changes.{changes_between, changes_among};
 ghost use Rattle.ss_changes.specs.View.{HasReturned, IsBehind, program_of, state_before, state_of};
 ghost use Rattle.ss_changes.specs.View.{changed_among, told_if, told_against};
 
-use crate::before::{
-    absent_before, below_before, entities_before, notices_before, values_before,
-};
+use crate::before::{absent_before, below_before, entities_before, notices_before, values_before};
 use crate::change::Change;
 use crate::listing::{
     absent_parts, attributes_now, entities_now, globals, lists_now, locals, notices_now,
@@ -45,7 +43,8 @@ fn push_if_told<S: SetBoard>(
         part,
         before,
         after,
-    })
+    })?;
+    Ok(())
 }
 
 /// Appends those of some parts that are told, with these values before and their values now.

@@ -140,10 +140,7 @@ pub fn lists_now<S: SetBoard>(
     let owners = owners(alloc, machine, set_owner(machine.program(), set))?;
     let mut parts = Vec::new(alloc);
     for owner in &owners {
-        parts.push(Part::List {
-            set,
-            owner: *owner,
-        })?;
+        parts.push(Part::List { set, owner: *owner })?;
     }
     Ok(parts)
 }

@@ -2,9 +2,14 @@
 #[derive(Clone, Copy, Debug, PartialEq, Eq)]
 pub enum Part {
     /// The global variable with this number.
-    Global { number: usize },
+    Global {
+        number: usize,
+    },
     /// The local with this number of the frame that stands on so many others.
-    Local { below: usize, number: usize },
+    Local {
+        below: usize,
+        number: usize,
+    },
     /// An attribute of an entity of a class.
     Attribute {
         class: usize,
@@ -12,11 +17,20 @@ pub enum Part {
         attribute: usize,
     },
     /// An entity of a class itself.
-    Entity { class: usize, entity: u32 },
+    Entity {
+        class: usize,
+        entity: u32,
+    },
     /// The list of a set for an owner, 0 for the system.
-    List { set: usize, owner: u32 },
+    List {
+        set: usize,
+        owner: u32,
+    },
     /// A notice of a class: when it is due.
-    Notice { class: usize, notice: u32 },
+    Notice {
+        class: usize,
+        notice: u32,
+    },
     /// How many values of the data are taken.
     Taken,
     /// The entry of an external event.

@@ -1,0 +1,5 @@
+use Rattle.ss_changes.proofs.Exact.{changes_are_exact}
+use Rattle.ss_changes.proofs.laws.what_a_step_changed_is_exact.Goals as goal
+
+pub returns : goal.returns
+returns c = changes_are_exact
