@@ -100,7 +100,9 @@ not_true true e = absurd (cc)
 told_differs : (p : ProgramTable) (s u : State) (x : Part) → is_changed p s u x ≡ true →
     value_in p s x ≢ value_in p u x
 told_differs p s u x e f =
-    let g = not_true _ (both _ _ e).0 in
+    let v = is_same (value_in p s x) (value_in p u x) in
+    let w = not (needs_both x) || (is_there (value_in p s x) && is_there (value_in p u x)) in
+    let g : v ≡ false = not_true v (both (not v) w e).0 in
     let h = ap (λ v. is_same (value_in p s x) v) (sym f) in
     let i = itself (value_in p s x) in
     absurd (cc)

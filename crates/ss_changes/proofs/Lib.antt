@@ -1,6 +1,7 @@
 pub mod Unfoldings
 pub mod Orders
 pub mod Standing
-pub mod Reading
+pub mod StateLaws
 pub mod Notices
 pub mod Exact
+pub mod Saying

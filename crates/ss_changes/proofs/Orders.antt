@@ -20,12 +20,13 @@ below_more f n m old so_far new e h k =
 pub changes_append : (p : ProgramTable) (s u : State) (xs ys : List Part) →
     changes_among p s u (xs ++ ys) ≡ changes_among p s u xs ++ changes_among p s u ys
 changes_append p s u [] ys = refl
-changes_append p s u (x ∷ xs) ys = first (is_changed p s u x) refl
+changes_append p s u (x ∷ xs) ys = first (is_changed p s u x) refl (changes_append p s u xs ys)
   where
     first : (b : Bool) → is_changed p s u x ≡ b →
+        changes_among p s u (xs ++ ys) ≡ changes_among p s u xs ++ changes_among p s u ys →
         changes_among p s u ((x ∷ xs) ++ ys) ≡ changes_among p s u (x ∷ xs) ++ changes_among p s u ys
-    first true e = rw e (ap (λ (l : List Change). told_of p s u x ∷ l) (changes_append p s u xs ys))
-    first false e = rw e (changes_append p s u xs ys)
+    first true e h = rw e (ap (λ (l : List Change). told_of p s u x ∷ l) h)
+    first false e h = rw e h
 
 -- one part, and others
 pub changes_first : (p : ProgramTable) (s u : State) (x : Part) (xs : List Part) →

@@ -62,7 +62,7 @@ same_before a b h = rw (h.input, h.position) refl
 pub same_changed : (a b : DebuggerView) (f : ProgramTable → State → State → List Part) → HasReturned a b →
     changed_among b (f (program_of b) (state_before b) (state_of b))
     ≡ changed_among a (f (program_of a) (state_before a) (state_of a))
-same_changed a b f h = rw (same_program a b h, same_state a b h, same_before a b h) refl
+same_changed a b f h = rw (h.input, h.position) refl
 
 -- the changes among what belongs to one number more
 pub changes_more : (a b : DebuggerView) (f : ProgramTable → State → State → ℕ → List Part) (n m : ℕ)

@@ -14,14 +14,23 @@ use ss_links::SetBoard;
 use ss_machine::Stepped;
 use std::alloc::{AllocError, Global};
 
-/// Appends `START` at position 0, `NOTHING KEPT` at a later one.
+/// The word at an earliest kept position: `START` where that is 0, else `NOTHING KEPT`.
+fn earliest_word(position: u64) -> &'static [u8]
+    ensures { result.now ≡ earliest_word position }
+{
+    if position == 0 {
+        b"START"
+    } else {
+        b"NOTHING KEPT"
+    }
+}
+
+/// Appends that word, and ends the line.
 fn push_earliest(text: &mut Vec<u8>, position: u64) -> Result<(), AllocError>
     ensures { OnOk result (text.new.items ≡ text.old.items ++ earliest_word position ++ 10 ∷ []) }
 {
-    if position == 0 {
-        return text.extend_from_slice(b"START\n");
-    }
-    text.extend_from_slice(b"NOTHING KEPT\n")
+    text.extend_from_slice(earliest_word(position))?;
+    text.extend_from_slice(b"\n")
 }
 
 /// Appends the answer to SHOW CHANGED: a line `CHANGED part: before -> after` for each part that the

@@ -24,6 +24,3 @@ mod value;
 
 pub use answers::{push_changed, push_stop_changes, push_stop_changes_ahead};
 pub use laws::what_a_step_changed_is_exact;
-
-#[test]
-fn trial() {}

@@ -29,7 +29,7 @@ fn number_if(number: Option<i64>) -> PartValue
 }
 
 /// What the global variable with this number holds.
-#[tactic(auto, using(crate::proofs::Reading::there, crate::proofs::Reading::past))]
+#[tactic(auto, using(crate::proofs::StateLaws::there, crate::proofs::StateLaws::past))]
 fn global_value<S: SetBoard>(machine: &Machine<S>, number: usize) -> PartValue
     ensures { result ≡ number_if (slice_get machine.now.state.variables number) }
 {
@@ -50,7 +50,7 @@ fn local_value<S: SetBoard>(machine: &Machine<S>, below: usize, number: usize) -
 }
 
 /// The members of the list of a set, of which there are so many.
-#[tactic(auto, using(crate::proofs::Reading::whole_page))]
+#[tactic(auto, using(crate::proofs::StateLaws::whole_page))]
 fn members<S: SetBoard>(
     alloc: Global,
     machine: &Machine<S>,
@@ -103,7 +103,7 @@ fn list_value<S: SetBoard>(
 }
 
 /// When a notice is due, if it is pending.
-#[tactic(auto, using(crate::proofs::Reading::no_notice))]
+#[tactic(auto, using(crate::proofs::StateLaws::no_notice))]
 fn notice_value<S: SetBoard>(agenda: &Agenda<S>, notice: u32) -> PartValue
     ensures { result ≡ time_of (pending_at agenda.now.agenda.pending notice) }
 {

@@ -44,7 +44,7 @@ loop-notice-preserved g c =
     let more : c.list_next.new.listing.listed ≡ c.loop-notice.listing.listed + 1 = c.in-Some.ensures.count in
     let slot : c.unwrap-slot.result ≡ slot_of k.entry =
     slot_is c.slot.result _ k.entry c.unwrap-slot.result c.slot.ensures k.pending c.unwrap-slot.ensures in
-    let part : c.push.new.parts.items
+    let part : c.push.new.self.items
     ≡ c.loop-notice.parts.items ++ Notice (slot_of k.entry).class k.entry.notice ∷ [] =
     rw (← slot, ← k.notice) c.in_ok-push.ensures.items in
     record {

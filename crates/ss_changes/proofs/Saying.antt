@@ -1,0 +1,136 @@
+-- What is said of the changes of a step.
+use Rattle.std.proofs.Common.{◌≡◌, ◌≢◌, ℕ, ◌+◌, ◌-◌, ◌<◌, Bool, true, false, List, [], ◌∷◌, ◌++◌, length, map, refl, sym, ap, ◌∙◌, ◌⊎◌, inl, inr, arith, rules, nat_lt, append_assoc}
+use Rattle.std.proofs.Common.{Result, Ok, Err, OnOk}
+use Rattle.std.specs.Prelude.{codes, ◌&&◌}
+use Rattle.std.proofs.lemmas.Bool.{lt-ltb}
+use Rattle.ss_program.specs.Program.{ProgramTable}
+use Rattle.ss_machine.specs.declared.status.Status.{Status}
+use Rattle.ss_machine.specs.declared.status.Status.TheVariants.{Ready, Stopped, Finished, Faulted}
+use Rattle.ss_machine.specs.declared.limits.TheConstants.{LAST_POSITION}
+use Rattle.ss_machine.specs.State.{State, is_ready}
+use Rattle.ss_machine.specs.Moment.{Moment, position, HasMoved}
+use Rattle.ss_machine.specs.Run.{Input, run}
+use Rattle.ss_debug.specs.Answer.{earliest_word}
+use Rattle.ss_debug.specs.View.{DebuggerView}
+use Rattle.ss_changes.specs.declared.part.Part.{Part}
+use Rattle.ss_changes.specs.declared.value.PartValue.{PartValue}
+use Rattle.ss_changes.specs.declared.change.Change.{Change}
+use Rattle.ss_changes.specs.Values.{value_in}
+use Rattle.ss_changes.specs.Changes.{changes_among, changes_between, changed_at}
+use Rattle.ss_changes.specs.Texts.{first_changes, all_changes, changed_text, stop_changes, stop_changes_ahead}
+use Rattle.ss_changes.specs.View.{HasReturned, program_of, state_of, state_before, changed_among, told_against}
+use Rattle.ss_changes.proofs.Orders.{changes_append, told_between}
+use Rattle.ss_changes.proofs.Standing.{same_changed}
+
+-- what follows from what holds where a call succeeded
+pub on_ok : {A B P Q : Type 0} (r : Result A B) → OnOk r P → (P → Q) → OnOk r Q
+on_ok (Ok x) h f = f h
+on_ok (Err e) h f = tt
+
+-- ---- the changes
+
+-- those among some parts, by the values before and where a debugger stands
+pub told_here : (a b : DebuggerView) (m : Moment) (parts : List Part) (values : List PartValue) → HasReturned a b →
+    m ≡ b.machine → b.machine.state ≡ state_of b → values ≡ map (value_in (program_of a) (state_before a)) parts →
+    told_against m.input.program m.state parts values ≡ changed_among a parts
+told_here a b m parts values h e k v =
+    let program : m.input.program ≡ program_of a = rw (e, h.input) refl in
+    let state : m.state ≡ state_of a = ap (λ (n : Moment). n.state) e ∙ k ∙ rw (h.input, h.position) refl in
+    rw (program, state, v) (told_between (program_of a) (state_before a) (state_of a) parts)
+
+-- the changes among some parts and then others
+pub next_section : (a b : DebuggerView) (done f : ProgramTable → State → State → List Part) (so_far new : List Change) →
+    HasReturned a b → so_far ≡ changed_among a (done (program_of a) (state_before a) (state_of a)) →
+    new ≡ so_far ++ changed_among b (f (program_of b) (state_before b) (state_of b)) →
+    new ≡ changed_among a (done (program_of a) (state_before a) (state_of a)
+    ++ f (program_of a) (state_before a) (state_of a))
+next_section a b done f so_far new h k w =
+    let more =
+    changes_append (program_of a) (state_before a) (state_of a) (done (program_of a) (state_before a) (state_of a))
+    (f (program_of a) (state_before a) (state_of a)) in
+    w ∙ ap (λ (l : List Change). so_far ++ l) (same_changed a b f h)
+    ∙ ap (λ (l : List Change). l ++ changed_among a (f (program_of a) (state_before a) (state_of a))) k ∙ sym more
+
+-- ---- the last step
+
+not_below : (n : ℕ) → nat_lt n n ≡ false
+not_below n = search rules
+
+-- where no step is kept
+pub said_earliest : (t : Input) (e p : ℕ) → p ≡ e → changed_text t e p ≡ earliest_word p ++ 10 ∷ []
+unfolding changed_text
+said_earliest t e p h = rw (h, not_below e) refl
+
+pub stop_earliest : (t : Input) (e p : ℕ) → p ≡ e → stop_changes t e p ≡ []
+unfolding stop_changes
+stop_earliest t e p h = rw (h, not_below e) refl
+
+again : (p e : ℕ) → e < p → p - 1 + 1 ≡ p
+again p e h = omega (arith, h)
+
+-- where one is kept
+pub said_later : (t : Input) (e p : ℕ) → e < p →
+    changed_text t e p ≡ all_changes t.program (run t p) (changes_between t.program (run t (p - 1)) (run t p))
+unfolding changed_text changed_at
+said_later t e p h = rw (lt-ltb e p h, again p e h) refl
+
+pub stop_later : (t : Input) (e p : ℕ) → e < p →
+    stop_changes t e p
+    ≡ first_changes (codes "CHANGED") t.program (run t p) (changes_between t.program (run t (p - 1)) (run t p))
+unfolding stop_changes changed_at
+stop_later t e p h = rw (lt-ltb e p h, again p e h) refl
+
+-- what is said by a text where a debugger stands again
+pub said_there : (a b : DebuggerView) (m : Moment) (cs : List Change)
+    (say : ProgramTable → State → List Change → List ℕ) → HasReturned a b → m ≡ b.machine →
+    b.machine.state ≡ state_of b → cs ≡ changes_between (program_of a) (state_before a) (state_of a) →
+    say m.input.program m.state cs
+    ≡ say (program_of a) (state_of a) (changes_between (program_of a) (state_before a) (state_of a))
+said_there a b m cs say h e k v =
+    let program : m.input.program ≡ program_of a = rw (e, h.input) refl in
+    let state : m.state ≡ state_of a = ap (λ (n : Moment). n.state) e ∙ k ∙ rw (h.input, h.position) refl in
+    rw (program, state, v) refl
+
+-- ---- the next step
+
+ready_is : (s : Status) → s ≡ Ready → is_ready s ≡ true
+ready_is s e = rw e refl
+
+not_ready : (s : Status) → s ≢ Ready → is_ready s ≡ false
+not_ready Ready h = absurd (h refl)
+not_ready Stopped h = refl
+not_ready Finished h = refl
+not_ready (Faulted f) h = refl
+
+-- where there is one
+pub ahead_told : (t : Input) (p : ℕ) → (run t p).status ≡ Ready → p < LAST_POSITION →
+    stop_changes_ahead t p
+    ≡ first_changes (codes "WILL CHANGE") t.program (run t (p + 1))
+    (changes_between t.program (run t p) (run t (p + 1)))
+unfolding stop_changes_ahead changed_at
+ahead_told t p h l = rw (ready_is (run t p).status h, lt-ltb p LAST_POSITION l) refl
+
+neither : (b : Bool) → (b && false) ≡ false
+neither true = refl
+neither false = refl
+
+-- where there is none
+pub ahead_nothing : (t : Input) (p : ℕ) → ((run t p).status ≢ Ready) ⊎ (p ≡ LAST_POSITION) → stop_changes_ahead t p ≡ []
+unfolding stop_changes_ahead
+ahead_nothing t p (inl h) = rw (not_ready (run t p).status h) refl
+ahead_nothing t p (inr e) = let past : nat_lt p LAST_POSITION ≡ false = rw e (not_below LAST_POSITION) in rw (past, neither (is_ready (run t p).status)) refl
+
+-- from where a machine stands that made no step
+pub ahead_nothing_at : (m : Moment) → m.state ≡ run m.input (position m) →
+    (m.state.status ≢ Ready) ⊎ (position m ≡ LAST_POSITION) → stop_changes_ahead m.input (position m) ≡ []
+ahead_nothing_at m k (inl h) = ahead_nothing m.input (position m) (inl (rw k at h))
+ahead_nothing_at m k (inr h) = ahead_nothing m.input (position m) (inr h)
+
+-- and that made one
+pub ahead_told_at : (m n : Moment) → m.state ≡ run m.input (position m) → HasMoved m n →
+    stop_changes_ahead m.input (position m)
+    ≡ first_changes (codes "WILL CHANGE") n.input.program (run n.input (position n))
+    (changes_between n.input.program (run n.input (position n - 1)) (run n.input (position n)))
+ahead_told_at m n k h =
+    let back : position m + 1 - 1 ≡ position m = omega arith in
+    rw (h.input, h.position, back) (ahead_told m.input (position m) (rw k at h.ready) h.before_last)

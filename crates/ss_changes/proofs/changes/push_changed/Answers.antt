@@ -1,0 +1,14 @@
+use Rattle.std.proofs.Common.{◌++◌, List, ap, ◌∙◌}
+use Rattle.ss_changes.specs.declared.change.Change.{Change}
+use Rattle.ss_changes.proofs.Saying.{on_ok, told_here}
+use Rattle.ss_changes.proofs.changes.push_changed.Goals as goal
+
+pub returns-clause-changes : goal.returns-clause-changes
+returns-clause-changes g c =
+    let d = c.values_before.new.debugger in
+    let here = rw c.machine.ensures at c.known.ensures.state in
+    let told =
+    told_here c.args.debugger.now d c.machine-2.result.now c.args.parts.now c.deref.result.now
+    c.in_ok-before.ensures.stays c.machine-2.ensures here (c.deref.ensures.value ∙ c.in_ok-before.ensures.values) in
+    on_ok c.push_told.result c.push_told.ensures
+    (λ said. said ∙ ap (λ (l : List Change). c.args.changes.now.items ++ l) told)
