@@ -61,6 +61,13 @@ pub said_earliest : (t : Input) (e p : ℕ) → p ≡ e → changed_text t e p �
 unfolding changed_text
 said_earliest t e p h = rw (h, not_below e) refl
 
+-- the same behind what was said before
+pub said_first : (t : Input) (e p q : ℕ) (old new : List ℕ) → q ≡ p → p ≡ e →
+    new ≡ old ++ earliest_word q ++ 10 ∷ [] → new ≡ old ++ changed_text t e p
+said_first t e p q old new k h w =
+    w ∙ append_assoc old _ _ ∙ ap (λ (n : ℕ). old ++ (earliest_word n ++ 10 ∷ [])) k
+    ∙ ap (λ (l : List ℕ). old ++ l) (sym (said_earliest t e p h))
+
 pub stop_earliest : (t : Input) (e p : ℕ) → p ≡ e → stop_changes t e p ≡ []
 unfolding stop_changes
 stop_earliest t e p h = rw (h, not_below e) refl

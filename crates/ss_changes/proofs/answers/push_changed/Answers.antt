@@ -1,7 +1,7 @@
-use Rattle.std.proofs.Common.{◌≡◌, ◌++◌, List, ℕ, ap, sym, ◌∙◌, arith}
+use Rattle.std.proofs.Common.{◌≡◌, ◌<◌, ◌++◌, List, ℕ, ap, sym, ◌∙◌, arith}
 use Rattle.ss_machine.specs.Moment.{position}
 use Rattle.ss_changes.specs.Texts.{all_changes}
-use Rattle.ss_changes.proofs.Saying.{on_ok, said_earliest, said_later, said_there}
+use Rattle.ss_changes.proofs.Saying.{on_ok, said_first, said_later, said_there}
 use Rattle.ss_changes.proofs.answers.push_changed.Goals as goal
 
 pub returns-then-kept-eq0-clause-said : goal.returns-then-kept-eq0-clause-said
@@ -10,9 +10,9 @@ returns-then-kept-eq0-clause-said g c =
     let kept = rw c.machine.ensures at c.kept.ensures in
     let place = rw c.machine-then-kept-eq0.ensures at c.position.ensures in
     let first : position m ≡ m.forgotten = omega (arith, kept, c.if-kept-eq0.true) in
-    on_ok c.push_earliest.result (rw place at c.push_earliest.ensures)
-    (λ said. said ∙ ap (λ (l : List ℕ). c.args.bytes.now.items ++ l)
-    (sym (said_earliest m.input m.forgotten (position m) first)))
+    on_ok c.push_earliest.result c.push_earliest.ensures
+    (λ said. said_first m.input m.forgotten (position m) c.position.result c.args.bytes.now.items
+    c.push_earliest.new.text.items place first said)
 
 pub returns-clause-said : goal.returns-clause-said
 returns-clause-said g c =

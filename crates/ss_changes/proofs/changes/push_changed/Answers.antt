@@ -9,6 +9,6 @@ returns-clause-changes g c =
     let here = rw c.machine.ensures at c.known.ensures.state in
     let told =
     told_here c.args.debugger.now d c.machine-2.result.now c.args.parts.now c.deref.result.now
-    c.in_ok-before.ensures.stays c.machine-2.ensures here (c.deref.ensures.value ∙ c.in_ok-before.ensures.values) in
+    c.in_ok-before.ensures.stays c.machine-2.ensures here (rw c.deref.ensures.value c.in_ok-before.ensures.values) in
     on_ok c.push_told.result c.push_told.ensures
     (λ said. said ∙ ap (λ (l : List Change). c.args.changes.now.items ++ l) told)
