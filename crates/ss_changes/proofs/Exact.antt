@@ -12,7 +12,7 @@ use Rattle.ss_machine.specs.State.{State}
 use Rattle.ss_changes.specs.declared.part.Part.{Part}
 use Rattle.ss_changes.specs.declared.value.PartValue.{PartValue}
 use Rattle.ss_changes.specs.declared.value.PartValue.TheVariants.{Absent as Missing, Number, Count, Lives, Listed, Entered, Bytes}
-use Rattle.ss_changes.specs.Values.{is_same, is_same_entry, value_in, is_there, needs_both, is_told}
+use Rattle.ss_changes.specs.Values.{is_same, is_same_entry, value_in, is_there, needs_both}
 use Rattle.ss_changes.specs.Parts.{parts_of}
 use Rattle.ss_changes.specs.Changes.{is_changed, told_of}
 use Rattle.ss_changes.specs.Laws.{AreExact, BelongsToOne}

@@ -1,12 +1,11 @@
 -- Parts and changes one after the other.
-use Rattle.std.proofs.Common.{◌≡◌, ℕ, zero, suc, ◌+◌, Bool, true, false, List, [], ◌∷◌, ◌++◌, map, refl, ap, sym, ◌∙◌, arith, append_assoc, length}
-use Rattle.std.specs.List.{filter}
+use Rattle.std.proofs.Common.{◌≡◌, ℕ, suc, ◌+◌, Bool, true, false, List, [], ◌∷◌, ◌++◌, map, refl, ap, sym, ◌∙◌, arith, append_assoc}
 use Rattle.ss_program.specs.Program.{ProgramTable}
 use Rattle.ss_machine.specs.State.{State}
 use Rattle.ss_changes.specs.declared.part.Part.{Part}
 use Rattle.ss_changes.specs.declared.change.Change.{Change}
-use Rattle.ss_changes.specs.Values.{value_in, is_told}
-use Rattle.ss_changes.specs.Parts.{below_of, each_of}
+use Rattle.ss_changes.specs.Values.{value_in}
+use Rattle.ss_changes.specs.Parts.{below_of}
 use Rattle.ss_changes.specs.Changes.{changes_among, is_changed, told_of}
 use Rattle.ss_changes.specs.View.{told_if, told_against}
 

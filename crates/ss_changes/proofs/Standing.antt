@@ -1,5 +1,5 @@
 -- A debugger that stands where it stood sees the same.
-use Rattle.std.proofs.Common.{◌≡◌, ℕ, suc, ◌+◌, ◌-◌, ◌<◌, ◌≤◌, List, [], ◌∷◌, ◌++◌, refl, sym, ap, ◌∙◌, arith, append_assoc}
+use Rattle.std.proofs.Common.{◌≡◌, ℕ, suc, ◌+◌, ◌<◌, List, ◌++◌, refl, sym, ap, ◌∙◌, arith, append_assoc}
 use Rattle.ss_program.specs.Program.{ProgramTable}
 use Rattle.ss_machine.specs.State.{State}
 use Rattle.ss_machine.specs.Moment.{position}
@@ -7,7 +7,7 @@ use Rattle.ss_debug.specs.View.{DebuggerView}
 use Rattle.ss_changes.specs.declared.part.Part.{Part}
 use Rattle.ss_changes.specs.declared.change.Change.{Change}
 use Rattle.ss_changes.specs.Parts.{below_of}
-use Rattle.ss_changes.specs.View.{IsAt, IsBetween, HasReturned, IsBehind, program_of, state_of, state_before, changed_among}
+use Rattle.ss_changes.specs.View.{HasReturned, program_of, state_of, state_before, changed_among}
 use Rattle.ss_changes.proofs.Orders.{changes_append}
 
 -- it did not move
@@ -23,40 +23,10 @@ returned_on a b c h k = record {
   position = k.position ∙ h.position;
 }
 
--- it returned, and was refused memory one step before or there
-pub behind_on : (a b c : DebuggerView) → HasReturned a b → IsBehind b c → IsBehind a c
-behind_on a b c h k = record {
-  input = k.input ∙ h.input;
-  forgotten = k.forgotten ∙ h.forgotten;
-  breaks = k.breaks ∙ h.breaks;
-  no_earlier = omega (arith, h.position, k.no_earlier);
-  no_later = omega (arith, h.position, k.no_later);
-}
-
--- it returned
-pub behind_here : (a b : DebuggerView) → HasReturned a b → IsBehind a b
-behind_here a b h = record {
-  input = h.input;
-  forgotten = h.forgotten;
-  breaks = h.breaks;
-  no_earlier = omega (arith, h.position);
-  no_later = omega (arith, h.position);
-}
-
 -- a step is kept as before
 pub still_kept : (a b : DebuggerView) → HasReturned a b → a.machine.forgotten < position a.machine →
     b.machine.forgotten < position b.machine
 still_kept a b h k = omega (arith, h.forgotten, h.position, k)
-
--- the same program and states
-pub same_program : (a b : DebuggerView) → HasReturned a b → program_of b ≡ program_of a
-same_program a b h = rw h.input refl
-
-pub same_state : (a b : DebuggerView) → HasReturned a b → state_of b ≡ state_of a
-same_state a b h = rw (h.input, h.position) refl
-
-pub same_before : (a b : DebuggerView) → HasReturned a b → state_before b ≡ state_before a
-same_before a b h = rw (h.input, h.position) refl
 
 -- the changes among some parts that belong to the states
 pub same_changed : (a b : DebuggerView) (f : ProgramTable → State → State → List Part) → HasReturned a b →

@@ -1,5 +1,5 @@
 -- Small programs whose steps change something, or nothing.
-use Rattle.std.specs.Prelude.{ℕ, ◌+◌, List, [], ◌∷◌, codes, false, None}
+use Rattle.std.specs.Prelude.{[], ◌∷◌, codes, false, None}
 use Rattle.ss_words.specs.declared.terms.SetEnd.TheVariants as ends
 use Rattle.ss_words.specs.declared.terms.TermSign.TheVariants.{Plus}
 use Rattle.ss_program.specs.declared.target.Target.TheVariants.{Variable as ToVariable, Attribute}

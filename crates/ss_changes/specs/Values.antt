@@ -68,7 +68,7 @@ members_if None = Absent
 abbrev pub listed_in : SetShape → Store → ℕ → PartValue
 listed_in shape st k = members_if (list_by shape.owner shape.list st k)
 
--- the value of a part in a state
+-- the value of a part in a state; the report only grows, so its length tells whether it changed
 abbrev pub value_in : ProgramTable → State → Part → PartValue
 value_in p s (parts.Global i) = number_if (slice_get s.variables i)
 value_in p s (parts.Local n i) = number_if (frame_local s (length s.below - n) i)

@@ -1,5 +1,5 @@
 /// A part of a state that a step may change. Frames and places are none of them.
-#[derive(Clone, Copy, Debug, PartialEq, Eq)]
+#[derive(Clone, Copy)]
 pub enum Part {
     /// The global variable with this number.
     Global {

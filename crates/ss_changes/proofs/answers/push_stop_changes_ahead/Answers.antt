@@ -1,8 +1,6 @@
-use Rattle.std.proofs.Common.{◌≡◌, ◌++◌, ◌+◌, ◌-◌, ◌<◌, List, ℕ, ap, sym, ◌∙◌, refl, arith}
+use Rattle.std.proofs.Common.{◌++◌, List, ℕ, ap, sym, ◌∙◌}
 use Rattle.std.specs.Prelude.{codes}
 use Rattle.std.proofs.lemmas.List.{append-nil}
-use Rattle.ss_machine.specs.Moment.{position}
-use Rattle.ss_machine.specs.Run.{run}
 use Rattle.ss_changes.specs.Texts.{first_changes}
 use Rattle.ss_changes.proofs.Saying.{ahead_nothing_at, ahead_told_at, said_there}
 use Rattle.ss_changes.proofs.answers.push_stop_changes_ahead.Goals as goal
