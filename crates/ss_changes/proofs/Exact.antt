@@ -1,5 +1,6 @@
 -- What a step changed is exact.
-use Rattle.std.proofs.Common.{◌≡◌, ◌≢◌, ℕ, Bool, true, false, cond, refl, sym, ap, ◌∙◌, not, ◌&&◌, ◌||◌, List, [], ◌∷◌, ◌⊎◌, inl, inr, map, arith, zero, suc, ◌<◌, length, slice_index_or}
+use Rattle.std.proofs.Common.{◌≡◌, ◌≢◌, ℕ, Bool, true, false, cond, refl, sym, ap, ◌∙◌, not, ◌&&◌, ◌||◌, List, []}
+use Rattle.std.proofs.Common.{◌∷◌, ◌⊎◌, inl, inr, map, arith, zero, suc, ◌<◌, length, slice_index_or}
 use Rattle.std.specs.List.{Any, filter}
 use Rattle.std.proofs.lemmas.List.{get_or-map, length-map}
 use Rattle.std.proofs.lemmas.List.Elements.{All-map, filter_passes}
@@ -11,7 +12,8 @@ use Rattle.ss_program.specs.Program.{ProgramTable}
 use Rattle.ss_machine.specs.State.{State}
 use Rattle.ss_changes.specs.declared.part.Part.{Part}
 use Rattle.ss_changes.specs.declared.value.PartValue.{PartValue}
-use Rattle.ss_changes.specs.declared.value.PartValue.TheVariants.{Absent as Missing, Number, Count, Lives, Listed, Entered, Bytes}
+use Rattle.ss_changes.specs.declared.value.PartValue.TheVariants.{Absent as Missing, Number, Count, Lives, Listed}
+use Rattle.ss_changes.specs.declared.value.PartValue.TheVariants.{Entered, Bytes}
 use Rattle.ss_changes.specs.Values.{is_same, is_same_entry, value_in, is_there, needs_both}
 use Rattle.ss_changes.specs.Parts.{parts_of}
 use Rattle.ss_changes.specs.Changes.{is_changed, told_of}

@@ -1,5 +1,6 @@
 -- Parts and changes one after the other.
-use Rattle.std.proofs.Common.{◌≡◌, ℕ, suc, ◌+◌, Bool, true, false, List, [], ◌∷◌, ◌++◌, map, refl, ap, sym, ◌∙◌, arith, append_assoc}
+use Rattle.std.proofs.Common.{◌≡◌, ℕ, suc, ◌+◌, Bool, true, false, List, [], ◌∷◌, ◌++◌, map, refl, ap, sym, ◌∙◌}
+use Rattle.std.proofs.Common.{arith, append_assoc}
 use Rattle.ss_program.specs.Program.{ProgramTable}
 use Rattle.ss_machine.specs.State.{State}
 use Rattle.ss_changes.specs.declared.part.Part.{Part}
@@ -14,6 +15,10 @@ pub below_more : {A : Type 0} (f : ℕ → List A) (n m : ℕ) (old so_far new :
     so_far ≡ old ++ below_of f n → new ≡ so_far ++ f n → new ≡ old ++ below_of f m
 below_more f n m old so_far new e h k =
     let next : m ≡ suc n = omega (arith, e) in rw (next, k, h) (append_assoc old _ _)
+
+-- the same behind what was there
+pub behind : {A : Type 0} (old new one other : List A) → one ≡ other → new ≡ old ++ one → new ≡ old ++ other
+behind old new one other e h = rw (← e) h
 
 -- the changes among some parts and others
 pub changes_append : (p : ProgramTable) (s u : State) (xs ys : List Part) →

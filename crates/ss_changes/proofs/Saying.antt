@@ -1,5 +1,6 @@
 -- What is said of the changes of a step.
-use Rattle.std.proofs.Common.{◌≡◌, ◌≢◌, ℕ, ◌+◌, ◌-◌, ◌<◌, Bool, true, false, List, [], ◌∷◌, ◌++◌, map, refl, sym, ap, ◌∙◌, ◌⊎◌, inl, inr, arith, rules, nat_lt, append_assoc}
+use Rattle.std.proofs.Common.{◌≡◌, ◌≢◌, ℕ, ◌+◌, ◌-◌, ◌<◌, Bool, true, false, List, [], ◌∷◌, ◌++◌, map, refl, sym, ap}
+use Rattle.std.proofs.Common.{◌∙◌, ◌⊎◌, inl, inr, arith, rules, nat_lt, append_assoc}
 use Rattle.std.proofs.Common.{Result, Ok, Err, OnOk}
 use Rattle.std.specs.Prelude.{codes, ◌&&◌}
 use Rattle.std.proofs.lemmas.Bool.{lt-ltb}
@@ -125,7 +126,9 @@ neither false = refl
 pub ahead_nothing : (t : Input) (p : ℕ) → ((run t p).status ≢ Ready) ⊎ (p ≡ LAST_POSITION) → stop_changes_ahead t p ≡ []
 unfolding stop_changes_ahead
 ahead_nothing t p (inl h) = rw (not_ready (run t p).status h) refl
-ahead_nothing t p (inr e) = let past : nat_lt p LAST_POSITION ≡ false = rw e (not_below LAST_POSITION) in rw (past, neither (is_ready (run t p).status)) refl
+ahead_nothing t p (inr e) =
+    let past : nat_lt p LAST_POSITION ≡ false = rw e (not_below LAST_POSITION) in
+    rw (past, neither (is_ready (run t p).status)) refl
 
 -- from where a machine stands that made no step
 pub ahead_nothing_at : (m : Moment) → m.state ≡ run m.input (position m) →

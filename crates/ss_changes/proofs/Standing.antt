@@ -43,9 +43,8 @@ pub changes_more : (a b : DebuggerView) (f : ProgramTable → State → State �
 changes_more a b f n m was so_far new e h k w =
     let next : m ≡ suc n = omega (arith, e) in
     let same = same_changed a b (λ p s u. f p s u n) h in
-    let more =
-    changes_append (program_of a) (state_before a) (state_of a) (below_of (f (program_of a) (state_before a) (state_of a)) n)
-    (f (program_of a) (state_before a) (state_of a) n) in
+    let g = f (program_of a) (state_before a) (state_of a) in
+    let more = changes_append (program_of a) (state_before a) (state_of a) (below_of g n) (g n) in
     rw next (w ∙ ap (λ (l : List Change). so_far ++ l) same
-    ∙ ap (λ (l : List Change). l ++ changed_among a (f (program_of a) (state_before a) (state_of a) n)) k
+    ∙ ap (λ (l : List Change). l ++ changed_among a (g n)) k
     ∙ append_assoc was _ _ ∙ ap (λ (l : List Change). was ++ l) (sym more))

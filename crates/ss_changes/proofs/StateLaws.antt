@@ -1,5 +1,6 @@
 -- What is read of a state.
-use Rattle.std.proofs.Common.{◌≡◌, ℕ, zero, suc, ◌<◌, ◌≤◌, ◌==◌, false, List, [], ◌∷◌, length, refl, ap, arith, Some, None, slice_get, slice_index_or, ℤ, pos, take, drop}
+use Rattle.std.proofs.Common.{◌≡◌, ℕ, zero, suc, ◌<◌, ◌≤◌, ◌==◌, false, List, [], ◌∷◌, length, refl, ap, arith, Some}
+use Rattle.std.proofs.Common.{None, slice_get, slice_index_or, ℤ, pos, take, drop}
 use Rattle.std.proofs.lemmas.Bool.Decides.{nat_tests}
 use Rattle.ss_events.specs.Agenda.{Pending, pending_at}
 use Rattle.ss_events.specs.WellAgenda.{IsRising}

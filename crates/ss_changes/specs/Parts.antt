@@ -117,8 +117,8 @@ notice_parts p s u = notices_in p s ++ absent_in p s (notices_in p u)
 
 -- ---- all
 
--- the parts of two states: variables, locals of the last frame that both have, attributes, entities, lists, notices, and
--- what there is once
+-- the parts of two states: variables, locals of the last frame that both have, attributes, entities, lists, notices,
+-- and what there is once
 abbrev pub parts_of : ProgramTable → State → State → List Part
 parts_of p s u =
     below_of global_part (length p.globals) ++ local_parts p s u

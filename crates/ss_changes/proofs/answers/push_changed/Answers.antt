@@ -1,6 +1,7 @@
 use Rattle.std.proofs.Common.{◌≡◌, ◌<◌, ◌++◌, List, ℕ, ap, sym, ◌∙◌, arith}
 use Rattle.ss_machine.specs.Moment.{position}
 use Rattle.ss_changes.specs.Texts.{all_changes}
+use Rattle.ss_changes.proofs.Orders.{behind}
 use Rattle.ss_changes.proofs.Saying.{on_ok, said_first, said_later, said_there}
 use Rattle.ss_changes.proofs.answers.push_changed.Goals as goal
 
@@ -24,5 +25,5 @@ returns-clause-said g c =
     said_there d c.last_changes.new.debugger c.machine-3.result.now c.deref.result.now all_changes
     c.in_ok-changes.ensures.stays c.machine-3.ensures here (c.deref.ensures.value ∙ c.in_ok-changes.ensures.changes) in
     on_ok c.push_all_changes.result c.push_all_changes.ensures
-    (λ told. told ∙ ap (λ (l : List ℕ). c.args.bytes.now.items ++ l)
+    (behind c.args.bytes.now.items c.push_all_changes.new.text.items _ _
     (said ∙ sym (said_later d.machine.input d.machine.forgotten (position d.machine) some)))

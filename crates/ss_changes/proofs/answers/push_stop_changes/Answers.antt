@@ -3,6 +3,7 @@ use Rattle.std.specs.Prelude.{codes}
 use Rattle.std.proofs.lemmas.List.{append-nil}
 use Rattle.ss_machine.specs.Moment.{position}
 use Rattle.ss_changes.specs.Texts.{first_changes}
+use Rattle.ss_changes.proofs.Orders.{behind}
 use Rattle.ss_changes.proofs.Saying.{on_ok, stop_earliest, stop_later, said_there}
 use Rattle.ss_changes.proofs.answers.push_stop_changes.Goals as goal
 
@@ -24,5 +25,5 @@ returns-clause-said g c =
     (first_changes (codes "CHANGED")) c.in_ok-changes.ensures.stays c.machine-3.ensures here
     (c.deref.ensures.value ∙ c.in_ok-changes.ensures.changes) in
     on_ok c.push_first_changes.result c.push_first_changes.ensures
-    (λ told. told ∙ ap (λ (l : List ℕ). c.args.bytes.now.items ++ l)
+    (behind c.args.bytes.now.items c.push_first_changes.new.text.items _ _
     (said ∙ sym (stop_later d.machine.input d.machine.forgotten (position d.machine) some)))

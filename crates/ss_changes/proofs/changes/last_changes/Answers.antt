@@ -35,8 +35,8 @@ abbrev both : Section → Section → Section
 both f g p s u = f p s u ++ g p s u
 
 in_order : (p : ProgramTable) (s u : State) →
-    both (both (both (both (both (both (both nothing globals) local_parts) attributes) entities) lists) notice_parts) others
-    p s u ≡ parts_of p s u
+    both (both (both (both (both (both (both nothing globals) local_parts) attributes) entities) lists) notice_parts)
+    others p s u ≡ parts_of p s u
 in_order p s u = simp append_assoc
 
 pub returns-clause-changes : goal.returns-clause-changes
@@ -44,7 +44,8 @@ returns-clause-changes g c =
     let d = c.args.debugger.now in
     let h0 = stayed d in
     let h1 = c.in_ok-push_globals.ensures.stays in
-    let h2 = returned_on d c.push_globals.new.debugger c.push_locals.new.debugger h1 c.in_ok-push_locals.ensures.stays in
+    let h2 =
+    returned_on d c.push_globals.new.debugger c.push_locals.new.debugger h1 c.in_ok-push_locals.ensures.stays in
     let h3 =
     returned_on d c.push_locals.new.debugger c.push_all_attributes.new.debugger h2
     c.in_ok-push_all_attributes.ensures.stays in
@@ -54,7 +55,9 @@ returns-clause-changes g c =
     let h5 =
     returned_on d c.push_all_entities.new.debugger c.push_all_lists.new.debugger h4
     c.in_ok-push_all_lists.ensures.stays in
-    let h6 = returned_on d c.push_all_lists.new.debugger c.push_notices.new.debugger h5 c.in_ok-push_notices.ensures.stays in
+    let h6 =
+    returned_on d c.push_all_lists.new.debugger c.push_notices.new.debugger h5
+    c.in_ok-push_notices.ensures.stays in
     let f1 = both nothing globals in
     let f2 = both f1 local_parts in
     let f3 = both f2 attributes in

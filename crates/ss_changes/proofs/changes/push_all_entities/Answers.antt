@@ -11,8 +11,10 @@ pub loop-class-preserved : goal.loop-class-preserved
 loop-class-preserved g c =
     let h = c.loop-class.invariant in
     record {
-      stays = returned_on c.args.debugger.now c.loop-class.debugger c.push_entities.new.debugger h.stays c.in_ok-push_entities.ensures.stays;
+      stays =
+          returned_on c.args.debugger.now c.loop-class.debugger c.push_entities.new.debugger h.stays
+          c.in_ok-push_entities.ensures.stays;
       changes =
-          changes_more c.args.debugger.now c.loop-class.debugger entity_parts c.loop-class.class _ c.args.changes.now.items
-          c.loop-class.changes.items _ refl h.stays h.changes c.in_ok-push_entities.ensures.changes;
+          changes_more c.args.debugger.now c.loop-class.debugger entity_parts c.loop-class.class _
+          c.args.changes.now.items c.loop-class.changes.items _ refl h.stays h.changes c.in_ok-push_entities.ensures.changes;
     }

@@ -8,5 +8,6 @@ invariant-loop-class g l = record {
   stays : HasReturned l.initial.debugger l.debugger;
   changes : l.changes.items ≡ l.initial.changes.items
       ++ changed_among l.initial.debugger
-      (below_of (entity_parts (program_of l.initial.debugger) (state_before l.initial.debugger) (state_of l.initial.debugger)) l.class);
+      (below_of (entity_parts (program_of l.initial.debugger) (state_before l.initial.debugger)
+      (state_of l.initial.debugger)) l.class);
 }

@@ -11,8 +11,10 @@ pub loop-set-preserved : goal.loop-set-preserved
 loop-set-preserved g c =
     let h = c.loop-set.invariant in
     record {
-      stays = returned_on c.args.debugger.now c.loop-set.debugger c.push_lists.new.debugger h.stays c.in_ok-push_lists.ensures.stays;
+      stays =
+          returned_on c.args.debugger.now c.loop-set.debugger c.push_lists.new.debugger h.stays
+          c.in_ok-push_lists.ensures.stays;
       changes =
-          changes_more c.args.debugger.now c.loop-set.debugger (λ p s u. list_parts p u) c.loop-set.set _ c.args.changes.now.items
-          c.loop-set.changes.items _ refl h.stays h.changes c.in_ok-push_lists.ensures.changes;
+          changes_more c.args.debugger.now c.loop-set.debugger (λ p s u. list_parts p u) c.loop-set.set _
+          c.args.changes.now.items c.loop-set.changes.items _ refl h.stays h.changes c.in_ok-push_lists.ensures.changes;
     }

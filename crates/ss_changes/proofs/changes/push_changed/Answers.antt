@@ -1,5 +1,6 @@
 use Rattle.std.proofs.Common.{◌++◌, List, ap, ◌∙◌}
 use Rattle.ss_changes.specs.declared.change.Change.{Change}
+use Rattle.ss_changes.proofs.Orders.{behind}
 use Rattle.ss_changes.proofs.Saying.{on_ok, told_here}
 use Rattle.ss_changes.proofs.changes.push_changed.Goals as goal
 
@@ -11,4 +12,4 @@ returns-clause-changes g c =
     told_here c.args.debugger.now d c.machine-2.result.now c.args.parts.now c.deref.result.now
     c.in_ok-before.ensures.stays c.machine-2.ensures here (rw c.deref.ensures.value c.in_ok-before.ensures.values) in
     on_ok c.push_told.result c.push_told.ensures
-    (λ said. said ∙ ap (λ (l : List Change). c.args.changes.now.items ++ l) told)
+    (behind c.args.changes.now.items c.push_told.new.changes.items _ _ told)
