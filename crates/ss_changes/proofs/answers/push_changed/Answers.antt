@@ -1,4 +1,4 @@
-use Rattle.std.proofs.Common.{◌≡◌, ◌<◌, ◌++◌, List, ℕ, ap, sym, ◌∙◌, arith}
+use Rattle.std.proofs.Common.{◌≡◌, ◌<◌, sym, ◌∙◌, arith}
 use Rattle.ss_machine.specs.Moment.{position}
 use Rattle.ss_changes.specs.Texts.{all_changes}
 use Rattle.ss_changes.proofs.Orders.{behind}

@@ -1,7 +1,8 @@
-use Rattle.std.proofs.Common.{◌++◌, List, ℕ, ap, sym, ◌∙◌}
+use Rattle.std.proofs.Common.{sym, ◌∙◌}
 use Rattle.std.specs.Prelude.{codes}
 use Rattle.std.proofs.lemmas.List.{append-nil}
 use Rattle.ss_changes.specs.Texts.{first_changes}
+use Rattle.ss_changes.proofs.Orders.{behind}
 use Rattle.ss_changes.proofs.Saying.{ahead_nothing_at, ahead_told_at, said_there}
 use Rattle.ss_changes.proofs.answers.push_stop_changes_ahead.Goals as goal
 
@@ -23,5 +24,5 @@ returns-clause-said g c =
     said_there e c.last_changes.new.debugger c.machine-3.result.now c.deref.result.now
     (first_changes (codes "WILL CHANGE")) c.in_ok-changes.ensures.stays c.machine-3.ensures here
     (c.deref.ensures.value ∙ c.in_ok-changes.ensures.changes) in
-    c.in_ok-push_first_changes.ensures ∙ ap (λ (l : List ℕ). c.args.bytes.now.items ++ l)
-    (said ∙ sym (ahead_told_at d.machine e.machine state moved))
+    behind c.args.bytes.now.items c.push_first_changes.new.text.items _ _
+    (said ∙ sym (ahead_told_at d.machine e.machine state moved)) c.in_ok-push_first_changes.ensures

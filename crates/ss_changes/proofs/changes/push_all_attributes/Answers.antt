@@ -16,5 +16,6 @@ loop-class-preserved g c =
           c.in_ok-push_attributes.ensures.stays;
       changes =
           changes_more c.args.debugger.now c.loop-class.debugger (λ p s u. attribute_parts p u) c.loop-class.class _
-          c.args.changes.now.items c.loop-class.changes.items _ refl h.stays h.changes c.in_ok-push_attributes.ensures.changes;
+          c.args.changes.now.items c.loop-class.changes.items _ refl h.stays h.changes
+          c.in_ok-push_attributes.ensures.changes;
     }

@@ -16,5 +16,6 @@ loop-class-preserved g c =
           c.in_ok-push_entities.ensures.stays;
       changes =
           changes_more c.args.debugger.now c.loop-class.debugger entity_parts c.loop-class.class _
-          c.args.changes.now.items c.loop-class.changes.items _ refl h.stays h.changes c.in_ok-push_entities.ensures.changes;
+          c.args.changes.now.items c.loop-class.changes.items _ refl h.stays h.changes
+          c.in_ok-push_entities.ensures.changes;
     }

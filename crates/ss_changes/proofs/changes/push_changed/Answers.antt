@@ -1,5 +1,3 @@
-use Rattle.std.proofs.Common.{◌++◌, List, ap, ◌∙◌}
-use Rattle.ss_changes.specs.declared.change.Change.{Change}
 use Rattle.ss_changes.proofs.Orders.{behind}
 use Rattle.ss_changes.proofs.Saying.{on_ok, told_here}
 use Rattle.ss_changes.proofs.changes.push_changed.Goals as goal
