@@ -1,0 +1,18 @@
+-- What a variable holds, where a state has it and where not.
+use Rattle.std.proofs.Common.{◌≡◌, ℕ, zero, suc, ◌<◌, ◌≤◌, List, [], ◌∷◌, length, refl, arith, Option, Some, None}
+use Rattle.std.specs.Prelude.{ℤ, pos, slice_get, slice_index_or, unwrap_or, nat_lt, false}
+
+-- nothing behind the last
+pub past_end : (xs : List ℤ) (i : ℕ) → length xs ≤ i → slice_index_or xs i (pos 0) ≡ pos 0
+past_end [] i h = refl
+past_end (x ∷ xs) zero h = absurd (omega (arith, h))
+past_end (x ∷ xs) (suc i) h = past_end xs i (omega (arith, h))
+
+-- one that may be missing
+pub local_or : (xs : List ℤ) (i : ℕ) → unwrap_or (slice_get xs i) (pos 0) ≡ slice_index_or xs i (pos 0)
+local_or [] i = refl
+local_or (x ∷ xs) zero = refl
+local_or (x ∷ xs) (suc i) = local_or xs i
+
+-- variables
+pub ruleset variables = (past_end, local_or)

@@ -1,0 +1,5 @@
+pub mod Readings
+pub mod Missing
+pub mod Texts
+pub mod About
+pub mod Sentence

@@ -1,0 +1,36 @@
+-- The line that tells a fault.
+use Rattle.std.specs.Prelude.{ℕ, ◌-◌, List, [], ◌∷◌, ◌++◌, codes, decimal, length, take, nat_lt, if◌then◌else◌}
+use Rattle.std.specs.Prelude.{Option, Some, None}
+use Rattle.ss_words.specs.declared.fault.RunFault.{RunFault}
+use Rattle.ss_words.specs.Faults.{run_fault_number}
+use Rattle.ss_program.specs.declared.place.Spot.{Spot}
+use Rattle.ss_program.specs.Program.{ProgramTable, spot_at}
+use Rattle.ss_machine.specs.declared.status.Status.{Status}
+use Rattle.ss_machine.specs.declared.status.Status.TheVariants.{Ready, Stopped, Finished, Faulted}
+use Rattle.ss_machine.specs.State.{State}
+use Rattle.ss_sentences.specs.Wording.{fault_sentence}
+use Rattle.ss_faults.specs.declared.sentence.TheConstants.{LONGEST_LINE, CUT_MARK}
+use Rattle.ss_faults.specs.About.{about}
+
+-- a line of at most so many bytes: a longer one is cut
+abbrev pub cut_line : List ℕ → List ℕ
+cut_line line =
+    if nat_lt LONGEST_LINE (length line) then take (LONGEST_LINE - length CUT_MARK.now) line ++ CUT_MARK.now else line
+
+-- what a fault names at the place where the last frame stands
+abbrev pub about_here : ProgramTable → State → RunFault → Option Spot → List ℕ
+about_here p s f None = []
+about_here p s f (Some spot) = about p s f spot.place
+
+-- the number of a fault, its sentence, and what it names
+abbrev pub whole_line : ProgramTable → State → RunFault → List ℕ
+whole_line p s f =
+    codes "F" ++ decimal (run_fault_number f) ++ codes ": " ++ fault_sentence (run_fault_number f)
+    ++ about_here p s f (spot_at p s.frame.section s.frame.place)
+
+-- the line that tells a state's fault; nothing of a state that is not faulted
+unfoldable pub fault_text : ProgramTable → State → Status → List ℕ
+fault_text p s (Faulted f) = cut_line (whole_line p s f) ++ codes "\n"
+fault_text p s Ready = []
+fault_text p s Stopped = []
+fault_text p s Finished = []

@@ -1,0 +1,13 @@
+//! What a fault of a run is about: the line that tells it, with the entity, the list, the class or the
+//! value that the statement names, read off the state that the fault left as it was.
+#![tactic(auto)]
+
+mod about;
+mod missing;
+mod reading;
+mod sentence;
+mod texts;
+mod told;
+
+pub use told::Told;
+pub use sentence::push_fault_sentence;

@@ -1,0 +1,94 @@
+//! The line that tells a fault.
+ghost use Rattle.std.specs.Prelude.{◌≡◌, ◌≤◌, ◌++◌, OnOk, length, take};
+ghost use Rattle.ss_program.specs.Program.{spot_at};
+ghost use Rattle.ss_faults.specs.Sentence as spec;
+
+use crate::about::push_about;
+use ss_debug::push_number;
+use ss_links::SetBoard;
+use ss_machine::{Machine, Status};
+use ss_sentences::fault_sentence;
+use ss_words::RunFault;
+use std::alloc::{AllocError, Global};
+
+/// The line that tells a fault has at most so many bytes. The definitions read this number too.
+pub const LONGEST_LINE: usize = 120;
+
+/// What stands at the end of a line that is cut. The definitions read it too.
+pub const CUT_MARK: &[u8] = b" ..";
+
+/// Appends what a fault names at the place where the machine's last frame stands.
+fn push_about_here<S: SetBoard>(
+    text: &mut Vec<u8>,
+    machine: &Machine<S>,
+    fault: RunFault,
+) -> Result<(), AllocError>
+    ensures { OnOk result (text.new.items ≡ text.old.items
+        ++ spec.about_here machine.now.input.program machine.now.state fault
+        (spot_at machine.now.input.program machine.now.state.frame.section
+        machine.now.state.frame.place)) }
+{
+    let (section, place) = machine.place();
+    match machine.program().sections.get(section) {
+        None => Ok(()),
+        Some(section) => {
+            match section.places.get(place) {
+                None => Ok(()),
+                Some(spot) => push_about(text, machine, fault, &spot.place),
+            }
+        }
+    }
+}
+
+/// The number of a fault, its sentence, and what it names.
+fn whole_line<S: SetBoard>(
+    alloc: Global,
+    machine: &Machine<S>,
+    fault: RunFault,
+) -> Result<Vec<u8>, AllocError>
+    ensures { IfOk result (λ line. line.items
+        ≡ spec.whole_line machine.now.input.program machine.now.state fault) }
+{
+    let mut line = Vec::new(alloc);
+    line.extend_from_slice(b"F")?;
+    push_number(&mut line, u64::from(fault.number()))?;
+    line.extend_from_slice(b": ")?;
+    line.extend_from_slice(fault_sentence(fault))?;
+    push_about_here(&mut line, machine, fault)?;
+    Ok(line)
+}
+
+ghost use Rattle.std.specs.Prelude.{IfOk};
+
+/// Appends a line, cut where it is too long.
+fn push_cut(text: &mut Vec<u8>, line: &[u8]) -> Result<(), AllocError>
+    ensures { OnOk result (text.new.items ≡ text.old.items ++ spec.cut_line line.now) }
+{
+    if line.len() > LONGEST_LINE {
+        text.extend_from_slice(&line[..LONGEST_LINE - CUT_MARK.len()])?;
+        return text.extend_from_slice(CUT_MARK);
+    }
+    text.extend_from_slice(line)
+}
+
+/// Appends the line that tells the fault of the machine's state (docs/SENTENCES.md): its number, its
+/// sentence, and what it is about; nothing where the state is not faulted. The line has at most 120
+/// columns: a longer one is cut by ` ..`. The only error is that memory was refused.
+#[tactic(auto, unfolding(crate::specs::Sentence::fault_text))]
+pub fn push_fault_sentence<S: SetBoard>(
+    alloc: Global,
+    machine: &Machine<S>,
+    text: &mut Vec<u8>,
+) -> Result<(), AllocError>
+    ensures { OnOk result (text.new.items ≡ text.old.items
+        ++ spec.fault_text machine.now.input.program machine.now.state machine.now.state.status) }
+{
+    match machine.status() {
+        Status::Faulted(fault) => {
+            let line = whole_line(alloc, machine, fault)?;
+            push_cut(text, &line)?;
+            text.extend_from_slice(b"\n")
+        }
+        Status::Ready | Status::Stopped | Status::Finished => Ok(()),
+    }
+}

@@ -1,0 +1,158 @@
+//! How the parts that a fault is about are told.
+ghost use Rattle.std.specs.Prelude.{◌≡◌, ◌++◌, OnOk};
+ghost use Rattle.ss_program.specs.Program.{class_of, section_of, set_of};
+ghost use Rattle.ss_faults.specs.Texts as spec;
+
+use crate::told::Told;
+use ss_debug::{push_integer, push_number};
+use ss_program::{Owner, Program};
+use std::alloc::AllocError;
+
+/// Appends a label and a name.
+fn push_named(text: &mut Vec<u8>, label: &[u8], name: &[u8]) -> Result<(), AllocError>
+    ensures { OnOk result (text.new.items ≡ text.old.items ++ spec.named label.now name.now) }
+{
+    text.extend_from_slice(label)?;
+    text.extend_from_slice(name)?;
+    text.extend_from_slice(b".")
+}
+
+/// Appends a label, a name and a number.
+fn push_numbered(
+    text: &mut Vec<u8>,
+    label: &[u8],
+    name: &[u8],
+    number: i64,
+) -> Result<(), AllocError>
+    ensures { OnOk result (text.new.items
+        ≡ text.old.items ++ spec.numbered label.now name.now number) }
+{
+    text.extend_from_slice(label)?;
+    text.extend_from_slice(name)?;
+    text.extend_from_slice(b" ")?;
+    push_integer(text, number)?;
+    text.extend_from_slice(b".")
+}
+
+/// Appends a label and a value.
+pub fn push_valued(text: &mut Vec<u8>, label: &[u8], value: i64) -> Result<(), AllocError>
+    ensures { OnOk result (text.new.items ≡ text.old.items ++ spec.valued label.now value) }
+{
+    text.extend_from_slice(label)?;
+    push_integer(text, value)?;
+    text.extend_from_slice(b".")
+}
+
+/// Appends a label and a count.
+pub fn push_counted(text: &mut Vec<u8>, label: &[u8], count: u64) -> Result<(), AllocError>
+    ensures { OnOk result (text.new.items ≡ text.old.items ++ spec.counted label.now count) }
+{
+    text.extend_from_slice(label)?;
+    push_number(text, count)?;
+    text.extend_from_slice(b".")
+}
+
+/// The name of the class with this number, an empty one where there is none.
+fn class_name(program: &Program, class: usize) -> &[u8]
+    ensures { result.now ≡ (class_of program.now class).name }
+{
+    match program.classes.get(class) {
+        None => b"",
+        Some(class) => &class.name.bytes,
+    }
+}
+
+/// The name of the set with this number, an empty one where there is none.
+fn set_name(program: &Program, set: usize) -> &[u8]
+    ensures { result.now ≡ (set_of program.now set).name }
+{
+    match program.sets.get(set) {
+        None => b"",
+        Some(set) => &set.name.bytes,
+    }
+}
+
+/// Whose the lists of the set with this number are, the system's where there is none.
+fn set_owner(program: &Program, set: usize) -> Owner
+    ensures { result ≡ (set_of program.now set).owner }
+{
+    match program.sets.get(set) {
+        None => Owner::System,
+        Some(set) => set.owner,
+    }
+}
+
+/// The class of the members of the set with this number, 0 where there is none.
+pub fn member_class(program: &Program, set: usize) -> usize
+    ensures { result ≡ (set_of program.now set).member }
+{
+    match program.sets.get(set) {
+        None => 0,
+        Some(set) => set.member,
+    }
+}
+
+/// Appends an entity.
+pub fn push_entity(
+    text: &mut Vec<u8>,
+    program: &Program,
+    class: usize,
+    number: i64,
+) -> Result<(), AllocError>
+    ensures { OnOk result (text.new.items
+        ≡ text.old.items ++ spec.entity_text program.now class number) }
+{
+    push_numbered(text, b" Entity: ", class_name(program, class), number)
+}
+
+/// Appends the list of a set for this owner.
+pub fn push_list(
+    text: &mut Vec<u8>,
+    program: &Program,
+    set: usize,
+    owner: i64,
+) -> Result<(), AllocError>
+    ensures { OnOk result (text.new.items
+        ≡ text.old.items ++ spec.list_text program.now set owner) }
+{
+    let name = set_name(program, set);
+    match set_owner(program, set) {
+        Owner::System => push_named(text, b" List: ", name),
+        Owner::OwnedBy(_) => push_numbered(text, b" List: ", name, owner),
+    }
+}
+
+/// Appends a class.
+pub fn push_class(text: &mut Vec<u8>, program: &Program, class: usize) -> Result<(), AllocError>
+    ensures { OnOk result (text.new.items ≡ text.old.items ++ spec.class_text program.now class) }
+{
+    push_named(text, b" Class: ", class_name(program, class))
+}
+
+/// Appends a set.
+pub fn push_set(text: &mut Vec<u8>, program: &Program, set: usize) -> Result<(), AllocError>
+    ensures { OnOk result (text.new.items ≡ text.old.items ++ spec.set_text program.now set) }
+{
+    push_named(text, b" Set: ", set_name(program, set))
+}
+
+/// Appends a section.
+pub fn push_section(text: &mut Vec<u8>, program: &Program, section: usize) -> Result<(), AllocError>
+    ensures { OnOk result (text.new.items
+        ≡ text.old.items ++ spec.section_text program.now section) }
+{
+    match program.sections.get(section) {
+        None => push_named(text, b" Section: ", b""),
+        Some(section) => push_named(text, b" Section: ", &section.name.bytes),
+    }
+}
+
+/// Appends an entity that is missing.
+pub fn push_missing(text: &mut Vec<u8>, program: &Program, told: Told) -> Result<(), AllocError>
+    ensures { OnOk result (text.new.items ≡ text.old.items ++ spec.missing_text program.now told) }
+{
+    match told {
+        Told::Missing { class, number } => push_entity(text, program, class, number),
+        Told::Value(_) | Told::Untold | Told::Unclear => Ok(()),
+    }
+}
