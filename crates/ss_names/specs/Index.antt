@@ -1,11 +1,15 @@
 -- Where the names of a model stand.
 use Rattle.std.specs.Prelude.{ℕ, true, false, ◌==◌, List, [], ◌∷◌, ◌++◌, codes, decimal, count_by, bytes_eq}
-use Rattle.std.specs.Prelude.{Ok, Err}
+use Rattle.std.specs.Prelude.{Ok, Err, Bool}
 use Rattle.ss_words.specs.Plain.{PlainAt, name, number, mark, picture}
 use Rattle.ss_words.specs.PlainRules.{plain_words_of}
 use Rattle.ss_words.specs.TextWords.{words_of}
 use Rattle.ss_words.specs.Words.{WordAt}
+use Rattle.ss_names.specs.declared.roles.Role.{Role}
+use Rattle.ss_names.specs.declared.roles.Role.TheVariants.{Declared, Set, Read, Named}
 use Rattle.ss_names.specs.Names.{names_in}
+use Rattle.ss_names.specs.Roles.{at_start, lines_with, names_with}
+use Rattle.ss_names.specs.Unread.{is_only}
 
 -- a name, how often it stands, and the line on which it stands first
 abbrev pub name_line : List ℕ → ℕ → ℕ → List ℕ
@@ -35,3 +39,49 @@ names_of_words ws = let plain = plain_words_of ws in name_rows (names_in plain) 
 -- the names of a model, each once, in the order in which they stand first; none where a rule L refuses it
 abbrev pub names_text : List ℕ → List ℕ
 names_text model = elim (words_of model) [ Ok ws ↦ names_of_words ws | Err f ↦ [] ]
+
+-- ---- one name
+
+-- lines behind what is said of them; nothing where there is none
+abbrev pub if_any : List ℕ → List ℕ → List ℕ
+if_any said [] = []
+if_any said (b ∷ bs) = said ++ b ∷ bs
+
+-- the lines on which a name has a role
+abbrev pub role_part : List PlainAt → List ℕ → Role → List ℕ → List ℕ
+role_part plain n role said = if_any said (lines_with role n at_start plain)
+
+-- a remark, where it is so
+abbrev pub remark : Bool → List ℕ → List ℕ
+remark true said = said
+remark false said = []
+
+-- whether the words use a name in one way alone, but that they declare it
+abbrev pub only_with : List PlainAt → List ℕ → Role → Bool
+only_with plain n role = is_only (names_in plain) (names_with Declared at_start plain) (names_with role at_start plain) n
+
+-- what is told of a name that stands so often
+abbrev pub told_of_name : List PlainAt → List ℕ → ℕ → List ℕ
+told_of_name plain n count =
+    n ++ codes ": " ++ decimal count
+    ++ role_part plain n Declared (codes ", declared on")
+    ++ role_part plain n Set (codes ", set on")
+    ++ role_part plain n Read (codes ", read on")
+    ++ role_part plain n Named (codes ", named on")
+    ++ remark (count == 1) (codes ", ONLY ONCE")
+    ++ remark (only_with plain n Read) (codes ", NEVER SET")
+    ++ remark (only_with plain n Set) (codes ", NEVER READ")
+    ++ codes "\n"
+
+-- that there is no such name
+abbrev pub no_name : List ℕ → List ℕ
+no_name n = codes "NO NAME " ++ n ++ codes "\n"
+
+-- what is told of a name of these words
+abbrev pub name_told : List PlainAt → List ℕ → List ℕ
+name_told plain n = let count = count_by (bytes_eq n) (names_in plain) in
+    elim (count == 0) [ true ↦ no_name n | false ↦ told_of_name plain n count ]
+
+-- what is told of a name of a model; nothing where a rule L refuses it
+abbrev pub name_text : List ℕ → List ℕ → List ℕ
+name_text model n = elim (words_of model) [ Ok ws ↦ name_told (plain_words_of ws) n | Err f ↦ [] ]

@@ -1,6 +1,7 @@
 pub mod CountMap
 pub mod Names
 pub mod Saying
+pub mod Roles
 pub mod Unread
 pub mod Warnings
 pub mod Index

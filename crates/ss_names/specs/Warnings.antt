@@ -13,7 +13,10 @@ use Rattle.ss_names.specs.declared.dropped.TheConstants.{ARTICLES, FILLERS, DROP
 use Rattle.ss_columns.specs.Reserved.{is_among, is_kind_among, reserved, scheduling}
 use Rattle.ss_names.specs.Names.{names_in, is_of_language}
 use Rattle.ss_names.specs.Saying.{warning}
-use Rattle.ss_names.specs.Unread.{settings_in, unread_text}
+use Rattle.ss_names.specs.declared.roles.Role.TheVariants.{Declared, Set, Read}
+use Rattle.ss_names.specs.declared.unread.TheConstants.{UNREAD, UNSET}
+use Rattle.ss_names.specs.Roles.{at_start, names_with}
+use Rattle.ss_names.specs.Unread.{only_text}
 
 -- ---- names that stand once
 
@@ -98,7 +101,11 @@ abbrev pub warnings_of_words : List WordAt → List ℕ
 warnings_of_words ws =
     let plain = plain_words_of ws in
     let names = names_in plain in
-    once_text names plain ++ unread_text names (settings_in None plain) [] plain ++ dropped_text None ws
+    let declared = names_with Declared at_start plain in
+    once_text names plain
+    ++ only_text UNREAD.now names declared (names_with Set at_start plain) [] plain
+    ++ only_text UNSET.now names declared (names_with Read at_start plain) [] plain
+    ++ dropped_text None ws
 
 -- the warnings of a model; none where a rule L refuses it
 abbrev pub warnings : List ℕ → List ℕ

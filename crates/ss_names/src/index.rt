@@ -1,10 +1,12 @@
 //! Where the names of a model stand.
-ghost use Rattle.std.specs.Prelude.{◌≡◌, ◌++◌, [], OnOk, map};
+ghost use Rattle.std.specs.Prelude.{◌≡◌, ◌++◌, [], IfOk, OnOk, map};
 ghost use Rattle.ss_words.specs.Plain.{plain_at};
 ghost use Rattle.ss_names.specs.Index as spec;
 
 use crate::name_counts::NameCounts;
 use crate::names::names_in;
+use crate::roles::{Role, names_with, push_lines_with};
+use crate::unread::is_only;
 use itoa::Buffer;
 use ss_words::{Plain, PlainWord, TextFault, Words, plain_words, words};
 use std::alloc::{AllocError, Global};
@@ -75,4 +77,122 @@ fn push_row(
     text.extend_from_slice(b", first on line ")?;
     text.extend_from_slice(buffer.format(line).as_bytes())?;
     text.extend_from_slice(b"\n")
+}
+
+/// Appends what is told of a name of a model, in upper case (docs/SENTENCES.md): how often it
+/// stands, the lines on which it is declared by a DEFINE, set, read and else named, and whether it
+/// stands only once, or is never set or never read; `NO NAME` where it does not stand, and nothing
+/// where a rule L refuses the model. The only error is that memory was refused.
+pub fn push_name(
+    alloc: Global,
+    model: &[u8],
+    name: &[u8],
+    text: &mut Vec<u8>,
+) -> Result<(), AllocError>
+    ensures { OnOk result (text.new.items
+        ≡ text.old.items ++ spec.name_text model.now name.now) }
+{
+    match words(alloc, model) {
+        Ok(words) => {
+            let plain = plain_words(alloc, &words)?;
+            push_name_of_words(alloc, &plain, name, text)
+        }
+        Err(TextFault::Memory) => Err(AllocError),
+        Err(TextFault::Refused { .. }) => Ok(()),
+    }
+}
+
+fn push_name_of_words(
+    alloc: Global,
+    words: &[PlainWord<'_>],
+    name: &[u8],
+    text: &mut Vec<u8>,
+) -> Result<(), AllocError>
+    ensures { OnOk result (text.new.items
+        ≡ text.old.items ++ spec.name_told (map plain_at words.now) name.now) }
+{
+    let all = names_in(alloc, words)?;
+    let count = all.count(name);
+    if count == 0 {
+        text.extend_from_slice(b"NO NAME ")?;
+        text.extend_from_slice(name)?;
+        return text.extend_from_slice(b"\n");
+    }
+    push_told(alloc, words, &all, name, count, text)
+}
+
+/// Appends what is told of a name that stands so often.
+fn push_told(
+    alloc: Global,
+    words: &[PlainWord<'_>],
+    all: &NameCounts,
+    name: &[u8],
+    count: usize,
+    text: &mut Vec<u8>,
+) -> Result<(), AllocError>
+    requires { all.now ≡ spec.names_in (map plain_at words.now) }
+    ensures { OnOk result (text.new.items
+        ≡ text.old.items ++ spec.told_of_name (map plain_at words.now) name.now count) }
+{
+    let mut buffer = Buffer::new();
+    text.extend_from_slice(name)?;
+    text.extend_from_slice(b": ")?;
+    text.extend_from_slice(buffer.format(count).as_bytes())?;
+    push_role_part(alloc, words, name, Role::Declared, b", declared on", text)?;
+    push_role_part(alloc, words, name, Role::Set, b", set on", text)?;
+    push_role_part(alloc, words, name, Role::Read, b", read on", text)?;
+    push_role_part(alloc, words, name, Role::Named, b", named on", text)?;
+    push_remark(text, count == 1, b", ONLY ONCE")?;
+    let only_read = only_with(alloc, words, all, name, Role::Read)?;
+    push_remark(text, only_read, b", NEVER SET")?;
+    let only_set = only_with(alloc, words, all, name, Role::Set)?;
+    push_remark(text, only_set, b", NEVER READ")?;
+    text.extend_from_slice(b"\n")
+}
+
+/// Whether words use a name in one way alone, but that they declare it.
+fn only_with(
+    alloc: Global,
+    words: &[PlainWord<'_>],
+    all: &NameCounts,
+    name: &[u8],
+    role: Role,
+) -> Result<bool, AllocError>
+    requires { all.now ≡ spec.names_in (map plain_at words.now) }
+    ensures { IfOk result (λ only. only ≡ spec.only_with (map plain_at words.now) name.now role) }
+{
+    let declared = names_with(alloc, Role::Declared, words)?;
+    let used = names_with(alloc, role, words)?;
+    Ok(is_only(all, &declared, &used, name))
+}
+
+/// Appends a remark, where it is so.
+fn push_remark(text: &mut Vec<u8>, is_so: bool, said: &[u8]) -> Result<(), AllocError>
+    ensures { OnOk result (text.new.items ≡ text.old.items ++ spec.remark is_so said.now) }
+{
+    if is_so {
+        return text.extend_from_slice(said);
+    }
+    Ok(())
+}
+
+/// Appends the lines on which a name has a role, behind what is said of them.
+fn push_role_part(
+    alloc: Global,
+    words: &[PlainWord<'_>],
+    name: &[u8],
+    role: Role,
+    said: &[u8],
+    text: &mut Vec<u8>,
+) -> Result<(), AllocError>
+    ensures { OnOk result (text.new.items ≡ text.old.items
+        ++ spec.role_part (map plain_at words.now) name.now role said.now) }
+{
+    let mut lines = Vec::new(alloc);
+    push_lines_with(&mut lines, role, name, words)?;
+    if lines.is_empty() {
+        return Ok(());
+    }
+    text.extend_from_slice(said)?;
+    text.extend_from_slice(&lines)
 }

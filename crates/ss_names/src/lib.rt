@@ -7,8 +7,10 @@ mod language;
 mod name_counts;
 mod names;
 mod once;
+mod roles;
 mod unread;
 mod warnings;
 
-pub use index::push_names;
+pub use index::{push_name, push_names};
+pub use roles::{Role, Standing};
 pub use warnings::push_warnings;

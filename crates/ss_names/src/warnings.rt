@@ -5,13 +5,15 @@ ghost use Rattle.ss_names.specs.Warnings as spec;
 use crate::dropped::push_dropped;
 use crate::names::names_in;
 use crate::once::push_once;
-use crate::unread::{push_unread, settings_in};
+use crate::roles::{Role, names_with};
+use crate::unread::{UNREAD, UNSET, push_only};
 use ss_words::{TextFault, Words, plain_words, words};
 use std::alloc::{AllocError, Global};
 
 /// Appends the warnings of a model (docs/SENTENCES.md), each with its line: the names that stand
-/// once, those that are set and never read, and the words that are dropped where a name could have
-/// stood; nothing where a rule L refuses it. The only error is that memory was refused.
+/// once, those that are set and never read or read and never set, and the words that are dropped
+/// where a name could have stood; nothing where a rule L refuses it. The only error is that memory
+/// was refused.
 pub fn push_warnings(alloc: Global, model: &[u8], text: &mut Vec<u8>) -> Result<(), AllocError>
     ensures { OnOk result (text.new.items ≡ text.old.items ++ spec.warnings model.now) }
 {
@@ -32,8 +34,11 @@ fn push_warnings_of_words(
 {
     let plain = plain_words(alloc, words)?;
     let names = names_in(alloc, &plain)?;
-    let settings = settings_in(alloc, &plain)?;
+    let declared = names_with(alloc, Role::Declared, &plain)?;
+    let set = names_with(alloc, Role::Set, &plain)?;
+    let read = names_with(alloc, Role::Read, &plain)?;
     push_once(text, &names, &plain)?;
-    push_unread(alloc, text, &names, &settings, &plain)?;
+    push_only(alloc, text, UNREAD, &names, &declared, &set, &plain)?;
+    push_only(alloc, text, UNSET, &names, &declared, &read, &plain)?;
     push_dropped(text, &words.list)
 }

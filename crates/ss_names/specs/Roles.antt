@@ -1,0 +1,127 @@
+-- How a name is used, as far as the words directly before it tell.
+use Rattle.std.specs.Prelude.{ℕ, Bool, true, false, List, [], ◌∷◌, ◌++◌, Option, Some, None, decimal}
+use Rattle.std.specs.Prelude.{bytes_eq, ◌&&◌}
+use Rattle.ss_words.specs.declared.mark.Mark.{Mark}
+use Rattle.ss_words.specs.declared.mark.Mark.TheVariants.{Reserved, Sign}
+use Rattle.ss_words.specs.declared.reserved.Reserved.{Reserved as AReserved}
+use Rattle.ss_words.specs.declared.reserved.Reserved.TheVariants as r
+use Rattle.ss_words.specs.declared.word.Sign.{Sign as ASign}
+use Rattle.ss_words.specs.declared.word.Sign.TheVariants as s
+use Rattle.ss_words.specs.Plain.{PlainAt, name, number, mark, picture}
+use Rattle.ss_names.specs.declared.roles.Role.{Role}
+use Rattle.ss_names.specs.declared.roles.Role.TheVariants.{Declared, Set, Read, Named}
+use Rattle.ss_names.specs.declared.roles.Standing.{Standing}
+
+-- ---- what stands before a word
+
+-- at the start of the text
+abbrev pub at_start : Standing
+at_start = record { before = None; in_define = false; in_call = false }
+
+-- DEFINE
+abbrev pub is_define : AReserved → Bool
+is_define r.Define = true
+is_define _ = false
+
+-- whether a CALL is open behind this word: YIELDING then yields, and in a head it declares
+abbrev pub calls : AReserved → Bool → Bool
+calls r.Call b = true
+calls r.Routine b = false
+calls r.Event b = false
+calls _ b = b
+
+-- behind a reserved word or a sign; DEFINE is open up to the next reserved word
+abbrev pub behind_mark : Standing → Mark → Standing
+behind_mark s (Sign x) = record { before = Some (Sign x); in_define = s.in_define; in_call = s.in_call }
+behind_mark s (Reserved w) =
+    record { before = Some (Reserved w); in_define = is_define w; in_call = calls w s.in_call }
+
+-- behind a word
+abbrev pub behind : Standing → Option Mark → Standing
+behind s None = record { before = None; in_define = s.in_define; in_call = s.in_call }
+behind s (Some m) = behind_mark s m
+
+-- ---- what a name is there
+
+-- a reserved word that sets the name directly behind it
+abbrev pub sets_name : AReserved → Bool → Bool
+sets_name r.Let in_call = true
+sets_name r.Read in_call = true
+sets_name r.Compute in_call = true
+sets_name r.Yielding in_call = in_call
+sets_name _ in_call = false
+
+-- one behind which a name is read
+abbrev pub reads_name : AReserved → Bool
+reads_name r.Ne = true
+reads_name r.If = true
+reads_name r.With = true
+reads_name r.Unless = true
+reads_name r.While = true
+reads_name r.Until = true
+reads_name r.Or = true
+reads_name r.And = true
+reads_name _ = false
+
+-- a sign behind which a name is read
+abbrev pub sign_reads : ASign → Bool
+sign_reads s.Open = false
+sign_reads s.Close = false
+sign_reads s.Comma = false
+sign_reads _ = true
+
+-- read, or else named in another way
+abbrev pub read_or_named : Bool → Role
+read_or_named true = Read
+read_or_named false = Named
+
+-- set; or the other role
+abbrev pub set_or : Bool → Role → Role
+set_or true other = Set
+set_or false other = other
+
+-- directly behind a mark, if one stands there
+abbrev pub role_behind : Bool → Option Mark → Role
+role_behind in_call None = Named
+role_behind in_call (Some (Sign x)) = read_or_named (sign_reads x)
+role_behind in_call (Some (Reserved w)) = set_or (sets_name w in_call) (read_or_named (reads_name w))
+
+-- what a name is at this place
+abbrev pub role_at : Standing → Role
+role_at s = elim s.in_define [ true ↦ Declared | false ↦ role_behind s.in_call s.before ]
+
+-- two roles are the same
+abbrev pub same_role : Role → Role → Bool
+same_role Declared Declared = true
+same_role Set Set = true
+same_role Read Read = true
+same_role Named Named = true
+same_role _ _ = false
+
+-- ---- names and lines
+
+-- the names with this role among words, behind others
+unfoldable pub names_with : Role → Standing → List PlainAt → List (List ℕ)
+names_with role s [] = []
+names_with role s (w ∷ ws) = elim w.word [
+  | name n ↦ elim (same_role (role_at s) role) [
+    | true ↦ n ∷ names_with role (behind s None) ws
+    | false ↦ names_with role (behind s None) ws
+  ]
+  | number n ↦ names_with role (behind s None) ws
+  | mark m ↦ names_with role (behind s (Some m)) ws
+  | picture ls ↦ names_with role (behind s None) ws
+]
+
+-- the lines on which this name stands with this role, each behind a blank
+unfoldable pub lines_with : Role → List ℕ → Standing → List PlainAt → List ℕ
+lines_with role name_told s [] = []
+lines_with role name_told s (w ∷ ws) = elim w.word [
+  | name n ↦ elim (same_role (role_at s) role && bytes_eq n name_told) [
+    | true ↦ (32 ∷ decimal w.line) ++ lines_with role name_told (behind s None) ws
+    | false ↦ lines_with role name_told (behind s None) ws
+  ]
+  | number n ↦ lines_with role name_told (behind s None) ws
+  | mark m ↦ lines_with role name_told (behind s (Some m)) ws
+  | picture ls ↦ lines_with role name_told (behind s None) ws
+]
