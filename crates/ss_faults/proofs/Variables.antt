@@ -1,6 +1,9 @@
 -- What a variable holds, where a state has it and where not.
 use Rattle.std.proofs.Common.{◌≡◌, ℕ, zero, suc, ◌<◌, ◌≤◌, List, [], ◌∷◌, length, refl, arith, Option, Some, None}
-use Rattle.std.specs.Prelude.{ℤ, pos, slice_get, slice_index_or, unwrap_or, nat_lt, false}
+use Rattle.std.specs.Prelude.{ℤ, pos, slice_get, slice_index_or, unwrap_or}
+use Rattle.ss_program.specs.Program.{ProgramTable}
+use Rattle.ss_store.specs.Tables.{Tables, tables_of}
+use Rattle.ss_machine.proofs.Scopes.{set_count}
 
 -- nothing behind the last
 pub past_end : (xs : List ℤ) (i : ℕ) → length xs ≤ i → slice_index_or xs i (pos 0) ≡ pos 0
@@ -16,3 +19,7 @@ local_or (x ∷ xs) (suc i) = local_or xs i
 
 -- variables
 pub ruleset variables = (past_end, local_or)
+
+-- the store has the sets of the program
+pub sets_kept : (p : ProgramTable) (t : Tables) (s : ℕ) → t ≡ tables_of p → s < length p.sets → s < length t.sets
+sets_kept p t s e h = let count : length t.sets ≡ length p.sets = rw e (set_count p) in omega (arith, count, h)

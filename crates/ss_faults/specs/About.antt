@@ -14,6 +14,8 @@ use Rattle.ss_program.specs.declared.filing.Position.TheVariants as position
 use Rattle.ss_program.specs.declared.filing.Filing.{Filing}
 use Rattle.ss_program.specs.declared.filing.Filing.TheVariants.{File, FileAt, RemoveAt, Remove}
 use Rattle.ss_program.specs.declared.looping.Looping.TheVariants.{For}
+use Rattle.ss_program.specs.declared.looping.Begin.{Begin}
+use Rattle.ss_program.specs.declared.looping.Begin.TheVariants.{AtTheEnd, From, After}
 use Rattle.ss_program.specs.declared.looping.Phrase.{Phrase}
 use Rattle.ss_program.specs.declared.looping.Phrase.TheVariants.{Counting, Each, Walking}
 use Rattle.ss_program.specs.declared.timing.Notice.{Notice}
@@ -55,6 +57,18 @@ beside_of p s (position.AtEnd end) r = []
 beside_of p s (position.Before e) r = member_of p s e r ++ list_of p s r
 beside_of p s (position.After e) r = member_of p s e r ++ list_of p s r
 
+-- the member at which a walk through a list begins, and the list
+abbrev pub begin_of : ProgramTable → State → SetRef → Begin → List ℕ
+begin_of p s r AtTheEnd = []
+begin_of p s r (From e) = member_of p s e r ++ list_of p s r
+begin_of p s r (After e) = member_of p s e r ++ list_of p s r
+
+-- the same of a phrase
+abbrev pub begun_of : ProgramTable → State → Phrase → List ℕ
+begun_of p s (Counting d x first last step) = []
+begun_of p s (Each c is_called x count) = []
+begun_of p s (Walking d x r begin) = begin_of p s r begin
+
 -- when SCHEDULE AT asks for
 abbrev pub time_of : ProgramTable → State → When → List ℕ
 time_of p s (At e) = if_told (told_of p s e) (valued (codes " Time: "))
@@ -79,10 +93,17 @@ already_filed p s (places.Filing (File e how r)) = member_of p s e r ++ set_text
 already_filed p s (places.Filing (FileAt end e r)) = member_of p s e r ++ set_text p r.set
 already_filed p s x = []
 
+-- the member that FILE or REMOVE looks for, and the list
+abbrev pub sought : ProgramTable → State → Filing → List ℕ
+sought p s (File e how r) = beside_of p s how r
+sought p s (FileAt end e r) = []
+sought p s (RemoveAt end t r) = []
+sought p s (Remove e r) = member_of p s e r ++ list_of p s r
+
 -- F5: the member that is looked for, and the list
 abbrev pub not_filed : ProgramTable → State → Place → List ℕ
-not_filed p s (places.Filing (File e how r)) = beside_of p s how r
-not_filed p s (places.Filing (Remove e r)) = member_of p s e r ++ list_of p s r
+not_filed p s (places.Filing f) = sought p s f
+not_filed p s (places.Looping (For l)) = begun_of p s l.phrase
 not_filed p s x = []
 
 -- F6: the list

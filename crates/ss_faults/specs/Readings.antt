@@ -1,13 +1,13 @@
 -- What is told of an expression in a state. The value of a number, a variable or an attribute is told; that of a sum, a
 -- product or a function is not. Parts are looked at from the left, up to the first that names an entity that is missing.
-use Rattle.std.specs.Prelude.{ℕ, ℤ, pos, nat_lt, Bool, true, false, Option, Some, None, unwrap_or, Result, Ok, Err}
+use Rattle.std.specs.Prelude.{ℕ, ℤ, pos, nat_lt, length, if◌then◌else◌, Bool, true, false, Option, Some, None}
+use Rattle.std.specs.Prelude.{unwrap_or, Result, Ok, Err}
 use Rattle.ss_words.specs.declared.fault.RunFault.{RunFault}
 use Rattle.ss_words.specs.declared.terms.TermSign.{TermSign}
 use Rattle.ss_words.specs.declared.terms.OwnerKept.{OwnerKept}
 use Rattle.ss_words.specs.declared.terms.OwnerKept.TheVariants.{First, Last, Count}
 use Rattle.ss_words.specs.declared.terms.MemberKept.{MemberKept}
 use Rattle.ss_words.specs.declared.terms.MemberKept.TheVariants.{Predecessor, Successor, Membership}
-use Rattle.std.specs.Prelude.{length, if◌then◌else◌}
 use Rattle.ss_program.specs.declared.kinds.Owner.{Owner}
 use Rattle.ss_program.specs.declared.kinds.Owner.TheVariants.{System, OwnedBy}
 use Rattle.ss_program.specs.declared.variable.Variable.TheVariants.{Global}
@@ -16,12 +16,14 @@ use Rattle.ss_program.specs.ProgramExpr.{Expr, expr, Sums, no_sums, sum, Term, t
 use Rattle.ss_program.specs.ProgramExpr.{Factor, digits, variable, absolute, greatest, least, quotient, remainder}
 use Rattle.ss_program.specs.ProgramExpr.{attribute, owner_kept, member_kept, within, Subscript, implied, of_system, at}
 use Rattle.ss_program.specs.ProgramExpr.{Exprs, no_exprs, exprs}
+use Rattle.ss_store.specs.declared.shape.SetShape.{SetShape}
+use Rattle.ss_store.specs.Tables.{tables_of}
+use Rattle.ss_store.specs.Tables as tables
 use Rattle.ss_store.specs.Store.{number_of, exists, attribute_of}
 use Rattle.ss_store.specs.Filing.{walk_first, walk_last, count, predecessor, successor, membership}
 use Rattle.ss_values.specs.Values.{result_in_range}
 use Rattle.ss_machine.specs.State.{State}
 use Rattle.ss_machine.specs.Readings.{variable_in}
-use Rattle.ss_debug.specs.Entities.{shape_of}
 use Rattle.ss_faults.specs.declared.told.Told.{Told}
 use Rattle.ss_faults.specs.declared.told.Told.TheVariants.{Value, Untold, Missing, Unclear}
 
@@ -49,6 +51,10 @@ at_entity (Missing c x) f = Missing c x
 at_entity Unclear f = Unclear
 
 -- ---- what is read
+
+-- a set, as the store has it
+abbrev pub shape_of : ProgramTable → ℕ → SetShape
+shape_of p set = tables.set_of (tables_of p) set
 
 -- a number
 abbrev pub number_told : Result ℤ RunFault → Told

@@ -1,6 +1,7 @@
 //! What the sentence of a fault names.
 ghost use Rattle.std.specs.Prelude.{◌≡◌, ◌++◌, OnOk};
 ghost use Rattle.ss_faults.specs.About as spec;
+ghost use Rattle.ss_faults.specs.Texts.{if_told, valued};
 
 use crate::missing::place_told;
 use crate::reading::{expression_told, index_told, variable_value};
@@ -12,7 +13,7 @@ use crate::told::Told;
 use ss_links::SetBoard;
 use ss_machine::{Entry, Machine};
 use ss_program::{
-    Expr, Filing, Looping, Making, Notice, Output, Phrase, Place, Position, SetRef, Timing,
+    Begin, Expr, Filing, Looping, Making, Notice, Output, Phrase, Place, Position, SetRef, Timing,
     Variable, When,
 };
 use ss_words::RunFault;
@@ -21,7 +22,7 @@ use std::alloc::AllocError;
 /// Appends a value behind a label, if it is told.
 fn push_if_told(text: &mut Vec<u8>, label: &[u8], told: Told) -> Result<(), AllocError>
     ensures { OnOk result (text.new.items ≡ text.old.items
-        ++ spec.if_told told (spec.valued label.now)) }
+        ++ if_told told (valued label.now)) }
 {
     match told {
         Told::Value(value) => push_valued(text, label, value),
@@ -126,6 +127,40 @@ fn push_beside<S: SetBoard>(
     }
 }
 
+/// The member that FILE or REMOVE looks for, and the list.
+fn push_sought<S: SetBoard>(
+    text: &mut Vec<u8>,
+    machine: &Machine<S>,
+    filing: &Filing,
+) -> Result<(), AllocError>
+    ensures { OnOk result (text.new.items ≡ text.old.items
+        ++ spec.sought machine.now.input.program machine.now.state filing.now) }
+{
+    match filing {
+        Filing::File { position, set, .. } => push_beside(text, machine, position, set),
+        Filing::Remove { member, set } => push_member_and_list(text, machine, member, set),
+        Filing::FileAt { .. } | Filing::RemoveAt { .. } => Ok(()),
+    }
+}
+
+/// The member at which a phrase begins, and the list.
+fn push_begun<S: SetBoard>(
+    text: &mut Vec<u8>,
+    machine: &Machine<S>,
+    phrase: &Phrase,
+) -> Result<(), AllocError>
+    ensures { OnOk result (text.new.items ≡ text.old.items
+        ++ spec.begun_of machine.now.input.program machine.now.state phrase.now) }
+{
+    let Phrase::Walking { set, begin, .. } = phrase else {
+        return Ok(());
+    };
+    match begin {
+        Begin::AtTheEnd => Ok(()),
+        Begin::From(e) | Begin::After(e) => push_member_and_list(text, machine, e, set),
+    }
+}
+
 /// F5: the member that is looked for, and the list.
 fn push_not_filed<S: SetBoard>(
     text: &mut Vec<u8>,
@@ -135,13 +170,10 @@ fn push_not_filed<S: SetBoard>(
     ensures { OnOk result (text.new.items ≡ text.old.items
         ++ spec.not_filed machine.now.input.program machine.now.state place.now) }
 {
-    let Place::Filing(filing) = place else {
-        return Ok(());
-    };
-    match filing.value() {
-        Filing::File { position, set, .. } => push_beside(text, machine, position, set),
-        Filing::Remove { member, set } => push_member_and_list(text, machine, member, set),
-        Filing::FileAt { .. } | Filing::RemoveAt { .. } => Ok(()),
+    match place {
+        Place::Filing(filing) => push_sought(text, machine, filing.value()),
+        Place::Looping(Looping::For(phrase)) => push_begun(text, machine, &phrase.value().phrase),
+        _ => Ok(()),
     }
 }
 

@@ -1,12 +1,12 @@
 //! What is told of an expression in a state.
-ghost use Rattle.std.specs.Prelude.{◌≡◌, ◌<◌, length, pos};
-ghost use Rattle.ss_program.specs.Program.{set_of};
+ghost use Rattle.std.specs.Prelude.{◌≡◌, pos};
 ghost use Rattle.ss_program.specs.ProgramExpr.{arguments_of, expr_of, factor_of, subscript_of, term_of};
+ghost use Rattle.ss_values.specs.Values.{result_in_range};
 ghost use Rattle.ss_machine.specs.Readings.{variable_in};
 ghost use Rattle.ss_faults.specs.Readings as spec;
 
+use crate::texts::{member_class, set_owner};
 use crate::told::Told;
-use ss_debug::{member_class, set_owner};
 use ss_links::SetBoard;
 use ss_machine::Machine;
 use ss_program::{
@@ -43,8 +43,6 @@ fn number_told(number: u64) -> Told
     }
 }
 
-ghost use Rattle.ss_values.specs.Values.{result_in_range};
-
 pub fn attribute_told<S: SetBoard>(
     machine: &Machine<S>,
     class: usize,
@@ -80,7 +78,7 @@ fn member_read(otherwise: Told, read: Result<Option<u32>, RunFault>) -> Told
 }
 
 /// `F.s`, `L.s` or `N.s` of the owner that a value names.
-#[tactic(auto, using(ss_debug::proofs::Tables::sets_kept))]
+#[tactic(auto, using(crate::proofs::Variables::sets_kept))]
 pub fn owner_told<S: SetBoard>(
     machine: &Machine<S>,
     kept: OwnerKept,
@@ -107,7 +105,7 @@ pub fn owner_told<S: SetBoard>(
 }
 
 /// `P.s`, `S.s` or `M.s` of the member that a value names.
-#[tactic(auto, using(ss_debug::proofs::Tables::sets_kept))]
+#[tactic(auto, using(crate::proofs::Variables::sets_kept))]
 fn member_told<S: SetBoard>(
     machine: &Machine<S>,
     kept: MemberKept,

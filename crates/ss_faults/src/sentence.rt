@@ -1,10 +1,10 @@
 //! The line that tells a fault.
-ghost use Rattle.std.specs.Prelude.{◌≡◌, ◌≤◌, ◌++◌, OnOk, length, take};
+ghost use Rattle.std.specs.Prelude.{◌≡◌, ◌++◌, IfOk, OnOk};
 ghost use Rattle.ss_program.specs.Program.{spot_at};
 ghost use Rattle.ss_faults.specs.Sentence as spec;
 
 use crate::about::push_about;
-use ss_debug::push_number;
+use crate::texts::push_number;
 use ss_links::SetBoard;
 use ss_machine::{Machine, Status};
 use ss_sentences::fault_sentence;
@@ -57,8 +57,6 @@ fn whole_line<S: SetBoard>(
     push_about_here(&mut line, machine, fault)?;
     Ok(line)
 }
-
-ghost use Rattle.std.specs.Prelude.{IfOk};
 
 /// Appends a line, cut where it is too long.
 fn push_cut(text: &mut Vec<u8>, line: &[u8]) -> Result<(), AllocError>

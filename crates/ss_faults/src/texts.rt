@@ -1,12 +1,29 @@
 //! How the parts that a fault is about are told.
-ghost use Rattle.std.specs.Prelude.{◌≡◌, ◌++◌, OnOk};
+ghost use Rattle.std.specs.Prelude.{◌≡◌, ◌++◌, decimal, OnOk};
+ghost use Rattle.std.specs.Fmt.{signed_decimal};
 ghost use Rattle.ss_program.specs.Program.{class_of, section_of, set_of};
 ghost use Rattle.ss_faults.specs.Texts as spec;
 
 use crate::told::Told;
-use ss_debug::{push_integer, push_number};
+use itoa::Buffer;
 use ss_program::{Owner, Program};
 use std::alloc::AllocError;
+
+/// Appends an integer in least digits, with its sign below 0.
+fn push_integer(text: &mut Vec<u8>, n: i64) -> Result<(), AllocError>
+    ensures { OnOk result (text.new.items ≡ text.old.items ++ signed_decimal n) }
+{
+    let mut buffer = Buffer::new();
+    text.extend_from_slice(buffer.format(n).as_bytes())
+}
+
+/// Appends a number in least digits.
+pub fn push_number(text: &mut Vec<u8>, n: u64) -> Result<(), AllocError>
+    ensures { OnOk result (text.new.items ≡ text.old.items ++ decimal n) }
+{
+    let mut buffer = Buffer::new();
+    text.extend_from_slice(buffer.format(n).as_bytes())
+}
 
 /// Appends a label and a name.
 fn push_named(text: &mut Vec<u8>, label: &[u8], name: &[u8]) -> Result<(), AllocError>
@@ -73,7 +90,7 @@ fn set_name(program: &Program, set: usize) -> &[u8]
 }
 
 /// Whose the lists of the set with this number are, the system's where there is none.
-fn set_owner(program: &Program, set: usize) -> Owner
+pub fn set_owner(program: &Program, set: usize) -> Owner
     ensures { result ≡ (set_of program.now set).owner }
 {
     match program.sets.get(set) {

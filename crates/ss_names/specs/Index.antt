@@ -1,5 +1,5 @@
 -- Where the names of a model stand.
-use Rattle.std.specs.Prelude.{ℕ, true, false, ◌==◌, List, [], ◌∷◌, ◌++◌, codes, decimal, count_by, bytes_eq}
+use Rattle.std.specs.Prelude.{ℕ, true, false, ◌==◌, ◌&&◌, nat_lt, if◌then◌else◌, List, [], ◌∷◌, ◌++◌, codes, decimal, count_by, bytes_eq}
 use Rattle.std.specs.Prelude.{Ok, Err, Bool}
 use Rattle.ss_words.specs.Plain.{PlainAt, name, number, mark, picture}
 use Rattle.ss_words.specs.PlainRules.{plain_words_of}
@@ -15,30 +15,48 @@ use Rattle.ss_names.specs.Unread.{is_only}
 abbrev pub name_line : List ℕ → ℕ → ℕ → List ℕ
 name_line n count line = n ++ codes ": " ++ decimal count ++ codes ", first on line " ++ decimal line ++ codes "\n"
 
--- the row of a name that stands on this line behind names, of all names: one where it stands first
-abbrev pub name_row : List (List ℕ) → List (List ℕ) → List ℕ → ℕ → List ℕ
-name_row all before n line = elim (count_by (bytes_eq n) before == 0) [
-  | true ↦ name_line n (count_by (bytes_eq n) all) line
-  | false ↦ []
+-- the row of a name that stands on this line behind names, of all names: one where it stands first and is to be shown
+abbrev pub name_row : List (List ℕ) → List (List ℕ) → List (List ℕ) → List ℕ → ℕ → List ℕ
+name_row all shown before n line =
+    elim (count_by (bytes_eq n) before == 0 && nat_lt 0 (count_by (bytes_eq n) shown)) [
+      | true ↦ name_line n (count_by (bytes_eq n) all) line
+      | false ↦ []
+    ]
+
+-- the rows of those among words behind names, of all names, that are to be shown
+unfoldable pub name_rows : List (List ℕ) → List (List ℕ) → List (List ℕ) → List PlainAt → List ℕ
+name_rows all shown before [] = []
+name_rows all shown before (w ∷ ws) = elim w.word [
+  | name n ↦ name_row all shown before n w.line ++ name_rows all shown (before ++ n ∷ []) ws
+  | number n ↦ name_rows all shown before ws
+  | mark m ↦ name_rows all shown before ws
+  | picture ls ↦ name_rows all shown before ws
 ]
 
--- the rows of the names among words behind names, of all names
-unfoldable pub name_rows : List (List ℕ) → List (List ℕ) → List PlainAt → List ℕ
-name_rows all before [] = []
-name_rows all before (w ∷ ws) = elim w.word [
-  | name n ↦ name_row all before n w.line ++ name_rows all (before ++ n ∷ []) ws
-  | number n ↦ name_rows all before ws
-  | mark m ↦ name_rows all before ws
-  | picture ls ↦ name_rows all before ws
-]
+-- the words on a line
+unfoldable pub words_on : ℕ → List PlainAt → List PlainAt
+words_on line [] = []
+words_on line (w ∷ ws) = if w.line == line then w ∷ words_on line ws else words_on line ws
 
 -- the names of words
 abbrev pub names_of_words : List WordAt → List ℕ
-names_of_words ws = let plain = plain_words_of ws in name_rows (names_in plain) [] plain
+names_of_words ws =
+    let plain = plain_words_of ws in
+    name_rows (names_in plain) (names_in plain) [] plain
+
+-- the names on a line of words
+abbrev pub names_on_line : ℕ → List WordAt → List ℕ
+names_on_line line ws =
+    let plain = plain_words_of ws in
+    name_rows (names_in plain) (names_in (words_on line plain)) [] plain
 
 -- the names of a model, each once, in the order in which they stand first; none where a rule L refuses it
 abbrev pub names_text : List ℕ → List ℕ
 names_text model = elim (words_of model) [ Ok ws ↦ names_of_words ws | Err f ↦ [] ]
+
+-- the names on a line of a model, in the order in which they stand first in it; none where a rule L refuses it
+abbrev pub line_text : List ℕ → ℕ → List ℕ
+line_text model line = elim (words_of model) [ Ok ws ↦ names_on_line line ws | Err f ↦ [] ]
 
 -- ---- one name
 
@@ -52,26 +70,37 @@ abbrev pub role_part : List PlainAt → List ℕ → Role → List ℕ → List 
 role_part plain n role said = if_any said (lines_with role n at_start plain)
 
 -- a remark, where it is so
-abbrev pub remark : Bool → List ℕ → List ℕ
+unfoldable pub remark : Bool → List ℕ → List ℕ
 remark true said = said
 remark false said = []
 
 -- whether the words use a name in one way alone, but that they declare it
-abbrev pub only_with : List PlainAt → List ℕ → Role → Bool
+unfoldable pub only_with : List PlainAt → List ℕ → Role → Bool
 only_with plain n role = is_only (names_in plain) (names_with Declared at_start plain) (names_with role at_start plain) n
 
--- what is told of a name that stands so often
-abbrev pub told_of_name : List PlainAt → List ℕ → ℕ → List ℕ
-told_of_name plain n count =
-    n ++ codes ": " ++ decimal count
-    ++ role_part plain n Declared (codes ", declared on")
+-- a name, and how often it stands
+abbrev pub name_head : List ℕ → ℕ → List ℕ
+name_head n count = n ++ codes ": " ++ decimal count
+
+-- where it has each role
+abbrev pub roles_told : List PlainAt → List ℕ → List ℕ
+roles_told plain n =
+    role_part plain n Declared (codes ", declared on")
     ++ role_part plain n Set (codes ", set on")
     ++ role_part plain n Read (codes ", read on")
     ++ role_part plain n Named (codes ", named on")
-    ++ remark (count == 1) (codes ", ONLY ONCE")
+
+-- what is remarkable of it
+abbrev pub remarks : List PlainAt → List ℕ → ℕ → List ℕ
+remarks plain n count =
+    remark (count == 1) (codes ", ONLY ONCE")
     ++ remark (only_with plain n Read) (codes ", NEVER SET")
     ++ remark (only_with plain n Set) (codes ", NEVER READ")
     ++ codes "\n"
+
+-- what is told of a name that stands so often
+abbrev pub told_of_name : List PlainAt → List ℕ → ℕ → List ℕ
+told_of_name plain n count = name_head n count ++ roles_told plain n ++ remarks plain n count
 
 -- that there is no such name
 abbrev pub no_name : List ℕ → List ℕ

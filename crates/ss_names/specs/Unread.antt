@@ -1,6 +1,6 @@
 -- Names that are set and never read, and names that are read and never set: whose every place in the text is of the one
 -- kind, or in a DEFINE.
-use Rattle.std.specs.Prelude.{ℕ, Bool, true, false, ◌==◌, ◌&&◌, ◌+◌, not, nat_lt, List, [], ◌∷◌, ◌++◌}
+use Rattle.std.specs.Prelude.{ℕ, Bool, true, false, ◌==◌, ◌&&◌, ◌-◌, not, nat_lt, nat_le, List, [], ◌∷◌, ◌++◌}
 use Rattle.std.specs.Prelude.{count_by, bytes_eq}
 use Rattle.ss_words.specs.Plain.{PlainAt, name, number, mark, picture}
 use Rattle.ss_names.specs.Names.{is_of_language}
@@ -11,7 +11,8 @@ use Rattle.ss_names.specs.Saying.{warning}
 abbrev pub is_only : List (List ℕ) → List (List ℕ) → List (List ℕ) → List ℕ → Bool
 is_only all declared used n =
     nat_lt 0 (count_by (bytes_eq n) used)
-    && count_by (bytes_eq n) used + count_by (bytes_eq n) declared == count_by (bytes_eq n) all
+    && nat_le (count_by (bytes_eq n) used) (count_by (bytes_eq n) all)
+    && count_by (bytes_eq n) all - count_by (bytes_eq n) used == count_by (bytes_eq n) declared
 
 -- the same of a name that stands more than once, here first, and is not the language's
 abbrev pub is_told : List (List ℕ) → List (List ℕ) → List (List ℕ) → List (List ℕ) → List ℕ → Bool

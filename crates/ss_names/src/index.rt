@@ -2,6 +2,7 @@
 ghost use Rattle.std.specs.Prelude.{◌≡◌, ◌++◌, [], IfOk, OnOk, map};
 ghost use Rattle.ss_words.specs.Plain.{plain_at};
 ghost use Rattle.ss_names.specs.Index as spec;
+ghost use Rattle.ss_names.specs.Names.{names_in as names_of};
 
 use crate::name_counts::NameCounts;
 use crate::names::names_in;
@@ -30,25 +31,82 @@ fn push_names_of_words(alloc: Global, words: &Words, text: &mut Vec<u8>) -> Resu
 {
     let plain = plain_words(alloc, words)?;
     let all = names_in(alloc, &plain)?;
-    push_rows(alloc, &all, &plain, text)
+    push_rows(alloc, &all, &all, &plain, text)
 }
 
-/// Appends a row for each name among these words where it stands first.
+/// Appends the names on a line of a model (docs/SENTENCES.md), each once: how often each stands in
+/// the model, and the line on which it stands first; nothing where a rule L refuses the model. The
+/// only error is that memory was refused.
+pub fn push_line_names(
+    alloc: Global,
+    model: &[u8],
+    line: usize,
+    text: &mut Vec<u8>,
+) -> Result<(), AllocError>
+    ensures { OnOk result (text.new.items ≡ text.old.items ++ spec.line_text model.now line) }
+{
+    match words(alloc, model) {
+        Ok(words) => push_line_of_words(alloc, &words, line, text),
+        Err(TextFault::Memory) => Err(AllocError),
+        Err(TextFault::Refused { .. }) => Ok(()),
+    }
+}
+
+fn push_line_of_words(
+    alloc: Global,
+    words: &Words,
+    line: usize,
+    text: &mut Vec<u8>,
+) -> Result<(), AllocError>
+    ensures { OnOk result (text.new.items
+        ≡ text.old.items ++ spec.names_on_line line words.now) }
+{
+    let plain = plain_words(alloc, words)?;
+    let all = names_in(alloc, &plain)?;
+    let shown = names_on(alloc, line, &plain)?;
+    push_rows(alloc, &all, &shown, &plain, text)
+}
+
+/// How often each name stands on a line.
+#[tactic(auto, unfolding(crate::specs::Index::words_on, crate::specs::Names::names_in))]
+fn names_on(
+    alloc: Global,
+    line: usize,
+    words: &[PlainWord<'_>],
+) -> Result<NameCounts, AllocError>
+    ensures { IfOk result (λ names. names
+        ≡ names_of (spec.words_on line (map plain_at words.now))) }
+{
+    let mut names = NameCounts::new(alloc);
+    let mut rest = words;
+    while let [word, behind @ ..] = rest {
+        if word.line() == line {
+            if let Plain::Name(name) = word.kind() {
+                names.add(name.bytes())?;
+            }
+        }
+        rest = behind;
+    }
+    Ok(names)
+}
+
+/// Appends a row for each name among these words that is to be shown, where it stands first.
 #[tactic(auto, unfolding(crate::specs::Index::name_rows))]
 fn push_rows(
     alloc: Global,
     all: &NameCounts,
+    shown: &NameCounts,
     words: &[PlainWord<'_>],
     text: &mut Vec<u8>,
 ) -> Result<(), AllocError>
     ensures { OnOk result (text.new.items
-        ≡ text.old.items ++ spec.name_rows all.now [] (map plain_at words.now)) }
+        ≡ text.old.items ++ spec.name_rows all.now shown.now [] (map plain_at words.now)) }
 {
     let mut before = NameCounts::new(alloc);
     let mut rest = words;
     while let [word, behind @ ..] = rest {
         if let Plain::Name(name) = word.kind() {
-            push_row(text, all, &before, name.bytes(), word.line())?;
+            push_row(text, all, shown, &before, name.bytes(), word.line())?;
             before.add(name.bytes())?;
         }
         rest = behind;
@@ -56,18 +114,19 @@ fn push_rows(
     Ok(())
 }
 
-/// Appends the row of a name, where it stands first.
+/// Appends the row of a name, where it stands first and is to be shown.
 fn push_row(
     text: &mut Vec<u8>,
     all: &NameCounts,
+    shown: &NameCounts,
     before: &NameCounts,
     name: &[u8],
     line: usize,
 ) -> Result<(), AllocError>
     ensures { OnOk result (text.new.items
-        ≡ text.old.items ++ spec.name_row all.now before.now name.now line) }
+        ≡ text.old.items ++ spec.name_row all.now shown.now before.now name.now line) }
 {
-    if before.count(name) != 0 {
+    if before.count(name) != 0 || shown.count(name) == 0 {
         return Ok(());
     }
     let mut buffer = Buffer::new();
@@ -130,27 +189,64 @@ fn push_told(
     count: usize,
     text: &mut Vec<u8>,
 ) -> Result<(), AllocError>
-    requires { all.now ≡ spec.names_in (map plain_at words.now) }
+    requires { all.now ≡ names_of (map plain_at words.now) }
     ensures { OnOk result (text.new.items
         ≡ text.old.items ++ spec.told_of_name (map plain_at words.now) name.now count) }
+{
+    push_head(text, name, count)?;
+    push_roles(alloc, words, name, text)?;
+    push_remarks(alloc, words, all, name, count, text)
+}
+
+/// Appends a name, and how often it stands.
+fn push_head(text: &mut Vec<u8>, name: &[u8], count: usize) -> Result<(), AllocError>
+    ensures { OnOk result (text.new.items ≡ text.old.items ++ spec.name_head name.now count) }
 {
     let mut buffer = Buffer::new();
     text.extend_from_slice(name)?;
     text.extend_from_slice(b": ")?;
-    text.extend_from_slice(buffer.format(count).as_bytes())?;
+    text.extend_from_slice(buffer.format(count).as_bytes())
+}
+
+/// Appends where a name has each role.
+fn push_roles(
+    alloc: Global,
+    words: &[PlainWord<'_>],
+    name: &[u8],
+    text: &mut Vec<u8>,
+) -> Result<(), AllocError>
+    ensures { OnOk result (text.new.items
+        ≡ text.old.items ++ spec.roles_told (map plain_at words.now) name.now) }
+{
     push_role_part(alloc, words, name, Role::Declared, b", declared on", text)?;
     push_role_part(alloc, words, name, Role::Set, b", set on", text)?;
     push_role_part(alloc, words, name, Role::Read, b", read on", text)?;
-    push_role_part(alloc, words, name, Role::Named, b", named on", text)?;
-    push_remark(text, count == 1, b", ONLY ONCE")?;
+    push_role_part(alloc, words, name, Role::Named, b", named on", text)
+}
+
+/// Appends what is remarkable of a name that stands so often.
+fn push_remarks(
+    alloc: Global,
+    words: &[PlainWord<'_>],
+    all: &NameCounts,
+    name: &[u8],
+    count: usize,
+    text: &mut Vec<u8>,
+) -> Result<(), AllocError>
+    requires { all.now ≡ names_of (map plain_at words.now) }
+    ensures { OnOk result (text.new.items
+        ≡ text.old.items ++ spec.remarks (map plain_at words.now) name.now count) }
+{
     let only_read = only_with(alloc, words, all, name, Role::Read)?;
-    push_remark(text, only_read, b", NEVER SET")?;
     let only_set = only_with(alloc, words, all, name, Role::Set)?;
+    push_remark(text, count == 1, b", ONLY ONCE")?;
+    push_remark(text, only_read, b", NEVER SET")?;
     push_remark(text, only_set, b", NEVER READ")?;
     text.extend_from_slice(b"\n")
 }
 
 /// Whether words use a name in one way alone, but that they declare it.
+#[tactic(auto, unfolding(crate::specs::Index::only_with))]
 fn only_with(
     alloc: Global,
     words: &[PlainWord<'_>],
@@ -158,7 +254,7 @@ fn only_with(
     name: &[u8],
     role: Role,
 ) -> Result<bool, AllocError>
-    requires { all.now ≡ spec.names_in (map plain_at words.now) }
+    requires { all.now ≡ names_of (map plain_at words.now) }
     ensures { IfOk result (λ only. only ≡ spec.only_with (map plain_at words.now) name.now role) }
 {
     let declared = names_with(alloc, Role::Declared, words)?;
@@ -167,6 +263,7 @@ fn only_with(
 }
 
 /// Appends a remark, where it is so.
+#[tactic(auto, unfolding(crate::specs::Index::remark))]
 fn push_remark(text: &mut Vec<u8>, is_so: bool, said: &[u8]) -> Result<(), AllocError>
     ensures { OnOk result (text.new.items ≡ text.old.items ++ spec.remark is_so said.now) }
 {

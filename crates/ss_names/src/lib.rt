@@ -11,6 +11,6 @@ mod roles;
 mod unread;
 mod warnings;
 
-pub use index::{push_name, push_names};
+pub use index::{push_line_names, push_name, push_names};
 pub use roles::{Role, Standing};
 pub use warnings::push_warnings;

@@ -20,7 +20,8 @@ pub fn is_only(all: &NameCounts, declared: &NameCounts, used: &NameCounts, name:
     ensures { result ≡ spec.is_only all.now declared.now used.now name.now }
 {
     let count = used.count(name);
-    count > 0 && count.saturating_add(declared.count(name)) == all.count(name)
+    let others = all.count(name).saturating_sub(count);
+    count > 0 && count <= all.count(name) && others == declared.count(name)
 }
 
 /// Appends what is said of a name behind others.

@@ -1,0 +1,11 @@
+use Rattle.std.proofs.Common.{◌≡◌, ◌++◌, map, length}
+use Rattle.ss_words.specs.Plain.{plain_at}
+use Rattle.ss_names.specs.Roles.{at_start, names_with}
+use Rattle.ss_names.proofs.roles.names_with.Given as goal
+
+abbrev pub invariant-loop-rest : goal.invariant-loop-rest
+invariant-loop-rest l =
+    l.names ++ names_with l.role l.standing (map plain_at l.rest) ≡ names_with l.role at_start (map plain_at l.words)
+
+abbrev pub decreases-loop-rest : goal.decreases-loop-rest
+decreases-loop-rest l = length l.rest
