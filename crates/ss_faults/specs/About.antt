@@ -184,16 +184,16 @@ abbrev pub below_one : ProgramTable → State → Place → List ℕ
 below_one p s (places.Looping (For l)) = stepped p s l.phrase
 below_one p s x = []
 
--- F16, F17, F21: how many pieces are taken
+-- F16, F17, F21: how many pieces are taken before the statement
 abbrev pub pieces_taken : State → List ℕ
-pieces_taken s = counted (codes " Taken: ") s.feed.taken
+pieces_taken s = counted (codes " Taken before: ") s.feed.taken
 
 -- F18: the section
 abbrev pub too_deep : ProgramTable → Place → List ℕ
 too_deep p (places.Call c) = section_text p c.section
 too_deep p x = []
 
--- F22: the entry's notice, if there is one, and how many pieces are taken
+-- F22: the entry's notice, if there is one
 abbrev pub entry_of : ProgramTable → Entry → List ℕ
 entry_of p Absent = []
 entry_of p (Waiting c k) = entity_text p c (pos k)
@@ -222,4 +222,4 @@ about p s f.TooManyFrames x = too_deep p x
 about p s f.ReportFull x = []
 about p s f.TooManyReferences x = made_class p x
 about p s f.NotExternal x = pieces_taken s
-about p s f.OutsideEntry x = entry_of p s.entry ++ pieces_taken s
+about p s f.OutsideEntry x = entry_of p s.entry

@@ -21,7 +21,7 @@ use Rattle.ss_store.specs.Tables.{tables_of}
 use Rattle.ss_store.specs.Tables as tables
 use Rattle.ss_store.specs.Store.{number_of, exists, attribute_of}
 use Rattle.ss_store.specs.Filing.{walk_first, walk_last, count, predecessor, successor, membership}
-use Rattle.ss_values.specs.Values.{result_in_range}
+use Rattle.ss_values.specs.Values.{result_in_range, with_sign}
 use Rattle.ss_machine.specs.State.{State}
 use Rattle.ss_machine.specs.Readings.{variable_in}
 use Rattle.ss_faults.specs.declared.told.Told.{Told}
@@ -122,10 +122,17 @@ member_told p s kept set x =
 abbrev pub entity_told : State → ℕ → ℤ → Told
 entity_told s c x = elim (exists s.store c (number_of x)) [ true ↦ Value x | false ↦ Missing c x ]
 
--- what a sign at the head leaves of the first term
+-- a value with its sign
+abbrev pub signed_value : TermSign → Told → Told
+signed_value w (Value x) = number_told (with_sign (Some w) x)
+signed_value w Untold = Untold
+signed_value w (Missing c x) = Missing c x
+signed_value w Unclear = Unclear
+
+-- the first term with the sign at the head, if there is one
 abbrev pub signed_told : Option TermSign → Told → Told
 signed_told None b = b
-signed_told (Some s) b = behind b
+signed_told (Some w) b = signed_value w b
 
 abbrev mutual
   -- of an expression

@@ -429,12 +429,12 @@ fn push_below_one<S: SetBoard>(
     }
 }
 
-/// F16, F17, F21: how many pieces of the data are taken.
+/// F16, F17, F21: how many pieces of the data are taken before the statement.
 fn push_taken<S: SetBoard>(text: &mut Vec<u8>, machine: &Machine<S>) -> Result<(), AllocError>
     ensures { OnOk result (text.new.items
         ≡ text.old.items ++ spec.pieces_taken machine.now.state) }
 {
-    push_counted(text, b" Taken: ", machine.taken() as u64)
+    push_counted(text, b" Taken before: ", machine.taken() as u64)
 }
 
 /// F18: the section.
@@ -496,9 +496,6 @@ pub fn push_about<S: SetBoard>(
             push_taken(text, machine)
         }
         RunFault::TooManyFrames => push_too_deep(text, machine, place),
-        RunFault::OutsideEntry => {
-            push_entry(text, machine)?;
-            push_taken(text, machine)
-        }
+        RunFault::OutsideEntry => push_entry(text, machine),
     }
 }

@@ -146,12 +146,27 @@ pub fn entity_told<S: SetBoard>(machine: &Machine<S>, class: usize, number: i64)
     }
 }
 
+/// A value with its sign.
+fn signed_value(sign: TermSign, told: Told) -> Told
+    ensures { result ≡ spec.signed_value sign told }
+{
+    match (sign, told) {
+        (TermSign::Minus, Told::Value(value)) => {
+            match value.checked_neg() {
+                Some(negated) => Told::Value(negated),
+                None => Told::Unclear,
+            }
+        }
+        (_, other) => other,
+    }
+}
+
 fn signed_told(sign: Option<TermSign>, first: Told) -> Told
     ensures { result ≡ spec.signed_told sign first }
 {
     match sign {
         None => first,
-        Some(_) => first.behind(),
+        Some(sign) => signed_value(sign, first),
     }
 }
 

@@ -1,0 +1,87 @@
+-- Sets into which nothing is filed, and events that nothing schedules.
+use Rattle.std.specs.Prelude.{ℕ, ◌+◌, ◌==◌, ◌&&◌, not, Bool, true, false, List, [], ◌∷◌, ◌++◌, bytes_eq, if◌then◌else◌}
+use Rattle.std.specs.Prelude.{Ok, Err}
+use Rattle.std.specs.List.{list_any}
+use Rattle.ss_words.specs.Plain.{PlainAt, name, number, mark, picture}
+use Rattle.ss_words.specs.PlainRules.{plain_words_of}
+use Rattle.ss_words.specs.TextWords.{words_of}
+use Rattle.ss_program.specs.declared.filing.Filing.TheVariants.{File, FileAt}
+use Rattle.ss_program.specs.declared.filing.Filing.{Filing}
+use Rattle.ss_program.specs.declared.place.Place.{Place}
+use Rattle.ss_program.specs.declared.place.Place.TheVariants as places
+use Rattle.ss_program.specs.declared.timing.Timing.{Timing}
+use Rattle.ss_program.specs.declared.timing.Timing.TheVariants.{Schedule}
+use Rattle.ss_program.specs.Program.{ProgramTable, ClassTable, SetTable, SectionTable, is_event, event_of_kind}
+use Rattle.ss_names.specs.declared.unused.TheConstants.{UNFILED, UNSCHEDULED}
+use Rattle.ss_names.specs.Saying.{warning}
+
+-- FILE into set number s
+abbrev pub files : ℕ → Filing → Bool
+files s (File e how r) = r.set == s
+files s (FileAt end e r) = r.set == s
+files s _ = false
+
+-- a place files into set number s
+abbrev pub files_into : ℕ → Place → Bool
+files_into s (places.Filing f) = files s f
+files_into s _ = false
+
+-- SCHEDULE of class number c
+abbrev pub schedules : ℕ → Timing → Bool
+schedules c (Schedule x) = x.class == c
+schedules c _ = false
+
+-- a place schedules a notice of class number c
+abbrev pub schedules_class : ℕ → Place → Bool
+schedules_class c (places.Timing x) = schedules c x
+schedules_class c _ = false
+
+-- a section files into set number s
+abbrev pub section_files : ℕ → SectionTable → Bool
+section_files s x = list_any (λ spot. files_into s spot.place) x.places
+
+-- a section schedules class number c
+abbrev pub section_schedules : ℕ → SectionTable → Bool
+section_schedules c x = list_any (λ spot. schedules_class c spot.place) x.places
+
+-- nothing is filed into set number s
+abbrev pub is_unfiled : ProgramTable → ℕ → Bool
+is_unfiled p s = not (list_any (section_files s) p.sections)
+
+-- a class, number c, is one of events that neither a place nor the data schedule
+abbrev pub is_unscheduled : ProgramTable → ℕ → ClassTable → Bool
+is_unscheduled p c row =
+    is_event row.kind && not (event_of_kind row.kind).external && not (list_any (section_schedules c) p.sections)
+
+-- the line on which a name stands first among words, 0 where it does not
+unfoldable pub first_line : List ℕ → List PlainAt → ℕ
+first_line n [] = 0
+first_line n (w ∷ ws) = elim w.word [
+  | name m ↦ if bytes_eq m n then w.line else first_line n ws
+  | number m ↦ first_line n ws
+  | mark m ↦ first_line n ws
+  | picture ls ↦ first_line n ws
+]
+
+-- each set from number s on into which nothing is filed
+unfoldable pub unfiled_text : ProgramTable → List PlainAt → ℕ → List SetTable → List ℕ
+unfiled_text p ws s [] = []
+unfiled_text p ws s (t ∷ ts) = elim (is_unfiled p s) [
+  | true ↦ warning (first_line t.name ws) t.name UNFILED.now ++ unfiled_text p ws (s + 1) ts
+  | false ↦ unfiled_text p ws (s + 1) ts
+]
+
+-- each event class from number c on that nothing schedules
+unfoldable pub unscheduled_text : ProgramTable → List PlainAt → ℕ → List ClassTable → List ℕ
+unscheduled_text p ws c [] = []
+unscheduled_text p ws c (t ∷ ts) = elim (is_unscheduled p c t) [
+  | true ↦ warning (first_line t.name ws) t.name UNSCHEDULED.now ++ unscheduled_text p ws (c + 1) ts
+  | false ↦ unscheduled_text p ws (c + 1) ts
+]
+
+-- the warnings of a program, with the lines on which its names stand first in a model
+abbrev pub program_warnings : ProgramTable → List ℕ → List ℕ
+program_warnings p model = elim (words_of model) [
+  | Ok ws ↦ unfiled_text p (plain_words_of ws) 0 p.sets ++ unscheduled_text p (plain_words_of ws) 0 p.classes
+  | Err f ↦ []
+]
