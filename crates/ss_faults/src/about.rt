@@ -1,15 +1,15 @@
 //! What the sentence of a fault names.
 ghost use Rattle.std.specs.Prelude.{◌≡◌, ◌++◌, OnOk};
 ghost use Rattle.ss_faults.specs.About as spec;
-ghost use Rattle.ss_faults.specs.Texts.{if_told, valued};
 
 use crate::missing::place_told;
-use crate::reading::{expression_told, index_told, variable_value};
-use crate::texts::{
-    member_class, push_class, push_counted, push_entity, push_list, push_missing, push_section,
-    push_set, push_valued,
+use crate::operands::{
+    push_entity_of, push_if_told, push_list_of, push_member_and_list, push_member_of,
 };
-use crate::told::Told;
+use crate::reading::{expression_told, variable_value};
+use crate::texts::{
+    push_class, push_counted, push_entity, push_missing, push_section, push_set, push_valued,
+};
 use ss_links::SetBoard;
 use ss_machine::{Entry, Machine};
 use ss_program::{
@@ -18,77 +18,6 @@ use ss_program::{
 };
 use ss_words::RunFault;
 use std::alloc::AllocError;
-
-/// Appends a value behind a label, if it is told.
-fn push_if_told(text: &mut Vec<u8>, label: &[u8], told: Told) -> Result<(), AllocError>
-    ensures { OnOk result (text.new.items ≡ text.old.items
-        ++ if_told told (valued label.now)) }
-{
-    match told {
-        Told::Value(value) => push_valued(text, label, value),
-        Told::Untold | Told::Missing { .. } | Told::Unclear => Ok(()),
-    }
-}
-
-/// Appends the entity of a class that an expression names.
-fn push_entity_of<S: SetBoard>(
-    text: &mut Vec<u8>,
-    machine: &Machine<S>,
-    class: usize,
-    e: &Expr,
-) -> Result<(), AllocError>
-    ensures { OnOk result (text.new.items ≡ text.old.items
-        ++ spec.entity_of machine.now.input.program machine.now.state class e.now) }
-{
-    match expression_told(machine, e) {
-        Told::Value(number) => push_entity(text, machine.program(), class, number),
-        Told::Untold | Told::Missing { .. } | Told::Unclear => Ok(()),
-    }
-}
-
-/// Appends the list of a set and an owner.
-fn push_list_of<S: SetBoard>(
-    text: &mut Vec<u8>,
-    machine: &Machine<S>,
-    list: &SetRef,
-) -> Result<(), AllocError>
-    ensures { OnOk result (text.new.items ≡ text.old.items
-        ++ spec.list_of machine.now.input.program machine.now.state list.now) }
-{
-    match index_told(machine, &list.owner) {
-        Told::Value(owner) => push_list(text, machine.program(), list.set, owner),
-        Told::Untold | Told::Missing { .. } | Told::Unclear => Ok(()),
-    }
-}
-
-/// Appends a member of a set.
-fn push_member_of<S: SetBoard>(
-    text: &mut Vec<u8>,
-    machine: &Machine<S>,
-    member: &Expr,
-    list: &SetRef,
-) -> Result<(), AllocError>
-    ensures { OnOk result (text.new.items ≡ text.old.items
-        ++ spec.member_of machine.now.input.program machine.now.state member.now list.now) }
-{
-    let class = member_class(machine.program(), list.set);
-    push_entity_of(text, machine, class, member)
-}
-
-/// Appends a member of a set, and the list.
-fn push_member_and_list<S: SetBoard>(
-    text: &mut Vec<u8>,
-    machine: &Machine<S>,
-    member: &Expr,
-    list: &SetRef,
-) -> Result<(), AllocError>
-    ensures { OnOk result (text.new.items ≡ text.old.items
-        ++ (spec.member_of machine.now.input.program machine.now.state member.now list.now
-        ++ spec.list_of machine.now.input.program machine.now.state list.now)) }
-{
-    push_member_of(text, machine, member, list)?;
-    push_list_of(text, machine, list)
-}
 
 /// F4: the member, and the set.
 fn push_already_filed<S: SetBoard>(
@@ -425,7 +354,9 @@ fn push_below_one<S: SetBoard>(
         Phrase::Counting { step: Some(e), .. } => {
             push_if_told(text, b" Value: ", expression_told(machine, e))
         }
-        Phrase::Counting { step: None, .. } | Phrase::Each { .. } | Phrase::Walking { .. } => Ok(()),
+        Phrase::Counting { step: None, .. } | Phrase::Each { .. } | Phrase::Walking { .. } => Ok(
+            (),
+        ),
     }
 }
 

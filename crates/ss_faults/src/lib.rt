@@ -4,10 +4,11 @@
 
 mod about;
 mod missing;
+mod operands;
 mod reading;
 mod sentence;
 mod texts;
 mod told;
 
-pub use told::Told;
 pub use sentence::push_fault_sentence;
+pub use told::Told;

@@ -93,7 +93,8 @@ fn making_told<S: SetBoard>(machine: &Machine<S>, making: &Making) -> Told
         Making::Create { .. } => Told::Unclear,
         Making::CreateEvery { number: None, .. } => Told::Untold,
         Making::CreateEvery {
-            number: Some(e), ..
+            number: Some(e),
+            ..
         } => expression_told(machine, e),
         Making::Destroy { class, entity, .. } => named_told(machine, *class, entity),
     }

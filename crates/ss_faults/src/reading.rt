@@ -106,12 +106,7 @@ pub fn owner_told<S: SetBoard>(
 
 /// `P.s`, `S.s` or `M.s` of the member that a value names.
 #[tactic(auto, using(crate::proofs::Variables::sets_kept))]
-fn member_told<S: SetBoard>(
-    machine: &Machine<S>,
-    kept: MemberKept,
-    set: usize,
-    member: i64,
-) -> Told
+fn member_told<S: SetBoard>(machine: &Machine<S>, kept: MemberKept, set: usize, member: i64) -> Told
     ensures { result
         ≡ spec.member_told machine.now.input.program machine.now.state kept set member }
 {

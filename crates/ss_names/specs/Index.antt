@@ -15,13 +15,14 @@ use Rattle.ss_names.specs.Unread.{is_only}
 abbrev pub name_line : List ℕ → ℕ → ℕ → List ℕ
 name_line n count line = n ++ codes ": " ++ decimal count ++ codes ", first on line " ++ decimal line ++ codes "\n"
 
--- the row of a name that stands on this line behind names, of all names: one where it stands first and is to be shown
+-- a name, of those to be shown, stands here first
+unfoldable pub is_shown : List (List ℕ) → List (List ℕ) → List ℕ → Bool
+is_shown shown before n = count_by (bytes_eq n) before == 0 && nat_lt 0 (count_by (bytes_eq n) shown)
+
+-- the row of a name that stands on this line behind names, of all names, if it is shown
 abbrev pub name_row : List (List ℕ) → List (List ℕ) → List (List ℕ) → List ℕ → ℕ → List ℕ
 name_row all shown before n line =
-    elim (count_by (bytes_eq n) before == 0 && nat_lt 0 (count_by (bytes_eq n) shown)) [
-      | true ↦ name_line n (count_by (bytes_eq n) all) line
-      | false ↦ []
-    ]
+    elim (is_shown shown before n) [ true ↦ name_line n (count_by (bytes_eq n) all) line | false ↦ [] ]
 
 -- the rows of those among words behind names, of all names, that are to be shown
 unfoldable pub name_rows : List (List ℕ) → List (List ℕ) → List (List ℕ) → List PlainAt → List ℕ
@@ -66,7 +67,7 @@ if_any said [] = []
 if_any said (b ∷ bs) = said ++ b ∷ bs
 
 -- the lines on which a name has a role
-abbrev pub role_part : List PlainAt → List ℕ → Role → List ℕ → List ℕ
+unfoldable pub role_part : List PlainAt → List ℕ → Role → List ℕ → List ℕ
 role_part plain n role said = if_any said (lines_with role n at_start plain)
 
 -- a remark, where it is so
@@ -90,12 +91,20 @@ roles_told plain n =
     ++ role_part plain n Read (codes ", read on")
     ++ role_part plain n Named (codes ", named on")
 
+-- that it stands once
+unfoldable pub once_remark : ℕ → List ℕ
+once_remark count = remark (count == 1) (codes ", ONLY ONCE")
+
+-- that it is used in one way alone
+unfoldable pub only_remark : List PlainAt → List ℕ → Role → List ℕ → List ℕ
+only_remark plain n role said = remark (only_with plain n role) said
+
 -- what is remarkable of it
 abbrev pub remarks : List PlainAt → List ℕ → ℕ → List ℕ
 remarks plain n count =
-    remark (count == 1) (codes ", ONLY ONCE")
-    ++ remark (only_with plain n Read) (codes ", NEVER SET")
-    ++ remark (only_with plain n Set) (codes ", NEVER READ")
+    once_remark count
+    ++ only_remark plain n Read (codes ", NEVER SET")
+    ++ only_remark plain n Set (codes ", NEVER READ")
     ++ codes "\n"
 
 -- what is told of a name that stands so often

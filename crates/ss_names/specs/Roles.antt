@@ -1,6 +1,6 @@
 -- How a name is used, as far as the words directly before it tell.
 use Rattle.std.specs.Prelude.{ℕ, Bool, true, false, List, [], ◌∷◌, ◌++◌, Option, Some, None, decimal}
-use Rattle.std.specs.Prelude.{bytes_eq, ◌&&◌}
+use Rattle.std.specs.Prelude.{bytes_eq, ◌&&◌, ◌||◌}
 use Rattle.ss_words.specs.declared.mark.Mark.{Mark}
 use Rattle.ss_words.specs.declared.mark.Mark.TheVariants.{Reserved, Sign}
 use Rattle.ss_words.specs.declared.reserved.Reserved.{Reserved as AReserved}
@@ -16,12 +16,17 @@ use Rattle.ss_names.specs.declared.roles.Standing.{Standing}
 
 -- at the start of the text
 abbrev pub at_start : Standing
-at_start = record { before = None; in_define = false; in_call = false }
+at_start = record { before = None; in_define = false; in_has = false; in_call = false }
 
 -- DEFINE
 abbrev pub is_define : AReserved → Bool
 is_define r.Define = true
 is_define _ = false
+
+-- HAS
+abbrev pub is_has : AReserved → Bool
+is_has r.Has = true
+is_has _ = false
 
 -- whether a CALL is open behind this word: YIELDING then yields, and in a head it declares
 abbrev pub calls : AReserved → Bool → Bool
@@ -30,15 +35,20 @@ calls r.Routine b = false
 calls r.Event b = false
 calls _ b = b
 
--- behind a reserved word or a sign; DEFINE is open up to the next reserved word
+-- behind a reserved word or a sign; DEFINE and HAS are open up to the next reserved word
 abbrev pub behind_mark : Standing → Mark → Standing
-behind_mark s (Sign x) = record { before = Some (Sign x); in_define = s.in_define; in_call = s.in_call }
-behind_mark s (Reserved w) =
-    record { before = Some (Reserved w); in_define = is_define w; in_call = calls w s.in_call }
+behind_mark s (Sign x) =
+    record { before = Some (Sign x); in_define = s.in_define; in_has = s.in_has; in_call = s.in_call }
+behind_mark s (Reserved w) = record {
+  before = Some (Reserved w);
+  in_define = is_define w;
+  in_has = is_has w;
+  in_call = calls w s.in_call;
+}
 
 -- behind a word
 abbrev pub behind : Standing → Option Mark → Standing
-behind s None = record { before = None; in_define = s.in_define; in_call = s.in_call }
+behind s None = record { before = None; in_define = s.in_define; in_has = s.in_has; in_call = s.in_call }
 behind s (Some m) = behind_mark s m
 
 -- ---- what a name is there
@@ -88,7 +98,17 @@ role_behind in_call (Some (Reserved w)) = set_or (sets_name w in_call) (read_or_
 
 -- what a name is at this place
 abbrev pub role_at : Standing → Role
-role_at s = elim s.in_define [ true ↦ Declared | false ↦ role_behind s.in_call s.before ]
+role_at s = elim (s.in_define || s.in_has) [ true ↦ Declared | false ↦ role_behind s.in_call s.before ]
+
+-- FOR
+abbrev pub is_for : Option Mark → Bool
+is_for (Some (Reserved r.For)) = true
+is_for _ = false
+
+-- a name may well stand once here: as an attribute, which may only carry a value given in its place, or as the variable
+-- of a loop that only counts
+abbrev pub may_stand_once : Standing → Bool
+may_stand_once s = s.in_has || is_for s.before
 
 -- two roles are the same
 abbrev pub same_role : Role → Role → Bool

@@ -32,7 +32,7 @@ unfoldable pub only_text :
 only_text said all declared used before [] = []
 only_text said all declared used before (w ∷ ws) = elim w.word [
   | name n ↦ only_name said all declared used before w.line n
-    ++ only_text said all declared used (before ++ n ∷ []) ws
+      ++ only_text said all declared used (before ++ n ∷ []) ws
   | number n ↦ only_text said all declared used before ws
   | mark m ↦ only_text said all declared used before ws
   | picture ls ↦ only_text said all declared used before ws

@@ -22,7 +22,7 @@ files s (FileAt end e r) = r.set == s
 files s _ = false
 
 -- a place files into set number s
-abbrev pub files_into : ℕ → Place → Bool
+unfoldable pub files_into : ℕ → Place → Bool
 files_into s (places.Filing f) = files s f
 files_into s _ = false
 
@@ -32,16 +32,16 @@ schedules c (Schedule x) = x.class == c
 schedules c _ = false
 
 -- a place schedules a notice of class number c
-abbrev pub schedules_class : ℕ → Place → Bool
+unfoldable pub schedules_class : ℕ → Place → Bool
 schedules_class c (places.Timing x) = schedules c x
 schedules_class c _ = false
 
 -- a section files into set number s
-abbrev pub section_files : ℕ → SectionTable → Bool
+unfoldable pub section_files : ℕ → SectionTable → Bool
 section_files s x = list_any (λ spot. files_into s spot.place) x.places
 
 -- a section schedules class number c
-abbrev pub section_schedules : ℕ → SectionTable → Bool
+unfoldable pub section_schedules : ℕ → SectionTable → Bool
 section_schedules c x = list_any (λ spot. schedules_class c spot.place) x.places
 
 -- nothing is filed into set number s

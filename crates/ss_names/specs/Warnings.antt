@@ -3,7 +3,7 @@ use Rattle.std.specs.Prelude.{ℕ, Bool, true, false, not, ◌==◌, ◌&&◌, �
 use Rattle.std.specs.Prelude.{count_by, bytes_eq, Option, Some, None, Ok, Err}
 use Rattle.std.specs.Borrow.{Bor}
 use Rattle.ss_words.specs.Plain.{PlainAt, name, number, mark, picture}
-use Rattle.ss_words.specs.PlainRules.{plain_words_of}
+use Rattle.ss_words.specs.PlainRules.{mark_in, plain_words_of}
 use Rattle.ss_words.specs.TextWords.{words_of}
 use Rattle.ss_words.specs.declared.word.WordKind.{WordKind}
 use Rattle.ss_words.specs.Words.{Kind, WordAt, kind_of}
@@ -15,7 +15,8 @@ use Rattle.ss_names.specs.Names.{names_in, is_of_language}
 use Rattle.ss_names.specs.Saying.{warning}
 use Rattle.ss_names.specs.declared.roles.Role.TheVariants.{Declared, Set, Read}
 use Rattle.ss_names.specs.declared.unread.TheConstants.{UNREAD, UNSET}
-use Rattle.ss_names.specs.Roles.{at_start, names_with}
+use Rattle.ss_names.specs.declared.roles.Standing.{Standing}
+use Rattle.ss_names.specs.Roles.{at_start, behind, may_stand_once, names_with}
 use Rattle.ss_names.specs.Unread.{only_text}
 
 -- ---- names that stand once
@@ -28,19 +29,19 @@ is_once names n = count_by (bytes_eq n) names == 1 && not (is_of_language n)
 abbrev pub once_name : List (List ℕ) → ℕ → List ℕ → List ℕ
 once_name names line n = elim (is_once names n) [ true ↦ warning line n ONCE.now | false ↦ [] ]
 
--- what is said of a word
-abbrev pub once_word : List (List ℕ) → PlainAt → List ℕ
-once_word names w = elim w.word [
-  | name n ↦ once_name names w.line n
+-- what is said of a word, where its name may not well stand once
+abbrev pub once_word : List (List ℕ) → Standing → PlainAt → List ℕ
+once_word names s w = elim w.word [
+  | name n ↦ elim (may_stand_once s) [ true ↦ [] | false ↦ once_name names w.line n ]
   | number n ↦ []
   | mark m ↦ []
   | picture ls ↦ []
 ]
 
--- each name of these words that stands once among the names, with its line
-unfoldable pub once_text : List (List ℕ) → List PlainAt → List ℕ
-once_text names [] = []
-once_text names (w ∷ ws) = once_word names w ++ once_text names ws
+-- each name of these words, behind others, that stands once among the names, with its line
+unfoldable pub once_text : List (List ℕ) → Standing → List PlainAt → List ℕ
+once_text names s [] = []
+once_text names s (w ∷ ws) = once_word names s w ++ once_text names (behind s (mark_in w.word)) ws
 
 -- ---- words that are dropped where a name could have stood
 
@@ -102,7 +103,7 @@ warnings_of_words ws =
     let plain = plain_words_of ws in
     let names = names_in plain in
     let declared = names_with Declared at_start plain in
-    once_text names plain
+    once_text names at_start plain
     ++ only_text UNREAD.now names declared (names_with Set at_start plain) [] plain
     ++ only_text UNSET.now names declared (names_with Read at_start plain) [] plain
     ++ dropped_text None ws

@@ -69,11 +69,7 @@ fn push_line_of_words(
 
 /// How often each name stands on a line.
 #[tactic(auto, unfolding(crate::specs::Index::words_on, crate::specs::Names::names_in))]
-fn names_on(
-    alloc: Global,
-    line: usize,
-    words: &[PlainWord<'_>],
-) -> Result<NameCounts, AllocError>
+fn names_on(alloc: Global, line: usize, words: &[PlainWord<'_>]) -> Result<NameCounts, AllocError>
     ensures { IfOk result (λ names. names
         ≡ names_of (spec.words_on line (map plain_at words.now))) }
 {
@@ -114,6 +110,14 @@ fn push_rows(
     Ok(())
 }
 
+/// Whether a name, of those to be shown, stands here first.
+#[tactic(auto, unfolding(crate::specs::Index::is_shown))]
+fn is_shown(shown: &NameCounts, before: &NameCounts, name: &[u8]) -> bool
+    ensures { result ≡ spec.is_shown shown.now before.now name.now }
+{
+    before.count(name) == 0 && shown.count(name) > 0
+}
+
 /// Appends the row of a name, where it stands first and is to be shown.
 fn push_row(
     text: &mut Vec<u8>,
@@ -126,7 +130,7 @@ fn push_row(
     ensures { OnOk result (text.new.items
         ≡ text.old.items ++ spec.name_row all.now shown.now before.now name.now line) }
 {
-    if before.count(name) != 0 || shown.count(name) == 0 {
+    if !is_shown(shown, before, name) {
         return Ok(());
     }
     let mut buffer = Buffer::new();
@@ -237,12 +241,37 @@ fn push_remarks(
     ensures { OnOk result (text.new.items
         ≡ text.old.items ++ spec.remarks (map plain_at words.now) name.now count) }
 {
-    let only_read = only_with(alloc, words, all, name, Role::Read)?;
-    let only_set = only_with(alloc, words, all, name, Role::Set)?;
-    push_remark(text, count == 1, b", ONLY ONCE")?;
-    push_remark(text, only_read, b", NEVER SET")?;
-    push_remark(text, only_set, b", NEVER READ")?;
+    push_once_remark(text, count)?;
+    push_only_remark(alloc, words, all, name, Role::Read, b", NEVER SET", text)?;
+    push_only_remark(alloc, words, all, name, Role::Set, b", NEVER READ", text)?;
     text.extend_from_slice(b"\n")
+}
+
+/// Appends that a name stands once, where it does.
+#[tactic(auto, unfolding(crate::specs::Index::once_remark))]
+fn push_once_remark(text: &mut Vec<u8>, count: usize) -> Result<(), AllocError>
+    ensures { OnOk result (text.new.items ≡ text.old.items ++ spec.once_remark count) }
+{
+    push_remark(text, count == 1, b", ONLY ONCE")
+}
+
+/// Appends that words use a name in one way alone, where they do.
+#[tactic(auto, unfolding(crate::specs::Index::only_remark))]
+fn push_only_remark(
+    alloc: Global,
+    words: &[PlainWord<'_>],
+    all: &NameCounts,
+    name: &[u8],
+    role: Role,
+    said: &[u8],
+    text: &mut Vec<u8>,
+) -> Result<(), AllocError>
+    requires { all.now ≡ names_of (map plain_at words.now) }
+    ensures { OnOk result (text.new.items ≡ text.old.items
+        ++ spec.only_remark (map plain_at words.now) name.now role said.now) }
+{
+    let is_so = only_with(alloc, words, all, name, role)?;
+    push_remark(text, is_so, said)
 }
 
 /// Whether words use a name in one way alone, but that they declare it.
@@ -274,6 +303,7 @@ fn push_remark(text: &mut Vec<u8>, is_so: bool, said: &[u8]) -> Result<(), Alloc
 }
 
 /// Appends the lines on which a name has a role, behind what is said of them.
+#[tactic(auto, unfolding(crate::specs::Index::role_part))]
 fn push_role_part(
     alloc: Global,
     words: &[PlainWord<'_>],

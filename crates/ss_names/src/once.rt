@@ -2,10 +2,12 @@
 ghost use Rattle.std.specs.Prelude.{◌≡◌, ◌++◌, OnOk, map};
 ghost use Rattle.ss_words.specs.Plain.{plain_at};
 ghost use Rattle.ss_names.specs.Saying.{warning};
+ghost use Rattle.ss_names.specs.Roles.{at_start};
 ghost use Rattle.ss_names.specs.Warnings as spec;
 
 use crate::language::is_of_language;
 use crate::name_counts::NameCounts;
+use crate::roles::Standing;
 use itoa::Buffer;
 use ss_words::{Plain, PlainWord};
 use std::alloc::AllocError;
@@ -47,22 +49,26 @@ fn push_once_name(
     Ok(())
 }
 
-/// Appends what is said of a word.
+/// Appends what is said of a word, where its name may not well stand once.
 fn push_once_word(
     text: &mut Vec<u8>,
     names: &NameCounts,
+    standing: Standing,
     word: &PlainWord<'_>,
 ) -> Result<(), AllocError>
     ensures { OnOk result (text.new.items
-        ≡ text.old.items ++ spec.once_word names.now (plain_at word.now)) }
+        ≡ text.old.items ++ spec.once_word names.now standing (plain_at word.now)) }
 {
-    match word.kind() {
-        Plain::Name(name) => push_once_name(text, names, word.line(), name.bytes()),
-        _ => Ok(()),
+    let Plain::Name(name) = word.kind() else {
+        return Ok(());
+    };
+    if standing.may_stand_once() {
+        return Ok(());
     }
+    push_once_name(text, names, word.line(), name.bytes())
 }
 
-/// Appends each name of these words that stands once, with its line.
+/// Appends each name of these words that stands once, where it may not well do so, with its line.
 #[tactic(auto, unfolding(crate::specs::Warnings::once_text))]
 pub fn push_once(
     text: &mut Vec<u8>,
@@ -70,11 +76,13 @@ pub fn push_once(
     words: &[PlainWord<'_>],
 ) -> Result<(), AllocError>
     ensures { OnOk result (text.new.items
-        ≡ text.old.items ++ spec.once_text names.now (map plain_at words.now)) }
+        ≡ text.old.items ++ spec.once_text names.now at_start (map plain_at words.now)) }
 {
+    let mut standing = Standing::at_start();
     let mut rest = words;
     while let [word, behind @ ..] = rest {
-        push_once_word(text, names, word)?;
+        push_once_word(text, names, standing, word)?;
+        standing = standing.behind(word.kind().mark());
         rest = behind;
     }
     Ok(())

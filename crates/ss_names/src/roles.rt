@@ -11,7 +11,7 @@ use std::alloc::{AllocError, Global};
 /// How a name is used where it stands.
 #[derive(Clone, Copy, Debug, PartialEq, Eq)]
 pub enum Role {
-    /// In a DEFINE.
+    /// In a DEFINE or a HAS.
     Declared,
     /// Directly behind LET, READ, COMPUTE, or the YIELDING of a CALL.
     Set,
@@ -28,6 +28,8 @@ pub struct Standing {
     pub before: Option<Mark>,
     /// Whether the last reserved word is DEFINE.
     pub in_define: bool,
+    /// Whether it is HAS.
+    pub in_has: bool,
     /// Whether a CALL stands behind the last head of a section.
     pub in_call: bool,
 }
@@ -40,6 +42,7 @@ impl Standing {
         Standing {
             before: None,
             in_define: false,
+            in_has: false,
             in_call: false,
         }
     }
@@ -52,11 +55,13 @@ impl Standing {
             Some(Mark::Reserved(word)) => Standing {
                 before: mark,
                 in_define: matches!(word, Reserved::Define),
+                in_has: matches!(word, Reserved::Has),
                 in_call: calls(word, self.in_call),
             },
             Some(Mark::Sign(_)) | None => Standing {
                 before: mark,
                 in_define: self.in_define,
+                in_has: self.in_has,
                 in_call: self.in_call,
             },
         }
@@ -66,7 +71,7 @@ impl Standing {
     pub fn role(self) -> Role
         ensures { result ≡ spec.role_at self }
     {
-        if self.in_define {
+        if self.in_define || self.in_has {
             return Role::Declared;
         }
         match self.before {
@@ -79,6 +84,16 @@ impl Standing {
                 read_or_named(reads_name(word))
             }
         }
+    }
+}
+
+impl Standing {
+    /// Whether a name may well stand once here: as an attribute, which may only carry a value given
+    /// in its place, or as the variable of a loop that only counts.
+    pub fn may_stand_once(self) -> bool
+        ensures { result ≡ spec.may_stand_once self }
+    {
+        self.in_has || matches!(self.before, Some(Mark::Reserved(Reserved::For)))
     }
 }
 

@@ -14,6 +14,7 @@ pub const UNFILED: &[u8] = b" is a set into which nothing is filed.\n";
 /// What is said of an event that nothing schedules.
 pub const UNSCHEDULED: &[u8] = b" is an event that nothing schedules.\n";
 
+#[tactic(auto, unfolding(crate::specs::Unused::files_into))]
 fn files_into(place: &Place, set: usize) -> bool
     ensures { result ≡ spec.files_into set place.now }
 {
@@ -26,6 +27,7 @@ fn files_into(place: &Place, set: usize) -> bool
     }
 }
 
+#[tactic(auto, unfolding(crate::specs::Unused::schedules_class))]
 fn schedules_class(place: &Place, class: usize) -> bool
     ensures { result ≡ spec.schedules_class class place.now }
 {
@@ -38,6 +40,7 @@ fn schedules_class(place: &Place, class: usize) -> bool
     }
 }
 
+#[tactic(auto, unfolding(crate::specs::Unused::section_files))]
 fn section_files(section: &Section, set: usize) -> bool
     ensures { result ≡ spec.section_files set section.now }
 {
@@ -47,6 +50,7 @@ fn section_files(section: &Section, set: usize) -> bool
         .any(|spot| files_into(&spot.place, set))
 }
 
+#[tactic(auto, unfolding(crate::specs::Unused::section_schedules))]
 fn section_schedules(section: &Section, class: usize) -> bool
     ensures { result ≡ spec.section_schedules class section.now }
 {
@@ -78,7 +82,10 @@ fn is_unscheduled(program: &Program, number: usize, class: &Class) -> bool
     if !is_event(class) || class.is_external() {
         return false;
     }
-    !program.sections.iter().any(|s| section_schedules(s, number))
+    !program
+        .sections
+        .iter()
+        .any(|s| section_schedules(s, number))
 }
 
 /// The line on which a name stands first among words, 0 where it does not.
