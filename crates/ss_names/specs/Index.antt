@@ -105,11 +105,10 @@ remarks plain n count =
     once_remark count
     ++ only_remark plain n Read (codes ", NEVER SET")
     ++ only_remark plain n Set (codes ", NEVER READ")
-    ++ codes "\n"
 
 -- what is told of a name that stands so often
 abbrev pub told_of_name : List PlainAt → List ℕ → ℕ → List ℕ
-told_of_name plain n count = name_head n count ++ roles_told plain n ++ remarks plain n count
+told_of_name plain n count = name_head n count ++ roles_told plain n ++ remarks plain n count ++ codes "\n"
 
 -- that there is no such name
 abbrev pub no_name : List ℕ → List ℕ

@@ -44,14 +44,22 @@ section_files s x = list_any (λ spot. files_into s spot.place) x.places
 unfoldable pub section_schedules : ℕ → SectionTable → Bool
 section_schedules c x = list_any (λ spot. schedules_class c spot.place) x.places
 
+-- one of these sections files into set number s
+unfoldable pub any_files : ℕ → List SectionTable → Bool
+any_files s xs = list_any (section_files s) xs
+
+-- one of these sections schedules class number c
+unfoldable pub any_schedules : ℕ → List SectionTable → Bool
+any_schedules c xs = list_any (section_schedules c) xs
+
 -- nothing is filed into set number s
 abbrev pub is_unfiled : ProgramTable → ℕ → Bool
-is_unfiled p s = not (list_any (section_files s) p.sections)
+is_unfiled p s = not (any_files s p.sections)
 
 -- a class, number c, is one of events that neither a place nor the data schedule
 abbrev pub is_unscheduled : ProgramTable → ℕ → ClassTable → Bool
 is_unscheduled p c row =
-    is_event row.kind && not (event_of_kind row.kind).external && not (list_any (section_schedules c) p.sections)
+    is_event row.kind && not (event_of_kind row.kind).external && not (any_schedules c p.sections)
 
 -- the line on which a name stands first among words, 0 where it does not
 unfoldable pub first_line : List ℕ → List PlainAt → ℕ

@@ -181,25 +181,24 @@ fn push_name_of_words(
         text.extend_from_slice(name)?;
         return text.extend_from_slice(b"\n");
     }
-    push_told(alloc, words, &all, name, count, text)
+    push_told(alloc, words, name, count, text)
 }
 
 /// Appends what is told of a name that stands so often.
 fn push_told(
     alloc: Global,
     words: &[PlainWord<'_>],
-    all: &NameCounts,
     name: &[u8],
     count: usize,
     text: &mut Vec<u8>,
 ) -> Result<(), AllocError>
-    requires { all.now ≡ names_of (map plain_at words.now) }
     ensures { OnOk result (text.new.items
         ≡ text.old.items ++ spec.told_of_name (map plain_at words.now) name.now count) }
 {
     push_head(text, name, count)?;
     push_roles(alloc, words, name, text)?;
-    push_remarks(alloc, words, all, name, count, text)
+    push_remarks(alloc, words, name, count, text)?;
+    text.extend_from_slice(b"\n")
 }
 
 /// Appends a name, and how often it stands.
@@ -232,19 +231,16 @@ fn push_roles(
 fn push_remarks(
     alloc: Global,
     words: &[PlainWord<'_>],
-    all: &NameCounts,
     name: &[u8],
     count: usize,
     text: &mut Vec<u8>,
 ) -> Result<(), AllocError>
-    requires { all.now ≡ names_of (map plain_at words.now) }
     ensures { OnOk result (text.new.items
         ≡ text.old.items ++ spec.remarks (map plain_at words.now) name.now count) }
 {
     push_once_remark(text, count)?;
-    push_only_remark(alloc, words, all, name, Role::Read, b", NEVER SET", text)?;
-    push_only_remark(alloc, words, all, name, Role::Set, b", NEVER READ", text)?;
-    text.extend_from_slice(b"\n")
+    push_only_remark(alloc, words, name, Role::Read, b", NEVER SET", text)?;
+    push_only_remark(alloc, words, name, Role::Set, b", NEVER READ", text)
 }
 
 /// Appends that a name stands once, where it does.
@@ -260,17 +256,15 @@ fn push_once_remark(text: &mut Vec<u8>, count: usize) -> Result<(), AllocError>
 fn push_only_remark(
     alloc: Global,
     words: &[PlainWord<'_>],
-    all: &NameCounts,
     name: &[u8],
     role: Role,
     said: &[u8],
     text: &mut Vec<u8>,
 ) -> Result<(), AllocError>
-    requires { all.now ≡ names_of (map plain_at words.now) }
     ensures { OnOk result (text.new.items ≡ text.old.items
         ++ spec.only_remark (map plain_at words.now) name.now role said.now) }
 {
-    let is_so = only_with(alloc, words, all, name, role)?;
+    let is_so = only_with(alloc, words, name, role)?;
     push_remark(text, is_so, said)
 }
 
@@ -279,16 +273,15 @@ fn push_only_remark(
 fn only_with(
     alloc: Global,
     words: &[PlainWord<'_>],
-    all: &NameCounts,
     name: &[u8],
     role: Role,
 ) -> Result<bool, AllocError>
-    requires { all.now ≡ names_of (map plain_at words.now) }
     ensures { IfOk result (λ only. only ≡ spec.only_with (map plain_at words.now) name.now role) }
 {
+    let all = names_in(alloc, words)?;
     let declared = names_with(alloc, Role::Declared, words)?;
     let used = names_with(alloc, role, words)?;
-    Ok(is_only(all, &declared, &used, name))
+    Ok(is_only(&all, &declared, &used, name))
 }
 
 /// Appends a remark, where it is so.

@@ -60,11 +60,25 @@ fn section_schedules(section: &Section, class: usize) -> bool
         .any(|spot| schedules_class(&spot.place, class))
 }
 
+#[tactic(auto, unfolding(crate::specs::Unused::any_files))]
+fn any_files(sections: &[Section], set: usize) -> bool
+    ensures { result ≡ spec.any_files set sections.now }
+{
+    sections.iter().any(|s| section_files(s, set))
+}
+
+#[tactic(auto, unfolding(crate::specs::Unused::any_schedules))]
+fn any_schedules(sections: &[Section], class: usize) -> bool
+    ensures { result ≡ spec.any_schedules class sections.now }
+{
+    sections.iter().any(|s| section_schedules(s, class))
+}
+
 /// Whether nothing is filed into the set with this number.
 fn is_unfiled(program: &Program, set: usize) -> bool
     ensures { result ≡ spec.is_unfiled program.now set }
 {
-    !program.sections.iter().any(|s| section_files(s, set))
+    !any_files(&program.sections, set)
 }
 
 fn is_event(class: &Class) -> bool
@@ -82,10 +96,7 @@ fn is_unscheduled(program: &Program, number: usize, class: &Class) -> bool
     if !is_event(class) || class.is_external() {
         return false;
     }
-    !program
-        .sections
-        .iter()
-        .any(|s| section_schedules(s, number))
+    !any_schedules(&program.sections, number)
 }
 
 /// The line on which a name stands first among words, 0 where it does not.
