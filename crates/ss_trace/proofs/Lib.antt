@@ -7,5 +7,8 @@ pub mod Ends
 pub mod Looking
 pub mod Refused
 pub mod SameLists
+pub mod Counted
 pub mod Untouched
+pub mod Stored
 pub mod Skips
+pub mod Glances

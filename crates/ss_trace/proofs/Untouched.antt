@@ -1,23 +1,18 @@
 -- What a step leaves as it is, by the kind of its place.
-use Rattle.std.proofs.Common.{◌≡◌, ℕ, ℤ, ◌+◌, Bool, true, false, List, [], ◌∷◌, Option, Some, None, Result, Ok, Err, refl}
-use Rattle.std.specs.Prelude.{pos, length, drop, slice_index_or, slice_set, if◌then◌else◌}
+use Rattle.std.proofs.Common.{ℕ, ℤ, ◌+◌, true, false, List, [], ◌∷◌, Option, Some, None, Result, Ok, Err}
+use Rattle.std.specs.Prelude.{pos, length, drop, slice_index_or, slice_set}
 use Rattle.ss_words.specs.declared.fault.RunFault.{RunFault}
 use Rattle.ss_words.specs.declared.fault.RunFault.TheVariants.{OutsideEntry}
-use Rattle.ss_words.specs.declared.terms.SetEnd.{SetEnd}
 use Rattle.ss_program.specs.Program.{ProgramTable, has_external, section_of, spot_at}
 use Rattle.ss_program.specs.declared.branch.Branch.{Branch}
 use Rattle.ss_program.specs.declared.branch.Branch.TheVariants.{If, Else, Always}
 use Rattle.ss_program.specs.declared.call.Call.{Call}
-use Rattle.ss_program.specs.declared.filing.Filing.TheVariants.{File, FileAt, RemoveAt, Remove}
-use Rattle.ss_program.specs.declared.filing.Filing.{Filing}
 use Rattle.ss_program.specs.declared.kinds.SectionKind.TheVariants as kinds
 use Rattle.ss_program.specs.declared.kinds.SectionKind.{SectionKind}
 use Rattle.ss_program.specs.declared.looping.ForPhrase.{ForPhrase}
 use Rattle.ss_program.specs.declared.looping.Looping.{Looping}
 use Rattle.ss_program.specs.declared.looping.Looping.TheVariants.{For, Loop, Find, Gather, Tell}
 use Rattle.ss_program.specs.declared.looping.Telling.{Telling}
-use Rattle.ss_program.specs.declared.making.Making.TheVariants.{Create, CreateEvery, Destroy}
-use Rattle.ss_program.specs.declared.making.Making.{Making}
 use Rattle.ss_program.specs.declared.place.Assign.{Assign}
 use Rattle.ss_program.specs.declared.place.Control.{Control}
 use Rattle.ss_program.specs.declared.place.Control.TheVariants.{Stop, Return, End}
@@ -26,7 +21,6 @@ use Rattle.ss_program.specs.declared.place.Output.TheVariants.{Print, Skip}
 use Rattle.ss_program.specs.declared.place.Place.TheVariants as places
 use Rattle.ss_program.specs.declared.place.Place.{Place}
 use Rattle.ss_program.specs.declared.place.Spot.{Spot}
-use Rattle.ss_program.specs.declared.target.SetRef.{SetRef}
 use Rattle.ss_program.specs.declared.target.Target.TheVariants as targets
 use Rattle.ss_program.specs.declared.target.Target.{Target}
 use Rattle.ss_program.specs.declared.variable.Variable.TheVariants.{Global, Local, Clock}
@@ -36,13 +30,10 @@ use Rattle.ss_program.specs.declared.ways.Resets.{Resets}
 use Rattle.ss_program.specs.declared.ways.Ways.{Ways}
 use Rattle.ss_data.specs.Items.{DataRead, with_taken}
 use Rattle.ss_data.specs.Entries.{place_behind_mark}
-use Rattle.ss_store.specs.declared.shape.How.{How}
-use Rattle.ss_store.specs.declared.shape.Which.TheVariants as which
-use Rattle.ss_store.specs.Filing.{after_filing, after_removing}
-use Rattle.ss_store.specs.Store.{Store, number_of, last_reference, with_attribute, with_new, with_class}
-use Rattle.ss_store.specs.Tables.{Tables, tables_of, class_of, set_of}
+use Rattle.ss_store.specs.Store.{Store, number_of, with_attribute}
+use Rattle.ss_store.specs.Tables.{Tables, tables_of}
 use Rattle.ss_values.specs.Faults.{◌>>=◌, ◌>>◌, refuse_if}
-use Rattle.ss_values.specs.Values.{value_of, subscript_value, assigned_value, number_value}
+use Rattle.ss_values.specs.Values.{subscript_value, assigned_value}
 use Rattle.ss_machine.proofs.Ranges.{Got, after_got, anything}
 use Rattle.ss_machine.specs.declared.entry.Entry.TheVariants.{Absent, Waiting, Running}
 use Rattle.ss_machine.specs.declared.entry.Entry.{Entry}
@@ -53,22 +44,17 @@ use Rattle.ss_machine.specs.Loops.{loops_with_candidate, next_candidate, verdict
 use Rattle.ss_machine.specs.Readings.{readings}
 use Rattle.ss_machine.specs.State.{State, FrameState, Statistics, is_waiting, new_frame, no_statistics}
 use Rattle.ss_machine.specs.Statements.{state_after_result, state_at_place, state_after_assignment, state_with_store}
-use Rattle.ss_machine.specs.Statements.{state_with_value, state_with_values, state_with_taken, entity_named, ways_here}
-use Rattle.ss_machine.specs.Statements.Assigning.{target_of, state_after_assign}
+use Rattle.ss_machine.specs.Statements.{state_with_value, state_with_values, state_with_taken, ways_here}
+use Rattle.ss_machine.specs.Statements.Assigning.{target_of}
 use Rattle.ss_machine.specs.Statements.Calling.{state_after_return, state_after_section, state_behind_call}
 use Rattle.ss_machine.specs.Statements.Calling.{state_behind_mark, state_without_entry, state_after_event}
 use Rattle.ss_machine.specs.Statements.Calling.{state_behind_place}
-use Rattle.ss_machine.specs.Statements.Entities.{state_after_create, number_asked, state_after_create_every}
-use Rattle.ss_machine.specs.Statements.Entities.{state_after_destroy, state_after_making, store_without}
-use Rattle.ss_machine.specs.Statements.Filing.{state_after_remove, state_after_filing}
-use Rattle.ss_machine.specs.Statements.Filing.{which_at, how_at, how_asked, state_after_file, state_after_remove_end}
 use Rattle.ss_machine.specs.Statements.Looping.{state_after_phrase, state_after_reset, candidate_tried}
 use Rattle.ss_machine.specs.Statements.Looping.{state_after_turn, state_after_verdict, state_with_candidate}
 use Rattle.ss_machine.specs.Statements.Looping.{state_with_loops, state_with_found, state_with_statistics}
 use Rattle.ss_machine.specs.Statements.Looping.{statistic_value, state_after_telling}
-use Rattle.ss_machine.specs.Statements.Printing.{step_output}
 use Rattle.ss_machine.specs.Statements.Reading.{values_taken}
-use Rattle.ss_machine.specs.Step.{step, step_at, step_by}
+use Rattle.ss_machine.specs.Step.{step_at}
 
 -- what is said of a state that neither frames, status and variables say, nor the data taken and the entry, nor
 -- attributes
@@ -81,10 +67,6 @@ pub record Ignores (P : State → Type 0) : Type 0 where
   pub attribute : (s : State) (c a k : ℕ) (z : ℤ) → P s →
       Got (λ (st : Store). P (state_with_store s st)) (with_attribute s.store c a k z)
 
--- nor the store
-abbrev pub IgnoresStore : (State → Type 0) → Type 0
-IgnoresStore P = (s : State) (st : Store) → P s → P (state_with_store s st)
-
 -- nor the report
 abbrev pub IgnoresReport : (State → Type 0) → Type 0
 IgnoresReport P = (s : State) (bytes : List ℕ) → P s → P (record s { report = bytes })
@@ -95,25 +77,25 @@ module _ {P : State → Type 0} (i : Ignores P) where
   settled s (Ok x) f p h = h x
   settled s (Err e) f p h = i.status s (Faulted e) p
 
-  got : {A : Type 0} (Q : A → Type 0) (s : State) (r : Result A RunFault) (f : A → State) → P s → Got Q r →
+  pub got : {A : Type 0} (Q : A → Type 0) (s : State) (r : Result A RunFault) (f : A → State) → P s → Got Q r →
       ((x : A) → Q x → P (f x)) → P (state_after_result s r f)
   got Q s (Ok x) f p g h = h x g
   got Q s (Err e) f p g h = i.status s (Faulted e) p
 
   -- whatever was got before
-  then_got : {A : Type 0} (r : Result A RunFault) (f : A → Result State RunFault) → ((x : A) → Got P (f x)) →
+  pub then_got : {A : Type 0} (r : Result A RunFault) (f : A → Result State RunFault) → ((x : A) → Got P (f x)) →
       Got P (r >>= f)
   then_got r f h = after_got (λ _. Unit {0}) P r f (anything r) (λ x _. h x)
 
-  placed : (s : State) (n : ℕ) → P s → P (state_at_place n s)
+  pub placed : (s : State) (n : ℕ) → P s → P (state_at_place n s)
   placed s n p = i.frames s (record s.frame { place = n }) s.below p
 
-  assigned : (s : State) (v : Variable) (x : ℤ) → P s → P (state_after_assignment s v x)
+  pub assigned : (s : State) (v : Variable) (x : ℤ) → P s → P (state_after_assignment s v x)
   assigned s (Global k) x p = i.variables s (slice_set s.variables k x) p
   assigned s (Local k) x p = i.frames s (record s.frame { locals = slice_set s.frame.locals k x }) s.below p
   assigned s Clock x p = p
 
-  value : (t : Tables) (s : State) (x : Target) (z : ℤ) → P s → Got P (state_with_value t s x z)
+  pub value : (t : Tables) (s : State) (x : Target) (z : ℤ) → P s → Got P (state_with_value t s x z)
   value t s (targets.Variable v) z p = assigned s v z p
   value t s (targets.Attribute c a e) z p =
       then_got (subscript_value (readings t s) e) _ (λ x.
@@ -266,46 +248,3 @@ module _ {P : State → Type 0} (i : Ignores P) where
       settled s _ _ p (λ bytes. placed (record s { report = bytes }) w.next (r s bytes p))
   by_output q s w (Skip e) r p =
       settled s _ _ p (λ bytes. placed (record s { report = bytes }) w.next (r s bytes p))
-
-  -- ---- where it ignores the store
-
-  making : (t : Tables) (s : State) (m : Making) → IgnoresStore P → P s → Got P (state_after_making t s m)
-  making t s (Create c is_called target) h p =
-      then_got (with_new s.store c (class_of t c)) _ (λ st.
-      then_got (number_value (last_reference st)) _ (λ x. value t (state_with_store s st) target x (h s st p)))
-  making t s (CreateEvery c e count) h p =
-      then_got (number_asked (readings t s) e count) _ (λ n.
-      then_got (with_class s.store c (class_of t c) n) _ (λ st.
-      assigned (state_with_store s st) (Global count) n (h s st p)))
-  making t s (Destroy c is_called e) h p =
-      then_got (value_of (readings t s) e >>= entity_named s.store c >>= store_without t s c) _ (λ st. h s st p)
-
-  file : (t : Tables) (s : State) (r : SetRef) (x : ℤ) (how : How) → IgnoresStore P → P s →
-      Got P (state_after_file t s r x how)
-  file t s r x how h p =
-      then_got (subscript_value (readings t s) r.owner) _ (λ o.
-      then_got (after_filing (set_of t r.set) s.store (number_of o) (number_of x) how) _ (λ st. h s st p))
-
-  filing : (t : Tables) (s : State) (f : Filing) → IgnoresStore P → P s → Got P (state_after_filing t s f)
-  filing t s (File e position r) h p =
-      then_got (value_of (readings t s) e) _ (λ x.
-      then_got (how_asked (readings t s) position) _ (λ how. file t s r x how h p))
-  filing t s (FileAt end e r) h p = then_got (value_of (readings t s) e) _ (λ x. file t s r x (how_at end) h p)
-  filing t s (RemoveAt end target r) h p =
-      then_got (subscript_value (readings t s) r.owner) _ (λ o.
-      then_got (after_removing (set_of t r.set) s.store (number_of o) (which_at end)) _ (λ k.
-      then_got (number_value k.0) _ (λ x. value t (state_with_store s k.1) target x (h s k.1 p))))
-  filing t s (Remove e r) h p =
-      then_got (value_of (readings t s) e) _ (λ x.
-      then_got (subscript_value (readings t s) r.owner) _ (λ o.
-      then_got (after_removing (set_of t r.set) s.store (number_of o) (which.Member x)) _ (λ k. h s k.1 p)))
-
-  -- what makes or ends entities leaves it
-  pub by_making : (q : ProgramTable) (s : State) (w : Ways) (m : Making) → IgnoresStore P → P s →
-      P (step_at q s w (places.Making m))
-  by_making q s w m h p = got P s _ _ p (making (tables_of q) s m h p) (λ r g. placed r w.next g)
-
-  -- and what files or removes
-  pub by_filing : (q : ProgramTable) (s : State) (w : Ways) (f : Filing) → IgnoresStore P → P s →
-      P (step_at q s w (places.Filing f))
-  by_filing q s w f h p = got P s _ _ p (filing (tables_of q) s f h p) (λ r g. placed r w.next g)

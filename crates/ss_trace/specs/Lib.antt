@@ -5,4 +5,6 @@ pub mod Turn
 pub mod View
 pub mod Laws
 pub mod History
+pub mod Sight
 pub mod Touches
+pub mod Reading

@@ -31,7 +31,7 @@ pub enum Kept {
 }
 
 /// The kept attribute whose name begins with two bytes.
-fn kept_of(head: &[u8]) -> Option<Kept>
+pub fn kept_of(head: &[u8]) -> Option<Kept>
     ensures { result ≡ kept_of head.now }
 {
     if head == b"F.".as_slice() {
@@ -65,7 +65,7 @@ fn is_owned_by(owner: Owner, class: usize) -> bool
 }
 
 /// Whether the entities of a class have a kept attribute in a set.
-fn has_kept(program: &Program, class: usize, set: usize, kept: Kept) -> bool
+pub fn has_kept(program: &Program, class: usize, set: usize, kept: Kept) -> bool
     requires { set < length program.now.sets }
     ensures { result ≡ has_kept (set_of program.now set) class kept }
 {
@@ -85,7 +85,7 @@ fn member_number(member: Result<Option<u32>, RunFault>) -> u32
 }
 
 /// The value of a kept attribute in a set.
-fn kept_value<S: SetBoard>(store: &Store<S>, set: usize, x: i64, kept: Kept) -> u32
+pub fn kept_value<S: SetBoard>(store: &Store<S>, set: usize, x: i64, kept: Kept) -> u32
     requires { set < length store.now.tables.sets }
     ensures { result ≡ kept_value (tables.set_of store.now.tables set) store.now.state
         (number_of x) kept }

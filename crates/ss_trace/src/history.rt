@@ -6,7 +6,7 @@ ghost use Rattle.ss_machine.specs.declared.limits.TheConstants.{LAST_POSITION};
 ghost use Rattle.ss_debug.specs.Move.{is_ready_at};
 ghost use Rattle.ss_debug.specs.View.{debugger_state_of};
 ghost use Rattle.ss_trace.specs.Question.{answer_at};
-ghost use Rattle.ss_trace.specs.Touches.{part_of};
+ghost use Rattle.ss_trace.specs.Reading.{IsReadAt};
 ghost use Rattle.ss_trace.specs.History.{history, step_rows, history_text, newest_change};
 ghost use Rattle.ss_trace.specs.History.{why_head, why_line, why_change};
 ghost use Rattle.ss_trace.specs.View.{IsAt, IsBetween, HasLookedBack};
@@ -27,13 +27,11 @@ fn back_to_newest<S: SetBoard>(
     question: &Question,
     reading: &mut Reading,
 ) -> Result<Option<Vec<u8>>, AllocError>
-    requires answer { reading.old.answer.items
-        ≡ answer_at debugger.old.machine.input question.now (position debugger.old.machine) }
-    requires part { reading.old.part ≡ part_of question.now }
-    ensures part { reading.new.part ≡ reading.old.part }
+    requires { IsReadAt debugger.old.machine.input question.now (position debugger.old.machine)
+        reading.old }
     ensures gone { OnOk result (HasLookedBack debugger.old debugger.new) }
-    ensures reading { OnOk result (reading.new.answer.items
-        ≡ answer_at debugger.old.machine.input question.now (position debugger.new.machine)) }
+    ensures reading { OnOk result (IsReadAt debugger.old.machine.input question.now
+        (position debugger.new.machine) reading.new) }
     ensures found { IfOk result (λ found. MatchOption found
         (history debugger.old.machine.input question.now debugger.old.machine.forgotten
         (position debugger.old.machine) ≡ [])

@@ -1,19 +1,21 @@
-//! Which parts of a state a step may change.
+//! Which parts of a state a step may change that no glance tells.
 ghost use Rattle.std.specs.Prelude.{◌≡◌};
 ghost use Rattle.ss_machine.specs.Moment.{position};
-ghost use Rattle.ss_trace.specs.Touches.{touches, touches_at, part_of};
+ghost use Rattle.ss_trace.specs.Touches.{touches, touches_in, touches_at, part_of};
 
 use crate::question::Question;
 use ss_debug::{Debugger, Question as Shown};
 use ss_links::SetBoard;
-use ss_program::Place;
+use ss_program::{Making, Place};
 
-/// A part of a state at which a question looks.
+/// A part of a state at which a question looks beside its glance.
 #[derive(Clone, Copy, Debug, PartialEq, Eq)]
 pub enum Part {
     /// Any part.
     Anything,
-    /// The lists of sets.
+    /// None: its glance tells all.
+    Nothing,
+    /// The lists of sets, whose members are counted at a glance.
     Lists,
     /// The pending notices.
     Notices,
@@ -26,10 +28,11 @@ pub fn part_of(question: &Question) -> Part
     ensures { result ≡ part_of question.now }
 {
     match question {
-        Question::Shown(Shown::Set(_, Some(_))) => Part::Lists,
+        Question::Shown(Shown::Where | Shown::Entity(_, _)) => Part::Anything,
+        Question::Shown(Shown::Set(_, _)) => Part::Lists,
         Question::Shown(Shown::Events) => Part::Notices,
         Question::Shown(Shown::Report) => Part::Report,
-        _ => Part::Anything,
+        _ => Part::Nothing,
     }
 }
 
@@ -37,12 +40,24 @@ pub fn part_of(question: &Question) -> Part
 fn touches(part: Part, place: &Place) -> bool
     ensures { result ≡ touches part place.now }
 {
-    match place {
-        Place::Making(_) | Place::Filing(_) => matches!(part, Part::Anything | Part::Lists),
-        Place::Output(_) => matches!(part, Part::Anything | Part::Report),
-        Place::Timing(_) => true,
-        _ => matches!(part, Part::Anything),
+    match (part, place) {
+        (Part::Anything, _) => true,
+        (Part::Lists, Place::Making(Making::CreateEvery { .. })) => true,
+        (Part::Notices, Place::Timing(_)) => true,
+        (Part::Report, Place::Output(_)) => true,
+        _ => false,
     }
+}
+
+/// Whether the step of the place where the debugger stands may change a part.
+fn touches_by_place<S: SetBoard>(debugger: &Debugger<S>, part: Part) -> bool
+    ensures { result
+        ≡ touches_in debugger.now.machine.input.program part debugger.now.machine.state }
+{
+    let machine = debugger.machine();
+    machine.known();
+    let (section, place) = machine.place();
+    touches(part, &machine.program().spot(section, place).place)
 }
 
 /// Whether the step from where the debugger stands may change a part.
@@ -50,8 +65,12 @@ pub fn touches_here<S: SetBoard>(debugger: &Debugger<S>, part: Part) -> bool
     ensures { result
         ≡ touches_at debugger.now.machine.input part (position debugger.now.machine) }
 {
-    let machine = debugger.machine();
-    machine.known();
-    let (section, place) = machine.place();
-    touches(part, &machine.program().spot(section, place).place)
+    debugger.machine().known();
+    match part {
+        Part::Anything => true,
+        Part::Nothing => false,
+        Part::Lists => touches_by_place(debugger, Part::Lists),
+        Part::Notices => touches_by_place(debugger, Part::Notices),
+        Part::Report => touches_by_place(debugger, Part::Report),
+    }
 }

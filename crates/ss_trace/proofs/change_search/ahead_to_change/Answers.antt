@@ -6,24 +6,32 @@ use Rattle.ss_debug.specs.Move.{StopCondition, stops}
 use Rattle.ss_debug.proofs.Moves.{least_is, least_at_least}
 use Rattle.ss_trace.specs.Question.{answer_at}
 use Rattle.ss_trace.specs.Movements.{ahead_condition, has_changed}
+use Rattle.ss_trace.specs.Sight.{seen_at, is_same_glance}
 use Rattle.ss_trace.specs.Touches.{touches_at, part_of}
+use Rattle.ss_trace.specs.Reading.{IsReadAt}
 use Rattle.ss_trace.proofs.Refused.{on_err}
 use Rattle.ss_trace.proofs.Changes.{stops_here, met_behind, changes_between}
-use Rattle.ss_trace.proofs.Skips.{untouched}
+use Rattle.ss_trace.proofs.Glances.{same_is, unseen}
 use Rattle.ss_trace.proofs.change_search.ahead_to_change.Goals as goal
 
-pub follow-requires : goal.follow-requires
-follow-requires g c = λ e.
+pub follow-requires-looks : goal.follow-requires-looks
+follow-requires-looks g c = rw (c.in_ok-step_once.ensures.ok.input, c.loop-k.invariant.input) c.loop-k.invariant.reading.looks
+
+pub follow-requires-quiet : goal.follow-requires-quiet
+follow-requires-quiet g c = λ e s.
     let m = c.args.debugger.now.machine in
     let l = c.loop-k.debugger in
     let held = c.loop-k.invariant in
     let x = c.args.question.now in
     let gone = c.in_ok-step_once.ensures.ok in
+    let u = c.step_once.new.debugger.machine in
     let quiet : touches_at m.input (part_of x) (position l.machine) ≡ false =
-    sym (rw (held.input, held.part) at c.may_change-touched.ensures) ∙ e in
+    sym (rw (held.input, held.reading.looks.part) at c.may_change-touched.ensures) ∙ e in
+    let same : is_same_glance c.loop-k.reading.glance (seen_at m.input x (position u)) ≡ true =
+    rw (gone.input, held.input) at s in
     rw (gone.input, held.input)
-    (held.reading ∙ sym (untouched m.input x (position l.machine) (position c.step_once.new.debugger.machine)
-    gone.position quiet))
+    (held.reading.answer ∙ sym (unseen m.input x (position l.machine) (position u) gone.position quiet
+    (sym (same_is _ _ same) ∙ held.reading.glance)))
 
 pub returns-then-is_at_stop-clause-ok : goal.returns-then-is_at_stop-clause-ok
 returns-then-is_at_stop-clause-ok g c =
@@ -106,21 +114,20 @@ loop-k-preserved g c =
     stops_here m.input l.machine.input d.breaks l.breaks x (position m) (position l.machine)
     c.loop-k._k c.position-from.result held.input held.breaks held.stepped from in
     let at_k : stops m.input condition (position m) c.loop-k._k ≡ false = rw here (sym c.if-is_at_stop.ensures) in
-    let read : c.follow.new.self.answer.items ≡ answer_at m.input x (position c.step_once.new.debugger.machine) =
+    let followed : IsReadAt m.input x (position c.step_once.new.debugger.machine) c.follow.new.self =
     rw (gone.input, held.input) at c.in_ok-follow.ensures.ok in
     let behind : c.follow.new.self.answer.items ≡ answer_at m.input x (position l.machine + 1) =
-    read ∙ ap (λ (q : ℕ). answer_at m.input x q) gone.position in
+    followed.answer ∙ ap (λ (q : ℕ). answer_at m.input x q) gone.position in
     record {
       input = rw gone.input held.input;
       forgotten = rw gone.forgotten held.forgotten;
       breaks = rw gone.breaks held.breaks;
       stepped = omega (arith, held.stepped, gone.position);
-      part = c.follow.ensures.part ∙ held.part;
-      reading = read;
+      reading = followed;
       met =
           c.is_some-met.ensures ∙ c.in_ok-follow.ensures.whether
           ∙ sym (changes_between m.input x (position l.machine) c.loop-k.reading.answer.items
-          c.follow.new.self.answer.items held.reading behind)
+          c.follow.new.self.answer.items held.reading.answer behind)
           ∙ sym (met_behind m.input x (position m) (position l.machine) (position c.step_once.new.debugger.machine)
           (omega (arith, held.stepped)) gone.position);
       went_on = λ j h.

@@ -1,9 +1,8 @@
 use Rattle.std.proofs.Common.{◌≡◌, ℕ, ◌+◌, ◌<◌, false}
 use Rattle.ss_machine.specs.Moment.{position}
 use Rattle.ss_debug.specs.Move.{stops}
-use Rattle.ss_trace.specs.Question.{answer_at}
 use Rattle.ss_trace.specs.Movements.{ahead_condition, has_changed, is_met}
-use Rattle.ss_trace.specs.Touches.{part_of}
+use Rattle.ss_trace.specs.Reading.{IsReadAt}
 use Rattle.ss_trace.proofs.change_search.ahead_to_change.Given as goal
 
 abbrev pub invariant-loop-k : goal.invariant-loop-k
@@ -12,9 +11,7 @@ invariant-loop-k g l = record {
   forgotten : l.debugger.machine.forgotten ≡ l.initial.debugger.machine.forgotten;
   breaks : l.debugger.breaks ≡ l.initial.debugger.breaks;
   stepped : position l.debugger.machine ≡ position l.initial.debugger.machine + l._k;
-  part : l.reading.part ≡ part_of l.question;
-  reading : l.reading.answer.items
-      ≡ answer_at l.initial.debugger.machine.input l.question (position l.debugger.machine);
+  reading : IsReadAt l.initial.debugger.machine.input l.question (position l.debugger.machine) l.reading;
   met : l.met ≡ is_met (has_changed l.initial.debugger.machine.input l.question)
       (position l.initial.debugger.machine) (position l.debugger.machine);
   went_on : (j : ℕ) → j < l._k →

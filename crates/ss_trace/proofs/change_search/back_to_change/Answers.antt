@@ -5,14 +5,19 @@ use Rattle.ss_machine.specs.Moment.{position}
 use Rattle.ss_debug.specs.Move.{stops_back}
 use Rattle.ss_debug.proofs.Moves.{search_back_is, least_at_least}
 use Rattle.ss_trace.specs.Question.{answer_at, changes_at}
+use Rattle.ss_trace.specs.Sight.{seen_at, is_same_glance}
 use Rattle.ss_trace.specs.Touches.{touches_at, part_of}
+use Rattle.ss_trace.specs.Reading.{IsReadAt}
 use Rattle.ss_trace.proofs.Refused.{on_err}
 use Rattle.ss_trace.proofs.Changes.{same_turned, stops_back_where, unmet_back, changes_between}
-use Rattle.ss_trace.proofs.Skips.{untouched}
+use Rattle.ss_trace.proofs.Glances.{same_is, unseen}
 use Rattle.ss_trace.proofs.change_search.back_to_change.Goals as goal
 
-pub follow-requires : goal.follow-requires
-follow-requires g c = λ e.
+pub follow-requires-looks : goal.follow-requires-looks
+follow-requires-looks g c = rw (c.if-not-step_back.ensures.back.input, c.loop-k.invariant.input) c.loop-k.invariant.reading.looks
+
+pub follow-requires-quiet : goal.follow-requires-quiet
+follow-requires-quiet g c = λ e s.
     let m = c.args.debugger.now.machine in
     let l = c.loop-k.debugger in
     let held = c.loop-k.invariant in
@@ -20,9 +25,12 @@ follow-requires g c = λ e.
     let u = c.step_back.new.self.machine in
     let gone = c.if-not-step_back.ensures.back in
     let quiet : touches_at m.input (part_of x) (position u) ≡ false =
-    sym (rw (gone.input, held.input, held.part) at c.may_change-touched.ensures) ∙ e in
+    sym (rw (gone.input, held.input, held.reading.looks.part) at c.may_change-touched.ensures) ∙ e in
+    let same : is_same_glance c.loop-k.reading.glance (seen_at m.input x (position u)) ≡ true =
+    rw (gone.input, held.input) at s in
     rw (gone.input, held.input)
-    (held.reading ∙ untouched m.input x (position u) (position l.machine) gone.position quiet)
+    (held.reading.answer ∙ unseen m.input x (position u) (position l.machine) gone.position quiet
+    (sym held.reading.glance ∙ same_is _ _ same))
 
 pub returns-then-not-step_back-clause-ok : goal.returns-then-not-step_back-clause-ok
 returns-then-not-step_back-clause-ok g c =
@@ -77,12 +85,12 @@ returns-then-is_some-clause-ok g c =
     let test : ℕ → Bool = changes_at m.input x in
     let back : position l ≡ position u + 1 = gone.position in
     let come : position m ≡ position u + (c.loop-k._k + 1) = omega (arith, held.stepped, back) in
-    let read : c.follow.new.self.answer.items ≡ answer_at m.input x (position u) =
+    let followed : IsReadAt m.input x (position u) c.follow.new.self =
     rw (gone.input, held.input) at c.in_ok-follow.ensures.ok in
     let behind : c.loop-k.reading.answer.items ≡ answer_at m.input x (position u + 1) =
-    held.reading ∙ ap (λ (q : ℕ). answer_at m.input x q) back in
+    held.reading.answer ∙ ap (λ (q : ℕ). answer_at m.input x q) back in
     let yes : test (position u) ≡ true =
-    changes_between m.input x (position u) c.follow.new.self.answer.items c.loop-k.reading.answer.items read behind
+    changes_between m.input x (position u) c.follow.new.self.answer.items c.loop-k.reading.answer.items followed.answer behind
     ∙ ap not (same_turned c.follow.new.self.answer.items c.loop-k.reading.answer.items)
     ∙ sym c.in_ok-follow.ensures.whether ∙ sym c.is_some.ensures ∙ c.if-is_some.true in
     let ends =
@@ -107,12 +115,12 @@ loop-k-preserved g c =
     let test : ℕ → Bool = changes_at m.input x in
     let back : position l ≡ position u + 1 = gone.position in
     let come : position m ≡ position u + (c.loop-k._k + 1) = omega (arith, held.stepped, back) in
-    let read : c.follow.new.self.answer.items ≡ answer_at m.input x (position u) =
+    let followed : IsReadAt m.input x (position u) c.follow.new.self =
     rw (gone.input, held.input) at c.in_ok-follow.ensures.ok in
     let behind : c.loop-k.reading.answer.items ≡ answer_at m.input x (position u + 1) =
-    held.reading ∙ ap (λ (q : ℕ). answer_at m.input x q) back in
+    held.reading.answer ∙ ap (λ (q : ℕ). answer_at m.input x q) back in
     let no : test (position u) ≡ false =
-    changes_between m.input x (position u) c.follow.new.self.answer.items c.loop-k.reading.answer.items read behind
+    changes_between m.input x (position u) c.follow.new.self.answer.items c.loop-k.reading.answer.items followed.answer behind
     ∙ ap not (same_turned c.follow.new.self.answer.items c.loop-k.reading.answer.items)
     ∙ sym c.in_ok-follow.ensures.whether ∙ sym c.is_some.ensures ∙ c.if-is_some.false in
     let passed : stops_back test (position m) (c.loop-k._k + 1) ≡ false =
@@ -122,8 +130,7 @@ loop-k-preserved g c =
       forgotten = rw gone.forgotten held.forgotten;
       breaks = rw c.if-not-step_back.ensures.breaks held.breaks;
       stepped = come;
-      part = c.follow.ensures.part ∙ held.part;
-      reading = read;
+      reading = followed;
       went_on = λ j h.
           below_more (λ i. stops_back test (position m) i ≡ false) (c.loop-k._k + 1)
           (λ i g. held.went_on i g) passed j (omega arith);

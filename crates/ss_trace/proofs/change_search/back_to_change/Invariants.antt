@@ -1,8 +1,8 @@
 use Rattle.std.proofs.Common.{◌≡◌, ℕ, ◌+◌, ◌<◌, false}
 use Rattle.ss_machine.specs.Moment.{position}
 use Rattle.ss_debug.specs.Move.{stops_back}
-use Rattle.ss_trace.specs.Question.{answer_at, changes_at}
-use Rattle.ss_trace.specs.Touches.{part_of}
+use Rattle.ss_trace.specs.Question.{changes_at}
+use Rattle.ss_trace.specs.Reading.{IsReadAt}
 use Rattle.ss_trace.proofs.change_search.back_to_change.Given as goal
 
 abbrev pub invariant-loop-k : goal.invariant-loop-k
@@ -11,9 +11,7 @@ invariant-loop-k g l = record {
   forgotten : l.debugger.machine.forgotten ≡ l.initial.debugger.machine.forgotten;
   breaks : l.debugger.breaks ≡ l.initial.debugger.breaks;
   stepped : position l.initial.debugger.machine ≡ position l.debugger.machine + l._k;
-  part : l.reading.part ≡ part_of l.question;
-  reading : l.reading.answer.items
-      ≡ answer_at l.initial.debugger.machine.input l.question (position l.debugger.machine);
+  reading : IsReadAt l.initial.debugger.machine.input l.question (position l.debugger.machine) l.reading;
   went_on : (j : ℕ) → j < l._k + 1 →
       stops_back (changes_at l.initial.debugger.machine.input l.question)
       (position l.initial.debugger.machine) j ≡ false;

@@ -3,25 +3,29 @@ use Rattle.std.specs.Prelude.{not}
 use Rattle.ss_machine.specs.Moment.{position}
 use Rattle.ss_debug.specs.Move.{is_ready_at}
 use Rattle.ss_trace.specs.Question.{answer_at, changes_at}
+use Rattle.ss_trace.specs.Sight.{seen_at, is_same_glance}
 use Rattle.ss_trace.specs.Touches.{touches_at, part_of}
+use Rattle.ss_trace.specs.Reading.{IsReadAt}
 use Rattle.ss_trace.specs.View.{HasLookedBack}
 use Rattle.ss_trace.proofs.Refused.{on_err}
 use Rattle.ss_trace.proofs.Changes.{same_turned, changes_between}
 use Rattle.ss_trace.proofs.Histories.{none_before, passed, found, found_before}
 use Rattle.ss_trace.proofs.Looking.{looked_nowhere, looked_further, looked_between}
-use Rattle.ss_trace.proofs.Skips.{untouched}
+use Rattle.ss_trace.proofs.Glances.{same_is, unseen}
 use Rattle.ss_trace.proofs.history.back_to_newest.Goals as goal
 
 pub loop-debugger-init : goal.loop-debugger-init
 loop-debugger-init g c = record {
   gone = looked_nowhere c.args.debugger.now;
-  part = c.requires.part;
-  reading = c.requires.answer;
+  reading = c.requires;
   left = refl;
 }
 
-pub follow-requires : goal.follow-requires
-follow-requires g c = λ e.
+pub follow-requires-looks : goal.follow-requires-looks
+follow-requires-looks g c = rw (c.loop-debugger-test.ensures.back.input, c.loop-debugger.invariant.gone.input) c.loop-debugger.invariant.reading.looks
+
+pub follow-requires-quiet : goal.follow-requires-quiet
+follow-requires-quiet g c = λ e s.
     let m = c.args.debugger.now.machine in
     let l = c.loop-debugger.debugger in
     let held = c.loop-debugger.invariant in
@@ -29,9 +33,12 @@ follow-requires g c = λ e.
     let u = c.step_back.new.self.machine in
     let gone = c.loop-debugger-test.ensures.back in
     let quiet : touches_at m.input (part_of x) (position u) ≡ false =
-    sym (rw (gone.input, held.gone.input, held.part) at c.may_change-touched.ensures) ∙ e in
+    sym (rw (gone.input, held.gone.input, held.reading.looks.part) at c.may_change-touched.ensures) ∙ e in
+    let same : is_same_glance c.loop-debugger.reading.glance (seen_at m.input x (position u)) ≡ true =
+    rw (gone.input, held.gone.input) at s in
     rw (gone.input, held.gone.input)
-    (held.reading ∙ untouched m.input x (position u) (position l.machine) gone.position quiet)
+    (held.reading.answer ∙ unseen m.input x (position u) (position l.machine) gone.position quiet
+    (sym held.reading.glance ∙ same_is _ _ same))
 
 pub loop-debugger-preserved : goal.loop-debugger-preserved
 loop-debugger-preserved g c =
@@ -45,19 +52,18 @@ loop-debugger-preserved g c =
     let further : HasLookedBack c.args.debugger.now u =
     looked_further c.args.debugger.now l u held.gone gone c.loop-debugger-test.ensures.breaks
     (sym c.is_ready_now.ensures ∙ c.if-not-is_ready_now.false) in
-    let read : c.follow.new.self.answer.items ≡ answer_at m.input x (position u.machine) =
+    let followed : IsReadAt m.input x (position u.machine) c.follow.new.self =
     rw (gone.input, held.gone.input) at c.in_ok-after.ensures.ok in
     let behind : c.loop-debugger.reading.answer.items ≡ answer_at m.input x (position u.machine + 1) =
-    held.reading ∙ ap (λ (q : ℕ). answer_at m.input x q) back in
+    held.reading.answer ∙ ap (λ (q : ℕ). answer_at m.input x q) back in
     let no : changes_at m.input x (position u.machine) ≡ false =
     changes_between m.input x (position u.machine) c.follow.new.self.answer.items c.loop-debugger.reading.answer.items
-    read behind
+    followed.answer behind
     ∙ ap not (same_turned c.follow.new.self.answer.items c.loop-debugger.reading.answer.items)
     ∙ sym c.in_ok-after.ensures.whether ∙ sym c.is_some.ensures ∙ c.if-is_some.false in
     record {
       gone = further;
-      part = c.follow.ensures.part ∙ held.part;
-      reading = read;
+      reading = followed;
       left = held.left ∙ passed (changes_at m.input x) m.forgotten (position l.machine) (position u.machine) back
           (omega (arith, further.forgotten)) no;
     }
@@ -71,13 +77,13 @@ returns-then-is_some-clause-found g c =
     let x = c.args.question.now in
     let gone = c.loop-debugger-test.ensures.back in
     let back : position l.machine ≡ position u.machine + 1 = gone.position in
-    let read : c.follow.new.self.answer.items ≡ answer_at m.input x (position u.machine) =
+    let followed : IsReadAt m.input x (position u.machine) c.follow.new.self =
     rw (gone.input, held.gone.input) at c.in_ok-after.ensures.ok in
     let behind : c.loop-debugger.reading.answer.items ≡ answer_at m.input x (position u.machine + 1) =
-    held.reading ∙ ap (λ (q : ℕ). answer_at m.input x q) back in
+    held.reading.answer ∙ ap (λ (q : ℕ). answer_at m.input x q) back in
     let yes : changes_at m.input x (position u.machine) ≡ true =
     changes_between m.input x (position u.machine) c.follow.new.self.answer.items c.loop-debugger.reading.answer.items
-    read behind
+    followed.answer behind
     ∙ ap not (same_turned c.follow.new.self.answer.items c.loop-debugger.reading.answer.items)
     ∙ sym c.in_ok-after.ensures.whether ∙ sym c.is_some.ensures ∙ c.if-is_some.true in
     found_before c.in_ok-after.after c.loop-debugger.reading.answer.items _ _ _ _

@@ -1,17 +1,14 @@
 use Rattle.std.proofs.Common.{◌≡◌, ℕ}
 use Rattle.ss_machine.specs.Moment.{position}
-use Rattle.ss_trace.specs.Question.{answer_at}
 use Rattle.ss_trace.specs.History.{history}
 use Rattle.ss_trace.specs.View.{HasLookedBack}
-use Rattle.ss_trace.specs.Touches.{part_of}
+use Rattle.ss_trace.specs.Reading.{IsReadAt}
 use Rattle.ss_trace.proofs.history.back_to_newest.Given as goal
 
 abbrev pub invariant-loop-debugger : goal.invariant-loop-debugger
 invariant-loop-debugger g l = record {
   gone : HasLookedBack l.initial.debugger l.debugger;
-  part : l.reading.part ≡ part_of l.question;
-  reading : l.reading.answer.items
-      ≡ answer_at l.initial.debugger.machine.input l.question (position l.debugger.machine);
+  reading : IsReadAt l.initial.debugger.machine.input l.question (position l.debugger.machine) l.reading;
   left : history l.initial.debugger.machine.input l.question l.initial.debugger.machine.forgotten
       (position l.initial.debugger.machine)
       ≡ history l.initial.debugger.machine.input l.question l.initial.debugger.machine.forgotten

@@ -44,7 +44,6 @@ loop-count-preserved g c =
     record {
       gone = gone;
       few = omega (arith, c.loop-count-test.true);
-      part = c.back_to_newest.ensures.part ∙ held.part;
       reading = rw held.gone.input at c.in_ok-after.ensures.reading;
       rows =
           rows_on c.loop-count.bytes.items (step_row t x (position u.machine))

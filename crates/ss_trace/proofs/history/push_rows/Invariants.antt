@@ -1,18 +1,15 @@
 use Rattle.std.proofs.Common.{◌≡◌, ℕ, ◌+◌, ◌-◌, ◌<◌, ◌≤◌, ◌++◌, true, take, length}
 use Rattle.ss_machine.specs.Moment.{position}
-use Rattle.ss_trace.specs.Question.{answer_at}
 use Rattle.ss_trace.specs.History.{history, step_rows}
 use Rattle.ss_trace.specs.View.{HasLookedBack}
-use Rattle.ss_trace.specs.Touches.{part_of}
+use Rattle.ss_trace.specs.Reading.{IsReadAt}
 use Rattle.ss_trace.proofs.history.push_rows.Given as goal
 
 abbrev pub invariant-loop-count : goal.invariant-loop-count
 invariant-loop-count g l = record {
   gone : HasLookedBack l.initial.debugger l.debugger;
   few : l.count ≤ l.most;
-  part : l.reading.part ≡ part_of l.question;
-  reading : l.reading.answer.items
-      ≡ answer_at l.initial.debugger.machine.input l.question (position l.debugger.machine);
+  reading : IsReadAt l.initial.debugger.machine.input l.question (position l.debugger.machine) l.reading;
   rows : l.bytes.items
       ++ step_rows l.initial.debugger.machine.input l.question
       (take (l.most - l.count) (history l.initial.debugger.machine.input l.question

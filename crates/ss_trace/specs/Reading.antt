@@ -1,0 +1,26 @@
+-- Private: the answer to a question that is followed from state to state.
+use Rattle.std.specs.Prelude.{ℕ, ◌≡◌}
+use Rattle.ss_machine.specs.Run.{Input}
+use Rattle.ss_trace.specs.declared.question.Question.{Question}
+use Rattle.ss_trace.specs.declared.reading.Reading.{Reading}
+use Rattle.ss_trace.specs.Question.{answer_at}
+use Rattle.ss_trace.specs.Sight.{sight_of, IsInTables, seen_at}
+use Rattle.ss_trace.specs.Touches.{part_of}
+
+-- it looks where the question does
+pub record Looks (t : Input) (x : Question) (r : Reading) : Type 0 where
+  -- in the tables
+  pub sight : r.sight ≡ sight_of t.program x
+  -- which have such rows
+  pub within : IsInTables t.program r.sight
+  -- beside what is seen at a glance
+  pub part : r.part ≡ part_of x
+
+-- the same, and it was read in state p
+pub record IsReadAt (t : Input) (x : Question) (p : ℕ) (r : Reading) : Type 0 where
+  -- where it looks
+  pub looks : Looks t x r
+  -- what was seen
+  pub glance : r.glance ≡ seen_at t x p
+  -- the answer
+  pub answer : r.answer.items ≡ answer_at t x p

@@ -1,0 +1,164 @@
+-- What is read of a state at a glance, for a question: where it is the same on both sides of a step that touches no other
+-- part at which the question looks, the answer is.
+use Rattle.std.specs.Prelude.{ℕ, ◌<◌, ◌==◌, ◌&&◌, ℤ, pos, Bool, true, false, List, [], codes, length, take, drop}
+use Rattle.std.specs.Prelude.{Option, Some, None, option_map, position, bytes_eq, slice_get, slice_index_or}
+use Rattle.std.specs.Prelude.{if◌then◌else◌}
+use Rattle.std.specs.Ordering.{int_eq}
+use Rattle.std.specs.Result.{result_unwrap_or}
+use Rattle.ss_program.specs.declared.kinds.Owner.{Owner}
+use Rattle.ss_program.specs.declared.kinds.Owner.TheVariants.{System, OwnedBy}
+use Rattle.ss_program.specs.Program.{ProgramTable, class_of, set_of, locals_of}
+use Rattle.ss_store.specs.declared.shape.SetShape.{SetShape}
+use Rattle.ss_store.specs.Store.{Store, number_of, exists, attribute_of, list_by}
+use Rattle.ss_machine.specs.declared.entry.Entry.{Entry}
+use Rattle.ss_machine.specs.declared.entry.Entry.TheVariants as entries
+use Rattle.ss_machine.specs.State.{State}
+use Rattle.ss_machine.specs.Run.{Input, run}
+use Rattle.ss_debug.specs.declared.commands.Question.TheVariants as shown
+use Rattle.ss_debug.specs.Entities.{class_named, set_named, shape_of}
+use Rattle.ss_trace.specs.declared.question.Question.{Question}
+use Rattle.ss_trace.specs.declared.question.Question.TheVariants.{Shown, Attribute as AttributeOf, Count as CountOf}
+use Rattle.ss_trace.specs.declared.attribute.Kept.{Kept as KeptKind}
+use Rattle.ss_trace.specs.declared.sight.Sight.{Sight}
+use Rattle.ss_trace.specs.declared.sight.Sight.TheVariants.{Nothing, Clock, Global, Local, Taken, Entry as EntryHere}
+use Rattle.ss_trace.specs.declared.sight.Sight.TheVariants.{Living, Attribute, Kept, Members, MembersNamed}
+use Rattle.ss_trace.specs.declared.glance.Glance.{Glance}
+use Rattle.ss_trace.specs.declared.glance.Glance.TheVariants as glances
+use Rattle.ss_trace.specs.Question.{kept_of, has_kept, kept_value}
+
+-- ---- where a question looks: what its names stand for in the tables of a program
+
+-- VAR v: the clock, a global variable, or else a local of the section of the last frame
+abbrev pub global_or_local : Option ℕ → Sight
+global_or_local (Some i) = Global i
+global_or_local None = Local
+
+-- the same by its name
+abbrev pub sight_of_variable : ProgramTable → List ℕ → Sight
+sight_of_variable p name =
+    if bytes_eq name (codes "TIME.V") then Clock else global_or_local (position (bytes_eq name) p.globals)
+
+-- c k a: a kept attribute in a set, where the entities of class c have it, and else whether the entity exists
+abbrev pub sight_of_kept : ProgramTable → ℕ → ℤ → Option KeptKind → Option ℕ → Sight
+sight_of_kept p c x (Some kept) (Some s) = if has_kept (set_of p s) c kept then Kept c s kept x else Living c x
+sight_of_kept p c x (Some kept) None = Living c x
+sight_of_kept p c x None s = Living c x
+
+-- an attribute by its number, or else a kept one
+abbrev pub sight_of_attribute : ProgramTable → ℕ → ℤ → List ℕ → Option ℕ → Sight
+sight_of_attribute p c x name (Some a) = Attribute c a x
+sight_of_attribute p c x name None = sight_of_kept p c x (kept_of (take 2 name)) (set_named p (drop 2 name))
+
+-- the same of a class, if there is one of this name
+abbrev pub sight_of_class : ProgramTable → ℤ → List ℕ → Option ℕ → Sight
+sight_of_class p x name None = Nothing
+sight_of_class p x name (Some c) =
+    sight_of_attribute p c x name (position (bytes_eq name) (class_of p c).attributes)
+
+-- SET s [k], COUNT s [k]: the list of a set of the system, or of an owner that is named, or that a variable names
+abbrev pub sight_of_list : ProgramTable → ℕ → Option ℤ → Owner → Sight
+sight_of_list p s None System = Members s (pos 0)
+sight_of_list p s (Some x) System = Nothing
+sight_of_list p s None (OwnedBy c) = MembersNamed s (class_of p c).variable
+sight_of_list p s (Some x) (OwnedBy c) = Members s x
+
+-- the same of a set, if there is one of this name
+abbrev pub sight_of_set : ProgramTable → Option ℤ → Option ℕ → Sight
+sight_of_set p owner None = Nothing
+sight_of_set p owner (Some s) = sight_of_list p s owner (set_of p s).owner
+
+-- where a question looks
+abbrev pub sight_of : ProgramTable → Question → Sight
+sight_of p (Shown shown.Clock) = Clock
+sight_of p (Shown shown.Where) = Nothing
+sight_of p (Shown (shown.Variable name)) = sight_of_variable p name
+sight_of p (Shown (shown.Entity name x)) = Nothing
+sight_of p (Shown (shown.Set name owner)) = sight_of_set p owner (set_named p name)
+sight_of p (Shown shown.Events) = Nothing
+sight_of p (Shown shown.Taken) = Taken
+sight_of p (Shown shown.Entry) = EntryHere
+sight_of p (Shown shown.Report) = Nothing
+sight_of p (AttributeOf class x name) = sight_of_class p x name (class_named p class)
+sight_of p (CountOf name owner) = sight_of_set p owner (set_named p name)
+
+-- the rows at which it looks are in the tables
+abbrev pub IsInTables : ProgramTable → Sight → Type 0
+IsInTables p (Global i) = i < length p.globals
+IsInTables p (Kept c s kept x) = s < length p.sets
+IsInTables p (Members s x) = s < length p.sets
+IsInTables p (MembersNamed s i) = (s < length p.sets) × (i < length p.globals)
+IsInTables p _ = Unit {0}
+
+-- ---- what is seen
+
+-- the name of the variable that a question asks for
+abbrev pub variable_asked : Question → List ℕ
+variable_asked (Shown (shown.Variable name)) = name
+variable_asked _ = []
+
+-- the value of the local of this name, if the section of the last frame has one
+abbrev pub local_value : ProgramTable → State → List ℕ → Option ℤ
+local_value p s name =
+    option_map (λ i. slice_index_or s.frame.locals i (pos 0))
+    (position (bytes_eq name) (locals_of (slice_get p.sections s.frame.section)))
+
+-- a value of entity number k of class c, if that exists
+abbrev pub value_if_exists : Store → ℕ → ℕ → ℤ → Option ℤ
+value_if_exists st c k value = if exists st c k then Some value else None
+
+-- how many members the list of a set has for owner number k, if that exists
+abbrev pub members_counted : SetShape → Store → ℕ → Option ℕ
+members_counted shape st k = option_map length (list_by shape.owner shape.list st k)
+
+-- the same of the owner that x names, and that
+abbrev pub members_seen : ProgramTable → Store → ℕ → ℤ → Glance
+members_seen p st s x = glances.Members x (members_counted (shape_of p s) st (number_of x))
+
+-- what is seen of a state there
+abbrev pub seen : ProgramTable → State → Question → Sight → Glance
+seen p s x Nothing = glances.Number None
+seen p s x Clock = glances.Number (Some s.clock)
+seen p s x (Global i) = glances.Number (Some (slice_index_or s.variables i (pos 0)))
+seen p s x Local = glances.Number (local_value p s (variable_asked x))
+seen p s x Taken = glances.Taken s.feed.taken
+seen p s x EntryHere = glances.Entry s.entry
+seen p s x (Living c k) = glances.Number (value_if_exists s.store c (number_of k) (pos 0))
+seen p s x (Attribute c a k) =
+    glances.Number (value_if_exists s.store c (number_of k) (result_unwrap_or (attribute_of s.store c a (number_of k)) (pos 0)))
+seen p s x (Kept c n kept k) =
+    glances.Number (value_if_exists s.store c (number_of k) (pos (kept_value (shape_of p n) s.store (number_of k) kept)))
+seen p s x (Members n k) = members_seen p s.store n k
+seen p s x (MembersNamed n i) = members_seen p s.store n (slice_index_or s.variables i (pos 0))
+
+-- what is seen of state p
+abbrev pub seen_at : Input → Question → ℕ → Glance
+seen_at t x p = seen t.program (run t p) x (sight_of t.program x)
+
+-- ---- two of them
+
+-- the same number, or none in both
+abbrev pub is_same_number : Option ℤ → Option ℤ → Bool
+is_same_number None None = true
+is_same_number (Some x) (Some y) = int_eq x y
+is_same_number _ _ = false
+
+-- the same count, or none in both
+abbrev pub is_same_count : Option ℕ → Option ℕ → Bool
+is_same_count None None = true
+is_same_count (Some n) (Some m) = n == m
+is_same_count _ _ = false
+
+-- the same entry
+abbrev pub is_same_entry : Entry → Entry → Bool
+is_same_entry entries.Absent entries.Absent = true
+is_same_entry (entries.Waiting c k) (entries.Waiting d j) = (c == d) && (k == j)
+is_same_entry (entries.Running c k) (entries.Running d j) = (c == d) && (k == j)
+is_same_entry _ _ = false
+
+-- the same is seen
+abbrev pub is_same_glance : Glance → Glance → Bool
+is_same_glance (glances.Number x) (glances.Number y) = is_same_number x y
+is_same_glance (glances.Taken n) (glances.Taken m) = n == m
+is_same_glance (glances.Entry e) (glances.Entry f) = is_same_entry e f
+is_same_glance (glances.Members x n) (glances.Members y m) = int_eq x y && is_same_count n m
+is_same_glance _ _ = false
