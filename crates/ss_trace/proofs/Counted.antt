@@ -1,5 +1,5 @@
 -- One step changes a list just where it changes how many members it has.
-use Rattle.std.proofs.Common.{◌≡◌, ◌≢◌, ℕ, ℤ, zero, suc, ◌-◌, ◌+◌, ◌≤◌, List, [], ◌∷◌, ◌++◌, Bool, true, false, Option, Some, None}
+use Rattle.std.proofs.Common.{◌≡◌, ◌≢◌, ℕ, ℤ, zero, suc, ◌-◌, ◌+◌, ◌≤◌, List, [], ◌∷◌, ◌++◌, Bool, true, false, Option, Some, None, ◌⊎◌}
 use Rattle.std.proofs.Common.{Result, Ok, Err, refl, sym, ap, ◌∙◌, arith, length, length-append, inl, inr}
 use Rattle.std.specs.Prelude.{slice_get, slice_set, slice_index_or, option_map, option_and_then, is_some, unwrap_or, not}
 use Rattle.std.specs.Prelude.{◌==◌, nat_lt, if◌then◌else◌}
@@ -84,68 +84,68 @@ attribute_counted old st c a k z h =
 -- ---- one list
 
 longer : (xs ys : List ℕ) → length ys ≡ suc (length xs) → Counts xs ys
-longer xs ys e f = absurd (omega (arith, e, f))
+longer xs ys e = λ f. absurd (omega (arith, e, f))
 
-suc_apart : (n m : ℕ) → suc n ≡ suc m → n ≡ m
-suc_apart n m e = omega (arith, e)
+-- one of two: a list that is longer, or the same list but for what follows its first member
+chosen_counts : (b : Bool) (j : ℕ) (ks long rest : List ℕ) → length long ≡ suc (suc (length ks)) → Counts ks rest →
+    Counts (j ∷ ks) (if b then long else j ∷ rest)
+chosen_counts true j ks long rest e h = λ f. absurd (omega (arith, e, f))
+chosen_counts false j ks long rest e h = λ f. ap (λ (l : List ℕ). j ∷ l) (h (omega (arith, f)))
 
 before_counts : (ks : List ℕ) (y k : ℕ) → Counts ks (put_before ks y k)
-before_counts [] y k e = refl
-before_counts (j ∷ ks) y k = chosen (j == y)
-  where
-    chosen : (b : Bool) → Counts (j ∷ ks) (if b then k ∷ j ∷ ks else j ∷ put_before ks y k)
-    chosen true e = absurd (omega (arith, e))
-    chosen false e = ap (λ (l : List ℕ). j ∷ l) (before_counts ks y k (omega (arith, e)))
+before_counts [] y k = λ e. refl
+before_counts (j ∷ ks) y k = chosen_counts (j == y) j ks (k ∷ j ∷ ks) (put_before ks y k) refl (before_counts ks y k)
 
 behind_counts : (ks : List ℕ) (y k : ℕ) → Counts ks (put_behind ks y k)
-behind_counts [] y k e = refl
-behind_counts (j ∷ ks) y k = chosen (j == y)
-  where
-    chosen : (b : Bool) → Counts (j ∷ ks) (if b then j ∷ k ∷ ks else j ∷ put_behind ks y k)
-    chosen true e = absurd (omega (arith, e))
-    chosen false e = ap (λ (l : List ℕ). j ∷ l) (behind_counts ks y k (omega (arith, e)))
+behind_counts [] y k = λ e. refl
+behind_counts (j ∷ ks) y k = chosen_counts (j == y) j ks (j ∷ k ∷ ks) (put_behind ks y k) refl (behind_counts ks y k)
+
+chosen_length : (b : Bool) (j : ℕ) (ks long rest : List ℕ) → length long ≡ suc (suc (length ks)) →
+    length rest ≡ suc (length ks) → length (if b then long else j ∷ rest) ≡ suc (suc (length ks))
+chosen_length true j ks long rest e f = e
+chosen_length false j ks long rest e f = ap suc f
 
 placed_length : (test : ℕ → Bool) (k : ℕ) (ks : List ℕ) → length (placed_before test k ks) ≡ suc (length ks)
 placed_length test k [] = refl
-placed_length test k (j ∷ ks) = chosen (test j)
-  where
-    chosen : (b : Bool) → length (if b then k ∷ j ∷ ks else j ∷ placed_before test k ks) ≡ suc (suc (length ks))
-    chosen true = refl
-    chosen false = ap suc (placed_length test k ks)
+placed_length test k (j ∷ ks) =
+    chosen_length (test j) j ks (k ∷ j ∷ ks) (placed_before test k ks) refl (placed_length test k ks)
 
 last_counts : (ks : List ℕ) (k : ℕ) → Counts ks (ks ++ k ∷ [])
-last_counts ks k e = absurd (omega (arith, e, length-append ks (k ∷ [])))
+last_counts ks k = longer ks (ks ++ k ∷ []) (omega (arith, length-append ks (k ∷ [])))
 
 rule_counts : (d : Discipline) (st : Store) (c k : ℕ) (ks : List ℕ) → Counts ks (filed_by d st c k ks)
 rule_counts Fifo st c k ks = last_counts ks k
-rule_counts Lifo st c k ks e = absurd (omega (arith, e))
+rule_counts Lifo st c k ks = longer ks (k ∷ ks) refl
 rule_counts (Ranked keys) st c k ks = longer ks _ (placed_length (ranks_behind keys st c k) k ks)
 
 filed_counts : (s : SetShape) (st : Store) (how : How) (k : ℕ) (ks : List ℕ) → Counts ks (filed_in s st how k ks)
 filed_counts s st ByRule k ks = rule_counts s.discipline st s.member k ks
-filed_counts s st First k ks e = absurd (omega (arith, e))
+filed_counts s st First k ks = longer ks (k ∷ ks) refl
 filed_counts s st Last k ks = last_counts ks k
 filed_counts s st (Before y) k ks = before_counts ks (number_of y) k
 filed_counts s st (After y) k ks = behind_counts ks (number_of y) k
 
+-- one of two: a list that is shorter, or the same list but for what follows its first member
+dropped_counts : (b : Bool) (j : ℕ) (ks rest : List ℕ) → length rest ≤ length ks → Counts ks rest →
+    Counts (j ∷ ks) (if b then rest else j ∷ rest)
+dropped_counts true j ks rest e h = λ f. absurd (omega (arith, e, f))
+dropped_counts false j ks rest e h = λ f. ap (λ (l : List ℕ). j ∷ l) (h (omega (arith, f)))
+
 without_counts : (ks : List ℕ) (x : ℕ) → Counts ks (list_without ks x)
-without_counts [] x e = refl
-without_counts (j ∷ ks) x = chosen (j == x)
-  where
-    chosen : (b : Bool) → Counts (j ∷ ks) (if b then list_without ks x else j ∷ list_without ks x)
-    chosen true e = absurd (omega (arith, e, length-without ks x))
-    chosen false e = ap (λ (l : List ℕ). j ∷ l) (without_counts ks x (omega (arith, e)))
+without_counts [] x = λ e. refl
+without_counts (j ∷ ks) x =
+    dropped_counts (j == x) j ks (list_without ks x) (omega (arith, length-without ks x)) (without_counts ks x)
 
 -- ---- one list of a store
 
 set_counts : (ls : List (List ℕ)) (n : ℕ) (ks : List ℕ) → Counts (list_number ls n) ks →
     Counts (list_number ls n) (list_number (slice_set ls n ks) n)
-set_counts [] n ks h e = refl
+set_counts [] n ks h = λ e. refl
 set_counts (l ∷ ls) zero ks h = h
 set_counts (l ∷ ls) (suc n) ks h = set_counts ls n ks h
 
 if_counts : (ks new : List ℕ) → Counts ks new → CountsIf (Some ks) (Some new)
-if_counts ks new h e = ap Some (h (unwrapped e))
+if_counts ks new h = λ e. ap Some (h (unwrapped e))
   where
     unwrapped : {a b : ℕ} → Some a ≡ Some b → a ≡ b
     unwrapped f = ap (λ (o : Option ℕ). unwrap_or o 0) f
@@ -154,12 +154,9 @@ if_counts ks new h e = ap Some (h (unwrapped e))
 abbrev listed : ℕ → Option Entity → Option (List ℕ)
 listed n o = option_map (λ (e : Entity). list_number e.owned n) o
 
-members_in : ℕ → Option Entity → List ℕ
-members_in n o = unwrap_or (listed n o) []
-
 entity_counts : (n : ℕ) (ks : List ℕ) (o : Option Entity) → Counts (unwrap_or (listed n o) []) ks →
     CountsIf (listed n o) (listed n (option_map (with_owned n ks) o))
-entity_counts n ks None h e = refl
+entity_counts n ks None h = λ e. refl
 entity_counts n ks (Some x) h =
     if_counts (list_number x.owned n) (list_number (slice_set x.owned n ks) n) (set_counts x.owned n ks h)
 
@@ -212,9 +209,12 @@ here_counts System n st o ks h = if_counts _ _ (set_counts st.system n ks h)
 here_counts (OwnedBy c) n st o ks h = rw (changed_here n ks st c o) (entity_counts n ks (entity st c o) h)
 
 same_counts : (a b : Option (List ℕ)) → b ≡ a → CountsIf a b
-same_counts a b h e = h
+same_counts a b h = λ e. h
 
 -- ---- any list of a store
+
+clash : false ≡ true → ⊥
+clash g = cc
 
 is_or_not : (i j : ℕ) → (i ≡ j) ⊎ (i ≢ j)
 is_or_not i j = chosen (i == j) refl
@@ -222,8 +222,6 @@ is_or_not i j = chosen (i == j) refl
     chosen : (b : Bool) → (i == j) ≡ b → (i ≡ j) ⊎ (i ≢ j)
     chosen true h = inl (eqb-true i j h)
     chosen false h = inr (λ e. clash (sym h ∙ eq-eqb i j e))
-    clash : false ≡ true → ⊥
-    clash g = cc
 
 list_counts : (w : Owner) (n o : ℕ) (v : Owner) (m u : ℕ) (st : Store) (ks : List ℕ) → Counts (members_by w n st o) ks →
     CountsIf (list_by v m st u) (list_by v m (with_list_by w n st o ks) u)
@@ -287,14 +285,14 @@ there n None (Some y) e = cc
 there n (Some x) None e = cc
 
 fits_counts : (n : ℕ) (a b : Option Entity) → Fits a b → CountsIf (listed n a) (listed n b)
-fits_counts n a b h e = ap (listed n) (h (there n a b e))
+fits_counts n a b h = λ e. ap (listed n) (h (there n a b e))
 
 refitted : (st new : Store) → ((c k : ℕ) → Fits (entity st c k) (entity new c k)) → new.system ≡ st.system →
     HasCounted st new
 refitted st new h s = record { each = λ w n k. chosen w n k }
   where
     chosen : (w : Owner) (n k : ℕ) → CountsIf (list_by w n st k) (list_by w n new k)
-    chosen System n k e = ap (λ (ls : List (List ℕ)). Some (list_number ls n)) s
+    chosen System n k = λ e. ap (λ (ls : List (List ℕ)). Some (list_number ls n)) s
     chosen (OwnedBy c) n k = fits_counts n (entity st c k) (entity new c k) (h c k)
 
 none_fits : (y : Option Entity) → Fits None y
@@ -307,7 +305,7 @@ gone_fits (Some y) e = cc
 
 second_fits : (a b y : Option Entity) → Fits b y → Fits (option_or a b) (option_or a y)
 second_fits None b y h = h
-second_fits (Some x) b y h e = refl
+second_fits (Some x) b y h = λ e. refl
 
 added_fits : (d : ℕ) (os : List (Option Entity)) (x : Entity) (j : ℕ) →
     Fits (option_and_then (of_class d) (slice_get os j)) (option_and_then (of_class d) (slice_get (os ++ Some x ∷ []) j))

@@ -1,6 +1,6 @@
 -- What a step leaves as it is where its place makes a store, or changes the pending notices and the clock.
 use Rattle.std.proofs.Common.{ℕ, ℤ, ◌+◌, Bool, true, false, List, [], ◌∷◌, Option, Some, None, Result, Ok, Err}
-use Rattle.std.specs.Prelude.{int_lt}
+use Rattle.std.specs.Prelude.{int_lt, if◌then◌else◌}
 use Rattle.std.specs.List.{range_with_len}
 use Rattle.ss_words.specs.declared.fault.RunFault.{RunFault}
 use Rattle.ss_words.specs.declared.fault.RunFault.TheVariants.{EndedInUse, TimeBeforeClock}
@@ -96,7 +96,7 @@ module _ {P : State → Type 0} (i : Ignores P) where
   then_past Q (Err e) n h = tt
 
   -- over a store
-  over : {A : Type 0} (s : State) (r : Result Store RunFault) (f : Store → Result State RunFault) →
+  over : (s : State) (r : Result Store RunFault) (f : Store → Result State RunFault) →
       Got (λ (st : Store). P (state_with_store s st)) r → ((st : Store) → P (state_with_store s st) → Got P (f st)) →
       Got P (r >>= f)
   over s r f g h = after_got (λ (st : Store). P (state_with_store s st)) P r f g h

@@ -1,6 +1,6 @@
 -- What a step leaves as it is, by the kind of its place.
 use Rattle.std.proofs.Common.{ℕ, ℤ, ◌+◌, true, false, List, [], ◌∷◌, Option, Some, None, Result, Ok, Err}
-use Rattle.std.specs.Prelude.{pos, length, drop, slice_index_or, slice_set}
+use Rattle.std.specs.Prelude.{pos, length, drop, slice_index_or, slice_set, if◌then◌else◌}
 use Rattle.ss_words.specs.declared.fault.RunFault.{RunFault}
 use Rattle.ss_words.specs.declared.fault.RunFault.TheVariants.{OutsideEntry}
 use Rattle.ss_program.specs.Program.{ProgramTable, has_external, section_of, spot_at}

@@ -1,6 +1,7 @@
 -- Which parts of a state that no glance tells a step may change, by the kind of its place.
 use Rattle.std.specs.Prelude.{ℕ, Bool, true, false, Option, Some, None}
 use Rattle.ss_program.specs.Program.{ProgramTable, spot_at}
+use Rattle.ss_program.specs.declared.making.Making.{Making}
 use Rattle.ss_program.specs.declared.making.Making.TheVariants.{CreateEvery}
 use Rattle.ss_program.specs.declared.place.Place.{Place}
 use Rattle.ss_program.specs.declared.place.Place.TheVariants as places
@@ -13,13 +14,21 @@ use Rattle.ss_machine.specs.Run.{Input, run}
 use Rattle.ss_trace.specs.declared.touches.Part.{Part}
 use Rattle.ss_trace.specs.declared.touches.Part.TheVariants.{Anything, Nothing, Lists, Notices, Report}
 
+-- whether what makes or ends entities makes all of a class
+abbrev pub makes_a_class : Making → Bool
+makes_a_class (CreateEvery c n count) = true
+makes_a_class _ = false
+
 -- whether the step of a place may change a part; of lists, that it may otherwise than by a member more or less
 abbrev pub touches : Part → Place → Bool
 touches Anything x = true
-touches Lists (places.Making (CreateEvery c count variable)) = true
+touches Nothing x = false
+touches Lists (places.Making m) = makes_a_class m
+touches Lists x = false
 touches Notices (places.Timing x) = true
+touches Notices x = false
 touches Report (places.Output o) = true
-touches part x = false
+touches Report x = false
 
 -- the same of the place that stands there, if one does
 abbrev pub touches_by : Part → Option Spot → Bool

@@ -1,7 +1,7 @@
 //! Which parts of a state a step may change that no glance tells.
 ghost use Rattle.std.specs.Prelude.{◌≡◌};
 ghost use Rattle.ss_machine.specs.Moment.{position};
-ghost use Rattle.ss_trace.specs.Touches.{touches, touches_in, touches_at, part_of};
+ghost use Rattle.ss_trace.specs.Touches.{makes_a_class, touches, touches_in, touches_at, part_of};
 
 use crate::question::Question;
 use ss_debug::{Debugger, Question as Shown};
@@ -36,16 +36,26 @@ pub fn part_of(question: &Question) -> Part
     }
 }
 
+/// Whether what makes or ends entities makes all of a class.
+fn makes_a_class(making: &Making) -> bool
+    ensures { result ≡ makes_a_class making.now }
+{
+    matches!(making, Making::CreateEvery { .. })
+}
+
 /// Whether the step of a place may change a part.
 fn touches(part: Part, place: &Place) -> bool
     ensures { result ≡ touches part place.now }
 {
-    match (part, place) {
-        (Part::Anything, _) => true,
-        (Part::Lists, Place::Making(Making::CreateEvery { .. })) => true,
-        (Part::Notices, Place::Timing(_)) => true,
-        (Part::Report, Place::Output(_)) => true,
-        _ => false,
+    match part {
+        Part::Anything => true,
+        Part::Nothing => false,
+        Part::Lists => match place {
+            Place::Making(making) => makes_a_class(making.value()),
+            _ => false,
+        },
+        Part::Notices => matches!(place, Place::Timing(_)),
+        Part::Report => matches!(place, Place::Output(_)),
     }
 }
 
