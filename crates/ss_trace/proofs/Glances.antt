@@ -41,7 +41,7 @@ use Rattle.ss_trace.specs.Sight.{seen, seen_at, sight_of, sight_of_variable, glo
 use Rattle.ss_trace.specs.Sight.{sight_of_attribute, sight_of_kept, sight_of_set, sight_of_list, members_seen, members_counted}
 use Rattle.ss_trace.specs.Sight.{is_same_number, is_same_count, is_same_entry, is_same_glance}
 use Rattle.ss_trace.specs.Touches.{touches_at, part_of}
-use Rattle.ss_trace.proofs.Counted.{HasCounted}
+use Rattle.ss_trace.proofs.Counting.{HasCounted}
 use Rattle.ss_trace.proofs.Skips.{lists_counted, events_left, report_left}
 
 -- ---- what a glance holds

@@ -7,8 +7,9 @@ pub mod Ends
 pub mod Looking
 pub mod Refused
 pub mod SameLists
-pub mod Counted
+pub mod Counting
 pub mod Untouched
 pub mod Stored
 pub mod Skips
 pub mod Glances
+pub mod Unfoldings

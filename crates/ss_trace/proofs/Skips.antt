@@ -19,7 +19,7 @@ use Rattle.ss_debug.specs.Answer.{events_text, report_text}
 use Rattle.ss_trace.specs.declared.touches.Part.{Part}
 use Rattle.ss_trace.specs.declared.touches.Part.TheVariants.{Lists, Notices, Report}
 use Rattle.ss_trace.specs.Touches.{touches, touches_by, touches_in, touches_at}
-use Rattle.ss_trace.proofs.Counted.{HasCounted, counted_same, attribute_counted, filed, removed, made, ended}
+use Rattle.ss_trace.proofs.Counting.{HasCounted, counted_same, attribute_counted, filed, removed, made, ended}
 use Rattle.ss_trace.proofs.Untouched.{Ignores, by_assign, by_branch, by_looping, by_call, by_control, by_read, by_output}
 use Rattle.ss_trace.proofs.Stored.{KeepsStores, IgnoresTime, any_store, by_create, by_every, by_destroy, by_filing}
 use Rattle.ss_trace.proofs.Stored.{by_timing}

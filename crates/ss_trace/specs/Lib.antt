@@ -8,3 +8,4 @@ pub mod History
 pub mod Sight
 pub mod Touches
 pub mod Reading
+pub mod Examples

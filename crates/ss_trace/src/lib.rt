@@ -8,6 +8,7 @@ mod back;
 mod change_search;
 mod count;
 mod counted;
+mod examples;
 mod glance;
 mod history;
 mod laws;

@@ -1,5 +1,5 @@
 //! Where a question looks, and what is seen there.
-ghost use Rattle.std.specs.Prelude.{◌≡◌, ◌<◌, length, drop, take, pos};
+ghost use Rattle.std.specs.Prelude.{◌≡◌, ◌<◌, length, drop, take, pos, Some};
 ghost use Rattle.std.specs.Result.{result_unwrap_or};
 ghost use Rattle.ss_program.specs.Program.{set_of};
 ghost use Rattle.ss_store.specs.Store.{number_of, attribute_of};
@@ -59,6 +59,18 @@ fn sight_of_variable(program: &Program, name: &[u8]) -> Sight
     }
 }
 
+/// Where `c k a` looks for a kept attribute in a set: whether the entities of the class have it.
+fn sight_of_kept_in(program: &Program, class: usize, x: i64, kept: Kept, set: usize) -> Sight
+    requires { set < length program.now.sets }
+    ensures sight { result ≡ sight_of_kept program.now class x (Some kept) (Some set) }
+    ensures within { IsInTables program.now result }
+{
+    if has_kept(program, class, set, kept) {
+        return Sight::Kept(class, set, kept, x);
+    }
+    Sight::Living(class, x)
+}
+
 fn sight_of_kept(program: &Program, class: usize, x: i64, name: &[u8]) -> Sight
     ensures sight { result ≡ sight_of_kept program.now class x (kept_of (take 2 name.now))
         (set_named program.now (drop 2 name.now)) }
@@ -71,11 +83,7 @@ fn sight_of_kept(program: &Program, class: usize, x: i64, name: &[u8]) -> Sight
     let Some(set) = find_set(program, set) else {
         return Sight::Living(class, x);
     };
-    if has_kept(program, class, set, kept) {
-        Sight::Kept(class, set, kept, x)
-    } else {
-        Sight::Living(class, x)
-    }
+    sight_of_kept_in(program, class, x, kept, set)
 }
 
 fn sight_of_attribute(program: &Program, class: &[u8], x: i64, name: &[u8]) -> Sight

@@ -1,0 +1,55 @@
+//! Searches and histories of small runs: each function is a law, proved by computing.
+#![tactic(auto, unfolding(crate::proofs::Unfoldings::answers_together))]
+
+ghost use Rattle.std.specs.Prelude.{◌≡◌, ◌∷◌, [], codes, false, true, None};
+ghost use Rattle.ss_debug.specs.declared.commands.Question.TheVariants as shown;
+ghost use Rattle.ss_trace.specs.declared.question.Question.TheVariants.{Shown, Count};
+ghost use Rattle.ss_trace.specs.Question.{changes_at};
+ghost use Rattle.ss_trace.specs.History.{history, history_text};
+ghost use Rattle.ss_trace.specs.Examples as e;
+
+/// A set changes where a member is filed and where it is removed, an entity also where it is made,
+/// set and ended, and none where another one is made or its own value is set.
+fn lists_and_entities_change()
+    ensures list { history e.jobs_run e.row 0 11 ≡ 7 ∷ 2 ∷ [] }
+    ensures count { history e.jobs_run (Count (codes "ROW") None) 0 11 ≡ 7 ∷ 2 ∷ [] }
+    ensures membership { history e.jobs_run e.membership 0 11 ≡ 8 ∷ 7 ∷ 2 ∷ 0 ∷ [] }
+    ensures attribute { history e.jobs_run e.size 0 11 ≡ 8 ∷ 1 ∷ 0 ∷ [] }
+    ensures entity { history e.jobs_run (e.job_shown 1) 0 11 ≡ 8 ∷ 7 ∷ 2 ∷ 1 ∷ 0 ∷ [] }
+    ensures another { history e.jobs_run (e.job_shown 2) 0 11 ≡ 9 ∷ [] }
+{}
+
+/// A local changes where its frame is entered and left; a variable where another value is assigned;
+/// each target of a READ, and what is taken, once.
+fn variables_change()
+    ensures local { history e.jobs_run (e.var (codes "Q")) 0 11 ≡ 5 ∷ 4 ∷ 3 ∷ [] }
+    ensures hidden { history e.jobs_run (e.var (codes "X")) 0 11 ≡ 5 ∷ 3 ∷ [] }
+    ensures read { history e.readings_run (e.var (codes "A")) 0 3 ≡ 0 ∷ [] }
+    ensures other { history e.readings_run (e.var (codes "B")) 0 3 ≡ 0 ∷ [] }
+    ensures taken { history e.readings_run (Shown shown.Taken) 0 3 ≡ 0 ∷ [] }
+{}
+
+/// A notice is pending until its start; SKIP 0 leaves the report; a fault changes nothing but the
+/// status.
+fn notices_and_reports_change()
+    ensures pending { history e.ticks_run (Shown shown.Events) 0 7 ≡ 1 ∷ 0 ∷ [] }
+    ensures clock { history e.ticks_run (Shown shown.Clock) 0 7 ≡ 1 ∷ [] }
+    ensures report { history e.ticks_run (Shown shown.Report) 0 7 ≡ 3 ∷ [] }
+    ensures fault { history e.walk_run e.walked 0 9 ≡ 7 ∷ 5 ∷ 2 ∷ [] }
+{}
+
+/// BACK CHANGE stops before the step of the change, at position 0 too, and else at the earliest
+/// kept position; RUN CHANGE behind it, and else at the last state.
+fn searches_end()
+    ensures back { e.back_from e.jobs_run e.row 0 11 ≡ 7 }
+    ensures further { e.back_from e.jobs_run e.row 0 7 ≡ 2 }
+    ensures start { e.back_from e.jobs_run e.size 0 1 ≡ 0 }
+    ensures kept { e.back_from e.jobs_run e.row 3 7 ≡ 3 }
+    ensures at_kept { e.back_from e.jobs_run e.row 2 7 ≡ 2 }
+    ensures forward { e.run_from e.jobs_run e.row 0 ≡ 3 }
+    ensures behind { e.run_from e.jobs_run e.row 3 ≡ 8 }
+    ensures last { e.run_from e.jobs_run e.row 8 ≡ 11 }
+    ensures at_last { changes_at e.jobs_run e.row 11 ≡ false }
+    ensures forgotten { history e.jobs_run e.row 3 11 ≡ 7 ∷ [] }
+    ensures none { history_text e.jobs_run e.row 10 8 11 ≡ codes "NO CHANGE SINCE STATE 8\n" }
+{}
