@@ -1,7 +1,9 @@
 -- One step changes a list just where it changes how many members it has.
-use Rattle.std.proofs.Common.{◌≡◌, ◌≢◌, ℕ, ℤ, zero, suc, ◌-◌, ◌+◌, ◌≤◌, List, [], ◌∷◌, ◌++◌, Bool, true, false, Option, Some, None, ◌⊎◌}
+use Rattle.std.proofs.Common.{◌≡◌, ◌≢◌, ℕ, ℤ, zero, suc, ◌-◌, ◌+◌, ◌≤◌, List}
+use Rattle.std.proofs.Common.{[], ◌∷◌, ◌++◌, Bool, true, false, Option, Some, None, ◌⊎◌}
 use Rattle.std.proofs.Common.{Result, Ok, Err, refl, sym, ap, ◌∙◌, arith, length, length-append, inl, inr}
-use Rattle.std.specs.Prelude.{slice_get, slice_set, slice_index_or, option_map, option_and_then, is_some, unwrap_or, not}
+use Rattle.std.specs.Prelude.{slice_get, slice_set, slice_index_or, option_map}
+use Rattle.std.specs.Prelude.{option_and_then, is_some, unwrap_or, not}
 use Rattle.std.specs.Prelude.{◌==◌, nat_lt, if◌then◌else◌}
 use Rattle.std.specs.Option.{option_or}
 use Rattle.std.proofs.lemmas.Bool.{eq-eqb, eqb-true}
@@ -22,11 +24,14 @@ use Rattle.ss_store.specs.declared.shape.How.TheVariants.{ByRule, First, Last, B
 use Rattle.ss_store.specs.declared.shape.Which.{Which}
 use Rattle.ss_store.specs.Lists.{change_at, placed_before}
 use Rattle.ss_store.specs.Tables.{Tables}
-use Rattle.ss_store.specs.Store.{Entity, Store, number_of, unless, of_class, made_of, entity, exists, list_number, list_by}
-use Rattle.ss_store.specs.Store.{members_by, members_of, is_owner, is_filed, changed_reference, with_changed, with_owned}
+use Rattle.ss_store.specs.Store.{Entity, Store, number_of, unless, of_class}
+use Rattle.ss_store.specs.Store.{made_of, entity, exists, list_number, list_by}
+use Rattle.ss_store.specs.Store.{members_by, members_of, is_owner}
+use Rattle.ss_store.specs.Store.{is_filed, changed_reference, with_changed, with_owned}
 use Rattle.ss_store.specs.Store.{with_list_by, with_list, fresh, with_reference, with_new, is_member, owns_members}
 use Rattle.ss_store.specs.Store.{without_reference, without_entity, with_attribute}
-use Rattle.ss_store.specs.Filing.{after_filing, after_removing, filed_in, filed_by, ranks_behind, names_entity, names_member}
+use Rattle.ss_store.specs.Filing.{after_filing, after_removing, filed_in}
+use Rattle.ss_store.specs.Filing.{filed_by, ranks_behind, names_entity, names_member}
 use Rattle.ss_store.specs.Filing.{member_named, without_member}
 use Rattle.ss_store.specs.Places.{IsOther}
 use Rattle.ss_store.proofs.Between.{other_lists_stay}
@@ -53,7 +58,8 @@ counted_same st = record { each = λ w n k e. refl }
 
 listed_same : (n : ℕ) (a b : Option Entity) → lists_in a ≡ lists_in b →
     option_map (λ (e : Entity). list_number e.owned n) a ≡ option_map (λ (e : Entity). list_number e.owned n) b
-listed_same n a b h = fused a ∙ ap (λ (o : Option (List (List ℕ))). option_map (λ ls. list_number ls n) o) h ∙ sym (fused b)
+listed_same n a b h =
+    fused a ∙ ap (λ (o : Option (List (List ℕ))). option_map (λ ls. list_number ls n) o) h ∙ sym (fused b)
   where
     fused : (o : Option Entity) → option_map (λ (e : Entity). list_number e.owned n) o
         ≡ option_map (λ ls. list_number ls n) (lists_in o)
@@ -200,7 +206,8 @@ changed_here : (n : ℕ) (ks : List ℕ) (st : Store) (c k : ℕ) →
     entity (with_changed (with_owned n ks) st c k) c k ≡ option_map (with_owned n ks) (entity st c k)
 changed_here n ks st c zero = refl
 changed_here n ks st c (suc i) =
-    either_here (with_owned n ks) _ _ (slice_get (made_of st c) i) (option_and_then (of_class c) (slice_get st.references i))
+    either_here (with_owned n ks) _ _ (slice_get (made_of st c) i)
+    (option_and_then (of_class c) (slice_get st.references i))
     (class_here (with_owned n ks) st.made c i) (reference_here n ks c st.references i)
 
 here_counts : (w : Owner) (n : ℕ) (st : Store) (o : ℕ) (ks : List ℕ) → Counts (members_by w n st o) ks →
@@ -226,21 +233,21 @@ is_or_not i j = chosen (i == j) refl
 list_counts : (w : Owner) (n o : ℕ) (v : Owner) (m u : ℕ) (st : Store) (ks : List ℕ) → Counts (members_by w n st o) ks →
     CountsIf (list_by v m st u) (list_by v m (with_list_by w n st o ks) u)
 list_counts System n o System m u st ks h = elim (is_or_not n m) [
-      | inl e ↦ rw (sym e) (here_counts System n st o ks h)
-      | inr far ↦ same_counts _ _ (other_lists_stay System System n o m u st ks far)
-    ]
+  | inl e ↦ rw (sym e) (here_counts System n st o ks h)
+  | inr far ↦ same_counts _ _ (other_lists_stay System System n o m u st ks far)
+]
 list_counts System n o (OwnedBy d) m u st ks h = same_counts _ _ (other_lists_stay System (OwnedBy d) n o m u st ks tt)
 list_counts (OwnedBy c) n o System m u st ks h = same_counts _ _ (other_lists_stay (OwnedBy c) System n o m u st ks tt)
 list_counts (OwnedBy c) n o (OwnedBy d) m u st ks h = elim (is_or_not c d) [
-      | inr far ↦ same_counts _ _ (other_lists_stay (OwnedBy c) (OwnedBy d) n o m u st ks (λ e f g. far e))
-      | inl e ↦ elim (is_or_not n m) [
-        | inr far ↦ same_counts _ _ (other_lists_stay (OwnedBy c) (OwnedBy d) n o m u st ks (λ e f g. far f))
-        | inl f ↦ elim (is_or_not o u) [
-          | inr far ↦ same_counts _ _ (other_lists_stay (OwnedBy c) (OwnedBy d) n o m u st ks (λ e f g. far g))
-          | inl g ↦ rw (sym e, sym f, sym g) (here_counts (OwnedBy c) n st o ks h)
-        ]
-      ]
+  | inr far ↦ same_counts _ _ (other_lists_stay (OwnedBy c) (OwnedBy d) n o m u st ks (λ e f g. far e))
+  | inl e ↦ elim (is_or_not n m) [
+    | inr far ↦ same_counts _ _ (other_lists_stay (OwnedBy c) (OwnedBy d) n o m u st ks (λ e f g. far f))
+    | inl f ↦ elim (is_or_not o u) [
+      | inr far ↦ same_counts _ _ (other_lists_stay (OwnedBy c) (OwnedBy d) n o m u st ks (λ e f g. far g))
+      | inl g ↦ rw (sym e, sym f, sym g) (here_counts (OwnedBy c) n st o ks h)
     ]
+  ]
+]
 
 relisted : (s : SetShape) (st : Store) (o : ℕ) (ks : List ℕ) → Counts (members_of s st o) ks →
     HasCounted st (with_list s st o ks)
@@ -269,7 +276,8 @@ taken_counts s st o (Err f) = tt
 -- REMOVE
 pub removed : (s : SetShape) (st : Store) (o : ℕ) (w : Which) → Got (LeavesCounted st) (after_removing s st o w)
 removed s st o w =
-    unless_got (LeavesCounted st) NoEntity (is_owner s st o) _ (taken_counts s st o (member_named s st (members_of s st o) w))
+    unless_got (LeavesCounted st) NoEntity (is_owner s st o) _
+    (taken_counts s st o (member_named s st (members_of s st o) w))
 
 -- ---- entities made and ended
 
@@ -308,7 +316,8 @@ second_fits None b y h = h
 second_fits (Some x) b y h = λ e. refl
 
 added_fits : (d : ℕ) (os : List (Option Entity)) (x : Entity) (j : ℕ) →
-    Fits (option_and_then (of_class d) (slice_get os j)) (option_and_then (of_class d) (slice_get (os ++ Some x ∷ []) j))
+    Fits (option_and_then (of_class d) (slice_get os j))
+    (option_and_then (of_class d) (slice_get (os ++ Some x ∷ []) j))
 added_fits d [] x zero = none_fits _
 added_fits d [] x (suc j) = λ e. refl
 added_fits d (o ∷ os) x zero = λ e. refl
@@ -328,7 +337,8 @@ made st c shape =
     (refitted st (with_reference st (fresh c shape)) (reference_fits st (fresh c shape)) refl)
 
 ended_fits : (d : ℕ) (os : List (Option Entity)) (i j : ℕ) →
-    Fits (option_and_then (of_class d) (slice_get os j)) (option_and_then (of_class d) (slice_get (slice_set os i None) j))
+    Fits (option_and_then (of_class d) (slice_get os j))
+    (option_and_then (of_class d) (slice_get (slice_set os i None) j))
 ended_fits d [] i j = λ e. refl
 ended_fits d (o ∷ os) zero zero = gone_fits _
 ended_fits d (o ∷ os) zero (suc j) = λ e. refl

@@ -1,10 +1,12 @@
 -- Where the same is seen on both sides of a step that touches no other part, the answer is the same.
-use Rattle.std.proofs.Common.{◌≡◌, ℕ, zero, suc, ◌+◌, ◌<◌, ℤ, pos, List, [], ◌∷◌, ◌++◌, Bool, true, false, Option, Some, None}
+use Rattle.std.proofs.Common.{◌≡◌, ℕ, zero, suc, ◌+◌, ◌<◌, ℤ, pos, List}
+use Rattle.std.proofs.Common.{[], ◌∷◌, ◌++◌, Bool, true, false, Option, Some, None}
 use Rattle.std.proofs.Common.{refl, sym, ap, ◌∙◌, arith, length, map, slice_get, unwrap_or}
 use Rattle.std.specs.Prelude.{option_map, is_some, take, drop, codes, slice_index_or, ◌==◌, ◌&&◌, position, bytes_eq}
 use Rattle.std.specs.Prelude.{if◌then◌else◌}
 use Rattle.std.specs.List.{range_with_len}
 use Rattle.std.specs.Option.{option_or}
+use Rattle.std.specs.Result.{result_unwrap_or}
 use Rattle.std.specs.Ordering.{int_eq}
 use Rattle.std.specs.Fmt.{signed_decimal}
 use Rattle.std.proofs.lemmas.Bool.{eqb-true}
@@ -16,7 +18,8 @@ use Rattle.ss_program.specs.declared.variable.Variable.TheVariants as variables
 use Rattle.ss_program.specs.Program.{ProgramTable, class_of, set_of, locals_of}
 use Rattle.ss_store.proofs.Core.{some_eq}
 use Rattle.ss_store.specs.Tables.{set_shape, tables_of, no_set}
-use Rattle.ss_store.specs.Store.{Entity, Store, entity, exists, list_by, list_number, members_of, number_of}
+use Rattle.ss_store.specs.Store.{Entity, Store, entity, exists, attribute_of, list_by, list_number, members_of}
+use Rattle.ss_store.specs.Store.{number_of}
 use Rattle.ss_machine.specs.declared.entry.Entry.{Entry}
 use Rattle.ss_machine.specs.declared.entry.Entry.TheVariants as entries
 use Rattle.ss_machine.specs.Readings.{variable_in}
@@ -35,10 +38,12 @@ use Rattle.ss_trace.specs.declared.glance.Glance.{Glance}
 use Rattle.ss_trace.specs.declared.glance.Glance.TheVariants.{Number, Taken, Entry as EntryThere, Members}
 use Rattle.ss_trace.specs.declared.touches.Part.TheVariants.{Lists}
 use Rattle.ss_trace.specs.Question.{answer_at, attribute_text, class_attribute_text, attribute_line, attribute_or_kept}
-use Rattle.ss_trace.specs.Question.{kept_named, kept_in_set, kept_of, has_kept, kept_value, count_text, named_count_text, list_count_text}
+use Rattle.ss_trace.specs.Question.{kept_named, kept_in_set, kept_of, has_kept}
+use Rattle.ss_trace.specs.Question.{kept_value, count_text, named_count_text, list_count_text}
 use Rattle.ss_trace.specs.Question.{owned_count_text}
 use Rattle.ss_trace.specs.Sight.{seen, seen_at, sight_of, sight_of_variable, global_or_local, sight_of_class}
-use Rattle.ss_trace.specs.Sight.{sight_of_attribute, sight_of_kept, sight_of_set, sight_of_list, members_seen, members_counted}
+use Rattle.ss_trace.specs.Sight.{sight_of_attribute, sight_of_kept, sight_of_set}
+use Rattle.ss_trace.specs.Sight.{sight_of_list, members_seen, members_counted}
 use Rattle.ss_trace.specs.Sight.{is_same_number, is_same_count, is_same_entry, is_same_glance}
 use Rattle.ss_trace.specs.Touches.{touches_at, part_of}
 use Rattle.ss_trace.proofs.Counting.{HasCounted}
@@ -46,23 +51,23 @@ use Rattle.ss_trace.proofs.Skips.{lists_counted, events_left, report_left}
 
 -- ---- what a glance holds
 
-number_in : Glance → Option ℤ
+abbrev number_in : Glance → Option ℤ
 number_in (Number x) = x
 number_in _ = None
 
-taken_in : Glance → ℕ
+abbrev taken_in : Glance → ℕ
 taken_in (Taken n) = n
 taken_in _ = 0
 
-entry_in : Glance → Entry
+abbrev entry_in : Glance → Entry
 entry_in (EntryThere e) = e
 entry_in _ = entries.Absent
 
-owner_in : Glance → ℤ
+abbrev owner_in : Glance → ℤ
 owner_in (Members x n) = x
 owner_in _ = pos 0
 
-count_in : Glance → Option ℕ
+abbrev count_in : Glance → Option ℕ
 count_in (Members x n) = n
 count_in _ = None
 
@@ -119,7 +124,7 @@ same_is (Members x n) (EntryThere f) h = absurd (cc)
 
 -- ---- a variable
 
-told : List ℕ → Option ℤ → List ℕ
+abbrev told : List ℕ → Option ℤ → List ℕ
 told name (Some z) = name ++ codes " = " ++ signed_decimal z ++ 10 ∷ []
 told name None = codes "NO VARIABLE " ++ name ++ 10 ∷ []
 
@@ -129,14 +134,15 @@ line_is t p name None = refl
 line_is t p name (Some v) = refl
 
 local_is : (s : State) (l : Option ℕ) →
-    option_map (λ i. slice_index_or s.frame.locals i (pos 0)) l ≡ option_map (variable_in s) (option_map variables.Local l)
+    option_map (λ i. slice_index_or s.frame.locals i (pos 0)) l
+    ≡ option_map (variable_in s) (option_map variables.Local l)
 local_is s None = refl
 local_is s (Some i) = refl
 
 value_seen_by : (t : Input) (p : ℕ) (name : List ℕ) (b : Bool) (o : Option ℕ) →
     seen t.program (run t p) (Shown (shown.Variable name)) (if b then sights.Clock else global_or_local o)
-    ≡ Number (option_map (variable_in (run t p)) (if b then Some variables.Clock else option_or (option_map variables.Global o)
-    (option_map variables.Local (position (bytes_eq name)
+    ≡ Number (option_map (variable_in (run t p)) (if b then Some variables.Clock
+    else option_or (option_map variables.Global o) (option_map variables.Local (position (bytes_eq name)
     (locals_of (slice_get t.program.sections (run t p).frame.section))))))
 value_seen_by t p name true o = refl
 value_seen_by t p name false (Some i) = refl
@@ -144,7 +150,8 @@ value_seen_by t p name false None = ap Number (local_is (run t p) _)
 
 value_seen : (t : Input) (p : ℕ) (name : List ℕ) →
     seen_at t (Shown (shown.Variable name)) p ≡ Number (option_map (variable_in (run t p)) (variable_named t p name))
-value_seen t p name = value_seen_by t p name (bytes_eq name (codes "TIME.V")) (position (bytes_eq name) t.program.globals)
+value_seen t p name =
+    value_seen_by t p name (bytes_eq name (codes "TIME.V")) (position (bytes_eq name) t.program.globals)
 
 variable_left : (t : Input) (name : List ℕ) (p q : ℕ) →
     seen_at t (Shown (shown.Variable name)) q ≡ seen_at t (Shown (shown.Variable name)) p →
@@ -174,7 +181,7 @@ unlined class x name false false e = refl
 unlined class x name true false e = absurd (cc)
 unlined class x name false true e = absurd (cc)
 
-kept_by : ProgramTable → Store → ℕ → ℕ → Option Kept → Option ℕ → Option ℤ
+abbrev kept_by : ProgramTable → Store → ℕ → ℕ → Option Kept → Option ℕ → Option ℤ
 kept_by p st c k None o = None
 kept_by p st c k (Some kept) o = kept_in_set p st c k kept o
 
@@ -184,7 +191,7 @@ kept_is p st c k set None = refl
 kept_is p st c k set (Some kept) = refl
 
 -- the line of a value, or that there is no such entity
-lined_if : List ℕ → ℤ → List ℕ → Bool → Option ℤ → List ℕ
+abbrev lined_if : List ℕ → ℤ → List ℕ → Bool → Option ℤ → List ℕ
 lined_if class x name b v = if b then attribute_line name v else no_entity_text class x
 
 set_kept_left : (p : ProgramTable) (s u : State) (class : List ℕ) (x : ℤ) (name : List ℕ) (c n : ℕ) (q : Question)
@@ -195,15 +202,21 @@ set_kept_left : (p : ProgramTable) (s u : State) (class : List ℕ) (x : ℤ) (n
     (if b then Some (pos (kept_value (shape_of p n) u.store (number_of x) k)) else None)
     ≡ lined_if class x name (exists s.store c (number_of x))
     (if b then Some (pos (kept_value (shape_of p n) s.store (number_of x) k)) else None)
-set_kept_left p s u class x name c n q k true g = lined class x name _ _ _ _ (ap number_in g)
-set_kept_left p s u class x name c n q k false g = unlined class x name _ _ (ap number_in g)
+set_kept_left p s u class x name c n q k true g =
+    lined class x name (exists u.store c (number_of x)) (exists s.store c (number_of x))
+    (pos (kept_value (shape_of p n) u.store (number_of x) k)) (pos (kept_value (shape_of p n) s.store (number_of x) k))
+    (ap number_in g)
+set_kept_left p s u class x name c n q k false g =
+    unlined class x name (exists u.store c (number_of x)) (exists s.store c (number_of x)) (ap number_in g)
 
 kept_left : (p : ProgramTable) (s u : State) (class : List ℕ) (x : ℤ) (name : List ℕ) (c : ℕ) (q : Question)
     (k : Option Kept) (o : Option ℕ) → seen p u q (sight_of_kept p c x k o) ≡ seen p s q (sight_of_kept p c x k o) →
     lined_if class x name (exists u.store c (number_of x)) (kept_by p u.store c (number_of x) k o)
     ≡ lined_if class x name (exists s.store c (number_of x)) (kept_by p s.store c (number_of x) k o)
-kept_left p s u class x name c q None o g = unlined class x name _ _ (ap number_in g)
-kept_left p s u class x name c q (Some k) None g = unlined class x name _ _ (ap number_in g)
+kept_left p s u class x name c q None o g =
+    unlined class x name (exists u.store c (number_of x)) (exists s.store c (number_of x)) (ap number_in g)
+kept_left p s u class x name c q (Some k) None g =
+    unlined class x name (exists u.store c (number_of x)) (exists s.store c (number_of x)) (ap number_in g)
 kept_left p s u class x name c q (Some k) (Some n) g =
     set_kept_left p s u class x name c n q k (has_kept (set_of p n) c k) g
 
@@ -211,7 +224,10 @@ attribute_left : (p : ProgramTable) (s u : State) (class : List ℕ) (x : ℤ) (
     (a : Option ℕ) → seen p u q (sight_of_attribute p c x name a) ≡ seen p s q (sight_of_attribute p c x name a) →
     lined_if class x name (exists u.store c (number_of x)) (attribute_or_kept p u.store c (number_of x) name a)
     ≡ lined_if class x name (exists s.store c (number_of x)) (attribute_or_kept p s.store c (number_of x) name a)
-attribute_left p s u class x name c q (Some a) g = lined class x name _ _ _ _ (ap number_in g)
+attribute_left p s u class x name c q (Some a) g =
+    lined class x name (exists u.store c (number_of x)) (exists s.store c (number_of x))
+    (result_unwrap_or (attribute_of u.store c a (number_of x)) (pos 0))
+    (result_unwrap_or (attribute_of s.store c a (number_of x)) (pos 0)) (ap number_in g)
 attribute_left p s u class x name c q None g =
     let new = kept_is p u.store c (number_of x) (drop 2 name) (kept_of (take 2 name)) in
     let old = kept_is p s.store c (number_of x) (drop 2 name) (kept_of (take 2 name)) in
@@ -297,7 +313,8 @@ owned_count_left name p st new n c x y h e g =
     let long = length_left p st new n (number_of x) count in
     rw (same, alive, long) refl
 
-list_count_left : (name : List ℕ) (owner : Option ℤ) (p : ProgramTable) (s u : State) (n : ℕ) (w : Owner) (q : Question) →
+list_count_left : (name : List ℕ) (owner : Option ℤ) (p : ProgramTable) (s u : State) (n : ℕ) (w : Owner)
+    (q : Question) →
     n < length p.sets → (set_of p n).owner ≡ w →
     seen p u q (sight_of_list p n owner w) ≡ seen p s q (sight_of_list p n owner w) →
     list_count_text name owner p u n w ≡ list_count_text name owner p s n w
@@ -318,7 +335,8 @@ named_count_left name owner p s u q (Some n) h g =
     list_count_left name owner p s u n (set_of p n).owner q (h n refl) refl g
 
 count_left : (t : Input) (name : List ℕ) (owner : Option ℤ) (p q : ℕ) →
-    seen_at t (Count name owner) q ≡ seen_at t (Count name owner) p → count_text name owner t q ≡ count_text name owner t p
+    seen_at t (Count name owner) q ≡ seen_at t (Count name owner) p →
+    count_text name owner t q ≡ count_text name owner t p
 unfolding count_text
 count_left t name owner p q g =
     named_count_left name owner t.program (run t p) (run t q) (Count name owner) (set_named t.program name)

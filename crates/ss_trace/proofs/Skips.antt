@@ -20,7 +20,8 @@ use Rattle.ss_trace.specs.declared.touches.Part.{Part}
 use Rattle.ss_trace.specs.declared.touches.Part.TheVariants.{Lists, Notices, Report}
 use Rattle.ss_trace.specs.Touches.{touches, touches_by, touches_in, touches_at}
 use Rattle.ss_trace.proofs.Counting.{HasCounted, counted_same, attribute_counted, filed, removed, made, ended}
-use Rattle.ss_trace.proofs.Untouched.{Ignores, by_assign, by_branch, by_looping, by_call, by_control, by_read, by_output}
+use Rattle.ss_trace.proofs.Untouched.{Ignores, by_assign, by_branch, by_looping}
+use Rattle.ss_trace.proofs.Untouched.{by_call, by_control, by_read, by_output}
 use Rattle.ss_trace.proofs.Stored.{KeepsStores, IgnoresTime, any_store, by_create, by_every, by_destroy, by_filing}
 use Rattle.ss_trace.proofs.Stored.{by_timing}
 
@@ -46,7 +47,8 @@ report_ignores bytes = record {
   variables = λ s xs p. p;
   feed = λ s d p. p;
   entry = λ s e p. p;
-  attribute = λ s c a k z p. all_got (λ (st : Store). HasReport bytes (state_with_store s st)) (with_attribute s.store c a k z) (λ st. p);
+  attribute = λ s c a k z p.
+      all_got (λ (st : Store). HasReport bytes (state_with_store s st)) (with_attribute s.store c a k z) (λ st. p);
 }
 
 agenda_ignores : (a : Agenda) → Ignores (HasAgenda a)
@@ -56,7 +58,8 @@ agenda_ignores a = record {
   variables = λ s xs p. p;
   feed = λ s d p. p;
   entry = λ s e p. p;
-  attribute = λ s c b k z p. all_got (λ (st : Store). HasAgenda a (state_with_store s st)) (with_attribute s.store c b k z) (λ st. p);
+  attribute = λ s c b k z p.
+      all_got (λ (st : Store). HasAgenda a (state_with_store s st)) (with_attribute s.store c b k z) (λ st. p);
 }
 
 lists_ignore : (old : Store) → Ignores (HasLists old)
@@ -175,12 +178,14 @@ lists_counted t p e =
 pub events_left : (t : Input) (p : ℕ) → touches_at t Notices p ≡ false → events_text t (suc p) ≡ events_text t p
 unfolding events_text
 events_left t p e =
-    let same = run_passes Notices (HasAgenda (run t p).agenda) t p (λ q w x. agenda_at (run t p).agenda q (run t p) w x) e refl in
+    let same =
+    run_passes Notices (HasAgenda (run t p).agenda) t p (λ q w x. agenda_at (run t p).agenda q (run t p) w x) e refl in
     rw same refl
 
 -- the report
 pub report_left : (t : Input) (p : ℕ) → touches_at t Report p ≡ false → report_text t (suc p) ≡ report_text t p
 unfolding report_text
 report_left t p e =
-    let same = run_passes Report (HasReport (run t p).report) t p (λ q w x. report_at (run t p).report q (run t p) w x) e refl in
+    let same =
+    run_passes Report (HasReport (run t p).report) t p (λ q w x. report_at (run t p).report q (run t p) w x) e refl in
     rw same refl

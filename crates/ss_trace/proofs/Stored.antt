@@ -45,8 +45,10 @@ use Rattle.ss_machine.specs.Statements.Filing.{which_at, how_at, how_asked, stat
 use Rattle.ss_machine.specs.Step.{step_at}
 use Rattle.ss_machine.specs.Statements.Timing.{arguments_asked, time_asked, attributes_now, tie_attributes}
 use Rattle.ss_machine.specs.Statements.Timing.{state_with_attributes, state_with_agenda, state_after_scheduling}
-use Rattle.ss_machine.specs.Statements.Timing.{state_after_notice, state_after_schedule, agenda_without, state_after_cancel}
-use Rattle.ss_machine.specs.Statements.Timing.{event_section, store_at_start, state_at_time, state_after_start, step_simulation}
+use Rattle.ss_machine.specs.Statements.Timing.{state_after_notice, state_after_schedule}
+use Rattle.ss_machine.specs.Statements.Timing.{agenda_without, state_after_cancel}
+use Rattle.ss_machine.specs.Statements.Timing.{event_section, store_at_start}
+use Rattle.ss_machine.specs.Statements.Timing.{state_at_time, state_after_start, step_simulation}
 use Rattle.ss_machine.specs.Statements.Timing.{arrival_asked, state_after_arrival, state_after_load, loads}
 use Rattle.ss_trace.proofs.Untouched.{Ignores, got, then_got, placed, assigned, value}
 
@@ -101,7 +103,8 @@ module _ {P : State → Type 0} (i : Ignores P) where
       Got P (r >>= f)
   over s r f g h = after_got (λ (st : Store). P (state_with_store s st)) P r f g h
 
-  create : (t : Tables) (s : State) (c : ℕ) (target : Target) → KeepsStores P s → Got P (state_after_create t s c target)
+  create : (t : Tables) (s : State) (c : ℕ) (target : Target) → KeepsStores P s →
+      Got P (state_after_create t s c target)
   create t s c target k =
       over s (with_new s.store c (class_of t c)) _ (k.made c (class_of t c)) (λ st h.
       then_got i (number_value (last_reference st)) _ (λ x. value i t (state_with_store s st) target x h))
@@ -119,7 +122,8 @@ module _ {P : State → Type 0} (i : Ignores P) where
       unless_refused _ (is_pending s.agenda n) EndedInUse (without_entity t s.store c n) (k.ended t c n)))
       (λ st h. h)
 
-  file : (t : Tables) (s : State) (r : SetRef) (x : ℤ) (how : How) → KeepsStores P s → Got P (state_after_file t s r x how)
+  file : (t : Tables) (s : State) (r : SetRef) (x : ℤ) (how : How) → KeepsStores P s →
+      Got P (state_after_file t s r x how)
   file t s r x how k =
       then_got i (subscript_value (readings t s) r.owner) _ (λ o.
       over s (after_filing (set_of t r.set) s.store (number_of o) (number_of x) how) _
@@ -193,7 +197,8 @@ module _ {P : State → Type 0} (i : Ignores P) where
       Got P (state_after_schedule q s x)
   schedule q s x k a p =
       then_got i (arguments_asked (readings (tables_of q) s) x.notice x.arguments x.listing) _ (λ xs.
-      then_got i (time_asked (readings (tables_of q) s) x.when) _ (λ time. notice q s x.class x.notice xs.0 time xs.1 k a p))
+      then_got i (time_asked (readings (tables_of q) s) x.when) _ (λ time.
+      notice q s x.class x.notice xs.0 time xs.1 k a p))
 
   cancel : (t : Tables) (s : State) (c : ℕ) (e : Expr) → IgnoresTime P → P s → Got P (state_after_cancel t s c e)
   cancel t s c e a p =
@@ -214,7 +219,8 @@ module _ {P : State → Type 0} (i : Ignores P) where
       then_got i (number_value k) _ (λ x.
       let u = state_at_time s k time st in
       i.frames _ _ _ (assigned i u (Global (program.class_of q c).variable) x
-      (i.entry _ _ (a.agenda (record (state_with_store s st) { clock = time }) _ (a.clock (state_with_store s st) time g)))))))
+      (i.entry _ _ (a.agenda (record (state_with_store s st) { clock = time }) _
+      (a.clock (state_with_store s st) time g)))))))
 
   arrival : (q : ProgramTable) (s : State) (n c : ℕ) (time : ℤ) → KeepsStores P s → IgnoresTime P → P s →
       Got P (state_after_arrival q (state_with_taken s n) c time)
@@ -244,5 +250,6 @@ module _ {P : State → Type 0} (i : Ignores P) where
   pub by_timing : (q : ProgramTable) (s : State) (w : Ways) (x : Timing) → KeepsStores P s → IgnoresTime P → P s →
       P (step_at q s w (places.Timing x))
   by_timing q s w (timings.Schedule x) k a p = got i P s _ _ p (schedule q s x k a p) (λ r g. placed i r w.next g)
-  by_timing q s w (timings.Cancel c b e) k a p = got i P s _ _ p (cancel (tables_of q) s c e a p) (λ r g. placed i r w.next g)
+  by_timing q s w (timings.Cancel c b e) k a p =
+      got i P s _ _ p (cancel (tables_of q) s c e a p) (λ r g. placed i r w.next g)
   by_timing q s w timings.Start k a p = started q s w.next (loads q s) k a p

@@ -115,7 +115,7 @@ readings = record {
 abbrev pub readings_run : Input
 readings_run = input_with readings (codes "3 4 5\n")
 
--- a list whose next member is removed while it is walked: F14 at step 8
+-- a list whose next member is removed while it is walked: F14 at step 9
 abbrev pub walk_run : Input
 walk_run = input_with next_is_removed []
 

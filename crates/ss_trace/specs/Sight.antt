@@ -1,5 +1,5 @@
--- What is read of a state at a glance, for a question: where it is the same on both sides of a step that touches no other
--- part at which the question looks, the answer is.
+-- What is seen of a state at a glance, for a question: where it is the same on both sides of a step that touches no
+-- other part at which the question looks, the answer is the same.
 use Rattle.std.specs.Prelude.{ℕ, ◌<◌, ◌==◌, ◌&&◌, ℤ, pos, Bool, true, false, List, [], codes, length, take, drop}
 use Rattle.std.specs.Prelude.{Option, Some, None, option_map, position, bytes_eq, slice_get, slice_index_or}
 use Rattle.std.specs.Prelude.{if◌then◌else◌}
@@ -124,9 +124,11 @@ seen p s x Taken = glances.Taken s.feed.taken
 seen p s x EntryHere = glances.Entry s.entry
 seen p s x (Living c k) = glances.Number (value_if_exists s.store c (number_of k) (pos 0))
 seen p s x (Attribute c a k) =
-    glances.Number (value_if_exists s.store c (number_of k) (result_unwrap_or (attribute_of s.store c a (number_of k)) (pos 0)))
+    glances.Number (value_if_exists s.store c (number_of k)
+    (result_unwrap_or (attribute_of s.store c a (number_of k)) (pos 0)))
 seen p s x (Kept c n kept k) =
-    glances.Number (value_if_exists s.store c (number_of k) (pos (kept_value (shape_of p n) s.store (number_of k) kept)))
+    glances.Number (value_if_exists s.store c (number_of k)
+    (pos (kept_value (shape_of p n) s.store (number_of k) kept)))
 seen p s x (Members n k) = members_seen p s.store n k
 seen p s x (MembersNamed n i) = members_seen p s.store n (slice_index_or s.variables i (pos 0))
 

@@ -35,7 +35,7 @@ fn notices_and_reports_change()
     ensures pending { history e.ticks_run (Shown shown.Events) 0 7 ≡ 1 ∷ 0 ∷ [] }
     ensures clock { history e.ticks_run (Shown shown.Clock) 0 7 ≡ 1 ∷ [] }
     ensures report { history e.ticks_run (Shown shown.Report) 0 7 ≡ 3 ∷ [] }
-    ensures fault { history e.walk_run e.walked 0 9 ≡ 7 ∷ 5 ∷ 2 ∷ [] }
+    ensures fault { history e.walk_run e.walked 0 10 ≡ 8 ∷ 5 ∷ 2 ∷ [] }
 {}
 
 /// BACK CHANGE stops before the step of the change, at position 0 too, and else at the earliest

@@ -1,5 +1,5 @@
 //! Where a question looks, and what is seen there.
-ghost use Rattle.std.specs.Prelude.{◌≡◌, ◌<◌, length, drop, take, pos, Some};
+ghost use Rattle.std.specs.Prelude.{◌≡◌, ◌<◌, length, drop, take, pos, Some, IfSome};
 ghost use Rattle.std.specs.Result.{result_unwrap_or};
 ghost use Rattle.ss_program.specs.Program.{set_of};
 ghost use Rattle.ss_store.specs.Store.{number_of, attribute_of};
@@ -71,19 +71,43 @@ fn sight_of_kept_in(program: &Program, class: usize, x: i64, kept: Kept, set: us
     Sight::Living(class, x)
 }
 
-fn sight_of_kept(program: &Program, class: usize, x: i64, name: &[u8]) -> Sight
-    ensures sight { result ≡ sight_of_kept program.now class x (kept_of (take 2 name.now))
-        (set_named program.now (drop 2 name.now)) }
+/// The same where there are such a kept attribute and such a set, and else whether the entity
+/// exists.
+fn sight_of_kept(
+    program: &Program,
+    class: usize,
+    x: i64,
+    kept: Option<Kept>,
+    set: Option<usize>,
+) -> Sight
+    requires { IfSome set (λ s. s < length program.now.sets) }
+    ensures sight { result ≡ sight_of_kept program.now class x kept set }
     ensures within { IsInTables program.now result }
 {
-    let (head, set) = name.split_at(name.len().min(2));
-    let Some(kept) = kept_of(head) else {
+    let Some(kept) = kept else {
         return Sight::Living(class, x);
     };
-    let Some(set) = find_set(program, set) else {
+    let Some(set) = set else {
         return Sight::Living(class, x);
     };
     sight_of_kept_in(program, class, x, kept, set)
+}
+
+/// The kept attribute with whose name a name begins.
+fn kept_named(name: &[u8]) -> Option<Kept>
+    ensures { result ≡ kept_of (take 2 name.now) }
+{
+    let (head, _) = name.split_at(name.len().min(2));
+    kept_of(head)
+}
+
+/// The set with whose name a name ends.
+fn kept_set(program: &Program, name: &[u8]) -> Option<usize>
+    ensures set { result ≡ set_named program.now (drop 2 name.now) }
+    ensures within { IfSome result (λ s. s < length program.now.sets) }
+{
+    let (_, set) = name.split_at(name.len().min(2));
+    find_set(program, set)
 }
 
 fn sight_of_attribute(program: &Program, class: &[u8], x: i64, name: &[u8]) -> Sight
@@ -96,7 +120,7 @@ fn sight_of_attribute(program: &Program, class: &[u8], x: i64, name: &[u8]) -> S
     };
     match find_attribute(program, class, name) {
         Some(attribute) => Sight::Attribute(class, attribute, x),
-        None => sight_of_kept(program, class, x, name),
+        None => sight_of_kept(program, class, x, kept_named(name), kept_set(program, name)),
     }
 }
 

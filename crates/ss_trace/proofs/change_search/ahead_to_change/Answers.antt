@@ -14,11 +14,13 @@ use Rattle.ss_trace.proofs.Changes.{stops_here, met_behind, changes_between}
 use Rattle.ss_trace.proofs.Glances.{same_is, unseen}
 use Rattle.ss_trace.proofs.change_search.ahead_to_change.Goals as goal
 
-pub follow-requires-looks : goal.follow-requires-looks
-follow-requires-looks g c = rw (c.in_ok-step_once.ensures.ok.input, c.loop-k.invariant.input) c.loop-k.invariant.reading.looks
+pub follow-requires-clause-looks : goal.follow-requires-clause-looks
+follow-requires-clause-looks g c =
+    rw (c.in_ok-step_once.ensures.ok.input, c.loop-k.invariant.input)
+    c.loop-k.invariant.reading.looks
 
-pub follow-requires-quiet : goal.follow-requires-quiet
-follow-requires-quiet g c = λ e s.
+pub follow-requires-clause-quiet : goal.follow-requires-clause-quiet
+follow-requires-clause-quiet g c = λ e s.
     let m = c.args.debugger.now.machine in
     let l = c.loop-k.debugger in
     let held = c.loop-k.invariant in

@@ -13,11 +13,13 @@ use Rattle.ss_trace.proofs.Changes.{same_turned, stops_back_where, unmet_back, c
 use Rattle.ss_trace.proofs.Glances.{same_is, unseen}
 use Rattle.ss_trace.proofs.change_search.back_to_change.Goals as goal
 
-pub follow-requires-looks : goal.follow-requires-looks
-follow-requires-looks g c = rw (c.if-not-step_back.ensures.back.input, c.loop-k.invariant.input) c.loop-k.invariant.reading.looks
+pub follow-requires-clause-looks : goal.follow-requires-clause-looks
+follow-requires-clause-looks g c =
+    rw (c.if-not-step_back.ensures.back.input, c.loop-k.invariant.input)
+    c.loop-k.invariant.reading.looks
 
-pub follow-requires-quiet : goal.follow-requires-quiet
-follow-requires-quiet g c = λ e s.
+pub follow-requires-clause-quiet : goal.follow-requires-clause-quiet
+follow-requires-clause-quiet g c = λ e s.
     let m = c.args.debugger.now.machine in
     let l = c.loop-k.debugger in
     let held = c.loop-k.invariant in

@@ -21,11 +21,13 @@ loop-debugger-init g c = record {
   left = refl;
 }
 
-pub follow-requires-looks : goal.follow-requires-looks
-follow-requires-looks g c = rw (c.loop-debugger-test.ensures.back.input, c.loop-debugger.invariant.gone.input) c.loop-debugger.invariant.reading.looks
+pub follow-requires-clause-looks : goal.follow-requires-clause-looks
+follow-requires-clause-looks g c =
+    rw (c.loop-debugger-test.ensures.back.input, c.loop-debugger.invariant.gone.input)
+    c.loop-debugger.invariant.reading.looks
 
-pub follow-requires-quiet : goal.follow-requires-quiet
-follow-requires-quiet g c = λ e s.
+pub follow-requires-clause-quiet : goal.follow-requires-clause-quiet
+follow-requires-clause-quiet g c = λ e s.
     let m = c.args.debugger.now.machine in
     let l = c.loop-debugger.debugger in
     let held = c.loop-debugger.invariant in
