@@ -231,7 +231,9 @@ attribute_left p s u class x name c q (Some a) g =
 attribute_left p s u class x name c q None g =
     let new = kept_is p u.store c (number_of x) (drop 2 name) (kept_of (take 2 name)) in
     let old = kept_is p s.store c (number_of x) (drop 2 name) (kept_of (take 2 name)) in
-    rw (new, old) (kept_left p s u class x name c q (kept_of (take 2 name)) (set_named p (drop 2 name)) g)
+    ap (λ (o : Option ℤ). lined_if class x name (exists u.store c (number_of x)) o) new
+    ∙ kept_left p s u class x name c q (kept_of (take 2 name)) (set_named p (drop 2 name)) g
+    ∙ sym (ap (λ (o : Option ℤ). lined_if class x name (exists s.store c (number_of x)) o) old)
 
 class_left : (p : ProgramTable) (s u : State) (class : List ℕ) (x : ℤ) (name : List ℕ) (q : Question) (o : Option ℕ) →
     seen p u q (sight_of_class p x name o) ≡ seen p s q (sight_of_class p x name o) →

@@ -7,6 +7,9 @@ use Rattle.ss_trace.proofs.Histories.{row_more, count_more, row_told, rows_on, h
 use Rattle.ss_trace.proofs.Looking.{looked_on}
 use Rattle.ss_trace.proofs.history.push_rows.Goals as goal
 
+pub back_to_newest-requires : goal.back_to_newest-requires
+back_to_newest-requires g c = rw c.loop-count.invariant.gone.input c.loop-count.invariant.reading
+
 pub loop-count-preserved : goal.loop-count-preserved
 loop-count-preserved g c =
     let d = c.args.debugger.now in
