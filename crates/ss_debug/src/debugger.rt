@@ -14,17 +14,13 @@ ghost use Rattle.ss_debug.specs.AfterRefusal.{IsStateAfterRefusedMovement, IsSta
 
 use crate::break_lines::BreakLines;
 use crate::commands::{Command, Movement, Question};
-use crate::entity_text::entity_text;
-use crate::entry_text::entry_text;
-use crate::events_text::events_text;
 use crate::go::Go;
 use crate::limits::GREATEST_BOUND;
 use crate::movement::{back, back_break, back_event, forward};
-use crate::set_text::set_text;
 use crate::stop_condition::{StopCondition, Target};
 use crate::text::{
-    back_break_word, back_event_word, back_word, break_text, clear_text, clock_text, forward_word,
-    kept_text, movement_text, report_text, taken_text, var_text, where_text,
+    back_break_word, back_event_word, back_word, break_text, clear_text, forward_word, kept_text,
+    movement_text,
 };
 use ss_links::SetBoard;
 use ss_machine::Machine;
@@ -254,17 +250,7 @@ impl<S: SetBoard> Debugger<S> {
             ++ show_answer self.now.machine.input (position self.now.machine) question) }
         ensures memory { OnErr result (bytes.new.items ≡ bytes.old.items) }
     {
-        let text = match question {
-            Question::Clock => clock_text(self.alloc, &self.machine)?,
-            Question::Where => where_text(self.alloc, &self.machine)?,
-            Question::Variable(name) => var_text(self.alloc, &name, &self.machine)?,
-            Question::Entity(name, x) => entity_text(self.alloc, &name, x, &self.machine)?,
-            Question::Set(name, owner) => set_text(self.alloc, &name, owner, &self.machine)?,
-            Question::Events => events_text(self.alloc, &self.machine)?,
-            Question::Taken => taken_text(self.alloc, &self.machine)?,
-            Question::Entry => entry_text(self.alloc, &self.machine)?,
-            Question::Report => report_text(self.alloc, &self.machine)?,
-        };
+        let text = self.answer_to(&question)?;
         bytes.extend_from_slice(&text)
     }
 }
