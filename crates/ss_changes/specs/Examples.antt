@@ -13,6 +13,7 @@ use Rattle.ss_program.specs.declared.kinds.SectionKind.TheVariants.{Main, Routin
 use Rattle.ss_program.specs.declared.place.Assign.TheVariants.{Let}
 use Rattle.ss_program.specs.declared.place.Output.TheVariants.{Skip}
 use Rattle.ss_program.specs.declared.place.Place.TheVariants.{Assign, Making, Filing, Output, Call, Read}
+use Rattle.ss_program.specs.declared.timing.Listing.TheVariants.{Given}
 use Rattle.ss_program.specs.declared.variable.Variable.TheVariants.{Global, Local}
 use Rattle.ss_program.specs.ProgramExpr.{expr, no_sums, sum, term, no_products, variable, digits, implied}
 use Rattle.ss_program.specs.Program.{ProgramTable}
@@ -36,7 +37,7 @@ jobs = record {
       ∷ Output (Skip (number 0))
       ∷ Making (Create 0 false (ToVariable (Global 0)))
       ∷ Filing (File job ByRule queue)
-      ∷ Call (record { section = 1; given = number 4 ∷ []; targets = ToVariable (Local 0) ∷ [] })
+      ∷ Call (record { section = 1; given = number 4 ∷ []; targets = ToVariable (Local 0) ∷ []; listing = Given })
       ∷ Assign (Let false (Attribute 0 0 (implied 0)) (alone (variable (Local 0))))
       ∷ Filing (RemoveAt ends.First (ToVariable (Global 0)) queue)
       ∷ Making (Destroy 0 false job)
