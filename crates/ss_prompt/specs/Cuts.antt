@@ -12,7 +12,7 @@ use Rattle.ss_prompt.specs.declared.cuts.Standing.TheVariants.{First, BehindRun,
 -- the words that a line may begin with
 abbrev pub first_words : List ℕ
 first_words =
-    codes "STEP RUN NEXT BACK BREAK CLEAR FORGET SHOW QUIT OVER OUT LIST BREAKS DISPLAY UNDISPLAY HELP WHY HISTORY"
+    codes "STEP RUN NEXT BACK BREAK CLEAR FORGET SHOW QUIT OVER OUT GO LIST BREAKS DISPLAY UNDISPLAY HELP WHY HISTORY"
 
 -- those that may stand behind RUN
 abbrev pub run_words : List ℕ
@@ -29,7 +29,7 @@ question_words = codes "CLOCK WHERE VAR SET EVENTS TAKEN ENTRY REPORT COUNT"
 -- those that may stand behind SHOW
 abbrev pub show_words : List ℕ
 show_words =
-    codes "CLOCK WHERE VAR SET EVENTS TAKEN ENTRY REPORT COUNT CALLS LOCALS CLASSES SETS GLOBALS SECTIONS CHANGED"
+    codes "CLOCK WHERE VAR SET EVENTS TAKEN ENTRY REPORT COUNT IN CALLS LOCALS CLASSES SETS GLOBALS SECTIONS CHANGED"
 
 -- the words that may stand somewhere
 abbrev pub words_at : Standing → List ℕ

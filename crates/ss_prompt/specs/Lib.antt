@@ -1,6 +1,7 @@
 pub mod Source
 pub mod Words
 pub mod Cuts
+pub mod Completions
 pub mod Asked
 pub mod Sights
 pub mod Reading
@@ -10,6 +11,7 @@ pub mod Plain
 pub mod Travel
 pub mod Sections
 pub mod Listing
+pub mod Breaks
 pub mod Displays
 pub mod Histories
 pub mod Help

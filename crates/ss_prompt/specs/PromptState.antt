@@ -1,19 +1,24 @@
 -- The state of the prompt, and what is told at a stop.
 use Rattle.std.specs.Prelude.{ℕ, ◌≡◌, List, [], ◌∷◌, ◌++◌, codes}
 use Rattle.ss_machine.specs.Run.{Input, run}
-use Rattle.ss_debug.specs.declared.commands.Question.{Question}
+use Rattle.ss_trace.specs.declared.question.Question.{Question}
+use Rattle.ss_trace.specs.Question.{answer_at}
 use Rattle.ss_debug.specs.Answer.{state_line}
 use Rattle.ss_debug.specs.Move.{line_at}
-use Rattle.ss_debug.specs.Turn.{DebuggerState, show_answer}
+use Rattle.ss_debug.specs.Turn.{DebuggerState}
 use Rattle.ss_debug.specs.View.{DebuggerView, debugger_state_of}
 use Rattle.ss_prompt.specs.Source.{marked_line}
 use Rattle.ss_prompt.specs.FaultLine.{fault_line}
 
 -- a debugger in the run of an input, the lines of its model, and the questions that are answered at each stop
 pub record PromptState : Type 0 where
+  -- the lines of the model
   pub lines : List (List ℕ)
+  -- the program and its data
   pub input : Input
+  -- where the debugger stands, what it keeps, and its break lines
   pub debugger : DebuggerState
+  -- the questions that are answered at each stop
   pub displays : List Question
 
 -- what a debugger with these lines and questions stands for
@@ -45,7 +50,7 @@ source_line s = marked_line s.lines (codes "> ") (line_at s.input s.debugger.pos
 -- the answers to some questions in state p
 abbrev pub answers_to : Input → ℕ → List Question → List ℕ
 answers_to t p [] = []
-answers_to t p (q ∷ qs) = show_answer t p q ++ answers_to t p qs
+answers_to t p (x ∷ xs) = answer_at t x p ++ answers_to t p xs
 
 -- what is told where a movement stops: what the fault means, where there is one; the line of the model; the answers to
 -- the questions of each stop
@@ -53,6 +58,10 @@ abbrev pub stop_text : PromptState → List ℕ
 stop_text s =
     fault_line (run s.input s.debugger.position).status
     ++ source_line s ++ answers_to s.input s.debugger.position s.displays
+
+-- what is told where memory was refused: that it was, and the state line
+abbrev pub out_of_memory : Input → ℕ → List ℕ
+out_of_memory t p = codes "OUT OF MEMORY\n" ++ state_line t p
 
 -- what is told at a terminal before the first line: that HELP tells the commands, and where the debugger stands
 abbrev pub greeting : PromptState → List ℕ

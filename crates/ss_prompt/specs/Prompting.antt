@@ -1,18 +1,19 @@
 -- What a dialogue with the debugger means.
-use Rattle.std.specs.Prelude.{ℕ, ◌≡◌, List, codes, Bool, false}
+use Rattle.std.specs.Prelude.{ℕ, ◌≡◌, List, Bool, false}
 use Rattle.ss_debug.specs.declared.commands.Command.TheVariants.{Break, Clear}
 use Rattle.ss_debug.specs.Turn.{is_quit as is_plain_quit}
 use Rattle.ss_trace.specs.Question.{answer_at}
 use Rattle.ss_console.specs.Meaning.{Meaning}
 use Rattle.ss_prompt.specs.declared.commands.PromptCommand.{PromptCommand}
 use Rattle.ss_prompt.specs.declared.commands.PromptCommand.TheVariants.{Plain, Travel, Lines, SectionLines}
-use Rattle.ss_prompt.specs.declared.commands.PromptCommand.TheVariants.{BreakSection, ClearSection}
+use Rattle.ss_prompt.specs.declared.commands.PromptCommand.TheVariants.{BreakSection, ClearSection, Breaks}
 use Rattle.ss_prompt.specs.declared.commands.PromptCommand.TheVariants.{Ask, See, Why, History, Display, Undisplay, Help}
 use Rattle.ss_prompt.specs.Reading.{prompt_command_of}
-use Rattle.ss_prompt.specs.PromptState.{PromptState}
+use Rattle.ss_prompt.specs.PromptState.{PromptState, out_of_memory}
 use Rattle.ss_prompt.specs.Plain.{plain_next, plain_said, IsPlainRefused}
 use Rattle.ss_prompt.specs.Travel.{travel_next, travel_said, IsTravelRefused}
 use Rattle.ss_prompt.specs.Sections.{on_section_said, on_section_next}
+use Rattle.ss_prompt.specs.Breaks.{breaks_said}
 use Rattle.ss_prompt.specs.Listing.{lines_said, section_lines_said}
 use Rattle.ss_prompt.specs.Displays.{display_said, display_next, undisplay_said, undisplay_next}
 use Rattle.ss_prompt.specs.Sights.{sight_said}
@@ -27,6 +28,7 @@ prompt_answer s (Lines line) = lines_said s line
 prompt_answer s (SectionLines name) = section_lines_said s name
 prompt_answer s (BreakSection name) = on_section_said s Break name
 prompt_answer s (ClearSection name) = on_section_said s Clear name
+prompt_answer s Breaks = breaks_said s
 prompt_answer s (Ask x) = answer_at s.input x s.debugger.position
 prompt_answer s (See sight) = sight_said sight s.input s.debugger.position
 prompt_answer s (Why x) = why_said s x
@@ -61,7 +63,7 @@ IsRefused s _ after = after ≡ s
 
 -- the answer where memory was refused
 abbrev pub refusal_text : PromptState → List ℕ
-refusal_text s = codes "OUT OF MEMORY\n"
+refusal_text s = out_of_memory s.input s.debugger.position
 
 -- a dialogue with the debugger
 abbrev pub prompting : Meaning

@@ -8,18 +8,17 @@ use Rattle.ss_debug.specs.Command.{command_of}
 use Rattle.ss_debug.specs.declared.commands.Command.{Command}
 use Rattle.ss_debug.specs.declared.commands.Command.TheVariants.{Bad, Move, Break}
 use Rattle.ss_debug.specs.declared.commands.Movement.TheVariants.{Step, RunTo}
-use Rattle.ss_debug.specs.declared.commands.Question.{Question}
 use Rattle.ss_trace.specs.declared.movement.Movement.TheVariants.{Over, Out, BackOver, BackOut, BackTo, Go, GoEnd}
 use Rattle.ss_trace.specs.declared.movement.Movement.TheVariants.{RunChange, BackChange}
 use Rattle.ss_trace.specs.declared.question.Question.{Question as AskedQuestion}
-use Rattle.ss_prompt.specs.Words.{command_behind, question_of, only_name_of}
+use Rattle.ss_prompt.specs.Words.{command_behind, only_name_of}
 use Rattle.ss_prompt.specs.Asked.{own_asked, asked_of}
 use Rattle.ss_prompt.specs.Histories.{history_wanted}
 use Rattle.ss_prompt.specs.Sights.{sight_of}
 use Rattle.ss_prompt.specs.Cuts.{whole_line}
 use Rattle.ss_prompt.specs.declared.commands.PromptCommand.{PromptCommand}
 use Rattle.ss_prompt.specs.declared.commands.PromptCommand.TheVariants.{Plain, Travel, Lines, SectionLines}
-use Rattle.ss_prompt.specs.declared.commands.PromptCommand.TheVariants.{BreakSection, ClearSection}
+use Rattle.ss_prompt.specs.declared.commands.PromptCommand.TheVariants.{BreakSection, ClearSection, Breaks}
 use Rattle.ss_prompt.specs.declared.commands.PromptCommand.TheVariants.{Ask, See, Why, History, Display, Undisplay, Help}
 
 -- no command
@@ -112,7 +111,8 @@ own_in_words (verb ∷ rest) =
     if bytes_eq verb (codes "LIST") then list_command rest else
     if bytes_eq verb (codes "BREAK") then made_or_bad BreakSection (only_name_of rest) else
     if bytes_eq verb (codes "CLEAR") then made_or_bad ClearSection (only_name_of rest) else
-    if bytes_eq verb (codes "DISPLAY") then made_or_bad Display (question_of (command_behind (codes "SHOW") rest)) else
+    if bytes_eq verb (codes "BREAKS") then alone Breaks rest else
+    if bytes_eq verb (codes "DISPLAY") then made_or_bad Display (asked_of rest) else
     if bytes_eq verb (codes "UNDISPLAY") then alone Undisplay rest else
     if bytes_eq verb (codes "HELP") then help_command rest else bad
 

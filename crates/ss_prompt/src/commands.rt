@@ -1,7 +1,7 @@
 //! What a line of the prompt says.
 use crate::sight::Sight;
-use ss_debug::{Command, Name, Question};
-use ss_trace::{Movement, Question as Asked};
+use ss_debug::{Command, Name};
+use ss_trace::{Movement, Question};
 
 /// A command of the prompt (docs/PROMPT.md).
 #[derive(Drop)]
@@ -18,14 +18,16 @@ pub enum PromptCommand {
     BreakSection(Name),
     /// CLEAR r: that line is no break line any more.
     ClearSection(Name),
+    /// BREAKS: the break lines.
+    Breaks,
     /// SHOW c k a, SHOW COUNT: a question beside those of docs/DEBUGGER.md.
-    Ask(Asked),
+    Ask(Question),
     /// SHOW: what else is seen of a state.
     See(Sight),
     /// WHY: the newest step at which a question changed.
-    Why(Asked),
+    Why(Question),
     /// HISTORY: so many steps at which a question changed, the newest first.
-    History(Asked, u64),
+    History(Question, u64),
     /// DISPLAY: a question that is answered at each stop.
     Display(Question),
     /// UNDISPLAY: no question is answered at stops any more.

@@ -1,59 +1,25 @@
 //! Questions that are answered at each stop.
 ghost use Rattle.std.specs.Prelude.{◌≡◌, ◌++◌, ◌∷◌, [], length, codes, decimal, OnOk, OnErr, IfOk};
 ghost use Rattle.ss_machine.specs.Moment.{position};
+ghost use Rattle.ss_trace.specs.Question.{asked};
 ghost use Rattle.ss_prompt.specs.PromptState.{answers_to};
-ghost use Rattle.ss_prompt.specs.Displays.{with_number, asked, is_among, displays_with, display_text, display_set};
+ghost use Rattle.ss_prompt.specs.Displays.{is_among, displays_with, display_text, display_set};
 
 use itoa::Buffer;
-use ss_debug::{Debugger, Question};
+use ss_debug::Debugger;
 use ss_links::SetBoard;
+use ss_trace::{Question, push_answer, push_asked};
 use std::alloc::{AllocError, Global};
 
 /// The most questions that are answered at each stop.
 pub const MOST_DISPLAYS: usize = 20;
 
-/// Appends a name, and a number behind it where one is given.
-fn push_with_number(text: &mut Vec<u8>, name: &[u8], number: Option<i64>) -> Result<(), AllocError>
-    ensures { OnOk result (text.new.items ≡ text.old.items ++ with_number name.now number) }
-{
-    text.extend_from_slice(name)?;
-    let Some(number) = number else {
-        return Ok(());
-    };
-    let mut buffer = Buffer::new();
-    text.extend_from_slice(b" ")?;
-    text.extend_from_slice(buffer.format(number).as_bytes())
-}
-
-/// Appends a question as it is asked.
-fn push_asked(text: &mut Vec<u8>, question: &Question) -> Result<(), AllocError>
-    ensures { OnOk result (text.new.items ≡ text.old.items ++ asked question.now) }
-{
-    match question {
-        Question::Clock => text.extend_from_slice(b"CLOCK"),
-        Question::Where => text.extend_from_slice(b"WHERE"),
-        Question::Variable(name) => {
-            text.extend_from_slice(b"VAR ")?;
-            text.extend_from_slice(name.as_slice())
-        }
-        Question::Entity(name, number) => push_with_number(text, name.as_slice(), Some(*number)),
-        Question::Set(name, owner) => {
-            text.extend_from_slice(b"SET ")?;
-            push_with_number(text, name.as_slice(), *owner)
-        }
-        Question::Events => text.extend_from_slice(b"EVENTS"),
-        Question::Taken => text.extend_from_slice(b"TAKEN"),
-        Question::Entry => text.extend_from_slice(b"ENTRY"),
-        Question::Report => text.extend_from_slice(b"REPORT"),
-    }
-}
-
 /// A question as it is asked, in upper case and least digits.
-pub(crate) fn asked_text(alloc: Global, question: &Question) -> Result<Vec<u8>, AllocError>
+fn asked_text(alloc: Global, question: &Question) -> Result<Vec<u8>, AllocError>
     ensures { IfOk result (λ text. text.items ≡ asked question.now) }
 {
     let mut text = Vec::new(alloc);
-    push_asked(&mut text, question)?;
+    push_asked(question, &mut text)?;
     Ok(text)
 }
 
@@ -134,7 +100,6 @@ pub(crate) fn push_answers<S: SetBoard>(
     let Some((first, behind)) = questions.split_first() else {
         return Ok(());
     };
-    let text = debugger.answer_to(first)?;
-    answer.extend_from_slice(&text)?;
+    push_answer(debugger, first, answer)?;
     push_answers(debugger, behind, answer)
 }

@@ -7,7 +7,7 @@ use std::alloc::AllocError;
 
 /// A row for each form of a command: the word that it begins with; how it is written, and what it
 /// does.
-pub const HELP_ROWS: [(&[u8], &[u8]); 49] = [
+pub const HELP_ROWS: [(&[u8], &[u8]); 50] = [
     (b"STEP", b"STEP [n]: n steps forward, 1 if not said"),
     (
         b"RUN",
@@ -46,6 +46,7 @@ pub const HELP_ROWS: [(&[u8], &[u8]); 49] = [
         b"CLEAR",
         b"CLEAR r: no stop at the first place of section r any more",
     ),
+    (b"BREAKS", b"BREAKS: the break lines"),
     (
         b"LIST",
         b"LIST [l]: the lines about line l, or about the present one",
@@ -96,7 +97,7 @@ pub const HELP_ROWS: [(&[u8], &[u8]); 49] = [
     ),
     (
         b"DISPLAY",
-        b"DISPLAY x: answer x at each stop; x is what may stand behind SHOW",
+        b"DISPLAY x: answer x at each stop; x is a question, as in SHOW x",
     ),
     (b"UNDISPLAY", b"UNDISPLAY: answer nothing at stops any more"),
     (b"FORGET", b"FORGET n: let go of all steps but the newest n"),

@@ -2,7 +2,9 @@
 #![tactic(auto)]
 
 mod asked;
+mod break_list;
 mod commands;
+mod completions;
 mod cuts;
 mod displays;
 mod fault_line;
@@ -14,12 +16,14 @@ mod listing;
 mod pieces;
 mod prompt;
 mod read;
+mod refusal;
 mod sections;
 mod seeing;
 mod sight;
 mod source;
 
 pub use commands::PromptCommand;
+pub use completions::push_completions;
 pub use laws::{plain_answers_come_first, plain_lines_stay};
 pub use prompt::Prompt;
 pub use read::prompt_command;

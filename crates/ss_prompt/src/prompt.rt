@@ -14,15 +14,18 @@ ghost use Rattle.ss_prompt.specs.Listing.{lines_said, section_lines_said};
 ghost use Rattle.ss_trace.specs.Question.{answer_at};
 ghost use Rattle.ss_prompt.specs.Sights.{sight_said};
 ghost use Rattle.ss_prompt.specs.Histories.{why_said, history_said, HasLookedBack};
+ghost use Rattle.ss_prompt.specs.Breaks.{breaks_said};
 ghost use Rattle.ss_prompt.specs.Displays.{display_said, display_next, undisplay_said, undisplay_next};
 ghost use Rattle.ss_prompt.specs.Prompting.{prompt_answer, prompt_state_after, IsRefused, is_quit, prompting};
 
 use crate::commands::PromptCommand;
+use crate::break_list::push_break_lines;
 use crate::displays::{display, push_answers, undisplay};
 use crate::fault_line::push_fault;
 use crate::help::push_help;
 use crate::listing::{push_lines_about, push_lines_to};
 use crate::read::prompt_command;
+use crate::refusal::put_refusal;
 use crate::sections::{
     LAST_BREAK_LINE, find_section, head_line, last_line, line_of_section, present_line,
     push_no_section,
@@ -30,16 +33,13 @@ use crate::sections::{
 use crate::seeing::push_sight;
 use crate::sight::Sight;
 use crate::source::push_marked_line;
-use ss_console::{Answerer, Console, Go, PutFault, put_all};
-use ss_debug::{Command, Debugger, Name, Question, obey};
+use ss_console::{Answerer, Console, Go, PutFault};
+use ss_debug::{Command, Debugger, Name, Question as PlainQuestion, obey};
 use ss_links::SetBoard;
 use ss_machine::Status;
-use ss_trace::{Movement, Question as Asked, make_movement, push_answer, push_history, push_why};
+use ss_trace::{Movement, Question, make_movement, push_answer, push_history, push_why};
 use std::alloc::{AllocError, Global};
 use std::marker::Model;
-
-/// The answer where memory was refused; it wants none itself.
-const OUT_OF_MEMORY: &[u8] = b"OUT OF MEMORY\n";
 
 /// A debugger that answers the lines of a dialogue, with the lines of its model and the questions
 /// that are answered at each stop.
@@ -101,7 +101,7 @@ impl<S: SetBoard> Prompt<S> {
         ensures { OnOk result (text.new.items ≡ text.old.items
             ++ state_line self.now.input self.now.debugger.position) }
     {
-        let place = self.debugger.answer_to(&Question::Where)?;
+        let place = self.debugger.answer_to(&PlainQuestion::Where)?;
         text.extend_from_slice(&place)
     }
 
@@ -234,8 +234,16 @@ impl<S: SetBoard> Prompt<S> {
         }
     }
 
+    /// BREAKS.
+    fn breaks(&self, answer: &mut Vec<u8>) -> Result<(), AllocError>
+        ensures { OnOk result (answer.new.items ≡ answer.old.items ++ breaks_said self.now) }
+    {
+        let breaks = self.debugger.break_lines(self.alloc)?;
+        push_break_lines(answer, &self.lines, &breaks)
+    }
+
     /// SHOW of a question beside those of docs/DEBUGGER.md.
-    fn ask(&self, question: &Asked, answer: &mut Vec<u8>) -> Result<(), AllocError>
+    fn ask(&self, question: &Question, answer: &mut Vec<u8>) -> Result<(), AllocError>
         ensures { OnOk result (answer.new.items ≡ answer.old.items
             ++ answer_at self.now.input question.now self.now.debugger.position) }
     {
@@ -252,7 +260,7 @@ impl<S: SetBoard> Prompt<S> {
 
     /// WHY.
     #[tactic(auto, unfolding(crate::specs::Histories::HasLookedBack))]
-    fn why(&mut self, question: &Asked, answer: &mut Vec<u8>) -> Result<(), AllocError>
+    fn why(&mut self, question: &Question, answer: &mut Vec<u8>) -> Result<(), AllocError>
         ensures place { OnOk result (self.new ≡ self.old) }
         ensures said { OnOk result (answer.new.items
             ≡ answer.old.items ++ why_said self.old question.now) }
@@ -270,7 +278,7 @@ impl<S: SetBoard> Prompt<S> {
     #[tactic(auto, unfolding(crate::specs::Histories::HasLookedBack))]
     fn history(
         &mut self,
-        question: &Asked,
+        question: &Question,
         rows: u64,
         answer: &mut Vec<u8>,
     ) -> Result<(), AllocError>
@@ -317,6 +325,7 @@ impl<S: SetBoard> Prompt<S> {
             PromptCommand::SectionLines(name) => self.list_section(&name, answer)?,
             PromptCommand::BreakSection(name) => self.break_section(&name, answer)?,
             PromptCommand::ClearSection(name) => self.clear_section(&name, answer)?,
+            PromptCommand::Breaks => self.breaks(answer)?,
             PromptCommand::Ask(question) => self.ask(&question, answer)?,
             PromptCommand::See(sight) => self.see(sight, answer)?,
             PromptCommand::Why(question) => self.why(&question, answer)?,
@@ -343,6 +352,6 @@ impl<S: SetBoard> Answerer for Prompt<S> {
     }
 
     fn put_refusal<C: Console>(&self, console: &mut C) -> Result<(), PutFault> {
-        put_all(console, OUT_OF_MEMORY)
+        put_refusal(self.debugger.machine(), console)
     }
 }

@@ -1,7 +1,7 @@
 //! Lines of the prompt are read.
 ghost use Rattle.std.specs.Prelude.{◌≡◌, codes};
 ghost use Rattle.ss_debug.specs.CommandLines.{command_words};
-ghost use Rattle.ss_prompt.specs.Words.{command_behind, question_of, only_name_of};
+ghost use Rattle.ss_prompt.specs.Words.{command_behind, only_name_of};
 ghost use Rattle.ss_prompt.specs.Reading.{made_or_bad, alone, over_of, back_over_of, back_to_of};
 ghost use Rattle.ss_prompt.specs.Reading.{go_command, back_command, list_command, help_command};
 ghost use Rattle.ss_prompt.specs.Asked.{asked_of, own_asked};
@@ -208,14 +208,13 @@ fn clear_section(rest: &[u8]) -> PromptCommand
     }
 }
 
-/// What stands behind DISPLAY: what may stand behind SHOW.
+/// What stands behind DISPLAY: a question.
 fn display(rest: &[u8]) -> PromptCommand
-    ensures { result ≡ made_or_bad prompt.Display
-        (question_of (command_behind (codes "SHOW") (command_words rest.now))) }
+    ensures { result ≡ made_or_bad prompt.Display (asked_of (command_words rest.now)) }
 {
-    match command_behind(b"SHOW", rest) {
-        Command::Show(question) => PromptCommand::Display(question),
-        _ => PromptCommand::Plain(Command::Bad),
+    match asked(rest) {
+        Some(question) => PromptCommand::Display(question),
+        None => PromptCommand::Plain(Command::Bad),
     }
 }
 
@@ -272,6 +271,9 @@ fn own_in_words(line: &[u8]) -> PromptCommand
     }
     if verb == b"CLEAR".as_slice() {
         return clear_section(rest);
+    }
+    if verb == b"BREAKS".as_slice() {
+        return alone(PromptCommand::Breaks, rest);
     }
     if verb == b"DISPLAY".as_slice() {
         return display(rest);

@@ -1,3 +1,6 @@
 pub mod Source
+pub mod Seen
+pub mod Refused
+pub mod Completion
 pub mod Opening
 pub mod Stops

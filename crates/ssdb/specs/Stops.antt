@@ -1,10 +1,10 @@
 -- The exit statuses of the program.
 use Rattle.std.specs.Prelude.{ℕ, Result, Ok, Err}
 use Rattle.ss_console.specs.declared.cut.Cut.{Cut}
-use Rattle.ssdb.specs.declared.opening.PromptEnd.{PromptEnd}
-use Rattle.ssdb.specs.declared.opening.PromptEnd.TheVariants.{Done, Faulted}
-use Rattle.ssdb.specs.declared.opening.PromptFault.{PromptFault}
-use Rattle.ssdb.specs.declared.opening.PromptFault.TheVariants.{Refused, Cut as Broken, Memory}
+use Rattle.ssdb.specs.declared.end.PromptEnd.{PromptEnd}
+use Rattle.ssdb.specs.declared.end.PromptEnd.TheVariants.{Done, Faulted}
+use Rattle.ssdb.specs.declared.end.PromptFault.{PromptFault}
+use Rattle.ssdb.specs.declared.end.PromptFault.TheVariants.{Refused, Cut as Broken, Memory}
 use Rattle.std.specs.Prelude.{Bool, if◌then◌else◌}
 
 -- a run that is faulted where input that is no terminal ends: 4, else 0; a failed reading or writing 2, a refused model

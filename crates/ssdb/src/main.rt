@@ -1,39 +1,44 @@
-//! `ssdb MODEL [DATA]`: debugs a model at a prompt.
+//! `ssdb [--words] MODEL [DATA]`: debugs a model at a prompt, or tells words for its completion.
 #![tactic(auto)]
 
 ghost use Rattle.std.specs.Prelude.{◌≡◌};
+ghost use Rattle.ss_host.specs.Stops.{stop_status};
 ghost use Rattle.ssdb.specs.Stops.{prompt_status};
 
-mod files;
+mod completion;
+mod end;
 mod opening;
+mod refused;
 mod source;
-mod stop;
 mod words;
 
-use files::read_file;
-use opening::{PromptEnd, PromptFault, open_prompt};
+use clap::Error;
+use clap::error::ErrorKind;
+use completion::tell_words;
+use end::{PromptEnd, PromptFault};
+use opening::open_prompt;
 use ss_console::StreamConsole;
-use std::alloc::AllocError;
+use ss_host::{Stop, read_arguments, read_file, read_or, tell};
+use std::io;
 use std::io::IsTerminal;
 use std::process::ExitCode;
-use std::rt::Files;
-use std::{env, io};
-use stop::Stop;
-use words::read_paths;
+use words::{Words, read_words};
 
-/// Reads the files that the words name, and holds the dialogue.
-fn run<'a, R: Files + Input + Print + Eprint + AllocGlobal>(
-    rt: &R,
-    words: &'a [String],
+/// The words that the program takes.
+const USAGE: &str = "ssdb MODEL [DATA], ssdb --words MODEL";
+
+/// Reads the files that the words name, and holds the dialogue, or tells the words for completion.
+fn run<'a>(
+    rt: &HostRuntime,
+    words: &Words<'a>,
     terminal: bool,
 ) -> Result<Result<PromptEnd, PromptFault>, Stop<'a>> {
-    let paths = read_paths(rt, words)?;
-    let model = read_file(rt, paths.model)?;
-    let data = match paths.data {
-        Some(path) => read_file(rt, path)?,
-        None => Vec::new(rt.alloc()),
-    };
+    let model = read_file(rt, words.model)?;
+    let data = read_or(rt, words.data, b"")?;
     let mut console = StreamConsole::new(rt.reader(), io::writer(rt), terminal);
+    if words.tells_words {
+        return Ok(tell_words(rt.alloc(), &model, &mut console));
+    }
     Ok(open_prompt(rt.alloc(), &model, &data, &mut console))
 }
 
@@ -51,44 +56,63 @@ fn status(terminal: bool, ended: Result<PromptEnd, PromptFault>) -> u8
 }
 
 /// Says on standard error what cut a dialogue short.
-fn tell<R: Eprint>(rt: &R, ended: Result<PromptEnd, PromptFault>) {
-    if let Err(PromptFault::Cut(cut)) = ended {
-        let _ = eprintln!(rt; "ssdb: {cut}");
-    }
-    if let Err(PromptFault::Memory) = ended {
-        let _ = eprintln!(rt; "ssdb: out of memory");
+fn tell_end(rt: &HostRuntime, ended: Result<PromptEnd, PromptFault>) {
+    match ended {
+        Err(PromptFault::Cut(cut)) => {
+            let _ = eprintln!(rt; "ssdb: {cut}");
+        }
+        Err(PromptFault::Memory) => tell(rt, Stop::Memory, USAGE),
+        _ => {}
     }
 }
 
-/// Says on standard error what stopped the program, and gives its exit status.
-fn stopped<R: Eprint>(rt: &R, stop: Stop<'_>) -> u8 {
-    match stop {
-        Stop::Words(status) => status,
-        Stop::Memory => {
-            let _ = eprintln!(rt; "ssdb: out of memory");
-            5
+/// Says what stopped the program, and gives its exit status.
+fn stopped(rt: &HostRuntime, stop: Stop<'_>) -> u8
+    ensures { result ≡ stop_status stop.entry }
+{
+    tell(rt, stop, USAGE);
+    stop.status()
+}
+
+/// Writes help or version to standard output, and gives the exit status.
+fn shown(rt: &HostRuntime, error: &Error) -> u8 {
+    match error.print(rt) {
+        Ok(()) => 0,
+        Err(_) => stopped(rt, Stop::CannotWrite),
+    }
+}
+
+/// What is said of words that name no model, and the exit status: 0 where help or version was asked
+/// for.
+fn explained(rt: &HostRuntime, error: &Error) -> u8 {
+    match error.kind() {
+        ErrorKind::OutOfMemory => stopped(rt, Stop::Memory),
+        ErrorKind::DisplayHelp => shown(rt, error),
+        ErrorKind::DisplayVersion => shown(rt, error),
+        _ => stopped(rt, Stop::Usage),
+    }
+}
+
+/// Does what the words say, and gives the exit status.
+fn started(rt: &HostRuntime, arguments: &[String]) -> u8 {
+    let terminal = rt.stdin().is_terminal();
+    let words = match read_words(rt.alloc(), arguments) {
+        Ok(words) => words,
+        Err(error) => return explained(rt, &error),
+    };
+    match run(rt, &words, terminal) {
+        Ok(ended) => {
+            tell_end(rt, ended);
+            status(terminal, ended)
         }
-        Stop::CannotRead(path) => {
-            let _ = eprintln!(rt; "ssdb: cannot read {path}");
-            2
-        }
+        Err(stop) => stopped(rt, stop),
     }
 }
 
 fn main(rt: HostRuntime) -> ExitCode {
-    let terminal = rt.stdin().is_terminal();
-    let Ok(arguments) = env::args(&rt) else {
-        return ExitCode::from(1);
-    };
-    let collected: Result<Vec<String>, AllocError> = arguments.collect(rt.alloc());
-    let Ok(words) = collected else {
-        return ExitCode::from(5);
-    };
-    ExitCode::from(match run(&rt, &words, terminal) {
-        Ok(ended) => {
-            tell(&rt, ended);
-            status(terminal, ended)
-        }
+    let status = match read_arguments(&rt) {
+        Ok(arguments) => started(&rt, &arguments),
         Err(stop) => stopped(&rt, stop),
-    })
+    };
+    ExitCode::from(status)
 }

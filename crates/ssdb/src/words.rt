@@ -1,61 +1,48 @@
 //! The words that the program is started with.
-use crate::stop::Stop;
-use clap::error::ErrorKind;
-use clap::{Arg, Command, Error};
+use clap::{Arg, ArgAction, Command, Error};
 use std::alloc::Global;
 
-/// The paths that the words name.
+/// What the program is called with.
 #[derive(Drop)]
-pub struct Paths<'a> {
+pub struct Words<'a> {
+    /// The path of the model.
     pub model: &'a str,
+    /// The path of its data, where one is named.
     pub data: Option<&'a str>,
+    /// Whether the words for completion are asked for, and no dialogue.
+    pub tells_words: bool,
 }
 
 /// The version that is told.
 const VERSION: &str = "1.0";
 
-/// Reads the words: a model, and perhaps its data.
-fn parse<'a>(
-    alloc: Global,
-    words: &'a [String],
-) -> Result<(Option<&'a str>, Option<&'a str>), Error> {
+/// The words that the program takes, for `--help` and the line that tells of wrong ones.
+fn command<'a>(alloc: Global) -> Result<Command<'a>, Error> {
     let model = Arg::new(alloc, "MODEL")
         .required(true)
         .help("The file of a model (docs/LANGUAGE.md)");
     let data = Arg::new(alloc, "DATA").help("The file of its data");
+    let tells = Arg::new(alloc, "words")
+        .long("words")
+        .action(ArgAction::SetTrue)
+        .conflicts_with("DATA")?
+        .help("Tells the words of commands and model, a line each, for who completes words: rlwrap -f");
     let command = Command::new(alloc, "ssdb")
         .version(VERSION)
         .about("Debugs a SIMSCRIPT II model at a prompt, forwards and backwards (docs/PROMPT.md)")
         .arg(model)?
-        .arg(data)?;
-    let matches = command.try_get_matches_from(words)?;
-    Ok((matches.get_str("MODEL"), matches.get_str("DATA")))
+        .arg(data)?
+        .arg(tells)?;
+    Ok(command)
 }
 
-/// Says what the words ask for, or what is wrong with them.
-fn tell<R: Print + Eprint>(rt: &R, error: &Error) -> Stop<'static> {
-    match error.kind() {
-        ErrorKind::OutOfMemory => Stop::Memory,
-        ErrorKind::DisplayHelp | ErrorKind::DisplayVersion => match print!(rt; "{error}") {
-            Ok(()) => Stop::Words(0),
-            Err(_) => Stop::Words(2),
-        },
-        _ => {
-            let _ = eprint!(rt; "{error}");
-            Stop::Words(1)
-        }
-    }
-}
-
-/// The paths that the words name. For other words the program has said what is wrong with them; so
-/// it does for `--help` and `--version`.
-pub fn read_paths<'a, R: Print + Eprint + AllocGlobal>(
-    rt: &R,
-    words: &'a [String],
-) -> Result<Paths<'a>, Stop<'a>> {
-    match parse(rt.alloc(), words) {
-        Ok((Some(model), data)) => Ok(Paths { model, data }),
-        Ok((None, _)) => Err(Stop::Words(1)),
-        Err(error) => Err(tell(rt, &error)),
-    }
+/// The words behind the program's name, or why they name no model: also where help or version is
+/// asked for.
+pub fn read_words<'a>(alloc: Global, arguments: &'a [String]) -> Result<Words<'a>, Error> {
+    let matches = command(alloc)?.try_get_matches_from(arguments)?;
+    Ok(Words {
+        model: matches.get_str("MODEL").unwrap_or(""),
+        data: matches.get_str("DATA"),
+        tells_words: matches.get_flag("words"),
+    })
 }

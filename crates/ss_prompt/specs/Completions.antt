@@ -1,0 +1,41 @@
+-- The words that may stand in a line of the prompt, for who completes words.
+use Rattle.std.specs.Prelude.{ℕ, List, [], ◌∷◌, ◌++◌, codes}
+use Rattle.ss_program.specs.Program.{ProgramTable, ClassTable, SetTable, SectionTable}
+use Rattle.ss_debug.specs.CommandLines.{command_words}
+use Rattle.ss_prompt.specs.Cuts.{first_words, show_words}
+
+-- a line for each of some words
+abbrev pub word_lines : List (List ℕ) → List ℕ
+word_lines [] = []
+word_lines (word ∷ words) = word ++ 10 ∷ word_lines words
+
+-- those behind other first words than SHOW
+abbrev pub other_words : List ℕ
+other_words = codes "TO CHANGE EVENT END"
+
+-- the attributes of some classes
+abbrev pub attribute_lines : List ClassTable → List ℕ
+attribute_lines [] = []
+attribute_lines (c ∷ cs) = word_lines c.attributes ++ attribute_lines cs
+
+-- some sets
+abbrev pub set_lines : List SetTable → List ℕ
+set_lines [] = []
+set_lines (s ∷ ss) = s.name ++ 10 ∷ set_lines ss
+
+-- some sections, each with its locals
+abbrev pub section_lines : List SectionTable → List ℕ
+section_lines [] = []
+section_lines (s ∷ ss) = s.name ++ 10 ∷ (word_lines s.locals ++ section_lines ss)
+
+-- the words of the commands
+abbrev pub command_lines : List ℕ
+command_lines =
+    word_lines (command_words first_words) ++ word_lines (command_words show_words)
+    ++ word_lines (command_words other_words)
+
+-- all words, each on a line: those of the commands, and the names of a program in the order of its tables (the classes
+-- are among its variables)
+abbrev pub completions : ProgramTable → List ℕ
+completions p =
+    command_lines ++ word_lines p.globals ++ attribute_lines p.classes ++ set_lines p.sets ++ section_lines p.sections

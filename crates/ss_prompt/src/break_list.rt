@@ -1,0 +1,37 @@
+//! The break lines are told.
+ghost use Rattle.std.specs.Prelude.{◌≡◌, ◌++◌, map, OnOk};
+ghost use Rattle.ss_prompt.specs.Breaks.{break_rows, breaks_text};
+
+use crate::source::push_marked_line;
+use std::alloc::AllocError;
+
+/// Appends some lines of the model, each behind its number and a colon.
+fn push_break_rows(
+    text: &mut Vec<u8>,
+    lines: &[Vec<u8>],
+    mut breaks: &[u32],
+) -> Result<(), AllocError>
+    ensures { OnOk result (text.new.items ≡ text.old.items
+        ++ break_rows (map (λ line. line.items) lines.now) breaks.entry.now) }
+{
+    while let [line, rest @ ..] = breaks {
+        push_marked_line(text, lines, b": ", *line as usize)?;
+        breaks = rest;
+    }
+    Ok(())
+}
+
+/// Appends the break lines, or that there is none.
+pub(crate) fn push_break_lines(
+    text: &mut Vec<u8>,
+    lines: &[Vec<u8>],
+    breaks: &[u32],
+) -> Result<(), AllocError>
+    ensures { OnOk result (text.new.items ≡ text.old.items
+        ++ breaks_text (map (λ line. line.items) lines.now) breaks.now) }
+{
+    if breaks.is_empty() {
+        return text.extend_from_slice(b"NO BREAKS\n");
+    }
+    push_break_rows(text, lines, breaks)
+}

@@ -1,0 +1,103 @@
+//! The words that may stand in a line, for who completes words.
+ghost use Rattle.std.specs.Prelude.{◌≡◌, ◌++◌, ◌∷◌, [], OnOk};
+ghost use Rattle.ss_debug.specs.CommandLines.{command_words};
+ghost use Rattle.ss_prompt.specs.Completions.{word_lines, attribute_lines, set_lines, section_lines};
+ghost use Rattle.ss_prompt.specs.Completions.{command_lines, completions};
+
+use crate::cuts::{FIRST_WORDS, SHOW_WORDS};
+use crate::pieces::next_word;
+use ss_program::{Class, Name, Program, Section, Set};
+use std::alloc::AllocError;
+
+/// The words behind other first words than SHOW.
+const OTHER_WORDS: &[u8] = b"TO CHANGE EVENT END";
+
+/// Appends a word, and the end of its line.
+fn push_word(text: &mut Vec<u8>, word: &[u8]) -> Result<(), AllocError>
+    ensures { OnOk result (text.new.items ≡ text.old.items ++ word.now ++ 10 ∷ []) }
+{
+    text.extend_from_slice(word)?;
+    text.extend_from_slice(b"\n")
+}
+
+/// Appends a line for each word of a table.
+fn push_table(text: &mut Vec<u8>, table: &[u8]) -> Result<(), AllocError>
+    ensures { OnOk result (text.new.items
+        ≡ text.old.items ++ word_lines (command_words table.now)) }
+{
+    let mut rest = table;
+    while let Some((word, more)) = next_word(rest) {
+        push_word(text, word)?;
+        rest = more;
+    }
+    Ok(())
+}
+
+/// Appends a line for each name.
+fn push_names(text: &mut Vec<u8>, mut names: &[Name]) -> Result<(), AllocError>
+    ensures { OnOk result (text.new.items ≡ text.old.items ++ word_lines names.entry.now) }
+{
+    while let [name, rest @ ..] = names {
+        push_word(text, &name.bytes)?;
+        names = rest;
+    }
+    Ok(())
+}
+
+/// Appends a line for each attribute of some classes.
+fn push_attributes(text: &mut Vec<u8>, mut classes: &[Class]) -> Result<(), AllocError>
+    ensures { OnOk result (text.new.items ≡ text.old.items ++ attribute_lines classes.entry.now) }
+{
+    while let [class, rest @ ..] = classes {
+        push_names(text, &class.attributes)?;
+        classes = rest;
+    }
+    Ok(())
+}
+
+/// Appends a line for each set.
+fn push_sets(text: &mut Vec<u8>, mut sets: &[Set]) -> Result<(), AllocError>
+    ensures { OnOk result (text.new.items ≡ text.old.items ++ set_lines sets.entry.now) }
+{
+    while let [set, rest @ ..] = sets {
+        push_word(text, &set.name.bytes)?;
+        sets = rest;
+    }
+    Ok(())
+}
+
+/// Appends a line for each section, and one for each of its locals.
+fn push_sections(text: &mut Vec<u8>, mut sections: &[Section]) -> Result<(), AllocError>
+    ensures { OnOk result (text.new.items ≡ text.old.items ++ section_lines sections.entry.now) }
+{
+    while let [section, rest @ ..] = sections {
+        push_word(text, &section.name.bytes)?;
+        push_names(text, &section.locals)?;
+        sections = rest;
+    }
+    Ok(())
+}
+
+/// Appends the words of the commands, each on a line.
+fn push_commands(text: &mut Vec<u8>) -> Result<(), AllocError>
+    ensures { OnOk result (text.new.items ≡ text.old.items ++ command_lines) }
+{
+    push_table(text, FIRST_WORDS)?;
+    push_table(text, SHOW_WORDS)?;
+    push_table(text, OTHER_WORDS)
+}
+
+/// Appends the words that may stand in a line of the prompt (docs/PROMPT.md), each on a line: those
+/// of the commands, and the names of a program in the order of its tables. A name that stands in
+/// several tables is told as often.
+///
+/// `AllocError` where a growth was refused; then what was appended does not count.
+pub fn push_completions(text: &mut Vec<u8>, program: &Program) -> Result<(), AllocError>
+    ensures { OnOk result (text.new.items ≡ text.old.items ++ completions program.now) }
+{
+    push_commands(text)?;
+    push_names(text, &program.globals)?;
+    push_attributes(text, &program.classes)?;
+    push_sets(text, &program.sets)?;
+    push_sections(text, &program.sections)
+}

@@ -1,0 +1,27 @@
+-- What is written where the words for completion are asked for.
+use Rattle.std.specs.Prelude.{ℕ, ◌≡◌, ◌⊎◌, List, []}
+use Rattle.ss_program.specs.Program.{ProgramTable}
+use Rattle.ss_console.specs.Event.{Adds, written}
+use Rattle.ss_console.specs.Puts.{AddsPart}
+use Rattle.ss_console.specs.declared.cut.Cut.TheVariants as cut
+use Rattle.ss_session.specs.Model.{IsOutcome, accepted}
+use Rattle.ss_prompt.specs.Completions.{completions}
+use Rattle.ssdb.specs.declared.end.PromptEnd.{PromptEnd}
+use Rattle.ssdb.specs.declared.end.PromptEnd.TheVariants.{Done}
+use Rattle.ssdb.specs.declared.end.PromptFault.{PromptFault}
+use Rattle.ssdb.specs.declared.end.PromptFault.TheVariants.{Cut}
+use Rattle.ssdb.specs.Refused.{IsRefusalWritten}
+use Rattle.ssdb.specs.Seen.{Seen}
+
+-- all words were written, and no line was read
+abbrev pub TellsWords : List ℕ → Seen → PromptEnd → Type 0
+TellsWords model c end =
+    (program : ProgramTable) × IsOutcome model (accepted program)
+    × Adds c.old c.new (written (completions program)) × (c.after ≡ c.before) × (end ≡ Done)
+
+-- a prefix of them was written; or the model is refused, or memory was
+abbrev pub IsWordsCut : List ℕ → Seen → PromptFault → Type 0
+IsWordsCut model c fault =
+    ((program : ProgramTable) × IsOutcome model (accepted program) × AddsPart (completions program) c.old c.new
+    × (c.after ≡ c.before) × (fault ≡ Cut cut.Write))
+    ⊎ IsRefusalWritten model c fault

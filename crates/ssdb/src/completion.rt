@@ -1,0 +1,40 @@
+//! The words for who completes words.
+ghost use Rattle.std.specs.Prelude.{◌≡◌, ◌-◌, ◌^◌, ◌<◌, IfErr, IfOk};
+ghost use Rattle.ssdb.specs.Completion.{TellsWords, IsWordsCut};
+ghost use Rattle.ssdb.specs.Seen.{seen};
+
+use crate::end::{PromptEnd, PromptFault};
+use crate::refused::refuse;
+use crate::source::source_lines;
+use ss_console::{Console, Cut, put_all};
+use ss_prompt::push_completions;
+use ss_session::load_program;
+use std::alloc::Global;
+
+/// Writes the words that may stand in a line of a dialogue about a model (docs/PROMPT.md), a line
+/// each; a refused model is told as before a dialogue. `Memory` where memory was refused; then
+/// nothing is written.
+pub fn tell_words<C: Console>(
+    alloc: Global,
+    model: &[u8],
+    console: &mut C,
+) -> Result<PromptEnd, PromptFault>
+    requires { (C.faults console.old).puts < 2 ^ 64 - 1 }
+    ensures ok { IfOk result (λ end. TellsWords model.now (seen (C.terminal console.old)
+        (C.left console.old) (C.left console.new) (C.log console.old) (C.log console.new)) end) }
+    ensures err { IfErr result (λ fault. IsWordsCut model.now (seen (C.terminal console.old)
+        (C.left console.old) (C.left console.new) (C.log console.old) (C.log console.new)) fault) }
+{
+    let lines = source_lines(alloc, model)?;
+    match load_program(alloc, model) {
+        Ok(program) => {
+            let mut text = Vec::new(alloc);
+            push_completions(&mut text, &program)?;
+            match put_all(console, &text) {
+                Ok(()) => Ok(PromptEnd::Done),
+                Err(_) => Err(PromptFault::Cut(Cut::Write)),
+            }
+        }
+        Err(fault) => Err(refuse(alloc, model, &lines, fault, console)),
+    }
+}
