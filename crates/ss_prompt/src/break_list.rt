@@ -9,13 +9,13 @@ use std::alloc::AllocError;
 fn push_break_rows(
     text: &mut Vec<u8>,
     lines: &[Vec<u8>],
-    mut breaks: &[u32],
+    mut breaks: &[usize],
 ) -> Result<(), AllocError>
     ensures { OnOk result (text.new.items ≡ text.old.items
         ++ break_rows (map (λ line. line.items) lines.now) breaks.entry.now) }
 {
     while let [line, rest @ ..] = breaks {
-        push_marked_line(text, lines, b": ", *line as usize)?;
+        push_marked_line(text, lines, b": ", *line)?;
         breaks = rest;
     }
     Ok(())
@@ -25,7 +25,7 @@ fn push_break_rows(
 pub(crate) fn push_break_lines(
     text: &mut Vec<u8>,
     lines: &[Vec<u8>],
-    breaks: &[u32],
+    breaks: &[usize],
 ) -> Result<(), AllocError>
     ensures { OnOk result (text.new.items ≡ text.old.items
         ++ breaks_text (map (λ line. line.items) lines.now) breaks.now) }
