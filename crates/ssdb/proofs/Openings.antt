@@ -1,0 +1,59 @@
+-- Whole dialogues of their parts.
+use Rattle.std.proofs.Common.{◌≡◌, ℕ, List, [], refl, inl, inr, Option}
+use Rattle.ss_console.specs.Event.{Event, Adds, written}
+use Rattle.ss_machine.specs.Run.{Input, input_with, run}
+use Rattle.ss_debug.specs.Turn.{DebuggerState, initial_debugger_state}
+use Rattle.ss_debug.specs.View.{DebuggerView, debugger_state_of}
+use Rattle.ss_session.specs.Model.{IsOutcome, accepted}
+use Rattle.ss_prompt.specs.PromptState.{PromptState, prompt_state_of}
+use Rattle.ssdb.specs.declared.end.PromptEnd.{PromptEnd}
+use Rattle.ssdb.specs.declared.end.PromptFault.{PromptFault}
+use Rattle.ssdb.specs.declared.end.PromptFault.TheVariants.{Memory}
+use Rattle.ssdb.specs.Refused.{IsRefusalWritten}
+use Rattle.ssdb.specs.Seen.{Seen}
+use Rattle.ssdb.specs.Source.{source_lines}
+use Rattle.ssdb.specs.Opening.{greeted, end_of_status, IsStart, EndsWell, HoldFails, HoldsFrom, BreaksFrom, StopsFrom}
+use Rattle.ssdb.specs.Opening.{IsHeld, IsStopped}
+
+abbrev state_of : List (List ℕ) → Input → DebuggerState → PromptState
+state_of lines t d = record { lines = lines; input = t; debugger = d; displays = [] }
+
+same_state : (l m : List (List ℕ)) (t u : Input) (d e : DebuggerState) → l ≡ m → t ≡ u → d ≡ e →
+    state_of l t d ≡ state_of m u e
+same_state l m t u d e p q r = rw (p, q, r) refl
+
+-- a prompt over a debugger at the start of a run is at the start
+pub starts : (model data : List ℕ) (d : DebuggerView) (lines : List (List ℕ)) →
+    IsOutcome model (accepted d.machine.input.program) →
+    d.machine.input ≡ input_with d.machine.input.program data →
+    debugger_state_of d ≡ initial_debugger_state → lines ≡ source_lines model →
+    IsStart model data (prompt_state_of d lines [])
+starts model data d lines o i s l =
+    (d.machine.input.program, (o, same_state lines (source_lines model) d.machine.input _ (debugger_state_of d) _ l i s))
+
+-- the parts of a dialogue
+pub holds : (from to : PromptState) (c : Seen) (told : Option (List Event)) (end : PromptEnd) →
+    Adds c.old told (written (greeted c.terminal from)) → EndsWell from to told c →
+    end ≡ end_of_status (run to.input to.debugger.position).status → HoldsFrom from c end
+holds from to c told end g a e = record { told = told; greets = g; to = to; answers = a; end_is = e }
+
+pub breaks : (from to : PromptState) (c : Seen) (told : Option (List Event)) (fault : PromptFault) →
+    Adds c.old told (written (greeted c.terminal from)) → HoldFails from to told c fault → StopsFrom from c fault
+breaks from to c told fault g a = inl (record { told = told; greets = g; to = to; answers = a })
+
+-- a dialogue over a model
+pub held : (model data : List ℕ) (from : PromptState) (c : Seen) (end : PromptEnd) → IsStart model data from →
+    HoldsFrom from c end → IsHeld model data c end
+held model data from c end s h = (from, (s, h))
+
+pub stopped : (model data : List ℕ) (from : PromptState) (c : Seen) (fault : PromptFault) → IsStart model data from →
+    StopsFrom from c fault → IsStopped model data c fault
+stopped model data from c fault s h = inl (from, (s, h))
+
+pub refused : (model data : List ℕ) (c : Seen) (fault : PromptFault) → IsRefusalWritten model c fault →
+    IsStopped model data c fault
+refused model data c fault r = inr r
+
+pub out_of_memory : (model data : List ℕ) (c : Seen) → Adds c.old c.new [] → c.after ≡ c.before →
+    IsStopped model data c Memory
+out_of_memory model data c a l = inr (a, l)
