@@ -1,6 +1,5 @@
 -- Definitions that functions unfold together.
 use Rattle.std.specs.Prelude.{⊤}
-use Rattle.ss_console.specs.Puts.{joined}
 use Rattle.ss_debug.specs.Answer.{state_line, moment_text, place_text}
 use Rattle.ss_prompt.specs.Prompting.{prompt_answer, prompt_state_after, IsRefused}
 
@@ -9,7 +8,7 @@ unfoldable pub commands : ⊤
 unfolding prompt_answer prompt_state_after IsRefused
 commands = tt
 
--- the parts of a state line, one after the other
+-- the parts of a state line
 unfoldable pub state_lines : ⊤
-unfolding joined state_line moment_text place_text
+unfolding state_line moment_text place_text
 state_lines = tt

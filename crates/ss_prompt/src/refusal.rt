@@ -1,5 +1,5 @@
-//! What is told where memory was refused.
-ghost use Rattle.std.specs.Prelude.{◌≡◌, ◌-◌, ◌^◌, ◌<◌, ◌++◌, OnOk, OnErr};
+//! What is told where memory was refused; it takes no memory.
+ghost use Rattle.std.specs.Prelude.{◌≡◌, ◌-◌, ◌^◌, ◌<◌, ◌++◌, codes, OnOk, OnErr};
 ghost use Rattle.ss_console.specs.Event.{Adds, written};
 ghost use Rattle.ss_console.specs.Faults.{one_more_put};
 ghost use Rattle.ss_console.specs.Puts.{AddsPart};
@@ -15,7 +15,7 @@ use ss_machine::{Machine, Status};
 
 /// The word of a status, and the number of its fault behind it.
 fn status_parts<'a>(status: Status, number: &'a mut Buffer) -> (&'static [u8], &'a [u8])
-    ensures { result.0.now ++ result.1.now ≡ status_text status }
+    ensures { status_text status ≡ result.0.now ++ result.1.now }
 {
     match status {
         Status::Ready => (b"READY", b""),
@@ -25,8 +25,56 @@ fn status_parts<'a>(status: Status, number: &'a mut Buffer) -> (&'static [u8], &
     }
 }
 
+/// Writes the pieces of a state line, one after the other.
+#[tactic(auto, unfolding(ss_console::specs::Puts::joined))]
+fn put_pieces<'a, C: Console>(
+    console: &mut C,
+    state_word: &'a [u8],
+    state: &'a [u8],
+    clock_word: &'a [u8],
+    clock: &'a [u8],
+    blank: &'a [u8],
+    status: &'a [u8],
+    number: &'a [u8],
+    section_word: &'a [u8],
+    section: &'a [u8],
+    line_word: &'a [u8],
+    line: &'a [u8],
+    end: &'a [u8],
+) -> Result<(), PutFault>
+    requires { (C.faults console.old).puts < 2 ^ 64 - 1 }
+    ensures ok { OnOk result (Adds (C.log console.old) (C.log console.new)
+        (written (state_word.now ++ state.now ++ clock_word.now ++ clock.now ++ blank.now ++ status.now
+        ++ number.now ++ section_word.now ++ section.now ++ line_word.now ++ line.now ++ end.now))
+        × (C.faults console.new ≡ C.faults console.old)) }
+    ensures err { OnErr result (AddsPart (state_word.now ++ state.now ++ clock_word.now ++ clock.now ++ blank.now ++ status.now
+        ++ number.now ++ section_word.now ++ section.now ++ line_word.now ++ line.now ++ end.now)
+        (C.log console.old) (C.log console.new)
+        × (C.faults console.new ≡ one_more_put (C.faults console.old))) }
+    ensures lines { C.left console.new ≡ C.left console.old }
+    ensures terminal { C.terminal console.new ≡ C.terminal console.old }
+{
+    put_texts(
+        console,
+        &[
+            state_word,
+            state,
+            clock_word,
+            clock,
+            blank,
+            status,
+            number,
+            section_word,
+            section,
+            line_word,
+            line,
+            end,
+        ],
+    )
+}
+
 /// Writes that memory was refused, and the state line, in as many pieces as they are taken in, until
-/// one call fails. It takes no memory.
+/// one call fails.
 #[tactic(auto, unfolding(crate::proofs::Unfoldings::state_lines))]
 pub(crate) fn put_refusal<S: SetBoard, C: Console>(
     machine: &Machine<S>,
@@ -49,21 +97,19 @@ pub(crate) fn put_refusal<S: SetBoard, C: Console>(
     let mut line = Buffer::new();
     let (word, number) = status_parts(machine.status(), &mut fault);
     let (section, _) = machine.place();
-    put_texts(
+    put_pieces(
         console,
-        &[
-            b"OUT OF MEMORY\nSTATE ",
-            state.format(machine.position()).as_bytes(),
-            b" CLOCK ",
-            clock.format(machine.clock()).as_bytes(),
-            b" ",
-            word,
-            number,
-            b" IN ",
-            machine.program().section(section).name.bytes.as_slice(),
-            b" LINE ",
-            line.format(present_line(machine)).as_bytes(),
-            b"\n",
-        ],
+        b"OUT OF MEMORY\nSTATE ",
+        state.format(machine.position()).as_bytes(),
+        b" CLOCK ",
+        clock.format(machine.clock()).as_bytes(),
+        b" ",
+        word,
+        number,
+        b" IN ",
+        machine.program().section(section).name.bytes.as_slice(),
+        b" LINE ",
+        line.format(present_line(machine)).as_bytes(),
+        b"\n",
     )
 }

@@ -57,3 +57,6 @@ refused model data c fault r = inr r
 pub out_of_memory : (model data : List ℕ) (c : Seen) → Adds c.old c.new [] → c.after ≡ c.before →
     IsStopped model data c Memory
 out_of_memory model data c a l = inr (a, l)
+
+-- a whole dialogue, or why there was none
+pub ruleset whole = (starts, held, stopped, refused, out_of_memory)

@@ -14,6 +14,7 @@ use std::alloc::Global;
 /// Writes the words that may stand in a line of a dialogue about a model (docs/PROMPT.md), a line
 /// each; a refused model is told as before a dialogue. `Memory` where memory was refused; then
 /// nothing is written.
+#[tactic(auto, using(ss_console::proofs::Parts::no_prompt))]
 pub fn tell_words<C: Console>(
     alloc: Global,
     model: &[u8],

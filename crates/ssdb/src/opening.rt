@@ -8,6 +8,7 @@ ghost use Rattle.ss_debug.specs.Turn.{initial_debugger_state};
 ghost use Rattle.ss_debug.specs.View.{debugger_state_of};
 ghost use Rattle.ss_session.specs.Model.{accepted, IsOutcome};
 ghost use Rattle.ss_session.specs.Load.{IsLoadFault};
+ghost use Rattle.ss_prompt.specs.PromptState.{greeting};
 ghost use Rattle.ssdb.specs.Opening.{greeted, end_of_status, EndsWell, HoldFails, GreetingFails};
 ghost use Rattle.ssdb.specs.Opening.{HoldsFrom, StopsFrom, IsHeld, IsStopped};
 ghost use Rattle.ssdb.specs.Seen.{seen};
@@ -32,6 +33,29 @@ fn end(status: Status) -> PromptEnd
     }
 }
 
+/// Tells where the debugger stands.
+#[tactic(auto, using(ss_console::proofs::Parts::no_prompt))]
+fn put_greeting<S: SetBoard, C: Console>(
+    alloc: Global,
+    prompt: &Prompt<S>,
+    console: &mut C,
+) -> Result<(), PromptFault>
+    requires { (C.faults console.old).puts < 2 ^ 64 - 1 }
+    ensures ok { OnOk result (Adds (C.log console.old) (C.log console.new)
+        (written (greeting prompt.now)) × (C.faults console.new ≡ C.faults console.old)) }
+    ensures err { IfErr result (λ fault. GreetingFails (greeting prompt.now)
+        (C.log console.old) (C.log console.new) fault) }
+    ensures lines { C.left console.new ≡ C.left console.old }
+    ensures terminal { C.terminal console.new ≡ C.terminal console.old }
+{
+    let mut text = Vec::new(alloc);
+    prompt.push_greeting(&mut text)?;
+    match put_all(console, &text) {
+        Ok(()) => Ok(()),
+        Err(_) => Err(PromptFault::Cut(Cut::Write)),
+    }
+}
+
 /// Tells at a terminal where the debugger stands, before the first line is read.
 #[tactic(auto, using(ss_console::proofs::Parts::no_prompt))]
 fn greet<S: SetBoard, C: Console>(
@@ -48,15 +72,10 @@ fn greet<S: SetBoard, C: Console>(
     ensures lines { C.left console.new ≡ C.left console.old }
     ensures terminal { C.terminal console.new ≡ C.terminal console.old }
 {
-    if !console.is_terminal() {
-        return Ok(());
+    if console.is_terminal() {
+        return put_greeting(alloc, prompt, console);
     }
-    let mut text = Vec::new(alloc);
-    prompt.push_greeting(&mut text)?;
-    match put_all(console, &text) {
-        Ok(()) => Ok(()),
-        Err(_) => Err(PromptFault::Cut(Cut::Write)),
-    }
+    Ok(())
 }
 
 /// Answers the lines of a console, and says how the run stands then.
@@ -101,6 +120,7 @@ fn open(alloc: Global, model: &[u8], data_text: &[u8]) -> Result<Debugger<Linked
 }
 
 /// A whole dialogue of a prompt: the greeting, and the answers to the lines of a console.
+#[tactic(auto, using(crate::proofs::Openings::holds, crate::proofs::Openings::breaks))]
 fn greet_and_hold<S: SetBoard, C: Console>(
     alloc: Global,
     mut prompt: Prompt<S>,
@@ -125,6 +145,7 @@ fn greet_and_hold<S: SetBoard, C: Console>(
 
 /// Reads a model and answers the lines of a console about its run over its data (docs/PROMPT.md); a
 /// refused model is told there. `Memory` where memory was refused before anything was written.
+#[tactic(auto, using(crate::proofs::Openings::whole, ss_console::proofs::Parts::no_prompt))]
 pub fn open_prompt<C: Console>(
     alloc: Global,
     model: &[u8],

@@ -82,6 +82,7 @@ fn told(
 }
 
 /// Writes what is said of a refused model, and gives what that is.
+#[tactic(auto, using(ss_console::proofs::Parts::no_prompt))]
 pub fn refuse<C: Console>(
     alloc: Global,
     model: &[u8],
