@@ -1,14 +1,8 @@
 -- Definitions that functions unfold together.
 use Rattle.std.specs.Prelude.{⊤}
-use Rattle.ss_debug.specs.Answer.{state_line, moment_text, place_text}
 use Rattle.ss_prompt.specs.Prompting.{prompt_answer, prompt_state_after, IsRefused}
 
 -- a command's answer, and the states behind it
 unfoldable pub commands : ⊤
 unfolding prompt_answer prompt_state_after IsRefused
 commands = tt
-
--- the parts of a state line
-unfoldable pub state_lines : ⊤
-unfolding state_line moment_text place_text
-state_lines = tt

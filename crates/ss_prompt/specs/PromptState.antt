@@ -59,10 +59,6 @@ stop_text s =
     fault_line (run s.input s.debugger.position).status
     ++ source_line s ++ answers_to s.input s.debugger.position s.displays
 
--- what is told where memory was refused: that it was, and the state line
-abbrev pub out_of_memory : Input → ℕ → List ℕ
-out_of_memory t p = codes "OUT OF MEMORY\n" ++ state_line t p
-
 -- what is told at a terminal before the first line: that HELP tells the commands, and where the debugger stands
 abbrev pub greeting : PromptState → List ℕ
 greeting s = codes "HELP TELLS THE COMMANDS.\n" ++ state_line s.input s.debugger.position ++ stop_text s

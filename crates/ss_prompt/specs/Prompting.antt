@@ -1,5 +1,5 @@
 -- What a dialogue with the debugger means.
-use Rattle.std.specs.Prelude.{ℕ, ◌≡◌, List, Bool, false}
+use Rattle.std.specs.Prelude.{ℕ, ◌≡◌, List, codes, Bool, false}
 use Rattle.ss_debug.specs.declared.commands.Command.TheVariants.{Break, Clear}
 use Rattle.ss_debug.specs.Turn.{is_quit as is_plain_quit}
 use Rattle.ss_trace.specs.Question.{answer_at}
@@ -9,7 +9,7 @@ use Rattle.ss_prompt.specs.declared.commands.PromptCommand.TheVariants.{Plain, T
 use Rattle.ss_prompt.specs.declared.commands.PromptCommand.TheVariants.{BreakSection, ClearSection, Breaks}
 use Rattle.ss_prompt.specs.declared.commands.PromptCommand.TheVariants.{Ask, See, Why, History, Display, Undisplay, Help}
 use Rattle.ss_prompt.specs.Reading.{prompt_command_of}
-use Rattle.ss_prompt.specs.PromptState.{PromptState, out_of_memory}
+use Rattle.ss_prompt.specs.PromptState.{PromptState}
 use Rattle.ss_prompt.specs.Plain.{plain_next, plain_said, IsPlainRefused}
 use Rattle.ss_prompt.specs.Travel.{travel_next, travel_said, IsTravelRefused}
 use Rattle.ss_prompt.specs.Sections.{on_section_said, on_section_next}
@@ -63,7 +63,7 @@ IsRefused s _ after = after ≡ s
 
 -- the answer where memory was refused
 abbrev pub refusal_text : PromptState → List ℕ
-refusal_text s = out_of_memory s.input s.debugger.position
+refusal_text s = codes "OUT OF MEMORY\n"
 
 -- a dialogue with the debugger
 abbrev pub prompting : Meaning

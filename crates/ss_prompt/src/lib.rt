@@ -16,7 +16,6 @@ mod listing;
 mod pieces;
 mod prompt;
 mod read;
-mod refusal;
 mod sections;
 mod seeing;
 mod sight;

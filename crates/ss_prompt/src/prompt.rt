@@ -25,7 +25,6 @@ use crate::fault_line::push_fault;
 use crate::help::push_help;
 use crate::listing::{push_lines_about, push_lines_to};
 use crate::read::prompt_command;
-use crate::refusal::put_refusal;
 use crate::sections::{
     LAST_BREAK_LINE, find_section, head_line, last_line, line_of_section, present_line,
     push_no_section,
@@ -33,13 +32,16 @@ use crate::sections::{
 use crate::seeing::push_sight;
 use crate::sight::Sight;
 use crate::source::push_marked_line;
-use ss_console::{Answerer, Console, Go, PutFault};
+use ss_console::{Answerer, Console, Go, PutFault, put_all};
 use ss_debug::{Command, Debugger, Name, Question as PlainQuestion, obey};
 use ss_links::SetBoard;
 use ss_machine::Status;
 use ss_trace::{Movement, Question, make_movement, push_answer, push_history, push_why};
 use std::alloc::{AllocError, Global};
 use std::marker::Model;
+
+/// The answer where memory was refused; it wants none itself.
+const OUT_OF_MEMORY: &[u8] = b"OUT OF MEMORY\n";
 
 /// A debugger that answers the lines of a dialogue, with the lines of its model and the questions
 /// that are answered at each stop.
@@ -352,6 +354,6 @@ impl<S: SetBoard> Answerer for Prompt<S> {
     }
 
     fn put_refusal<C: Console>(&self, console: &mut C) -> Result<(), PutFault> {
-        put_refusal(self.debugger.machine(), console)
+        put_all(console, OUT_OF_MEMORY)
     }
 }
