@@ -23,12 +23,12 @@ same_state : (l m : List (List ℕ)) (t u : Input) (d e : DebuggerState) → l �
 same_state l m t u d e p q r = rw (p, q, r) refl
 
 -- a prompt over a debugger at the start of a run is at the start
-pub starts : (model data : List ℕ) (d : DebuggerView) (lines : List (List ℕ)) →
+pub starts : (model data_text : List ℕ) (d : DebuggerView) (lines : List (List ℕ)) →
     IsOutcome model (accepted d.machine.input.program) →
-    d.machine.input ≡ input_with d.machine.input.program data →
+    d.machine.input ≡ input_with d.machine.input.program data_text →
     debugger_state_of d ≡ initial_debugger_state → lines ≡ source_lines model →
-    IsStart model data (prompt_state_of d lines [])
-starts model data d lines o i s l =
+    IsStart model data_text (prompt_state_of d lines [])
+starts model data_text d lines o i s l =
     (d.machine.input.program, (o, same_state lines (source_lines model) d.machine.input _ (debugger_state_of d) _ l i s))
 
 -- the parts of a dialogue
@@ -42,21 +42,21 @@ pub breaks : (from to : PromptState) (c : Seen) (told : Option (List Event)) (fa
 breaks from to c told fault g a = inl (record { told = told; greets = g; to = to; answers = a })
 
 -- a dialogue over a model
-pub held : (model data : List ℕ) (from : PromptState) (c : Seen) (end : PromptEnd) → IsStart model data from →
-    HoldsFrom from c end → IsHeld model data c end
-held model data from c end s h = (from, (s, h))
+pub held : (model data_text : List ℕ) (from : PromptState) (c : Seen) (end : PromptEnd) → IsStart model data_text from →
+    HoldsFrom from c end → IsHeld model data_text c end
+held model data_text from c end s h = (from, (s, h))
 
-pub stopped : (model data : List ℕ) (from : PromptState) (c : Seen) (fault : PromptFault) → IsStart model data from →
-    StopsFrom from c fault → IsStopped model data c fault
-stopped model data from c fault s h = inl (from, (s, h))
+pub stopped : (model data_text : List ℕ) (from : PromptState) (c : Seen) (fault : PromptFault) → IsStart model data_text from →
+    StopsFrom from c fault → IsStopped model data_text c fault
+stopped model data_text from c fault s h = inl (from, (s, h))
 
-pub refused : (model data : List ℕ) (c : Seen) (fault : PromptFault) → IsRefusalWritten model c fault →
-    IsStopped model data c fault
-refused model data c fault r = inr r
+pub refused : (model data_text : List ℕ) (c : Seen) (fault : PromptFault) → IsRefusalWritten model c fault →
+    IsStopped model data_text c fault
+refused model data_text c fault r = inr r
 
-pub out_of_memory : (model data : List ℕ) (c : Seen) → Adds c.old c.new [] → c.after ≡ c.before →
-    IsStopped model data c Memory
-out_of_memory model data c a l = inr (a, l)
+pub out_of_memory : (model data_text : List ℕ) (c : Seen) → Adds c.old c.new [] → c.after ≡ c.before →
+    IsStopped model data_text c Memory
+out_of_memory model data_text c a l = inr (a, l)
 
 -- a whole dialogue, or why there was none
 pub ruleset whole = (starts, held, stopped, refused, out_of_memory)

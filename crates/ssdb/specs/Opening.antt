@@ -30,17 +30,17 @@ end_of_status status = if is_faulted status then Faulted else Done
 
 -- the state of the prompt at the start of the run of a program over its data
 abbrev pub start_over : List ℕ → List ℕ → ProgramTable → PromptState
-start_over model data program = record {
+start_over model data_text program = record {
   lines = source_lines model;
-  input = input_with program data;
+  input = input_with program data_text;
   debugger = initial_debugger_state;
   displays = [];
 }
 
 -- it is that of the program that a model is
 abbrev pub IsStart : List ℕ → List ℕ → PromptState → Type 0
-IsStart model data from =
-    (program : ProgramTable) × IsOutcome model (accepted program) × (from ≡ start_over model data program)
+IsStart model data_text from =
+    (program : ProgramTable) × IsOutcome model (accepted program) × (from ≡ start_over model data_text program)
 
 -- how a dialogue ends behind the greeting: by the end of input, or by a line
 abbrev pub EndsWell : PromptState → PromptState → Option (List Event) → Seen → Type 0
@@ -90,9 +90,9 @@ StopsFrom from c fault =
 
 -- a whole dialogue over an accepted model and its data
 abbrev pub IsHeld : List ℕ → List ℕ → Seen → PromptEnd → Type 0
-IsHeld model data c end = (from : PromptState) × IsStart model data from × HoldsFrom from c end
+IsHeld model data_text c end = (from : PromptState) × IsStart model data_text from × HoldsFrom from c end
 
 -- why there was none: it was cut short, or the model is refused, or memory was before anything was written
 abbrev pub IsStopped : List ℕ → List ℕ → Seen → PromptFault → Type 0
-IsStopped model data c fault =
-    ((from : PromptState) × IsStart model data from × StopsFrom from c fault) ⊎ IsRefusalWritten model c fault
+IsStopped model data_text c fault =
+    ((from : PromptState) × IsStart model data_text from × StopsFrom from c fault) ⊎ IsRefusalWritten model c fault

@@ -26,7 +26,9 @@ fn command<'a>(alloc: Global) -> Result<Command<'a>, Error> {
         .long("words")
         .action(ArgAction::SetTrue)
         .conflicts_with("DATA")?
-        .help("Tells the words of commands and model, a line each, for who completes words: rlwrap -f");
+        .help(
+            "Tells the words of commands and model, a line each, for who completes words: rlwrap -f",
+        );
     let command = Command::new(alloc, "ssdb")
         .version(VERSION)
         .about("Debugs a SIMSCRIPT II model at a prompt, forwards and backwards (docs/PROMPT.md)")
