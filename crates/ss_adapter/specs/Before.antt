@@ -1,13 +1,11 @@
 -- What is answered before a run is launched, and to launch.
 use Rattle.std.specs.Prelude.{ℕ, ◌≡◌, List, [], ◌∷◌, codes, Bool}
-use Rattle.std.specs.Str.{bytes_eq}
 use Rattle.ss_words.specs.Faults.{text_rule_code}
 use Rattle.ss_check.specs.CheckRules.{check_rule_code}
 use Rattle.ss_machine.specs.Run.{input_with}
 use Rattle.ss_debug.specs.Turn.{initial_debugger_state}
 use Rattle.ss_debug.specs.View.{DebuggerView, debugger_state_of}
 use Rattle.ss_session.specs.Model.{accepted, IsOutcome}
-use Rattle.ss_session.specs.Load.{IsLoadFault}
 use Rattle.ss_session.specs.Transcript.{refusal_line}
 use Rattle.ss_session.specs.declared.load.LoadFault.{LoadFault}
 use Rattle.ss_session.specs.declared.load.LoadFault.TheVariants.{Text, Check, Memory}
@@ -38,10 +36,14 @@ refused line = failure (without_last line) ∷ event (codes "output") (output_bo
 
 -- a debugger at the start of the run of a model over its data, and a desk on which nothing is set or told
 pub record IsLaunched (model text path : List ℕ) (stops : Bool) (d : DebuggerView) (k : DeskView) : Type 0 where
+  -- the program is that of the model
   pub program : IsOutcome model (accepted d.machine.input.program)
+  -- its run is the one over the data
   pub input : d.machine.input ≡ input_with d.machine.input.program text
+  -- the debugger stands at its start
   pub start : debugger_state_of d ≡ initial_debugger_state
-  pub desk : k ≡ record { path = path; set = []; told = 0; stops = stops }
+  -- nothing is set or told
+  pub desk : k ≡ record { path = path; set = []; sections = []; watched = []; told = 0; stops = stops }
 
 -- the line of a refused model
 abbrev pub fault_line : LoadFault → List ℕ

@@ -5,8 +5,12 @@ use Rattle.std.specs.Prelude.{ℕ, Bool, List}
 pub record DeskView : Type 0 where
   -- the path of the model
   pub path : List ℕ
-  -- the break lines that requests set
+  -- the break lines that requests set by lines
   pub set : List ℕ
+  -- those that they set by sections
+  pub sections : List ℕ
+  -- the question that is a data break point; empty where there is none
+  pub watched : List ℕ
   -- how much of the report is told
   pub told : ℕ
   -- whether configurationDone stops where the run stands

@@ -1,5 +1,7 @@
 -- Lines of the model on which a place stands, and the break lines of a request.
-use Rattle.std.specs.Prelude.{ℕ, ◌≡◌, ◌^◌, Bool, ◌&&◌, List, [], ◌∷◌, ◌++◌, codes, map, flat_map, fold, Option, Some, None, if◌then◌else◌, nat_le, nat_lt}
+use Rattle.std.specs.Prelude.{ℕ, ◌≡◌, ◌^◌, Bool, ◌&&◌, List, [], ◌∷◌, ◌++◌, codes, map, flat_map, fold}
+use Rattle.std.specs.Prelude.{Option, Some, None, option_and_then, position, slice_get}
+use Rattle.std.specs.Prelude.{if◌then◌else◌, nat_le, nat_lt}
 use Rattle.std.specs.Str.{bytes_eq}
 use Rattle.ss_program.specs.Program.{ProgramTable, SectionTable}
 use Rattle.ss_program.specs.declared.place.Spot.{Spot}
@@ -53,24 +55,53 @@ with_break s line =
       text = s.text ++ set_item line;
     }
 
--- the break line for a line that the request names, if a place stands on it or behind it
-abbrev pub with_next : Setting → Option ℕ → Setting
-with_next s (Some line) = with_break s line
-with_next s None =
-    record { breaks = s.breaks; set = s.set; text = s.text ++ unset_item (codes "no statement stands here") }
+-- a break line, if there is one, or this reason why there is none
+abbrev pub with_next : List ℕ → Setting → Option ℕ → Setting
+with_next reason s (Some line) = with_break s line
+with_next reason s None = record { breaks = s.breaks; set = s.set; text = s.text ++ unset_item reason }
 
--- the same, for the line itself
+-- the break line for a line that the request names, if a place stands on it or behind it
 abbrev pub with_asked : ProgramTable → Setting → ℕ → Setting
-with_asked p s line = with_next s (next_line p line)
+with_asked p s line = with_next (codes "no statement stands here") s (next_line p line)
+
+-- the line of a place
+abbrev pub spot_line : Option Spot → Option ℕ
+spot_line None = None
+spot_line (Some spot) = nearer 0 None spot.line
+
+-- the line of the first place of a section
+abbrev pub first_line : Option SectionTable → Option ℕ
+first_line None = None
+first_line (Some s) = spot_line (slice_get s.places 0)
+
+-- the line of the first place of the section of this name
+abbrev pub named_line : ProgramTable → List ℕ → Option ℕ
+named_line p name =
+    first_line (option_and_then (slice_get p.sections) (position (λ s. bytes_eq name s.name) p.sections))
+
+-- the break line for a section that the request names
+abbrev pub with_named : ProgramTable → Setting → List ℕ → Setting
+with_named p s name = with_next (codes "no section has this name") s (named_line p name)
 
 -- break lines without those that an earlier request set
-abbrev pub cleared : List ℕ → List ℕ → List ℕ
-cleared breaks set = fold (λ bs line. without_line line bs) breaks set
+abbrev pub without_lines : List ℕ → List ℕ → List ℕ
+without_lines breaks set = fold (λ bs line. without_line line bs) breaks set
 
--- the break lines behind a request
-abbrev pub setting_of : ProgramTable → List ℕ → List ℕ → List ℕ → Setting
-setting_of p breaks set asked =
-    fold (with_asked p) (record { breaks = cleared breaks set; set = []; text = [] }) asked
+-- and with those that requests of the other kind set
+abbrev pub cleared : List ℕ → List ℕ → List ℕ → List ℕ
+cleared breaks set kept = fold breaks_after_set (without_lines breaks set) kept
+
+-- no break line of a request is set yet
+abbrev pub unset : List ℕ → List ℕ → List ℕ → Setting
+unset breaks set kept = record { breaks = cleared breaks set kept; set = []; text = [] }
+
+-- the break lines behind a request that names lines
+abbrev pub setting_of : ProgramTable → List ℕ → List ℕ → List ℕ → List ℕ → Setting
+setting_of p breaks set kept asked = fold (with_asked p) (unset breaks set kept) asked
+
+-- the break lines behind a request that names sections
+abbrev pub section_setting_of : ProgramTable → List ℕ → List ℕ → List ℕ → List (List ℕ) → Setting
+section_setting_of p breaks set kept names = fold (with_named p) (unset breaks set kept) names
 
 -- what was set, and what is said of it
 abbrev pub IsSetting : DebuggerState → DebuggerState → List ℕ → List ℕ → Setting → Type 0

@@ -1,32 +1,39 @@
 -- One turn of the adapter: what a request is answered with, and where it leads.
-use Rattle.std.specs.Prelude.{ℕ, ◌≡◌, max, Bool, true, false, List, [], ◌∷◌, ◌++◌, codes, drop, length, take, min, nat_lt, nat_eq}
+use Rattle.std.specs.Prelude.{ℕ, max, true, List, [], ◌∷◌, ◌++◌, codes, drop, length, take, nat_lt, nat_eq}
 use Rattle.std.specs.Prelude.{Option, Some, None, if◌then◌else◌}
+use Rattle.ss_machine.specs.State.{State}
 use Rattle.ss_machine.specs.Run.{Input, run}
-use Rattle.ss_debug.specs.declared.limits.TheConstants.{GREATEST_BOUND}
 use Rattle.ss_debug.specs.declared.commands.Command.{Command as Line}
 use Rattle.ss_debug.specs.declared.commands.Command.TheVariants.{Move}
-use Rattle.ss_debug.specs.declared.commands.Movement.TheVariants.{Run}
 use Rattle.ss_debug.specs.declared.commands.Question.{Question}
 use Rattle.ss_debug.specs.Command.{command_of}
 use Rattle.ss_debug.specs.Answer.{state_line}
 use Rattle.ss_debug.specs.Turn.{DebuggerState, debugger_state_after, debugger_state_with, answer, show_answer}
 use Rattle.ss_debug.specs.View.{DebuggerView, debugger_state_of}
 use Rattle.ss_messages.specs.declared.request.Command.{Command}
-use Rattle.ss_messages.specs.declared.request.Command.TheVariants.{Initialize, Launch, SetBreakpoints, SetExceptionBreakpoints}
-use Rattle.ss_messages.specs.declared.request.Command.TheVariants.{ConfigurationDone, Threads, StackTrace, Scopes, Variables}
-use Rattle.ss_messages.specs.declared.request.Command.TheVariants.{Obey, Ask, Source, LoadedSources, ExceptionInfo}
+use Rattle.ss_messages.specs.declared.request.Command.TheVariants.{Initialize, Launch, ConfigurationDone}
+use Rattle.ss_messages.specs.declared.request.Command.TheVariants.{SetBreakpoints, SetFunctionBreakpoints}
+use Rattle.ss_messages.specs.declared.request.Command.TheVariants.{SetDataBreakpoints, DataBreakpointInfo}
+use Rattle.ss_messages.specs.declared.request.Command.TheVariants.{Threads, StackTrace, Scopes, Variables}
+use Rattle.ss_messages.specs.declared.request.Command.TheVariants.{Obey, Ask, Completions, Source}
+use Rattle.ss_messages.specs.declared.request.Command.TheVariants.{LoadedSources, ExceptionInfo}
 use Rattle.ss_messages.specs.declared.request.Command.TheVariants.{Pause, Disconnect, Terminate, Bad, Unknown}
 use Rattle.ss_messages.specs.Messages.{Sent, reply, failure, event}
-use Rattle.ss_messages.specs.Bodies.{stopped_body, output_body, result_body, content_body, sources_body, list_body, without_last}
-use Rattle.ss_adapter.specs.declared.fixed.TheConstants.{CAPABILITIES, THREADS, SCOPES, NO_EXIT}
-use Rattle.ss_adapter.specs.declared.turns.TheConstants.{POINT_LIMIT}
+use Rattle.ss_messages.specs.Bodies.{stopped_body, output_body, result_body, content_body, sources_body, list_body}
+use Rattle.ss_messages.specs.Bodies.{without_last}
+use Rattle.ss_messages.specs.Shown.{frames_body}
+use Rattle.ss_scopes.specs.Frames.{frames_page, frame_count}
+use Rattle.ss_scopes.specs.Variables.{scopes_text, variables_text}
+use Rattle.ss_adapter.specs.declared.fixed.TheConstants.{CAPABILITIES, THREADS, NO_EXIT}
+use Rattle.ss_adapter.specs.declared.setting.TheConstants.{POINT_LIMIT}
 use Rattle.ss_adapter.specs.declared.going.Going.{Going}
 use Rattle.ss_adapter.specs.declared.going.Going.TheVariants.{Standing}
 use Rattle.ss_adapter.specs.declared.turns.Further.{Further}
 use Rattle.ss_adapter.specs.declared.turns.Further.TheVariants as further
-use Rattle.ss_adapter.specs.Going.{going_of, state_behind, going_answer}
-use Rattle.ss_adapter.specs.Looking.{reason_at, exception_by, frames_text, scope_items, question_of}
-use Rattle.ss_adapter.specs.Places.{Setting, setting_of}
+use Rattle.ss_adapter.specs.Going.{going_of, run_going, state_behind, going_answer}
+use Rattle.ss_adapter.specs.Looking.{reason_at, exception_by, question_of, watched_of}
+use Rattle.ss_adapter.specs.Places.{Setting, setting_of, section_setting_of}
+use Rattle.ss_adapter.specs.Watch.{watching_of, info_of}
 use Rattle.ss_adapter.specs.Desk.{DeskView}
 
 -- ---- the state
@@ -43,8 +50,14 @@ report_at t d = (run t d.position).report
 
 -- how much of a report is told once it was reached: it is told once
 abbrev pub told_with : DeskView → List ℕ → DeskView
-told_with k report =
-    record { path = k.path; set = k.set; told = max k.told (length report); stops = k.stops }
+told_with k report = record {
+  path = k.path;
+  set = k.set;
+  sections = k.sections;
+  watched = k.watched;
+  told = max k.told (length report);
+  stops = k.stops;
+}
 
 -- where a movement leads
 abbrev pub moved : AdapterState → DebuggerState → AdapterState
@@ -74,9 +87,9 @@ gone s body g =
     reply body
     ∷ behind_movement s.input s.desk.told (state_behind s.input s.debugger g) (going_answer s.input s.debugger g)
 
--- RUN
-abbrev pub running : Going
-running = Standing (Run GREATEST_BOUND)
+-- RUN, or RUN CHANGE where a question is a data break point
+abbrev pub running : AdapterState → Going
+running s = run_going (watched_of s.desk.watched)
 
 -- a reply, and where the run stands
 abbrev pub here : Input → ℕ → List ℕ → List Sent
@@ -103,7 +116,12 @@ first_lines n lines = take n lines
 
 -- the break lines behind a request
 abbrev pub setting_in : AdapterState → List ℕ → Setting
-setting_in s lines = setting_of s.input.program s.debugger.breaks s.desk.set (first_lines POINT_LIMIT lines)
+setting_in s lines =
+    setting_of s.input.program s.debugger.breaks s.desk.set s.desk.sections (first_lines POINT_LIMIT lines)
+
+-- the break lines behind a request that names sections
+abbrev pub sections_in : AdapterState → List (List ℕ) → Setting
+sections_in s names = section_setting_of s.input.program s.debugger.breaks s.desk.sections s.desk.set names
 
 -- the content of a source: the report is number 1
 abbrev pub source_messages : List ℕ → ℕ → List Sent
@@ -116,18 +134,26 @@ terminated = reply (codes "{}") ∷ event (codes "terminated") (codes "{}") ∷ 
 
 -- configurationDone
 abbrev pub configuring : AdapterState → List Sent
-configuring s = if s.desk.stops then here s.input s.debugger.position (codes "entry") else gone s (codes "{}") running
+configuring s =
+    if s.desk.stops then here s.input s.debugger.position (codes "entry") else gone s (codes "{}") (running s)
+
+-- a page of the frames of a state, and how many there are
+abbrev pub framed : Input → State → List ℕ → ℕ → ℕ → List Sent
+framed t s path start levels =
+    reply (frames_body (frames_page t.program s path start levels) (frame_count s)) ∷ []
 
 -- what a request is answered with that asks about the run
 unfoldable pub looked : AdapterState → Command → List Sent
 looked s Initialize = reply CAPABILITIES.now ∷ []
 looked s (Launch model input stops) = failure (codes "a run is launched already") ∷ []
 looked s Threads = reply THREADS.now ∷ []
-looked s (StackTrace start levels) =
-    reply (list_body (codes "stackFrames") (frames_text s.input s.debugger.position s.desk.path start)) ∷ []
-looked s (Scopes frame) = reply SCOPES.now ∷ []
-looked s (Variables reference start count) =
-    reply (list_body (codes "variables") (scope_items s.input s.debugger.position reference start count)) ∷ []
+looked s (StackTrace start levels) = framed s.input (run s.input s.debugger.position) s.desk.path start levels
+looked s (Scopes frame) =
+    reply (list_body (codes "scopes") (scopes_text s.input s.debugger.position frame)) ∷ []
+looked s (Variables wanted) =
+    reply (list_body (codes "variables") (variables_text s.input s.debugger.position wanted)) ∷ []
+looked s (DataBreakpointInfo reference name) = reply (info_of reference name) ∷ []
+looked s (Completions text) = failure (codes "unknown request") ∷ []
 looked s (Ask text) = asked s.input s.debugger.position (question_of text)
 looked s (Source reference) = source_messages (report_at s.input s.debugger) reference
 looked s LoadedSources = reply (sources_body s.desk.path) ∷ []
@@ -141,6 +167,8 @@ looked s other = reply (codes "{}") ∷ []
 -- what a request is answered with that asks for no movement
 unfoldable pub told_of : AdapterState → Command → List Sent
 told_of s (SetBreakpoints lines) = reply (list_body (codes "breakpoints") (setting_in s lines).text) ∷ []
+told_of s (SetFunctionBreakpoints names) = reply (list_body (codes "breakpoints") (sections_in s names).text) ∷ []
+told_of s (SetDataBreakpoints ids) = reply (list_body (codes "breakpoints") (watching_of ids).text) ∷ []
 told_of s ConfigurationDone = configuring s
 told_of s (Obey text) = obeyed s (command_of text)
 told_of s other = looked s other
@@ -152,7 +180,7 @@ answers_by s command None = told_of s command
 
 -- what a request is answered with
 abbrev pub answers : AdapterState → Command → List Sent
-answers s command = answers_by s command (going_of command)
+answers s command = answers_by s command (going_of (watched_of s.desk.watched) command)
 
 -- ---- where a request leads
 
@@ -167,7 +195,44 @@ abbrev pub behind_setting : AdapterState → Setting → AdapterState
 behind_setting s setting = record {
   input = s.input;
   debugger = debugger_state_with s.debugger setting.breaks;
-  desk = record { path = s.desk.path; set = setting.set; told = s.desk.told; stops = s.desk.stops };
+  desk = record {
+    path = s.desk.path;
+    set = setting.set;
+    sections = s.desk.sections;
+    watched = s.desk.watched;
+    told = s.desk.told;
+    stops = s.desk.stops;
+  };
+}
+
+-- behind break lines of sections
+abbrev pub behind_sections : AdapterState → Setting → AdapterState
+behind_sections s setting = record {
+  input = s.input;
+  debugger = debugger_state_with s.debugger setting.breaks;
+  desk = record {
+    path = s.desk.path;
+    set = s.desk.set;
+    sections = setting.set;
+    watched = s.desk.watched;
+    told = s.desk.told;
+    stops = s.desk.stops;
+  };
+}
+
+-- behind a data break point
+abbrev pub behind_watching : AdapterState → List ℕ → AdapterState
+behind_watching s watched = record {
+  input = s.input;
+  debugger = s.debugger;
+  desk = record {
+    path = s.desk.path;
+    set = s.desk.set;
+    sections = s.desk.sections;
+    watched = watched;
+    told = s.desk.told;
+    stops = s.desk.stops;
+  };
 }
 
 -- once configured, the run stops where it stands when it is configured again
@@ -175,16 +240,26 @@ abbrev pub configured : AdapterState → AdapterState
 configured s = record {
   input = s.input;
   debugger = s.debugger;
-  desk = record { path = s.desk.path; set = s.desk.set; told = s.desk.told; stops = true };
+  desk = record {
+    path = s.desk.path;
+    set = s.desk.set;
+    sections = s.desk.sections;
+    watched = s.desk.watched;
+    told = s.desk.told;
+    stops = true;
+  };
 }
 
 -- behind configurationDone
 abbrev pub behind_configuring : AdapterState → AdapterState
-behind_configuring s = configured (if s.desk.stops then s else moved s (state_behind s.input s.debugger running))
+behind_configuring s =
+    configured (if s.desk.stops then s else moved s (state_behind s.input s.debugger (running s)))
 
 -- behind a request that asks for no movement
 unfoldable pub left_by : AdapterState → Command → AdapterState
 left_by s (SetBreakpoints lines) = behind_setting s (setting_in s lines)
+left_by s (SetFunctionBreakpoints names) = behind_sections s (sections_in s names)
+left_by s (SetDataBreakpoints ids) = behind_watching s (watching_of ids).watched
 left_by s ConfigurationDone = behind_configuring s
 left_by s (Obey text) = behind_line s (command_of text)
 left_by s other = s
@@ -196,7 +271,7 @@ state_by s command None = left_by s command
 
 -- behind a request
 abbrev pub state_after : AdapterState → Command → AdapterState
-state_after s command = state_by s command (going_of command)
+state_after s command = state_by s command (going_of (watched_of s.desk.watched) command)
 
 -- whether the session goes on
 abbrev pub further_of : Command → Further

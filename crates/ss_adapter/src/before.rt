@@ -4,8 +4,9 @@ ghost use Rattle.ss_messages.specs.Messages.{posted_all};
 ghost use Rattle.ss_adapter.specs.Before.{answers_before};
 ghost use Rattle.ss_adapter.specs.Turn.{further_of};
 
+use crate::asking::terminate;
 use crate::fixed::CAPABILITIES;
-use crate::turns::{Further, further_behind, terminate};
+use crate::turns::{Further, further_behind};
 use ss_messages::{Command, NOTHING, Post, Request};
 use std::alloc::AllocError;
 

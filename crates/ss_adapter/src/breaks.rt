@@ -1,16 +1,17 @@
 //! The break lines of a request.
-ghost use Rattle.std.specs.Prelude.{◌≡◌, ◌++◌, [], fold, map, OnOk};
-ghost use Rattle.ss_machine.specs.Moment.{position};
+ghost use Rattle.std.specs.Prelude.{◌≡◌, ◌++◌, [], fold, map, position, bytes_eq, option_map, OnOk};
 ghost use Rattle.ss_debug.specs.View.{debugger_state_of};
+ghost use Rattle.ss_debug.specs.BreakLines.{breaks_after_set};
 ghost use Rattle.ss_debug.specs.Turn.{debugger_state_with};
 ghost use Rattle.ss_messages.specs.Bodies.{unset_item};
-ghost use Rattle.ss_adapter.specs.Places.{is_nearer, nearer, next_line, section_lines, place_lines, cleared};
-ghost use Rattle.ss_adapter.specs.Places.{Setting, with_asked, setting_of, IsSetting};
+ghost use Rattle.ss_adapter.specs.Places.{nearer, next_line, first_line, named_line, without_lines, cleared};
+ghost use Rattle.ss_adapter.specs.Places.{with_next, with_asked, with_named, setting_of, section_setting_of};
+ghost use Rattle.ss_adapter.specs.Places.{IsSetting};
 
 use ss_debug::{Command, Debugger, obey};
 use ss_links::SetBoard;
-use ss_messages::{set_item, unset_item};
-use ss_program::{Program, Spot};
+use ss_messages::{Text, set_item, unset_item};
+use ss_program::{Program, Section, Spot};
 use std::alloc::{AllocError, Global};
 
 /// The nearer of two lines, the first of which may be none, that are not before a line.
@@ -50,6 +51,31 @@ fn next_line(program: &Program, from: u64) -> Option<u32>
     best
 }
 
+/// The number of the section of this name.
+fn find_section(sections: &[Section], name: &[u8]) -> Option<usize>
+    ensures { result ≡ position (λ s. bytes_eq name.now s.name) sections.now }
+{
+    sections
+        .iter()
+        .position(|section| name == section.name.bytes.as_slice())
+}
+
+/// The line of the first place of a section.
+fn first_line(section: Option<&Section>) -> Option<u32>
+    ensures { result ≡ first_line (option_map (λ s. s.now) section) }
+{
+    let spot = section?.places.get(0)?;
+    nearer(0, None, spot.line)
+}
+
+/// The line of the first place of the section of this name.
+fn named_line(program: &Program, name: &[u8]) -> Option<u32>
+    ensures { result ≡ named_line program.now name.now }
+{
+    let number = find_section(&program.sections, name)?;
+    first_line(program.sections.get(number))
+}
+
 /// Makes some lines no break lines.
 #[tactic(auto, unfolding(ss_debug::proofs::Unfoldings::turns))]
 fn clear_lines<S: SetBoard>(
@@ -59,7 +85,8 @@ fn clear_lines<S: SetBoard>(
 ) -> Result<(), AllocError>
     ensures input { debugger.new.machine.input ≡ debugger.old.machine.input }
     ensures state { OnOk result (debugger_state_of debugger.new
-        ≡ debugger_state_with (debugger_state_of debugger.old) (cleared debugger.old.breaks set.now)) }
+        ≡ debugger_state_with (debugger_state_of debugger.old)
+        (without_lines debugger.old.breaks set.now)) }
 {
     for line in set {
         obey(debugger, Command::Clear(*line), scrap)?;
@@ -67,16 +94,78 @@ fn clear_lines<S: SetBoard>(
     Ok(())
 }
 
+/// Makes some lines break lines.
+#[tactic(auto, unfolding(ss_debug::proofs::Unfoldings::turns))]
+fn keep_lines<S: SetBoard>(
+    debugger: &mut Debugger<S>,
+    kept: &[u32],
+    scrap: &mut Vec<u8>,
+) -> Result<(), AllocError>
+    ensures input { debugger.new.machine.input ≡ debugger.old.machine.input }
+    ensures state { OnOk result (debugger_state_of debugger.new
+        ≡ debugger_state_with (debugger_state_of debugger.old)
+        (fold breaks_after_set debugger.old.breaks kept.now)) }
+{
+    for line in kept {
+        obey(debugger, Command::Break(*line), scrap)?;
+    }
+    Ok(())
+}
+
+/// Makes the lines of an earlier request no break lines, unless requests of the other kind set them.
+fn clear<S: SetBoard>(
+    alloc: Global,
+    debugger: &mut Debugger<S>,
+    set: &[u32],
+    kept: &[u32],
+) -> Result<(), AllocError>
+    ensures input { debugger.new.machine.input ≡ debugger.old.machine.input }
+    ensures state { OnOk result (debugger_state_of debugger.new
+        ≡ debugger_state_with (debugger_state_of debugger.old)
+        (cleared debugger.old.breaks set.now kept.now)) }
+{
+    let mut scrap = Vec::new(alloc);
+    clear_lines(debugger, set, &mut scrap)?;
+    keep_lines(debugger, kept, &mut scrap)
+}
+
 /// Appends a break point that is not set, and why.
-fn push_unset(alloc: Global, text: &mut Vec<u8>, reason: &'static [u8]) -> Result<(), AllocError>
+pub fn push_unset(alloc: Global, text: &mut Vec<u8>, reason: &'static [u8]) -> Result<(), AllocError>
     ensures { OnOk result (text.new.items ≡ text.old.items ++ unset_item reason.now) }
 {
     let item = unset_item(alloc, reason)?;
     text.extend_from_slice(&item)
 }
 
-/// Sets a break line that a request names, and tells where, or why not.
+/// Sets a break line, if there is one, and tells where, or why not.
 #[tactic(auto, unfolding(ss_debug::proofs::Unfoldings::turns))]
+fn set_next<S: SetBoard>(
+    alloc: Global,
+    debugger: &mut Debugger<S>,
+    set: &mut Vec<u32>,
+    text: &mut Vec<u8>,
+    reason: &'static [u8],
+    next: Option<u32>,
+) -> Result<(), AllocError>
+    ensures input { debugger.new.machine.input ≡ debugger.old.machine.input }
+    ensures state { OnOk result (IsSetting (debugger_state_of debugger.old) (debugger_state_of debugger.new)
+        set.new.items text.new.items (with_next reason.now
+        (record { breaks = debugger.old.breaks; set = set.old.items; text = text.old.items }) next)) }
+{
+    let Some(line) = next else {
+        return push_unset(alloc, text, reason);
+    };
+    let mut said = Vec::new(alloc);
+    obey(debugger, Command::Break(line), &mut said)?;
+    if said.as_slice() == b"TOO MANY BREAKS\n".as_slice() {
+        return push_unset(alloc, text, b"too many break points");
+    }
+    set.extend_from_slice(&[line])?;
+    let item = set_item(alloc, u64::from(line))?;
+    text.extend_from_slice(&item)
+}
+
+/// Sets the break line for a line that a request names.
 fn set_line<S: SetBoard>(
     alloc: Global,
     debugger: &mut Debugger<S>,
@@ -89,25 +178,35 @@ fn set_line<S: SetBoard>(
         set.new.items text.new.items (with_asked debugger.old.machine.input.program
         (record { breaks = debugger.old.breaks; set = set.old.items; text = text.old.items }) asked)) }
 {
-    let Some(line) = next_line(debugger.machine().program(), asked) else {
-        return push_unset(alloc, text, b"no statement stands here");
-    };
-    let mut said = Vec::new(alloc);
-    obey(debugger, Command::Break(line), &mut said)?;
-    if said.as_slice() == b"TOO MANY BREAKS\n".as_slice() {
-        return push_unset(alloc, text, b"too many break points");
-    }
-    set.extend_from_slice(&[line])?;
-    let item = set_item(alloc, u64::from(line))?;
-    text.extend_from_slice(&item)
+    let next = next_line(debugger.machine().program(), asked);
+    set_next(alloc, debugger, set, text, b"no statement stands here", next)
 }
 
-/// Sets the break lines of a request in place of those of an earlier one, and appends what the
-/// reply says of each.
+/// Sets the break line for a section that a request names.
+fn set_section<S: SetBoard>(
+    alloc: Global,
+    debugger: &mut Debugger<S>,
+    set: &mut Vec<u32>,
+    text: &mut Vec<u8>,
+    name: &Text,
+) -> Result<(), AllocError>
+    ensures input { debugger.new.machine.input ≡ debugger.old.machine.input }
+    ensures state { OnOk result (IsSetting (debugger_state_of debugger.old) (debugger_state_of debugger.new)
+        set.new.items text.new.items (with_named debugger.old.machine.input.program
+        (record { breaks = debugger.old.breaks; set = set.old.items; text = text.old.items })
+        name.now)) }
+{
+    let next = named_line(debugger.machine().program(), name.as_slice());
+    set_next(alloc, debugger, set, text, b"no section has this name", next)
+}
+
+/// Sets the break lines of a request in place of those of an earlier one, keeps those that requests
+/// for sections set, and appends what the reply says of each.
 pub fn set_lines<S: SetBoard>(
     alloc: Global,
     debugger: &mut Debugger<S>,
     set: &mut Vec<u32>,
+    kept: &[u32],
     text: &mut Vec<u8>,
     asked: &[u64],
 ) -> Result<(), AllocError>
@@ -115,13 +214,36 @@ pub fn set_lines<S: SetBoard>(
     ensures input { debugger.new.machine.input ≡ debugger.old.machine.input }
     ensures state { OnOk result (IsSetting (debugger_state_of debugger.old) (debugger_state_of debugger.new)
         set.new.items text.new.items (setting_of debugger.old.machine.input.program debugger.old.breaks
-        set.old.items asked.now)) }
+        set.old.items kept.now asked.now)) }
 {
-    let mut scrap = Vec::new(alloc);
-    clear_lines(debugger, set, &mut scrap)?;
+    clear(alloc, debugger, set, kept)?;
     set.clear();
     for line in asked {
         set_line(alloc, debugger, set, text, *line)?;
+    }
+    Ok(())
+}
+
+/// Sets the break lines of the sections of a request in place of those of an earlier one, keeps
+/// those that requests for lines set, and appends what the reply says of each.
+pub fn set_sections<S: SetBoard>(
+    alloc: Global,
+    debugger: &mut Debugger<S>,
+    set: &mut Vec<u32>,
+    kept: &[u32],
+    text: &mut Vec<u8>,
+    names: &[Text],
+) -> Result<(), AllocError>
+    requires { text.old.items ≡ [] }
+    ensures input { debugger.new.machine.input ≡ debugger.old.machine.input }
+    ensures state { OnOk result (IsSetting (debugger_state_of debugger.old) (debugger_state_of debugger.new)
+        set.new.items text.new.items (section_setting_of debugger.old.machine.input.program
+        debugger.old.breaks set.old.items kept.now names.now)) }
+{
+    clear(alloc, debugger, set, kept)?;
+    set.clear();
+    for name in names {
+        set_section(alloc, debugger, set, text, name)?;
     }
     Ok(())
 }

@@ -1,5 +1,5 @@
 //! What the adapter keeps beside the debugger.
-ghost use Rattle.std.specs.Prelude.{◌≡◌, [], max};
+ghost use Rattle.std.specs.Prelude.{◌≡◌, []};
 
 use std::alloc::Global;
 use std::marker::Model;
@@ -9,8 +9,12 @@ use std::marker::Model;
 pub struct Desk {
     /// The path of the model.
     pub(crate) path: Vec<u8>,
-    /// The break lines that requests set.
+    /// The break lines that requests set by lines.
     pub(crate) set: Vec<u32>,
+    /// Those that they set by sections.
+    pub(crate) sections: Vec<u32>,
+    /// The question that is a data break point; empty where there is none.
+    pub(crate) watched: Vec<u8>,
     /// How much of the report is told.
     pub(crate) told: usize,
     /// Whether configurationDone stops where the run stands.
@@ -25,6 +29,8 @@ impl Model for Desk {
     ghost view = { λ k. record {
       path = k.path.items;
       set = k.set.items;
+      sections = k.sections.items;
+      watched = k.watched.items;
       told = k.told;
       stops = k.stops;
     } };
@@ -33,11 +39,15 @@ impl Model for Desk {
 impl Desk {
     /// Nothing is set or told yet.
     pub fn new(alloc: Global, path: Vec<u8>, stops: bool) -> Self
-        ensures { result ≡ record { path = path.items; set = []; told = 0; stops = stops } }
+        ensures { result ≡ record {
+          path = path.items; set = []; sections = []; watched = []; told = 0; stops = stops;
+        } }
     {
         Desk {
             path,
             set: Vec::new(alloc),
+            sections: Vec::new(alloc),
+            watched: Vec::new(alloc),
             told: 0,
             stops,
         }

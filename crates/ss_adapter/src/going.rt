@@ -1,9 +1,9 @@
 //! The movements of requests.
 ghost use Rattle.std.specs.Prelude.{◌≡◌, ◌++◌, OnOk};
 ghost use Rattle.ss_debug.specs.View.{debugger_state_of};
-ghost use Rattle.ss_adapter.specs.Going.{state_behind, going_answer, going_of};
+ghost use Rattle.ss_adapter.specs.Going.{state_behind, going_answer, run_going, back_going, going_of};
 
-use ss_debug::{Debugger, GREATEST_BOUND, obey};
+use ss_debug::{Debugger, GREATEST_BOUND, Question, obey};
 use ss_links::SetBoard;
 use ss_messages::Command;
 use ss_trace::make_movement;
@@ -18,18 +18,43 @@ pub enum Going {
     Traced(ss_trace::Movement),
 }
 
+/// The movement forward to where the run stops: at a break line, or where the question changes that
+/// is a data break point.
+pub fn run_going(watched: Option<Question>) -> Going
+    ensures { result ≡ run_going watched }
+{
+    match watched {
+        None => Going::Standing(ss_debug::Movement::Run(GREATEST_BOUND)),
+        Some(question) => {
+            Going::Traced(ss_trace::Movement::RunChange(ss_trace::Question::Shown(question)))
+        }
+    }
+}
+
+/// The movement back to a break line, or to where that question changes.
+fn back_going(watched: Option<Question>) -> Going
+    ensures { result ≡ back_going watched }
+{
+    match watched {
+        None => Going::Standing(ss_debug::Movement::BackBreak),
+        Some(question) => {
+            Going::Traced(ss_trace::Movement::BackChange(ss_trace::Question::Shown(question)))
+        }
+    }
+}
+
 /// The movement that a request asks for.
-pub fn asked_movement(command: &Command) -> Option<Going>
-    ensures { result ≡ going_of command.now }
+pub fn asked_movement(command: &Command, watched: Option<Question>) -> Option<Going>
+    ensures { result ≡ going_of watched command.now }
 {
     match command {
-        Command::Continue => Some(Going::Standing(ss_debug::Movement::Run(GREATEST_BOUND))),
+        Command::Continue => Some(run_going(watched)),
         Command::Next => Some(Going::Traced(ss_trace::Movement::Over(1))),
         Command::StepIn => Some(Going::Standing(ss_debug::Movement::Step(1))),
         Command::StepOut => Some(Going::Traced(ss_trace::Movement::Out)),
         Command::StepBack(true) => Some(Going::Standing(ss_debug::Movement::Back(1))),
         Command::StepBack(false) => Some(Going::Traced(ss_trace::Movement::BackOver(1))),
-        Command::ReverseContinue => Some(Going::Standing(ss_debug::Movement::BackBreak)),
+        Command::ReverseContinue => Some(back_going(watched)),
         Command::Restart => Some(Going::Traced(ss_trace::Movement::Go(0))),
         _ => None,
     }

@@ -1,7 +1,7 @@
 -- A head is read byte by byte.
-use Rattle.std.proofs.Common.{◌≡◌, ℕ, List, [], ◌∷◌, Option, Some, None, refl, ◌∙◌, sym, ap}
+use Rattle.std.proofs.Common.{◌≡◌, ℕ, List, [], ◌∷◌, Option, Some, None, refl, ◌∙◌, ap}
 use Rattle.std.specs.Io.KnownBytes.{Consumes}
-use Rattle.ss_messages.specs.Frames.{head, body, malformed, GoesOn, IsNoHead, HasLength, HasNoLength}
+use Rattle.ss_messages.specs.Frames.{head, GoesOn, IsNoHead, HasLength, HasNoLength}
 
 -- where the bytes are told: what is left of them goes on as they began
 abbrev pub IsWithin : Option (List ℕ) → Option (List ℕ) → ℕ → Option ℕ → List ℕ → ℕ → Type 0

@@ -1,5 +1,5 @@
 -- The bodies of replies and events, as they are written.
-use Rattle.std.specs.Prelude.{ℕ, ◌-◌, List, ◌∷◌, ◌++◌, codes, decimal, drop, take, length}
+use Rattle.std.specs.Prelude.{ℕ, ◌-◌, List, ◌++◌, codes, decimal, drop, take, length}
 use Rattle.ss_messages.specs.Escapes.{quoted, quoted_text}
 
 -- a text without the byte at its end, which is a line feed

@@ -1,5 +1,6 @@
 -- The messages of a stream.
-use Rattle.std.specs.Prelude.{ℕ, ◌≡◌, ◌+◌, ◌*◌, ◌-◌, ◌&&◌, ◌==◌, Bool, List, [], ◌∷◌, ◌++◌, codes, length, take, drop, nat_lt, nat_le, if◌then◌else◌}
+use Rattle.std.specs.Prelude.{ℕ, ◌≡◌, ◌+◌, ◌*◌, ◌-◌, ◌&&◌, ◌==◌, Bool, List, [], ◌∷◌, ◌++◌}
+use Rattle.std.specs.Prelude.{codes, length, take, drop, nat_lt, nat_le, if◌then◌else◌}
 use Rattle.std.specs.Prelude.{Option, Some, None}
 use Rattle.std.specs.Option.{option_or}
 use Rattle.std.specs.Str.{bytes_eq}
@@ -33,8 +34,8 @@ without_return line =
 -- the length that a line of a head says
 unfoldable pub length_in : List ℕ → Option ℕ
 length_in line =
-    if bytes_eq (take 16 (without_return line)) (codes "Content-Length: ") then number_in (drop 16 (without_return line))
-    else None
+    if bytes_eq (take 16 (without_return line)) (codes "Content-Length: ")
+    then number_in (drop 16 (without_return line)) else None
 
 -- the length that the lines so far say, and one more: the first that says one counts
 abbrev pub noted : Option ℕ → List ℕ → Option ℕ

@@ -3,3 +3,4 @@ pub mod Frames
 pub mod Messages
 pub mod Requests
 pub mod Bodies
+pub mod Shown

@@ -1,14 +1,22 @@
 -- What a message asks for.
-use Rattle.std.specs.Prelude.{ℕ, Bool, true, false, List, [], ◌∷◌, codes, Option, Some, None, option_and_then, unwrap_or, if◌then◌else◌}
+use Rattle.std.specs.Prelude.{ℕ, Bool, true, false, List, [], ◌∷◌, codes, Option, Some, None}
+use Rattle.std.specs.Prelude.{option_and_then, unwrap_or, if◌then◌else◌}
 use Rattle.std.specs.Str.{bytes_eq}
 use Rattle.serde_json.specs.Data.{Data, null, Items, no_items, item}
 use Rattle.serde_json.specs.Find.{get, as_array, as_bool, as_number, as_str, as_u64}
 use Rattle.ss_messages.specs.declared.request.Command.{Command}
-use Rattle.ss_messages.specs.declared.request.Command.TheVariants.{Initialize, Launch, SetBreakpoints, SetExceptionBreakpoints}
-use Rattle.ss_messages.specs.declared.request.Command.TheVariants.{ConfigurationDone, Threads, StackTrace, Scopes, Variables}
+use Rattle.ss_messages.specs.declared.request.Command.TheVariants.{Initialize, Launch, ConfigurationDone}
+use Rattle.ss_messages.specs.declared.request.Command.TheVariants.{SetBreakpoints, SetFunctionBreakpoints}
+use Rattle.ss_messages.specs.declared.request.Command.TheVariants.{SetDataBreakpoints, SetExceptionBreakpoints}
+use Rattle.ss_messages.specs.declared.request.Command.TheVariants.{DataBreakpointInfo, Completions, Threads}
+use Rattle.ss_messages.specs.declared.request.Command.TheVariants.{StackTrace, Scopes, Variables}
 use Rattle.ss_messages.specs.declared.request.Command.TheVariants.{Obey, Ask, Source, LoadedSources, ExceptionInfo}
-use Rattle.ss_messages.specs.declared.request.Command.TheVariants.{Continue, Next, StepIn, StepOut, StepBack, ReverseContinue}
-use Rattle.ss_messages.specs.declared.request.Command.TheVariants.{Restart, Pause, Disconnect, Terminate, Bad, Unknown}
+use Rattle.ss_messages.specs.declared.request.Command.TheVariants.{Continue, Next, StepIn, StepOut, StepBack}
+use Rattle.ss_messages.specs.declared.request.Command.TheVariants.{ReverseContinue, Restart, Pause}
+use Rattle.ss_messages.specs.declared.request.Command.TheVariants.{Disconnect, Terminate, Bad, Unknown}
+use Rattle.ss_messages.specs.declared.request.Filter.{Filter}
+use Rattle.ss_messages.specs.declared.request.Filter.TheVariants.{All, Named, Indexed}
+use Rattle.ss_messages.specs.declared.request.Wanted.{Wanted}
 use Rattle.ss_messages.specs.declared.request.Request.{Request}
 
 -- ---- members of an object
@@ -38,9 +46,22 @@ abbrev pub lines_of : Items → List ℕ
 lines_of no_items = []
 lines_of (item d ds) = number_at (codes "line") d ∷ lines_of ds
 
--- the lines of the break points of a request
+-- the texts at a key of some break points, empty for one that has none
+abbrev pub texts_of : List ℕ → Items → List (List ℕ)
+texts_of key no_items = []
+texts_of key (item d ds) = unwrap_or (text_at key d) [] ∷ texts_of key ds
+
+-- the break points of a request
+abbrev pub points_at : Data → Items
+points_at d = unwrap_or (option_and_then as_array (get (codes "breakpoints") d)) no_items
+
+-- their lines
 abbrev pub lines_at : Data → List ℕ
-lines_at d = lines_of (unwrap_or (option_and_then as_array (get (codes "breakpoints") d)) no_items)
+lines_at d = lines_of (points_at d)
+
+-- their texts at a key
+abbrev pub texts_at : List ℕ → Data → List (List ℕ)
+texts_at key d = texts_of key (points_at d)
 
 -- the arguments of a request; null where there are none
 abbrev pub arguments_of : Data → Data
@@ -66,31 +87,71 @@ evaluate_with obeyed (Some text) = if obeyed then Obey text else Ask text
 abbrev pub evaluate_of : Data → Command
 evaluate_of d = evaluate_with (is_text_at (codes "context") (codes "repl") d) (text_at (codes "expression") d)
 
+-- dataBreakpointInfo needs a name
+abbrev pub info_with : ℕ → Option (List ℕ) → Command
+info_with reference None = Bad
+info_with reference (Some name) = DataBreakpointInfo reference name
+
+-- dataBreakpointInfo
+abbrev pub info_of : Data → Command
+info_of d = info_with (number_at (codes "variablesReference") d) (text_at (codes "name") d)
+
+-- completions needs a text
+abbrev pub completions_with : Option (List ℕ) → Command
+completions_with None = Bad
+completions_with (Some text) = Completions text
+
+-- completions
+abbrev pub completions_of : Data → Command
+completions_of d = completions_with (text_at (codes "text") d)
+
+-- which variables of a reference are wanted
+abbrev pub filter_of : Data → Filter
+filter_of d =
+    if is_text_at (codes "filter") (codes "named") d then Named else
+    if is_text_at (codes "filter") (codes "indexed") d then Indexed else All
+
+-- the variables that are wanted
+abbrev pub wanted_of : Data → Wanted
+wanted_of d = record {
+  reference = number_at (codes "variablesReference") d;
+  start = number_at (codes "start") d;
+  count = number_at (codes "count") d;
+  filter = filter_of d;
+}
+
 -- what a request says about the session
 unfoldable pub session_command : List ℕ → Data → Command
 session_command name d =
     if bytes_eq name (codes "initialize") then Initialize else
     if bytes_eq name (codes "launch") then launch_of d else
-    if bytes_eq name (codes "setBreakpoints") then SetBreakpoints (lines_at d) else
-    if bytes_eq name (codes "setExceptionBreakpoints") then SetExceptionBreakpoints else
     if bytes_eq name (codes "configurationDone") then ConfigurationDone else
     if bytes_eq name (codes "disconnect") then Disconnect else
     if bytes_eq name (codes "terminate") then Terminate else Unknown
 
--- what it says that asks about the state, else about the session
+-- what it says about break points, else about the session
+unfoldable pub points_command : List ℕ → Data → Command
+points_command name d =
+    if bytes_eq name (codes "setBreakpoints") then SetBreakpoints (lines_at d) else
+    if bytes_eq name (codes "setFunctionBreakpoints")
+    then SetFunctionBreakpoints (texts_at (codes "name") d) else
+    if bytes_eq name (codes "setDataBreakpoints") then SetDataBreakpoints (texts_at (codes "dataId") d) else
+    if bytes_eq name (codes "dataBreakpointInfo") then info_of d else
+    if bytes_eq name (codes "setExceptionBreakpoints") then SetExceptionBreakpoints else session_command name d
+
+-- what it says that asks about the state, else about break points
 unfoldable pub looking_command : List ℕ → Data → Command
 looking_command name d =
     if bytes_eq name (codes "threads") then Threads else
     if bytes_eq name (codes "stackTrace")
     then StackTrace (number_at (codes "startFrame") d) (number_at (codes "levels") d) else
     if bytes_eq name (codes "scopes") then Scopes (number_at (codes "frameId") d) else
-    if bytes_eq name (codes "variables")
-    then Variables (number_at (codes "variablesReference") d) (number_at (codes "start") d)
-    (number_at (codes "count") d) else
+    if bytes_eq name (codes "variables") then Variables (wanted_of d) else
     if bytes_eq name (codes "evaluate") then evaluate_of d else
+    if bytes_eq name (codes "completions") then completions_of d else
     if bytes_eq name (codes "source") then Source (number_at (codes "sourceReference") d) else
     if bytes_eq name (codes "loadedSources") then LoadedSources else
-    if bytes_eq name (codes "exceptionInfo") then ExceptionInfo else session_command name d
+    if bytes_eq name (codes "exceptionInfo") then ExceptionInfo else points_command name d
 
 -- what a request says
 unfoldable pub command_of : List ℕ → Data → Command

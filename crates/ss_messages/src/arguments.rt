@@ -1,11 +1,12 @@
 //! The arguments of a request.
 ghost use Rattle.std.specs.Prelude.{◌≡◌, codes, map, IfOk, option_map};
 ghost use Rattle.serde_json.specs.View.{view};
-ghost use Rattle.ss_messages.specs.Requests.{number_at, number_in, text_at, flag_at, is_text_at, lines_at};
-ghost use Rattle.ss_messages.specs.Requests.{launch_of, evaluate_of};
+ghost use Rattle.std.specs.Prelude.{[], unwrap_or};
+ghost use Rattle.ss_messages.specs.Requests.{number_at, number_in, text_at, flag_at, is_text_at, lines_at, texts_at};
+ghost use Rattle.ss_messages.specs.Requests.{launch_of, evaluate_of, info_of, completions_of, filter_of, wanted_of};
 
-use crate::parts::{Lines, Text};
-use crate::request::Command;
+use crate::parts::{Lines, Text, Texts};
+use crate::request::{Command, Filter, Wanted};
 use serde_json::Value;
 use std::alloc::{AllocError, Global};
 
@@ -76,6 +77,81 @@ pub fn evaluate(alloc: Global, arguments: &Value) -> Result<Command, AllocError>
         return Ok(Command::Obey(text));
     }
     Ok(Command::Ask(text))
+}
+
+/// dataBreakpointInfo, which needs a name.
+pub fn info(alloc: Global, arguments: &Value) -> Result<Command, AllocError>
+    ensures { IfOk result (λ command. command ≡ info_of (view arguments.now)) }
+{
+    let Some(name) = own_text(alloc, arguments, "name")? else {
+        return Ok(Command::Bad);
+    };
+    Ok(Command::DataBreakpointInfo(number_at(arguments, "variablesReference"), name))
+}
+
+/// completions, which needs a text.
+pub fn completions(alloc: Global, arguments: &Value) -> Result<Command, AllocError>
+    ensures { IfOk result (λ command. command ≡ completions_of (view arguments.now)) }
+{
+    match own_text(alloc, arguments, "text")? {
+        Some(text) => Ok(Command::Completions(text)),
+        None => Ok(Command::Bad),
+    }
+}
+
+/// Which variables of a reference are wanted.
+fn filter_of(arguments: &Value) -> Filter
+    ensures { result ≡ filter_of (view arguments.now) }
+{
+    if is_text_at(arguments, "filter", b"named") {
+        return Filter::Named;
+    }
+    if is_text_at(arguments, "filter", b"indexed") {
+        return Filter::Indexed;
+    }
+    Filter::All
+}
+
+/// The variables that are wanted.
+pub fn wanted(arguments: &Value) -> Wanted
+    ensures { result ≡ wanted_of (view arguments.now) }
+{
+    Wanted {
+        reference: number_at(arguments, "variablesReference"),
+        start: number_at(arguments, "start"),
+        count: number_at(arguments, "count"),
+        filter: filter_of(arguments),
+    }
+}
+
+/// The text at a key, an empty one where there is none.
+fn text_or_none(alloc: Global, value: &Value, key: &'static str) -> Result<Text, AllocError>
+    ensures { IfOk result (λ text. text ≡ unwrap_or (text_at key.now (view value.now)) []) }
+{
+    Text::of(alloc, text_at(value, key).unwrap_or("").as_bytes())
+}
+
+/// The texts at a key of some break points.
+fn texts_of(alloc: Global, points: &[Value], key: &'static str) -> Result<Vec<Text>, AllocError>
+    ensures { IfOk result (λ texts. texts.items
+        ≡ map (λ point. unwrap_or (text_at key.now (view point)) []) points.now) }
+{
+    let mut texts = Vec::new(alloc);
+    for point in points {
+        texts.push(text_or_none(alloc, point, key)?)?;
+    }
+    Ok(texts)
+}
+
+/// The texts at a key of the break points of a request.
+#[tactic(auto, using(crate::proofs::Points::texts_are))]
+pub fn texts_at(alloc: Global, arguments: &Value, key: &'static str) -> Result<Texts, AllocError>
+    ensures { IfOk result (λ texts. texts ≡ texts_at key.now (view arguments.now)) }
+{
+    match arguments.get("breakpoints").and_then(Value::as_array) {
+        Some(points) => Ok(Texts::of(texts_of(alloc, points, key)?)),
+        None => Ok(Texts::of(Vec::new(alloc))),
+    }
 }
 
 /// The lines of some break points.

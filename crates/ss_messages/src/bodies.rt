@@ -104,7 +104,7 @@ pub fn list_body(alloc: Global, name: &[u8], items: &[u8]) -> Result<Vec<u8>, Al
 }
 
 /// Items without the comma before them.
-fn without_first(items: &[u8]) -> &[u8]
+pub(crate) fn without_first(items: &[u8]) -> &[u8]
     ensures { result.now ≡ drop 1 items.now }
 {
     if items.is_empty() { items } else { &items[1..] }

@@ -1,7 +1,7 @@
 //! Messages are read from a stream, which may come in any pieces.
-ghost use Rattle.std.specs.Prelude.{◌≡◌, ◌≤◌, ◌∷◌, [], Err, IfOk, Option, List, ℕ, option_map, length};
-ghost use Rattle.std.specs.Io.KnownBytes.{Consumes, IsAtEnd};
-ghost use Rattle.ss_messages.specs.Frames.{number_from, number_in, without_return, length_in, noted, is_blank};
+ghost use Rattle.std.specs.Prelude.{◌≡◌, ◌∷◌, [], Err, IfOk, Option, option_map, length};
+ghost use Rattle.std.specs.Io.KnownBytes.{Consumes};
+ghost use Rattle.ss_messages.specs.Frames.{number_in, without_return, length_in, is_blank};
 ghost use Rattle.ss_messages.specs.Frames.{IsRead, IsMalformed, HasLength, HasNoLength, IsByte};
 ghost use Rattle.ss_messages.specs.Frames.{GoesOn, IsNoHead};
 ghost use Rattle.ss_messages.specs.declared.frame.FrameFault.TheVariants.{Malformed};

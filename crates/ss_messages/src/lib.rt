@@ -9,6 +9,7 @@ mod messages;
 mod parts;
 mod post;
 mod request;
+mod shown;
 
 pub use bodies::{
     NOTHING, content_body, exception_body, frame_item, list_body, output_body, result_body,
@@ -17,6 +18,9 @@ pub use bodies::{
 pub use escape::{push_quoted, push_quoted_text};
 pub use frame::{FrameFault, MESSAGE_LIMIT, read_message};
 pub use messages::push_number;
-pub use parts::{Lines, Text};
+pub use parts::{Lines, Text, Texts};
 pub use post::Post;
-pub use request::{Command, Request, RequestFault, read_request};
+pub use request::{Command, Filter, Request, RequestFault, Wanted, read_request};
+pub use shown::{
+    frames_body, info_body, no_info_body, paged_item, scope_item, target_item,
+};

@@ -1,5 +1,5 @@
 //! Replies and events.
-ghost use Rattle.std.specs.Prelude.{◌≡◌, ◌++◌, codes, decimal, IfOk, OnOk};
+ghost use Rattle.std.specs.Prelude.{◌≡◌, ◌++◌, decimal, IfOk, OnOk};
 ghost use Rattle.ss_messages.specs.Messages.{framed, response_head, reply_text, failure_text, event_text};
 
 use crate::escape::{push_quoted, push_quoted_text};

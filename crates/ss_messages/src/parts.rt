@@ -66,3 +66,35 @@ impl Lines {
         &self.numbers
     }
 }
+
+/// Texts in the order in which a request names them.
+#[derive(Drop)]
+pub struct Texts {
+    texts: Vec<Text>,
+}
+
+impl Model for Texts {
+    ghost use Rattle.std.specs.Prelude.{List, ℕ};
+
+    ghost Value = { List (List ℕ) };
+
+    ghost view = { λ t. t.texts.items };
+}
+
+impl Texts {
+    ghost use Rattle.std.specs.Prelude.{◌≡◌};
+
+    /// These texts.
+    pub fn of(texts: Vec<Text>) -> Texts
+        ensures { result ≡ texts.items }
+    {
+        Texts { texts }
+    }
+
+    /// Them in order.
+    pub fn as_slice(&self) -> &[Text]
+        ensures { result.now ≡ self.now }
+    {
+        &self.texts
+    }
+}

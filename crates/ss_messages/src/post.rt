@@ -1,5 +1,5 @@
 //! The messages that a request is answered with, numbered one after the other.
-ghost use Rattle.std.specs.Prelude.{◌≡◌, ◌+◌, ◌-◌, ◌^◌, ◌<◌, [], OnOk, IfOk};
+ghost use Rattle.std.specs.Prelude.{◌≡◌, ◌+◌, ◌-◌, ◌^◌, ◌<◌, [], OnOk};
 ghost use Rattle.ss_messages.specs.Messages.{reply, failure, event, posted};
 
 use crate::messages::{push_event, push_failure, push_reply};

@@ -3,15 +3,37 @@ ghost use Rattle.std.specs.Prelude.{◌≡◌, ◌⊎◌, Err, IfOk, Some, None,
 ghost use Rattle.std.specs.Str.{IsUtf8};
 ghost use Rattle.serde_json.specs.Read.{read};
 ghost use Rattle.serde_json.specs.View.{view};
-ghost use Rattle.ss_messages.specs.Requests.{command_of, session_command, looking_command, request_of};
+ghost use Rattle.ss_messages.specs.Requests.{command_of, session_command, points_command, looking_command};
+ghost use Rattle.ss_messages.specs.Requests.{request_of};
 ghost use Rattle.ss_messages.specs.declared.request.RequestFault.TheVariants.{NoRequest};
 
-use crate::arguments::{evaluate, is_text_at, launch, lines_at, number_at, number_in, text_at};
-use crate::parts::{Lines, Text};
+use crate::arguments::{completions, evaluate, info, is_text_at, launch, lines_at};
+use crate::arguments::{number_at, number_in, text_at, texts_at, wanted};
+use crate::parts::{Lines, Text, Texts};
 use serde_json::Value;
 use std::alloc::{AllocError, Global};
 use std::str;
 use thiserror::Error;
+
+/// Which variables of a reference a request wants.
+#[derive(Clone, Copy, Debug, PartialEq, Eq)]
+pub enum Filter {
+    /// All.
+    All,
+    /// Those that have names.
+    Named,
+    /// Those that have numbers.
+    Indexed,
+}
+
+/// The variables that a request wants: so many of a reference, from this one on; 0 are all.
+#[derive(Clone, Copy, Debug, PartialEq, Eq)]
+pub struct Wanted {
+    pub reference: u64,
+    pub start: u64,
+    pub count: u64,
+    pub filter: Filter,
+}
 
 /// What a request says (docs/EDITORS.md).
 #[derive(Drop)]
@@ -22,6 +44,12 @@ pub enum Command {
     Launch(Text, Option<Text>, bool),
     /// setBreakpoints: these lines, and no others.
     SetBreakpoints(Lines),
+    /// setFunctionBreakpoints: the sections of these names, and no others.
+    SetFunctionBreakpoints(Texts),
+    /// setDataBreakpoints: these questions, and no others.
+    SetDataBreakpoints(Texts),
+    /// dataBreakpointInfo: what is shown in a reference under a name; reference 0 is none.
+    DataBreakpointInfo(u64, Text),
     /// setExceptionBreakpoints: a run stops at a fault whatever it says.
     SetExceptionBreakpoints,
     /// configurationDone.
@@ -32,12 +60,14 @@ pub enum Command {
     StackTrace(u64, u64),
     /// scopes of a frame.
     Scopes(u64),
-    /// variables of a reference: so many, from this one on; 0 are all.
-    Variables(u64, u64, u64),
+    /// variables.
+    Variables(Wanted),
     /// evaluate: a line of the debugger.
     Obey(Text),
     /// evaluate, to be shown beside the model: a question.
     Ask(Text),
+    /// completions of a text.
+    Completions(Text),
     /// source of a reference.
     Source(u64),
     /// loadedSources.
@@ -111,12 +141,6 @@ fn session_command(alloc: Global, name: &[u8], arguments: &Value) -> Result<Comm
     if name == b"launch".as_slice() {
         return launch(alloc, arguments);
     }
-    if name == b"setBreakpoints".as_slice() {
-        return Ok(Command::SetBreakpoints(lines_at(alloc, arguments)?));
-    }
-    if name == b"setExceptionBreakpoints".as_slice() {
-        return Ok(Command::SetExceptionBreakpoints);
-    }
     if name == b"configurationDone".as_slice() {
         return Ok(Command::ConfigurationDone);
     }
@@ -129,7 +153,30 @@ fn session_command(alloc: Global, name: &[u8], arguments: &Value) -> Result<Comm
     Ok(Command::Unknown)
 }
 
-/// What a request says that asks about the state; else what it says about the session.
+/// What a request says about break points; else what it says about the session.
+#[tactic(auto, unfolding(crate::specs::Requests::points_command))]
+fn points_command(alloc: Global, name: &[u8], arguments: &Value) -> Result<Command, AllocError>
+    ensures { IfOk result (λ command. command ≡ points_command name.now (view arguments.now)) }
+{
+    if name == b"setBreakpoints".as_slice() {
+        return Ok(Command::SetBreakpoints(lines_at(alloc, arguments)?));
+    }
+    if name == b"setFunctionBreakpoints".as_slice() {
+        return Ok(Command::SetFunctionBreakpoints(texts_at(alloc, arguments, "name")?));
+    }
+    if name == b"setDataBreakpoints".as_slice() {
+        return Ok(Command::SetDataBreakpoints(texts_at(alloc, arguments, "dataId")?));
+    }
+    if name == b"dataBreakpointInfo".as_slice() {
+        return info(alloc, arguments);
+    }
+    if name == b"setExceptionBreakpoints".as_slice() {
+        return Ok(Command::SetExceptionBreakpoints);
+    }
+    session_command(alloc, name, arguments)
+}
+
+/// What a request says that asks about the state; else what it says about break points.
 #[tactic(auto, unfolding(crate::specs::Requests::looking_command))]
 fn looking_command(alloc: Global, name: &[u8], arguments: &Value) -> Result<Command, AllocError>
     ensures { IfOk result (λ command. command ≡ looking_command name.now (view arguments.now)) }
@@ -145,12 +192,13 @@ fn looking_command(alloc: Global, name: &[u8], arguments: &Value) -> Result<Comm
         return Ok(Command::Scopes(number_at(arguments, "frameId")));
     }
     if name == b"variables".as_slice() {
-        let reference = number_at(arguments, "variablesReference");
-        let start = number_at(arguments, "start");
-        return Ok(Command::Variables(reference, start, number_at(arguments, "count")));
+        return Ok(Command::Variables(wanted(arguments)));
     }
     if name == b"evaluate".as_slice() {
         return evaluate(alloc, arguments);
+    }
+    if name == b"completions".as_slice() {
+        return completions(alloc, arguments);
     }
     if name == b"source".as_slice() {
         return Ok(Command::Source(number_at(arguments, "sourceReference")));
@@ -161,7 +209,7 @@ fn looking_command(alloc: Global, name: &[u8], arguments: &Value) -> Result<Comm
     if name == b"exceptionInfo".as_slice() {
         return Ok(Command::ExceptionInfo);
     }
-    session_command(alloc, name, arguments)
+    points_command(alloc, name, arguments)
 }
 
 /// What a request says.

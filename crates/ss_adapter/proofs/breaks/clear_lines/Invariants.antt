@@ -1,7 +1,7 @@
 use Rattle.std.proofs.Common.{◌≡◌, drop}
 use Rattle.ss_debug.specs.View.{debugger_state_of}
 use Rattle.ss_debug.specs.Turn.{debugger_state_with}
-use Rattle.ss_adapter.specs.Places.{cleared}
+use Rattle.ss_adapter.specs.Places.{without_lines}
 use Rattle.ss_adapter.proofs.breaks.clear_lines.Given as goal
 
 -- the lines that are left bring the break lines to those without all
@@ -9,5 +9,5 @@ abbrev pub invariant-loop-line : goal.invariant-loop-line
 invariant-loop-line g l = record {
   input : l.debugger.machine.input ≡ l.fn.debugger.machine.input;
   state : debugger_state_of l.debugger ≡ debugger_state_with (debugger_state_of l.fn.debugger) l.debugger.breaks;
-  breaks : cleared l.debugger.breaks (drop l.line-index l.set) ≡ cleared l.fn.debugger.breaks l.set;
+  breaks : without_lines l.debugger.breaks (drop l.line-index l.set) ≡ without_lines l.fn.debugger.breaks l.set;
 }

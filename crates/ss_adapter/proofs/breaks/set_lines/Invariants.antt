@@ -1,10 +1,10 @@
-use Rattle.std.proofs.Common.{◌≡◌, drop, fold, []}
+use Rattle.std.proofs.Common.{◌≡◌, drop, fold}
 use Rattle.ss_debug.specs.View.{debugger_state_of}
 use Rattle.ss_debug.specs.Turn.{debugger_state_with}
 use Rattle.ss_adapter.specs.Places.{setting_of, with_asked}
 use Rattle.ss_adapter.proofs.breaks.set_lines.Given as goal
 
--- the lines that are left bring what is set to what all set
+-- those that are left bring what is set to what all set
 abbrev pub invariant-loop-line : goal.invariant-loop-line
 invariant-loop-line g l = record {
   input : l.debugger.machine.input ≡ l.fn.debugger.machine.input;
@@ -14,5 +14,5 @@ invariant-loop-line g l = record {
     set = l.set.items;
     text = l.text.items;
   }) (drop l.line-index l.asked)
-      ≡ setting_of l.fn.debugger.machine.input.program l.fn.debugger.breaks l.fn.set.items l.asked;
+      ≡ setting_of l.fn.debugger.machine.input.program l.fn.debugger.breaks l.fn.set.items l.kept l.asked;
 }

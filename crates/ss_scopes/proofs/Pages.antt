@@ -1,6 +1,6 @@
 -- The items of a page, one by one.
 use Rattle.std.proofs.Common.{◌≡◌, ℕ, suc, ◌+◌, List, [], ◌++◌, refl, ◌∙◌, sym, ap, arith, append_assoc, append-nil}
-use Rattle.ss_adapter.specs.Looking.{items_from}
+use Rattle.ss_scopes.specs.Pages.{items_from}
 
 items_none : (item : ℕ → List ℕ) (start : ℕ) → items_from item start 0 ≡ []
 unfolding items_from

@@ -1,5 +1,5 @@
-use Rattle.ss_adapter.proofs.Pages.{page_none, page_more}
-use Rattle.ss_adapter.proofs.looking.push_globals.Goals as goal
+use Rattle.ss_scopes.proofs.Pages.{page_none, page_more}
+use Rattle.ss_scopes.proofs.frames.push_globals.Goals as goal
 
 pub loop-k-init : goal.loop-k-init
 loop-k-init g c = page_none _ _ _

@@ -1,0 +1,18 @@
+use Rattle.std.proofs.Common.{◌≡◌, drop, fold}
+use Rattle.ss_debug.specs.View.{debugger_state_of}
+use Rattle.ss_debug.specs.Turn.{debugger_state_with}
+use Rattle.ss_adapter.specs.Places.{section_setting_of, with_named}
+use Rattle.ss_adapter.proofs.breaks.set_sections.Given as goal
+
+-- those that are left bring what is set to what all set
+abbrev pub invariant-loop-name : goal.invariant-loop-name
+invariant-loop-name g l = record {
+  input : l.debugger.machine.input ≡ l.fn.debugger.machine.input;
+  state : debugger_state_of l.debugger ≡ debugger_state_with (debugger_state_of l.fn.debugger) l.debugger.breaks;
+  setting : fold (with_named l.fn.debugger.machine.input.program) (record {
+    breaks = l.debugger.breaks;
+    set = l.set.items;
+    text = l.text.items;
+  }) (drop l.name-index l.names)
+      ≡ section_setting_of l.fn.debugger.machine.input.program l.fn.debugger.breaks l.fn.set.items l.kept l.names;
+}

@@ -1,0 +1,220 @@
+//! Requests that ask about the run.
+ghost use Rattle.std.specs.Prelude.{◌≡◌, ◌+◌, ◌-◌, ◌^◌, ◌<◌, ◌∷◌, [], codes, OnOk};
+ghost use Rattle.ss_machine.specs.Moment.{position};
+ghost use Rattle.ss_machine.specs.Run.{run};
+ghost use Rattle.ss_debug.specs.View.{debugger_state_of};
+ghost use Rattle.ss_messages.specs.Bodies.{list_body};
+ghost use Rattle.ss_messages.specs.Messages.{posted_all, reply};
+ghost use Rattle.ss_scopes.specs.Variables.{scopes_text, variables_text};
+ghost use Rattle.ss_adapter.specs.Looking.{exception_by, question_of};
+ghost use Rattle.ss_adapter.specs.Watch.{info_of};
+ghost use Rattle.ss_adapter.specs.Turn.{adapter_state_of, report_at, asked, excepted, source_messages, framed};
+ghost use Rattle.ss_adapter.specs.Turn.{looked, terminated};
+
+use crate::desk::Desk;
+use crate::fixed::{CAPABILITIES, NO_EXIT, THREADS};
+use crate::looking::{exception, question};
+use crate::telling::tell_here;
+use crate::watch::info;
+use ss_debug::Debugger;
+use ss_links::SetBoard;
+use ss_messages::{
+    Command, NOTHING, Post, Request, Wanted, content_body, frames_body, list_body, result_body,
+    sources_body, without_last,
+};
+use ss_scopes::{push_frames, push_scopes, push_variables};
+use std::alloc::AllocError;
+
+/// Answers a question.
+#[tactic(auto, unfolding(ss_messages::specs::Messages::posted_all))]
+fn ask<S: SetBoard>(
+    debugger: &Debugger<S>,
+    request: &Request,
+    post: &mut Post,
+    text: &[u8],
+) -> Result<(), AllocError>
+    requires { post.old.sent < 2 ^ 64 - 1 }
+    ensures { OnOk result (post.new ≡ posted_all request.now post.old
+        (asked debugger.now.machine.input (position debugger.now.machine) (question_of text.now))) }
+{
+    match question(post.alloc(), text)? {
+        Some(question) => {
+            let answer = debugger.answer_to(&question)?;
+            let body = result_body(post.alloc(), without_last(&answer))?;
+            post.reply(request, &body)
+        }
+        None => post.fail(request, b"no question"),
+    }
+}
+
+/// Tells of the fault where the run stands.
+#[tactic(auto, unfolding(ss_messages::specs::Messages::posted_all))]
+fn tell_exception<S: SetBoard>(
+    debugger: &Debugger<S>,
+    request: &Request,
+    post: &mut Post,
+) -> Result<(), AllocError>
+    requires { post.old.sent < 2 ^ 64 - 1 }
+    ensures { OnOk result (post.new ≡ posted_all request.now post.old (excepted
+        (exception_by (run debugger.now.machine.input (position debugger.now.machine)).status))) }
+{
+    match exception(post.alloc(), debugger.machine())? {
+        Some(body) => post.reply(request, &body),
+        None => post.fail(request, b"no fault"),
+    }
+}
+
+/// Tells the content of a source, of which the report is number 1.
+#[tactic(auto, unfolding(ss_messages::specs::Messages::posted_all))]
+fn tell_source<S: SetBoard>(
+    debugger: &Debugger<S>,
+    request: &Request,
+    post: &mut Post,
+    reference: u64,
+) -> Result<(), AllocError>
+    requires { post.old.sent < 2 ^ 64 - 1 }
+    ensures { OnOk result (post.new ≡ posted_all request.now post.old (source_messages
+        (report_at debugger.now.machine.input (debugger_state_of debugger.now)) reference)) }
+{
+    if reference != 1 {
+        return post.fail(request, b"no source");
+    }
+    debugger.machine().known();
+    let body = content_body(post.alloc(), debugger.machine().report())?;
+    post.reply(request, &body)
+}
+
+/// Tells a page of the frames.
+#[tactic(auto, unfolding(ss_messages::specs::Messages::posted_all))]
+fn tell_frames<S: SetBoard>(
+    debugger: &Debugger<S>,
+    path: &[u8],
+    request: &Request,
+    post: &mut Post,
+    start: u64,
+    levels: u64,
+) -> Result<(), AllocError>
+    requires { post.old.sent < 2 ^ 64 - 1 }
+    ensures { OnOk result (post.new ≡ posted_all request.now post.old (framed
+        debugger.now.machine.input (run debugger.now.machine.input (position debugger.now.machine))
+        path.now start levels)) }
+{
+    let machine = debugger.machine();
+    machine.known();
+    let mut text = Vec::new(post.alloc());
+    push_frames(
+        post.alloc(),
+        &mut text,
+        machine,
+        path,
+        start as usize,
+        levels as usize,
+    )?;
+    let body = frames_body(post.alloc(), &text, machine.frames() as u64)?;
+    post.reply(request, &body)
+}
+
+/// Tells the scopes of a frame.
+#[tactic(auto, unfolding(ss_messages::specs::Messages::posted_all))]
+fn tell_scopes<S: SetBoard>(
+    debugger: &Debugger<S>,
+    request: &Request,
+    post: &mut Post,
+    frame: u64,
+) -> Result<(), AllocError>
+    requires { post.old.sent < 2 ^ 64 - 1 }
+    ensures { OnOk result (post.new ≡ posted_all request.now post.old (reply
+        (list_body (codes "scopes") (scopes_text debugger.now.machine.input
+        (position debugger.now.machine) frame)) ∷ [])) }
+{
+    let mut text = Vec::new(post.alloc());
+    push_scopes(post.alloc(), &mut text, debugger.machine(), frame)?;
+    let body = list_body(post.alloc(), b"scopes", &text)?;
+    post.reply(request, &body)
+}
+
+/// Tells the variables that are wanted.
+#[tactic(auto, unfolding(ss_messages::specs::Messages::posted_all))]
+fn tell_variables<S: SetBoard>(
+    debugger: &Debugger<S>,
+    request: &Request,
+    post: &mut Post,
+    wanted: Wanted,
+) -> Result<(), AllocError>
+    requires { post.old.sent < 2 ^ 64 - 1 }
+    ensures { OnOk result (post.new ≡ posted_all request.now post.old (reply
+        (list_body (codes "variables") (variables_text debugger.now.machine.input
+        (position debugger.now.machine) wanted)) ∷ [])) }
+{
+    let mut text = Vec::new(post.alloc());
+    push_variables(post.alloc(), &mut text, debugger, wanted)?;
+    let body = list_body(post.alloc(), b"variables", &text)?;
+    post.reply(request, &body)
+}
+
+/// Tells whether a name in a reference may be a data break point.
+#[tactic(auto, unfolding(ss_messages::specs::Messages::posted_all))]
+fn tell_info(
+    request: &Request,
+    post: &mut Post,
+    reference: u64,
+    name: &[u8],
+) -> Result<(), AllocError>
+    requires { post.old.sent < 2 ^ 64 - 1 }
+    ensures { OnOk result (post.new
+        ≡ posted_all request.now post.old (reply (info_of reference name.now) ∷ [])) }
+{
+    let body = info(post.alloc(), reference, name)?;
+    post.reply(request, &body)
+}
+
+/// Ends the run for the editor.
+#[tactic(auto, unfolding(ss_messages::specs::Messages::posted_all))]
+pub fn terminate(request: &Request, post: &mut Post) -> Result<(), AllocError>
+    requires { post.old.sent + 2 < 2 ^ 64 - 1 }
+    ensures { OnOk result (post.new ≡ posted_all request.now post.old terminated) }
+{
+    post.reply(request, NOTHING)?;
+    post.event(request, b"terminated", NOTHING)?;
+    post.event(request, b"exited", NO_EXIT)
+}
+
+/// Answers a request that asks about the run.
+#[tactic(auto, unfolding(ss_messages::specs::Messages::posted_all, crate::specs::Turn::looked))]
+pub fn look<S: SetBoard>(
+    debugger: &Debugger<S>,
+    desk: &Desk,
+    request: &Request,
+    post: &mut Post,
+) -> Result<(), AllocError>
+    requires { post.old.sent + 2 < 2 ^ 64 - 1 }
+    ensures { OnOk result (post.new ≡ posted_all request.now post.old
+        (looked (adapter_state_of debugger.now desk.now) request.now.command)) }
+{
+    match &request.command {
+        Command::Initialize => post.reply(request, CAPABILITIES),
+        Command::Launch(_, _, _) => post.fail(request, b"a run is launched already"),
+        Command::Threads => post.reply(request, THREADS),
+        Command::StackTrace(start, levels) => {
+            tell_frames(debugger, &desk.path, request, post, *start, *levels)
+        }
+        Command::Scopes(frame) => tell_scopes(debugger, request, post, *frame),
+        Command::Variables(wanted) => tell_variables(debugger, request, post, *wanted),
+        Command::DataBreakpointInfo(reference, name) => {
+            tell_info(request, post, *reference, name.as_slice())
+        }
+        Command::Completions(_) => post.fail(request, b"unknown request"),
+        Command::Ask(text) => ask(debugger, request, post, text.as_slice()),
+        Command::Source(reference) => tell_source(debugger, request, post, *reference),
+        Command::LoadedSources => {
+            let body = sources_body(post.alloc(), &desk.path)?;
+            post.reply(request, &body)
+        }
+        Command::ExceptionInfo => tell_exception(debugger, request, post),
+        Command::Pause => tell_here(debugger, request, post, b"pause"),
+        Command::Terminate => terminate(request, post),
+        Command::Bad => post.fail(request, b"an argument is missing"),
+        Command::Unknown => post.fail(request, b"unknown request"),
+        _ => post.reply(request, NOTHING),
+    }
+}

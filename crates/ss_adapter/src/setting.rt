@@ -1,0 +1,98 @@
+//! Requests that set break points.
+ghost use Rattle.std.specs.Prelude.{◌≡◌, ◌-◌, ◌^◌, ◌<◌, ◌∷◌, [], codes, OnOk};
+ghost use Rattle.ss_messages.specs.Bodies.{list_body};
+ghost use Rattle.ss_messages.specs.Messages.{posted_all, reply};
+ghost use Rattle.ss_adapter.specs.Turn.{adapter_state_of, first_lines, setting_in, sections_in};
+ghost use Rattle.ss_adapter.specs.Turn.{behind_setting, behind_sections, behind_watching};
+ghost use Rattle.ss_adapter.specs.Watch.{watching_of};
+
+use crate::breaks::{set_lines, set_sections};
+use crate::desk::Desk;
+use crate::watch::watch;
+use ss_debug::Debugger;
+use ss_links::SetBoard;
+use ss_messages::{Post, Request, Text, list_body};
+use std::alloc::AllocError;
+
+/// The most break points of a request for lines that are answered.
+const POINT_LIMIT: usize = 1_000;
+
+/// The first of some lines, so many at most.
+#[tactic(auto, unfolding(crate::specs::Turn::first_lines), using(std::proofs::lemmas::List::take_all))]
+fn first_lines(lines: &[u64], limit: usize) -> &[u64]
+    ensures { result.now ≡ first_lines limit lines.now }
+{
+    if lines.len() <= limit {
+        return lines;
+    }
+    &lines[..limit]
+}
+
+/// Sets the break lines of a request.
+#[tactic(auto, unfolding(ss_messages::specs::Messages::posted_all))]
+pub fn set_breaks<S: SetBoard>(
+    debugger: &mut Debugger<S>,
+    desk: &mut Desk,
+    request: &Request,
+    post: &mut Post,
+    lines: &[u64],
+) -> Result<(), AllocError>
+    requires { post.old.sent < 2 ^ 64 - 1 }
+    ensures input { debugger.new.machine.input ≡ debugger.old.machine.input }
+    ensures sent { OnOk result (post.new ≡ posted_all request.now post.old (reply
+        (list_body (codes "breakpoints") (setting_in (adapter_state_of debugger.old desk.old) lines.now).text) ∷ [])) }
+    ensures state { OnOk result (adapter_state_of debugger.new desk.new
+        ≡ behind_setting (adapter_state_of debugger.old desk.old)
+        (setting_in (adapter_state_of debugger.old desk.old) lines.now)) }
+{
+    let mut text = Vec::new(post.alloc());
+    let asked = first_lines(lines, POINT_LIMIT);
+    set_lines(post.alloc(), debugger, &mut desk.set, &desk.sections, &mut text, asked)?;
+    let body = list_body(post.alloc(), b"breakpoints", &text)?;
+    post.reply(request, &body)
+}
+
+/// Sets the break lines of the sections of a request.
+#[tactic(auto, unfolding(ss_messages::specs::Messages::posted_all))]
+pub fn set_section_breaks<S: SetBoard>(
+    debugger: &mut Debugger<S>,
+    desk: &mut Desk,
+    request: &Request,
+    post: &mut Post,
+    names: &[Text],
+) -> Result<(), AllocError>
+    requires { post.old.sent < 2 ^ 64 - 1 }
+    ensures input { debugger.new.machine.input ≡ debugger.old.machine.input }
+    ensures sent { OnOk result (post.new ≡ posted_all request.now post.old (reply
+        (list_body (codes "breakpoints") (sections_in (adapter_state_of debugger.old desk.old) names.now).text) ∷ [])) }
+    ensures state { OnOk result (adapter_state_of debugger.new desk.new
+        ≡ behind_sections (adapter_state_of debugger.old desk.old)
+        (sections_in (adapter_state_of debugger.old desk.old) names.now)) }
+{
+    let mut text = Vec::new(post.alloc());
+    set_sections(post.alloc(), debugger, &mut desk.sections, &desk.set, &mut text, names)?;
+    let body = list_body(post.alloc(), b"breakpoints", &text)?;
+    post.reply(request, &body)
+}
+
+/// Sets the data break point of a request.
+#[tactic(auto, unfolding(ss_messages::specs::Messages::posted_all))]
+pub fn set_watch<S: SetBoard>(
+    debugger: &Debugger<S>,
+    desk: &mut Desk,
+    request: &Request,
+    post: &mut Post,
+    ids: &[Text],
+) -> Result<(), AllocError>
+    requires { post.old.sent < 2 ^ 64 - 1 }
+    ensures sent { OnOk result (post.new ≡ posted_all request.now post.old (reply
+        (list_body (codes "breakpoints") (watching_of ids.now).text) ∷ [])) }
+    ensures state { OnOk result (adapter_state_of debugger.now desk.new
+        ≡ behind_watching (adapter_state_of debugger.now desk.old) (watching_of ids.now).watched) }
+{
+    let _ = debugger;
+    let mut text = Vec::new(post.alloc());
+    watch(post.alloc(), &mut desk.watched, &mut text, ids)?;
+    let body = list_body(post.alloc(), b"breakpoints", &text)?;
+    post.reply(request, &body)
+}

@@ -1,0 +1,92 @@
+//! What an editor shows of a state: frames, scopes, variables that are many, and break points.
+ghost use Rattle.std.specs.Prelude.{◌≡◌, IfOk};
+ghost use Rattle.ss_messages.specs.Shown.{paged_item, frames_body, scope_item, target_item, info_body, no_info_body};
+
+use crate::bodies::without_first;
+use crate::escape::push_quoted;
+use crate::messages::push_number;
+use std::alloc::{AllocError, Global};
+
+/// A comma and a variable that refers to so many others, which are asked for a page at a time.
+#[tactic(auto, unfolding(crate::specs::Shown::paged_item))]
+pub fn paged_item(
+    alloc: Global,
+    name: &[u8],
+    value: &[u8],
+    reference: u64,
+    count: u64,
+) -> Result<Vec<u8>, AllocError>
+    ensures { IfOk result (λ item. item.items ≡ paged_item name.now value.now reference count) }
+{
+    let mut item = Vec::from_slice(alloc, b",{\"name\":")?;
+    push_quoted(&mut item, name)?;
+    item.extend_from_slice(b",\"value\":")?;
+    push_quoted(&mut item, value)?;
+    item.extend_from_slice(b",\"variablesReference\":")?;
+    push_number(&mut item, reference)?;
+    item.extend_from_slice(b",\"indexedVariables\":")?;
+    push_number(&mut item, count)?;
+    item.extend_from_slice(b"}")?;
+    Ok(item)
+}
+
+/// Some frames, each behind a comma, of so many.
+#[tactic(auto, unfolding(crate::specs::Shown::frames_body))]
+pub fn frames_body(alloc: Global, items: &[u8], count: u64) -> Result<Vec<u8>, AllocError>
+    ensures { IfOk result (λ body. body.items ≡ frames_body items.now count) }
+{
+    let mut body = Vec::from_slice(alloc, b"{\"stackFrames\":[")?;
+    body.extend_from_slice(without_first(items))?;
+    body.extend_from_slice(b"],\"totalFrames\":")?;
+    push_number(&mut body, count)?;
+    body.extend_from_slice(b"}")?;
+    Ok(body)
+}
+
+/// A comma and a scope, and what it refers to.
+#[tactic(auto, unfolding(crate::specs::Shown::scope_item))]
+pub fn scope_item(alloc: Global, name: &[u8], reference: u64) -> Result<Vec<u8>, AllocError>
+    ensures { IfOk result (λ item. item.items ≡ scope_item name.now reference) }
+{
+    let mut item = Vec::from_slice(alloc, b",{\"name\":")?;
+    push_quoted(&mut item, name)?;
+    item.extend_from_slice(b",\"variablesReference\":")?;
+    push_number(&mut item, reference)?;
+    item.extend_from_slice(b",\"expensive\":false}")?;
+    Ok(item)
+}
+
+/// A comma and a word that may stand where it is asked for.
+#[tactic(auto, unfolding(crate::specs::Shown::target_item))]
+pub fn target_item(alloc: Global, word: &[u8]) -> Result<Vec<u8>, AllocError>
+    ensures { IfOk result (λ item. item.items ≡ target_item word.now) }
+{
+    let mut item = Vec::from_slice(alloc, b",{\"label\":")?;
+    push_quoted(&mut item, word)?;
+    item.extend_from_slice(b"}")?;
+    Ok(item)
+}
+
+/// A question that may be a data break point.
+#[tactic(auto, unfolding(crate::specs::Shown::info_body))]
+pub fn info_body(alloc: Global, text: &[u8]) -> Result<Vec<u8>, AllocError>
+    ensures { IfOk result (λ body. body.items ≡ info_body text.now) }
+{
+    let mut body = Vec::from_slice(alloc, b"{\"dataId\":")?;
+    push_quoted(&mut body, text)?;
+    body.extend_from_slice(b",\"description\":")?;
+    push_quoted(&mut body, text)?;
+    body.extend_from_slice(b",\"accessTypes\":[\"write\"]}")?;
+    Ok(body)
+}
+
+/// That there is none, and why.
+#[tactic(auto, unfolding(crate::specs::Shown::no_info_body))]
+pub fn no_info_body(alloc: Global, reason: &[u8]) -> Result<Vec<u8>, AllocError>
+    ensures { IfOk result (λ body. body.items ≡ no_info_body reason.now) }
+{
+    let mut body = Vec::from_slice(alloc, b"{\"dataId\":null,\"description\":")?;
+    push_quoted(&mut body, reason)?;
+    body.extend_from_slice(b"}")?;
+    Ok(body)
+}

@@ -1,0 +1,8 @@
+use Rattle.ss_scopes.proofs.Pages.{page_none, page_more}
+use Rattle.ss_scopes.proofs.frames.push_frames.Goals as goal
+
+pub loop-k-init : goal.loop-k-init
+loop-k-init g c = page_none _ _ _
+
+pub loop-k-preserved : goal.loop-k-preserved
+loop-k-preserved g c = page_more _ _ _ _ _ _ c.loop-k.invariant c.in_ok-push_frame.ensures

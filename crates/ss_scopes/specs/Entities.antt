@@ -1,0 +1,64 @@
+-- Entities and their attributes and lists, as an editor shows them.
+use Rattle.std.specs.Prelude.{ℕ, suc, ◌+◌, ◌&&◌, pos, List, [], ◌∷◌, ◌++◌, length, take, drop, codes, decimal}
+use Rattle.std.specs.Prelude.{nat_lt, if◌then◌else◌}
+use Rattle.std.specs.Result.{result_unwrap_or}
+use Rattle.std.specs.Fmt.{signed_decimal}
+use Rattle.ss_program.specs.declared.kinds.Owner.TheVariants.{OwnedBy}
+use Rattle.ss_program.specs.Program.{ProgramTable, class_of, set_of, is_same_owner}
+use Rattle.ss_store.specs.Store.{Store, exists, attribute_of, members_of}
+use Rattle.ss_debug.specs.Entities.{shape_of}
+use Rattle.ss_inspect.specs.Texts.{texts_below, name_at}
+use Rattle.ss_inspect.specs.Living.{living}
+use Rattle.ss_messages.specs.Bodies.{variable_item}
+use Rattle.ss_messages.specs.Shown.{paged_item}
+use Rattle.ss_scopes.specs.References.{class_reference, set_reference}
+use Rattle.ss_scopes.specs.Pages.{page_size}
+
+-- the name of entity number k of class c
+abbrev pub entity_name : ProgramTable → ℕ → ℕ → List ℕ
+entity_name p c k = (class_of p c).name ++ codes " " ++ decimal k
+
+-- the entity behind i others of some, which is number k of class c
+abbrev pub entity_item : ProgramTable → ℕ → ℕ → ℕ → List ℕ
+entity_item p c i k = variable_item (decimal (i + 1)) (entity_name p c k) (class_reference c k)
+
+-- entities of class c, the first of which stands behind i others
+abbrev pub entity_items : ProgramTable → ℕ → ℕ → List ℕ → List ℕ
+entity_items p c i [] = []
+entity_items p c i (k ∷ ks) = entity_item p c i k ++ entity_items p c (suc i) ks
+
+-- a page of the entities of class c that live, the least number first
+abbrev pub living_page : ProgramTable → Store → ℕ → ℕ → ℕ → List ℕ
+living_page p st c start count =
+    entity_items p c start (take (page_size start count (length (living st c))) (drop start (living st c)))
+
+-- the same, if there is such a class
+abbrev pub class_page : ProgramTable → Store → ℕ → ℕ → ℕ → List ℕ
+class_page p st c start count = if nat_lt c (length p.classes) then living_page p st c start count else []
+
+-- attribute number a of entity number k of class c
+abbrev pub attribute_item : ProgramTable → Store → ℕ → ℕ → ℕ → List ℕ
+attribute_item p st c k a =
+    variable_item (name_at (class_of p c).attributes a)
+    (signed_decimal (result_unwrap_or (attribute_of st c a k) (pos 0))) 0
+
+-- the list of set number s for owner number k, under a name: how many members it has
+abbrev pub list_item : ProgramTable → Store → List ℕ → ℕ → ℕ → List ℕ
+list_item p st name s k =
+    paged_item name (decimal (length (members_of (shape_of p s) st k))) (set_reference s k)
+    (length (members_of (shape_of p s) st k))
+
+-- the list of set number s for entity number k of class c, if the class owns it
+abbrev pub owned_item : ProgramTable → Store → ℕ → ℕ → ℕ → List ℕ
+owned_item p st c k s =
+    if is_same_owner (OwnedBy c) (set_of p s).owner then list_item p st (set_of p s).name s k else []
+
+-- the attributes of an entity and the lists that it owns, each in order of declaration
+abbrev pub entity_text : ProgramTable → Store → ℕ → ℕ → List ℕ
+entity_text p st c k =
+    texts_below (attribute_item p st c k) (length (class_of p c).attributes)
+    ++ texts_below (owned_item p st c k) (length p.sets)
+
+-- the same of an entity that lives
+abbrev pub entity_variables : ProgramTable → Store → ℕ → ℕ → List ℕ
+entity_variables p st c k = if nat_lt c (length p.classes) && exists st c k then entity_text p st c k else []

@@ -1,0 +1,7 @@
+pub mod References
+pub mod Pages
+pub mod Frames
+pub mod Entities
+pub mod Sets
+pub mod Events
+pub mod Variables

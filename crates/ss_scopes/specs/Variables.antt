@@ -1,0 +1,82 @@
+-- The scopes of a frame, and the variables that a reference of an editor has in a state.
+use Rattle.std.specs.Prelude.{ℕ, ◌+◌, ◌-◌, ◌&&◌, Bool, true, false, not, List, [], ◌++◌, codes, nat_lt, if◌then◌else◌}
+use Rattle.ss_machine.specs.State.{State}
+use Rattle.ss_machine.specs.Run.{Input, run}
+use Rattle.ss_debug.specs.declared.commands.Question.{Question}
+use Rattle.ss_debug.specs.declared.commands.Question.TheVariants.{Clock, Where, Taken, Entry}
+use Rattle.ss_debug.specs.Turn.{show_answer}
+use Rattle.ss_messages.specs.Bodies.{variable_item, without_last}
+use Rattle.ss_messages.specs.Shown.{scope_item}
+use Rattle.ss_messages.specs.declared.request.Filter.{Filter}
+use Rattle.ss_messages.specs.declared.request.Filter.TheVariants.{All, Named, Indexed}
+use Rattle.ss_messages.specs.declared.request.Wanted.{Wanted}
+use Rattle.ss_scopes.specs.declared.group.Group.{Group}
+use Rattle.ss_scopes.specs.declared.group.Group.TheVariants.{Nothing, Globals, Classes, Sets, Events, Data, Run}
+use Rattle.ss_scopes.specs.declared.group.Group.TheVariants.{Locals, Class, Entity, Set, Members}
+use Rattle.ss_scopes.specs.declared.group.TheConstants.{FIRST_LOCALS}
+use Rattle.ss_scopes.specs.declared.scopes.TheConstants.{MOST_FRAMES, OTHER_SCOPES}
+use Rattle.ss_scopes.specs.References.{group_of}
+use Rattle.ss_scopes.specs.Frames.{frame_count, locals_page, globals_page}
+use Rattle.ss_scopes.specs.Entities.{class_page, entity_variables}
+use Rattle.ss_scopes.specs.Sets.{class_items, set_items, set_page, list_page}
+use Rattle.ss_scopes.specs.Events.{event_items}
+
+-- ---- scopes
+
+-- the locals of the frame on which so many others stand, if there is one
+abbrev pub locals_scope : State → ℕ → List ℕ
+locals_scope s depth =
+    if nat_lt depth MOST_FRAMES && nat_lt depth (frame_count s)
+    then scope_item (codes "Locals") (FIRST_LOCALS + depth) else []
+
+-- the scopes of the frame with this number: its locals, and those that all frames have
+abbrev pub scopes_text : Input → ℕ → ℕ → List ℕ
+scopes_text t p frame = locals_scope (run t p) (frame - 1) ++ OTHER_SCOPES.now
+
+-- ---- variables
+
+-- the answer to a question in state p, under a name
+abbrev pub question_item : List ℕ → Input → ℕ → Question → List ℕ
+question_item name t p q = variable_item name (without_last (show_answer t p q)) 0
+
+-- the clock, and where the run stands
+abbrev pub run_items : Input → ℕ → List ℕ
+run_items t p = question_item (codes "TIME.V") t p Clock ++ question_item (codes "STATE") t p Where
+
+-- how many pieces of the data are taken, and the entry
+abbrev pub data_items : Input → ℕ → List ℕ
+data_items t p = question_item (codes "TAKEN") t p Taken ++ question_item (codes "ENTRY") t p Entry
+
+-- what a group holds in state p: a page, where it may be long
+abbrev pub group_text : Input → ℕ → ℕ → ℕ → Group → List ℕ
+group_text t p start count Nothing = []
+group_text t p start count Globals = globals_page t.program (run t p) start count
+group_text t p start count Classes = class_items t.program (run t p).store
+group_text t p start count Sets = set_items t.program (run t p).store
+group_text t p start count Events = event_items t.program (run t p).agenda
+group_text t p start count Data = data_items t p
+group_text t p start count Run = run_items t p
+group_text t p start count (Locals depth) = locals_page t.program (run t p) depth start count
+group_text t p start count (Class c) = class_page t.program (run t p).store c start count
+group_text t p start count (Entity c k) = entity_variables t.program (run t p).store c k
+group_text t p start count (Set s) = set_page t.program (run t p).store s start count
+group_text t p start count (Members s j) = list_page t.program (run t p).store s j start count
+
+-- whether what a group holds has numbers, not names
+abbrev pub is_indexed : Group → Bool
+is_indexed (Class c) = true
+is_indexed (Set s) = true
+is_indexed (Members s j) = true
+is_indexed _ = false
+
+-- whether a filter lets it pass
+abbrev pub passes : Filter → Bool → Bool
+passes All indexed = true
+passes Named indexed = not indexed
+passes Indexed indexed = indexed
+
+-- the variables that are wanted in state p
+unfoldable pub variables_text : Input → ℕ → Wanted → List ℕ
+variables_text t p w =
+    if passes w.filter (is_indexed (group_of w.reference))
+    then group_text t p w.start w.count (group_of w.reference) else []

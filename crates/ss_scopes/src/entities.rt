@@ -1,0 +1,267 @@
+//! Entities and their attributes and lists.
+ghost use Rattle.std.specs.Prelude.{◌≡◌, ◌++◌, ◌+◌, ◌-◌, ◌^◌, ◌<◌, length, IfOk, OnOk};
+ghost use Rattle.ss_program.specs.declared.kinds.Owner.TheVariants.{OwnedBy};
+ghost use Rattle.ss_program.specs.Program.{class_of, is_same_owner};
+ghost use Rattle.ss_store.specs.Tables.{set_of};
+ghost use Rattle.ss_store.specs.Store.{number_of, members_of};
+ghost use Rattle.ss_debug.specs.Entities.{shape_of};
+ghost use Rattle.ss_inspect.specs.Texts.{texts_below};
+ghost use Rattle.ss_scopes.specs.Entities.{entity_name, entity_item, entity_items, living_page, class_page};
+ghost use Rattle.ss_scopes.specs.Entities.{attribute_item, list_item, owned_item, entity_variables};
+
+use crate::group::{class_reference, set_reference};
+use crate::pages::numbers_on;
+use crate::rows::{attributes_of, name_at};
+use itoa::Buffer;
+use ss_debug::{class_name, push_number, set_name, set_owner};
+use ss_inspect::living;
+use ss_links::SetBoard;
+use ss_machine::Machine;
+use ss_messages::{paged_item, variable_item};
+use ss_program::{Owner, Program};
+use ss_store::Store;
+use std::alloc::{AllocError, Global};
+
+/// The name of an entity of the class with this number.
+pub fn entity_name(
+    alloc: Global,
+    program: &Program,
+    class: usize,
+    number: u32,
+) -> Result<Vec<u8>, AllocError>
+    requires { class < length program.now.classes }
+    ensures { IfOk result (λ name. name.items ≡ entity_name program.now class number) }
+{
+    let mut name = Vec::new(alloc);
+    name.extend_from_slice(class_name(program, class))?;
+    name.extend_from_slice(b" ")?;
+    push_number(&mut name, u64::from(number))?;
+    Ok(name)
+}
+
+/// Appends an entity of the class with this number, which stands behind so many others.
+fn push_entity(
+    alloc: Global,
+    out: &mut Vec<u8>,
+    program: &Program,
+    class: usize,
+    place: u64,
+    number: u32,
+) -> Result<(), AllocError>
+    requires class { class < length program.now.classes }
+    requires place { place < 2 ^ 64 - 1 }
+    ensures { OnOk result (out.new.items
+        ≡ out.old.items ++ entity_item program.now class place number) }
+{
+    let mut buffer = Buffer::new();
+    let name = entity_name(alloc, program, class, number)?;
+    let reference = class_reference(class, number);
+    let item = variable_item(alloc, buffer.format(place + 1).as_bytes(), &name, reference)?;
+    out.extend_from_slice(&item)
+}
+
+/// Appends entities of the class with this number, the first of which stands behind so many
+/// others.
+pub fn push_entities(
+    alloc: Global,
+    out: &mut Vec<u8>,
+    program: &Program,
+    class: usize,
+    first: u64,
+    numbers: &[u32],
+) -> Result<(), AllocError>
+    requires class { class < length program.now.classes }
+    requires room { first + length numbers.now < 2 ^ 64 }
+    ensures { OnOk result (out.new.items
+        ≡ out.old.items ++ entity_items program.now class first numbers.now) }
+{
+    let mut place = first;
+    for number in numbers {
+        push_entity(alloc, out, program, class, place, *number)?;
+        place += 1;
+    }
+    Ok(())
+}
+
+/// Appends a page of the entities of the class with this number that live.
+fn push_living<S: SetBoard>(
+    alloc: Global,
+    out: &mut Vec<u8>,
+    machine: &Machine<S>,
+    class: usize,
+    start: usize,
+    count: usize,
+) -> Result<(), AllocError>
+    requires { class < length machine.now.input.program.classes }
+    ensures { OnOk result (out.new.items ≡ out.old.items
+        ++ living_page machine.now.input.program machine.now.state.store class start count) }
+{
+    let numbers = living(alloc, machine, class)?;
+    let page = numbers_on(&numbers, start, count);
+    push_entities(alloc, out, machine.program(), class, start as u64, page)
+}
+
+/// Appends a page of the entities of a class that live, if there is such a class.
+pub fn push_class<S: SetBoard>(
+    alloc: Global,
+    out: &mut Vec<u8>,
+    machine: &Machine<S>,
+    class: usize,
+    start: usize,
+    count: usize,
+) -> Result<(), AllocError>
+    ensures { OnOk result (out.new.items ≡ out.old.items
+        ++ class_page machine.now.input.program machine.now.state.store class start count) }
+{
+    if class >= machine.program().classes.len() {
+        return Ok(());
+    }
+    push_living(alloc, out, machine, class, start, count)
+}
+
+/// Appends an attribute of an entity of the class with this number.
+fn push_attribute<S: SetBoard>(
+    alloc: Global,
+    out: &mut Vec<u8>,
+    machine: &Machine<S>,
+    class: usize,
+    number: u32,
+    attribute: usize,
+) -> Result<(), AllocError>
+    requires class { class < length machine.now.input.program.classes }
+    requires attribute { attribute < length (class_of machine.now.input.program class).attributes }
+    ensures { OnOk result (out.new.items ≡ out.old.items
+        ++ attribute_item machine.now.input.program machine.now.state.store class number
+        attribute) }
+{
+    let mut buffer = Buffer::new();
+    let value = machine.store().get(class, attribute, i64::from(number)).unwrap_or(0);
+    let name = name_at(attributes_of(machine.program(), class), attribute);
+    let item = variable_item(alloc, name, buffer.format(value).as_bytes(), 0)?;
+    out.extend_from_slice(&item)
+}
+
+/// Appends the attributes of an entity of the class with this number.
+fn push_attributes<S: SetBoard>(
+    alloc: Global,
+    out: &mut Vec<u8>,
+    machine: &Machine<S>,
+    class: usize,
+    number: u32,
+) -> Result<(), AllocError>
+    requires { class < length machine.now.input.program.classes }
+    ensures { OnOk result (out.new.items ≡ out.old.items
+        ++ texts_below (attribute_item machine.now.input.program machine.now.state.store class
+        number) (length (class_of machine.now.input.program class).attributes)) }
+{
+    for attribute in 0..attributes_of(machine.program(), class).len() {
+        push_attribute(alloc, out, machine, class, number, attribute)?;
+    }
+    Ok(())
+}
+
+/// How many members the list of a set has, none where its owner does not exist.
+fn list_length<S: SetBoard>(store: &Store<S>, set: usize, owner: i64) -> u32
+    requires { set < length store.now.tables.sets }
+    ensures { result ≡ length (members_of (set_of store.now.tables set) store.now.state
+        (number_of owner)) }
+{
+    store.count(set, owner).unwrap_or(0)
+}
+
+/// How many members the list of a set of the program has for the owner with this number.
+#[tactic(auto, using(ss_inspect::proofs::Shapes::shape_is, ss_debug::proofs::Tables::sets_kept))]
+pub fn member_count<S: SetBoard>(machine: &Machine<S>, set: usize, owner: u32) -> u32
+    requires { set < length machine.now.input.program.sets }
+    ensures { result ≡ length (members_of (shape_of machine.now.input.program set)
+        machine.now.state.store owner) }
+{
+    list_length(machine.store(), set, i64::from(owner))
+}
+
+/// Appends the list of a set for the owner with this number, under a name.
+pub fn push_list<S: SetBoard>(
+    alloc: Global,
+    out: &mut Vec<u8>,
+    machine: &Machine<S>,
+    name: &[u8],
+    set: usize,
+    owner: u32,
+) -> Result<(), AllocError>
+    requires { set < length machine.now.input.program.sets }
+    ensures { OnOk result (out.new.items ≡ out.old.items
+        ++ list_item machine.now.input.program machine.now.state.store name.now set owner) }
+{
+    let mut buffer = Buffer::new();
+    let count = u64::from(member_count(machine, set, owner));
+    let reference = set_reference(set, owner);
+    let item = paged_item(alloc, name, buffer.format(count).as_bytes(), reference, count)?;
+    out.extend_from_slice(&item)
+}
+
+/// Whether an owner is the class with this number.
+fn is_owned_by(owner: Owner, class: usize) -> bool
+    ensures { result ≡ is_same_owner (OwnedBy class) owner }
+{
+    match owner {
+        Owner::System => false,
+        Owner::OwnedBy(other) => class == other,
+    }
+}
+
+/// Appends the list of a set for an entity, if its class owns it.
+fn push_owned<S: SetBoard>(
+    alloc: Global,
+    out: &mut Vec<u8>,
+    machine: &Machine<S>,
+    class: usize,
+    number: u32,
+    set: usize,
+) -> Result<(), AllocError>
+    requires { set < length machine.now.input.program.sets }
+    ensures { OnOk result (out.new.items ≡ out.old.items
+        ++ owned_item machine.now.input.program machine.now.state.store class number set) }
+{
+    let program = machine.program();
+    if !is_owned_by(set_owner(program, set), class) {
+        return Ok(());
+    }
+    push_list(alloc, out, machine, set_name(program, set), set, number)
+}
+
+/// Appends the lists that an entity owns.
+fn push_owned_lists<S: SetBoard>(
+    alloc: Global,
+    out: &mut Vec<u8>,
+    machine: &Machine<S>,
+    class: usize,
+    number: u32,
+) -> Result<(), AllocError>
+    ensures { OnOk result (out.new.items ≡ out.old.items
+        ++ texts_below (owned_item machine.now.input.program machine.now.state.store class number)
+        (length machine.now.input.program.sets)) }
+{
+    for set in 0..machine.program().sets.len() {
+        push_owned(alloc, out, machine, class, number, set)?;
+    }
+    Ok(())
+}
+
+/// Appends the attributes of an entity that lives, and the lists that it owns.
+pub fn push_entity_variables<S: SetBoard>(
+    alloc: Global,
+    out: &mut Vec<u8>,
+    machine: &Machine<S>,
+    class: usize,
+    number: u32,
+) -> Result<(), AllocError>
+    ensures { OnOk result (out.new.items ≡ out.old.items
+        ++ entity_variables machine.now.input.program machine.now.state.store class number) }
+{
+    let known = class < machine.program().classes.len();
+    if !known || !machine.store().exists(class, i64::from(number)) {
+        return Ok(());
+    }
+    push_attributes(alloc, out, machine, class, number)?;
+    push_owned_lists(alloc, out, machine, class, number)
+}

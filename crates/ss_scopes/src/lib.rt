@@ -1,0 +1,22 @@
+//! What an editor shows of a state: frames, scopes, and the variables of each, a page at a time. All
+//! is read off the state of the run at the machine's position. A reference is a number that is the
+//! same for the same part of each state.
+//!
+//! A call that appends wants memory for it. After `AllocError` a part may stand behind what `out`
+//! held, and counts for nothing.
+#![tactic(auto)]
+
+mod entities;
+mod events;
+mod frames;
+mod group;
+mod pages;
+mod rows;
+mod scopes;
+mod sets;
+mod variables;
+
+pub use frames::push_frames;
+pub use group::{Group, class_reference, group_of, set_reference};
+pub use scopes::push_scopes;
+pub use variables::push_variables;

@@ -1,0 +1,206 @@
+//! Classes, sets and the lists of a set.
+ghost use Rattle.std.specs.Prelude.{◌≡◌, ◌++◌, ◌<◌, length, OnOk, decimal};
+ghost use Rattle.ss_program.specs.declared.kinds.Owner.TheVariants.{OwnedBy};
+ghost use Rattle.ss_messages.specs.Shown.{paged_item};
+ghost use Rattle.ss_scopes.specs.Sets.{class_item, class_items, set_item, set_items, members_part};
+ghost use Rattle.ss_scopes.specs.Sets.{lists_of, lists_page, set_page, list_page};
+
+use crate::entities::{entity_name, member_count, push_entities, push_list};
+use crate::group::{class_reference, set_reference};
+use crate::pages::{numbers_on, page_size};
+use itoa::Buffer;
+use ss_debug::{class_name, member_class, set_name, set_owner};
+use ss_inspect::{count_living, living, members_page};
+use ss_links::SetBoard;
+use ss_machine::Machine;
+use ss_messages::paged_item;
+use ss_program::Owner;
+use std::alloc::{AllocError, Global};
+
+/// Appends what refers to so many entities, under a name.
+fn push_counted(
+    alloc: Global,
+    out: &mut Vec<u8>,
+    name: &[u8],
+    reference: u64,
+    count: u64,
+) -> Result<(), AllocError>
+    ensures { OnOk result (out.new.items ≡ out.old.items
+        ++ paged_item name.now (decimal count) reference count) }
+{
+    let mut buffer = Buffer::new();
+    let item = paged_item(alloc, name, buffer.format(count).as_bytes(), reference, count)?;
+    out.extend_from_slice(&item)
+}
+
+/// Appends the class with this number.
+fn push_class_item<S: SetBoard>(
+    alloc: Global,
+    out: &mut Vec<u8>,
+    machine: &Machine<S>,
+    class: usize,
+) -> Result<(), AllocError>
+    requires { class < length machine.now.input.program.classes }
+    ensures { OnOk result (out.new.items ≡ out.old.items
+        ++ class_item machine.now.input.program machine.now.state.store class) }
+{
+    let count = u64::from(count_living(machine, class));
+    let name = class_name(machine.program(), class);
+    push_counted(alloc, out, name, class_reference(class, 0), count)
+}
+
+/// Appends the classes.
+pub fn push_classes<S: SetBoard>(
+    alloc: Global,
+    out: &mut Vec<u8>,
+    machine: &Machine<S>,
+) -> Result<(), AllocError>
+    ensures { OnOk result (out.new.items ≡ out.old.items
+        ++ class_items machine.now.input.program machine.now.state.store) }
+{
+    for class in 0..machine.program().classes.len() {
+        push_class_item(alloc, out, machine, class)?;
+    }
+    Ok(())
+}
+
+/// Appends the set with this number.
+fn push_set_item<S: SetBoard>(
+    alloc: Global,
+    out: &mut Vec<u8>,
+    machine: &Machine<S>,
+    set: usize,
+) -> Result<(), AllocError>
+    requires { set < length machine.now.input.program.sets }
+    ensures { OnOk result (out.new.items ≡ out.old.items
+        ++ set_item machine.now.input.program machine.now.state.store set) }
+{
+    let program = machine.program();
+    let name = set_name(program, set);
+    match set_owner(program, set) {
+        Owner::System => push_list(alloc, out, machine, name, set, 0),
+        Owner::OwnedBy(class) => {
+            let count = u64::from(count_living(machine, class));
+            push_counted(alloc, out, name, set_reference(set, 0), count)
+        }
+    }
+}
+
+/// Appends the sets.
+pub fn push_sets<S: SetBoard>(
+    alloc: Global,
+    out: &mut Vec<u8>,
+    machine: &Machine<S>,
+) -> Result<(), AllocError>
+    ensures { OnOk result (out.new.items ≡ out.old.items
+        ++ set_items machine.now.input.program machine.now.state.store) }
+{
+    for set in 0..machine.program().sets.len() {
+        push_set_item(alloc, out, machine, set)?;
+    }
+    Ok(())
+}
+
+/// Appends a page of the members of the list of a set for the owner with this number.
+fn push_members<S: SetBoard>(
+    alloc: Global,
+    out: &mut Vec<u8>,
+    machine: &Machine<S>,
+    set: usize,
+    owner: u32,
+    start: usize,
+    count: usize,
+) -> Result<(), AllocError>
+    requires { set < length machine.now.input.program.sets }
+    ensures { OnOk result (out.new.items ≡ out.old.items
+        ++ members_part machine.now.input.program machine.now.state.store set owner start count) }
+{
+    let size = page_size(start, count, member_count(machine, set, owner) as usize);
+    let members = members_page(alloc, machine, set, i64::from(owner), start, size)?;
+    let program = machine.program();
+    program.known();
+    push_entities(alloc, out, program, member_class(program, set), start as u64, &members)
+}
+
+/// Appends the lists of a set for some entities of this class.
+fn push_lists_of<S: SetBoard>(
+    alloc: Global,
+    out: &mut Vec<u8>,
+    machine: &Machine<S>,
+    set: usize,
+    class: usize,
+    numbers: &[u32],
+) -> Result<(), AllocError>
+    requires set { set < length machine.now.input.program.sets }
+    requires class { class < length machine.now.input.program.classes }
+    ensures { OnOk result (out.new.items ≡ out.old.items
+        ++ lists_of machine.now.input.program machine.now.state.store set class numbers.now) }
+{
+    for number in numbers {
+        let name = entity_name(alloc, machine.program(), class, *number)?;
+        push_list(alloc, out, machine, &name, set, *number)?;
+    }
+    Ok(())
+}
+
+/// Appends a page of the lists of a set for the entities of this class that live.
+fn push_lists<S: SetBoard>(
+    alloc: Global,
+    out: &mut Vec<u8>,
+    machine: &Machine<S>,
+    set: usize,
+    class: usize,
+    start: usize,
+    count: usize,
+) -> Result<(), AllocError>
+    requires set { set < length machine.now.input.program.sets }
+    requires class { class < length machine.now.input.program.classes }
+    ensures { OnOk result (out.new.items ≡ out.old.items
+        ++ lists_page machine.now.input.program machine.now.state.store set class start count) }
+{
+    let numbers = living(alloc, machine, class)?;
+    let page = numbers_on(&numbers, start, count);
+    push_lists_of(alloc, out, machine, set, class, page)
+}
+
+/// Appends a page of the members or lists of the set with this number, if there is one.
+pub fn push_set<S: SetBoard>(
+    alloc: Global,
+    out: &mut Vec<u8>,
+    machine: &Machine<S>,
+    set: usize,
+    start: usize,
+    count: usize,
+) -> Result<(), AllocError>
+    ensures { OnOk result (out.new.items ≡ out.old.items
+        ++ set_page machine.now.input.program machine.now.state.store set start count) }
+{
+    let program = machine.program();
+    program.known();
+    if set >= program.sets.len() {
+        return Ok(());
+    }
+    match set_owner(program, set) {
+        Owner::System => push_members(alloc, out, machine, set, 0, start, count),
+        Owner::OwnedBy(class) => push_lists(alloc, out, machine, set, class, start, count),
+    }
+}
+
+/// Appends a page of the list of a set for the owner with this number, if there is such a set.
+pub fn push_list_page<S: SetBoard>(
+    alloc: Global,
+    out: &mut Vec<u8>,
+    machine: &Machine<S>,
+    set: usize,
+    owner: u32,
+    start: usize,
+    count: usize,
+) -> Result<(), AllocError>
+    ensures { OnOk result (out.new.items ≡ out.old.items
+        ++ list_page machine.now.input.program machine.now.state.store set owner start count) }
+{
+    if set >= machine.program().sets.len() {
+        return Ok(());
+    }
+    push_members(alloc, out, machine, set, owner, start, count)
+}

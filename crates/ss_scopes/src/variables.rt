@@ -1,0 +1,130 @@
+//! The variables that a reference has.
+ghost use Rattle.std.specs.Prelude.{◌≡◌, ◌++◌, OnOk};
+ghost use Rattle.ss_machine.specs.Moment.{position};
+ghost use Rattle.ss_scopes.specs.Variables.{question_item, run_items, data_items, group_text, is_indexed, passes};
+ghost use Rattle.ss_scopes.specs.Variables.{variables_text};
+
+use crate::entities::{push_class, push_entity_variables};
+use crate::events::push_events;
+use crate::frames::{push_globals, push_locals};
+use crate::group::{Group, group_of};
+use crate::sets::{push_classes, push_list_page, push_set, push_sets};
+use ss_debug::{Debugger, Question};
+use ss_links::SetBoard;
+use ss_messages::{Filter, Wanted, variable_item, without_last};
+use std::alloc::{AllocError, Global};
+
+/// Appends the answer to a question, under a name.
+fn push_question<S: SetBoard>(
+    alloc: Global,
+    out: &mut Vec<u8>,
+    debugger: &Debugger<S>,
+    name: &'static [u8],
+    question: Question,
+) -> Result<(), AllocError>
+    ensures { OnOk result (out.new.items ≡ out.old.items
+        ++ question_item name.now debugger.now.machine.input (position debugger.now.machine) question) }
+{
+    let answer = debugger.answer_to(&question)?;
+    let item = variable_item(alloc, name, without_last(&answer), 0)?;
+    out.extend_from_slice(&item)
+}
+
+/// Appends the clock, and where the run stands.
+fn push_run<S: SetBoard>(
+    alloc: Global,
+    out: &mut Vec<u8>,
+    debugger: &Debugger<S>,
+) -> Result<(), AllocError>
+    ensures { OnOk result (out.new.items ≡ out.old.items
+        ++ run_items debugger.now.machine.input (position debugger.now.machine)) }
+{
+    push_question(alloc, out, debugger, b"TIME.V", Question::Clock)?;
+    push_question(alloc, out, debugger, b"STATE", Question::Where)
+}
+
+/// Appends how many pieces of the data are taken, and the entry.
+fn push_data<S: SetBoard>(
+    alloc: Global,
+    out: &mut Vec<u8>,
+    debugger: &Debugger<S>,
+) -> Result<(), AllocError>
+    ensures { OnOk result (out.new.items ≡ out.old.items
+        ++ data_items debugger.now.machine.input (position debugger.now.machine)) }
+{
+    push_question(alloc, out, debugger, b"TAKEN", Question::Taken)?;
+    push_question(alloc, out, debugger, b"ENTRY", Question::Entry)
+}
+
+/// Appends what a group holds: a page, where it may be long.
+fn push_group<S: SetBoard>(
+    alloc: Global,
+    out: &mut Vec<u8>,
+    debugger: &Debugger<S>,
+    group: Group,
+    start: usize,
+    count: usize,
+) -> Result<(), AllocError>
+    ensures { OnOk result (out.new.items ≡ out.old.items
+        ++ group_text debugger.now.machine.input (position debugger.now.machine) start count
+        group) }
+{
+    let machine = debugger.machine();
+    machine.known();
+    match group {
+        Group::Nothing => Ok(()),
+        Group::Globals => push_globals(alloc, out, machine, start, count),
+        Group::Classes => push_classes(alloc, out, machine),
+        Group::Sets => push_sets(alloc, out, machine),
+        Group::Events => push_events(alloc, out, machine),
+        Group::Data => push_data(alloc, out, debugger),
+        Group::Run => push_run(alloc, out, debugger),
+        Group::Locals(depth) => push_locals(alloc, out, machine, depth as usize, start, count),
+        Group::Class(class) => push_class(alloc, out, machine, class, start, count),
+        Group::Entity(class, number) => push_entity_variables(alloc, out, machine, class, number),
+        Group::Set(set) => push_set(alloc, out, machine, set, start, count),
+        Group::Members(set, owner) => {
+            push_list_page(alloc, out, machine, set, owner, start, count)
+        }
+    }
+}
+
+/// Whether what a group holds has numbers, not names.
+fn is_indexed(group: Group) -> bool
+    ensures { result ≡ is_indexed group }
+{
+    match group {
+        Group::Class(_) | Group::Set(_) | Group::Members(_, _) => true,
+        _ => false,
+    }
+}
+
+/// Whether a filter lets it pass.
+fn passes(filter: Filter, indexed: bool) -> bool
+    ensures { result ≡ passes filter indexed }
+{
+    match filter {
+        Filter::All => true,
+        Filter::Named => !indexed,
+        Filter::Indexed => indexed,
+    }
+}
+
+/// Appends the variables that are wanted where the debugger stands, each behind a comma: none where
+/// the reference refers to nothing, or the filter is one for others.
+#[tactic(auto, unfolding(crate::specs::Variables::variables_text))]
+pub fn push_variables<S: SetBoard>(
+    alloc: Global,
+    out: &mut Vec<u8>,
+    debugger: &Debugger<S>,
+    wanted: Wanted,
+) -> Result<(), AllocError>
+    ensures { OnOk result (out.new.items ≡ out.old.items
+        ++ variables_text debugger.now.machine.input (position debugger.now.machine) wanted) }
+{
+    let group = group_of(wanted.reference);
+    if !passes(wanted.filter, is_indexed(group)) {
+        return Ok(());
+    }
+    push_group(alloc, out, debugger, group, wanted.start as usize, wanted.count as usize)
+}
