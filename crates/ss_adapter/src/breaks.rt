@@ -130,7 +130,11 @@ fn clear<S: SetBoard>(
 }
 
 /// Appends a break point that is not set, and why.
-pub fn push_unset(alloc: Global, text: &mut Vec<u8>, reason: &'static [u8]) -> Result<(), AllocError>
+pub fn push_unset(
+    alloc: Global,
+    text: &mut Vec<u8>,
+    reason: &'static [u8],
+) -> Result<(), AllocError>
     ensures { OnOk result (text.new.items ≡ text.old.items ++ unset_item reason.now) }
 {
     let item = unset_item(alloc, reason)?;
@@ -179,7 +183,14 @@ fn set_line<S: SetBoard>(
         (record { breaks = debugger.old.breaks; set = set.old.items; text = text.old.items }) asked)) }
 {
     let next = next_line(debugger.machine().program(), asked);
-    set_next(alloc, debugger, set, text, b"no statement stands here", next)
+    set_next(
+        alloc,
+        debugger,
+        set,
+        text,
+        b"no statement stands here",
+        next,
+    )
 }
 
 /// Sets the break line for a section that a request names.
@@ -197,7 +208,14 @@ fn set_section<S: SetBoard>(
         name.now)) }
 {
     let next = named_line(debugger.machine().program(), name.as_slice());
-    set_next(alloc, debugger, set, text, b"no section has this name", next)
+    set_next(
+        alloc,
+        debugger,
+        set,
+        text,
+        b"no section has this name",
+        next,
+    )
 }
 
 /// Sets the break lines of a request in place of those of an earlier one, keeps those that requests

@@ -40,7 +40,12 @@ impl Desk {
     /// Nothing is set or told yet.
     pub fn new(alloc: Global, path: Vec<u8>, stops: bool) -> Self
         ensures { result ≡ record {
-          path = path.items; set = []; sections = []; watched = []; told = 0; stops = stops;
+          path = path.items;
+          set = [];
+          sections = [];
+          watched = [];
+          told = 0;
+          stops = stops;
         } }
     {
         Desk {

@@ -47,7 +47,14 @@ pub fn set_breaks<S: SetBoard>(
 {
     let mut text = Vec::new(post.alloc());
     let asked = first_lines(lines, POINT_LIMIT);
-    set_lines(post.alloc(), debugger, &mut desk.set, &desk.sections, &mut text, asked)?;
+    set_lines(
+        post.alloc(),
+        debugger,
+        &mut desk.set,
+        &desk.sections,
+        &mut text,
+        asked,
+    )?;
     let body = list_body(post.alloc(), b"breakpoints", &text)?;
     post.reply(request, &body)
 }
@@ -70,7 +77,14 @@ pub fn set_section_breaks<S: SetBoard>(
         (sections_in (adapter_state_of debugger.old desk.old) names.now)) }
 {
     let mut text = Vec::new(post.alloc());
-    set_sections(post.alloc(), debugger, &mut desk.sections, &desk.set, &mut text, names)?;
+    set_sections(
+        post.alloc(),
+        debugger,
+        &mut desk.sections,
+        &desk.set,
+        &mut text,
+        names,
+    )?;
     let body = list_body(post.alloc(), b"breakpoints", &text)?;
     post.reply(request, &body)
 }

@@ -21,6 +21,4 @@ pub use messages::push_number;
 pub use parts::{Lines, Text, Texts};
 pub use post::Post;
 pub use request::{Command, Filter, Request, RequestFault, Wanted, read_request};
-pub use shown::{
-    frames_body, info_body, no_info_body, paged_item, scope_item, target_item,
-};
+pub use shown::{frames_body, info_body, no_info_body, paged_item, scope_item, target_item};

@@ -7,8 +7,10 @@ ghost use Rattle.ss_messages.specs.Requests.{command_of, session_command, points
 ghost use Rattle.ss_messages.specs.Requests.{request_of};
 ghost use Rattle.ss_messages.specs.declared.request.RequestFault.TheVariants.{NoRequest};
 
-use crate::arguments::{completions, evaluate, info, is_text_at, launch, lines_at};
-use crate::arguments::{number_at, number_in, text_at, texts_at, wanted};
+use crate::arguments::{
+    completions, evaluate, info, is_text_at, launch, lines_at, number_at, number_in, text_at,
+    texts_at, wanted,
+};
 use crate::parts::{Lines, Text, Texts};
 use serde_json::Value;
 use std::alloc::{AllocError, Global};

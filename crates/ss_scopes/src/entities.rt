@@ -135,7 +135,10 @@ fn push_attribute<S: SetBoard>(
         attribute) }
 {
     let mut buffer = Buffer::new();
-    let value = machine.store().get(class, attribute, i64::from(number)).unwrap_or(0);
+    let value = machine
+        .store()
+        .get(class, attribute, i64::from(number))
+        .unwrap_or(0);
     let name = name_at(attributes_of(machine.program(), class), attribute);
     let item = variable_item(alloc, name, buffer.format(value).as_bytes(), 0)?;
     out.extend_from_slice(&item)
@@ -195,7 +198,13 @@ pub fn push_list<S: SetBoard>(
     let mut buffer = Buffer::new();
     let count = u64::from(member_count(machine, set, owner));
     let reference = set_reference(set, owner);
-    let item = paged_item(alloc, name, buffer.format(count).as_bytes(), reference, count)?;
+    let item = paged_item(
+        alloc,
+        name,
+        buffer.format(count).as_bytes(),
+        reference,
+        count,
+    )?;
     out.extend_from_slice(&item)
 }
 

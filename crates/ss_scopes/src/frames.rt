@@ -33,7 +33,13 @@ fn push_frame<S: SetBoard>(
     };
     let program = machine.program();
     let line = place_line(program, section, place) as u64;
-    let item = frame_item(alloc, depth as u64 + 1, section_name(program, section), line, path)?;
+    let item = frame_item(
+        alloc,
+        depth as u64 + 1,
+        section_name(program, section),
+        line,
+        path,
+    )?;
     out.extend_from_slice(&item)
 }
 
@@ -63,12 +69,7 @@ fn local_value<S: SetBoard>(machine: &Machine<S>, depth: usize, number: usize) -
 }
 
 /// Appends a comma and a variable with its value.
-fn push_value(
-    alloc: Global,
-    out: &mut Vec<u8>,
-    name: &[u8],
-    value: i64,
-) -> Result<(), AllocError>
+fn push_value(alloc: Global, out: &mut Vec<u8>, name: &[u8], value: i64) -> Result<(), AllocError>
     ensures { OnOk result (out.new.items ≡ out.old.items
         ++ variable_item name.now (signed_decimal value) 0) }
 {

@@ -29,7 +29,13 @@ fn push_counted(
         ++ paged_item name.now (decimal count) reference count) }
 {
     let mut buffer = Buffer::new();
-    let item = paged_item(alloc, name, buffer.format(count).as_bytes(), reference, count)?;
+    let item = paged_item(
+        alloc,
+        name,
+        buffer.format(count).as_bytes(),
+        reference,
+        count,
+    )?;
     out.extend_from_slice(&item)
 }
 
@@ -119,7 +125,14 @@ fn push_members<S: SetBoard>(
     let members = members_page(alloc, machine, set, i64::from(owner), start, size)?;
     let program = machine.program();
     program.known();
-    push_entities(alloc, out, program, member_class(program, set), start as u64, &members)
+    push_entities(
+        alloc,
+        out,
+        program,
+        member_class(program, set),
+        start as u64,
+        &members,
+    )
 }
 
 /// Appends the lists of a set for some entities of this class.

@@ -126,5 +126,12 @@ pub fn push_variables<S: SetBoard>(
     if !passes(wanted.filter, is_indexed(group)) {
         return Ok(());
     }
-    push_group(alloc, out, debugger, group, wanted.start as usize, wanted.count as usize)
+    push_group(
+        alloc,
+        out,
+        debugger,
+        group,
+        wanted.start as usize,
+        wanted.count as usize,
+    )
 }
