@@ -11,6 +11,7 @@
 
 ;; dap-mode
 (with-eval-after-load 'dap-mode
+  (require 'dap-ui)
   (dap-register-debug-provider
    "ssdap" (lambda (conf) (plist-put conf :dap-server-path '("ssdap"))))
   (dap-register-debug-template
