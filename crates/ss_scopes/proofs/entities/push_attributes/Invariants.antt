@@ -5,4 +5,5 @@ use Rattle.ss_scopes.proofs.entities.push_attributes.Given as goal
 
 abbrev pub invariant-loop-attribute : goal.invariant-loop-attribute
 invariant-loop-attribute g l =
-    l.out.items ≡ l.fn.out.items ++ lines_below (attribute_item l.machine.input.program l.machine.state.store l.class l.number) l.attribute
+    l.out.items ≡ l.fn.out.items
+    ++ lines_below (attribute_item l.machine.input.program l.machine.state.store l.class l.number) l.attribute

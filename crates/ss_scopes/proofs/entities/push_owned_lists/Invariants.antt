@@ -5,4 +5,5 @@ use Rattle.ss_scopes.proofs.entities.push_owned_lists.Given as goal
 
 abbrev pub invariant-loop-set : goal.invariant-loop-set
 invariant-loop-set g l =
-    l.out.items ≡ l.fn.out.items ++ lines_below (owned_item l.machine.input.program l.machine.state.store l.class l.number) l.set
+    l.out.items ≡ l.fn.out.items
+    ++ lines_below (owned_item l.machine.input.program l.machine.state.store l.class l.number) l.set

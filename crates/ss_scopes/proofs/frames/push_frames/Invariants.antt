@@ -4,4 +4,6 @@ use Rattle.ss_scopes.specs.Frames.{frame_text}
 use Rattle.ss_scopes.proofs.frames.push_frames.Given as goal
 
 abbrev pub invariant-loop-k : goal.invariant-loop-k
-invariant-loop-k g l = l.out.items ≡ l.fn.out.items ++ items_from (frame_text l.machine.input.program l.machine.state l.path) l.start l.k
+invariant-loop-k g l =
+    l.out.items ≡ l.fn.out.items
+    ++ items_from (frame_text l.machine.input.program l.machine.state l.path) l.start l.k

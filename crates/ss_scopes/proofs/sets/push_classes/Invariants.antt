@@ -5,4 +5,5 @@ use Rattle.ss_scopes.proofs.sets.push_classes.Given as goal
 
 abbrev pub invariant-loop-class : goal.invariant-loop-class
 invariant-loop-class g l =
-    l.out.items ≡ l.fn.out.items ++ lines_below (class_item l.machine.input.program l.machine.state.store) l.class
+    l.out.items ≡ l.fn.out.items
+    ++ lines_below (class_item l.machine.input.program l.machine.state.store) l.class
