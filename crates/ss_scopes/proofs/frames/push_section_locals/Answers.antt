@@ -1,4 +1,4 @@
-use Rattle.ss_scopes.proofs.Pages.{page_none, page_more}
+use Rattle.ss_scopes.proofs.Paging.{page_none, page_more}
 use Rattle.ss_scopes.proofs.frames.push_section_locals.Goals as goal
 
 pub loop-k-init : goal.loop-k-init
