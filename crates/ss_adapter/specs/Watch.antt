@@ -28,7 +28,7 @@ with_question w id true =
     else unwatched w (codes "one data break point at a time")
 
 -- one more
-abbrev pub with_watched : Watching → List ℕ → Watching
+unfoldable pub with_watched : Watching → List ℕ → Watching
 with_watched w id = with_question w id (is_some (question_of id))
 
 -- those of a request

@@ -18,6 +18,7 @@ fn is_question(alloc: Global, text: &[u8]) -> Result<bool, AllocError>
 }
 
 /// Sets a data break point that a request names, or tells why not.
+#[tactic(auto, unfolding(crate::specs::Watch::with_watched))]
 fn watch_one(
     alloc: Global,
     watched: &mut Vec<u8>,
