@@ -1,10 +1,10 @@
 //! The break lines of a request.
-ghost use Rattle.std.specs.Prelude.{◌≡◌, ◌++◌, [], fold, map, position, bytes_eq, OnOk};
+ghost use Rattle.std.specs.Prelude.{◌≡◌, ◌++◌, [], fold, map, position, bytes_eq, slice_get, Some, OnOk};
 ghost use Rattle.ss_debug.specs.View.{debugger_state_of};
 ghost use Rattle.ss_debug.specs.BreakLines.{breaks_after_set};
 ghost use Rattle.ss_debug.specs.Turn.{debugger_state_with};
 ghost use Rattle.ss_messages.specs.Bodies.{unset_item};
-ghost use Rattle.ss_adapter.specs.Places.{nearer, next_line, named_line, without_lines, cleared};
+ghost use Rattle.ss_adapter.specs.Places.{nearer, next_line, first_line, named_line, without_lines, cleared};
 ghost use Rattle.ss_adapter.specs.Places.{with_next, with_asked, with_named, setting_of, section_setting_of};
 ghost use Rattle.ss_adapter.specs.Places.{IsSetting};
 
@@ -60,14 +60,34 @@ fn find_section(sections: &[Section], name: &[u8]) -> Option<usize>
         .position(|section| name == section.name.bytes.as_slice())
 }
 
+/// The line of the first place of a section.
+fn first_line(section: &Section) -> Option<u32>
+    ensures { result ≡ first_line (Some section.now) }
+{
+    match section.places.get(0) {
+        None => None,
+        Some(spot) => nearer(0, None, spot.line),
+    }
+}
+
+/// The line of the first place of the section with this number.
+fn section_line(sections: &[Section], number: usize) -> Option<u32>
+    ensures { result ≡ first_line (slice_get sections.now number) }
+{
+    match sections.get(number) {
+        None => None,
+        Some(section) => first_line(section),
+    }
+}
+
 /// The line of the first place of the section of this name.
 fn named_line(program: &Program, name: &[u8]) -> Option<u32>
     ensures { result ≡ named_line program.now name.now }
 {
-    let number = find_section(&program.sections, name)?;
-    let section = program.sections.get(number)?;
-    let spot = section.places.get(0)?;
-    nearer(0, None, spot.line)
+    match find_section(&program.sections, name) {
+        None => None,
+        Some(number) => section_line(&program.sections, number),
+    }
 }
 
 /// Makes some lines no break lines.
