@@ -1,5 +1,5 @@
 -- One step changes a list just where it changes how many members it has.
-use Rattle.std.proofs.Common.{◌≡◌, ◌≢◌, ℕ, ℤ, zero, suc, ◌-◌, ◌+◌, ◌≤◌, List}
+use Rattle.std.proofs.Common.{◌≡◌, ◌≢◌, ℕ, ℤ, zero, suc, ◌-◌, ◌≤◌, List}
 use Rattle.std.proofs.Common.{[], ◌∷◌, ◌++◌, Bool, true, false, Option, Some, None, ◌⊎◌}
 use Rattle.std.proofs.Common.{Result, Ok, Err, refl, sym, ap, ◌∙◌, arith, length, length-append, inl, inr}
 use Rattle.std.specs.Prelude.{slice_get, slice_set, slice_index_or, option_map}
@@ -11,7 +11,7 @@ use Rattle.ss_words.specs.declared.fault.RunFault.{RunFault}
 use Rattle.ss_words.specs.declared.fault.RunFault.TheVariants.{NoEntity, EndedInUse, EndedOwner, TooManyReferences}
 use Rattle.ss_words.specs.declared.fault.RunFault.TheVariants.{AlreadyInSet, NotInList}
 use Rattle.ss_words.specs.declared.limits.TheConstants.{MOST_REFERENCES}
-use Rattle.ss_links.specs.Seats.{list_without, put_before, put_behind, times_in}
+use Rattle.ss_links.specs.Seats.{list_without, put_before, put_behind}
 use Rattle.ss_links.proofs.SeatLaws.{length-without}
 use Rattle.ss_program.specs.declared.kinds.Discipline.{Discipline}
 use Rattle.ss_program.specs.declared.kinds.Discipline.TheVariants.{Fifo, Lifo, Ranked}
@@ -24,7 +24,7 @@ use Rattle.ss_store.specs.declared.shape.How.TheVariants.{ByRule, First, Last, B
 use Rattle.ss_store.specs.declared.shape.Which.{Which}
 use Rattle.ss_store.specs.Lists.{change_at, placed_before}
 use Rattle.ss_store.specs.Tables.{Tables}
-use Rattle.ss_store.specs.Store.{Entity, Store, number_of, unless, of_class}
+use Rattle.ss_store.specs.Store.{Entity, Store, number_of, of_class}
 use Rattle.ss_store.specs.Store.{made_of, entity, exists, list_number, list_by}
 use Rattle.ss_store.specs.Store.{members_by, members_of, is_owner}
 use Rattle.ss_store.specs.Store.{is_filed, changed_reference, with_changed, with_owned}
@@ -33,7 +33,6 @@ use Rattle.ss_store.specs.Store.{without_reference, without_entity, with_attribu
 use Rattle.ss_store.specs.Filing.{after_filing, after_removing, filed_in}
 use Rattle.ss_store.specs.Filing.{filed_by, ranks_behind, names_entity, names_member}
 use Rattle.ss_store.specs.Filing.{member_named, without_member}
-use Rattle.ss_store.specs.Places.{IsOther}
 use Rattle.ss_store.proofs.Between.{other_lists_stay}
 use Rattle.ss_machine.proofs.Ranges.{Got}
 use Rattle.ss_machine.proofs.Stores.{unless_got}

@@ -17,7 +17,7 @@ use Rattle.ss_program.specs.declared.variable.Variable.{Variable}
 use Rattle.ss_program.specs.declared.variable.Variable.TheVariants as variables
 use Rattle.ss_program.specs.Program.{ProgramTable, class_of, set_of, locals_of}
 use Rattle.ss_store.proofs.Core.{some_eq}
-use Rattle.ss_store.specs.Tables.{set_shape, tables_of, no_set}
+use Rattle.ss_store.specs.Tables.{set_shape, no_set}
 use Rattle.ss_store.specs.Store.{Entity, Store, entity, exists, attribute_of, list_by, list_number, members_of}
 use Rattle.ss_store.specs.Store.{number_of}
 use Rattle.ss_machine.specs.declared.entry.Entry.{Entry}
@@ -41,7 +41,7 @@ use Rattle.ss_trace.specs.Question.{answer_at, attribute_text, class_attribute_t
 use Rattle.ss_trace.specs.Question.{kept_named, kept_in_set, kept_of, has_kept}
 use Rattle.ss_trace.specs.Question.{kept_value, count_text, named_count_text, list_count_text}
 use Rattle.ss_trace.specs.Question.{owned_count_text}
-use Rattle.ss_trace.specs.Sight.{seen, seen_at, sight_of, sight_of_variable, global_or_local, sight_of_class}
+use Rattle.ss_trace.specs.Sight.{seen, seen_at, global_or_local, sight_of_class}
 use Rattle.ss_trace.specs.Sight.{sight_of_attribute, sight_of_kept, sight_of_set}
 use Rattle.ss_trace.specs.Sight.{sight_of_list, members_seen, members_counted}
 use Rattle.ss_trace.specs.Sight.{is_same_number, is_same_count, is_same_entry, is_same_glance}

@@ -1,12 +1,12 @@
 -- Histories: the newest step, and the others behind it.
-use Rattle.std.proofs.Common.{◌≡◌, ℕ, zero, suc, ◌+◌, ◌-◌, ◌<◌, ◌≤◌, Bool, true, false, cond, List, [], ◌∷◌, ◌++◌}
+use Rattle.std.proofs.Common.{◌≡◌, ℕ, zero, suc, ◌+◌, ◌≤◌, Bool, true, false, cond, List, [], ◌∷◌, ◌++◌}
 use Rattle.std.proofs.Common.{refl, sym, ap, ◌∙◌, ◌≢◌, arith, nat_lt, take, length, append_assoc, Option, Some, None}
 use Rattle.std.specs.Prelude.{decimal, is_some, MatchOption}
 use Rattle.std.specs.Fmt.{signed_decimal}
 use Rattle.std.specs.declared.vec.Vec.{Vec}
 use Rattle.std.specs.Global.{Global}
 use Rattle.std.proofs.lemmas.Bool.{lt-ltb}
-use borrow.Author.Tests.{ltb-true, ltb-false}
+use borrow.Author.Tests.{ltb-true}
 use Rattle.ss_machine.specs.Run.{Input}
 use Rattle.ss_trace.specs.declared.question.Question.{Question}
 use Rattle.ss_machine.specs.Run.{run}

@@ -1,7 +1,7 @@
 -- A debugger that looks back over steps that were made.
-use Rattle.std.proofs.Common.{◌≡◌, ℕ, ◌+◌, ◌<◌, ◌≤◌, Bool, true, false, [], ◌∷◌, List, length, refl, sym, ap, ◌∙◌, arith, nat_lt}
+use Rattle.std.proofs.Common.{◌≡◌, ℕ, ◌+◌, ◌<◌, ◌≤◌, Bool, true, false, refl, ◌∙◌, arith, nat_lt}
 use borrow.Author.Tests.{ltb-true, ltb-false}
-use Rattle.ss_machine.specs.Moment.{Moment, position, HasGoneBack}
+use Rattle.ss_machine.specs.Moment.{position, HasGoneBack}
 use Rattle.ss_machine.specs.Run.{Input}
 use Rattle.ss_debug.specs.Move.{is_ready_at}
 use Rattle.ss_debug.specs.View.{DebuggerView}

@@ -1,11 +1,11 @@
 -- OVER and BACK OVER, one part at a time.
 use Rattle.std.proofs.Common.{◌≡◌, ℕ, zero, suc, ◌+◌, ◌-◌, ◌<◌, ◌≤◌, List, Bool, true, false, not, refl, sym, arith, min}
-use Rattle.std.proofs.Common.{cond, ap, ◌∙◌}
+use Rattle.std.proofs.Common.{cond, ◌∙◌}
 use Rattle.ss_machine.specs.declared.limits.TheConstants.{LAST_POSITION}
 use Rattle.ss_machine.specs.Run.{Input}
 use Rattle.ss_debug.specs.Move.{is_on_break, stops, stops_back, search_back_end}
 use Rattle.ss_debug.proofs.Moves.{least_within}
-use Rattle.ss_trace.specs.Movements.{Counted, counted, is_level, frames_at, ahead_condition, ahead_end, is_met, is_met_back}
+use Rattle.ss_trace.specs.Movements.{counted, is_level, frames_at, ahead_condition, ahead_end, is_met, is_met_back}
 use Rattle.ss_trace.specs.Movements.{over, back_over}
 
 -- ---- within the bound

@@ -1,5 +1,5 @@
 -- A step that touches no part of a state leaves it; it leaves each list whose members it does not count anew.
-use Rattle.std.proofs.Common.{◌≡◌, ℕ, ℤ, suc, List, Bool, true, false, Option, Some, None, Ok, Err, Result, refl}
+use Rattle.std.proofs.Common.{◌≡◌, ℕ, suc, List, Bool, true, false, Option, Some, None, Ok, Err, Result, refl}
 use Rattle.std.specs.Prelude.{if◌then◌else◌}
 use Rattle.ss_words.specs.declared.fault.RunFault.{RunFault}
 use Rattle.ss_program.specs.Program.{ProgramTable, spot_at}

@@ -1,5 +1,5 @@
 -- Where a movement stops, seen from the debugger that stands there.
-use Rattle.std.proofs.Common.{◌≡◌, ℕ, ◌+◌, ◌-◌, List, Bool, ◌&&◌, nat_lt, refl, arith}
+use Rattle.std.proofs.Common.{◌≡◌, ℕ, ◌+◌, ◌-◌, List, ◌&&◌, nat_lt, refl, arith}
 use Rattle.ss_machine.specs.Run.{Input}
 use Rattle.ss_debug.specs.Move.{is_stop, stops, stops_back}
 use Rattle.ss_trace.specs.declared.sought.Sought.{Sought}

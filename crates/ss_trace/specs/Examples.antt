@@ -1,5 +1,5 @@
 -- Small programs, and questions that are followed through their runs.
-use Rattle.std.specs.Prelude.{ℕ, ◌+◌, pos, List, [], ◌∷◌, codes, false, None, Some}
+use Rattle.std.specs.Prelude.{ℕ, pos, List, [], ◌∷◌, codes, false, None}
 use Rattle.ss_words.specs.declared.terms.SetEnd.TheVariants as ends
 use Rattle.ss_words.specs.declared.terms.TermSign.TheVariants.{Plus}
 use Rattle.ss_program.specs.declared.target.Target.TheVariants.{Variable as ToVariable, Attribute as ToAttribute}
@@ -25,10 +25,9 @@ use Rattle.ss_machine.specs.Examples.{next_is_removed}
 use Rattle.ss_debug.specs.declared.commands.Question.TheVariants as shown
 use Rattle.ss_debug.specs.Move.{search_back_end}
 use Rattle.ss_trace.specs.declared.question.Question.{Question}
-use Rattle.ss_trace.specs.declared.question.Question.TheVariants.{Shown, Attribute, Count}
+use Rattle.ss_trace.specs.declared.question.Question.TheVariants.{Shown, Attribute}
 use Rattle.ss_trace.specs.Question.{changes_at}
 use Rattle.ss_trace.specs.Movements.{ahead_end, has_changed}
-use Rattle.ss_trace.specs.History.{history}
 
 -- a section with these parameters, locals and places
 abbrev pub section : List ℕ → SectionKind → ℕ → ℕ → List (List ℕ) → List Place → SectionTable

@@ -3,10 +3,8 @@ use Rattle.std.specs.Prelude.{ℕ, zero, suc, ◌+◌, ◌-◌, pos, int_lt, Boo
 use Rattle.std.specs.Prelude.{None, if◌then◌else◌, nat_lt, nat_le}
 use Rattle.ss_machine.specs.declared.limits.TheConstants.{LAST_POSITION}
 use Rattle.ss_machine.specs.Run.{Input, run}
-use Rattle.ss_debug.specs.declared.limits.TheConstants.{GREATEST_BOUND}
 use Rattle.ss_debug.specs.Move.{StopCondition, is_on_break, forward_end, search_back_end, step_condition}
 use Rattle.ss_debug.specs.Move.{MovementShape, forward, back, search_back}
-use Rattle.ss_debug.specs.Turn.{DebuggerState}
 use Rattle.ss_trace.specs.declared.movement.Movement.{Movement}
 use Rattle.ss_trace.specs.declared.movement.Movement.TheVariants.{Over, Out, BackOver, BackOut, BackTo, Go, GoEnd}
 use Rattle.ss_trace.specs.declared.movement.Movement.TheVariants.{RunChange, BackChange}

@@ -1,4 +1,4 @@
-use Rattle.std.proofs.Common.{◌≡◌, ◌+◌, ◌-◌, ℕ, min, true, false, sym, arith, rules}
+use Rattle.std.proofs.Common.{◌≡◌, ◌-◌, ℕ, min, true, false, sym, arith, rules}
 use borrow.Author.Count.{below_more}
 use Rattle.ss_machine.specs.declared.limits.TheConstants.{LAST_POSITION}
 use Rattle.ss_machine.specs.Moment.{position}

@@ -1,4 +1,4 @@
-use Rattle.std.proofs.Common.{◌≡◌, ◌+◌, ◌-◌, ℕ, true, false, sym, ap, ◌∙◌, arith}
+use Rattle.std.proofs.Common.{◌≡◌, ◌+◌, ◌-◌, ℕ, sym, ap, ◌∙◌, arith}
 use Rattle.ss_machine.specs.Moment.{position}
 use Rattle.ss_trace.specs.Movements.{Counted}
 use Rattle.ss_trace.proofs.Parts.{IsOver, over_none, over_unmade, over_at_break, over_on, over_first}

@@ -1,16 +1,14 @@
-use Rattle.std.proofs.Common.{◌≡◌, ◌+◌, ◌∷◌, ℕ, Bool, true, false, [], length, refl, sym, ap, ◌∙◌, arith}
+use Rattle.std.proofs.Common.{◌≡◌, ◌+◌, ℕ, true, false, length, refl, sym, ap, ◌∙◌, arith}
 use Rattle.std.specs.Prelude.{not}
 use Rattle.ss_machine.specs.Moment.{position}
-use Rattle.ss_debug.specs.Move.{is_ready_at}
 use Rattle.ss_trace.specs.Question.{answer_at, changes_at}
 use Rattle.ss_trace.specs.Sight.{seen_at, is_same_glance}
 use Rattle.ss_trace.specs.Touches.{touches_at, part_of}
 use Rattle.ss_trace.specs.Reading.{IsReadAt}
 use Rattle.ss_trace.specs.View.{HasLookedBack}
-use Rattle.ss_trace.proofs.Refused.{on_err}
 use Rattle.ss_trace.proofs.Changes.{same_turned, changes_between}
 use Rattle.ss_trace.proofs.Histories.{none_before, passed, found, found_before}
-use Rattle.ss_trace.proofs.Looking.{looked_nowhere, looked_further, looked_between}
+use Rattle.ss_trace.proofs.Looking.{looked_nowhere, looked_further}
 use Rattle.ss_trace.proofs.Glances.{same_is, unseen}
 use Rattle.ss_trace.proofs.history.back_to_newest.Goals as goal
 

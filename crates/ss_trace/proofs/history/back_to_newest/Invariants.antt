@@ -1,4 +1,4 @@
-use Rattle.std.proofs.Common.{◌≡◌, ℕ}
+use Rattle.std.proofs.Common.{◌≡◌}
 use Rattle.ss_machine.specs.Moment.{position}
 use Rattle.ss_trace.specs.History.{history}
 use Rattle.ss_trace.specs.View.{HasLookedBack}

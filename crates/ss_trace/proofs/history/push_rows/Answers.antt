@@ -1,4 +1,4 @@
-use Rattle.std.proofs.Common.{◌≡◌, ◌++◌, ◌∷◌, ◌+◌, ◌-◌, ℕ, List, take, length, suc, sym, ap, ◌∙◌, arith}
+use Rattle.std.proofs.Common.{◌≡◌, ◌++◌, ◌∷◌, ◌+◌, ◌-◌, ℕ, List, take, length, suc, ap, ◌∙◌, arith}
 use Rattle.ss_machine.specs.Moment.{position}
 use Rattle.ss_machine.specs.Run.{run}
 use Rattle.ss_trace.specs.Question.{answer_at}

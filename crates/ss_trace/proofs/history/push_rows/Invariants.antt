@@ -1,4 +1,4 @@
-use Rattle.std.proofs.Common.{◌≡◌, ℕ, ◌+◌, ◌-◌, ◌<◌, ◌≤◌, ◌++◌, true, take, length}
+use Rattle.std.proofs.Common.{◌≡◌, ◌+◌, ◌-◌, ◌≤◌, ◌++◌, take, length}
 use Rattle.ss_machine.specs.Moment.{position}
 use Rattle.ss_trace.specs.History.{history, step_rows}
 use Rattle.ss_trace.specs.View.{HasLookedBack}

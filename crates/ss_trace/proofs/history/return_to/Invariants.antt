@@ -1,4 +1,4 @@
-use Rattle.std.proofs.Common.{◌≡◌, ◌+◌, ◌≤◌}
+use Rattle.std.proofs.Common.{◌≡◌}
 use Rattle.ss_machine.specs.Moment.{position}
 use Rattle.ss_trace.proofs.history.return_to.Given as goal
 
