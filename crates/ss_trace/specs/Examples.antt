@@ -15,6 +15,7 @@ use Rattle.ss_program.specs.declared.place.Assign.TheVariants.{Let}
 use Rattle.ss_program.specs.declared.place.Output.TheVariants.{Skip}
 use Rattle.ss_program.specs.declared.place.Place.{Place}
 use Rattle.ss_program.specs.declared.place.Place.TheVariants.{Assign, Making, Filing, Output, Call, Read}
+use Rattle.ss_program.specs.declared.timing.Listing.TheVariants.{Given}
 use Rattle.ss_program.specs.declared.timing.When.TheVariants.{At}
 use Rattle.ss_program.specs.declared.variable.Variable.TheVariants.{Global, Local}
 use Rattle.ss_program.specs.ProgramExpr.{expr, no_sums, sum, term, no_products, variable, digits, implied}
@@ -40,6 +41,8 @@ section name kind given yielded locals places = record {
   saving = false;
   locals = locals;
   places = on_one_line places;
+  listing = Given;
+  defines = [];
 }
 
 -- jobs, a row of the system, and a routine, from state to state: 0 CREATE A JOB; 1 LET SIZE = 5; 2 FILE JOB IN ROW;
@@ -56,7 +59,7 @@ jobs = record {
       Making (Create 0 false (ToVariable (Global 0)))
       ∷ Assign (Let false (ToAttribute 0 0 (implied 0)) (number 5))
       ∷ Filing (File job ByRule queue)
-      ∷ Call (record { section = 1; given = number 4 ∷ []; targets = ToVariable (Local 0) ∷ [] })
+      ∷ Call (record { section = 1; given = number 4 ∷ []; targets = ToVariable (Local 0) ∷ []; listing = Given })
       ∷ Assign (Let false (ToAttribute 0 0 (implied 0)) (alone (variable (Local 0))))
       ∷ Filing (RemoveAt ends.First (ToVariable (Global 0)) queue)
       ∷ Making (Destroy 0 false job)
