@@ -1,6 +1,6 @@
 //! Which entity a statement names first of those that are missing.
-ghost use Rattle.std.specs.Prelude.{◌≡◌};
-ghost use Rattle.ss_program.specs.ProgramCondition.{condition_of, conjunction_of, relation_of};
+ghost use Rattle.std.specs.Prelude.{◌≡◌, map};
+ghost use Rattle.ss_program.specs.ProgramCondition.{any, condition_of, conjunction_of, conjunctions_of, relation_of};
 ghost use Rattle.ss_faults.specs.Missing as spec;
 ghost use Rattle.ss_faults.specs.Readings.{both};
 
@@ -196,14 +196,25 @@ fn conjunction_told<S: SetBoard>(machine: &Machine<S>, conjunction: &Conjunction
 }
 
 /// A condition: with OR its first relation alone, since those behind it may have been passed over.
+fn alternatives_told<S: SetBoard>(
+    machine: &Machine<S>,
+    first: &Conjunction,
+    more: &[Conjunction],
+) -> Told
+    ensures { result ≡ spec.condition_told machine.now.input.program machine.now.state
+        (any (conjunction_of first.now) (conjunctions_of (map conjunction_of more.now))) }
+{
+    match more {
+        [] => conjunction_told(machine, first),
+        [_, ..] => relation_told(machine, &first.first),
+    }
+}
+
 fn disjunction_told<S: SetBoard>(machine: &Machine<S>, condition: &Disjunction) -> Told
     ensures { result ≡ spec.condition_told machine.now.input.program machine.now.state
         (condition_of condition.now) }
 {
-    if condition.more.is_empty() {
-        return conjunction_told(machine, &condition.first);
-    }
-    relation_told(machine, &condition.first.first)
+    alternatives_told(machine, &condition.first, &condition.more)
 }
 
 fn condition_told<S: SetBoard>(machine: &Machine<S>, condition: &Condition) -> Told

@@ -1,5 +1,5 @@
 //! The line that tells a fault.
-ghost use Rattle.std.specs.Prelude.{◌≡◌, ◌++◌, IfOk, OnOk};
+ghost use Rattle.std.specs.Prelude.{◌≡◌, ◌++◌, IfOk, OnOk, take};
 ghost use Rattle.ss_program.specs.Program.{spot_at};
 ghost use Rattle.ss_faults.specs.Sentence as spec;
 
@@ -58,12 +58,19 @@ fn whole_line<S: SetBoard>(
     Ok(line)
 }
 
+/// The first bytes, so many of them.
+fn first_bytes(bytes: &[u8], count: usize) -> &[u8]
+    ensures { result.now ≡ take count bytes.now }
+{
+    &bytes[..count.min(bytes.len())]
+}
+
 /// Appends a line, cut where it is too long.
 fn push_cut(text: &mut Vec<u8>, line: &[u8]) -> Result<(), AllocError>
     ensures { OnOk result (text.new.items ≡ text.old.items ++ spec.cut_line line.now) }
 {
     if line.len() > LONGEST_LINE {
-        text.extend_from_slice(&line[..LONGEST_LINE - CUT_MARK.len()])?;
+        text.extend_from_slice(first_bytes(line, LONGEST_LINE - CUT_MARK.len()))?;
         return text.extend_from_slice(CUT_MARK);
     }
     text.extend_from_slice(line)

@@ -6,4 +6,4 @@ use Rattle.ss_faults.proofs.missing.values_told.Given as goal
 abbrev pub invariant-loop-value : goal.invariant-loop-value
 invariant-loop-value g l =
     values_told l.machine.input.program l.machine.state l.told (drop l.value-index l.values)
-    ≡ values_told l.machine.input.program l.machine.state l.before l.values
+    ≡ values_told l.machine.input.program l.machine.state l.fn.before l.values
