@@ -195,6 +195,14 @@ fn conjunction_told<S: SetBoard>(machine: &Machine<S>, conjunction: &Conjunction
     told
 }
 
+/// The first relation of a conjunction.
+fn first_told<S: SetBoard>(machine: &Machine<S>, conjunction: &Conjunction) -> Told
+    ensures { result ≡ spec.first_told machine.now.input.program machine.now.state
+        (conjunction_of conjunction.now) }
+{
+    relation_told(machine, &conjunction.first)
+}
+
 /// A condition: with OR its first relation alone, since those behind it may have been passed over.
 fn alternatives_told<S: SetBoard>(
     machine: &Machine<S>,
@@ -206,7 +214,7 @@ fn alternatives_told<S: SetBoard>(
 {
     match more {
         [] => conjunction_told(machine, first),
-        [_, ..] => relation_told(machine, &first.first),
+        [_, ..] => first_told(machine, first),
     }
 }
 
