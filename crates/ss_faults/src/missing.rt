@@ -204,6 +204,7 @@ fn first_told<S: SetBoard>(machine: &Machine<S>, conjunction: &Conjunction) -> T
 }
 
 /// A condition: with OR its first relation alone, since those behind it may have been passed over.
+#[tactic(auto, using(crate::proofs::Conditions::conditions))]
 fn alternatives_told<S: SetBoard>(
     machine: &Machine<S>,
     first: &Conjunction,
