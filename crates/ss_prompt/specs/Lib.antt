@@ -5,7 +5,7 @@ pub mod Completions
 pub mod Asked
 pub mod Sights
 pub mod Reading
-pub mod FaultLine
+pub mod Stops
 pub mod PromptState
 pub mod Plain
 pub mod Travel

@@ -1,10 +1,11 @@
 -- The commands of docs/DEBUGGER.md at the prompt.
-use Rattle.std.specs.Prelude.{ℕ, ◌≡◌, ◌⊎◌, List, [], ◌++◌}
+use Rattle.std.specs.Prelude.{ℕ, ◌⊎◌, List, [], ◌++◌}
 use Rattle.ss_debug.specs.declared.commands.Command.{Command}
 use Rattle.ss_debug.specs.declared.commands.Command.TheVariants.{Move}
 use Rattle.ss_debug.specs.Turn.{answer, debugger_state_after}
 use Rattle.ss_debug.specs.AfterRefusal.{IsStateAfterRefusal}
-use Rattle.ss_prompt.specs.PromptState.{PromptState, with_debugger, IsSameBeside, stop_text}
+use Rattle.ss_prompt.specs.PromptState.{PromptState, with_debugger, IsSameBeside}
+use Rattle.ss_prompt.specs.Stops.{goes_back, stop_text, HasLookedBeside}
 
 -- the state behind one
 abbrev pub plain_next : PromptState → Command → PromptState
@@ -12,17 +13,18 @@ plain_next s command = with_debugger s (debugger_state_after s.input s.debugger 
 
 -- behind the answer of a movement stands what is told where it stops
 abbrev pub plain_stop : PromptState → Command → List ℕ
-plain_stop s (Move m) = stop_text (plain_next s (Move m))
+plain_stop s (Move m) = stop_text (goes_back m) (plain_next s (Move m))
 plain_stop s command = []
 
 -- what it answers
 abbrev pub plain_said : PromptState → Command → List ℕ
 plain_said s command = answer s.input s.debugger command ++ plain_stop s command
 
--- where it was refused memory: a movement was made in part or whole; any other command left all as it was
+-- where it was refused memory: a movement was made in part or whole, and then perhaps a step beside its end; any other
+-- command left all as it was
 unfoldable pub IsPlainRefused : PromptState → Command → PromptState → Type 0
 IsPlainRefused s (Move m) after =
     IsSameBeside s after
-    × (IsStateAfterRefusal s.input s.debugger (Move m) after.debugger ⊎ (after ≡ plain_next s (Move m)))
+    × (IsStateAfterRefusal s.input s.debugger (Move m) after.debugger ⊎ HasLookedBeside (plain_next s (Move m)) after)
 IsPlainRefused s command after =
     IsSameBeside s after × IsStateAfterRefusal s.input s.debugger command after.debugger

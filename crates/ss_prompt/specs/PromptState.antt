@@ -8,7 +8,7 @@ use Rattle.ss_debug.specs.Move.{line_at}
 use Rattle.ss_debug.specs.Turn.{DebuggerState}
 use Rattle.ss_debug.specs.View.{DebuggerView, debugger_state_of}
 use Rattle.ss_prompt.specs.Source.{marked_line}
-use Rattle.ss_prompt.specs.FaultLine.{fault_line}
+use Rattle.ss_faults.specs.Sentence.{fault_text}
 
 -- a debugger in the run of an input, the lines of its model, and the questions that are answered at each stop
 pub record PromptState : Type 0 where
@@ -52,13 +52,16 @@ abbrev pub answers_to : Input → ℕ → List Question → List ℕ
 answers_to t p [] = []
 answers_to t p (x ∷ xs) = answer_at t x p ++ answers_to t p xs
 
--- what is told where a movement stops: what the fault means, where there is one; the line of the model; the answers to
--- the questions of each stop
-abbrev pub stop_text : PromptState → List ℕ
-stop_text s =
-    fault_line (run s.input s.debugger.position).status
-    ++ source_line s ++ answers_to s.input s.debugger.position s.displays
+-- what the fault of a state means, and what it is about, where it is faulted
+abbrev pub fault_told : Input → ℕ → List ℕ
+fault_told t p = fault_text t.program (run t p) (run t p).status
+
+-- what is told of where the debugger stands: what the fault means, where there is one; the line of the model; the
+-- answers to the questions of each stop
+abbrev pub place_text : PromptState → List ℕ
+place_text s =
+    fault_told s.input s.debugger.position ++ source_line s ++ answers_to s.input s.debugger.position s.displays
 
 -- what is told at a terminal before the first line: that HELP tells the commands, and where the debugger stands
 abbrev pub greeting : PromptState → List ℕ
-greeting s = codes "HELP TELLS THE COMMANDS.\n" ++ state_line s.input s.debugger.position ++ stop_text s
+greeting s = codes "HELP TELLS THE COMMANDS.\n" ++ state_line s.input s.debugger.position ++ place_text s

@@ -7,6 +7,7 @@ use Rattle.ss_console.specs.Meaning.{Meaning}
 use Rattle.ss_prompt.specs.declared.commands.PromptCommand.{PromptCommand}
 use Rattle.ss_prompt.specs.declared.commands.PromptCommand.TheVariants.{Plain, Travel, Lines, SectionLines}
 use Rattle.ss_prompt.specs.declared.commands.PromptCommand.TheVariants.{BreakSection, ClearSection, Breaks}
+use Rattle.ss_prompt.specs.declared.commands.PromptCommand.TheVariants.{Changed}
 use Rattle.ss_prompt.specs.declared.commands.PromptCommand.TheVariants.{Ask, See, Why, History, Display, Undisplay, Help}
 use Rattle.ss_prompt.specs.Reading.{prompt_command_of}
 use Rattle.ss_prompt.specs.PromptState.{PromptState}
@@ -18,6 +19,7 @@ use Rattle.ss_prompt.specs.Listing.{lines_said, section_lines_said}
 use Rattle.ss_prompt.specs.Displays.{display_said, display_next, undisplay_said, undisplay_next}
 use Rattle.ss_prompt.specs.Sights.{sight_said}
 use Rattle.ss_prompt.specs.Histories.{why_said, history_said, HasLookedBack}
+use Rattle.ss_prompt.specs.Stops.{changed_said, HasLookedBeside}
 use Rattle.ss_prompt.specs.Help.{help_said}
 
 -- what a command answers
@@ -31,6 +33,7 @@ prompt_answer s (ClearSection name) = on_section_said s Clear name
 prompt_answer s Breaks = breaks_said s
 prompt_answer s (Ask x) = answer_at s.input x s.debugger.position
 prompt_answer s (See sight) = sight_said sight s.input s.debugger.position
+prompt_answer s Changed = changed_said s
 prompt_answer s (Why x) = why_said s x
 prompt_answer s (History x rows) = history_said s x rows
 prompt_answer s (Display q) = display_said s q
@@ -52,11 +55,12 @@ abbrev pub is_quit : PromptCommand → Bool
 is_quit (Plain command) = is_plain_quit command
 is_quit _ = false
 
--- where memory was refused: a movement was made in part or whole; WHY and HISTORY left the debugger perhaps at an
--- earlier state; any other command left all as it was
+-- where memory was refused: a movement was made in part or whole, and then perhaps a step beside; WHY and HISTORY left
+-- the debugger perhaps at an earlier state, SHOW CHANGED a step beside; any other command left all as it was
 unfoldable pub IsRefused : PromptState → PromptCommand → PromptState → Type 0
 IsRefused s (Plain command) after = IsPlainRefused s command after
 IsRefused s (Travel m) after = IsTravelRefused s m after
+IsRefused s Changed after = HasLookedBeside s after
 IsRefused s (Why x) after = HasLookedBack s after
 IsRefused s (History x rows) after = HasLookedBack s after
 IsRefused s _ after = after ≡ s

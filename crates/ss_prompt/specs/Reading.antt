@@ -19,6 +19,7 @@ use Rattle.ss_prompt.specs.Cuts.{whole_line}
 use Rattle.ss_prompt.specs.declared.commands.PromptCommand.{PromptCommand}
 use Rattle.ss_prompt.specs.declared.commands.PromptCommand.TheVariants.{Plain, Travel, Lines, SectionLines}
 use Rattle.ss_prompt.specs.declared.commands.PromptCommand.TheVariants.{BreakSection, ClearSection, Breaks}
+use Rattle.ss_prompt.specs.declared.commands.PromptCommand.TheVariants.{Changed}
 use Rattle.ss_prompt.specs.declared.commands.PromptCommand.TheVariants.{Ask, See, Why, History, Display, Undisplay, Help}
 
 -- no command
@@ -76,10 +77,16 @@ run_command [] = bad
 run_command (word ∷ rest) =
     if bytes_eq word (codes "CHANGE") then made_or_bad (λ x. Travel (RunChange x)) (asked_of rest) else bad
 
+-- what stands behind SHOW that is no question: CHANGED, or what else is seen
+abbrev pub sight_command : List (List ℕ) → PromptCommand
+sight_command [] = bad
+sight_command (word ∷ rest) =
+    if bytes_eq word (codes "CHANGED") then alone Changed rest else made_or_bad See (sight_of (word ∷ rest))
+
 -- what stands behind SHOW: a question, or what else is seen
 abbrev pub show_command : Option AskedQuestion → List (List ℕ) → PromptCommand
 show_command (Some x) words = Ask x
-show_command None words = made_or_bad See (sight_of words)
+show_command None words = sight_command words
 
 -- LIST: a line as BREAK takes it, or the name of a section
 abbrev pub lines_of : Command → Option (List ℕ) → PromptCommand

@@ -1,8 +1,9 @@
 -- The movements beside those of docs/DEBUGGER.md.
-use Rattle.std.specs.Prelude.{ℕ, ◌≡◌, ◌⊎◌, List, ◌++◌}
+use Rattle.std.specs.Prelude.{ℕ, ◌⊎◌, List, ◌++◌}
 use Rattle.ss_trace.specs.declared.movement.Movement.{Movement}
 use Rattle.ss_trace.specs.Turn.{answer, state_after, IsStateAfterRefusal}
-use Rattle.ss_prompt.specs.PromptState.{PromptState, with_debugger, IsSameBeside, stop_text}
+use Rattle.ss_prompt.specs.PromptState.{PromptState, with_debugger, IsSameBeside}
+use Rattle.ss_prompt.specs.Stops.{travels_back, stop_text, HasLookedBeside}
 
 -- the state behind one
 abbrev pub travel_next : PromptState → Movement → PromptState
@@ -10,10 +11,11 @@ travel_next s m = with_debugger s (state_after s.input s.debugger m)
 
 -- what it answers, and what is told where it stops
 abbrev pub travel_said : PromptState → Movement → List ℕ
-travel_said s m = answer s.input s.debugger m ++ stop_text (travel_next s m)
+travel_said s m =
+    answer s.input s.debugger m ++ stop_text (travels_back m s.debugger.position) (travel_next s m)
 
--- where it was refused memory it was made in part or whole
+-- where it was refused memory it was made in part or whole, and then perhaps a step beside its end
 unfoldable pub IsTravelRefused : PromptState → Movement → PromptState → Type 0
 IsTravelRefused s m after =
     IsSameBeside s after
-    × (IsStateAfterRefusal s.input s.debugger m after.debugger ⊎ (after ≡ travel_next s m))
+    × (IsStateAfterRefusal s.input s.debugger m after.debugger ⊎ HasLookedBeside (travel_next s m) after)

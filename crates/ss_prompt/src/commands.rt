@@ -24,6 +24,8 @@ pub enum PromptCommand {
     Ask(Question),
     /// SHOW: what else is seen of a state.
     See(Sight),
+    /// SHOW CHANGED: what the last step changed.
+    Changed,
     /// WHY: the newest step at which a question changed.
     Why(Question),
     /// HISTORY: so many steps at which a question changed, the newest first.

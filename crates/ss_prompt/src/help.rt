@@ -70,6 +70,7 @@ pub const HELP_ROWS: [(&[u8], &[u8]); 50] = [
         b"SHOW",
         b"SHOW CALLS: the sections that are running, the last first",
     ),
+    (b"SHOW", b"SHOW CHANGED: what the last step changed"),
     (b"SHOW", b"SHOW LOCALS: the local variables of this section"),
     (b"SHOW", b"SHOW GLOBALS: the global variables"),
     (

@@ -7,7 +7,6 @@ mod commands;
 mod completions;
 mod cuts;
 mod displays;
-mod fault_line;
 mod help;
 mod histories;
 mod laws;
@@ -20,6 +19,7 @@ mod sections;
 mod seeing;
 mod sight;
 mod source;
+mod stops;
 
 pub use commands::PromptCommand;
 pub use completions::push_completions;

@@ -3,7 +3,8 @@ ghost use Rattle.std.specs.Prelude.{◌≡◌, ◌++◌, [], map, OnOk, OnErr, I
 ghost use Rattle.ss_console.specs.Going.{go_of};
 ghost use Rattle.ss_machine.specs.Run.{run};
 ghost use Rattle.ss_debug.specs.Turn.{is_quit as is_plain_quit};
-ghost use Rattle.ss_prompt.specs.PromptState.{prompt_state_of, stop_text, greeting};
+ghost use Rattle.ss_prompt.specs.PromptState.{prompt_state_of, fault_told, source_line, place_text, greeting};
+ghost use Rattle.ss_prompt.specs.Stops.{changes_told, stop_text, changed_said, HasLookedBeside};
 ghost use Rattle.ss_prompt.specs.Plain.{plain_next, plain_said, IsPlainRefused};
 ghost use Rattle.ss_prompt.specs.Travel.{travel_next, travel_said, IsTravelRefused};
 ghost use Rattle.ss_prompt.specs.Sections.{command_on, on_section_said, on_section_next};
@@ -21,7 +22,6 @@ ghost use Rattle.ss_prompt.specs.Prompting.{prompt_answer, prompt_state_after, I
 use crate::commands::PromptCommand;
 use crate::break_list::push_break_lines;
 use crate::displays::{display, push_answers, undisplay};
-use crate::fault_line::push_fault;
 use crate::help::push_help;
 use crate::listing::{push_lines_about, push_lines_to};
 use crate::read::prompt_command;
@@ -32,8 +32,11 @@ use crate::sections::{
 use crate::seeing::push_sight;
 use crate::sight::Sight;
 use crate::source::push_marked_line;
+use crate::stops::{goes_back, travels_back};
+use ss_changes::{push_changed, push_stop_changes, push_stop_changes_ahead};
 use ss_console::{Answerer, Console, Go, PutFault, put_all};
 use ss_debug::{Command, Debugger, Name, Question as PlainQuestion, obey};
+use ss_faults::push_fault_sentence;
 use ss_links::SetBoard;
 use ss_machine::Status;
 use ss_trace::{Movement, Question, make_movement, push_answer, push_history, push_why};
@@ -88,13 +91,50 @@ impl<S: SetBoard> Prompt<S> {
         self.debugger.machine().status()
     }
 
-    /// Appends what is told where a movement stops.
-    fn push_stop(&self, answer: &mut Vec<u8>) -> Result<(), AllocError>
-        ensures { OnOk result (answer.new.items ≡ answer.old.items ++ stop_text self.now) }
+    /// Appends what the fault means, where the state is faulted, and the line of the model.
+    fn push_source(&self, answer: &mut Vec<u8>) -> Result<(), AllocError>
+        ensures { OnOk result (answer.new.items ≡ answer.old.items
+            ++ fault_told self.now.input self.now.debugger.position ++ source_line self.now) }
     {
-        let line = present_line(self.debugger.machine());
-        push_fault(answer, self.status())?;
-        push_marked_line(answer, &self.lines, b"> ", line)?;
+        let machine = self.debugger.machine();
+        machine.known();
+        push_fault_sentence(self.alloc, machine, answer)?;
+        push_marked_line(answer, &self.lines, b"> ", present_line(machine))
+    }
+
+    /// Appends what is told of where the debugger stands.
+    fn push_place_text(&self, answer: &mut Vec<u8>) -> Result<(), AllocError>
+        ensures { OnOk result (answer.new.items ≡ answer.old.items ++ place_text self.now) }
+    {
+        self.push_source(answer)?;
+        push_answers(&self.debugger, &self.displays, answer)
+    }
+
+    /// Appends what the last step changed; where a movement went back, what the next one will.
+    #[tactic(auto, using(crate::proofs::Besides::behind, crate::proofs::Besides::ahead), unfolding(crate::specs::Stops::HasLookedBeside))]
+    fn push_changes(&mut self, is_back: bool, answer: &mut Vec<u8>) -> Result<(), AllocError>
+        ensures place { OnOk result (self.new ≡ self.old) }
+        ensures said { OnOk result (answer.new.items
+            ≡ answer.old.items ++ changes_told is_back self.old) }
+        ensures memory { OnErr result (HasLookedBeside self.old self.new) }
+    {
+        if is_back {
+            push_stop_changes_ahead(self.alloc, &mut self.debugger, answer)
+        } else {
+            push_stop_changes(self.alloc, &mut self.debugger, answer)
+        }
+    }
+
+    /// Appends what is told where a movement stops, that went back or not.
+    #[tactic(auto, unfolding(crate::specs::Stops::HasLookedBeside))]
+    fn push_stop(&mut self, is_back: bool, answer: &mut Vec<u8>) -> Result<(), AllocError>
+        ensures place { OnOk result (self.new ≡ self.old) }
+        ensures said { OnOk result (answer.new.items
+            ≡ answer.old.items ++ stop_text is_back self.old) }
+        ensures memory { OnErr result (HasLookedBeside self.old self.new) }
+    {
+        self.push_source(answer)?;
+        self.push_changes(is_back, answer)?;
         push_answers(&self.debugger, &self.displays, answer)
     }
 
@@ -114,7 +154,7 @@ impl<S: SetBoard> Prompt<S> {
     {
         text.extend_from_slice(b"HELP TELLS THE COMMANDS.\n")?;
         self.push_place(text)?;
-        self.push_stop(text)
+        self.push_place_text(text)
     }
 
     /// A command of docs/DEBUGGER.md.
@@ -130,7 +170,7 @@ impl<S: SetBoard> Prompt<S> {
         match command {
             Command::Move(movement) => {
                 obey(&mut self.debugger, Command::Move(movement), answer)?;
-                self.push_stop(answer)?;
+                self.push_stop(goes_back(movement), answer)?;
                 Ok(Go::On)
             }
             other => match obey(&mut self.debugger, other, answer)? {
@@ -148,8 +188,9 @@ impl<S: SetBoard> Prompt<S> {
             ≡ answer.old.items ++ travel_said self.old movement) }
         ensures memory { OnErr result (IsTravelRefused self.old movement self.new) }
     {
+        let is_back = travels_back(&movement, self.debugger.machine().position());
         make_movement(&mut self.debugger, movement, answer)?;
-        self.push_stop(answer)
+        self.push_stop(is_back, answer)
     }
 
     /// LIST, with a line or without.
@@ -260,6 +301,16 @@ impl<S: SetBoard> Prompt<S> {
         push_sight(self.alloc, answer, self.debugger.machine(), sight)
     }
 
+    /// SHOW CHANGED.
+    #[tactic(auto, using(crate::proofs::Besides::behind), unfolding(crate::specs::Stops::HasLookedBeside))]
+    fn changed(&mut self, answer: &mut Vec<u8>) -> Result<(), AllocError>
+        ensures place { OnOk result (self.new ≡ self.old) }
+        ensures said { OnOk result (answer.new.items ≡ answer.old.items ++ changed_said self.old) }
+        ensures memory { OnErr result (HasLookedBeside self.old self.new) }
+    {
+        push_changed(self.alloc, &mut self.debugger, answer)
+    }
+
     /// WHY.
     #[tactic(auto, unfolding(crate::specs::Histories::HasLookedBack))]
     fn why(&mut self, question: &Question, answer: &mut Vec<u8>) -> Result<(), AllocError>
@@ -330,6 +381,7 @@ impl<S: SetBoard> Prompt<S> {
             PromptCommand::Breaks => self.breaks(answer)?,
             PromptCommand::Ask(question) => self.ask(&question, answer)?,
             PromptCommand::See(sight) => self.see(sight, answer)?,
+            PromptCommand::Changed => self.changed(answer)?,
             PromptCommand::Why(question) => self.why(&question, answer)?,
             PromptCommand::History(question, rows) => self.history(&question, rows, answer)?,
             PromptCommand::Display(question) => self.display(question, answer)?,

@@ -6,7 +6,7 @@ ghost use Rattle.ss_prompt.specs.Reading.{made_or_bad, alone, over_of, back_over
 ghost use Rattle.ss_prompt.specs.Reading.{go_command, back_command, list_command, help_command};
 ghost use Rattle.ss_prompt.specs.Asked.{asked_of, own_asked};
 ghost use Rattle.ss_prompt.specs.Histories.{history_wanted};
-ghost use Rattle.ss_prompt.specs.Reading.{run_command, show_command};
+ghost use Rattle.ss_prompt.specs.Reading.{run_command, sight_command, show_command};
 ghost use Rattle.ss_prompt.specs.Reading.{own_in_words, own_of_whole, own_command_of};
 ghost use Rattle.ss_prompt.specs.Reading.{prompt_command_of};
 ghost use Rattle.ss_prompt.specs.declared.commands.PromptCommand.TheVariants as prompt;
@@ -116,6 +116,22 @@ fn run(rest: &[u8]) -> PromptCommand
     PromptCommand::Plain(Command::Bad)
 }
 
+/// What stands behind SHOW that is no question: CHANGED, or what else is seen.
+fn sight_command(rest: &[u8]) -> PromptCommand
+    ensures { result ≡ sight_command (command_words rest.now) }
+{
+    let Some((word, more)) = next_word(rest) else {
+        return PromptCommand::Plain(Command::Bad);
+    };
+    if word == b"CHANGED".as_slice() {
+        return alone(PromptCommand::Changed, more);
+    }
+    match sight(rest) {
+        Some(sight) => PromptCommand::See(sight),
+        None => PromptCommand::Plain(Command::Bad),
+    }
+}
+
 /// What stands behind SHOW that is none of docs/DEBUGGER.md: a question, or what else is seen.
 fn show(rest: &[u8]) -> PromptCommand
     ensures { result ≡ show_command (own_asked (command_words rest.now)) (command_words rest.now) }
@@ -123,10 +139,7 @@ fn show(rest: &[u8]) -> PromptCommand
     if let Some(question) = own_asked(rest) {
         return PromptCommand::Ask(question);
     }
-    match sight(rest) {
-        Some(sight) => PromptCommand::See(sight),
-        None => PromptCommand::Plain(Command::Bad),
-    }
+    sight_command(rest)
 }
 
 /// What stands behind WHY: a question.

@@ -1,0 +1,47 @@
+-- What is told where a movement stops.
+use Rattle.std.specs.Prelude.{ℕ, ◌≡◌, ◌+◌, ◌≤◌, Bool, true, false, nat_lt, List, ◌++◌}
+use Rattle.ss_debug.specs.declared.commands.Movement.{Movement as PlainMovement}
+use Rattle.ss_debug.specs.declared.commands.Movement.TheVariants.{Back, BackEvent, BackBreak}
+use Rattle.ss_debug.specs.Turn.{debugger_state_at}
+use Rattle.ss_trace.specs.declared.movement.Movement.{Movement}
+use Rattle.ss_trace.specs.declared.movement.Movement.TheVariants.{BackOver, BackOut, BackTo, BackChange, Go}
+use Rattle.ss_changes.specs.Texts.{changed_text, stop_changes, stop_changes_ahead}
+use Rattle.ss_prompt.specs.PromptState.{PromptState, IsSameBeside, source_line, fault_told, answers_to}
+
+-- whether a movement of docs/DEBUGGER.md goes back
+abbrev pub goes_back : PlainMovement → Bool
+goes_back (Back n) = true
+goes_back BackEvent = true
+goes_back BackBreak = true
+goes_back _ = false
+
+-- whether a movement beside those goes back from position p
+abbrev pub travels_back : Movement → ℕ → Bool
+travels_back (BackOver n) p = true
+travels_back BackOut p = true
+travels_back (BackTo time) p = true
+travels_back (BackChange x) p = true
+travels_back (Go q) p = nat_lt q p
+travels_back _ p = false
+
+-- what the last step changed; where a movement went back, what the next one will change
+abbrev pub changes_told : Bool → PromptState → List ℕ
+changes_told false s = stop_changes s.input s.debugger.earliest s.debugger.position
+changes_told true s = stop_changes_ahead s.input s.debugger.position
+
+-- what is told where a movement stops, that went back or not: what the fault means, where there is one; the line of the
+-- model; what changed, or will; the answers to the questions of each stop
+abbrev pub stop_text : Bool → PromptState → List ℕ
+stop_text is_back s =
+    fault_told s.input s.debugger.position ++ source_line s ++ changes_told is_back s
+    ++ answers_to s.input s.debugger.position s.displays
+
+-- what SHOW CHANGED answers
+abbrev pub changed_said : PromptState → List ℕ
+changed_said s = changed_text s.input s.debugger.earliest s.debugger.position
+
+-- where memory was refused to what changed, the debugger stands where it stood, or one step beside
+unfoldable pub HasLookedBeside : PromptState → PromptState → Type 0
+HasLookedBeside s after =
+    IsSameBeside s after × (after.debugger ≡ debugger_state_at s.debugger after.debugger.position)
+    × (s.debugger.position ≤ after.debugger.position + 1) × (after.debugger.position ≤ s.debugger.position + 1)
