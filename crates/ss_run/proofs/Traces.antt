@@ -1,7 +1,8 @@
 -- The rows of a trace, and what is written of them.
 use Rattle.std.proofs.Common.{◌≡◌, ℕ, ◌+◌, ◌<◌, inl, inr, true, List, [], ◌++◌, refl, sym, ap, ◌∙◌}
 use Rattle.std.specs.Prelude.{OnOk, IfErr}
-use Rattle.std.proofs.Common.{Result, Ok, Err, Bool, false, not, cond, bytes_eq, nat_lt, arith, append-nil, append_assoc, add-one}
+use Rattle.std.proofs.Common.{Result, Ok, Err, Bool, false, not, cond, bytes_eq, nat_lt, arith, append-nil}
+use Rattle.std.proofs.Common.{append_assoc, add-one}
 use borrow.Author.Tests.{ltb-true, ltb-false}
 use Rattle.std.specs.Io.KnownBytes.{Appends}
 use Rattle.std.specs.declared.vec.Vec.{Vec}
@@ -28,7 +29,8 @@ use Rattle.ss_run.specs.declared.whole_run.RunCut.TheVariants.{Write, Memory}
 use Rattle.ss_run.specs.declared.whole_run.WholeRun.{WholeRun}
 use Rattle.ss_run.specs.Report.{IsRunEnd, SaysEnd}
 use Rattle.ss_run.specs.Advance.{HasAdvanced, MakesRun, RefusesBy, IsRefusal}
-use Rattle.ss_run.specs.Trace.{csv_row, column_names, step_fields, change_row, step_rows, rows_before, trace_text, Reaches}
+use Rattle.ss_run.specs.Trace.{csv_row, column_names, step_fields, change_row, step_rows, rows_before, trace_text}
+use Rattle.ss_run.specs.Trace.{Reaches}
 use Rattle.ss_run.specs.Trace.{WritesNothing, IsTraced, IsTracedInPart, EndsTraced, TraceSays}
 use Rattle.ss_run.specs.Tracing.{IsHere, AreAnswers, row_of, HasTraced, TracesSoFar}
 use Rattle.ss_run.specs.Tracing.{CutsText, CutsStep, CutsRows, MakesTrace}

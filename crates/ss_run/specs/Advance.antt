@@ -18,6 +18,7 @@ use Rattle.ss_run.specs.declared.whole_run.RunEnd.TheVariants.{Done, Faulted, Re
 use Rattle.ss_run.specs.declared.whole_run.RunCut.{RunCut}
 use Rattle.ss_run.specs.declared.whole_run.RunCut.TheVariants.{Write, Memory}
 use Rattle.ss_run.specs.declared.whole_run.WholeRun.{WholeRun}
+use Rattle.ss_sentences.specs.Refusals.{IsSaid}
 use Rattle.ss_run.specs.Explained.{refusal_explanation}
 use Rattle.ss_run.specs.Report.{IsRunEnd, SaysEnd, RunEnds}
 use Rattle.ss_run.specs.WholeRun.{TellsEnd}
@@ -47,7 +48,14 @@ MakesRun (Ok whole) t old new =
     × Appends old.taken new.taken (run t p).report × (new.failures ≡ old.failures)
 MakesRun (Err cut) t old new = RunEnds (Err cut) t old new
 
--- what is said of a model that the rule with this code refuses
+-- what is said of a model whose text the rule with this code refuses
+abbrev pub RefusesText : RunEnd → WholeRun → List ℕ → List ℕ → ℕ → Type 0
+RefusesText (Refused line) whole model code number =
+    (line.items ≡ refusal_line code number) × IsSaid model whole.explanation.items × (whole.unfit ≡ 0)
+RefusesText Done whole model code number = ⊥
+RefusesText (Faulted line) whole model code number = ⊥
+
+-- what is said of a model that the rule of the checker with this code refuses
 abbrev pub RefusesBy : RunEnd → WholeRun → List ℕ → List ℕ → ℕ → Type 0
 RefusesBy (Refused line) whole model code number =
     (line.items ≡ refusal_line code number)
@@ -57,7 +65,7 @@ RefusesBy (Faulted line) whole model code number = ⊥
 
 -- what is said of a model that was not loaded
 abbrev pub IsRefusal : Result WholeRun RunCut → List ℕ → LoadFault → Type 0
-IsRefusal (Ok whole) model (load.Text rule number) = RefusesBy whole.end whole model (text_rule_code rule) number
+IsRefusal (Ok whole) model (load.Text rule number) = RefusesText whole.end whole model (text_rule_code rule) number
 IsRefusal (Ok whole) model (load.Check rule number) = RefusesBy whole.end whole model (check_rule_code rule) number
 IsRefusal (Ok whole) model load.Memory = ⊥
 IsRefusal (Err Memory) model fault = Unit {0}

@@ -1,5 +1,6 @@
 -- The trace of some questions: a row for each step at which an answer changes, the oldest first.
-use Rattle.std.specs.Prelude.{ℕ, zero, suc, ◌+◌, ◌<◌, ◌≤◌, ◌≡◌, ◌⊎◌, true, List, [], ◌∷◌, ◌++◌, map, decimal, Result, Ok, Err}
+use Rattle.std.specs.Prelude.{ℕ, zero, suc, ◌+◌, ◌<◌, ◌≤◌, ◌≡◌, ◌⊎◌, true, List, [], ◌∷◌, ◌++◌, map, decimal, Result}
+use Rattle.std.specs.Prelude.{Ok, Err}
 use Rattle.std.specs.Prelude.{if◌then◌else◌}
 use Rattle.std.specs.List.{flat_map}
 use Rattle.std.specs.Fmt.{signed_decimal}
@@ -33,8 +34,8 @@ csv_row fields = row_text default_writer fields
 abbrev pub column_names : List (List ℕ)
 column_names = map (λ name. name.now) COLUMN_NAMES
 
--- the row of a question that changes at the step from state q: the state, its clock, section and line, the question as it
--- is asked, and its value behind the step
+-- the row of a question that changes at the step from state q: the state, its clock, section and line, the question as
+-- it is asked, and its value behind the step
 abbrev pub step_fields : Input → Question → ℕ → List (List ℕ)
 step_fields t x q =
     decimal q ∷ signed_decimal (run t q).clock ∷ section_at t q ∷ decimal (line_at t q) ∷ asked x
@@ -102,8 +103,8 @@ abbrev pub IsNotBegun : RunCut → OutletState → OutletState → Type 0
 IsNotBegun Memory trace traced = WritesNothing trace traced
 IsNotBegun Write trace traced = ⊥
 
--- a whole run and its trace: report and what is told as without a trace, and the whole trace; or where the trace was cut, a
--- part of it and nothing of the report
+-- a whole run and its trace: report and what is told as without a trace, and the whole trace; or where the trace was
+-- cut, a part of it and nothing of the report
 unfoldable pub TraceSays : Result WholeRun RunCut → List ℕ → List ℕ → List Question → OutletState → OutletState →
     OutletState → OutletState → Type 0
 TraceSays (Ok whole) model data_text xs old new trace traced =

@@ -1,5 +1,6 @@
 -- What the private functions of a traced run rest on. No public contract cites this module.
-use Rattle.std.specs.Prelude.{ℕ, ◌+◌, ◌<◌, ◌≡◌, ◌⊎◌, true, Result, Err, List, [], ◌∷◌, ◌++◌, length, map, decimal, slice_get}
+use Rattle.std.specs.Prelude.{ℕ, ◌+◌, ◌<◌, ◌≡◌, ◌⊎◌, true, Result, Err, List, [], ◌∷◌, ◌++◌, length, map, decimal}
+use Rattle.std.specs.Prelude.{slice_get}
 use Rattle.std.specs.declared.vec.Vec.{Vec}
 use Rattle.std.specs.Global.{Global}
 use Rattle.std.specs.Fmt.{signed_decimal}
@@ -86,8 +87,8 @@ CutsRows cut t xs old new =
     (p : ℕ) × Reaches t p × WritesPart (rows_before t xs p) old.taken new.taken
     × (new.failures ≡ old.failures + cut_failures cut)
 
--- a run is made and traced: the whole trace is written, and the report as without it, or the trace was cut, and nothing of
--- the report is written
+-- a run is made and traced: the whole trace is written, and the report as without it, or the trace was cut, and nothing
+-- of the report is written
 unfoldable pub MakesTrace : Result WholeRun RunCut → Input → List Question → OutletState → OutletState →
     OutletState → OutletState → Type 0
 MakesTrace result t xs old new trace traced =

@@ -1,7 +1,6 @@
 -- What is told of a whole run beside its report.
 use Rattle.std.specs.Prelude.{ℕ, ◌≡◌, ◌⊎◌, List, Result, Ok, Err}
 use Rattle.ss_words.specs.declared.fault.TextRule.{TextRule}
-use Rattle.ss_words.specs.Faults.{text_rule_code}
 use Rattle.ss_check.specs.declared.fault.CheckRule.{CheckRule}
 use Rattle.ss_check.specs.CheckRules.{check_rule_code}
 use Rattle.ss_program.specs.Program.{ProgramTable}
@@ -12,6 +11,7 @@ use Rattle.ss_run.specs.declared.whole_run.RunEnd.{RunEnd}
 use Rattle.ss_run.specs.declared.whole_run.RunEnd.TheVariants.{Done, Faulted, Refused}
 use Rattle.ss_run.specs.declared.whole_run.RunCut.{RunCut}
 use Rattle.ss_run.specs.declared.whole_run.WholeRun.{WholeRun}
+use Rattle.ss_sentences.specs.Refusals.{IsSaid}
 use Rattle.ss_run.specs.Explained.{end_explanation, refusal_explanation}
 use Rattle.ss_run.specs.Fields.{unfit_values}
 use Rattle.ss_run.specs.Report.{IsRunEnd, ReportSays}
@@ -19,7 +19,7 @@ use Rattle.ss_run.specs.Report.{IsRunEnd, ReportSays}
 -- of a run that ended at position p: what explains that state, and how many values of its report did not fit
 abbrev pub TellsEnd : WholeRun → Input → ℕ → Type 0
 TellsEnd whole t p =
-    (whole.explanation.items ≡ end_explanation (run t p).status) × (whole.unfit ≡ unfit_values (run t p).report)
+    (whole.explanation.items ≡ end_explanation t.program (run t p)) × (whole.unfit ≡ unfit_values (run t p).report)
 
 -- of the run of a model that is a program, over the data
 abbrev pub TellsRun : WholeRun → List ℕ → List ℕ → Type 0
@@ -27,11 +27,11 @@ TellsRun whole model data_text =
     (program : ProgramTable) × IsOutcome model (accepted program)
     × (p : ℕ) × IsRunEnd (input_with program data_text) p × TellsEnd whole (input_with program data_text) p
 
--- of a model that a rule refuses: the rule's sentence and the line
+-- of a model that a rule refuses: what is said of its text, or the sentence of the checker's rule and the line
 abbrev pub TellsRefusal : WholeRun → List ℕ → Type 0
 TellsRefusal whole model =
     ((rule : TextRule) × (number : ℕ) × IsOutcome model (refused_text rule number)
-    × (whole.explanation.items ≡ refusal_explanation model (text_rule_code rule) number))
+    × IsSaid model whole.explanation.items)
     ⊎ ((rule : CheckRule) × (number : ℕ) × IsOutcome model (refused_check rule number)
     × (whole.explanation.items ≡ refusal_explanation model (check_rule_code rule) number))
 

@@ -5,15 +5,16 @@ ghost use Rattle.ss_machine.specs.Moment.{position};
 ghost use Rattle.ss_machine.specs.Run.{input_with};
 ghost use Rattle.ss_run.specs.Report.{IsRunEnd, status_of_run, SaysEnd, ReportSays};
 ghost use Rattle.ss_run.specs.WholeRun.{TellsEnd, RunSays};
-ghost use Rattle.ss_run.specs.Advance.{HasAdvanced, MakesRun, RefusesBy, IsRefusal};
+ghost use Rattle.ss_run.specs.Advance.{HasAdvanced, MakesRun, RefusesText, RefusesBy, IsRefusal};
 
-use crate::explained::{end_explanation, refusal_explanation};
+use crate::explained::{end_explanation, rule_explanation};
 use crate::fields::unfit_values;
 use ss_debug::{Command, Debugger, Question, obey};
 use ss_links::{LinkedSets, SetBoard};
 use ss_machine::{Machine, Status, Stepped};
 use ss_program::Program;
 use ss_session::{LoadFault, Outlet, load_program, machine, put_all, refusal_text};
+use ss_sentences::text_refusal;
 use std::alloc::{AllocError, Global};
 use thiserror::Error;
 
@@ -45,9 +46,9 @@ pub enum RunEnd {
 pub struct WholeRun {
     /// How it ended.
     pub end: RunEnd,
-    /// What explains a fault or a refusal, in whole lines: the sentence of the fault; the sentence of
-    /// the rule, where it has no blanks for words of the model, and the refused line of the model.
-    /// Empty for another end.
+    /// What explains a fault or a refusal, in whole lines (docs/SENTENCES.md): the sentence of the
+    /// fault and what it is about; what is said of a refused text, its place and what could stand
+    /// there; the sentence of the checker's rule and the refused line. Empty for another end.
     pub explanation: Vec<u8>,
     /// How many values of the report did not fit their fields.
     pub unfit: usize,
@@ -182,7 +183,7 @@ fn tell_end<S: SetBoard>(alloc: Global, debugger: &mut Debugger<S>) -> Result<Wh
     let end = end_of_run(alloc, debugger)?;
     let machine = debugger.machine();
     machine.known();
-    let explanation = end_explanation(alloc, machine.status())?;
+    let explanation = end_explanation(alloc, machine)?;
     let unfit = unfit_values(machine.report());
     Ok(WholeRun {
         end,
@@ -240,12 +241,30 @@ fn write_run<S: SetBoard, P: Progress, W: Outlet>(
     written
 }
 
-/// What is said of a model that the rule with this code refuses at this line.
+/// What is said of a model whose text the rule with this code refuses at this line.
+fn refused_text(
+    alloc: Global,
+    model: &[u8],
+    code: &str,
+    line: usize,
+) -> Result<WholeRun, AllocError>
+    ensures { IfOk result (λ whole. RefusesText whole.end whole model.now code.now line) }
+{
+    let explanation = text_refusal(alloc, model)?;
+    let text = refusal_text(alloc, code, line)?;
+    Ok(WholeRun {
+        end: RunEnd::Refused(text),
+        explanation,
+        unfit: 0,
+    })
+}
+
+/// What is said of a model that the checker's rule with this code refuses at this line.
 fn refused(alloc: Global, model: &[u8], code: &str, line: usize) -> Result<WholeRun, AllocError>
     ensures { IfOk result (λ whole. RefusesBy whole.end whole model.now code.now line) }
 {
     let text = refusal_text(alloc, code, line)?;
-    let explanation = refusal_explanation(alloc, model, code, line)?;
+    let explanation = rule_explanation(alloc, model, code, line)?;
     Ok(WholeRun {
         end: RunEnd::Refused(text),
         explanation,
@@ -259,7 +278,7 @@ pub(crate) fn refusal(alloc: Global, model: &[u8], fault: LoadFault) -> Result<W
 {
     match fault {
         LoadFault::Memory => Err(RunCut::Memory),
-        LoadFault::Text { rule, line } => Ok(refused(alloc, model, rule.code(), line)?),
+        LoadFault::Text { rule, line } => Ok(refused_text(alloc, model, rule.code(), line)?),
         LoadFault::Check { rule, line } => Ok(refused(alloc, model, rule.code(), line)?),
     }
 }
