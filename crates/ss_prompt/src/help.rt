@@ -7,7 +7,7 @@ use std::alloc::AllocError;
 
 /// A row for each form of a command: the word that it begins with; how it is written, and what it
 /// does.
-pub const HELP_ROWS: [(&[u8], &[u8]); 50] = [
+pub const HELP_ROWS: [(&[u8], &[u8]); 51] = [
     (b"STEP", b"STEP [n]: n steps forward, 1 if not said"),
     (
         b"RUN",
