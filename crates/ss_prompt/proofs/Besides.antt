@@ -1,7 +1,7 @@
 -- Where a debugger stands that has looked at a state beside its own.
-use Rattle.std.proofs.Common.{◌≡◌, ◌+◌, ◌≤◌, ℕ, refl, arith, rules}
+use Rattle.std.proofs.Common.{◌≡◌, ◌+◌, ◌≤◌, refl, arith}
 use Rattle.ss_machine.specs.Moment.{position}
-use Rattle.ss_debug.specs.Turn.{DebuggerState, debugger_state_at}
+use Rattle.ss_debug.specs.Turn.{debugger_state_at}
 use Rattle.ss_debug.specs.View.{DebuggerView, debugger_state_of}
 use Rattle.ss_changes.specs.View.{IsBehind, IsAhead}
 

@@ -1,6 +1,6 @@
 -- Lines are made word by word.
-use Rattle.std.proofs.Common.{◌≡◌, ℕ, List, [], ◌∷◌, refl, fold, Option, Some, None}
-use Rattle.ss_prompt.specs.Words.{with_word, line_behind}
+use Rattle.std.proofs.Common.{◌≡◌, ℕ, List, [], ◌∷◌, refl, fold, None}
+use Rattle.ss_prompt.specs.Words.{with_word}
 use Rattle.ss_prompt.specs.Cuts.{all_whole, made_whole, behind}
 use Rattle.ss_prompt.specs.declared.cuts.Standing.{Standing}
 

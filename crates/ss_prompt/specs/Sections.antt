@@ -1,8 +1,8 @@
 -- Sections and their lines.
-use Rattle.std.specs.Prelude.{ℕ, ◌+◌, ◌-◌, List, [], ◌∷◌, ◌++◌, length, codes, Option, Some, None, option_map, position}
+use Rattle.std.specs.Prelude.{ℕ, ◌-◌, List, [], ◌∷◌, ◌++◌, length, codes, Option, Some, None, option_map, position}
 use Rattle.std.specs.Prelude.{if◌then◌else◌, nat_le, slice_get}
 use Rattle.std.specs.Str.{bytes_eq}
-use Rattle.ss_program.specs.Program.{ProgramTable, section_of, places_of, spot_at}
+use Rattle.ss_program.specs.Program.{ProgramTable, places_of, spot_at}
 use Rattle.ss_debug.specs.declared.commands.Command.{Command}
 use Rattle.ss_debug.specs.declared.commands.Command.TheVariants.{Bad}
 use Rattle.ss_debug.specs.Move.{spot_line}

@@ -19,8 +19,8 @@ ghost use Rattle.ss_prompt.specs.Breaks.{breaks_said};
 ghost use Rattle.ss_prompt.specs.Displays.{display_said, display_next, undisplay_said, undisplay_next};
 ghost use Rattle.ss_prompt.specs.Prompting.{prompt_answer, prompt_state_after, IsRefused, is_quit, prompting};
 
-use crate::commands::PromptCommand;
 use crate::break_list::push_break_lines;
+use crate::commands::PromptCommand;
 use crate::displays::{display, push_answers, undisplay};
 use crate::help::push_help;
 use crate::listing::{push_lines_about, push_lines_to};
@@ -103,11 +103,11 @@ impl<S: SetBoard> Prompt<S> {
     }
 
     /// Appends what is told of where the debugger stands.
-    fn push_place_text(&self, answer: &mut Vec<u8>) -> Result<(), AllocError>
-        ensures { OnOk result (answer.new.items ≡ answer.old.items ++ place_text self.now) }
+    fn push_place_text(&self, text: &mut Vec<u8>) -> Result<(), AllocError>
+        ensures { OnOk result (text.new.items ≡ text.old.items ++ place_text self.now) }
     {
-        self.push_source(answer)?;
-        push_answers(&self.debugger, &self.displays, answer)
+        self.push_source(text)?;
+        push_answers(&self.debugger, &self.displays, text)
     }
 
     /// Appends what the last step changed; where a movement went back, what the next one will.
@@ -158,7 +158,7 @@ impl<S: SetBoard> Prompt<S> {
     }
 
     /// A command of docs/DEBUGGER.md.
-    #[tactic(auto, unfolding(crate::specs::Plain::IsPlainRefused))]
+    #[tactic(auto, unfolding(crate::proofs::Unfoldings::refusals))]
     fn obey_plain(&mut self, command: Command, answer: &mut Vec<u8>) -> Result<Go, AllocError>
         ensures place { OnOk result (self.new ≡ plain_next self.old command) }
         ensures said { OnOk result (answer.new.items
@@ -181,14 +181,15 @@ impl<S: SetBoard> Prompt<S> {
     }
 
     /// A movement beside those of docs/DEBUGGER.md.
-    #[tactic(auto, unfolding(crate::specs::Travel::IsTravelRefused))]
+    #[tactic(auto, unfolding(crate::proofs::Unfoldings::refusals))]
     fn travel(&mut self, movement: Movement, answer: &mut Vec<u8>) -> Result<(), AllocError>
         ensures place { OnOk result (self.new ≡ travel_next self.old movement) }
         ensures said { OnOk result (answer.new.items
             ≡ answer.old.items ++ travel_said self.old movement) }
         ensures memory { OnErr result (IsTravelRefused self.old movement self.new) }
     {
-        let is_back = travels_back(&movement, self.debugger.machine().position());
+        let machine = self.debugger.machine();
+        let is_back = travels_back(&movement, machine.position());
         make_movement(&mut self.debugger, movement, answer)?;
         self.push_stop(is_back, answer)
     }
