@@ -1,18 +1,26 @@
-//! Tests of ss_store, ss_events, ss_machine and ss_session, a module each, in one crate of their
-//! own: the gate proves a crate once more with its tests, and reads all that a checked model stands
-//! on for each crate that has one.
+//! Tests of ss_report, ss_data, ss_journal, ss_links, ss_store, ss_events, ss_machine and ss_session,
+//! a module each, in one crate of their own: the gate proves a crate once more with its tests, and
+//! reads all that a checked model stands on for each crate that has one.
 #![tactic(auto)]
 
 #[cfg(test)]
 mod compare;
 #[cfg(test)]
+mod data;
+#[cfg(test)]
 mod dice;
 #[cfg(test)]
 mod events;
 #[cfg(test)]
+mod journal;
+#[cfg(test)]
+mod links;
+#[cfg(test)]
 mod machine;
 #[cfg(test)]
 mod model;
+#[cfg(test)]
+mod report;
 #[cfg(test)]
 mod session;
 #[cfg(test)]

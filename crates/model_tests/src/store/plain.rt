@@ -89,18 +89,26 @@ impl Plain {
     }
 
     pub fn living(&self, class: usize) -> usize {
-        self.entities
-            .iter()
-            .filter(|entity| entity.class == class)
-            .count()
+        let mut count: usize = 0;
+        for entity in &self.entities {
+            if entity.class == class {
+                count = count.wrapping_add(1);
+            }
+        }
+        count
     }
 
     pub fn nth(&self, class: usize, chosen: usize) -> i64 {
-        let mut living = self.entities.iter().filter(|entity| entity.class == class);
-        match living.nth(chosen) {
-            Some(entity) => entity.number,
-            None => 0,
+        let mut before = chosen;
+        for entity in &self.entities {
+            if entity.class == class {
+                if before == 0 {
+                    return entity.number;
+                }
+                before -= 1;
+            }
         }
+        0
     }
 
     pub fn is_owner(&self, set: usize, owner: i64) -> bool {
@@ -125,13 +133,12 @@ impl Plain {
             return Err(RunFault::NoEntity);
         }
         let owner = owner_of(set, owner);
-        let place = self.members.iter().position(|member| member.set == set
-            && member.owner == owner
-            && member.x == x);
-        match place {
-            Some(place) => Ok(place),
-            None => Err(RunFault::NotInList),
+        for (place, member) in self.members.iter().enumerate() {
+            if member.set == set && member.owner == owner && member.x == x {
+                return Ok(place);
+            }
         }
+        Err(RunFault::NotInList)
     }
 
     fn values(&self, x: i64) -> [i64; 2] {
@@ -149,16 +156,21 @@ impl Plain {
         ours[0] < theirs[0] || ours[0] == theirs[0] && ours[1] > theirs[1]
     }
 
+    // Where the first member of a list stands that ranks behind it, the end where none does.
+    fn ranked(&self, set: usize, owner: i64, x: i64) -> usize {
+        for (place, member) in self.members.iter().enumerate() {
+            if member.set == set && member.owner == owner && self.ranks_behind(member.x, x) {
+                return place;
+            }
+        }
+        self.members.len()
+    }
+
     // Where the set's own discipline files it.
     fn rule(&self, set: usize, owner: i64, x: i64) -> usize {
         match set {
             2 | 4 => 0,
-            1 => {
-                let behind = self.members.iter().position(|member| {
-                    member.set == set && member.owner == owner && self.ranks_behind(member.x, x)
-                });
-                behind.unwrap_or(self.members.len())
-            }
+            1 => self.ranked(set, owner, x),
             _ => self.members.len(),
         }
     }
@@ -195,17 +207,37 @@ impl Plain {
         }
     }
 
+    // Where the first member of a list stands.
+    fn first(&self, set: usize, owner: i64) -> Option<usize> {
+        for (place, member) in self.members.iter().enumerate() {
+            if member.set == set && member.owner == owner {
+                return Some(place);
+            }
+        }
+        None
+    }
+
+    // Where the last member of a list stands.
+    fn last(&self, set: usize, owner: i64) -> Option<usize> {
+        let mut last = None;
+        for (place, member) in self.members.iter().enumerate() {
+            if member.set == set && member.owner == owner {
+                last = Some(place);
+            }
+        }
+        last
+    }
+
     // Which member is removed, among those of all lists.
     fn removed(&self, set: usize, owner: i64, which: Which) -> Result<usize, RunFault> {
         if !self.is_owner(set, owner) {
             return Err(RunFault::NoEntity);
         }
         let of = owner_of(set, owner);
-        let in_list = |member: &Member| member.set == set && member.owner == of;
         let found = match which {
             Which::Member(x) => return self.place(set, owner, x),
-            Which::First => self.members.iter().position(in_list),
-            Which::Last => self.members.iter().rposition(in_list),
+            Which::First => self.first(set, of),
+            Which::Last => self.last(set, of),
         };
         found.ok_or(RunFault::EmptySet)
     }

@@ -1,0 +1,89 @@
+//! A board's reading calls beside lists.
+use crate::compare::same;
+use crate::links::changes::Lists;
+use ss_links::SetBoard;
+use std::process::Abort;
+
+/// The digits of the list with this number.
+fn list_at(lists: &[u8], head: usize) -> &[u8] {
+    let mut pieces = lists.split(|byte| *byte == b';');
+    pieces.nth(head).unwrap_or(&[])
+}
+
+/// The seat of a digit.
+fn seat_of(byte: u8) -> Option<u32> {
+    if byte.is_ascii_digit() {
+        Some(u32::from(byte - b'0'))
+    } else {
+        None
+    }
+}
+
+/// The seat at a place of a list, none behind its end.
+fn seat_at(list: &[u8], place: usize) -> Option<u32> {
+    match list.get(place) {
+        Some(byte) => seat_of(*byte),
+        None => None,
+    }
+}
+
+/// Whether a seat is in a list.
+fn is_listed(lists: &[u8], seat: u32) -> bool {
+    lists.iter().any(|byte| seat_of(*byte) == Some(seat))
+}
+
+/// Compares every reading call with the lists.
+pub fn agrees<S: SetBoard>(rt: &impl Abort, board: &S, lists: &Lists) {
+    let (lists, seats) = (lists.0.as_slice(), lists.1);
+    let count = lists.iter().filter(|byte| **byte == b';').count();
+    same(rt, board.heads() as usize, count);
+    same(rt, board.seats(), seats);
+    for head in 0..board.heads() {
+        agrees_on(rt, board, head, list_at(lists, head as usize));
+    }
+    for seat in 0..board.seats() {
+        if !is_listed(lists, seat) {
+            stands(rt, board, seat, None, None, None);
+        }
+    }
+}
+
+/// Compares the reading calls of a head's list with its digits.
+fn agrees_on<S: SetBoard>(rt: &impl Abort, board: &S, head: u32, list: &[u8]) {
+    assert!(rt; head < board.heads());
+    same(rt, board.first(head), seat_at(list, 0));
+    same(
+        rt,
+        board.last(head),
+        seat_at(list, list.len().wrapping_sub(1)),
+    );
+    same(rt, board.len(head) as usize, list.len());
+    let mut before = None;
+    for place in 0..list.len() {
+        let seat = seat_at(list, place).expect(rt, "a digit");
+        stands(
+            rt,
+            board,
+            seat,
+            Some(head),
+            seat_at(list, place + 1),
+            before,
+        );
+        before = Some(seat);
+    }
+}
+
+/// Compares the reading calls of a seat with the head of its list and the seats behind and before.
+pub fn stands<S: SetBoard>(
+    rt: &impl Abort,
+    board: &S,
+    seat: u32,
+    head: Option<u32>,
+    behind: Option<u32>,
+    before: Option<u32>,
+) {
+    assert!(rt; seat < board.seats());
+    same(rt, board.place(seat), head);
+    same(rt, board.next(seat), behind);
+    same(rt, board.prev(seat), before);
+}
