@@ -40,7 +40,9 @@ use Rattle.ss_adapter.specs.Desk.{DeskView}
 
 -- the state of the adapter: a debugger in the run of an input, and the desk
 pub record AdapterState : Type 0 where
+  -- the program and its data
   pub input : Input
+  -- where the debugger stands, what it keeps, and its break lines
   pub debugger : DebuggerState
   pub desk : DeskView
 

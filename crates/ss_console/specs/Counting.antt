@@ -1,5 +1,6 @@
 -- What a counter means.
-use Rattle.std.specs.Prelude.{ℕ, ◌≡◌, ◌+◌, ◌%◌, ◌^◌, ◌==◌, ◌||◌, Bool, List, [], ◌++◌, length, codes, decimal, bytes_eq, if◌then◌else◌}
+use Rattle.std.specs.Prelude.{ℕ, ◌≡◌, ◌+◌, ◌%◌, ◌^◌, ◌==◌, ◌||◌, Bool, List, [], ◌++◌, length, codes, decimal, bytes_eq}
+use Rattle.std.specs.Prelude.{if◌then◌else◌}
 use Rattle.ss_console.specs.Meaning.{Meaning}
 
 abbrev pub is_quit : List ℕ → Bool

@@ -1,5 +1,6 @@
 -- The turns of a dialogue, the events that they make, and how a dialogue ends.
-use Rattle.std.specs.Prelude.{ℕ, ◌≡◌, ◌-◌, ◌^◌, ◌≤◌, Bool, true, false, List, [], ◌∷◌, ◌++◌, length, take, map, codes, decimal}
+use Rattle.std.specs.Prelude.{ℕ, ◌≡◌, ◌-◌, ◌^◌, ◌≤◌, Bool, true, false, List, [], ◌∷◌, ◌++◌, length, take, map, codes}
+use Rattle.std.specs.Prelude.{decimal}
 use Rattle.std.specs.Prelude.{if◌then◌else◌, Option}
 use Rattle.std.specs.List.{list_any}
 use Rattle.ss_console.specs.Event.{Event, read, written, Adds}
@@ -11,6 +12,7 @@ pub data Turn (S : Type 0) : Type 0 where
   answered : List ℕ → Turn S
   refused : List ℕ → S → Turn S
 
+-- the line of a turn
 abbrev pub line_of : {S : Type 0} → Turn S → List ℕ
 line_of (answered line) = line
 line_of (refused line after) = line
@@ -20,6 +22,7 @@ abbrev pub answer_of : (m : Meaning) → m.State → Turn m.State → List ℕ
 answer_of m s (answered line) = m.said s line
 answer_of m s (refused line after) = m.refusal after
 
+-- the state behind a turn
 abbrev pub state_after : (m : Meaning) → m.State → Turn m.State → m.State
 state_after m s (answered line) = m.next s line
 state_after m s (refused line after) = after
@@ -48,10 +51,12 @@ unfoldable pub events : (m : Meaning) → Bool → m.State → List (Turn m.Stat
 events m terminal s [] = []
 events m terminal s (turn ∷ turns) = turn_events m terminal s turn ++ events m terminal (state_after m s turn) turns
 
+-- the state behind some turns
 unfoldable pub state_after_all : (m : Meaning) → m.State → List (Turn m.State) → m.State
 state_after_all m s [] = s
 state_after_all m s (turn ∷ turns) = state_after_all m (state_after m s turn) turns
 
+-- each of some turns is allowed where it is made
 unfoldable pub AreAllowed : (m : Meaning) → m.State → List (Turn m.State) → Type 0
 AreAllowed m s [] = Unit {0}
 AreAllowed m s (turn ∷ turns) = IsAllowed m s turn × AreAllowed m (state_after m s turn) turns
@@ -63,60 +68,94 @@ has_last m turns = list_any (is_last m) turns
 -- the turns lead from state to state, over the lines that were read, in order
 pub record Lead (m : Meaning) (from to : m.State) (before after : Option (List (List ℕ)))
     (turns : List (Turn m.State)) : Type 0 where
+  -- each was allowed where it was made
   pub allowed : AreAllowed m from turns
+  -- they lead to the last state
   pub state : to ≡ state_after_all m from turns
+  -- their lines are those that were given, in order
   pub lines : Gives before after (map line_of turns)
 
 -- the input ended: all turns, and the prompt behind them
 pub record EndsByInput (m : Meaning) (terminal : Bool) (from to : m.State) (before after : Option (List (List ℕ)))
     (old new : Option (List Event)) : Type 0 where
+  -- the turns
   pub turns : List (Turn m.State)
+  -- they lead from the first state to the last
   pub led : Lead m from to before after turns
+  -- none of them ends the dialogue
   pub goes_on : has_last m turns ≡ false
+  -- the input is at its end
   pub input : IsAtEnd after
+  -- the events are theirs, with what is said above
   pub told : Adds old new (events m terminal from turns ++ written (prompt terminal (m.position to)))
 
 -- a line ended it: all turns, the last with that line
 pub record EndsByLine (m : Meaning) (terminal : Bool) (from to : m.State) (before after : Option (List (List ℕ)))
     (old new : Option (List Event)) : Type 0 where
+  -- the turns
   pub turns : List (Turn m.State)
+  -- the line that ends it
   pub line : List ℕ
+  -- they lead from the first state to the last
   pub led : Lead m from to before after (turns ++ answered line ∷ [])
+  -- none of them ends the dialogue
   pub goes_on : has_last m turns ≡ false
+  -- it ends the dialogue
   pub ends : m.ends line ≡ true
+  -- the events are theirs, with what is said above
   pub told : Adds old new (events m terminal from (turns ++ answered line ∷ []))
 
 -- a reading failed: all turns, and the prompt behind them; nothing is said of the lines that are left
 pub record EndsByRead (m : Meaning) (terminal : Bool) (from to : m.State) (before : Option (List (List ℕ)))
     (old new : Option (List Event)) : Type 0 where
+  -- the turns
   pub turns : List (Turn m.State)
+  -- the lines that were left
   pub left : Option (List (List ℕ))
+  -- they lead from the first state to the last
   pub led : Lead m from to before left turns
+  -- none of them ends the dialogue
   pub goes_on : has_last m turns ≡ false
+  -- the events are theirs, with what is said above
   pub told : Adds old new (events m terminal from turns ++ written (prompt terminal (m.position to)))
 
 -- a put of the prompt failed: all turns, and a prefix of the prompt
 pub record EndsInPrompt (m : Meaning) (terminal : Bool) (from to : m.State) (before after : Option (List (List ℕ)))
     (old new : Option (List Event)) : Type 0 where
+  -- the turns
   pub turns : List (Turn m.State)
+  -- how many bytes were taken
   pub count : ℕ
+  -- they lead from the first state to the last
   pub led : Lead m from to before after turns
+  -- none of them ends the dialogue
   pub goes_on : has_last m turns ≡ false
+  -- no more than there are
   pub within : count ≤ length (prompt terminal (m.position to))
+  -- the events are theirs, with what is said above
   pub told :
       Adds old new (events m terminal from turns ++ written (take count (prompt terminal (m.position to))))
 
 -- a put of an answer failed: all turns but the last, its prompt and its line, and a prefix of its answer
 pub record EndsInAnswer (m : Meaning) (terminal : Bool) (from to : m.State) (before after : Option (List (List ℕ)))
     (old new : Option (List Event)) : Type 0 where
+  -- the turns
   pub turns : List (Turn m.State)
+  -- the last turn
   pub last : Turn m.State
+  -- they lead to the last state
   pub state : m.State
+  -- how many bytes were taken
   pub count : ℕ
+  -- they lead from the first state to the last
   pub led : Lead m from to before after (turns ++ last ∷ [])
+  -- none of them ends the dialogue
   pub goes_on : has_last m turns ≡ false
+  -- the state before the last turn
   pub reached : state ≡ state_after_all m from turns
+  -- no more than there are
   pub within : count ≤ length (answer_of m state last)
+  -- the events are theirs, with what is said above
   pub told :
       Adds old new
       (events m terminal from turns
@@ -126,8 +165,13 @@ pub record EndsInAnswer (m : Meaning) (terminal : Bool) (from to : m.State) (bef
 -- 2^64 - 1 lines were answered
 pub record EndsByCount (m : Meaning) (terminal : Bool) (from to : m.State) (before after : Option (List (List ℕ)))
     (old new : Option (List Event)) : Type 0 where
+  -- the turns
   pub turns : List (Turn m.State)
+  -- they lead from the first state to the last
   pub led : Lead m from to before after turns
+  -- none of them ends the dialogue
   pub goes_on : has_last m turns ≡ false
+  -- they are that many
   pub many : length turns ≡ 2 ^ 64 - 1
+  -- the events are theirs, with what is said above
   pub told : Adds old new (events m terminal from turns)

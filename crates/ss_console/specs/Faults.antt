@@ -4,15 +4,20 @@ use Rattle.ss_console.specs.Event.{Event, read}
 
 -- how many readings and how many puts failed
 pub record Faults : Type 0 where
+  -- how many readings failed
   pub reads : ℕ
+  -- how many puts failed
   pub puts : ℕ
 
+-- so many of each
 abbrev pub faults_of : ℕ → ℕ → Faults
 faults_of reads puts = record { reads = reads; puts = puts }
 
+-- with one more reading
 abbrev pub one_more_read : Faults → Faults
 one_more_read f = record { reads = f.reads + 1; puts = f.puts }
 
+-- with one more put
 abbrev pub one_more_put : Faults → Faults
 one_more_put f = record { reads = f.reads; puts = f.puts + 1 }
 
@@ -27,6 +32,7 @@ reading (Ok true) line = read line ∷ []
 reading (Ok false) line = []
 reading (Err e) line = []
 
+-- the failures behind a reading
 abbrev pub faults_after_read : {E : Type 0} → Result Bool E → Faults → Faults
 faults_after_read (Ok some) f = f
 faults_after_read (Err e) f = one_more_read f
@@ -36,6 +42,7 @@ abbrev pub count_taken : {E : Type 0} → Result ℕ E → ℕ
 count_taken (Ok n) = n
 count_taken (Err e) = 0
 
+-- the failures behind a put, which fails too where it takes nothing
 abbrev pub faults_after_put : {E : Type 0} → Result ℕ E → Faults → Faults
 faults_after_put (Ok n) f = if n == 0 then one_more_put f else f
 faults_after_put (Err e) f = one_more_put f

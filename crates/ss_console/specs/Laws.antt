@@ -1,5 +1,6 @@
 -- Laws of dialogues, in other words than those of their definition.
-use Rattle.std.specs.Prelude.{ℕ, ◌≡◌, ◌+◌, ◌<◌, ◌≤◌, Bool, true, false, not, List, [], ◌∷◌, ◌++◌, length, if◌then◌else◌, Option, Some}
+use Rattle.std.specs.Prelude.{ℕ, ◌≡◌, ◌+◌, ◌<◌, ◌≤◌, Bool, true, false, not, List, [], ◌∷◌, ◌++◌, length, if◌then◌else◌}
+use Rattle.std.specs.Prelude.{Option, Some}
 use Rattle.std.specs.List.{list_any, list_all}
 use Rattle.ss_console.specs.Event.{Event, read, wrote, written}
 use Rattle.ss_console.specs.Lines.{is_stop, kept}
@@ -9,7 +10,8 @@ use Rattle.ss_console.specs.declared.lines.TheConstants.{LINE_LIMIT}
 
 -- ---- the batch
 
--- the answers to the lines of a batch, each in the state behind the lines before; behind a line that ends it none counts
+-- the answers to the lines of a batch, each in the state behind the lines before; behind a line that ends it none
+-- counts
 unfoldable pub answers : (m : Meaning) → m.State → List (List ℕ) → List ℕ
 answers m s [] = []
 answers m s (line ∷ lines) = m.said s line ++ (if m.ends line then [] else answers m (m.next s line) lines)

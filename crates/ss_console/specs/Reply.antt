@@ -19,9 +19,15 @@ reply_ends Refused = false
 
 -- it is a turn with that line
 pub record IsReply (m : Meaning) (from to : m.State) (line answer : List ℕ) (reply : Reply) : Type 0 where
+  -- the turn
   pub turn : Turn m.State
+  -- its line is that line
   pub line_is : line_of turn ≡ line
+  -- it is allowed
   pub allowed : IsAllowed m from turn
+  -- it leads to the state
   pub state : to ≡ state_after m from turn
+  -- what is to be written is its answer
   pub text : reply_text m to reply answer ≡ answer_of m from turn
+  -- it ends the dialogue where the reply does
   pub ends : reply_ends reply ≡ is_last m turn

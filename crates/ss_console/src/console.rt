@@ -2,7 +2,8 @@ ghost use Rattle.std.specs.Prelude.{◌≡◌, ◌-◌, ◌^◌, ◌<◌, ◌≤
 ghost use Rattle.std.specs.Vec.{vec_capacity};
 ghost use Rattle.ss_console.specs.Event.{Event, Adds, written};
 ghost use Rattle.ss_console.specs.Lines.{Gives, IsAtEnd};
-ghost use Rattle.ss_console.specs.Faults.{Faults, count_taken, lines_read, reading, faults_after_read, faults_after_put};
+ghost use Rattle.ss_console.specs.Faults.{Faults, count_taken, lines_read, reading, faults_after_read};
+ghost use Rattle.ss_console.specs.Faults.{faults_after_put};
 ghost use Rattle.ss_console.specs.declared.lines.TheConstants.{LINE_LIMIT};
 
 use thiserror::Error;

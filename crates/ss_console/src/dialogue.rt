@@ -1,6 +1,7 @@
 ghost use Rattle.std.specs.Prelude.{◌≡◌, ◌⊎◌, ◌-◌, ◌^◌, ◌<◌, Err, OnOk};
 ghost use Rattle.std.specs.Vec.{vec_capacity};
-ghost use Rattle.ss_console.specs.Dialogue.{EndsByInput, EndsByLine, EndsByRead, EndsInPrompt, EndsInAnswer, EndsByCount};
+ghost use Rattle.ss_console.specs.Dialogue.{EndsByInput, EndsByLine, EndsByRead, EndsInPrompt, EndsInAnswer};
+ghost use Rattle.ss_console.specs.Dialogue.{EndsByCount};
 ghost use Rattle.ss_console.specs.Reply.{IsReply};
 ghost use Rattle.ss_console.specs.Cut.{faults_after};
 ghost use Rattle.ss_console.specs.declared.lines.TheConstants.{LINE_LIMIT};

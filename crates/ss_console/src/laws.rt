@@ -1,5 +1,6 @@
 //! Laws of dialogues. Each function does nothing, and its contract says the law.
-ghost use Rattle.ss_console.specs.Laws.{BatchByInput, BatchByLine, AnswersComeFirst, ShortLinesAreKept, LongLinesAreCut, WordsAreKept};
+ghost use Rattle.ss_console.specs.Laws.{BatchByInput, BatchByLine, AnswersComeFirst, ShortLinesAreKept};
+ghost use Rattle.ss_console.specs.Laws.{LongLinesAreCut, WordsAreKept};
 
 use crate::answerer::Answerer;
 

@@ -33,3 +33,6 @@ ahead old new h = record {
   no_earlier = omega (arith, h.no_earlier);
   no_later = omega (arith, h.no_later);
 }
+
+-- one or the other
+pub ruleset beside = (behind, ahead)

@@ -47,7 +47,8 @@ plainly words = wanted (asked_of words) (Some ROWS_UNLESS_SAID)
 -- a question and, as its last word, a number of rows
 abbrev pub with_rows : List (List ℕ) → Option (Question × ℕ)
 with_rows words =
-    wanted (asked_in (line_behind [] (all_but_last words))) (rows_in (command_behind (codes "FORGET") (only_last words)))
+    wanted (asked_in (line_behind [] (all_but_last words)))
+    (rows_in (command_behind (codes "FORGET") (only_last words)))
 
 -- whether some words are two
 abbrev pub is_pair : List (List ℕ) → Bool

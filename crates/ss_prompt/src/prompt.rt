@@ -111,7 +111,7 @@ impl<S: SetBoard> Prompt<S> {
     }
 
     /// Appends what the last step changed; where a movement went back, what the next one will.
-    #[tactic(auto, using(crate::proofs::Besides::behind, crate::proofs::Besides::ahead), unfolding(crate::specs::Stops::HasLookedBeside))]
+    #[tactic(auto, using(crate::proofs::Besides::beside), unfolding(crate::specs::Stops::HasLookedBeside))]
     fn push_changes(&mut self, is_back: bool, answer: &mut Vec<u8>) -> Result<(), AllocError>
         ensures place { OnOk result (self.new ≡ self.old) }
         ensures said { OnOk result (answer.new.items

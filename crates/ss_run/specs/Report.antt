@@ -56,7 +56,8 @@ RunEnds (Err Write) t old new =
 -- the model is a program, whose run over the data is made
 abbrev pub IsRun : Result RunEnd RunCut → List ℕ → List ℕ → OutletState → OutletState → Type 0
 IsRun result model data_text old new =
-    (program : ProgramTable) × IsOutcome model (accepted program) × RunEnds result (input_with program data_text) old new
+    (program : ProgramTable) × IsOutcome model (accepted program)
+    × RunEnds result (input_with program data_text) old new
 
 -- the same of a model that may be refused: then its line is told, and nothing is written
 unfoldable pub ReportSays : Result RunEnd RunCut → List ℕ → List ℕ → OutletState → OutletState → Type 0

@@ -32,8 +32,8 @@ abbrev pub refused_model_text : List (List ℕ) → List ℕ → ℕ → List �
 refused_model_text lines code line =
     refusal_line code line ++ rule_line code (rule_sentence code) ++ marked_line lines (codes "> ") line
 
--- what is said of a model whose text is refused: the rule and the line, and what is said of the word, its place and what
--- could stand there
+-- what is said of a model whose text is refused: the rule and the line, and what is said of the word, its place and
+-- what could stand there
 abbrev pub IsTextTold : List ℕ → List ℕ → ℕ → List ℕ → Type 0
 IsTextTold model code line text = (said : List ℕ) × IsSaid model said × (text ≡ refusal_line code line ++ said)
 

@@ -2,16 +2,20 @@
 use Rattle.std.specs.Prelude.{ℕ, Bool, List, Option}
 use Rattle.ss_console.specs.Event.{Event}
 
+-- what is seen of a console before and behind a call
 pub record Seen : Type 0 where
   -- whether it is a terminal
   pub terminal : Bool
-  -- the lines that were left to read, where they are told, and those that are left
+  -- the lines that were left to read, where they are told
   pub before : Option (List (List ℕ))
+  -- those that are left
   pub after : Option (List (List ℕ))
-  -- what had happened, where it is told, and what has happened
+  -- what had happened, where it is told
   pub old : Option (List Event)
+  -- what has happened
   pub new : Option (List Event)
 
+-- the same, of its parts
 abbrev pub seen : Bool → Option (List (List ℕ)) → Option (List (List ℕ)) → Option (List Event) →
     Option (List Event) → Seen
 seen terminal before after old new =
