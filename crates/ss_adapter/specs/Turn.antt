@@ -44,6 +44,7 @@ pub record AdapterState : Type 0 where
   pub input : Input
   -- where the debugger stands, what it keeps, and its break lines
   pub debugger : DebuggerState
+  -- what lies on the desk
   pub desk : DeskView
 
 -- the report of the state where the debugger stands
