@@ -13,8 +13,8 @@ use ss_debug::{Command, Debugger, Question, obey};
 use ss_links::{LinkedSets, SetBoard};
 use ss_machine::{Machine, Status, Stepped};
 use ss_program::Program;
-use ss_session::{LoadFault, Outlet, load_program, machine, put_all, refusal_text};
 use ss_sentences::text_refusal;
+use ss_session::{LoadFault, Outlet, load_program, machine, put_all, refusal_text};
 use std::alloc::{AllocError, Global};
 use thiserror::Error;
 
