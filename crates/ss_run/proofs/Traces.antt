@@ -28,7 +28,7 @@ use Rattle.ss_run.specs.declared.whole_run.RunCut.{RunCut}
 use Rattle.ss_run.specs.declared.whole_run.RunCut.TheVariants.{Write, Memory}
 use Rattle.ss_run.specs.declared.whole_run.WholeRun.{WholeRun}
 use Rattle.ss_run.specs.Report.{IsRunEnd, SaysEnd}
-use Rattle.ss_run.specs.Advance.{HasAdvanced, MakesRun, RefusesBy, IsRefusal}
+use Rattle.ss_run.specs.Advance.{HasAdvanced, MakesRun, RefusesText, RefusesBy, IsRefusal}
 use Rattle.ss_run.specs.Trace.{csv_row, column_names, step_fields, change_row, step_rows, rows_before, trace_text}
 use Rattle.ss_run.specs.Trace.{Reaches}
 use Rattle.ss_run.specs.Trace.{WritesNothing, IsTraced, IsTracedInPart, EndsTraced, TraceSays}
@@ -264,10 +264,16 @@ ends_refused (Refused line) whole model data_text code number xs trace r = (appe
 ends_refused Done whole model data_text code number xs trace r = absurd r
 ends_refused (Faulted line) whole model data_text code number xs trace r = absurd r
 
+ends_unread : (end : RunEnd) (whole : WholeRun) (model data_text code : List ℕ) (number : ℕ) (xs : List Question)
+    (trace : OutletState) → RefusesText end whole model code number → EndsTraced end model data_text xs trace trace
+ends_unread (Refused line) whole model data_text code number xs trace r = (appends_none trace.taken, refl)
+ends_unread Done whole model data_text code number xs trace r = absurd r
+ends_unread (Faulted line) whole model data_text code number xs trace r = absurd r
+
 no_trace : (whole : WholeRun) (fault : LoadFault) (model data_text : List ℕ) (xs : List Question)
     (trace : OutletState) → IsRefusal (Ok whole) model fault → EndsTraced whole.end model data_text xs trace trace
 no_trace whole (load.Text rule number) model data_text xs trace r =
-    ends_refused whole.end whole model data_text _ number xs trace r
+    ends_unread whole.end whole model data_text _ number xs trace r
 no_trace whole (load.Check rule number) model data_text xs trace r =
     ends_refused whole.end whole model data_text _ number xs trace r
 no_trace whole load.Memory model data_text xs trace r = absurd r
