@@ -24,7 +24,7 @@ fn file<R: Files + AllocGlobal>(rt: &R, path: &Text) -> Result<Option<Vec<u8>>, 
     }
 }
 
-/// Answers launch: reads its files, and opens a run.
+/// Reads the files of launch, and opens a run.
 fn open<R: Files + AllocGlobal, I: Read + Drop, O: Write + Drop>(
     rt: &R,
     channel: &mut Channel<I, O>,
@@ -51,45 +51,89 @@ fn open<R: Files + AllocGlobal, I: Read + Drop, O: Write + Drop>(
     Ok(launch(request, &mut channel.post, path, stops, &text, &data_text)?)
 }
 
-/// Answers requests until a run is launched. `None` where the session ends before.
-fn wait<R: Files + AllocGlobal, I: Read + Drop, O: Write + Drop>(
+/// Answers launch and, where it opens a run, the requests about that.
+fn launched<R: Files + AllocGlobal, I: Read + Drop, O: Write + Drop>(
     rt: &R,
     channel: &mut Channel<I, O>,
-) -> Result<Option<(Debugger<LinkedSets>, Desk)>, Stop> {
+    request: &Request,
+    model: &Text,
+    data_path: &Option<Text>,
+    stops: bool,
+) -> Result<Further, Stop>
+    requires { channel.old.post.sent < 2 ^ 53 }
+{
+    match open(rt, channel, request, model, data_path, stops)? {
+        Some((mut debugger, mut desk)) => hold(channel, &mut debugger, &mut desk),
+        None => {
+            channel.send()?;
+            Ok(Further::On)
+        }
+    }
+}
+
+/// Answers a request before a run is launched, and launch with all that follows it.
+fn answer<R: Files + AllocGlobal, I: Read + Drop, O: Write + Drop>(
+    rt: &R,
+    channel: &mut Channel<I, O>,
+    request: &Request,
+) -> Result<Further, Stop>
+    requires { channel.old.post.sent < 2 ^ 53 }
+{
+    if let Command::Launch(model, data_path, stops) = &request.command {
+        return launched(rt, channel, request, model, data_path, *stops);
+    }
+    let further = turn_before(request, &mut channel.post)?;
+    channel.send()?;
+    Ok(further)
+}
+
+/// Answers one request about a run, if one comes.
+fn answer_standing<S: SetBoard, I: Read + Drop, O: Write + Drop>(
+    channel: &mut Channel<I, O>,
+    debugger: &mut Debugger<S>,
+    desk: &mut Desk,
+) -> Result<Further, Stop> {
+    let Some(request) = channel.next()? else {
+        return Ok(Further::Ended);
+    };
+    let further = turn(debugger, desk, &request, &mut channel.post)?;
+    channel.send()?;
+    Ok(further)
+}
+
+/// Sends what launch is answered by, and answers the requests about its run.
+fn hold<S: SetBoard, I: Read + Drop, O: Write + Drop>(
+    channel: &mut Channel<I, O>,
+    debugger: &mut Debugger<S>,
+    desk: &mut Desk,
+) -> Result<Further, Stop> {
+    channel.send()?;
     for _ in 0..u64::MAX {
-        let Some(request) = channel.next()? else {
-            return Ok(None);
-        };
-        if let Command::Launch(model, data_path, stops) = &request.command {
-            let opened = open(rt, channel, &request, model, data_path, *stops)?;
-            channel.send()?;
-            if opened.is_some() {
-                return Ok(opened);
-            }
-        } else {
-            let further = turn_before(&request, &mut channel.post)?;
-            channel.send()?;
-            if further == Further::Ended {
-                return Ok(None);
-            }
+        if answer_standing(channel, debugger, desk)? == Further::Ended {
+            return Ok(Further::Ended);
         }
     }
     Err(Stop::Count)
 }
 
-/// Answers requests about a run.
-fn hold<S: SetBoard, I: Read + Drop, O: Write + Drop>(
+/// Answers the next request, if one comes.
+fn answer_next<R: Files + AllocGlobal, I: Read + Drop, O: Write + Drop>(
+    rt: &R,
     channel: &mut Channel<I, O>,
-    debugger: &mut Debugger<S>,
-    desk: &mut Desk,
+) -> Result<Further, Stop> {
+    match channel.next()? {
+        Some(request) => answer(rt, channel, &request),
+        None => Ok(Further::Ended),
+    }
+}
+
+/// Answers requests, until one ends the session or input ends.
+fn answer_all<R: Files + AllocGlobal, I: Read + Drop, O: Write + Drop>(
+    rt: &R,
+    channel: &mut Channel<I, O>,
 ) -> Result<(), Stop> {
     for _ in 0..u64::MAX {
-        let Some(request) = channel.next()? else {
-            return Ok(());
-        };
-        let further = turn(debugger, desk, &request, &mut channel.post)?;
-        channel.send()?;
-        if further == Further::Ended {
+        if answer_next(rt, channel)? == Further::Ended {
             return Ok(());
         }
     }
@@ -99,8 +143,5 @@ fn hold<S: SetBoard, I: Read + Drop, O: Write + Drop>(
 /// Answers the requests of an editor, until one ends the session or input ends.
 pub fn serve<R: Files + Input + Print + AllocGlobal>(rt: &R) -> Result<(), Stop> {
     let mut channel = Channel::new(rt.alloc(), rt.reader(), io::writer(rt));
-    match wait(rt, &mut channel)? {
-        Some((mut debugger, mut desk)) => hold(&mut channel, &mut debugger, &mut desk),
-        None => Ok(()),
-    }
+    answer_all(rt, &mut channel)
 }

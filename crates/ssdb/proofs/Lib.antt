@@ -1,1 +1,2 @@
 pub mod SourceLines
+pub mod Openings

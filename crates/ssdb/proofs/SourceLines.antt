@@ -1,5 +1,5 @@
 -- The lines of a model are taken one by one.
-use Rattle.std.proofs.Common.{◌≡◌, ℕ, ◌<◌, List, [], ◌∷◌, ◌++◌, length, map, refl, ◌∙◌, sym, ap, append_assoc, append-nil}
+use Rattle.std.proofs.Common.{◌≡◌, ℕ, ◌<◌, List, [], ◌∷◌, ◌++◌, length, map, ◌∙◌, sym, ap, append_assoc, append-nil}
 use Rattle.std.specs.List.{before_first, after_first}
 use Rattle.ss_debug.specs.CommandLines.{separates, line_separators, command_lines}
 use Rattle.ss_session.proofs.FirstLine.{lines_first, lines_none, written_from_length, none_of_length}

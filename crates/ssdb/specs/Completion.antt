@@ -1,5 +1,5 @@
 -- What is written where the words for completion are asked for.
-use Rattle.std.specs.Prelude.{ℕ, ◌≡◌, ◌⊎◌, List, []}
+use Rattle.std.specs.Prelude.{ℕ, ◌≡◌, ◌⊎◌, List}
 use Rattle.ss_program.specs.Program.{ProgramTable}
 use Rattle.ss_console.specs.Event.{Adds, written}
 use Rattle.ss_console.specs.Puts.{AddsPart}

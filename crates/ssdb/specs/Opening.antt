@@ -1,18 +1,24 @@
 -- A whole dialogue over a model and its data: how it begins, and how it ends.
-use Rattle.std.specs.Prelude.{ℕ, ◌⊎◌, Bool, List, [], Option, if◌then◌else◌}
+use Rattle.std.specs.Prelude.{ℕ, ◌≡◌, ◌⊎◌, Bool, List, [], Option, if◌then◌else◌}
+use Rattle.ss_program.specs.Program.{ProgramTable}
 use Rattle.ss_machine.specs.State.{is_faulted}
+use Rattle.ss_machine.specs.Run.{input_with, run}
 use Rattle.ss_machine.specs.declared.status.Status.{Status}
+use Rattle.ss_debug.specs.Turn.{initial_debugger_state}
 use Rattle.ss_console.specs.Event.{Event, Adds, written}
 use Rattle.ss_console.specs.Puts.{AddsPart}
 use Rattle.ss_console.specs.Dialogue.{EndsByInput, EndsByLine, EndsByRead, EndsInPrompt, EndsInAnswer, EndsByCount}
 use Rattle.ss_console.specs.declared.cut.Cut.TheVariants.{Read, Write, Count}
+use Rattle.ss_session.specs.Model.{IsOutcome, accepted}
 use Rattle.ss_prompt.specs.PromptState.{PromptState, greeting}
 use Rattle.ss_prompt.specs.Prompting.{prompting}
 use Rattle.ssdb.specs.declared.end.PromptEnd.{PromptEnd}
 use Rattle.ssdb.specs.declared.end.PromptEnd.TheVariants.{Done, Faulted}
 use Rattle.ssdb.specs.declared.end.PromptFault.{PromptFault}
 use Rattle.ssdb.specs.declared.end.PromptFault.TheVariants.{Cut, Memory}
+use Rattle.ssdb.specs.Refused.{IsRefusalWritten}
 use Rattle.ssdb.specs.Seen.{Seen}
+use Rattle.ssdb.specs.Source.{source_lines}
 
 -- what is told before the first line: at a terminal a greeting
 abbrev pub greeted : Bool → PromptState → List ℕ
@@ -21,6 +27,20 @@ greeted terminal s = if terminal then greeting s else []
 -- whether a run is faulted
 abbrev pub end_of_status : Status → PromptEnd
 end_of_status status = if is_faulted status then Faulted else Done
+
+-- the state of the prompt at the start of the run of a program over its data
+abbrev pub start_over : List ℕ → List ℕ → ProgramTable → PromptState
+start_over model data_text program = record {
+  lines = source_lines model;
+  input = input_with program data_text;
+  debugger = initial_debugger_state;
+  displays = [];
+}
+
+-- it is that of the program that a model is
+abbrev pub IsStart : List ℕ → List ℕ → PromptState → Type 0
+IsStart model data_text from =
+    (program : ProgramTable) × IsOutcome model (accepted program) × (from ≡ start_over model data_text program)
 
 -- how a dialogue ends behind the greeting: by the end of input, or by a line
 abbrev pub EndsWell : PromptState → PromptState → Option (List Event) → Seen → Type 0
@@ -42,3 +62,43 @@ abbrev pub GreetingFails : List ℕ → Option (List Event) → Option (List Eve
 GreetingFails text old new (Cut Write) = AddsPart text old new
 GreetingFails text old new Memory = Adds old new []
 GreetingFails text old new fault = ⊥
+
+-- a whole dialogue from a state on: the greeting is told, the answers are, and the run is faulted or not where they
+-- lead
+pub record HoldsFrom (from : PromptState) (c : Seen) (end : PromptEnd) : Type 0 where
+  -- what had happened behind the greeting
+  pub told : Option (List Event)
+  -- a terminal is greeted
+  pub greets : Adds c.old told (written (greeted c.terminal from))
+  -- where the answers led
+  pub to : PromptState
+  -- the answers, up to the end of input or a line that ends
+  pub answers : EndsWell from to told c
+  -- whether the run is faulted there
+  pub end_is : end ≡ end_of_status (run to.input to.debugger.position).status
+
+-- one that was cut short behind its greeting
+pub record BreaksFrom (from : PromptState) (c : Seen) (fault : PromptFault) : Type 0 where
+  -- what had happened behind the greeting
+  pub told : Option (List Event)
+  -- a terminal is greeted
+  pub greets : Adds c.old told (written (greeted c.terminal from))
+  -- where the answers led
+  pub to : PromptState
+  -- the answers, and the call that failed
+  pub answers : HoldFails from to told c fault
+
+-- one that was cut short, there or within its greeting, before which no line was read
+abbrev pub StopsFrom : PromptState → Seen → PromptFault → Type 0
+StopsFrom from c fault =
+    BreaksFrom from c fault
+    ⊎ (GreetingFails (greeted c.terminal from) c.old c.new fault × (c.after ≡ c.before))
+
+-- a whole dialogue over an accepted model and its data
+abbrev pub IsHeld : List ℕ → List ℕ → Seen → PromptEnd → Type 0
+IsHeld model data_text c end = (from : PromptState) × IsStart model data_text from × HoldsFrom from c end
+
+-- why there was none: it was cut short, or the model is refused, or memory was before anything was written
+abbrev pub IsStopped : List ℕ → List ℕ → Seen → PromptFault → Type 0
+IsStopped model data_text c fault =
+    ((from : PromptState) × IsStart model data_text from × StopsFrom from c fault) ⊎ IsRefusalWritten model c fault

@@ -1,6 +1,5 @@
 -- The exit statuses of the program.
 use Rattle.std.specs.Prelude.{ℕ, Result, Ok, Err}
-use Rattle.ss_console.specs.declared.cut.Cut.{Cut}
 use Rattle.ssdb.specs.declared.end.PromptEnd.{PromptEnd}
 use Rattle.ssdb.specs.declared.end.PromptEnd.TheVariants.{Done, Faulted}
 use Rattle.ssdb.specs.declared.end.PromptFault.{PromptFault}

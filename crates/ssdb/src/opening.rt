@@ -10,6 +10,7 @@ ghost use Rattle.ss_session.specs.Model.{accepted, IsOutcome};
 ghost use Rattle.ss_session.specs.Load.{IsLoadFault};
 ghost use Rattle.ss_prompt.specs.PromptState.{greeting};
 ghost use Rattle.ssdb.specs.Opening.{greeted, end_of_status, EndsWell, HoldFails, GreetingFails};
+ghost use Rattle.ssdb.specs.Opening.{HoldsFrom, StopsFrom, IsHeld, IsStopped};
 ghost use Rattle.ssdb.specs.Seen.{seen};
 
 use crate::end::{PromptEnd, PromptFault};
@@ -119,6 +120,7 @@ fn open(alloc: Global, model: &[u8], data_text: &[u8]) -> Result<Debugger<Linked
 }
 
 /// A whole dialogue of a prompt: the greeting, and the answers to the lines of a console.
+#[tactic(auto, using(crate::proofs::Openings::holds))]
 fn greet_and_hold<S: SetBoard, C: Console>(
     alloc: Global,
     mut prompt: Prompt<S>,
@@ -128,6 +130,10 @@ fn greet_and_hold<S: SetBoard, C: Console>(
     requires room { LINE_LIMIT < vec_capacity line.old }
     requires reads { (C.faults console.old).reads < 2 ^ 64 - 1 }
     requires puts { (C.faults console.old).puts < 2 ^ 64 - 1 }
+    ensures ok { IfOk result (λ end. HoldsFrom prompt (seen (C.terminal console.old)
+        (C.left console.old) (C.left console.new) (C.log console.old) (C.log console.new)) end) }
+    ensures err { IfErr result (λ fault. StopsFrom prompt (seen (C.terminal console.old)
+        (C.left console.old) (C.left console.new) (C.log console.old) (C.log console.new)) fault) }
 {
     let ended = match greet(alloc, &prompt, console) {
         Ok(()) => hold(alloc, &mut prompt, line, console),
@@ -139,6 +145,7 @@ fn greet_and_hold<S: SetBoard, C: Console>(
 
 /// Reads a model and answers the lines of a console about its run over its data (docs/PROMPT.md); a
 /// refused model is told there. `Memory` where memory was refused before anything was written.
+#[tactic(auto, using(crate::proofs::Openings::none, ss_console::proofs::Parts::no_prompt))]
 pub fn open_prompt<C: Console>(
     alloc: Global,
     model: &[u8],
@@ -147,6 +154,11 @@ pub fn open_prompt<C: Console>(
 ) -> Result<PromptEnd, PromptFault>
     requires reads { (C.faults console.old).reads < 2 ^ 64 - 1 }
     requires puts { (C.faults console.old).puts < 2 ^ 64 - 1 }
+    ensures ok { IfOk result (λ end. IsHeld model.now data_text.now (seen (C.terminal console.old)
+        (C.left console.old) (C.left console.new) (C.log console.old) (C.log console.new)) end) }
+    ensures err { IfErr result (λ fault. IsStopped model.now data_text.now
+        (seen (C.terminal console.old) (C.left console.old) (C.left console.new)
+        (C.log console.old) (C.log console.new)) fault) }
 {
     let mut line = Vec::with_capacity(alloc, LINE_LIMIT + 1)?;
     let lines = source_lines(alloc, model)?;

@@ -1,4 +1,4 @@
-use Rattle.std.proofs.Common.{◌≡◌, ◌<◌, ◌++◌, ◌∷◌, [], length, map, rules, ◌∙◌, ap}
+use Rattle.std.proofs.Common.{◌<◌, length, map, rules, ◌∙◌, ap}
 use Rattle.std.proofs.lemmas.List.{map_push}
 use Rattle.ssdb.proofs.SourceLines.{line_taken, all_taken}
 use Rattle.ssdb.proofs.source.source_lines.Goals as goal

@@ -1,0 +1,84 @@
+-- Whole dialogues of their parts.
+use Rattle.std.proofs.Common.{◌≡◌, ℕ, Bool, List, [], refl, inl, inr, Option}
+use Rattle.ss_console.specs.Event.{Event, Adds, written}
+use Rattle.ss_console.specs.declared.cut.Cut.TheVariants.{Read, Write, Count}
+use Rattle.ss_machine.specs.Run.{Input, input_with, run}
+use Rattle.ss_debug.specs.Turn.{DebuggerState, initial_debugger_state}
+use Rattle.ss_debug.specs.View.{DebuggerView, debugger_state_of}
+use Rattle.ss_session.specs.Model.{IsOutcome, accepted}
+use Rattle.ss_prompt.specs.PromptState.{PromptState, prompt_state_of}
+use Rattle.ssdb.specs.declared.end.PromptEnd.{PromptEnd}
+use Rattle.ssdb.specs.declared.end.PromptFault.{PromptFault}
+use Rattle.ssdb.specs.declared.end.PromptFault.TheVariants.{Refused, Cut, Memory}
+use Rattle.ssdb.specs.Refused.{IsRefusalWritten}
+use Rattle.ssdb.specs.Seen.{Seen, seen}
+use Rattle.ssdb.specs.Source.{source_lines}
+use Rattle.ssdb.specs.Opening.{greeted, end_of_status, IsStart, EndsWell, HoldFails, HoldsFrom, StopsFrom}
+use Rattle.ssdb.specs.Opening.{GreetingFails, IsHeld, IsStopped}
+
+abbrev state_of : List (List ℕ) → Input → DebuggerState → PromptState
+state_of lines t d = record { lines = lines; input = t; debugger = d; displays = [] }
+
+same_state : (l m : List (List ℕ)) (t u : Input) (d e : DebuggerState) → l ≡ m → t ≡ u → d ≡ e →
+    state_of l t d ≡ state_of m u e
+same_state l m t u d e p q r = rw (p, q, r) refl
+
+-- a prompt over a debugger at the start of a run is at the start
+pub starts : (model data_text : List ℕ) (d : DebuggerView) (lines : List (List ℕ)) (from : PromptState) →
+    from ≡ prompt_state_of d lines [] → IsOutcome model (accepted d.machine.input.program) →
+    d.machine.input ≡ input_with d.machine.input.program data_text →
+    debugger_state_of d ≡ initial_debugger_state → lines ≡ source_lines model → IsStart model data_text from
+starts model data_text d lines from e o i s l = rw e
+    (d.machine.input.program, o, same_state lines (source_lines model) d.machine.input _ (debugger_state_of d) _ l i s)
+
+-- the parts of a dialogue
+pub holds : (from to : PromptState) (c : Seen) (told : Option (List Event)) (end : PromptEnd) →
+    Adds c.old told (written (greeted c.terminal from)) → EndsWell from to told c →
+    end ≡ end_of_status (run to.input to.debugger.position).status → HoldsFrom from c end
+holds from to c told end g a e = record { told = told; greets = g; to = to; answers = a; end_is = e }
+
+pub breaks : (from to : PromptState) (c : Seen) (told : Option (List Event)) (fault : PromptFault) →
+    Adds c.old told (written (greeted c.terminal from)) → HoldFails from to told c fault → StopsFrom from c fault
+breaks from to c told fault g a = inl (record { told = told; greets = g; to = to; answers = a })
+
+-- what cuts a dialogue short does not depend on what had happened before the greeting
+fails_behind : (from to : PromptState) (t : Bool) (b a : Option (List (List ℕ))) (o m n : Option (List Event))
+    (fault : PromptFault) → HoldFails from to m (seen t b a m n) fault → HoldFails from to m (seen t b a o n) fault
+fails_behind from to t b a o m n (Cut Read) h = h
+fails_behind from to t b a o m n (Cut Write) h = h
+fails_behind from to t b a o m n (Cut Count) h = h
+fails_behind from to t b a o m n Refused h = h
+fails_behind from to t b a o m n Memory h = h
+
+-- a dialogue that was cut short behind its greeting, of which no line was read within that
+pub breaks_behind : (from to : PromptState) (t u : Bool) (b d a : Option (List (List ℕ)))
+    (o m n : Option (List Event)) (fault : PromptFault) → u ≡ t → d ≡ b → Adds o m (written (greeted t from)) →
+    HoldFails from to m (seen u d a m n) fault → StopsFrom from (seen t b a o n) fault
+breaks_behind from to t u b d a o m n fault p q g h =
+    breaks from to (seen t b a o n) m fault g
+    (fails_behind from to t b a o m n fault (rw (p, q) at h))
+
+-- a greeting that was cut short, before which no line was read
+pub greeting_stops : (from : PromptState) (c : Seen) (fault : PromptFault) →
+    GreetingFails (greeted c.terminal from) c.old c.new fault → c.after ≡ c.before → StopsFrom from c fault
+greeting_stops from c fault g l = inr (g, l)
+
+-- a dialogue over a model
+pub held : (model data_text : List ℕ) (from : PromptState) (c : Seen) (end : PromptEnd) → IsStart model data_text from →
+    HoldsFrom from c end → IsHeld model data_text c end
+held model data_text from c end s h = (from, s, h)
+
+pub stopped : (model data_text : List ℕ) (from : PromptState) (c : Seen) (fault : PromptFault) →
+    IsStart model data_text from → StopsFrom from c fault → IsStopped model data_text c fault
+stopped model data_text from c fault s h = inl (from, s, h)
+
+pub refused : (model data_text : List ℕ) (c : Seen) (fault : PromptFault) → IsRefusalWritten model c fault →
+    IsStopped model data_text c fault
+refused model data_text c fault r = inr r
+
+pub out_of_memory : (model data_text : List ℕ) (c : Seen) → Adds c.old c.new [] → c.after ≡ c.before →
+    IsStopped model data_text c Memory
+out_of_memory model data_text c a l = inr (a, l)
+
+-- why there was no dialogue
+pub ruleset none = (refused, out_of_memory)
