@@ -192,8 +192,8 @@ impl<S: SetBoard> Store<S> {
         match seat_of(&self.entities, shape, number_of_value(member)) {
             None => Err(RunFault::NoEntity),
             Some(seat) => {
-                let before = self.board.prev(seat);
-                Ok(member_if(&self.numbers, before))
+                let earlier = self.board.prev(seat);
+                Ok(member_if(&self.numbers, earlier))
             }
         }
     }
@@ -210,8 +210,8 @@ impl<S: SetBoard> Store<S> {
         match seat_of(&self.entities, shape, number_of_value(member)) {
             None => Err(RunFault::NoEntity),
             Some(seat) => {
-                let next = self.board.next(seat);
-                Ok(member_if(&self.numbers, next))
+                let later = self.board.next(seat);
+                Ok(member_if(&self.numbers, later))
             }
         }
     }
