@@ -230,7 +230,7 @@ one_refusal ws _ rule.LongPictureLine l n h g = absurd g
 -- ---- words that begin with a preamble, and words that begin with none
 
 -- no sections begin with PREAMBLE
-none_begins : (s : Tree) → HasPreamble (grammar.spell s) → ⊥
+pub none_begins : (s : Tree) → HasPreamble (grammar.spell s) → ⊥
 none_begins [] h = absurd cc
 none_begins (t ∷ ts) h =
     by_head t.head (flat_map grammar.spell_define t.locals) (grammar.spell_block t.block)

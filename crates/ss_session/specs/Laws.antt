@@ -1,4 +1,5 @@
--- Laws on what models are: each has exactly one outcome, and a program is refused in one of its parts.
+-- Laws on what models are: each has exactly one outcome, a program has its spelling alone, and is refused in one of its
+-- parts.
 use Rattle.std.specs.Prelude.{◌≡◌, ◌⊎◌, ℕ, List}
 use Rattle.ss_words.specs.declared.fault.TextRule.{TextRule}
 use Rattle.ss_words.specs.Words.{WordAt}
@@ -9,7 +10,9 @@ use Rattle.ss_preamble.specs.Refused.{AreDecls}
 use Rattle.ss_preamble.specs.Refused as preamble
 use Rattle.ss_routines.specs.Refused.{words_from}
 use Rattle.ss_routines.specs.Refused as sections
-use Rattle.ss_session.specs.Refused.{IsRefused}
+use Rattle.ss_preamble.specs.Laws.{Program}
+use Rattle.ss_routines.specs.Tree.{Tree}
+use Rattle.ss_session.specs.Refused.{IsRefused, spell}
 use Rattle.ss_session.specs.Model.{Outcome, IsOutcome}
 
 -- each byte string, as a model, has an outcome
@@ -19,6 +22,10 @@ ModelHasOutcome = (model : List ℕ) → (outcome : Outcome) × IsOutcome model 
 -- and no second
 abbrev pub OutcomeIsUnique : Type 0
 OutcomeIsUnique = (model : List ℕ) (a b : Outcome) → IsOutcome model a → IsOutcome model b → a ≡ b
+
+-- no two programs, of a preamble or none and of sections, have one spelling
+abbrev pub ProgramSpellingIsUnique : Type 0
+ProgramSpellingIsUnique = (t u : Program Tree) → spell t ≡ spell u → t ≡ u
 
 -- plain words are refused in their preamble, or else in the sections behind it
 abbrev pub IsRefusedInPart : TextRule → ℕ → List PlainAt → Type 0

@@ -1,5 +1,6 @@
 //! Laws on the definitions. Each function does nothing, and its contract says the law.
 ghost use Rattle.ss_session.specs.Laws.{ModelHasOutcome, OutcomeIsUnique, ProgramIsRefusedInPart};
+ghost use Rattle.ss_session.specs.Laws.{ProgramSpellingIsUnique};
 
 /// A model has exactly one outcome: each byte string is refused by one rule at one line, or is one
 /// program.
@@ -12,4 +13,9 @@ pub fn model_has_one_outcome()
 /// is that of the preamble, or, where that is read, that of the sections behind it.
 pub fn program_is_refused_in_one_part()
     ensures { ProgramIsRefusedInPart }
+{}
+
+/// No two programs have one spelling, whether a preamble stands before their sections or none.
+pub fn program_spelling_is_unique()
+    ensures { ProgramSpellingIsUnique }
 {}
