@@ -22,25 +22,25 @@ returns-in-None g c = predecessor_none _ _ c.args.set c.index-shape.result.now c
     (let fits : FitsSigned w64 c.args.member =
     search rules in c.number_of_value.ensures ∙ ap number_of (to_z-of_z w64 _ fits))
 
-pub prev-before-requires : goal.prev-before-requires
-prev-before-requires g c = kept_seat _ _ c.args.set c.index-shape.result.now c.number_of_value.result c.in-Some.seat
+pub prev-earlier-requires : goal.prev-earlier-requires
+prev-earlier-requires g c = kept_seat _ _ c.args.set c.index-shape.result.now c.number_of_value.result c.in-Some.seat
     (case_of _ _ c.args.set c.index-shape.result.now c.self.view_is c.self.invariant.2 c.requires c.index-shape.ensures)
     (sym c.seat_of.ensures ∙ c.in-Some.is)
 
 pub member_if-requires : goal.member_if-requires
 member_if-requires g c x e =
     let b = predecessor_below _ _ c.args.set c.index-shape.result.now c.number_of_value.result c.in-Some.seat
-    c.prev-before.result
+    c.prev-earlier.result
     (case_of _ _ c.args.set c.index-shape.result.now c.self.view_is c.self.invariant.2 c.requires
-    c.index-shape.ensures) (sym c.seat_of.ensures ∙ c.in-Some.is) c.prev-before.ensures.value x e in
+    c.index-shape.ensures) (sym c.seat_of.ensures ∙ c.in-Some.is) c.prev-earlier.ensures.value x e in
     let is = ap (length {A = ℕ}) c.deref.ensures.value in omega (arith, b, is)
 
 pub returns-in-Some : goal.returns-in-Some
 returns-in-Some g c = predecessor_is _ _ c.args.set c.index-shape.result.now c.number_of_value.result c.in-Some.seat
-    c.prev-before.result c.member_if.result (case_of _ _ c.args.set c.index-shape.result.now c.self.view_is
+    c.prev-earlier.result c.member_if.result (case_of _ _ c.args.set c.index-shape.result.now c.self.view_is
     c.self.invariant.2 c.requires c.index-shape.ensures) (sym c.seat_of.ensures
-    ∙ c.in-Some.is) c.prev-before.ensures.value (c.member_if.ensures
-    ∙ ap (λ z. option_map (number_at z) c.prev-before.result) c.deref.ensures.value)
+    ∙ c.in-Some.is) c.prev-earlier.ensures.value (c.member_if.ensures
+    ∙ ap (λ z. option_map (number_at z) c.prev-earlier.result) c.deref.ensures.value)
     ∙ ap (predecessor (set_of c.args.self.now.tables c.args.set) c.args.self.now.state)
     (let fits : FitsSigned w64 c.args.member = search rules in
     c.number_of_value.ensures ∙ ap number_of (to_z-of_z w64 _ fits))

@@ -22,25 +22,25 @@ returns-in-None g c = successor_none _ _ c.args.set c.index-shape.result.now c.n
     (let fits : FitsSigned w64 c.args.member =
     search rules in c.number_of_value.ensures ∙ ap number_of (to_z-of_z w64 _ fits))
 
-pub next-next-requires : goal.next-next-requires
-next-next-requires g c = kept_seat _ _ c.args.set c.index-shape.result.now c.number_of_value.result c.in-Some.seat
+pub next-later-requires : goal.next-later-requires
+next-later-requires g c = kept_seat _ _ c.args.set c.index-shape.result.now c.number_of_value.result c.in-Some.seat
     (case_of _ _ c.args.set c.index-shape.result.now c.self.view_is c.self.invariant.2 c.requires c.index-shape.ensures)
     (sym c.seat_of.ensures ∙ c.in-Some.is)
 
 pub member_if-requires : goal.member_if-requires
 member_if-requires g c x e =
     let b = successor_below _ _ c.args.set c.index-shape.result.now c.number_of_value.result c.in-Some.seat
-    c.next-next.result
+    c.next-later.result
     (case_of _ _ c.args.set c.index-shape.result.now c.self.view_is c.self.invariant.2 c.requires
-    c.index-shape.ensures) (sym c.seat_of.ensures ∙ c.in-Some.is) c.next-next.ensures.value x e in
+    c.index-shape.ensures) (sym c.seat_of.ensures ∙ c.in-Some.is) c.next-later.ensures.value x e in
     let is = ap (length {A = ℕ}) c.deref.ensures.value in omega (arith, b, is)
 
 pub returns-in-Some : goal.returns-in-Some
 returns-in-Some g c = successor_is _ _ c.args.set c.index-shape.result.now c.number_of_value.result c.in-Some.seat
-    c.next-next.result c.member_if.result (case_of _ _ c.args.set c.index-shape.result.now c.self.view_is
+    c.next-later.result c.member_if.result (case_of _ _ c.args.set c.index-shape.result.now c.self.view_is
     c.self.invariant.2 c.requires c.index-shape.ensures) (sym c.seat_of.ensures
-    ∙ c.in-Some.is) c.next-next.ensures.value (c.member_if.ensures
-    ∙ ap (λ z. option_map (number_at z) c.next-next.result) c.deref.ensures.value)
+    ∙ c.in-Some.is) c.next-later.ensures.value (c.member_if.ensures
+    ∙ ap (λ z. option_map (number_at z) c.next-later.result) c.deref.ensures.value)
     ∙ ap (successor (set_of c.args.self.now.tables c.args.set) c.args.self.now.state)
     (let fits : FitsSigned w64 c.args.member = search rules in
     c.number_of_value.ensures ∙ ap number_of (to_z-of_z w64 _ fits))
