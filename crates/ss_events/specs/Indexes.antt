@@ -18,7 +18,8 @@ abbrev pub IsOfClass : List Rule → Pending → Type 0
 IsOfClass rules e = (is_event_class rules e.class ≡ true) × (length e.keys ≡ length (rule_at rules e.class).ties)
 
 -- a notice and that of a seat can be compared: both are of event classes, with a key for each of their class's
-pub record IsComparable (rules : List Rule) (es : List Pending) (notices : List ℕ) (e : Pending) (seat : ℕ) : Type 0 where
+pub record IsComparable (rules : List Rule) (es : List Pending) (notices : List ℕ) (e : Pending)
+    (seat : ℕ) : Type 0 where
   -- no two classes have one place in the order of priority
   pub ranked : AreRanked rules
   -- the notice is of its class

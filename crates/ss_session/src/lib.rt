@@ -12,9 +12,7 @@ mod turns;
 mod whole;
 
 pub use ending::{End, SessionFault, exit_status};
-pub use laws::{
-    model_has_one_outcome, program_is_refused_in_one_part, program_spelling_is_unique,
-};
+pub use laws::{model_has_one_outcome, program_is_refused_in_one_part, program_spelling_is_unique};
 pub use load::{LoadFault, load_program};
 pub use outlet::{MemoryOutlet, Outlet, PutFault, put_all};
 pub use refusal::refusal_text;
