@@ -1,8 +1,7 @@
 -- A program has its spelling alone.
-use Rattle.std.proofs.Common.{◌≡◌, ◌++◌, Option, Some, None, refl, sym, ap, subst}
+use Rattle.std.proofs.Common.{◌≡◌, ◌++◌, Option, Some, None, sym, ap}
 use Rattle.ss_preamble.specs.Tree.{Preamble}
 use Rattle.ss_preamble.specs.Laws.{Program, spell_head}
-use Rattle.ss_preamble.specs.Refused.{HasPreamble}
 use Rattle.ss_preamble.proofs.Unique.{one_head, has_preamble}
 use Rattle.ss_routines.specs.Tree.{Tree}
 use Rattle.ss_routines.specs.Tree as grammar
