@@ -6,6 +6,7 @@ pub mod Notings
 pub mod Written
 pub mod Histories
 pub mod Sounds
+pub mod Rooms
 pub mod Scopes
 pub mod Returns
 pub mod Ranges

@@ -39,6 +39,18 @@ notes_none n h k j e = record {
   room = omega arith;
 }
 
+-- room was made, and nothing noted
+pub noted_room : (n : ℕ) (h : Held) (i j : Log Change) → j.steps ≡ i.steps → j.current ≡ i.current →
+    i.notes ≤ j.notes → i.closes ≤ j.closes → WorkKeepsOrigin Fits unapply n h i h j
+noted_room n h i j steps current notes closes = record {
+  origin = ap (λ (cs : List Change). unapply_all unapply cs h) current;
+  fitting = λ f. subst (λ (cs : List Change). FitsAll Fits unapply cs h) (sym current) f;
+  steps = steps;
+  closes = closes;
+  noted = omega (arith, ap length current);
+  room = omega (arith, notes);
+}
+
 -- one change was noted
 pub noted_one : (c : Change) (h k : Held) (i j : Log Change) → Fits c k → unapply c k ≡ h → j.steps ≡ i.steps →
     j.current ≡ c ∷ i.current → i.notes ≤ j.notes + 1 → j.closes ≡ i.closes → WorkKeepsOrigin Fits unapply 1 h i k j

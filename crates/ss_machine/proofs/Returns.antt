@@ -1,9 +1,9 @@
 -- the frame to which a RETURN comes back
-use Rattle.std.proofs.Common.{◌≡◌, List, [], ◌∷◌, length, None, subst, refl}
+use Rattle.std.proofs.Common.{◌≡◌, List, length, subst, refl}
 use Rattle.ss_program.specs.Program.{ProgramTable}
 use Rattle.ss_machine.specs.State.{State, FrameState}
 use Rattle.ss_machine.specs.Well.{IsInBounds, IsWellFrame, AreWellFrames}
-use Rattle.ss_machine.specs.Dropping.{HasDropped, caller_place}
+use Rattle.ss_machine.specs.Dropping.{HasDropped}
 use Rattle.ss_machine.specs.Moment.{yield_count, place_targets}
 
 -- it is well-formed
@@ -16,8 +16,3 @@ caller_variables p s t w d = rw d.rest w.variables
 
 pub caller_yield : (p : ProgramTable) (s t : State) → HasDropped s t → yield_count p s.below ≡ place_targets p t
 caller_yield p s t d = rw d.below refl
-
--- no frame below yields nothing
-pub caller_none : (p : ProgramTable) (fs : List FrameState) → caller_place fs ≡ None → yield_count p fs ≡ 0
-caller_none p [] e = refl
-caller_none p (f ∷ fs) e = cc

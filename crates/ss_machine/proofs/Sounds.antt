@@ -20,7 +20,8 @@ use Rattle.ss_program.specs.ProgramSound.{AreSoundPlaces, IsEnded, LeadsOn, IsCa
 use Rattle.ss_program.specs.ProgramSound.{AreLinkedSections, IsTimed, AreTimed, IsEventClass, IsSoundClass}
 use Rattle.ss_program.specs.ProgramSound.{IsSoundEvent, IsSoundKind, HasSoundTables, loop_limit, parameter_limit}
 use Rattle.ss_program.specs.ProgramSound.{attribute_limit}
-use Rattle.ss_machine.specs.Moment.{call_targets}
+use Rattle.ss_machine.specs.State.{FrameState}
+use Rattle.ss_machine.specs.Moment.{call_targets, call_targets_by, yield_count}
 
 -- what stands at a place of a list that is long enough
 pub there : {A : Type 0} (xs : List A) (i : ℕ) → i < length xs → (x : A) × (slice_get xs i ≡ Some x)
@@ -205,6 +206,16 @@ few_targets p i j spot sound e =
     few_targets_of p (length (places_of (slice_get p.sections i)))
     (ways_of (places_of (slice_get p.sections i)) j spot.place) spot.place sound
     (spot_linked p i j spot sound e).leads
+
+few_targets_by : (p : ProgramTable) (i j : ℕ) (o : Option Spot) → IsSound p → spot_at p i j ≡ o →
+    call_targets_by o ≤ parameter_limit
+few_targets_by p i j None sound e = omega arith
+few_targets_by p i j (Some spot) sound e = few_targets p i j spot sound e
+
+-- few values come back to the frame below
+pub few_yielded : (p : ProgramTable) (fs : List FrameState) → IsSound p → yield_count p fs ≤ parameter_limit
+few_yielded p [] sound = omega arith
+few_yielded p (f ∷ fs) sound = few_targets_by p f.section f.place (spot_at p f.section f.place) sound refl
 
 -- and FIND closes few loops
 pub chain_at : (p : ProgramTable) (i j : ℕ) (spot : Spot) → IsSound p → spot_at p i j ≡ Some spot →

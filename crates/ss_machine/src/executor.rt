@@ -22,9 +22,9 @@ ghost use Rattle.ss_machine.specs.Run.{start};
 ghost use Rattle.ss_machine.specs.Well.{IsInBounds};
 
 use crate::history::History;
+use crate::limits::MOST_STEP_CHANGES;
 use crate::state::State;
-use crate::statements::looping::most_looping_changes;
-use crate::statements::timing::most_timing_changes;
+use crate::statements::looping::looping_room;
 use crate::status::Status;
 use ss_data::Feed;
 use ss_journal::Undo;
@@ -287,41 +287,64 @@ impl<S: SetBoard> Executor<S> {
         }
     }
 
-    /// Runs the place where the state stands. After an error the changes made so far stand in the
-    /// open step.
+    /// Runs the place where the state stands, once there is room for its changes. After an error the
+    /// changes made so far stand in the open step.
     #[inline(always)]
     pub fn run(&mut self, program: &Program) -> Result<(), AllocError>
         requires well { IsInBounds program.now self.old.held.state }
         requires tables { self.old.held.beside.tables ≡ tables_of program.now }
         requires rules { self.old.held.beside.rules ≡ rules_of program.now }
         requires none { self.old.journal.current ≡ [] }
-        requires room { change_bound program.now self.old.held.state ≤ self.old.journal.notes }
         ensures state { OnOk result (self.new.held.state ≡ step program.now self.old.held.state) }
         ensures notes { Notes (change_bound program.now self.old.held.state) self.old self.new }
+        ensures closes { OnOk result (0 < self.new.journal.closes) }
     {
         program.known();
         let (section, place) = self.held.place();
         let spot = program.spot(section, place);
         let ways = ways_at(program, section, place, spot);
+        self.make_room(program, ways, &spot.place)?;
         self.run_place(program, ways, &spot.place)
     }
 
-    /// The most changes that the next step notes.
-    pub fn change_bound(&self, program: &Program) -> usize
-        requires well { IsInBounds program.now self.now.held.state }
-        ensures { result ≡ change_bound program.now self.now.held.state }
+    /// Makes room for the changes of a place's step, and for a close.
+    #[inline(always)]
+    fn make_room(&mut self, program: &Program, ways: Ways, place: &Place) -> Result<(), AllocError>
+        requires timed { IsTimed program.now
+            (section_of program.now self.old.held.state.frame.section) place.now }
+        requires few { ways.chain ≤ loop_limit }
+        ensures held { self.new.held ≡ self.old.held }
+        ensures current { self.new.journal.current ≡ self.old.journal.current }
+        ensures notes { Notes 0 self.old self.new }
+        ensures room { OnOk result (most_changes program.now self.old.held.state ways place.now
+            ≤ self.new.journal.notes) }
+        ensures closes { OnOk result (0 < self.new.journal.closes) }
+    {
+        let room = self.room_asked(program, ways, place);
+        self.journal.reserve(room)
+    }
+
+    /// For how many changes a place asks for room; it notes no more. All ask for the same but those
+    /// whose targets may be more.
+    #[inline(always)]
+    fn room_asked(&self, program: &Program, ways: Ways, place: &Place) -> usize
+        requires timed { IsTimed program.now
+            (section_of program.now self.now.held.state.frame.section) place.now }
+        requires few { ways.chain ≤ loop_limit }
+        ensures { most_changes program.now self.now.held.state ways place.now ≤ result }
     {
         program.known();
-        let (section, place) = self.held.place();
-        let spot = program.spot(section, place);
-        let ways = ways_at(program, section, place, spot);
-        match &spot.place {
-            Place::Assign(_) | Place::Output(_) => 2,
-            Place::Making(_) | Place::Filing(_) => 3,
-            Place::Control(_) => 3 + self.yield_count(program),
-            Place::Branch(_) | Place::Call(_) => 1,
-            Place::Looping(looping) => most_looping_changes(ways, looping),
-            Place::Timing(timing) => most_timing_changes(timing.value()),
+        match place {
+            Place::Assign(_)
+            | Place::Making(_)
+            | Place::Filing(_)
+            | Place::Output(_)
+            | Place::Branch(_)
+            | Place::Call(_) => MOST_STEP_CHANGES,
+            // Few values come back from a section, and a notice has few attributes.
+            Place::Control(_) => MOST_STEP_CHANGES,
+            Place::Timing(_) => MOST_STEP_CHANGES,
+            Place::Looping(looping) => looping_room(ways, looping),
             Place::Read(targets) => 2 + targets.list.len(),
         }
     }

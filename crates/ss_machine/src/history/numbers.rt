@@ -81,11 +81,7 @@ impl Numbers {
         ensures notes { self.old.notes ≤ self.new.notes + 1 }
         ensures closes { self.new.closes ≡ self.old.closes }
     {
-        if number < GROUP {
-            self.bytes.note(number as u8);
-        } else {
-            put(&mut self.bytes, number);
-        }
+        write(&mut self.bytes, number);
     }
 
     /// Makes the open step the newest closed one, and opens an empty step. It uses up the room of
@@ -190,9 +186,10 @@ impl Numbers {
     }
 }
 
-/// Writes a number as the newest one: first what is above its lowest group, then that.
-#[inline(never)]
-fn put(bytes: &mut ByteJournal, number: u64)
+/// Writes a number as the newest one.
+#[cycle(put)]
+#[inline(always)]
+fn write(bytes: &mut ByteJournal, number: u64)
     requires some { 0 < bytes.old.notes }
     requires enough { number < 128 ^ bytes.old.notes }
     ensures steps { bytes.new.steps ≡ bytes.old.steps }
@@ -203,9 +200,30 @@ fn put(bytes: &mut ByteJournal, number: u64)
     if number < GROUP {
         bytes.note(number as u8);
     } else {
-        put(bytes, number / GROUP);
-        bytes.note((GROUP + number % GROUP) as u8);
+        put(bytes, number);
     }
+}
+
+/// Writes a number that takes more than one byte: first what is above its two lowest groups, if
+/// anything is, then these.
+#[cycle(put)]
+#[inline(never)]
+fn put(bytes: &mut ByteJournal, number: u64)
+    requires great { 128 ≤ number }
+    requires enough { number < 128 ^ bytes.old.notes }
+    ensures steps { bytes.new.steps ≡ bytes.old.steps }
+    ensures current { numbers_of bytes.new.current ≡ number ∷ numbers_of bytes.old.current }
+    ensures notes { (k : ℕ) → 0 < k → number < 128 ^ k → bytes.old.notes ≤ bytes.new.notes + k }
+    ensures closes { bytes.new.closes ≡ bytes.old.closes }
+{
+    let higher = number / GROUP;
+    if higher < GROUP {
+        bytes.note(higher as u8);
+    } else {
+        write(bytes, higher / GROUP);
+        bytes.note((GROUP + higher % GROUP) as u8);
+    }
+    bytes.note((GROUP + number % GROUP) as u8);
 }
 
 /// Takes the newest number off; 0 where there is none.

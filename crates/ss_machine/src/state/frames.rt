@@ -1,7 +1,7 @@
 //! The frames of a state: where the last one stands, its loops, and those below it.
 ghost use Rattle.std.specs.Prelude.{◌≡◌, ◌<◌, ◌≤◌, ◌∷◌, [], length, drop, OnOk, IfOk, OnErr, ◌++◌, MatchOption};
 ghost use Rattle.ss_machine.specs.Change.{Fits, unapply};
-ghost use Rattle.ss_machine.specs.Dropping.{HasDropped, caller_place};
+ghost use Rattle.ss_machine.specs.Dropping.{HasDropped};
 ghost use Rattle.ss_machine.specs.Loops.{innermost, loops_with_candidate, loop_of_phrase};
 ghost use Rattle.ss_machine.specs.Statements.{state_at_place};
 ghost use Rattle.ss_machine.specs.Statements.Looping.{state_with_loops, state_with_found, state_with_statistics};
@@ -62,19 +62,6 @@ impl<S: SetBoard> State<S> {
         ensures { result ≡ length self.now.state.below }
     {
         self.below.len()
-    }
-
-    /// The section of the nearest frame below the last one, and the place where it stands.
-    pub fn caller(&self) -> Option<(usize, usize)>
-        ensures { result ≡ caller_place self.now.state.below }
-    {
-        match self.below.last() {
-            None => None,
-            Some(below) => {
-                let frame = &below.frame;
-                Some((frame.section, frame.place))
-            }
-        }
     }
 
     /// The last frame goes to another place.

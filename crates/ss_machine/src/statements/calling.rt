@@ -1,5 +1,5 @@
 //! CALL, RETURN, END and STOP.
-ghost use Rattle.std.specs.Prelude.{◌≡◌, ◌+◌, ◌<◌, ◌≤◌, ◌^◌, [], length, slice_get, OnOk, IfErr, OnErr};
+ghost use Rattle.std.specs.Prelude.{◌≡◌, ◌+◌, ◌<◌, ◌≤◌, [], length, slice_get, OnOk, IfErr, OnErr};
 ghost use Rattle.ss_program.specs.Program.{section_of, spot_at};
 ghost use Rattle.ss_program.specs.ProgramSound.{IsSoundPlace, AreSoundExprs, IsCalledBy, parameter_limit};
 ghost use Rattle.ss_store.specs.Tables.{tables_of};
@@ -236,19 +236,6 @@ impl<S: SetBoard> Executor<S> {
             }
         }
     }
-
-    /// How many values come back from the last frame.
-    #[tactic(auto, using(crate::proofs::Returns::caller_none))]
-    pub fn yield_count(&self, program: &Program) -> usize
-        requires well { IsInBounds program.now self.now.held.state }
-        ensures count { result ≡ yield_count program.now self.now.held.state.below }
-        ensures small { result < 2 ^ 63 }
-    {
-        let Some((section, place)) = self.held.caller() else {
-            return 0;
-        };
-        call_targets(&program.spot(section, place).place)
-    }
 }
 
 /// What a section is, and how many values it is given.
@@ -256,14 +243,4 @@ fn ending(section: &Section) -> (SectionKind, usize)
     ensures { result ≡ (section.now.kind, section.now.given) }
 {
     (section.kind, section.given)
-}
-
-fn call_targets(place: &Place) -> usize
-    ensures count { result ≡ changes.call_targets place.now }
-    ensures small { result < 2 ^ 63 }
-{
-    match place {
-        Place::Call(call) => call.value().targets.list.len(),
-        _ => 0,
-    }
 }

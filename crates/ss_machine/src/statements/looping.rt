@@ -17,6 +17,7 @@ ghost use Rattle.ss_machine.specs.Statements.Looping.{state_after_telling, stati
 ghost use Rattle.ss_machine.specs.View.{as_verdict};
 
 use crate::executor::Executor;
+use crate::limits::MOST_STEP_CHANGES;
 use crate::state::loops::OpenLoop;
 use crate::state::statistics::{Statistics, no_statistics, statistic_value, statistics_with};
 use crate::statements::looping::candidates::{
@@ -301,15 +302,14 @@ impl<S: SetBoard> Executor<S> {
     }
 }
 
-pub fn most_looping_changes(ways: Ways, looping: &Looping) -> usize
+/// For how many changes LOOP, FIND, COMPUTE and a FOR phrase ask for room: they note no more.
+#[inline(always)]
+pub fn looping_room(ways: Ways, looping: &Looping) -> usize
     requires { ways.chain ≤ loop_limit }
-    ensures { result ≡ changes.most_looping_changes ways looping.now }
+    ensures { changes.most_looping_changes ways looping.now ≤ result }
 {
     match looping {
-        Looping::For(_) => 4,
-        Looping::Loop => 1,
-        Looping::Find => 2 + ways.chain,
-        Looping::Gather(_) => 2,
+        Looping::For(_) | Looping::Loop | Looping::Find | Looping::Gather(_) => MOST_STEP_CHANGES,
         Looping::Tell(tellings) => 1 + tellings.list.len(),
     }
 }

@@ -302,14 +302,3 @@ pub fn event_class(program: &Program, class: usize) -> &EventClass
         _ => unreachable!(),
     }
 }
-
-/// The most changes that a statement on event notices notes.
-pub fn most_timing_changes(timing: &Timing) -> usize
-    ensures { result ≡ changes.most_timing_changes timing.now }
-{
-    match timing {
-        Timing::Schedule(schedule) => 4 + schedule.arguments.list.len(),
-        Timing::Cancel { .. } => 2,
-        Timing::Start => 6,
-    }
-}

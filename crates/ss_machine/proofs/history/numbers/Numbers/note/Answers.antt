@@ -2,11 +2,11 @@ use Rattle.std.proofs.Common.{arith}
 use Rattle.ss_machine.proofs.Written.{ten_bytes}
 use Rattle.ss_machine.proofs.history.numbers.Numbers.note.Goals as goal
 
-pub put-requires-clause-enough : goal.put-requires-clause-enough
-put-requires-clause-enough c =
+pub write-requires-clause-enough : goal.write-requires-clause-enough
+write-requires-clause-enough c =
     ten_bytes c.args.number c.self.inside.bytes.notes (omega arith)
     (omega (arith, rw (← c.self.view_is) at c.requires))
 
-pub returns-else-number-lt-GROUP-clause-notes : goal.returns-else-number-lt-GROUP-clause-notes
-returns-else-number-lt-GROUP-clause-notes c =
-    rw (← c.self.view_is) (omega (arith, c.put.ensures.notes 10 (omega arith) (omega arith)))
+pub returns-clause-notes : goal.returns-clause-notes
+returns-clause-notes c =
+    rw (← c.self.view_is) (omega (arith, c.write.ensures.notes 10 (omega arith) (omega arith)))
