@@ -3,6 +3,7 @@ pub mod Parts
 pub mod FirstLine
 pub mod LineStates
 pub mod Refusals
+pub mod Spellings
 pub mod Loads
 pub mod Outcomes
 pub mod Ends
