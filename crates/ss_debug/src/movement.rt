@@ -70,22 +70,25 @@ fn is_behind_start<S: SetBoard>(machine: &Machine<S>, before: usize) -> bool
     runs_event(machine) && before < machine.frames()
 }
 
-/// Whether the machine stands at what a movement looks for: at a break line, or behind an event
-/// start; `before` tells how many frames stood before the last step.
-pub fn is_met<S: SetBoard>(
+/// Whether the machine stands behind position `from` at what a movement looks for: at a break line,
+/// or behind an event start; `before` tells how many frames stood before the last step, if there was
+/// one.
+pub fn has_met<S: SetBoard>(
     machine: &Machine<S>,
     breaks: &BreakLines,
     target: Target,
+    from: u64,
     before: usize,
 ) -> bool
-    requires some { 0 < position machine.now }
-    requires before { before ≡ frames_before machine.now.input (position machine.now) }
-    ensures { result ≡ target_test machine.now.input breaks.now target (position machine.now) }
+    requires { from < position machine.now
+        → before ≡ frames_before machine.now.input (position machine.now) }
+    ensures { result ≡ (nat_lt from (position machine.now)
+        && target_test machine.now.input breaks.now target (position machine.now)) }
 {
     match target {
         Target::Nothing => false,
-        Target::BreakLine => stands_on_break(machine, breaks),
-        Target::EventStart => is_behind_start(machine, before),
+        Target::BreakLine => stands_on_break(machine, breaks) && from < machine.position(),
+        Target::EventStart => from < machine.position() && is_behind_start(machine, before),
     }
 }
 
@@ -105,7 +108,7 @@ fn is_at_stop<S: SetBoard>(
 {
     !is_ready_now(machine)
         || has_come(machine, condition.time)
-        || (from < machine.position() && is_met(machine, breaks, condition.target, before))
+        || has_met(machine, breaks, condition.target, from, before)
 }
 
 /// One step from a state that is ready and not the last. Tells how many frames stood before it.

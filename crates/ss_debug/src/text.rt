@@ -12,7 +12,7 @@ ghost use Rattle.ss_debug.specs.Position.{frames_before};
 ghost use Rattle.ss_debug.specs.View.{condition_of, target_word, target_bound_word};
 
 use crate::break_lines::BreakLines;
-use crate::movement::{has_come, is_met, is_ready_now, present_line, stands_on_break};
+use crate::movement::{has_come, has_met, is_ready_now, present_line, stands_on_break};
 use crate::name::Name;
 use crate::stop_condition::{StopCondition, Target};
 use itoa::Buffer;
@@ -151,7 +151,7 @@ pub fn forward_word<S: SetBoard>(
     if has_come(machine, condition.time) {
         return b"TIME";
     }
-    if from < machine.position() && is_met(machine, breaks, condition.target, before) {
+    if has_met(machine, breaks, condition.target, from, before) {
         return target_word(condition.target);
     }
     if machine.position() - from == bound {
