@@ -3,61 +3,82 @@ use crate::{checked, items, pieces, places, plain, raw, sections};
 use ss_words::TextFault;
 use std::alloc::{AllocError, Global};
 
-/// What a noted text gives, read in a way.
-pub fn answer(alloc: Global, way: &str, noted: &str) -> Result<Vec<u8>, AllocError> {
-    if way == "EXAMPLE" {
-        return example(alloc, &text_of(alloc, noted, Repeats::BehindBlank)?);
-    }
-    let text = text_of(alloc, noted, Repeats::BehindColon)?;
-    let given = match way {
-        "WORDS" => raw::written(alloc, &text),
-        "COUNT" => raw::count(alloc, &text),
-        "PLAIN" => plain::written(alloc, &text),
-        "PLACED" => plain::placed(alloc, &text),
-        "LINES" => items::lines(alloc, &text),
-        "ITEMS" => items::written(alloc, &text),
-        "PROGRAM" => places::counts(alloc, &text),
-        "BEGINNINGS" => return beginnings(alloc, &text),
-        "SECTIONS" => sections::written(alloc, &text),
-        "BODY" => sections::body(alloc, &text),
-        "SIZES" => sections::counts(alloc, &text),
-        "PIECES" => return pieces::refusals(alloc, &text),
-        "CHECK" => return checked::outcome(alloc, &text),
-        "LOCAL" => return checked::local(alloc, &text),
-        "PLACES" => return checked::places(alloc, &text),
-        _ => Ok(Vec::from_slice(alloc, b"no such way")?),
+// What is written is lent to each function below, and what a text spells to those that write it: an
+// owner that may end early costs the proof the end of all that it holds.
+
+/// Puts what a noted text gives, read in a way.
+pub fn put_answer(
+    alloc: Global,
+    out: &mut Vec<u8>,
+    way: &str,
+    noted: &str,
+) -> Result<(), AllocError> {
+    let repeats = match way {
+        "EXAMPLE" => Repeats::BehindBlank,
+        _ => Repeats::BehindColon,
     };
-    or_refusal(alloc, given)
+    let text = text_of(alloc, noted, repeats)?;
+    let put = put_given(alloc, out, way, &text);
+    drop(text);
+    put
 }
 
-/// What is given, or the rule and the line of the refusal.
-pub fn or_refusal(alloc: Global, given: Result<Vec<u8>, TextFault>) -> Result<Vec<u8>, AllocError> {
-    match given {
-        Ok(given) => Ok(given),
+/// The same of a text as it is.
+fn put_given(alloc: Global, out: &mut Vec<u8>, way: &str, text: &[u8]) -> Result<(), AllocError> {
+    let put = match way {
+        "EXAMPLE" => return put_example(alloc, out, text),
+        "WORDS" => raw::put_words(alloc, out, text),
+        "COUNT" => raw::put_count(alloc, out, text),
+        "PLAIN" => plain::put_words(alloc, out, text),
+        "PLACED" => plain::put_placed(alloc, out, text),
+        "LINES" => items::put_lines(alloc, out, text),
+        "ITEMS" => items::put_items(alloc, out, text),
+        "PROGRAM" => places::put_counts(alloc, out, text),
+        "BEGINNINGS" => return put_beginnings(alloc, out, text),
+        "SECTIONS" => sections::put_sections(alloc, out, text),
+        "BODY" => sections::put_body(alloc, out, text),
+        "SIZES" => sections::put_counts(alloc, out, text),
+        "PIECES" => return pieces::put_refusals(alloc, out, text),
+        "CHECK" => return checked::put_outcome(alloc, out, text),
+        "LOCAL" => return checked::put_local(alloc, out, text),
+        "PLACES" => return checked::put_places(alloc, out, text),
+        _ => Ok(out.extend_from_slice(b"no such way")?),
+    };
+    or_refusal(alloc, out, put)
+}
+
+/// Puts the rule and the line of a refusal; nothing where there is none.
+pub fn or_refusal(
+    alloc: Global,
+    out: &mut Vec<u8>,
+    put: Result<(), TextFault>,
+) -> Result<(), AllocError> {
+    match put {
+        Ok(()) => Ok(()),
         Err(TextFault::Refused { rule, line }) => {
-            let mut refusal = Vec::from_slice(alloc, rule.code().as_bytes())?;
-            put_number(alloc, &mut refusal, line)?;
-            Ok(refusal)
+            put_text(out, rule.code())?;
+            put_number(alloc, out, line)
         }
         Err(TextFault::Memory) => Err(AllocError),
     }
 }
 
-/// What a document says of a text: the rule and the line of its refusal, or that there is none.
-fn example(alloc: Global, text: &[u8]) -> Result<Vec<u8>, AllocError> {
+/// Puts what a document says of a text: the rule and the line of its refusal, or that there is none.
+fn put_example(alloc: Global, out: &mut Vec<u8>, text: &[u8]) -> Result<(), AllocError> {
     match places::counts(alloc, text) {
-        Ok(_) => Vec::from_slice(alloc, b"NO REFUSAL"),
+        Ok(_) => put_text(out, "NO REFUSAL"),
         Err(TextFault::Refused { rule, line }) => {
-            let code = rule.code();
-            Ok(format!(in alloc; "{code} LINE {line}")?.into_bytes())
+            put_text(out, rule.code())?;
+            put_text(out, " LINE")?;
+            put_number(alloc, out, line)
         }
         Err(TextFault::Memory) => Err(AllocError),
     }
 }
 
-/// A blank and a number.
+/// Puts a blank and a number.
 pub fn put_number(alloc: Global, out: &mut Vec<u8>, number: usize) -> Result<(), AllocError> {
-    out.extend_from_slice(format!(in alloc; " {number}")?.as_str().as_bytes())
+    put_string(out, format!(in alloc; " {number}")?)
 }
 
 /// Puts a text behind what is written.
@@ -65,16 +86,24 @@ pub fn put_text(out: &mut Vec<u8>, text: &str) -> Result<(), AllocError> {
     out.extend_from_slice(text.as_bytes())
 }
 
-/// What is given for each beginning of the text that ends with a line, parted by commas.
-fn beginnings(alloc: Global, text: &[u8]) -> Result<Vec<u8>, AllocError> {
-    let mut out = Vec::new(alloc);
+/// The same of a text that ends with it.
+pub fn put_string(out: &mut Vec<u8>, text: String) -> Result<(), AllocError> {
+    out.extend_from_slice(text.as_str().as_bytes())
+}
+
+/// Puts what is given for each beginning of the text that ends with a line, a comma behind each.
+fn put_beginnings(alloc: Global, out: &mut Vec<u8>, text: &[u8]) -> Result<(), AllocError> {
     for (index, byte) in text.iter().enumerate() {
         if *byte == b'\n' {
-            let beginning = &text[..index + 1];
-            let given = items::lines(alloc, beginning);
-            out.extend_from_slice(or_refusal(alloc, given)?.as_slice())?;
-            out.push(b',')?;
+            put_beginning(alloc, out, &text[..index + 1])?;
         }
     }
-    Ok(out)
+    Ok(())
+}
+
+/// Puts what is given for a beginning, and a comma.
+fn put_beginning(alloc: Global, out: &mut Vec<u8>, beginning: &[u8]) -> Result<(), AllocError> {
+    let put = items::put_lines(alloc, out, beginning);
+    or_refusal(alloc, out, put)?;
+    put_text(out, ",")
 }

@@ -1,45 +1,56 @@
-use crate::answer::put_number;
+use crate::answer::{put_number, put_string};
 use ss_preamble::{Decls, preamble};
 use ss_words::{TextFault, words};
 use std::alloc::{AllocError, Global};
 
+/// The items of a text, and the number of the first word behind the preamble.
 fn declarations(alloc: Global, text: &[u8]) -> Result<(Decls, usize), TextFault> {
-    preamble(alloc, &words(alloc, text)?)
+    let words = words(alloc, text)?;
+    let declarations = preamble(alloc, &words);
+    drop(words);
+    declarations
 }
 
-/// The line of each item, that of END or `None`, and the number of the first word behind it.
-pub fn lines(alloc: Global, text: &[u8]) -> Result<Vec<u8>, TextFault> {
+/// Puts the line of each item, that of END or `None`, and the number of the first word behind it.
+pub fn put_lines(alloc: Global, out: &mut Vec<u8>, text: &[u8]) -> Result<(), TextFault> {
     let (decls, number) = declarations(alloc, text)?;
-    let lines = lines_of(alloc, &decls, number);
+    let put = put_lines_of(alloc, out, &decls, number);
     drop(decls);
-    Ok(lines?)
+    Ok(put?)
 }
 
 /// The same of declarations and that number.
-fn lines_of(alloc: Global, decls: &Decls, number: usize) -> Result<Vec<u8>, AllocError> {
-    let mut out = Vec::new(alloc);
+fn put_lines_of(
+    alloc: Global,
+    out: &mut Vec<u8>,
+    decls: &Decls,
+    number: usize,
+) -> Result<(), AllocError> {
     for item in &decls.items {
         let line = item.line;
-        out.extend_from_slice(format!(in alloc; "{line} ")?.as_str().as_bytes())?;
+        put_string(out, format!(in alloc; "{line} ")?)?;
     }
     let end = decls.end;
-    out.extend_from_slice(format!(in alloc; "END {end:?}")?.as_str().as_bytes())?;
-    put_number(alloc, &mut out, number)?;
-    Ok(out)
+    put_string(out, format!(in alloc; "END {end:?}")?)?;
+    put_number(alloc, out, number)
 }
 
-/// The items, and the number of the first word behind the preamble.
-pub fn written(alloc: Global, text: &[u8]) -> Result<Vec<u8>, TextFault> {
+/// Puts the items, and the number of the first word behind the preamble.
+pub fn put_items(alloc: Global, out: &mut Vec<u8>, text: &[u8]) -> Result<(), TextFault> {
     let (decls, number) = declarations(alloc, text)?;
-    let items = items_of(alloc, &decls, number);
+    let put = put_items_of(alloc, out, &decls, number);
     drop(decls);
-    Ok(items?)
+    Ok(put?)
 }
 
 /// The same of declarations and that number.
-fn items_of(alloc: Global, decls: &Decls, number: usize) -> Result<Vec<u8>, AllocError> {
+fn put_items_of(
+    alloc: Global,
+    out: &mut Vec<u8>,
+    decls: &Decls,
+    number: usize,
+) -> Result<(), AllocError> {
     let items = &decls.items;
-    let mut out = format!(in alloc; "{items:?}")?.into_bytes();
-    put_number(alloc, &mut out, number)?;
-    Ok(out)
+    put_string(out, format!(in alloc; "{items:?}")?)?;
+    put_number(alloc, out, number)
 }

@@ -45,13 +45,13 @@ mod shown;
 mod turns;
 mod worked;
 
-use answer::answer;
+use answer::put_answer;
 use std::io;
 use std::io::Write;
 use std::rt::Files;
 
 /// A case: the way, the text, and the answer that it is to give.
-#[derive(Drop)]
+#[derive(Clone, Copy)]
 struct Case<'a> {
     way: &'a str,
     text: &'a str,
@@ -87,33 +87,59 @@ fn noted_case(line: &str) -> Option<Case<'_>> {
     Some(Case { way, text, wanted })
 }
 
-/// What a case gives, where it is not the answer that it is to give.
-fn wrong<R: Files + AllocGlobal + Print>(rt: &R, case: &Case<'_>) -> io::Result<Option<Vec<u8>>> {
-    let given = match case.way {
-        "WORKED" => worked::boards(rt, case.text)?,
-        "TURNS" => {
-            turns::show(rt, case.text)?;
-            Vec::new(rt.alloc())
+/// Tries the case of a line, if it has one, and says whether it has.
+fn is_tried<R: Files + AllocGlobal + Print>(rt: &R, line: &str) -> io::Result<bool> {
+    match case_of(line) {
+        Some(case) => {
+            try_case(rt, line, case)?;
+            Ok(true)
         }
-        way => answer(rt.alloc(), way, case.text)?,
-    };
-    if given.as_slice() == case.wanted.as_bytes() {
-        return Ok(None);
+        None => Ok(false),
     }
-    Ok(Some(given))
+}
+
+/// Tries the case of a line, and prints the line with what it gave, where that is another answer.
+fn try_case<R: Files + AllocGlobal + Print>(rt: &R, line: &str, case: Case<'_>) -> io::Result<()> {
+    let mut given = Vec::new(rt.alloc());
+    let tried = match put_given(rt, &mut given, case) {
+        Ok(()) => compare(rt, line, &given, case.wanted),
+        Err(error) => Err(error),
+    };
+    drop(given);
+    tried
+}
+
+/// Puts what a case gives.
+fn put_given<R: Files + AllocGlobal + Print>(
+    rt: &R,
+    given: &mut Vec<u8>,
+    case: Case<'_>,
+) -> io::Result<()> {
+    match case.way {
+        "WORKED" => worked::put_boards(rt, given, case.text),
+        "TURNS" => turns::show(rt, case.text),
+        way => Ok(put_answer(rt.alloc(), given, way, case.text)?),
+    }
+}
+
+/// Prints a line with what its case gave, where that is not what is wanted.
+fn compare<R: Print>(rt: &R, line: &str, given: &[u8], wanted: &str) -> io::Result<()> {
+    if given == wanted.as_bytes() {
+        return Ok(());
+    }
+    println!(rt; "{line}")?;
+    io::writer(rt).write_all(given)?;
+    println!(rt; "")
 }
 
 fn main(rt: HostRuntime) -> io::Result<()> {
     let mut count = 0;
     for line in rt.lines(rt.alloc()) {
         let line = line?;
-        if let Some(case) = case_of(line.as_str()) {
+        let tried = is_tried(&rt, line.as_str());
+        drop(line);
+        if tried? {
             count = usize::wrapping_add(count, 1);
-            if let Some(given) = wrong(&rt, &case)? {
-                println!(rt; "{line}")?;
-                io::writer(&rt).write_all(&given)?;
-                println!(rt; "")?;
-            }
         }
     }
     println!(rt; "{count} cases")

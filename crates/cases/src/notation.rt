@@ -22,12 +22,27 @@ impl Repeats {
 /// `{n:item}` is the item n times, with its number from 0 in place of each `#`.
 pub fn text_of(alloc: Global, noted: &str, repeats: Repeats) -> Result<Vec<u8>, AllocError> {
     let mut text = Vec::new(alloc);
+    match put_noted(alloc, &mut text, noted, repeats) {
+        Ok(()) => Ok(text),
+        Err(fault) => {
+            drop(text);
+            Err(fault)
+        }
+    }
+}
+
+fn put_noted(
+    alloc: Global,
+    text: &mut Vec<u8>,
+    noted: &str,
+    repeats: Repeats,
+) -> Result<(), AllocError> {
     for piece in noted.split('{') {
         let (repeated, plain) = piece.split_once('}').unwrap_or(("", piece));
-        put_repeated(alloc, &mut text, repeated, repeats)?;
-        put_bytes(&mut text, plain)?;
+        put_repeated(alloc, text, repeated, repeats)?;
+        put_bytes(text, plain)?;
     }
-    Ok(text)
+    Ok(())
 }
 
 /// `n:item`, or `n item`; nothing where no count stands there.
@@ -39,11 +54,25 @@ fn put_repeated(
 ) -> Result<(), AllocError> {
     let (count, item) = noted.split_once(repeats.mark()).unwrap_or(("0", noted));
     for number in 0..count.parse::<usize>().unwrap_or(0) {
-        let digits = format!(in alloc; "{number}")?;
-        let item = item.replace(alloc, '#', digits.as_str())?;
-        put_bytes(text, item.as_str())?;
+        put_numbered(alloc, text, item, number)?;
     }
     Ok(())
+}
+
+/// An item with this number in place of each `#`.
+fn put_numbered(
+    alloc: Global,
+    text: &mut Vec<u8>,
+    item: &str,
+    number: usize,
+) -> Result<(), AllocError> {
+    let digits = format!(in alloc; "{number}")?;
+    let numbered = item.replace(alloc, '#', digits.as_str());
+    drop(digits);
+    let numbered = numbered?;
+    let put = put_bytes(text, numbered.as_str());
+    drop(numbered);
+    put
 }
 
 fn put_bytes(text: &mut Vec<u8>, noted: &str) -> Result<(), AllocError> {

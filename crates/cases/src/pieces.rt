@@ -1,27 +1,26 @@
+use crate::answer::{put_number, put_string, put_text};
 use crate::sections::sections_of;
 use ss_words::{TextFault, TextRule};
 use std::alloc::{AllocError, Global};
 
-/// Of each beginning of the text that ends before a blank or a line's end, and of the whole, how
-/// many pieces it has and what it gives, if P2 does not refuse it at its last line.
-pub fn refusals(alloc: Global, text: &[u8]) -> Result<Vec<u8>, AllocError> {
-    let mut out = Vec::new(alloc);
+/// Puts, of each beginning of the text that ends before a blank or a line's end, and of the whole,
+/// how many pieces it has and what it gives, if P2 does not refuse it at its last line.
+pub fn put_refusals(alloc: Global, out: &mut Vec<u8>, text: &[u8]) -> Result<(), AllocError> {
     let mut pieces: usize = 0;
     let mut line: usize = 1;
     for (index, byte) in text.iter().enumerate() {
         if *byte == b' ' || *byte == b'\n' {
             pieces = pieces.wrapping_add(1);
-            put_other(alloc, &mut out, &text[..index], pieces, line)?;
+            put_other(alloc, out, &text[..index], pieces, line)?;
         }
         if *byte == b'\n' {
             line = line.wrapping_add(1);
         }
     }
-    put_other(alloc, &mut out, text, pieces.wrapping_add(1), line)?;
-    Ok(out)
+    put_other(alloc, out, text, pieces.wrapping_add(1), line)
 }
 
-/// The number of pieces and what the beginning gives, if that is not P2 at this line.
+/// Puts the number of pieces and what the beginning gives, if that is not P2 at this line.
 fn put_other(
     alloc: Global,
     out: &mut Vec<u8>,
@@ -29,22 +28,37 @@ fn put_other(
     pieces: usize,
     last: usize,
 ) -> Result<(), AllocError> {
-    let given = match sections_of(alloc, beginning) {
-        Ok(_) => format!(in alloc; "{pieces}:Ok")?,
+    match refusal(alloc, beginning) {
+        Ok(()) => {
+            put_pieces(alloc, out, pieces)?;
+            put_text(out, "Ok")
+        }
         Err(
             TextFault::Refused {
                 rule: TextRule::UnexpectedEnd,
                 line,
             },
-        ) if line == last => return Ok(()),
+        ) if line == last => Ok(()),
         Err(TextFault::Refused { rule, line }) => {
-            let code = rule.code();
-            format!(in alloc; "{pieces}:{code} {line}")?
+            put_pieces(alloc, out, pieces)?;
+            put_text(out, rule.code())?;
+            put_number(alloc, out, line)
         }
-        Err(TextFault::Memory) => return Err(AllocError),
-    };
-    if !out.is_empty() {
-        out.extend_from_slice(b", ")?;
+        Err(TextFault::Memory) => Err(AllocError),
     }
-    out.extend_from_slice(given.as_str().as_bytes())
+}
+
+/// With what a text is refused, if it is no sections.
+fn refusal(alloc: Global, text: &[u8]) -> Result<(), TextFault> {
+    let sections = sections_of(alloc, text)?;
+    drop(sections);
+    Ok(())
+}
+
+/// Puts the number of pieces and a colon, behind a comma where something stands before.
+fn put_pieces(alloc: Global, out: &mut Vec<u8>, pieces: usize) -> Result<(), AllocError> {
+    if !out.is_empty() {
+        put_text(out, ", ")?;
+    }
+    put_string(out, format!(in alloc; "{pieces}:")?)
 }

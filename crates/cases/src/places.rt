@@ -1,16 +1,31 @@
+use crate::answer::put_string;
 use ss_preamble::preamble;
 use ss_routines::sections;
-use ss_words::{TextFault, words};
+use ss_words::{TextFault, Words, words};
 use std::alloc::Global;
 
+/// Puts how many items the preamble has, and how many sections stand behind it.
+pub fn put_counts(alloc: Global, out: &mut Vec<u8>, text: &[u8]) -> Result<(), TextFault> {
+    let (items, count) = counts(alloc, text)?;
+    put_string(out, format!(in alloc; "{items} {count}")?)?;
+    Ok(())
+}
+
 /// How many items the preamble has, and how many sections stand behind it.
-pub fn counts(alloc: Global, text: &[u8]) -> Result<Vec<u8>, TextFault> {
+pub fn counts(alloc: Global, text: &[u8]) -> Result<(usize, usize), TextFault> {
     let words = words(alloc, text)?;
-    let (decls, number) = preamble(alloc, &words)?;
+    let counts = counts_of(alloc, &words);
+    drop(words);
+    counts
+}
+
+/// The same of the words of a text.
+fn counts_of(alloc: Global, words: &Words) -> Result<(usize, usize), TextFault> {
+    let (decls, number) = preamble(alloc, words)?;
     let items = decls.items.len();
     drop(decls);
-    let sections = sections(alloc, &words, number)?;
+    let sections = sections(alloc, words, number)?;
     let count = sections.list().len();
     drop(sections);
-    Ok(format!(in alloc; "{items} {count}")?.into_bytes())
+    Ok((items, count))
 }

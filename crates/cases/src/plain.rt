@@ -1,51 +1,84 @@
+use crate::answer::{put_string, put_text};
 use crate::raw::sign_text;
-use ss_words::{Mark, Plain, PlainWord, TextFault, plain_words, words};
+use ss_words::{Mark, Plain, PlainWord, TextFault, Words, plain_words, words};
 use std::alloc::{AllocError, Global};
 
-/// The plain words: a reserved word as its variant is called, a name and a sign as they are
+/// Whether a plain word stands behind its place.
+#[derive(Clone, Copy)]
+enum Shown {
+    Alone,
+    Placed,
+}
+
+/// Puts the plain words: a reserved word as its variant is called, a name and a sign as they are
 /// written, a picture as its bytes.
-pub fn written(alloc: Global, text: &[u8]) -> Result<Vec<u8>, TextFault> {
-    let mut out = Vec::new(alloc);
-    for word in &plain_words(alloc, &words(alloc, text)?)? {
-        if !out.is_empty() {
-            out.push(b' ')?;
-        }
-        put_word(alloc, &mut out, word.kind())?;
-    }
-    Ok(out)
+pub fn put_words(alloc: Global, out: &mut Vec<u8>, text: &[u8]) -> Result<(), TextFault> {
+    put_shown(alloc, out, text, Shown::Alone)
 }
 
 /// The same, each behind its line, a stop, and its place in the list of words.
-pub fn placed(alloc: Global, text: &[u8]) -> Result<Vec<u8>, TextFault> {
-    let mut out = Vec::new(alloc);
-    for word in &plain_words(alloc, &words(alloc, text)?)? {
+pub fn put_placed(alloc: Global, out: &mut Vec<u8>, text: &[u8]) -> Result<(), TextFault> {
+    put_shown(alloc, out, text, Shown::Placed)
+}
+
+fn put_shown(alloc: Global, out: &mut Vec<u8>, text: &[u8], shown: Shown) -> Result<(), TextFault> {
+    let words = words(alloc, text)?;
+    let put = put_plain(alloc, out, &words, shown);
+    drop(words);
+    put
+}
+
+/// The same of the words of a text.
+fn put_plain(
+    alloc: Global,
+    out: &mut Vec<u8>,
+    words: &Words,
+    shown: Shown,
+) -> Result<(), TextFault> {
+    let plain = plain_words(alloc, words)?;
+    let put = put_all(alloc, out, &plain, shown);
+    drop(plain);
+    Ok(put?)
+}
+
+fn put_all(
+    alloc: Global,
+    out: &mut Vec<u8>,
+    words: &[PlainWord<'_>],
+    shown: Shown,
+) -> Result<(), AllocError> {
+    for word in words {
         if !out.is_empty() {
             out.push(b' ')?;
         }
-        put_place(alloc, &mut out, word)?;
-        put_word(alloc, &mut out, word.kind())?;
+        put_place(alloc, out, word, shown)?;
+        put_word(alloc, out, word.kind())?;
     }
-    Ok(out)
+    Ok(())
 }
 
-fn put_place(alloc: Global, out: &mut Vec<u8>, word: &PlainWord) -> Result<(), AllocError> {
+fn put_place(
+    alloc: Global,
+    out: &mut Vec<u8>,
+    word: &PlainWord<'_>,
+    shown: Shown,
+) -> Result<(), AllocError> {
     let line = word.line();
     let index = word.index;
-    out.extend_from_slice(format!(in alloc; "{line}.{index} ")?.as_str().as_bytes())
+    match shown {
+        Shown::Alone => Ok(()),
+        Shown::Placed => put_string(out, format!(in alloc; "{line}.{index} ")?),
+    }
 }
 
-fn put_word(alloc: Global, out: &mut Vec<u8>, word: Plain) -> Result<(), AllocError> {
+fn put_word(alloc: Global, out: &mut Vec<u8>, word: Plain<'_>) -> Result<(), AllocError> {
     match word {
         Plain::Mark(Mark::Reserved(reserved)) => {
-            out.extend_from_slice(format!(in alloc; "{reserved:?}")?.as_str().as_bytes())
+            put_string(out, format!(in alloc; "{reserved:?}")?)
         }
-        Plain::Mark(Mark::Sign(sign)) => out.extend_from_slice(sign_text(sign).as_bytes()),
+        Plain::Mark(Mark::Sign(sign)) => put_text(out, sign_text(sign)),
         Plain::Name(name) => out.extend_from_slice(name.bytes()),
-        Plain::Number(number) => {
-            out.extend_from_slice(format!(in alloc; "{number}")?.as_str().as_bytes())
-        }
-        Plain::Picture(lines) => {
-            out.extend_from_slice(format!(in alloc; "{lines:?}")?.as_str().as_bytes())
-        }
+        Plain::Number(number) => put_string(out, format!(in alloc; "{number}")?),
+        Plain::Picture(lines) => put_string(out, format!(in alloc; "{lines:?}")?),
     }
 }

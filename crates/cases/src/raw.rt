@@ -1,33 +1,42 @@
+use crate::answer::{put_string, put_text};
 use ss_words::{Sign, TextFault, Word, WordKind, words};
 use std::alloc::{AllocError, Global};
 
-/// Each word behind its line and a colon; a number behind `#`, a picture's lines each between bars.
-pub fn written(alloc: Global, text: &[u8]) -> Result<Vec<u8>, TextFault> {
-    let mut out = Vec::new(alloc);
-    for word in &words(alloc, text)?.list {
+/// Puts each word behind its line and a colon; a number behind `#`, a picture's lines each between
+/// bars.
+pub fn put_words(alloc: Global, out: &mut Vec<u8>, text: &[u8]) -> Result<(), TextFault> {
+    let words = words(alloc, text)?;
+    let put = put_all(alloc, out, &words.list);
+    drop(words);
+    Ok(put?)
+}
+
+/// Puts how many words there are.
+pub fn put_count(alloc: Global, out: &mut Vec<u8>, text: &[u8]) -> Result<(), TextFault> {
+    let words = words(alloc, text)?;
+    let count = words.list.len();
+    drop(words);
+    put_string(out, format!(in alloc; "{count}")?)?;
+    Ok(())
+}
+
+fn put_all(alloc: Global, out: &mut Vec<u8>, words: &[Word]) -> Result<(), AllocError> {
+    for word in words {
         if !out.is_empty() {
             out.push(b' ')?;
         }
-        put_word(alloc, &mut out, word)?;
+        put_word(alloc, out, word)?;
     }
-    Ok(out)
-}
-
-/// How many words there are.
-pub fn count(alloc: Global, text: &[u8]) -> Result<Vec<u8>, TextFault> {
-    let count = words(alloc, text)?.list.len();
-    Ok(format!(in alloc; "{count}")?.into_bytes())
+    Ok(())
 }
 
 fn put_word(alloc: Global, out: &mut Vec<u8>, word: &Word) -> Result<(), AllocError> {
     let line = word.line;
-    out.extend_from_slice(format!(in alloc; "{line}:")?.as_str().as_bytes())?;
+    put_string(out, format!(in alloc; "{line}:")?)?;
     match &word.kind {
         WordKind::Name(name) => out.extend_from_slice(name.bytes()),
-        WordKind::Number(number) => {
-            out.extend_from_slice(format!(in alloc; "#{number}")?.as_str().as_bytes())
-        }
-        WordKind::Sign(sign) => out.extend_from_slice(sign_text(*sign).as_bytes()),
+        WordKind::Number(number) => put_string(out, format!(in alloc; "#{number}")?),
+        WordKind::Sign(sign) => put_text(out, sign_text(*sign)),
         WordKind::Picture(lines) => put_picture(out, lines),
     }
 }

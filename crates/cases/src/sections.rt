@@ -1,3 +1,4 @@
+use crate::answer::put_string;
 use crate::shown::{put_places, put_section};
 use ss_routines::{Sections, sections};
 use ss_words::{TextFault, words};
@@ -5,42 +6,53 @@ use std::alloc::{AllocError, Global};
 
 /// The sections of a text.
 pub fn sections_of(alloc: Global, text: &[u8]) -> Result<Sections, TextFault> {
-    sections(alloc, &words(alloc, text)?, 0)
+    let words = words(alloc, text)?;
+    let sections = sections(alloc, &words, 0);
+    drop(words);
+    sections
 }
 
-/// Each section, in a pair of brackets.
-pub fn written(alloc: Global, text: &[u8]) -> Result<Vec<u8>, TextFault> {
+/// Puts each section, in a pair of brackets.
+pub fn put_sections(alloc: Global, out: &mut Vec<u8>, text: &[u8]) -> Result<(), TextFault> {
     let sections = sections_of(alloc, text)?;
-    let mut out = Vec::new(alloc);
-    let put = put_sections(alloc, &mut out, &sections);
+    let put = put_all(alloc, out, &sections);
     drop(sections);
-    put?;
-    Ok(out)
+    Ok(put?)
 }
 
-/// Puts each section.
-fn put_sections(alloc: Global, out: &mut Vec<u8>, sections: &Sections) -> Result<(), AllocError> {
+fn put_all(alloc: Global, out: &mut Vec<u8>, sections: &Sections) -> Result<(), AllocError> {
     for section in sections.list() {
         put_section(alloc, out, section)?;
     }
     Ok(())
 }
 
-/// The places of MAIN but its END, where the text stands between MAIN and END.
-pub fn body(alloc: Global, text: &[u8]) -> Result<Vec<u8>, TextFault> {
+/// Puts the places of MAIN but its END, where the text stands between MAIN and END.
+pub fn put_body(alloc: Global, out: &mut Vec<u8>, text: &[u8]) -> Result<(), TextFault> {
+    let sections = sections_of_body(alloc, text)?;
+    let put = put_first(alloc, out, &sections);
+    drop(sections);
+    Ok(put?)
+}
+
+/// The sections of MAIN, a text, and END.
+fn sections_of_body(alloc: Global, text: &[u8]) -> Result<Sections, TextFault> {
+    let whole = format_body(alloc, text)?;
+    let sections = sections_of(alloc, &whole);
+    drop(whole);
+    sections
+}
+
+/// MAIN, a text, and END.
+fn format_body(alloc: Global, text: &[u8]) -> Result<Vec<u8>, AllocError> {
     let mut whole = Vec::from_slice(alloc, b"MAIN ")?;
     whole.extend_from_slice(text)?;
     whole.extend_from_slice(b"\nEND")?;
-    let sections = sections_of(alloc, &whole)?;
-    let mut out = Vec::new(alloc);
-    let put = put_body(alloc, &mut out, &sections);
-    drop(sections);
-    put?;
-    Ok(out)
+    Ok(whole)
 }
 
 /// Puts the places of the first section but its END.
-fn put_body(alloc: Global, out: &mut Vec<u8>, sections: &Sections) -> Result<(), AllocError> {
+fn put_first(alloc: Global, out: &mut Vec<u8>, sections: &Sections) -> Result<(), AllocError> {
     if let Some(section) = sections.list().first() {
         if let Some((_, places)) = section.places.split_last() {
             put_places(alloc, out, places)?;
@@ -49,14 +61,20 @@ fn put_body(alloc: Global, out: &mut Vec<u8>, sections: &Sections) -> Result<(),
     Ok(())
 }
 
-/// How many sections there are, and how many places they have.
-pub fn counts(alloc: Global, text: &[u8]) -> Result<Vec<u8>, TextFault> {
+/// Puts how many sections there are, and how many places they have.
+pub fn put_counts(alloc: Global, out: &mut Vec<u8>, text: &[u8]) -> Result<(), TextFault> {
     let sections = sections_of(alloc, text)?;
+    let (count, places) = counts(&sections);
+    drop(sections);
+    put_string(out, format!(in alloc; "{count} {places}")?)?;
+    Ok(())
+}
+
+/// How many sections there are, and how many places they have.
+fn counts(sections: &Sections) -> (usize, usize) {
     let mut places = 0;
     for section in sections.list() {
         places = usize::wrapping_add(places, section.places.len());
     }
-    let count = sections.list().len();
-    drop(sections);
-    Ok(format!(in alloc; "{count} {places}")?.into_bytes())
+    (sections.list().len(), places)
 }

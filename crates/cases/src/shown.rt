@@ -1,78 +1,120 @@
-use ss_routines::{Section, Spot};
+use crate::answer::{put_string, put_text};
+use ss_routines::{LocalNames, Section, Spot};
 use std::alloc::{AllocError, Global};
+
+/// The names that are shown as a letter, and the numbers that are shown as a digit.
+const LETTERS: &str = "A B C D E F G H I J K L M N O P Q R S T U V W X Y Z";
+
+const DIGITS: &str = "0 1 2 3 4 5 6 7 8 9";
 
 /// Puts a section: its line, what it is, its name, its local DEFINEs and its places.
 pub fn put_section(alloc: Global, out: &mut Vec<u8>, section: &Section) -> Result<(), AllocError> {
     let line = section.line;
     let kind = &section.kind;
-    let head = format!(in alloc; "[{line} {kind:?} ")?;
-    out.extend_from_slice(shown(alloc, head)?.as_str().as_bytes())?;
+    put_shown(alloc, out, format!(in alloc; "[{line} {kind:?} ")?)?;
     out.extend_from_slice(section.name.bytes())?;
     for local in &section.locals {
-        let line = local.line;
-        let names = &local.names;
-        let local = format!(in alloc; " ({line} {names:?})")?;
-        out.extend_from_slice(shown(alloc, local)?.as_str().as_bytes())?;
+        put_local(alloc, out, local)?;
     }
-    out.extend_from_slice(b": ")?;
+    put_text(out, ": ")?;
     put_places(alloc, out, &section.places)?;
-    out.extend_from_slice(b"]")
+    put_text(out, "]")
+}
+
+fn put_local(alloc: Global, out: &mut Vec<u8>, local: &LocalNames) -> Result<(), AllocError> {
+    let line = local.line;
+    let names = &local.names;
+    put_shown(alloc, out, format!(in alloc; " ({line} {names:?})")?)
 }
 
 /// Puts places, each behind its line.
 pub fn put_places(alloc: Global, out: &mut Vec<u8>, places: &[Spot]) -> Result<(), AllocError> {
     for (index, spot) in places.iter().enumerate() {
         if index > 0 {
-            out.extend_from_slice(b"; ")?;
+            put_text(out, "; ")?;
         }
-        let line = spot.line;
-        let place = &spot.place;
-        let place = format!(in alloc; "{line} {place:?}")?;
-        out.extend_from_slice(shown(alloc, place)?.as_str().as_bytes())?;
+        put_place(alloc, out, spot)?;
     }
     Ok(())
 }
 
-/// The text with each name of one letter, alone or as a reference or a value, as its letter, and
+fn put_place(alloc: Global, out: &mut Vec<u8>, spot: &Spot) -> Result<(), AllocError> {
+    let line = spot.line;
+    let place = &spot.place;
+    put_shown(alloc, out, format!(in alloc; "{line} {place:?}")?)
+}
+
+/// Puts a text with each name of one letter, alone or as a reference or a value, as its letter, and
 /// with each value of one digit as that digit.
+fn put_shown(alloc: Global, out: &mut Vec<u8>, text: String) -> Result<(), AllocError> {
+    put_string(out, shown(alloc, text)?)
+}
+
 fn shown(alloc: Global, text: String) -> Result<String, AllocError> {
     let mut text = text;
-    for code in b'A'..=b'Z' {
-        text = with_letter(alloc, text.as_str(), code)?;
+    for letter in LETTERS.split(' ') {
+        text = with_letter(alloc, text, letter)?;
     }
-    for digit in 0..10u8 {
-        text = with_digit(alloc, text.as_str(), digit)?;
+    for digit in DIGITS.split(' ') {
+        let factor = format!(in alloc; "Number({digit})");
+        text = with_value(alloc, text, factor, digit)?;
     }
     Ok(text)
 }
 
-/// The text with the name of one letter, which has this code, as its letter.
-fn with_letter(alloc: Global, text: &str, code: u8) -> Result<String, AllocError> {
-    let letter = char::from(code);
-    let letter = format!(in alloc; "{letter}")?;
-    let reference = format!(in alloc; "Reference {{ name: [{code}], subscript: None }}")?;
-    let text = text.replace(alloc, reference.as_str(), letter.as_str())?;
-    let name = format!(in alloc; "Name([{code}])")?;
-    let text = with_value(alloc, text.as_str(), name.as_str(), letter.as_str())?;
-    let name = format!(in alloc; "[{code}]")?;
-    text.replace(alloc, name.as_str(), letter.as_str())
-}
-
-/// The text with each value of this digit as that digit.
-fn with_digit(alloc: Global, text: &str, digit: u8) -> Result<String, AllocError> {
-    let number = format!(in alloc; "Number({digit})")?;
-    let digit = format!(in alloc; "{digit}")?;
-    with_value(alloc, text, number.as_str(), digit.as_str())
+/// The text with the name of one letter as this letter.
+fn with_letter(alloc: Global, text: String, letter: &str) -> Result<String, AllocError> {
+    let name = letter.as_bytes();
+    let reference = format!(in alloc; "Reference {{ name: {name:?}, subscript: None }}");
+    let text = replaced(alloc, text, reference, letter)?;
+    let text = with_value(alloc, text, format!(in alloc; "Name({name:?})"), letter)?;
+    replaced(alloc, text, format!(in alloc; "{name:?}"), letter)
 }
 
 /// The text with each value of one factor as this.
-fn with_value(alloc: Global, text: &str, factor: &str, shown: &str) -> Result<String, AllocError> {
-    let value = value(alloc, factor)?;
-    text.replace(alloc, value.as_str(), shown)
+fn with_value(
+    alloc: Global,
+    text: String,
+    factor: Result<String, AllocError>,
+    shown: &str,
+) -> Result<String, AllocError> {
+    match factor {
+        Ok(factor) => {
+            let value = value(alloc, factor.as_str());
+            drop(factor);
+            replaced(alloc, text, value, shown)
+        }
+        Err(fault) => {
+            drop(text);
+            Err(fault)
+        }
+    }
 }
 
 /// How a value of one factor is shown.
 fn value(alloc: Global, factor: &str) -> Result<String, AllocError> {
-    let term = format!(in alloc; "Term {{ first: {factor}, more: [] }}")?;
-    format!(in alloc; "Expr {{ sign: None, first: {term}, more: [] }}")
+    format!(in alloc;
+        "Expr {{ sign: None, first: Term {{ first: {factor}, more: [] }}, more: [] }}"
+    )
+}
+
+/// The text with each of these parts as another one.
+fn replaced(
+    alloc: Global,
+    text: String,
+    part: Result<String, AllocError>,
+    other: &str,
+) -> Result<String, AllocError> {
+    match part {
+        Ok(part) => {
+            let replaced = text.replace(alloc, part.as_str(), other);
+            drop(part);
+            drop(text);
+            replaced
+        }
+        Err(fault) => {
+            drop(text);
+            Err(fault)
+        }
+    }
 }

@@ -1,12 +1,14 @@
-ghost use Rattle.std.specs.Prelude.{◌≡◌};
+ghost use Rattle.std.specs.Prelude.{◌≡◌, IfOk};
 
-use crate::checked::program;
-use crate::worked::{file, file_or};
-use ss_check::Program;
+use crate::answer::{put_string, put_text};
+use crate::checked::{Refused, program};
+use crate::worked::file;
+use ss_check::{CheckFault, Program};
 use ss_data::Feed;
 use ss_debug::{Debugger, command, obey};
 use ss_links::LinkedSets;
 use ss_machine::Machine;
+use ss_words::TextFault;
 use std::alloc::{AllocError, Global};
 use std::io;
 use std::io::Write;
@@ -18,12 +20,61 @@ use std::rt::Files;
 /// debugger tells of its machine.
 pub fn show<R: Files + AllocGlobal + Print>(rt: &R, text: &str) -> io::Result<()> {
     let (name, commands) = text.split_once('|').unwrap_or((text, ""));
-    let model = file(rt, name, "sim")?;
-    let data = file_or(rt, name, "data", b"")?;
-    let feed = Feed::new(rt.alloc(), &data)?;
-    let Ok(program) = program(rt.alloc(), &model)? else {
-        return Ok(());
-    };
+    match example_program(rt, name)? {
+        Ok(program) => show_program(rt, program, name, commands),
+        Err(Refused::Text(TextFault::Memory) | Refused::Check(CheckFault::Memory)) => {
+            Err(io::Error::from(AllocError))
+        }
+        Err(_) => Ok(()),
+    }
+}
+
+/// The program of an example.
+fn example_program<R: Files + AllocGlobal>(
+    rt: &R,
+    name: &str,
+) -> io::Result<Result<Program, Refused>> {
+    let model = file(rt, name, "sim", None)?;
+    let program = program(rt.alloc(), &model);
+    drop(model);
+    Ok(program)
+}
+
+/// The data of an example, nothing where it has none.
+fn feed<R: Files + AllocGlobal>(rt: &R, name: &str) -> io::Result<Feed>
+    ensures { IfOk result (λ feed. feed.taken ≡ 0) }
+{
+    let data = file(rt, name, "data", Some(b""))?;
+    let feed = Feed::new(rt.alloc(), &data);
+    drop(data);
+    Ok(feed?)
+}
+
+/// Obeys commands over an example's program and its data.
+fn show_program<R: Files + AllocGlobal + Print>(
+    rt: &R,
+    program: Program,
+    name: &str,
+    commands: &str,
+) -> io::Result<()> {
+    match feed(rt, name) {
+        Ok(feed) => show_run(rt, program, feed, commands),
+        Err(error) => {
+            drop(program);
+            Err(error)
+        }
+    }
+}
+
+/// Obeys commands at the start of a program's run over its data.
+fn show_run<R: AllocGlobal + Print>(
+    rt: &R,
+    program: Program,
+    feed: Feed,
+    commands: &str,
+) -> io::Result<()>
+    requires { feed.taken ≡ 0 }
+{
     let mut debugger = debugger(rt.alloc(), program, feed)?;
     let shown = obey_all(rt, &mut debugger, commands);
     drop(debugger);
@@ -45,31 +96,53 @@ fn obey_all<R: AllocGlobal + Print>(
     commands: &str,
 ) -> io::Result<()> {
     for line in commands.split('|') {
-        io::writer(rt).write_all(&turn(rt.alloc(), debugger, line)?)?;
+        show_turn(rt, debugger, line)?;
     }
     Ok(())
 }
 
-/// What a line is answered.
-fn turn(
-    alloc: Global,
+/// Writes what a line is answered.
+fn show_turn<R: AllocGlobal + Print>(
+    rt: &R,
     debugger: &mut Debugger<LinkedSets>,
     line: &str,
-) -> Result<Vec<u8>, AllocError> {
-    if line == "MACHINE" {
-        return beside(alloc, debugger.machine());
-    }
-    let mut answer = Vec::new(alloc);
-    if obey(debugger, command(line.as_bytes()), &mut answer).is_err() {
-        answer.extend_from_slice(b"MEMORY\n")?;
-    }
-    Ok(answer)
+) -> io::Result<()> {
+    let mut answer = Vec::new(rt.alloc());
+    let shown = match put_turn(rt.alloc(), debugger, &mut answer, line) {
+        Ok(()) => io::writer(rt).write_all(&answer),
+        Err(fault) => Err(io::Error::from(fault)),
+    };
+    drop(answer);
+    shown
 }
 
-/// The position, how many steps are kept, and how many frames there are.
-fn beside(alloc: Global, machine: &Machine<LinkedSets>) -> Result<Vec<u8>, AllocError> {
+/// Puts what a line is answered.
+fn put_turn(
+    alloc: Global,
+    debugger: &mut Debugger<LinkedSets>,
+    answer: &mut Vec<u8>,
+    line: &str,
+) -> Result<(), AllocError> {
+    if line == "MACHINE" {
+        return put_machine(alloc, answer, debugger.machine());
+    }
+    match obey(debugger, command(line.as_bytes()), answer) {
+        Ok(_) => Ok(()),
+        Err(_) => put_text(answer, "MEMORY\n"),
+    }
+}
+
+/// Puts the position, how many steps are kept, and how many frames there are.
+fn put_machine(
+    alloc: Global,
+    answer: &mut Vec<u8>,
+    machine: &Machine<LinkedSets>,
+) -> Result<(), AllocError> {
     let position = machine.position();
     let kept = machine.kept();
     let frames = machine.frames();
-    Ok(format!(in alloc; "AT {position} KEPT {kept} FRAMES {frames}\n")?.into_bytes())
+    put_string(
+        answer,
+        format!(in alloc; "AT {position} KEPT {kept} FRAMES {frames}\n")?,
+    )
 }

@@ -1,79 +1,123 @@
 ghost use Rattle.std.specs.Prelude.{◌≡◌};
 ghost use Rattle.ss_links.specs.Board.{empty_board};
 
+use crate::answer::put_text;
 use ss_links::{LinkedSets, PlainSets, SetBoard};
 use ss_session::{MemoryOutlet, exit_status, session_over};
-use std::alloc::Global;
+use std::alloc::{AllocError, Global};
 use std::io::ErrorKind;
 use std::rt::Files;
 use std::{fs, io};
 
 /// A worked example: a model, its data and commands, and what they are to give.
-#[derive(Drop)]
-struct Example {
-    model: Vec<u8>,
-    data: Vec<u8>,
-    commands: Vec<u8>,
-    transcript: Vec<u8>,
-    status: Vec<u8>,
+#[derive(Clone, Copy)]
+struct Example<'a> {
+    model: &'a [u8],
+    data: &'a [u8],
+    commands: &'a [u8],
+    transcript: &'a [u8],
+    status: &'a [u8],
 }
 
-/// The boards over which a session of this worked example gives its transcript and its status.
-pub fn boards<R: Files + AllocGlobal>(rt: &R, name: &str) -> io::Result<Vec<u8>> {
-    let example = Example::read(rt, name)?;
-    let alloc = rt.alloc();
-    let mut boards = Vec::new(alloc);
+/// The endings of an example's files, in the order of its fields, and what stands for a file that
+/// is not there.
+const FILES: [(&str, Option<&[u8]>); 5] = [
+    ("sim", None),
+    ("data", Some(b"")),
+    ("commands", None),
+    ("transcript", None),
+    ("status", Some(b"0\n")),
+];
+
+/// Puts the boards over which a session of this worked example gives its transcript and its status.
+pub fn put_boards<R: Files + AllocGlobal>(rt: &R, out: &mut Vec<u8>, name: &str) -> io::Result<()> {
+    let files = files(rt, name)?;
+    let put = put_boards_of(rt.alloc(), out, &files);
+    drop(files);
+    Ok(put?)
+}
+
+/// The same of the files of an example.
+fn put_boards_of(alloc: Global, out: &mut Vec<u8>, files: &[Vec<u8>]) -> Result<(), AllocError> {
+    let Some(example) = example_of(files) else {
+        return Ok(());
+    };
     if example.holds_over(alloc, LinkedSets::new(alloc), LinkedSets::new(alloc)) {
-        boards.extend_from_slice(b"linked")?;
+        put_text(out, "linked")?;
     }
     if example.holds_over(alloc, PlainSets::new(alloc), PlainSets::new(alloc)) {
-        boards.extend_from_slice(b" plain")?;
+        put_text(out, " plain")?;
     }
-    Ok(boards)
+    Ok(())
 }
 
-/// The file of this name and ending.
-pub fn file<R: Files + AllocGlobal>(rt: &R, name: &str, ending: &str) -> io::Result<Vec<u8>> {
-    let path = format!(in rt.alloc(); "{name}.{ending}")?;
-    fs::read(rt, path.as_str())
+/// The files of an example.
+fn files<R: Files + AllocGlobal>(rt: &R, name: &str) -> io::Result<Vec<Vec<u8>>> {
+    let mut files = Vec::new(rt.alloc());
+    match add_files(rt, &mut files, name) {
+        Ok(()) => Ok(files),
+        Err(error) => {
+            drop(files);
+            Err(error)
+        }
+    }
+}
+
+fn add_files<R: Files + AllocGlobal>(
+    rt: &R,
+    files: &mut Vec<Vec<u8>>,
+    name: &str,
+) -> io::Result<()> {
+    for (ending, otherwise) in FILES {
+        files.push(file(rt, name, ending, otherwise)?)?;
+    }
+    Ok(())
+}
+
+/// The example with these files.
+fn example_of(files: &[Vec<u8>]) -> Option<Example<'_>> {
+    match files {
+        [model, data, commands, transcript, status] => Some(Example {
+            model,
+            data,
+            commands,
+            transcript,
+            status,
+        }),
+        _ => None,
+    }
 }
 
 /// The file of this name and ending, or these bytes where there is none.
-pub fn file_or<R: Files + AllocGlobal>(
+pub fn file<R: Files + AllocGlobal>(
     rt: &R,
     name: &str,
     ending: &str,
-    otherwise: &[u8],
+    otherwise: Option<&[u8]>,
 ) -> io::Result<Vec<u8>> {
-    match file(rt, name, ending) {
-        Err(error) if error.kind() == ErrorKind::NotFound => {
-            Ok(Vec::from_slice(rt.alloc(), otherwise)?)
+    let path = format!(in rt.alloc(); "{name}.{ending}")?;
+    let read = fs::read(rt, path.as_str());
+    drop(path);
+    match (read, otherwise) {
+        (Err(error), Some(bytes)) if error.kind() == ErrorKind::NotFound => {
+            Ok(Vec::from_slice(rt.alloc(), bytes)?)
         }
-        read => read,
+        (read, _) => read,
     }
 }
 
-impl Example {
-    /// Reads the files of an example; without data it has none, without a status it ends with 0.
-    fn read<R: Files + AllocGlobal>(rt: &R, name: &str) -> io::Result<Self> {
-        Ok(Example {
-            model: file(rt, name, "sim")?,
-            data: file_or(rt, name, "data", b"")?,
-            commands: file(rt, name, "commands")?,
-            transcript: file(rt, name, "transcript")?,
-            status: file_or(rt, name, "status", b"0\n")?,
-        })
-    }
-
+impl Example<'_> {
     /// Whether a session over these boards gives the transcript and the status.
-    fn holds_over<S: SetBoard>(&self, alloc: Global, sets: S, pending: S) -> bool
+    fn holds_over<S: SetBoard>(self, alloc: Global, sets: S, pending: S) -> bool
         requires sets { S.board sets ≡ empty_board }
         requires pending { S.board pending ≡ empty_board }
     {
         let mut out = MemoryOutlet::new(alloc);
-        let (model, data, commands) = (&self.model, &self.data, &self.commands);
+        let (model, data, commands) = (self.model, self.data, self.commands);
         let end = session_over(alloc, sets, pending, model, data, commands, &mut out);
-        out.bytes() == self.transcript.as_slice() && is_status(&self.status, exit_status(&end))
+        let gives = out.bytes() == self.transcript;
+        drop(out);
+        gives && is_status(self.status, exit_status(&end))
     }
 }
 
