@@ -1,4 +1,6 @@
-use Rattle.std.proofs.Common.{◌≡◌, ℕ, Bool, true, false, ◌&&◌, List, [], ◌∷◌, ◌++◌, map, refl, ◌∙◌, sym, ap, append_assoc, append-nil, Option, Some, None}
+-- What a dialogue writes is what the batch writes.
+use Rattle.std.proofs.Common.{◌≡◌, ℕ, Bool, true, false, ◌&&◌, List, [], ◌∷◌, ◌++◌, map, refl, ◌∙◌, sym, ap}
+use Rattle.std.proofs.Common.{append_assoc, append-nil, Option, Some, None}
 use Rattle.std.proofs.lemmas.List.{map-append}
 use Rattle.std.specs.List.{list_all}
 use Rattle.ss_console.specs.Event.{Event, read, wrote, written, Adds}
@@ -88,11 +90,13 @@ batch_by_line m from to before after old new e all lines first last b o n =
     ∙ append_assoc (map line_of e.turns) (e.line ∷ []) more.0 in
     let said = answers-turns m from e.turns (e.line ∷ more.0) all e.goes_on in
     let reached = state_after_all m from e.turns in
-    let one : answers m reached (e.line ∷ more.0) ≡ m.said reached e.line = rw e.ends (append-nil (m.said reached e.line)) in
+    let one : answers m reached (e.line ∷ more.0) ≡ m.said reached e.line =
+    rw e.ends (append-nil (m.said reached e.line)) in
     let same : answers m from lines ≡ bytes_of (events m false from e.turns) ++ m.said reached e.line =
     ap (λ v. answers m from v) split ∙ said ∙ ap (λ v. bytes_of (events m false from e.turns) ++ v) one in
     let turn : bytes_of (read e.line ∷ written (m.said reached e.line)) ≡ m.said reached e.line =
-    ap (λ v. bytes_of v) (sym (append-nil (written (m.said reached e.line)))) ∙ bytes_of-written (m.said reached e.line) []
+    ap (λ v. bytes_of v) (sym (append-nil (written (m.said reached e.line))))
+    ∙ bytes_of-written (m.said reached e.line) []
     ∙ append-nil _ in
     let gained : bytes_of (events m false from (e.turns ++ answered e.line ∷ []))
     ≡ bytes_of (events m false from e.turns) ++ m.said reached e.line =

@@ -1,3 +1,4 @@
+-- The events of calls, one after the other.
 use Rattle.std.proofs.Common.{◌≡◌, List, [], ◌∷◌, ◌++◌, sym, append_assoc, append-nil}
 use Rattle.ss_console.specs.declared.entry.Entry.{Entry}
 use Rattle.ss_console.specs.Entries.{events_of, entry_events}

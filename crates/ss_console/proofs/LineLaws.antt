@@ -1,4 +1,7 @@
-use Rattle.std.proofs.Common.{◌≡◌, ℕ, ◌<◌, ◌≤◌, Bool, true, false, cond, nat_le, ◌==◌, not, List, [], ◌∷◌, ◌++◌, length, refl, ◌∙◌, sym, ap, append_assoc, append-nil, arith, length-append, Option, Some, None}
+-- A line is read byte by byte.
+use Rattle.std.proofs.Common.{◌≡◌, ℕ, ◌<◌, ◌≤◌, Bool, true, false, cond, nat_le, ◌==◌, not, List, [], ◌∷◌, ◌++◌}
+use Rattle.std.proofs.Common.{length, refl, ◌∙◌, sym, ap, append_assoc, append-nil, arith, length-append, Option}
+use Rattle.std.proofs.Common.{Some, None}
 use Rattle.std.specs.Prelude.{if◌then◌else◌, fold, slice_index, slice_set}
 use Rattle.std.specs.Io.KnownBytes.{Consumes, IsAtEnd as IsAtEndOfBytes}
 use Rattle.std.proofs.lemmas.List.Sums.{fold_push}
@@ -112,7 +115,8 @@ pub end_given : (old mid new : Option (List ℕ)) (line : List ℕ) → IsWithin
     Gives (known_lines old) (known_lines new) (lines_read (not empty) line) × IsAtEnd (known_lines new)
 unfolding lines
 end_given old mid new line w c end n count empty test =
-    given old new w.done line (consumes_then old mid new w.done [] w.consumed c) end w.one w.kept_so_far n count empty test
+    given old new w.done line (consumes_then old mid new w.done [] w.consumed c) end w.one w.kept_so_far n count empty
+    test
   where
     given : (old new : Option (List ℕ)) (done line : List ℕ) → Consumes old new (done ++ []) → IsAtEndOfBytes new →
         has_feed done ≡ false → line ≡ kept done → (n : ℕ) → n ≡ length line → (empty : Bool) → empty ≡ (n == 0) →

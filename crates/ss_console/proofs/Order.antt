@@ -1,7 +1,9 @@
+-- Before each line stand whole turns.
 use Rattle.std.proofs.Common.{◌≡◌, ℕ, Bool, List, [], ◌∷◌, ◌++◌, refl, ◌∙◌, sym, ap, append_assoc, append-nil}
 use Rattle.ss_console.specs.Event.{Event, read, wrote, written}
 use Rattle.ss_console.specs.Meaning.{Meaning}
-use Rattle.ss_console.specs.Dialogue.{Turn, line_of, answer_of, prompt, turn_events, events, state_after, state_after_all}
+use Rattle.ss_console.specs.Dialogue.{Turn, line_of, answer_of, prompt, turn_events, events, state_after}
+use Rattle.ss_console.specs.Dialogue.{state_after_all}
 
 -- a line is not read within bytes that are written
 split_written : (p : List ℕ) (rest before after : List Event) (line : List ℕ) →

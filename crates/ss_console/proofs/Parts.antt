@@ -1,7 +1,8 @@
-use Rattle.std.proofs.Common.{ℕ, ◌+◌, ◌≤◌, List, [], ◌++◌, length, take, drop, sym, append_assoc, append-nil, arith, Option, Some, None, Ok, Err, length-append}
+-- Texts that are written in pieces, and parts of them.
+use Rattle.std.proofs.Common.{ℕ, ◌+◌, ◌≤◌, List, [], ◌++◌, length, take, drop, sym, append_assoc, append-nil, arith}
+use Rattle.std.proofs.Common.{Option, Some, None, length-append}
 use Rattle.std.proofs.Math.Seq.{take-add, take-append-add}
 use Rattle.std.proofs.lemmas.List.{take-append-le, map-append}
-use Rattle.std.specs.Prelude.{Result, OnErr}
 use Rattle.ss_console.specs.Event.{Event, wrote, Adds, written}
 use Rattle.ss_console.specs.Puts.{AddsPart}
 
@@ -56,14 +57,8 @@ pub ruleset in_turn = (texts_then, part_left, part_right)
 -- a text, piece by piece
 pub ruleset in_pieces = (adds_piece, adds_none, adds_no_more, adds_part)
 
+-- some texts, one after the other
+pub ruleset with_others = (texts_then, part_left, part_right, adds_none)
+
 -- no prompt
 pub ruleset no_prompt = (adds_none)
-
--- what holds at any result
-pub on_err : {T E : Type 0} (r : Result T E) (P : Type 0) → P → OnErr r P
-on_err (Ok x) P p = tt
-on_err (Err e) P p = p
-
-pub on_err_after : {T E : Type 0} (r : Result T E) (P Q : Type 0) → (P → Q) → OnErr r P → OnErr r Q
-on_err_after (Ok x) P Q f p = tt
-on_err_after (Err e) P Q f p = f p

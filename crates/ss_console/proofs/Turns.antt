@@ -1,11 +1,15 @@
-use Rattle.std.proofs.Common.{◌≡◌, ℕ, ◌+◌, ◌-◌, ◌^◌, Bool, true, false, ◌||◌, List, [], ◌∷◌, ◌++◌, length, map, refl, ◌∙◌, sym, ap, arith, append_assoc, append-nil, length-append, Option, Some, None}
+-- A dialogue grows by a turn.
+use Rattle.std.proofs.Common.{◌≡◌, ℕ, ◌+◌, ◌-◌, ◌^◌, Bool, true, false, ◌||◌, List, [], ◌∷◌, ◌++◌, length, map, refl}
+use Rattle.std.proofs.Common.{◌∙◌, sym, ap, arith, append_assoc, append-nil, length-append, Option, Some, None}
 use Rattle.std.proofs.lemmas.List.{map-append}
 use Rattle.ss_console.specs.Event.{Event, read, written, Adds}
 use Rattle.ss_console.specs.Lines.{Gives, IsAtEnd}
 use Rattle.ss_console.specs.Meaning.{Meaning}
 use Rattle.ss_console.specs.Puts.{AddsPart}
-use Rattle.ss_console.specs.Dialogue.{Turn, answered, refused, line_of, answer_of, state_after, is_last, IsAllowed, prompt, turn_events, events, state_after_all, AreAllowed, has_last}
-use Rattle.ss_console.specs.Dialogue.{Lead, EndsByInput, EndsByLine, EndsByRead, EndsInPrompt, EndsInAnswer, EndsByCount}
+use Rattle.ss_console.specs.Dialogue.{Turn, answered, refused, line_of, answer_of, state_after, is_last, IsAllowed}
+use Rattle.ss_console.specs.Dialogue.{prompt, turn_events, events, state_after_all, AreAllowed, has_last}
+use Rattle.ss_console.specs.Dialogue.{Lead, EndsByInput, EndsByLine, EndsByRead, EndsInPrompt, EndsInAnswer}
+use Rattle.ss_console.specs.Dialogue.{EndsByCount}
 use Rattle.ss_console.specs.declared.reply.Reply.{Reply}
 use Rattle.ss_console.specs.Reply.{IsReply, reply_text, reply_ends}
 use Rattle.ss_console.proofs.Parts.{adds_then, adds_none, adds_no_more}

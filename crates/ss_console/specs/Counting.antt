@@ -1,11 +1,14 @@
 -- What a counter means.
-use Rattle.std.specs.Prelude.{ℕ, ◌≡◌, ◌+◌, ◌%◌, ◌^◌, ◌==◌, ◌||◌, Bool, List, [], ◌++◌, length, codes, decimal, bytes_eq}
+use Rattle.std.specs.Prelude.{ℕ, ◌≡◌, ◌+◌, ◌%◌, ◌^◌, ◌==◌, ◌||◌, Bool, List, [], ◌++◌, length, codes, decimal}
+use Rattle.std.specs.Prelude.{bytes_eq}
 use Rattle.std.specs.Prelude.{if◌then◌else◌}
 use Rattle.ss_console.specs.Meaning.{Meaning}
 
+-- QUIT ends the dialogue
 abbrev pub is_quit : List ℕ → Bool
 is_quit line = bytes_eq line (codes "QUIT")
 
+-- QUIT and a line of no bytes have no answer
 abbrev pub is_silent : List ℕ → Bool
 is_silent line = is_quit line || length line == 0
 

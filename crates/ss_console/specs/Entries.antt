@@ -4,11 +4,12 @@ use Rattle.ss_console.specs.Event.{Event, read, written}
 use Rattle.ss_console.specs.declared.entry.Entry.{Entry}
 use Rattle.ss_console.specs.declared.entry.Entry.TheVariants.{Read, Wrote}
 
+-- those of one call
 abbrev pub events_of : Entry → List Event
 events_of (Read line) = read line.items ∷ []
 events_of (Wrote bytes) = written bytes.items
 
--- one after the other
+-- those of some calls, one after the other
 unfoldable pub entry_events : List Entry → List Event
 entry_events [] = []
 entry_events (entry ∷ entries) = events_of entry ++ entry_events entries

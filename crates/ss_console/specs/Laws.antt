@@ -1,11 +1,13 @@
 -- Laws of dialogues, in other words than those of their definition.
-use Rattle.std.specs.Prelude.{ℕ, ◌≡◌, ◌+◌, ◌<◌, ◌≤◌, Bool, true, false, not, List, [], ◌∷◌, ◌++◌, length, if◌then◌else◌}
+use Rattle.std.specs.Prelude.{ℕ, ◌≡◌, ◌+◌, ◌<◌, ◌≤◌, Bool, true, false, not, List, [], ◌∷◌, ◌++◌, length}
+use Rattle.std.specs.Prelude.{if◌then◌else◌}
 use Rattle.std.specs.Prelude.{Option, Some}
 use Rattle.std.specs.List.{list_any, list_all}
 use Rattle.ss_console.specs.Event.{Event, read, wrote, written}
 use Rattle.ss_console.specs.Lines.{is_stop, kept}
 use Rattle.ss_console.specs.Meaning.{Meaning}
-use Rattle.ss_console.specs.Dialogue.{Turn, answered, refused, prompt, events, state_after_all, EndsByInput, EndsByLine}
+use Rattle.ss_console.specs.Dialogue.{Turn, answered, refused, prompt, events, state_after_all, EndsByInput}
+use Rattle.ss_console.specs.Dialogue.{EndsByLine}
 use Rattle.ss_console.specs.declared.lines.TheConstants.{LINE_LIMIT}
 
 -- ---- the batch
@@ -22,6 +24,7 @@ bytes_of [] = []
 bytes_of (read line ∷ events) = bytes_of events
 bytes_of (wrote b ∷ events) = b ∷ bytes_of events
 
+-- whether the line of a turn has its answer, and memory was not refused
 abbrev pub is_answered : {S : Type 0} → Turn S → Bool
 is_answered (answered line) = true
 is_answered (refused line after) = false

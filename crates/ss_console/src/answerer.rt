@@ -36,7 +36,8 @@ pub trait Answerer {
         ensures said { OnOk result (answer.new.items
             ≡ answer.old.items ++ meaning.said (state self.old) line.now) }
         ensures go { IfOk result (λ go. go ≡ go_of (meaning.ends line.now)) }
-        ensures memory { OnErr result (meaning.MayBeLeft (state self.old) line.now (state self.new)) }
+        ensures memory { OnErr result
+            (meaning.MayBeLeft (state self.old) line.now (state self.new)) }
         ensures quit { meaning.ends line.now ≡ true → IsOk result };
 
     /// Writes what answers a line where memory was refused; it wants no memory itself.

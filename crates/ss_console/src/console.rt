@@ -46,13 +46,14 @@ pub trait Console {
         ensures faults { faults self.new ≡ faults_after_read result (faults self.old) }
         ensures terminal { terminal self.new ≡ terminal self.old };
 
-    /// Takes a prefix of the bytes, of which there is one at least, and gives its length. A fault or
-    /// a 0 takes nothing, and is counted.
+    /// Takes a prefix of the bytes, of which there is one at least, and gives its length. A fault
+    /// or a 0 takes nothing, and is counted.
     fn put(&mut self, bytes: &[u8]) -> Result<usize, PutFault>
         requires some { 0 < length bytes.now }
         requires count { (faults self.old).puts < 2 ^ 64 - 1 }
         ensures within { count_taken result ≤ length bytes.now }
-        ensures told { Adds (log self.old) (log self.new) (written (take (count_taken result) bytes.now)) }
+        ensures told { Adds (log self.old) (log self.new)
+            (written (take (count_taken result) bytes.now)) }
         ensures lines { left self.new ≡ left self.old }
         ensures faults { faults self.new ≡ faults_after_put result (faults self.old) }
         ensures terminal { terminal self.new ≡ terminal self.old };

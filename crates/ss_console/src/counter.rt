@@ -7,8 +7,8 @@ use crate::puts::put_all;
 use itoa::Buffer;
 use std::alloc::AllocError;
 
-/// A small answerer for the tests: it says each line again, behind the number of those before it. A blank line has
-/// no answer, and QUIT ends the dialogue.
+/// A small answerer for the tests: it says each line again, behind the number of those before it. A
+/// blank line has no answer, and QUIT ends the dialogue.
 #[derive(Drop)]
 pub struct Counter {
     count: u64,

@@ -14,7 +14,8 @@ use crate::reply::{Reply, put_reply};
 
 /// Lets the answerer do what a line says; its answer is left in `answer`.
 fn reply<A: Answerer>(answerer: &mut A, line: &[u8], answer: &mut Vec<u8>) -> Reply
-    ensures { IsReply A.meaning (A.state answerer.old) (A.state answerer.new) line.now answer.new.items result }
+    ensures { IsReply A.meaning (A.state answerer.old) (A.state answerer.new) line.now
+        answer.new.items result }
 {
     answer.clear();
     match answerer.answer(line, answer) {
@@ -25,8 +26,8 @@ fn reply<A: Answerer>(answerer: &mut A, line: &[u8], answer: &mut Vec<u8>) -> Re
 
 /// Reads lines from a console and answers them there: each answer is written whole before the next
 /// line is read, and nothing is written beside but the prompts of a terminal. It ends with the line
-/// that ends it, or with the input. `line` has its room before; an answer that wants memory and gets
-/// none is told as the answerer tells it, and the dialogue goes on.
+/// that ends it, or with the input. `line` has its room before; an answer that wants memory and
+/// gets none is told as the answerer tells it, and the dialogue goes on.
 pub fn converse<A: Answerer, C: Console>(
     answerer: &mut A,
     console: &mut C,
@@ -37,17 +38,21 @@ pub fn converse<A: Answerer, C: Console>(
     requires reads { (C.faults console.old).reads < 2 ^ 64 - 1 }
     requires puts { (C.faults console.old).puts < 2 ^ 64 - 1 }
 
-    ensures ok { OnOk result (EndsByInput A.meaning (C.terminal console.old) (A.state answerer.old)
-        (A.state answerer.new) (C.left console.old) (C.left console.new) (C.log console.old) (C.log console.new)
-        ⊎ EndsByLine A.meaning (C.terminal console.old) (A.state answerer.old) (A.state answerer.new)
-        (C.left console.old) (C.left console.new) (C.log console.old) (C.log console.new)) }
-    ensures read { result ≡ Err Cut.Read → EndsByRead A.meaning (C.terminal console.old) (A.state answerer.old)
-        (A.state answerer.new) (C.left console.old) (C.log console.old) (C.log console.new) }
+    ensures ok { OnOk result (EndsByInput A.meaning (C.terminal console.old)
+        (A.state answerer.old) (A.state answerer.new) (C.left console.old) (C.left console.new)
+        (C.log console.old) (C.log console.new)
+        ⊎ EndsByLine A.meaning (C.terminal console.old)
+        (A.state answerer.old) (A.state answerer.new) (C.left console.old) (C.left console.new)
+        (C.log console.old) (C.log console.new)) }
+    ensures read { result ≡ Err Cut.Read → EndsByRead A.meaning (C.terminal console.old)
+        (A.state answerer.old) (A.state answerer.new) (C.left console.old)
+        (C.log console.old) (C.log console.new) }
     ensures write { result ≡ Err Cut.Write → EndsInPrompt A.meaning (C.terminal console.old)
         (A.state answerer.old) (A.state answerer.new) (C.left console.old) (C.left console.new)
         (C.log console.old) (C.log console.new)
-        ⊎ EndsInAnswer A.meaning (C.terminal console.old) (A.state answerer.old) (A.state answerer.new)
-        (C.left console.old) (C.left console.new) (C.log console.old) (C.log console.new) }
+        ⊎ EndsInAnswer A.meaning (C.terminal console.old)
+        (A.state answerer.old) (A.state answerer.new) (C.left console.old) (C.left console.new)
+        (C.log console.old) (C.log console.new) }
     ensures count { result ≡ Err Cut.Count → EndsByCount A.meaning (C.terminal console.old)
         (A.state answerer.old) (A.state answerer.new) (C.left console.old) (C.left console.new)
         (C.log console.old) (C.log console.new) }

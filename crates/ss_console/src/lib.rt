@@ -1,4 +1,5 @@
-//! A dialogue over a console: a line is read, and its answer written whole, before the next is read.
+//! A dialogue over a console: a line is read, and its answer written whole, before the next is
+//! read.
 #![tactic(auto)]
 
 mod answerer;

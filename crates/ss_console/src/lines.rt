@@ -35,7 +35,8 @@ fn keep(line: &mut Vec<u8>, byte: u8)
 /// The next byte, if there is one.
 #[tactic(auto, using(crate::proofs::KnownBytes::kept_bytes))]
 fn next_byte<R: Read>(reader: &mut R) -> Result<Option<u8>, ReadFault>
-    ensures { IfOk result (λ byte. ByteGiven byte (R.remaining reader.old) (R.remaining reader.new)) }
+    ensures { IfOk result
+        (λ byte. ByteGiven byte (R.remaining reader.old) (R.remaining reader.new)) }
 {
     let mut byte = [0u8; 1];
     for _ in 0..u64::MAX {

@@ -9,8 +9,8 @@ use crate::entry::Entry;
 use crate::lines::next_line;
 use std::alloc::{AllocError, Global};
 
-/// A console over memory, which tells what happened. Its lines are those of a text; it takes as many
-/// bytes as it has room for, and then none.
+/// A console over memory, which tells what happened. Its lines are those of a text; it takes as
+/// many bytes as it has room for, and then none.
 #[derive(Drop)]
 pub struct MemoryConsole<'a> {
     text: &'a [u8],

@@ -44,23 +44,9 @@ pub fn put_all<C: Console>(console: &mut C, bytes: &[u8]) -> Result<(), PutFault
     Ok(())
 }
 
-/// Writes two texts, one after the other.
-#[tactic(auto, using(crate::proofs::Parts::in_turn))]
-fn put_both<C: Console>(console: &mut C, first: &[u8], second: &[u8]) -> Result<(), PutFault>
-    requires { (C.faults console.old).puts < 2 ^ 64 - 1 }
-    ensures ok { OnOk result (Adds (C.log console.old) (C.log console.new) (written (first.now ++ second.now))
-        × (C.faults console.new ≡ C.faults console.old)) }
-    ensures err { OnErr result (AddsPart (first.now ++ second.now) (C.log console.old) (C.log console.new)
-        × (C.faults console.new ≡ one_more_put (C.faults console.old))) }
-    ensures lines { C.left console.new ≡ C.left console.old }
-    ensures terminal { C.terminal console.new ≡ C.terminal console.old }
-{
-    put_all(console, first)?;
-    put_all(console, second)
-}
-
-/// Writes some texts, one after the other, in as many pieces as they are taken in, until one call fails.
-#[tactic(auto, using(crate::proofs::Parts::in_turn, crate::proofs::Parts::no_prompt), unfolding(crate::specs::Puts::joined))]
+/// Writes some texts, one after the other, in as many pieces as they are taken in, until one call
+/// fails.
+#[tactic(auto, using(crate::proofs::Parts::with_others), unfolding(crate::specs::Puts::joined))]
 pub fn put_texts<C: Console>(console: &mut C, texts: &[&[u8]]) -> Result<(), PutFault>
     requires { (C.faults console.old).puts < 2 ^ 64 - 1 }
     ensures ok { OnOk result (Adds (C.log console.old) (C.log console.new)
@@ -80,7 +66,7 @@ pub fn put_texts<C: Console>(console: &mut C, texts: &[&[u8]]) -> Result<(), Put
 }
 
 /// Writes the prompt of a position, in parentheses.
-#[tactic(auto, using(crate::proofs::Parts::in_turn))]
+#[tactic(auto, unfolding(crate::specs::Puts::joined))]
 fn put_position<C: Console>(console: &mut C, position: u64) -> Result<(), PutFault>
     requires { (C.faults console.old).puts < 2 ^ 64 - 1 }
     ensures ok { OnOk result (Adds (C.log console.old) (C.log console.new)
@@ -93,8 +79,7 @@ fn put_position<C: Console>(console: &mut C, position: u64) -> Result<(), PutFau
     ensures terminal { C.terminal console.new ≡ C.terminal console.old }
 {
     let mut buffer = Buffer::new();
-    put_both(console, b"(", buffer.format(position).as_bytes())?;
-    put_all(console, b") ")
+    put_texts(console, &[b"(", buffer.format(position).as_bytes(), b") "])
 }
 
 /// Writes the prompt, where the console is a terminal.

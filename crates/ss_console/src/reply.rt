@@ -37,7 +37,8 @@ pub(crate) fn put_reply<A: Answerer, C: Console>(
     ensures ok { OnOk result (Adds (C.log console.old) (C.log console.new)
         (written (reply_text A.meaning (A.state answerer.now) reply answer.now))
         × (C.faults console.new ≡ C.faults console.old)) }
-    ensures err { OnErr result (AddsPart (reply_text A.meaning (A.state answerer.now) reply answer.now)
+    ensures err { OnErr result (AddsPart
+        (reply_text A.meaning (A.state answerer.now) reply answer.now)
         (C.log console.old) (C.log console.new)
         × (C.faults console.new ≡ one_more_put (C.faults console.old))) }
     ensures lines { C.left console.new ≡ C.left console.old }

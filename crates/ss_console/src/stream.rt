@@ -64,7 +64,8 @@ impl<R: Read + Drop, W: Write + Drop> Console for StreamConsole<R, W> {
         requires count { self.old.put_faults < 2 ^ 64 - 1 }
         ensures within { count_taken result ≤ length bytes.now }
         ensures told { Adds None None (written (take (count_taken result) bytes.now)) }
-        ensures lines { known_lines (R.remaining self.new.reader) ≡ known_lines (R.remaining self.old.reader) }
+        ensures lines { known_lines (R.remaining self.new.reader)
+            ≡ known_lines (R.remaining self.old.reader) }
         ensures faults { faults_of self.new.read_faults self.new.put_faults
             ≡ faults_after_put result (faults_of self.old.read_faults self.old.put_faults) }
         ensures terminal { self.new.terminal ≡ self.old.terminal }

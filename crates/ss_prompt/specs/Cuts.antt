@@ -12,7 +12,8 @@ use Rattle.ss_prompt.specs.declared.cuts.Standing.TheVariants.{First, BehindRun,
 -- the words that a line may begin with
 abbrev pub first_words : List ℕ
 first_words =
-    codes "STEP RUN NEXT BACK BREAK CLEAR FORGET SHOW QUIT OVER OUT GO LIST BREAKS DISPLAY UNDISPLAY HELP WHY HISTORY"
+    codes "STEP RUN NEXT BACK BREAK CLEAR FORGET SHOW QUIT OVER OUT GO LIST BREAKS DISPLAY UNDISPLAY HELP WHY HISTORY "
+    ++ codes "NAMES WARNINGS"
 
 -- those that may stand behind RUN
 abbrev pub run_words : List ℕ

@@ -1,4 +1,6 @@
 pub mod Source
+pub mod Names
+pub mod Refusal
 pub mod Words
 pub mod Cuts
 pub mod Completions

@@ -8,10 +8,13 @@ use Rattle.ss_debug.specs.Move.{line_at}
 use Rattle.ss_debug.specs.Turn.{DebuggerState}
 use Rattle.ss_debug.specs.View.{DebuggerView, debugger_state_of}
 use Rattle.ss_prompt.specs.Source.{marked_line}
+use Rattle.ss_prompt.specs.Names.{warnings_told}
 use Rattle.ss_faults.specs.Sentence.{fault_text}
 
--- a debugger in the run of an input, the lines of its model, and the questions that are answered at each stop
+-- a debugger in the run of an input, its model and the lines of that, and the questions that are answered at each stop
 pub record PromptState : Type 0 where
+  -- the bytes of the model
+  pub model : List ℕ
   -- the lines of the model
   pub lines : List (List ℕ)
   -- the program and its data
@@ -21,9 +24,10 @@ pub record PromptState : Type 0 where
   -- the questions that are answered at each stop
   pub displays : List Question
 
--- what a debugger with these lines and questions stands for
-abbrev pub prompt_state_of : DebuggerView → List (List ℕ) → List Question → PromptState
-prompt_state_of d lines displays = record {
+-- what a debugger with this model, these lines and these questions stands for
+abbrev pub prompt_state_of : DebuggerView → List ℕ → List (List ℕ) → List Question → PromptState
+prompt_state_of d model lines displays = record {
+  model = model;
   lines = lines;
   input = d.machine.input;
   debugger = debugger_state_of d;
@@ -32,16 +36,18 @@ prompt_state_of d lines displays = record {
 
 -- the same, with the debugger in another state
 abbrev pub with_debugger : PromptState → DebuggerState → PromptState
-with_debugger s d = record { lines = s.lines; input = s.input; debugger = d; displays = s.displays }
+with_debugger s d =
+    record { model = s.model; lines = s.lines; input = s.input; debugger = d; displays = s.displays }
 
 -- the same, with other questions
 abbrev pub with_displays : PromptState → List Question → PromptState
 with_displays s displays =
-    record { lines = s.lines; input = s.input; debugger = s.debugger; displays = displays }
+    record { model = s.model; lines = s.lines; input = s.input; debugger = s.debugger; displays = displays }
 
 -- all but the state of the debugger is the same
 abbrev pub IsSameBeside : PromptState → PromptState → Type 0
-IsSameBeside s after = (after.lines ≡ s.lines) × (after.input ≡ s.input) × (after.displays ≡ s.displays)
+IsSameBeside s after =
+    (after.model ≡ s.model) × (after.lines ≡ s.lines) × (after.input ≡ s.input) × (after.displays ≡ s.displays)
 
 -- the line of the place of a state, as it is written in the model
 abbrev pub source_line : PromptState → List ℕ
@@ -62,6 +68,9 @@ abbrev pub place_text : PromptState → List ℕ
 place_text s =
     fault_told s.input s.debugger.position ++ source_line s ++ answers_to s.input s.debugger.position s.displays
 
--- what is told at a terminal before the first line: that HELP tells the commands, and where the debugger stands
+-- what is told at a terminal before the first line: that HELP tells the commands, what the model is warned of, and where
+-- the debugger stands
 abbrev pub greeting : PromptState → List ℕ
-greeting s = codes "HELP TELLS THE COMMANDS.\n" ++ state_line s.input s.debugger.position ++ place_text s
+greeting s =
+    codes "HELP TELLS THE COMMANDS.\n" ++ warnings_told s.input.program s.model
+    ++ state_line s.input s.debugger.position ++ place_text s

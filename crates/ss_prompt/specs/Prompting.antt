@@ -1,5 +1,5 @@
 -- What a dialogue with the debugger means.
-use Rattle.std.specs.Prelude.{ℕ, ◌≡◌, List, codes, Bool, false}
+use Rattle.std.specs.Prelude.{ℕ, ◌≡◌, List, Bool, false}
 use Rattle.ss_debug.specs.declared.commands.Command.TheVariants.{Break, Clear}
 use Rattle.ss_debug.specs.Turn.{is_quit as is_plain_quit}
 use Rattle.ss_trace.specs.Question.{answer_at}
@@ -9,7 +9,7 @@ use Rattle.ss_prompt.specs.declared.commands.PromptCommand.TheVariants.{Plain, T
 use Rattle.ss_prompt.specs.declared.commands.PromptCommand.TheVariants.{BreakSection, ClearSection, Breaks}
 use Rattle.ss_prompt.specs.declared.commands.PromptCommand.TheVariants.{Changed}
 use Rattle.ss_prompt.specs.declared.commands.PromptCommand.TheVariants.{Ask, See, Why, History, Display, Undisplay}
-use Rattle.ss_prompt.specs.declared.commands.PromptCommand.TheVariants.{Help}
+use Rattle.ss_prompt.specs.declared.commands.PromptCommand.TheVariants.{Names, Warnings, Help}
 use Rattle.ss_prompt.specs.Reading.{prompt_command_of}
 use Rattle.ss_prompt.specs.PromptState.{PromptState}
 use Rattle.ss_prompt.specs.Plain.{plain_next, plain_said, IsPlainRefused}
@@ -21,7 +21,9 @@ use Rattle.ss_prompt.specs.Displays.{display_said, display_next, undisplay_said,
 use Rattle.ss_prompt.specs.Sights.{sight_said}
 use Rattle.ss_prompt.specs.Histories.{why_said, history_said, HasLookedBack}
 use Rattle.ss_prompt.specs.Stops.{changed_said, HasLookedBeside}
+use Rattle.ss_prompt.specs.Names.{names_said, warnings_said}
 use Rattle.ss_prompt.specs.Help.{help_said}
+use Rattle.ss_prompt.specs.Refusal.{refusal_at}
 
 -- what a command answers
 unfoldable pub prompt_answer : PromptState → PromptCommand → List ℕ
@@ -39,6 +41,8 @@ prompt_answer s (Why x) = why_said s x
 prompt_answer s (History x rows) = history_said s x rows
 prompt_answer s (Display q) = display_said s q
 prompt_answer s Undisplay = undisplay_said s
+prompt_answer s (Names name) = names_said s.model name
+prompt_answer s Warnings = warnings_said s.input.program s.model
 prompt_answer s (Help word) = help_said word
 
 -- the state behind a command
@@ -66,9 +70,9 @@ IsRefused s (Why x) after = HasLookedBack s after
 IsRefused s (History x rows) after = HasLookedBack s after
 IsRefused s _ after = after ≡ s
 
--- the answer where memory was refused
+-- the answer where memory was refused, in the state in which that left the debugger
 abbrev pub refusal_text : PromptState → List ℕ
-refusal_text s = codes "OUT OF MEMORY\n"
+refusal_text s = refusal_at s.input s.debugger.position
 
 -- a dialogue with the debugger
 abbrev pub prompting : Meaning

@@ -21,7 +21,7 @@ use Rattle.ss_prompt.specs.declared.commands.PromptCommand.TheVariants.{Plain, T
 use Rattle.ss_prompt.specs.declared.commands.PromptCommand.TheVariants.{BreakSection, ClearSection, Breaks}
 use Rattle.ss_prompt.specs.declared.commands.PromptCommand.TheVariants.{Changed}
 use Rattle.ss_prompt.specs.declared.commands.PromptCommand.TheVariants.{Ask, See, Why, History, Display, Undisplay}
-use Rattle.ss_prompt.specs.declared.commands.PromptCommand.TheVariants.{Help}
+use Rattle.ss_prompt.specs.declared.commands.PromptCommand.TheVariants.{Names, Warnings, Help}
 
 -- no command
 abbrev pub bad : PromptCommand
@@ -37,11 +37,12 @@ abbrev pub alone : PromptCommand → List (List ℕ) → PromptCommand
 alone command [] = command
 alone command (word ∷ more) = bad
 
--- OVER and BACK OVER: so often as STEP makes steps
+-- OVER: so often as STEP makes steps
 abbrev pub over_of : Command → PromptCommand
 over_of (Move (Step n)) = Travel (Over n)
 over_of _ = bad
 
+-- BACK OVER: the same
 abbrev pub back_over_of : Command → PromptCommand
 back_over_of (Move (Step n)) = Travel (BackOver n)
 back_over_of _ = bad
@@ -99,6 +100,11 @@ abbrev pub list_command : List (List ℕ) → PromptCommand
 list_command [] = Lines None
 list_command (word ∷ rest) = lines_of (command_behind (codes "BREAK") (word ∷ rest)) (only_name_of (word ∷ rest))
 
+-- what stands behind NAMES
+abbrev pub names_command : List (List ℕ) → PromptCommand
+names_command [] = Names None
+names_command (word ∷ rest) = made_or_bad (λ name. Names (Some name)) (only_name_of (word ∷ rest))
+
 -- what stands behind HELP
 abbrev pub help_command : List (List ℕ) → PromptCommand
 help_command [] = Help None
@@ -122,6 +128,8 @@ own_in_words (verb ∷ rest) =
     if bytes_eq verb (codes "BREAKS") then alone Breaks rest else
     if bytes_eq verb (codes "DISPLAY") then made_or_bad Display (asked_of rest) else
     if bytes_eq verb (codes "UNDISPLAY") then alone Undisplay rest else
+    if bytes_eq verb (codes "NAMES") then names_command rest else
+    if bytes_eq verb (codes "WARNINGS") then alone Warnings rest else
     if bytes_eq verb (codes "HELP") then help_command rest else bad
 
 -- what is a command of docs/DEBUGGER.md stays it; else another is tried

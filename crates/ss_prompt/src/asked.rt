@@ -1,5 +1,5 @@
 //! Questions whose answers may change are read.
-ghost use Rattle.std.specs.Prelude.{◌≡◌, ◌∷◌, [], codes};
+ghost use Rattle.std.specs.Prelude.{◌≡◌};
 ghost use Rattle.ss_debug.specs.CommandLines.{command_words};
 ghost use Rattle.ss_prompt.specs.Asked.{attribute_asked, count_asked, own_asked, asked_of};
 

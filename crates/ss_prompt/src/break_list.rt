@@ -8,11 +8,11 @@ use std::alloc::AllocError;
 /// Appends some lines of the model, each behind its number and a colon.
 fn push_break_rows(
     text: &mut Vec<u8>,
-    lines: &[Vec<u8>],
+    lines: &[&[u8]],
     mut breaks: &[usize],
 ) -> Result<(), AllocError>
     ensures { OnOk result (text.new.items ≡ text.old.items
-        ++ break_rows (map (λ line. line.items) lines.now) breaks.entry.now) }
+        ++ break_rows (map (λ line. line.now) lines.now) breaks.entry.now) }
 {
     while let [line, rest @ ..] = breaks {
         push_marked_line(text, lines, b": ", *line)?;
@@ -24,11 +24,11 @@ fn push_break_rows(
 /// Appends the break lines, or that there is none.
 pub(crate) fn push_break_lines(
     text: &mut Vec<u8>,
-    lines: &[Vec<u8>],
+    lines: &[&[u8]],
     breaks: &[usize],
 ) -> Result<(), AllocError>
     ensures { OnOk result (text.new.items ≡ text.old.items
-        ++ breaks_text (map (λ line. line.items) lines.now) breaks.now) }
+        ++ breaks_text (map (λ line. line.now) lines.now) breaks.now) }
 {
     if breaks.is_empty() {
         return text.extend_from_slice(b"NO BREAKS\n");

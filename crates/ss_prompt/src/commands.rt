@@ -34,6 +34,10 @@ pub enum PromptCommand {
     Display(Question),
     /// UNDISPLAY: no question is answered at stops any more.
     Undisplay,
+    /// NAMES: the names of the model, or what is told of this one.
+    Names(Option<Name>),
+    /// WARNINGS: what the model is warned of.
+    Warnings,
     /// HELP: the commands, or those that begin with this word.
     Help(Option<Name>),
 }

@@ -1,7 +1,6 @@
 //! Words that are cut, made whole.
-ghost use Rattle.std.specs.Prelude.{◌≡◌, ◌∷◌, ◌≤◌, [], length, MatchOption};
+ghost use Rattle.std.specs.Prelude.{◌≡◌, ◌∷◌, [], MatchOption};
 ghost use Rattle.std.specs.List.{filter};
-ghost use Rattle.ss_console.specs.declared.lines.TheConstants.{LINE_LIMIT};
 ghost use Rattle.ss_debug.specs.CommandLines.{command_words};
 ghost use Rattle.ss_prompt.specs.Cuts.{begins, whole, words_at, behind, behind_first, behind_movement};
 ghost use Rattle.ss_prompt.specs.Cuts.{is_asked, begins_with_digit, made_whole, whole_line};
@@ -14,7 +13,8 @@ const FEWEST_LETTERS: usize = 3;
 
 /// The words that a line may begin with.
 pub(crate) const FIRST_WORDS: &[u8] =
-    b"STEP RUN NEXT BACK BREAK CLEAR FORGET SHOW QUIT OVER OUT GO LIST BREAKS DISPLAY UNDISPLAY HELP WHY HISTORY";
+    b"STEP RUN NEXT BACK BREAK CLEAR FORGET SHOW QUIT OVER OUT GO LIST BREAKS DISPLAY UNDISPLAY HELP \
+    WHY HISTORY NAMES WARNINGS";
 
 /// The words that may stand behind SHOW.
 pub(crate) const SHOW_WORDS: &[u8] =

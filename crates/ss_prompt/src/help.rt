@@ -7,7 +7,7 @@ use std::alloc::AllocError;
 
 /// A row for each form of a command: the word that it begins with; how it is written, and what it
 /// does.
-pub const HELP_ROWS: [(&[u8], &[u8]); 51] = [
+pub const HELP_ROWS: [(&[u8], &[u8]); 54] = [
     (b"STEP", b"STEP [n]: n steps forward, 1 if not said"),
     (
         b"RUN",
@@ -101,6 +101,15 @@ pub const HELP_ROWS: [(&[u8], &[u8]); 51] = [
         b"DISPLAY x: answer x at each stop; x is a question, as in SHOW x",
     ),
     (b"UNDISPLAY", b"UNDISPLAY: answer nothing at stops any more"),
+    (
+        b"NAMES",
+        b"NAMES: the names of the model, how often each stands, and its first line",
+    ),
+    (
+        b"NAMES",
+        b"NAMES v: the lines on which name v is declared, set and read",
+    ),
+    (b"WARNINGS", b"WARNINGS: what is suspicious in the model"),
     (b"FORGET", b"FORGET n: let go of all steps but the newest n"),
     (
         b"HELP",

@@ -1,5 +1,7 @@
 //! Laws on the definitions. Each function does nothing, and its contract says the law.
 ghost use Rattle.ss_prompt.specs.Laws.{PlainLinesStay, PlainAnswersComeFirst};
+ghost use Rattle.ss_prompt.specs.Laws.{PlainLinesAnswerTheBatch, PlainLinesLeadAsTheBatch};
+ghost use Rattle.ss_prompt.specs.Laws.{LinesAreThoseOfTheBatch, KeptLinesSayTheSame, PlainTextsAnswerTheBatch};
 
 /// A line that is a command of docs/DEBUGGER.md is that command at the prompt.
 pub fn plain_lines_stay()
@@ -9,4 +11,19 @@ pub fn plain_lines_stay()
 /// Its answer begins with that of docs/DEBUGGER.md, and it leads the debugger to the same state.
 pub fn plain_answers_come_first()
     ensures { PlainAnswersComeFirst }
+{}
+
+/// Lines that are all such commands are answered as in a transcript, with more behind each answer,
+/// and lead to the state of which that tells the report.
+pub fn plain_lines_answer_the_batch()
+    ensures answers { PlainLinesAnswerTheBatch }
+    ensures report { PlainLinesLeadAsTheBatch }
+{}
+
+/// The lines of a text, each as a console keeps it, say what they say in a batch, and a text of such
+/// commands alone is answered as in its transcript, with more behind each answer.
+pub fn plain_texts_answer_the_batch()
+    ensures lines { LinesAreThoseOfTheBatch }
+    ensures kept { KeptLinesSayTheSame }
+    ensures answers { PlainTextsAnswerTheBatch }
 {}

@@ -12,9 +12,11 @@ mod histories;
 mod laws;
 mod line;
 mod listing;
+mod names;
 mod pieces;
 mod prompt;
 mod read;
+mod refusal;
 mod sections;
 mod seeing;
 mod sight;
@@ -23,7 +25,10 @@ mod stops;
 
 pub use commands::PromptCommand;
 pub use completions::push_completions;
-pub use laws::{plain_answers_come_first, plain_lines_stay};
+pub use laws::{
+    plain_answers_come_first, plain_lines_answer_the_batch, plain_lines_stay,
+    plain_texts_answer_the_batch,
+};
 pub use prompt::Prompt;
 pub use read::prompt_command;
 pub use sight::Sight;

@@ -19,14 +19,14 @@ fn mark_of(present: usize, line: usize) -> &'static [u8]
 /// Appends so many lines from one on.
 fn push_lines(
     text: &mut Vec<u8>,
-    lines: &[Vec<u8>],
+    lines: &[&[u8]],
     present: usize,
     from: usize,
     count: usize,
 ) -> Result<(), AllocError>
     requires { from + count < 2 ^ 64 }
     ensures { OnOk result (text.new.items ≡ text.old.items
-        ++ listed (map (λ line. line.items) lines.now) present from count) }
+        ++ listed (map (λ line. line.now) lines.now) present from count) }
 {
     for k in 0..count {
         let line = from + k;
@@ -38,13 +38,13 @@ fn push_lines(
 /// Appends the lines from one to another that there are.
 pub(crate) fn push_lines_to(
     text: &mut Vec<u8>,
-    lines: &[Vec<u8>],
+    lines: &[&[u8]],
     present: usize,
     from: usize,
     to: usize,
 ) -> Result<(), AllocError>
     ensures { OnOk result (text.new.items ≡ text.old.items
-        ++ listed_to (map (λ line. line.items) lines.now) present from to) }
+        ++ listed_to (map (λ line. line.now) lines.now) present from to) }
 {
     let last = lines.len().min(to);
     push_lines(text, lines, present, from, (last + 1).saturating_sub(from))
@@ -64,12 +64,12 @@ fn push_no_line(text: &mut Vec<u8>, line: usize) -> Result<(), AllocError>
 /// Appends a line with those about it, or that there is none of this number.
 pub(crate) fn push_lines_about(
     text: &mut Vec<u8>,
-    lines: &[Vec<u8>],
+    lines: &[&[u8]],
     present: usize,
     line: usize,
 ) -> Result<(), AllocError>
     ensures { OnOk result (text.new.items ≡ text.old.items
-        ++ listed_about (map (λ line. line.items) lines.now) present line) }
+        ++ listed_about (map (λ line. line.now) lines.now) present line) }
 {
     if line == 0 || lines.len() < line {
         return push_no_line(text, line);

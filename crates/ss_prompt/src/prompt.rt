@@ -7,35 +7,30 @@ ghost use Rattle.ss_prompt.specs.PromptState.{prompt_state_of, fault_told, sourc
 ghost use Rattle.ss_prompt.specs.Stops.{changes_told, stop_text, changed_said, HasLookedBeside};
 ghost use Rattle.ss_prompt.specs.Plain.{plain_next, plain_said, IsPlainRefused};
 ghost use Rattle.ss_prompt.specs.Travel.{travel_next, travel_said, IsTravelRefused};
-ghost use Rattle.ss_prompt.specs.Sections.{command_on, on_section_said, on_section_next};
 ghost use Rattle.ss_debug.specs.Answer.{state_line};
-ghost use Rattle.ss_debug.specs.Turn.{answer as plain_answer};
-ghost use Rattle.ss_debug.specs.declared.commands.Command.TheVariants as plain;
-ghost use Rattle.ss_prompt.specs.Listing.{lines_said, section_lines_said};
 ghost use Rattle.ss_trace.specs.Question.{answer_at};
 ghost use Rattle.ss_prompt.specs.Sights.{sight_said};
 ghost use Rattle.ss_prompt.specs.Histories.{why_said, history_said, HasLookedBack};
-ghost use Rattle.ss_prompt.specs.Breaks.{breaks_said};
+ghost use Rattle.ss_prompt.specs.Names.{warnings_told};
 ghost use Rattle.ss_prompt.specs.Displays.{display_said, display_next, undisplay_said, undisplay_next};
 ghost use Rattle.ss_prompt.specs.Prompting.{prompt_answer, prompt_state_after, IsRefused, is_quit, prompting};
 
-use crate::break_list::push_break_lines;
+mod model;
+
 use crate::commands::PromptCommand;
 use crate::displays::{display, push_answers, undisplay};
 use crate::help::push_help;
-use crate::listing::{push_lines_about, push_lines_to};
+use crate::names::push_all_warnings;
 use crate::read::prompt_command;
-use crate::sections::{
-    LAST_BREAK_LINE, find_section, head_line, last_line, line_of_section, present_line,
-    push_no_section,
-};
+use crate::refusal::put_refusal_at;
+use crate::sections::present_line;
 use crate::seeing::push_sight;
 use crate::sight::Sight;
 use crate::source::push_marked_line;
 use crate::stops::{goes_back, travels_back};
 use ss_changes::{push_changed, push_stop_changes, push_stop_changes_ahead};
-use ss_console::{Answerer, Console, Go, PutFault, put_all};
-use ss_debug::{Command, Debugger, Name, Question as PlainQuestion, obey};
+use ss_console::{Answerer, Console, Go, PutFault};
+use ss_debug::{Command, Debugger, Question as PlainQuestion, obey};
 use ss_faults::push_fault_sentence;
 use ss_links::SetBoard;
 use ss_machine::Status;
@@ -43,20 +38,18 @@ use ss_trace::{Movement, Question, make_movement, push_answer, push_history, pus
 use std::alloc::{AllocError, Global};
 use std::marker::Model;
 
-/// The answer where memory was refused; it wants none itself.
-const OUT_OF_MEMORY: &[u8] = b"OUT OF MEMORY\n";
-
-/// A debugger that answers the lines of a dialogue, with the lines of its model and the questions
-/// that are answered at each stop.
+/// A debugger that answers the lines of a dialogue, with its model, the lines of that, and the
+/// questions that are answered at each stop.
 #[derive(Drop)]
-pub struct Prompt<S: SetBoard> {
+pub struct Prompt<'a, S: SetBoard> {
     debugger: Debugger<S>,
-    lines: Vec<Vec<u8>>,
+    model: &'a [u8],
+    lines: Vec<&'a [u8]>,
     displays: Vec<Question>,
     alloc: Global,
 }
 
-impl<S: SetBoard> Model for Prompt<S> {
+impl<'a, S: SetBoard> Model for Prompt<'a, S> {
     ghost use Rattle.std.specs.Prelude.{map};
     ghost use Rattle.std.specs.Coded.{codes};
     ghost use Rattle.ss_program.specs.contracts.program.Program as checked;
@@ -67,16 +60,19 @@ impl<S: SetBoard> Model for Prompt<S> {
     ghost coded = { Prim.hlevel (codes, checked.the_row.coded) };
 
     ghost view = { λ p.
-        prompt_state_of p.debugger (map (λ l. l.items) p.lines.items) p.displays.items };
+        prompt_state_of p.debugger p.model.now (map (λ l. l.now) p.lines.items) p.displays.items };
 }
 
-impl<S: SetBoard> Prompt<S> {
-    /// A prompt over a debugger, with the lines of its model; no question is answered at stops.
-    pub fn new(alloc: Global, debugger: Debugger<S>, lines: Vec<Vec<u8>>) -> Self
-        ensures { result ≡ prompt_state_of debugger (map (λ l. l.items) lines.items) [] }
+impl<'a, S: SetBoard> Prompt<'a, S> {
+    /// A prompt over a debugger, with its model and the lines of that; no question is answered at
+    /// stops.
+    pub fn new(alloc: Global, debugger: Debugger<S>, model: &'a [u8], lines: Vec<&'a [u8]>) -> Self
+        ensures { result
+            ≡ prompt_state_of debugger model.now (map (λ l. l.now) lines.entry.items) [] }
     {
         Prompt {
             debugger,
+            model,
             lines,
             displays: Vec::new(alloc),
             alloc,
@@ -147,12 +143,27 @@ impl<S: SetBoard> Prompt<S> {
         text.extend_from_slice(&place)
     }
 
+    /// Appends what the model is warned of.
+    fn push_warnings(&self, text: &mut Vec<u8>) -> Result<(), AllocError>
+        ensures { OnOk result (text.new.items
+            ≡ text.old.items ++ warnings_told self.now.input.program self.now.model) }
+    {
+        push_all_warnings(
+            self.alloc,
+            self.model,
+            self.debugger.machine().program(),
+            text,
+        )
+    }
+
     /// Appends what is told at a terminal before the first line is read: that HELP tells the
-    /// commands, and where the debugger stands. After `AllocError` a part of it may stand there.
+    /// commands, what the model is warned of, and where the debugger stands. After `AllocError` a
+    /// part of it may stand there.
     pub fn push_greeting(&self, text: &mut Vec<u8>) -> Result<(), AllocError>
         ensures { OnOk result (text.new.items ≡ text.old.items ++ greeting self.now) }
     {
         text.extend_from_slice(b"HELP TELLS THE COMMANDS.\n")?;
+        self.push_warnings(text)?;
         self.push_place(text)?;
         self.push_place_text(text)
     }
@@ -192,98 +203,6 @@ impl<S: SetBoard> Prompt<S> {
         let is_back = travels_back(&movement, machine.position());
         make_movement(&mut self.debugger, movement, answer)?;
         self.push_stop(is_back, answer)
-    }
-
-    /// LIST, with a line or without.
-    fn list(&self, line: Option<u32>, answer: &mut Vec<u8>) -> Result<(), AllocError>
-        ensures { OnOk result (answer.new.items ≡ answer.old.items ++ lines_said self.now line) }
-    {
-        let present = present_line(self.debugger.machine());
-        match line {
-            Some(line) => push_lines_about(answer, &self.lines, present, line as usize),
-            None => push_lines_about(answer, &self.lines, present, present),
-        }
-    }
-
-    /// LIST of the section of this name.
-    fn list_section(&self, name: &Name, answer: &mut Vec<u8>) -> Result<(), AllocError>
-        ensures { OnOk result (answer.new.items
-            ≡ answer.old.items ++ section_lines_said self.now name.now) }
-    {
-        let machine = self.debugger.machine();
-        let program = machine.program();
-        let Some(section) = find_section(program, name.as_slice()) else {
-            return push_no_section(answer, name.as_slice());
-        };
-        let from = head_line(program, section);
-        let to = last_line(program, section);
-        push_lines_to(answer, &self.lines, present_line(machine), from, to)
-    }
-
-    /// BREAK of a line, if BREAK takes it.
-    #[tactic(auto, unfolding(ss_debug::specs::AfterRefusal::IsStateAfterRefusal))]
-    fn break_line(&mut self, line: usize, answer: &mut Vec<u8>) -> Result<(), AllocError>
-        ensures place { OnOk result (self.new ≡ plain_next self.old (command_on plain.Break line)) }
-        ensures said { OnOk result (answer.new.items ≡ answer.old.items
-            ++ plain_answer self.old.input self.old.debugger (command_on plain.Break line)) }
-        ensures memory { OnErr result (self.new ≡ self.old) }
-    {
-        if line > LAST_BREAK_LINE as usize {
-            obey(&mut self.debugger, Command::Bad, answer)?;
-        } else {
-            obey(&mut self.debugger, Command::Break(line as u32), answer)?;
-        }
-        Ok(())
-    }
-
-    /// CLEAR of a line, if CLEAR takes it.
-    #[tactic(auto, unfolding(ss_debug::specs::AfterRefusal::IsStateAfterRefusal))]
-    fn clear_line(&mut self, line: usize, answer: &mut Vec<u8>) -> Result<(), AllocError>
-        ensures place { OnOk result (self.new ≡ plain_next self.old (command_on plain.Clear line)) }
-        ensures said { OnOk result (answer.new.items ≡ answer.old.items
-            ++ plain_answer self.old.input self.old.debugger (command_on plain.Clear line)) }
-        ensures memory { OnErr result (self.new ≡ self.old) }
-    {
-        if line > LAST_BREAK_LINE as usize {
-            obey(&mut self.debugger, Command::Bad, answer)?;
-        } else {
-            obey(&mut self.debugger, Command::Clear(line as u32), answer)?;
-        }
-        Ok(())
-    }
-
-    /// BREAK of the section of this name.
-    fn break_section(&mut self, name: &Name, answer: &mut Vec<u8>) -> Result<(), AllocError>
-        ensures place { OnOk result (self.new ≡ on_section_next self.old plain.Break name.now) }
-        ensures said { OnOk result (answer.new.items
-            ≡ answer.old.items ++ on_section_said self.old plain.Break name.now) }
-        ensures memory { OnErr result (self.new ≡ self.old) }
-    {
-        match line_of_section(self.debugger.machine().program(), name.as_slice()) {
-            Some(line) => self.break_line(line, answer),
-            None => push_no_section(answer, name.as_slice()),
-        }
-    }
-
-    /// CLEAR of the section of this name.
-    fn clear_section(&mut self, name: &Name, answer: &mut Vec<u8>) -> Result<(), AllocError>
-        ensures place { OnOk result (self.new ≡ on_section_next self.old plain.Clear name.now) }
-        ensures said { OnOk result (answer.new.items
-            ≡ answer.old.items ++ on_section_said self.old plain.Clear name.now) }
-        ensures memory { OnErr result (self.new ≡ self.old) }
-    {
-        match line_of_section(self.debugger.machine().program(), name.as_slice()) {
-            Some(line) => self.clear_line(line, answer),
-            None => push_no_section(answer, name.as_slice()),
-        }
-    }
-
-    /// BREAKS.
-    fn breaks(&self, answer: &mut Vec<u8>) -> Result<(), AllocError>
-        ensures { OnOk result (answer.new.items ≡ answer.old.items ++ breaks_said self.now) }
-    {
-        let breaks = self.debugger.break_lines(self.alloc)?;
-        push_break_lines(answer, &self.lines, &breaks)
     }
 
     /// SHOW of a question beside those of docs/DEBUGGER.md.
@@ -387,13 +306,15 @@ impl<S: SetBoard> Prompt<S> {
             PromptCommand::History(question, rows) => self.history(&question, rows, answer)?,
             PromptCommand::Display(question) => self.display(question, answer)?,
             PromptCommand::Undisplay => self.undisplay(answer)?,
+            PromptCommand::Names(name) => self.names(name, answer)?,
+            PromptCommand::Warnings => self.warnings(answer)?,
             PromptCommand::Help(word) => push_help(answer, word)?,
         }
         Ok(Go::On)
     }
 }
 
-impl<S: SetBoard> Answerer for Prompt<S> {
+impl<'a, S: SetBoard> Answerer for Prompt<'a, S> {
     ghost meaning = { prompting };
 
     ghost state = { λ p. p };
@@ -407,6 +328,6 @@ impl<S: SetBoard> Answerer for Prompt<S> {
     }
 
     fn put_refusal<C: Console>(&self, console: &mut C) -> Result<(), PutFault> {
-        put_all(console, OUT_OF_MEMORY)
+        put_refusal_at(console, self.debugger.machine())
     }
 }

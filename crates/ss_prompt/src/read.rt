@@ -3,7 +3,7 @@ ghost use Rattle.std.specs.Prelude.{◌≡◌, codes};
 ghost use Rattle.ss_debug.specs.CommandLines.{command_words};
 ghost use Rattle.ss_prompt.specs.Words.{command_behind, only_name_of};
 ghost use Rattle.ss_prompt.specs.Reading.{made_or_bad, alone, over_of, back_over_of, back_to_of};
-ghost use Rattle.ss_prompt.specs.Reading.{go_command, back_command, list_command, help_command};
+ghost use Rattle.ss_prompt.specs.Reading.{go_command, back_command, list_command, names_command, help_command};
 ghost use Rattle.ss_prompt.specs.Asked.{asked_of, own_asked};
 ghost use Rattle.ss_prompt.specs.Histories.{history_wanted};
 ghost use Rattle.ss_prompt.specs.Reading.{run_command, sight_command, show_command};
@@ -231,6 +231,19 @@ fn display(rest: &[u8]) -> PromptCommand
     }
 }
 
+/// What stands behind NAMES: nothing, or a name.
+fn names(rest: &[u8]) -> PromptCommand
+    ensures { result ≡ names_command (command_words rest.now) }
+{
+    if next_word(rest).is_none() {
+        return PromptCommand::Names(None);
+    }
+    match only_name(rest) {
+        Some(name) => PromptCommand::Names(Some(name)),
+        None => PromptCommand::Plain(Command::Bad),
+    }
+}
+
 /// What stands behind HELP: nothing, or a word.
 fn help(rest: &[u8]) -> PromptCommand
     ensures { result ≡ help_command (command_words rest.now) }
@@ -293,6 +306,12 @@ fn own_in_words(line: &[u8]) -> PromptCommand
     }
     if verb == b"UNDISPLAY".as_slice() {
         return alone(PromptCommand::Undisplay, rest);
+    }
+    if verb == b"NAMES".as_slice() {
+        return names(rest);
+    }
+    if verb == b"WARNINGS".as_slice() {
+        return alone(PromptCommand::Warnings, rest);
     }
     if verb == b"HELP".as_slice() {
         return help(rest);

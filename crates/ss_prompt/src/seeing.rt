@@ -1,8 +1,8 @@
 //! What is seen of a state: read, and told.
-ghost use Rattle.std.specs.Prelude.{◌≡◌, ◌++◌, ◌∷◌, [], codes, OnOk};
+ghost use Rattle.std.specs.Prelude.{◌≡◌, ◌++◌, codes, OnOk};
 ghost use Rattle.ss_machine.specs.Moment.{position};
 ghost use Rattle.ss_debug.specs.CommandLines.{command_words};
-ghost use Rattle.ss_prompt.specs.Words.{command_behind, only_name_of};
+ghost use Rattle.ss_prompt.specs.Words.{command_behind};
 ghost use Rattle.ss_prompt.specs.Sights.{sight_alone, places_of, by_variable, is_question_word};
 ghost use Rattle.ss_prompt.specs.Sights.{sight_of, sight_said};
 

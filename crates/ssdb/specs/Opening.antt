@@ -31,6 +31,7 @@ end_of_status status = if is_faulted status then Faulted else Done
 -- the state of the prompt at the start of the run of a program over its data
 abbrev pub start_over : List ℕ → List ℕ → ProgramTable → PromptState
 start_over model data_text program = record {
+  model = model;
   lines = source_lines model;
   input = input_with program data_text;
   debugger = initial_debugger_state;

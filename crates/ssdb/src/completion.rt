@@ -1,5 +1,5 @@
 //! The words for who completes words.
-ghost use Rattle.std.specs.Prelude.{◌≡◌, ◌-◌, ◌^◌, ◌<◌, IfErr, IfOk};
+ghost use Rattle.std.specs.Prelude.{◌-◌, ◌^◌, ◌<◌, IfErr, IfOk};
 ghost use Rattle.ssdb.specs.Completion.{TellsWords, IsWordsCut};
 ghost use Rattle.ssdb.specs.Seen.{seen};
 

@@ -37,7 +37,7 @@ fn end(status: Status) -> PromptEnd
 #[tactic(auto, using(ss_console::proofs::Parts::no_prompt))]
 fn put_greeting<S: SetBoard, C: Console>(
     alloc: Global,
-    prompt: &Prompt<S>,
+    prompt: &Prompt<'_, S>,
     console: &mut C,
 ) -> Result<(), PromptFault>
     requires { (C.faults console.old).puts < 2 ^ 64 - 1 }
@@ -60,7 +60,7 @@ fn put_greeting<S: SetBoard, C: Console>(
 #[tactic(auto, using(ss_console::proofs::Parts::no_prompt))]
 fn greet<S: SetBoard, C: Console>(
     alloc: Global,
-    prompt: &Prompt<S>,
+    prompt: &Prompt<'_, S>,
     console: &mut C,
 ) -> Result<(), PromptFault>
     requires { (C.faults console.old).puts < 2 ^ 64 - 1 }
@@ -81,7 +81,7 @@ fn greet<S: SetBoard, C: Console>(
 /// Answers the lines of a console, and says how the run stands then.
 fn hold<S: SetBoard, C: Console>(
     alloc: Global,
-    prompt: &mut Prompt<S>,
+    prompt: &mut Prompt<'_, S>,
     line: &mut Vec<u8>,
     console: &mut C,
 ) -> Result<PromptEnd, PromptFault>
@@ -123,7 +123,7 @@ fn open(alloc: Global, model: &[u8], data_text: &[u8]) -> Result<Debugger<Linked
 #[tactic(auto, using(crate::proofs::Openings::holds))]
 fn greet_and_hold<S: SetBoard, C: Console>(
     alloc: Global,
-    mut prompt: Prompt<S>,
+    mut prompt: Prompt<'_, S>,
     line: &mut Vec<u8>,
     console: &mut C,
 ) -> Result<PromptEnd, PromptFault>
@@ -164,7 +164,7 @@ pub fn open_prompt<C: Console>(
     let lines = source_lines(alloc, model)?;
     match open(alloc, model, data_text) {
         Ok(debugger) => {
-            let prompt = Prompt::new(alloc, debugger, lines);
+            let prompt = Prompt::new(alloc, debugger, model, lines);
             greet_and_hold(alloc, prompt, &mut line, console)
         }
         Err(fault) => Err(refuse(alloc, model, &lines, fault, console)),

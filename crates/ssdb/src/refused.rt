@@ -1,6 +1,5 @@
 //! What is told of a refused model.
 ghost use Rattle.std.specs.Prelude.{◌≡◌, ◌-◌, ◌^◌, ◌<◌, ◌++◌, map, OnOk, IfOk};
-ghost use Rattle.ss_console.specs.Faults.{one_more_put};
 ghost use Rattle.ss_sentences.specs.Wording.{rule_sentence};
 ghost use Rattle.ss_session.specs.Load.{IsLoadFault};
 ghost use Rattle.ssdb.specs.Refused.{has_blank, rule_line, refused_model_text, IsTextTold, IsTold};
@@ -40,12 +39,12 @@ fn push_rule(text: &mut Vec<u8>, code: &str) -> Result<(), AllocError>
 /// What is said of a model that a rule of the checker refuses.
 fn check_told(
     alloc: Global,
-    lines: &[Vec<u8>],
+    lines: &[&[u8]],
     code: &str,
     line: usize,
 ) -> Result<Vec<u8>, AllocError>
     ensures { IfOk result (λ text. text.items
-        ≡ refused_model_text (map (λ l. l.items) lines.now) code.now line) }
+        ≡ refused_model_text (map (λ l. l.now) lines.now) code.now line) }
 {
     let mut text = refusal_text(alloc, code, line)?;
     push_rule(&mut text, code)?;
@@ -67,11 +66,11 @@ fn text_told(alloc: Global, model: &[u8], code: &str, line: usize) -> Result<Vec
 fn told(
     alloc: Global,
     model: &[u8],
-    lines: &[Vec<u8>],
+    lines: &[&[u8]],
     fault: LoadFault,
 ) -> Result<Vec<u8>, AllocError>
     requires fault { IsLoadFault fault model.now }
-    requires lines { map (λ l. l.items) lines.now ≡ source_lines model.now }
+    requires lines { map (λ l. l.now) lines.now ≡ source_lines model.now }
     ensures { IfOk result (λ text. IsTold model.now text.items) }
 {
     match fault {
@@ -86,13 +85,13 @@ fn told(
 pub fn refuse<C: Console>(
     alloc: Global,
     model: &[u8],
-    lines: &[Vec<u8>],
+    lines: &[&[u8]],
     fault: LoadFault,
     console: &mut C,
 ) -> PromptFault
     requires puts { (C.faults console.old).puts < 2 ^ 64 - 1 }
     requires fault { IsLoadFault fault model.now }
-    requires lines { map (λ l. l.items) lines.now ≡ source_lines model.now }
+    requires lines { map (λ l. l.now) lines.now ≡ source_lines model.now }
     ensures { IsRefusalWritten model.now (seen (C.terminal console.old) (C.left console.old)
         (C.left console.new) (C.log console.old) (C.log console.new)) result }
 {

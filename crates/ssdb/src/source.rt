@@ -15,16 +15,15 @@ fn without_return(line: &[u8]) -> &[u8]
     line
 }
 
-/// The lines of a model, each in memory of its own, so that each is found at once.
-pub fn source_lines(alloc: Global, model: &[u8]) -> Result<Vec<Vec<u8>>, AllocError>
-    ensures { IfOk result (λ lines. map (λ line. line.items) lines.items ≡ source_lines model.now) }
+/// The lines of a model, so that each is found at once.
+pub fn source_lines<'a>(alloc: Global, model: &'a [u8]) -> Result<Vec<&'a [u8]>, AllocError>
+    ensures { IfOk result (λ lines. map (λ line. line.now) lines.items ≡ source_lines model.now) }
 {
     let mut lines = Vec::new(alloc);
     let mut rest = model;
     while !rest.is_empty() {
         let (line, more) = split_line(rest);
-        let kept = without_return(line).to_vec(alloc)?;
-        lines.push(kept)?;
+        lines.push(without_return(line))?;
         rest = more;
     }
     Ok(lines)

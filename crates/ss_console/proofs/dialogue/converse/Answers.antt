@@ -1,5 +1,6 @@
 use Rattle.std.proofs.Common.{◌≡◌, refl, rules, ap, inl, inr, true, false, Ok}
-use Rattle.ss_console.proofs.Turns.{done_none, ends_in_prompt, ends_by_input, ends_in_answer, ends_by_line, has_read, goes_on_with}
+use Rattle.ss_console.proofs.Turns.{done_none, ends_in_prompt, ends_by_input, ends_in_answer, ends_by_line, has_read}
+use Rattle.ss_console.proofs.Turns.{goes_on_with}
 use Rattle.ss_console.specs.Reply.{reply_ends}
 use Rattle.ss_console.proofs.dialogue.converse.Goals as goal
 
@@ -33,7 +34,8 @@ returns-in_err-put_reply-clause-write g c _ =
     let reply = rw c.deref.ensures.value at c.reply-reply.ensures in
     inr
     (rw c.put_reply.ensures.lines
-    (ends_in_answer _ _ _ _ _ _ _ _ _ _ _ _ _ _ _ read reply (rw c.deref-in-loop.ensures.value refl) c.in_err-put_reply.ensures.err.0))
+    (ends_in_answer _ _ _ _ _ _ _ _ _ _ _ _ _ _ _ read reply
+    (rw c.deref-in-loop.ensures.value refl) c.in_err-put_reply.ensures.err.0))
 
 pub returns-then-ends-clause-ok : goal.returns-then-ends-clause-ok
 returns-then-ends-clause-ok g c =
@@ -47,7 +49,8 @@ returns-then-ends-clause-ok g c =
     let last : reply_ends c.reply-reply.result ≡ true = search rules in
     inr
     (rw c.put_reply.ensures.lines
-    (ends_by_line _ _ _ _ _ _ _ _ _ _ _ _ _ _ _ read reply (rw c.deref-in-loop.ensures.value refl) c.in_ok-put_reply.ensures.ok.0 last))
+    (ends_by_line _ _ _ _ _ _ _ _ _ _ _ _ _ _ _ read reply
+    (rw c.deref-in-loop.ensures.value refl) c.in_ok-put_reply.ensures.ok.0 last))
 
 pub loop-preserved : goal.loop-preserved
 loop-preserved g c =
@@ -62,7 +65,8 @@ loop-preserved g c =
     record {
       done =
           rw c.put_reply.ensures.lines
-          (goes_on_with _ _ _ _ _ _ _ _ _ _ _ _ _ _ _ read reply (rw c.deref-in-loop.ensures.value refl) c.in_ok-put_reply.ensures.ok.0 on);
+          (goes_on_with _ _ _ _ _ _ _ _ _ _ _ _ _ _ _ read reply
+          (rw c.deref-in-loop.ensures.value refl) c.in_ok-put_reply.ensures.ok.0 on);
       terminal = search rules;
       faults = search rules;
       room = search rules;

@@ -7,7 +7,7 @@ use Rattle.ssdb.proofs.opening.open_prompt.Goals as goal
 pub returns-in-Ok-clause-ok : goal.returns-in-Ok-clause-ok
 returns-in-Ok-clause-ok g c =
     let start : IsStart c.args.model.now c.args.data_text.now c.new-prompt.result =
-    starts c.args.model.now c.args.data_text.now c.in-Ok.debugger (map (λ l. l.items) c.in_ok-lines.lines.items)
+    starts c.args.model.now c.args.data_text.now c.in-Ok.debugger (map (λ l. l.now) c.in_ok-lines.lines.items)
     c.new-prompt.result c.new-prompt.ensures c.in-Ok.ensures.program c.in-Ok.ensures.input c.in-Ok.ensures.start
     c.in_ok-lines.ensures in
     IfOk-weaker c.greet_and_hold.result _ _
@@ -17,7 +17,7 @@ returns-in-Ok-clause-ok g c =
 pub returns-in-Ok-clause-err : goal.returns-in-Ok-clause-err
 returns-in-Ok-clause-err g c =
     let start : IsStart c.args.model.now c.args.data_text.now c.new-prompt.result =
-    starts c.args.model.now c.args.data_text.now c.in-Ok.debugger (map (λ l. l.items) c.in_ok-lines.lines.items)
+    starts c.args.model.now c.args.data_text.now c.in-Ok.debugger (map (λ l. l.now) c.in_ok-lines.lines.items)
     c.new-prompt.result c.new-prompt.ensures c.in-Ok.ensures.program c.in-Ok.ensures.input c.in-Ok.ensures.start
     c.in_ok-lines.ensures in
     IfErr-weaker c.greet_and_hold.result _ _

@@ -6,9 +6,10 @@ use Rattle.ssdb.proofs.source.source_lines.Goals as goal
 pub loop-rest-preserved : goal.loop-rest-preserved
 loop-rest-preserved c =
     let some : 0 < length c.loop-rest.rest.now = search rules in
-    line_taken (map (λ v. v.items) c.loop-rest.lines.items) _ _ c.loop-rest.rest.now _ _ c.in_ok-kept.kept.items some
+    line_taken (map (λ v. v.now) c.loop-rest.lines.items) _ _ c.loop-rest.rest.now _ _ c.without_return.result.now some
     c.split_line.ensures.before c.split_line.ensures.after (search rules) c.loop-rest.invariant
-    (ap (map (λ v. v.items)) c.in_ok-push.ensures.items ∙ map_push (λ v. v.items) c.loop-rest.lines.items c.in_ok-kept.kept)
+    (ap (map (λ v. v.now)) c.in_ok-push.ensures.items
+    ∙ map_push (λ v. v.now) c.loop-rest.lines.items c.without_return.result)
 
 pub returns : goal.returns
 returns c = all_taken _ _ c.loop-rest.rest.now (search rules) c.loop-rest.invariant

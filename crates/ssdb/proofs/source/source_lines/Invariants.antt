@@ -4,7 +4,7 @@ use Rattle.ssdb.proofs.source.source_lines.Given as goal
 
 abbrev pub invariant-loop-rest : goal.invariant-loop-rest
 invariant-loop-rest l =
-    map (λ line. line.items) l.lines.items ++ source_lines l.rest ≡ source_lines l.model
+    map (λ line. line.now) l.lines.items ++ source_lines l.rest ≡ source_lines l.model
 
 abbrev pub decreases-loop-rest : goal.decreases-loop-rest
 decreases-loop-rest l = length l.rest

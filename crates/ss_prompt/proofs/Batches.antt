@@ -1,0 +1,64 @@
+-- Lines that are all commands of docs/DEBUGGER.md, at the prompt.
+use Rattle.std.proofs.Common.{◌≡◌, Bool, true, false, ℕ, List, [], ◌∷◌, ◌++◌, map, refl, ◌∙◌, append_assoc, ap}
+use Rattle.std.specs.Prelude.{if◌then◌else◌}
+use Rattle.ss_machine.specs.Run.{Input}
+use Rattle.ss_debug.specs.declared.commands.Command.{Command}
+use Rattle.ss_debug.specs.Command.{command_of}
+use Rattle.ss_debug.specs.Turn.{DebuggerState, answer, debugger_state_after, debugger_state_after_lines}
+use Rattle.ss_debug.specs.Turn.{obeyed_lines, is_quit}
+use Rattle.ss_console.specs.Dialogue.{answered, state_after_all}
+use Rattle.ss_console.specs.Laws.{answers}
+use Rattle.ss_prompt.specs.declared.commands.PromptCommand.TheVariants.{Plain}
+use Rattle.ss_prompt.specs.PromptState.{PromptState}
+use Rattle.ss_prompt.specs.Plain.{plain_next, plain_said, plain_stop}
+use Rattle.ss_prompt.specs.Prompting.{prompting, prompt_answer, prompt_state_after}
+use Rattle.ss_prompt.specs.Reading.{prompt_command_of}
+use Rattle.ss_prompt.specs.Laws.{ArePlain, AnswersFirst, PlainLinesAnswerTheBatch, PlainLinesLeadAsTheBatch}
+use Rattle.ss_prompt.proofs.Plains.{plain_lines}
+
+-- behind a line that ends none counts
+up_to : (ends : Bool) (t : Input) (d : DebuggerState) (lines : List (List ℕ)) (text : List ℕ) →
+    AnswersFirst t d lines text → AnswersFirst t d (if ends then [] else lines) (if ends then [] else text)
+unfolding AnswersFirst
+up_to true t d lines text h = refl
+up_to false t d lines text h = h
+
+-- what a line is answered that is the plain command c, and what those behind it are
+abbrev with_rest : PromptState → Command → List (List ℕ) → List ℕ
+with_rest s c lines =
+    plain_said s c ++ (if is_quit c then [] else answers prompting (plain_next s c) lines)
+
+-- the answers to a line and to those behind it
+answered_line : (s : PromptState) (line : List ℕ) (lines : List (List ℕ)) →
+    prompt_command_of line ≡ Plain (command_of line) →
+    answers prompting s (line ∷ lines) ≡ with_rest s (command_of line) lines
+unfolding answers prompt_answer prompt_state_after
+answered_line s line lines e = rw e refl
+
+pub plain_batch : PlainLinesAnswerTheBatch
+unfolding ArePlain AnswersFirst answers
+plain_batch s [] h = refl
+plain_batch s (line ∷ lines) h =
+    let c = command_of line in
+    let rest : List ℕ = if is_quit c then [] else answers prompting (plain_next s c) lines in (
+      plain_stop s c,
+      rest,
+      (answered_line s line lines (plain_lines line h.0)
+          ∙ append_assoc (answer s.input s.debugger c) (plain_stop s c) rest),
+      up_to (is_quit c) s.input (debugger_state_after s.input s.debugger c) (obeyed_lines lines)
+          (answers prompting (plain_next s c) lines) (plain_batch (plain_next s c) lines h.1),
+    )
+
+-- the state behind a line
+led_line : (s : PromptState) (line : List ℕ) → prompt_command_of line ≡ Plain (command_of line) →
+    prompt_state_after s (prompt_command_of line) ≡ plain_next s (command_of line)
+unfolding prompt_state_after
+led_line s line e = rw e refl
+
+pub plain_led : PlainLinesLeadAsTheBatch
+unfolding ArePlain state_after_all debugger_state_after_lines
+plain_led s [] h = refl
+plain_led s (line ∷ lines) h =
+    ap (λ (v : PromptState). (state_after_all prompting v (map answered lines)).debugger)
+    (led_line s line (plain_lines line h.0))
+    ∙ plain_led (plain_next s (command_of line)) lines h.1

@@ -1,0 +1,176 @@
+-- The lines of a text are the same at a console and in a batch, and what is kept of a line says what the line says.
+use Rattle.std.proofs.Common.{◌≡◌, ℕ, ◌+◌, ◌<◌, ◌≤◌, Bool, true, false, not, ◌||◌, nat_lt}
+use Rattle.std.proofs.Common.{List, [], ◌∷◌, length, map, refl, ap, sym, ◌∙◌, arith}
+use Rattle.std.specs.Prelude.{nat_eq, ◌==◌, if◌then◌else◌}
+use Rattle.std.proofs.lemmas.Bool.Decides.{nat_tests}
+use Rattle.std.specs.List.{filter, list_any, slice_split}
+use Rattle.ss_words.specs.TextLines.{without_empty_last}
+use Rattle.ss_console.specs.Lines.{is_stop, lines, onto_first, kept}
+use Rattle.ss_console.specs.Laws.{answers}
+use Rattle.ss_console.proofs.KeptLaws.{short_lines_are_kept, long_lines_are_cut, words_are_kept}
+use Rattle.ss_console.specs.declared.lines.TheConstants.{LINE_LIMIT}
+use Rattle.ss_debug.specs.declared.commands.Command.{Command}
+use Rattle.ss_debug.specs.declared.commands.Command.TheVariants.{Blank, Bad}
+use Rattle.ss_debug.specs.CommandLines.{separates, word_separators, is_written, command_words}
+use Rattle.ss_debug.specs.CommandLines.{command_lines}
+use Rattle.ss_debug.specs.Command.{command_of, command_of_long_line}
+use Rattle.ss_prompt.specs.PromptState.{PromptState}
+use Rattle.ss_prompt.specs.Reading.{or_own, bad, own_command_of, prompt_command_of}
+use Rattle.ss_prompt.specs.Prompting.{prompting, prompt_state_after}
+use Rattle.ss_prompt.specs.Laws.{KeptLinesSayTheSame, LinesAreThoseOfTheBatch, PlainTextsAnswerTheBatch}
+use Rattle.ss_prompt.proofs.Batches.{plain_batch}
+
+-- ---- words
+
+-- whether a list has an element
+abbrev has_some : {A : Type 0} → List A → Bool
+has_some [] = false
+has_some (x ∷ xs) = true
+
+-- with a byte in front of the first piece some piece is written
+written_front : (b : ℕ) (pieces : List (List ℕ)) → has_some (filter is_written (onto_first b pieces)) ≡ true
+written_front b [] = refl
+written_front b (piece ∷ pieces) = refl
+
+words_at : (p : ℕ → Bool) (b : ℕ) (bs : List ℕ) (c : Bool) → p b ≡ c →
+    has_some (filter is_written (slice_split p bs)) ≡ list_any (λ x. not (p x)) bs →
+    has_some (filter is_written (slice_split p (b ∷ bs))) ≡ list_any (λ x. not (p x)) (b ∷ bs)
+words_at p b bs true e h = rw e h
+words_at p b bs false e h = rw e (written_front b (slice_split p bs))
+
+-- a line has words where some byte of it separates none
+pub words_there : (p : ℕ → Bool) (line : List ℕ) →
+    has_some (filter is_written (slice_split p line)) ≡ list_any (λ x. not (p x)) line
+words_there p [] = refl
+words_there p (b ∷ bs) = words_at p b bs (p b) refl (words_there p bs)
+
+same_at : (n m : ℕ) (b : Bool) → nat_eq n m ≡ b → nat_eq m n ≡ b
+same_at n m true e = grind (arith, nat_tests)
+same_at n m false e = grind (arith, nat_tests)
+
+same_either_way : (n m : ℕ) → nat_eq n m ≡ nat_eq m n
+same_either_way n m = sym (same_at n m (nat_eq n m) refl)
+
+or_three : (a b c : Bool) → (a || (b || (c || false))) ≡ ((a || b) || c)
+or_three true b c = refl
+or_three false true c = refl
+or_three false false true = refl
+or_three false false false = refl
+
+-- what separates words
+separates_is_stop : (b : ℕ) → separates (32 ∷ 9 ∷ 13 ∷ []) b ≡ is_stop b
+separates_is_stop b =
+    rw (same_either_way 32 b, same_either_way 9 b, same_either_way 13 b)
+    (or_three (nat_eq b 32) (nat_eq b 9) (nat_eq b 13))
+
+any_same : (p q : ℕ → Bool) → ((b : ℕ) → p b ≡ q b) → (bs : List ℕ) → list_any p bs ≡ list_any q bs
+any_same p q e [] = refl
+any_same p q e (b ∷ bs) = rw (e b, any_same p q e bs) refl
+
+-- ---- lines
+
+front_at : (b : ℕ) (piece : List ℕ) (pieces : List (List ℕ)) →
+    onto_first b (without_empty_last (piece ∷ pieces)) ≡ without_empty_last ((b ∷ piece) ∷ pieces)
+unfolding without_empty_last
+front_at b [] [] = refl
+front_at b (c ∷ cs) [] = refl
+front_at b piece (next ∷ pieces) = refl
+
+-- there is a first piece
+abbrev head_of : List (List ℕ) → List ℕ
+head_of [] = []
+head_of (piece ∷ pieces) = piece
+
+abbrev tail_of : List (List ℕ) → List (List ℕ)
+tail_of [] = []
+tail_of (piece ∷ pieces) = pieces
+
+pieces_front : (b : ℕ) (pieces : List (List ℕ)) →
+    onto_first b pieces ≡ head_of (onto_first b pieces) ∷ tail_of (onto_first b pieces)
+pieces_front b [] = refl
+pieces_front b (piece ∷ pieces) = refl
+
+pieces_at : (p : ℕ → Bool) (b : ℕ) (bs : List ℕ) (c : Bool) → p b ≡ c →
+    slice_split p (b ∷ bs) ≡ head_of (slice_split p (b ∷ bs)) ∷ tail_of (slice_split p (b ∷ bs))
+pieces_at p b bs true e = rw e refl
+pieces_at p b bs false e = rw e (pieces_front b (slice_split p bs))
+
+pieces : (p : ℕ → Bool) (text : List ℕ) →
+    slice_split p text ≡ head_of (slice_split p text) ∷ tail_of (slice_split p text)
+pieces p [] = refl
+pieces p (b ∷ bs) = pieces_at p b bs (p b) refl
+
+end_front : (b : ℕ) (all : List (List ℕ)) → all ≡ head_of all ∷ tail_of all →
+    onto_first b (without_empty_last all) ≡ without_empty_last (onto_first b all)
+end_front b [] e = absurd (cc)
+end_front b (piece ∷ more) e = front_at b piece more
+
+end_behind : (all : List (List ℕ)) → all ≡ head_of all ∷ tail_of all →
+    [] ∷ without_empty_last all ≡ without_empty_last ([] ∷ all)
+unfolding without_empty_last
+end_behind [] e = absurd (cc)
+end_behind (piece ∷ more) e = refl
+
+lines_at : (b : ℕ) (bs : List ℕ) (c : Bool) → (b == 10) ≡ c →
+    lines bs ≡ without_empty_last (slice_split (separates (10 ∷ [])) bs) →
+    lines (b ∷ bs) ≡ without_empty_last (slice_split (separates (10 ∷ [])) (b ∷ bs))
+unfolding lines
+lines_at b bs true e h =
+    rw (same_either_way 10 b, e, h)
+    (end_behind (slice_split (separates (10 ∷ [])) bs) (pieces (separates (10 ∷ [])) bs))
+lines_at b bs false e h =
+    rw (same_either_way 10 b, e, h)
+    (end_front b (slice_split (separates (10 ∷ [])) bs) (pieces (separates (10 ∷ [])) bs))
+
+-- the lines of a text
+pub lines_same : LinesAreThoseOfTheBatch
+unfolding lines without_empty_last command_lines
+lines_same [] = refl
+lines_same (b ∷ bs) = lines_at b bs (b == 10) refl (lines_same bs)
+
+-- ---- what is kept of a line
+
+-- what a line says that is too long, by whether it has a word
+abbrev says : Bool → Command
+says some = if some then Bad else Blank
+
+long_words : (words : List (List ℕ)) → command_of_long_line words ≡ says (has_some words)
+long_words [] = refl
+long_words (word ∷ words) = refl
+
+-- whether a line has a word
+words_in : (line : List ℕ) → has_some (command_words line) ≡ list_any (λ b. not (is_stop b)) line
+unfolding command_words
+words_in line =
+    words_there (separates word_separators) line
+    ∙ any_same (λ b. not (separates word_separators b)) (λ b. not (is_stop b)) (λ b. ap not (separates_is_stop b)) line
+
+-- what a line says that is too long
+long_says : (line : List ℕ) → nat_lt LINE_LIMIT (length line) ≡ true →
+    prompt_command_of line ≡ or_own (says (list_any (λ b. not (is_stop b)) line)) bad
+unfolding prompt_command_of own_command_of command_of
+long_says line e = rw (e, long_words (command_words line), words_in line) refl
+
+kept_at : (line : List ℕ) (b : Bool) → nat_lt LINE_LIMIT (length line) ≡ b →
+    prompt_command_of (kept line) ≡ prompt_command_of line
+kept_at line false e =
+    let short : length line ≤ LINE_LIMIT = grind (arith, nat_tests) in
+    ap prompt_command_of (short_lines_are_kept line short)
+kept_at line true e =
+    let long : LINE_LIMIT < length line = grind (arith, nat_tests) in
+    let cut : length (kept line) ≡ LINE_LIMIT + 1 = long_lines_are_cut line long in
+    let past : nat_lt LINE_LIMIT (length (kept line)) ≡ true = rw cut refl in
+    long_says (kept line) past ∙ ap (λ some. or_own (says some) bad) (words_are_kept line) ∙ sym (long_says line e)
+
+pub kept_says : KeptLinesSayTheSame
+kept_says line = kept_at line (nat_lt LINE_LIMIT (length line)) refl
+
+-- so they are answered the same
+answers_kept : (s : PromptState) (ls : List (List ℕ)) → answers prompting s (map kept ls) ≡ answers prompting s ls
+unfolding answers
+answers_kept s [] = refl
+answers_kept s (line ∷ ls) =
+    rw (kept_says line, answers_kept (prompt_state_after s (prompt_command_of line)) ls) refl
+
+pub plain_texts : PlainTextsAnswerTheBatch
+plain_texts s text h = rw (answers_kept s (lines text), lines_same text) (plain_batch s (command_lines text) h)

@@ -1,0 +1,24 @@
+-- The names of a model, and what it is warned of, as the prompt tells them.
+use Rattle.std.specs.Prelude.{ℕ, List, [], ◌∷◌, ◌++◌, codes, Option, Some, None}
+use Rattle.ss_program.specs.Program.{ProgramTable}
+use Rattle.ss_names.specs.Index.{names_text, name_text}
+use Rattle.ss_names.specs.Warnings.{warnings}
+use Rattle.ss_names.specs.Unused.{program_warnings}
+
+-- what was found, or what is said where that is nothing
+abbrev pub found_or : List ℕ → List ℕ → List ℕ
+found_or none [] = none
+found_or none (b ∷ bs) = b ∷ bs
+
+-- what NAMES answers: the names of a model, or what one of them is
+unfoldable pub names_said : List ℕ → Option (List ℕ) → List ℕ
+names_said model None = found_or (codes "NO NAMES\n") (names_text model)
+names_said model (Some name) = name_text model name
+
+-- what a model is warned of: of its words, and of its program
+unfoldable pub warnings_told : ProgramTable → List ℕ → List ℕ
+warnings_told p model = warnings model ++ program_warnings p model
+
+-- what WARNINGS answers
+unfoldable pub warnings_said : ProgramTable → List ℕ → List ℕ
+warnings_said p model = found_or (codes "NO WARNINGS\n") (warnings_told p model)

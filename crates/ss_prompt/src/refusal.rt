@@ -1,0 +1,127 @@
+//! That memory was refused is told, and where the debugger stands then.
+ghost use Rattle.std.specs.Prelude.{◌≡◌, ◌-◌, ◌^◌, ◌<◌, ◌++◌, OnOk, OnErr};
+ghost use Rattle.ss_console.specs.Event.{Adds, written};
+ghost use Rattle.ss_console.specs.Faults.{one_more_put};
+ghost use Rattle.ss_console.specs.Puts.{AddsPart, joined};
+ghost use Rattle.ss_machine.specs.Moment.{position};
+ghost use Rattle.ss_debug.specs.Answer.{status_text};
+ghost use Rattle.ss_prompt.specs.Refusal.{refusal_parts, refusal_with, refusal_at};
+
+use crate::sections::present_line;
+use itoa::Buffer;
+use ss_console::{Console, PutFault, put_texts};
+use ss_links::SetBoard;
+use ss_machine::{Machine, Status};
+
+/// Writes that memory was refused, and a state line of its parts.
+fn put_parts<'a, C: Console>(
+    console: &mut C,
+    position: &'a [u8],
+    clock: &'a [u8],
+    word: &'a [u8],
+    number: &'a [u8],
+    section: &'a [u8],
+    line: &'a [u8],
+) -> Result<(), PutFault>
+    requires { (C.faults console.old).puts < 2 ^ 64 - 1 }
+    ensures ok { OnOk result (Adds (C.log console.old) (C.log console.new)
+        (written (joined (refusal_parts position.now clock.now word.now number.now section.now line.now)))
+        × (C.faults console.new ≡ C.faults console.old)) }
+    ensures err { OnErr result (AddsPart
+        (joined (refusal_parts position.now clock.now word.now number.now section.now line.now))
+        (C.log console.old) (C.log console.new)
+        × (C.faults console.new ≡ one_more_put (C.faults console.old))) }
+    ensures lines { C.left console.new ≡ C.left console.old }
+    ensures terminal { C.terminal console.new ≡ C.terminal console.old }
+{
+    put_texts(
+        console,
+        &[
+            b"OUT OF MEMORY\n",
+            b"STATE ",
+            position,
+            b" CLOCK ",
+            clock,
+            b" ",
+            word,
+            number,
+            b" IN ",
+            section,
+            b" LINE ",
+            line,
+            b"\n",
+        ],
+    )
+}
+
+/// Writes that memory was refused, and where a machine stands, by the word of its status and the
+/// number behind that word.
+fn put_with<S: SetBoard, C: Console>(
+    console: &mut C,
+    machine: &Machine<S>,
+    word: &[u8],
+    number: &[u8],
+) -> Result<(), PutFault>
+    requires { (C.faults console.old).puts < 2 ^ 64 - 1 }
+    ensures ok { OnOk result (Adds (C.log console.old) (C.log console.new)
+        (written (joined (refusal_with machine.now.input (position machine.now) word.now number.now)))
+        × (C.faults console.new ≡ C.faults console.old)) }
+    ensures err { OnErr result (AddsPart
+        (joined (refusal_with machine.now.input (position machine.now) word.now number.now))
+        (C.log console.old) (C.log console.new)
+        × (C.faults console.new ≡ one_more_put (C.faults console.old))) }
+    ensures lines { C.left console.new ≡ C.left console.old }
+    ensures terminal { C.terminal console.new ≡ C.terminal console.old }
+{
+    machine.known();
+    let (section, _) = machine.place();
+    let name = machine.program().section(section).name.bytes.as_slice();
+    let mut position = Buffer::new();
+    let mut clock = Buffer::new();
+    let mut line = Buffer::new();
+    put_parts(
+        console,
+        position.format(machine.position()).as_bytes(),
+        clock.format(machine.clock()).as_bytes(),
+        word,
+        number,
+        name,
+        line.format(present_line(machine)).as_bytes(),
+    )
+}
+
+/// Writes that memory was refused, and the state line of a machine; it wants no memory itself.
+pub(crate) fn put_refusal_at<S: SetBoard, C: Console>(
+    console: &mut C,
+    machine: &Machine<S>,
+) -> Result<(), PutFault>
+    requires { (C.faults console.old).puts < 2 ^ 64 - 1 }
+    ensures ok { OnOk result (Adds (C.log console.old) (C.log console.new)
+        (written (refusal_at machine.now.input (position machine.now)))
+        × (C.faults console.new ≡ C.faults console.old)) }
+    ensures err { OnErr result (AddsPart (refusal_at machine.now.input (position machine.now))
+        (C.log console.old) (C.log console.new)
+        × (C.faults console.new ≡ one_more_put (C.faults console.old))) }
+    ensures lines { C.left console.new ≡ C.left console.old }
+    ensures terminal { C.terminal console.new ≡ C.terminal console.old }
+{
+    machine.known();
+    let mut digits = Buffer::new();
+    let (word, number) = status_pieces(machine.status(), &mut digits);
+    put_with(console, machine, word, number)
+}
+
+/// The word of a status, and the number behind it.
+fn status_pieces(status: Status, number: &mut Buffer) -> (&[u8], &[u8])
+    ensures { status_text status ≡ result.0.now ++ result.1.now }
+{
+    match status {
+        Status::Ready => (b"READY", b""),
+        Status::Stopped => (b"STOPPED", b""),
+        Status::Finished => (b"FINISHED", b""),
+        Status::Faulted(fault) => {
+            let digits = number.format(u64::from(fault.number())).as_bytes();
+            (b"FAULT F", digits)
+        }
+    }
+}
