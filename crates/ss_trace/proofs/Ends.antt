@@ -5,7 +5,8 @@ use Rattle.ss_machine.specs.declared.limits.TheConstants.{LAST_POSITION}
 use Rattle.ss_machine.specs.Run.{Input}
 use Rattle.ss_debug.specs.Move.{is_ready_at, is_on_break, search_back_end, EndsAt}
 use Rattle.ss_debug.proofs.Moves.{forward_ends, search_back_ends}
-use Rattle.ss_trace.specs.Movements.{Counted, counted, ahead_condition, ahead_end, is_level, frames_at, is_met, is_met_back}
+use Rattle.ss_trace.specs.Movements.{Counted, counted, ahead_condition, ahead_end, is_level, frames_at, is_met}
+use Rattle.ss_trace.specs.Movements.{is_met_back}
 use Rattle.ss_trace.specs.Movements.{over, back_over}
 use Rattle.ss_trace.specs.Laws.{IsAheadWithin, IsBackWithin}
 

@@ -35,7 +35,7 @@ use Rattle.ss_trace.specs.declared.question.Question.TheVariants.{Shown, Attribu
 use Rattle.ss_trace.specs.declared.attribute.Kept.{Kept}
 use Rattle.ss_trace.specs.declared.sight.Sight.TheVariants as sights
 use Rattle.ss_trace.specs.declared.glance.Glance.{Glance}
-use Rattle.ss_trace.specs.declared.glance.Glance.TheVariants.{Number, Taken, Entry as EntryThere, Members}
+use Rattle.ss_trace.specs.declared.glance.Glance.TheVariants.{Number, Amount, Entry as EntryThere, Members}
 use Rattle.ss_trace.specs.declared.touches.Part.TheVariants.{Lists}
 use Rattle.ss_trace.specs.Question.{answer_at, attribute_text, class_attribute_text, attribute_line, attribute_or_kept}
 use Rattle.ss_trace.specs.Question.{kept_named, kept_in_set, kept_of, has_kept}
@@ -47,6 +47,7 @@ use Rattle.ss_trace.specs.Sight.{sight_of_list, members_seen, members_counted}
 use Rattle.ss_trace.specs.Sight.{is_same_number, is_same_count, is_same_entry, is_same_glance}
 use Rattle.ss_trace.specs.Touches.{touches_at, part_of}
 use Rattle.ss_trace.proofs.Counting.{HasCounted}
+use Rattle.ss_trace.proofs.Numbered.{entity_next}
 use Rattle.ss_trace.proofs.Skips.{lists_counted, events_left, report_left}
 
 -- ---- what a glance holds
@@ -55,9 +56,9 @@ abbrev number_in : Glance → Option ℤ
 number_in (Number x) = x
 number_in _ = None
 
-abbrev taken_in : Glance → ℕ
-taken_in (Taken n) = n
-taken_in _ = 0
+abbrev amount_in : Glance → ℕ
+amount_in (Amount n) = n
+amount_in _ = 0
 
 abbrev entry_in : Glance → Entry
 entry_in (EntryThere e) = e
@@ -104,22 +105,22 @@ same_entry (entries.Running c k) (entries.Running d j) h =
 
 pub same_is : (a b : Glance) → is_same_glance a b ≡ true → a ≡ b
 same_is (Number x) (Number y) h = ap Number (same_number x y h)
-same_is (Taken n) (Taken m) h = ap Taken (eqb-true n m h)
+same_is (Amount n) (Amount m) h = ap Amount (eqb-true n m h)
 same_is (EntryThere e) (EntryThere f) h = ap EntryThere (same_entry e f h)
 same_is (Members x n) (Members y m) h =
     let b = both (int_eq x y) (is_same_count n m) h in
     rw ((Decides-int_eq x y).0 b.0, same_count n m b.1) refl
-same_is (Number x) (Taken m) h = absurd (cc)
+same_is (Number x) (Amount m) h = absurd (cc)
 same_is (Number x) (EntryThere f) h = absurd (cc)
 same_is (Number x) (Members y m) h = absurd (cc)
-same_is (Taken n) (Number y) h = absurd (cc)
-same_is (Taken n) (EntryThere f) h = absurd (cc)
-same_is (Taken n) (Members y m) h = absurd (cc)
+same_is (Amount n) (Number y) h = absurd (cc)
+same_is (Amount n) (EntryThere f) h = absurd (cc)
+same_is (Amount n) (Members y m) h = absurd (cc)
 same_is (EntryThere e) (Number y) h = absurd (cc)
-same_is (EntryThere e) (Taken m) h = absurd (cc)
+same_is (EntryThere e) (Amount m) h = absurd (cc)
 same_is (EntryThere e) (Members y m) h = absurd (cc)
 same_is (Members x n) (Number y) h = absurd (cc)
-same_is (Members x n) (Taken m) h = absurd (cc)
+same_is (Members x n) (Amount m) h = absurd (cc)
 same_is (Members x n) (EntryThere f) h = absurd (cc)
 
 -- ---- a variable
@@ -400,12 +401,12 @@ left : (t : Input) (x : Question) (p : ℕ) → touches_at t (part_of x) p ≡ f
 left t (Shown shown.Clock) p e g = clock_left t p (suc p) (some_eq (ap number_in g))
 left t (Shown shown.Where) p e g = absurd (cc)
 left t (Shown (shown.Variable name)) p e g = variable_left t name p (suc p) g
-left t (Shown (shown.Entity name x)) p e g = absurd (cc)
+left t (Shown (shown.Entity name x)) p e g = entity_next t name x p e
 left t (Shown (shown.Set name owner)) p e g = set_left t name owner p e g
 left t (Shown shown.Events) p e g = events_left t p e
-left t (Shown shown.Taken) p e g = taken_left t p (suc p) (ap taken_in g)
+left t (Shown shown.Taken) p e g = taken_left t p (suc p) (ap amount_in g)
 left t (Shown shown.Entry) p e g = entry_left t p (suc p) (ap entry_in g)
-left t (Shown shown.Report) p e g = report_left t p e
+left t (Shown shown.Report) p e g = report_left t p (ap amount_in g)
 left t (Attribute class x name) p e g = attribute_text_left t class x name p (suc p) g
 left t (Count name owner) p e g = count_left t name owner p (suc p) g
 

@@ -1,5 +1,6 @@
 -- Histories hold the steps of their test, and no others.
-use Rattle.std.proofs.Common.{◌≡◌, ℕ, zero, suc, ◌<◌, ◌≤◌, Bool, true, false, cond, List, [], ◌∷◌, refl, sym, ap, ◌∙◌, arith}
+use Rattle.std.proofs.Common.{◌≡◌, ℕ, zero, suc, ◌<◌, ◌≤◌, Bool, true, false, cond, List, [], ◌∷◌, refl, sym, ap, ◌∙◌}
+use Rattle.std.proofs.Common.{arith}
 use Rattle.std.proofs.Common.{nat_lt, inl, inr}
 use borrow.Author.Tests.{ltb-true, ltb-false}
 use Rattle.ss_trace.specs.History.{before_others, positions_where}

@@ -11,5 +11,7 @@ pub mod Counting
 pub mod Untouched
 pub mod Stored
 pub mod Skips
+pub mod Numbered
+pub mod SameKept
 pub mod Glances
 pub mod Unfoldings

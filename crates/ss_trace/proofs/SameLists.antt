@@ -1,5 +1,6 @@
 -- Stores whose entities own the same lists.
-use Rattle.std.proofs.Common.{◌≡◌, ℕ, ℤ, zero, suc, List, [], ◌∷◌, Bool, true, false, Option, Some, None, Ok, refl, ap, ◌∙◌}
+use Rattle.std.proofs.Common.{◌≡◌, ℕ, ℤ, zero, suc, List, [], ◌∷◌, Bool, true, false, Option, Some, None, Ok, refl, ap}
+use Rattle.std.proofs.Common.{◌∙◌}
 use Rattle.std.specs.Prelude.{slice_get, slice_index_or, option_map, option_and_then, is_some, unwrap_or, ◌==◌}
 use Rattle.std.specs.Prelude.{if◌then◌else◌}
 use Rattle.std.specs.Option.{option_or}
@@ -73,7 +74,7 @@ or_same (Some e) b (Some f) y h k = h
 or_same None b (Some f) y h k = cc
 or_same (Some e) b None y h k = cc
 
-changed_same : (a : ℕ) (z : ℤ) (st : Store) (c k d j : ℕ) →
+pub changed_same : (a : ℕ) (z : ℤ) (st : Store) (c k d j : ℕ) →
     lists_in (entity (with_changed (with_value a z) st c k) d j) ≡ lists_in (entity st d j)
 changed_same a z st c zero d j = refl
 changed_same a z st c (suc k) d zero = refl
@@ -81,7 +82,7 @@ changed_same a z st c (suc k) d (suc j) =
     or_same _ _ (slice_get (made_of st d) j) (option_and_then (of_class d) (slice_get st.references j))
     (class_same a z st.made c k d j) (reference_same a z c d st.references k j)
 
-changed_system : (a : ℕ) (z : ℤ) (st : Store) (c k : ℕ) → (with_changed (with_value a z) st c k).system ≡ st.system
+pub changed_system : (a : ℕ) (z : ℤ) (st : Store) (c k : ℕ) → (with_changed (with_value a z) st c k).system ≡ st.system
 changed_system a z st c zero = refl
 changed_system a z st c (suc k) = refl
 

@@ -50,7 +50,7 @@ use Rattle.ss_machine.specs.Statements.Timing.{agenda_without, state_after_cance
 use Rattle.ss_machine.specs.Statements.Timing.{event_section, store_at_start}
 use Rattle.ss_machine.specs.Statements.Timing.{state_at_time, state_after_start, step_simulation}
 use Rattle.ss_machine.specs.Statements.Timing.{arrival_asked, state_after_arrival, state_after_load, loads}
-use Rattle.ss_trace.proofs.Untouched.{Ignores, got, then_got, placed, assigned, value}
+use Rattle.ss_trace.proofs.Untouched.{Ignores, IgnoresAttributes, got, then_got, then_any, placed, assigned, value}
 
 -- what is said of a state is said of it with the store that a statement makes of its own
 pub record KeepsStores (P : State → Type 0) (s : State) : Type 0 where
@@ -83,13 +83,8 @@ any_store P s h p = record {
   ended = λ t c k. all_got _ (without_entity t s.store c k) (λ st. h s st p);
 }
 
-module _ {P : State → Type 0} (i : Ignores P) where
+module _ {P : State → Type 0} (i : Ignores P) (att : IgnoresAttributes P) where
   -- ---- where it is said of stores that statements make
-
-  -- whatever was got before
-  then_any : {A B : Type 0} (Q : B → Type 0) (r : Result A RunFault) (f : A → Result B RunFault) →
-      ((x : A) → Got Q (f x)) → Got Q (r >>= f)
-  then_any Q r f h = after_got (λ _. Unit {0}) Q r f (anything r) (λ x _. h x)
 
   -- behind a test that was passed
   then_past : {A B : Type 0} (Q : B → Type 0) (r : Result A RunFault) (n : Result B RunFault) → Got Q n →
@@ -107,7 +102,7 @@ module _ {P : State → Type 0} (i : Ignores P) where
       Got P (state_after_create t s c target)
   create t s c target k =
       over s (with_new s.store c (class_of t c)) _ (k.made c (class_of t c)) (λ st h.
-      then_got i (number_value (last_reference st)) _ (λ x. value i t (state_with_store s st) target x h))
+      then_got i (number_value (last_reference st)) _ (λ x. value i att t (state_with_store s st) target x h))
 
   every : (t : Tables) (s : State) (c count : ℕ) (e : Option Expr) → IgnoresStore P → P s →
       Got P (number_asked (readings t s) e count >>= state_after_create_every t s c count)
@@ -118,7 +113,7 @@ module _ {P : State → Type 0} (i : Ignores P) where
 
   destroy : (t : Tables) (s : State) (c : ℕ) (e : Expr) → KeepsStores P s → Got P (state_after_destroy t s c e)
   destroy t s c e k =
-      over s _ _ (then_any _ (value_of (readings t s) e >>= entity_named s.store c) (store_without t s c) (λ n.
+      over s _ _ (then_any i _ (value_of (readings t s) e >>= entity_named s.store c) (store_without t s c) (λ n.
       unless_refused _ (is_pending s.agenda n) EndedInUse (without_entity t s.store c n) (k.ended t c n)))
       (λ st h. h)
 
@@ -139,7 +134,7 @@ module _ {P : State → Type 0} (i : Ignores P) where
       after_got (λ (m : ℕ × Store). P (state_with_store s m.1)) P
       (after_removing (set_of t r.set) s.store (number_of o) (which_at end)) _
       (k.removed (set_of t r.set) (number_of o) (which_at end)) (λ m h.
-      then_got i (number_value m.0) _ (λ x. value i t (state_with_store s m.1) target x h)))
+      then_got i (number_value m.0) _ (λ x. value i att t (state_with_store s m.1) target x h)))
   filing t s (Remove e r) k =
       then_got i (value_of (readings t s) e) _ (λ x.
       then_got i (subscript_value (readings t s) r.owner) _ (λ o.
@@ -172,7 +167,7 @@ module _ {P : State → Type 0} (i : Ignores P) where
   attributes : (s : State) (c k a : ℕ) (xs : List ℤ) → P s → Got P (state_with_attributes s c k a xs)
   attributes s c k a [] p = p
   attributes s c k a (x ∷ xs) p =
-      over s (with_attribute s.store c a k x) _ (i.attribute s c a k x p)
+      over s (with_attribute s.store c a k x) _ (att s c a k x p)
       (λ st h. attributes (state_with_store s st) c k (a + 1) xs h)
 
   scheduling : (q : ProgramTable) (s : State) (c k : ℕ) (time : ℤ) (xs : List ℤ) → IgnoresTime P → P s →
@@ -189,7 +184,7 @@ module _ {P : State → Type 0} (i : Ignores P) where
       (k.made c (class_of (tables_of q) c))) (λ st h.
       after_got P P (state_after_scheduling q (state_with_store s st) c (last_reference st) time xs) _
       (scheduling q (state_with_store s st) c (last_reference st) time xs a h) (λ r g.
-      then_got i (number_value (last_reference st)) _ (λ z. value i (tables_of q) r target z g)))
+      then_got i (number_value (last_reference st)) _ (λ z. value i att (tables_of q) r target z g)))
   notice q s c (Known b e) x time xs k a p =
       then_got i (entity_named s.store c x) _ (λ j. scheduling q s c j time xs a p)
 

@@ -76,6 +76,21 @@ jobs = record {
 abbrev pub jobs_run : Input
 jobs_run = input_with jobs []
 
+-- a job that is filed and removed in neighbouring steps: 0 CREATE A JOB; 1 FILE JOB IN ROW;
+-- 2 REMOVE FIRST JOB FROM ROW; 3 END
+abbrev pub brief : ProgramTable
+brief = record jobs {
+  sections = section (codes "MAIN") Main 0 0 [] (
+      Making (Create 0 false (ToVariable (Global 0)))
+      ∷ Filing (File job ByRule queue)
+      ∷ Filing (RemoveAt ends.First (ToVariable (Global 0)) queue)
+      ∷ end_place ∷ []) ∷ [];
+}
+
+-- its run
+abbrev pub brief_run : Input
+brief_run = input_with brief []
+
 -- an event: 0 SCHEDULE A TICK(7) AT 3; 1 START SIMULATION; in TICK 2 SKIP 0, 3 SKIP 2 and 4 END; 5 START SIMULATION;
 -- 6 END
 abbrev pub ticks : ProgramTable

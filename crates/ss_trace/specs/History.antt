@@ -1,5 +1,6 @@
 -- The history of a question: the steps at which it changes, the newest first.
-use Rattle.std.specs.Prelude.{ℕ, zero, suc, ◌+◌, ◌-◌, Bool, List, [], ◌∷◌, ◌++◌, length, take, replicate, codes, decimal}
+use Rattle.std.specs.Prelude.{ℕ, zero, suc, ◌+◌, ◌-◌, Bool, List, [], ◌∷◌, ◌++◌, length, take, replicate, codes}
+use Rattle.std.specs.Prelude.{decimal}
 use Rattle.std.specs.Prelude.{Option, Some, None, if◌then◌else◌, nat_lt}
 use Rattle.std.specs.Fmt.{signed_decimal}
 use Rattle.ss_machine.specs.Run.{Input, run}

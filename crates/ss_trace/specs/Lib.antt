@@ -7,5 +7,6 @@ pub mod Laws
 pub mod History
 pub mod Sight
 pub mod Touches
+pub mod EntityNumbers
 pub mod Reading
 pub mod Examples

@@ -1,5 +1,6 @@
 -- Questions whose answers may change, and the answer to each in a state.
-use Rattle.std.specs.Prelude.{ℕ, ◌+◌, ◌==◌, ℤ, pos, false, not, Bool, List, ◌∷◌, [], ◌++◌, length, take, drop, codes, decimal}
+use Rattle.std.specs.Prelude.{ℕ, ◌+◌, ◌==◌, ℤ, pos, false, not, Bool, List, ◌∷◌, [], ◌++◌, length, take, drop, codes}
+use Rattle.std.specs.Prelude.{decimal}
 use Rattle.std.specs.Prelude.{Option, Some, None, position, bytes_eq, if◌then◌else◌}
 use Rattle.std.specs.Result.{result_unwrap_or}
 use Rattle.std.specs.Fmt.{signed_decimal}

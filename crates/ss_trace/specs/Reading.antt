@@ -4,6 +4,7 @@ use Rattle.ss_machine.specs.Run.{Input}
 use Rattle.ss_trace.specs.declared.question.Question.{Question}
 use Rattle.ss_trace.specs.declared.reading.Reading.{Reading}
 use Rattle.ss_trace.specs.Question.{answer_at}
+use Rattle.ss_trace.specs.EntityNumbers.{numbers_at}
 use Rattle.ss_trace.specs.Sight.{sight_of, IsInTables, seen_at}
 use Rattle.ss_trace.specs.Touches.{part_of}
 
@@ -22,5 +23,7 @@ pub record IsReadAt (t : Input) (x : Question) (p : ℕ) (r : Reading) : Type 0 
   pub looks : Looks t x r
   -- what was seen
   pub glance : r.glance ≡ seen_at t x p
+  -- the numbers of the entity
+  pub numbers : r.numbers.items ≡ numbers_at t x p
   -- the answer
   pub answer : r.answer.items ≡ answer_at t x p

@@ -21,7 +21,8 @@ use Rattle.ss_trace.specs.declared.question.Question.TheVariants.{Shown, Attribu
 use Rattle.ss_trace.specs.declared.attribute.Kept.{Kept as KeptKind}
 use Rattle.ss_trace.specs.declared.sight.Sight.{Sight}
 use Rattle.ss_trace.specs.declared.sight.Sight.TheVariants.{Nothing, Clock, Global, Local, Taken, Entry as EntryHere}
-use Rattle.ss_trace.specs.declared.sight.Sight.TheVariants.{Living, Attribute, Kept, Members, MembersNamed}
+use Rattle.ss_trace.specs.declared.sight.Sight.TheVariants.{Report, Entity, Living, Attribute, Kept, Members}
+use Rattle.ss_trace.specs.declared.sight.Sight.TheVariants.{MembersNamed}
 use Rattle.ss_trace.specs.declared.glance.Glance.{Glance}
 use Rattle.ss_trace.specs.declared.glance.Glance.TheVariants as glances
 use Rattle.ss_trace.specs.Question.{kept_of, has_kept, kept_value}
@@ -67,23 +68,29 @@ abbrev pub sight_of_set : ProgramTable → Option ℤ → Option ℕ → Sight
 sight_of_set p owner None = Nothing
 sight_of_set p owner (Some s) = sight_of_list p s owner (set_of p s).owner
 
+-- c k: the entity of a class, if there is one of this name
+abbrev pub sight_of_entity : ℤ → Option ℕ → Sight
+sight_of_entity x None = Nothing
+sight_of_entity x (Some c) = Entity c x
+
 -- where a question looks
 abbrev pub sight_of : ProgramTable → Question → Sight
 sight_of p (Shown shown.Clock) = Clock
 sight_of p (Shown shown.Where) = Nothing
 sight_of p (Shown (shown.Variable name)) = sight_of_variable p name
-sight_of p (Shown (shown.Entity name x)) = Nothing
+sight_of p (Shown (shown.Entity name x)) = sight_of_entity x (class_named p name)
 sight_of p (Shown (shown.Set name owner)) = sight_of_set p owner (set_named p name)
 sight_of p (Shown shown.Events) = Nothing
 sight_of p (Shown shown.Taken) = Taken
 sight_of p (Shown shown.Entry) = EntryHere
-sight_of p (Shown shown.Report) = Nothing
+sight_of p (Shown shown.Report) = Report
 sight_of p (AttributeOf class x name) = sight_of_class p x name (class_named p class)
 sight_of p (CountOf name owner) = sight_of_set p owner (set_named p name)
 
 -- the rows at which it looks are in the tables
 abbrev pub IsInTables : ProgramTable → Sight → Type 0
 IsInTables p (Global i) = i < length p.globals
+IsInTables p (Entity c x) = c < length p.classes
 IsInTables p (Kept c s kept x) = s < length p.sets
 IsInTables p (Members s x) = s < length p.sets
 IsInTables p (MembersNamed s i) = (s < length p.sets) × (i < length p.globals)
@@ -114,14 +121,16 @@ members_counted shape st k = option_map length (list_by shape.owner shape.list s
 abbrev pub members_seen : ProgramTable → Store → ℕ → ℤ → Glance
 members_seen p st s x = glances.Members x (members_counted (shape_of p s) st (number_of x))
 
--- what is seen of a state there
+-- what is seen of a state there; of an entity, whose numbers are many, nothing
 abbrev pub seen : ProgramTable → State → Question → Sight → Glance
 seen p s x Nothing = glances.Number None
 seen p s x Clock = glances.Number (Some s.clock)
 seen p s x (Global i) = glances.Number (Some (slice_index_or s.variables i (pos 0)))
 seen p s x Local = glances.Number (local_value p s (variable_asked x))
-seen p s x Taken = glances.Taken s.feed.taken
+seen p s x Taken = glances.Amount s.feed.taken
 seen p s x EntryHere = glances.Entry s.entry
+seen p s x Report = glances.Amount (length s.report)
+seen p s x (Entity c k) = glances.Number None
 seen p s x (Living c k) = glances.Number (value_if_exists s.store c (number_of k) (pos 0))
 seen p s x (Attribute c a k) =
     glances.Number (value_if_exists s.store c (number_of k)
@@ -160,7 +169,7 @@ is_same_entry _ _ = false
 -- the same is seen
 abbrev pub is_same_glance : Glance → Glance → Bool
 is_same_glance (glances.Number x) (glances.Number y) = is_same_number x y
-is_same_glance (glances.Taken n) (glances.Taken m) = n == m
+is_same_glance (glances.Amount n) (glances.Amount m) = n == m
 is_same_glance (glances.Entry e) (glances.Entry f) = is_same_entry e f
 is_same_glance (glances.Members x n) (glances.Members y m) = int_eq x y && is_same_count n m
 is_same_glance _ _ = false

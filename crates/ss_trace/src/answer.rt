@@ -5,9 +5,8 @@ ghost use Rattle.ss_trace.specs.Question.{answer_at, with_number, shown_asked, a
 
 use crate::attribute::push_attribute;
 use crate::count::push_count;
-use crate::numbers::push_integer;
 use crate::question::Question;
-use ss_debug::{Debugger, Question as Shown};
+use ss_debug::{Debugger, Question as Shown, push_integer};
 use ss_links::SetBoard;
 use std::alloc::{AllocError, Global};
 

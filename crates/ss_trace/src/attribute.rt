@@ -9,8 +9,8 @@ ghost use Rattle.ss_debug.specs.Entities.{member_read, no_entity_text};
 ghost use Rattle.ss_trace.specs.Question.{kept_of, has_kept, kept_value, kept_in_set, kept_named};
 ghost use Rattle.ss_trace.specs.Question.{attribute_named, attribute_line, attribute_text};
 
-use crate::numbers::push_integer;
-use crate::rows::{find_attribute, find_class, find_set, member_class, set_owner};
+use crate::rows::find_attribute;
+use ss_debug::{find_class, find_set, member_class, push_integer, set_owner};
 use ss_links::SetBoard;
 use ss_machine::Machine;
 use ss_program::{Owner, Program};

@@ -67,7 +67,7 @@ pub fn ahead_to_change<S: SetBoard>(
         if is_at_stop(debugger, question, from, met) {
             return Ok(met);
         }
-        let touched = reading.may_change(debugger);
+        let touched = reading.touched(debugger);
         step_once(debugger)?;
         met = reading.follow(debugger, question, touched)?.is_some();
     }
@@ -101,7 +101,7 @@ pub fn back_to_change<S: SetBoard>(
         if !debugger.step_back() {
             return Ok(false);
         }
-        let touched = reading.may_change(debugger);
+        let touched = reading.touched(debugger);
         if reading.follow(debugger, question, touched)?.is_some() {
             return Ok(true);
         }

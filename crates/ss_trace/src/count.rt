@@ -1,18 +1,16 @@
 //! How many members a list has.
-ghost use Rattle.std.specs.Prelude.{◌≡◌, ◌++◌, ◌<◌, length, OnOk, slice_index_or, pos, decimal};
+ghost use Rattle.std.specs.Prelude.{◌≡◌, ◌++◌, ◌<◌, length, OnOk};
 ghost use Rattle.ss_program.specs.declared.kinds.Owner.TheVariants.{System};
-ghost use Rattle.ss_program.specs.Program.{class_of};
 ghost use Rattle.ss_store.specs.Store.{number_of, members_of};
 ghost use Rattle.ss_machine.specs.Moment.{position};
 ghost use Rattle.ss_debug.specs.Entities.{shape_of};
 ghost use Rattle.ss_trace.specs.Question.{counted_text, owned_count_text, list_count_text, count_text};
 
 use crate::attribute::push_no_entity;
-use crate::numbers::{push_integer, push_number};
-use crate::rows::{class_name, class_variable, find_set, set_owner};
+use ss_debug::{class_name, class_value, find_set, push_integer, push_number, set_owner};
 use ss_links::SetBoard;
 use ss_machine::Machine;
-use ss_program::{Owner, Variable};
+use ss_program::Owner;
 use std::alloc::AllocError;
 
 /// How many members the list of a set has, none where its owner does not exist.
@@ -64,18 +62,6 @@ fn push_owned_count<S: SetBoard>(
     bytes.extend_from_slice(b" ")?;
     push_integer(bytes, owner)?;
     push_counted(bytes, machine, set, owner)
-}
-
-/// The value of the variable of a class.
-fn class_value<S: SetBoard>(machine: &Machine<S>, class: usize) -> i64
-    requires { class < length machine.now.input.program.classes }
-    ensures { result ≡ slice_index_or machine.now.state.variables
-        (class_of machine.now.input.program class).variable (pos 0) }
-{
-    machine.known();
-    let program = machine.program();
-    program.known();
-    machine.variable(Variable::Global(class_variable(program, class)))
 }
 
 /// The same of a set of the system, whose list has no owner's number.

@@ -1,11 +1,14 @@
 //! Searches and histories of small runs: each function is a law, proved by computing.
 #![tactic(auto, unfolding(crate::proofs::Unfoldings::answers_together))]
 
-ghost use Rattle.std.specs.Prelude.{◌≡◌, ◌∷◌, [], codes, false, true, None};
+ghost use Rattle.std.specs.Prelude.{◌≡◌, ◌∷◌, [], codes, false, true, None, pos};
 ghost use Rattle.ss_debug.specs.declared.commands.Question.TheVariants as shown;
 ghost use Rattle.ss_trace.specs.declared.question.Question.TheVariants.{Shown, Count};
 ghost use Rattle.ss_trace.specs.Question.{changes_at};
 ghost use Rattle.ss_trace.specs.History.{history, history_text};
+ghost use Rattle.ss_trace.specs.declared.touches.Part.TheVariants.{Entities};
+ghost use Rattle.ss_trace.specs.EntityNumbers.{numbers_at};
+ghost use Rattle.ss_trace.specs.Touches.{touches_at};
 ghost use Rattle.ss_trace.specs.Examples as e;
 
 /// A set changes where a member is filed and where it is removed, an entity also where it is made,
@@ -17,6 +20,30 @@ fn lists_and_entities_change()
     ensures attribute { history e.jobs_run e.size 0 11 ≡ 8 ∷ 1 ∷ 0 ∷ [] }
     ensures entity { history e.jobs_run (e.job_shown 1) 0 11 ≡ 8 ∷ 7 ∷ 2 ∷ 1 ∷ 0 ∷ [] }
     ensures another { history e.jobs_run (e.job_shown 2) 0 11 ≡ 9 ∷ [] }
+{}
+
+/// A set that is filed into and removed from in neighbouring steps changes at both.
+fn neighbouring_steps_change_a_list()
+    ensures list { history e.brief_run e.row 0 3 ≡ 2 ∷ 1 ∷ [] }
+    ensures membership { history e.brief_run e.membership 0 3 ≡ 2 ∷ 1 ∷ 0 ∷ [] }
+    ensures entity { history e.brief_run (e.job_shown 1) 0 3 ≡ 2 ∷ 1 ∷ 0 ∷ [] }
+    ensures back { e.back_from e.brief_run e.row 0 3 ≡ 2 }
+    ensures further { e.back_from e.brief_run e.row 0 2 ≡ 1 }
+    ensures forward { e.run_from e.brief_run e.row 0 ≡ 2 }
+    ensures behind { e.run_from e.brief_run e.row 2 ≡ 3 }
+{}
+
+/// The numbers of an entity are those of its lines, and none where it does not exist; a statement
+/// that assigns to no attribute does not touch them.
+fn numbers_of_an_entity()
+    ensures before { numbers_at e.jobs_run (e.job_shown 1) 0 ≡ [] }
+    ensures filed { numbers_at e.jobs_run (e.job_shown 1) 3
+        ≡ pos 1 ∷ pos 5 ∷ pos 0 ∷ pos 0 ∷ pos 1 ∷ [] }
+    ensures ended { numbers_at e.jobs_run (e.job_shown 1) 9 ≡ [] }
+    ensures set { touches_at e.jobs_run Entities 1 ≡ true }
+    ensures call { touches_at e.jobs_run Entities 3 ≡ false }
+    ensures local { touches_at e.jobs_run Entities 4 ≡ false }
+    ensures yielded { touches_at e.jobs_run Entities 5 ≡ true }
 {}
 
 /// A local changes where its frame is entered and left; a variable where another value is assigned;
@@ -51,5 +78,6 @@ fn searches_end()
     ensures last { e.run_from e.jobs_run e.row 8 ≡ 11 }
     ensures at_last { changes_at e.jobs_run e.row 11 ≡ false }
     ensures forgotten { history e.jobs_run e.row 3 11 ≡ 7 ∷ [] }
+    ensures kept_too { history e.jobs_run e.row 2 11 ≡ 7 ∷ 2 ∷ [] }
     ensures none { history_text e.jobs_run e.row 10 8 11 ≡ codes "NO CHANGE SINCE STATE 8\n" }
 {}

@@ -9,8 +9,8 @@ use ss_machine::Entry;
 pub enum Glance {
     /// A number, or that there is none.
     Number(Option<i64>),
-    /// How many items of the data are taken.
-    Taken(usize),
+    /// How many items of the data are taken, or bytes the report has.
+    Amount(usize),
     /// The entry of an external event.
     Entry(Entry),
     /// What names an owner, and how many members its list has, if it exists.
@@ -72,7 +72,7 @@ pub fn is_same(a: Glance, b: Glance) -> bool
 {
     match (a, b) {
         (Glance::Number(x), Glance::Number(y)) => is_same_number(x, y),
-        (Glance::Taken(n), Glance::Taken(m)) => n == m,
+        (Glance::Amount(n), Glance::Amount(m)) => n == m,
         (Glance::Entry(e), Glance::Entry(f)) => is_same_entry(e, f),
         (Glance::Members(x, n), Glance::Members(y, m)) => x == y && is_same_count(n, m),
         _ => false,

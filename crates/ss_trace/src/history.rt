@@ -50,7 +50,7 @@ fn back_to_newest<S: SetBoard>(
             // Never met: a step was made from this state.
             return Err(AllocError);
         }
-        let touched = reading.may_change(debugger);
+        let touched = reading.touched(debugger);
         let after = reading.follow(debugger, question, touched)?;
         if after.is_some() {
             return Ok(after);

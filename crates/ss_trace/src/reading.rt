@@ -1,20 +1,25 @@
 //! The answer to a question, followed from state to state.
-ghost use Rattle.std.specs.Prelude.{◌≡◌, IfOk, MatchOption, OnOk, bytes_eq, is_some, not, true, false};
+ghost use Rattle.std.specs.Prelude.{◌≡◌, ◌&&◌, IfOk, MatchOption, OnOk, bytes_eq, is_some, not, true, false};
+ghost use Rattle.std.specs.Cmp.Lexicographic.{pointwise};
+ghost use Rattle.std.specs.Ordering.{int_eq};
 ghost use Rattle.ss_machine.specs.Moment.{position};
 ghost use Rattle.ss_trace.specs.Question.{answer_at};
 ghost use Rattle.ss_trace.specs.Sight.{seen_at, is_same_glance};
-ghost use Rattle.ss_trace.specs.Touches.{touches_at};
+ghost use Rattle.ss_trace.specs.declared.touches.Touched.TheVariants.{Nothing, Attribute};
+ghost use Rattle.ss_trace.specs.EntityNumbers.{is_counted, numbers_at, attributes_at, tells_attributes};
+ghost use Rattle.ss_trace.specs.Touches.{touched_at};
 ghost use Rattle.ss_trace.specs.Reading.{Looks, IsReadAt};
 
 use crate::answer::answer_to;
+use crate::entity_numbers::{is_counted, push_attributes_of, push_numbers, tells_attributes};
 use crate::glance::{Glance, is_same};
 use crate::question::Question;
 use crate::sight::{Sight, seen, sight_of};
-use crate::touches::{Part, part_of, touches_here};
+use crate::touches::{Part, Touched, part_of, touched_here};
 use ss_debug::Debugger;
 use ss_links::SetBoard;
 use std::alloc::{AllocError, Global};
-use std::mem::replace;
+use std::mem::{replace, swap};
 
 /// The answer to a question in a state.
 #[derive(Drop)]
@@ -26,7 +31,11 @@ pub struct Reading {
     pub glance: Glance,
     /// The part of the state at which the question looks beside that.
     pub part: Part,
+    /// The numbers of the entity at which it looks.
+    pub numbers: Vec<i64>,
     pub answer: Vec<u8>,
+    // The room for other numbers.
+    spare: Vec<i64>,
 }
 
 impl Reading {
@@ -42,22 +51,27 @@ impl Reading {
         debugger.machine().known();
         let answer = answer_to(alloc, debugger, question)?;
         let sight = sight_of(debugger.machine().program(), question);
+        let mut numbers = Vec::new(alloc);
+        let part = part_of(question);
+        push_numbers(&mut numbers, debugger.machine(), part, sight)?;
         Ok(Reading {
             alloc,
             sight,
             glance: seen(debugger, question, sight),
-            part: part_of(question),
+            part,
+            numbers,
             answer,
+            spare: Vec::new(alloc),
         })
     }
 
-    /// Whether the step from where the debugger stands may change the answer, although the same is
-    /// seen behind it.
-    pub fn may_change<S: SetBoard>(&self, debugger: &Debugger<S>) -> bool
+    /// How much the step from where the debugger stands may change of what the question looks at,
+    /// although the same is seen behind it.
+    pub fn touched<S: SetBoard>(&self, debugger: &Debugger<S>) -> Touched
         ensures { result
-            ≡ touches_at debugger.now.machine.input self.now.part (position debugger.now.machine) }
+            ≡ touched_at debugger.now.machine.input self.now.part (position debugger.now.machine) }
     {
-        touches_here(debugger, self.part)
+        touched_here(debugger, self.part)
     }
 
     /// Looks where the question looks, and tells whether the same is seen there.
@@ -66,6 +80,7 @@ impl Reading {
         ensures looks { Looks debugger.now.machine.input question.now self.new }
         ensures glance { self.new.glance
             ≡ seen_at debugger.now.machine.input question.now (position debugger.now.machine) }
+        ensures numbers { self.new.numbers ≡ self.old.numbers }
         ensures answer { self.new.answer ≡ self.old.answer }
         ensures same { result ≡ is_same_glance self.old.glance (seen_at debugger.now.machine.input
             question.now (position debugger.now.machine)) }
@@ -76,20 +91,109 @@ impl Reading {
         is_same(before, glance)
     }
 
+    /// Reads the numbers of the entity at which the question looks, and tells whether they are the
+    /// same; where it looks at none, they are not.
+    fn count_again<S: SetBoard>(
+        &mut self,
+        debugger: &Debugger<S>,
+        question: &Question,
+    ) -> Result<bool, AllocError>
+        requires { Looks debugger.now.machine.input question.now self.old }
+        ensures looks { OnOk result (Looks debugger.now.machine.input question.now self.new) }
+        ensures glance { self.new.glance ≡ self.old.glance }
+        ensures numbers { OnOk result (self.new.numbers.items
+            ≡ numbers_at debugger.now.machine.input question.now (position debugger.now.machine)) }
+        ensures answer { self.new.answer ≡ self.old.answer }
+        ensures same { IfOk result (λ same. same ≡ (is_counted self.old.part self.old.sight
+            && pointwise int_eq self.old.numbers.items self.new.numbers.items)) }
+    {
+        debugger.machine().known();
+        self.spare.clear();
+        push_numbers(&mut self.spare, debugger.machine(), self.part, self.sight)?;
+        swap(&mut self.spare, &mut self.numbers);
+        Ok(is_counted(self.part, self.sight) && self.spare.as_slice() == self.numbers.as_slice())
+    }
+
+    /// Reads the attributes of the entity at which the question looks, and tells whether they are
+    /// among its numbers; where it looks at none, they are not.
+    fn compare_attributes<S: SetBoard>(
+        &mut self,
+        debugger: &Debugger<S>,
+        question: &Question,
+    ) -> Result<bool, AllocError>
+        requires { Looks debugger.now.machine.input question.now self.old }
+        ensures looks { Looks debugger.now.machine.input question.now self.new }
+        ensures glance { self.new.glance ≡ self.old.glance }
+        ensures numbers { self.new.numbers ≡ self.old.numbers }
+        ensures answer { self.new.answer ≡ self.old.answer }
+        ensures same { IfOk result (λ same. same ≡ (is_counted self.old.part self.old.sight
+            && tells_attributes self.old.numbers.items (attributes_at debugger.now.machine.input
+            question.now (position debugger.now.machine)))) }
+    {
+        if self.numbers.is_empty() {
+            return Ok(is_counted(self.part, self.sight));
+        }
+        debugger.machine().known();
+        self.spare.clear();
+        push_attributes_of(&mut self.spare, debugger.machine(), self.part, self.sight)?;
+        Ok(is_counted(self.part, self.sight) && tells_attributes(&self.numbers, &self.spare))
+    }
+
+    /// Whether the numbers of the entity at which the question looks are the same; where it looks
+    /// at none, they are not. Where the step set one attribute, the attributes alone are compared.
+    #[tactic(auto, using(crate::proofs::Numbered::same_numbers, crate::proofs::SameKept::both))]
+    fn has_same_numbers<S: SetBoard>(
+        &mut self,
+        debugger: &Debugger<S>,
+        question: &Question,
+        touched: Touched,
+    ) -> Result<bool, AllocError>
+        requires looks { Looks debugger.now.machine.input question.now self.old }
+        requires one { touched ≡ Attribute → tells_attributes self.old.numbers.items
+            (attributes_at debugger.now.machine.input question.now (position debugger.now.machine))
+            ≡ true → self.old.numbers.items
+            ≡ numbers_at debugger.now.machine.input question.now (position debugger.now.machine) }
+        ensures looks { OnOk result (Looks debugger.now.machine.input question.now self.new) }
+        ensures glance { self.new.glance ≡ self.old.glance }
+        ensures numbers { OnOk result (self.new.numbers.items
+            ≡ numbers_at debugger.now.machine.input question.now (position debugger.now.machine)) }
+        ensures answer { self.new.answer ≡ self.old.answer }
+        ensures same { IfOk result (λ same. same ≡ true → (is_counted self.old.part self.old.sight
+            ≡ true) × (self.old.numbers.items ≡ numbers_at debugger.now.machine.input question.now
+            (position debugger.now.machine))) }
+    {
+        if let Touched::Attribute = touched {
+            if self.compare_attributes(debugger, question)? {
+                return Ok(true);
+            }
+        }
+        self.count_again(debugger, question)
+    }
+
     /// Reads the answer where the debugger stands now, on the other side of a step that perhaps may
-    /// change it although the same is seen: else none is made. Gives the answer before, where it
-    /// was another one.
+    /// change it although the same is seen: else none is made, nor where an entity's numbers are the
+    /// same. Gives the answer before, where it was another one.
     #[tactic(auto, using(crate::proofs::Changes::same_as_itself))]
     pub fn follow<S: SetBoard>(
         &mut self,
         debugger: &Debugger<S>,
         question: &Question,
-        may_change: bool,
+        touched: Touched,
     ) -> Result<Option<Vec<u8>>, AllocError>
         requires looks { Looks debugger.now.machine.input question.now self.old }
-        requires quiet { may_change ≡ false → is_same_glance self.old.glance
+        requires quiet { touched ≡ Nothing → is_same_glance self.old.glance
             (seen_at debugger.now.machine.input question.now (position debugger.now.machine))
             ≡ true → self.old.answer.items
+            ≡ answer_at debugger.now.machine.input question.now (position debugger.now.machine) }
+        requires still { touched ≡ Nothing → self.old.numbers.items
+            ≡ numbers_at debugger.now.machine.input question.now (position debugger.now.machine) }
+        requires one { touched ≡ Attribute → tells_attributes self.old.numbers.items
+            (attributes_at debugger.now.machine.input question.now (position debugger.now.machine))
+            ≡ true → self.old.numbers.items
+            ≡ numbers_at debugger.now.machine.input question.now (position debugger.now.machine) }
+        requires counted { is_counted self.old.part self.old.sight ≡ true → self.old.numbers.items
+            ≡ numbers_at debugger.now.machine.input question.now (position debugger.now.machine)
+            → self.old.answer.items
             ≡ answer_at debugger.now.machine.input question.now (position debugger.now.machine) }
         ensures ok { OnOk result (IsReadAt debugger.now.machine.input question.now
             (position debugger.now.machine) self.new) }
@@ -101,7 +205,10 @@ impl Reading {
             ≡ not (bytes_eq self.old.answer.items self.new.answer.items)) }
     {
         let seen = self.look(debugger, question);
-        if seen && !may_change {
+        if seen && matches!(touched, Touched::Nothing) {
+            return Ok(None);
+        }
+        if self.has_same_numbers(debugger, question, touched)? {
             return Ok(None);
         }
         let now = answer_to(self.alloc, debugger, question)?;

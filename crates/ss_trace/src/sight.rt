@@ -7,14 +7,15 @@ ghost use Rattle.ss_debug.specs.Entities.{class_named, set_named, shape_of};
 ghost use Rattle.ss_trace.specs.declared.question.Question.TheVariants as questions;
 ghost use Rattle.ss_trace.specs.Question.{kept_of, kept_value};
 ghost use Rattle.ss_trace.specs.Sight.{sight_of_variable, sight_of_kept, sight_of_class, sight_of_list, sight_of_set};
-ghost use Rattle.ss_trace.specs.Sight.{sight_of, IsInTables, variable_asked, local_value, value_if_exists};
+ghost use Rattle.ss_trace.specs.Sight.{sight_of_entity, sight_of, IsInTables, variable_asked, local_value};
+ghost use Rattle.ss_trace.specs.Sight.{value_if_exists};
 ghost use Rattle.ss_trace.specs.Sight.{members_seen, seen};
 
 use crate::attribute::{Kept, has_kept, kept_of, kept_value};
 use crate::glance::Glance;
 use crate::question::Question;
-use crate::rows::{class_variable, find_attribute, find_class, find_set, set_owner};
-use ss_debug::{Debugger, Question as Shown};
+use crate::rows::{class_variable, find_attribute};
+use ss_debug::{Debugger, Question as Shown, find_class, find_set, set_owner};
 use ss_links::SetBoard;
 use ss_machine::Machine;
 use ss_program::{Owner, Program, Variable};
@@ -34,6 +35,10 @@ pub enum Sight {
     Taken,
     /// At the entry of an external event.
     Entry,
+    /// At the report.
+    Report,
+    /// At an entity of a class, with all that is told of it: not at a glance, but by its numbers.
+    Entity(usize, i64),
     /// At whether an entity of a class exists.
     Living(usize, i64),
     /// At an attribute of a class, of an entity.
@@ -150,6 +155,16 @@ fn sight_of_set(program: &Program, name: &[u8], owner: Option<i64>) -> Sight
     }
 }
 
+fn sight_of_entity(program: &Program, class: &[u8], x: i64) -> Sight
+    ensures sight { result ≡ sight_of_entity x (class_named program.now class.now) }
+    ensures within { IsInTables program.now result }
+{
+    match find_class(program, class) {
+        Some(class) => Sight::Entity(class, x),
+        None => Sight::Nothing,
+    }
+}
+
 /// Where a question of the debugger looks.
 fn sight_of_shown(program: &Program, shown: &Shown) -> Sight
     ensures sight { result ≡ sight_of program.now (questions.Shown shown.now) }
@@ -160,8 +175,10 @@ fn sight_of_shown(program: &Program, shown: &Shown) -> Sight
         Shown::Variable(name) => sight_of_variable(program, name.as_slice()),
         Shown::Set(name, owner) => sight_of_set(program, name.as_slice(), *owner),
         Shown::Taken => Sight::Taken,
+        Shown::Entity(class, x) => sight_of_entity(program, class.as_slice(), *x),
         Shown::Entry => Sight::Entry,
-        Shown::Where | Shown::Entity(_, _) | Shown::Events | Shown::Report => Sight::Nothing,
+        Shown::Report => Sight::Report,
+        Shown::Where | Shown::Events => Sight::Nothing,
     }
 }
 
@@ -264,12 +281,13 @@ pub fn seen<S: SetBoard>(debugger: &Debugger<S>, question: &Question, sight: Sig
     let machine = debugger.machine();
     machine.known();
     match sight {
-        Sight::Nothing => Glance::Number(None),
+        Sight::Nothing | Sight::Entity(_, _) => Glance::Number(None),
         Sight::Clock => Glance::Number(Some(machine.clock())),
         Sight::Global(i) => Glance::Number(Some(machine.variable(Variable::Global(i)))),
         Sight::Local => Glance::Number(local_value(machine, question)),
-        Sight::Taken => Glance::Taken(machine.taken()),
+        Sight::Taken => Glance::Amount(machine.taken()),
         Sight::Entry => Glance::Entry(machine.entry()),
+        Sight::Report => Glance::Amount(machine.report().len()),
         Sight::Living(class, x) => Glance::Number(living_seen(machine, class, x)),
         Sight::Attribute(class, attribute, x) => {
             Glance::Number(attribute_seen(machine, class, attribute, x))

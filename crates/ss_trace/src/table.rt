@@ -9,11 +9,10 @@ ghost use Rattle.ss_trace.specs.Value.{value_in};
 ghost use Rattle.ss_trace.specs.History.{to_right, to_left, row, head_row, no_change_head, no_change_text, change_line};
 
 use crate::answer::push_asked;
-use crate::numbers::push_number;
 use crate::question::Question;
 use crate::value::push_value;
 use itoa::Buffer;
-use ss_debug::Debugger;
+use ss_debug::{Debugger, push_number};
 use ss_links::SetBoard;
 use std::alloc::AllocError;
 

@@ -5,9 +5,8 @@ ghost use Rattle.ss_trace.specs.declared.question.Question.TheVariants as questi
 ghost use Rattle.ss_trace.specs.Value.{says_none, behind, without_end, joined, joined_byte, or_lives};
 ghost use Rattle.ss_trace.specs.Value.{report_value, told_value, value_in};
 
-use crate::numbers::push_number;
 use crate::question::Question;
-use ss_debug::Question as Shown;
+use ss_debug::{Question as Shown, push_number};
 use std::alloc::AllocError;
 
 /// How many bytes stand before the report in the answer that shows it.

@@ -6,12 +6,16 @@ use Rattle.ss_debug.specs.Move.{StopCondition, stops}
 use Rattle.ss_debug.proofs.Moves.{least_is, least_at_least}
 use Rattle.ss_trace.specs.Question.{answer_at}
 use Rattle.ss_trace.specs.Movements.{ahead_condition, has_changed}
-use Rattle.ss_trace.specs.Sight.{seen_at, is_same_glance}
-use Rattle.ss_trace.specs.Touches.{touches_at, part_of}
+use Rattle.ss_trace.specs.declared.touches.Touched.TheVariants.{Attribute}
+use Rattle.ss_trace.specs.EntityNumbers.{is_counted, numbers_at, attributes_at, tells_attributes}
+use Rattle.ss_trace.specs.Sight.{sight_of, seen_at, is_same_glance}
+use Rattle.ss_trace.specs.Touches.{assigns_at, touched_at, touches_at, part_of}
 use Rattle.ss_trace.specs.Reading.{IsReadAt}
 use Rattle.ss_trace.proofs.Refused.{on_err}
 use Rattle.ss_trace.proofs.Changes.{stops_here, met_behind, changes_between}
 use Rattle.ss_trace.proofs.Glances.{same_is, unseen}
+use Rattle.ss_trace.proofs.Numbered.{numbers_left, counted_left}
+use Rattle.ss_trace.proofs.SameKept.{told_on, untouched}
 use Rattle.ss_trace.proofs.change_search.ahead_to_change.Goals as goal
 
 pub follow-requires-clause-looks : goal.follow-requires-clause-looks
@@ -28,12 +32,58 @@ follow-requires-clause-quiet g c = λ e s.
     let gone = c.in_ok-step_once.ensures.ok in
     let u = c.step_once.new.debugger.machine in
     let quiet : touches_at m.input (part_of x) (position l.machine) ≡ false =
-    sym (rw (held.input, held.reading.looks.part) at c.may_change-touched.ensures) ∙ e in
+    untouched (touches_at m.input (part_of x) (position l.machine)) (assigns_at m.input (part_of x) (position l.machine))
+    (sym (rw (held.input, held.reading.looks.part) at c.touched-touched.ensures) ∙ e) in
     let same : is_same_glance c.loop-k.reading.glance (seen_at m.input x (position u)) ≡ true =
     rw (gone.input, held.input) at s in
     rw (gone.input, held.input)
     (held.reading.answer ∙ sym (unseen m.input x (position l.machine) (position u) gone.position quiet
     (sym (same_is _ _ same) ∙ held.reading.glance)))
+
+pub follow-requires-clause-still : goal.follow-requires-clause-still
+follow-requires-clause-still g c = λ e.
+    let m = c.args.debugger.now.machine in
+    let l = c.loop-k.debugger in
+    let held = c.loop-k.invariant in
+    let x = c.args.question.now in
+    let u = c.step_once.new.debugger.machine in
+    let gone = c.in_ok-step_once.ensures.ok in
+    let quiet : touches_at m.input (part_of x) (position l.machine) ≡ false =
+    untouched (touches_at m.input (part_of x) (position l.machine)) (assigns_at m.input (part_of x) (position l.machine))
+    (sym (rw (held.input, held.reading.looks.part) at c.touched-touched.ensures) ∙ e) in
+    rw (gone.input, held.input)
+    (held.reading.numbers ∙ sym (numbers_left m.input x (position l.machine) (position u) gone.position quiet))
+
+pub follow-requires-clause-one : goal.follow-requires-clause-one
+follow-requires-clause-one g c = λ e h.
+    let m = c.args.debugger.now.machine in
+    let l = c.loop-k.debugger in
+    let held = c.loop-k.invariant in
+    let x = c.args.question.now in
+    let u = c.step_once.new.debugger.machine in
+    let gone = c.in_ok-step_once.ensures.ok in
+    let set : touched_at m.input (part_of x) (position l.machine) ≡ Attribute =
+    sym (rw (held.input, held.reading.looks.part) at c.touched-touched.ensures) ∙ e in
+    let told : tells_attributes (numbers_at m.input x (position l.machine)) (attributes_at m.input x (position u)) ≡ true =
+    rw (gone.input, held.input, held.reading.numbers) at h in
+    rw (gone.input, held.input)
+    (held.reading.numbers ∙ told_on m.input x (position l.machine) (position u) gone.position set told)
+
+pub follow-requires-clause-counted : goal.follow-requires-clause-counted
+follow-requires-clause-counted g c = λ h e.
+    let m = c.args.debugger.now.machine in
+    let l = c.loop-k.debugger in
+    let held = c.loop-k.invariant in
+    let x = c.args.question.now in
+    let u = c.step_once.new.debugger.machine in
+    let gone = c.in_ok-step_once.ensures.ok in
+    let counted : is_counted (part_of x) (sight_of m.input.program x) ≡ true =
+    rw (held.reading.looks.part, held.reading.looks.sight) at h in
+    let same : c.loop-k.reading.numbers.items ≡ numbers_at m.input x (position u) =
+    rw (gone.input, held.input) at e in
+    rw (gone.input, held.input)
+    (held.reading.answer ∙ sym (counted_left m.input x (position l.machine) (position u) counted
+    (sym same ∙ held.reading.numbers)))
 
 pub returns-then-is_at_stop-clause-ok : goal.returns-then-is_at_stop-clause-ok
 returns-then-is_at_stop-clause-ok g c =

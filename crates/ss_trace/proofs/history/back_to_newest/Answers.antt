@@ -2,14 +2,18 @@ use Rattle.std.proofs.Common.{◌≡◌, ◌+◌, ℕ, true, false, length, refl
 use Rattle.std.specs.Prelude.{not}
 use Rattle.ss_machine.specs.Moment.{position}
 use Rattle.ss_trace.specs.Question.{answer_at, changes_at}
-use Rattle.ss_trace.specs.Sight.{seen_at, is_same_glance}
-use Rattle.ss_trace.specs.Touches.{touches_at, part_of}
+use Rattle.ss_trace.specs.declared.touches.Touched.TheVariants.{Attribute}
+use Rattle.ss_trace.specs.EntityNumbers.{is_counted, numbers_at, attributes_at, tells_attributes}
+use Rattle.ss_trace.specs.Sight.{sight_of, seen_at, is_same_glance}
+use Rattle.ss_trace.specs.Touches.{assigns_at, touched_at, touches_at, part_of}
 use Rattle.ss_trace.specs.Reading.{IsReadAt}
 use Rattle.ss_trace.specs.View.{HasLookedBack}
 use Rattle.ss_trace.proofs.Changes.{same_turned, changes_between}
 use Rattle.ss_trace.proofs.Histories.{none_before, passed, found, found_before}
 use Rattle.ss_trace.proofs.Looking.{looked_nowhere, looked_further}
 use Rattle.ss_trace.proofs.Glances.{same_is, unseen}
+use Rattle.ss_trace.proofs.Numbered.{numbers_left, counted_left}
+use Rattle.ss_trace.proofs.SameKept.{told_back, untouched}
 use Rattle.ss_trace.proofs.history.back_to_newest.Goals as goal
 
 pub loop-debugger-init : goal.loop-debugger-init
@@ -33,12 +37,58 @@ follow-requires-clause-quiet g c = λ e s.
     let u = c.step_back.new.self.machine in
     let gone = c.loop-debugger-test.ensures.back in
     let quiet : touches_at m.input (part_of x) (position u) ≡ false =
-    sym (rw (gone.input, held.gone.input, held.reading.looks.part) at c.may_change-touched.ensures) ∙ e in
+    untouched (touches_at m.input (part_of x) (position u)) (assigns_at m.input (part_of x) (position u))
+    (sym (rw (gone.input, held.gone.input, held.reading.looks.part) at c.touched-touched.ensures) ∙ e) in
     let same : is_same_glance c.loop-debugger.reading.glance (seen_at m.input x (position u)) ≡ true =
     rw (gone.input, held.gone.input) at s in
     rw (gone.input, held.gone.input)
     (held.reading.answer ∙ unseen m.input x (position u) (position l.machine) gone.position quiet
     (sym held.reading.glance ∙ same_is _ _ same))
+
+pub follow-requires-clause-still : goal.follow-requires-clause-still
+follow-requires-clause-still g c = λ e.
+    let m = c.args.debugger.now.machine in
+    let l = c.loop-debugger.debugger in
+    let held = c.loop-debugger.invariant in
+    let x = c.args.question.now in
+    let u = c.step_back.new.self.machine in
+    let gone = c.loop-debugger-test.ensures.back in
+    let quiet : touches_at m.input (part_of x) (position u) ≡ false =
+    untouched (touches_at m.input (part_of x) (position u)) (assigns_at m.input (part_of x) (position u))
+    (sym (rw (gone.input, held.gone.input, held.reading.looks.part) at c.touched-touched.ensures) ∙ e) in
+    rw (gone.input, held.gone.input)
+    (held.reading.numbers ∙ numbers_left m.input x (position u) (position l.machine) gone.position quiet)
+
+pub follow-requires-clause-one : goal.follow-requires-clause-one
+follow-requires-clause-one g c = λ e h.
+    let m = c.args.debugger.now.machine in
+    let l = c.loop-debugger.debugger in
+    let held = c.loop-debugger.invariant in
+    let x = c.args.question.now in
+    let u = c.step_back.new.self.machine in
+    let gone = c.loop-debugger-test.ensures.back in
+    let set : touched_at m.input (part_of x) (position u) ≡ Attribute =
+    sym (rw (gone.input, held.gone.input, held.reading.looks.part) at c.touched-touched.ensures) ∙ e in
+    let told : tells_attributes (numbers_at m.input x (position l.machine)) (attributes_at m.input x (position u)) ≡ true =
+    rw (gone.input, held.gone.input, held.reading.numbers) at h in
+    rw (gone.input, held.gone.input)
+    (held.reading.numbers ∙ told_back m.input x (position u) (position l.machine) gone.position set told)
+
+pub follow-requires-clause-counted : goal.follow-requires-clause-counted
+follow-requires-clause-counted g c = λ h e.
+    let m = c.args.debugger.now.machine in
+    let l = c.loop-debugger.debugger in
+    let held = c.loop-debugger.invariant in
+    let x = c.args.question.now in
+    let u = c.step_back.new.self.machine in
+    let gone = c.loop-debugger-test.ensures.back in
+    let counted : is_counted (part_of x) (sight_of m.input.program x) ≡ true =
+    rw (held.reading.looks.part, held.reading.looks.sight) at h in
+    let same : c.loop-debugger.reading.numbers.items ≡ numbers_at m.input x (position u) =
+    rw (gone.input, held.gone.input) at e in
+    rw (gone.input, held.gone.input)
+    (held.reading.answer ∙ counted_left m.input x (position u) (position l.machine) counted
+    (sym held.reading.numbers ∙ same))
 
 pub loop-debugger-preserved : goal.loop-debugger-preserved
 loop-debugger-preserved g c =

@@ -1,0 +1,240 @@
+//! The numbers that the lines of an entity tell.
+ghost use Rattle.std.specs.Prelude.{◌≡◌, ◌++◌, ◌∷◌, ◌<◌, [], length, OnOk, pos};
+ghost use Rattle.ss_program.specs.Program.{class_of};
+ghost use Rattle.ss_store.specs.Store.{number_of};
+ghost use Rattle.ss_debug.specs.Entities.{shape_of};
+ghost use Rattle.ss_trace.specs.Question.{kept_value};
+ghost use Rattle.ss_trace.specs.EntityNumbers.{numbers_below, attribute_numbers, owned_numbers, joined_numbers};
+ghost use Rattle.ss_trace.specs.EntityNumbers.{entity_numbers, is_counted, living_numbers, numbers_of};
+ghost use Rattle.ss_trace.specs.EntityNumbers.{attributes_of, tells_attributes};
+ghost use Rattle.ss_trace.specs.Sight.{IsInTables};
+
+use crate::attribute::{Kept, has_kept, kept_value};
+use crate::rows::attribute_count;
+use crate::sight::Sight;
+use crate::touches::Part;
+use ss_links::SetBoard;
+use ss_machine::Machine;
+use std::alloc::AllocError;
+
+/// Appends an attribute of an entity, by its number in the class.
+fn push_attribute<S: SetBoard>(
+    numbers: &mut Vec<i64>,
+    machine: &Machine<S>,
+    class: usize,
+    attribute: usize,
+    x: i64,
+) -> Result<(), AllocError>
+    ensures { OnOk result (numbers.new.items ≡ numbers.old.items
+        ++ attribute_numbers machine.now.state.store class (number_of x) attribute) }
+{
+    numbers.push(machine.store().get(class, attribute, x).unwrap_or(0))?;
+    Ok(())
+}
+
+/// Appends the attributes of an entity.
+fn push_attributes<S: SetBoard>(
+    numbers: &mut Vec<i64>,
+    machine: &Machine<S>,
+    class: usize,
+    x: i64,
+) -> Result<(), AllocError>
+    requires { class < length machine.now.input.program.classes }
+    ensures { OnOk result (numbers.new.items ≡ numbers.old.items
+        ++ numbers_below (attribute_numbers machine.now.state.store class (number_of x))
+        (length (class_of machine.now.input.program class).attributes)) }
+{
+    for attribute in 0..attribute_count(machine.program(), class) {
+        push_attribute(numbers, machine, class, attribute, x)?;
+    }
+    Ok(())
+}
+
+/// Appends a kept attribute of an entity in a set.
+#[tactic(auto, using(ss_debug::proofs::Tables::sets_kept))]
+fn push_kept<S: SetBoard>(
+    numbers: &mut Vec<i64>,
+    machine: &Machine<S>,
+    set: usize,
+    x: i64,
+    kept: Kept,
+) -> Result<(), AllocError>
+    requires { set < length machine.now.input.program.sets }
+    ensures { OnOk result (numbers.new.items ≡ numbers.old.items
+        ++ pos (kept_value (shape_of machine.now.input.program set) machine.now.state.store
+        (number_of x) kept) ∷ []) }
+{
+    numbers.push(i64::from(kept_value(machine.store(), set, x, kept)))?;
+    Ok(())
+}
+
+/// Appends what a set tells of an entity of this class, where the class owns it.
+fn push_owned<S: SetBoard>(
+    numbers: &mut Vec<i64>,
+    machine: &Machine<S>,
+    class: usize,
+    x: i64,
+    set: usize,
+) -> Result<(), AllocError>
+    requires { set < length machine.now.input.program.sets }
+    ensures { OnOk result (numbers.new.items ≡ numbers.old.items
+        ++ owned_numbers machine.now.input.program machine.now.state.store class (number_of x)
+        set) }
+{
+    if !has_kept(machine.program(), class, set, Kept::First) {
+        return Ok(());
+    }
+    push_kept(numbers, machine, set, x, Kept::First)?;
+    push_kept(numbers, machine, set, x, Kept::Last)?;
+    push_kept(numbers, machine, set, x, Kept::Number)
+}
+
+/// Appends what a set tells of an entity of this class, where the class is that of its members.
+fn push_joined<S: SetBoard>(
+    numbers: &mut Vec<i64>,
+    machine: &Machine<S>,
+    class: usize,
+    x: i64,
+    set: usize,
+) -> Result<(), AllocError>
+    requires { set < length machine.now.input.program.sets }
+    ensures { OnOk result (numbers.new.items ≡ numbers.old.items
+        ++ joined_numbers machine.now.input.program machine.now.state.store class (number_of x)
+        set) }
+{
+    if !has_kept(machine.program(), class, set, Kept::Predecessor) {
+        return Ok(());
+    }
+    push_kept(numbers, machine, set, x, Kept::Predecessor)?;
+    push_kept(numbers, machine, set, x, Kept::Successor)?;
+    push_kept(numbers, machine, set, x, Kept::Membership)
+}
+
+/// Appends what the sets that the class owns tell of one of its entities.
+fn push_all_owned<S: SetBoard>(
+    numbers: &mut Vec<i64>,
+    machine: &Machine<S>,
+    class: usize,
+    x: i64,
+) -> Result<(), AllocError>
+    ensures { OnOk result (numbers.new.items ≡ numbers.old.items
+        ++ numbers_below (owned_numbers machine.now.input.program machine.now.state.store class
+        (number_of x)) (length machine.now.input.program.sets)) }
+{
+    for set in 0..machine.program().sets.len() {
+        push_owned(numbers, machine, class, x, set)?;
+    }
+    Ok(())
+}
+
+/// Appends what the sets in which entities of the class may be tell of one of them.
+fn push_all_joined<S: SetBoard>(
+    numbers: &mut Vec<i64>,
+    machine: &Machine<S>,
+    class: usize,
+    x: i64,
+) -> Result<(), AllocError>
+    ensures { OnOk result (numbers.new.items ≡ numbers.old.items
+        ++ numbers_below (joined_numbers machine.now.input.program machine.now.state.store class
+        (number_of x)) (length machine.now.input.program.sets)) }
+{
+    for set in 0..machine.program().sets.len() {
+        push_joined(numbers, machine, class, x, set)?;
+    }
+    Ok(())
+}
+
+/// Appends the numbers of the lines of an entity.
+fn push_entity<S: SetBoard>(
+    numbers: &mut Vec<i64>,
+    machine: &Machine<S>,
+    class: usize,
+    x: i64,
+) -> Result<(), AllocError>
+    requires { class < length machine.now.input.program.classes }
+    ensures { OnOk result (numbers.new.items ≡ numbers.old.items
+        ++ entity_numbers machine.now.input.program machine.now.state.store class
+        (number_of x)) }
+{
+    push_attributes(numbers, machine, class, x)?;
+    push_all_owned(numbers, machine, class, x)?;
+    push_all_joined(numbers, machine, class, x)
+}
+
+/// Whether the numbers of an entity tell all of an answer.
+pub fn is_counted(part: Part, sight: Sight) -> bool
+    ensures { result ≡ is_counted part sight }
+{
+    matches!((part, sight), (Part::Entities, Sight::Entity(_, _)))
+}
+
+/// Appends the numbers of the lines of an entity behind a 1, or nothing where it does not exist.
+fn push_living<S: SetBoard>(
+    numbers: &mut Vec<i64>,
+    machine: &Machine<S>,
+    class: usize,
+    x: i64,
+) -> Result<(), AllocError>
+    requires { class < length machine.now.input.program.classes }
+    ensures { OnOk result (numbers.new.items ≡ numbers.old.items
+        ++ living_numbers machine.now.input.program machine.now.state.store class
+        (number_of x)) }
+{
+    if !machine.store().exists(class, x) {
+        return Ok(());
+    }
+    numbers.push(1)?;
+    push_entity(numbers, machine, class, x)
+}
+
+/// Appends the numbers of the entity at which a question looks; nothing where it looks at something
+/// else.
+///
+/// `AllocError` where a growth was refused; then what was appended does not count.
+pub fn push_numbers<S: SetBoard>(
+    numbers: &mut Vec<i64>,
+    machine: &Machine<S>,
+    part: Part,
+    sight: Sight,
+) -> Result<(), AllocError>
+    requires { IsInTables machine.now.input.program sight }
+    ensures { OnOk result (numbers.new.items ≡ numbers.old.items
+        ++ numbers_of part machine.now.input.program machine.now.state sight) }
+{
+    match (part, sight) {
+        (Part::Entities, Sight::Entity(class, x)) => push_living(numbers, machine, class, x),
+        _ => Ok(()),
+    }
+}
+
+/// Appends the attributes of the entity at which a question looks; nothing where it looks at
+/// something else.
+///
+/// `AllocError` where a growth was refused; then what was appended does not count.
+pub fn push_attributes_of<S: SetBoard>(
+    attributes: &mut Vec<i64>,
+    machine: &Machine<S>,
+    part: Part,
+    sight: Sight,
+) -> Result<(), AllocError>
+    requires { IsInTables machine.now.input.program sight }
+    ensures { OnOk result (attributes.new.items ≡ attributes.old.items
+        ++ attributes_of part machine.now.input.program machine.now.state sight) }
+{
+    match (part, sight) {
+        (Part::Entities, Sight::Entity(class, x)) => {
+            push_attributes(attributes, machine, class, x)
+        }
+        _ => Ok(()),
+    }
+}
+
+/// Whether these are the attributes among the numbers of an entity, if it exists.
+pub fn tells_attributes(numbers: &[i64], attributes: &[i64]) -> bool
+    ensures { result ≡ tells_attributes numbers.now attributes.now }
+{
+    match numbers.split_first() {
+        None => true,
+        Some((_, told)) => told.starts_with(attributes),
+    }
+}
