@@ -1,10 +1,10 @@
 -- Lines that are all commands of docs/DEBUGGER.md, at the prompt.
-use Rattle.std.proofs.Common.{◌≡◌, Bool, true, false, ℕ, List, [], ◌∷◌, ◌++◌, map, refl, ◌∙◌, append_assoc, ap}
+use Rattle.std.proofs.Common.{◌≡◌, Bool, true, false, ℕ, List, [], ◌∷◌, ◌++◌, map, refl, ◌∙◌, ap}
 use Rattle.std.specs.Prelude.{if◌then◌else◌}
 use Rattle.ss_machine.specs.Run.{Input}
 use Rattle.ss_debug.specs.declared.commands.Command.{Command}
 use Rattle.ss_debug.specs.Command.{command_of}
-use Rattle.ss_debug.specs.Turn.{DebuggerState, answer, debugger_state_after, debugger_state_after_lines}
+use Rattle.ss_debug.specs.Turn.{DebuggerState, debugger_state_after, debugger_state_after_lines}
 use Rattle.ss_debug.specs.Turn.{obeyed_lines, is_quit}
 use Rattle.ss_console.specs.Dialogue.{answered, state_after_all}
 use Rattle.ss_console.specs.Laws.{answers}
@@ -43,8 +43,7 @@ plain_batch s (line ∷ lines) h =
     let rest : List ℕ = if is_quit c then [] else answers prompting (plain_next s c) lines in (
       plain_stop s c,
       rest,
-      (answered_line s line lines (plain_lines line h.0)
-          ∙ append_assoc (answer s.input s.debugger c) (plain_stop s c) rest),
+      answered_line s line lines (plain_lines line h.0),
       up_to (is_quit c) s.input (debugger_state_after s.input s.debugger c) (obeyed_lines lines)
           (answers prompting (plain_next s c) lines) (plain_batch (plain_next s c) lines h.1),
     )

@@ -13,7 +13,8 @@ returns-clause-ok g c =
     ≡ c.status_pieces.result.0.now ++ c.status_pieces.result.1.now =
     ap (λ (s : State). status_text s.status) (sym c.known.ensures.state) ∙ ap status_text (sym c.status.ensures)
     ∙ c.status_pieces.ensures in
-    rw (told_with m.input (position m) c.status_pieces.result.0.now c.status_pieces.result.1.now e) c.put_with.ensures.ok
+    rw (told_with m.input (position m) c.status_pieces.result.0.now c.status_pieces.result.1.now e)
+    c.put_with.ensures.ok
 
 pub returns-clause-err : goal.returns-clause-err
 returns-clause-err g c =
@@ -22,4 +23,5 @@ returns-clause-err g c =
     ≡ c.status_pieces.result.0.now ++ c.status_pieces.result.1.now =
     ap (λ (s : State). status_text s.status) (sym c.known.ensures.state) ∙ ap status_text (sym c.status.ensures)
     ∙ c.status_pieces.ensures in
-    rw (told_with m.input (position m) c.status_pieces.result.0.now c.status_pieces.result.1.now e) c.put_with.ensures.err
+    rw (told_with m.input (position m) c.status_pieces.result.0.now c.status_pieces.result.1.now e)
+    c.put_with.ensures.err
