@@ -130,9 +130,9 @@ fn greet_and_hold<S: SetBoard, C: Console>(
     requires room { LINE_LIMIT < vec_capacity line.old }
     requires reads { (C.faults console.old).reads < 2 ^ 64 - 1 }
     requires puts { (C.faults console.old).puts < 2 ^ 64 - 1 }
-    ensures ok { IfOk result (λ end. HoldsFrom prompt (seen (C.terminal console.old)
+    ensures ok { IfOk result (λ end. HoldsFrom prompt.entry (seen (C.terminal console.old)
         (C.left console.old) (C.left console.new) (C.log console.old) (C.log console.new)) end) }
-    ensures err { IfErr result (λ fault. StopsFrom prompt (seen (C.terminal console.old)
+    ensures err { IfErr result (λ fault. StopsFrom prompt.entry (seen (C.terminal console.old)
         (C.left console.old) (C.left console.new) (C.log console.old) (C.log console.new)) fault) }
 {
     let ended = match greet(alloc, &prompt, console) {
