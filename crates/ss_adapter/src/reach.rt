@@ -79,7 +79,7 @@ fn return_to<S: SetBoard>(
 }
 
 /// Makes a movement and goes back: tells how far it leads, and whether it ends at a change.
-fn movement_reach<S: SetBoard>(
+fn reach<S: SetBoard>(
     alloc: Global,
     debugger: &mut Debugger<S>,
     movement: Movement,
@@ -115,7 +115,7 @@ fn text_reach<S: SetBoard>(
         (debugger_state_of debugger.old) way (question_of text.now)) }
 {
     match question(alloc, text)? {
-        Some(question) => movement_reach(alloc, debugger, change_movement(way, question)),
+        Some(question) => reach(alloc, debugger, change_movement(way, question)),
         None => Ok(Reach {
             steps: GREATEST_BOUND + 1,
             met: false,
