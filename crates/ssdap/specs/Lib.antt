@@ -1,3 +1,1 @@
-pub mod Shelves
-pub mod Editing
 pub mod Stops

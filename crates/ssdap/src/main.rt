@@ -1,17 +1,13 @@
 //! `ssdap`: the debug adapter of an editor, over standard input and output.
 #![tactic(auto)]
 
-mod adapter;
-mod editing;
-mod shelf;
+mod channel;
+mod serve;
 mod stop;
 mod words;
 
-use editing::serve_editor;
-use shelf::Disk;
+use serve::serve;
 use ss_host::read_arguments;
-use ss_serve::StreamChannel;
-use std::io;
 use std::process::ExitCode;
 use stop::{Stop, tell};
 use words::read_words;
@@ -22,8 +18,7 @@ fn run(rt: &HostRuntime) -> Result<(), Stop> {
         return Err(Stop::Words(1));
     };
     read_words(rt, &words)?;
-    let mut channel = StreamChannel::new(rt.alloc(), rt.reader(), io::writer(rt));
-    Ok(serve_editor(rt.alloc(), &Disk::new(rt), &mut channel)?)
+    serve(rt)
 }
 
 fn main(rt: HostRuntime) -> ExitCode {

@@ -2,7 +2,8 @@
 ghost use Rattle.std.specs.Prelude.{◌≡◌};
 ghost use Rattle.ssdap.specs.Stops.{stop_status};
 
-use ss_serve::SessionFault;
+use ss_messages::{FrameFault, RequestFault};
+use std::alloc::AllocError;
 
 /// What stops the program before its end.
 #[derive(Clone, Copy, Debug, Drop, PartialEq, Eq)]
@@ -10,10 +11,16 @@ pub enum Stop {
     /// The words are none that the program takes, or ask for its help or version: it has said so,
     /// and this is its status.
     Words(u8),
-    /// Memory for the words was refused.
+    /// What came is no message, or no request.
+    NoRequest,
+    /// Standard input can't be read, or ends within a message.
+    CannotRead,
+    /// Standard output takes nothing more.
+    CannotWrite,
+    /// Memory was refused.
     Memory,
-    /// The session ended before its end.
-    Session(SessionFault),
+    /// As many messages were sent as have numbers.
+    Count,
 }
 
 impl Stop {
@@ -23,20 +30,49 @@ impl Stop {
     {
         match self {
             Stop::Words(status) => *status,
-            Stop::Memory | Stop::Session(SessionFault::Memory) => 5,
-            Stop::Session(_) => 2,
+            Stop::Memory => 5,
+            _ => 2,
         }
     }
 }
 
-impl From<SessionFault> for Stop {
+impl From<AllocError> for Stop {
     ghost use Rattle.std.specs.Prelude.{◌≡◌};
-    ghost use Rattle.ssdap.specs.declared.stop.Stop.TheVariants.{Session};
+    ghost use Rattle.ssdap.specs.declared.stop.Stop.TheVariants.{Memory};
 
-    ghost from_gives = { λ fault stop. stop ≡ Session fault };
+    ghost from_gives = { λ _ stop. stop ≡ Memory };
 
-    fn from(fault: SessionFault) -> Stop {
-        Stop::Session(fault)
+    fn from(_error: AllocError) -> Stop {
+        Stop::Memory
+    }
+}
+
+impl From<FrameFault> for Stop {
+    ghost use Rattle.std.specs.Prelude.{◌≡◌};
+    ghost use Rattle.ssdap.specs.Stops.{stop_of_frame};
+
+    ghost from_gives = { λ fault stop. stop ≡ stop_of_frame fault };
+
+    fn from(fault: FrameFault) -> Stop {
+        match fault {
+            FrameFault::Malformed => Stop::NoRequest,
+            FrameFault::Read => Stop::CannotRead,
+            FrameFault::Memory => Stop::Memory,
+        }
+    }
+}
+
+impl From<RequestFault> for Stop {
+    ghost use Rattle.std.specs.Prelude.{◌≡◌};
+    ghost use Rattle.ssdap.specs.Stops.{stop_of_request};
+
+    ghost from_gives = { λ fault stop. stop ≡ stop_of_request fault };
+
+    fn from(fault: RequestFault) -> Stop {
+        match fault {
+            RequestFault::NoRequest => Stop::NoRequest,
+            RequestFault::Memory => Stop::Memory,
+        }
     }
 }
 
@@ -44,7 +80,10 @@ impl From<SessionFault> for Stop {
 pub fn tell<R: Eprint>(rt: &R, stop: Stop) {
     let _ = match stop {
         Stop::Words(_) => Ok(()),
+        Stop::NoRequest => eprintln!(rt; "ssdap: no request"),
+        Stop::CannotRead => eprintln!(rt; "ssdap: cannot read"),
+        Stop::CannotWrite => eprintln!(rt; "ssdap: cannot write"),
         Stop::Memory => eprintln!(rt; "ssdap: out of memory"),
-        Stop::Session(fault) => eprintln!(rt; "ssdap: {fault}"),
+        Stop::Count => eprintln!(rt; "ssdap: too many messages"),
     };
 }
