@@ -1,8 +1,0 @@
-pub mod Meaning
-pub mod Channels
-pub mod Seen
-pub mod Faults
-pub mod Session
-pub mod Steps
-pub mod Echoing
-pub mod Examples
