@@ -1,6 +1,10 @@
-ghost use Rattle.std.specs.Prelude.{◌≡◌, ◌-◌, ◌^◌, ◌<◌, [], IfOk};
+ghost use Rattle.std.specs.Prelude.{◌≡◌, ◌-◌, ◌^◌, ◌<◌, [], IfOk, IfErr};
 ghost use Rattle.ss_links.specs.Board.{empty_board};
 ghost use Rattle.ss_machine.specs.Run.{input_with, run};
+ghost use Rattle.ss_debug.specs.Turn.{initial_debugger_state};
+ghost use Rattle.ss_debug.specs.View.{debugger_state_of};
+ghost use Rattle.ss_session.specs.Model.{accepted, IsOutcome};
+ghost use Rattle.ss_session.specs.Load.{IsLoadFault};
 ghost use Rattle.ss_session.specs.Transcript.{refusal_line};
 ghost use Rattle.ss_session.specs.Session.{SessionSays};
 ghost use Rattle.ss_session.specs.Private.{LineEnds, SessionEnds};
@@ -11,6 +15,7 @@ use crate::load::{LoadFault, load_program};
 use crate::outlet::{Outlet, put_all};
 use crate::refusal::refusal_text;
 use ss_data::Feed;
+use ss_debug::Debugger;
 use ss_links::{LinkedSets, SetBoard};
 use ss_machine::Machine;
 use ss_program::Program;
@@ -46,6 +51,28 @@ pub fn machine<S: SetBoard>(
 {
     let feed = Feed::new(alloc, data_text)?;
     Machine::new(alloc, program, feed, sets, pending)
+}
+
+/// The debugger at the start of the run of a model over its data, on boards of linked nodes; or why
+/// the model is no program, or `Memory`.
+pub fn open_debugger(
+    alloc: Global,
+    model: &[u8],
+    data_text: &[u8],
+) -> Result<Debugger<LinkedSets>, LoadFault>
+    ensures program { IfOk result (λ d. IsOutcome model.now (accepted d.machine.input.program)) }
+    ensures input { IfOk result (λ d. d.machine.input
+        ≡ input_with d.machine.input.program data_text.now) }
+    ensures start { IfOk result (λ d. debugger_state_of d ≡ initial_debugger_state) }
+    ensures err { IfErr result (λ fault. IsLoadFault fault model.now) }
+{
+    let program = load_program(alloc, model)?;
+    let sets = LinkedSets::new(alloc);
+    let pending = LinkedSets::new(alloc);
+    match machine(alloc, program, data_text, sets, pending) {
+        Ok(machine) => Ok(Debugger::new(alloc, machine)),
+        Err(_) => Err(LoadFault::Memory),
+    }
 }
 
 /// The whole session, by one fact on how it ends.
