@@ -1,5 +1,6 @@
 use crate::answer::{put_number, put_string};
 use ss_preamble::{Decls, preamble};
+use ss_session::{drop_decls, drop_words};
 use ss_words::{TextFault, words};
 use std::alloc::{AllocError, Global};
 
@@ -7,7 +8,7 @@ use std::alloc::{AllocError, Global};
 fn declarations(alloc: Global, text: &[u8]) -> Result<(Decls, usize), TextFault> {
     let words = words(alloc, text)?;
     let declarations = preamble(alloc, &words);
-    drop(words);
+    drop_words(words);
     declarations
 }
 
@@ -15,7 +16,7 @@ fn declarations(alloc: Global, text: &[u8]) -> Result<(Decls, usize), TextFault>
 pub fn put_lines(alloc: Global, out: &mut Vec<u8>, text: &[u8]) -> Result<(), TextFault> {
     let (decls, number) = declarations(alloc, text)?;
     let put = put_lines_of(alloc, out, &decls, number);
-    drop(decls);
+    drop_decls(decls);
     Ok(put?)
 }
 
@@ -39,7 +40,7 @@ fn put_lines_of(
 pub fn put_items(alloc: Global, out: &mut Vec<u8>, text: &[u8]) -> Result<(), TextFault> {
     let (decls, number) = declarations(alloc, text)?;
     let put = put_items_of(alloc, out, &decls, number);
-    drop(decls);
+    drop_decls(decls);
     Ok(put?)
 }
 

@@ -1,6 +1,7 @@
 use crate::answer::put_string;
 use ss_preamble::preamble;
 use ss_routines::sections;
+use ss_session::{drop_decls, drop_words};
 use ss_words::{TextFault, Words, words};
 use std::alloc::Global;
 
@@ -15,7 +16,7 @@ pub fn put_counts(alloc: Global, out: &mut Vec<u8>, text: &[u8]) -> Result<(), T
 pub fn counts(alloc: Global, text: &[u8]) -> Result<(usize, usize), TextFault> {
     let words = words(alloc, text)?;
     let counts = counts_of(alloc, &words);
-    drop(words);
+    drop_words(words);
     counts
 }
 
@@ -23,7 +24,7 @@ pub fn counts(alloc: Global, text: &[u8]) -> Result<(usize, usize), TextFault> {
 fn counts_of(alloc: Global, words: &Words) -> Result<(usize, usize), TextFault> {
     let (decls, number) = preamble(alloc, words)?;
     let items = decls.items.len();
-    drop(decls);
+    drop_decls(decls);
     let sections = sections(alloc, words, number)?;
     let count = sections.list().len();
     drop(sections);

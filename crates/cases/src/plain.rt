@@ -1,5 +1,6 @@
 use crate::answer::{put_string, put_text};
 use crate::raw::sign_text;
+use ss_session::drop_words;
 use ss_words::{Mark, Plain, PlainWord, TextFault, Words, plain_words, words};
 use std::alloc::{AllocError, Global};
 
@@ -24,7 +25,7 @@ pub fn put_placed(alloc: Global, out: &mut Vec<u8>, text: &[u8]) -> Result<(), T
 fn put_shown(alloc: Global, out: &mut Vec<u8>, text: &[u8], shown: Shown) -> Result<(), TextFault> {
     let words = words(alloc, text)?;
     let put = put_plain(alloc, out, &words, shown);
-    drop(words);
+    drop_words(words);
     put
 }
 

@@ -1,4 +1,5 @@
 use crate::answer::{put_string, put_text};
+use ss_session::drop_words;
 use ss_words::{Sign, TextFault, Word, WordKind, words};
 use std::alloc::{AllocError, Global};
 
@@ -7,7 +8,7 @@ use std::alloc::{AllocError, Global};
 pub fn put_words(alloc: Global, out: &mut Vec<u8>, text: &[u8]) -> Result<(), TextFault> {
     let words = words(alloc, text)?;
     let put = put_all(alloc, out, &words.list);
-    drop(words);
+    drop_words(words);
     Ok(put?)
 }
 
@@ -15,7 +16,7 @@ pub fn put_words(alloc: Global, out: &mut Vec<u8>, text: &[u8]) -> Result<(), Te
 pub fn put_count(alloc: Global, out: &mut Vec<u8>, text: &[u8]) -> Result<(), TextFault> {
     let words = words(alloc, text)?;
     let count = words.list.len();
-    drop(words);
+    drop_words(words);
     put_string(out, format!(in alloc; "{count}")?)?;
     Ok(())
 }

@@ -1,6 +1,7 @@
 use crate::answer::put_string;
 use crate::shown::{put_places, put_section};
 use ss_routines::{Sections, sections};
+use ss_session::drop_words;
 use ss_words::{TextFault, words};
 use std::alloc::{AllocError, Global};
 
@@ -8,7 +9,7 @@ use std::alloc::{AllocError, Global};
 pub fn sections_of(alloc: Global, text: &[u8]) -> Result<Sections, TextFault> {
     let words = words(alloc, text)?;
     let sections = sections(alloc, &words, 0);
-    drop(words);
+    drop_words(words);
     sections
 }
 

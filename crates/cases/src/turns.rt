@@ -1,14 +1,9 @@
-ghost use Rattle.std.specs.Prelude.{◌≡◌, IfOk};
-
 use crate::answer::{put_string, put_text};
-use crate::checked::{Refused, program};
 use crate::worked::file;
-use ss_check::{CheckFault, Program};
-use ss_data::Feed;
 use ss_debug::{Debugger, command, obey};
 use ss_links::LinkedSets;
 use ss_machine::Machine;
-use ss_words::TextFault;
+use ss_session::{LoadFault, drop_debugger, open_debugger};
 use std::alloc::{AllocError, Global};
 use std::io;
 use std::io::Write;
@@ -20,74 +15,25 @@ use std::rt::Files;
 /// debugger tells of its machine.
 pub fn show<R: Files + AllocGlobal + Print>(rt: &R, text: &str) -> io::Result<()> {
     let (name, commands) = text.split_once('|').unwrap_or((text, ""));
-    match example_program(rt, name)? {
-        Ok(program) => show_program(rt, program, name, commands),
-        Err(Refused::Text(TextFault::Memory) | Refused::Check(CheckFault::Memory)) => {
-            Err(io::Error::from(AllocError))
+    match example_debugger(rt, name)? {
+        Ok(mut debugger) => {
+            let shown = obey_all(rt, &mut debugger, commands);
+            drop_debugger(debugger);
+            shown
         }
+        Err(LoadFault::Memory) => Err(io::Error::from(AllocError)),
         Err(_) => Ok(()),
     }
 }
 
-/// The program of an example.
-fn example_program<R: Files + AllocGlobal>(
+/// A debugger at the start of an example's run over its data, nothing where it has none.
+fn example_debugger<R: Files + AllocGlobal>(
     rt: &R,
     name: &str,
-) -> io::Result<Result<Program, Refused>> {
+) -> io::Result<Result<Debugger<LinkedSets>, LoadFault>> {
     let model = file(rt, name, "sim", None)?;
-    let program = program(rt.alloc(), &model);
-    drop(model);
-    Ok(program)
-}
-
-/// The data of an example, nothing where it has none.
-fn feed<R: Files + AllocGlobal>(rt: &R, name: &str) -> io::Result<Feed>
-    ensures { IfOk result (λ feed. feed.taken ≡ 0) }
-{
     let data = file(rt, name, "data", Some(b""))?;
-    let feed = Feed::new(rt.alloc(), &data);
-    drop(data);
-    Ok(feed?)
-}
-
-/// Obeys commands over an example's program and its data.
-fn show_program<R: Files + AllocGlobal + Print>(
-    rt: &R,
-    program: Program,
-    name: &str,
-    commands: &str,
-) -> io::Result<()> {
-    match feed(rt, name) {
-        Ok(feed) => show_run(rt, program, feed, commands),
-        Err(error) => {
-            drop(program);
-            Err(error)
-        }
-    }
-}
-
-/// Obeys commands at the start of a program's run over its data.
-fn show_run<R: AllocGlobal + Print>(
-    rt: &R,
-    program: Program,
-    feed: Feed,
-    commands: &str,
-) -> io::Result<()>
-    requires { feed.taken ≡ 0 }
-{
-    let mut debugger = debugger(rt.alloc(), program, feed)?;
-    let shown = obey_all(rt, &mut debugger, commands);
-    drop(debugger);
-    shown
-}
-
-/// A debugger at the start of a program's run over its data.
-fn debugger(alloc: Global, program: Program, feed: Feed) -> Result<Debugger<LinkedSets>, AllocError>
-    requires { feed.taken ≡ 0 }
-{
-    let sets = LinkedSets::new(alloc);
-    let machine = Machine::new(alloc, program, feed, sets, LinkedSets::new(alloc))?;
-    Ok(Debugger::new(alloc, machine))
+    Ok(open_debugger(rt.alloc(), &model, &data))
 }
 
 fn obey_all<R: AllocGlobal + Print>(

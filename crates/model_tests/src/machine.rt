@@ -4,6 +4,7 @@ use crate::model::started;
 use ss_links::{LinkedSets, SetBoard};
 use ss_machine::{Machine, Status, Stepped};
 use ss_program::Variable;
+use ss_session::drop_machine;
 use ss_words::RunFault;
 use std::alloc::Global;
 use std::fmt::Debug;
@@ -136,7 +137,7 @@ fn forth_and_back_twice<S: SetBoard>(
 fn there_and_back(rt: &(impl Abort + Print), alloc: Global, model: &[u8], run: &[Shown<'_>]) {
     let mut machine = start(rt, alloc, model);
     forth_and_back_twice(rt, &mut machine, run);
-    drop(machine);
+    drop_machine(machine);
 }
 
 // State number 0 to 3 of a run of two steps and a last one that stays where it is, with nothing
