@@ -1,12 +1,16 @@
 -- Where the names of a model stand.
-use Rattle.std.specs.Prelude.{ℕ, true, false, ◌==◌, ◌&&◌, nat_lt, if◌then◌else◌, List, [], ◌∷◌, ◌++◌, codes, decimal, count_by, bytes_eq}
-use Rattle.std.specs.Prelude.{Ok, Err, Bool}
+use Rattle.std.specs.Prelude.{ℕ, Bool, true, false, ◌==◌, ◌&&◌, nat_lt, if◌then◌else◌, List, [], ◌∷◌, ◌++◌, codes}
+use Rattle.std.specs.Prelude.{decimal, count_by, bytes_eq, Ok, Err}
 use Rattle.ss_words.specs.Plain.{PlainAt, name, number, mark, picture}
 use Rattle.ss_words.specs.PlainRules.{plain_words_of}
 use Rattle.ss_words.specs.TextWords.{words_of}
 use Rattle.ss_words.specs.Words.{WordAt}
 use Rattle.ss_names.specs.declared.roles.Role.{Role}
 use Rattle.ss_names.specs.declared.roles.Role.TheVariants.{Declared, Set, Read, Named}
+use Rattle.ss_names.specs.declared.collected.Wanted.TheVariants as wanted
+use Rattle.ss_names.specs.Collected.{collected}
+use Rattle.ss_names.specs.Here as here
+use Rattle.ss_names.specs.Known.{known, known_text}
 use Rattle.ss_names.specs.Names.{names_in}
 use Rattle.ss_names.specs.Roles.{at_start, lines_with, names_with}
 use Rattle.ss_names.specs.Unread.{is_only}
@@ -77,11 +81,20 @@ remark false said = []
 
 -- whether the words use a name in one way alone, but that they declare it
 unfoldable pub only_with : List PlainAt → List ℕ → Role → Bool
-only_with plain n role = is_only (names_in plain) (names_with Declared at_start plain) (names_with role at_start plain) n
+only_with plain n role =
+    is_only (names_in plain) (names_with Declared at_start plain) (names_with role at_start plain) n
 
 -- a name, and how often it stands
 abbrev pub name_head : List ℕ → ℕ → List ℕ
 name_head n count = n ++ codes ": " ++ decimal count
+
+-- what it is, and where it is declared
+abbrev pub what_told : List PlainAt → List ℕ → List ℕ
+what_told plain n = codes ", " ++ known_text (known (collected wanted.Declared [] here.at_start [] plain) n)
+
+-- a name, how often it stands, and what it is
+unfoldable pub name_front : List PlainAt → List ℕ → ℕ → List ℕ
+name_front plain n count = name_head n count ++ what_told plain n
 
 -- where it has each role
 abbrev pub roles_told : List PlainAt → List ℕ → List ℕ
@@ -108,7 +121,8 @@ remarks plain n count =
 
 -- what is told of a name that stands so often
 abbrev pub told_of_name : List PlainAt → List ℕ → ℕ → List ℕ
-told_of_name plain n count = name_head n count ++ roles_told plain n ++ remarks plain n count ++ codes "\n"
+told_of_name plain n count =
+    name_front plain n count ++ roles_told plain n ++ remarks plain n count ++ codes "\n"
 
 -- that there is no such name
 abbrev pub no_name : List ℕ → List ℕ

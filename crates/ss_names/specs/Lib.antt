@@ -2,7 +2,17 @@ pub mod CountMap
 pub mod Names
 pub mod Saying
 pub mod Roles
+pub mod Meanings
+pub mod Here
+pub mod Collected
+pub mod Keys
 pub mod Unread
 pub mod Unused
+pub mod Positions
+pub mod Ranked
 pub mod Warnings
+pub mod Known
 pub mod Index
+pub mod Breaches
+pub mod Counts
+pub mod Subjects

@@ -1,9 +1,14 @@
--- Names that are set and never read, and names that are read and never set: whose every place in the text is of the one
--- kind, or in a DEFINE.
+-- Names that are set and never read, and names that are read and never set: whose every place is of the one kind, or in
+-- a DEFINE; of a local variable every place in its section.
 use Rattle.std.specs.Prelude.{ℕ, Bool, true, false, ◌==◌, ◌&&◌, ◌-◌, not, nat_lt, nat_le, List, [], ◌∷◌, ◌++◌}
-use Rattle.std.specs.Prelude.{count_by, bytes_eq}
+use Rattle.std.specs.Prelude.{count_by, bytes_eq, Some, None}
 use Rattle.ss_words.specs.Plain.{PlainAt, name, number, mark, picture}
+use Rattle.ss_names.specs.declared.roles.Role.{Role}
+use Rattle.ss_names.specs.declared.roles.Role.TheVariants.{Declared}
+use Rattle.ss_names.specs.Keys.{key, keys_with, section_behind}
+use Rattle.ss_names.specs.Meanings.{Declaration}
 use Rattle.ss_names.specs.Names.{is_of_language}
+use Rattle.ss_names.specs.Roles.{at_start}
 use Rattle.ss_names.specs.Saying.{warning}
 
 -- of all names, those that are declared, and those that are used in one way: a name stands more than once, is used in
@@ -14,26 +19,68 @@ is_only all declared used n =
     && nat_le (count_by (bytes_eq n) used) (count_by (bytes_eq n) all)
     && count_by (bytes_eq n) all - count_by (bytes_eq n) used == count_by (bytes_eq n) declared
 
--- the same of a name that stands more than once, here first, and is not the language's
-abbrev pub is_told : List (List ℕ) → List (List ℕ) → List (List ℕ) → List (List ℕ) → List ℕ → Bool
-is_told all declared used before n =
-    nat_lt 1 (count_by (bytes_eq n) all) && is_only all declared used n && count_by (bytes_eq n) before == 0
-    && not (is_of_language n)
+-- names as they are counted: all, those that are declared there, and those that are used in one way
+pub record Counted : Type 0 where
+  -- all
+  pub all : List (List ℕ)
+  -- those in a DEFINE or a HAS
+  pub declared : List (List ℕ)
+  -- those that are used in one way
+  pub used : List (List ℕ)
+
+-- those among words, with a role
+abbrev pub counted : List Declaration → Role → List PlainAt → Counted
+counted ds role ws = record {
+  all = keys_with ds None 0 at_start ws;
+  declared = keys_with ds (Some Declared) 0 at_start ws;
+  used = keys_with ds (Some role) 0 at_start ws;
+}
+
+-- a name that stands more than once in the text, is used in one way alone, stands here first, and is not the
+-- language's; the name by itself, and as it is counted
+abbrev pub is_told : List (List ℕ) → Counted → List (List ℕ) → List ℕ → List ℕ → Bool
+is_told names c before n k =
+    nat_lt 1 (count_by (bytes_eq n) names) && is_only c.all c.declared c.used k
+    && count_by (bytes_eq k) before == 0 && not (is_of_language n)
 
 -- what is said of a name on a line behind others
-unfoldable pub only_name :
-    List ℕ → List (List ℕ) → List (List ℕ) → List (List ℕ) → List (List ℕ) → ℕ → List ℕ → List ℕ
-only_name said all declared used before line n =
-    elim (is_told all declared used before n) [ true ↦ warning line n said | false ↦ [] ]
+abbrev pub only_name :
+    List ℕ → List (List ℕ) → Counted → List (List ℕ) → ℕ → List ℕ → List ℕ → List ℕ
+only_name said names c before line n k =
+    elim (is_told names c before n k) [ true ↦ warning line n said | false ↦ [] ]
 
--- each name among words, behind others, that is used in this way alone, with the line on which it stands first
-unfoldable pub only_text :
-    List ℕ → List (List ℕ) → List (List ℕ) → List (List ℕ) → List (List ℕ) → List PlainAt → List ℕ
-only_text said all declared used before [] = []
-only_text said all declared used before (w ∷ ws) = elim w.word [
-  | name n ↦ only_name said all declared used before w.line n
-      ++ only_text said all declared used (before ++ n ∷ []) ws
-  | number n ↦ only_text said all declared used before ws
-  | mark m ↦ only_text said all declared used before ws
-  | picture ls ↦ only_text said all declared used before ws
+-- what is said of a name in a section, behind others
+unfoldable pub section_name :
+    List ℕ → List (List ℕ) → List Declaration → Counted → List (List ℕ) → ℕ → ℕ → List ℕ → List ℕ
+section_name said names ds c before section line n = only_name said names c before line n (key ds section n)
+
+-- what is said of a word behind others
+abbrev pub only_word : List ℕ → List (List ℕ) → List Declaration → Counted → List (List ℕ) → ℕ → PlainAt → List ℕ
+only_word said names ds c before section w = elim w.word [
+  | name n ↦ section_name said names ds c before section w.line n
+  | number n ↦ []
+  | mark m ↦ []
+  | picture ls ↦ []
 ]
+
+-- the names behind a word, as they are counted
+abbrev pub before_behind : List Declaration → List (List ℕ) → ℕ → PlainAt → List (List ℕ)
+before_behind ds before section w = elim w.word [
+  | name n ↦ before ++ key ds section n ∷ []
+  | number n ↦ before
+  | mark m ↦ before
+  | picture ls ↦ before
+]
+
+-- each name among words, behind others, that is used in this way alone, with the line on which it stands first; a local
+-- variable of each section by itself
+unfoldable pub only_text :
+    List ℕ → List (List ℕ) → List Declaration → Counted → List (List ℕ) → ℕ → List PlainAt → List ℕ
+only_text said names ds c before section [] = []
+only_text said names ds c before section (w ∷ ws) =
+    only_word said names ds c before section w
+    ++ only_text said names ds c (before_behind ds before section w) (section_behind section w) ws
+
+-- each name that is used with this role alone
+abbrev pub uses_text : List ℕ → Role → List (List ℕ) → List Declaration → List PlainAt → List ℕ
+uses_text said role names ds ws = only_text said names ds (counted ds role ws) [] 0 ws

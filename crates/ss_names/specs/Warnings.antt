@@ -13,11 +13,15 @@ use Rattle.ss_names.specs.declared.dropped.TheConstants.{ARTICLES, FILLERS, DROP
 use Rattle.ss_columns.specs.Reserved.{is_among, is_kind_among, reserved, scheduling}
 use Rattle.ss_names.specs.Names.{names_in, is_of_language}
 use Rattle.ss_names.specs.Saying.{warning}
-use Rattle.ss_names.specs.declared.roles.Role.TheVariants.{Declared, Set, Read}
+use Rattle.ss_names.specs.declared.collected.Wanted.TheVariants as wanted
+use Rattle.ss_names.specs.declared.roles.Role.TheVariants.{Set, Read}
 use Rattle.ss_names.specs.declared.unread.TheConstants.{UNREAD, UNSET}
 use Rattle.ss_names.specs.declared.roles.Standing.{Standing}
-use Rattle.ss_names.specs.Roles.{at_start, behind, may_stand_once, names_with}
-use Rattle.ss_names.specs.Unread.{only_text}
+use Rattle.ss_names.specs.Collected.{collected}
+use Rattle.ss_names.specs.Here as here
+use Rattle.ss_names.specs.Roles.{at_start, behind, may_stand_once}
+use Rattle.ss_names.specs.Ranked.{ranked_text}
+use Rattle.ss_names.specs.Unread.{uses_text}
 
 -- ---- names that stand once
 
@@ -102,10 +106,11 @@ abbrev pub warnings_of_words : List WordAt → List ℕ
 warnings_of_words ws =
     let plain = plain_words_of ws in
     let names = names_in plain in
-    let declared = names_with Declared at_start plain in
+    let ds = collected wanted.Declared [] here.at_start [] plain in
     once_text names at_start plain
-    ++ only_text UNREAD.now names declared (names_with Set at_start plain) [] plain
-    ++ only_text UNSET.now names declared (names_with Read at_start plain) [] plain
+    ++ uses_text UNREAD.now Set names ds plain
+    ++ uses_text UNSET.now Read names ds plain
+    ++ ranked_text ds (collected wanted.Keys [] here.at_start [] plain) [] [] here.at_start plain
     ++ dropped_text None ws
 
 -- the warnings of a model; none where a rule L refuses it

@@ -4,6 +4,8 @@ ghost use Rattle.ss_words.specs.Plain.{plain_at};
 ghost use Rattle.ss_names.specs.Index as spec;
 ghost use Rattle.ss_names.specs.Names.{names_in as names_of};
 
+use crate::collected::{Wanted, collect};
+use crate::known::{known_as, push_known};
 use crate::name_counts::NameCounts;
 use crate::names::names_in;
 use crate::roles::{Role, names_with, push_lines_with};
@@ -143,8 +145,9 @@ fn push_row(
 }
 
 /// Appends what is told of a name of a model, in upper case (docs/SENTENCES.md): how often it
-/// stands, the lines on which it is declared by a DEFINE, set, read and else named, and whether it
-/// stands only once, or is never set or never read; `NO NAME` where it does not stand, and nothing
+/// stands, what it is and where that is declared, the lines on which it stands in a DEFINE or HAS,
+/// is set, read and else named, and whether it stands only once, or is never set or never read;
+/// `NO NAME` where it does not stand, and nothing
 /// where a rule L refuses the model. The only error is that memory was refused.
 pub fn push_name(
     alloc: Global,
@@ -195,10 +198,26 @@ fn push_told(
     ensures { OnOk result (text.new.items
         ≡ text.old.items ++ spec.told_of_name (map plain_at words.now) name.now count) }
 {
-    push_head(text, name, count)?;
+    push_front(alloc, words, name, count, text)?;
     push_roles(alloc, words, name, text)?;
     push_remarks(alloc, words, name, count, text)?;
     text.extend_from_slice(b"\n")
+}
+
+/// Appends a name, how often it stands, and what it is.
+#[tactic(auto, unfolding(crate::specs::Index::name_front))]
+fn push_front(
+    alloc: Global,
+    words: &[PlainWord<'_>],
+    name: &[u8],
+    count: usize,
+    text: &mut Vec<u8>,
+) -> Result<(), AllocError>
+    ensures { OnOk result (text.new.items
+        ≡ text.old.items ++ spec.name_front (map plain_at words.now) name.now count) }
+{
+    push_head(text, name, count)?;
+    push_what(alloc, words, name, text)
 }
 
 /// Appends a name, and how often it stands.
@@ -209,6 +228,21 @@ fn push_head(text: &mut Vec<u8>, name: &[u8], count: usize) -> Result<(), AllocE
     text.extend_from_slice(name)?;
     text.extend_from_slice(b": ")?;
     text.extend_from_slice(buffer.format(count).as_bytes())
+}
+
+/// Appends what a name is.
+fn push_what(
+    alloc: Global,
+    words: &[PlainWord<'_>],
+    name: &[u8],
+    text: &mut Vec<u8>,
+) -> Result<(), AllocError>
+    ensures { OnOk result (text.new.items
+        ≡ text.old.items ++ spec.what_told (map plain_at words.now) name.now) }
+{
+    let declarations = collect(alloc, Wanted::Declared, words)?;
+    text.extend_from_slice(b", ")?;
+    push_known(text, known_as(&declarations, name))
 }
 
 /// Appends where a name has each role.

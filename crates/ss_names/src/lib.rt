@@ -1,17 +1,29 @@
 //! The names of a model, and warnings of what is suspicious in its words.
 #![tactic(auto)]
 
+mod breach;
+mod breaches;
+mod collected;
+mod counts;
+mod declarations;
 mod dropped;
+mod here;
 mod index;
+mod keys;
+mod known;
 mod language;
+mod meaning;
 mod name_counts;
 mod names;
 mod once;
+mod position;
+mod ranked;
 mod roles;
 mod unread;
 mod unused;
 mod warnings;
 
+pub use breaches::push_breach;
 pub use index::{push_line_names, push_name, push_names};
 pub use roles::{Role, Standing};
 pub use unused::push_program_warnings;

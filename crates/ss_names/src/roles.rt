@@ -145,7 +145,7 @@ fn read_or_named(is_read: bool) -> Role
     if is_read { Role::Read } else { Role::Named }
 }
 
-fn same_role(one: Role, other: Role) -> bool
+pub fn same_role(one: Role, other: Role) -> bool
     ensures { result ≡ spec.same_role one other }
 {
     match (one, other) {

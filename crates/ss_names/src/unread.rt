@@ -1,13 +1,18 @@
 //! Names that are set and never read, and names that are read and never set.
-ghost use Rattle.std.specs.Prelude.{◌≡◌, ◌++◌, [], OnOk, map};
+ghost use Rattle.std.specs.Prelude.{◌≡◌, ◌++◌, [], IfOk, OnOk, map};
 ghost use Rattle.ss_words.specs.Plain.{plain_at};
+ghost use Rattle.ss_names.specs.Meanings.{declaration_at};
 ghost use Rattle.ss_names.specs.Unread as spec;
 
+use crate::keys::{key, keys_with, section_behind};
 use crate::language::is_of_language;
+use crate::meaning::Row;
 use crate::name_counts::NameCounts;
 use crate::once::push_warning;
+use crate::roles::Role;
 use ss_words::{Plain, PlainWord};
 use std::alloc::{AllocError, Global};
+use std::marker::Model;
 
 /// What is said of a name that is set and never read. The definitions read these texts too.
 pub const UNREAD: &[u8] = b" is set, and never read.\n";
@@ -24,63 +29,202 @@ pub fn is_only(all: &NameCounts, declared: &NameCounts, used: &NameCounts, name:
     count > 0 && count <= all.count(name) && others == declared.count(name)
 }
 
-/// Appends what is said of a name behind others.
+/// How often names stand: all, those that are declared there, and those that are used in one way.
+#[derive(Drop)]
+pub struct Counted {
+    pub all: NameCounts,
+    pub declared: NameCounts,
+    pub used: NameCounts,
+}
+
+impl Model for Counted {
+    ghost use Rattle.ss_names.specs.Unread.{Counted as NamesCounted};
+
+    ghost Value = { NamesCounted };
+
+    ghost view = { λ a. record { all = a.all; declared = a.declared; used = a.used } };
+}
+
+/// How often names stand among words, and with a role.
+fn count_names(
+    alloc: Global,
+    declarations: &[Row<'_>],
+    role: Role,
+    words: &[PlainWord<'_>],
+) -> Result<Counted, AllocError>
+    ensures { IfOk result (λ counted. counted
+        ≡ spec.counted (map declaration_at declarations.now) role (map plain_at words.now)) }
+{
+    Ok(Counted {
+        all: keys_with(alloc, declarations, None, words)?,
+        declared: keys_with(alloc, declarations, Some(Role::Declared), words)?,
+        used: keys_with(alloc, declarations, Some(role), words)?,
+    })
+}
+
+/// Whether it is to be told of a name that is counted as this, behind others.
+fn is_told(
+    names: &NameCounts,
+    counted: &Counted,
+    before: &NameCounts,
+    name: &[u8],
+    key: &[u8],
+) -> bool
+    ensures { result ≡ spec.is_told names.now counted.now before.now name.now key.now }
+{
+    names.count(name) > 1
+        && is_only(&counted.all, &counted.declared, &counted.used, key)
+        && before.count(key) == 0
+        && !is_of_language(name)
+}
+
+/// Appends what is said of a name that is counted as this, behind others.
 #[tactic(auto, unfolding(crate::specs::Unread::only_name))]
 fn push_only_name(
     text: &mut Vec<u8>,
     said: &[u8],
-    all: &NameCounts,
-    declared: &NameCounts,
-    used: &NameCounts,
+    names: &NameCounts,
+    counted: &Counted,
     before: &NameCounts,
     line: usize,
     name: &[u8],
+    key: &[u8],
 ) -> Result<(), AllocError>
     ensures { OnOk result (text.new.items ≡ text.old.items
-        ++ spec.only_name said.now all.now declared.now used.now before.now line name.now) }
+        ++ spec.only_name said.now names.now counted.now before.now line name.now key.now) }
 {
-    if all.count(name) > 1
-        && is_only(all, declared, used, name)
-        && before.count(name) == 0
-        && !is_of_language(name)
-    {
+    if is_told(names, counted, before, name, key) {
         return push_warning(text, line, name, said);
     }
     Ok(())
 }
 
+/// Appends what is said of a name in a section, behind others.
+#[tactic(auto, unfolding(crate::specs::Unread::section_name))]
+fn push_section_name(
+    alloc: Global,
+    text: &mut Vec<u8>,
+    said: &[u8],
+    names: &NameCounts,
+    declarations: &[Row<'_>],
+    counted: &Counted,
+    before: &NameCounts,
+    section: u32,
+    line: usize,
+    name: &[u8],
+) -> Result<(), AllocError>
+    ensures { OnOk result (text.new.items ≡ text.old.items
+        ++ spec.section_name said.now names.now (map declaration_at declarations.now) counted.now
+        before.now section line name.now) }
+{
+    let key = key(alloc, declarations, section, name)?;
+    push_only_name(text, said, names, counted, before, line, name, &key)
+}
+
+/// Appends what is said of a word, if it is a name.
+fn push_only_word(
+    alloc: Global,
+    text: &mut Vec<u8>,
+    said: &[u8],
+    names: &NameCounts,
+    declarations: &[Row<'_>],
+    counted: &Counted,
+    before: &NameCounts,
+    section: u32,
+    word: &PlainWord<'_>,
+) -> Result<(), AllocError>
+    ensures { OnOk result (text.new.items ≡ text.old.items
+        ++ spec.only_word said.now names.now (map declaration_at declarations.now) counted.now
+        before.now section (plain_at word.now)) }
+{
+    let Plain::Name(name) = word.kind() else {
+        return Ok(());
+    };
+    push_section_name(
+        alloc,
+        text,
+        said,
+        names,
+        declarations,
+        counted,
+        before,
+        section,
+        word.line(),
+        name.bytes(),
+    )
+}
+
+/// Puts a word to those before, if it is a name.
+fn add_word(
+    alloc: Global,
+    before: &mut NameCounts,
+    declarations: &[Row<'_>],
+    section: u32,
+    word: &PlainWord<'_>,
+) -> Result<(), AllocError>
+    ensures { OnOk result (before.new
+        ≡ spec.before_behind (map declaration_at declarations.now) before.old section
+        (plain_at word.now)) }
+{
+    let Plain::Name(name) = word.kind() else {
+        return Ok(());
+    };
+    let key = key(alloc, declarations, section, name.bytes())?;
+    before.add(&key)
+}
+
 /// Appends each name among these words that is used in this way alone, with the line on which it
-/// stands first.
+/// stands first; a local variable of each section by itself.
 #[tactic(auto, unfolding(crate::specs::Unread::only_text))]
 pub fn push_only(
     alloc: Global,
     text: &mut Vec<u8>,
     said: &[u8],
-    all: &NameCounts,
-    declared: &NameCounts,
-    used: &NameCounts,
+    names: &NameCounts,
+    declarations: &[Row<'_>],
+    counted: &Counted,
     words: &[PlainWord<'_>],
 ) -> Result<(), AllocError>
     ensures { OnOk result (text.new.items ≡ text.old.items
-        ++ spec.only_text said.now all.now declared.now used.now [] (map plain_at words.now)) }
+        ++ spec.only_text said.now names.now (map declaration_at declarations.now) counted.now
+        [] 0 (map plain_at words.now)) }
 {
     let mut before = NameCounts::new(alloc);
+    let mut section: u32 = 0;
     let mut rest = words;
     while let [word, behind @ ..] = rest {
-        if let Plain::Name(name) = word.kind() {
-            push_only_name(
-                text,
-                said,
-                all,
-                declared,
-                used,
-                &before,
-                word.line(),
-                name.bytes(),
-            )?;
-            before.add(name.bytes())?;
-        }
+        push_only_word(
+            alloc,
+            text,
+            said,
+            names,
+            declarations,
+            counted,
+            &before,
+            section,
+            word,
+        )?;
+        add_word(alloc, &mut before, declarations, section, word)?;
+        section = section_behind(section, word);
         rest = behind;
     }
     Ok(())
+}
+
+/// Appends each name that is used with this role alone.
+pub fn push_uses(
+    alloc: Global,
+    text: &mut Vec<u8>,
+    said: &[u8],
+    role: Role,
+    names: &NameCounts,
+    declarations: &[Row<'_>],
+    words: &[PlainWord<'_>],
+) -> Result<(), AllocError>
+    ensures { OnOk result (text.new.items ≡ text.old.items
+        ++ spec.uses_text said.now role names.now (map declaration_at declarations.now)
+        (map plain_at words.now)) }
+{
+    let counted = count_names(alloc, declarations, role, words)?;
+    push_only(alloc, text, said, names, declarations, &counted, words)
 }

@@ -7,6 +7,7 @@ use Rattle.ss_machine.specs.State.{State}
 use Rattle.ss_debug.specs.CommandLines.{separates, line_separators}
 use Rattle.ss_sentences.specs.Wording.{rule_sentence}
 use Rattle.ss_faults.specs.Sentence.{fault_text}
+use Rattle.ss_names.specs.Subjects.{breach_text}
 
 -- what is said behind the line of the last state: where it is faulted, the fault's sentence and what it is about
 unfoldable pub end_explanation : ProgramTable → State → List ℕ
@@ -31,6 +32,7 @@ abbrev pub line_of_text : List ℕ → ℕ → List ℕ
 line_of_text text l = without_return (before_first (separates line_separators) (behind_lines (l - 1) text))
 
 -- what is said behind the line of a model that is refused by the rule of the checker with this code at line l: the
--- rule's sentence, and the line of the model behind its number
+-- rule's sentence, the line of the model behind its number, and which name it is about
 unfoldable pub refusal_explanation : List ℕ → List ℕ → ℕ → List ℕ
-refusal_explanation model code l = rule_line code ++ decimal l ++ codes "> " ++ line_of_text model l ++ 10 ∷ []
+refusal_explanation model code l =
+    rule_line code ++ decimal l ++ codes "> " ++ line_of_text model l ++ codes "\n" ++ breach_text model code l

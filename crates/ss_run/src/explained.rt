@@ -8,6 +8,7 @@ use ss_debug::split_line;
 use ss_faults::push_fault_sentence;
 use ss_links::SetBoard;
 use ss_machine::Machine;
+use ss_names::push_breach;
 use ss_sentences::rule_sentence;
 use std::alloc::{AllocError, Global};
 
@@ -61,7 +62,8 @@ fn line_of_text(text: &[u8], number: usize) -> &[u8]
 }
 
 /// What is said behind the line of a model that is refused by the rule of the checker with this code
-/// at this line: the rule's sentence, and the line of the model behind its number.
+/// at this line: the rule's sentence, the line of the model behind its number, and which name it is
+/// about.
 #[tactic(auto, unfolding(crate::specs::Explained::refusal_explanation))]
 pub fn rule_explanation(
     alloc: Global,
@@ -78,5 +80,6 @@ pub fn rule_explanation(
     text.extend_from_slice(b"> ")?;
     text.extend_from_slice(line_of_text(model, line))?;
     text.extend_from_slice(b"\n")?;
+    push_breach(alloc, model, code, line, &mut text)?;
     Ok(text)
 }

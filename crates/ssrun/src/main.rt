@@ -16,12 +16,17 @@ use clap::error::ErrorKind;
 use meter::Meter;
 use questions::read_questions;
 use ss_host::{Stop, Stream, read_arguments, read_file, read_or, stop_by, tell};
+use ss_names::push_warnings;
 use ss_run::{RunCut, RunEnd, WholeRun, run_model, run_status, trace_model};
 use ss_trace::Question;
+use std::alloc::Global;
 use std::io::{IsTerminal, Write};
 use std::process::ExitCode;
 use std::{fs, io};
 use words::{Words, read_words};
+
+/// How a run ended, and the warnings of its model.
+type Ran = (Result<WholeRun, RunCut>, Vec<u8>);
 
 /// The words that the program takes.
 const USAGE: &str = "ssrun [--watch QUESTION --trace FILE] MODEL [DATA]";
@@ -61,17 +66,42 @@ fn run_traced<'a>(
     ))
 }
 
-/// Reads model and data, in that order, and runs the model where both were read.
-fn run<'a>(rt: &HostRuntime, words: &Words<'a>) -> Result<Result<WholeRun, RunCut>, Stop<'a>> {
+/// Reads model and data, in that order, and runs the model where both were read; gives its warnings
+/// too.
+fn run<'a>(rt: &HostRuntime, words: &Words<'a>) -> Result<Ran, Stop<'a>> {
     let questions = watched(rt, words)?;
     let model = read_file(rt, words.model)?;
     let input = read_or(rt, words.input, b"")?;
+    let outcome = run_over(rt, words, &questions, &model, &input)?;
+    let warnings = warnings_of(rt.alloc(), &model, &outcome);
+    Ok((outcome, warnings))
+}
+
+/// Runs a model over its data, and traces it where that is asked for.
+fn run_over<'a>(
+    rt: &HostRuntime,
+    words: &Words<'a>,
+    questions: &[Question],
+    model: &[u8],
+    input: &[u8],
+) -> Result<Result<WholeRun, RunCut>, Stop<'a>> {
     if let Some(path) = words.trace {
-        return run_traced(rt, &model, &input, &questions, path);
+        return run_traced(rt, model, input, questions, path);
     }
     let mut out = Stream::new(io::writer(rt));
     let mut meter = Meter::new(rt, rt.stderr().is_terminal());
-    Ok(run_model(rt.alloc(), &model, &input, &mut meter, &mut out))
+    Ok(run_model(rt.alloc(), model, input, &mut meter, &mut out))
+}
+
+/// What is suspicious in the words of a model that was run; as far as memory goes.
+fn warnings_of(alloc: Global, model: &[u8], outcome: &Result<WholeRun, RunCut>) -> Vec<u8> {
+    let mut text = Vec::new(alloc);
+    if let Ok(whole) = outcome {
+        if !matches!(whole.end, RunEnd::Refused(_)) {
+            let _ = push_warnings(alloc, model, &mut text);
+        }
+    }
+    text
 }
 
 /// Says what stopped the program, and gives its exit status.
@@ -152,7 +182,11 @@ fn started(rt: &HostRuntime, arguments: &[String]) -> u8 {
         Err(error) => return explained(rt, &error),
     };
     match run(rt, &words) {
-        Ok(outcome) => ended(rt, outcome),
+        Ok((outcome, warnings)) => {
+            let status = ended(rt, outcome);
+            put_lines(rt, &warnings);
+            status
+        }
         Err(stop) => stopped(rt, stop),
     }
 }

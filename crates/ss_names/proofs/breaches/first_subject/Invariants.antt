@@ -1,0 +1,13 @@
+use Rattle.std.proofs.Common.{◌≡◌, [], map, length}
+use Rattle.ss_words.specs.Plain.{plain_at}
+use Rattle.ss_names.specs.Here.{at_start}
+use Rattle.ss_names.specs.Subjects.{subject}
+use Rattle.ss_names.proofs.breaches.first_subject.Given as goal
+
+abbrev pub invariant-loop-rest : goal.invariant-loop-rest
+invariant-loop-rest l =
+    subject l.facts l.rule l.line (map plain_at l.words) l.here l.ranked (map plain_at l.rest)
+    ≡ subject l.facts l.rule l.line (map plain_at l.words) at_start [] (map plain_at l.words)
+
+abbrev pub decreases-loop-rest : goal.decreases-loop-rest
+decreases-loop-rest l = length l.rest

@@ -1,0 +1,111 @@
+-- What a text declares, and what its items say of sets and events.
+use Rattle.std.specs.Prelude.{ℕ, Bool, true, false, ◌&&◌, ◌||◌, List, [], ◌∷◌, Option, Some, None, if◌then◌else◌}
+use Rattle.ss_words.specs.declared.mark.Mark.{Mark}
+use Rattle.ss_words.specs.declared.mark.Mark.TheVariants.{Reserved}
+use Rattle.ss_words.specs.declared.reserved.Reserved.{Reserved as AReserved}
+use Rattle.ss_words.specs.declared.reserved.Reserved.TheVariants as r
+use Rattle.ss_words.specs.Plain.{PlainAt, name, number, mark, picture}
+use Rattle.ss_names.specs.declared.collected.Wanted.{Wanted}
+use Rattle.ss_names.specs.declared.collected.Wanted.TheVariants.{Declared, Owned, Joined, Sections, Keys}
+use Rattle.ss_names.specs.declared.here.Here.{Here}
+use Rattle.ss_names.specs.declared.meaning.Meaning.{Meaning}
+use Rattle.ss_names.specs.declared.meaning.Meaning.TheVariants as m
+use Rattle.ss_names.specs.Here.{at_name, behind}
+use Rattle.ss_names.specs.Meanings.{Declaration, with_declaration}
+
+-- what a name directly behind this last word is: a set that is owned
+abbrev pub owned_behind : Option AReserved → Option Meaning → Option Meaning
+owned_behind (Some r.Owns) names = names
+owned_behind _ names = None
+
+-- a set to which a class belongs
+abbrev pub joined_behind : Option AReserved → Option Meaning → Option Meaning
+joined_behind (Some r.To) names = names
+joined_behind _ names = None
+
+-- an event that has a section
+abbrev pub section_behind : Option Mark → Option Meaning
+section_behind (Some (Reserved r.Event)) = Some m.Event
+section_behind _ = None
+
+-- in the list behind OWNS
+abbrev pub behind_owns : Here → Option Meaning
+behind_owns h = owned_behind h.last h.names
+
+-- in the list behind BELONGS TO
+abbrev pub behind_belongs : Here → Option Meaning
+behind_belongs h = joined_behind h.last h.names
+
+-- directly behind EVENT
+abbrev pub behind_event : Here → Option Meaning
+behind_event h = section_behind h.before
+
+-- HIGH or LOW
+abbrev pub is_rank : Option AReserved → Bool
+is_rank (Some r.High) = true
+is_rank (Some r.Low) = true
+is_rank _ = false
+
+-- DEFINE
+abbrev pub is_define : Option AReserved → Bool
+is_define (Some r.Define) = true
+is_define _ = false
+
+-- a key in a DEFINE
+abbrev pub behind_rank : Here → Option Meaning
+behind_rank h = if is_rank h.last && is_define h.begun then Some m.Attribute else None
+
+-- what a name is collected as here, if it is wanted
+abbrev pub collected_as : Wanted → Here → Option Meaning
+collected_as Declared h = h.names
+collected_as Owned h = behind_owns h
+collected_as Joined h = behind_belongs h
+collected_as Sections h = behind_event h
+collected_as Keys h = behind_rank h
+
+-- what stands before a word, where a name may begin an assignment
+abbrev pub here_at : Here → PlainAt → Here
+here_at h w = elim w.word [ name n ↦ at_name h w.line | number n ↦ h | mark k ↦ h | picture ls ↦ h ]
+
+-- EVERY
+abbrev pub is_every : Option AReserved → Bool
+is_every (Some r.Every) = true
+is_every _ = false
+
+-- the class of EVERY, or the last set of DEFINE, behind a word: its own, where the word is that
+abbrev pub class_at : Here → List ℕ → PlainAt → List ℕ
+class_at h class w = if is_every h.last || is_define h.last
+    then elim w.word [ name n ↦ n | number n ↦ class | mark k ↦ class | picture ls ↦ class ]
+    else class
+
+-- the class by whose clause a name is declared here, or the set that a key ranks, empty where there is none
+abbrev pub class_of : Here → List ℕ → List ℕ
+class_of h class = if is_every h.begun || is_rank h.last then class else []
+
+-- a name on a line, with its place, is declared as this here
+abbrev pub declaration : Here → List ℕ → List ℕ → PlainAt → Meaning → Declaration
+declaration h class n w meaning =
+    record { name = n; meaning = meaning; of = class_of h class; line = w.line; index = w.index }
+
+-- a name put to what is collected, if it is wanted
+abbrev pub with_name : List Declaration → Wanted → Here → List ℕ → List ℕ → PlainAt → List Declaration
+with_name ds wanted h class n w = elim (collected_as wanted h) [
+  | Some meaning ↦ with_declaration ds (declaration h class n w meaning)
+  | None ↦ ds
+]
+
+-- a word put to it
+abbrev pub with_word : List Declaration → Wanted → Here → List ℕ → PlainAt → List Declaration
+with_word ds wanted h class w = elim w.word [
+  | name n ↦ with_name ds wanted h class n w
+  | number n ↦ ds
+  | mark k ↦ ds
+  | picture ls ↦ ds
+]
+
+-- what is collected behind others of words, the first place of each name
+unfoldable pub collected : Wanted → List Declaration → Here → List ℕ → List PlainAt → List Declaration
+collected wanted ds h class [] = ds
+collected wanted ds h class (w ∷ ws) =
+    let k = here_at h w in
+    collected wanted (with_word ds wanted k class w) (behind k w.word w.line ws) (class_at k class w) ws

@@ -1,0 +1,118 @@
+-- What a name is, as it is told.
+use Rattle.std.specs.Prelude.{ℕ, ◌==◌, Bool, true, false, nat_lt, List, [], ◌++◌, length, map, take, drop, codes}
+use Rattle.std.specs.Prelude.{decimal, Option, Some, None, if◌then◌else◌}
+use Rattle.ss_columns.specs.Reserved.{is_among}
+use Rattle.ss_names.specs.declared.known.Known.{Known as CodeKnown}
+use Rattle.ss_names.specs.declared.known.TheConstants.{CLOCK, FUNCTIONS, OF_CLASS, OF_OWNERS, OF_MEMBERS}
+use Rattle.ss_names.specs.declared.known.What.{What}
+use Rattle.ss_names.specs.declared.known.What.TheVariants as k
+use Rattle.ss_names.specs.declared.meaning.Meaning.{Meaning}
+use Rattle.ss_names.specs.declared.meaning.Meaning.TheVariants as m
+use Rattle.ss_names.specs.Meanings.{Declaration, declared_as}
+
+-- what a name is, of which class or set, and the line of the declaration, 0 where there is none
+pub record Known : Type 0 where
+  -- what it is
+  pub what : What
+  -- of which class or set
+  pub of : List ℕ
+  -- the line of the declaration
+  pub line : ℕ
+
+-- what the code knows of a name
+abbrev pub known_at : CodeKnown → Known
+known_at a = record { what = a.what; of = a.of.now; line = a.line }
+
+-- declared nowhere
+abbrev pub undeclared : Known
+undeclared = record { what = k.Undeclared; of = []; line = 0 }
+
+-- given by the language
+abbrev pub of_language : What → Known
+of_language what = record { what = what; of = []; line = 0 }
+
+-- before the name of a set: F., L. and N. of its owners, P., S. and M. of its members
+abbrev pub kept_what : List ℕ → What
+kept_what front = if is_among front (map (λ row. row.now) OF_OWNERS) then k.OfOwners else
+    if is_among front (map (λ row. row.now) OF_MEMBERS) then k.OfMembers else k.Undeclared
+
+-- before the name of a permanent class: N.
+abbrev pub count_what : List ℕ → What
+count_what front = if is_among front (map (λ row. row.now) OF_CLASS) then k.Count else k.Undeclared
+
+-- before a name that is declared as this
+abbrev pub companion_what : List ℕ → Meaning → What
+companion_what front m.Set = kept_what front
+companion_what front m.Permanent = count_what front
+companion_what front _ = k.Undeclared
+
+-- before a declared name
+abbrev pub companion_of : List ℕ → Declaration → Known
+companion_of front d = record { what = companion_what front d.meaning; of = d.name; line = d.line }
+
+-- before a name, if that is declared
+abbrev pub companion_by : List ℕ → Option Declaration → Known
+companion_by front (Some d) = companion_of front d
+companion_by front None = undeclared
+
+-- a name that begins as those do that are kept of a set or class
+abbrev pub companion : List Declaration → List ℕ → Known
+companion ds n = if nat_lt (length n) 3 then undeclared else companion_by (take 2 n) (declared_as ds (drop 2 n))
+
+-- what the language, a set or a class gives a name, whatever else it is declared as
+abbrev pub given : List Declaration → List ℕ → Known
+given ds n = if is_among n (map (λ row. row.now) CLOCK) then of_language k.Clock else
+    if is_among n (map (λ row. row.now) FUNCTIONS) then of_language k.Function else companion ds n
+
+-- by its own declaration, if it has one, and else by what is given
+abbrev pub known_by : List Declaration → List ℕ → Option Declaration → Known
+known_by ds n (Some d) = record { what = k.Declared d.meaning; of = d.of; line = d.line }
+known_by ds n None = given ds n
+
+-- what a name is
+abbrev pub known : List Declaration → List ℕ → Known
+known ds n = known_by ds n (declared_as ds n)
+
+-- ---- as it is told
+
+-- what a meaning is called
+abbrev pub meaning_text : Meaning → List ℕ
+meaning_text m.Class = codes "a class under no heading"
+meaning_text m.Permanent = codes "a class of permanent entities"
+meaning_text m.Temporary = codes "a class of temporary entities"
+meaning_text m.Event = codes "a class of event notices"
+meaning_text m.Attribute = codes "an attribute of "
+meaning_text m.Variable = codes "a variable"
+meaning_text m.Set = codes "a set"
+meaning_text m.Routine = codes "a routine"
+
+-- what a name is called, before what it is of
+abbrev pub what_text : What → List ℕ
+what_text k.Undeclared = codes "declared nowhere"
+what_text (k.Declared x) = meaning_text x
+what_text k.OfOwners = codes "kept of the set "
+what_text k.OfMembers = codes "kept of the set "
+what_text k.Count = codes "the count of the class "
+what_text k.Clock = codes "the clock"
+what_text k.Function = codes "a function of the language"
+
+-- an attribute is of a class, what is kept of a set or class
+abbrev pub tells_of : What → Bool
+tells_of (k.Declared m.Attribute) = true
+tells_of k.OfOwners = true
+tells_of k.OfMembers = true
+tells_of k.Count = true
+tells_of _ = false
+
+-- of which class or set it is
+abbrev pub of_text : Bool → List ℕ → List ℕ
+of_text true of = of
+of_text false of = []
+
+-- the line of a declaration, if there is one
+abbrev pub line_text : ℕ → List ℕ
+line_text line = if line == 0 then [] else codes ", line " ++ decimal line
+
+-- what a name is, of which class or set, and where that is declared
+abbrev pub known_text : Known → List ℕ
+known_text a = what_text a.what ++ of_text (tells_of a.what) a.of ++ line_text a.line

@@ -1,0 +1,44 @@
+-- What names are declared as.
+use Rattle.std.specs.Prelude.{ℕ, Bool, true, false, ◌||◌, nat_le, List, [], ◌∷◌, ◌++◌, length, bytes_eq, Option, Some}
+use Rattle.std.specs.Prelude.{None, is_some, if◌then◌else◌}
+use Rattle.ss_names.specs.declared.declarations.TheConstants.{MOST_DECLARED}
+use Rattle.ss_names.specs.declared.meaning.Meaning.{Meaning}
+use Rattle.ss_names.specs.declared.meaning.Meaning.TheVariants as m
+use Rattle.ss_names.specs.declared.meaning.Row.{Row}
+
+-- a name, what it is declared as, and where
+pub record Declaration : Type 0 where
+  -- the name
+  pub name : List ℕ
+  -- what it is declared as
+  pub meaning : Meaning
+  -- the class of EVERY by whose clause it is declared, empty where there is none
+  pub of : List ℕ
+  -- its line
+  pub line : ℕ
+  -- the place of its word among the words of the text
+  pub index : ℕ
+
+-- a declaration of the code
+abbrev pub declaration_at : Row → Declaration
+declaration_at r =
+    record { name = r.name.now; meaning = r.meaning; of = r.of.now; line = r.line; index = r.index }
+
+-- two declarations of a name may stand side by side: of one set, or of classes under one kind of heading
+abbrev pub may_repeat : Meaning → Meaning → Bool
+may_repeat m.Set m.Set = true
+may_repeat m.Class m.Class = true
+may_repeat m.Permanent m.Permanent = true
+may_repeat m.Temporary m.Temporary = true
+may_repeat m.Event m.Event = true
+may_repeat _ _ = false
+
+-- the declaration of a name among these, if it has one
+abbrev pub declared_as : List Declaration → List ℕ → Option Declaration
+declared_as [] n = None
+declared_as (d ∷ ds) n = if bytes_eq n d.name then Some d else declared_as ds n
+
+-- declarations with a further one, unless its name has one, or there are as many as a program has
+abbrev pub with_declaration : List Declaration → Declaration → List Declaration
+with_declaration ds d =
+    if nat_le MOST_DECLARED (length ds) || is_some (declared_as ds d.name) then ds else ds ++ d ∷ []

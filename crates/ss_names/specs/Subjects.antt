@@ -1,0 +1,194 @@
+-- Which name of a statement a breach of the checker's rules is about, and what is said of it.
+use Rattle.std.specs.Prelude.{ℕ, ◌==◌, Bool, true, false, not, List, [], ◌∷◌, ◌++◌, codes, Option, Some, None}
+use Rattle.std.specs.Prelude.{option_map, Ok, Err, if◌then◌else◌}
+use Rattle.ss_words.specs.Plain.{PlainAt, name, number, mark, picture}
+use Rattle.ss_words.specs.PlainRules.{plain_words_of}
+use Rattle.ss_words.specs.TextWords.{words_of}
+use Rattle.ss_words.specs.declared.reserved.Reserved.{Reserved as AReserved}
+use Rattle.ss_words.specs.declared.reserved.Reserved.TheVariants as r
+use Rattle.ss_names.specs.declared.breach.NameRule.{NameRule}
+use Rattle.ss_names.specs.declared.breach.NameRule.TheVariants as rule
+use Rattle.ss_names.specs.declared.breach.Wrong.{Wrong}
+use Rattle.ss_names.specs.declared.breach.Wrong.TheVariants as w
+use Rattle.ss_names.specs.declared.breaches.Subject.{Subject as CodeSubject}
+use Rattle.ss_names.specs.declared.collected.Wanted.TheVariants.{Declared, Owned, Joined, Sections}
+use Rattle.ss_names.specs.declared.here.Here.{Here}
+use Rattle.ss_names.specs.declared.known.What.{What}
+use Rattle.ss_names.specs.declared.known.What.TheVariants as k
+use Rattle.ss_names.specs.Breaches.{Facts, Standpoint, wrong, rule_of, where_so}
+use Rattle.ss_names.specs.Counts.{has_wrong_count}
+use Rattle.ss_names.specs.Collected.{collected, here_at}
+use Rattle.ss_names.specs.Here.{at_start, behind}
+use Rattle.ss_names.specs.Known.{Known, known, given, known_text}
+use Rattle.ss_names.specs.Meanings.{Declaration, declared_as}
+use Rattle.ss_names.specs.Positions.{opens, position}
+
+-- a name, and what is wrong with it
+pub record Subject : Type 0 where
+  -- the name
+  pub name : List ℕ
+  -- what is wrong
+  pub wrong : Wrong
+
+-- a subject of the code
+abbrev pub subject_at : CodeSubject → Subject
+subject_at a = record { name = a.name.now; wrong = a.wrong }
+
+-- what a text declares, and what it says of sets and events
+abbrev pub facts_of : List PlainAt → Facts
+facts_of ws = record {
+  names = collected Declared [] at_start [] ws;
+  owned = collected Owned [] at_start [] ws;
+  joined = collected Joined [] at_start [] ws;
+  sections = collected Sections [] at_start [] ws;
+}
+
+-- a name where it stands, before these words
+abbrev pub standpoint : Here → List ℕ → List ℕ → ℕ → List PlainAt → Standpoint
+standpoint h ranked n index ws = record {
+  name = n;
+  index = index;
+  position = position h ws;
+  declared = h.names;
+  last = h.last;
+  opens = opens ws;
+  ranked = ranked;
+}
+
+-- ---- the class whose attributes are keys
+
+-- the class in a declaration, if there is one
+abbrev pub class_in : Option Declaration → List ℕ
+class_in (Some d) = d.of
+class_in None = []
+
+-- the class of a set's members, empty where there is none
+abbrev pub members_of : Facts → List ℕ → List ℕ
+members_of f s = class_in (declared_as f.joined s)
+
+-- behind a name in a list behind this word: of a set that DEFINE names its members', of an event that BREAK names the
+-- event
+abbrev pub ranked_behind_word : Facts → Option AReserved → List ℕ → List ℕ → List ℕ
+ranked_behind_word f (Some r.Define) ranked n = members_of f n
+ranked_behind_word f (Some r.Break) ranked n = n
+ranked_behind_word f _ ranked n = ranked
+
+-- behind a name
+abbrev pub ranked_behind : Facts → Here → List ℕ → List ℕ → List ℕ
+ranked_behind f h ranked n = ranked_behind_word f h.last ranked n
+
+-- behind a word
+abbrev pub ranked_at : Facts → Here → List ℕ → PlainAt → List ℕ
+ranked_at f h ranked w = elim w.word [
+  | name n ↦ ranked_behind f h ranked n
+  | number n ↦ ranked
+  | mark m ↦ ranked
+  | picture ls ↦ ranked
+]
+
+-- ---- the first name that breaks a rule
+
+-- a name with what is wrong with it
+abbrev pub named : List ℕ → Option Wrong → Option Subject
+named n (Some x) = Some (record { name = n; wrong = x })
+named n None = None
+
+-- what a name breaks of a rule, before these words of a text
+abbrev pub broken : Facts → NameRule → Standpoint → List PlainAt → List PlainAt → Option Wrong
+broken f rule.WrongCount a ws all = where_so (has_wrong_count f a ws all) w.WrongCount
+broken f x a ws all = wrong f x a
+
+-- what a name breaks, if it is one of what begins on a line
+abbrev pub name_subject :
+    Facts → NameRule → ℕ → Here → List ℕ → List ℕ → ℕ → List PlainAt → List PlainAt → Option Subject
+name_subject f x line h ranked n index ws all = if not (h.line == line)
+    then None
+    else named n (broken f x (standpoint h ranked n index ws) ws all)
+
+-- what a word breaks
+abbrev pub word_subject :
+    Facts → NameRule → ℕ → Here → List ℕ → PlainAt → List PlainAt → List PlainAt → Option Subject
+word_subject f x line h ranked w ws all = elim w.word [
+  | name n ↦ name_subject f x line h ranked n w.index ws all
+  | number n ↦ None
+  | mark m ↦ None
+  | picture ls ↦ None
+]
+
+-- the first name of what begins on a line of a text that breaks a rule
+unfoldable pub subject : Facts → NameRule → ℕ → List PlainAt → Here → List ℕ → List PlainAt → Option Subject
+subject f x line all h ranked [] = None
+subject f x line all h ranked (w ∷ ws) =
+    let at = here_at h w in
+    elim (word_subject f x line at ranked w ws all) [
+      | Some found ↦ Some found
+      | None ↦ subject f x line all (behind at w.word w.line ws) (ranked_at f at ranked w) ws
+    ]
+
+-- ---- as it is told
+
+-- what is said of what is wrong
+abbrev pub wrong_text : Wrong → List ℕ
+wrong_text w.DeclaredTwice = codes ": it is declared a second time here.\n"
+wrong_text w.WrongClass = codes ": it is not the class that is needed here.\n"
+wrong_text w.WrongUse = codes ": it is used here as what it is not.\n"
+wrong_text w.Ownerless = codes ": no OWNS names it.\n"
+wrong_text w.OwnedTwice = codes ": it is owned a second time here.\n"
+wrong_text w.Memberless = codes ": no BELONGS TO of a class names it.\n"
+wrong_text w.JoinedTwice = codes ": it is given members a second time here.\n"
+wrong_text w.WrongKey = codes ": it is no attribute of the class that is ranked.\n"
+wrong_text w.NoSection = codes ": it has no EVENT section.\n"
+wrong_text w.NoEvent = codes ": it is no class of event notices.\n"
+wrong_text w.WrongCount = codes ": it has another count of values here than it takes.\n"
+wrong_text w.Fixed = codes ": it cannot be set.\n"
+wrong_text w.NoVariable = codes ": it is no variable, as a loop needs.\n"
+
+-- what is given, if something is, or else what a name is
+abbrev pub given_or : What → Known → Known → Known
+given_or k.Undeclared a b = b
+given_or _ a b = a
+
+-- what the language, a set or a class gives a name, or else what it is declared as
+abbrev pub first_known : Facts → List ℕ → Known
+first_known f n = let a = given f.names n in given_or a.what a (known f.names n)
+
+-- what is known, with this line, if there is one
+abbrev pub told_place : Known → Option ℕ → Known
+told_place a (Some line) = record a { line = line }
+told_place a None = a
+
+-- the line of a declaration
+abbrev pub line_in : Option Declaration → Option ℕ
+line_in d = option_map (λ x. x.line) d
+
+-- what a name is whose second declaration, owner or members are wrong, with the place of the first; else what it is
+abbrev pub told_by : Facts → List ℕ → Wrong → Known
+told_by f n w.DeclaredTwice = first_known f n
+told_by f n w.OwnedTwice = told_place (known f.names n) (line_in (declared_as f.owned n))
+told_by f n w.JoinedTwice = told_place (known f.names n) (line_in (declared_as f.joined n))
+told_by f n _ = known f.names n
+
+-- what the name of a subject is
+abbrev pub told_as : Facts → Subject → Known
+told_as f x = told_by f x.name x.wrong
+
+-- what is said of a subject, if there is one
+abbrev pub subject_text : Facts → Option Subject → List ℕ
+subject_text f (Some x) = x.name ++ codes " is " ++ known_text (told_as f x) ++ wrong_text x.wrong
+subject_text f None = []
+
+-- what a breach of a rule on a line is about, among these words
+abbrev pub breach_of_words : List PlainAt → NameRule → ℕ → List ℕ
+breach_of_words ws x line = let f = facts_of ws in subject_text f (subject f x line ws at_start [] ws)
+
+-- the same in a model, where a rule is about names
+abbrev pub breach_by : List ℕ → ℕ → Option NameRule → List ℕ
+breach_by model line None = []
+breach_by model line (Some x) = elim (words_of model) [
+  | Ok ws ↦ breach_of_words (plain_words_of ws) x line
+  | Err f ↦ []
+]
+
+-- what the breach of the rule with this code on a line of a model is about
+abbrev pub breach_text : List ℕ → List ℕ → ℕ → List ℕ
+breach_text model code line = breach_by model line (rule_of code)

@@ -1,0 +1,449 @@
+//! What a name of a statement breaks of the rules of the checker, as far as the words round it tell.
+ghost use Rattle.std.specs.Prelude.{◌≡◌, map};
+ghost use Rattle.ss_names.specs.Breaches as spec;
+ghost use Rattle.ss_names.specs.Known.{known_at};
+ghost use Rattle.ss_names.specs.Meanings.{declaration_at};
+
+use crate::declarations::{declared, is_declared};
+use crate::known::{Known, What, given, known_as};
+use crate::meaning::{Meaning, Row, may_repeat};
+use crate::position::Position;
+use ss_words::Reserved;
+use std::marker::Model;
+
+/// What a text declares and says of sets and events.
+#[derive(Drop)]
+pub struct Facts<'a> {
+    /// What names are declared as.
+    pub names: Vec<Row<'a>>,
+    /// The sets behind OWNS, with the class that owns each; of the system it is empty.
+    pub owned: Vec<Row<'a>>,
+    /// The sets behind BELONGS TO, with the class of their members.
+    pub joined: Vec<Row<'a>>,
+    /// The events that have a section.
+    pub sections: Vec<Row<'a>>,
+}
+
+impl<'a> Model for Facts<'a> {
+    ghost use Rattle.std.specs.Prelude.{map};
+    ghost use Rattle.ss_names.specs.Breaches.{Facts as TextFacts};
+    ghost use Rattle.ss_names.specs.Meanings.{declaration_at};
+
+    ghost Value = { TextFacts };
+
+    ghost view = { λ a. record {
+      names = map declaration_at a.names.items;
+      owned = map declaration_at a.owned.items;
+      joined = map declaration_at a.joined.items;
+      sections = map declaration_at a.sections.items;
+    } };
+}
+
+/// A name where it stands.
+#[derive(Clone, Copy)]
+pub struct Standpoint<'a> {
+    pub name: &'a [u8],
+    /// The place of its word among the words of the text, from 0.
+    pub index: u32,
+    pub position: Position,
+    /// What it is declared as here, if it is.
+    pub declared: Option<Meaning>,
+    /// The reserved word behind which it stands, alone or in a list.
+    pub last: Option<Reserved>,
+    /// Whether a parenthesis is opened directly behind it.
+    pub opens: bool,
+    /// The class whose attributes are keys here; empty where there is none.
+    pub ranked: &'a [u8],
+}
+
+/// What is wrong with a name.
+#[derive(Clone, Copy, Debug, PartialEq, Eq)]
+pub enum Wrong {
+    DeclaredTwice,
+    WrongClass,
+    WrongUse,
+    Ownerless,
+    OwnedTwice,
+    Memberless,
+    JoinedTwice,
+    WrongKey,
+    NoSection,
+    NoEvent,
+    WrongCount,
+    Fixed,
+    NoVariable,
+}
+
+/// The rules that are about names, each with its question.
+#[derive(Clone, Copy, Debug, PartialEq, Eq)]
+pub enum NameRule {
+    /// C1
+    DeclaredTwice,
+    /// C2
+    WrongClass,
+    /// C3
+    WrongUse,
+    /// C4
+    WrongOwner,
+    /// C5
+    WrongMember,
+    /// C6
+    WrongKey,
+    /// C7
+    WrongCount,
+    /// C8
+    WrongEvent,
+    /// C9
+    FixedTarget,
+    /// C12
+    WrongPriority,
+}
+
+/// The codes of these rules. The definitions read this table too.
+pub const NAME_RULES: [(&[u8], NameRule); 10] = [
+    (b"C1", NameRule::DeclaredTwice),
+    (b"C2", NameRule::WrongClass),
+    (b"C3", NameRule::WrongUse),
+    (b"C4", NameRule::WrongOwner),
+    (b"C5", NameRule::WrongMember),
+    (b"C6", NameRule::WrongKey),
+    (b"C7", NameRule::WrongCount),
+    (b"C8", NameRule::WrongEvent),
+    (b"C9", NameRule::FixedTarget),
+    (b"C12", NameRule::WrongPriority),
+];
+
+/// The rule with this code, as `C12`, if it is one of these.
+#[tactic(auto, unfolding(crate::specs::Breaches::rule_of))]
+pub fn rule_of(code: &[u8]) -> Option<NameRule>
+    ensures { result ≡ spec.rule_of code.now }
+{
+    rule_beside(code, &NAME_RULES)
+}
+
+fn rule_beside(code: &[u8], mut rows: &'static [(&'static [u8], NameRule)]) -> Option<NameRule>
+    ensures { result ≡ spec.rule_beside code.now (map (λ row. (row.0.now, row.1)) rows.entry.now) }
+{
+    while let [row, rest @ ..] = rows {
+        if row.0 == code {
+            return Some(row.1);
+        }
+        rows = rest;
+    }
+    None
+}
+
+/// What a name breaks of a rule where it stands, if it does; C7 is asked elsewhere, since it is about
+/// the words behind.
+pub fn breaks(facts: &Facts<'_>, rule: NameRule, at: Standpoint<'_>) -> Option<Wrong>
+    ensures { result ≡ spec.wrong facts.now rule (spec.standing_at at.entry) }
+{
+    match rule {
+        NameRule::DeclaredTwice => where_so(is_declared_twice(facts, at), Wrong::DeclaredTwice),
+        NameRule::WrongClass => where_so(is_wrong_class(facts, at), Wrong::WrongClass),
+        NameRule::WrongUse => where_so(is_misused(facts, at), Wrong::WrongUse),
+        NameRule::WrongOwner => wrong_owner(facts, at),
+        NameRule::WrongMember => wrong_member(facts, at),
+        NameRule::WrongKey => where_so(is_wrong_key(facts, at), Wrong::WrongKey),
+        NameRule::WrongCount => None,
+        NameRule::WrongEvent => wrong_event(facts, at),
+        NameRule::FixedTarget => wrong_target(facts, at),
+        NameRule::WrongPriority => where_so(is_no_event(facts, at), Wrong::NoEvent),
+    }
+}
+
+pub fn where_so(is_so: bool, wrong: Wrong) -> Option<Wrong>
+    ensures { result ≡ spec.where_so is_so wrong }
+{
+    if is_so { Some(wrong) } else { None }
+}
+
+// ---- C1
+
+/// Whether a name is declared here, or is a parameter, and is declared elsewhere or given by the
+/// language.
+fn is_declared_twice(facts: &Facts<'_>, at: Standpoint<'_>) -> bool
+    ensures { result ≡ spec.is_declared_twice facts.now (spec.standing_at at.entry) }
+{
+    match at.position {
+        Position::Declared => conflicts(facts, at),
+        Position::Local => !is_undeclared(known_as(&facts.names, at.name)),
+        _ => false,
+    }
+}
+
+fn is_undeclared(known: Known<'_>) -> bool
+    ensures { result ≡ spec.is_undeclared (known_at known.entry) }
+{
+    matches!(known.what, What::Undeclared)
+}
+
+/// Whether a name that is declared here is declared before as what does not go with that, or is
+/// given by the language, a set or a class.
+fn conflicts(facts: &Facts<'_>, at: Standpoint<'_>) -> bool
+    ensures { result ≡ spec.conflicts facts.now (spec.standing_at at.entry) }
+{
+    match declared(&facts.names, at.name) {
+        Some(row) => {
+            if row.index != at.index {
+                return !repeats(row.meaning, at.declared);
+            }
+            is_given(facts, at.name)
+        }
+        None => false,
+    }
+}
+
+fn repeats(first: Meaning, second: Option<Meaning>) -> bool
+    ensures { result ≡ spec.repeats first second }
+{
+    match second {
+        Some(second) => may_repeat(first, second),
+        None => false,
+    }
+}
+
+/// Whether the language, a set or a class gives a name, whatever else it is declared as.
+fn is_given(facts: &Facts<'_>, name: &[u8]) -> bool
+    ensures { result ≡ spec.is_given facts.now name.now }
+{
+    !is_undeclared(given(&facts.names, name))
+}
+
+// ---- C2
+
+/// Whether a name stands as a class that is not of the kind needed there.
+fn is_wrong_class(facts: &Facts<'_>, at: Standpoint<'_>) -> bool
+    ensures { result ≡ spec.is_wrong_class facts.now (spec.standing_at at.entry) }
+{
+    !serves(at.position, known_as(&facts.names, at.name).what)
+}
+
+/// Whether what a name is serves where it stands, if a class is needed there.
+fn serves(position: Position, what: What) -> bool
+    ensures { result ≡ spec.serves position what }
+{
+    match position {
+        Position::PermanentClass => matches!(what, What::Declared(Meaning::Permanent)),
+        Position::EndingClass => {
+            matches!(what, What::Declared(Meaning::Temporary | Meaning::Event))
+        }
+        Position::EventClass => matches!(what, What::Declared(Meaning::Event)),
+        Position::Declared => !matches!(what, What::Declared(Meaning::Class)),
+        _ => true,
+    }
+}
+
+// ---- C3
+
+/// Whether a name is used as what it is not.
+fn is_misused(facts: &Facts<'_>, at: Standpoint<'_>) -> bool
+    ensures { result ≡ spec.is_misused facts.now (spec.standing_at at.entry) }
+{
+    let known = known_as(&facts.names, at.name);
+    match at.position {
+        Position::Routine => !matches!(known.what, What::Declared(Meaning::Routine)),
+        Position::InSet => {
+            !matches!(known.what, What::Declared(Meaning::Set))
+                || (at.opens && is_of_system(facts, at.name))
+        }
+        Position::Target | Position::Value => is_wrong_value(facts, known, at.opens),
+        _ => false,
+    }
+}
+
+/// Whether a name is no value, or stands before a parenthesis and takes none.
+fn is_wrong_value(facts: &Facts<'_>, known: Known<'_>, opens: bool) -> bool
+    ensures { result ≡ spec.is_wrong_value facts.now (known_at known.entry) opens }
+{
+    if opens {
+        return !takes_subscript(facts, known);
+    }
+    matches!(known.what, What::Declared(Meaning::Set | Meaning::Routine))
+}
+
+/// Whether a name may stand before a parenthesis: an attribute, a function, what is kept of members,
+/// or of owners that are no system; and a set, since IS EMPTY may stand behind its subscript.
+fn takes_subscript(facts: &Facts<'_>, known: Known<'_>) -> bool
+    ensures { result ≡ spec.takes_subscript facts.now (known_at known.entry) }
+{
+    match known.what {
+        What::Declared(Meaning::Attribute | Meaning::Set) | What::OfMembers | What::Function => {
+            true
+        }
+        What::OfOwners => !is_of_system(facts, known.of),
+        _ => false,
+    }
+}
+
+/// Whether the system owns a set.
+fn is_of_system(facts: &Facts<'_>, set: &[u8]) -> bool
+    ensures { result ≡ spec.is_of_system facts.now set.now }
+{
+    match declared(&facts.owned, set) {
+        Some(row) => row.of.is_empty(),
+        None => false,
+    }
+}
+
+// ---- C4 and C5
+
+/// What is wrong with the owner of a set that is named here.
+fn wrong_owner(facts: &Facts<'_>, at: Standpoint<'_>) -> Option<Wrong>
+    ensures { result ≡ spec.wrong_owner facts.now (spec.standing_at at.entry) }
+{
+    if !is_set_here(at.declared) {
+        return None;
+    }
+    match declared(&facts.owned, at.name) {
+        Some(row) => where_so(is_owns(at.last) && row.index < at.index, Wrong::OwnedTwice),
+        None => Some(Wrong::Ownerless),
+    }
+}
+
+/// What is wrong with the members of a set that is named here.
+fn wrong_member(facts: &Facts<'_>, at: Standpoint<'_>) -> Option<Wrong>
+    ensures { result ≡ spec.wrong_member facts.now (spec.standing_at at.entry) }
+{
+    if !is_set_here(at.declared) {
+        return None;
+    }
+    match declared(&facts.joined, at.name) {
+        Some(row) => wrong_joining(row, at),
+        None => Some(Wrong::Memberless),
+    }
+}
+
+/// What is wrong with the members of a set that is named here, whose first BELONGS TO is this.
+fn wrong_joining(row: Row<'_>, at: Standpoint<'_>) -> Option<Wrong>
+    ensures { result ≡ spec.wrong_joining (declaration_at row.entry) (spec.standing_at at.entry) }
+{
+    if row.of.is_empty() {
+        return Some(Wrong::Memberless);
+    }
+    where_so(is_to(at.last) && row.index < at.index, Wrong::JoinedTwice)
+}
+
+fn is_owns(last: Option<Reserved>) -> bool
+    ensures { result ≡ spec.is_owns last }
+{
+    matches!(last, Some(Reserved::Owns))
+}
+
+fn is_to(last: Option<Reserved>) -> bool
+    ensures { result ≡ spec.is_to last }
+{
+    matches!(last, Some(Reserved::To))
+}
+
+fn is_set_here(declared: Option<Meaning>) -> bool
+    ensures { result ≡ spec.is_set_here declared }
+{
+    matches!(declared, Some(Meaning::Set))
+}
+
+// ---- C6
+
+/// Whether a key is no attribute of the class that is ranked.
+fn is_wrong_key(facts: &Facts<'_>, at: Standpoint<'_>) -> bool
+    ensures { result ≡ spec.is_wrong_key facts.now (spec.standing_at at.entry) }
+{
+    if !is_key(at.position) {
+        return false;
+    }
+    let known = known_as(&facts.names, at.name);
+    !matches!(known.what, What::Declared(Meaning::Attribute)) || known.of != at.ranked
+}
+
+fn is_key(position: Position) -> bool
+    ensures { result ≡ spec.is_key position }
+{
+    matches!(position, Position::Key)
+}
+
+// ---- C8 and C12
+
+/// What is wrong with an event that is named here: it has no section, or its section is of no event.
+fn wrong_event(facts: &Facts<'_>, at: Standpoint<'_>) -> Option<Wrong>
+    ensures { result ≡ spec.wrong_event facts.now (spec.standing_at at.entry) }
+{
+    match at.position {
+        Position::Head => where_so(!is_event(facts, at.name), Wrong::NoEvent),
+        Position::Declared | Position::EventClass | Position::Ordered => where_so(
+            is_event(facts, at.name) && !is_declared(&facts.sections, at.name),
+            Wrong::NoSection,
+        ),
+        _ => None,
+    }
+}
+
+/// Whether a name is declared as an event class.
+fn is_event(facts: &Facts<'_>, name: &[u8]) -> bool
+    ensures { result ≡ spec.is_event facts.now name.now }
+{
+    matches!(
+        known_as(&facts.names, name).what,
+        What::Declared(Meaning::Event)
+    )
+}
+
+/// Whether a name of PRIORITY is no event class.
+fn is_no_event(facts: &Facts<'_>, at: Standpoint<'_>) -> bool
+    ensures { result ≡ spec.is_no_event facts.now (spec.standing_at at.entry) }
+{
+    is_ordered(at.position) && !is_event(facts, at.name)
+}
+
+fn is_ordered(position: Position) -> bool
+    ensures { result ≡ spec.is_ordered position }
+{
+    matches!(position, Position::Ordered)
+}
+
+// ---- C9
+
+/// What is wrong with a name that is assigned, or is a loop's variable.
+fn wrong_target(facts: &Facts<'_>, at: Standpoint<'_>) -> Option<Wrong>
+    ensures { result ≡ spec.wrong_target facts.now (spec.standing_at at.entry) }
+{
+    let what = known_as(&facts.names, at.name).what;
+    match at.position {
+        Position::Target => where_so(is_kept(what), Wrong::Fixed),
+        Position::LoopVariable => where_so(!is_variable(what), Wrong::NoVariable),
+        _ => None,
+    }
+}
+
+/// Whether it has a value and is never assigned.
+fn is_kept(what: What) -> bool
+    ensures { result ≡ spec.is_kept what }
+{
+    matches!(
+        what,
+        What::OfOwners | What::OfMembers | What::Clock | What::Function
+    )
+}
+
+/// Whether it is a variable: a local one, one of the preamble, a count, or that of a class.
+fn is_variable(what: What) -> bool
+    ensures { result ≡ spec.is_variable what }
+{
+    match what {
+        What::Undeclared | What::Count => true,
+        What::Declared(meaning) => is_global(meaning),
+        _ => false,
+    }
+}
+
+fn is_global(meaning: Meaning) -> bool
+    ensures { result ≡ spec.is_global meaning }
+{
+    matches!(
+        meaning,
+        Meaning::Variable
+            | Meaning::Class
+            | Meaning::Permanent
+            | Meaning::Temporary
+            | Meaning::Event
+    )
+}

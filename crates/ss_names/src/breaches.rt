@@ -1,0 +1,294 @@
+//! Which name of a statement a breach of the checker's rules is about.
+ghost use Rattle.std.specs.Prelude.{◌≡◌, ◌++◌, [], IfOk, None, OnOk, map, option_map};
+ghost use Rattle.ss_words.specs.Plain.{plain_at};
+ghost use Rattle.ss_names.specs.Subjects as spec;
+ghost use Rattle.ss_names.specs.Breaches.{standing_at};
+ghost use Rattle.ss_names.specs.Here.{at_start};
+ghost use Rattle.ss_names.specs.Known.{known_at};
+ghost use Rattle.ss_names.specs.Meanings.{declaration_at};
+
+use crate::breach::{Facts, NameRule, Standpoint, Wrong, breaks, rule_of, where_so};
+use crate::collected::{Wanted, collect, here_at};
+use crate::counts::has_wrong_count;
+use crate::declarations::declared;
+use crate::here::Here;
+use crate::known::{Known, What, given, known_as, push_known};
+use crate::meaning::{Meaning, Row};
+use crate::position::{opens, position_at};
+use ss_words::{Plain, PlainWord, Reserved, TextFault, plain_words, words};
+use std::alloc::{AllocError, Global};
+
+/// What a breach is about: a name, and what is wrong with it.
+#[derive(Clone, Copy)]
+struct Subject<'a> {
+    name: &'a [u8],
+    wrong: Wrong,
+}
+
+/// What a text declares and says of sets and events.
+fn facts_of<'a>(alloc: Global, words: &[PlainWord<'a>]) -> Result<Facts<'a>, AllocError>
+    ensures { IfOk result (λ facts. facts ≡ spec.facts_of (map plain_at words.now)) }
+{
+    Ok(Facts {
+        names: collect(alloc, Wanted::Declared, words)?,
+        owned: collect(alloc, Wanted::Owned, words)?,
+        joined: collect(alloc, Wanted::Joined, words)?,
+        sections: collect(alloc, Wanted::Sections, words)?,
+    })
+}
+
+/// A name where it stands, before these words.
+fn standpoint<'a>(
+    here: Here,
+    ranked: &'a [u8],
+    name: &'a [u8],
+    index: u32,
+    behind: &[PlainWord<'a>],
+) -> Standpoint<'a>
+    ensures { standing_at result
+        ≡ spec.standpoint here ranked.now name.now index (map plain_at behind.now) }
+{
+    Standpoint {
+        name,
+        index,
+        position: position_at(here, behind),
+        declared: here.names,
+        last: here.last,
+        opens: opens(behind),
+        ranked,
+    }
+}
+
+/// The class whose attributes are keys behind a name: of a set that DEFINE names its members', of an
+/// event that BREAK names itself.
+fn ranked_behind<'a>(facts: &Facts<'a>, here: Here, ranked: &'a [u8], name: &'a [u8]) -> &'a [u8]
+    ensures { result.now ≡ spec.ranked_behind facts.now here ranked.now name.now }
+{
+    match here.last {
+        Some(Reserved::Define) => members_of(facts, name),
+        Some(Reserved::Break) => name,
+        _ => ranked,
+    }
+}
+
+/// The class of a set's members; empty where there is none.
+fn members_of<'a>(facts: &Facts<'a>, set: &[u8]) -> &'a [u8]
+    ensures { result.now ≡ spec.members_of facts.now set.now }
+{
+    match declared(&facts.joined, set) {
+        Some(row) => row.of,
+        None => b"",
+    }
+}
+
+/// What a name breaks of a rule, before these words of a text.
+fn broken(
+    facts: &Facts<'_>,
+    rule: NameRule,
+    at: Standpoint<'_>,
+    behind: &[PlainWord<'_>],
+    words: &[PlainWord<'_>],
+) -> Option<Wrong>
+    ensures { result ≡ spec.broken facts.now rule (standing_at at.entry)
+        (map plain_at behind.now) (map plain_at words.now) }
+{
+    match rule {
+        NameRule::WrongCount => where_so(
+            has_wrong_count(facts, at, behind, words),
+            Wrong::WrongCount,
+        ),
+        _ => breaks(facts, rule, at),
+    }
+}
+
+/// What a word breaks of a rule, if it is a name of what begins on a line.
+fn word_subject<'a>(
+    facts: &Facts<'a>,
+    rule: NameRule,
+    line: usize,
+    here: Here,
+    ranked: &'a [u8],
+    word: &PlainWord<'a>,
+    behind: &[PlainWord<'a>],
+    words: &[PlainWord<'a>],
+) -> Option<Subject<'a>>
+    ensures { option_map spec.subject_at result
+        ≡ spec.word_subject facts.now rule line here ranked.now (plain_at word.now)
+        (map plain_at behind.now) (map plain_at words.now) }
+{
+    let Plain::Name(name) = word.kind() else {
+        return None;
+    };
+    if here.line != line {
+        return None;
+    }
+    let at = standpoint(here, ranked, name.bytes(), word.index, behind);
+    match broken(facts, rule, at, behind, words) {
+        Some(wrong) => Some(Subject {
+            name: name.bytes(),
+            wrong,
+        }),
+        None => None,
+    }
+}
+
+/// The class whose attributes are keys behind a word.
+fn ranked_at<'a>(facts: &Facts<'a>, here: Here, ranked: &'a [u8], word: &PlainWord<'a>) -> &'a [u8]
+    ensures { result.now ≡ spec.ranked_at facts.now here ranked.now (plain_at word.now) }
+{
+    match word.kind() {
+        Plain::Name(name) => ranked_behind(facts, here, ranked, name.bytes()),
+        _ => ranked,
+    }
+}
+
+/// The first name of what begins on a line that breaks a rule.
+#[tactic(auto, unfolding(crate::specs::Subjects::subject))]
+fn first_subject<'a>(
+    facts: &Facts<'a>,
+    rule: NameRule,
+    line: usize,
+    words: &[PlainWord<'a>],
+) -> Option<Subject<'a>>
+    ensures { option_map spec.subject_at result
+        ≡ spec.subject facts.now rule line (map plain_at words.now) at_start []
+        (map plain_at words.now) }
+{
+    let mut here = Here::at_start();
+    let mut ranked: &'a [u8] = b"";
+    let mut rest = words;
+    while let [word, behind @ ..] = rest {
+        let at = here_at(here, word);
+        if let Some(found) = word_subject(facts, rule, line, at, ranked, word, behind, words) {
+            return Some(found);
+        }
+        ranked = ranked_at(facts, at, ranked, word);
+        here = at.behind(word.kind(), word.line(), behind);
+        rest = behind;
+    }
+    None
+}
+
+/// What is said of what is wrong.
+fn wrong_text(wrong: Wrong) -> &'static [u8]
+    ensures { result.now ≡ spec.wrong_text wrong }
+{
+    match wrong {
+        Wrong::DeclaredTwice => b": it is declared a second time here.\n",
+        Wrong::WrongClass => b": it is not the class that is needed here.\n",
+        Wrong::WrongUse => b": it is used here as what it is not.\n",
+        Wrong::Ownerless => b": no OWNS names it.\n",
+        Wrong::OwnedTwice => b": it is owned a second time here.\n",
+        Wrong::Memberless => b": no BELONGS TO of a class names it.\n",
+        Wrong::JoinedTwice => b": it is given members a second time here.\n",
+        Wrong::WrongKey => b": it is no attribute of the class that is ranked.\n",
+        Wrong::NoSection => b": it has no EVENT section.\n",
+        Wrong::NoEvent => b": it is no class of event notices.\n",
+        Wrong::WrongCount => b": it has another count of values here than it takes.\n",
+        Wrong::Fixed => b": it cannot be set.\n",
+        Wrong::NoVariable => b": it is no variable, as a loop needs.\n",
+    }
+}
+
+/// What a name is: what is given, where it is declared beside that.
+fn told_as<'a>(facts: &Facts<'a>, subject: Subject<'a>) -> Known<'a>
+    ensures { known_at result ≡ spec.told_as facts.now (spec.subject_at subject.entry) }
+{
+    match subject.wrong {
+        Wrong::DeclaredTwice => first_known(facts, subject.name),
+        Wrong::OwnedTwice => told_place(
+            known_as(&facts.names, subject.name),
+            declared(&facts.owned, subject.name),
+        ),
+        Wrong::JoinedTwice => told_place(
+            known_as(&facts.names, subject.name),
+            declared(&facts.joined, subject.name),
+        ),
+        _ => known_as(&facts.names, subject.name),
+    }
+}
+
+/// What the language, a set or a class gives a name, or else what it is declared as.
+fn first_known<'a>(facts: &Facts<'a>, name: &[u8]) -> Known<'a>
+    ensures { known_at result ≡ spec.first_known facts.now name.now }
+{
+    let given = given(&facts.names, name);
+    match given.what {
+        What::Undeclared => known_as(&facts.names, name),
+        _ => given,
+    }
+}
+
+/// The same, with the line of this place.
+fn told_place<'a>(known: Known<'a>, row: Option<Row<'a>>) -> Known<'a>
+    ensures { known_at result ≡ spec.told_place (known_at known.entry)
+        (spec.line_in (option_map declaration_at row.entry)) }
+{
+    match row {
+        Some(row) => Known {
+            line: row.line,
+            ..known
+        },
+        None => known,
+    }
+}
+
+/// Appends what a breach is about.
+fn push_subject(
+    text: &mut Vec<u8>,
+    facts: &Facts<'_>,
+    subject: Option<Subject<'_>>,
+) -> Result<(), AllocError>
+    ensures { OnOk result (text.new.items ≡ text.old.items
+        ++ spec.subject_text facts.now (option_map spec.subject_at subject.entry)) }
+{
+    let Some(subject) = subject else {
+        return Ok(());
+    };
+    text.extend_from_slice(subject.name)?;
+    text.extend_from_slice(b" is ")?;
+    push_known(text, told_as(facts, subject))?;
+    text.extend_from_slice(wrong_text(subject.wrong))
+}
+
+fn push_breach_of_words(
+    alloc: Global,
+    words: &[PlainWord<'_>],
+    rule: NameRule,
+    line: usize,
+    text: &mut Vec<u8>,
+) -> Result<(), AllocError>
+    ensures { OnOk result (text.new.items ≡ text.old.items
+        ++ spec.breach_of_words (map plain_at words.now) rule line) }
+{
+    let facts = facts_of(alloc, words)?;
+    push_subject(text, &facts, first_subject(&facts, rule, line, words))
+}
+
+/// Appends which name the breach of a rule of the checker is about, what that name is, where it is
+/// declared and what is wrong with it (docs/SENTENCES.md): of the first name of the statement on
+/// this line that breaks the rule with this code, as `C10`. Nothing where the words tell of none,
+/// for a rule that is about no name, and where a rule L refuses the model. The only error is that
+/// memory was refused.
+pub fn push_breach(
+    alloc: Global,
+    model: &[u8],
+    code: &str,
+    line: usize,
+    text: &mut Vec<u8>,
+) -> Result<(), AllocError>
+    ensures { OnOk result (text.new.items
+        ≡ text.old.items ++ spec.breach_text model.now code.now line) }
+{
+    let Some(rule) = rule_of(code.as_bytes()) else {
+        return Ok(());
+    };
+    match words(alloc, model) {
+        Ok(words) => {
+            let plain = plain_words(alloc, &words)?;
+            push_breach_of_words(alloc, &plain, rule, line, text)
+        }
+        Err(TextFault::Memory) => Err(AllocError),
+        Err(TextFault::Refused { .. }) => Ok(()),
+    }
+}

@@ -1,0 +1,182 @@
+//! What a text declares, and what its items say of sets and events.
+ghost use Rattle.std.specs.Prelude.{◌≡◌, [], IfOk, OnOk, map};
+ghost use Rattle.ss_words.specs.Plain.{plain_at};
+ghost use Rattle.ss_names.specs.Collected as spec;
+ghost use Rattle.ss_names.specs.Here.{at_start};
+ghost use Rattle.ss_names.specs.Meanings.{declaration_at};
+
+use crate::declarations::add;
+use crate::here::Here;
+use crate::meaning::{Meaning, Row};
+use ss_words::{Mark, Plain, PlainWord, Reserved};
+use std::alloc::{AllocError, Global};
+
+/// Which names are collected.
+#[derive(Clone, Copy, Debug, PartialEq, Eq)]
+pub enum Wanted {
+    /// Those that are declared, and as what.
+    Declared,
+    /// The sets behind OWNS.
+    Owned,
+    /// The sets behind BELONGS TO.
+    Joined,
+    /// The events that have a section.
+    Sections,
+    /// The keys of sets, in their DEFINE.
+    Keys,
+}
+
+/// What a name is collected as here, if it is.
+fn collected_as(wanted: Wanted, here: Here) -> Option<Meaning>
+    ensures { result ≡ spec.collected_as wanted here }
+{
+    match wanted {
+        Wanted::Declared => here.names,
+        Wanted::Owned => behind_owns(here),
+        Wanted::Joined => behind_belongs(here),
+        Wanted::Sections => behind_event(here),
+        Wanted::Keys => behind_rank(here),
+    }
+}
+
+fn behind_owns(here: Here) -> Option<Meaning>
+    ensures { result ≡ spec.behind_owns here }
+{
+    match here.last {
+        Some(Reserved::Owns) => here.names,
+        _ => None,
+    }
+}
+
+fn behind_belongs(here: Here) -> Option<Meaning>
+    ensures { result ≡ spec.behind_belongs here }
+{
+    match here.last {
+        Some(Reserved::To) => here.names,
+        _ => None,
+    }
+}
+
+fn behind_event(here: Here) -> Option<Meaning>
+    ensures { result ≡ spec.behind_event here }
+{
+    match here.before {
+        Some(Mark::Reserved(Reserved::Event)) => Some(Meaning::Event),
+        _ => None,
+    }
+}
+
+fn behind_rank(here: Here) -> Option<Meaning>
+    ensures { result ≡ spec.behind_rank here }
+{
+    if is_rank(here.last) && is_define(here.begun) {
+        return Some(Meaning::Attribute);
+    }
+    None
+}
+
+fn is_rank(last: Option<Reserved>) -> bool
+    ensures { result ≡ spec.is_rank last }
+{
+    matches!(last, Some(Reserved::High | Reserved::Low))
+}
+
+fn is_define(word: Option<Reserved>) -> bool
+    ensures { result ≡ spec.is_define word }
+{
+    matches!(word, Some(Reserved::Define))
+}
+
+/// What stands before a word, where a name may begin an assignment.
+pub fn here_at(here: Here, word: &PlainWord<'_>) -> Here
+    ensures { result ≡ spec.here_at here (plain_at word.now) }
+{
+    match word.kind() {
+        Plain::Name(_) => here.at_name(word.line()),
+        _ => here,
+    }
+}
+
+/// The class of EVERY, or the last set of DEFINE, behind a word: its own, where the word is that.
+fn class_at<'a>(here: Here, class: &'a [u8], word: &PlainWord<'a>) -> &'a [u8]
+    ensures { result.now ≡ spec.class_at here class.now (plain_at word.now) }
+{
+    if !is_every(here.last) && !is_define(here.last) {
+        return class;
+    }
+    match word.kind() {
+        Plain::Name(name) => name.bytes(),
+        _ => class,
+    }
+}
+
+fn is_every(last: Option<Reserved>) -> bool
+    ensures { result ≡ spec.is_every last }
+{
+    matches!(last, Some(Reserved::Every))
+}
+
+/// The class by whose clause a name is declared here, or the set that a key ranks; empty where there
+/// is none.
+fn class_of<'a>(here: Here, class: &'a [u8]) -> &'a [u8]
+    ensures { result.now ≡ spec.class_of here class.now }
+{
+    if is_every(here.begun) || is_rank(here.last) {
+        return class;
+    }
+    b""
+}
+
+/// Puts a word to what is collected, if it is wanted.
+fn collect_word<'a>(
+    found: &mut Vec<Row<'a>>,
+    wanted: Wanted,
+    here: Here,
+    class: &'a [u8],
+    word: &PlainWord<'a>,
+) -> Result<(), AllocError>
+    ensures { OnOk result (map declaration_at found.new.items
+        ≡ spec.with_word (map declaration_at found.old.items) wanted here class.now
+        (plain_at word.now)) }
+{
+    let Plain::Name(name) = word.kind() else {
+        return Ok(());
+    };
+    match collected_as(wanted, here) {
+        Some(meaning) => add(
+            found,
+            Row {
+                name: name.bytes(),
+                meaning,
+                of: class_of(here, class),
+                line: word.line(),
+                index: word.index,
+            },
+        ),
+        None => Ok(()),
+    }
+}
+
+/// The first place of each name that is wanted among the plain words of a text.
+#[tactic(auto, unfolding(crate::specs::Collected::collected))]
+pub fn collect<'a>(
+    alloc: Global,
+    wanted: Wanted,
+    words: &[PlainWord<'a>],
+) -> Result<Vec<Row<'a>>, AllocError>
+    ensures { IfOk result (λ found. map declaration_at found.items
+        ≡ spec.collected wanted [] at_start [] (map plain_at words.now)) }
+{
+    let mut found = Vec::new(alloc);
+    let mut here = Here::at_start();
+    let mut class: &'a [u8] = b"";
+    let mut rest = words;
+    while let [word, behind @ ..] = rest {
+        let at = here_at(here, word);
+        collect_word(&mut found, wanted, at, class, word)?;
+        class = class_at(at, class, word);
+        here = at.behind(word.kind(), word.line(), behind);
+        rest = behind;
+    }
+    Ok(found)
+}

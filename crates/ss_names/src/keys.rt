@@ -1,0 +1,85 @@
+//! Names as they are counted: a local variable of one section is another than that of a second one.
+ghost use Rattle.std.specs.Prelude.{◌≡◌, IfOk, map};
+ghost use Rattle.ss_words.specs.Plain.{plain_at};
+ghost use Rattle.ss_names.specs.Keys as spec;
+ghost use Rattle.ss_names.specs.Meanings.{declaration_at};
+ghost use Rattle.ss_names.specs.Roles.{at_start};
+
+use crate::declarations::is_declared;
+use crate::meaning::Row;
+use crate::name_counts::NameCounts;
+use crate::roles::{Role, Standing, same_role};
+use itoa::Buffer;
+use ss_words::{Mark, Plain, PlainWord, Reserved};
+use std::alloc::{AllocError, Global};
+
+/// The section behind a word: told by the place of the END before it.
+pub fn section_behind(section: u32, word: &PlainWord<'_>) -> u32
+    ensures { result ≡ spec.section_behind section (plain_at word.now) }
+{
+    match word.kind().mark() {
+        Some(Mark::Reserved(Reserved::End)) => word.index,
+        _ => section,
+    }
+}
+
+/// What a name is counted as: itself where it is declared; else with its section before it.
+pub fn key(
+    alloc: Global,
+    declarations: &[Row<'_>],
+    section: u32,
+    name: &[u8],
+) -> Result<Vec<u8>, AllocError>
+    ensures { IfOk result (λ key. key.items
+        ≡ spec.key (map declaration_at declarations.now) section name.now) }
+{
+    if is_declared(declarations, name) {
+        return Vec::from_slice(alloc, name);
+    }
+    let mut buffer = Buffer::new();
+    let mut key = Vec::from_slice(alloc, buffer.format(section).as_bytes())?;
+    key.push(b' ')?;
+    key.extend_from_slice(name)?;
+    Ok(key)
+}
+
+/// Whether a name is counted: all are, or those with this role.
+fn is_counted(role: Option<Role>, standing: Standing) -> bool
+    ensures { result ≡ spec.is_counted role standing }
+{
+    match role {
+        Some(role) => same_role(standing.role(), role),
+        None => true,
+    }
+}
+
+/// What each name with this role is counted as, or each name.
+#[tactic(auto, unfolding(crate::specs::Keys::keys_with))]
+pub fn keys_with(
+    alloc: Global,
+    declarations: &[Row<'_>],
+    role: Option<Role>,
+    words: &[PlainWord<'_>],
+) -> Result<NameCounts, AllocError>
+    ensures { IfOk result (λ names. names
+        ≡ spec.keys_with (map declaration_at declarations.now) role 0 at_start
+        (map plain_at words.now)) }
+{
+    let mut names = NameCounts::new(alloc);
+    let mut standing = Standing::at_start();
+    let mut section: u32 = 0;
+    let mut rest = words;
+    while let [word, behind @ ..] = rest {
+        let kind = word.kind();
+        if let Plain::Name(name) = kind {
+            if is_counted(role, standing) {
+                let key = key(alloc, declarations, section, name.bytes())?;
+                names.add(&key)?;
+            }
+        }
+        section = section_behind(section, word);
+        standing = standing.behind(kind.mark());
+        rest = behind;
+    }
+    Ok(names)
+}

@@ -1,0 +1,218 @@
+//! What a name is, as it is told.
+ghost use Rattle.std.specs.Prelude.{◌≡◌, ◌++◌, map, OnOk};
+ghost use Rattle.ss_names.specs.Known as spec;
+ghost use Rattle.ss_names.specs.Known.{known_at};
+ghost use Rattle.ss_names.specs.Meanings.{declaration_at};
+
+use crate::declarations::declared;
+use crate::meaning::{Meaning, Row};
+use itoa::Buffer;
+use ss_columns::is_among;
+use std::alloc::AllocError;
+
+/// The clock. The definitions read these tables too.
+pub const CLOCK: [&[u8]; 1] = [b"TIME.V"];
+
+/// The functions of the language.
+pub const FUNCTIONS: [&[u8]; 5] = [b"ABS.F", b"MAX.F", b"MIN.F", b"DIV.F", b"MOD.F"];
+
+/// How the names begin of what a set keeps of its owners.
+pub const OF_OWNERS: [&[u8]; 3] = [b"F.", b"L.", b"N."];
+
+/// The same of its members.
+pub const OF_MEMBERS: [&[u8]; 3] = [b"P.", b"S.", b"M."];
+
+/// The same of the count of a permanent class.
+pub const OF_CLASS: [&[u8]; 1] = [b"N."];
+
+/// What a name is.
+#[derive(Clone, Copy, Debug, PartialEq, Eq)]
+pub enum What {
+    /// No declaration gives it: in a section, a local variable.
+    Undeclared,
+    Declared(Meaning),
+    /// Kept of the owners of a set.
+    OfOwners,
+    /// Kept of the members of a set.
+    OfMembers,
+    /// `N.class` of a permanent class.
+    Count,
+    Clock,
+    Function,
+}
+
+/// What a name is, of which class or set, and where that is declared: line 0 where it is not.
+#[derive(Clone, Copy)]
+pub struct Known<'a> {
+    pub what: What,
+    pub of: &'a [u8],
+    pub line: usize,
+}
+
+/// What a name is that begins as those do that are kept of a set or class.
+fn companion<'a>(declarations: &[Row<'a>], name: &[u8]) -> Known<'a>
+    ensures { known_at result ≡ spec.companion (map declaration_at declarations.now) name.now }
+{
+    if name.len() < 3 {
+        return undeclared();
+    }
+    let (front, base) = (&name[..2], &name[2..]);
+    match declared(declarations, base) {
+        Some(row) => companion_of(front, row),
+        None => undeclared(),
+    }
+}
+
+fn undeclared<'a>() -> Known<'a>
+    ensures { known_at result ≡ spec.undeclared }
+{
+    Known {
+        what: What::Undeclared,
+        of: b"",
+        line: 0,
+    }
+}
+
+/// What a name is that begins so, before a declared name.
+fn companion_of<'a>(front: &[u8], row: Row<'a>) -> Known<'a>
+    ensures { known_at result ≡ spec.companion_of front.now (declaration_at row.entry) }
+{
+    Known {
+        what: companion_what(front, row.meaning),
+        of: row.name,
+        line: row.line,
+    }
+}
+
+fn companion_what(front: &[u8], meaning: Meaning) -> What
+    ensures { result ≡ spec.companion_what front.now meaning }
+{
+    match meaning {
+        Meaning::Set => kept_what(front),
+        Meaning::Permanent => count_what(front),
+        _ => What::Undeclared,
+    }
+}
+
+fn kept_what(front: &[u8]) -> What
+    ensures { result ≡ spec.kept_what front.now }
+{
+    if is_among(front, &OF_OWNERS) {
+        What::OfOwners
+    } else if is_among(front, &OF_MEMBERS) {
+        What::OfMembers
+    } else {
+        What::Undeclared
+    }
+}
+
+fn count_what(front: &[u8]) -> What
+    ensures { result ≡ spec.count_what front.now }
+{
+    if is_among(front, &OF_CLASS) {
+        What::Count
+    } else {
+        What::Undeclared
+    }
+}
+
+/// What the language, a set or a class gives a name, whatever else it is declared as.
+pub fn given<'a>(declarations: &[Row<'a>], name: &[u8]) -> Known<'a>
+    ensures { known_at result ≡ spec.given (map declaration_at declarations.now) name.now }
+{
+    if is_among(name, &CLOCK) {
+        return of_language(What::Clock);
+    }
+    if is_among(name, &FUNCTIONS) {
+        return of_language(What::Function);
+    }
+    companion(declarations, name)
+}
+
+/// What a name is: by its own declaration, if it has one, or else what is given.
+pub fn known_as<'a>(declarations: &[Row<'a>], name: &[u8]) -> Known<'a>
+    ensures { known_at result ≡ spec.known (map declaration_at declarations.now) name.now }
+{
+    match declared(declarations, name) {
+        Some(row) => Known {
+            what: What::Declared(row.meaning),
+            of: row.of,
+            line: row.line,
+        },
+        None => given(declarations, name),
+    }
+}
+
+fn of_language<'a>(what: What) -> Known<'a>
+    ensures { known_at result ≡ spec.of_language what }
+{
+    Known {
+        what,
+        of: b"",
+        line: 0,
+    }
+}
+
+/// What a meaning is called.
+fn meaning_text(meaning: Meaning) -> &'static [u8]
+    ensures { result.now ≡ spec.meaning_text meaning }
+{
+    match meaning {
+        Meaning::Class => b"a class under no heading",
+        Meaning::Permanent => b"a class of permanent entities",
+        Meaning::Temporary => b"a class of temporary entities",
+        Meaning::Event => b"a class of event notices",
+        Meaning::Attribute => b"an attribute of ",
+        Meaning::Variable => b"a variable",
+        Meaning::Set => b"a set",
+        Meaning::Routine => b"a routine",
+    }
+}
+
+/// What a name is called, before what it is of.
+fn what_text(what: What) -> &'static [u8]
+    ensures { result.now ≡ spec.what_text what }
+{
+    match what {
+        What::Undeclared => b"declared nowhere",
+        What::Declared(meaning) => meaning_text(meaning),
+        What::OfOwners | What::OfMembers => b"kept of the set ",
+        What::Count => b"the count of the class ",
+        What::Clock => b"the clock",
+        What::Function => b"a function of the language",
+    }
+}
+
+/// Whether it is told of what a name is.
+fn tells_of(what: What) -> bool
+    ensures { result ≡ spec.tells_of what }
+{
+    matches!(
+        what,
+        What::Declared(Meaning::Attribute) | What::OfOwners | What::OfMembers | What::Count
+    )
+}
+
+/// Appends what a name is, of which class or set, and the line of its declaration, if it has one.
+pub fn push_known(text: &mut Vec<u8>, known: Known<'_>) -> Result<(), AllocError>
+    ensures { OnOk result (text.new.items
+        ≡ text.old.items ++ spec.known_text (known_at known.entry)) }
+{
+    text.extend_from_slice(what_text(known.what))?;
+    if tells_of(known.what) {
+        text.extend_from_slice(known.of)?;
+    }
+    push_declared_line(text, known.line)
+}
+
+/// Appends the line of a declaration, if there is one.
+fn push_declared_line(text: &mut Vec<u8>, line: usize) -> Result<(), AllocError>
+    ensures { OnOk result (text.new.items ≡ text.old.items ++ spec.line_text line) }
+{
+    if line == 0 {
+        return Ok(());
+    }
+    let mut buffer = Buffer::new();
+    text.extend_from_slice(b", line ")?;
+    text.extend_from_slice(buffer.format(line).as_bytes())
+}
