@@ -28,6 +28,8 @@ pub record Facts : Type 0 where
   pub joined : List Declaration
   -- the events that have a section
   pub sections : List Declaration
+  -- the names behind PRIORITY ORDER IS
+  pub ordered : List Declaration
 
 -- a name where it stands
 pub record Standpoint : Type 0 where
@@ -299,9 +301,20 @@ abbrev pub is_ordered : Position → Bool
 is_ordered p.Ordered = true
 is_ordered _ = false
 
+-- a name with this first place there stands there before
+abbrev pub is_ordered_twice : Standpoint → Option Declaration → Bool
+is_ordered_twice a (Some d) = nat_lt d.index a.index
+is_ordered_twice a None = false
+
+-- a name there is no event class, or stands there before
+abbrev pub wrong_ordered : Facts → Standpoint → Option Wrong
+wrong_ordered f a = if not (is_event f a.name)
+    then Some w.NoEvent
+    else where_so (is_ordered_twice a (declared_as f.ordered a.name)) w.OrderedTwice
+
 -- C12
-abbrev pub is_no_event : Facts → Standpoint → Bool
-is_no_event f a = is_ordered a.position && not (is_event f a.name)
+abbrev pub wrong_priority : Facts → Standpoint → Option Wrong
+wrong_priority f a = if not (is_ordered a.position) then None else wrong_ordered f a
 
 -- ---- C9
 
@@ -352,4 +365,4 @@ wrong f rule.WrongKey a = where_so (is_wrong_key f a) w.WrongKey
 wrong f rule.WrongCount a = None
 wrong f rule.WrongEvent a = wrong_event f a
 wrong f rule.FixedTarget a = wrong_target f a
-wrong f rule.WrongPriority a = where_so (is_no_event f a) w.NoEvent
+wrong f rule.WrongPriority a = wrong_priority f a

@@ -6,7 +6,7 @@ use Rattle.ss_words.specs.declared.reserved.Reserved.{Reserved as AReserved}
 use Rattle.ss_words.specs.declared.reserved.Reserved.TheVariants as r
 use Rattle.ss_words.specs.Plain.{PlainAt, name, number, mark, picture}
 use Rattle.ss_names.specs.declared.collected.Wanted.{Wanted}
-use Rattle.ss_names.specs.declared.collected.Wanted.TheVariants.{Declared, Owned, Joined, Sections, Keys}
+use Rattle.ss_names.specs.declared.collected.Wanted.TheVariants.{Declared, Owned, Joined, Sections, Keys, Ordered}
 use Rattle.ss_names.specs.declared.here.Here.{Here}
 use Rattle.ss_names.specs.declared.meaning.Meaning.{Meaning}
 use Rattle.ss_names.specs.declared.meaning.Meaning.TheVariants as m
@@ -55,6 +55,15 @@ is_define _ = false
 abbrev pub behind_rank : Here → Option Meaning
 behind_rank h = if is_rank h.last && is_define h.begun then Some m.Attribute else None
 
+-- PRIORITY
+abbrev pub ordered_in : Option AReserved → Option Meaning
+ordered_in (Some r.Priority) = Some m.Event
+ordered_in _ = None
+
+-- in the list behind PRIORITY ORDER IS
+abbrev pub behind_priority : Here → Option Meaning
+behind_priority h = ordered_in h.begun
+
 -- what a name is collected as here, if it is wanted
 abbrev pub collected_as : Wanted → Here → Option Meaning
 collected_as Declared h = h.names
@@ -62,6 +71,7 @@ collected_as Owned h = behind_owns h
 collected_as Joined h = behind_belongs h
 collected_as Sections h = behind_event h
 collected_as Keys h = behind_rank h
+collected_as Ordered h = behind_priority h
 
 -- what stands before a word, where a name may begin an assignment
 abbrev pub here_at : Here → PlainAt → Here

@@ -11,7 +11,7 @@ use Rattle.ss_names.specs.declared.breach.NameRule.TheVariants as rule
 use Rattle.ss_names.specs.declared.breach.Wrong.{Wrong}
 use Rattle.ss_names.specs.declared.breach.Wrong.TheVariants as w
 use Rattle.ss_names.specs.declared.breaches.Subject.{Subject as CodeSubject}
-use Rattle.ss_names.specs.declared.collected.Wanted.TheVariants.{Declared, Owned, Joined, Sections}
+use Rattle.ss_names.specs.declared.collected.Wanted.TheVariants.{Declared, Owned, Joined, Sections, Ordered}
 use Rattle.ss_names.specs.declared.here.Here.{Here}
 use Rattle.ss_names.specs.declared.known.What.{What}
 use Rattle.ss_names.specs.declared.known.What.TheVariants as k
@@ -41,6 +41,7 @@ facts_of ws = record {
   owned = collected Owned [] at_start [] ws;
   joined = collected Joined [] at_start [] ws;
   sections = collected Sections [] at_start [] ws;
+  ordered = collected Ordered [] at_start [] ws;
 }
 
 -- a name where it stands, before these words
@@ -139,6 +140,7 @@ wrong_text w.JoinedTwice = codes ": it is given members a second time here.\n"
 wrong_text w.WrongKey = codes ": it is no attribute of the class that is ranked.\n"
 wrong_text w.NoSection = codes ": it has no EVENT section.\n"
 wrong_text w.NoEvent = codes ": it is no class of event notices.\n"
+wrong_text w.OrderedTwice = codes ": it is ordered a second time here.\n"
 wrong_text w.WrongCount = codes ": it has another count of values here than it takes.\n"
 wrong_text w.Fixed = codes ": it cannot be set.\n"
 wrong_text w.NoVariable = codes ": it is no variable, as a loop needs.\n"
@@ -166,6 +168,7 @@ abbrev pub told_by : Facts → List ℕ → Wrong → Known
 told_by f n w.DeclaredTwice = first_known f n
 told_by f n w.OwnedTwice = told_place (known f.names n) (line_in (declared_as f.owned n))
 told_by f n w.JoinedTwice = told_place (known f.names n) (line_in (declared_as f.joined n))
+told_by f n w.OrderedTwice = told_place (known f.names n) (line_in (declared_as f.ordered n))
 told_by f n _ = known f.names n
 
 -- what the name of a subject is

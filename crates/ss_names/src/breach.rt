@@ -4,7 +4,8 @@ ghost use Rattle.ss_names.specs.Breaches as spec;
 ghost use Rattle.ss_names.specs.Known.{known_at};
 ghost use Rattle.ss_names.specs.Meanings.{declaration_at};
 
-use crate::declarations::{declared, is_declared};
+use crate::declarations::declared;
+use crate::events::{wrong_event, wrong_priority};
 use crate::known::{Known, What, given, known_as};
 use crate::meaning::{Meaning, Row, may_repeat};
 use crate::position::Position;
@@ -22,6 +23,8 @@ pub struct Facts<'a> {
     pub joined: Vec<Row<'a>>,
     /// The events that have a section.
     pub sections: Vec<Row<'a>>,
+    /// The names behind PRIORITY ORDER IS.
+    pub ordered: Vec<Row<'a>>,
 }
 
 impl<'a> Model for Facts<'a> {
@@ -36,6 +39,7 @@ impl<'a> Model for Facts<'a> {
       owned = map declaration_at a.owned.items;
       joined = map declaration_at a.joined.items;
       sections = map declaration_at a.sections.items;
+      ordered = map declaration_at a.ordered.items;
     } };
 }
 
@@ -69,6 +73,7 @@ pub enum Wrong {
     WrongKey,
     NoSection,
     NoEvent,
+    OrderedTwice,
     WrongCount,
     Fixed,
     NoVariable,
@@ -148,7 +153,7 @@ pub fn breaks(facts: &Facts<'_>, rule: NameRule, at: Standpoint<'_>) -> Option<W
         NameRule::WrongCount => None,
         NameRule::WrongEvent => wrong_event(facts, at),
         NameRule::FixedTarget => wrong_target(facts, at),
-        NameRule::WrongPriority => where_so(is_no_event(facts, at), Wrong::NoEvent),
+        NameRule::WrongPriority => wrong_priority(facts, at),
     }
 }
 
@@ -359,45 +364,6 @@ fn is_key(position: Position) -> bool
     ensures { result ≡ spec.is_key position }
 {
     matches!(position, Position::Key)
-}
-
-// ---- C8 and C12
-
-/// What is wrong with an event that is named here: it has no section, or its section is of no event.
-fn wrong_event(facts: &Facts<'_>, at: Standpoint<'_>) -> Option<Wrong>
-    ensures { result ≡ spec.wrong_event facts.now (spec.standing_at at.entry) }
-{
-    match at.position {
-        Position::Head => where_so(!is_event(facts, at.name), Wrong::NoEvent),
-        Position::Declared | Position::EventClass | Position::Ordered => where_so(
-            is_event(facts, at.name) && !is_declared(&facts.sections, at.name),
-            Wrong::NoSection,
-        ),
-        _ => None,
-    }
-}
-
-/// Whether a name is declared as an event class.
-fn is_event(facts: &Facts<'_>, name: &[u8]) -> bool
-    ensures { result ≡ spec.is_event facts.now name.now }
-{
-    matches!(
-        known_as(&facts.names, name).what,
-        What::Declared(Meaning::Event)
-    )
-}
-
-/// Whether a name of PRIORITY is no event class.
-fn is_no_event(facts: &Facts<'_>, at: Standpoint<'_>) -> bool
-    ensures { result ≡ spec.is_no_event facts.now (spec.standing_at at.entry) }
-{
-    is_ordered(at.position) && !is_event(facts, at.name)
-}
-
-fn is_ordered(position: Position) -> bool
-    ensures { result ≡ spec.is_ordered position }
-{
-    matches!(position, Position::Ordered)
 }
 
 // ---- C9

@@ -34,6 +34,7 @@ fn facts_of<'a>(alloc: Global, words: &[PlainWord<'a>]) -> Result<Facts<'a>, All
         owned: collect(alloc, Wanted::Owned, words)?,
         joined: collect(alloc, Wanted::Joined, words)?,
         sections: collect(alloc, Wanted::Sections, words)?,
+        ordered: collect(alloc, Wanted::Ordered, words)?,
     })
 }
 
@@ -184,6 +185,7 @@ fn wrong_text(wrong: Wrong) -> &'static [u8]
         Wrong::WrongKey => b": it is no attribute of the class that is ranked.\n",
         Wrong::NoSection => b": it has no EVENT section.\n",
         Wrong::NoEvent => b": it is no class of event notices.\n",
+        Wrong::OrderedTwice => b": it is ordered a second time here.\n",
         Wrong::WrongCount => b": it has another count of values here than it takes.\n",
         Wrong::Fixed => b": it cannot be set.\n",
         Wrong::NoVariable => b": it is no variable, as a loop needs.\n",
@@ -203,6 +205,10 @@ fn told_as<'a>(facts: &Facts<'a>, subject: Subject<'a>) -> Known<'a>
         Wrong::JoinedTwice => told_place(
             known_as(&facts.names, subject.name),
             declared(&facts.joined, subject.name),
+        ),
+        Wrong::OrderedTwice => told_place(
+            known_as(&facts.names, subject.name),
+            declared(&facts.ordered, subject.name),
         ),
         _ => known_as(&facts.names, subject.name),
     }

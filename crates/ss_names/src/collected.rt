@@ -24,6 +24,8 @@ pub enum Wanted {
     Sections,
     /// The keys of sets, in their DEFINE.
     Keys,
+    /// The names behind PRIORITY ORDER IS.
+    Ordered,
 }
 
 /// What a name is collected as here, if it is.
@@ -36,6 +38,7 @@ fn collected_as(wanted: Wanted, here: Here) -> Option<Meaning>
         Wanted::Joined => behind_belongs(here),
         Wanted::Sections => behind_event(here),
         Wanted::Keys => behind_rank(here),
+        Wanted::Ordered => behind_priority(here),
     }
 }
 
@@ -73,6 +76,15 @@ fn behind_rank(here: Here) -> Option<Meaning>
         return Some(Meaning::Attribute);
     }
     None
+}
+
+fn behind_priority(here: Here) -> Option<Meaning>
+    ensures { result ≡ spec.behind_priority here }
+{
+    match here.begun {
+        Some(Reserved::Priority) => Some(Meaning::Event),
+        _ => None,
+    }
 }
 
 fn is_rank(last: Option<Reserved>) -> bool

@@ -7,6 +7,7 @@ mod collected;
 mod counts;
 mod declarations;
 mod dropped;
+mod events;
 mod here;
 mod index;
 mod keys;

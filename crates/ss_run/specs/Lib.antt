@@ -5,3 +5,4 @@ pub mod WholeRun
 pub mod Advance
 pub mod Trace
 pub mod Tracing
+pub mod Warned

@@ -6,8 +6,10 @@ mod fields;
 mod here;
 mod rows;
 mod traced;
+mod warned;
 mod whole_run;
 
 pub use fields::unfit_values;
 pub use traced::trace_model;
+pub use warned::model_warnings;
 pub use whole_run::{Progress, RunCut, RunEnd, WholeRun, report, run_model, run_status};

@@ -16,8 +16,7 @@ use clap::error::ErrorKind;
 use meter::Meter;
 use questions::read_questions;
 use ss_host::{Stop, Stream, read_arguments, read_file, read_or, stop_by, tell};
-use ss_names::push_warnings;
-use ss_run::{RunCut, RunEnd, WholeRun, run_model, run_status, trace_model};
+use ss_run::{RunCut, RunEnd, WholeRun, model_warnings, run_model, run_status, trace_model};
 use ss_trace::Question;
 use std::alloc::Global;
 use std::io::{IsTerminal, Write};
@@ -93,15 +92,15 @@ fn run_over<'a>(
     Ok(run_model(rt.alloc(), model, input, &mut meter, &mut out))
 }
 
-/// What is suspicious in the words of a model that was run; as far as memory goes.
+/// What is suspicious in a model that was run; nothing where memory was refused.
 fn warnings_of(alloc: Global, model: &[u8], outcome: &Result<WholeRun, RunCut>) -> Vec<u8> {
-    let mut text = Vec::new(alloc);
-    if let Ok(whole) = outcome {
-        if !matches!(whole.end, RunEnd::Refused(_)) {
-            let _ = push_warnings(alloc, model, &mut text);
+    let none = Vec::new(alloc);
+    match outcome {
+        Ok(whole) if !matches!(whole.end, RunEnd::Refused(_)) => {
+            model_warnings(alloc, model).unwrap_or(none)
         }
+        _ => none,
     }
-    text
 }
 
 /// Says what stopped the program, and gives its exit status.
