@@ -193,5 +193,5 @@ breach_by model line (Some x) = elim (words_of model) [
 ]
 
 -- what the breach of the rule with this code on a line of a model is about
-abbrev pub breach_text : List ℕ → List ℕ → ℕ → List ℕ
+unfoldable pub breach_text : List ℕ → List ℕ → ℕ → List ℕ
 breach_text model code line = breach_by model line (rule_of code)

@@ -276,6 +276,7 @@ fn push_breach_of_words(
 /// this line that breaks the rule with this code, as `C10`. Nothing where the words tell of none,
 /// for a rule that is about no name, and where a rule L refuses the model. The only error is that
 /// memory was refused.
+#[tactic(auto, unfolding(crate::specs::Subjects::breach_text))]
 pub fn push_breach(
     alloc: Global,
     model: &[u8],
