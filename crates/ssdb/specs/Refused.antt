@@ -12,6 +12,7 @@ use Rattle.ss_session.specs.Model.{IsOutcome, refused_text, refused_check}
 use Rattle.ss_session.specs.Transcript.{refusal_line}
 use Rattle.ss_sentences.specs.Wording.{rule_sentence}
 use Rattle.ss_sentences.specs.Refusals.{IsSaid}
+use Rattle.ss_names.specs.Subjects.{breach_text}
 use Rattle.ss_prompt.specs.Source.{marked_line}
 use Rattle.ssdb.specs.declared.end.PromptFault.{PromptFault}
 use Rattle.ssdb.specs.declared.end.PromptFault.TheVariants.{Refused, Cut, Memory}
@@ -26,11 +27,12 @@ has_blank sentence = list_any (λ b. nat_eq b 123) sentence
 abbrev pub rule_line : List ℕ → List ℕ → List ℕ
 rule_line code sentence = if has_blank sentence then [] else code ++ codes ": " ++ sentence ++ 10 ∷ []
 
--- what is said of a model that the checker refuses: the rule and the line, what the rule means, and the line as it is
--- written
-abbrev pub refused_model_text : List (List ℕ) → List ℕ → ℕ → List ℕ
-refused_model_text lines code line =
+-- what is said of a model that the checker refuses: the rule and the line, what the rule means, the line as it is
+-- written, and which name the breach is about
+abbrev pub refused_model_text : List ℕ → List (List ℕ) → List ℕ → ℕ → List ℕ
+refused_model_text model lines code line =
     refusal_line code line ++ rule_line code (rule_sentence code) ++ marked_line lines (codes "> ") line
+    ++ breach_text model code line
 
 -- what is said of a model whose text is refused: the rule and the line, and what is said of the word, its place and
 -- what could stand there
@@ -43,7 +45,7 @@ IsTold model text =
     ((rule : TextRule) × (line : ℕ) × IsOutcome model (refused_text rule line)
     × IsTextTold model (text_rule_code rule) line text)
     ⊎ ((rule : CheckRule) × (line : ℕ) × IsOutcome model (refused_check rule line)
-    × (text ≡ refused_model_text (source_lines model) (check_rule_code rule) line))
+    × (text ≡ refused_model_text model (source_lines model) (check_rule_code rule) line))
 
 -- what was written of a refused model, by what stopped the program: all that is said of it, a prefix of that where
 -- writing failed, nothing where memory was refused

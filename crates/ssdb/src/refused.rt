@@ -9,6 +9,7 @@ ghost use Rattle.ssdb.specs.Seen.{seen};
 
 use crate::end::PromptFault;
 use ss_console::{Console, Cut, put_all};
+use ss_names::push_breach;
 use ss_prompt::push_marked_line;
 use ss_sentences::{rule_sentence, text_refusal};
 use ss_session::{LoadFault, refusal_text};
@@ -39,16 +40,18 @@ fn push_rule(text: &mut Vec<u8>, code: &str) -> Result<(), AllocError>
 /// What is said of a model that a rule of the checker refuses.
 fn check_told(
     alloc: Global,
+    model: &[u8],
     lines: &[&[u8]],
     code: &str,
     line: usize,
 ) -> Result<Vec<u8>, AllocError>
     ensures { IfOk result (λ text. text.items
-        ≡ refused_model_text (map (λ l. l.now) lines.now) code.now line) }
+        ≡ refused_model_text model.now (map (λ l. l.now) lines.now) code.now line) }
 {
     let mut text = refusal_text(alloc, code, line)?;
     push_rule(&mut text, code)?;
     push_marked_line(&mut text, lines, b"> ", line)?;
+    push_breach(alloc, model, code, line, &mut text)?;
     Ok(text)
 }
 
@@ -76,7 +79,7 @@ fn told(
     match fault {
         LoadFault::Memory => Err(AllocError),
         LoadFault::Text { rule, line } => text_told(alloc, model, rule.code(), line),
-        LoadFault::Check { rule, line } => check_told(alloc, lines, rule.code(), line),
+        LoadFault::Check { rule, line } => check_told(alloc, model, lines, rule.code(), line),
     }
 }
 
