@@ -107,10 +107,16 @@ conflicts_with f a None = false
 abbrev pub conflicts : Facts → Standpoint → Bool
 conflicts f a = conflicts_with f a (declared_as f.names a.name)
 
--- a name that is declared here conflicts; a parameter is declared or given
+-- the first of some places of a name stands before this one
+abbrev pub stands_before : Standpoint → Option Declaration → Bool
+stands_before a (Some d) = nat_lt d.index a.index
+stands_before a None = false
+
+-- a name that is declared here conflicts; a parameter is declared or given; an event has a section before
 abbrev pub is_declared_twice_at : Facts → Standpoint → Position → Bool
 is_declared_twice_at f a p.Declared = conflicts f a
 is_declared_twice_at f a p.Local = not (is_undeclared (known_in f a.name))
+is_declared_twice_at f a p.Head = stands_before a (declared_as f.sections a.name)
 is_declared_twice_at f a _ = false
 
 -- C1
@@ -301,16 +307,11 @@ abbrev pub is_ordered : Position → Bool
 is_ordered p.Ordered = true
 is_ordered _ = false
 
--- a name with this first place there stands there before
-abbrev pub is_ordered_twice : Standpoint → Option Declaration → Bool
-is_ordered_twice a (Some d) = nat_lt d.index a.index
-is_ordered_twice a None = false
-
 -- a name there is no event class, or stands there before
 abbrev pub wrong_ordered : Facts → Standpoint → Option Wrong
 wrong_ordered f a = if not (is_event f a.name)
     then Some w.NoEvent
-    else where_so (is_ordered_twice a (declared_as f.ordered a.name)) w.OrderedTwice
+    else where_so (stands_before a (declared_as f.ordered a.name)) w.OrderedTwice
 
 -- C12
 abbrev pub wrong_priority : Facts → Standpoint → Option Wrong

@@ -2,7 +2,7 @@
 ghost use Rattle.std.specs.Prelude.{◌≡◌, map};
 ghost use Rattle.ss_names.specs.Breaches as spec;
 ghost use Rattle.ss_names.specs.Known.{known_at};
-ghost use Rattle.ss_names.specs.Meanings.{declaration_at};
+ghost use Rattle.ss_names.specs.Meanings.{declaration_at, declared_as};
 
 use crate::declarations::declared;
 use crate::events::{wrong_event, wrong_priority};
@@ -166,14 +166,26 @@ pub fn where_so(is_so: bool, wrong: Wrong) -> Option<Wrong>
 // ---- C1
 
 /// Whether a name is declared here, or is a parameter, and is declared elsewhere or given by the
-/// language.
+/// language; or is an event that has a section before.
 fn is_declared_twice(facts: &Facts<'_>, at: Standpoint<'_>) -> bool
     ensures { result ≡ spec.is_declared_twice facts.now (spec.standing_at at.entry) }
 {
     match at.position {
         Position::Declared => conflicts(facts, at),
         Position::Local => !is_undeclared(known_as(&facts.names, at.name)),
+        Position::Head => stands_before(&facts.sections, at),
         _ => false,
+    }
+}
+
+/// Whether the first of some places of a name stands before this one.
+pub fn stands_before(places: &[Row<'_>], at: Standpoint<'_>) -> bool
+    ensures { result ≡ spec.stands_before (spec.standing_at at.entry)
+        (declared_as (map declaration_at places.now) at.name.now) }
+{
+    match declared(places, at.name) {
+        Some(row) => row.index < at.index,
+        None => false,
     }
 }
 

@@ -1,10 +1,9 @@
 //! What a name breaks of the rules on events: their sections, and PRIORITY.
 ghost use Rattle.std.specs.Prelude.{◌≡◌};
 ghost use Rattle.ss_names.specs.Breaches as spec;
-ghost use Rattle.ss_names.specs.Meanings.{declared_as};
 
-use crate::breach::{Facts, Standpoint, Wrong, where_so};
-use crate::declarations::{declared, is_declared};
+use crate::breach::{Facts, Standpoint, Wrong, stands_before, where_so};
+use crate::declarations::is_declared;
 use crate::known::{What, known_as};
 use crate::meaning::Meaning;
 use crate::position::Position;
@@ -43,18 +42,7 @@ pub fn wrong_priority(facts: &Facts<'_>, at: Standpoint<'_>) -> Option<Wrong>
     if !is_event(facts, at.name) {
         return Some(Wrong::NoEvent);
     }
-    where_so(is_ordered_twice(facts, at), Wrong::OrderedTwice)
-}
-
-/// Whether the first place of a name behind PRIORITY is before this one.
-fn is_ordered_twice(facts: &Facts<'_>, at: Standpoint<'_>) -> bool
-    ensures { result ≡ spec.is_ordered_twice (spec.standing_at at.entry)
-        (declared_as facts.now.ordered at.name.now) }
-{
-    match declared(&facts.ordered, at.name) {
-        Some(row) => row.index < at.index,
-        None => false,
-    }
+    where_so(stands_before(&facts.ordered, at), Wrong::OrderedTwice)
 }
 
 fn is_ordered(position: Position) -> bool
