@@ -1,1 +1,3 @@
 pub mod Nearest
+pub mod Least
+pub mod Returns

@@ -9,8 +9,8 @@ pub record DeskView : Type 0 where
   pub set : List ℕ
   -- those that they set by sections
   pub sections : List ℕ
-  -- the question that is a data break point; empty where there is none
-  pub watched : List ℕ
+  -- the questions that are data break points, as they were asked
+  pub watched : List (List ℕ)
   -- how much of the report is told
   pub told : ℕ
   -- whether configurationDone stops where the run stands

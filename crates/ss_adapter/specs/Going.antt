@@ -1,49 +1,76 @@
 -- What the movements of a request are: those of the debugger, and no others.
-use Rattle.std.specs.Prelude.{ℕ, List, Option, Some, None, if◌then◌else◌}
+use Rattle.std.specs.Prelude.{ℕ, List, [], Option, Some, None, slice_get, unwrap_or, if◌then◌else◌}
 use Rattle.ss_machine.specs.Run.{Input}
 use Rattle.ss_debug.specs.declared.limits.TheConstants.{GREATEST_BOUND}
 use Rattle.ss_debug.specs.declared.commands.Command.TheVariants.{Move}
 use Rattle.ss_debug.specs.declared.commands.Movement.TheVariants.{Step, Run, Back, BackBreak}
-use Rattle.ss_debug.specs.declared.commands.Question.{Question}
 use Rattle.ss_debug.specs.Turn as debugger
 use Rattle.ss_debug.specs.Turn.{DebuggerState}
 use Rattle.ss_trace.specs.Turn as trace
-use Rattle.ss_trace.specs.declared.movement.Movement.TheVariants.{Over, Out, BackOver, Go, RunChange, BackChange}
-use Rattle.ss_trace.specs.declared.question.Question.TheVariants.{Shown}
+use Rattle.ss_trace.specs.declared.movement.Movement.TheVariants.{Over, Out, BackOver, Go}
+use Rattle.ss_trace.specs.declared.question.Question.{Question}
 use Rattle.ss_messages.specs.declared.request.Command.{Command}
 use Rattle.ss_messages.specs.declared.request.Command.TheVariants.{Continue, Next, StepIn, StepOut, StepBack}
 use Rattle.ss_messages.specs.declared.request.Command.TheVariants.{ReverseContinue, Restart}
 use Rattle.ss_adapter.specs.declared.going.Going.{Going}
-use Rattle.ss_adapter.specs.declared.going.Going.TheVariants.{Standing, Traced}
+use Rattle.ss_adapter.specs.declared.going.Going.TheVariants.{Standing, Traced, Watched}
+use Rattle.ss_adapter.specs.declared.reach.Way.{Way}
+use Rattle.ss_adapter.specs.declared.reach.Way.TheVariants as way
+use Rattle.ss_adapter.specs.Looking.{question_of}
+use Rattle.ss_adapter.specs.Reach.{change_movement, nearest_place, says_change}
 
 -- the state of the debugger behind a movement
 abbrev pub state_behind : Input → DebuggerState → Going → DebuggerState
 state_behind t d (Standing m) = debugger.debugger_state_after t d (Move m)
 state_behind t d (Traced m) = trace.state_after t d m
+state_behind t d (Watched place m) = trace.state_after t d m
 
 -- what the debugger answers
 abbrev pub going_answer : Input → DebuggerState → Going → List ℕ
 going_answer t d (Standing m) = debugger.answer t d (Move m)
 going_answer t d (Traced m) = trace.answer t d m
+going_answer t d (Watched place m) = trace.answer t d m
 
--- the movement forward to where the run stops: RUN, or RUN CHANGE where a question is a data break point
-abbrev pub run_going : Option Question → Going
-run_going None = Standing (Run GREATEST_BOUND)
-run_going (Some q) = Traced (RunChange (Shown q))
+-- the place of the data break point to whose change a movement goes
+abbrev pub place_of : Going → Option ℕ
+place_of (Watched place m) = Some place
+place_of _ = None
 
--- the movement back: BACK BREAK, or BACK CHANGE
-abbrev pub back_going : Option Question → Going
-back_going None = Standing BackBreak
-back_going (Some q) = Traced (BackChange (Shown q))
+-- that place, where the movement ended at a change, by its answer
+abbrev pub place_met : Option ℕ → List ℕ → Option ℕ
+place_met None answer = None
+place_met (Some place) answer = if says_change answer then Some place else None
 
--- the movement that a request asks for, where a question may be a data break point: OVER, STEP, OUT; BACK OVER, or BACK
--- for a single step; GO 0
-abbrev pub going_of : Option Question → Command → Option Going
-going_of watched Continue = Some (run_going watched)
-going_of watched Next = Some (Traced (Over 1))
-going_of watched StepIn = Some (Standing (Step 1))
-going_of watched StepOut = Some (Traced Out)
-going_of watched (StepBack single) = Some (if single then Standing (Back 1) else Traced (BackOver 1))
-going_of watched ReverseContinue = Some (back_going watched)
-going_of watched Restart = Some (Traced (Go 0))
-going_of watched _ = None
+-- the place of the data break point at whose change a movement ended
+abbrev pub watched_by : Going → List ℕ → Option ℕ
+watched_by g answer = place_met (place_of g) answer
+
+-- the movement to where the run stops, or back to there: RUN, BACK BREAK
+abbrev pub plain_going : Way → Going
+plain_going way.Forward = Standing (Run GREATEST_BOUND)
+plain_going way.Back = Standing BackBreak
+
+-- to where a question changes that is the data break point in this place
+abbrev pub change_going : Way → ℕ → Option Question → Going
+change_going w place None = plain_going w
+change_going w place (Some x) = Watched place (change_movement w x)
+
+-- to the change of the data break point in this place
+abbrev pub watched_going : Way → List (List ℕ) → Option ℕ → Going
+watched_going w watched None = plain_going w
+watched_going w watched (Some place) = change_going w place (question_of (unwrap_or (slice_get watched place) []))
+
+-- to where the run stops: with data break points it is RUN CHANGE or BACK CHANGE for the one whose change is nearest
+abbrev pub run_going : Input → DebuggerState → List (List ℕ) → Way → Going
+run_going t d watched w = watched_going w watched (nearest_place t d w watched)
+
+-- the movement that a request asks for: OVER, STEP, OUT; BACK OVER, or BACK for a single step; GO 0
+abbrev pub going_of : Input → DebuggerState → List (List ℕ) → Command → Option Going
+going_of t d watched Continue = Some (run_going t d watched way.Forward)
+going_of t d watched Next = Some (Traced (Over 1))
+going_of t d watched StepIn = Some (Standing (Step 1))
+going_of t d watched StepOut = Some (Traced Out)
+going_of t d watched (StepBack single) = Some (if single then Standing (Back 1) else Traced (BackOver 1))
+going_of t d watched ReverseContinue = Some (run_going t d watched way.Back)
+going_of t d watched Restart = Some (Traced (Go 0))
+going_of t d watched _ = None

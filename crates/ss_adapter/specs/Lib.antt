@@ -1,7 +1,10 @@
 pub mod Desk
+pub mod Words
+pub mod Completions
 pub mod Places
-pub mod Going
 pub mod Looking
+pub mod Reach
+pub mod Going
 pub mod Watch
 pub mod Turn
 pub mod Before

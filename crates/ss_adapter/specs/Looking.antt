@@ -1,6 +1,6 @@
 -- What the debugger's states show: the bodies of replies, each read off one state of the run.
 use Rattle.std.specs.Prelude.{ℕ, ◌+◌, ◌-◌, List, [], ◌∷◌, ◌++◌, codes, nat_eq}
-use Rattle.std.specs.Prelude.{Option, Some, None, if◌then◌else◌}
+use Rattle.std.specs.Prelude.{Option, Some, None, if◌then◌else◌, bytes_eq}
 use Rattle.std.specs.Option.{option_or}
 use Rattle.ss_words.specs.Faults.{run_fault_number}
 use Rattle.ss_sentences.specs.Wording.{fault_sentence}
@@ -9,11 +9,15 @@ use Rattle.ss_machine.specs.declared.status.Status.TheVariants.{Ready, Stopped, 
 use Rattle.ss_machine.specs.Run.{Input, run}
 use Rattle.ss_debug.specs.declared.commands.Command.{Command}
 use Rattle.ss_debug.specs.declared.commands.Command.TheVariants.{Show}
-use Rattle.ss_debug.specs.declared.commands.Question.{Question}
+use Rattle.ss_debug.specs.declared.commands.Question.TheVariants.{Entity, Variable}
 use Rattle.ss_debug.specs.Command.{command_of}
 use Rattle.ss_debug.specs.Answer.{status_text}
-use Rattle.ss_debug.specs.Move.{is_on_break}
+use Rattle.ss_debug.specs.Move.{is_on_break, line_at}
+use Rattle.ss_trace.specs.declared.question.Question.{Question}
+use Rattle.ss_trace.specs.declared.question.Question.TheVariants.{Shown, Attribute}
 use Rattle.ss_messages.specs.Bodies.{exception_body}
+use Rattle.ss_adapter.specs.Places.{line_id}
+use Rattle.ss_adapter.specs.Words.{before_word, last_word}
 
 -- ---- where the run stands
 
@@ -34,6 +38,10 @@ reason_by (Faulted f) ready = codes "exception"
 abbrev pub reason_at : Input → List ℕ → ℕ → List ℕ
 reason_at t breaks p = reason_by (run t p).status (ready_reason t breaks p)
 
+-- the break line at which it stops, where that is why
+abbrev pub hit_at : Input → List ℕ → ℕ → Option ℕ
+hit_at t breaks p = if bytes_eq (reason_at t breaks p) (codes "breakpoint") then line_id (line_at t p) else None
+
 -- the fault of a status
 abbrev pub exception_by : Status → Option (List ℕ)
 exception_by (Faulted f) = Some (exception_body (status_text (Faulted f)) (fault_sentence (run_fault_number f)))
@@ -41,18 +49,29 @@ exception_by _ = None
 
 -- ---- questions
 
+-- what a text says behind SHOW
+abbrev pub shown : List ℕ → Command
+shown text = command_of (codes "SHOW " ++ text)
+
+-- what it says as the name of a variable
+abbrev pub shown_name : List ℕ → Command
+shown_name text = command_of (codes "SHOW VAR " ++ text)
+
 -- the question of a command
 abbrev pub question_in : Command → Option Question
-question_in (Show q) = Some q
+question_in (Show q) = Some (Shown q)
 question_in _ = None
 
--- the question that an expression is: what stands behind SHOW, or the name of a variable
+-- c k a: an entity as SHOW takes it, and the name of an attribute
+abbrev pub attribute_in : Command → Command → Option Question
+attribute_in (Show (Entity class x)) (Show (Variable name)) = Some (Attribute class x name)
+attribute_in _ _ = None
+
+-- the same as a text: the name is its last word
+abbrev pub attribute_of : List ℕ → Option Question
+attribute_of text = attribute_in (shown (before_word text)) (shown_name (last_word text))
+
+-- the question that an expression is: what stands behind SHOW, an attribute, or the name of a variable
 abbrev pub question_of : List ℕ → Option Question
 question_of text =
-    option_or (question_in (command_of (codes "SHOW " ++ text)))
-    (question_in (command_of (codes "SHOW VAR " ++ text)))
-
--- the question of a text, if it says any
-abbrev pub watched_of : List ℕ → Option Question
-watched_of [] = None
-watched_of (b ∷ bs) = question_of (b ∷ bs)
+    option_or (question_in (shown text)) (option_or (attribute_of text) (question_in (shown_name text)))

@@ -1,5 +1,5 @@
 -- Lines of the model on which a place stands, and the break lines of a request.
-use Rattle.std.specs.Prelude.{ℕ, ◌≡◌, ◌^◌, Bool, ◌&&◌, List, [], ◌∷◌, ◌++◌, codes, map, flat_map, fold}
+use Rattle.std.specs.Prelude.{ℕ, ◌≡◌, ◌+◌, ◌^◌, Bool, ◌&&◌, List, [], ◌∷◌, ◌++◌, codes, map, flat_map, fold}
 use Rattle.std.specs.Prelude.{Option, Some, None, option_and_then, position, slice_get}
 use Rattle.std.specs.Prelude.{if◌then◌else◌, nat_le, nat_lt}
 use Rattle.std.specs.Str.{bytes_eq}
@@ -9,6 +9,7 @@ use Rattle.ss_debug.specs.BreakLines.{breaks_after_set, without_line}
 use Rattle.ss_debug.specs.Answer.{break_text}
 use Rattle.ss_debug.specs.Turn.{DebuggerState, debugger_state_with}
 use Rattle.ss_messages.specs.Bodies.{set_item, unset_item}
+use Rattle.ss_adapter.specs.declared.desk.TheConstants.{WATCH_LIMIT}
 
 -- the lines of the places of a section
 abbrev pub section_lines : SectionTable → List ℕ
@@ -31,6 +32,10 @@ nearer from nearest line = if nat_le from line && is_nearer line nearest then So
 unfoldable pub next_line : ProgramTable → ℕ → Option ℕ
 next_line p from = fold (nearer from) None (place_lines p)
 
+-- the number of the break point of a line, behind those of data break points
+abbrev pub line_id : ℕ → Option ℕ
+line_id line = if nat_lt line (2 ^ 32) then Some (line + WATCH_LIMIT) else None
+
 -- break lines that a request sets, one by one
 pub record Setting : Type 0 where
   -- the break lines
@@ -52,7 +57,7 @@ with_break s line =
     else record {
       breaks = breaks_after_set s.breaks line;
       set = s.set ++ line ∷ [];
-      text = s.text ++ set_item line;
+      text = s.text ++ set_item (line + WATCH_LIMIT) line;
     }
 
 -- a break line, if there is one, or this reason why there is none

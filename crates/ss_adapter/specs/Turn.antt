@@ -1,15 +1,17 @@
 -- One turn of the adapter: what a request is answered with, and where it leads.
-use Rattle.std.specs.Prelude.{ℕ, max, true, List, [], ◌∷◌, ◌++◌, codes, drop, length, take, nat_lt, nat_eq}
-use Rattle.std.specs.Prelude.{Option, Some, None, if◌then◌else◌}
+use Rattle.std.specs.Prelude.{ℕ, ◌+◌, max, true, List, [], ◌∷◌, ◌++◌, codes, drop, length, take, nat_lt, nat_eq}
+use Rattle.std.specs.Prelude.{Option, Some, None, slice_get, if◌then◌else◌}
+use Rattle.ss_program.specs.Program.{ProgramTable}
 use Rattle.ss_machine.specs.State.{State}
 use Rattle.ss_machine.specs.Run.{Input, run}
 use Rattle.ss_debug.specs.declared.commands.Command.{Command as Line}
 use Rattle.ss_debug.specs.declared.commands.Command.TheVariants.{Move}
-use Rattle.ss_debug.specs.declared.commands.Question.{Question}
 use Rattle.ss_debug.specs.Command.{command_of}
 use Rattle.ss_debug.specs.Answer.{state_line}
-use Rattle.ss_debug.specs.Turn.{DebuggerState, debugger_state_after, debugger_state_with, answer, show_answer}
+use Rattle.ss_debug.specs.Turn.{DebuggerState, debugger_state_after, debugger_state_with, answer}
 use Rattle.ss_debug.specs.View.{DebuggerView, debugger_state_of}
+use Rattle.ss_trace.specs.declared.question.Question.{Question}
+use Rattle.ss_trace.specs.Question.{answer_at}
 use Rattle.ss_messages.specs.declared.request.Command.{Command}
 use Rattle.ss_messages.specs.declared.request.Command.TheVariants.{Initialize, Launch, ConfigurationDone}
 use Rattle.ss_messages.specs.declared.request.Command.TheVariants.{SetBreakpoints, SetFunctionBreakpoints}
@@ -30,8 +32,10 @@ use Rattle.ss_adapter.specs.declared.going.Going.{Going}
 use Rattle.ss_adapter.specs.declared.going.Going.TheVariants.{Standing}
 use Rattle.ss_adapter.specs.declared.turns.Further.{Further}
 use Rattle.ss_adapter.specs.declared.turns.Further.TheVariants as further
-use Rattle.ss_adapter.specs.Going.{going_of, run_going, state_behind, going_answer}
-use Rattle.ss_adapter.specs.Looking.{reason_at, exception_by, question_of, watched_of}
+use Rattle.ss_adapter.specs.declared.reach.Way.TheVariants.{Forward}
+use Rattle.ss_adapter.specs.Going.{going_of, run_going, state_behind, going_answer, watched_by}
+use Rattle.ss_adapter.specs.Looking.{reason_at, hit_at, exception_by, question_of}
+use Rattle.ss_adapter.specs.Completions.{completions}
 use Rattle.ss_adapter.specs.Places.{Setting, setting_of, section_setting_of}
 use Rattle.ss_adapter.specs.Watch.{watching_of, info_of}
 use Rattle.ss_adapter.specs.Desk.{DeskView}
@@ -75,28 +79,53 @@ untold told report =
     then event (codes "output") (output_body (codes "stdout") (drop told report)) ∷ []
     else []
 
--- the run stands where the debugger is, for this reason
-abbrev pub stopped : List ℕ → List ℕ → Sent
-stopped reason text = event (codes "stopped") (stopped_body reason text)
+-- the run stands where the debugger is, for this reason, and at the break point of this number, if at one
+abbrev pub stopped : List ℕ → List ℕ → Option ℕ → Sent
+stopped reason text hit = event (codes "stopped") (stopped_body reason text hit)
 
--- what follows a movement to d, of which this is the answer: first what was printed, then where it stopped
-abbrev pub behind_movement : Input → ℕ → DebuggerState → List ℕ → List Sent
-behind_movement t told d text =
-    untold told (report_at t d) ++ stopped (reason_at t d.breaks d.position) (without_last text) ∷ []
+-- what is said at the change of a question: the movement's answer, and the question
+abbrev pub change_text : List ℕ → List ℕ → List ℕ
+change_text answer question = without_last answer ++ codes ": " ++ question
+
+-- the movement with this answer ended at the change of the data break point in this place, which is number 1 more
+abbrev pub changed : List ℕ → ℕ → List ℕ → Sent
+changed answer place question = stopped (codes "data breakpoint") (change_text answer question) (Some (place + 1))
+
+-- it ended where the debugger is
+abbrev pub ended : Input → DebuggerState → List ℕ → Sent
+ended t d answer =
+    stopped (reason_at t d.breaks d.position) (without_last answer) (hit_at t d.breaks d.position)
+
+-- the one or the other, by the data break point in that place, if there is one
+abbrev pub end_by : Input → DebuggerState → List ℕ → ℕ → Option (List ℕ) → Sent
+end_by t d answer place None = ended t d answer
+end_by t d answer place (Some question) = changed answer place question
+
+-- by the place, if it ended at a change
+abbrev pub end_of : Input → DebuggerState → List (List ℕ) → List ℕ → Option ℕ → Sent
+end_of t d watched answer None = ended t d answer
+end_of t d watched answer (Some place) = end_by t d answer place (slice_get watched place)
+
+-- what follows a movement to d with this answer: first what was printed, then where it stopped
+abbrev pub behind_movement : Input → DeskView → DebuggerState → List ℕ → Option ℕ → List Sent
+behind_movement t k d answer place = untold k.told (report_at t d) ++ end_of t d k.watched answer place ∷ []
+
+-- what follows a movement by its answer
+abbrev pub behind_going : AdapterState → Going → List ℕ → List Sent
+behind_going s g answer =
+    behind_movement s.input s.desk (state_behind s.input s.debugger g) answer (watched_by g answer)
 
 -- a reply with a body, and a movement behind it
 abbrev pub gone : AdapterState → List ℕ → Going → List Sent
-gone s body g =
-    reply body
-    ∷ behind_movement s.input s.desk.told (state_behind s.input s.debugger g) (going_answer s.input s.debugger g)
+gone s body g = reply body ∷ behind_going s g (going_answer s.input s.debugger g)
 
--- RUN, or RUN CHANGE where a question is a data break point
+-- to where the run stops
 abbrev pub running : AdapterState → Going
-running s = run_going (watched_of s.desk.watched)
+running s = run_going s.input s.debugger s.desk.watched Forward
 
 -- a reply, and where the run stands
 abbrev pub here : Input → ℕ → List ℕ → List Sent
-here t p reason = reply (codes "{}") ∷ stopped reason (without_last (state_line t p)) ∷ []
+here t p reason = reply (codes "{}") ∷ stopped reason (without_last (state_line t p)) None ∷ []
 
 -- a line that is obeyed: its answer, and, behind a movement, where it stopped
 abbrev pub obeyed : AdapterState → Line → List Sent
@@ -105,7 +134,7 @@ obeyed s line = reply (result_body (answer s.input s.debugger line)) ∷ []
 
 -- a question that is answered
 abbrev pub asked : Input → ℕ → Option Question → List Sent
-asked t p (Some q) = reply (result_body (without_last (show_answer t p q))) ∷ []
+asked t p (Some q) = reply (result_body (without_last (answer_at t q p))) ∷ []
 asked t p None = failure (codes "no question") ∷ []
 
 -- what is told of a fault
@@ -145,6 +174,10 @@ abbrev pub framed : Input → State → List ℕ → ℕ → ℕ → List Sent
 framed t s path start levels =
     reply (frames_body (frames_page t.program s path start levels) (frame_count s)) ∷ []
 
+-- the words that may stand where a word is typed, by the section that runs
+abbrev pub completed : ProgramTable → State → List ℕ → ℕ → List Sent
+completed p s text column = reply (list_body (codes "targets") (completions p s.frame.section text column)) ∷ []
+
 -- what a request is answered with that asks about the run
 unfoldable pub looked : AdapterState → Command → List Sent
 looked s Initialize = reply CAPABILITIES.now ∷ []
@@ -155,8 +188,8 @@ looked s (Scopes frame) =
     reply (list_body (codes "scopes") (scopes_text s.input s.debugger.position frame)) ∷ []
 looked s (Variables wanted) =
     reply (list_body (codes "variables") (variables_text s.input s.debugger.position wanted)) ∷ []
-looked s (DataBreakpointInfo reference name) = reply (info_of reference name) ∷ []
-looked s (Completions text) = failure (codes "unknown request") ∷ []
+looked s (DataBreakpointInfo reference name) = reply (info_of s.input.program reference name) ∷ []
+looked s (Completions text column) = completed s.input.program (run s.input s.debugger.position) text column
 looked s (Ask text) = asked s.input s.debugger.position (question_of text)
 looked s (Source reference) = source_messages (report_at s.input s.debugger) reference
 looked s LoadedSources = reply (sources_body s.desk.path) ∷ []
@@ -183,7 +216,7 @@ answers_by s command None = told_of s command
 
 -- what a request is answered with
 abbrev pub answers : AdapterState → Command → List Sent
-answers s command = answers_by s command (going_of (watched_of s.desk.watched) command)
+answers s command = answers_by s command (going_of s.input s.debugger s.desk.watched command)
 
 -- ---- where a request leads
 
@@ -223,8 +256,8 @@ behind_sections s setting = record {
   };
 }
 
--- behind a data break point
-abbrev pub behind_watching : AdapterState → List ℕ → AdapterState
+-- behind data break points
+abbrev pub behind_watching : AdapterState → List (List ℕ) → AdapterState
 behind_watching s watched = record {
   input = s.input;
   debugger = s.debugger;
@@ -274,7 +307,7 @@ state_by s command None = left_by s command
 
 -- behind a request
 abbrev pub state_after : AdapterState → Command → AdapterState
-state_after s command = state_by s command (going_of (watched_of s.desk.watched) command)
+state_after s command = state_by s command (going_of s.input s.debugger s.desk.watched command)
 
 -- whether the session goes on
 abbrev pub further_of : Command → Further

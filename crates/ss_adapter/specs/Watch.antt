@@ -1,18 +1,27 @@
--- The question that is a data break point: the first that a request names.
-use Rattle.std.specs.Prelude.{ℕ, ◌≡◌, ◌&&◌, Bool, true, false, List, [], ◌++◌, codes, fold, is_some, nat_eq, length}
-use Rattle.std.specs.Prelude.{if◌then◌else◌}
-use Rattle.ss_messages.specs.Bodies.{unset_item}
+-- The questions that are data break points, and which part of a state has one.
+use Rattle.std.specs.Prelude.{ℕ, ◌≡◌, ◌+◌, Bool, true, false, List, [], ◌∷◌, ◌++◌, codes, decimal, fold}
+use Rattle.std.specs.Prelude.{Option, Some, None, is_some, nat_eq, nat_lt, length, if◌then◌else◌}
+use Rattle.std.specs.Str.{bytes_eq}
+use Rattle.ss_program.specs.declared.kinds.Owner.{Owner}
+use Rattle.ss_program.specs.declared.kinds.Owner.TheVariants.{System, OwnedBy}
+use Rattle.ss_program.specs.Program.{ProgramTable, class_of, set_of}
+use Rattle.ss_debug.specs.Entities.{set_named}
+use Rattle.ss_messages.specs.Bodies.{watched_item, unset_item}
 use Rattle.ss_messages.specs.Shown.{info_body, no_info_body}
 use Rattle.ss_scopes.specs.declared.group.Group.{Group}
-use Rattle.ss_scopes.specs.declared.group.Group.TheVariants.{Nothing, Globals, Locals}
+use Rattle.ss_scopes.specs.declared.group.Group.TheVariants.{Globals, Sets, Events, Data, Run}
+use Rattle.ss_scopes.specs.declared.group.Group.TheVariants.{Locals, Entity, Set}
 use Rattle.ss_scopes.specs.References.{group_of}
-use Rattle.ss_adapter.specs.declared.fixed.TheConstants.{WATCHED}
+use Rattle.ss_adapter.specs.declared.desk.TheConstants.{WATCH_LIMIT}
 use Rattle.ss_adapter.specs.Looking.{question_of}
+use Rattle.ss_adapter.specs.Words.{last_word}
+
+-- ---- data break points of a request
 
 -- data break points that a request names, one by one
 pub record Watching : Type 0 where
-  -- the question that is one; empty where there is none
-  pub watched : List ℕ
+  -- the questions that are some
+  pub watched : List (List ℕ)
   -- what the reply says of each
   pub text : List ℕ
 
@@ -20,12 +29,13 @@ pub record Watching : Type 0 where
 abbrev pub unwatched : Watching → List ℕ → Watching
 unwatched w reason = record { watched = w.watched; text = w.text ++ unset_item reason }
 
--- one more, which is a question or is none
+-- one more, which is a question or is none: its number is its place, counted from 1 on
 abbrev pub with_question : Watching → List ℕ → Bool → Watching
 with_question w id false = unwatched w (codes "no question")
 with_question w id true =
-    if nat_eq (length w.watched) 0 then record { watched = id; text = w.text ++ WATCHED.now }
-    else unwatched w (codes "one data break point at a time")
+    if nat_lt (length w.watched) WATCH_LIMIT
+    then record { watched = w.watched ++ id ∷ []; text = w.text ++ watched_item (length w.watched + 1) }
+    else unwatched w (codes "too many data break points")
 
 -- one more
 unfoldable pub with_watched : Watching → List ℕ → Watching
@@ -36,18 +46,78 @@ abbrev pub watching_of : List (List ℕ) → Watching
 watching_of ids = fold with_watched (record { watched = []; text = [] }) ids
 
 -- what was set, and what is said of it
-abbrev pub IsWatching : List ℕ → List ℕ → Watching → Type 0
+abbrev pub IsWatching : List (List ℕ) → List ℕ → Watching → Type 0
 IsWatching watched text w = (watched ≡ w.watched) × (text ≡ w.text)
 
--- whether what a group holds has the names of variables; none has those of questions
-abbrev pub names_variables : Group → Bool
-names_variables Nothing = true
-names_variables Globals = true
-names_variables (Locals depth) = true
-names_variables _ = false
+-- ---- what is shown
 
--- whether a name in a reference may be a data break point
-abbrev pub info_of : ℕ → List ℕ → List ℕ
-info_of reference name =
-    if names_variables (group_of reference) && is_some (question_of name) then info_body name
-    else no_info_body (codes "no question")
+-- the question on a set of this name for owner number k
+abbrev pub list_asked : List ℕ → ℕ → List ℕ
+list_asked name k = codes "SET " ++ name ++ codes " " ++ decimal k
+
+-- the question on an attribute of entity number k of a class of this name
+abbrev pub attribute_asked : List ℕ → ℕ → List ℕ → List ℕ
+attribute_asked class k name = class ++ codes " " ++ decimal k ++ codes " " ++ name
+
+-- the question on what entity number k of class c has under a name: a list, or an attribute
+abbrev pub entity_asked_by : ProgramTable → ℕ → ℕ → List ℕ → Option ℕ → List ℕ
+entity_asked_by p c k name None = attribute_asked (class_of p c).name k name
+entity_asked_by p c k name (Some set) = list_asked name k
+
+-- the same, if there is such a class
+abbrev pub entity_asked : ProgramTable → ℕ → ℕ → List ℕ → List ℕ
+entity_asked p c k name =
+    if nat_lt c (length p.classes) then entity_asked_by p c k name (set_named p name) else []
+
+-- the question on a set of this name, where the system owns it
+abbrev pub set_asked_by : List ℕ → Owner → List ℕ
+set_asked_by name System = codes "SET " ++ name
+set_asked_by name (OwnedBy c) = []
+
+-- the same, if there is such a set
+abbrev pub set_asked : ProgramTable → List ℕ → Option ℕ → List ℕ
+set_asked p name None = []
+set_asked p name (Some s) = set_asked_by name (set_of p s).owner
+
+-- the question on the list of a set of this name for the owner whose number stands last in a name, if a class owns it
+abbrev pub owned_asked_by : List ℕ → List ℕ → Owner → List ℕ
+owned_asked_by set name System = []
+owned_asked_by set name (OwnedBy c) = codes "SET " ++ set ++ codes " " ++ last_word name
+
+-- the same of set number s, if there is one
+abbrev pub owned_asked : ProgramTable → ℕ → List ℕ → List ℕ
+owned_asked p s name =
+    if nat_lt s (length p.sets) then owned_asked_by (set_of p s).name name (set_of p s).owner else []
+
+-- the question on the variable of this name
+abbrev pub variable_asked : List ℕ → List ℕ
+variable_asked name = codes "VAR " ++ name
+
+-- the same of a local of the frame on which so many others stand: of the last one
+abbrev pub local_asked : List ℕ → ℕ → List ℕ
+local_asked name depth = if nat_eq depth 0 then variable_asked name else []
+
+-- the name of what the run shows, as a question
+abbrev pub run_asked : List ℕ → List ℕ
+run_asked name = if bytes_eq name (codes "STATE") then codes "WHERE" else name
+
+-- the question on what a group shows under a name, as it is asked; empty where the debugger has none
+abbrev pub asked_text : ProgramTable → List ℕ → Group → List ℕ
+asked_text p name Globals = variable_asked name
+asked_text p name (Locals depth) = local_asked name depth
+asked_text p name Sets = set_asked p name (set_named p name)
+asked_text p name Events = codes "EVENTS"
+asked_text p name Data = name
+asked_text p name Run = run_asked name
+asked_text p name (Entity c k) = entity_asked p c k name
+asked_text p name (Set s) = owned_asked p s name
+asked_text p name _ = []
+
+-- whether a text may be a data break point: where it is a question
+abbrev pub info_by : List ℕ → List ℕ
+info_by text = if is_some (question_of text) then info_body text else no_info_body (codes "no question")
+
+-- whether a name in a reference may be a data break point; without a reference it is an expression
+abbrev pub info_of : ProgramTable → ℕ → List ℕ → List ℕ
+info_of p reference name =
+    if nat_eq reference 0 then info_by name else info_by (asked_text p name (group_of reference))

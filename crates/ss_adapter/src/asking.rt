@@ -9,8 +9,9 @@ ghost use Rattle.ss_scopes.specs.Variables.{scopes_text, variables_text};
 ghost use Rattle.ss_adapter.specs.Looking.{exception_by, question_of};
 ghost use Rattle.ss_adapter.specs.Watch.{info_of};
 ghost use Rattle.ss_adapter.specs.Turn.{adapter_state_of, report_at, asked, excepted, source_messages, framed};
-ghost use Rattle.ss_adapter.specs.Turn.{looked, terminated};
+ghost use Rattle.ss_adapter.specs.Turn.{looked, completed, terminated};
 
+use crate::completions::completions;
 use crate::desk::Desk;
 use crate::fixed::{CAPABILITIES, NO_EXIT, THREADS};
 use crate::looking::{exception, question};
@@ -22,11 +23,35 @@ use ss_messages::{
     Command, NOTHING, Post, Request, Wanted, content_body, frames_body, list_body, result_body,
     sources_body, without_last,
 };
+use ss_program::Program;
 use ss_scopes::{push_frames, push_scopes, push_variables};
+use ss_trace::{Question, push_answer};
 use std::alloc::AllocError;
 
-/// Answers a question.
+/// Answers a question, if there is one.
 #[tactic(auto, unfolding(ss_messages::specs::Messages::posted_all))]
+fn answer_question<S: SetBoard>(
+    debugger: &Debugger<S>,
+    request: &Request,
+    post: &mut Post,
+    question: Option<Question>,
+) -> Result<(), AllocError>
+    requires { post.old.sent < 2 ^ 64 - 1 }
+    ensures { OnOk result (post.new ≡ posted_all request.now post.old
+        (asked debugger.now.machine.input (position debugger.now.machine) question)) }
+{
+    match question {
+        Some(question) => {
+            let mut answer = Vec::new(post.alloc());
+            push_answer(debugger, &question, &mut answer)?;
+            let body = result_body(post.alloc(), without_last(&answer))?;
+            post.reply(request, &body)
+        }
+        None => post.fail(request, b"no question"),
+    }
+}
+
+/// Answers the question that an expression is.
 fn ask<S: SetBoard>(
     debugger: &Debugger<S>,
     request: &Request,
@@ -37,14 +62,8 @@ fn ask<S: SetBoard>(
     ensures { OnOk result (post.new ≡ posted_all request.now post.old
         (asked debugger.now.machine.input (position debugger.now.machine) (question_of text.now))) }
 {
-    match question(post.alloc(), text)? {
-        Some(question) => {
-            let answer = debugger.answer_to(&question)?;
-            let body = result_body(post.alloc(), without_last(&answer))?;
-            post.reply(request, &body)
-        }
-        None => post.fail(request, b"no question"),
-    }
+    let question = question(post.alloc(), text)?;
+    answer_question(debugger, request, post, question)
 }
 
 /// Tells of the fault where the run stands.
@@ -155,16 +174,39 @@ fn tell_variables<S: SetBoard>(
 /// Tells whether a name in a reference may be a data break point.
 #[tactic(auto, unfolding(ss_messages::specs::Messages::posted_all))]
 fn tell_info(
+    program: &Program,
     request: &Request,
     post: &mut Post,
     reference: u64,
     name: &[u8],
 ) -> Result<(), AllocError>
     requires { post.old.sent < 2 ^ 64 - 1 }
-    ensures { OnOk result (post.new
-        ≡ posted_all request.now post.old (reply (info_of reference name.now) ∷ [])) }
+    ensures { OnOk result (post.new ≡ posted_all request.now post.old
+        (reply (info_of program.now reference name.now) ∷ [])) }
 {
-    let body = info(post.alloc(), reference, name)?;
+    let body = info(post.alloc(), program, reference, name)?;
+    post.reply(request, &body)
+}
+
+/// Tells the words that may stand where a word is typed.
+#[tactic(auto, unfolding(ss_messages::specs::Messages::posted_all))]
+fn tell_completions<S: SetBoard>(
+    debugger: &Debugger<S>,
+    request: &Request,
+    post: &mut Post,
+    text: &[u8],
+    column: u64,
+) -> Result<(), AllocError>
+    requires { post.old.sent < 2 ^ 64 - 1 }
+    ensures { OnOk result (post.new ≡ posted_all request.now post.old (completed
+        debugger.now.machine.input.program
+        (run debugger.now.machine.input (position debugger.now.machine)) text.now column)) }
+{
+    let machine = debugger.machine();
+    machine.known();
+    let (section, _) = machine.place();
+    let items = completions(post.alloc(), machine.program(), section, text, column)?;
+    let body = list_body(post.alloc(), b"targets", &items)?;
     post.reply(request, &body)
 }
 
@@ -201,9 +243,12 @@ pub fn look<S: SetBoard>(
         Command::Scopes(frame) => tell_scopes(debugger, request, post, *frame),
         Command::Variables(wanted) => tell_variables(debugger, request, post, *wanted),
         Command::DataBreakpointInfo(reference, name) => {
-            tell_info(request, post, *reference, name.as_slice())
+            let program = debugger.machine().program();
+            tell_info(program, request, post, *reference, name.as_slice())
         }
-        Command::Completions(_) => post.fail(request, b"unknown request"),
+        Command::Completions(text, column) => {
+            tell_completions(debugger, request, post, text.as_slice(), *column)
+        }
         Command::Ask(text) => ask(debugger, request, post, text.as_slice()),
         Command::Source(reference) => tell_source(debugger, request, post, *reference),
         Command::LoadedSources => {

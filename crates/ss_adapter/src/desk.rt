@@ -1,8 +1,12 @@
 //! What the adapter keeps beside the debugger.
 ghost use Rattle.std.specs.Prelude.{◌≡◌, []};
 
+use ss_messages::Text;
 use std::alloc::Global;
 use std::marker::Model;
+
+/// The most data break points. Their numbers are 1 to this one; those of break lines come behind.
+pub const WATCH_LIMIT: usize = 8;
 
 /// What the adapter keeps beside the debugger.
 #[derive(Drop)]
@@ -13,8 +17,8 @@ pub struct Desk {
     pub(crate) set: Vec<u32>,
     /// Those that they set by sections.
     pub(crate) sections: Vec<u32>,
-    /// The question that is a data break point; empty where there is none.
-    pub(crate) watched: Vec<u8>,
+    /// The questions that are data break points, as they were asked.
+    pub(crate) watched: Vec<Text>,
     /// How much of the report is told.
     pub(crate) told: usize,
     /// Whether configurationDone stops where the run stands.

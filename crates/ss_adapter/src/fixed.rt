@@ -1,14 +1,17 @@
 //! Bodies that are always the same.
 
 /// What the adapter can do.
-pub const CAPABILITIES: &[u8] =
-    b"{\"supportsConfigurationDoneRequest\":true,\"supportsFunctionBreakpoints\":true,\"supportsDataBreakpoints\":true,\"supportsStepBack\":true,\"supportsSteppingGranularity\":true,\"supportsEvaluateForHovers\":true,\"supportsExceptionInfoRequest\":true,\"supportsLoadedSourcesRequest\":true,\"supportsDelayedStackTraceLoading\":true,\"supportsRestartRequest\":true,\"supportsTerminateRequest\":true,\"exceptionBreakpointFilters\":[{\"filter\":\"fault\",\"label\":\"Faults\",\"default\":true}]}";
+pub const CAPABILITIES: &[u8] = b"{\"supportsConfigurationDoneRequest\":true,\
+    \"supportsFunctionBreakpoints\":true,\"supportsDataBreakpoints\":true,\
+    \"supportsStepBack\":true,\"supportsSteppingGranularity\":true,\
+    \"supportsEvaluateForHovers\":true,\"supportsCompletionsRequest\":true,\
+    \"supportsExceptionInfoRequest\":true,\"supportsLoadedSourcesRequest\":true,\
+    \"supportsDelayedStackTraceLoading\":true,\"supportsRestartRequest\":true,\
+    \"supportsTerminateRequest\":true,\"exceptionBreakpointFilters\":\
+    [{\"filter\":\"fault\",\"label\":\"Faults\",\"default\":true}]}";
 
 /// The one thread.
 pub const THREADS: &[u8] = b"{\"threads\":[{\"id\":1,\"name\":\"the run\"}]}";
 
 /// exited.
 pub const NO_EXIT: &[u8] = b"{\"exitCode\":0}";
-
-/// A comma and a data break point that is set.
-pub const WATCHED: &[u8] = b",{\"verified\":true}";

@@ -1,13 +1,16 @@
 //! The movements of requests.
-ghost use Rattle.std.specs.Prelude.{◌≡◌, ◌++◌, OnOk};
+ghost use Rattle.std.specs.Prelude.{◌≡◌, ◌++◌, [], IfOk, OnOk};
 ghost use Rattle.ss_debug.specs.View.{debugger_state_of};
-ghost use Rattle.ss_adapter.specs.Going.{state_behind, going_answer, run_going, back_going, going_of};
+ghost use Rattle.ss_adapter.specs.Going.{state_behind, going_answer, place_of, place_met, watched_by};
+ghost use Rattle.ss_adapter.specs.Going.{plain_going, change_going, watched_going, run_going, going_of};
 
-use ss_debug::{Debugger, GREATEST_BOUND, Question, obey};
+use crate::looking::question;
+use crate::reach::{Way, change_movement, nearest_place, says_change};
+use ss_debug::{Debugger, GREATEST_BOUND, obey};
 use ss_links::SetBoard;
-use ss_messages::Command;
-use ss_trace::make_movement;
-use std::alloc::AllocError;
+use ss_messages::{Command, Text};
+use ss_trace::{Question, make_movement};
+use std::alloc::{AllocError, Global};
 
 /// A movement of the debugger.
 #[derive(Drop)]
@@ -16,48 +19,106 @@ pub enum Going {
     Standing(ss_debug::Movement),
     /// One beside them.
     Traced(ss_trace::Movement),
+    /// One to the change of the data break point in this place.
+    Watched(usize, ss_trace::Movement),
 }
 
-/// The movement forward to where the run stops: at a break line, or where the question changes that
-/// is a data break point.
-pub fn run_going(watched: Option<Question>) -> Going
-    ensures { result ≡ run_going watched }
-{
-    match watched {
-        None => Going::Standing(ss_debug::Movement::Run(GREATEST_BOUND)),
-        Some(question) => {
-            Going::Traced(ss_trace::Movement::RunChange(ss_trace::Question::Shown(question)))
+impl Going {
+    /// The place of the data break point to whose change the movement goes.
+    fn place(&self) -> Option<usize>
+        ensures { result ≡ place_of self.now }
+    {
+        match self {
+            Going::Watched(place, _) => Some(*place),
+            _ => None,
         }
     }
 }
 
-/// The movement back to a break line, or to where that question changes.
-fn back_going(watched: Option<Question>) -> Going
-    ensures { result ≡ back_going watched }
+/// The movement to where the run stops, or back to there.
+fn plain_going(way: Way) -> Going
+    ensures { result ≡ plain_going way }
 {
-    match watched {
-        None => Going::Standing(ss_debug::Movement::BackBreak),
-        Some(question) => {
-            Going::Traced(ss_trace::Movement::BackChange(ss_trace::Question::Shown(question)))
-        }
+    match way {
+        Way::Forward => Going::Standing(ss_debug::Movement::Run(GREATEST_BOUND)),
+        Way::Back => Going::Standing(ss_debug::Movement::BackBreak),
     }
+}
+
+/// The movement to where a question changes that is the data break point in this place.
+fn change_going(way: Way, place: usize, question: Option<Question>) -> Going
+    ensures { result ≡ change_going way place question }
+{
+    match question {
+        None => plain_going(way),
+        Some(question) => Going::Watched(place, change_movement(way, question)),
+    }
+}
+
+/// The movement to the change of the data break point in this place.
+fn watched_going(
+    alloc: Global,
+    way: Way,
+    watched: &[Text],
+    place: Option<usize>,
+) -> Result<Going, AllocError>
+    ensures { IfOk result (λ going. going ≡ watched_going way watched.now place) }
+{
+    let Some(place) = place else {
+        return Ok(plain_going(way));
+    };
+    let text = match watched.get(place) {
+        None => b"".as_slice(),
+        Some(text) => text.as_slice(),
+    };
+    Ok(change_going(way, place, question(alloc, text)?))
+}
+
+/// The movement to where the run stops, or back to there: at a break line, or where the nearest of
+/// the data break points changes.
+///
+/// `AllocError` where memory was refused; then the debugger may stand elsewhere in the same run.
+pub fn run_going<S: SetBoard>(
+    alloc: Global,
+    debugger: &mut Debugger<S>,
+    watched: &[Text],
+    way: Way,
+) -> Result<Going, AllocError>
+    ensures input { debugger.new.machine.input ≡ debugger.old.machine.input }
+    ensures state { OnOk result (debugger_state_of debugger.new
+        ≡ debugger_state_of debugger.old) }
+    ensures going { IfOk result (λ going. going ≡ run_going debugger.old.machine.input
+        (debugger_state_of debugger.old) watched.now way) }
+{
+    let place = nearest_place(alloc, debugger, way, watched)?;
+    watched_going(alloc, way, watched, place)
 }
 
 /// The movement that a request asks for.
-pub fn asked_movement(command: &Command, watched: Option<Question>) -> Option<Going>
-    ensures { result ≡ going_of watched command.now }
+pub fn asked_movement<S: SetBoard>(
+    alloc: Global,
+    debugger: &mut Debugger<S>,
+    watched: &[Text],
+    command: &Command,
+) -> Result<Option<Going>, AllocError>
+    ensures input { debugger.new.machine.input ≡ debugger.old.machine.input }
+    ensures state { OnOk result (debugger_state_of debugger.new
+        ≡ debugger_state_of debugger.old) }
+    ensures going { IfOk result (λ going. going ≡ going_of debugger.old.machine.input
+        (debugger_state_of debugger.old) watched.now command.now) }
 {
-    match command {
-        Command::Continue => Some(run_going(watched)),
-        Command::Next => Some(Going::Traced(ss_trace::Movement::Over(1))),
-        Command::StepIn => Some(Going::Standing(ss_debug::Movement::Step(1))),
-        Command::StepOut => Some(Going::Traced(ss_trace::Movement::Out)),
-        Command::StepBack(true) => Some(Going::Standing(ss_debug::Movement::Back(1))),
-        Command::StepBack(false) => Some(Going::Traced(ss_trace::Movement::BackOver(1))),
-        Command::ReverseContinue => Some(back_going(watched)),
-        Command::Restart => Some(Going::Traced(ss_trace::Movement::Go(0))),
-        _ => None,
-    }
+    let going = match command {
+        Command::Continue => run_going(alloc, debugger, watched, Way::Forward)?,
+        Command::Next => Going::Traced(ss_trace::Movement::Over(1)),
+        Command::StepIn => Going::Standing(ss_debug::Movement::Step(1)),
+        Command::StepOut => Going::Traced(ss_trace::Movement::Out),
+        Command::StepBack(true) => Going::Standing(ss_debug::Movement::Back(1)),
+        Command::StepBack(false) => Going::Traced(ss_trace::Movement::BackOver(1)),
+        Command::ReverseContinue => run_going(alloc, debugger, watched, Way::Back)?,
+        Command::Restart => Going::Traced(ss_trace::Movement::Go(0)),
+        _ => return Ok(None),
+    };
+    Ok(Some(going))
 }
 
 /// Makes a movement, and appends its whole answer.
@@ -78,5 +139,43 @@ pub fn make<S: SetBoard>(
             Ok(())
         }
         Going::Traced(movement) => make_movement(debugger, movement, answer),
+        Going::Watched(_, movement) => make_movement(debugger, movement, answer),
     }
+}
+
+/// The place of a data break point, where a movement ended at a change, by its answer.
+fn place_met(place: Option<usize>, answer: &[u8]) -> Option<usize>
+    ensures { result ≡ place_met place answer.now }
+{
+    match place {
+        None => None,
+        Some(place) => {
+            if says_change(answer) {
+                Some(place)
+            } else {
+                None
+            }
+        }
+    }
+}
+
+/// Makes a movement, and appends its answer; tells the place of the data break point at whose change
+/// it ended, if it did at one.
+pub fn make_watched<S: SetBoard>(
+    debugger: &mut Debugger<S>,
+    going: Going,
+    answer: &mut Vec<u8>,
+) -> Result<Option<usize>, AllocError>
+    requires { answer.old.items ≡ [] }
+    ensures input { debugger.new.machine.input ≡ debugger.old.machine.input }
+    ensures place { OnOk result (debugger_state_of debugger.new
+        ≡ state_behind debugger.old.machine.input (debugger_state_of debugger.old) going) }
+    ensures said { OnOk result (answer.new.items
+        ≡ going_answer debugger.old.machine.input (debugger_state_of debugger.old) going) }
+    ensures watched { IfOk result (λ place. place ≡ watched_by going
+        (going_answer debugger.old.machine.input (debugger_state_of debugger.old) going)) }
+{
+    let place = going.place();
+    make(debugger, going, answer)?;
+    Ok(place_met(place, answer))
 }

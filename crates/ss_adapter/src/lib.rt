@@ -4,18 +4,24 @@
 mod asking;
 mod before;
 mod breaks;
+mod completions;
 mod desk;
 mod fixed;
 mod going;
+mod laws;
 mod looking;
 mod moving;
 mod opening;
+mod reach;
 mod setting;
+mod shown;
 mod telling;
 mod turns;
 mod watch;
+mod words;
 
 pub use before::turn_before;
 pub use desk::Desk;
+pub use laws::{nearest_change_is_least, nearest_change_is_one_of_them};
 pub use opening::launch;
 pub use turns::{Further, turn};

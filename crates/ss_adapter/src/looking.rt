@@ -1,16 +1,22 @@
 //! What a state shows.
 ghost use Rattle.std.specs.Prelude.{◌≡◌, ◌++◌, ◌+◌, ◌<◌, codes, decimal, IfOk, option_map};
+ghost use Rattle.ss_debug.specs.Command.{command_of};
+ghost use Rattle.ss_debug.specs.Move.{line_at};
 ghost use Rattle.ss_machine.specs.Moment.{position};
 ghost use Rattle.ss_machine.specs.Run.{run};
-ghost use Rattle.ss_adapter.specs.Looking.{reason_at, exception_by};
-ghost use Rattle.ss_adapter.specs.Looking.{question_in, question_of, watched_of};
+ghost use Rattle.ss_adapter.specs.Looking.{reason_at, hit_at, exception_by};
+ghost use Rattle.ss_adapter.specs.Looking.{question_in, attribute_in, attribute_of, question_of};
+ghost use Rattle.ss_adapter.specs.Places.{line_id};
 
+use crate::desk::WATCH_LIMIT;
+use crate::words::{before_word, last_word};
 use itoa::Buffer;
-use ss_debug::{Command, Debugger, Question, command};
+use ss_debug::{Command, Debugger, Question as Shown, command};
 use ss_links::SetBoard;
 use ss_machine::{Machine, Status};
 use ss_messages::exception_body;
 use ss_sentences::fault_sentence;
+use ss_trace::Question;
 use std::alloc::{AllocError, Global};
 
 /// Why the run stops where it stands.
@@ -33,6 +39,36 @@ pub fn reason<S: SetBoard>(debugger: &Debugger<S>) -> &'static [u8]
             b"step"
         }
     }
+}
+
+/// The line of the place where the run stands.
+fn present_line<S: SetBoard>(machine: &Machine<S>) -> usize
+    ensures { result ≡ line_at machine.now.input (position machine.now) }
+{
+    machine.known();
+    let (section, place) = machine.place();
+    machine.program().spot(section, place).line
+}
+
+/// The number of the break point of a line.
+fn line_id(line: usize) -> Option<u64>
+    ensures { result ≡ line_id line }
+{
+    match u32::try_from(line) {
+        Ok(line) => Some(u64::from(line) + WATCH_LIMIT as u64),
+        Err(_) => None,
+    }
+}
+
+/// The break line at which the run stops, where that is why.
+pub fn hit<S: SetBoard>(debugger: &Debugger<S>) -> Option<u64>
+    ensures { result ≡ hit_at debugger.now.machine.input debugger.now.breaks
+        (position debugger.now.machine) }
+{
+    if reason(debugger) == b"breakpoint".as_slice() {
+        return line_id(present_line(debugger.machine()));
+    }
+    None
 }
 
 /// The word of a fault.
@@ -68,31 +104,52 @@ fn question_in(command: Command) -> Option<Question>
     ensures { result ≡ question_in command }
 {
     match command {
-        Command::Show(question) => Some(question),
+        Command::Show(question) => Some(Question::Shown(question)),
         _ => None,
     }
 }
 
-/// The question that an expression is: what stands behind SHOW, or the name of a variable.
+/// What a text says behind the beginning of a line.
+fn command_behind(alloc: Global, head: &'static [u8], text: &[u8]) -> Result<Command, AllocError>
+    ensures { IfOk result (λ line. line ≡ command_of (head.now ++ text.now)) }
+{
+    let mut line = Vec::from_slice(alloc, head)?;
+    line.extend_from_slice(text)?;
+    Ok(command(&line))
+}
+
+/// An entity as SHOW takes it, and the name of an attribute.
+fn attribute_in(entity: Command, name: Command) -> Option<Question>
+    ensures { result ≡ attribute_in entity name }
+{
+    let Command::Show(Shown::Entity(class, x)) = entity else {
+        return None;
+    };
+    let Command::Show(Shown::Variable(name)) = name else {
+        return None;
+    };
+    Some(Question::Attribute(class, x, name))
+}
+
+/// The attribute that an expression is, whose last word is its name.
+fn attribute(alloc: Global, text: &[u8]) -> Result<Option<Question>, AllocError>
+    ensures { IfOk result (λ question. question ≡ attribute_of text.now) }
+{
+    let entity = command_behind(alloc, b"SHOW ", before_word(text))?;
+    let name = command_behind(alloc, b"SHOW VAR ", last_word(text))?;
+    Ok(attribute_in(entity, name))
+}
+
+/// The question that an expression is: what stands behind SHOW, an attribute, or the name of a
+/// variable.
 pub fn question(alloc: Global, text: &[u8]) -> Result<Option<Question>, AllocError>
     ensures { IfOk result (λ question. question ≡ question_of text.now) }
 {
-    let mut line = Vec::from_slice(alloc, b"SHOW ")?;
-    line.extend_from_slice(text)?;
-    if let Some(question) = question_in(command(&line)) {
+    if let Some(question) = question_in(command_behind(alloc, b"SHOW ", text)?) {
         return Ok(Some(question));
     }
-    let mut line = Vec::from_slice(alloc, b"SHOW VAR ")?;
-    line.extend_from_slice(text)?;
-    Ok(question_in(command(&line)))
-}
-
-/// The question of a text, if it says any.
-pub fn watched(alloc: Global, text: &[u8]) -> Result<Option<Question>, AllocError>
-    ensures { IfOk result (λ watched. watched ≡ watched_of text.now) }
-{
-    if text.is_empty() {
-        return Ok(None);
+    if let Some(question) = attribute(alloc, text)? {
+        return Ok(Some(question));
     }
-    question(alloc, text)
+    Ok(question_in(command_behind(alloc, b"SHOW VAR ", text)?))
 }

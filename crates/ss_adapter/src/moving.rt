@@ -8,8 +8,8 @@ ghost use Rattle.ss_adapter.specs.Turn.{adapter_state_of, moved, gone, obeyed, b
 ghost use Rattle.ss_adapter.specs.Turn.{configuring, behind_configuring};
 
 use crate::desk::Desk;
-use crate::going::{Going, make, run_going};
-use crate::looking::watched;
+use crate::going::{Going, make, make_watched, run_going};
+use crate::reach::Way;
 use crate::telling::{tell_here, tell_movement};
 use ss_debug::{Debugger, obey};
 use ss_links::SetBoard;
@@ -34,9 +34,9 @@ pub fn go<S: SetBoard>(
         (state_behind debugger.old.machine.input (debugger_state_of debugger.old) going)) }
 {
     let mut answer = Vec::new(post.alloc());
-    make(debugger, going, &mut answer)?;
+    let changed = make_watched(debugger, going, &mut answer)?;
     post.reply(request, NOTHING)?;
-    tell_movement(debugger, desk, request, post, &answer)
+    tell_movement(debugger, desk, request, post, &answer, changed)
 }
 
 /// Makes a movement that a line says, whose answer is the result.
@@ -59,7 +59,7 @@ fn go_by_line<S: SetBoard>(
     make(debugger, Going::Standing(movement), &mut said)?;
     let body = result_body(post.alloc(), &said)?;
     post.reply(request, &body)?;
-    tell_movement(debugger, desk, request, post, &said)
+    tell_movement(debugger, desk, request, post, &said, None)
 }
 
 /// Obeys a line of the debugger.
@@ -107,7 +107,7 @@ pub fn configure<S: SetBoard>(
     if desk.stops {
         return tell_here(debugger, request, post, b"entry");
     }
-    let running = run_going(watched(post.alloc(), &desk.watched)?);
+    let running = run_going(post.alloc(), debugger, &desk.watched, Way::Forward)?;
     go(debugger, desk, request, post, running)?;
     desk.stops = true;
     Ok(())

@@ -89,7 +89,7 @@ pub fn set_section_breaks<S: SetBoard>(
     post.reply(request, &body)
 }
 
-/// Sets the data break point of a request.
+/// Sets the data break points of a request.
 #[tactic(auto, unfolding(ss_messages::specs::Messages::posted_all))]
 pub fn set_watch<S: SetBoard>(
     debugger: &Debugger<S>,

@@ -1,16 +1,17 @@
 //! What follows a movement: what was printed, and where the run stands.
-ghost use Rattle.std.specs.Prelude.{◌≡◌, ◌+◌, ◌-◌, ◌^◌, ◌<◌, ◌≤◌, OnOk};
+ghost use Rattle.std.specs.Prelude.{◌≡◌, ◌+◌, ◌-◌, ◌^◌, ◌<◌, ◌≤◌, slice_get, IfOk, OnOk, None};
 ghost use Rattle.ss_machine.specs.Moment.{position};
 ghost use Rattle.ss_debug.specs.View.{debugger_state_of};
 ghost use Rattle.ss_messages.specs.Messages.{posted, posted_all};
 ghost use Rattle.ss_adapter.specs.Turn.{told_with, report_at, untold, stopped, behind_movement, here};
+ghost use Rattle.ss_adapter.specs.Turn.{change_text, changed, ended, end_by, end_of};
 
 use crate::desk::Desk;
-use crate::looking::reason;
+use crate::looking::{hit, reason};
 use ss_debug::{Debugger, Question};
 use ss_links::SetBoard;
-use ss_messages::{NOTHING, Post, Request, output_body, stopped_body, without_last};
-use std::alloc::AllocError;
+use ss_messages::{NOTHING, Post, Request, Text, output_body, stopped_body, without_last};
+use std::alloc::{AllocError, Global};
 
 /// Sends the part of the report that is not told yet, and notes how much is.
 #[tactic(auto, unfolding(ss_messages::specs::Messages::posted_all))]
@@ -37,21 +38,115 @@ fn tell_report<S: SetBoard>(
     Ok(())
 }
 
-/// Sends that the run stands where it is, for this reason.
+/// Sends that the run stands where it is, for this reason, and at which break point, if it does at
+/// one.
 fn tell_stop(
     request: &Request,
     post: &mut Post,
     reason: &'static [u8],
     text: &[u8],
+    hit: Option<u64>,
 ) -> Result<(), AllocError>
     requires { post.old.sent < 2 ^ 64 - 1 }
-    ensures { OnOk result (post.new ≡ posted request.now post.old (stopped reason.now text.now)) }
+    ensures { OnOk result (post.new
+        ≡ posted request.now post.old (stopped reason.now text.now hit)) }
 {
-    let body = stopped_body(post.alloc(), reason, text)?;
+    let body = stopped_body(post.alloc(), reason, text, hit)?;
     post.event(request, b"stopped", &body)
 }
 
-/// Sends what follows a movement, of which this is the answer.
+/// What is said at the change of a question: the answer, and the question.
+fn change_text(alloc: Global, answer: &[u8], question: &[u8]) -> Result<Vec<u8>, AllocError>
+    ensures { IfOk result (λ text. text.items ≡ change_text answer.now question.now) }
+{
+    let mut text = without_last(answer).to_vec(alloc)?;
+    text.extend_from_slice(b": ")?;
+    text.extend_from_slice(question)?;
+    Ok(text)
+}
+
+/// Sends that a movement, of which this is the answer, ended at the change of the data break point
+/// in this place.
+fn tell_change(
+    request: &Request,
+    post: &mut Post,
+    answer: &[u8],
+    place: usize,
+    question: &[u8],
+) -> Result<(), AllocError>
+    requires sent { post.old.sent < 2 ^ 64 - 1 }
+    requires place { place < 2 ^ 64 - 1 }
+    ensures { OnOk result (post.new
+        ≡ posted request.now post.old (changed answer.now place question.now)) }
+{
+    let text = change_text(post.alloc(), answer, question)?;
+    tell_stop(
+        request,
+        post,
+        b"data breakpoint",
+        &text,
+        Some(place as u64 + 1),
+    )
+}
+
+/// Sends that a movement, of which this is the answer, ended where the run stands.
+fn tell_ended<S: SetBoard>(
+    debugger: &Debugger<S>,
+    request: &Request,
+    post: &mut Post,
+    answer: &[u8],
+) -> Result<(), AllocError>
+    requires { post.old.sent < 2 ^ 64 - 1 }
+    ensures { OnOk result (post.new ≡ posted request.now post.old (ended
+        debugger.now.machine.input (debugger_state_of debugger.now) answer.now)) }
+{
+    let hit = hit(debugger);
+    tell_stop(request, post, reason(debugger), without_last(answer), hit)
+}
+
+/// Sends that a movement ended at the change of the data break point in this place, if there is
+/// one.
+fn tell_end_at<S: SetBoard>(
+    debugger: &Debugger<S>,
+    watched: &[Text],
+    request: &Request,
+    post: &mut Post,
+    answer: &[u8],
+    place: usize,
+) -> Result<(), AllocError>
+    requires { post.old.sent < 2 ^ 64 - 1 }
+    ensures { OnOk result (post.new ≡ posted request.now post.old (end_by
+        debugger.now.machine.input (debugger_state_of debugger.now) answer.now place
+        (slice_get watched.now place))) }
+{
+    match watched.get(place) {
+        None => tell_ended(debugger, request, post, answer),
+        Some(question) => tell_change(request, post, answer, place, question.as_slice()),
+    }
+}
+
+/// Sends where a movement ended: perhaps at the change of the data break point in this place.
+fn tell_end<S: SetBoard>(
+    debugger: &Debugger<S>,
+    watched: &[Text],
+    request: &Request,
+    post: &mut Post,
+    answer: &[u8],
+    changed: Option<usize>,
+) -> Result<(), AllocError>
+    requires { post.old.sent < 2 ^ 64 - 1 }
+    ensures { OnOk result (post.new ≡ posted request.now post.old (end_of
+        debugger.now.machine.input (debugger_state_of debugger.now) watched.now answer.now
+        changed)) }
+{
+    match changed {
+        None => tell_ended(debugger, request, post, answer),
+        Some(place) => tell_end_at(debugger, watched, request, post, answer, place),
+    }
+}
+
+/// Sends what follows a movement, of which this is the answer, and which perhaps ended at the change
+/// of the data break point in a place.
 #[tactic(auto, using(ss_messages::proofs::Posts::posted_both, ss_messages::proofs::Posts::posted_one))]
 pub fn tell_movement<S: SetBoard>(
     debugger: &Debugger<S>,
@@ -59,15 +154,17 @@ pub fn tell_movement<S: SetBoard>(
     request: &Request,
     post: &mut Post,
     answer: &[u8],
+    changed: Option<usize>,
 ) -> Result<(), AllocError>
     requires { post.old.sent + 1 < 2 ^ 64 - 1 }
     ensures sent { OnOk result (post.new ≡ posted_all request.now post.old
-        (behind_movement debugger.now.machine.input desk.old.told (debugger_state_of debugger.now) answer.now)) }
+        (behind_movement debugger.now.machine.input desk.old (debugger_state_of debugger.now)
+        answer.now changed)) }
     ensures desk { OnOk result (desk.new ≡ told_with desk.old
         (report_at debugger.now.machine.input (debugger_state_of debugger.now))) }
 {
     tell_report(debugger, desk, request, post)?;
-    tell_stop(request, post, reason(debugger), without_last(answer))
+    tell_end(debugger, &desk.watched, request, post, answer, changed)
 }
 
 /// Tells where the run stands.
@@ -84,5 +181,5 @@ pub fn tell_here<S: SetBoard>(
 {
     post.reply(request, NOTHING)?;
     let line = debugger.answer_to(&Question::Where)?;
-    tell_stop(request, post, reason, without_last(&line))
+    tell_stop(request, post, reason, without_last(&line), None)
 }

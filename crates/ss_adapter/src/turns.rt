@@ -6,7 +6,6 @@ ghost use Rattle.ss_adapter.specs.Turn.{adapter_state_of, told_of, left_by, answ
 use crate::asking::look;
 use crate::desk::Desk;
 use crate::going::asked_movement;
-use crate::looking::watched;
 use crate::moving::{configure, go, obey_line};
 use crate::setting::{set_breaks, set_section_breaks, set_watch};
 use ss_debug::{Debugger, command};
@@ -82,8 +81,7 @@ pub fn turn<S: SetBoard>(
         ≡ state_after (adapter_state_of debugger.old desk.old) request.now.command) }
     ensures further { IfOk result (λ further. further ≡ further_of request.now.command) }
 {
-    let watched = watched(post.alloc(), &desk.watched)?;
-    match asked_movement(&request.command, watched) {
+    match asked_movement(post.alloc(), debugger, &desk.watched, &request.command)? {
         Some(going) => go(debugger, desk, request, post, going)?,
         None => answer_standing(debugger, desk, request, post)?,
     }

@@ -1,13 +1,15 @@
-//! The question that is a data break point.
+//! The questions that are data break points.
 ghost use Rattle.std.specs.Prelude.{◌≡◌, [], is_some, IfOk, OnOk};
 ghost use Rattle.ss_adapter.specs.Looking.{question_of};
-ghost use Rattle.ss_adapter.specs.Watch.{with_watched, watching_of, IsWatching, names_variables, info_of};
+ghost use Rattle.ss_adapter.specs.Watch.{with_watched, watching_of, IsWatching, info_by, info_of};
 
 use crate::breaks::push_unset;
-use crate::fixed::WATCHED;
+use crate::desk::WATCH_LIMIT;
 use crate::looking::question;
-use ss_messages::{Text, info_body, no_info_body};
-use ss_scopes::{Group, group_of};
+use crate::shown::asked_text;
+use ss_messages::{Text, info_body, no_info_body, watched_item};
+use ss_program::Program;
+use ss_scopes::group_of;
 use std::alloc::{AllocError, Global};
 
 /// Whether a text is a question.
@@ -21,7 +23,7 @@ fn is_question(alloc: Global, text: &[u8]) -> Result<bool, AllocError>
 #[tactic(auto, unfolding(crate::specs::Watch::with_watched))]
 fn watch_one(
     alloc: Global,
-    watched: &mut Vec<u8>,
+    watched: &mut Vec<Text>,
     text: &mut Vec<u8>,
     id: &Text,
 ) -> Result<(), AllocError>
@@ -31,18 +33,19 @@ fn watch_one(
     if !is_question(alloc, id.as_slice())? {
         return push_unset(alloc, text, b"no question");
     }
-    if !watched.is_empty() {
-        return push_unset(alloc, text, b"one data break point at a time");
+    if watched.len() >= WATCH_LIMIT {
+        return push_unset(alloc, text, b"too many data break points");
     }
-    watched.extend_from_slice(id.as_slice())?;
-    text.extend_from_slice(WATCHED)
+    let item = watched_item(alloc, watched.len() as u64 + 1)?;
+    watched.push(Text::of(alloc, id.as_slice())?)?;
+    text.extend_from_slice(&item)
 }
 
-/// Sets the data break point of a request in place of that of an earlier one, and appends what the
-/// reply says of each that the request names.
+/// Sets the data break points of a request in place of those of an earlier one, and appends what
+/// the reply says of each that the request names.
 pub fn watch(
     alloc: Global,
-    watched: &mut Vec<u8>,
+    watched: &mut Vec<Text>,
     text: &mut Vec<u8>,
     ids: &[Text],
 ) -> Result<(), AllocError>
@@ -56,22 +59,28 @@ pub fn watch(
     Ok(())
 }
 
-/// Whether what a group holds has the names of variables; none has those of questions.
-fn names_variables(group: Group) -> bool
-    ensures { result ≡ names_variables group }
+/// Whether a text may be a data break point.
+fn info_by(alloc: Global, text: &[u8]) -> Result<Vec<u8>, AllocError>
+    ensures { IfOk result (λ body. body.items ≡ info_by text.now) }
 {
-    match group {
-        Group::Nothing | Group::Globals | Group::Locals(_) => true,
-        _ => false,
-    }
-}
-
-/// Whether a name in a reference may be a data break point.
-pub fn info(alloc: Global, reference: u64, name: &[u8]) -> Result<Vec<u8>, AllocError>
-    ensures { IfOk result (λ body. body.items ≡ info_of reference name.now) }
-{
-    if names_variables(group_of(reference)) && is_question(alloc, name)? {
-        return info_body(alloc, name);
+    if is_question(alloc, text)? {
+        return info_body(alloc, text);
     }
     no_info_body(alloc, b"no question")
+}
+
+/// Whether a name in a reference may be a data break point; without a reference it is an expression.
+pub fn info(
+    alloc: Global,
+    program: &Program,
+    reference: u64,
+    name: &[u8],
+) -> Result<Vec<u8>, AllocError>
+    ensures { IfOk result (λ body. body.items ≡ info_of program.now reference name.now) }
+{
+    if reference == 0 {
+        return info_by(alloc, name);
+    }
+    let text = asked_text(alloc, program, name, group_of(reference))?;
+    info_by(alloc, &text)
 }

@@ -1,16 +1,25 @@
 -- The bodies of replies and events, as they are written.
-use Rattle.std.specs.Prelude.{ℕ, ◌-◌, List, ◌++◌, codes, decimal, drop, take, length}
+use Rattle.std.specs.Prelude.{ℕ, ◌-◌, List, [], ◌++◌, codes, decimal, drop, take, length, Option, Some, None}
 use Rattle.ss_messages.specs.Escapes.{quoted, quoted_text}
 
 -- a text without the byte at its end, which is a line feed
 abbrev pub without_last : List ℕ → List ℕ
 without_last text = take (length text - 1) text
 
--- stopped: why, and what is said of it
-unfoldable pub stopped_body : List ℕ → List ℕ → List ℕ
-stopped_body reason text =
+-- that it stopped at the break point of this number
+unfoldable pub hit_at : ℕ → List ℕ
+hit_at id = codes ",\"hitBreakpointIds\":[" ++ decimal id ++ codes "]"
+
+-- the same, if it did at one
+unfoldable pub hit_text : Option ℕ → List ℕ
+hit_text None = []
+hit_text (Some id) = hit_at id
+
+-- stopped: why, what is said of it, and at which break point
+unfoldable pub stopped_body : List ℕ → List ℕ → Option ℕ → List ℕ
+stopped_body reason text hit =
     codes "{\"reason\":\"" ++ reason ++ codes "\",\"threadId\":1,\"allThreadsStopped\":true,\"description\":"
-    ++ quoted text ++ codes "}"
+    ++ quoted text ++ hit_text hit ++ codes "}"
 
 -- output to a stream of this name
 unfoldable pub output_body : List ℕ → List ℕ → List ℕ
@@ -53,9 +62,14 @@ frame_item n name line path =
     codes ",{\"id\":" ++ decimal n ++ codes ",\"name\":" ++ quoted name ++ codes ",\"line\":" ++ decimal line
     ++ codes ",\"column\":1,\"source\":{\"path\":" ++ quoted_text path ++ codes "}}"
 
--- a comma and a break point that is set on a line
-unfoldable pub set_item : ℕ → List ℕ
-set_item line = codes ",{\"verified\":true,\"line\":" ++ decimal line ++ codes "}"
+-- a comma and a break point of this number that is set on a line
+unfoldable pub set_item : ℕ → ℕ → List ℕ
+set_item id line =
+    codes ",{\"id\":" ++ decimal id ++ codes ",\"verified\":true,\"line\":" ++ decimal line ++ codes "}"
+
+-- a comma and a data break point of this number that is set
+unfoldable pub watched_item : ℕ → List ℕ
+watched_item id = codes ",{\"id\":" ++ decimal id ++ codes ",\"verified\":true}"
 
 -- a comma and a break point that is not set, and why
 unfoldable pub unset_item : List ℕ → List ℕ

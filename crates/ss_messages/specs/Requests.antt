@@ -1,6 +1,6 @@
 -- What a message asks for.
-use Rattle.std.specs.Prelude.{ℕ, Bool, true, false, List, [], ◌∷◌, codes, Option, Some, None}
-use Rattle.std.specs.Prelude.{option_and_then, unwrap_or, if◌then◌else◌}
+use Rattle.std.specs.Prelude.{ℕ, ◌-◌, Bool, true, false, List, [], ◌∷◌, codes, Option, Some, None}
+use Rattle.std.specs.Prelude.{option_and_then, unwrap_or, nat_le, nat_lt, if◌then◌else◌}
 use Rattle.std.specs.Str.{bytes_eq}
 use Rattle.serde_json.specs.Data.{Data, null, Items, no_items, item}
 use Rattle.serde_json.specs.Find.{get, as_array, as_bool, as_number, as_str, as_u64}
@@ -96,14 +96,23 @@ info_with reference (Some name) = DataBreakpointInfo reference name
 abbrev pub info_of : Data → Command
 info_of d = info_with (number_at (codes "variablesReference") d) (text_at (codes "name") d)
 
--- completions needs a text
-abbrev pub completions_with : Option (List ℕ) → Command
-completions_with None = Bad
-completions_with (Some text) = Completions text
+-- how many UTF-16 code units a byte of a text in UTF-8 begins
+abbrev pub units_of : ℕ → ℕ
+units_of b = if nat_lt b 128 then 1 else if nat_lt b 192 then 0 else if nat_lt b 240 then 1 else 2
 
--- completions
+-- what stands of a text within so many UTF-16 code units
+abbrev pub within_units : ℕ → List ℕ → List ℕ
+within_units n [] = []
+within_units n (b ∷ bs) = if nat_le (units_of b) n then b ∷ within_units (n - units_of b) bs else []
+
+-- completions needs a text and a column, which are counted from 1 on in UTF-16 code units
+abbrev pub completions_with : Option (List ℕ) → Option ℕ → Command
+completions_with (Some text) (Some column) = Completions (within_units (column - 1) text) column
+completions_with _ _ = Bad
+
+-- completions: of what stands before the column
 abbrev pub completions_of : Data → Command
-completions_of d = completions_with (text_at (codes "text") d)
+completions_of d = completions_with (text_at (codes "text") d) (number_in (codes "column") d)
 
 -- which variables of a reference are wanted
 abbrev pub filter_of : Data → Filter

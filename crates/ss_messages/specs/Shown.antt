@@ -19,9 +19,11 @@ scope_item name reference =
     codes ",{\"name\":" ++ quoted name ++ codes ",\"variablesReference\":" ++ decimal reference
     ++ codes ",\"expensive\":false}"
 
--- a comma and a word that may stand where it is asked for
-unfoldable pub target_item : List ℕ → List ℕ
-target_item word = codes ",{\"label\":" ++ quoted word ++ codes "}"
+-- a comma and a word that may stand from a column on, in place of so many characters
+unfoldable pub target_item : List ℕ → ℕ → ℕ → List ℕ
+target_item word start count =
+    codes ",{\"label\":" ++ quoted word ++ codes ",\"start\":" ++ decimal start ++ codes ",\"length\":"
+    ++ decimal count ++ codes "}"
 
 -- a question that may be a data break point
 unfoldable pub info_body : List ℕ → List ℕ

@@ -2,6 +2,7 @@
 ghost use Rattle.std.specs.Prelude.{◌≡◌, codes, map, IfOk, option_map};
 ghost use Rattle.serde_json.specs.View.{view};
 ghost use Rattle.std.specs.Prelude.{[], unwrap_or};
+ghost use Rattle.ss_messages.specs.Requests.{units_of, within_units};
 ghost use Rattle.ss_messages.specs.Requests.{number_at, number_in, text_at, flag_at, is_text_at, lines_at, texts_at};
 ghost use Rattle.ss_messages.specs.Requests.{launch_of, evaluate_of, info_of, completions_of, filter_of, wanted_of};
 
@@ -89,13 +90,46 @@ pub fn info(alloc: Global, arguments: &Value) -> Result<Command, AllocError>
     Ok(Command::DataBreakpointInfo(number_at(arguments, "variablesReference"), name))
 }
 
-/// completions, which needs a text.
+/// How many UTF-16 code units a byte of a text in UTF-8 begins.
+fn units_of(byte: u8) -> u64
+    ensures { result ≡ units_of byte }
+{
+    if byte < 128 {
+        return 1;
+    }
+    if byte < 192 {
+        return 0;
+    }
+    if byte < 240 { 1 } else { 2 }
+}
+
+/// What stands of a text within so many UTF-16 code units.
+fn within_units(alloc: Global, text: &[u8], units: u64) -> Result<Vec<u8>, AllocError>
+    ensures { IfOk result (λ part. part.items ≡ within_units units text.now) }
+{
+    let mut part = Vec::new(alloc);
+    let mut left = units;
+    for byte in text {
+        let units = units_of(*byte);
+        if units > left {
+            return Ok(part);
+        }
+        part.push(*byte)?;
+        left -= units;
+    }
+    Ok(part)
+}
+
+/// completions, which needs a text and a column: of what stands before the column.
 pub fn completions(alloc: Global, arguments: &Value) -> Result<Command, AllocError>
     ensures { IfOk result (λ command. command ≡ completions_of (view arguments.now)) }
 {
-    match own_text(alloc, arguments, "text")? {
-        Some(text) => Ok(Command::Completions(text)),
-        None => Ok(Command::Bad),
+    match (text_at(arguments, "text"), number_in(arguments, "column")) {
+        (Some(text), Some(column)) => {
+            let before = within_units(alloc, text.as_bytes(), column.saturating_sub(1))?;
+            Ok(Command::Completions(Text::of(alloc, &before)?, column))
+        }
+        _ => Ok(Command::Bad),
     }
 }
 

@@ -2,7 +2,7 @@
 ghost use Rattle.std.specs.Prelude.{◌≡◌, drop, IfOk};
 ghost use Rattle.ss_messages.specs.Bodies.{stopped_body, output_body, result_body, content_body, exception_body};
 ghost use Rattle.ss_messages.specs.Bodies.{sources_body, list_body, variable_item, frame_item, set_item, unset_item};
-ghost use Rattle.ss_messages.specs.Bodies.{without_last};
+ghost use Rattle.ss_messages.specs.Bodies.{without_last, hit_at, hit_text, watched_item};
 
 use crate::escape::{push_quoted, push_quoted_text};
 use crate::messages::push_number;
@@ -18,15 +18,44 @@ pub fn without_last(text: &[u8]) -> &[u8]
     &text[..text.len().saturating_sub(1)]
 }
 
-/// stopped: why, and what is said of it.
-#[tactic(auto, unfolding(crate::specs::Bodies::stopped_body))]
-pub fn stopped_body(alloc: Global, reason: &[u8], text: &[u8]) -> Result<Vec<u8>, AllocError>
-    ensures { IfOk result (λ body. body.items ≡ stopped_body reason.now text.now) }
+/// The break point of this number as the one at which a run stopped.
+#[tactic(auto, unfolding(crate::specs::Bodies::hit_at))]
+fn hit_at(alloc: Global, id: u64) -> Result<Vec<u8>, AllocError>
+    ensures { IfOk result (λ item. item.items ≡ hit_at id) }
 {
+    let mut item = Vec::from_slice(alloc, b",\"hitBreakpointIds\":[")?;
+    push_number(&mut item, id)?;
+    item.extend_from_slice(b"]")?;
+    Ok(item)
+}
+
+/// The break point by its number at which a run stopped, if it did at one.
+#[tactic(auto, unfolding(crate::specs::Bodies::hit_text))]
+fn hit_text(alloc: Global, hit: Option<u64>) -> Result<Vec<u8>, AllocError>
+    ensures { IfOk result (λ item. item.items ≡ hit_text hit) }
+{
+    match hit {
+        None => Ok(Vec::new(alloc)),
+        Some(id) => hit_at(alloc, id),
+    }
+}
+
+/// stopped: why, what is said of it, and at which break point, if it was at one.
+#[tactic(auto, unfolding(crate::specs::Bodies::stopped_body))]
+pub fn stopped_body(
+    alloc: Global,
+    reason: &[u8],
+    text: &[u8],
+    hit: Option<u64>,
+) -> Result<Vec<u8>, AllocError>
+    ensures { IfOk result (λ body. body.items ≡ stopped_body reason.now text.now hit) }
+{
+    let hit = hit_text(alloc, hit)?;
     let mut body = Vec::from_slice(alloc, b"{\"reason\":\"")?;
     body.extend_from_slice(reason)?;
     body.extend_from_slice(b"\",\"threadId\":1,\"allThreadsStopped\":true,\"description\":")?;
     push_quoted(&mut body, text)?;
+    body.extend_from_slice(&hit)?;
     body.extend_from_slice(b"}")?;
     Ok(body)
 }
@@ -153,12 +182,14 @@ pub fn frame_item(
     Ok(item)
 }
 
-/// A comma and a break point that is set on a line.
+/// A comma and a break point of this number that is set on a line.
 #[tactic(auto, unfolding(crate::specs::Bodies::set_item))]
-pub fn set_item(alloc: Global, line: u64) -> Result<Vec<u8>, AllocError>
-    ensures { IfOk result (λ item. item.items ≡ set_item line) }
+pub fn set_item(alloc: Global, id: u64, line: u64) -> Result<Vec<u8>, AllocError>
+    ensures { IfOk result (λ item. item.items ≡ set_item id line) }
 {
-    let mut item = Vec::from_slice(alloc, b",{\"verified\":true,\"line\":")?;
+    let mut item = Vec::from_slice(alloc, b",{\"id\":")?;
+    push_number(&mut item, id)?;
+    item.extend_from_slice(b",\"verified\":true,\"line\":")?;
     push_number(&mut item, line)?;
     item.extend_from_slice(b"}")?;
     Ok(item)
@@ -172,5 +203,16 @@ pub fn unset_item(alloc: Global, reason: &[u8]) -> Result<Vec<u8>, AllocError>
     let mut item = Vec::from_slice(alloc, b",{\"verified\":false,\"message\":")?;
     push_quoted(&mut item, reason)?;
     item.extend_from_slice(b"}")?;
+    Ok(item)
+}
+
+/// A comma and a data break point of this number that is set.
+#[tactic(auto, unfolding(crate::specs::Bodies::watched_item))]
+pub fn watched_item(alloc: Global, id: u64) -> Result<Vec<u8>, AllocError>
+    ensures { IfOk result (λ item. item.items ≡ watched_item id) }
+{
+    let mut item = Vec::from_slice(alloc, b",{\"id\":")?;
+    push_number(&mut item, id)?;
+    item.extend_from_slice(b",\"verified\":true}")?;
     Ok(item)
 }

@@ -13,7 +13,7 @@ mod shown;
 
 pub use bodies::{
     NOTHING, content_body, exception_body, frame_item, list_body, output_body, result_body,
-    set_item, sources_body, stopped_body, unset_item, variable_item, without_last,
+    set_item, sources_body, stopped_body, unset_item, variable_item, watched_item, without_last,
 };
 pub use escape::{push_quoted, push_quoted_text};
 pub use frame::{FrameFault, MESSAGE_LIMIT, read_message};

@@ -68,8 +68,8 @@ pub enum Command {
     Obey(Text),
     /// evaluate, to be shown beside the model: a question.
     Ask(Text),
-    /// completions of a text.
-    Completions(Text),
+    /// completions of the text that stands before this column.
+    Completions(Text, u64),
     /// source of a reference.
     Source(u64),
     /// loadedSources.

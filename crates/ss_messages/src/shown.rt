@@ -56,13 +56,22 @@ pub fn scope_item(alloc: Global, name: &[u8], reference: u64) -> Result<Vec<u8>,
     Ok(item)
 }
 
-/// A comma and a word that may stand where it is asked for.
+/// A comma and a word that may stand from a column on, in place of so many characters.
 #[tactic(auto, unfolding(crate::specs::Shown::target_item))]
-pub fn target_item(alloc: Global, word: &[u8]) -> Result<Vec<u8>, AllocError>
-    ensures { IfOk result (λ item. item.items ≡ target_item word.now) }
+pub fn target_item(
+    alloc: Global,
+    word: &[u8],
+    start: u64,
+    count: u64,
+) -> Result<Vec<u8>, AllocError>
+    ensures { IfOk result (λ item. item.items ≡ target_item word.now start count) }
 {
     let mut item = Vec::from_slice(alloc, b",{\"label\":")?;
     push_quoted(&mut item, word)?;
+    item.extend_from_slice(b",\"start\":")?;
+    push_number(&mut item, start)?;
+    item.extend_from_slice(b",\"length\":")?;
+    push_number(&mut item, count)?;
     item.extend_from_slice(b"}")?;
     Ok(item)
 }

@@ -1,5 +1,5 @@
 -- Entities and their attributes and lists, as an editor shows them.
-use Rattle.std.specs.Prelude.{ℕ, suc, ◌+◌, ◌&&◌, pos, List, [], ◌∷◌, ◌++◌, length, take, drop, codes, decimal}
+use Rattle.std.specs.Prelude.{ℕ, suc, ◌+◌, ◌&&◌, ◌==◌, pos, List, [], ◌∷◌, ◌++◌, length, take, drop, codes, decimal}
 use Rattle.std.specs.Prelude.{nat_lt, if◌then◌else◌}
 use Rattle.std.specs.Result.{result_unwrap_or}
 use Rattle.std.specs.Fmt.{signed_decimal}
@@ -13,6 +13,7 @@ use Rattle.ss_messages.specs.Bodies.{variable_item}
 use Rattle.ss_messages.specs.Shown.{paged_item}
 use Rattle.ss_scopes.specs.References.{class_reference, set_reference}
 use Rattle.ss_scopes.specs.Pages.{page_size}
+use Rattle.ss_scopes.specs.Kept.{owner_items, member_items}
 
 -- the name of entity number k of class c
 abbrev pub entity_name : ProgramTable → ℕ → ℕ → List ℕ
@@ -48,16 +49,23 @@ list_item p st name s k =
     paged_item name (decimal (length (members_of (shape_of p s) st k))) (set_reference s k)
     (length (members_of (shape_of p s) st k))
 
--- the list of set number s for entity number k of class c, if the class owns it
+-- the list of set number s for entity number k of class c, and what is kept of it, if the class owns it
 abbrev pub owned_item : ProgramTable → Store → ℕ → ℕ → ℕ → List ℕ
 owned_item p st c k s =
-    if is_same_owner (OwnedBy c) (set_of p s).owner then list_item p st (set_of p s).name s k else []
+    if is_same_owner (OwnedBy c) (set_of p s).owner
+    then list_item p st (set_of p s).name s k ++ owner_items (set_of p s).name (shape_of p s) st k else []
+
+-- what is kept of entity number k of class c in set number s, if it may be in it
+abbrev pub joined_item : ProgramTable → Store → ℕ → ℕ → ℕ → List ℕ
+joined_item p st c k s =
+    if (set_of p s).member == c then member_items (set_of p s).name (shape_of p s) st k else []
 
 -- the attributes of an entity and the lists that it owns, each in order of declaration
 abbrev pub entity_text : ProgramTable → Store → ℕ → ℕ → List ℕ
 entity_text p st c k =
     texts_below (attribute_item p st c k) (length (class_of p c).attributes)
     ++ texts_below (owned_item p st c k) (length p.sets)
+    ++ texts_below (joined_item p st c k) (length p.sets)
 
 -- the same of an entity that lives
 abbrev pub entity_variables : ProgramTable → Store → ℕ → ℕ → List ℕ

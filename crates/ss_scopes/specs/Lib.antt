@@ -1,6 +1,7 @@
 pub mod References
 pub mod Pages
 pub mod Frames
+pub mod Kept
 pub mod Entities
 pub mod Sets
 pub mod Events

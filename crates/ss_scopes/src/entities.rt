@@ -1,19 +1,21 @@
 //! Entities and their attributes and lists.
 ghost use Rattle.std.specs.Prelude.{◌≡◌, ◌++◌, ◌+◌, ◌-◌, ◌^◌, ◌<◌, length, IfOk, OnOk};
 ghost use Rattle.ss_program.specs.declared.kinds.Owner.TheVariants.{OwnedBy};
-ghost use Rattle.ss_program.specs.Program.{class_of, is_same_owner};
-ghost use Rattle.ss_store.specs.Tables.{set_of};
+ghost use Rattle.ss_program.specs.Program.{class_of, set_of, is_same_owner};
+ghost use Rattle.ss_store.specs.Tables as tables;
 ghost use Rattle.ss_store.specs.Store.{number_of, members_of};
 ghost use Rattle.ss_debug.specs.Entities.{shape_of};
 ghost use Rattle.ss_inspect.specs.Texts.{texts_below};
 ghost use Rattle.ss_scopes.specs.Entities.{entity_name, entity_item, entity_items, living_page, class_page};
-ghost use Rattle.ss_scopes.specs.Entities.{attribute_item, list_item, owned_item, entity_variables};
+ghost use Rattle.ss_scopes.specs.Entities.{attribute_item, list_item, owned_item, joined_item, entity_variables};
+ghost use Rattle.ss_scopes.specs.Kept.{owner_items, member_items};
 
 use crate::group::{class_reference, set_reference};
+use crate::kept::{push_member_items, push_owner_items};
 use crate::pages::numbers_on;
 use crate::rows::{attributes_of, name_at};
 use itoa::Buffer;
-use ss_debug::{class_name, push_number, set_name, set_owner};
+use ss_debug::{class_name, member_class, push_number, set_name, set_owner};
 use ss_inspect::living;
 use ss_links::SetBoard;
 use ss_machine::Machine;
@@ -166,7 +168,7 @@ fn push_attributes<S: SetBoard>(
 /// How many members the list of a set has, none where its owner does not exist.
 fn list_length<S: SetBoard>(store: &Store<S>, set: usize, owner: i64) -> u32
     requires { set < length store.now.tables.sets }
-    ensures { result ≡ length (members_of (set_of store.now.tables set) store.now.state
+    ensures { result ≡ length (members_of (tables.set_of store.now.tables set) store.now.state
         (number_of owner)) }
 {
     store.count(set, owner).unwrap_or(0)
@@ -218,7 +220,43 @@ fn is_owned_by(owner: Owner, class: usize) -> bool
     }
 }
 
-/// Appends the list of a set for an entity, if its class owns it.
+/// Appends what is kept of the list of a set of the program for the owner with this number.
+#[tactic(auto, using(ss_debug::proofs::Tables::sets_kept))]
+fn push_owner_kept<S: SetBoard>(
+    alloc: Global,
+    out: &mut Vec<u8>,
+    machine: &Machine<S>,
+    set: usize,
+    owner: u32,
+) -> Result<(), AllocError>
+    requires { set < length machine.now.input.program.sets }
+    ensures { OnOk result (out.new.items ≡ out.old.items
+        ++ owner_items (set_of machine.now.input.program set).name
+        (shape_of machine.now.input.program set) machine.now.state.store owner) }
+{
+    let name = set_name(machine.program(), set);
+    push_owner_items(alloc, out, machine.store(), name, set, i64::from(owner))
+}
+
+/// Appends what is kept of an entity in a set of the program.
+#[tactic(auto, using(ss_debug::proofs::Tables::sets_kept))]
+fn push_member_kept<S: SetBoard>(
+    alloc: Global,
+    out: &mut Vec<u8>,
+    machine: &Machine<S>,
+    set: usize,
+    number: u32,
+) -> Result<(), AllocError>
+    requires { set < length machine.now.input.program.sets }
+    ensures { OnOk result (out.new.items ≡ out.old.items
+        ++ member_items (set_of machine.now.input.program set).name
+        (shape_of machine.now.input.program set) machine.now.state.store number) }
+{
+    let name = set_name(machine.program(), set);
+    push_member_items(alloc, out, machine.store(), name, set, i64::from(number))
+}
+
+/// Appends the list of a set for an entity, and what is kept of it, if its class owns it.
 fn push_owned<S: SetBoard>(
     alloc: Global,
     out: &mut Vec<u8>,
@@ -235,10 +273,30 @@ fn push_owned<S: SetBoard>(
     if !is_owned_by(set_owner(program, set), class) {
         return Ok(());
     }
-    push_list(alloc, out, machine, set_name(program, set), set, number)
+    push_list(alloc, out, machine, set_name(program, set), set, number)?;
+    push_owner_kept(alloc, out, machine, set, number)
 }
 
-/// Appends the lists that an entity owns.
+/// Appends what is kept of an entity in a set, if it may be in it.
+fn push_joined<S: SetBoard>(
+    alloc: Global,
+    out: &mut Vec<u8>,
+    machine: &Machine<S>,
+    class: usize,
+    number: u32,
+    set: usize,
+) -> Result<(), AllocError>
+    requires { set < length machine.now.input.program.sets }
+    ensures { OnOk result (out.new.items ≡ out.old.items
+        ++ joined_item machine.now.input.program machine.now.state.store class number set) }
+{
+    if member_class(machine.program(), set) != class {
+        return Ok(());
+    }
+    push_member_kept(alloc, out, machine, set, number)
+}
+
+/// Appends the lists that an entity owns, and what is kept of them.
 fn push_owned_lists<S: SetBoard>(
     alloc: Global,
     out: &mut Vec<u8>,
@@ -256,7 +314,25 @@ fn push_owned_lists<S: SetBoard>(
     Ok(())
 }
 
-/// Appends the attributes of an entity that lives, and the lists that it owns.
+/// Appends what is kept of an entity in the sets in which it may be.
+fn push_joined_sets<S: SetBoard>(
+    alloc: Global,
+    out: &mut Vec<u8>,
+    machine: &Machine<S>,
+    class: usize,
+    number: u32,
+) -> Result<(), AllocError>
+    ensures { OnOk result (out.new.items ≡ out.old.items
+        ++ texts_below (joined_item machine.now.input.program machine.now.state.store class
+        number) (length machine.now.input.program.sets)) }
+{
+    for set in 0..machine.program().sets.len() {
+        push_joined(alloc, out, machine, class, number, set)?;
+    }
+    Ok(())
+}
+
+/// Appends the attributes of an entity that lives, the lists that it owns, and what is kept of it.
 pub fn push_entity_variables<S: SetBoard>(
     alloc: Global,
     out: &mut Vec<u8>,
@@ -272,5 +348,6 @@ pub fn push_entity_variables<S: SetBoard>(
         return Ok(());
     }
     push_attributes(alloc, out, machine, class, number)?;
-    push_owned_lists(alloc, out, machine, class, number)
+    push_owned_lists(alloc, out, machine, class, number)?;
+    push_joined_sets(alloc, out, machine, class, number)
 }

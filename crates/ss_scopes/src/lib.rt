@@ -10,6 +10,7 @@ mod entities;
 mod events;
 mod frames;
 mod group;
+mod kept;
 mod pages;
 mod rows;
 mod scopes;
@@ -18,5 +19,6 @@ mod variables;
 
 pub use frames::push_frames;
 pub use group::{Group, class_reference, group_of, set_reference};
+pub use rows::locals_in;
 pub use scopes::push_scopes;
 pub use variables::push_variables;

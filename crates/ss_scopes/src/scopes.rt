@@ -14,7 +14,12 @@ pub const MOST_FRAMES: u64 = 1_000;
 
 /// The scopes that all frames have, each behind a comma.
 pub const OTHER_SCOPES: &[u8] =
-    b",{\"name\":\"Globals\",\"variablesReference\":1,\"expensive\":false},{\"name\":\"Classes\",\"variablesReference\":2,\"expensive\":false},{\"name\":\"Sets\",\"variablesReference\":3,\"expensive\":false},{\"name\":\"Event list\",\"variablesReference\":4,\"expensive\":false},{\"name\":\"Data\",\"variablesReference\":5,\"expensive\":false},{\"name\":\"Run\",\"variablesReference\":6,\"expensive\":false}";
+    b",{\"name\":\"Globals\",\"variablesReference\":1,\"expensive\":false},\
+    {\"name\":\"Classes\",\"variablesReference\":2,\"expensive\":false},\
+    {\"name\":\"Sets\",\"variablesReference\":3,\"expensive\":false},\
+    {\"name\":\"Event list\",\"variablesReference\":4,\"expensive\":false},\
+    {\"name\":\"Data\",\"variablesReference\":5,\"expensive\":false},\
+    {\"name\":\"Run\",\"variablesReference\":6,\"expensive\":false}";
 
 /// Appends the locals of the frame on which so many others stand, if there is one.
 fn push_locals_scope<S: SetBoard>(

@@ -1,0 +1,50 @@
+-- The words that may stand where a word is typed in a line of the debugger.
+use Rattle.std.specs.Prelude.{ℕ, ◌-◌, Bool, true, false, List, [], ◌∷◌, ◌++◌, length, map, nat_eq, if◌then◌else◌}
+use Rattle.std.specs.List.{starts_with, list_all}
+use Rattle.std.specs.Char.{to_ascii_uppercase}
+use Rattle.ss_program.specs.Program.{ProgramTable, ClassTable, SetTable}
+use Rattle.ss_inspect.specs.Frames.{locals_in}
+use Rattle.ss_messages.specs.Shown.{target_item}
+use Rattle.ss_adapter.specs.declared.completions.TheConstants.{FIRST_WORDS, FURTHER_WORDS}
+use Rattle.ss_adapter.specs.Words.{before_word, last_word}
+
+-- a word as an item, where it begins with what is typed before a column, in whose place it comes
+abbrev pub target : List ℕ → ℕ → List ℕ → List ℕ
+target typed column word =
+    if starts_with nat_eq word typed then target_item word (column - length typed) (length typed) else []
+
+-- those of some words
+abbrev pub targets : List ℕ → ℕ → List (List ℕ) → List ℕ
+targets typed column [] = []
+targets typed column (word ∷ words) = target typed column word ++ targets typed column words
+
+-- those of the attributes of some classes
+abbrev pub attribute_targets : List ℕ → ℕ → List ClassTable → List ℕ
+attribute_targets typed column [] = []
+attribute_targets typed column (c ∷ cs) = targets typed column c.attributes ++ attribute_targets typed column cs
+
+-- those of some sets
+abbrev pub set_targets : List ℕ → ℕ → List SetTable → List ℕ
+set_targets typed column [] = []
+set_targets typed column (s ∷ ss) = target typed column s.name ++ set_targets typed column ss
+
+-- those of the names of a program: variables, of which the classes are some, attributes, sets, locals of a section
+abbrev pub name_targets : ProgramTable → ℕ → List ℕ → ℕ → List ℕ
+name_targets p section typed column =
+    targets typed column p.globals ++ attribute_targets typed column p.classes ++ set_targets typed column p.sets
+    ++ targets typed column (locals_in p section)
+
+-- those that may stand first in a line, or behind another word
+abbrev pub targets_by : ProgramTable → ℕ → Bool → List ℕ → ℕ → List ℕ
+targets_by p section true typed column = targets typed column (map (λ word. word.now) FIRST_WORDS)
+targets_by p section false typed column =
+    targets typed column (map (λ word. word.now) FURTHER_WORDS) ++ name_targets p section typed column
+
+-- whether no word stands before the last one of a text
+abbrev pub is_first : List ℕ → Bool
+is_first text = list_all (λ b. nat_eq b 32) (before_word text)
+
+-- those that begin with the last word of a text, in either case, which ends before a column
+abbrev pub completions : ProgramTable → ℕ → List ℕ → ℕ → List ℕ
+completions p section text column =
+    targets_by p section (is_first text) (map to_ascii_uppercase (last_word text)) column

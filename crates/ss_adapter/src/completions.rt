@@ -1,0 +1,184 @@
+//! The words that may stand where a word is typed in a line of the debugger.
+ghost use Rattle.std.specs.Prelude.{◌≡◌, ◌++◌, OnOk, IfOk, map};
+ghost use Rattle.ss_adapter.specs.Completions.{target, targets, attribute_targets, set_targets, name_targets};
+ghost use Rattle.ss_adapter.specs.Completions.{targets_by, is_first, completions};
+
+use crate::words::{before_word, last_word};
+use ss_messages::target_item;
+use ss_program::{Class, Name, Program, Set};
+use ss_scopes::locals_in;
+use std::alloc::{AllocError, Global};
+
+/// The words with which a line may begin.
+pub const FIRST_WORDS: [&[u8]; 9] = [
+    b"STEP", b"RUN", b"NEXT", b"BACK", b"BREAK", b"CLEAR", b"FORGET", b"SHOW", b"QUIT",
+];
+
+/// The words that may stand behind another.
+pub const FURTHER_WORDS: [&[u8]; 11] = [
+    b"CLOCK", b"WHERE", b"VAR", b"SET", b"EVENTS", b"TAKEN", b"ENTRY", b"REPORT", b"TO", b"EVENT",
+    b"BREAK",
+];
+
+/// Appends a word as an item, where it begins with what is typed before a column.
+fn push_target(
+    alloc: Global,
+    out: &mut Vec<u8>,
+    typed: &[u8],
+    column: u64,
+    word: &[u8],
+) -> Result<(), AllocError>
+    ensures { OnOk result (out.new.items ≡ out.old.items ++ target typed.now column word.now) }
+{
+    if !word.starts_with(typed) {
+        return Ok(());
+    }
+    let count = typed.len() as u64;
+    let item = target_item(alloc, word, column.saturating_sub(count), count)?;
+    out.extend_from_slice(&item)
+}
+
+/// Appends the items of a table of words.
+fn push_table(
+    alloc: Global,
+    out: &mut Vec<u8>,
+    typed: &[u8],
+    column: u64,
+    mut table: &[&[u8]],
+) -> Result<(), AllocError>
+    ensures { OnOk result (out.new.items ≡ out.old.items
+        ++ targets typed.now column (map (λ word. word.now) table.entry.now)) }
+{
+    while let [word, rest @ ..] = table {
+        push_target(alloc, out, typed, column, word)?;
+        table = rest;
+    }
+    Ok(())
+}
+
+/// Appends the items of some names.
+fn push_names(
+    alloc: Global,
+    out: &mut Vec<u8>,
+    typed: &[u8],
+    column: u64,
+    mut names: &[Name],
+) -> Result<(), AllocError>
+    ensures { OnOk result (out.new.items ≡ out.old.items
+        ++ targets typed.now column names.entry.now) }
+{
+    while let [name, rest @ ..] = names {
+        push_target(alloc, out, typed, column, &name.bytes)?;
+        names = rest;
+    }
+    Ok(())
+}
+
+/// Appends the items of the attributes of some classes.
+fn push_attributes(
+    alloc: Global,
+    out: &mut Vec<u8>,
+    typed: &[u8],
+    column: u64,
+    mut classes: &[Class],
+) -> Result<(), AllocError>
+    ensures { OnOk result (out.new.items ≡ out.old.items
+        ++ attribute_targets typed.now column classes.entry.now) }
+{
+    while let [class, rest @ ..] = classes {
+        push_names(alloc, out, typed, column, &class.attributes)?;
+        classes = rest;
+    }
+    Ok(())
+}
+
+/// Appends the items of some sets.
+fn push_sets(
+    alloc: Global,
+    out: &mut Vec<u8>,
+    typed: &[u8],
+    column: u64,
+    mut sets: &[Set],
+) -> Result<(), AllocError>
+    ensures { OnOk result (out.new.items ≡ out.old.items
+        ++ set_targets typed.now column sets.entry.now) }
+{
+    while let [set, rest @ ..] = sets {
+        push_target(alloc, out, typed, column, &set.name.bytes)?;
+        sets = rest;
+    }
+    Ok(())
+}
+
+/// Appends the items of the names of a program, with the locals of a section.
+fn push_program(
+    alloc: Global,
+    out: &mut Vec<u8>,
+    typed: &[u8],
+    column: u64,
+    program: &Program,
+    section: usize,
+) -> Result<(), AllocError>
+    ensures { OnOk result (out.new.items ≡ out.old.items
+        ++ name_targets program.now section typed.now column) }
+{
+    push_names(alloc, out, typed, column, &program.globals)?;
+    push_attributes(alloc, out, typed, column, &program.classes)?;
+    push_sets(alloc, out, typed, column, &program.sets)?;
+    push_names(alloc, out, typed, column, locals_in(program, section))
+}
+
+/// Whether no word stands before the last one of a text.
+fn is_first(text: &[u8]) -> bool
+    ensures { result ≡ is_first text.now }
+{
+    before_word(text).iter().all(|byte| *byte == b' ')
+}
+
+/// Appends the items of the words that may stand first in a line, or behind another word.
+fn push_targets(
+    alloc: Global,
+    out: &mut Vec<u8>,
+    program: &Program,
+    section: usize,
+    first: bool,
+    typed: &[u8],
+    column: u64,
+) -> Result<(), AllocError>
+    ensures { OnOk result (out.new.items ≡ out.old.items
+        ++ targets_by program.now section first typed.now column) }
+{
+    if first {
+        return push_table(alloc, out, typed, column, &FIRST_WORDS);
+    }
+    push_table(alloc, out, typed, column, &FURTHER_WORDS)?;
+    push_program(alloc, out, typed, column, program, section)
+}
+
+/// The items of the words that begin with the last word of a text, in either case, which ends
+/// before a column: words of docs/DEBUGGER.md, then names of the program in the order of its
+/// tables, with the locals of a section. Each stands behind a comma.
+pub fn completions(
+    alloc: Global,
+    program: &Program,
+    section: usize,
+    text: &[u8],
+    column: u64,
+) -> Result<Vec<u8>, AllocError>
+    ensures { IfOk result (λ items. items.items
+        ≡ completions program.now section text.now column) }
+{
+    let mut typed = last_word(text).to_vec(alloc)?;
+    typed.make_ascii_uppercase();
+    let mut out = Vec::new(alloc);
+    push_targets(
+        alloc,
+        &mut out,
+        program,
+        section,
+        is_first(text),
+        &typed,
+        column,
+    )?;
+    Ok(out)
+}

@@ -1,0 +1,12 @@
+//! Laws on the definitions. Each function does nothing, and its contract says the law.
+ghost use Rattle.ss_adapter.specs.Reach.{NearestIsLeast, NearestIsOne};
+
+/// The nearest of the changes of some questions is no further than any.
+pub fn nearest_change_is_least()
+    ensures { NearestIsLeast }
+{}
+
+/// It is one of them, the one in its place.
+pub fn nearest_change_is_one_of_them()
+    ensures { NearestIsOne }
+{}

@@ -1,0 +1,11 @@
+use Rattle.std.proofs.Common.{refl}
+use Rattle.ss_inspect.proofs.Ordered.{text_more}
+use Rattle.ss_scopes.specs.Entities.{joined_item}
+use Rattle.ss_scopes.proofs.entities.push_joined_sets.Goals as goal
+
+pub loop-set-preserved : goal.loop-set-preserved
+loop-set-preserved g c =
+    let m = c.args.machine.now in
+    text_more (joined_item m.input.program m.state.store c.args.class c.args.number)
+    c.loop-set.set _ c.args.out.now.items c.loop-set.out.items _ refl c.loop-set.invariant
+    c.in_ok-push_joined.ensures
