@@ -1,11 +1,12 @@
 //! launch: a model becomes a run.
-ghost use Rattle.std.specs.Prelude.{◌≡◌, ◌+◌, ◌-◌, ◌^◌, ◌<◌, IfOk, IfErr, OnOk, MatchOption};
+ghost use Rattle.std.specs.Prelude.{◌≡◌, ◌≢◌, ◌+◌, ◌-◌, ◌^◌, ◌<◌, IfOk, IfErr, OnOk, MatchOption};
 ghost use Rattle.ss_machine.specs.Run.{input_with};
 ghost use Rattle.ss_debug.specs.Turn.{initial_debugger_state};
 ghost use Rattle.ss_debug.specs.View.{debugger_state_of};
 ghost use Rattle.ss_session.specs.Model.{accepted, IsOutcome};
 ghost use Rattle.ss_session.specs.Load.{IsLoadFault};
 ghost use Rattle.ss_session.specs.declared.load.LoadFault.{LoadFault as Fault};
+ghost use Rattle.ss_session.specs.declared.load.LoadFault.TheVariants.{Memory};
 ghost use Rattle.ss_messages.specs.Messages.{posted_all};
 ghost use Rattle.ss_adapter.specs.Before.{launched, refused, IsLaunched, fault_line};
 
@@ -68,7 +69,8 @@ fn accept(request: &Request, post: &mut Post) -> Result<(), AllocError>
 }
 
 /// Launches the run of a model, whose path is told, over its data, and answers the request. `None`
-/// where the model is refused; the answer says why, and on which line.
+/// where the model is refused; the answer says why, and on which line. `AllocError` where memory was
+/// refused.
 pub fn launch(
     request: &Request,
     post: &mut Post,
@@ -79,7 +81,7 @@ pub fn launch(
 ) -> Result<Option<(Debugger<LinkedSets>, Desk)>, AllocError>
     requires { post.old.sent + 1 < 2 ^ 64 - 1 }
     ensures run { IfOk result (λ opened. MatchOption opened
-        ((fault : Fault) × IsLoadFault fault model.now
+        ((fault : Fault) × (fault ≢ Memory) × IsLoadFault fault model.now
         × (post.new ≡ posted_all request.now post.old (refused (fault_line fault))))
         (λ run. IsLaunched model.now text.now path.now stops run.0 run.1
         × (post.new ≡ posted_all request.now post.old launched))) }
