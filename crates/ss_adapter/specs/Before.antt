@@ -1,5 +1,5 @@
 -- What is answered before a run is launched, and to launch.
-use Rattle.std.specs.Prelude.{ℕ, ◌≡◌, List, [], ◌∷◌, codes, Bool}
+use Rattle.std.specs.Prelude.{ℕ, ◌≡◌, List, [], ◌∷◌, codes}
 use Rattle.ss_words.specs.Faults.{text_rule_code}
 use Rattle.ss_check.specs.CheckRules.{check_rule_code}
 use Rattle.ss_machine.specs.Run.{input_with}
@@ -9,6 +9,7 @@ use Rattle.ss_session.specs.Model.{accepted, IsOutcome}
 use Rattle.ss_session.specs.Transcript.{refusal_line}
 use Rattle.ss_session.specs.declared.load.LoadFault.{LoadFault}
 use Rattle.ss_session.specs.declared.load.LoadFault.TheVariants.{Text, Check, Memory}
+use Rattle.ss_messages.specs.declared.request.Stops.{Stops}
 use Rattle.ss_messages.specs.declared.request.Command.{Command}
 use Rattle.ss_messages.specs.declared.request.Command.TheVariants.{Initialize, Disconnect, Terminate, Bad, Unknown}
 use Rattle.ss_messages.specs.Messages.{Sent, reply, failure, event}
@@ -35,7 +36,7 @@ abbrev pub refused : List ℕ → List Sent
 refused line = failure (without_last line) ∷ event (codes "output") (output_body (codes "stderr") line) ∷ []
 
 -- a debugger at the start of the run of a model over its data, and a desk on which nothing is set or told
-pub record IsLaunched (model text path : List ℕ) (stops : Bool) (d : DebuggerView) (k : DeskView) : Type 0 where
+pub record IsLaunched (model text path : List ℕ) (stops : Stops) (d : DebuggerView) (k : DeskView) : Type 0 where
   -- the program is that of the model
   pub program : IsOutcome model (accepted d.machine.input.program)
   -- its run is the one over the data

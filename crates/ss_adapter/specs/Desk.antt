@@ -1,5 +1,6 @@
 -- What the adapter keeps beside the debugger.
-use Rattle.std.specs.Prelude.{ℕ, Bool, List}
+use Rattle.std.specs.Prelude.{ℕ, List}
+use Rattle.ss_messages.specs.declared.request.Stops.{Stops}
 
 -- what the adapter keeps beside the debugger
 pub record DeskView : Type 0 where
@@ -13,5 +14,5 @@ pub record DeskView : Type 0 where
   pub watched : List (List ℕ)
   -- how much of the report is told
   pub told : ℕ
-  -- whether configurationDone stops where the run stands
-  pub stops : Bool
+  -- whether configurationDone stops where the run stands, and whether the run stops at its end
+  pub stops : Stops

@@ -6,5 +6,6 @@ pub mod Looking
 pub mod Reach
 pub mod Going
 pub mod Watch
+pub mod Console
 pub mod Turn
 pub mod Before

@@ -1,5 +1,5 @@
 -- What the debugger's states show: the bodies of replies, each read off one state of the run.
-use Rattle.std.specs.Prelude.{ℕ, ◌+◌, ◌-◌, List, [], ◌∷◌, ◌++◌, codes, nat_eq}
+use Rattle.std.specs.Prelude.{ℕ, Bool, true, false, not, ◌&&◌, List, [], ◌∷◌, ◌++◌, codes, nat_eq}
 use Rattle.std.specs.Prelude.{Option, Some, None, if◌then◌else◌, bytes_eq}
 use Rattle.std.specs.Option.{option_or}
 use Rattle.ss_words.specs.Faults.{run_fault_number}
@@ -41,6 +41,16 @@ reason_at t breaks p = reason_by (run t p).status (ready_reason t breaks p)
 -- the break line at which it stops, where that is why
 abbrev pub hit_at : Input → List ℕ → ℕ → Option ℕ
 hit_at t breaks p = if bytes_eq (reason_at t breaks p) (codes "breakpoint") then line_id (line_at t p) else None
+
+-- whether a run has ended with this status, by no fault
+abbrev pub is_end : Status → Bool
+is_end Stopped = true
+is_end Finished = true
+is_end _ = false
+
+-- whether a run with this status is over for the editor: at its end, where it doesn't stop there
+abbrev pub is_over : Bool → Status → Bool
+is_over at_end status = not at_end && is_end status
 
 -- the fault of a status
 abbrev pub exception_by : Status → Option (List ℕ)

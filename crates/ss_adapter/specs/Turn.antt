@@ -1,5 +1,5 @@
 -- One turn of the adapter: what a request is answered with, and where it leads.
-use Rattle.std.specs.Prelude.{ℕ, ◌+◌, max, true, List, [], ◌∷◌, ◌++◌, codes, drop, length, take, nat_lt, nat_eq}
+use Rattle.std.specs.Prelude.{ℕ, ◌+◌, max, Bool, true, List, [], ◌∷◌, ◌++◌, codes, drop, length, take, nat_lt, nat_eq}
 use Rattle.std.specs.Prelude.{Option, Some, None, slice_get, if◌then◌else◌}
 use Rattle.ss_program.specs.Program.{ProgramTable}
 use Rattle.ss_machine.specs.State.{State}
@@ -34,8 +34,9 @@ use Rattle.ss_adapter.specs.declared.turns.Further.{Further}
 use Rattle.ss_adapter.specs.declared.turns.Further.TheVariants as further
 use Rattle.ss_adapter.specs.declared.reach.Way.TheVariants.{Forward}
 use Rattle.ss_adapter.specs.Going.{going_of, run_going, state_behind, going_answer, watched_by}
-use Rattle.ss_adapter.specs.Looking.{reason_at, hit_at, exception_by, question_of}
+use Rattle.ss_adapter.specs.Looking.{reason_at, hit_at, is_over, exception_by, question_of}
 use Rattle.ss_adapter.specs.Completions.{completions}
+use Rattle.ss_adapter.specs.Console.{named_break, points_told, desk_behind}
 use Rattle.ss_adapter.specs.Places.{Setting, setting_of, section_setting_of}
 use Rattle.ss_adapter.specs.Watch.{watching_of, info_of}
 use Rattle.ss_adapter.specs.Desk.{DeskView}
@@ -91,24 +92,29 @@ change_text answer question = without_last answer ++ codes ": " ++ question
 abbrev pub changed : List ℕ → ℕ → List ℕ → Sent
 changed answer place question = stopped (codes "data breakpoint") (change_text answer question) (Some (place + 1))
 
--- it ended where the debugger is
-abbrev pub ended : Input → DebuggerState → List ℕ → Sent
-ended t d answer =
-    stopped (reason_at t d.breaks d.position) (without_last answer) (hit_at t d.breaks d.position)
+-- the run is over for the editor
+abbrev pub over : List Sent
+over = event (codes "terminated") (codes "{}") ∷ event (codes "exited") NO_EXIT.now ∷ []
+
+-- it ended where the debugger is: the run stops there, or is over, where it doesn't stop at its end
+abbrev pub ended : Input → DebuggerState → Bool → List ℕ → List Sent
+ended t d at_end answer =
+    if is_over at_end (run t d.position).status then over
+    else stopped (reason_at t d.breaks d.position) (without_last answer) (hit_at t d.breaks d.position) ∷ []
 
 -- the one or the other, by the data break point in that place, if there is one
-abbrev pub end_by : Input → DebuggerState → List ℕ → ℕ → Option (List ℕ) → Sent
-end_by t d answer place None = ended t d answer
-end_by t d answer place (Some question) = changed answer place question
+abbrev pub end_by : Input → DebuggerState → Bool → List ℕ → ℕ → Option (List ℕ) → List Sent
+end_by t d at_end answer place None = ended t d at_end answer
+end_by t d at_end answer place (Some question) = changed answer place question ∷ []
 
 -- by the place, if it ended at a change
-abbrev pub end_of : Input → DebuggerState → List (List ℕ) → List ℕ → Option ℕ → Sent
-end_of t d watched answer None = ended t d answer
-end_of t d watched answer (Some place) = end_by t d answer place (slice_get watched place)
+abbrev pub end_of : Input → DeskView → DebuggerState → List ℕ → Option ℕ → List Sent
+end_of t k d answer None = ended t d k.stops.at_end answer
+end_of t k d answer (Some place) = end_by t d k.stops.at_end answer place (slice_get k.watched place)
 
 -- what follows a movement to d with this answer: first what was printed, then where it stopped
 abbrev pub behind_movement : Input → DeskView → DebuggerState → List ℕ → Option ℕ → List Sent
-behind_movement t k d answer place = untold k.told (report_at t d) ++ end_of t d k.watched answer place ∷ []
+behind_movement t k d answer place = untold k.told (report_at t d) ++ end_of t k d answer place
 
 -- what follows a movement by its answer
 abbrev pub behind_going : AdapterState → Going → List ℕ → List Sent
@@ -127,10 +133,17 @@ running s = run_going s.input s.debugger s.desk.watched Forward
 abbrev pub here : Input → ℕ → List ℕ → List Sent
 here t p reason = reply (codes "{}") ∷ stopped reason (without_last (state_line t p)) None ∷ []
 
--- a line that is obeyed: its answer, and, behind a movement, where it stopped
+-- what is told of the break line that a line of the console names
+abbrev pub pointed : AdapterState → Line → List Sent
+pointed s line =
+    points_told s.input.program s.desk.path (debugger_state_after s.input s.debugger line).breaks s.debugger.breaks
+    (named_break line)
+
+-- a line of the console that is obeyed: its answer, and, behind a movement, where it stopped, else what is told of a
+-- break line
 abbrev pub obeyed : AdapterState → Line → List Sent
 obeyed s (Move m) = gone s (result_body (answer s.input s.debugger (Move m))) (Standing m)
-obeyed s line = reply (result_body (answer s.input s.debugger line)) ∷ []
+obeyed s line = reply (result_body (answer s.input s.debugger line)) ∷ pointed s line
 
 -- a question that is answered
 abbrev pub asked : Input → ℕ → Option Question → List Sent
@@ -160,14 +173,14 @@ abbrev pub source_messages : List ℕ → ℕ → List Sent
 source_messages report reference =
     if nat_eq reference 1 then reply (content_body report) ∷ [] else failure (codes "no source") ∷ []
 
--- the run is over for the editor
+-- a reply, and the run is over
 abbrev pub terminated : List Sent
-terminated = reply (codes "{}") ∷ event (codes "terminated") (codes "{}") ∷ event (codes "exited") NO_EXIT.now ∷ []
+terminated = reply (codes "{}") ∷ over
 
 -- configurationDone
 abbrev pub configuring : AdapterState → List Sent
 configuring s =
-    if s.desk.stops then here s.input s.debugger.position (codes "entry") else gone s (codes "{}") (running s)
+    if s.desk.stops.at_start then here s.input s.debugger.position (codes "entry") else gone s (codes "{}") (running s)
 
 -- a page of the frames of a state, and how many there are
 abbrev pub framed : Input → State → List ℕ → ℕ → ℕ → List Sent
@@ -223,8 +236,12 @@ answers s command = answers_by s command (going_of s.input s.debugger s.desk.wat
 -- behind a line
 abbrev pub behind_line : AdapterState → Line → AdapterState
 behind_line s (Move m) = moved s (debugger_state_after s.input s.debugger (Move m))
-behind_line s line =
-    record { input = s.input; debugger = debugger_state_after s.input s.debugger line; desk = s.desk }
+behind_line s line = record {
+  input = s.input;
+  debugger = debugger_state_after s.input s.debugger line;
+  desk = desk_behind s.desk (debugger_state_after s.input s.debugger line).breaks s.debugger.breaks
+      (named_break line);
+}
 
 -- behind break lines
 abbrev pub behind_setting : AdapterState → Setting → AdapterState
@@ -282,14 +299,14 @@ configured s = record {
     sections = s.desk.sections;
     watched = s.desk.watched;
     told = s.desk.told;
-    stops = true;
+    stops = record { at_start = true; at_end = s.desk.stops.at_end };
   };
 }
 
 -- behind configurationDone
 abbrev pub behind_configuring : AdapterState → AdapterState
 behind_configuring s =
-    configured (if s.desk.stops then s else moved s (state_behind s.input s.debugger (running s)))
+    configured (if s.desk.stops.at_start then s else moved s (state_behind s.input s.debugger (running s)))
 
 -- behind a request that asks for no movement
 unfoldable pub left_by : AdapterState → Command → AdapterState

@@ -13,9 +13,9 @@ ghost use Rattle.ss_adapter.specs.Turn.{looked, completed, terminated};
 
 use crate::completions::completions;
 use crate::desk::Desk;
-use crate::fixed::{CAPABILITIES, NO_EXIT, THREADS};
+use crate::fixed::{CAPABILITIES, THREADS};
 use crate::looking::{exception, question};
-use crate::telling::tell_here;
+use crate::telling::{tell_here, tell_over};
 use crate::watch::info;
 use ss_debug::Debugger;
 use ss_links::SetBoard;
@@ -217,8 +217,7 @@ pub fn terminate(request: &Request, post: &mut Post) -> Result<(), AllocError>
     ensures { OnOk result (post.new ≡ posted_all request.now post.old terminated) }
 {
     post.reply(request, NOTHING)?;
-    post.event(request, b"terminated", NOTHING)?;
-    post.event(request, b"exited", NO_EXIT)
+    tell_over(request, post)
 }
 
 /// Answers a request that asks about the run.

@@ -42,7 +42,7 @@ fn nearest_in(from: u64, nearest: Option<u32>, places: &[Spot]) -> Option<u32>
 
 /// The nearest line with a place, from a line on.
 #[tactic(auto, unfolding(crate::specs::Places::next_line), using(crate::proofs::Nearest::fold_both))]
-fn next_line(program: &Program, from: u64) -> Option<u32>
+pub fn next_line(program: &Program, from: u64) -> Option<u32>
     ensures { result ≡ next_line program.now from }
 {
     let mut best = None;

@@ -1,7 +1,7 @@
 //! What the adapter keeps beside the debugger.
 ghost use Rattle.std.specs.Prelude.{◌≡◌, []};
 
-use ss_messages::Text;
+use ss_messages::{Stops, Text};
 use std::alloc::Global;
 use std::marker::Model;
 
@@ -21,8 +21,8 @@ pub struct Desk {
     pub(crate) watched: Vec<Text>,
     /// How much of the report is told.
     pub(crate) told: usize,
-    /// Whether configurationDone stops where the run stands.
-    pub(crate) stops: bool,
+    /// Whether configurationDone stops where the run stands, and whether the run stops at its end.
+    pub(crate) stops: Stops,
 }
 
 impl Model for Desk {
@@ -42,7 +42,7 @@ impl Model for Desk {
 
 impl Desk {
     /// Nothing is set or told yet.
-    pub fn new(alloc: Global, path: Vec<u8>, stops: bool) -> Self
+    pub fn new(alloc: Global, path: Vec<u8>, stops: Stops) -> Self
         ensures { result ≡ record {
           path = path.items;
           set = [];

@@ -5,6 +5,7 @@ mod asking;
 mod before;
 mod breaks;
 mod completions;
+mod console;
 mod desk;
 mod fixed;
 mod going;

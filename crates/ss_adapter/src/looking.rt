@@ -4,7 +4,7 @@ ghost use Rattle.ss_debug.specs.Command.{command_of};
 ghost use Rattle.ss_debug.specs.Move.{line_at};
 ghost use Rattle.ss_machine.specs.Moment.{position};
 ghost use Rattle.ss_machine.specs.Run.{run};
-ghost use Rattle.ss_adapter.specs.Looking.{reason_at, hit_at, exception_by};
+ghost use Rattle.ss_adapter.specs.Looking.{reason_at, hit_at, is_end, is_over, exception_by};
 ghost use Rattle.ss_adapter.specs.Looking.{question_in, attribute_in, attribute_of, question_of};
 ghost use Rattle.ss_adapter.specs.Places.{line_id};
 
@@ -69,6 +69,24 @@ pub fn hit<S: SetBoard>(debugger: &Debugger<S>) -> Option<u64>
         return line_id(present_line(debugger.machine()));
     }
     None
+}
+
+/// Whether a run has ended with this status, by no fault.
+fn is_end(status: Status) -> bool
+    ensures { result ≡ is_end status }
+{
+    match status {
+        Status::Stopped | Status::Finished => true,
+        _ => false,
+    }
+}
+
+/// Whether the run is over for the editor where it stands: at its end, where it doesn't stop there.
+pub fn is_over<S: SetBoard>(machine: &Machine<S>, at_end: bool) -> bool
+    ensures { result ≡ is_over at_end (run machine.now.input (position machine.now)).status }
+{
+    machine.known();
+    !at_end && is_end(machine.status())
 }
 
 /// The word of a fault.

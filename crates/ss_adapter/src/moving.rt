@@ -1,19 +1,17 @@
 //! Requests that move the run.
 ghost use Rattle.std.specs.Prelude.{◌≡◌, ◌+◌, ◌-◌, ◌^◌, ◌<◌, codes, OnOk};
 ghost use Rattle.ss_debug.specs.View.{debugger_state_of};
-ghost use Rattle.ss_debug.specs.declared.commands.Command.TheVariants.{Move};
 ghost use Rattle.ss_messages.specs.Messages.{posted_all};
 ghost use Rattle.ss_adapter.specs.Going.{state_behind};
-ghost use Rattle.ss_adapter.specs.Turn.{adapter_state_of, moved, gone, obeyed, behind_line};
-ghost use Rattle.ss_adapter.specs.Turn.{configuring, behind_configuring};
+ghost use Rattle.ss_adapter.specs.Turn.{adapter_state_of, moved, gone, configuring, behind_configuring};
 
 use crate::desk::Desk;
-use crate::going::{Going, make, make_watched, run_going};
+use crate::going::{Going, make_watched, run_going};
 use crate::reach::Way;
 use crate::telling::{tell_here, tell_movement};
-use ss_debug::{Debugger, obey};
+use ss_debug::Debugger;
 use ss_links::SetBoard;
-use ss_messages::{NOTHING, Post, Request, result_body};
+use ss_messages::{NOTHING, Post, Request};
 use std::alloc::AllocError;
 
 /// Makes a movement that a request asks for.
@@ -25,7 +23,7 @@ pub fn go<S: SetBoard>(
     post: &mut Post,
     going: Going,
 ) -> Result<(), AllocError>
-    requires { post.old.sent + 2 < 2 ^ 64 - 1 }
+    requires { post.old.sent + 3 < 2 ^ 64 - 1 }
     ensures input { debugger.new.machine.input ≡ debugger.old.machine.input }
     ensures sent { OnOk result (post.new ≡ posted_all request.now post.old
         (gone (adapter_state_of debugger.old desk.old) (codes "{}") going)) }
@@ -39,56 +37,6 @@ pub fn go<S: SetBoard>(
     tell_movement(debugger, desk, request, post, &answer, changed)
 }
 
-/// Makes a movement that a line says, whose answer is the result.
-#[tactic(auto, unfolding(ss_messages::specs::Messages::posted_all))]
-fn go_by_line<S: SetBoard>(
-    debugger: &mut Debugger<S>,
-    desk: &mut Desk,
-    request: &Request,
-    post: &mut Post,
-    movement: ss_debug::Movement,
-) -> Result<(), AllocError>
-    requires { post.old.sent + 2 < 2 ^ 64 - 1 }
-    ensures input { debugger.new.machine.input ≡ debugger.old.machine.input }
-    ensures sent { OnOk result (post.new ≡ posted_all request.now post.old
-        (obeyed (adapter_state_of debugger.old desk.old) (Move movement))) }
-    ensures state { OnOk result (adapter_state_of debugger.new desk.new
-        ≡ behind_line (adapter_state_of debugger.old desk.old) (Move movement)) }
-{
-    let mut said = Vec::new(post.alloc());
-    make(debugger, Going::Standing(movement), &mut said)?;
-    let body = result_body(post.alloc(), &said)?;
-    post.reply(request, &body)?;
-    tell_movement(debugger, desk, request, post, &said, None)
-}
-
-/// Obeys a line of the debugger.
-#[tactic(auto, unfolding(ss_messages::specs::Messages::posted_all))]
-pub fn obey_line<S: SetBoard>(
-    debugger: &mut Debugger<S>,
-    desk: &mut Desk,
-    request: &Request,
-    post: &mut Post,
-    line: ss_debug::Command,
-) -> Result<(), AllocError>
-    requires { post.old.sent + 2 < 2 ^ 64 - 1 }
-    ensures input { debugger.new.machine.input ≡ debugger.old.machine.input }
-    ensures sent { OnOk result (post.new ≡ posted_all request.now post.old
-        (obeyed (adapter_state_of debugger.old desk.old) line)) }
-    ensures state { OnOk result (adapter_state_of debugger.new desk.new
-        ≡ behind_line (adapter_state_of debugger.old desk.old) line) }
-{
-    match line {
-        ss_debug::Command::Move(movement) => go_by_line(debugger, desk, request, post, movement),
-        other => {
-            let mut answer = Vec::new(post.alloc());
-            obey(debugger, other, &mut answer)?;
-            let body = result_body(post.alloc(), &answer)?;
-            post.reply(request, &body)
-        }
-    }
-}
-
 /// configurationDone: the run stops where it stands, or runs.
 #[tactic(auto, unfolding(ss_messages::specs::Messages::posted_all))]
 pub fn configure<S: SetBoard>(
@@ -97,18 +45,18 @@ pub fn configure<S: SetBoard>(
     request: &Request,
     post: &mut Post,
 ) -> Result<(), AllocError>
-    requires { post.old.sent + 2 < 2 ^ 64 - 1 }
+    requires { post.old.sent + 3 < 2 ^ 64 - 1 }
     ensures input { debugger.new.machine.input ≡ debugger.old.machine.input }
     ensures sent { OnOk result (post.new ≡ posted_all request.now post.old
         (configuring (adapter_state_of debugger.old desk.old))) }
     ensures state { OnOk result (adapter_state_of debugger.new desk.new
         ≡ behind_configuring (adapter_state_of debugger.old desk.old)) }
 {
-    if desk.stops {
+    if desk.stops.at_start {
         return tell_here(debugger, request, post, b"entry");
     }
     let running = run_going(post.alloc(), debugger, &desk.watched, Way::Forward)?;
     go(debugger, desk, request, post, running)?;
-    desk.stops = true;
+    desk.stops.at_start = true;
     Ok(())
 }

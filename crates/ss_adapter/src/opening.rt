@@ -13,7 +13,7 @@ ghost use Rattle.ss_adapter.specs.Before.{launched, refused, IsLaunched, fault_l
 use crate::desk::Desk;
 use ss_debug::Debugger;
 use ss_links::LinkedSets;
-use ss_messages::{NOTHING, Post, Request, output_body, without_last};
+use ss_messages::{NOTHING, Post, Request, Stops, output_body, without_last};
 use ss_session::{LoadFault, load_program, machine, refusal_text};
 use std::alloc::{AllocError, Global};
 
@@ -75,7 +75,7 @@ pub fn launch(
     request: &Request,
     post: &mut Post,
     path: &[u8],
-    stops: bool,
+    stops: Stops,
     model: &[u8],
     text: &[u8],
 ) -> Result<Option<(Debugger<LinkedSets>, Desk)>, AllocError>

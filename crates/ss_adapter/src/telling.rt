@@ -4,13 +4,14 @@ ghost use Rattle.ss_machine.specs.Moment.{position};
 ghost use Rattle.ss_debug.specs.View.{debugger_state_of};
 ghost use Rattle.ss_messages.specs.Messages.{posted, posted_all};
 ghost use Rattle.ss_adapter.specs.Turn.{told_with, report_at, untold, stopped, behind_movement, here};
-ghost use Rattle.ss_adapter.specs.Turn.{change_text, changed, ended, end_by, end_of};
+ghost use Rattle.ss_adapter.specs.Turn.{change_text, changed, over, ended, end_by, end_of};
 
 use crate::desk::Desk;
-use crate::looking::{hit, reason};
+use crate::fixed::NO_EXIT;
+use crate::looking::{hit, is_over, reason};
 use ss_debug::{Debugger, Question};
 use ss_links::SetBoard;
-use ss_messages::{NOTHING, Post, Request, Text, output_body, stopped_body, without_last};
+use ss_messages::{NOTHING, Post, Request, output_body, stopped_body, without_last};
 use std::alloc::{AllocError, Global};
 
 /// Sends the part of the report that is not told yet, and notes how much is.
@@ -89,38 +90,55 @@ fn tell_change(
     )
 }
 
-/// Sends that a movement, of which this is the answer, ended where the run stands.
+/// Sends that the run is over for the editor.
+#[tactic(auto, unfolding(ss_messages::specs::Messages::posted_all))]
+pub fn tell_over(request: &Request, post: &mut Post) -> Result<(), AllocError>
+    requires { post.old.sent + 1 < 2 ^ 64 - 1 }
+    ensures { OnOk result (post.new ≡ posted_all request.now post.old over) }
+{
+    post.event(request, b"terminated", NOTHING)?;
+    post.event(request, b"exited", NO_EXIT)
+}
+
+/// Sends that a movement, of which this is the answer, ended where the run stands: that it stops
+/// there, or is over, where it doesn't stop at its end.
+#[tactic(auto, unfolding(ss_messages::specs::Messages::posted_all))]
 fn tell_ended<S: SetBoard>(
     debugger: &Debugger<S>,
+    at_end: bool,
     request: &Request,
     post: &mut Post,
     answer: &[u8],
 ) -> Result<(), AllocError>
-    requires { post.old.sent < 2 ^ 64 - 1 }
-    ensures { OnOk result (post.new ≡ posted request.now post.old (ended
-        debugger.now.machine.input (debugger_state_of debugger.now) answer.now)) }
+    requires { post.old.sent + 1 < 2 ^ 64 - 1 }
+    ensures { OnOk result (post.new ≡ posted_all request.now post.old (ended
+        debugger.now.machine.input (debugger_state_of debugger.now) at_end answer.now)) }
 {
+    if is_over(debugger.machine(), at_end) {
+        return tell_over(request, post);
+    }
     let hit = hit(debugger);
     tell_stop(request, post, reason(debugger), without_last(answer), hit)
 }
 
 /// Sends that a movement ended at the change of the data break point in this place, if there is
 /// one.
+#[tactic(auto, unfolding(ss_messages::specs::Messages::posted_all))]
 fn tell_end_at<S: SetBoard>(
     debugger: &Debugger<S>,
-    watched: &[Text],
+    desk: &Desk,
     request: &Request,
     post: &mut Post,
     answer: &[u8],
     place: usize,
 ) -> Result<(), AllocError>
-    requires { post.old.sent < 2 ^ 64 - 1 }
-    ensures { OnOk result (post.new ≡ posted request.now post.old (end_by
-        debugger.now.machine.input (debugger_state_of debugger.now) answer.now place
-        (slice_get watched.now place))) }
+    requires { post.old.sent + 1 < 2 ^ 64 - 1 }
+    ensures { OnOk result (post.new ≡ posted_all request.now post.old (end_by
+        debugger.now.machine.input (debugger_state_of debugger.now) desk.now.stops.at_end answer.now place
+        (slice_get desk.now.watched place))) }
 {
-    match watched.get(place) {
-        None => tell_ended(debugger, request, post, answer),
+    match desk.watched.get(place) {
+        None => tell_ended(debugger, desk.stops.at_end, request, post, answer),
         Some(question) => tell_change(request, post, answer, place, question.as_slice()),
     }
 }
@@ -128,26 +146,25 @@ fn tell_end_at<S: SetBoard>(
 /// Sends where a movement ended: perhaps at the change of the data break point in this place.
 fn tell_end<S: SetBoard>(
     debugger: &Debugger<S>,
-    watched: &[Text],
+    desk: &Desk,
     request: &Request,
     post: &mut Post,
     answer: &[u8],
     changed: Option<usize>,
 ) -> Result<(), AllocError>
-    requires { post.old.sent < 2 ^ 64 - 1 }
-    ensures { OnOk result (post.new ≡ posted request.now post.old (end_of
-        debugger.now.machine.input (debugger_state_of debugger.now) watched.now answer.now
-        changed)) }
+    requires { post.old.sent + 1 < 2 ^ 64 - 1 }
+    ensures { OnOk result (post.new ≡ posted_all request.now post.old (end_of
+        debugger.now.machine.input desk.now (debugger_state_of debugger.now) answer.now changed)) }
 {
     match changed {
-        None => tell_ended(debugger, request, post, answer),
-        Some(place) => tell_end_at(debugger, watched, request, post, answer, place),
+        None => tell_ended(debugger, desk.stops.at_end, request, post, answer),
+        Some(place) => tell_end_at(debugger, desk, request, post, answer, place),
     }
 }
 
 /// Sends what follows a movement, of which this is the answer, and which perhaps ended at the change
 /// of the data break point in a place.
-#[tactic(auto, using(ss_messages::proofs::Posts::posted_both, ss_messages::proofs::Posts::posted_one))]
+#[tactic(auto, using(ss_messages::proofs::Posts::posted_both))]
 pub fn tell_movement<S: SetBoard>(
     debugger: &Debugger<S>,
     desk: &mut Desk,
@@ -156,7 +173,7 @@ pub fn tell_movement<S: SetBoard>(
     answer: &[u8],
     changed: Option<usize>,
 ) -> Result<(), AllocError>
-    requires { post.old.sent + 1 < 2 ^ 64 - 1 }
+    requires { post.old.sent + 2 < 2 ^ 64 - 1 }
     ensures sent { OnOk result (post.new ≡ posted_all request.now post.old
         (behind_movement debugger.now.machine.input desk.old (debugger_state_of debugger.now)
         answer.now changed)) }
@@ -164,7 +181,7 @@ pub fn tell_movement<S: SetBoard>(
         (report_at debugger.now.machine.input (debugger_state_of debugger.now))) }
 {
     tell_report(debugger, desk, request, post)?;
-    tell_end(debugger, &desk.watched, request, post, answer, changed)
+    tell_end(debugger, desk, request, post, answer, changed)
 }
 
 /// Tells where the run stands.

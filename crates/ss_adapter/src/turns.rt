@@ -4,9 +4,10 @@ ghost use Rattle.ss_messages.specs.Messages.{posted_all};
 ghost use Rattle.ss_adapter.specs.Turn.{adapter_state_of, told_of, left_by, answers, state_after, further_of};
 
 use crate::asking::look;
+use crate::console::obey_line;
 use crate::desk::Desk;
 use crate::going::asked_movement;
-use crate::moving::{configure, go, obey_line};
+use crate::moving::{configure, go};
 use crate::setting::{set_breaks, set_section_breaks, set_watch};
 use ss_debug::{Debugger, command};
 use ss_links::SetBoard;
@@ -30,7 +31,7 @@ fn answer_standing<S: SetBoard>(
     request: &Request,
     post: &mut Post,
 ) -> Result<(), AllocError>
-    requires { post.old.sent + 2 < 2 ^ 64 - 1 }
+    requires { post.old.sent + 3 < 2 ^ 64 - 1 }
     ensures input { debugger.new.machine.input ≡ debugger.old.machine.input }
     ensures sent { OnOk result (post.new ≡ posted_all request.now post.old
         (told_of (adapter_state_of debugger.old desk.old) request.now.command)) }
@@ -73,7 +74,7 @@ pub fn turn<S: SetBoard>(
     request: &Request,
     post: &mut Post,
 ) -> Result<Further, AllocError>
-    requires { post.old.sent + 2 < 2 ^ 64 - 1 }
+    requires { post.old.sent + 3 < 2 ^ 64 - 1 }
     ensures input { debugger.new.machine.input ≡ debugger.old.machine.input }
     ensures sent { OnOk result (post.new ≡ posted_all request.now post.old
         (answers (adapter_state_of debugger.old desk.old) request.now.command)) }

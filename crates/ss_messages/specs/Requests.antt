@@ -16,6 +16,7 @@ use Rattle.ss_messages.specs.declared.request.Command.TheVariants.{ReverseContin
 use Rattle.ss_messages.specs.declared.request.Command.TheVariants.{Disconnect, Terminate, Bad, Unknown}
 use Rattle.ss_messages.specs.declared.request.Filter.{Filter}
 use Rattle.ss_messages.specs.declared.request.Filter.TheVariants.{All, Named, Indexed}
+use Rattle.ss_messages.specs.declared.request.Stops.{Stops}
 use Rattle.ss_messages.specs.declared.request.Wanted.{Wanted}
 use Rattle.ss_messages.specs.declared.request.Request.{Request}
 
@@ -33,9 +34,9 @@ number_at key d = unwrap_or (number_in key d) 0
 abbrev pub text_at : List ℕ → Data → Option (List ℕ)
 text_at key d = option_and_then as_str (get key d)
 
--- whether true stands at a key
-abbrev pub flag_at : List ℕ → Data → Bool
-flag_at key d = unwrap_or (option_and_then as_bool (get key d)) false
+-- the flag at a key, or this one
+abbrev pub flag_at : List ℕ → Bool → Data → Bool
+flag_at key other d = unwrap_or (option_and_then as_bool (get key d)) other
 
 -- whether a text stands at a key
 abbrev pub is_text_at : List ℕ → List ℕ → Data → Bool
@@ -69,14 +70,21 @@ arguments_of d = unwrap_or (get (codes "arguments") d) null
 
 -- ---- commands
 
+-- where a run stops of itself: at its end unless it is said that it does not
+abbrev pub stops_of : Data → Stops
+stops_of d = record {
+  at_start = flag_at (codes "stopOnEntry") false d;
+  at_end = flag_at (codes "stopAtEnd") true d;
+}
+
 -- launch needs a model
-abbrev pub launch_with : Option (List ℕ) → Option (List ℕ) → Bool → Command
+abbrev pub launch_with : Option (List ℕ) → Option (List ℕ) → Stops → Command
 launch_with None input stops = Bad
 launch_with (Some model) input stops = Launch model input stops
 
 -- launch
 abbrev pub launch_of : Data → Command
-launch_of d = launch_with (text_at (codes "model") d) (text_at (codes "data") d) (flag_at (codes "stopOnEntry") d)
+launch_of d = launch_with (text_at (codes "model") d) (text_at (codes "data") d) (stops_of d)
 
 -- evaluate needs an expression
 abbrev pub evaluate_with : Bool → Option (List ℕ) → Command

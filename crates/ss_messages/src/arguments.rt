@@ -4,10 +4,10 @@ ghost use Rattle.serde_json.specs.View.{view};
 ghost use Rattle.std.specs.Prelude.{[], unwrap_or};
 ghost use Rattle.ss_messages.specs.Requests.{units_of, within_units};
 ghost use Rattle.ss_messages.specs.Requests.{number_at, number_in, text_at, flag_at, is_text_at, lines_at, texts_at};
-ghost use Rattle.ss_messages.specs.Requests.{launch_of, evaluate_of, info_of, completions_of, filter_of, wanted_of};
+ghost use Rattle.ss_messages.specs.Requests.{stops_of, launch_of, evaluate_of, info_of, completions_of, filter_of, wanted_of};
 
 use crate::parts::{Lines, Text, Texts};
-use crate::request::{Command, Filter, Wanted};
+use crate::request::{Command, Filter, Stops, Wanted};
 use serde_json::Value;
 use std::alloc::{AllocError, Global};
 
@@ -32,11 +32,11 @@ pub fn text_at<'a>(value: &'a Value, key: &'static str) -> Option<&'a str>
     value.get(key).and_then(Value::as_str)
 }
 
-/// Whether true stands at a key.
-fn flag_at(value: &Value, key: &'static str) -> bool
-    ensures { result ≡ flag_at key.now (view value.now) }
+/// The flag at a key, or this one.
+fn flag_at(value: &Value, key: &'static str, other: bool) -> bool
+    ensures { result ≡ flag_at key.now other (view value.now) }
 {
-    value.get(key).and_then(Value::as_bool).unwrap_or(false)
+    value.get(key).and_then(Value::as_bool).unwrap_or(other)
 }
 
 /// Whether a text stands at a key.
@@ -56,6 +56,16 @@ fn own_text(alloc: Global, value: &Value, key: &'static str) -> Result<Option<Te
     }
 }
 
+/// Where a run stops of itself: at its end unless it is said that it does not.
+fn stops_of(arguments: &Value) -> Stops
+    ensures { result ≡ stops_of (view arguments.now) }
+{
+    Stops {
+        at_start: flag_at(arguments, "stopOnEntry", false),
+        at_end: flag_at(arguments, "stopAtEnd", true),
+    }
+}
+
 /// launch, which needs a model.
 pub fn launch(alloc: Global, arguments: &Value) -> Result<Command, AllocError>
     ensures { IfOk result (λ command. command ≡ launch_of (view arguments.now)) }
@@ -64,7 +74,7 @@ pub fn launch(alloc: Global, arguments: &Value) -> Result<Command, AllocError>
         return Ok(Command::Bad);
     };
     let data = own_text(alloc, arguments, "data")?;
-    Ok(Command::Launch(model, data, flag_at(arguments, "stopOnEntry")))
+    Ok(Command::Launch(model, data, stops_of(arguments)))
 }
 
 /// evaluate, which needs an expression.

@@ -20,5 +20,8 @@ pub use frame::{FrameFault, MESSAGE_LIMIT, read_message};
 pub use messages::push_number;
 pub use parts::{Lines, Text, Texts};
 pub use post::Post;
-pub use request::{Command, Filter, Request, RequestFault, Wanted, read_request};
-pub use shown::{frames_body, info_body, no_info_body, paged_item, scope_item, target_item};
+pub use request::{Command, Filter, Request, RequestFault, Stops, Wanted, read_request};
+pub use shown::{
+    frames_body, info_body, new_point_body, no_info_body, paged_item, removed_point_body,
+    scope_item, target_item,
+};

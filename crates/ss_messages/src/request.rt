@@ -37,13 +37,22 @@ pub struct Wanted {
     pub filter: Filter,
 }
 
+/// Where a run stops of itself.
+#[derive(Clone, Copy, Debug, PartialEq, Eq)]
+pub struct Stops {
+    /// At its start.
+    pub at_start: bool,
+    /// At its end. Else the session is over there.
+    pub at_end: bool,
+}
+
 /// What a request says (docs/EDITORS.md).
 #[derive(Drop)]
 pub enum Command {
     /// initialize.
     Initialize,
-    /// launch: the path of a model, perhaps that of its data, and whether to stop at the start.
-    Launch(Text, Option<Text>, bool),
+    /// launch: the path of a model, perhaps that of its data, and where the run stops.
+    Launch(Text, Option<Text>, Stops),
     /// setBreakpoints: these lines, and no others.
     SetBreakpoints(Lines),
     /// setFunctionBreakpoints: the sections of these names, and no others.

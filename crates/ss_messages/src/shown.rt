@@ -1,9 +1,10 @@
 //! What an editor shows of a state: frames, scopes, variables that are many, and break points.
 ghost use Rattle.std.specs.Prelude.{◌≡◌, IfOk};
 ghost use Rattle.ss_messages.specs.Shown.{paged_item, frames_body, scope_item, target_item, info_body, no_info_body};
+ghost use Rattle.ss_messages.specs.Shown.{bool_text, new_point_body, removed_point_body};
 
 use crate::bodies::without_first;
-use crate::escape::push_quoted;
+use crate::escape::{push_quoted, push_quoted_text};
 use crate::messages::push_number;
 use std::alloc::{AllocError, Global};
 
@@ -97,5 +98,46 @@ pub fn no_info_body(alloc: Global, reason: &[u8]) -> Result<Vec<u8>, AllocError>
     let mut body = Vec::from_slice(alloc, b"{\"dataId\":null,\"description\":")?;
     push_quoted(&mut body, reason)?;
     body.extend_from_slice(b"}")?;
+    Ok(body)
+}
+
+/// A flag, as it is written.
+fn bool_text(flag: bool) -> &'static [u8]
+    ensures { result.now ≡ bool_text flag }
+{
+    if flag { b"true" } else { b"false" }
+}
+
+/// breakpoint: one of this number is set on a line of the model, where a place stands or not.
+#[tactic(auto, unfolding(crate::specs::Shown::new_point_body))]
+pub fn new_point_body(
+    alloc: Global,
+    id: u64,
+    is_verified: bool,
+    line: u64,
+    path: &[u8],
+) -> Result<Vec<u8>, AllocError>
+    ensures { IfOk result (λ body. body.items ≡ new_point_body id is_verified line path.now) }
+{
+    let mut body = Vec::from_slice(alloc, b"{\"reason\":\"new\",\"breakpoint\":{\"id\":")?;
+    push_number(&mut body, id)?;
+    body.extend_from_slice(b",\"verified\":")?;
+    body.extend_from_slice(bool_text(is_verified))?;
+    body.extend_from_slice(b",\"line\":")?;
+    push_number(&mut body, line)?;
+    body.extend_from_slice(b",\"source\":{\"path\":")?;
+    push_quoted_text(&mut body, path)?;
+    body.extend_from_slice(b"}}}")?;
+    Ok(body)
+}
+
+/// breakpoint: the one of this number is set no more.
+#[tactic(auto, unfolding(crate::specs::Shown::removed_point_body))]
+pub fn removed_point_body(alloc: Global, id: u64) -> Result<Vec<u8>, AllocError>
+    ensures { IfOk result (λ body. body.items ≡ removed_point_body id) }
+{
+    let mut body = Vec::from_slice(alloc, b"{\"reason\":\"removed\",\"breakpoint\":{\"id\":")?;
+    push_number(&mut body, id)?;
+    body.extend_from_slice(b",\"verified\":false}}")?;
     Ok(body)
 }

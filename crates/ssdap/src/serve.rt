@@ -7,7 +7,7 @@ use ss_adapter::{Desk, Further, launch, turn, turn_before};
 use ss_debug::Debugger;
 use ss_host::read_file;
 use ss_links::{LinkedSets, SetBoard};
-use ss_messages::{Command, Request, Text};
+use ss_messages::{Command, Request, Stops, Text};
 use std::io::{Read, Write};
 use std::rt::Files;
 use std::{io, str};
@@ -31,7 +31,7 @@ fn open<R: Files + AllocGlobal, I: Read + Drop, O: Write + Drop>(
     request: &Request,
     model: &Text,
     data_path: &Option<Text>,
-    stops: bool,
+    stops: Stops,
 ) -> Result<Option<(Debugger<LinkedSets>, Desk)>, Stop>
     requires { channel.old.post.sent < 2 ^ 53 }
 {
@@ -58,7 +58,7 @@ fn launched<R: Files + AllocGlobal, I: Read + Drop, O: Write + Drop>(
     request: &Request,
     model: &Text,
     data_path: &Option<Text>,
-    stops: bool,
+    stops: Stops,
 ) -> Result<Further, Stop>
     requires { channel.old.post.sent < 2 ^ 53 }
 {

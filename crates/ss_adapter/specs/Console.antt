@@ -1,0 +1,66 @@
+-- What a line of the console changes of the break points that an editor shows: it becomes a break line, or is none any
+-- more.
+use Rattle.std.specs.Prelude.{ℕ, ◌+◌, Bool, true, false, List, [], ◌∷◌, ◌++◌, codes, nat_eq, Option, Some, None}
+use Rattle.ss_program.specs.Program.{ProgramTable}
+use Rattle.ss_debug.specs.declared.commands.Command.{Command}
+use Rattle.ss_debug.specs.declared.commands.Command.TheVariants.{Break, Clear}
+use Rattle.ss_debug.specs.BreakLines.{is_break_line, without_line}
+use Rattle.ss_messages.specs.Messages.{Sent, event}
+use Rattle.ss_messages.specs.Shown.{new_point_body, removed_point_body}
+use Rattle.ss_adapter.specs.declared.desk.TheConstants.{WATCH_LIMIT}
+use Rattle.ss_adapter.specs.Desk.{DeskView}
+use Rattle.ss_adapter.specs.Places.{next_line}
+
+-- the break line that a line of the console names
+abbrev pub named_break : Command → Option ℕ
+named_break (Break line) = Some line
+named_break (Clear line) = Some line
+named_break _ = None
+
+-- whether a line is the one that is nearest
+abbrev pub is_nearest : ℕ → Option ℕ → Bool
+is_nearest line None = false
+is_nearest line (Some nearest) = nat_eq nearest line
+
+-- whether a place stands on a line
+abbrev pub has_place : ProgramTable → ℕ → Bool
+has_place p line = is_nearest line (next_line p line)
+
+-- what is told of a line, which is a break line now or not, and was one or not: its break point is new, or is removed
+abbrev pub point_told : ProgramTable → List ℕ → ℕ → Bool → Bool → List Sent
+point_told p path line true false =
+    event (codes "breakpoint") (new_point_body (line + WATCH_LIMIT) (has_place p line) line path) ∷ []
+point_told p path line false true = event (codes "breakpoint") (removed_point_body (line + WATCH_LIMIT)) ∷ []
+point_told p path line _ _ = []
+
+-- of the line that is named, if one is, by the break lines now and before
+abbrev pub points_told : ProgramTable → List ℕ → List ℕ → List ℕ → Option ℕ → List Sent
+points_told p path new old None = []
+points_told p path new old (Some line) = point_told p path line (is_break_line new line) (is_break_line old line)
+
+-- the break lines of requests, where a line became one, as if a request for lines had set it
+abbrev pub lines_behind : List ℕ → ℕ → Bool → Bool → List ℕ
+lines_behind set line true false = set ++ line ∷ []
+lines_behind set line false true = without_line line set
+lines_behind set line _ _ = set
+
+-- those of requests for sections
+abbrev pub sections_behind : List ℕ → ℕ → Bool → Bool → List ℕ
+sections_behind sections line false true = without_line line sections
+sections_behind sections line _ _ = sections
+
+-- the desk behind that
+abbrev pub desk_with : DeskView → ℕ → Bool → Bool → DeskView
+desk_with k line new old = record {
+  path = k.path;
+  set = lines_behind k.set line new old;
+  sections = sections_behind k.sections line new old;
+  watched = k.watched;
+  told = k.told;
+  stops = k.stops;
+}
+
+-- the same by the line that is named, if one is
+abbrev pub desk_behind : DeskView → List ℕ → List ℕ → Option ℕ → DeskView
+desk_behind k new old None = k
+desk_behind k new old (Some line) = desk_with k line (is_break_line new line) (is_break_line old line)
