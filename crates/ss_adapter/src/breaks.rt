@@ -127,7 +127,8 @@ fn keep_lines<S: SetBoard>(
     Ok(())
 }
 
-/// Makes the lines of an earlier request no break lines, unless requests of the other kind set them.
+/// Makes the lines of an earlier request no break lines, unless requests of the other kind set
+/// them.
 fn clear<S: SetBoard>(
     alloc: Global,
     debugger: &mut Debugger<S>,
@@ -167,9 +168,10 @@ fn set_next<S: SetBoard>(
     next: Option<u32>,
 ) -> Result<(), AllocError>
     ensures input { debugger.new.machine.input ≡ debugger.old.machine.input }
-    ensures state { OnOk result (IsSetting (debugger_state_of debugger.old) (debugger_state_of debugger.new)
-        set.new.items text.new.items (with_next reason.now
-        (record { breaks = debugger.old.breaks; set = set.old.items; text = text.old.items }) next)) }
+    ensures state { OnOk result (IsSetting (debugger_state_of debugger.old)
+        (debugger_state_of debugger.new) set.new.items text.new.items (with_next reason.now
+        (record { breaks = debugger.old.breaks; set = set.old.items; text = text.old.items })
+        next)) }
 {
     let Some(line) = next else {
         return push_unset(alloc, text, reason);
@@ -193,9 +195,11 @@ fn set_line<S: SetBoard>(
     asked: u64,
 ) -> Result<(), AllocError>
     ensures input { debugger.new.machine.input ≡ debugger.old.machine.input }
-    ensures state { OnOk result (IsSetting (debugger_state_of debugger.old) (debugger_state_of debugger.new)
-        set.new.items text.new.items (with_asked debugger.old.machine.input.program
-        (record { breaks = debugger.old.breaks; set = set.old.items; text = text.old.items }) asked)) }
+    ensures state { OnOk result (IsSetting (debugger_state_of debugger.old)
+        (debugger_state_of debugger.new) set.new.items text.new.items (with_asked
+        debugger.old.machine.input.program
+        (record { breaks = debugger.old.breaks; set = set.old.items; text = text.old.items })
+        asked)) }
 {
     let next = next_line(debugger.machine().program(), asked);
     set_next(
@@ -217,8 +221,9 @@ fn set_section<S: SetBoard>(
     name: &Text,
 ) -> Result<(), AllocError>
     ensures input { debugger.new.machine.input ≡ debugger.old.machine.input }
-    ensures state { OnOk result (IsSetting (debugger_state_of debugger.old) (debugger_state_of debugger.new)
-        set.new.items text.new.items (with_named debugger.old.machine.input.program
+    ensures state { OnOk result (IsSetting (debugger_state_of debugger.old)
+        (debugger_state_of debugger.new) set.new.items text.new.items (with_named
+        debugger.old.machine.input.program
         (record { breaks = debugger.old.breaks; set = set.old.items; text = text.old.items })
         name.now)) }
 {
@@ -245,9 +250,9 @@ pub fn set_lines<S: SetBoard>(
 ) -> Result<(), AllocError>
     requires { text.old.items ≡ [] }
     ensures input { debugger.new.machine.input ≡ debugger.old.machine.input }
-    ensures state { OnOk result (IsSetting (debugger_state_of debugger.old) (debugger_state_of debugger.new)
-        set.new.items text.new.items (setting_of debugger.old.machine.input.program debugger.old.breaks
-        set.old.items kept.now asked.now)) }
+    ensures state { OnOk result (IsSetting (debugger_state_of debugger.old)
+        (debugger_state_of debugger.new) set.new.items text.new.items (setting_of
+        debugger.old.machine.input.program debugger.old.breaks set.old.items kept.now asked.now)) }
 {
     clear(alloc, debugger, set, kept)?;
     set.clear();
@@ -269,9 +274,9 @@ pub fn set_sections<S: SetBoard>(
 ) -> Result<(), AllocError>
     requires { text.old.items ≡ [] }
     ensures input { debugger.new.machine.input ≡ debugger.old.machine.input }
-    ensures state { OnOk result (IsSetting (debugger_state_of debugger.old) (debugger_state_of debugger.new)
-        set.new.items text.new.items (section_setting_of debugger.old.machine.input.program
-        debugger.old.breaks set.old.items kept.now names.now)) }
+    ensures state { OnOk result (IsSetting (debugger_state_of debugger.old)
+        (debugger_state_of debugger.new) set.new.items text.new.items (section_setting_of
+        debugger.old.machine.input.program debugger.old.breaks set.old.items kept.now names.now)) }
 {
     clear(alloc, debugger, set, kept)?;
     set.clear();

@@ -6,7 +6,8 @@ ghost use Rattle.ss_debug.specs.Turn.{debugger_state_after, answer};
 ghost use Rattle.ss_debug.specs.declared.commands.Command.TheVariants.{Move};
 ghost use Rattle.ss_messages.specs.Bodies.{result_body};
 ghost use Rattle.ss_messages.specs.Messages.{posted_all, reply};
-ghost use Rattle.ss_adapter.specs.Console.{named_break, has_place, point_told, lines_behind, sections_behind, desk_with};
+ghost use Rattle.ss_adapter.specs.Console.{named_break, has_place, point_told};
+ghost use Rattle.ss_adapter.specs.Console.{lines_behind, sections_behind, desk_with};
 ghost use Rattle.ss_adapter.specs.Turn.{adapter_state_of, obeyed, behind_line};
 
 use crate::breaks::next_line;
@@ -135,7 +136,8 @@ fn say<S: SetBoard>(
     requires { post.old.sent < 2 ^ 64 - 1 }
     ensures input { debugger.new.machine.input ≡ debugger.old.machine.input }
     ensures sent { OnOk result (post.new ≡ posted_all request.now post.old
-        (reply (result_body (answer debugger.old.machine.input (debugger_state_of debugger.old) line)) ∷ [])) }
+        (reply (result_body (answer debugger.old.machine.input (debugger_state_of debugger.old)
+        line)) ∷ [])) }
     ensures count { OnOk result (post.new.sent ≡ post.old.sent + 1) }
     ensures state { OnOk result (debugger_state_of debugger.new ≡ debugger_state_after
         debugger.old.machine.input (debugger_state_of debugger.old) line) }

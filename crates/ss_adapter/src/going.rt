@@ -159,8 +159,8 @@ fn place_met(place: Option<usize>, answer: &[u8]) -> Option<usize>
     }
 }
 
-/// Makes a movement, and appends its answer; tells the place of the data break point at whose change
-/// it ended, if it did at one.
+/// Makes a movement, and appends its answer; tells the place of the data break point at whose
+/// change it ended, if it did at one.
 pub fn make_watched<S: SetBoard>(
     debugger: &mut Debugger<S>,
     going: Going,

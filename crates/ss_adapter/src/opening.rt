@@ -69,8 +69,8 @@ fn accept(request: &Request, post: &mut Post) -> Result<(), AllocError>
 }
 
 /// Launches the run of a model, whose path is told, over its data, and answers the request. `None`
-/// where the model is refused; the answer says why, and on which line. `AllocError` where memory was
-/// refused.
+/// where the model is refused; the answer says why, and on which line. `AllocError` where memory
+/// was refused.
 pub fn launch(
     request: &Request,
     post: &mut Post,

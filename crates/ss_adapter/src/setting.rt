@@ -40,7 +40,8 @@ pub fn set_breaks<S: SetBoard>(
     requires { post.old.sent < 2 ^ 64 - 1 }
     ensures input { debugger.new.machine.input ≡ debugger.old.machine.input }
     ensures sent { OnOk result (post.new ≡ posted_all request.now post.old (reply
-        (list_body (codes "breakpoints") (setting_in (adapter_state_of debugger.old desk.old) lines.now).text) ∷ [])) }
+        (list_body (codes "breakpoints")
+        (setting_in (adapter_state_of debugger.old desk.old) lines.now).text) ∷ [])) }
     ensures state { OnOk result (adapter_state_of debugger.new desk.new
         ≡ behind_setting (adapter_state_of debugger.old desk.old)
         (setting_in (adapter_state_of debugger.old desk.old) lines.now)) }
@@ -71,7 +72,8 @@ pub fn set_section_breaks<S: SetBoard>(
     requires { post.old.sent < 2 ^ 64 - 1 }
     ensures input { debugger.new.machine.input ≡ debugger.old.machine.input }
     ensures sent { OnOk result (post.new ≡ posted_all request.now post.old (reply
-        (list_body (codes "breakpoints") (sections_in (adapter_state_of debugger.old desk.old) names.now).text) ∷ [])) }
+        (list_body (codes "breakpoints")
+        (sections_in (adapter_state_of debugger.old desk.old) names.now).text) ∷ [])) }
     ensures state { OnOk result (adapter_state_of debugger.new desk.new
         ≡ behind_sections (adapter_state_of debugger.old desk.old)
         (sections_in (adapter_state_of debugger.old desk.old) names.now)) }

@@ -24,7 +24,8 @@ fn tell_report<S: SetBoard>(
 ) -> Result<(), AllocError>
     requires { post.old.sent < 2 ^ 64 - 1 }
     ensures sent { OnOk result (post.new ≡ posted_all request.now post.old
-        (untold desk.old.told (report_at debugger.now.machine.input (debugger_state_of debugger.now)))) }
+        (untold desk.old.told (report_at debugger.now.machine.input
+        (debugger_state_of debugger.now)))) }
     ensures count { OnOk result (post.new.sent ≤ post.old.sent + 1) }
     ensures desk { OnOk result (desk.new ≡ told_with desk.old
         (report_at debugger.now.machine.input (debugger_state_of debugger.now))) }
@@ -134,8 +135,8 @@ fn tell_end_at<S: SetBoard>(
 ) -> Result<(), AllocError>
     requires { post.old.sent + 1 < 2 ^ 64 - 1 }
     ensures { OnOk result (post.new ≡ posted_all request.now post.old (end_by
-        debugger.now.machine.input (debugger_state_of debugger.now) desk.now.stops.at_end answer.now place
-        (slice_get desk.now.watched place))) }
+        debugger.now.machine.input (debugger_state_of debugger.now) desk.now.stops.at_end answer.now
+        place (slice_get desk.now.watched place))) }
 {
     match desk.watched.get(place) {
         None => tell_ended(debugger, desk.stops.at_end, request, post, answer),
@@ -162,8 +163,8 @@ fn tell_end<S: SetBoard>(
     }
 }
 
-/// Sends what follows a movement, of which this is the answer, and which perhaps ended at the change
-/// of the data break point in a place.
+/// Sends what follows a movement, of which this is the answer, and which perhaps ended at the
+/// change of the data break point in a place.
 #[tactic(auto, using(ss_messages::proofs::Posts::posted_both))]
 pub fn tell_movement<S: SetBoard>(
     debugger: &Debugger<S>,

@@ -69,7 +69,8 @@ fn info_by(alloc: Global, text: &[u8]) -> Result<Vec<u8>, AllocError>
     no_info_body(alloc, b"no question")
 }
 
-/// Whether a name in a reference may be a data break point; without a reference it is an expression.
+/// Whether a name in a reference may be a data break point; without a reference it is an
+/// expression.
 pub fn info(
     alloc: Global,
     program: &Program,

@@ -4,7 +4,8 @@ ghost use Rattle.serde_json.specs.View.{view};
 ghost use Rattle.std.specs.Prelude.{[], unwrap_or};
 ghost use Rattle.ss_messages.specs.Requests.{units_of, within_units};
 ghost use Rattle.ss_messages.specs.Requests.{number_at, number_in, text_at, flag_at, is_text_at, lines_at, texts_at};
-ghost use Rattle.ss_messages.specs.Requests.{stops_of, launch_of, evaluate_of, info_of, completions_of, filter_of, wanted_of};
+ghost use Rattle.ss_messages.specs.Requests.{stops_of, launch_of, evaluate_of, info_of};
+ghost use Rattle.ss_messages.specs.Requests.{completions_of, filter_of, wanted_of};
 
 use crate::parts::{Lines, Text, Texts};
 use crate::request::{Command, Filter, Stops, Wanted};

@@ -47,7 +47,8 @@ impl From<AllocError> for FrameFault {
 /// The next byte, if there is one.
 #[tactic(auto, using(crate::proofs::Streams::kept_bytes))]
 fn next_byte<R: Read>(reader: &mut R) -> Result<Option<u8>, FrameFault>
-    ensures byte { IfOk result (λ byte. IsByte byte (R.remaining reader.old) (R.remaining reader.new)) }
+    ensures byte { IfOk result
+        (λ byte. IsByte byte (R.remaining reader.old) (R.remaining reader.new)) }
     ensures err { result ≡ Err Malformed → ⊥ }
 {
     let mut byte = [0u8; 1];
@@ -150,7 +151,8 @@ impl Head {
 
 /// The next byte of a message that has begun.
 fn next_byte_within<R: Read>(reader: &mut R) -> Result<u8, FrameFault>
-    ensures byte { IfOk result (λ b. Consumes (R.remaining reader.old) (R.remaining reader.new) (b ∷ [])) }
+    ensures byte { IfOk result
+        (λ b. Consumes (R.remaining reader.old) (R.remaining reader.new) (b ∷ [])) }
     ensures err { result ≡ Err Malformed → ⊥ }
 {
     match next_byte(reader)? {
@@ -161,7 +163,8 @@ fn next_byte_within<R: Read>(reader: &mut R) -> Result<u8, FrameFault>
 
 /// The length that a head says which begins with this byte.
 fn read_head<R: Read>(alloc: Global, reader: &mut R, first: u8) -> Result<usize, FrameFault>
-    ensures ok { IfOk result (λ n. HasLength (R.remaining reader.old) (R.remaining reader.new) first n) }
+    ensures ok { IfOk result
+        (λ n. HasLength (R.remaining reader.old) (R.remaining reader.new) first n) }
     ensures malformed { result ≡ Err Malformed → HasNoLength (R.remaining reader.old) first }
 {
     let mut head = Head {
@@ -180,7 +183,8 @@ fn read_head<R: Read>(alloc: Global, reader: &mut R, first: u8) -> Result<usize,
 
 /// So many bytes.
 fn read_body<R: Read>(alloc: Global, reader: &mut R, count: usize) -> Result<Vec<u8>, FrameFault>
-    ensures ok { IfOk result (λ body. Consumes (R.remaining reader.old) (R.remaining reader.new) body.items) }
+    ensures ok { IfOk result
+        (λ body. Consumes (R.remaining reader.old) (R.remaining reader.new) body.items) }
     ensures length { IfOk result (λ body. length body.items ≡ count) }
     ensures err { result ≡ Err Malformed → ⊥ }
 {

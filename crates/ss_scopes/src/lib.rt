@@ -1,6 +1,6 @@
-//! What an editor shows of a state: frames, scopes, and the variables of each, a page at a time. All
-//! is read off the state of the run at the machine's position. A reference is a number that is the
-//! same for the same part of each state.
+//! What an editor shows of a state: frames, scopes, and the variables of each, a page at a time.
+//! All is read off the state of the run at the machine's position. A reference is a number that is
+//! the same for the same part of each state.
 //!
 //! A call that appends wants memory for it. After `AllocError` a part may stand behind what `out`
 //! held, and counts for nothing.

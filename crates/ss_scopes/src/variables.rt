@@ -23,7 +23,8 @@ fn push_question<S: SetBoard>(
     question: Question,
 ) -> Result<(), AllocError>
     ensures { OnOk result (out.new.items ≡ out.old.items
-        ++ question_item name.now debugger.now.machine.input (position debugger.now.machine) question) }
+        ++ question_item name.now debugger.now.machine.input (position debugger.now.machine)
+        question) }
 {
     let answer = debugger.answer_to(&question)?;
     let item = variable_item(alloc, name, without_last(&answer), 0)?;
