@@ -2,20 +2,12 @@
 -- more.
 use Rattle.std.specs.Prelude.{ℕ, ◌+◌, Bool, true, false, List, [], ◌∷◌, ◌++◌, codes, nat_eq, Option, Some, None}
 use Rattle.ss_program.specs.Program.{ProgramTable}
-use Rattle.ss_debug.specs.declared.commands.Command.{Command}
-use Rattle.ss_debug.specs.declared.commands.Command.TheVariants.{Break, Clear}
-use Rattle.ss_debug.specs.BreakLines.{is_break_line, without_line}
+use Rattle.ss_debug.specs.BreakLines.{without_line}
 use Rattle.ss_messages.specs.Messages.{Sent, event}
 use Rattle.ss_messages.specs.Shown.{new_point_body, removed_point_body}
 use Rattle.ss_adapter.specs.declared.desk.TheConstants.{WATCH_LIMIT}
 use Rattle.ss_adapter.specs.Desk.{DeskView}
 use Rattle.ss_adapter.specs.Places.{next_line}
-
--- the break line that a line of the console names
-abbrev pub named_break : Command → Option ℕ
-named_break (Break line) = Some line
-named_break (Clear line) = Some line
-named_break _ = None
 
 -- whether a line is the one that is nearest
 abbrev pub is_nearest : ℕ → Option ℕ → Bool
@@ -32,11 +24,6 @@ point_told p path line true false =
     event (codes "breakpoint") (new_point_body (line + WATCH_LIMIT) (has_place p line) line path) ∷ []
 point_told p path line false true = event (codes "breakpoint") (removed_point_body (line + WATCH_LIMIT)) ∷ []
 point_told p path line _ _ = []
-
--- of the line that is named, if one is, by the break lines now and before
-abbrev pub points_told : ProgramTable → List ℕ → List ℕ → List ℕ → Option ℕ → List Sent
-points_told p path new old None = []
-points_told p path new old (Some line) = point_told p path line (is_break_line new line) (is_break_line old line)
 
 -- the break lines of requests, where a line became one, as if a request for lines had set it
 abbrev pub lines_behind : List ℕ → ℕ → Bool → Bool → List ℕ
@@ -59,8 +46,3 @@ desk_with k line new old = record {
   told = k.told;
   stops = k.stops;
 }
-
--- the same by the line that is named, if one is
-abbrev pub desk_behind : DeskView → List ℕ → List ℕ → Option ℕ → DeskView
-desk_behind k new old None = k
-desk_behind k new old (Some line) = desk_with k line (is_break_line new line) (is_break_line old line)

@@ -5,7 +5,8 @@ use Rattle.ss_program.specs.Program.{ProgramTable}
 use Rattle.ss_machine.specs.State.{State}
 use Rattle.ss_machine.specs.Run.{Input, run}
 use Rattle.ss_debug.specs.declared.commands.Command.{Command as Line}
-use Rattle.ss_debug.specs.declared.commands.Command.TheVariants.{Move}
+use Rattle.ss_debug.specs.declared.commands.Command.TheVariants.{Move, Break, Clear}
+use Rattle.ss_debug.specs.BreakLines.{is_break_line}
 use Rattle.ss_debug.specs.Command.{command_of}
 use Rattle.ss_debug.specs.Answer.{state_line}
 use Rattle.ss_debug.specs.Turn.{DebuggerState, debugger_state_after, debugger_state_with, answer}
@@ -36,7 +37,7 @@ use Rattle.ss_adapter.specs.declared.reach.Way.TheVariants.{Forward}
 use Rattle.ss_adapter.specs.Going.{going_of, run_going, state_behind, going_answer, watched_by}
 use Rattle.ss_adapter.specs.Looking.{reason_at, hit_at, is_over, exception_by, question_of}
 use Rattle.ss_adapter.specs.Completions.{completions}
-use Rattle.ss_adapter.specs.Console.{named_break, points_told, desk_behind}
+use Rattle.ss_adapter.specs.Console.{point_told, desk_with}
 use Rattle.ss_adapter.specs.Places.{Setting, setting_of, section_setting_of}
 use Rattle.ss_adapter.specs.Watch.{watching_of, info_of}
 use Rattle.ss_adapter.specs.Desk.{DeskView}
@@ -108,13 +109,14 @@ end_by t d at_end answer place None = ended t d at_end answer
 end_by t d at_end answer place (Some question) = changed answer place question ∷ []
 
 -- by the place, if it ended at a change
-abbrev pub end_of : Input → DeskView → DebuggerState → List ℕ → Option ℕ → List Sent
-end_of t k d answer None = ended t d k.stops.at_end answer
-end_of t k d answer (Some place) = end_by t d k.stops.at_end answer place (slice_get k.watched place)
+abbrev pub end_of : Input → DebuggerState → Bool → List (List ℕ) → List ℕ → Option ℕ → List Sent
+end_of t d at_end watched answer None = ended t d at_end answer
+end_of t d at_end watched answer (Some place) = end_by t d at_end answer place (slice_get watched place)
 
 -- what follows a movement to d with this answer: first what was printed, then where it stopped
 abbrev pub behind_movement : Input → DeskView → DebuggerState → List ℕ → Option ℕ → List Sent
-behind_movement t k d answer place = untold k.told (report_at t d) ++ end_of t k d answer place
+behind_movement t k d answer place =
+    untold k.told (report_at t d) ++ end_of t d k.stops.at_end k.watched answer place
 
 -- what follows a movement by its answer
 abbrev pub behind_going : AdapterState → Going → List ℕ → List Sent
@@ -133,17 +135,22 @@ running s = run_going s.input s.debugger s.desk.watched Forward
 abbrev pub here : Input → ℕ → List ℕ → List Sent
 here t p reason = reply (codes "{}") ∷ stopped reason (without_last (state_line t p)) None ∷ []
 
--- what is told of the break line that a line of the console names
-abbrev pub pointed : AdapterState → Line → List Sent
-pointed s line =
-    points_told s.input.program s.desk.path (debugger_state_after s.input s.debugger line).breaks s.debugger.breaks
-    (named_break line)
+-- whether a line of the model is a break line behind a line of the console
+abbrev pub is_break_behind : AdapterState → Line → ℕ → Bool
+is_break_behind s line l = is_break_line (debugger_state_after s.input s.debugger line).breaks l
 
--- a line of the console that is obeyed: its answer, and, behind a movement, where it stopped, else what is told of a
--- break line
+-- a line of the console that names a line of the model: its answer, and whether that has become a break line
+abbrev pub pointed : AdapterState → Line → ℕ → List Sent
+pointed s line l =
+    reply (result_body (answer s.input s.debugger line))
+    ∷ point_told s.input.program s.desk.path l (is_break_behind s line l) (is_break_line s.debugger.breaks l)
+
+-- a line of the console: its answer, and, behind a movement, where it stopped
 abbrev pub obeyed : AdapterState → Line → List Sent
 obeyed s (Move m) = gone s (result_body (answer s.input s.debugger (Move m))) (Standing m)
-obeyed s line = reply (result_body (answer s.input s.debugger line)) ∷ pointed s line
+obeyed s (Break l) = pointed s (Break l) l
+obeyed s (Clear l) = pointed s (Clear l) l
+obeyed s line = reply (result_body (answer s.input s.debugger line)) ∷ []
 
 -- a question that is answered
 abbrev pub asked : Input → ℕ → Option Question → List Sent
@@ -233,15 +240,22 @@ answers s command = answers_by s command (going_of s.input s.debugger s.desk.wat
 
 -- ---- where a request leads
 
--- behind a line
+-- behind a line of the console, with this desk
+abbrev pub behind_with : AdapterState → Line → DeskView → AdapterState
+behind_with s line k =
+    record { input = s.input; debugger = debugger_state_after s.input s.debugger line; desk = k }
+
+-- behind one that names a line of the model
+abbrev pub behind_point : AdapterState → Line → ℕ → AdapterState
+behind_point s line l =
+    behind_with s line (desk_with s.desk l (is_break_behind s line l) (is_break_line s.debugger.breaks l))
+
+-- behind a line of the console
 abbrev pub behind_line : AdapterState → Line → AdapterState
 behind_line s (Move m) = moved s (debugger_state_after s.input s.debugger (Move m))
-behind_line s line = record {
-  input = s.input;
-  debugger = debugger_state_after s.input s.debugger line;
-  desk = desk_behind s.desk (debugger_state_after s.input s.debugger line).breaks s.debugger.breaks
-      (named_break line);
-}
+behind_line s (Break l) = behind_point s (Break l) l
+behind_line s (Clear l) = behind_point s (Clear l) l
+behind_line s line = behind_with s line s.desk
 
 -- behind break lines
 abbrev pub behind_setting : AdapterState → Setting → AdapterState

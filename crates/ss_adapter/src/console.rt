@@ -6,9 +6,9 @@ ghost use Rattle.ss_debug.specs.Turn.{debugger_state_after, answer};
 ghost use Rattle.ss_debug.specs.declared.commands.Command.TheVariants.{Move};
 ghost use Rattle.ss_messages.specs.Bodies.{result_body};
 ghost use Rattle.ss_messages.specs.Messages.{posted_all, reply};
-ghost use Rattle.ss_adapter.specs.Console.{named_break, has_place, point_told};
+ghost use Rattle.ss_adapter.specs.Console.{has_place, point_told};
 ghost use Rattle.ss_adapter.specs.Console.{lines_behind, sections_behind, desk_with};
-ghost use Rattle.ss_adapter.specs.Turn.{adapter_state_of, obeyed, behind_line};
+ghost use Rattle.ss_adapter.specs.Turn.{adapter_state_of, pointed, behind_point, obeyed, behind_line};
 
 use crate::breaks::next_line;
 use crate::desk::{Desk, WATCH_LIMIT};
@@ -19,16 +19,6 @@ use ss_links::SetBoard;
 use ss_messages::{Post, Request, new_point_body, removed_point_body, result_body};
 use ss_program::Program;
 use std::alloc::{AllocError, Global};
-
-/// The break line that a line names.
-fn named_break(line: &Command) -> Option<u32>
-    ensures { result ≡ named_break line.now }
-{
-    match line {
-        Command::Break(line) | Command::Clear(line) => Some(*line),
-        _ => None,
-    }
-}
 
 /// Whether a line is a break line.
 fn is_break<S: SetBoard>(
@@ -148,9 +138,9 @@ fn say<S: SetBoard>(
     post.reply(request, &body)
 }
 
-/// Obeys a line that names a break line, and tells what became of that.
+/// Obeys a line that names a line of the model, and tells whether that has become a break line.
 #[tactic(auto, unfolding(ss_messages::specs::Messages::posted_all))]
-fn say_break<S: SetBoard>(
+fn say_point<S: SetBoard>(
     debugger: &mut Debugger<S>,
     desk: &mut Desk,
     request: &Request,
@@ -158,13 +148,12 @@ fn say_break<S: SetBoard>(
     line: Command,
     named: u32,
 ) -> Result<(), AllocError>
-    requires sent { post.old.sent + 3 < 2 ^ 64 - 1 }
-    requires line { named_break line ≡ Some named }
+    requires { post.old.sent + 1 < 2 ^ 64 - 1 }
     ensures input { debugger.new.machine.input ≡ debugger.old.machine.input }
     ensures sent { OnOk result (post.new ≡ posted_all request.now post.old
-        (obeyed (adapter_state_of debugger.old desk.old) line)) }
+        (pointed (adapter_state_of debugger.old desk.old) line named)) }
     ensures state { OnOk result (adapter_state_of debugger.new desk.new
-        ≡ behind_line (adapter_state_of debugger.old desk.old) line) }
+        ≡ behind_point (adapter_state_of debugger.old desk.old) line named) }
 {
     let was_set = is_break(post.alloc(), debugger, named)?;
     say(debugger, request, post, line)?;
@@ -175,7 +164,6 @@ fn say_break<S: SetBoard>(
 }
 
 /// Obeys a line of the debugger.
-#[tactic(auto, unfolding(ss_messages::specs::Messages::posted_all))]
 pub fn obey_line<S: SetBoard>(
     debugger: &mut Debugger<S>,
     desk: &mut Desk,
@@ -190,11 +178,14 @@ pub fn obey_line<S: SetBoard>(
     ensures state { OnOk result (adapter_state_of debugger.new desk.new
         ≡ behind_line (adapter_state_of debugger.old desk.old) line) }
 {
-    if let Command::Move(movement) = line {
-        return go_by_line(debugger, desk, request, post, movement);
-    }
-    match named_break(&line) {
-        Some(named) => say_break(debugger, desk, request, post, line, named),
-        None => say(debugger, request, post, line),
+    match line {
+        Command::Move(movement) => go_by_line(debugger, desk, request, post, movement),
+        Command::Break(named) => {
+            say_point(debugger, desk, request, post, Command::Break(named), named)
+        }
+        Command::Clear(named) => {
+            say_point(debugger, desk, request, post, Command::Clear(named), named)
+        }
+        other => say(debugger, request, post, other),
     }
 }

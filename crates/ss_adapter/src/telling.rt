@@ -155,7 +155,8 @@ fn tell_end<S: SetBoard>(
 ) -> Result<(), AllocError>
     requires { post.old.sent + 1 < 2 ^ 64 - 1 }
     ensures { OnOk result (post.new ≡ posted_all request.now post.old (end_of
-        debugger.now.machine.input desk.now (debugger_state_of debugger.now) answer.now changed)) }
+        debugger.now.machine.input (debugger_state_of debugger.now) desk.now.stops.at_end
+        desk.now.watched answer.now changed)) }
 {
     match changed {
         None => tell_ended(debugger, desk.stops.at_end, request, post, answer),
