@@ -87,9 +87,11 @@ pub fn launch(
         × (post.new ≡ posted_all request.now post.old launched))) }
 {
     let desk = Desk::new(post.alloc(), path.to_vec(post.alloc())?, stops);
+    let mut accepted = post.copied()?;
+    accept(request, &mut accepted)?;
     match open(post.alloc(), model, text) {
         Ok(debugger) => {
-            accept(request, post)?;
+            *post = accepted;
             Ok(Some((debugger, desk)))
         }
         Err(LoadFault::Memory) => Err(AllocError),

@@ -1,5 +1,5 @@
 //! The messages that a request is answered with, numbered one after the other.
-ghost use Rattle.std.specs.Prelude.{◌≡◌, ◌+◌, ◌-◌, ◌^◌, ◌<◌, [], OnOk};
+ghost use Rattle.std.specs.Prelude.{◌≡◌, ◌+◌, ◌-◌, ◌^◌, ◌<◌, [], IfOk, OnOk};
 ghost use Rattle.ss_messages.specs.Messages.{reply, failure, event, posted};
 
 use crate::messages::{push_event, push_failure, push_reply};
@@ -34,6 +34,18 @@ impl Post {
             sent: 0,
             bytes: Vec::new(alloc),
         }
+    }
+
+    /// The same messages, in memory of their own.
+    pub fn copied(&self) -> Result<Self, AllocError>
+        ensures { IfOk result (λ post. post ≡ self.now) }
+    {
+        let bytes = self.bytes.to_vec(self.alloc)?;
+        Ok(Post {
+            alloc: self.alloc,
+            sent: self.sent,
+            bytes,
+        })
     }
 
     /// How many messages were numbered.
