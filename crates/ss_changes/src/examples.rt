@@ -66,3 +66,17 @@ fn stops_tell_the_first_changes()
     ensures cut { cut_text (replicate 121 65) ≡ replicate 117 65 ++ codes " .." }
     ensures whole { cut_text (replicate 120 65) ≡ replicate 120 65 }
 {}
+
+/// One step behind the earliest kept position, after a FORGET, the step is told although those
+/// before it are forgotten; at the last step of a run, which ends MAIN, nothing is.
+fn edges_of_what_is_kept_are_told()
+    ensures behind_kept { changed_text e.jobs_run 4 5 ≡ codes "CHANGED SET ROW: EMPTY -> 1\n" }
+    ensures behind_kept_at_stop { stop_changes e.jobs_run 11 12
+        ≡ codes "CHANGED VAR JOB: 1 -> 2\nCHANGED JOB 2: NONE -> LIVES\n" }
+    ensures before_last { stop_changes_ahead e.jobs_run 11
+        ≡ codes "WILL CHANGE VAR JOB: 1 -> 2\nWILL CHANGE JOB 2: NONE -> LIVES\n" }
+    ensures last_ahead { stop_changes_ahead e.jobs_run 12 ≡ [] }
+    ensures last { changed_text e.jobs_run 0 13 ≡ codes "NOTHING CHANGED\n" }
+    ensures last_alone_kept { changed_text e.jobs_run 12 13 ≡ codes "NOTHING CHANGED\n" }
+    ensures last_at_stop { stop_changes e.jobs_run 12 13 ≡ [] }
+{}
