@@ -1,5 +1,5 @@
 -- What an editor shows of a state, as it is written: frames, scopes, variables that are many, and break points.
-use Rattle.std.specs.Prelude.{ℕ, Bool, List, ◌++◌, codes, decimal, drop, if◌then◌else◌}
+use Rattle.std.specs.Prelude.{ℕ, Bool, false, List, ◌++◌, codes, decimal, drop, if◌then◌else◌}
 use Rattle.ss_messages.specs.Escapes.{quoted, quoted_text}
 
 -- a comma and a variable that refers to so many others, which are asked for a page at a time
@@ -39,14 +39,17 @@ no_info_body reason = codes "{\"dataId\":null,\"description\":" ++ quoted reason
 abbrev pub bool_text : Bool → List ℕ
 bool_text flag = if flag then codes "true" else codes "false"
 
+-- the break point of this number, of which more may be said
+unfoldable pub point_text : ℕ → Bool → List ℕ
+point_text id is_verified =
+    codes "{\"id\":" ++ decimal id ++ codes ",\"verified\":" ++ bool_text is_verified
+
 -- breakpoint: one of this number is set on a line of the model, where a place stands or not
 unfoldable pub new_point_body : ℕ → Bool → ℕ → List ℕ → List ℕ
 new_point_body id is_verified line path =
-    codes "{\"reason\":\"new\",\"breakpoint\":{\"id\":" ++ decimal id ++ codes ",\"verified\":"
-    ++ bool_text is_verified ++ codes ",\"line\":" ++ decimal line ++ codes ",\"source\":{\"path\":"
-    ++ quoted_text path ++ codes "}}}"
+    codes "{\"reason\":\"new\",\"breakpoint\":" ++ point_text id is_verified ++ codes ",\"line\":" ++ decimal line
+    ++ codes ",\"source\":{\"path\":" ++ quoted_text path ++ codes "}}}"
 
 -- breakpoint: the one of this number is set no more
 unfoldable pub removed_point_body : ℕ → List ℕ
-removed_point_body id =
-    codes "{\"reason\":\"removed\",\"breakpoint\":{\"id\":" ++ decimal id ++ codes ",\"verified\":false}}"
+removed_point_body id = codes "{\"reason\":\"removed\",\"breakpoint\":" ++ point_text id false ++ codes "}}"

@@ -1,7 +1,7 @@
 //! What an editor shows of a state: frames, scopes, variables that are many, and break points.
 ghost use Rattle.std.specs.Prelude.{◌≡◌, IfOk};
 ghost use Rattle.ss_messages.specs.Shown.{paged_item, frames_body, scope_item, target_item, info_body, no_info_body};
-ghost use Rattle.ss_messages.specs.Shown.{bool_text, new_point_body, removed_point_body};
+ghost use Rattle.ss_messages.specs.Shown.{bool_text, point_text, new_point_body, removed_point_body};
 
 use crate::bodies::without_first;
 use crate::escape::{push_quoted, push_quoted_text};
@@ -108,6 +108,18 @@ fn bool_text(flag: bool) -> &'static [u8]
     if flag { b"true" } else { b"false" }
 }
 
+/// The break point of this number, of which more may be said.
+#[tactic(auto, unfolding(crate::specs::Shown::point_text))]
+fn point_text(alloc: Global, id: u64, is_verified: bool) -> Result<Vec<u8>, AllocError>
+    ensures { IfOk result (λ text. text.items ≡ point_text id is_verified) }
+{
+    let mut text = Vec::from_slice(alloc, b"{\"id\":")?;
+    push_number(&mut text, id)?;
+    text.extend_from_slice(b",\"verified\":")?;
+    text.extend_from_slice(bool_text(is_verified))?;
+    Ok(text)
+}
+
 /// breakpoint: one of this number is set on a line of the model, where a place stands or not.
 #[tactic(auto, unfolding(crate::specs::Shown::new_point_body))]
 pub fn new_point_body(
@@ -119,10 +131,9 @@ pub fn new_point_body(
 ) -> Result<Vec<u8>, AllocError>
     ensures { IfOk result (λ body. body.items ≡ new_point_body id is_verified line path.now) }
 {
-    let mut body = Vec::from_slice(alloc, b"{\"reason\":\"new\",\"breakpoint\":{\"id\":")?;
-    push_number(&mut body, id)?;
-    body.extend_from_slice(b",\"verified\":")?;
-    body.extend_from_slice(bool_text(is_verified))?;
+    let point = point_text(alloc, id, is_verified)?;
+    let mut body = Vec::from_slice(alloc, b"{\"reason\":\"new\",\"breakpoint\":")?;
+    body.extend_from_slice(&point)?;
     body.extend_from_slice(b",\"line\":")?;
     push_number(&mut body, line)?;
     body.extend_from_slice(b",\"source\":{\"path\":")?;
@@ -136,8 +147,9 @@ pub fn new_point_body(
 pub fn removed_point_body(alloc: Global, id: u64) -> Result<Vec<u8>, AllocError>
     ensures { IfOk result (λ body. body.items ≡ removed_point_body id) }
 {
-    let mut body = Vec::from_slice(alloc, b"{\"reason\":\"removed\",\"breakpoint\":{\"id\":")?;
-    push_number(&mut body, id)?;
-    body.extend_from_slice(b",\"verified\":false}}")?;
+    let point = point_text(alloc, id, false)?;
+    let mut body = Vec::from_slice(alloc, b"{\"reason\":\"removed\",\"breakpoint\":")?;
+    body.extend_from_slice(&point)?;
+    body.extend_from_slice(b"}}")?;
     Ok(body)
 }
