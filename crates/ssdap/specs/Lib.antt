@@ -1,1 +1,3 @@
+pub mod Shelves
+pub mod Editing
 pub mod Stops

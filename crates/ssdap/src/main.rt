@@ -1,13 +1,17 @@
 //! `ssdap`: the debug adapter of an editor, over standard input and output.
 #![tactic(auto)]
 
-mod channel;
-mod serve;
+mod adapter;
+mod editing;
+mod shelf;
 mod stop;
 mod words;
 
-use serve::serve;
+use editing::serve_editor;
+use shelf::Disk;
 use ss_host::read_arguments;
+use ss_serve::StreamChannel;
+use std::io;
 use std::process::ExitCode;
 use stop::{Stop, tell};
 use words::read_words;
@@ -18,7 +22,8 @@ fn run(rt: &HostRuntime) -> Result<(), Stop> {
         return Err(Stop::Words(1));
     };
     read_words(rt, &words)?;
-    serve(rt)
+    let mut channel = StreamChannel::new(rt.alloc(), rt.reader(), io::writer(rt));
+    Ok(serve_editor(rt.alloc(), &Disk::new(rt), &mut channel)?)
 }
 
 fn main(rt: HostRuntime) -> ExitCode {

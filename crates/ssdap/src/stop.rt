@@ -2,8 +2,7 @@
 ghost use Rattle.std.specs.Prelude.{◌≡◌};
 ghost use Rattle.ssdap.specs.Stops.{stop_status};
 
-use ss_messages::{FrameFault, RequestFault};
-use std::alloc::AllocError;
+use ss_serve::SessionFault;
 
 /// What stops the program before its end.
 #[derive(Clone, Copy, Debug, Drop, PartialEq, Eq)]
@@ -11,16 +10,10 @@ pub enum Stop {
     /// The words are none that the program takes, or ask for its help or version: it has said so,
     /// and this is its status.
     Words(u8),
-    /// What came is no message, or no request.
-    NoRequest,
-    /// Standard input can't be read, or ends within a message.
-    CannotRead,
-    /// Standard output takes nothing more.
-    CannotWrite,
-    /// Memory was refused.
+    /// Memory for the words was refused.
     Memory,
-    /// As many messages were sent as have numbers.
-    Count,
+    /// The session ended before its end.
+    Session(SessionFault),
 }
 
 impl Stop {
@@ -30,49 +23,20 @@ impl Stop {
     {
         match self {
             Stop::Words(status) => *status,
-            Stop::Memory => 5,
-            _ => 2,
+            Stop::Memory | Stop::Session(SessionFault::Memory) => 5,
+            Stop::Session(_) => 2,
         }
     }
 }
 
-impl From<AllocError> for Stop {
+impl From<SessionFault> for Stop {
     ghost use Rattle.std.specs.Prelude.{◌≡◌};
-    ghost use Rattle.ssdap.specs.declared.stop.Stop.TheVariants.{Memory};
+    ghost use Rattle.ssdap.specs.declared.stop.Stop.TheVariants.{Session};
 
-    ghost from_gives = { λ _ stop. stop ≡ Memory };
+    ghost from_gives = { λ fault stop. stop ≡ Session fault };
 
-    fn from(_error: AllocError) -> Stop {
-        Stop::Memory
-    }
-}
-
-impl From<FrameFault> for Stop {
-    ghost use Rattle.std.specs.Prelude.{◌≡◌};
-    ghost use Rattle.ssdap.specs.Stops.{stop_of_frame};
-
-    ghost from_gives = { λ fault stop. stop ≡ stop_of_frame fault };
-
-    fn from(fault: FrameFault) -> Stop {
-        match fault {
-            FrameFault::Malformed => Stop::NoRequest,
-            FrameFault::Read => Stop::CannotRead,
-            FrameFault::Memory => Stop::Memory,
-        }
-    }
-}
-
-impl From<RequestFault> for Stop {
-    ghost use Rattle.std.specs.Prelude.{◌≡◌};
-    ghost use Rattle.ssdap.specs.Stops.{stop_of_request};
-
-    ghost from_gives = { λ fault stop. stop ≡ stop_of_request fault };
-
-    fn from(fault: RequestFault) -> Stop {
-        match fault {
-            RequestFault::NoRequest => Stop::NoRequest,
-            RequestFault::Memory => Stop::Memory,
-        }
+    fn from(fault: SessionFault) -> Stop {
+        Stop::Session(fault)
     }
 }
 
@@ -80,10 +44,7 @@ impl From<RequestFault> for Stop {
 pub fn tell<R: Eprint>(rt: &R, stop: Stop) {
     let _ = match stop {
         Stop::Words(_) => Ok(()),
-        Stop::NoRequest => eprintln!(rt; "ssdap: no request"),
-        Stop::CannotRead => eprintln!(rt; "ssdap: cannot read"),
-        Stop::CannotWrite => eprintln!(rt; "ssdap: cannot write"),
         Stop::Memory => eprintln!(rt; "ssdap: out of memory"),
-        Stop::Count => eprintln!(rt; "ssdap: too many messages"),
+        Stop::Session(fault) => eprintln!(rt; "ssdap: {fault}"),
     };
 }

@@ -1,0 +1,24 @@
+-- What happens on a channel, in order: as at a console, where the body of a message is read in place of a line.
+use Rattle.std.specs.Prelude.{ℕ, List, [], ◌∷◌, Option, Some, None, Result, Ok, Err}
+use Rattle.ss_console.specs.Event.{Event, read}
+use Rattle.ss_messages.specs.declared.frame.FrameFault.{FrameFault}
+use Rattle.ss_messages.specs.declared.frame.FrameFault.TheVariants.{Malformed, Read, Memory}
+use Rattle.ss_serve.specs.declared.channel.Side.{Side}
+use Rattle.ss_serve.specs.declared.channel.Side.TheVariants.{Input, Output}
+
+-- the event of a reading
+abbrev pub received : Option (List ℕ) → List Event
+received None = []
+received (Some body) = read body ∷ []
+
+-- the side that is broken behind a reading
+abbrev pub broken_after_read : {T : Type 0} → Result T FrameFault → Option Side → Option Side
+broken_after_read (Ok body) b = b
+broken_after_read (Err Malformed) b = b
+broken_after_read (Err Read) b = Some Input
+broken_after_read (Err Memory) b = b
+
+-- the side that is broken behind a writing
+abbrev pub broken_after_send : {T E : Type 0} → Result T E → Option Side → Option Side
+broken_after_send (Ok done) b = b
+broken_after_send (Err fault) b = Some Output

@@ -1,0 +1,8 @@
+pub mod Meaning
+pub mod Channels
+pub mod Seen
+pub mod Faults
+pub mod Session
+pub mod Steps
+pub mod Echoing
+pub mod Examples

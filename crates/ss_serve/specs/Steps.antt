@@ -1,0 +1,80 @@
+-- The parts of a turn.
+use Rattle.std.specs.Prelude.{ℕ, ◌≡◌, ◌⊎◌, ◌≤◌, true, false, List, [], ◌∷◌, Option, Some, None, Result, Ok, Err}
+use Rattle.ss_console.specs.Event.{Event, read, written, Adds}
+use Rattle.ss_console.specs.Puts.{AddsPart}
+use Rattle.ss_console.specs.declared.answerer.Go.{Go}
+use Rattle.ss_console.specs.declared.answerer.Go.TheVariants.{On, Quit}
+use Rattle.ss_console.specs.Going.{go_of}
+use Rattle.ss_messages.specs.Frames.{IsRead, IsMalformed}
+use Rattle.ss_messages.specs.Messages.{Sent, PostView, posted_all}
+use Rattle.ss_messages.specs.declared.request.Request.{Request}
+use Rattle.ss_serve.specs.Meaning.{Meaning}
+use Rattle.ss_serve.specs.Seen.{Seen}
+use Rattle.ss_serve.specs.Session.{Turn, IsTurn, turn_events, messages_of, request_in, IsNoRequest}
+use Rattle.ss_serve.specs.Session.{EndsByStream, EndsByRequest, EndsAtBody, EndsBy}
+use Rattle.ss_serve.specs.declared.fault.SessionFault.{SessionFault}
+use Rattle.ss_serve.specs.declared.fault.SessionFault.TheVariants.{NoRequest, CannotRead, CannotWrite, Memory, Count}
+use Rattle.ss_serve.specs.declared.session.TheConstants.{MOST_SENT}
+
+-- a request was read, or the stream is at its end
+abbrev pub IsAsked : Option Request → Seen → Type 0
+IsAsked None c = IsRead None c.before c.after × Adds c.old c.new []
+IsAsked (Some request) c = EndsAtBody c (λ body. request_in body ≡ Some request)
+
+-- why no request was read, when n messages were sent
+abbrev pub NoneAsked : ℕ → Seen → SessionFault → Type 0
+NoneAsked n c NoRequest = (IsMalformed c.before × Adds c.old c.new []) ⊎ EndsAtBody c IsNoRequest
+NoneAsked n c CannotRead = Adds c.old c.new []
+NoneAsked n c CannotWrite = ⊥
+NoneAsked n c Memory = Adds c.old c.new [] ⊎ EndsAtBody c (λ body. Unit {0})
+NoneAsked n c Count = (MOST_SENT ≤ n) × Adds c.old c.new []
+
+-- some messages that answer a request, numbered behind n others
+abbrev pub answered : ℕ → Request → List Sent → PostView
+answered n request sent = posted_all request (record { sent = n; bytes = [] }) sent
+
+-- a request was answered, when n messages were sent: all messages were written, and none is left
+pub record IsAnswered (m : Meaning) (from to : m.State) (request : Request) (n : ℕ) (after : PostView)
+    (old new : Option (List Event)) (go : Go) : Type 0 where
+  -- the messages
+  pub sent : List Sent
+  -- they answer the request
+  pub answers : m.Answers from request sent to
+  -- they were written
+  pub told : Adds old new (written (answered n request sent).bytes)
+  -- they are numbered
+  pub count : after ≡ record { sent = (answered n request sent).sent; bytes = [] }
+  -- the session goes on unless the request ends it
+  pub goes : go ≡ go_of (m.ends request)
+
+-- why it was not
+abbrev pub Unanswered : (m : Meaning) → m.State → Request → ℕ → Option (List Event) → Option (List Event) →
+    SessionFault → Type 0
+Unanswered m from request n old new CannotWrite =
+    (sent : List Sent) × (to : m.State) × m.Answers from request sent to
+    × AddsPart (answered n request sent).bytes old new
+Unanswered m from request n old new Memory = Adds old new []
+Unanswered m from request n old new other = ⊥
+
+-- a turn that goes on
+pub record IsMore (m : Meaning) (from to : m.State) (post after : PostView) (c : Seen) : Type 0 where
+  -- the turn
+  pub turn : Turn m.State
+  -- it is made
+  pub made : IsTurn m from turn
+  -- it does not end the session
+  pub goes_on : m.ends turn.request ≡ false
+  -- it leads to the state
+  pub state : to ≡ turn.after
+  -- its body was read
+  pub input : IsRead (Some turn.body) c.before c.after
+  -- these are its events
+  pub told : Adds c.old c.new (turn_events post.sent turn)
+  -- its messages are numbered
+  pub count : after ≡ record { sent = (messages_of post.sent turn).sent; bytes = [] }
+
+-- a turn that goes on, or the end
+abbrev pub IsStep : (m : Meaning) → m.State → m.State → PostView → PostView → Seen → Result Go SessionFault → Type 0
+IsStep m from to post after c (Ok On) = IsMore m from to post after c
+IsStep m from to post after c (Ok Quit) = EndsBy m from to 0 post.sent c (Ok tt)
+IsStep m from to post after c (Err fault) = EndsBy m from to 0 post.sent c (Err fault)

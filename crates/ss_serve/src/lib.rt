@@ -1,0 +1,22 @@
+//! The session of an editor over a channel: a message is read, and what answers it written whole,
+//! before the next is read.
+#![tactic(auto)]
+
+mod answerer;
+mod channel;
+#[cfg(test)]
+mod echo;
+mod examples;
+mod fault;
+mod memory;
+mod session;
+mod stream;
+#[cfg(test)]
+mod tests;
+
+pub use answerer::Answerer;
+pub use channel::{Channel, SendFault, Side};
+pub use fault::SessionFault;
+pub use memory::MemoryChannel;
+pub use session::serve;
+pub use stream::StreamChannel;

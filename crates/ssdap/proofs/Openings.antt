@@ -1,0 +1,124 @@
+-- Launch, and turns of an editor.
+use Rattle.std.proofs.Common.{◌≡◌, ℕ, Bool, List, [], codes, refl, ◌∙◌, sym, ap, Option, Some, None}
+use Rattle.std.specs.Prelude.{MatchOption, option_map}
+use Rattle.ss_machine.specs.Run.{Input, input_with}
+use Rattle.ss_debug.specs.Turn.{DebuggerState, initial_debugger_state}
+use Rattle.ss_debug.specs.View.{DebuggerView, debugger_state_of}
+use Rattle.ss_session.specs.Load.{IsLoadFault}
+use Rattle.ss_session.specs.declared.load.LoadFault.{LoadFault}
+use Rattle.ss_messages.specs.Messages.{PostView, posted, posted_all, failure}
+use Rattle.ss_messages.proofs.Posts.{posted_one}
+use Rattle.ss_messages.specs.declared.request.Command.TheVariants.{Launch}
+use Rattle.ss_console.specs.declared.answerer.Go.TheVariants as go
+use Rattle.ss_messages.specs.declared.request.Request.{Request}
+use Rattle.ss_adapter.specs.declared.turns.Further.{Further}
+use Rattle.ss_adapter.specs.Desk.{DeskView}
+use Rattle.ss_adapter.specs.Before.{IsLaunched, launched, refused as refused_with, fault_line, answers_before}
+use Rattle.ss_adapter.specs.Turn.{AdapterState, adapter_state_of, answers, state_after, further_of}
+use Rattle.ss_serve.specs.Meaning.{IsAnswer}
+use Rattle.ssdap.specs.Shelves.{Stands, Given}
+use Rattle.ssdap.specs.Editing.{editing, editing_state, go_behind, IsStart, Opens, Opening, no_model, no_data, refused}
+use Rattle.ssdap.specs.Editing.{opened, IsOpened, opening_messages, AnswersBefore}
+
+abbrev state_of : Input → DebuggerState → DeskView → AdapterState
+state_of t d k = record { input = t; debugger = d; desk = k }
+
+same_state : (t u : Input) (d e : DebuggerState) (k j : DeskView) → t ≡ u → d ≡ e → k ≡ j →
+    state_of t d k ≡ state_of u e j
+same_state t u d e k j p q r = rw (p, q, r) refl
+
+-- a debugger and a desk at the start of a run are at the start
+starts : (model text path : List ℕ) (stops : Bool) (d : DebuggerView) (k : DeskView) →
+    IsLaunched model text path stops d k → IsStart path model text stops (adapter_state_of d k)
+starts model text path stops d k l =
+    (d.machine.input.program, l.program, same_state d.machine.input _ (debugger_state_of d) _ k _ l.input l.start l.desk)
+
+-- what launch did is one opening
+pub opens : (files : Option (List ℕ → Option (List ℕ))) (request : Request) (path : List ℕ)
+    (data_path : Option (List ℕ)) (stops : Bool) (model text : List ℕ) (old new : PostView)
+    (run : Option (DebuggerView × DeskView)) → Stands files path (Some model) → Given files data_path (Some text) →
+    MatchOption run
+    ((fault : LoadFault) × IsLoadFault fault model × (new ≡ posted_all request old (refused_with (fault_line fault))))
+    (λ r. IsLaunched model text path stops r.0 r.1 × (new ≡ posted_all request old launched)) →
+    IsOpened files request path data_path stops old new (option_map (λ r. adapter_state_of r.0 r.1) run)
+opens files request path data_path stops model text old new None s g h = record {
+  opening = refused h.0;
+  opens = (model, text, s, g, h.1);
+  posted = h.2;
+  run_is = refl;
+}
+opens files request path data_path stops model text old new (Some r) s g h = record {
+  opening = opened (adapter_state_of r.0 r.1);
+  opens = (model, text, s, g, starts model text path stops r.0 r.1 h.0);
+  posted = h.1;
+  run_is = refl;
+}
+
+-- a turn about a run
+pub turned : (files : Option (List ℕ → Option (List ℕ))) (s to : AdapterState) (request : Request)
+    (old new : PostView) (further : Further) → new ≡ posted_all request old (answers s request.command) →
+    to ≡ state_after s request.command → further ≡ further_of request.command →
+    IsAnswer editing (editing_state files (Some s)) (editing_state files (Some to)) request old new
+    (go_behind further)
+turned files s to request old new further p e f = record {
+  sent = answers s request.command;
+  answers = ((refl, ap Some e), refl);
+  posted = p;
+  goes = ap go_behind f;
+}
+
+-- the model can't be read
+pub no_model_is : (files : Option (List ℕ → Option (List ℕ))) (request : Request) (path : List ℕ)
+    (data_path : Option (List ℕ)) (stops : Bool) (old new : PostView) → Stands files path None →
+    new ≡ posted request old (failure (codes "cannot read the model")) →
+    IsOpened files request path data_path stops old new None
+no_model_is files request path data_path stops old new s p = record {
+  opening = no_model;
+  opens = s;
+  posted = p ∙ sym (posted_one request old (failure (codes "cannot read the model")));
+  run_is = refl;
+}
+
+-- the data can't be read
+pub no_data_is : (files : Option (List ℕ → Option (List ℕ))) (request : Request) (path : List ℕ)
+    (data_path : Option (List ℕ)) (stops : Bool) (model : List ℕ) (old new : PostView) →
+    Stands files path (Some model) → Given files data_path None →
+    new ≡ posted request old (failure (codes "cannot read the data")) →
+    IsOpened files request path data_path stops old new None
+no_data_is files request path data_path stops model old new s g p = record {
+  opening = no_data;
+  opens = (model, s, g);
+  posted = p ∙ sym (posted_one request old (failure (codes "cannot read the data")));
+  run_is = refl;
+}
+
+-- what launch leads to
+pub ruleset openings = (no_model_is, no_data_is, opens)
+
+-- launch is answered
+pub launched_is : (files : Option (List ℕ → Option (List ℕ))) (request : Request) (path : List ℕ)
+    (data_path : Option (List ℕ)) (stops : Bool) (old new : PostView) (run : Option AdapterState) →
+    request.command ≡ Launch path data_path stops → IsOpened files request path data_path stops old new run →
+    IsAnswer editing (editing_state files None) (editing_state files run) request old new go.On
+unfolding AnswersBefore
+launched_is files request path data_path stops old new run e o = record {
+  sent = opening_messages o.opening;
+  answers = (rw e (o.opening, o.opens, refl, o.run_is), refl);
+  posted = o.posted;
+  goes = rw e refl;
+}
+
+-- another request is, before a run is launched
+pub before_is : (files : Option (List ℕ → Option (List ℕ))) (request : Request) (old new : PostView)
+    (further : Further) → AnswersBefore files request.command (answers_before request.command) None →
+    new ≡ posted_all request old (answers_before request.command) → further ≡ further_of request.command →
+    IsAnswer editing (editing_state files None) (editing_state files None) request old new (go_behind further)
+before_is files request old new further a p f = record {
+  sent = answers_before request.command;
+  answers = (a, refl);
+  posted = p;
+  goes = ap go_behind f;
+}
+
+-- a turn before a run is launched
+pub ruleset firsts = (launched_is, before_is)

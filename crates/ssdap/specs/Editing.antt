@@ -1,0 +1,135 @@
+-- What answers the requests of an editor: before a run is launched, and about that run.
+use Rattle.std.specs.Prelude.{ℕ, ◌≡◌, Bool, true, false, List, [], ◌∷◌, codes, Option, Some, None, Result}
+use Rattle.ss_program.specs.Program.{ProgramTable}
+use Rattle.ss_machine.specs.Run.{input_with}
+use Rattle.ss_debug.specs.Turn.{initial_debugger_state}
+use Rattle.ss_session.specs.Model.{accepted, IsOutcome}
+use Rattle.ss_session.specs.Load.{IsLoadFault}
+use Rattle.ss_session.specs.declared.load.LoadFault.{LoadFault}
+use Rattle.ss_console.specs.Going.{go_of}
+use Rattle.ss_console.specs.declared.answerer.Go.{Go}
+use Rattle.ss_messages.specs.declared.request.Command.{Command}
+use Rattle.ss_messages.specs.declared.request.Command.TheVariants.{Launch}
+use Rattle.ss_messages.specs.declared.request.Request.{Request}
+use Rattle.ss_messages.specs.Messages.{Sent, PostView, posted_all, failure}
+use Rattle.ss_adapter.specs.declared.turns.Further.{Further}
+use Rattle.ss_adapter.specs.declared.turns.Further.TheVariants.{On, Ended}
+use Rattle.ss_adapter.specs.Before.{answers_before, launched, refused as refused_with, fault_line}
+use Rattle.ss_adapter.specs.Turn.{AdapterState, answers, state_after, further_of}
+use Rattle.ss_serve.specs.Meaning.{Meaning}
+use Rattle.ss_serve.specs.Seen.{Seen}
+use Rattle.ss_serve.specs.Session.{HasEnded}
+use Rattle.ss_serve.specs.declared.fault.SessionFault.{SessionFault}
+use Rattle.ssdap.specs.Shelves.{Stands, Given}
+
+-- ---- the state
+
+-- what stands at each path, where it is told, and the run, once one is launched
+pub record EditingState : Type 0 where
+  -- the bytes at each path, or none that can be read
+  pub files : Option (List ℕ → Option (List ℕ))
+  -- the run
+  pub run : Option AdapterState
+
+-- the same, of its parts
+abbrev pub editing_state : Option (List ℕ → Option (List ℕ)) → Option AdapterState → EditingState
+editing_state files run = record { files = files; run = run }
+
+-- ---- launch
+
+-- what launch leads to: the model can't be read, or the data can't; the model is refused; a run
+pub data Opening : Type 0 where
+  no_model : Opening
+  no_data : Opening
+  refused : LoadFault → Opening
+  opened : AdapterState → Opening
+
+-- the start of the run of the program that a model is, over its data, on a desk on which nothing is set or told
+abbrev pub IsStart : List ℕ → List ℕ → List ℕ → Bool → AdapterState → Type 0
+IsStart path model text stops s =
+    (program : ProgramTable) × IsOutcome model (accepted program)
+    × (s ≡ record {
+      input = input_with program text;
+      debugger = initial_debugger_state;
+      desk = record { path = path; set = []; sections = []; watched = []; told = 0; stops = stops };
+    })
+
+-- what launch leads to, by what stands at the path of the model and at that of the data
+abbrev pub Opens : Option (List ℕ → Option (List ℕ)) → List ℕ → Option (List ℕ) → Bool → Opening → Type 0
+Opens files path data_path stops no_model = Stands files path None
+Opens files path data_path stops no_data =
+    (model : List ℕ) × Stands files path (Some model) × Given files data_path None
+Opens files path data_path stops (refused fault) =
+    (model : List ℕ) × (text : List ℕ) × Stands files path (Some model) × Given files data_path (Some text)
+    × IsLoadFault fault model
+Opens files path data_path stops (opened s) =
+    (model : List ℕ) × (text : List ℕ) × Stands files path (Some model) × Given files data_path (Some text)
+    × IsStart path model text stops s
+
+-- what launch is answered with
+abbrev pub opening_messages : Opening → List Sent
+opening_messages no_model = failure (codes "cannot read the model") ∷ []
+opening_messages no_data = failure (codes "cannot read the data") ∷ []
+opening_messages (refused fault) = refused_with (fault_line fault)
+opening_messages (opened s) = launched
+
+-- the run behind it
+abbrev pub opening_run : Opening → Option AdapterState
+opening_run (opened s) = Some s
+opening_run other = None
+
+-- ---- a turn
+
+-- a request is answered with some messages, and leaves a run, before one is launched
+unfoldable pub AnswersBefore : Option (List ℕ → Option (List ℕ)) → Command → List Sent → Option AdapterState → Type 0
+AnswersBefore files (Launch path data_path stops) sent run =
+    (o : Opening) × Opens files path data_path stops o × (sent ≡ opening_messages o) × (run ≡ opening_run o)
+AnswersBefore files command sent run = (sent ≡ answers_before command) × (run ≡ None)
+
+-- the same, where a run may be launched
+abbrev pub AnswersIn : Option (List ℕ → Option (List ℕ)) → Option AdapterState → Command → List Sent →
+    Option AdapterState → Type 0
+AnswersIn files None command sent run = AnswersBefore files command sent run
+AnswersIn files (Some s) command sent run = (sent ≡ answers s command) × (run ≡ Some (state_after s command))
+
+-- a request is answered with these messages, and leads from a state to another
+abbrev pub Answers : EditingState → Request → List Sent → EditingState → Type 0
+Answers s request sent after =
+    AnswersIn s.files s.run request.command sent after.run × (after.files ≡ s.files)
+
+-- whether a session ends
+abbrev pub is_ended : Further → Bool
+is_ended On = false
+is_ended Ended = true
+
+-- the same, where it goes on or not
+abbrev pub go_behind : Further → Go
+go_behind further = go_of (is_ended further)
+
+-- what answers the requests of an editor
+abbrev pub editing : Meaning
+editing = record {
+  State = EditingState;
+  Answers = Answers;
+  ends = λ request. is_ended (further_of request.command);
+}
+
+-- ---- what launch did
+
+-- what was posted for a launch, and the run that it left, are those of one opening
+pub record IsOpened (files : Option (List ℕ → Option (List ℕ))) (request : Request) (path : List ℕ)
+    (data_path : Option (List ℕ)) (stops : Bool) (old new : PostView) (run : Option AdapterState) : Type 0 where
+  -- what it leads to
+  pub opening : Opening
+  -- by what stands at the paths
+  pub opens : Opens files path data_path stops opening
+  -- its messages were posted
+  pub posted : new ≡ posted_all request old (opening_messages opening)
+  -- the run is its
+  pub run_is : run ≡ opening_run opening
+
+-- ---- a whole session
+
+-- a session before whose start no run is launched, and no message is sent
+abbrev pub IsServed : Option (List ℕ → Option (List ℕ)) → Seen → Result (Unit {0}) SessionFault → Type 0
+IsServed files c result = (last : EditingState) × HasEnded editing (editing_state files None) last 0 c result

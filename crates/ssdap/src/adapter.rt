@@ -1,0 +1,123 @@
+//! The requests of an editor, answered by the debugger.
+ghost use Rattle.std.specs.Prelude.{◌≡◌, ◌<◌, ◌^◌, None, option_map, IfOk};
+ghost use Rattle.ss_adapter.specs.Turn.{adapter_state_of};
+ghost use Rattle.ss_serve.specs.Meaning.{IsAnswer};
+ghost use Rattle.ssdap.specs.Editing.{editing, editing_state, go_behind, IsOpened};
+ghost use Rattle.ssdap.specs.Shelves.{Given};
+
+use crate::shelf::Shelf;
+use ss_adapter::{Desk, Further, launch, turn, turn_before};
+use ss_console::Go;
+use ss_debug::Debugger;
+use ss_links::LinkedSets;
+use ss_messages::{Command, Post, Request, Text};
+use ss_serve::Answerer;
+use std::alloc::{AllocError, Global};
+
+/// A run that was launched, and what the adapter keeps beside it.
+type Run = (Debugger<LinkedSets>, Desk);
+
+/// What answers the requests of an editor: before a run is launched, and about that run.
+#[derive(Drop)]
+pub struct Adapter<'a, F: Shelf> {
+    shelf: &'a F,
+    run: Option<Run>,
+}
+
+impl<'a, F: Shelf> Adapter<'a, F> {
+    /// No run is launched.
+    pub fn new(shelf: &'a F) -> Self
+        ensures shelf { result.shelf.now ≡ shelf.now }
+        ensures run { result.run ≡ None }
+    {
+        Adapter { shelf, run: None }
+    }
+}
+
+/// The bytes of the data, none where no path is named. `None` where they can't be read.
+fn data_at<F: Shelf>(
+    alloc: Global,
+    shelf: &F,
+    path: &Option<Text>,
+) -> Result<Option<Vec<u8>>, AllocError>
+    ensures { IfOk result
+        (λ bytes. Given (F.files shelf.now) path.now (option_map (λ b. b.items) bytes)) }
+{
+    match path {
+        Some(path) => shelf.bytes_at(path.as_slice()),
+        None => Ok(Some(Vec::new(alloc))),
+    }
+}
+
+/// Reads the files of launch and opens the run of the model over the data; answers launch.
+#[tactic(auto, using(crate::proofs::Openings::openings))]
+fn open<F: Shelf>(
+    shelf: &F,
+    request: &Request,
+    post: &mut Post,
+    path: &Text,
+    data_path: &Option<Text>,
+    stops: bool,
+) -> Result<Option<Run>, AllocError>
+    requires { post.old.sent < 2 ^ 53 }
+    ensures { IfOk result (λ run. IsOpened (F.files shelf.now) request.now path.now data_path.now
+        stops post.old post.new (option_map (λ r. adapter_state_of r.0 r.1) run)) }
+{
+    let Some(model) = shelf.bytes_at(path.as_slice())? else {
+        post.fail(request, b"cannot read the model")?;
+        return Ok(None);
+    };
+    let Some(text) = data_at(post.alloc(), shelf, data_path)? else {
+        post.fail(request, b"cannot read the data")?;
+        return Ok(None);
+    };
+    launch(request, post, path.as_slice(), stops, &model, &text)
+}
+
+/// Whether a session goes on.
+fn go_behind(further: Further) -> Go
+    ensures { result ≡ go_behind further }
+{
+    match further {
+        Further::On => Go::On,
+        Further::Ended => Go::Quit,
+    }
+}
+
+/// Answers a request before a run is launched; launch leaves the run that it opens.
+#[tactic(auto, using(crate::proofs::Openings::firsts), unfolding(crate::specs::Editing::AnswersBefore))]
+fn answer_before<F: Shelf>(
+    shelf: &F,
+    run: &mut Option<Run>,
+    request: &Request,
+    post: &mut Post,
+) -> Result<Go, AllocError>
+    requires none { run.old ≡ None }
+    requires room { post.old.sent < 2 ^ 53 }
+    ensures { IfOk result (λ go. IsAnswer editing (editing_state (F.files shelf.now) None)
+        (editing_state (F.files shelf.now) (option_map (λ r. adapter_state_of r.0 r.1) run.new))
+        request.now post.old post.new go) }
+{
+    match &request.command {
+        Command::Launch(path, data_path, stops) => {
+            *run = open(shelf, request, post, path, data_path, *stops)?;
+            Ok(Go::On)
+        }
+        _ => Ok(go_behind(turn_before(request, post)?)),
+    }
+}
+
+impl<F: Shelf> Answerer for Adapter<'_, F> {
+    ghost meaning = { editing };
+
+    ghost state = { λ a. editing_state (F.files a.shelf.now)
+        (option_map (λ r. adapter_state_of r.0 r.1) a.run) };
+
+    #[tactic(auto, using(crate::proofs::Openings::turned))]
+    fn answer(&mut self, request: &Request, post: &mut Post) -> Result<Go, AllocError> {
+        if let Some((debugger, desk)) = &mut self.run {
+            return Ok(go_behind(turn(debugger, desk, request, post)?));
+        }
+        answer_before(self.shelf, &mut self.run, request, post)
+    }
+}
