@@ -1,6 +1,6 @@
 -- Launch, and turns of an editor.
-use Rattle.std.proofs.Common.{◌≡◌, ℕ, Bool, List, [], codes, refl, ◌∙◌, sym, ap, Option, Some, None}
-use Rattle.std.specs.Prelude.{MatchOption, option_map}
+use Rattle.std.proofs.Common.{◌≡◌, ℕ, Bool, List, [], codes, refl, ◌∙◌, sym, ap, Option, Some, None, Result, Ok, Err}
+use Rattle.std.specs.Prelude.{MatchOption, option_map, IfOk}
 use Rattle.ss_machine.specs.Run.{Input, input_with}
 use Rattle.ss_debug.specs.Turn.{DebuggerState, initial_debugger_state}
 use Rattle.ss_debug.specs.View.{DebuggerView, debugger_state_of}
@@ -31,15 +31,22 @@ same_state t u d e k j p q r = rw (p, q, r) refl
 starts : (model text path : List ℕ) (stops : Bool) (d : DebuggerView) (k : DeskView) →
     IsLaunched model text path stops d k → IsStart path model text stops (adapter_state_of d k)
 starts model text path stops d k l =
-    (d.machine.input.program, l.program, same_state d.machine.input _ (debugger_state_of d) _ k _ l.input l.start l.desk)
+    let same = same_state d.machine.input _ (debugger_state_of d) _ k _ l.input l.start l.desk in
+    (d.machine.input.program, l.program, same)
 
--- what launch did is one opening
-pub opens : (files : Option (List ℕ → Option (List ℕ))) (request : Request) (path : List ℕ)
-    (data_path : Option (List ℕ)) (stops : Bool) (model text : List ℕ) (old new : PostView)
-    (run : Option (DebuggerView × DeskView)) → Stands files path (Some model) → Given files data_path (Some text) →
+-- what launch says of the run that it leaves, and of what it posts
+abbrev Launches : Request → List ℕ → List ℕ → List ℕ → Bool → PostView → PostView →
+    Option (DebuggerView × DeskView) → Type 0
+Launches request path model text stops old new run =
     MatchOption run
     ((fault : LoadFault) × IsLoadFault fault model × (new ≡ posted_all request old (refused_with (fault_line fault))))
-    (λ r. IsLaunched model text path stops r.0 r.1 × (new ≡ posted_all request old launched)) →
+    (λ r. IsLaunched model text path stops r.0 r.1 × (new ≡ posted_all request old launched))
+
+-- that is one opening
+opens : (files : Option (List ℕ → Option (List ℕ))) (request : Request) (path : List ℕ)
+    (data_path : Option (List ℕ)) (stops : Bool) (model text : List ℕ) (old new : PostView)
+    (run : Option (DebuggerView × DeskView)) → Stands files path (Some model) → Given files data_path (Some text) →
+    Launches request path model text stops old new run →
     IsOpened files request path data_path stops old new (option_map (λ r. adapter_state_of r.0 r.1) run)
 opens files request path data_path stops model text old new None s g h = record {
   opening = refused h.0;
@@ -53,6 +60,18 @@ opens files request path data_path stops model text old new (Some r) s g h = rec
   posted = h.1;
   run_is = refl;
 }
+
+-- the same of what launch returned, of these texts
+pub launch_opens : (files : Option (List ℕ → Option (List ℕ))) (request : Request) (path : List ℕ)
+    (data_path : Option (List ℕ)) (stops : Bool) (model text : List ℕ) (old new : PostView) {E : Type 0}
+    (result : Result (Option (DebuggerView × DeskView)) E) (at over held : List ℕ) → at ≡ path → over ≡ model →
+    held ≡ text → Stands files path (Some model) → Given files data_path (Some text) →
+    IfOk result (λ run. Launches request at over held stops old new run) →
+    IfOk result (λ run. IsOpened files request path data_path stops old new
+    (option_map (λ r. adapter_state_of r.0 r.1) run))
+launch_opens files request path data_path stops model text old new (Ok run) at over held p m t s g h =
+    opens files request path data_path stops model text old new run s g (rw (p, m, t) at h)
+launch_opens files request path data_path stops model text old new (Err fault) at over held p m t s g h = tt
 
 -- a turn about a run
 pub turned : (files : Option (List ℕ → Option (List ℕ))) (s to : AdapterState) (request : Request)
@@ -91,9 +110,6 @@ no_data_is files request path data_path stops model old new s g p = record {
   posted = p ∙ sym (posted_one request old (failure (codes "cannot read the data")));
   run_is = refl;
 }
-
--- what launch leads to
-pub ruleset openings = (no_model_is, no_data_is, opens)
 
 -- launch is answered
 pub launched_is : (files : Option (List ℕ → Option (List ℕ))) (request : Request) (path : List ℕ)

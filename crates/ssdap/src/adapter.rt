@@ -50,7 +50,6 @@ fn data_at<F: Shelf>(
 }
 
 /// Reads the files of launch and opens the run of the model over the data; answers launch.
-#[tactic(auto, using(crate::proofs::Openings::openings))]
 fn open<F: Shelf>(
     shelf: &F,
     request: &Request,

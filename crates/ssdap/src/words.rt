@@ -10,7 +10,8 @@ const VERSION: &str = "1.0";
 /// Reads the words: there are none.
 fn parse(alloc: Global, words: &[String]) -> Result<(), Error> {
     let command = Command::new(alloc, "ssdap").version(VERSION).about(
-        "The debug adapter of SIMSCRIPT II models, for editors: it speaks the Debug Adapter Protocol over standard input and output (docs/EDITORS.md)",
+        "The debug adapter of SIMSCRIPT II models, for editors: it speaks the Debug Adapter Protocol \
+         over standard input and output (docs/EDITORS.md)",
     );
     command.try_get_matches_from(words)?;
     Ok(())
