@@ -1,16 +1,18 @@
 -- Launch, and turns of an editor.
-use Rattle.std.proofs.Common.{◌≡◌, ℕ, Bool, List, [], codes, refl, ◌∙◌, sym, ap, Option, Some, None, Result, Ok, Err}
+use Rattle.std.proofs.Common.{◌≡◌, ◌≢◌, ℕ, List, [], codes, refl, ◌∙◌, sym, ap, Option, Some, None, Result, Ok, Err}
 use Rattle.std.specs.Prelude.{MatchOption, option_map, IfOk}
 use Rattle.ss_machine.specs.Run.{Input, input_with}
 use Rattle.ss_debug.specs.Turn.{DebuggerState, initial_debugger_state}
 use Rattle.ss_debug.specs.View.{DebuggerView, debugger_state_of}
 use Rattle.ss_session.specs.Load.{IsLoadFault}
 use Rattle.ss_session.specs.declared.load.LoadFault.{LoadFault}
+use Rattle.ss_session.specs.declared.load.LoadFault.TheVariants.{Memory}
 use Rattle.ss_messages.specs.Messages.{PostView, posted, posted_all, failure}
 use Rattle.ss_messages.proofs.Posts.{posted_one}
 use Rattle.ss_messages.specs.declared.request.Command.TheVariants.{Launch}
 use Rattle.ss_console.specs.declared.answerer.Go.TheVariants as go
 use Rattle.ss_messages.specs.declared.request.Request.{Request}
+use Rattle.ss_messages.specs.declared.request.Stops.{Stops}
 use Rattle.ss_adapter.specs.declared.turns.Further.{Further}
 use Rattle.ss_adapter.specs.Desk.{DeskView}
 use Rattle.ss_adapter.specs.Before.{IsLaunched, launched, refused as refused_with, fault_line, answers_before}
@@ -28,30 +30,31 @@ same_state : (t u : Input) (d e : DebuggerState) (k j : DeskView) → t ≡ u �
 same_state t u d e k j p q r = rw (p, q, r) refl
 
 -- a debugger and a desk at the start of a run are at the start
-starts : (model text path : List ℕ) (stops : Bool) (d : DebuggerView) (k : DeskView) →
+starts : (model text path : List ℕ) (stops : Stops) (d : DebuggerView) (k : DeskView) →
     IsLaunched model text path stops d k → IsStart path model text stops (adapter_state_of d k)
 starts model text path stops d k l =
     let same = same_state d.machine.input _ (debugger_state_of d) _ k _ l.input l.start l.desk in
     (d.machine.input.program, l.program, same)
 
 -- what launch says of the run that it leaves, and of what it posts
-abbrev Launches : Request → List ℕ → List ℕ → List ℕ → Bool → PostView → PostView →
+abbrev Launches : Request → List ℕ → List ℕ → List ℕ → Stops → PostView → PostView →
     Option (DebuggerView × DeskView) → Type 0
 Launches request path model text stops old new run =
     MatchOption run
-    ((fault : LoadFault) × IsLoadFault fault model × (new ≡ posted_all request old (refused_with (fault_line fault))))
+    ((fault : LoadFault) × (fault ≢ Memory) × IsLoadFault fault model
+    × (new ≡ posted_all request old (refused_with (fault_line fault))))
     (λ r. IsLaunched model text path stops r.0 r.1 × (new ≡ posted_all request old launched))
 
 -- that is one opening
 opens : (files : Option (List ℕ → Option (List ℕ))) (request : Request) (path : List ℕ)
-    (data_path : Option (List ℕ)) (stops : Bool) (model text : List ℕ) (old new : PostView)
+    (data_path : Option (List ℕ)) (stops : Stops) (model text : List ℕ) (old new : PostView)
     (run : Option (DebuggerView × DeskView)) → Stands files path (Some model) → Given files data_path (Some text) →
     Launches request path model text stops old new run →
     IsOpened files request path data_path stops old new (option_map (λ r. adapter_state_of r.0 r.1) run)
 opens files request path data_path stops model text old new None s g h = record {
   opening = refused h.0;
-  opens = (model, text, s, g, h.1);
-  posted = h.2;
+  opens = (model, text, s, g, h.1, h.2);
+  posted = h.3;
   run_is = refl;
 }
 opens files request path data_path stops model text old new (Some r) s g h = record {
@@ -63,7 +66,7 @@ opens files request path data_path stops model text old new (Some r) s g h = rec
 
 -- the same of what launch returned, of these texts
 pub launch_opens : (files : Option (List ℕ → Option (List ℕ))) (request : Request) (path : List ℕ)
-    (data_path : Option (List ℕ)) (stops : Bool) (model text : List ℕ) (old new : PostView) {E : Type 0}
+    (data_path : Option (List ℕ)) (stops : Stops) (model text : List ℕ) (old new : PostView) {E : Type 0}
     (result : Result (Option (DebuggerView × DeskView)) E) (at over held : List ℕ) → at ≡ path → over ≡ model →
     held ≡ text → Stands files path (Some model) → Given files data_path (Some text) →
     IfOk result (λ run. Launches request at over held stops old new run) →
@@ -88,7 +91,7 @@ turned files s to request old new further p e f = record {
 
 -- the model can't be read
 pub no_model_is : (files : Option (List ℕ → Option (List ℕ))) (request : Request) (path : List ℕ)
-    (data_path : Option (List ℕ)) (stops : Bool) (old new : PostView) → Stands files path None →
+    (data_path : Option (List ℕ)) (stops : Stops) (old new : PostView) → Stands files path None →
     new ≡ posted request old (failure (codes "cannot read the model")) →
     IsOpened files request path data_path stops old new None
 no_model_is files request path data_path stops old new s p = record {
@@ -100,7 +103,7 @@ no_model_is files request path data_path stops old new s p = record {
 
 -- the data can't be read
 pub no_data_is : (files : Option (List ℕ → Option (List ℕ))) (request : Request) (path : List ℕ)
-    (data_path : Option (List ℕ)) (stops : Bool) (model : List ℕ) (old new : PostView) →
+    (data_path : Option (List ℕ)) (stops : Stops) (model : List ℕ) (old new : PostView) →
     Stands files path (Some model) → Given files data_path None →
     new ≡ posted request old (failure (codes "cannot read the data")) →
     IsOpened files request path data_path stops old new None
@@ -113,7 +116,7 @@ no_data_is files request path data_path stops model old new s g p = record {
 
 -- launch is answered
 pub launched_is : (files : Option (List ℕ → Option (List ℕ))) (request : Request) (path : List ℕ)
-    (data_path : Option (List ℕ)) (stops : Bool) (old new : PostView) (run : Option AdapterState) →
+    (data_path : Option (List ℕ)) (stops : Stops) (old new : PostView) (run : Option AdapterState) →
     request.command ≡ Launch path data_path stops → IsOpened files request path data_path stops old new run →
     IsAnswer editing (editing_state files None) (editing_state files run) request old new go.On
 unfolding AnswersBefore

@@ -1,16 +1,18 @@
 -- What answers the requests of an editor: before a run is launched, and about that run.
-use Rattle.std.specs.Prelude.{ℕ, ◌≡◌, Bool, true, false, List, [], ◌∷◌, codes, Option, Some, None, Result}
+use Rattle.std.specs.Prelude.{ℕ, ◌≡◌, ◌≢◌, Bool, true, false, List, [], ◌∷◌, codes, Option, Some, None, Result}
 use Rattle.ss_program.specs.Program.{ProgramTable}
 use Rattle.ss_machine.specs.Run.{input_with}
 use Rattle.ss_debug.specs.Turn.{initial_debugger_state}
 use Rattle.ss_session.specs.Model.{accepted, IsOutcome}
 use Rattle.ss_session.specs.Load.{IsLoadFault}
 use Rattle.ss_session.specs.declared.load.LoadFault.{LoadFault}
+use Rattle.ss_session.specs.declared.load.LoadFault.TheVariants.{Memory}
 use Rattle.ss_console.specs.Going.{go_of}
 use Rattle.ss_console.specs.declared.answerer.Go.{Go}
 use Rattle.ss_messages.specs.declared.request.Command.{Command}
 use Rattle.ss_messages.specs.declared.request.Command.TheVariants.{Launch}
 use Rattle.ss_messages.specs.declared.request.Request.{Request}
+use Rattle.ss_messages.specs.declared.request.Stops.{Stops}
 use Rattle.ss_messages.specs.Messages.{Sent, PostView, posted_all, failure}
 use Rattle.ss_adapter.specs.declared.turns.Further.{Further}
 use Rattle.ss_adapter.specs.declared.turns.Further.TheVariants.{On, Ended}
@@ -45,7 +47,7 @@ pub data Opening : Type 0 where
   opened : AdapterState → Opening
 
 -- the start of the run of the program that a model is, over its data, on a desk on which nothing is set or told
-abbrev pub IsStart : List ℕ → List ℕ → List ℕ → Bool → AdapterState → Type 0
+abbrev pub IsStart : List ℕ → List ℕ → List ℕ → Stops → AdapterState → Type 0
 IsStart path model text stops s =
     (program : ProgramTable) × IsOutcome model (accepted program)
     × (s ≡ record {
@@ -55,13 +57,13 @@ IsStart path model text stops s =
     })
 
 -- what launch leads to, by what stands at the path of the model and at that of the data
-abbrev pub Opens : Option (List ℕ → Option (List ℕ)) → List ℕ → Option (List ℕ) → Bool → Opening → Type 0
+abbrev pub Opens : Option (List ℕ → Option (List ℕ)) → List ℕ → Option (List ℕ) → Stops → Opening → Type 0
 Opens files path data_path stops no_model = Stands files path None
 Opens files path data_path stops no_data =
     (model : List ℕ) × Stands files path (Some model) × Given files data_path None
 Opens files path data_path stops (refused fault) =
     (model : List ℕ) × (text : List ℕ) × Stands files path (Some model) × Given files data_path (Some text)
-    × IsLoadFault fault model
+    × (fault ≢ Memory) × IsLoadFault fault model
 Opens files path data_path stops (opened s) =
     (model : List ℕ) × (text : List ℕ) × Stands files path (Some model) × Given files data_path (Some text)
     × IsStart path model text stops s
@@ -118,7 +120,7 @@ editing = record {
 
 -- what was posted for a launch, and the run that it left, are those of one opening
 pub record IsOpened (files : Option (List ℕ → Option (List ℕ))) (request : Request) (path : List ℕ)
-    (data_path : Option (List ℕ)) (stops : Bool) (old new : PostView) (run : Option AdapterState) : Type 0 where
+    (data_path : Option (List ℕ)) (stops : Stops) (old new : PostView) (run : Option AdapterState) : Type 0 where
   -- what it leads to
   pub opening : Opening
   -- by what stands at the paths

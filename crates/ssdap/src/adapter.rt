@@ -10,7 +10,7 @@ use ss_adapter::{Desk, Further, launch, turn, turn_before};
 use ss_console::Go;
 use ss_debug::Debugger;
 use ss_links::LinkedSets;
-use ss_messages::{Command, Post, Request, Text};
+use ss_messages::{Command, Post, Request, Stops, Text};
 use ss_serve::Answerer;
 use std::alloc::{AllocError, Global};
 
@@ -56,7 +56,7 @@ fn open<F: Shelf>(
     post: &mut Post,
     path: &Text,
     data_path: &Option<Text>,
-    stops: bool,
+    stops: Stops,
 ) -> Result<Option<Run>, AllocError>
     requires { post.old.sent < 2 ^ 53 }
     ensures { IfOk result (λ run. IsOpened (F.files shelf.now) request.now path.now data_path.now
