@@ -12,7 +12,9 @@ use ss_debug::Debugger;
 use ss_links::LinkedSets;
 use ss_messages::{Command, Post, Request, Stops, Text};
 use ss_serve::Answerer;
+use ss_session::drop_debugger;
 use std::alloc::{AllocError, Global};
+use std::mem;
 
 /// A run that was launched, and what the adapter keeps beside it.
 type Run = (Debugger<LinkedSets>, Desk);
@@ -31,6 +33,18 @@ impl<'a, F: Shelf> Adapter<'a, F> {
         ensures run { result.run ≡ None }
     {
         Adapter { shelf, run: None }
+    }
+
+    /// Lets the run go, if one was launched.
+    pub fn close(self) {
+        let_go(self.run);
+    }
+}
+
+/// Lets a run go, if there is one.
+fn let_go(run: Option<Run>) {
+    if let Some((debugger, _desk)) = run {
+        drop_debugger(debugger);
     }
 }
 
@@ -99,7 +113,8 @@ fn answer_before<F: Shelf>(
 {
     match &request.command {
         Command::Launch(path, data_path, stops) => {
-            *run = open(shelf, request, post, path, data_path, *stops)?;
+            let opened = open(shelf, request, post, path, data_path, *stops)?;
+            let_go(mem::replace(run, opened));
             Ok(Go::On)
         }
         _ => Ok(go_behind(turn_before(request, post)?)),

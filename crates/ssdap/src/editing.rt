@@ -22,5 +22,7 @@ pub fn serve_editor<F: Shelf, C: Channel>(
     ensures broken { C.broken channel.new ≡ broken_after result (C.broken channel.old) }
 {
     let mut adapter = Adapter::new(shelf);
-    serve(alloc, &mut adapter, channel)
+    let served = serve(alloc, &mut adapter, channel);
+    adapter.close();
+    served
 }
