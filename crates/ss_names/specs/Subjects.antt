@@ -1,5 +1,5 @@
 -- Which name of a statement a breach of the checker's rules is about, and what is said of it.
-use Rattle.std.specs.Prelude.{ℕ, ◌==◌, Bool, true, false, not, List, [], ◌∷◌, ◌++◌, codes, Option, Some, None}
+use Rattle.std.specs.Prelude.{ℕ, ◌==◌, not, List, [], ◌∷◌, ◌++◌, codes, Option, Some, None}
 use Rattle.std.specs.Prelude.{option_map, Ok, Err, if◌then◌else◌}
 use Rattle.ss_words.specs.Plain.{PlainAt, name, number, mark, picture}
 use Rattle.ss_words.specs.PlainRules.{plain_words_of}

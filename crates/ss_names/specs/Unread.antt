@@ -44,7 +44,7 @@ is_told names c before n k =
     && count_by (bytes_eq k) before == 0 && not (is_of_language n)
 
 -- what is said of a name on a line behind others
-abbrev pub only_name :
+unfoldable pub only_name :
     List ℕ → List (List ℕ) → Counted → List (List ℕ) → ℕ → List ℕ → List ℕ → List ℕ
 only_name said names c before line n k =
     elim (is_told names c before n k) [ true ↦ warning line n said | false ↦ [] ]

@@ -181,7 +181,7 @@ fn is_declared_twice(facts: &Facts<'_>, at: Standpoint<'_>) -> bool
 /// Whether the first of some places of a name stands before this one.
 pub fn stands_before(places: &[Row<'_>], at: Standpoint<'_>) -> bool
     ensures { result ≡ spec.stands_before (spec.standing_at at.entry)
-        (declared_as (map declaration_at places.now) at.name.now) }
+        (declared_as (map declaration_at places.now) at.entry.name.now) }
 {
     match declared(places, at.name) {
         Some(row) => row.index < at.index,
