@@ -13,7 +13,7 @@ use crate::counts::has_wrong_count;
 use crate::declarations::declared;
 use crate::here::Here;
 use crate::known::{Known, What, given, known_as, push_known};
-use crate::meaning::{Meaning, Row};
+use crate::meaning::Row;
 use crate::position::{opens, position_at};
 use ss_words::{Plain, PlainWord, Reserved, TextFault, plain_words, words};
 use std::alloc::{AllocError, Global};

@@ -4,7 +4,7 @@ ghost use Rattle.ss_words.specs.Plain.{plain_at};
 ghost use Rattle.ss_names.specs.Positions as spec;
 
 use crate::here::Here;
-use ss_words::{Mark, Plain, PlainWord, Reserved, Sign};
+use ss_words::{Mark, PlainWord, Reserved, Sign};
 
 /// How a name stands.
 #[derive(Clone, Copy, Debug, PartialEq, Eq)]
