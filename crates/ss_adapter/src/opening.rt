@@ -1,9 +1,5 @@
 //! launch: a model becomes a run.
-ghost use Rattle.std.specs.Prelude.{◌≡◌, ◌≢◌, ◌+◌, ◌-◌, ◌^◌, ◌<◌, IfOk, IfErr, OnOk, MatchOption};
-ghost use Rattle.ss_machine.specs.Run.{input_with};
-ghost use Rattle.ss_debug.specs.Turn.{initial_debugger_state};
-ghost use Rattle.ss_debug.specs.View.{debugger_state_of};
-ghost use Rattle.ss_session.specs.Model.{accepted, IsOutcome};
+ghost use Rattle.std.specs.Prelude.{◌≡◌, ◌≢◌, ◌+◌, ◌-◌, ◌^◌, ◌<◌, IfOk, OnOk, MatchOption};
 ghost use Rattle.ss_session.specs.Load.{IsLoadFault};
 ghost use Rattle.ss_session.specs.declared.load.LoadFault.{LoadFault as Fault};
 ghost use Rattle.ss_session.specs.declared.load.LoadFault.TheVariants.{Memory};
@@ -14,25 +10,8 @@ use crate::desk::Desk;
 use ss_debug::Debugger;
 use ss_links::LinkedSets;
 use ss_messages::{NOTHING, Post, Request, Stops, output_body, without_last};
-use ss_session::{LoadFault, load_program, machine, refusal_text};
+use ss_session::{LoadFault, open_debugger, refusal_text};
 use std::alloc::{AllocError, Global};
-
-/// The debugger at the start of the run of a model over its data.
-fn open(alloc: Global, model: &[u8], text: &[u8]) -> Result<Debugger<LinkedSets>, LoadFault>
-    ensures program { IfOk result (λ d. IsOutcome model.now (accepted d.machine.input.program)) }
-    ensures input { IfOk result (λ d. d.machine.input
-        ≡ input_with d.machine.input.program text.now) }
-    ensures start { IfOk result (λ d. debugger_state_of d ≡ initial_debugger_state) }
-    ensures err { IfErr result (λ fault. IsLoadFault fault model.now) }
-{
-    let program = load_program(alloc, model)?;
-    let sets = LinkedSets::new(alloc);
-    let pending = LinkedSets::new(alloc);
-    match machine(alloc, program, text, sets, pending) {
-        Ok(machine) => Ok(Debugger::new(alloc, machine)),
-        Err(_) => Err(LoadFault::Memory),
-    }
-}
 
 /// What is said of a refused model.
 fn fault_line(alloc: Global, fault: &LoadFault) -> Result<Vec<u8>, AllocError>
@@ -89,7 +68,7 @@ pub fn launch(
     let desk = Desk::new(post.alloc(), path.to_vec(post.alloc())?, stops);
     let mut accepted = post.copied()?;
     accept(request, &mut accepted)?;
-    match open(post.alloc(), model, text) {
+    match open_debugger(post.alloc(), model, text) {
         Ok(debugger) => {
             *post = accepted;
             Ok(Some((debugger, desk)))
