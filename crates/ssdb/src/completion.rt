@@ -8,7 +8,7 @@ use crate::refused::refuse;
 use crate::source::source_lines;
 use ss_console::{Console, Cut, put_all};
 use ss_prompt::push_completions;
-use ss_session::load_program;
+use ss_session::{drop_program, load_program};
 use std::alloc::Global;
 
 /// Writes the words that may stand in a line of a dialogue about a model (docs/PROMPT.md), a line
@@ -30,7 +30,9 @@ pub fn tell_words<C: Console>(
     match load_program(alloc, model) {
         Ok(program) => {
             let mut text = Vec::new(alloc);
-            push_completions(&mut text, &program)?;
+            let pushed = push_completions(&mut text, &program);
+            drop_program(program);
+            pushed?;
             match put_all(console, &text) {
                 Ok(()) => Ok(PromptEnd::Done),
                 Err(_) => Err(PromptFault::Cut(Cut::Write)),

@@ -3,11 +3,7 @@ ghost use Rattle.std.specs.Prelude.{◌≡◌, ◌-◌, ◌^◌, ◌<◌, OnOk, 
 ghost use Rattle.std.specs.Vec.{vec_capacity};
 ghost use Rattle.ss_console.specs.declared.lines.TheConstants.{LINE_LIMIT};
 ghost use Rattle.ss_console.specs.Event.{Adds, written};
-ghost use Rattle.ss_machine.specs.Run.{input_with, run};
-ghost use Rattle.ss_debug.specs.Turn.{initial_debugger_state};
-ghost use Rattle.ss_debug.specs.View.{debugger_state_of};
-ghost use Rattle.ss_session.specs.Model.{accepted, IsOutcome};
-ghost use Rattle.ss_session.specs.Load.{IsLoadFault};
+ghost use Rattle.ss_machine.specs.Run.{run};
 ghost use Rattle.ss_prompt.specs.PromptState.{greeting};
 ghost use Rattle.ssdb.specs.Opening.{greeted, end_of_status, EndsWell, HoldFails, GreetingFails};
 ghost use Rattle.ssdb.specs.Opening.{HoldsFrom, StopsFrom, IsHeld, IsStopped};
@@ -17,11 +13,10 @@ use crate::end::{PromptEnd, PromptFault};
 use crate::refused::refuse;
 use crate::source::source_lines;
 use ss_console::{Console, Cut, LINE_LIMIT, converse, put_all};
-use ss_debug::Debugger;
-use ss_links::{LinkedSets, SetBoard};
+use ss_links::SetBoard;
 use ss_machine::Status;
 use ss_prompt::Prompt;
-use ss_session::{LoadFault, load_program, machine};
+use ss_session::open_debugger;
 use std::alloc::Global;
 
 fn end(status: Status) -> PromptEnd
@@ -102,23 +97,6 @@ fn hold<S: SetBoard, C: Console>(
     Ok(end(prompt.status()))
 }
 
-/// The debugger at the start of the run of a model over its data.
-fn open(alloc: Global, model: &[u8], data_text: &[u8]) -> Result<Debugger<LinkedSets>, LoadFault>
-    ensures program { IfOk result (λ d. IsOutcome model.now (accepted d.machine.input.program)) }
-    ensures input { IfOk result (λ d. d.machine.input
-        ≡ input_with d.machine.input.program data_text.now) }
-    ensures start { IfOk result (λ d. debugger_state_of d ≡ initial_debugger_state) }
-    ensures err { IfErr result (λ fault. IsLoadFault fault model.now) }
-{
-    let program = load_program(alloc, model)?;
-    let sets = LinkedSets::new(alloc);
-    let pending = LinkedSets::new(alloc);
-    match machine(alloc, program, data_text, sets, pending) {
-        Ok(machine) => Ok(Debugger::new(alloc, machine)),
-        Err(_) => Err(LoadFault::Memory),
-    }
-}
-
 /// A whole dialogue of a prompt: the greeting, and the answers to the lines of a console.
 #[tactic(auto, using(crate::proofs::Openings::holds))]
 fn greet_and_hold<S: SetBoard, C: Console>(
@@ -162,7 +140,7 @@ pub fn open_prompt<C: Console>(
 {
     let mut line = Vec::with_capacity(alloc, LINE_LIMIT + 1)?;
     let lines = source_lines(alloc, model)?;
-    match open(alloc, model, data_text) {
+    match open_debugger(alloc, model, data_text) {
         Ok(debugger) => {
             let prompt = Prompt::new(alloc, debugger, model, lines);
             greet_and_hold(alloc, prompt, &mut line, console)
