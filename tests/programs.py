@@ -1,12 +1,18 @@
-"""How scripts of tests run the built programs, with growths and writes refused, and count what passed."""
+"""What scripts of tests share: models and texts that tables note, runs of the built programs, with growths and writes refused, and how they
+count what passed."""
 import concurrent.futures
+import itertools
 import os
+import re
 import subprocess
+import threading
 
 TOP = os.path.dirname(os.path.dirname(os.path.realpath(__file__)))
 DATA = f"{TOP}/crates/cases/data"
 # What tests/refuse.c says of a growth that it refuses.
 REFUSED = b"growth refused\n"
+# The rules and faults of the language, by their letter and greatest number.
+CODES = [f"{letter}{n}" for letter, most in {"L": 5, "P": 3, "C": 14, "F": 22}.items() for n in range(1, most + 1)]
 
 
 def built(name):
@@ -31,12 +37,49 @@ def read(path, otherwise=b""):
         return it.read()
 
 
+def write(path, text):
+    """Writes a text, or bytes, to a file, and returns its path."""
+    with open(path, "wb") as it:
+        it.write(text if isinstance(text, bytes) else text.encode())
+    return path
+
+
+def own(room, *texts):
+    """Writes texts to files of the calling thread in a folder, and returns their paths."""
+    return [write(f"{room}/{threading.get_ident()}.{number}", it) for number, it in enumerate(texts)]
+
+
+def model_of(path):
+    """Returns the words of an example: its model, and its data where it has some."""
+    return [it for it in (f"{path}.sim", f"{path}.data") if os.path.exists(it)]
+
+
+def spelled(text):
+    """Returns the text that one of a table stands for: '|' is a line end, and '{n x}' is x written n times, with its number, from 0, in
+    place of each '#'."""
+    copies = lambda it: "".join(it[2].replace("#", str(i)) for i in range(int(it[1])))
+    while (more := re.sub(r"\{([0-9]+) ([^{}]*)\}", copies, text)) != text:
+        text = more
+    return text.replace("|", "\n")
+
+
 def run(words, text=os.devnull, refuse=None, **refused):
-    """Runs a program over the file of its standard input; returns its status, what it wrote and what it said."""
-    environment = {"LD_PRELOAD": refuse, **refused} if refuse else {}
-    with open(text, "rb") as given:
-        ended = subprocess.run(words, stdin=given, capture_output=True, cwd=DATA, env=environment, check=False)
+    """Runs a program over its standard input, a file or bytes; returns its status, what it wrote and what it said."""
+    how = {"PATH": os.environ["PATH"], **({"LD_PRELOAD": refuse} if refuse else {}), **refused}
+    given = {"input": text} if isinstance(text, bytes) else {"stdin": os.open(text, os.O_RDONLY)}
+    ended = subprocess.run(words, capture_output=True, cwd=DATA, env=how, check=False, timeout=600, **given)
+    if "stdin" in given:
+        os.close(given["stdin"])
     return ended.returncode, ended.stdout, ended.stderr
+
+
+def refusals(call):
+    """Yields each growth of a run, from 1 on, and how the run ends in which it is refused: the call runs it so."""
+    for growth in itertools.count(1):
+        found = call(growth)
+        if REFUSED not in found[2]:
+            return
+        yield growth, found
 
 
 def differs(wanted, found):
