@@ -1,10 +1,15 @@
--- Laws on OVER and BACK OVER, which are no single movements: they stay within their bounds; and on histories.
+-- Laws on OVER and BACK OVER, which are no single movements: they stay within their bounds; that no movement passes an
+-- end; and on histories.
 use Rattle.std.specs.Prelude.{ℕ, ◌+◌, ◌≡◌, ◌<◌, ◌≤◌, ◌⊎◌, Bool, true, List, [], ◌∷◌}
 use Rattle.ss_machine.specs.declared.limits.TheConstants.{LAST_POSITION}
 use Rattle.ss_machine.specs.Run.{Input}
+use Rattle.ss_debug.specs.declared.commands.Command.{Command}
 use Rattle.ss_debug.specs.Move.{is_ready_at}
+use Rattle.ss_debug.specs.Turn.{DebuggerState, initial_debugger_state, debugger_state_after}
+use Rattle.ss_trace.specs.declared.movement.Movement.{Movement}
 use Rattle.ss_trace.specs.Movements.{over, back_over}
 use Rattle.ss_trace.specs.History.{positions_where}
+use Rattle.ss_trace.specs.Turn.{state_after}
 
 -- q is not before p, nor more than n steps on, nor past the last position, nor past a state that isn't ready
 pub record IsAheadWithin (t : Input) (p n q : ℕ) : Type 0 where
@@ -36,6 +41,34 @@ abbrev pub BackOverEnds : Type 0
 BackOverEnds =
     (t : Input) (earliest k p n : ℕ) → earliest ≤ p →
     IsBackWithin earliest p n (back_over t earliest k p n).position
+
+-- ---- ends
+
+-- each state before p is ready
+abbrev pub AreReadyBefore : Input → ℕ → Type 0
+AreReadyBefore t p = (k : ℕ) → k < p → is_ready_at t k ≡ true
+
+-- a debugger stands at a kept position that is not past the last one, behind states that are ready
+pub record StandsBehindReady (t : Input) (d : DebuggerState) : Type 0 where
+  -- the earliest kept position is not later
+  pub kept : d.earliest ≤ d.position
+  -- nor is the last one earlier
+  pub not_past_the_last : d.position ≤ LAST_POSITION
+  -- each state before is ready
+  pub ready : AreReadyBefore t d.position
+
+-- so it stands at the start, behind each command from there, and behind each movement
+abbrev pub StartIsBehindReady : Type 0
+StartIsBehindReady = (t : Input) → StandsBehindReady t initial_debugger_state
+
+abbrev pub CommandsPassNoEnd : Type 0
+CommandsPassNoEnd =
+    (t : Input) (d : DebuggerState) (c : Command) → StandsBehindReady t d →
+    StandsBehindReady t (debugger_state_after t d c)
+
+abbrev pub MovementsPassNoEnd : Type 0
+MovementsPassNoEnd =
+    (t : Input) (d : DebuggerState) (m : Movement) → StandsBehindReady t d → StandsBehindReady t (state_after t d m)
 
 -- ---- histories
 

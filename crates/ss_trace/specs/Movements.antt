@@ -88,9 +88,9 @@ back_over t earliest (suc k) p n =
 
 -- ---- all of them
 
--- what a movement does: what one of the debugger's does; it goes forward to where a test holds, for which it has a word,
--- or a break line; back to where a test holds, for which it has a word, where answers are made on the way; so many
--- times over; so many times back over
+-- what a movement does: what one of the debugger's does; it goes forward to where a test holds, for which it has a
+-- word, or a break line; back to where a test holds, for which it has a word, where answers are made on the way; so
+-- many times over; so many times back over
 pub data Shape : Type 0 where
   standing : MovementShape → Shape
   ahead : (ℕ → Bool) → List ℕ → Shape

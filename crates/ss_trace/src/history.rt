@@ -47,7 +47,7 @@ fn back_to_newest<S: SetBoard>(
 {
     while debugger.step_back() {
         if !is_ready_now(debugger) {
-            // Never met: a step was made from this state.
+            // Never met: a step was made from this state (`no_movement_passes_an_end`).
             return Err(AllocError);
         }
         let touched = reading.touched(debugger);

@@ -1,5 +1,6 @@
 //! Laws on the definitions. Each function does nothing, and its contract says the law.
 ghost use Rattle.ss_trace.specs.Laws.{OverEnds, BackOverEnds};
+ghost use Rattle.ss_trace.specs.Laws.{StartIsBehindReady, CommandsPassNoEnd, MovementsPassNoEnd};
 ghost use Rattle.ss_trace.specs.Laws.{HistoriesAreWhole, HistoriesAreTrue, HistoriesGoDown};
 
 /// OVER ends within its bound, never past a state that isn't ready nor the last position.
@@ -10,6 +11,15 @@ pub fn over_ends_within_its_bound()
 /// BACK OVER ends within its bound, never before the earliest kept position.
 pub fn back_over_ends_within_its_bound()
     ensures { BackOverEnds }
+{}
+
+/// No command and no movement leads past a state that is not ready, so that each state before the
+/// one where a debugger stands is ready: HISTORY and WHY, which go back and forward again over the
+/// same steps, meet no other.
+pub fn no_movement_passes_an_end()
+    ensures start { StartIsBehindReady }
+    ensures commands { CommandsPassNoEnd }
+    ensures movements { MovementsPassNoEnd }
 {}
 
 /// A history has each kept step before at which its question changes.

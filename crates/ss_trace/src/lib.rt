@@ -29,7 +29,7 @@ pub use answer::{push_answer, push_asked};
 pub use history::{push_history, push_why};
 pub use laws::{
     back_over_ends_within_its_bound, histories_are_true, histories_are_whole, histories_go_down,
-    over_ends_within_its_bound,
+    no_movement_passes_an_end, over_ends_within_its_bound,
 };
 pub use movement::Movement;
 pub use question::Question;
