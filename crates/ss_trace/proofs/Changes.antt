@@ -15,7 +15,8 @@ use Rattle.ss_trace.specs.Movements.{has_changed, ahead_condition, is_met, is_me
 pub same_turned : (xs ys : List ℕ) → bytes_eq xs ys ≡ bytes_eq ys xs
 same_turned xs ys =
     let d = bytes_eq-Decides ys xs in
-    one_answer {P = xs ≡ ys} (bytes_eq xs ys) (bytes_eq ys xs) (bytes_eq-Decides xs ys) (λ h. sym (d.0 h), λ e. d.1 (sym e))
+    one_answer {P = xs ≡ ys} (bytes_eq xs ys) (bytes_eq ys xs) (bytes_eq-Decides xs ys)
+    (λ h. sym (d.0 h), λ e. d.1 (sym e))
 
 -- ---- forward
 

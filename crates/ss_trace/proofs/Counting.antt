@@ -36,7 +36,7 @@ use Rattle.ss_store.specs.Filing.{member_named, without_member}
 use Rattle.ss_store.proofs.Between.{other_lists_stay}
 use Rattle.ss_machine.proofs.Ranges.{Got}
 use Rattle.ss_machine.proofs.Stores.{unless_got}
-use Rattle.ss_trace.proofs.SameLists.{lists_in, HasSameLists, same_lists, attribute_same}
+use Rattle.ss_trace.proofs.SameLists.{HasSameLists, same_lists, list_same, attribute_same}
 
 -- a list that is another one has another length
 abbrev pub Counts : List ℕ → List ℕ → Type 0
@@ -54,20 +54,6 @@ pub counted_same : (st : Store) → HasCounted st st
 counted_same st = record { each = λ w n k e. refl }
 
 -- ---- stores with the same lists
-
-listed_same : (n : ℕ) (a b : Option Entity) → lists_in a ≡ lists_in b →
-    option_map (λ (e : Entity). list_number e.owned n) a ≡ option_map (λ (e : Entity). list_number e.owned n) b
-listed_same n a b h =
-    fused a ∙ ap (λ (o : Option (List (List ℕ))). option_map (λ ls. list_number ls n) o) h ∙ sym (fused b)
-  where
-    fused : (o : Option Entity) → option_map (λ (e : Entity). list_number e.owned n) o
-        ≡ option_map (λ ls. list_number ls n) (lists_in o)
-    fused None = refl
-    fused (Some e) = refl
-
-pub list_same : (w : Owner) (n k : ℕ) (st new : Store) → HasSameLists st new → list_by w n new k ≡ list_by w n st k
-list_same System n k st new h = ap (λ (ls : List (List ℕ)). Some (list_number ls n)) h.system
-list_same (OwnedBy c) n k st new h = listed_same n (entity new c k) (entity st c k) (h.owned c k)
 
 -- what is counted of one is counted of the other
 pub counted_then : (old st new : Store) → HasCounted old st → HasSameLists st new → HasCounted old new
@@ -123,7 +109,7 @@ rule_counts Fifo st c k ks = last_counts ks k
 rule_counts Lifo st c k ks = longer ks (k ∷ ks) refl
 rule_counts (Ranked keys) st c k ks = longer ks _ (placed_length (ranks_behind keys st c k) k ks)
 
-filed_counts : (s : SetShape) (st : Store) (how : How) (k : ℕ) (ks : List ℕ) → Counts ks (filed_in s st how k ks)
+pub filed_counts : (s : SetShape) (st : Store) (how : How) (k : ℕ) (ks : List ℕ) → Counts ks (filed_in s st how k ks)
 filed_counts s st ByRule k ks = rule_counts s.discipline st s.member k ks
 filed_counts s st First k ks = longer ks (k ∷ ks) refl
 filed_counts s st Last k ks = last_counts ks k
@@ -136,7 +122,7 @@ dropped_counts : (b : Bool) (j : ℕ) (ks rest : List ℕ) → length rest ≤ l
 dropped_counts true j ks rest e h = λ f. absurd (omega (arith, e, f))
 dropped_counts false j ks rest e h = λ f. ap (λ (l : List ℕ). j ∷ l) (h (omega (arith, f)))
 
-without_counts : (ks : List ℕ) (x : ℕ) → Counts ks (list_without ks x)
+pub without_counts : (ks : List ℕ) (x : ℕ) → Counts ks (list_without ks x)
 without_counts [] x = λ e. refl
 without_counts (j ∷ ks) x =
     dropped_counts (j == x) j ks (list_without ks x) (omega (arith, length-without ks x)) (without_counts ks x)
@@ -222,7 +208,7 @@ same_counts a b h = λ e. h
 clash : false ≡ true → ⊥
 clash g = cc
 
-is_or_not : (i j : ℕ) → (i ≡ j) ⊎ (i ≢ j)
+pub is_or_not : (i j : ℕ) → (i ≡ j) ⊎ (i ≢ j)
 is_or_not i j = chosen (i == j) refl
   where
     chosen : (b : Bool) → (i == j) ≡ b → (i ≡ j) ⊎ (i ≢ j)
@@ -248,7 +234,7 @@ list_counts (OwnedBy c) n o (OwnedBy d) m u st ks h = elim (is_or_not c d) [
   ]
 ]
 
-relisted : (s : SetShape) (st : Store) (o : ℕ) (ks : List ℕ) → Counts (members_of s st o) ks →
+pub relisted : (s : SetShape) (st : Store) (o : ℕ) (ks : List ℕ) → Counts (members_of s st o) ks →
     HasCounted st (with_list s st o ks)
 relisted s st o ks h = record { each = λ v m u. list_counts s.owner s.list o v m u st ks h }
 

@@ -3,7 +3,6 @@ use Rattle.std.proofs.Common.{◌≡◌, ℕ, zero, suc, ◌<◌, ◌≤◌, Boo
 use borrow.Author.Tests.{ltb-true, ltb-false}
 use Rattle.ss_machine.specs.declared.limits.TheConstants.{LAST_POSITION}
 use Rattle.ss_machine.specs.Run.{Input}
-use Rattle.ss_debug.specs.declared.commands.Command.{Command}
 use Rattle.ss_debug.specs.declared.commands.Command.TheVariants.{Blank, Bad, Move, Break, Clear, Forget, Show, Quit}
 use Rattle.ss_debug.specs.declared.limits.TheConstants.{GREATEST_BOUND}
 use Rattle.ss_debug.specs.Move as debugger
@@ -150,7 +149,11 @@ stands_shaped t d (back_over_by k) s =
     stands_back t d (back_over_from t d k).position s e.not_before_the_kept e.no_later
 
 pub starts_ready : StartIsBehindReady
-starts_ready t = record { kept = omega arith; not_past_the_last = omega arith; ready = λ k h. absurd (omega (arith, h)) }
+starts_ready t = record {
+  kept = omega arith;
+  not_past_the_last = omega arith;
+  ready = λ k h. absurd (omega (arith, h));
+}
 
 pub movements_pass_none : MovementsPassNoEnd
 movements_pass_none t d m s = stands_shaped t d (shape_of t d.position m) s
@@ -158,8 +161,10 @@ movements_pass_none t d m s = stands_shaped t d (shape_of t d.position m) s
 pub commands_pass_none : CommandsPassNoEnd
 unfolding debugger_state_after
 commands_pass_none t d (Move m) s = stands_moved t d (debugger.shape_of t d.breaks m) s
-commands_pass_none t d (Break line) s = record { kept = s.kept; not_past_the_last = s.not_past_the_last; ready = s.ready }
-commands_pass_none t d (Clear line) s = record { kept = s.kept; not_past_the_last = s.not_past_the_last; ready = s.ready }
+commands_pass_none t d (Break line) s =
+    record { kept = s.kept; not_past_the_last = s.not_past_the_last; ready = s.ready }
+commands_pass_none t d (Clear line) s =
+    record { kept = s.kept; not_past_the_last = s.not_past_the_last; ready = s.ready }
 commands_pass_none t d (Forget n) s =
     record { kept = omega (arith, s.kept); not_past_the_last = s.not_past_the_last; ready = s.ready }
 commands_pass_none t d Blank s = s

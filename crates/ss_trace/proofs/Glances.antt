@@ -45,7 +45,8 @@ use Rattle.ss_trace.specs.Sight.{seen, seen_at, global_or_local, sight_of_class}
 use Rattle.ss_trace.specs.Sight.{sight_of_attribute, sight_of_kept, sight_of_set}
 use Rattle.ss_trace.specs.Sight.{sight_of_list, members_seen, members_counted}
 use Rattle.ss_trace.specs.Sight.{is_same_number, is_same_count, is_same_entry, is_same_glance}
-use Rattle.ss_trace.specs.Touches.{touches_at, part_of}
+use Rattle.ss_trace.specs.declared.touches.Touched.TheVariants.{Nothing}
+use Rattle.ss_trace.specs.Touches.{touched_at, part_of}
 use Rattle.ss_trace.proofs.Counting.{HasCounted}
 use Rattle.ss_trace.proofs.Numbered.{entity_next}
 use Rattle.ss_trace.proofs.Skips.{lists_counted, events_left, report_left}
@@ -260,7 +261,7 @@ get_range f a (suc n) (suc i) h =
     get_range f (a + 1) n i (omega (arith, h)) ∙ ap (λ k. Some (f k)) same
 
 -- a set as the store has it
-shape_is : (p : ProgramTable) (s : ℕ) → s < length p.sets → shape_of p s ≡ set_shape p s
+pub shape_is : (p : ProgramTable) (s : ℕ) → s < length p.sets → shape_of p s ≡ set_shape p s
 shape_is p s h =
     let same : 0 + s ≡ s = omega arith in
     ap (λ o. unwrap_or o no_set)
@@ -275,7 +276,7 @@ there : (n : ℕ) (o : Option Entity) →
 there n None = refl
 there n (Some e) = refl
 
-exists_is : (w : Owner) (c n k : ℕ) (st : Store) → w ≡ OwnedBy c →
+pub exists_is : (w : Owner) (c n k : ℕ) (st : Store) → w ≡ OwnedBy c →
     exists st c k ≡ is_some (option_map length (list_by w n st k))
 exists_is w c n k st e = rw e (there n (entity st c k))
 
@@ -374,7 +375,7 @@ named_left : (name : List ℕ) (owner : Option ℤ) (p : ProgramTable) (s u : St
 named_left name owner p s u q None h k g = refl
 named_left name owner p s u q (Some n) h k g = list_left name owner p s u n (set_of p n).owner q (h n refl) refl k g
 
-set_left : (t : Input) (name : List ℕ) (owner : Option ℤ) (p : ℕ) → touches_at t Lists p ≡ false →
+set_left : (t : Input) (name : List ℕ) (owner : Option ℤ) (p : ℕ) → touched_at t Lists p ≡ Nothing →
     seen_at t (Shown (shown.Set name owner)) (suc p) ≡ seen_at t (Shown (shown.Set name owner)) p →
     set_text name owner t (suc p) ≡ set_text name owner t p
 unfolding set_text
@@ -396,7 +397,7 @@ entry_left : (t : Input) (p q : ℕ) → (run t q).entry ≡ (run t p).entry →
 unfolding entry_text
 entry_left t p q e = rw e refl
 
-left : (t : Input) (x : Question) (p : ℕ) → touches_at t (part_of x) p ≡ false → seen_at t x (suc p) ≡ seen_at t x p →
+left : (t : Input) (x : Question) (p : ℕ) → touched_at t (part_of x) p ≡ Nothing → seen_at t x (suc p) ≡ seen_at t x p →
     answer_at t x (suc p) ≡ answer_at t x p
 left t (Shown shown.Clock) p e g = clock_left t p (suc p) (some_eq (ap number_in g))
 left t (Shown shown.Where) p e g = absurd (cc)
@@ -411,7 +412,7 @@ left t (Attribute class x name) p e g = attribute_text_left t class x name p (su
 left t (Count name owner) p e g = count_left t name owner p (suc p) g
 
 -- the same, one position further, for what looks the same
-pub unseen : (t : Input) (x : Question) (p q : ℕ) → q ≡ p + 1 → touches_at t (part_of x) p ≡ false →
+pub unseen : (t : Input) (x : Question) (p q : ℕ) → q ≡ p + 1 → touched_at t (part_of x) p ≡ Nothing →
     seen_at t x q ≡ seen_at t x p → answer_at t x q ≡ answer_at t x p
 unseen t x p q h e g =
     let next : q ≡ suc p = omega (arith, h) in

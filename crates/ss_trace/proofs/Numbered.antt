@@ -1,35 +1,38 @@
 -- Where the numbers of an entity are the same, so are its lines.
-use Rattle.std.proofs.Common.{◌≡◌, ℕ, zero, suc, ◌+◌, ◌-◌, ℤ, pos, List, [], ◌∷◌, ◌++◌, Bool, true, false, Option}
+use Rattle.std.proofs.Common.{◌≡◌, ℕ, zero, suc, ◌+◌, ℤ, pos, List, [], ◌∷◌, ◌++◌, Bool, true, false, Option}
 use Rattle.std.proofs.Common.{Some, None}
-use Rattle.std.proofs.Common.{refl, sym, ap, ◌∙◌, arith, length, length-append, append_assoc}
-use Rattle.std.specs.Prelude.{drop, slice_index_or, ◌&&◌, if◌then◌else◌, codes, decimal}
+use Rattle.std.proofs.Common.{refl, ap, arith, length, length-append, append_assoc}
+use Rattle.std.specs.Prelude.{drop, slice_index_or, ◌&&◌, if◌then◌else◌, codes}
 use Rattle.std.specs.Cmp.Lexicographic.{pointwise}
 use Rattle.std.specs.Fmt.{signed_decimal}
 use Rattle.std.specs.Ordering.{int_eq}
 use Rattle.std.proofs.lemmas.Bool.Decides.{Decides-int_eq}
 use Rattle.std.proofs.lemmas.Slice.Eq.{slice_eq-Decides}
 use Rattle.ss_program.specs.Program.{ProgramTable, class_of, set_of}
-use Rattle.ss_store.specs.declared.shape.SetShape.{SetShape}
 use Rattle.ss_store.specs.Store.{Store, number_of, exists}
 use Rattle.ss_machine.specs.Run.{Input, run}
 use Rattle.ss_machine.specs.State.{State}
 use Rattle.ss_debug.specs.declared.commands.Question.TheVariants as shown
-use Rattle.ss_debug.specs.Entities.{lines_below, attribute_line, kept_line, owner_lines, member_lines}
+use Rattle.ss_debug.specs.Entities.{lines_below, attribute_line, kept_line}
 use Rattle.ss_debug.specs.Entities.{owned_set_lines, joined_set_lines, entity_lines, class_named, class_text}
 use Rattle.ss_debug.specs.Entities.{entity_text}
-use Rattle.ss_debug.specs.Entities.{no_entity_text, shape_of}
+use Rattle.ss_debug.specs.Entities.{no_entity_text}
 use Rattle.ss_trace.specs.declared.attribute.Kept.TheVariants.{First, Predecessor}
 use Rattle.ss_trace.specs.declared.question.Question.{Question}
 use Rattle.ss_trace.specs.declared.question.Question.TheVariants.{Shown, Attribute, Count}
 use Rattle.ss_trace.specs.declared.sight.Sight.{Sight}
 use Rattle.ss_trace.specs.declared.sight.Sight.TheVariants as sights
+use Rattle.ss_trace.specs.declared.touches.Part.{Part}
+use Rattle.ss_trace.specs.declared.touches.Part.TheVariants as parts
 use Rattle.ss_trace.specs.declared.touches.Part.TheVariants.{Entities}
+use Rattle.ss_trace.specs.declared.touches.Touched.{Touched}
 use Rattle.ss_trace.specs.Question.{answer_at, has_kept}
 use Rattle.ss_trace.specs.Sight.{sight_of, sight_of_entity}
-use Rattle.ss_trace.specs.Touches.{touches_at, part_of}
-use Rattle.ss_trace.specs.EntityNumbers.{numbers_below, attribute_numbers, owner_numbers, member_numbers}
-use Rattle.ss_trace.specs.EntityNumbers.{owned_numbers, joined_numbers, entity_numbers, living_numbers}
-use Rattle.ss_trace.specs.EntityNumbers.{is_counted, numbers_there, numbers_of, numbers_at}
+use Rattle.ss_trace.specs.declared.touches.Touched.TheVariants.{Nothing}
+use Rattle.ss_trace.specs.Touches.{touched_at, part_of}
+use Rattle.ss_trace.specs.EntityNumbers.{numbers_below, attribute_numbers, set_numbers, entity_numbers}
+use Rattle.ss_trace.specs.EntityNumbers.{is_counted, numbers_there, numbers_at}
+use Rattle.ss_trace.specs.Told.{is_told}
 use Rattle.ss_trace.proofs.Skips.{store_left}
 
 -- ---- parts of lists
@@ -79,6 +82,27 @@ pub same_numbers : (b : Bool) (xs ys : List ℤ) → (b && pointwise int_eq xs y
 same_numbers true xs ys e = (refl, (slice_eq-Decides Decides-int_eq xs ys (pointwise int_eq xs ys) refl).0 e)
 same_numbers false xs ys e = absurd (cc)
 
+-- what is told is told of an entity
+pub is_entity : (part : Part) (sight : Sight) (p : ProgramTable) (st : Store) (xs : List ℤ) (u : Touched) →
+    is_told part sight p st xs u ≡ true → is_counted part sight ≡ true
+is_entity parts.Entities (sights.Entity c x) p st xs u e = refl
+is_entity parts.Anything sight p st xs u e = absurd (cc)
+is_entity parts.Nothing sight p st xs u e = absurd (cc)
+is_entity parts.Lists sight p st xs u e = absurd (cc)
+is_entity parts.Notices sight p st xs u e = absurd (cc)
+is_entity parts.Entities sights.Nothing p st xs u e = absurd (cc)
+is_entity parts.Entities sights.Clock p st xs u e = absurd (cc)
+is_entity parts.Entities (sights.Global i) p st xs u e = absurd (cc)
+is_entity parts.Entities sights.Local p st xs u e = absurd (cc)
+is_entity parts.Entities sights.Taken p st xs u e = absurd (cc)
+is_entity parts.Entities sights.Entry p st xs u e = absurd (cc)
+is_entity parts.Entities sights.Report p st xs u e = absurd (cc)
+is_entity parts.Entities (sights.Living c x) p st xs u e = absurd (cc)
+is_entity parts.Entities (sights.Attribute c a x) p st xs u e = absurd (cc)
+is_entity parts.Entities (sights.Kept c n k x) p st xs u e = absurd (cc)
+is_entity parts.Entities (sights.Members n x) p st xs u e = absurd (cc)
+is_entity parts.Entities (sights.MembersNamed n i) p st xs u e = absurd (cc)
+
 -- ---- one attribute
 
 -- the lines of the first of some numbers
@@ -92,87 +116,57 @@ attribute_left p st new c k a e = ap (attribute_told (slice_index_or (class_of p
 
 -- ---- kept ones
 
--- number i of some
-abbrev number_at : List ℤ → ℕ → ℕ
-number_at xs i = number_of (slice_index_or xs i (pos 0))
+item : {xs ys : List ℤ} (i : ℕ) → xs ≡ ys → slice_index_or xs i (pos 0) ≡ slice_index_or ys i (pos 0)
+item i e = ap (λ (l : List ℤ). slice_index_or l i (pos 0)) e
 
--- the lines of three numbers
-abbrev kept_told : List ℕ → List ℕ → List ℕ → List ℕ → List ℤ → List ℕ
-kept_told one other third name xs =
-    kept_line one name (number_at xs 0) ++ kept_line other name (number_at xs 1)
-    ++ kept_line third name (number_at xs 2)
-
-owned_if_left : (name : List ℕ) (shape : SetShape) (st new : Store) (k : ℕ) (b : Bool) →
-    (if b then owner_numbers shape new k else []) ≡ (if b then owner_numbers shape st k else []) →
-    (if b then owner_lines name shape new k else []) ≡ (if b then owner_lines name shape st k else [])
-owned_if_left name shape st new k true e = ap (kept_told (codes "F.") (codes "L.") (codes "N.") name) e
-owned_if_left name shape st new k false e = refl
-
-joined_if_left : (name : List ℕ) (shape : SetShape) (st new : Store) (k : ℕ) (b : Bool) →
-    (if b then member_numbers shape new k else []) ≡ (if b then member_numbers shape st k else []) →
-    (if b then member_lines name shape new k else []) ≡ (if b then member_lines name shape st k else [])
-joined_if_left name shape st new k true e = ap (kept_told (codes "P.") (codes "S.") (codes "M.") name) e
-joined_if_left name shape st new k false e = refl
-
-owned_left : (p : ProgramTable) (st new : Store) (c k s : ℕ) →
-    owned_numbers p new c k s ≡ owned_numbers p st c k s → owned_set_lines p new c k s ≡ owned_set_lines p st c k s
-owned_left p st new c k s e =
-    owned_if_left (set_of p s).name (shape_of p s) st new k (has_kept (set_of p s) c First) e
-
-joined_left : (p : ProgramTable) (st new : Store) (c k s : ℕ) →
-    joined_numbers p new c k s ≡ joined_numbers p st c k s →
-    joined_set_lines p new c k s ≡ joined_set_lines p st c k s
-joined_left p st new c k s e =
-    joined_if_left (set_of p s).name (shape_of p s) st new k (has_kept (set_of p s) c Predecessor) e
-
-three_or_none : (b : Bool) (x y z u v w : ℤ) →
-    length (if b then x ∷ y ∷ z ∷ [] else []) ≡ length (if b then u ∷ v ∷ w ∷ [] else [])
-three_or_none true x y z u v w = refl
-three_or_none false x y z u v w = refl
-
-long_two : (xs ys us vs : List ℤ) → length xs ≡ length us → length ys ≡ length vs →
-    length (xs ++ ys) ≡ length (us ++ vs)
-long_two xs ys us vs h k =
-    let one = length-append xs ys in let other = length-append us vs in omega (arith, h, k, one, other)
+-- a kept attribute where the class has it
+abbrev kept_if : Bool → ℕ → ℤ
+kept_if b n = if b then pos n else pos 0
 
 three_texts : (a b c d e f : List ℕ) → a ≡ d → b ≡ e → c ≡ f → a ++ b ++ c ≡ d ++ e ++ f
 three_texts a b c d e f h k l = rw (h, k, l) refl
+
+three_lines : (one other third name : List ℕ) (x y z u v w : ℕ) (b : Bool) → kept_if b x ≡ kept_if b u →
+    kept_if b y ≡ kept_if b v → kept_if b z ≡ kept_if b w →
+    (if b then kept_line one name x ++ kept_line other name y ++ kept_line third name z else [])
+    ≡ (if b then kept_line one name u ++ kept_line other name v ++ kept_line third name w else [])
+three_lines one other third name x y z u v w true h k l =
+    three_texts _ _ _ _ _ _ (ap (λ (i : ℤ). kept_line one name (number_of i)) h)
+    (ap (λ (i : ℤ). kept_line other name (number_of i)) k) (ap (λ (i : ℤ). kept_line third name (number_of i)) l)
+three_lines one other third name x y z u v w false h k l = refl
+
+owned_left : (p : ProgramTable) (st new : Store) (c k s : ℕ) →
+    set_numbers p new c k s ≡ set_numbers p st c k s → owned_set_lines p new c k s ≡ owned_set_lines p st c k s
+owned_left p st new c k s e =
+    three_lines (codes "F.") (codes "L.") (codes "N.") (set_of p s).name _ _ _ _ _ _ (has_kept (set_of p s) c First)
+    (item 0 e) (item 1 e) (item 2 e)
+
+joined_left : (p : ProgramTable) (st new : Store) (c k s : ℕ) →
+    set_numbers p new c k s ≡ set_numbers p st c k s → joined_set_lines p new c k s ≡ joined_set_lines p st c k s
+joined_left p st new c k s e =
+    three_lines (codes "P.") (codes "S.") (codes "M.") (set_of p s).name _ _ _ _ _ _
+    (has_kept (set_of p s) c Predecessor) (item 3 e) (item 4 e) (item 5 e)
 
 -- ---- an entity
 
 entity_left : (p : ProgramTable) (st new : Store) (c k : ℕ) →
     entity_numbers p new c k ≡ entity_numbers p st c k → entity_lines p new c k ≡ entity_lines p st c k
 entity_left p st new c k e =
-    let long =
-    below_long (attribute_numbers new c k) (attribute_numbers st c k) (λ i. refl) (length (class_of p c).attributes) in
-    let long_sets =
-    below_long (owned_numbers p new c k) (owned_numbers p st c k)
-    (λ i. three_or_none (has_kept (set_of p i) c First) _ _ _ _ _ _) (length p.sets) in
-    let behind =
-    split
-    (numbers_below (attribute_numbers new c k) (length (class_of p c).attributes)
-    ++ numbers_below (owned_numbers p new c k) (length p.sets)) _
-    (numbers_below (attribute_numbers st c k) (length (class_of p c).attributes)
-    ++ numbers_below (owned_numbers p st c k) (length p.sets)) _
-    (long_two (numbers_below (attribute_numbers new c k) (length (class_of p c).attributes))
-    (numbers_below (owned_numbers p new c k) (length p.sets))
-    (numbers_below (attribute_numbers st c k) (length (class_of p c).attributes))
-    (numbers_below (owned_numbers p st c k) (length p.sets)) long long_sets) e in
-    let before =
+    let parts =
     split (numbers_below (attribute_numbers new c k) (length (class_of p c).attributes)) _
-    (numbers_below (attribute_numbers st c k) (length (class_of p c).attributes)) _ long behind.0 in
+    (numbers_below (attribute_numbers st c k) (length (class_of p c).attributes)) _
+    (below_long (attribute_numbers new c k) (attribute_numbers st c k) (λ i. refl) (length (class_of p c).attributes))
+    e in
     let own =
     lines_left (attribute_numbers new c k) (attribute_numbers st c k) (attribute_line p new c k)
     (attribute_line p st c k) (λ i. refl) (λ i. attribute_left p st new c k i)
-    (length (class_of p c).attributes) before.0 in
+    (length (class_of p c).attributes) parts.0 in
     let owned =
-    lines_left (owned_numbers p new c k) (owned_numbers p st c k) (owned_set_lines p new c k)
-    (owned_set_lines p st c k) (λ i. three_or_none (has_kept (set_of p i) c First) _ _ _ _ _ _)
-    (λ i. owned_left p st new c k i) (length p.sets) before.1 in
+    lines_left (set_numbers p new c k) (set_numbers p st c k) (owned_set_lines p new c k) (owned_set_lines p st c k)
+    (λ i. refl) (λ i. owned_left p st new c k i) (length p.sets) parts.1 in
     let joined =
-    lines_left (joined_numbers p new c k) (joined_numbers p st c k) (joined_set_lines p new c k)
-    (joined_set_lines p st c k) (λ i. three_or_none (has_kept (set_of p i) c Predecessor) _ _ _ _ _ _)
-    (λ i. joined_left p st new c k i) (length p.sets) behind.1 in
+    lines_left (set_numbers p new c k) (set_numbers p st c k) (joined_set_lines p new c k) (joined_set_lines p st c k)
+    (λ i. refl) (λ i. joined_left p st new c k i) (length p.sets) parts.1 in
     three_texts _ _ _ _ _ _ own owned joined
 
 living_left : (name : List ℕ) (x : ℤ) (p : ProgramTable) (st new : Store) (c k : ℕ) (b d : Bool) →
@@ -235,7 +229,7 @@ there_left p s u (sights.Members n x) e = refl
 there_left p s u (sights.MembersNamed n i) e = refl
 
 -- it leaves its numbers
-numbers_next : (t : Input) (x : Question) (p : ℕ) → touches_at t (part_of x) p ≡ false →
+numbers_next : (t : Input) (x : Question) (p : ℕ) → touched_at t (part_of x) p ≡ Nothing →
     numbers_at t x (suc p) ≡ numbers_at t x p
 numbers_next t (Shown shown.Clock) p e = refl
 numbers_next t (Shown shown.Where) p e = refl
@@ -251,12 +245,12 @@ numbers_next t (Attribute class x name) p e = refl
 numbers_next t (Count name owner) p e = refl
 
 -- the same, one position further
-pub numbers_left : (t : Input) (x : Question) (p q : ℕ) → q ≡ p + 1 → touches_at t (part_of x) p ≡ false →
+pub numbers_left : (t : Input) (x : Question) (p q : ℕ) → q ≡ p + 1 → touched_at t (part_of x) p ≡ Nothing →
     numbers_at t x q ≡ numbers_at t x p
 numbers_left t x p q h e = let next : q ≡ suc p = omega (arith, h) in rw next (numbers_next t x p e)
 
 -- an entity of which nothing can be seen at a glance
-pub entity_next : (t : Input) (name : List ℕ) (x : ℤ) (p : ℕ) → touches_at t Entities p ≡ false →
+pub entity_next : (t : Input) (name : List ℕ) (x : ℤ) (p : ℕ) → touched_at t Entities p ≡ Nothing →
     entity_text name x t (suc p) ≡ entity_text name x t p
 unfolding entity_text
 entity_next t name x p e = let same = store_left t p e in rw same refl

@@ -8,11 +8,13 @@ use Rattle.ss_words.specs.declared.fault.RunFault.{RunFault}
 use Rattle.ss_words.specs.declared.fault.RunFault.TheVariants.{ReportFull}
 use Rattle.ss_report.specs.declared.limits.TheConstants.{LONGEST_REPORT}
 use Rattle.ss_program.specs.Program.{ProgramTable, spot_at}
+use Rattle.ss_program.specs.declared.filing.Filing.TheVariants.{File, FileAt, RemoveAt, Remove}
 use Rattle.ss_program.specs.declared.making.Making.TheVariants.{Create, CreateEvery, Destroy}
 use Rattle.ss_program.specs.declared.place.Control.TheVariants.{Stop, Return, End}
 use Rattle.ss_program.specs.declared.place.Place.TheVariants as places
 use Rattle.ss_program.specs.declared.place.Place.{Place}
 use Rattle.ss_program.specs.declared.place.Spot.{Spot}
+use Rattle.ss_program.specs.declared.target.Target.TheVariants as targets
 use Rattle.ss_program.specs.declared.ways.Ways.{Ways}
 use Rattle.ss_events.specs.Agenda.{Agenda}
 use Rattle.ss_store.specs.Store.{Store, with_attribute}
@@ -25,7 +27,8 @@ use Rattle.ss_machine.specs.Step.{step, step_at, step_by}
 use Rattle.ss_debug.specs.Answer.{events_text, report_text}
 use Rattle.ss_trace.specs.declared.touches.Part.{Part}
 use Rattle.ss_trace.specs.declared.touches.Part.TheVariants.{Entities, Lists, Notices}
-use Rattle.ss_trace.specs.Touches.{touches, touches_by, touches_in, touches_at}
+use Rattle.ss_trace.specs.declared.touches.Touched.TheVariants.{Nothing}
+use Rattle.ss_trace.specs.Touches.{touched, touched_by, touched_in, touched_at}
 use Rattle.ss_trace.proofs.Counting.{HasCounted, counted_same, attribute_counted, filed, removed, made, ended}
 use Rattle.ss_trace.proofs.Untouched.{Ignores, IgnoresAttributes, IgnoresLength, by_assign, by_plain_assign}
 use Rattle.ss_trace.proofs.Untouched.{by_branch, by_cases, by_looping, by_call, by_control, by_read, by_output}
@@ -136,7 +139,7 @@ report_time bytes = record { agenda = λ s a p. p; clock = λ s x p. p }
 
 -- ---- one place
 
-agenda_at : (a : Agenda) (q : ProgramTable) (s : State) (w : Ways) (x : Place) → touches Notices x ≡ false →
+agenda_at : (a : Agenda) (q : ProgramTable) (s : State) (w : Ways) (x : Place) → touched Notices x ≡ Nothing →
     HasAgenda a s → HasAgenda a (step_at q s w x)
 agenda_at a q s w (places.Assign x) e p = by_assign (agenda_ignores a) (agenda_attributes a) q s w x p
 agenda_at a q s w (places.Making (Create c b t)) e p =
@@ -178,11 +181,17 @@ report_at bytes q s w (places.Timing x) p =
 report_at bytes q s w (places.Read ts) p = by_read (report_ignores bytes) (report_attributes bytes) q s w ts p
 
 -- one that assigns to no attribute, and neither makes nor ends, files nor removes, nor yields
-store_at : (st : Store) (q : ProgramTable) (s : State) (w : Ways) (x : Place) → touches Entities x ≡ false →
+pub store_at : (st : Store) (q : ProgramTable) (s : State) (w : Ways) (x : Place) → touched Entities x ≡ Nothing →
     HasStore st s → HasStore st (step_at q s w x)
 store_at st q s w (places.Assign a) e p = by_plain_assign (store_ignores st) q s w a e p
-store_at st q s w (places.Making m) e p = absurd (cc)
-store_at st q s w (places.Filing f) e p = absurd (cc)
+store_at st q s w (places.Making (Create c b t)) e p = absurd (cc)
+store_at st q s w (places.Making (CreateEvery c n k)) e p = absurd (cc)
+store_at st q s w (places.Making (Destroy c b x)) e p = absurd (cc)
+store_at st q s w (places.Filing (File x position r)) e p = absurd (cc)
+store_at st q s w (places.Filing (FileAt end x r)) e p = absurd (cc)
+store_at st q s w (places.Filing (RemoveAt end (targets.Variable v) r)) e p = absurd (cc)
+store_at st q s w (places.Filing (RemoveAt end (targets.Attribute c a i) r)) e p = absurd (cc)
+store_at st q s w (places.Filing (Remove x r)) e p = absurd (cc)
 store_at st q s w (places.Output o) e p =
     by_output (store_ignores st) q s w o (any_length (HasStore st) (λ s b p. p)) p
 store_at st q s w (places.Control Stop) e p = p
@@ -195,7 +204,7 @@ store_at st q s w (places.Timing x) e p = absurd (cc)
 store_at st q s w (places.Read ts) e p = absurd (cc)
 
 -- one that makes no class as a whole
-lists_at : (q : ProgramTable) (s : State) (w : Ways) (x : Place) → touches Lists x ≡ false → HasLists s.store s →
+pub lists_at : (q : ProgramTable) (s : State) (w : Ways) (x : Place) → touched Lists x ≡ Nothing → HasLists s.store s →
     HasLists s.store (step_at q s w x)
 lists_at q s w (places.Assign a) e p =
     by_assign (lists_ignore s.store) (lists_attributes s.store) q s w a p
@@ -223,35 +232,35 @@ lists_at q s w (places.Read ts) e p =
 
 -- what is said of a state, and of the next one where the step's place does not touch a part
 abbrev Passes : Part → (State → Type 0) → State → Type 0
-Passes part P s = (q : ProgramTable) (w : Ways) (x : Place) → touches part x ≡ false → P s → P (step_at q s w x)
+Passes part P s = (q : ProgramTable) (w : Ways) (x : Place) → touched part x ≡ Nothing → P s → P (step_at q s w x)
 
 spot_passes : (part : Part) (P : State → Type 0) (q : ProgramTable) (s : State) → Passes part P s → (o : Option Spot) →
-    touches_by part o ≡ false → P s → P (step_by q s o)
+    touched_by part o ≡ Nothing → P s → P (step_by q s o)
 spot_passes part P q s h None e p = absurd (cc)
 spot_passes part P q s h (Some spot) e p = h q (ways_here q s spot.place) spot.place e p
 
 next_passes : (part : Part) (P : State → Type 0) (q : ProgramTable) (s : State) → Passes part P s → (ready : Bool) →
-    touches_in q part s ≡ false → P s → P (if ready then step q s else s)
+    touched_in q part s ≡ Nothing → P s → P (if ready then step q s else s)
 next_passes part P q s h true e p = spot_passes part P q s h (spot_at q s.frame.section s.frame.place) e p
 next_passes part P q s h false e p = p
 
 run_passes : (part : Part) (P : State → Type 0) (t : Input) (p : ℕ) → Passes part P (run t p) →
-    touches_in t.program part (run t p) ≡ false → P (run t p) → P (run t (suc p))
+    touched_in t.program part (run t p) ≡ Nothing → P (run t p) → P (run t (suc p))
 run_passes part P t p h e g = next_passes part P t.program (run t p) h (is_ready (run t p).status) e g
 
 -- the lists of a state and the next
-pub lists_counted : (t : Input) (p : ℕ) → touches_at t Lists p ≡ false →
+pub lists_counted : (t : Input) (p : ℕ) → touched_at t Lists p ≡ Nothing →
     HasCounted (run t p).store (run t (suc p)).store
 lists_counted t p e =
     run_passes Lists (HasLists (run t p).store) t p (λ q w x. lists_at q (run t p) w x) e (counted_same (run t p).store)
 
 -- the store
-pub store_left : (t : Input) (p : ℕ) → touches_at t Entities p ≡ false → (run t (suc p)).store ≡ (run t p).store
+pub store_left : (t : Input) (p : ℕ) → touched_at t Entities p ≡ Nothing → (run t (suc p)).store ≡ (run t p).store
 store_left t p e =
     run_passes Entities (HasStore (run t p).store) t p (λ q w x. store_at (run t p).store q (run t p) w x) e refl
 
 -- the notices
-pub events_left : (t : Input) (p : ℕ) → touches_at t Notices p ≡ false → events_text t (suc p) ≡ events_text t p
+pub events_left : (t : Input) (p : ℕ) → touched_at t Notices p ≡ Nothing → events_text t (suc p) ≡ events_text t p
 unfolding events_text
 events_left t p e =
     let same =

@@ -33,7 +33,7 @@ use Rattle.ss_store.specs.Store.{Store, number_of, last_reference, with_attribut
 use Rattle.ss_store.specs.Tables.{Tables, tables_of, class_of, set_of}
 use Rattle.ss_values.specs.Faults.{◌>>=◌, ◌>>◌}
 use Rattle.ss_values.specs.Values.{value_of, subscript_value, number_value}
-use Rattle.ss_machine.proofs.Ranges.{Got, after_got, anything, unless_refused}
+use Rattle.ss_machine.proofs.Ranges.{Got, after_got, unless_refused}
 use Rattle.ss_machine.specs.Readings.{readings}
 use Rattle.ss_machine.specs.State.{State}
 use Rattle.ss_machine.specs.Statements.{state_after_result, state_with_store}

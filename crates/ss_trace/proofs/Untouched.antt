@@ -58,7 +58,8 @@ use Rattle.ss_machine.specs.Statements.Looping.{statistic_value, state_after_tel
 use Rattle.ss_machine.specs.Statements.Printing.{longer_report, lines_asked}
 use Rattle.ss_machine.specs.Statements.Reading.{values_taken}
 use Rattle.ss_machine.specs.Step.{step_at}
-use Rattle.ss_trace.specs.Touches.{is_attribute, sets_attribute, tells_statistics}
+use Rattle.ss_trace.specs.declared.touches.Touched.TheVariants.{Nothing}
+use Rattle.ss_trace.specs.Touches.{touched_target, touched_assign, touched_looping}
 
 -- what is said of a state that neither frames, status and variables say, nor the data taken and the entry
 pub record Ignores (P : State → Type 0) : Type 0 where
@@ -162,7 +163,7 @@ module _ {P : State → Type 0} (i : Ignores P) where
   by_branch q s w Always p = placed s w.next p
 
   -- what goes through cases, and tells no statistics
-  pub by_cases : (q : ProgramTable) (s : State) (w : Ways) (l : Looping) → tells_statistics l ≡ false → P s →
+  pub by_cases : (q : ProgramTable) (s : State) (w : Ways) (l : Looping) → touched_looping l ≡ Nothing → P s →
       P (step_at q s w (places.Looping l))
   by_cases q s w (For f) e p =
       phrase (tables_of q) s w f (loop_of_phrase s.frame.place (innermost s.frame.loops)) p
@@ -180,12 +181,12 @@ module _ {P : State → Type 0} (i : Ignores P) where
   by_call q s w c p = settled s _ _ p (λ xs. i.frames s (new_frame q c.section xs) (s.frame ∷ s.below) p)
 
   -- an assignment to a variable
-  plain_value : (t : Tables) (s : State) (x : Target) (z : ℤ) → is_attribute x ≡ false → P s →
+  plain_value : (t : Tables) (s : State) (x : Target) (z : ℤ) → touched_target x ≡ Nothing → P s →
       Got P (state_with_value t s x z)
   plain_value t s (targets.Variable v) z e p = assigned s v z p
   plain_value t s (targets.Attribute c a k) z e p = absurd (cc)
 
-  pub by_plain_assign : (q : ProgramTable) (s : State) (w : Ways) (a : Assign) → sets_attribute a ≡ false → P s →
+  pub by_plain_assign : (q : ProgramTable) (s : State) (w : Ways) (a : Assign) → touched_assign a ≡ Nothing → P s →
       P (step_at q s w (places.Assign a))
   by_plain_assign q s w a e p =
       got P s _ _ p

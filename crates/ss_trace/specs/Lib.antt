@@ -8,5 +8,6 @@ pub mod History
 pub mod Sight
 pub mod Touches
 pub mod EntityNumbers
+pub mod Told
 pub mod Reading
 pub mod Examples

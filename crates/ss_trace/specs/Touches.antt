@@ -1,6 +1,8 @@
--- Which parts of a state that no glance tells a step may change, by the kind of its place.
-use Rattle.std.specs.Prelude.{ℕ, Bool, true, false, Option, Some, None}
+-- How much a step may change of the parts of a state that no glance tells, by the kind of its place.
+use Rattle.std.specs.Prelude.{ℕ, Bool, true, false, Option, Some, None, if◌then◌else◌}
 use Rattle.ss_program.specs.Program.{ProgramTable, spot_at}
+use Rattle.ss_program.specs.declared.filing.Filing.{Filing}
+use Rattle.ss_program.specs.declared.filing.Filing.TheVariants.{File, FileAt, RemoveAt, Remove}
 use Rattle.ss_program.specs.declared.making.Making.{Making}
 use Rattle.ss_program.specs.declared.making.Making.TheVariants.{CreateEvery}
 use Rattle.ss_program.specs.declared.looping.Looping.{Looping}
@@ -15,109 +17,113 @@ use Rattle.ss_program.specs.declared.target.Target.{Target}
 use Rattle.ss_program.specs.declared.target.Target.TheVariants as targets
 use Rattle.ss_machine.specs.State.{State}
 use Rattle.ss_machine.specs.Statements.Assigning.{target_of}
+use Rattle.ss_machine.specs.Run.{Input, run}
 use Rattle.ss_debug.specs.declared.commands.Question.TheVariants as shown
 use Rattle.ss_trace.specs.declared.question.Question.{Question}
 use Rattle.ss_trace.specs.declared.question.Question.TheVariants.{Shown}
-use Rattle.ss_machine.specs.Run.{Input, run}
 use Rattle.ss_trace.specs.declared.touches.Part.{Part}
+use Rattle.ss_trace.specs.declared.touches.Part.TheVariants as parts
 use Rattle.ss_trace.specs.declared.touches.Touched.{Touched}
-use Rattle.ss_trace.specs.declared.touches.Touched.TheVariants as touched
-use Rattle.ss_trace.specs.declared.touches.Part.TheVariants.{Anything, Nothing, Entities, Lists, Notices}
+use Rattle.ss_trace.specs.declared.touches.Touched.TheVariants.{Nothing, Attribute, Attributes, Set, Entities, Anything}
+
+-- ---- entities and lists
+
+-- what is touched where a value is assigned: an attribute of a class, if the target is one
+abbrev pub touched_target : Target → Touched
+touched_target (targets.Variable v) = Nothing
+touched_target (targets.Attribute c a i) = Attribute c a
+
+-- the same of an assignment
+abbrev pub touched_assign : Assign → Touched
+touched_assign a = touched_target (target_of a)
+
+-- where the member that is removed from a list of set s goes to a target
+abbrev pub touched_removal : Target → ℕ → Touched
+touched_removal (targets.Variable v) s = Set s
+touched_removal (targets.Attribute c a i) s = Entities
+
+-- what files or removes
+abbrev pub touched_filing : Filing → Touched
+touched_filing (File e position r) = Set r.set
+touched_filing (FileAt end e r) = Set r.set
+touched_filing (RemoveAt end target r) = touched_removal target r.set
+touched_filing (Remove e r) = Set r.set
+
+-- what ends a section assigns what it yields
+abbrev pub touched_control : Control → Touched
+touched_control Stop = Nothing
+touched_control _ = Attributes
+
+-- what goes through cases assigns the statistics that it tells
+abbrev pub touched_looping : Looping → Touched
+touched_looping (Tell targets) = Attributes
+touched_looping _ = Nothing
 
 -- whether what makes or ends entities makes all of a class
 abbrev pub makes_a_class : Making → Bool
 makes_a_class (CreateEvery c n count) = true
 makes_a_class _ = false
 
--- whether a target is an attribute
-abbrev pub is_attribute : Target → Bool
-is_attribute (targets.Variable v) = false
-is_attribute (targets.Attribute c a i) = true
+-- what makes or ends entities
+abbrev pub touched_making : Making → Touched
+touched_making m = if makes_a_class m then Anything else Entities
 
--- whether an assignment is one to an attribute
-abbrev pub sets_attribute : Assign → Bool
-sets_attribute a = is_attribute (target_of a)
+-- each place
+abbrev pub touched_entities : Place → Touched
+touched_entities (places.Assign a) = touched_assign a
+touched_entities (places.Making m) = touched_making m
+touched_entities (places.Filing f) = touched_filing f
+touched_entities (places.Output o) = Nothing
+touched_entities (places.Control c) = touched_control c
+touched_entities (places.Branch b) = Nothing
+touched_entities (places.Looping l) = touched_looping l
+touched_entities (places.Call c) = Nothing
+touched_entities (places.Timing x) = Entities
+touched_entities (places.Read targets) = Attributes
 
--- whether a place is an assignment to an attribute
-abbrev pub assigns_attribute : Place → Bool
-assigns_attribute (places.Assign a) = sets_attribute a
-assigns_attribute x = false
+-- ---- other parts
 
--- whether what goes through cases may assign to attributes: where it tells statistics
-abbrev pub tells_statistics : Looping → Bool
-tells_statistics (Tell targets) = true
-tells_statistics _ = false
+-- lists, otherwise than by a member more or less
+abbrev pub touched_lists : Place → Touched
+touched_lists (places.Making m) = if makes_a_class m then Anything else Nothing
+touched_lists x = Nothing
 
--- whether what ends a section may assign to attributes: what it yields
-abbrev pub may_yield : Control → Bool
-may_yield Stop = false
-may_yield _ = true
+-- the pending notices
+abbrev pub touched_notices : Place → Touched
+touched_notices (places.Timing x) = Anything
+touched_notices x = Nothing
 
--- whether the step of a place may change an entity or a list
-abbrev pub touches_entities : Place → Bool
-touches_entities (places.Assign a) = sets_attribute a
-touches_entities (places.Output o) = false
-touches_entities (places.Control c) = may_yield c
-touches_entities (places.Branch b) = false
-touches_entities (places.Looping l) = tells_statistics l
-touches_entities (places.Call c) = false
-touches_entities x = true
+-- ---- a step
 
--- whether the step of a place may change a part; of lists, that it may otherwise than by a member more or less
-abbrev pub touches : Part → Place → Bool
-touches Anything x = true
-touches Nothing x = false
-touches Entities x = touches_entities x
-touches Lists (places.Making m) = makes_a_class m
-touches Lists x = false
-touches Notices (places.Timing x) = true
-touches Notices x = false
+-- how much the step of a place may change of a part
+abbrev pub touched : Part → Place → Touched
+touched parts.Anything x = Anything
+touched parts.Nothing x = Nothing
+touched parts.Entities x = touched_entities x
+touched parts.Lists x = touched_lists x
+touched parts.Notices x = touched_notices x
 
 -- the same of the place that stands there, if one does
-abbrev pub touches_by : Part → Option Spot → Bool
-touches_by part None = true
-touches_by part (Some spot) = touches part spot.place
+abbrev pub touched_by : Part → Option Spot → Touched
+touched_by part None = Anything
+touched_by part (Some spot) = touched part spot.place
 
 -- the same of the place where the last frame stands
-abbrev pub touches_in : ProgramTable → Part → State → Bool
-touches_in p part s = touches_by part (spot_at p s.frame.section s.frame.place)
+abbrev pub touched_in : ProgramTable → Part → State → Touched
+touched_in p part s = touched_by part (spot_at p s.frame.section s.frame.place)
 
--- the same of the place that stands there, if one does
-abbrev pub assigns_by : Option Spot → Bool
-assigns_by None = false
-assigns_by (Some spot) = assigns_attribute spot.place
-
--- the same of the place where the last frame stands
-abbrev pub assigns_in : ProgramTable → State → Bool
-assigns_in p s = assigns_by (spot_at p s.frame.section s.frame.place)
-
--- whether the step from state p may change a part
-abbrev pub touches_at : Input → Part → ℕ → Bool
-touches_at t Anything p = true
-touches_at t Nothing p = false
-touches_at t Entities p = touches_in t.program Entities (run t p)
-touches_at t Lists p = touches_in t.program Lists (run t p)
-touches_at t Notices p = touches_in t.program Notices (run t p)
-
--- how much a step may change, where it may change something, and where that is one attribute
-abbrev pub touched_if : Bool → Bool → Touched
-touched_if false b = touched.Nothing
-touched_if true true = touched.Attribute
-touched_if true false = touched.Anything
-
--- whether the step from state p changes no more than one attribute of what a question looks at beside its glance
-abbrev pub assigns_at : Input → Part → ℕ → Bool
-assigns_at t Entities p = assigns_in t.program (run t p)
-assigns_at t _ p = false
-
--- how much of that the step from state p may change
+-- how much the step from state p may change of a part
 abbrev pub touched_at : Input → Part → ℕ → Touched
-touched_at t part p = touched_if (touches_at t part p) (assigns_at t part p)
+touched_at t parts.Anything p = Anything
+touched_at t parts.Nothing p = Nothing
+touched_at t parts.Entities p = touched_in t.program parts.Entities (run t p)
+touched_at t parts.Lists p = touched_in t.program parts.Lists (run t p)
+touched_at t parts.Notices p = touched_in t.program parts.Notices (run t p)
 
 -- the part at which a question looks beside its glance
 abbrev pub part_of : Question → Part
-part_of (Shown shown.Where) = Anything
-part_of (Shown (shown.Entity name x)) = Entities
-part_of (Shown (shown.Set name owner)) = Lists
-part_of (Shown shown.Events) = Notices
-part_of _ = Nothing
+part_of (Shown shown.Where) = parts.Anything
+part_of (Shown (shown.Entity name x)) = parts.Entities
+part_of (Shown (shown.Set name owner)) = parts.Lists
+part_of (Shown shown.Events) = parts.Notices
+part_of _ = parts.Nothing

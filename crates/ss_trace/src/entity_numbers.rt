@@ -1,12 +1,9 @@
 //! The numbers that the lines of an entity tell.
-ghost use Rattle.std.specs.Prelude.{◌≡◌, ◌++◌, ◌∷◌, ◌<◌, [], length, OnOk, pos};
+ghost use Rattle.std.specs.Prelude.{◌≡◌, ◌++◌, ◌∷◌, ◌<◌, [], length, OnOk};
 ghost use Rattle.ss_program.specs.Program.{class_of};
 ghost use Rattle.ss_store.specs.Store.{number_of};
-ghost use Rattle.ss_debug.specs.Entities.{shape_of};
-ghost use Rattle.ss_trace.specs.Question.{kept_value};
-ghost use Rattle.ss_trace.specs.EntityNumbers.{numbers_below, attribute_numbers, owned_numbers, joined_numbers};
+ghost use Rattle.ss_trace.specs.EntityNumbers.{numbers_below, attribute_numbers, kept_number, set_numbers};
 ghost use Rattle.ss_trace.specs.EntityNumbers.{entity_numbers, is_counted, living_numbers, numbers_of};
-ghost use Rattle.ss_trace.specs.EntityNumbers.{attributes_of, tells_attributes};
 ghost use Rattle.ss_trace.specs.Sight.{IsInTables};
 
 use crate::attribute::{Kept, has_kept, kept_value};
@@ -50,26 +47,45 @@ fn push_attributes<S: SetBoard>(
     Ok(())
 }
 
-/// Appends a kept attribute of an entity in a set.
+/// A kept attribute of an entity in a set; 0 where the entities of its class do not have it.
 #[tactic(auto, using(ss_debug::proofs::Tables::sets_kept))]
+pub fn kept_number<S: SetBoard>(
+    machine: &Machine<S>,
+    class: usize,
+    x: i64,
+    set: usize,
+    kept: Kept,
+) -> i64
+    requires { set < length machine.now.input.program.sets }
+    ensures { result ≡ kept_number machine.now.input.program machine.now.state.store class
+        (number_of x) set kept }
+{
+    if !has_kept(machine.program(), class, set, kept) {
+        return 0;
+    }
+    i64::from(kept_value(machine.store(), set, x, kept))
+}
+
+/// Appends a kept attribute of an entity in a set.
 fn push_kept<S: SetBoard>(
     numbers: &mut Vec<i64>,
     machine: &Machine<S>,
-    set: usize,
+    class: usize,
     x: i64,
+    set: usize,
     kept: Kept,
 ) -> Result<(), AllocError>
     requires { set < length machine.now.input.program.sets }
     ensures { OnOk result (numbers.new.items ≡ numbers.old.items
-        ++ pos (kept_value (shape_of machine.now.input.program set) machine.now.state.store
-        (number_of x) kept) ∷ []) }
+        ++ kept_number machine.now.input.program machine.now.state.store class (number_of x) set
+        kept ∷ []) }
 {
-    numbers.push(i64::from(kept_value(machine.store(), set, x, kept)))?;
+    numbers.push(kept_number(machine, class, x, set, kept))?;
     Ok(())
 }
 
-/// Appends what a set tells of an entity of this class, where the class owns it.
-fn push_owned<S: SetBoard>(
+/// Appends what a set tells of an entity, as an owner of its lists and as a member of one.
+fn push_set<S: SetBoard>(
     numbers: &mut Vec<i64>,
     machine: &Machine<S>,
     class: usize,
@@ -78,68 +94,30 @@ fn push_owned<S: SetBoard>(
 ) -> Result<(), AllocError>
     requires { set < length machine.now.input.program.sets }
     ensures { OnOk result (numbers.new.items ≡ numbers.old.items
-        ++ owned_numbers machine.now.input.program machine.now.state.store class (number_of x)
+        ++ set_numbers machine.now.input.program machine.now.state.store class (number_of x)
         set) }
 {
-    if !has_kept(machine.program(), class, set, Kept::First) {
-        return Ok(());
-    }
-    push_kept(numbers, machine, set, x, Kept::First)?;
-    push_kept(numbers, machine, set, x, Kept::Last)?;
-    push_kept(numbers, machine, set, x, Kept::Number)
+    push_kept(numbers, machine, class, x, set, Kept::First)?;
+    push_kept(numbers, machine, class, x, set, Kept::Last)?;
+    push_kept(numbers, machine, class, x, set, Kept::Number)?;
+    push_kept(numbers, machine, class, x, set, Kept::Predecessor)?;
+    push_kept(numbers, machine, class, x, set, Kept::Successor)?;
+    push_kept(numbers, machine, class, x, set, Kept::Membership)
 }
 
-/// Appends what a set tells of an entity of this class, where the class is that of its members.
-fn push_joined<S: SetBoard>(
-    numbers: &mut Vec<i64>,
-    machine: &Machine<S>,
-    class: usize,
-    x: i64,
-    set: usize,
-) -> Result<(), AllocError>
-    requires { set < length machine.now.input.program.sets }
-    ensures { OnOk result (numbers.new.items ≡ numbers.old.items
-        ++ joined_numbers machine.now.input.program machine.now.state.store class (number_of x)
-        set) }
-{
-    if !has_kept(machine.program(), class, set, Kept::Predecessor) {
-        return Ok(());
-    }
-    push_kept(numbers, machine, set, x, Kept::Predecessor)?;
-    push_kept(numbers, machine, set, x, Kept::Successor)?;
-    push_kept(numbers, machine, set, x, Kept::Membership)
-}
-
-/// Appends what the sets that the class owns tell of one of its entities.
-fn push_all_owned<S: SetBoard>(
+/// Appends what all sets tell of an entity.
+fn push_sets<S: SetBoard>(
     numbers: &mut Vec<i64>,
     machine: &Machine<S>,
     class: usize,
     x: i64,
 ) -> Result<(), AllocError>
     ensures { OnOk result (numbers.new.items ≡ numbers.old.items
-        ++ numbers_below (owned_numbers machine.now.input.program machine.now.state.store class
+        ++ numbers_below (set_numbers machine.now.input.program machine.now.state.store class
         (number_of x)) (length machine.now.input.program.sets)) }
 {
     for set in 0..machine.program().sets.len() {
-        push_owned(numbers, machine, class, x, set)?;
-    }
-    Ok(())
-}
-
-/// Appends what the sets in which entities of the class may be tell of one of them.
-fn push_all_joined<S: SetBoard>(
-    numbers: &mut Vec<i64>,
-    machine: &Machine<S>,
-    class: usize,
-    x: i64,
-) -> Result<(), AllocError>
-    ensures { OnOk result (numbers.new.items ≡ numbers.old.items
-        ++ numbers_below (joined_numbers machine.now.input.program machine.now.state.store class
-        (number_of x)) (length machine.now.input.program.sets)) }
-{
-    for set in 0..machine.program().sets.len() {
-        push_joined(numbers, machine, class, x, set)?;
+        push_set(numbers, machine, class, x, set)?;
     }
     Ok(())
 }
@@ -157,8 +135,7 @@ fn push_entity<S: SetBoard>(
         (number_of x)) }
 {
     push_attributes(numbers, machine, class, x)?;
-    push_all_owned(numbers, machine, class, x)?;
-    push_all_joined(numbers, machine, class, x)
+    push_sets(numbers, machine, class, x)
 }
 
 /// Whether the numbers of an entity tell all of an answer.
@@ -204,37 +181,5 @@ pub fn push_numbers<S: SetBoard>(
     match (part, sight) {
         (Part::Entities, Sight::Entity(class, x)) => push_living(numbers, machine, class, x),
         _ => Ok(()),
-    }
-}
-
-/// Appends the attributes of the entity at which a question looks; nothing where it looks at
-/// something else.
-///
-/// `AllocError` where a growth was refused; then what was appended does not count.
-pub fn push_attributes_of<S: SetBoard>(
-    attributes: &mut Vec<i64>,
-    machine: &Machine<S>,
-    part: Part,
-    sight: Sight,
-) -> Result<(), AllocError>
-    requires { IsInTables machine.now.input.program sight }
-    ensures { OnOk result (attributes.new.items ≡ attributes.old.items
-        ++ attributes_of part machine.now.input.program machine.now.state sight) }
-{
-    match (part, sight) {
-        (Part::Entities, Sight::Entity(class, x)) => {
-            push_attributes(attributes, machine, class, x)
-        }
-        _ => Ok(()),
-    }
-}
-
-/// Whether these are the attributes among the numbers of an entity, if it exists.
-pub fn tells_attributes(numbers: &[i64], attributes: &[i64]) -> bool
-    ensures { result ≡ tells_attributes numbers.now attributes.now }
-{
-    match numbers.split_first() {
-        None => true,
-        Some((_, told)) => told.starts_with(attributes),
     }
 }

@@ -6,9 +6,11 @@ ghost use Rattle.ss_debug.specs.declared.commands.Question.TheVariants as shown;
 ghost use Rattle.ss_trace.specs.declared.question.Question.TheVariants.{Shown, Count};
 ghost use Rattle.ss_trace.specs.Question.{changes_at};
 ghost use Rattle.ss_trace.specs.History.{history, history_text};
-ghost use Rattle.ss_trace.specs.declared.touches.Part.TheVariants.{Entities};
+ghost use Rattle.ss_trace.specs.declared.touches.Part.TheVariants as parts;
+ghost use Rattle.ss_trace.specs.declared.touches.Touched.TheVariants.{Nothing, Attribute, Attributes, Set, Entities};
 ghost use Rattle.ss_trace.specs.EntityNumbers.{numbers_at};
-ghost use Rattle.ss_trace.specs.Touches.{touches_at};
+ghost use Rattle.ss_trace.specs.Told.{is_told_at};
+ghost use Rattle.ss_trace.specs.Touches.{touched_at};
 ghost use Rattle.ss_trace.specs.Examples as e;
 
 /// A set changes where a member is filed and where it is removed, an entity also where it is made,
@@ -33,17 +35,34 @@ fn neighbouring_steps_change_a_list()
     ensures behind { e.run_from e.brief_run e.row 2 ≡ 3 }
 {}
 
-/// The numbers of an entity are those of its lines, and none where it does not exist; a statement
-/// that assigns to no attribute does not touch them.
+/// The numbers of an entity are those of its lines, and none where it does not exist; how much a
+/// step may change goes by its statement.
 fn numbers_of_an_entity()
     ensures before { numbers_at e.jobs_run (e.job_shown 1) 0 ≡ [] }
     ensures filed { numbers_at e.jobs_run (e.job_shown 1) 3
-        ≡ pos 1 ∷ pos 5 ∷ pos 0 ∷ pos 0 ∷ pos 1 ∷ [] }
+        ≡ pos 1 ∷ pos 5 ∷ pos 0 ∷ pos 0 ∷ pos 0 ∷ pos 0 ∷ pos 0 ∷ pos 1 ∷ [] }
     ensures ended { numbers_at e.jobs_run (e.job_shown 1) 9 ≡ [] }
-    ensures set { touches_at e.jobs_run Entities 1 ≡ true }
-    ensures call { touches_at e.jobs_run Entities 3 ≡ false }
-    ensures local { touches_at e.jobs_run Entities 4 ≡ false }
-    ensures yielded { touches_at e.jobs_run Entities 5 ≡ true }
+    ensures makes { touched_at e.jobs_run parts.Entities 0 ≡ Entities }
+    ensures set { touched_at e.jobs_run parts.Entities 1 ≡ Attribute 0 0 }
+    ensures files { touched_at e.jobs_run parts.Entities 2 ≡ Set 0 }
+    ensures call { touched_at e.jobs_run parts.Entities 3 ≡ Nothing }
+    ensures local { touched_at e.jobs_run parts.Entities 4 ≡ Nothing }
+    ensures yielded { touched_at e.jobs_run parts.Entities 5 ≡ Attributes }
+{}
+
+/// What a step may have changed is told by the numbers on its other side, and where it changed it is
+/// not.
+fn numbers_tell_what_stayed()
+    ensures set { is_told_at e.jobs_run (e.job_shown 1) (numbers_at e.jobs_run (e.job_shown 1) 2)
+        (Attribute 0 0) 1 ≡ false }
+    ensures files { is_told_at e.jobs_run (e.job_shown 1) (numbers_at e.jobs_run (e.job_shown 1) 3)
+        (Set 0) 2 ≡ false }
+    ensures stays { is_told_at e.jobs_run (e.job_shown 1) (numbers_at e.jobs_run (e.job_shown 1) 3)
+        (Set 0) 3 ≡ true }
+    ensures ends { is_told_at e.jobs_run (e.job_shown 1) (numbers_at e.jobs_run (e.job_shown 1) 9)
+        Entities 8 ≡ false }
+    ensures another { is_told_at e.jobs_run (e.job_shown 2)
+        (numbers_at e.jobs_run (e.job_shown 2) 9) Entities 8 ≡ true }
 {}
 
 /// A local changes where its frame is entered and left; a variable where another value is assigned;

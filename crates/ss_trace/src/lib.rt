@@ -22,6 +22,7 @@ mod sight;
 mod sought;
 mod table;
 mod text;
+mod told;
 mod touches;
 mod value;
 

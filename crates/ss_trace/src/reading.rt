@@ -5,16 +5,18 @@ ghost use Rattle.std.specs.Ordering.{int_eq};
 ghost use Rattle.ss_machine.specs.Moment.{position};
 ghost use Rattle.ss_trace.specs.Question.{answer_at};
 ghost use Rattle.ss_trace.specs.Sight.{seen_at, is_same_glance};
-ghost use Rattle.ss_trace.specs.declared.touches.Touched.TheVariants.{Nothing, Attribute};
-ghost use Rattle.ss_trace.specs.EntityNumbers.{is_counted, numbers_at, attributes_at, tells_attributes};
+ghost use Rattle.ss_trace.specs.declared.touches.Touched.TheVariants.{Nothing};
+ghost use Rattle.ss_trace.specs.EntityNumbers.{is_counted, numbers_at};
+ghost use Rattle.ss_trace.specs.Told.{is_told_at};
 ghost use Rattle.ss_trace.specs.Touches.{touched_at};
 ghost use Rattle.ss_trace.specs.Reading.{Looks, IsReadAt};
 
 use crate::answer::answer_to;
-use crate::entity_numbers::{is_counted, push_attributes_of, push_numbers, tells_attributes};
+use crate::entity_numbers::{is_counted, push_numbers};
 use crate::glance::{Glance, is_same};
 use crate::question::Question;
 use crate::sight::{Sight, seen, sight_of};
+use crate::told::is_told;
 use crate::touches::{Part, Touched, part_of, touched_here};
 use ss_debug::Debugger;
 use ss_links::SetBoard;
@@ -114,34 +116,9 @@ impl Reading {
         Ok(is_counted(self.part, self.sight) && self.spare.as_slice() == self.numbers.as_slice())
     }
 
-    /// Reads the attributes of the entity at which the question looks, and tells whether they are
-    /// among its numbers; where it looks at none, they are not.
-    fn compare_attributes<S: SetBoard>(
-        &mut self,
-        debugger: &Debugger<S>,
-        question: &Question,
-    ) -> Result<bool, AllocError>
-        requires { Looks debugger.now.machine.input question.now self.old }
-        ensures looks { Looks debugger.now.machine.input question.now self.new }
-        ensures glance { self.new.glance ≡ self.old.glance }
-        ensures numbers { self.new.numbers ≡ self.old.numbers }
-        ensures answer { self.new.answer ≡ self.old.answer }
-        ensures same { IfOk result (λ same. same ≡ (is_counted self.old.part self.old.sight
-            && tells_attributes self.old.numbers.items (attributes_at debugger.now.machine.input
-            question.now (position debugger.now.machine)))) }
-    {
-        if self.numbers.is_empty() {
-            return Ok(is_counted(self.part, self.sight));
-        }
-        debugger.machine().known();
-        self.spare.clear();
-        push_attributes_of(&mut self.spare, debugger.machine(), self.part, self.sight)?;
-        Ok(is_counted(self.part, self.sight) && tells_attributes(&self.numbers, &self.spare))
-    }
-
-    /// Whether the numbers of the entity at which the question looks are the same; where it looks
-    /// at none, they are not. Where the step set one attribute, the attributes alone are compared.
-    #[tactic(auto, using(crate::proofs::Numbered::same_numbers, crate::proofs::SameKept::both))]
+    /// Whether the numbers of the entity at which the question looks are the same, on the other side
+    /// of a step that perhaps changed what it may; where it looks at none, they are not.
+    #[tactic(auto, using(crate::proofs::Numbered::same_numbers, crate::proofs::Numbered::is_entity))]
     fn has_same_numbers<S: SetBoard>(
         &mut self,
         debugger: &Debugger<S>,
@@ -149,9 +126,8 @@ impl Reading {
         touched: Touched,
     ) -> Result<bool, AllocError>
         requires looks { Looks debugger.now.machine.input question.now self.old }
-        requires one { touched ≡ Attribute → tells_attributes self.old.numbers.items
-            (attributes_at debugger.now.machine.input question.now (position debugger.now.machine))
-            ≡ true → self.old.numbers.items
+        requires told { is_told_at debugger.now.machine.input question.now self.old.numbers.items
+            touched (position debugger.now.machine) ≡ true → self.old.numbers.items
             ≡ numbers_at debugger.now.machine.input question.now (position debugger.now.machine) }
         ensures looks { OnOk result (Looks debugger.now.machine.input question.now self.new) }
         ensures glance { self.new.glance ≡ self.old.glance }
@@ -162,10 +138,15 @@ impl Reading {
             ≡ true) × (self.old.numbers.items ≡ numbers_at debugger.now.machine.input question.now
             (position debugger.now.machine))) }
     {
-        if let Touched::Attribute = touched {
-            if self.compare_attributes(debugger, question)? {
-                return Ok(true);
-            }
+        debugger.machine().known();
+        if is_told(
+            &self.numbers,
+            debugger.machine(),
+            self.part,
+            self.sight,
+            touched,
+        ) {
+            return Ok(true);
         }
         self.count_again(debugger, question)
     }
@@ -187,9 +168,8 @@ impl Reading {
             ≡ answer_at debugger.now.machine.input question.now (position debugger.now.machine) }
         requires still { touched ≡ Nothing → self.old.numbers.items
             ≡ numbers_at debugger.now.machine.input question.now (position debugger.now.machine) }
-        requires one { touched ≡ Attribute → tells_attributes self.old.numbers.items
-            (attributes_at debugger.now.machine.input question.now (position debugger.now.machine))
-            ≡ true → self.old.numbers.items
+        requires told { is_told_at debugger.now.machine.input question.now self.old.numbers.items
+            touched (position debugger.now.machine) ≡ true → self.old.numbers.items
             ≡ numbers_at debugger.now.machine.input question.now (position debugger.now.machine) }
         requires counted { is_counted self.old.part self.old.sight ≡ true → self.old.numbers.items
             ≡ numbers_at debugger.now.machine.input question.now (position debugger.now.machine)

@@ -1,14 +1,15 @@
-//! Which parts of a state a step may change that no glance tells.
+//! How much a step may change of the parts of a state that no glance tells.
 ghost use Rattle.std.specs.Prelude.{◌≡◌};
 ghost use Rattle.ss_machine.specs.Moment.{position};
-ghost use Rattle.ss_trace.specs.Touches.{is_attribute, sets_attribute, tells_statistics, may_yield};
-ghost use Rattle.ss_trace.specs.Touches.{touches_entities, makes_a_class, touches, touches_in, touches_at, part_of};
-ghost use Rattle.ss_trace.specs.Touches.{assigns_attribute, assigns_in, assigns_at, touched_at};
+ghost use Rattle.ss_trace.specs.Touches.{touched_target, touched_assign, touched_removal, touched_filing};
+ghost use Rattle.ss_trace.specs.Touches.{touched_control, touched_looping, touched_entities, touched_making};
+ghost use Rattle.ss_trace.specs.Touches.{makes_a_class};
+ghost use Rattle.ss_trace.specs.Touches.{touched_lists, touched_notices, touched, touched_in, touched_at, part_of};
 
 use crate::question::Question;
 use ss_debug::{Debugger, Question as Shown};
 use ss_links::SetBoard;
-use ss_program::{Assign, Control, Looping, Making, Place, Target};
+use ss_program::{Assign, Control, Filing, Looping, Making, Place, Target};
 
 /// A part of a state at which a question looks beside its glance.
 #[derive(Clone, Copy, Debug, PartialEq, Eq)]
@@ -25,13 +26,19 @@ pub enum Part {
     Notices,
 }
 
-/// How much the step of a place may change of the part at which a question looks.
+/// How much a step may change of the part at which a question looks.
 #[derive(Clone, Copy, Debug, PartialEq, Eq)]
 pub enum Touched {
     /// Nothing of it.
     Nothing,
-    /// One attribute of an entity.
-    Attribute,
+    /// One attribute of a class, by the class and its number there.
+    Attribute(usize, usize),
+    /// Attributes.
+    Attributes,
+    /// A list of one set, by a member more or less.
+    Set(usize),
+    /// Entities, and lists by a member more or less.
+    Entities,
     /// Anything.
     Anything,
 }
@@ -49,56 +56,67 @@ pub fn part_of(question: &Question) -> Part
     }
 }
 
-fn is_attribute(target: &Target) -> bool
-    ensures { result ≡ is_attribute target.now }
+/// What is touched where a value is assigned.
+fn touched_target(target: &Target) -> Touched
+    ensures { result ≡ touched_target target.now }
 {
-    matches!(target, Target::Attribute { .. })
+    match target {
+        Target::Variable(_) => Touched::Nothing,
+        Target::Attribute {
+            class,
+            attribute,
+            ..
+        } => Touched::Attribute(*class, *attribute),
+    }
 }
 
-/// Whether an assignment is one to an attribute.
-fn sets_attribute(assign: &Assign) -> bool
-    ensures { result ≡ sets_attribute assign.now }
+fn touched_assign(assign: &Assign) -> Touched
+    ensures { result ≡ touched_assign assign.now }
 {
     match assign {
         Assign::Let { target, .. } | Assign::Add { target, .. } | Assign::Subtract { target, .. } =>
-            { is_attribute(target) }
+            { touched_target(target) }
     }
 }
 
-/// Whether a place is an assignment to an attribute.
-fn assigns_attribute(place: &Place) -> bool
-    ensures { result ≡ assigns_attribute place.now }
+/// What is touched where a member is removed from a list of a set and goes to a target.
+fn touched_removal(target: &Target, set: usize) -> Touched
+    ensures { result ≡ touched_removal target.now set }
 {
-    match place {
-        Place::Assign(assign) => sets_attribute(assign),
-        _ => false,
+    match target {
+        Target::Variable(_) => Touched::Set(set),
+        Target::Attribute { .. } => Touched::Entities,
     }
 }
 
-/// Whether what goes through cases may assign to attributes.
-fn tells_statistics(looping: &Looping) -> bool
-    ensures { result ≡ tells_statistics looping.now }
+fn touched_filing(filing: &Filing) -> Touched
+    ensures { result ≡ touched_filing filing.now }
 {
-    matches!(looping, Looping::Tell(_))
+    match filing {
+        Filing::File { set, .. } | Filing::FileAt { set, .. } | Filing::Remove { set, .. } => {
+            Touched::Set(set.set)
+        }
+        Filing::RemoveAt { target, set, .. } => touched_removal(target, set.set),
+    }
 }
 
-/// Whether what ends a section may assign to attributes.
-fn may_yield(control: Control) -> bool
-    ensures { result ≡ may_yield control }
+/// What ends a section assigns what it yields.
+fn touched_control(control: Control) -> Touched
+    ensures { result ≡ touched_control control }
 {
-    !matches!(control, Control::Stop)
+    match control {
+        Control::Stop => Touched::Nothing,
+        Control::Return | Control::End => Touched::Attributes,
+    }
 }
 
-/// Whether the step of a place may change an entity or a list.
-fn touches_entities(place: &Place) -> bool
-    ensures { result ≡ touches_entities place.now }
+/// What goes through cases assigns the statistics that it tells.
+fn touched_looping(looping: &Looping) -> Touched
+    ensures { result ≡ touched_looping looping.now }
 {
-    match place {
-        Place::Assign(_) => assigns_attribute(place),
-        Place::Control(control) => may_yield(*control),
-        Place::Looping(looping) => tells_statistics(looping),
-        Place::Output(_) | Place::Branch(_) | Place::Call(_) => false,
-        Place::Making(_) | Place::Filing(_) | Place::Timing(_) | Place::Read(_) => true,
+    match looping {
+        Looping::Tell(_) => Touched::Attributes,
+        _ => Touched::Nothing,
     }
 }
 
@@ -109,66 +127,75 @@ fn makes_a_class(making: &Making) -> bool
     matches!(making, Making::CreateEvery { .. })
 }
 
-/// Whether the step of a place may change a part.
-fn touches(part: Part, place: &Place) -> bool
-    ensures { result ≡ touches part place.now }
+/// What is touched where entities are made or ended.
+fn touched_making(making: &Making) -> Touched
+    ensures { result ≡ touched_making making.now }
 {
-    match part {
-        Part::Anything => true,
-        Part::Nothing => false,
-        Part::Entities => touches_entities(place),
-        Part::Lists => match place {
-            Place::Making(making) => makes_a_class(making.value()),
-            _ => false,
-        },
-        Part::Notices => matches!(place, Place::Timing(_)),
+    if makes_a_class(making) {
+        Touched::Anything
+    } else {
+        Touched::Entities
     }
 }
 
-/// Whether the step of the place where the debugger stands may change a part.
-fn touches_by_place<S: SetBoard>(debugger: &Debugger<S>, part: Part) -> bool
+/// What the step of a place may change of entities and lists.
+fn touched_entities(place: &Place) -> Touched
+    ensures { result ≡ touched_entities place.now }
+{
+    match place {
+        Place::Assign(assign) => touched_assign(assign),
+        Place::Making(making) => touched_making(making.value()),
+        Place::Filing(filing) => touched_filing(filing.value()),
+        Place::Control(control) => touched_control(*control),
+        Place::Looping(looping) => touched_looping(looping),
+        Place::Read(_) => Touched::Attributes,
+        Place::Output(_) | Place::Branch(_) | Place::Call(_) => Touched::Nothing,
+        Place::Timing(_) => Touched::Entities,
+    }
+}
+
+/// What the step of a place may change of lists, otherwise than by a member more or less.
+fn touched_lists(place: &Place) -> Touched
+    ensures { result ≡ touched_lists place.now }
+{
+    match place {
+        Place::Making(making) if makes_a_class(making.value()) => Touched::Anything,
+        _ => Touched::Nothing,
+    }
+}
+
+/// What the step of a place may change of the pending notices.
+fn touched_notices(place: &Place) -> Touched
+    ensures { result ≡ touched_notices place.now }
+{
+    match place {
+        Place::Timing(_) => Touched::Anything,
+        _ => Touched::Nothing,
+    }
+}
+
+/// What the step of a place may change of a part.
+fn touched_part(part: Part, place: &Place) -> Touched
+    ensures { result ≡ touched part place.now }
+{
+    match part {
+        Part::Anything => Touched::Anything,
+        Part::Nothing => Touched::Nothing,
+        Part::Entities => touched_entities(place),
+        Part::Lists => touched_lists(place),
+        Part::Notices => touched_notices(place),
+    }
+}
+
+/// What the step of the place where the debugger stands may change of a part.
+fn touched_by_place<S: SetBoard>(debugger: &Debugger<S>, part: Part) -> Touched
     ensures { result
-        ≡ touches_in debugger.now.machine.input.program part debugger.now.machine.state }
+        ≡ touched_in debugger.now.machine.input.program part debugger.now.machine.state }
 {
     let machine = debugger.machine();
     machine.known();
     let (section, place) = machine.place();
-    touches(part, &machine.program().spot(section, place).place)
-}
-
-/// Whether the step from where the debugger stands may change a part.
-fn touches_here<S: SetBoard>(debugger: &Debugger<S>, part: Part) -> bool
-    ensures { result
-        ≡ touches_at debugger.now.machine.input part (position debugger.now.machine) }
-{
-    debugger.machine().known();
-    match part {
-        Part::Anything => true,
-        Part::Nothing => false,
-        Part::Entities => touches_by_place(debugger, Part::Entities),
-        Part::Lists => touches_by_place(debugger, Part::Lists),
-        Part::Notices => touches_by_place(debugger, Part::Notices),
-    }
-}
-
-/// Whether the place where the debugger stands is an assignment to an attribute.
-fn assigns_by_place<S: SetBoard>(debugger: &Debugger<S>) -> bool
-    ensures { result
-        ≡ assigns_in debugger.now.machine.input.program debugger.now.machine.state }
-{
-    let machine = debugger.machine();
-    machine.known();
-    let (section, place) = machine.place();
-    assigns_attribute(&machine.program().spot(section, place).place)
-}
-
-/// Whether the step from where the debugger stands changes no more of a part than one attribute.
-fn assigns_here<S: SetBoard>(debugger: &Debugger<S>, part: Part) -> bool
-    ensures { result
-        ≡ assigns_at debugger.now.machine.input part (position debugger.now.machine) }
-{
-    debugger.machine().known();
-    matches!(part, Part::Entities) && assigns_by_place(debugger)
+    touched_part(part, &machine.program().spot(section, place).place)
 }
 
 /// How much the step from where the debugger stands may change of a part.
@@ -176,11 +203,10 @@ pub fn touched_here<S: SetBoard>(debugger: &Debugger<S>, part: Part) -> Touched
     ensures { result
         ≡ touched_at debugger.now.machine.input part (position debugger.now.machine) }
 {
-    if !touches_here(debugger, part) {
-        return Touched::Nothing;
+    debugger.machine().known();
+    match part {
+        Part::Anything => Touched::Anything,
+        Part::Nothing => Touched::Nothing,
+        Part::Entities | Part::Lists | Part::Notices => touched_by_place(debugger, part),
     }
-    if assigns_here(debugger, part) {
-        return Touched::Attribute;
-    }
-    Touched::Anything
 }

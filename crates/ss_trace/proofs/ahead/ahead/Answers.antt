@@ -23,7 +23,8 @@ returns-then-is_at_stop-clause-ok g c =
     stops_here m.input l.machine.input d.breaks l.breaks c.args.sought (position m) (position l.machine)
     c.loop-k._k c.position-from.result held.input held.breaks held.stepped from in
     let found : stops m.input condition (position m) c.loop-k._k ≡ true = rw here (sym c.if-is_at_stop.ensures) in
-    let e = least_is (stops m.input condition (position m)) most c.loop-k._k (omega (arith, from)) held.went_on (λ _. found) in
+    let e =
+    least_is (stops m.input condition (position m)) most c.loop-k._k (omega (arith, from)) held.went_on (λ _. found) in
     record {
       input = held.input;
       forgotten = held.forgotten;

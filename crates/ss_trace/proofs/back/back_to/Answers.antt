@@ -13,7 +13,8 @@ returns-then-is_at_back_stop g c =
     let l = c.loop-k.debugger.machine in
     let held = c.loop-k.invariant in
     let test : ℕ → Bool = sought_test m.input c.args.sought in
-    let here = stops_back_here m.input l.input c.args.sought (position m) (position l) c.loop-k.k held.input held.stepped in
+    let here =
+    stops_back_here m.input l.input c.args.sought (position m) (position l) c.loop-k.k held.input held.stepped in
     let found : stops_back test (position m) c.loop-k.k ≡ true = rw here (sym c.if-is_at_back_stop.ensures) in
     let ends =
     search_back_is test m.forgotten (position m) c.args.bound c.loop-k.k (position l) held.stepped (omega arith)
@@ -40,7 +41,8 @@ loop-k-preserved g c =
     let held = c.loop-k.invariant in
     let test : ℕ → Bool = sought_test m.input c.args.sought in
     let gone = c.if-not-step_back.ensures.back in
-    let here = stops_back_here m.input l.input c.args.sought (position m) (position l) c.loop-k.k held.input held.stepped in
+    let here =
+    stops_back_here m.input l.input c.args.sought (position m) (position l) c.loop-k.k held.input held.stepped in
     let at_k : stops_back test (position m) c.loop-k.k ≡ false = rw here (sym c.if-is_at_back_stop.ensures) in
     let back : position l ≡ position c.step_back.new.self.machine + 1 = gone.position in
     record {

@@ -6,16 +6,17 @@ use Rattle.ss_debug.specs.Move.{StopCondition, stops}
 use Rattle.ss_debug.proofs.Moves.{least_is, least_at_least}
 use Rattle.ss_trace.specs.Question.{answer_at}
 use Rattle.ss_trace.specs.Movements.{ahead_condition, has_changed}
-use Rattle.ss_trace.specs.declared.touches.Touched.TheVariants.{Attribute}
-use Rattle.ss_trace.specs.EntityNumbers.{is_counted, numbers_at, attributes_at, tells_attributes}
+use Rattle.ss_trace.specs.declared.touches.Touched.TheVariants.{Nothing}
+use Rattle.ss_trace.specs.EntityNumbers.{is_counted, numbers_at}
+use Rattle.ss_trace.specs.Told.{is_told_at}
 use Rattle.ss_trace.specs.Sight.{sight_of, seen_at, is_same_glance}
-use Rattle.ss_trace.specs.Touches.{assigns_at, touched_at, touches_at, part_of}
+use Rattle.ss_trace.specs.Touches.{touched_at, part_of}
 use Rattle.ss_trace.specs.Reading.{IsReadAt}
 use Rattle.ss_trace.proofs.Refused.{on_err}
 use Rattle.ss_trace.proofs.Changes.{stops_here, met_behind, changes_between}
 use Rattle.ss_trace.proofs.Glances.{same_is, unseen}
 use Rattle.ss_trace.proofs.Numbered.{numbers_left, counted_left}
-use Rattle.ss_trace.proofs.SameKept.{told_on, untouched}
+use Rattle.ss_trace.proofs.Telling.{told_on}
 use Rattle.ss_trace.proofs.change_search.ahead_to_change.Goals as goal
 
 pub follow-requires-clause-looks : goal.follow-requires-clause-looks
@@ -31,9 +32,8 @@ follow-requires-clause-quiet g c = λ e s.
     let x = c.args.question.now in
     let gone = c.in_ok-step_once.ensures.ok in
     let u = c.step_once.new.debugger.machine in
-    let quiet : touches_at m.input (part_of x) (position l.machine) ≡ false =
-    untouched (touches_at m.input (part_of x) (position l.machine)) (assigns_at m.input (part_of x) (position l.machine))
-    (sym (rw (held.input, held.reading.looks.part) at c.touched-touched.ensures) ∙ e) in
+    let quiet : touched_at m.input (part_of x) (position l.machine) ≡ Nothing =
+    sym (rw (held.input, held.reading.looks.part) at c.touched-touched.ensures) ∙ e in
     let same : is_same_glance c.loop-k.reading.glance (seen_at m.input x (position u)) ≡ true =
     rw (gone.input, held.input) at s in
     rw (gone.input, held.input)
@@ -48,26 +48,26 @@ follow-requires-clause-still g c = λ e.
     let x = c.args.question.now in
     let u = c.step_once.new.debugger.machine in
     let gone = c.in_ok-step_once.ensures.ok in
-    let quiet : touches_at m.input (part_of x) (position l.machine) ≡ false =
-    untouched (touches_at m.input (part_of x) (position l.machine)) (assigns_at m.input (part_of x) (position l.machine))
-    (sym (rw (held.input, held.reading.looks.part) at c.touched-touched.ensures) ∙ e) in
+    let quiet : touched_at m.input (part_of x) (position l.machine) ≡ Nothing =
+    sym (rw (held.input, held.reading.looks.part) at c.touched-touched.ensures) ∙ e in
     rw (gone.input, held.input)
     (held.reading.numbers ∙ sym (numbers_left m.input x (position l.machine) (position u) gone.position quiet))
 
-pub follow-requires-clause-one : goal.follow-requires-clause-one
-follow-requires-clause-one g c = λ e h.
+pub follow-requires-clause-told : goal.follow-requires-clause-told
+follow-requires-clause-told g c = λ h.
     let m = c.args.debugger.now.machine in
     let l = c.loop-k.debugger in
     let held = c.loop-k.invariant in
     let x = c.args.question.now in
     let u = c.step_once.new.debugger.machine in
     let gone = c.in_ok-step_once.ensures.ok in
-    let set : touched_at m.input (part_of x) (position l.machine) ≡ Attribute =
-    sym (rw (held.input, held.reading.looks.part) at c.touched-touched.ensures) ∙ e in
-    let told : tells_attributes (numbers_at m.input x (position l.machine)) (attributes_at m.input x (position u)) ≡ true =
-    rw (gone.input, held.input, held.reading.numbers) at h in
+    let set = rw (held.input, held.reading.looks.part) at c.touched-touched.ensures in
+    let told :
+    is_told_at m.input x (numbers_at m.input x (position l.machine))
+    (touched_at m.input (part_of x) (position l.machine)) (position u) ≡ true =
+    rw (gone.input, held.input, held.reading.numbers, set) at h in
     rw (gone.input, held.input)
-    (held.reading.numbers ∙ told_on m.input x (position l.machine) (position u) gone.position set told)
+    (held.reading.numbers ∙ told_on m.input x (position l.machine) (position u) gone.position told)
 
 pub follow-requires-clause-counted : goal.follow-requires-clause-counted
 follow-requires-clause-counted g c = λ h e.
@@ -98,7 +98,8 @@ returns-then-is_at_stop-clause-ok g c =
     stops_here m.input l.machine.input d.breaks l.breaks c.args.question.now (position m) (position l.machine)
     c.loop-k._k c.position-from.result held.input held.breaks held.stepped from in
     let found : stops m.input condition (position m) c.loop-k._k ≡ true = rw here (sym c.if-is_at_stop.ensures) in
-    let e = least_is (stops m.input condition (position m)) most c.loop-k._k (omega (arith, from)) held.went_on (λ _. found) in
+    let e =
+    least_is (stops m.input condition (position m)) most c.loop-k._k (omega (arith, from)) held.went_on (λ _. found) in
     record {
       input = held.input;
       forgotten = held.forgotten;

@@ -5,16 +5,17 @@ use Rattle.ss_machine.specs.Moment.{position}
 use Rattle.ss_debug.specs.Move.{stops_back}
 use Rattle.ss_debug.proofs.Moves.{search_back_is, least_at_least}
 use Rattle.ss_trace.specs.Question.{answer_at, changes_at}
-use Rattle.ss_trace.specs.declared.touches.Touched.TheVariants.{Attribute}
-use Rattle.ss_trace.specs.EntityNumbers.{is_counted, numbers_at, attributes_at, tells_attributes}
+use Rattle.ss_trace.specs.declared.touches.Touched.TheVariants.{Nothing}
+use Rattle.ss_trace.specs.EntityNumbers.{is_counted, numbers_at}
+use Rattle.ss_trace.specs.Told.{is_told_at}
 use Rattle.ss_trace.specs.Sight.{sight_of, seen_at, is_same_glance}
-use Rattle.ss_trace.specs.Touches.{assigns_at, touched_at, touches_at, part_of}
+use Rattle.ss_trace.specs.Touches.{touched_at, part_of}
 use Rattle.ss_trace.specs.Reading.{IsReadAt}
 use Rattle.ss_trace.proofs.Refused.{on_err}
 use Rattle.ss_trace.proofs.Changes.{same_turned, stops_back_where, unmet_back, changes_between}
 use Rattle.ss_trace.proofs.Glances.{same_is, unseen}
 use Rattle.ss_trace.proofs.Numbered.{numbers_left, counted_left}
-use Rattle.ss_trace.proofs.SameKept.{told_back, untouched}
+use Rattle.ss_trace.proofs.Telling.{told_back}
 use Rattle.ss_trace.proofs.change_search.back_to_change.Goals as goal
 
 pub follow-requires-clause-looks : goal.follow-requires-clause-looks
@@ -30,9 +31,8 @@ follow-requires-clause-quiet g c = λ e s.
     let x = c.args.question.now in
     let u = c.step_back.new.self.machine in
     let gone = c.if-not-step_back.ensures.back in
-    let quiet : touches_at m.input (part_of x) (position u) ≡ false =
-    untouched (touches_at m.input (part_of x) (position u)) (assigns_at m.input (part_of x) (position u))
-    (sym (rw (gone.input, held.input, held.reading.looks.part) at c.touched-touched.ensures) ∙ e) in
+    let quiet : touched_at m.input (part_of x) (position u) ≡ Nothing =
+    sym (rw (gone.input, held.input, held.reading.looks.part) at c.touched-touched.ensures) ∙ e in
     let same : is_same_glance c.loop-k.reading.glance (seen_at m.input x (position u)) ≡ true =
     rw (gone.input, held.input) at s in
     rw (gone.input, held.input)
@@ -47,26 +47,25 @@ follow-requires-clause-still g c = λ e.
     let x = c.args.question.now in
     let u = c.step_back.new.self.machine in
     let gone = c.if-not-step_back.ensures.back in
-    let quiet : touches_at m.input (part_of x) (position u) ≡ false =
-    untouched (touches_at m.input (part_of x) (position u)) (assigns_at m.input (part_of x) (position u))
-    (sym (rw (gone.input, held.input, held.reading.looks.part) at c.touched-touched.ensures) ∙ e) in
+    let quiet : touched_at m.input (part_of x) (position u) ≡ Nothing =
+    sym (rw (gone.input, held.input, held.reading.looks.part) at c.touched-touched.ensures) ∙ e in
     rw (gone.input, held.input)
     (held.reading.numbers ∙ numbers_left m.input x (position u) (position l.machine) gone.position quiet)
 
-pub follow-requires-clause-one : goal.follow-requires-clause-one
-follow-requires-clause-one g c = λ e h.
+pub follow-requires-clause-told : goal.follow-requires-clause-told
+follow-requires-clause-told g c = λ h.
     let m = c.args.debugger.now.machine in
     let l = c.loop-k.debugger in
     let held = c.loop-k.invariant in
     let x = c.args.question.now in
     let u = c.step_back.new.self.machine in
     let gone = c.if-not-step_back.ensures.back in
-    let set : touched_at m.input (part_of x) (position u) ≡ Attribute =
-    sym (rw (gone.input, held.input, held.reading.looks.part) at c.touched-touched.ensures) ∙ e in
-    let told : tells_attributes (numbers_at m.input x (position l.machine)) (attributes_at m.input x (position u)) ≡ true =
-    rw (gone.input, held.input, held.reading.numbers) at h in
+    let set = rw (gone.input, held.input, held.reading.looks.part) at c.touched-touched.ensures in
+    let told :
+    is_told_at m.input x (numbers_at m.input x (position l.machine)) (touched_at m.input (part_of x) (position u))
+    (position u) ≡ true = rw (gone.input, held.input, held.reading.numbers, set) at h in
     rw (gone.input, held.input)
-    (held.reading.numbers ∙ told_back m.input x (position u) (position l.machine) gone.position set told)
+    (held.reading.numbers ∙ told_back m.input x (position u) (position l.machine) gone.position told)
 
 pub follow-requires-clause-counted : goal.follow-requires-clause-counted
 follow-requires-clause-counted g c = λ h e.
@@ -104,7 +103,8 @@ returns-then-not-step_back-clause-met g c =
     let l = c.loop-k.debugger.machine in
     let held = c.loop-k.invariant in
     rw c.if-not-step_back.ensures.back.1
-    (unmet_back (changes_at m.input c.args.question.now) (position m) (position l) c.loop-k._k held.stepped held.went_on)
+    (unmet_back (changes_at m.input c.args.question.now) (position m) (position l) c.loop-k._k held.stepped
+    held.went_on)
 
 pub returns-in_err-follow-clause-memory : goal.returns-in_err-follow-clause-memory
 returns-in_err-follow-clause-memory g c =
@@ -142,7 +142,8 @@ returns-then-is_some-clause-ok g c =
     let behind : c.loop-k.reading.answer.items ≡ answer_at m.input x (position u + 1) =
     held.reading.answer ∙ ap (λ (q : ℕ). answer_at m.input x q) back in
     let yes : test (position u) ≡ true =
-    changes_between m.input x (position u) c.follow.new.self.answer.items c.loop-k.reading.answer.items followed.answer behind
+    changes_between m.input x (position u) c.follow.new.self.answer.items c.loop-k.reading.answer.items followed.answer
+    behind
     ∙ ap not (same_turned c.follow.new.self.answer.items c.loop-k.reading.answer.items)
     ∙ sym c.in_ok-follow.ensures.whether ∙ sym c.is_some.ensures ∙ c.if-is_some.true in
     let ends =
@@ -172,7 +173,8 @@ loop-k-preserved g c =
     let behind : c.loop-k.reading.answer.items ≡ answer_at m.input x (position u + 1) =
     held.reading.answer ∙ ap (λ (q : ℕ). answer_at m.input x q) back in
     let no : test (position u) ≡ false =
-    changes_between m.input x (position u) c.follow.new.self.answer.items c.loop-k.reading.answer.items followed.answer behind
+    changes_between m.input x (position u) c.follow.new.self.answer.items c.loop-k.reading.answer.items followed.answer
+    behind
     ∙ ap not (same_turned c.follow.new.self.answer.items c.loop-k.reading.answer.items)
     ∙ sym c.in_ok-follow.ensures.whether ∙ sym c.is_some.ensures ∙ c.if-is_some.false in
     let passed : stops_back test (position m) (c.loop-k._k + 1) ≡ false =

@@ -72,7 +72,8 @@ returns-clause-place g c =
     let l = c.loop-k.debugger in
     let held = c.loop-k.invariant in
     let whole =
-    held.rest ∙ back_over_none t d.machine.forgotten (c.args.count - c.loop-k.k) (position l.machine) c.loop-k.bound (omega arith) in
+    held.rest ∙ back_over_none t d.machine.forgotten (c.args.count - c.loop-k.k) (position l.machine)
+    c.loop-k.bound (omega arith) in
     record {
       input = held.input;
       forgotten = held.forgotten;
@@ -87,5 +88,6 @@ returns-clause-left g c =
     let l = c.loop-k.debugger in
     let held = c.loop-k.invariant in
     let whole =
-    held.rest ∙ back_over_none t d.machine.forgotten (c.args.count - c.loop-k.k) (position l.machine) c.loop-k.bound (omega arith) in
+    held.rest ∙ back_over_none t d.machine.forgotten (c.args.count - c.loop-k.k) (position l.machine)
+    c.loop-k.bound (omega arith) in
     sym (ap (λ (x : Counted). x.left) whole)

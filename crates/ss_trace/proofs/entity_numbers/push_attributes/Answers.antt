@@ -9,5 +9,5 @@ loop-attribute-preserved g c =
     let m = c.args.machine.now in
     numbers_more
     (attribute_numbers m.state.store c.args.class (number_of (to_z w64 (of_z w64 c.args.x))))
-    c.loop-attribute.attribute _ c.args.numbers.now.items c.loop-attribute.numbers.items _ refl c.loop-attribute.invariant
-    c.in_ok-push_attribute.ensures
+    c.loop-attribute.attribute _ c.args.numbers.now.items c.loop-attribute.numbers.items _ refl
+    c.loop-attribute.invariant c.in_ok-push_attribute.ensures

@@ -2,10 +2,11 @@ use Rattle.std.proofs.Common.{◌≡◌, ◌+◌, ℕ, true, false, length, refl
 use Rattle.std.specs.Prelude.{not}
 use Rattle.ss_machine.specs.Moment.{position}
 use Rattle.ss_trace.specs.Question.{answer_at, changes_at}
-use Rattle.ss_trace.specs.declared.touches.Touched.TheVariants.{Attribute}
-use Rattle.ss_trace.specs.EntityNumbers.{is_counted, numbers_at, attributes_at, tells_attributes}
+use Rattle.ss_trace.specs.declared.touches.Touched.TheVariants.{Nothing}
+use Rattle.ss_trace.specs.EntityNumbers.{is_counted, numbers_at}
+use Rattle.ss_trace.specs.Told.{is_told_at}
 use Rattle.ss_trace.specs.Sight.{sight_of, seen_at, is_same_glance}
-use Rattle.ss_trace.specs.Touches.{assigns_at, touched_at, touches_at, part_of}
+use Rattle.ss_trace.specs.Touches.{touched_at, part_of}
 use Rattle.ss_trace.specs.Reading.{IsReadAt}
 use Rattle.ss_trace.specs.View.{HasLookedBack}
 use Rattle.ss_trace.proofs.Changes.{same_turned, changes_between}
@@ -13,7 +14,7 @@ use Rattle.ss_trace.proofs.Histories.{none_before, passed, found, found_before}
 use Rattle.ss_trace.proofs.Looking.{looked_nowhere, looked_further}
 use Rattle.ss_trace.proofs.Glances.{same_is, unseen}
 use Rattle.ss_trace.proofs.Numbered.{numbers_left, counted_left}
-use Rattle.ss_trace.proofs.SameKept.{told_back, untouched}
+use Rattle.ss_trace.proofs.Telling.{told_back}
 use Rattle.ss_trace.proofs.history.back_to_newest.Goals as goal
 
 pub loop-debugger-init : goal.loop-debugger-init
@@ -36,9 +37,8 @@ follow-requires-clause-quiet g c = λ e s.
     let x = c.args.question.now in
     let u = c.step_back.new.self.machine in
     let gone = c.loop-debugger-test.ensures.back in
-    let quiet : touches_at m.input (part_of x) (position u) ≡ false =
-    untouched (touches_at m.input (part_of x) (position u)) (assigns_at m.input (part_of x) (position u))
-    (sym (rw (gone.input, held.gone.input, held.reading.looks.part) at c.touched-touched.ensures) ∙ e) in
+    let quiet : touched_at m.input (part_of x) (position u) ≡ Nothing =
+    sym (rw (gone.input, held.gone.input, held.reading.looks.part) at c.touched-touched.ensures) ∙ e in
     let same : is_same_glance c.loop-debugger.reading.glance (seen_at m.input x (position u)) ≡ true =
     rw (gone.input, held.gone.input) at s in
     rw (gone.input, held.gone.input)
@@ -53,26 +53,25 @@ follow-requires-clause-still g c = λ e.
     let x = c.args.question.now in
     let u = c.step_back.new.self.machine in
     let gone = c.loop-debugger-test.ensures.back in
-    let quiet : touches_at m.input (part_of x) (position u) ≡ false =
-    untouched (touches_at m.input (part_of x) (position u)) (assigns_at m.input (part_of x) (position u))
-    (sym (rw (gone.input, held.gone.input, held.reading.looks.part) at c.touched-touched.ensures) ∙ e) in
+    let quiet : touched_at m.input (part_of x) (position u) ≡ Nothing =
+    sym (rw (gone.input, held.gone.input, held.reading.looks.part) at c.touched-touched.ensures) ∙ e in
     rw (gone.input, held.gone.input)
     (held.reading.numbers ∙ numbers_left m.input x (position u) (position l.machine) gone.position quiet)
 
-pub follow-requires-clause-one : goal.follow-requires-clause-one
-follow-requires-clause-one g c = λ e h.
+pub follow-requires-clause-told : goal.follow-requires-clause-told
+follow-requires-clause-told g c = λ h.
     let m = c.args.debugger.now.machine in
     let l = c.loop-debugger.debugger in
     let held = c.loop-debugger.invariant in
     let x = c.args.question.now in
     let u = c.step_back.new.self.machine in
     let gone = c.loop-debugger-test.ensures.back in
-    let set : touched_at m.input (part_of x) (position u) ≡ Attribute =
-    sym (rw (gone.input, held.gone.input, held.reading.looks.part) at c.touched-touched.ensures) ∙ e in
-    let told : tells_attributes (numbers_at m.input x (position l.machine)) (attributes_at m.input x (position u)) ≡ true =
-    rw (gone.input, held.gone.input, held.reading.numbers) at h in
+    let set = rw (gone.input, held.gone.input, held.reading.looks.part) at c.touched-touched.ensures in
+    let told :
+    is_told_at m.input x (numbers_at m.input x (position l.machine)) (touched_at m.input (part_of x) (position u))
+    (position u) ≡ true = rw (gone.input, held.gone.input, held.reading.numbers, set) at h in
     rw (gone.input, held.gone.input)
-    (held.reading.numbers ∙ told_back m.input x (position u) (position l.machine) gone.position set told)
+    (held.reading.numbers ∙ told_back m.input x (position u) (position l.machine) gone.position told)
 
 pub follow-requires-clause-counted : goal.follow-requires-clause-counted
 follow-requires-clause-counted g c = λ h e.

@@ -1,8 +1,0 @@
-use Rattle.std.proofs.Common.{◌≡◌, ◌++◌}
-use Rattle.ss_store.specs.Store.{number_of}
-use Rattle.ss_trace.specs.EntityNumbers.{numbers_below, joined_numbers}
-use Rattle.ss_trace.proofs.entity_numbers.push_all_joined.Given as goal
-
-abbrev pub invariant-loop-set : goal.invariant-loop-set
-invariant-loop-set g l = l.numbers.items ≡ l.initial.numbers.items
-    ++ numbers_below (joined_numbers l.machine.input.program l.machine.state.store l.class (number_of l.x)) l.set

@@ -1,0 +1,97 @@
+-- Private: whether what a step may have changed of an entity is as its numbers on the other side of the step tell.
+use Rattle.std.specs.Prelude.{ℕ, zero, suc, ◌+◌, ◌*◌, ◌==◌, nat_lt, ℤ, pos, Bool, true, false, not, ◌&&◌, ◌||◌}
+use Rattle.std.specs.Prelude.{List, [], ◌∷◌, length, slice_index_or, if◌then◌else◌}
+use Rattle.std.specs.Ordering.{int_eq}
+use Rattle.ss_program.specs.Program.{ProgramTable, class_of}
+use Rattle.ss_store.specs.Store.{Store, number_of, exists}
+use Rattle.ss_machine.specs.Run.{Input, run}
+use Rattle.ss_trace.specs.declared.attribute.Kept.TheVariants.{Number, Predecessor, Successor, Membership}
+use Rattle.ss_trace.specs.declared.question.Question.{Question}
+use Rattle.ss_trace.specs.declared.sight.Sight.{Sight}
+use Rattle.ss_trace.specs.declared.sight.Sight.TheVariants.{Entity}
+use Rattle.ss_trace.specs.declared.told.TheConstants.{NUMBERS_OF_A_SET}
+use Rattle.ss_trace.specs.declared.touches.Part.{Part}
+use Rattle.ss_trace.specs.declared.touches.Part.TheVariants as parts
+use Rattle.ss_trace.specs.declared.touches.Touched.{Touched}
+use Rattle.ss_trace.specs.declared.touches.Touched.TheVariants.{Nothing, Attribute, Attributes, Set, Entities, Anything}
+use Rattle.ss_trace.specs.EntityNumbers.{attribute_number, kept_number}
+use Rattle.ss_trace.specs.Sight.{sight_of}
+use Rattle.ss_trace.specs.Touches.{part_of}
+
+-- whether number i of some is this one
+abbrev pub tells : List ℤ → ℕ → ℤ → Bool
+tells numbers i x = int_eq (slice_index_or numbers i (pos 0)) x
+
+-- ---- attributes; the numbers are those behind the 1
+
+-- attribute a of entity number k of class c
+abbrev pub tells_attribute : Store → ℕ → ℕ → List ℤ → ℕ → Bool
+tells_attribute st c k numbers a = tells numbers a (attribute_number st c k a)
+
+-- attributes 0 to n - 1
+abbrev pub tells_attributes : Store → ℕ → ℕ → List ℤ → ℕ → Bool
+tells_attributes st c k numbers zero = true
+tells_attributes st c k numbers (suc n) = tells_attributes st c k numbers n && tells_attribute st c k numbers n
+
+-- ---- sets, behind the attributes
+
+-- where what set s tells begins
+abbrev pub set_place : ProgramTable → ℕ → ℕ → ℕ
+set_place p c s = length (class_of p c).attributes + NUMBERS_OF_A_SET * s
+
+-- what it tells of a member: one that was in no list is in none; one that was in one has the same neighbours, and where
+-- it has none is in one
+abbrev pub tells_member : ProgramTable → Store → ℕ → ℕ → List ℤ → ℕ → ℕ → Bool
+tells_member p st c k numbers s i =
+    if tells numbers (i + 5) (pos 0)
+    then tells numbers (i + 5) (kept_number p st c k s Membership)
+    else tells numbers (i + 3) (kept_number p st c k s Predecessor)
+    && (tells numbers (i + 4) (kept_number p st c k s Successor)
+    && (not (tells numbers (i + 3) (pos 0) && tells numbers (i + 4) (pos 0))
+    || tells numbers (i + 5) (kept_number p st c k s Membership)))
+
+-- what set s tells: a step makes its list longer or shorter, or leaves it, so of an owner N.s is enough
+abbrev pub tells_set : ProgramTable → Store → ℕ → ℕ → List ℤ → ℕ → ℕ → Bool
+tells_set p st c k numbers s i =
+    tells numbers (i + 2) (kept_number p st c k s Number) && tells_member p st c k numbers s i
+
+-- sets 0 to n - 1
+abbrev pub tells_sets : ProgramTable → Store → ℕ → ℕ → List ℤ → ℕ → Bool
+tells_sets p st c k numbers zero = true
+tells_sets p st c k numbers (suc n) =
+    tells_sets p st c k numbers n && tells_set p st c k numbers n (set_place p c n)
+
+-- ---- an entity
+
+-- all of it, where it is still there
+abbrev pub tells_all : ProgramTable → Store → ℕ → ℕ → List ℤ → Bool
+tells_all p st c k numbers =
+    exists st c k && (tells_attributes st c k numbers (length (class_of p c).attributes)
+    && tells_sets p st c k numbers (length p.sets))
+
+-- what a step may have changed of one that was there
+abbrev pub tells_touched : ProgramTable → Store → ℕ → ℕ → List ℤ → Touched → Bool
+tells_touched p st c k numbers Nothing = true
+tells_touched p st c k numbers (Attribute d a) =
+    not (d == c) || (nat_lt a (length (class_of p c).attributes) && tells_attribute st c k numbers a)
+tells_touched p st c k numbers Attributes = tells_attributes st c k numbers (length (class_of p c).attributes)
+tells_touched p st c k numbers (Set s) = nat_lt s (length p.sets) && tells_set p st c k numbers s (set_place p c s)
+tells_touched p st c k numbers Entities = tells_all p st c k numbers
+tells_touched p st c k numbers Anything = false
+
+-- of any, which has no numbers where it was not there
+abbrev pub tells_entity : ProgramTable → Store → ℕ → ℕ → List ℤ → Touched → Bool
+tells_entity p st c k [] Anything = false
+tells_entity p st c k [] Entities = not (exists st c k)
+tells_entity p st c k [] touched = true
+tells_entity p st c k (x ∷ xs) touched = tells_touched p st c k xs touched
+
+-- of the entity at which a question with these parts and this sight looks
+abbrev pub is_told : Part → Sight → ProgramTable → Store → List ℤ → Touched → Bool
+is_told parts.Entities (Entity c x) p st numbers touched = tells_entity p st c (number_of x) numbers touched
+is_told _ _ p st numbers touched = false
+
+-- the same in state p
+abbrev pub is_told_at : Input → Question → List ℤ → Touched → ℕ → Bool
+is_told_at t x numbers touched p =
+    is_told (part_of x) (sight_of t.program x) t.program (run t p).store numbers touched

@@ -1,0 +1,234 @@
+//! Whether what a step may have changed of an entity is as its numbers on the other side tell.
+ghost use Rattle.std.specs.Prelude.{◌≡◌, ◌<◌, ◌+◌, ◌^◌, length};
+ghost use Rattle.ss_program.specs.Program.{class_of};
+ghost use Rattle.ss_store.specs.Store.{number_of};
+ghost use Rattle.ss_trace.specs.declared.told.TheConstants.{NUMBERS_OF_A_SET};
+ghost use Rattle.ss_trace.specs.EntityNumbers.{kept_number};
+ghost use Rattle.ss_trace.specs.Sight.{IsInTables};
+ghost use Rattle.ss_trace.specs.Told.{tells, tells_attribute, tells_attributes, set_place, tells_member};
+ghost use Rattle.ss_trace.specs.Told.{tells_set, tells_sets, tells_all, tells_touched, tells_entity, is_told};
+
+use crate::attribute::Kept;
+use crate::entity_numbers::kept_number;
+use crate::rows::attribute_count;
+use crate::sight::Sight;
+use crate::touches::{Part, Touched};
+use ss_links::SetBoard;
+use ss_machine::Machine;
+use ss_program::Program;
+
+/// How many numbers a set tells of an entity.
+pub const NUMBERS_OF_A_SET: usize = 6;
+
+/// Whether a number of some is this one.
+fn tells(numbers: &[i64], at: usize, value: i64) -> bool
+    ensures { result ≡ tells numbers.now at value }
+{
+    match numbers.get(at) {
+        Some(told) => *told == value,
+        None => value == 0,
+    }
+}
+
+/// Whether an attribute of an entity is as it was.
+fn tells_attribute<S: SetBoard>(
+    numbers: &[i64],
+    machine: &Machine<S>,
+    class: usize,
+    x: i64,
+    attribute: usize,
+) -> bool
+    requires class { class < length machine.now.input.program.classes }
+    requires attribute { attribute
+        < length (class_of machine.now.input.program class).attributes }
+    ensures { result ≡ tells_attribute machine.now.state.store class (number_of x) numbers.now
+        attribute }
+{
+    let value = machine.store().get(class, attribute, x).unwrap_or(0);
+    tells(numbers, attribute, value)
+}
+
+/// Whether all attributes of an entity are as they were.
+#[tactic(auto, using(crate::proofs::Telling::each_more, crate::proofs::Telling::each_less))]
+fn tells_attributes<S: SetBoard>(
+    numbers: &[i64],
+    machine: &Machine<S>,
+    class: usize,
+    x: i64,
+) -> bool
+    requires { class < length machine.now.input.program.classes }
+    ensures { result ≡ tells_attributes machine.now.state.store class (number_of x) numbers.now
+        (length (class_of machine.now.input.program class).attributes) }
+{
+    for attribute in 0..attribute_count(machine.program(), class) {
+        if !tells_attribute(numbers, machine, class, x, attribute) {
+            return false;
+        }
+    }
+    true
+}
+
+/// Where what a set tells begins among the numbers of an entity.
+fn set_place(program: &Program, class: usize, set: usize) -> usize
+    requires class { class < length program.now.classes }
+    requires set { set < length program.now.sets }
+    ensures place { result ≡ set_place program.now class set }
+    ensures within { result + NUMBERS_OF_A_SET < 2 ^ 64 }
+{
+    program.known();
+    attribute_count(program, class) + NUMBERS_OF_A_SET * set
+}
+
+/// Whether a kept attribute of an entity in a set is the number at a place.
+fn tells_kept<S: SetBoard>(
+    numbers: &[i64],
+    at: usize,
+    machine: &Machine<S>,
+    class: usize,
+    x: i64,
+    set: usize,
+    kept: Kept,
+) -> bool
+    requires { set < length machine.now.input.program.sets }
+    ensures { result ≡ tells numbers.now at (kept_number machine.now.input.program
+        machine.now.state.store class (number_of x) set kept) }
+{
+    tells(numbers, at, kept_number(machine, class, x, set, kept))
+}
+
+/// Whether what a set tells of an entity as a member is as it was.
+fn tells_member<S: SetBoard>(
+    numbers: &[i64],
+    at: usize,
+    machine: &Machine<S>,
+    class: usize,
+    x: i64,
+    set: usize,
+) -> bool
+    requires set { set < length machine.now.input.program.sets }
+    requires within { at + NUMBERS_OF_A_SET < 2 ^ 64 }
+    ensures { result ≡ tells_member machine.now.input.program machine.now.state.store class
+        (number_of x) numbers.now set at }
+{
+    if tells(numbers, at + 5, 0) {
+        return tells_kept(numbers, at + 5, machine, class, x, set, Kept::Membership);
+    }
+    let was_alone = tells(numbers, at + 3, 0) && tells(numbers, at + 4, 0);
+    tells_kept(numbers, at + 3, machine, class, x, set, Kept::Predecessor)
+        && tells_kept(numbers, at + 4, machine, class, x, set, Kept::Successor)
+        && (!was_alone || tells_kept(numbers, at + 5, machine, class, x, set, Kept::Membership))
+}
+
+/// Whether what a set tells of an entity is as it was.
+fn tells_set<S: SetBoard>(
+    numbers: &[i64],
+    machine: &Machine<S>,
+    class: usize,
+    x: i64,
+    set: usize,
+) -> bool
+    requires class { class < length machine.now.input.program.classes }
+    requires set { set < length machine.now.input.program.sets }
+    ensures { result ≡ tells_set machine.now.input.program machine.now.state.store class
+        (number_of x) numbers.now set (set_place machine.now.input.program class set) }
+{
+    let at = set_place(machine.program(), class, set);
+    tells_kept(numbers, at + 2, machine, class, x, set, Kept::Number)
+        && tells_member(numbers, at, machine, class, x, set)
+}
+
+/// Whether what all sets tell of an entity is as it was.
+#[tactic(auto, using(crate::proofs::Telling::sets_more, crate::proofs::Telling::sets_less))]
+fn tells_sets<S: SetBoard>(numbers: &[i64], machine: &Machine<S>, class: usize, x: i64) -> bool
+    requires { class < length machine.now.input.program.classes }
+    ensures { result ≡ tells_sets machine.now.input.program machine.now.state.store class
+        (number_of x) numbers.now (length machine.now.input.program.sets) }
+{
+    for set in 0..machine.program().sets.len() {
+        if !tells_set(numbers, machine, class, x, set) {
+            return false;
+        }
+    }
+    true
+}
+
+/// Whether an entity is still there, and all of it is as it was.
+fn tells_all<S: SetBoard>(numbers: &[i64], machine: &Machine<S>, class: usize, x: i64) -> bool
+    requires { class < length machine.now.input.program.classes }
+    ensures { result ≡ tells_all machine.now.input.program machine.now.state.store class
+        (number_of x) numbers.now }
+{
+    machine.store().exists(class, x)
+        && tells_attributes(numbers, machine, class, x)
+        && tells_sets(numbers, machine, class, x)
+}
+
+/// Whether what a step may have changed of an entity that existed is as it was.
+fn tells_touched<S: SetBoard>(
+    numbers: &[i64],
+    machine: &Machine<S>,
+    class: usize,
+    x: i64,
+    touched: Touched,
+) -> bool
+    requires { class < length machine.now.input.program.classes }
+    ensures { result ≡ tells_touched machine.now.input.program machine.now.state.store class
+        (number_of x) numbers.now touched }
+{
+    let program = machine.program();
+    match touched {
+        Touched::Nothing => true,
+        Touched::Attribute(of, attribute) => {
+            of != class
+                || (attribute < attribute_count(program, class)
+                    && tells_attribute(numbers, machine, class, x, attribute))
+        }
+        Touched::Attributes => tells_attributes(numbers, machine, class, x),
+        Touched::Set(set) => {
+            set < program.sets.len() && tells_set(numbers, machine, class, x, set)
+        }
+        Touched::Entities => tells_all(numbers, machine, class, x),
+        Touched::Anything => false,
+    }
+}
+
+/// Whether what a step may have changed of an entity is as its numbers told before.
+fn tells_entity<S: SetBoard>(
+    numbers: &[i64],
+    machine: &Machine<S>,
+    class: usize,
+    x: i64,
+    touched: Touched,
+) -> bool
+    requires { class < length machine.now.input.program.classes }
+    ensures { result ≡ tells_entity machine.now.input.program machine.now.state.store class
+        (number_of x) numbers.now touched }
+{
+    match (numbers.split_first(), touched) {
+        (Some((_, told)), _) => tells_touched(told, machine, class, x, touched),
+        (None, Touched::Anything) => false,
+        (None, Touched::Entities) => !machine.store().exists(class, x),
+        (None, _) => true,
+    }
+}
+
+/// Whether what a step may have changed of the entity at which a question looks is as its numbers
+/// told on the other side of the step; where it looks at none, it is not.
+pub fn is_told<S: SetBoard>(
+    numbers: &[i64],
+    machine: &Machine<S>,
+    part: Part,
+    sight: Sight,
+    touched: Touched,
+) -> bool
+    requires { IsInTables machine.now.input.program sight }
+    ensures { result ≡ is_told part sight machine.now.input.program machine.now.state.store
+        numbers.now touched }
+{
+    match (part, sight) {
+        (Part::Entities, Sight::Entity(class, x)) => {
+            tells_entity(numbers, machine, class, x, touched)
+        }
+        _ => false,
+    }
+}
