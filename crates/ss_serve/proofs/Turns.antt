@@ -1,5 +1,7 @@
 -- Turns, one after the other.
-use Rattle.std.proofs.Common.{◌≡◌, ℕ, ◌+◌, ◌-◌, ◌^◌, Bool, true, false, List, [], ◌∷◌, ◌++◌, length, map, refl, ◌∙◌, sym, ap, inl, inr, arith, append_assoc, append-nil, length-append, Option, Some, None, Ok, Err}
+use Rattle.std.proofs.Common.{◌≡◌, ℕ, ◌+◌, ◌-◌, ◌^◌, Bool, true, false, List, [], ◌∷◌, ◌++◌, length, map, refl}
+use Rattle.std.proofs.Common.{◌∙◌, sym, ap, inl, inr, arith, append_assoc, append-nil, length-append}
+use Rattle.std.proofs.Common.{Option, Some, None, Ok, Err}
 use Rattle.std.proofs.lemmas.List.{map-append}
 use Rattle.std.specs.Prelude.{Result, IfOk, IfErr}
 use Rattle.ss_console.specs.Event.{Event, read, written, Adds}
@@ -17,8 +19,10 @@ use Rattle.ss_messages.specs.declared.request.Request.{Request}
 use Rattle.ss_serve.specs.Faults.{fault_of_frame, fault_of_request}
 use Rattle.ss_serve.specs.Meaning.{Meaning}
 use Rattle.ss_serve.specs.Seen.{Seen, seen}
-use Rattle.ss_serve.specs.Session.{BeginsWith, Gives, request_in, IsNoRequest, Turn, IsTurn, AreTurns, state_after, messages_of, turn_events}
-use Rattle.ss_serve.specs.Session.{events, sent_after, EndsByStream, EndsByRequest, EndsAtBody, EndsInAnswer, EndsBy, HasEnded}
+use Rattle.ss_serve.specs.Session.{BeginsWith, Gives, request_in, IsNoRequest, Turn, IsTurn, AreTurns, state_after}
+use Rattle.ss_serve.specs.Session.{messages_of, turn_events}
+use Rattle.ss_serve.specs.Session.{events, sent_after, EndsByStream, EndsByRequest, EndsAtBody, EndsInAnswer}
+use Rattle.ss_serve.specs.Session.{EndsBy, HasEnded}
 use Rattle.ss_serve.specs.Steps.{IsAsked, NoneAsked, answered, IsAnswered, Unanswered, IsMore, IsStep}
 use Rattle.ss_serve.specs.declared.fault.SessionFault.{SessionFault}
 use Rattle.ss_serve.specs.declared.fault.SessionFault.TheVariants.{NoRequest, CannotRead, CannotWrite, Memory, Count}

@@ -39,7 +39,7 @@ request_in body = option_and_then request_of (read_json body)
 abbrev pub IsNoRequest : List ℕ → Type 0
 IsNoRequest body = (¬ (IsUtf8 body)) ⊎ (request_in body ≡ None)
 
--- a turn: a body that was read, what it asks for, what is sent for that, and the state in which that leaves the answerer
+-- a turn: a body that was read, what it asks for, what is sent for that, and the state behind it
 pub record Turn (S : Type 0) : Type 0 where
   -- the body
   pub body : List ℕ

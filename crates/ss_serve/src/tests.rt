@@ -13,11 +13,13 @@ const ENDED: &[u8] = b"Host: x\r\nContent-Length: 32\r\n\r\n{\"seq\":2,\"command
 
 /// What happens where the first is read and answered.
 const ANSWERED: &[u8] =
-    b"<{\"seq\":1,\"command\":\"threads\"}>Content-Length: 87\r\n\r\n{\"seq\":1,\"type\":\"response\",\"request_seq\":1,\"command\":\"threads\",\"success\":true,\"body\":0}";
+    b"<{\"seq\":1,\"command\":\"threads\"}>Content-Length: 87\r\n\r\n{\"seq\":1,\"type\":\"response\",\
+    \"request_seq\":1,\"command\":\"threads\",\"success\":true,\"body\":0}";
 
 /// What happens where the second is, behind the first.
 const LEFT: &[u8] =
-    b"<{\"seq\":2,\"command\":\"disconnect\"}>Content-Length: 90\r\n\r\n{\"seq\":2,\"type\":\"response\",\"request_seq\":2,\"command\":\"disconnect\",\"success\":true,\"body\":1}";
+    b"<{\"seq\":2,\"command\":\"disconnect\"}>Content-Length: 90\r\n\r\n{\"seq\":2,\"type\":\"response\",\
+    \"request_seq\":2,\"command\":\"disconnect\",\"success\":true,\"body\":1}";
 
 /// Some texts, one after the other.
 fn joined(alloc: Global, texts: &[&[u8]]) -> Result<Vec<u8>, AllocError> {
