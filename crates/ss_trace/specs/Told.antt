@@ -5,7 +5,8 @@ use Rattle.std.specs.Ordering.{int_eq}
 use Rattle.ss_program.specs.Program.{ProgramTable, class_of}
 use Rattle.ss_store.specs.Store.{Store, number_of, exists}
 use Rattle.ss_machine.specs.Run.{Input, run}
-use Rattle.ss_trace.specs.declared.attribute.Kept.TheVariants.{Number, Predecessor, Successor, Membership}
+use Rattle.ss_trace.specs.declared.attribute.Kept.{Kept}
+use Rattle.ss_trace.specs.declared.attribute.Kept.TheVariants.{First, Last, Number, Predecessor, Successor, Membership}
 use Rattle.ss_trace.specs.declared.question.Question.{Question}
 use Rattle.ss_trace.specs.declared.sight.Sight.{Sight}
 use Rattle.ss_trace.specs.declared.sight.Sight.TheVariants.{Entity}
@@ -39,21 +40,37 @@ tells_attributes st c k numbers (suc n) = tells_attributes st c k numbers n && t
 abbrev pub set_place : ProgramTable → ℕ → ℕ → ℕ
 set_place p c s = length (class_of p c).attributes + NUMBERS_OF_A_SET * s
 
+-- where a kept attribute stands among what a set tells
+abbrev pub kept_place : Kept → ℕ
+kept_place First = 0
+kept_place Last = 1
+kept_place Number = 2
+kept_place Predecessor = 3
+kept_place Successor = 4
+kept_place Membership = 5
+
+-- whether what a set tells, which begins at i, has 0 for a kept attribute
+abbrev pub told_none : List ℤ → ℕ → Kept → Bool
+told_none numbers i kept = tells numbers (i + kept_place kept) (pos 0)
+
+-- or the kept attribute of set s
+abbrev pub tells_kept : ProgramTable → Store → ℕ → ℕ → List ℤ → ℕ → ℕ → Kept → Bool
+tells_kept p st c k numbers s i kept = tells numbers (i + kept_place kept) (kept_number p st c k s kept)
+
 -- what it tells of a member: one that was in no list is in none; one that was in one has the same neighbours, and where
 -- it has none is in one
 abbrev pub tells_member : ProgramTable → Store → ℕ → ℕ → List ℤ → ℕ → ℕ → Bool
 tells_member p st c k numbers s i =
-    if tells numbers (i + 5) (pos 0)
-    then tells numbers (i + 5) (kept_number p st c k s Membership)
-    else tells numbers (i + 3) (kept_number p st c k s Predecessor)
-    && (tells numbers (i + 4) (kept_number p st c k s Successor)
-    && (not (tells numbers (i + 3) (pos 0) && tells numbers (i + 4) (pos 0))
-    || tells numbers (i + 5) (kept_number p st c k s Membership)))
+    if told_none numbers i Membership
+    then tells_kept p st c k numbers s i Membership
+    else tells_kept p st c k numbers s i Predecessor
+    && (tells_kept p st c k numbers s i Successor
+    && (not (told_none numbers i Predecessor && told_none numbers i Successor)
+    || tells_kept p st c k numbers s i Membership))
 
 -- what set s tells: a step makes its list longer or shorter, or leaves it, so of an owner N.s is enough
 abbrev pub tells_set : ProgramTable → Store → ℕ → ℕ → List ℤ → ℕ → ℕ → Bool
-tells_set p st c k numbers s i =
-    tells numbers (i + 2) (kept_number p st c k s Number) && tells_member p st c k numbers s i
+tells_set p st c k numbers s i = tells_kept p st c k numbers s i Number && tells_member p st c k numbers s i
 
 -- sets 0 to n - 1
 abbrev pub tells_sets : ProgramTable → Store → ℕ → ℕ → List ℤ → ℕ → Bool

@@ -3,9 +3,9 @@ ghost use Rattle.std.specs.Prelude.{◌≡◌, ◌<◌, ◌+◌, ◌^◌, length
 ghost use Rattle.ss_program.specs.Program.{class_of};
 ghost use Rattle.ss_store.specs.Store.{number_of};
 ghost use Rattle.ss_trace.specs.declared.told.TheConstants.{NUMBERS_OF_A_SET};
-ghost use Rattle.ss_trace.specs.EntityNumbers.{kept_number};
 ghost use Rattle.ss_trace.specs.Sight.{IsInTables};
-ghost use Rattle.ss_trace.specs.Told.{tells, tells_attribute, tells_attributes, set_place, tells_member};
+ghost use Rattle.ss_trace.specs.Told.{tells, tells_attribute, tells_attributes, set_place, kept_place};
+ghost use Rattle.ss_trace.specs.Told.{told_none, tells_kept, tells_member};
 ghost use Rattle.ss_trace.specs.Told.{tells_set, tells_sets, tells_all, tells_touched, tells_entity, is_told};
 
 use crate::attribute::Kept;
@@ -79,7 +79,30 @@ fn set_place(program: &Program, class: usize, set: usize) -> usize
     attribute_count(program, class) + NUMBERS_OF_A_SET * set
 }
 
-/// Whether a kept attribute of an entity in a set is the number at a place.
+/// Where a kept attribute stands among the numbers that a set tells.
+fn kept_place(kept: Kept) -> usize
+    ensures place { result ≡ kept_place kept }
+    ensures within { result < NUMBERS_OF_A_SET }
+{
+    match kept {
+        Kept::First => 0,
+        Kept::Last => 1,
+        Kept::Number => 2,
+        Kept::Predecessor => 3,
+        Kept::Successor => 4,
+        Kept::Membership => 5,
+    }
+}
+
+/// Whether the numbers that a set tells have 0 for a kept attribute.
+fn told_none(numbers: &[i64], at: usize, kept: Kept) -> bool
+    requires { at + NUMBERS_OF_A_SET < 2 ^ 64 }
+    ensures { result ≡ told_none numbers.now at kept }
+{
+    tells(numbers, at + kept_place(kept), 0)
+}
+
+/// Whether a kept attribute of an entity is as the numbers of the set tell.
 fn tells_kept<S: SetBoard>(
     numbers: &[i64],
     at: usize,
@@ -89,11 +112,13 @@ fn tells_kept<S: SetBoard>(
     set: usize,
     kept: Kept,
 ) -> bool
-    requires { set < length machine.now.input.program.sets }
-    ensures { result ≡ tells numbers.now at (kept_number machine.now.input.program
-        machine.now.state.store class (number_of x) set kept) }
+    requires set { set < length machine.now.input.program.sets }
+    requires within { at + NUMBERS_OF_A_SET < 2 ^ 64 }
+    ensures { result ≡ tells_kept machine.now.input.program machine.now.state.store class
+        (number_of x) numbers.now set at kept }
 {
-    tells(numbers, at, kept_number(machine, class, x, set, kept))
+    let value = kept_number(machine, class, x, set, kept);
+    tells(numbers, at + kept_place(kept), value)
 }
 
 /// Whether what a set tells of an entity as a member is as it was.
@@ -110,13 +135,14 @@ fn tells_member<S: SetBoard>(
     ensures { result ≡ tells_member machine.now.input.program machine.now.state.store class
         (number_of x) numbers.now set at }
 {
-    if tells(numbers, at + 5, 0) {
-        return tells_kept(numbers, at + 5, machine, class, x, set, Kept::Membership);
+    if told_none(numbers, at, Kept::Membership) {
+        return tells_kept(numbers, at, machine, class, x, set, Kept::Membership);
     }
-    let was_alone = tells(numbers, at + 3, 0) && tells(numbers, at + 4, 0);
-    tells_kept(numbers, at + 3, machine, class, x, set, Kept::Predecessor)
-        && tells_kept(numbers, at + 4, machine, class, x, set, Kept::Successor)
-        && (!was_alone || tells_kept(numbers, at + 5, machine, class, x, set, Kept::Membership))
+    let was_alone = told_none(numbers, at, Kept::Predecessor)
+        && told_none(numbers, at, Kept::Successor);
+    tells_kept(numbers, at, machine, class, x, set, Kept::Predecessor)
+        && tells_kept(numbers, at, machine, class, x, set, Kept::Successor)
+        && (!was_alone || tells_kept(numbers, at, machine, class, x, set, Kept::Membership))
 }
 
 /// Whether what a set tells of an entity is as it was.
@@ -133,7 +159,7 @@ fn tells_set<S: SetBoard>(
         (number_of x) numbers.now set (set_place machine.now.input.program class set) }
 {
     let at = set_place(machine.program(), class, set);
-    tells_kept(numbers, at + 2, machine, class, x, set, Kept::Number)
+    tells_kept(numbers, at, machine, class, x, set, Kept::Number)
         && tells_member(numbers, at, machine, class, x, set)
 }
 
