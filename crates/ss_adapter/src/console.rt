@@ -6,8 +6,7 @@ ghost use Rattle.ss_debug.specs.Turn.{debugger_state_after, answer};
 ghost use Rattle.ss_debug.specs.declared.commands.Command.TheVariants.{Move};
 ghost use Rattle.ss_messages.specs.Bodies.{result_body};
 ghost use Rattle.ss_messages.specs.Messages.{posted_all, reply};
-ghost use Rattle.ss_adapter.specs.Console.{has_place, point_told};
-ghost use Rattle.ss_adapter.specs.Console.{lines_behind, sections_behind, desk_with};
+ghost use Rattle.ss_adapter.specs.Console.{has_place, point_told, desk_with};
 ghost use Rattle.ss_adapter.specs.Turn.{adapter_state_of, pointed, behind_point, obeyed, behind_line};
 
 use crate::breaks::next_line;

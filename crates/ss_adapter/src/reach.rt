@@ -1,5 +1,5 @@
 //! The nearest of the changes of some questions, each looked for by the movement to it.
-ghost use Rattle.std.specs.Prelude.{◌≡◌, ◌+◌, ◌<◌, length, IfOk, OnOk};
+ghost use Rattle.std.specs.Prelude.{◌≡◌, ◌+◌, ◌<◌, IfOk, OnOk};
 ghost use Rattle.ss_debug.specs.Turn.{debugger_state_at};
 ghost use Rattle.ss_debug.specs.View.{debugger_state_of};
 ghost use Rattle.ss_adapter.specs.Looking.{question_of};
