@@ -6,7 +6,7 @@ ghost use Rattle.ss_run.specs.Warned.{IsWarned};
 
 use ss_names::{push_program_warnings, push_warnings};
 use ss_program::Program;
-use ss_session::{LoadFault, load_program};
+use ss_session::{LoadFault, drop_program, load_program};
 use std::alloc::{AllocError, Global};
 
 /// The warnings of a model's words.
@@ -34,7 +34,11 @@ pub fn model_warnings(alloc: Global, model: &[u8]) -> Result<Vec<u8>, AllocError
     ensures { IfOk result (λ text. IsWarned model.now text.items) }
 {
     match load_program(alloc, model) {
-        Ok(program) => program_told(alloc, model, &program),
+        Ok(program) => {
+            let told = program_told(alloc, model, &program);
+            drop_program(program);
+            told
+        }
         Err(LoadFault::Memory) => Err(AllocError),
         Err(LoadFault::Text { .. }) => words_warnings(alloc, model),
         Err(LoadFault::Check { .. }) => words_warnings(alloc, model),
