@@ -27,7 +27,7 @@ use Rattle.ss_trace.specs.declared.touches.Part.TheVariants as parts
 use Rattle.ss_trace.specs.declared.touches.Part.TheVariants.{Entities}
 use Rattle.ss_trace.specs.declared.touches.Touched.{Touched}
 use Rattle.ss_trace.specs.Question.{answer_at, has_kept}
-use Rattle.ss_trace.specs.Sight.{sight_of, sight_of_entity}
+use Rattle.ss_trace.specs.Sight.{sight_of, sight_of_entity, seen, seen_at}
 use Rattle.ss_trace.specs.declared.touches.Touched.TheVariants.{Nothing}
 use Rattle.ss_trace.specs.Touches.{touched_at, part_of}
 use Rattle.ss_trace.specs.EntityNumbers.{numbers_below, attribute_numbers, set_numbers, entity_numbers}
@@ -254,3 +254,24 @@ pub entity_next : (t : Input) (name : List ℕ) (x : ℤ) (p : ℕ) → touched_
     entity_text name x t (suc p) ≡ entity_text name x t p
 unfolding entity_text
 entity_next t name x p e = let same = store_left t p e in rw same refl
+
+-- nothing is seen at a glance of an entity
+seen_entity : (p : ProgramTable) (s u : State) (q : Question) (x : ℤ) (o : Option ℕ) →
+    seen p u q (sight_of_entity x o) ≡ seen p s q (sight_of_entity x o)
+seen_entity p s u q x None = refl
+seen_entity p s u q x (Some c) = refl
+
+pub entity_seen : (t : Input) (x : Question) (p q : ℕ) → is_counted (part_of x) (sight_of t.program x) ≡ true →
+    seen_at t x q ≡ seen_at t x p
+entity_seen t (Shown shown.Clock) p q h = absurd (cc)
+entity_seen t (Shown shown.Where) p q h = absurd (cc)
+entity_seen t (Shown (shown.Variable name)) p q h = absurd (cc)
+entity_seen t (Shown (shown.Entity name x)) p q h =
+    seen_entity t.program (run t p) (run t q) (Shown (shown.Entity name x)) x (class_named t.program name)
+entity_seen t (Shown (shown.Set name owner)) p q h = absurd (cc)
+entity_seen t (Shown shown.Events) p q h = absurd (cc)
+entity_seen t (Shown shown.Taken) p q h = absurd (cc)
+entity_seen t (Shown shown.Entry) p q h = absurd (cc)
+entity_seen t (Shown shown.Report) p q h = absurd (cc)
+entity_seen t (Attribute class x name) p q h = absurd (cc)
+entity_seen t (Count name owner) p q h = absurd (cc)

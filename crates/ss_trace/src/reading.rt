@@ -151,6 +151,74 @@ impl Reading {
         self.count_again(debugger, question)
     }
 
+    /// Reads the answer where the debugger stands now, where all else is read. Gives the answer
+    /// before, where it was another one.
+    fn answer_again<S: SetBoard>(
+        &mut self,
+        debugger: &Debugger<S>,
+        question: &Question,
+    ) -> Result<Option<Vec<u8>>, AllocError>
+        requires looks { Looks debugger.now.machine.input question.now self.old }
+        requires glance { self.old.glance
+            ≡ seen_at debugger.now.machine.input question.now (position debugger.now.machine) }
+        requires numbers { self.old.numbers.items
+            ≡ numbers_at debugger.now.machine.input question.now (position debugger.now.machine) }
+        ensures ok { OnOk result (IsReadAt debugger.now.machine.input question.now
+            (position debugger.now.machine) self.new) }
+        ensures changed { IfOk result (λ before. MatchOption before
+            (bytes_eq self.old.answer.items self.new.answer.items ≡ true)
+            (λ text. (text.items ≡ self.old.answer.items)
+            × (bytes_eq self.old.answer.items self.new.answer.items ≡ false))) }
+        ensures whether { IfOk result (λ before. is_some before
+            ≡ not (bytes_eq self.old.answer.items self.new.answer.items)) }
+    {
+        let now = answer_to(self.alloc, debugger, question)?;
+        let before = replace(&mut self.answer, now);
+        if before.as_slice() == self.answer.as_slice() {
+            return Ok(None);
+        }
+        Ok(Some(before))
+    }
+
+    /// The same as `follow`, of a question whose answer the numbers of an entity tell: nothing is
+    /// seen of that at a glance.
+    #[tactic(auto, using(crate::proofs::Changes::same_as_itself))]
+    fn follow_entity<S: SetBoard>(
+        &mut self,
+        debugger: &Debugger<S>,
+        question: &Question,
+        touched: Touched,
+    ) -> Result<Option<Vec<u8>>, AllocError>
+        requires looks { Looks debugger.now.machine.input question.now self.old }
+        requires glance { self.old.glance
+            ≡ seen_at debugger.now.machine.input question.now (position debugger.now.machine) }
+        requires still { touched ≡ Nothing → self.old.numbers.items
+            ≡ numbers_at debugger.now.machine.input question.now (position debugger.now.machine) }
+        requires told { is_told_at debugger.now.machine.input question.now self.old.numbers.items
+            touched (position debugger.now.machine) ≡ true → self.old.numbers.items
+            ≡ numbers_at debugger.now.machine.input question.now (position debugger.now.machine) }
+        requires counted { self.old.numbers.items
+            ≡ numbers_at debugger.now.machine.input question.now (position debugger.now.machine)
+            → self.old.answer.items
+            ≡ answer_at debugger.now.machine.input question.now (position debugger.now.machine) }
+        ensures ok { OnOk result (IsReadAt debugger.now.machine.input question.now
+            (position debugger.now.machine) self.new) }
+        ensures changed { IfOk result (λ before. MatchOption before
+            (bytes_eq self.old.answer.items self.new.answer.items ≡ true)
+            (λ text. (text.items ≡ self.old.answer.items)
+            × (bytes_eq self.old.answer.items self.new.answer.items ≡ false))) }
+        ensures whether { IfOk result (λ before. is_some before
+            ≡ not (bytes_eq self.old.answer.items self.new.answer.items)) }
+    {
+        if matches!(touched, Touched::Nothing) {
+            return Ok(None);
+        }
+        if self.has_same_numbers(debugger, question, touched)? {
+            return Ok(None);
+        }
+        self.answer_again(debugger, question)
+    }
+
     /// Reads the answer where the debugger stands now, on the other side of a step that perhaps may
     /// change it although the same is seen: else none is made, nor where an entity's numbers are the
     /// same. Gives the answer before, where it was another one.
@@ -175,6 +243,8 @@ impl Reading {
             ≡ numbers_at debugger.now.machine.input question.now (position debugger.now.machine)
             → self.old.answer.items
             ≡ answer_at debugger.now.machine.input question.now (position debugger.now.machine) }
+        requires glance { is_counted self.old.part self.old.sight ≡ true → self.old.glance
+            ≡ seen_at debugger.now.machine.input question.now (position debugger.now.machine) }
         ensures ok { OnOk result (IsReadAt debugger.now.machine.input question.now
             (position debugger.now.machine) self.new) }
         ensures changed { IfOk result (λ before. MatchOption before
@@ -184,6 +254,9 @@ impl Reading {
         ensures whether { IfOk result (λ before. is_some before
             ≡ not (bytes_eq self.old.answer.items self.new.answer.items)) }
     {
+        if is_counted(self.part, self.sight) {
+            return self.follow_entity(debugger, question, touched);
+        }
         let seen = self.look(debugger, question);
         if seen && matches!(touched, Touched::Nothing) {
             return Ok(None);
@@ -191,11 +264,6 @@ impl Reading {
         if self.has_same_numbers(debugger, question, touched)? {
             return Ok(None);
         }
-        let now = answer_to(self.alloc, debugger, question)?;
-        let before = replace(&mut self.answer, now);
-        if before.as_slice() == self.answer.as_slice() {
-            return Ok(None);
-        }
-        Ok(Some(before))
+        self.answer_again(debugger, question)
     }
 }

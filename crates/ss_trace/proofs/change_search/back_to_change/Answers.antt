@@ -14,7 +14,7 @@ use Rattle.ss_trace.specs.Reading.{IsReadAt}
 use Rattle.ss_trace.proofs.Refused.{on_err}
 use Rattle.ss_trace.proofs.Changes.{same_turned, stops_back_where, unmet_back, changes_between}
 use Rattle.ss_trace.proofs.Glances.{same_is, unseen}
-use Rattle.ss_trace.proofs.Numbered.{numbers_left, counted_left}
+use Rattle.ss_trace.proofs.Numbered.{numbers_left, counted_left, entity_seen}
 use Rattle.ss_trace.proofs.Telling.{told_back}
 use Rattle.ss_trace.proofs.change_search.back_to_change.Goals as goal
 
@@ -66,6 +66,19 @@ follow-requires-clause-told g c = λ h.
     (position u) ≡ true = rw (gone.input, held.input, held.reading.numbers, set) at h in
     rw (gone.input, held.input)
     (held.reading.numbers ∙ told_back m.input x (position u) (position l.machine) gone.position told)
+
+pub follow-requires-clause-glance : goal.follow-requires-clause-glance
+follow-requires-clause-glance g c = λ h.
+    let m = c.args.debugger.now.machine in
+    let l = c.loop-k.debugger in
+    let held = c.loop-k.invariant in
+    let x = c.args.question.now in
+    let u = c.step_back.new.self.machine in
+    let gone = c.if-not-step_back.ensures.back in
+    let counted : is_counted (part_of x) (sight_of m.input.program x) ≡ true =
+    rw (held.reading.looks.part, held.reading.looks.sight) at h in
+    rw (gone.input, held.input)
+    (held.reading.glance ∙ entity_seen m.input x (position u) (position l.machine) counted)
 
 pub follow-requires-clause-counted : goal.follow-requires-clause-counted
 follow-requires-clause-counted g c = λ h e.

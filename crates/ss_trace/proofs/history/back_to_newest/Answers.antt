@@ -13,7 +13,7 @@ use Rattle.ss_trace.proofs.Changes.{same_turned, changes_between}
 use Rattle.ss_trace.proofs.Histories.{none_before, passed, found, found_before}
 use Rattle.ss_trace.proofs.Looking.{looked_nowhere, looked_further}
 use Rattle.ss_trace.proofs.Glances.{same_is, unseen}
-use Rattle.ss_trace.proofs.Numbered.{numbers_left, counted_left}
+use Rattle.ss_trace.proofs.Numbered.{numbers_left, counted_left, entity_seen}
 use Rattle.ss_trace.proofs.Telling.{told_back}
 use Rattle.ss_trace.proofs.history.back_to_newest.Goals as goal
 
@@ -72,6 +72,19 @@ follow-requires-clause-told g c = λ h.
     (position u) ≡ true = rw (gone.input, held.gone.input, held.reading.numbers, set) at h in
     rw (gone.input, held.gone.input)
     (held.reading.numbers ∙ told_back m.input x (position u) (position l.machine) gone.position told)
+
+pub follow-requires-clause-glance : goal.follow-requires-clause-glance
+follow-requires-clause-glance g c = λ h.
+    let m = c.args.debugger.now.machine in
+    let l = c.loop-debugger.debugger in
+    let held = c.loop-debugger.invariant in
+    let x = c.args.question.now in
+    let u = c.step_back.new.self.machine in
+    let gone = c.loop-debugger-test.ensures.back in
+    let counted : is_counted (part_of x) (sight_of m.input.program x) ≡ true =
+    rw (held.reading.looks.part, held.reading.looks.sight) at h in
+    rw (gone.input, held.gone.input)
+    (held.reading.glance ∙ entity_seen m.input x (position u) (position l.machine) counted)
 
 pub follow-requires-clause-counted : goal.follow-requires-clause-counted
 follow-requires-clause-counted g c = λ h e.
